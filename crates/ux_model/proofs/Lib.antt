@@ -1,0 +1,5 @@
+pub mod ReleaseLaws
+pub mod AnyOrder
+pub mod Refusals
+pub mod Replays
+pub mod Fronts

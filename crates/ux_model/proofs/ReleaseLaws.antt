@@ -1,0 +1,79 @@
+-- Dropping descriptions in two goes is dropping them at once.
+use Rattle.std.specs.Prelude.{◌≡◌, ℕ, zero, suc, ◌+◌, Bool, true, false, ◌&&◌, ◌||◌, if◌then◌else◌, List, [], ◌∷◌, map, Option, Some, None, option_map, refl}
+use Rattle.std.specs.List.{enumerate_from}
+use Rattle.std.proofs.Common.{sym, ◌∙◌, ap, arith}
+use Rattle.ux_model.specs.Places.{place}
+use Rattle.ux_model.specs.Socket.{Socket}
+use Rattle.ux_model.specs.Description.{Description}
+use Rattle.ux_model.specs.State.{State, description_at, socket_at}
+use Rattle.ux_model.specs.Release.{resets_peer, socket_after_loss, description_after_loss, place_after_loss, without}
+
+-- ---- lists of places
+
+map_twice : {X Y Z : Type 0} (f : ℕ × Y → Z) (g : ℕ × X → Y) (h : ℕ × X → Z) → ((i : ℕ) (x : X) → f (i, g (i, x)) ≡ h (i, x)) →
+    (i : ℕ) (xs : List X) → map f (enumerate_from i (map g (enumerate_from i xs))) ≡ map h (enumerate_from i xs)
+map_twice f g h same i [] = refl
+map_twice f g h same i (x ∷ xs) = λ j. same i x j ∷ map_twice f g h same (i + 1) xs j
+
+place-map : {X Y : Type 0} (g : ℕ × Option X → Option Y) → ((i : ℕ) → g (i, None) ≡ None) →
+    (k d : ℕ) (xs : List (Option X)) → place (map g (enumerate_from k xs)) d ≡ g (k + d, place xs d)
+place-map g none k d [] = sym (none (k + d))
+place-map g none k zero (x ∷ xs) = let e : k ≡ k + 0 = omega arith in ap (λ n. g (n, x)) e
+place-map g none k (suc d) (x ∷ xs) = let e : (k + 1) + d ≡ k + suc d = omega arith in place-map g none (k + 1) d xs ∙ ap (λ n. g (n, place xs d)) e
+
+-- ---- one description
+
+none_stays : (gone : ℕ → Bool) (S : State) (i : ℕ) → place_after_loss gone S (i, None) ≡ None
+none_stays gone S i = elim (gone i) as (λ b. (if b then None else option_map (description_after_loss gone S) None) ≡ None) [ true ↦ refl | false ↦ refl ]
+
+pub description_at-without : (gone : ℕ → Bool) (S : State) (d : ℕ) → description_at (without gone S) d ≡ place_after_loss gone S (d, description_at S d)
+unfolding without
+description_at-without gone S d =
+    let e : 0 + d ≡ d = omega arith in
+    place-map (place_after_loss gone S) (none_stays gone S) 0 d S.descriptions ∙ ap (λ n. place_after_loss gone S (n, description_at S d)) e
+
+-- what a socket loses nothing of, when its own peer goes: its queue
+resets-place : (gone : ℕ → Bool) (S : State) (b : Bool) (D : Option Description) →
+    resets_peer (option_map (λ D. Description.socket D) (if b then None else option_map (description_after_loss gone S) D))
+    ≡ (if b then false else resets_peer (option_map (λ D. Description.socket D) D))
+resets-place gone S true D = refl
+resets-place gone S false None = refl
+resets-place gone S false (Some D) = refl
+
+resets-without : (gone : ℕ → Bool) (S : State) (p : ℕ) → resets_peer (socket_at (without gone S) p) ≡ (if gone p then false else resets_peer (socket_at S p))
+resets-without gone S p = ap (λ D. resets_peer (option_map (λ D. Description.socket D) D)) (description_at-without gone S p) ∙ resets-place gone S (gone p) (description_at S p)
+
+-- ---- in two goes
+
+-- what goes now or later
+abbrev pub either : (ℕ → Bool) → (ℕ → Bool) → ℕ → Bool
+either now later d = now d || later d
+
+flags : (r y x q : Bool) → (r || (y && q)) || (x && (if y then false else q)) ≡ r || ((y || x) && q)
+flags true y x q = refl
+flags false true true true = refl
+flags false true true false = refl
+flags false true false true = refl
+flags false true false false = refl
+flags false false x q = refl
+
+socket_twice : (now later : ℕ → Bool) (S : State) (s : Socket) →
+    socket_after_loss later (without now S) (socket_after_loss now S s) ≡ socket_after_loss (either now later) S s
+socket_twice now later S s = (λ j. record s { reset = (s.reset || (now s.peer && resets_peer (socket_at S s.peer))) || (later s.peer && resets-without now S s.peer j) })
+    ∙ (λ j. record s { reset = flags s.reset (now s.peer) (later s.peer) (resets_peer (socket_at S s.peer)) j })
+
+place_twice : (now later : ℕ → Bool) (S : State) (i : ℕ) (D : Option Description) (y x : Bool) →
+    (if x then None else option_map (description_after_loss later (without now S)) (if y then None else option_map (description_after_loss now S) D))
+    ≡ (if y || x then None else option_map (description_after_loss (either now later) S) D)
+place_twice now later S i D true true = refl
+place_twice now later S i D true false = refl
+place_twice now later S i D false true = refl
+place_twice now later S i None false false = refl
+place_twice now later S i (Some D) false false = ap (λ s. Some (record D { socket = s })) (socket_twice now later S D.socket)
+
+pub without-without : (now later : ℕ → Bool) (S : State) → without later (without now S) ≡ without (either now later) S
+unfolding without
+without-without now later S = λ j. record S {
+  descriptions = map_twice (place_after_loss later (without now S)) (place_after_loss now S) (place_after_loss (either now later) S)
+      (λ i D. place_twice now later S i D (now i) (later i)) 0 S.descriptions j;
+}

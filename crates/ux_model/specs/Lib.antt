@@ -1,0 +1,21 @@
+-- In the order in which they are read.
+pub mod Types
+pub mod Places
+pub mod Limits
+pub mod Flags
+pub mod Message
+pub mod Socket
+pub mod Description
+pub mod Process
+pub mod State
+pub mod References
+pub mod Release
+pub mod Outcome
+pub mod Pairing
+pub mod Stream
+pub mod Sending
+pub mod Receiving
+pub mod Closing
+pub mod Step
+pub mod Boot
+pub mod History

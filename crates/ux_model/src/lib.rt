@@ -1,0 +1,26 @@
+//! The socket layer as definitions: what a state is, what each call answers and leaves, and which
+//! histories are runs of it. They stand in `specs/`, one file a subject. This crate has no program
+//! code; its functions have empty bodies, and their contracts are laws of the definitions.
+#![tactic(auto)]
+
+ghost use Rattle.ux_model.specs.Release.{EndsAlike};
+ghost use Rattle.ux_model.specs.History.{LeadsToOne, FrontIsLegal};
+
+/// Descriptions without a reference may be dropped one at a time and in any order: the same state is
+/// left as when all go at once, again and again.
+#[tactic(auto, using(crate::proofs::AnyOrder::ends_alike))]
+pub fn dropping_in_any_order()
+    ensures { EndsAlike }
+{}
+
+/// Each reply shows whether memory was wanting, so the calls of a history lead to one state.
+#[tactic(auto, using(crate::proofs::Replays::leads_to_one))]
+pub fn history_leads_to_one_state()
+    ensures { LeadsToOne }
+{}
+
+/// The first entries of a legal history are one themselves.
+#[tactic(auto, using(crate::proofs::Fronts::front_is_legal))]
+pub fn front_of_a_legal_history()
+    ensures { FrontIsLegal }
+{}
