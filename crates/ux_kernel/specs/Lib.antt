@@ -1,0 +1,4 @@
+pub mod Queue
+pub mod Free
+pub mod Loss
+pub mod Changes

@@ -1,0 +1,45 @@
+//! Closing descriptors (close(2)), and the end of a process (_exit(2)).
+ghost use Rattle.std.specs.Prelude.{◌≡◌, IsTrue, slice_set};
+ghost use Rattle.ux_model.specs.State.{is_live, with_table, table_of};
+ghost use Rattle.ux_model.specs.Closing as model;
+
+use crate::kernel::Kernel;
+use crate::table::Descriptor;
+use ux_types::{Fd, Pid, Reply};
+
+impl Kernel {
+    /// close(2).
+    #[tactic(auto, unfolding(ux_model::specs::Closing::close))]
+    pub(crate) fn close(&mut self, pid: Pid, fd: Fd) -> Reply
+        requires { IsTrue (is_live self.old pid.0) }
+        ensures reply { result ≡ (model.close self.old pid.0 fd).reply }
+        ensures state { self.new ≡ (model.close self.old pid.0 fd).next }
+    {
+        if let Err(e) = self.find_description(pid, fd) {
+            return Reply::Err(e);
+        }
+        self.put(pid, fd, None);
+        Reply::Ok
+    }
+
+    /// Empties or fills a place of a process's table.
+    fn put(&mut self, pid: Pid, fd: Fd, slot: Option<Descriptor>)
+        requires { IsTrue (is_live self.old pid.0) }
+        ensures { self.new ≡ with_table self.old pid.0 (slice_set (table_of self.old pid.0) fd.0 slot) }
+    {
+        let process = &mut self.processes[pid.0 as usize - 1];
+        process.put(fd, slot);
+    }
+
+    /// _exit(2).
+    #[tactic(auto, using(crate::proofs::Lookups::live_inside, crate::proofs::Lookups::live_positive, crate::proofs::Lookups::found_process, crate::proofs::Lookups::with_process_is), unfolding(ux_model::specs::Closing::exit))]
+    pub(crate) fn exit(&mut self, pid: Pid) -> Reply
+        requires { IsTrue (is_live self.old pid.0) }
+        ensures reply { result ≡ (model.exit self.old pid.0).reply }
+        ensures state { self.new ≡ (model.exit self.old pid.0).next }
+    {
+        let process = &mut self.processes[pid.0 as usize - 1];
+        process.exit();
+        Reply::Ok
+    }
+}

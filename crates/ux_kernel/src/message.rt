@@ -1,0 +1,56 @@
+//! A message that waits in a socket's queue.
+ghost use Rattle.std.specs.Prelude.{◌≡◌, IfOk, length, drop, ◌≤◌};
+
+use std::alloc::{AllocError, Global};
+use std::marker::Model;
+
+/// What one call sent and nobody has received yet.
+#[derive(Drop)]
+pub(crate) struct Message {
+    tag: u64,
+    bytes: Vec<u8>,
+}
+
+impl Model for Message {
+    ghost use Rattle.ux_model.specs.Message as model;
+
+    ghost Value = { model.Message };
+
+    ghost view = { λ m. record { tag = m.tag; bytes = m.bytes.items } };
+}
+
+impl Message {
+    /// A message of the call with this number.
+    pub(crate) fn new(alloc: Global, tag: u64, bytes: &[u8]) -> Result<Message, AllocError>
+        ensures { IfOk result (λ m. m ≡ record { tag = tag; bytes = bytes.now }) }
+    {
+        Ok(Message {
+            tag,
+            bytes: Vec::from_slice(alloc, bytes)?,
+        })
+    }
+
+    /// Its bytes.
+    pub(crate) fn bytes(&self) -> &[u8]
+        ensures { result.now ≡ self.now.bytes }
+    {
+        &self.bytes
+    }
+
+    /// How many bytes it has.
+    pub(crate) fn len(&self) -> usize
+        ensures { result ≡ length self.now.bytes }
+    {
+        self.bytes.len()
+    }
+
+    /// Takes this many bytes from its front.
+    pub(crate) fn cut(&mut self, n: usize)
+        requires { n ≤ length self.old.bytes }
+        ensures { self.new ≡ record self.old { bytes = drop n self.old.bytes } }
+    {
+        let rest = self.bytes.len() - n;
+        self.bytes.rotate_left(n);
+        self.bytes.truncate(rest);
+    }
+}
