@@ -1,7 +1,7 @@
 -- Runs of calls from a boot state on.
-use Rattle.std.specs.Prelude.{◌≡◌, ℕ, ◌+◌, true, ◌==◌, List, [], ◌∷◌, ◌++◌, length, take, count_by, Some}
-use Rattle.std.specs.List.{slice_get}
-use Rattle.ux_model.specs.Types.{Entry}
+use Rattle.std.specs.Prelude.{◌≡◌, ℕ, ◌+◌, Bool, true, false, not, ◌&&◌, ◌==◌, List, [], ◌∷◌, ◌++◌, length, take, count_by, Some}
+use Rattle.std.specs.List.{slice_get, list_any}
+use Rattle.ux_model.specs.Types.{Request, Reply, Entry}
 use Rattle.ux_model.specs.State.{State, is_live}
 use Rattle.ux_model.specs.Step.{Step, after}
 use Rattle.ux_model.specs.Boot.{IsBootState}
@@ -49,3 +49,26 @@ LeadsToOne = (boot : State) (entries : List Entry) (T : State) → Leads boot en
 -- a front of a legal history is one
 abbrev pub FrontIsLegal : Type 0
 FrontIsLegal = (boot : State) (entries : List Entry) (n : ℕ) → IsLegal boot entries → IsLegal boot (take n entries)
+
+abbrev pub is_exit : Request → Bool
+is_exit Request.Exit = true
+is_exit _ = false
+
+-- a process ends with its own exit, and with nothing else
+abbrev pub ExitAloneEnds : Type 0
+ExitAloneEnds = (S T : State) (p tag q : ℕ) (request : Request) (reply : Reply) → Step S p tag request reply T →
+    is_live T q ≡ (is_live S q && not (is_exit request && (p == q)))
+
+-- no step makes or forgets a process
+abbrev pub StepKeepsProcesses : Type 0
+StepKeepsProcesses = (S T : State) (p tag : ℕ) (request : Request) (reply : Reply) → Step S p tag request reply T →
+    length T.processes ≡ length S.processes
+
+-- the process has made its exit
+abbrev pub has_exited : ℕ → List Entry → Bool
+has_exited p entries = list_any (λ e. is_exit e.request && (e.pid.0 == p)) entries
+
+-- at the end of a legal history those processes live that did at its start and haven't made their exit
+abbrev pub LivesUntilExit : Type 0
+LivesUntilExit = (boot : State) (entries : List Entry) (p : ℕ) → IsLegal boot entries →
+    is_live (replay boot entries) p ≡ (is_live boot p && not (has_exited p entries))

@@ -4,7 +4,7 @@
 #![tactic(auto)]
 
 ghost use Rattle.ux_model.specs.Release.{EndsAlike};
-ghost use Rattle.ux_model.specs.History.{LeadsToOne, FrontIsLegal};
+ghost use Rattle.ux_model.specs.History.{LeadsToOne, FrontIsLegal, ExitAloneEnds, StepKeepsProcesses, LivesUntilExit};
 
 /// Descriptions without a reference may be dropped one at a time and in any order: the same state is
 /// left as when all go at once, again and again.
@@ -23,4 +23,23 @@ pub fn history_leads_to_one_state()
 #[tactic(auto, using(crate::proofs::Fronts::front_is_legal))]
 pub fn front_of_a_legal_history()
     ensures { FrontIsLegal }
+{}
+
+/// A process ends with its own exit, and with nothing else.
+#[tactic(auto, using(crate::proofs::Living::exit_alone_ends))]
+pub fn exit_alone_ends_a_process()
+    ensures { ExitAloneEnds }
+{}
+
+/// No step makes or forgets a process.
+#[tactic(auto, using(crate::proofs::Living::step_keeps_processes))]
+pub fn step_keeps_processes()
+    ensures { StepKeepsProcesses }
+{}
+
+/// At the end of a legal history those processes live that did at its start and haven't made their
+/// exit.
+#[tactic(auto, using(crate::proofs::Living::lives_until_exit))]
+pub fn processes_live_until_their_exit()
+    ensures { LivesUntilExit }
 {}
