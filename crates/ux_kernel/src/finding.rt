@@ -1,5 +1,5 @@
 //! What a number of a process leads to.
-ghost use Rattle.std.specs.Prelude.{◌≡◌, Some, None, Ok, Err, IsTrue, MatchOption, MatchResult, IfOk};
+ghost use Rattle.std.specs.Prelude.{◌≡◌, Some, None, Ok, Err, IsTrue, MatchOption, MatchResult, IfOk, length};
 ghost use Rattle.ux_model.specs.State.{process_at, description_at, socket_at, is_live};
 ghost use Rattle.ux_model.specs.Outcome.{find_description};
 
@@ -10,6 +10,13 @@ use crate::table::Descriptor;
 use ux_types::{Errno, Fd, Pid};
 
 impl Kernel {
+    /// How many processes were made, exited ones too.
+    pub fn process_count(&self) -> usize
+        ensures { result ≡ length self.now.processes }
+    {
+        self.processes.len()
+    }
+
     /// Whether a process with this number was made, and hasn't exited.
     #[tactic(auto, using(crate::proofs::Lookups::live_is, crate::proofs::Lookups::live_none, crate::proofs::Lookups::live_zero))]
     pub fn is_live(&self, pid: Pid) -> bool

@@ -1,7 +1,10 @@
 //! The calls that a process can make.
+ghost use Rattle.std.specs.Prelude.{◌≡◌};
+
 use crate::buffer::Bytes;
 use crate::flag_sets::{MsgFlags, OpenFlags};
 use crate::identity::Fd;
+use std::alloc::AllocError;
 
 /// The type of a socket.
 #[derive(Clone, Copy, Debug, PartialEq, Eq)]
@@ -11,7 +14,7 @@ pub enum SockType {
 }
 
 /// A call.
-#[derive(Clone, Debug, Drop, PartialEq, Eq)]
+#[derive(Debug, Drop, PartialEq, Eq)]
 pub enum Request {
     /// socketpair(2).
     SocketPair {
@@ -37,4 +40,35 @@ pub enum Request {
     },
     /// _exit(2).
     Exit,
+}
+
+impl Clone for Request {
+    ghost is_clone = { λ x y. y ≡ x };
+
+    fn clone(&self) -> Result<Request, AllocError> {
+        Ok(match self {
+            Request::SocketPair { kind, flags } => Request::SocketPair {
+                kind: *kind,
+                flags: *flags,
+            },
+            Request::SendMsg { fd, bytes, flags } => Request::SendMsg {
+                fd: *fd,
+                bytes: bytes.clone()?,
+                flags: *flags,
+            },
+            Request::RecvMsg {
+                fd,
+                n,
+                space,
+                flags,
+            } => Request::RecvMsg {
+                fd: *fd,
+                n: *n,
+                space: *space,
+                flags: *flags,
+            },
+            Request::Close { fd } => Request::Close { fd: *fd },
+            Request::Exit => Request::Exit,
+        })
+    }
 }
