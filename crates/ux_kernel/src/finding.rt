@@ -1,5 +1,6 @@
 //! What a number of a process leads to.
-ghost use Rattle.std.specs.Prelude.{◌≡◌, Some, None, Ok, Err, IsTrue, MatchOption, MatchResult, IfOk, length};
+ghost use Rattle.std.specs.Prelude.{◌≡◌, Some, None, Ok, Err, IsTrue, MatchOption, MatchResult, IfOk, length, ◌≤◌};
+ghost use Rattle.ux_model.specs.Limits.{process_limit};
 ghost use Rattle.ux_model.specs.State.{process_at, description_at, socket_at, is_live};
 ghost use Rattle.ux_model.specs.Outcome.{find_description};
 
@@ -12,7 +13,8 @@ use ux_types::{Errno, Fd, Pid};
 impl Kernel {
     /// How many processes were made, exited ones too.
     pub fn process_count(&self) -> usize
-        ensures { result ≡ length self.now.processes }
+        ensures count { result ≡ length self.now.processes }
+        ensures most { result ≤ process_limit }
     {
         self.processes.len()
     }

@@ -14,9 +14,13 @@ pub struct Kernel {
 }
 
 impl Model for Kernel {
+    ghost use Rattle.std.specs.Prelude.{length, ◌≤◌};
+    ghost use Rattle.ux_model.specs.Limits.{process_limit};
     ghost use Rattle.ux_model.specs.State as model;
 
     ghost Value = { model.State };
 
     ghost view = { λ k. record { descriptions = k.descriptions.items; processes = k.processes.items } };
+
+    ghost invariant = { λ k. length k.processes.items ≤ process_limit };
 }
