@@ -12,7 +12,7 @@ use Rattle.ux_syntax.specs.declared.fault.ScriptFault.{ScriptFault}
 use Rattle.ux_syntax.specs.declared.script.Line.{Line}
 use Rattle.ux_syntax.specs.declared.script.Script.{Script}
 use Rattle.ux_syntax.specs.declared.reading.Item.{Item}
-use Rattle.ux_syntax.specs.Spelling.{Turn, line_of, Plan, plan_of, proc_line, turn_line, is_meant, FitsProc, FitsTurn, IsOfProcess, is_exit, NoneAfterExit, Spells, IsFirstFault}
+use Rattle.ux_syntax.specs.Spelling.{Turn, line_of, Plan, plan_of, proc_line, turn_line, is_meant, FitsProc, FitsTurn, IsOfProcess, is_exit, NoneAfterExit, IsOrderly, Spells, IsFirstFault}
 use Rattle.ux_syntax.specs.Turns.{has_exited, is_known}
 use Rattle.ux_syntax.specs.Reading.{line_fault, item_at, added, line_at, on_line, lines_at, no_lines}
 use Rattle.ux_syntax.specs.Results.{FailsAt, Refuses, GivesScript}
@@ -171,8 +171,7 @@ added_takes Item.Skipped ls s l t h short says e = subst (λ (y : Plan). Spells 
   meant = h.meant;
   fit_procs = h.fit_procs;
   fit_turns = h.fit_turns;
-  processes = h.processes;
-  exits = h.exits;
+  orderly = h.orderly;
 })
 added_takes (Item.Proc p) ls s l t h short says e =
     let g = guard_ok (eqb (length s.lines) 0) BadLine (record { procs = s.procs ++ p ∷ []; lines = s.lines }) t e in
@@ -186,8 +185,7 @@ added_takes (Item.Proc p) ls s l t h short says e =
       meant = refl;
       fit_procs = each_more FitsProc s.procs p h.fit_procs says.2;
       fit_turns = tt;
-      processes = tt;
-      exits = tt;
+      orderly = record { processes = tt; exits = tt };
     } in
     subst (λ (y : Plan). Spells (ls ++ l ∷ []) y) (ap (λ (ts : List Line). record { procs = s.procs ++ p ∷ []; lines = ts }) (sym none) ∙ g.1) made
 added_takes (Item.Call line) ls s l t h short says e =
@@ -201,8 +199,10 @@ added_takes (Item.Call line) ls s l t h short says e =
       meant = turns_meant h.turns w.0 ∙ ap (λ (xs : List Line). xs ++ line_of w.0 ∷ []) h.meant ∙ ap (λ (x : Line). s.lines ++ x ∷ []) w.1;
       fit_procs = h.fit_procs;
       fit_turns = each_more FitsTurn h.turns w.0 h.fit_turns w.3;
-      processes = each_more (IsOfProcess (length s.procs)) s.lines line h.processes (ltb-true 0 line.pid.0 known.0, leb-true line.pid.0 (length s.procs) known.1);
-      exits = exits_more s.lines line h.exits g.1;
+      orderly = record {
+        processes = each_more (IsOfProcess (length s.procs)) s.lines line h.orderly.processes (ltb-true 0 line.pid.0 known.0, leb-true line.pid.0 (length s.procs) known.1);
+        exits = exits_more s.lines line h.orderly.exits g.1;
+      };
     })
 
 pub line_takes : (ls : List (List ℕ)) (s : Plan) (l : List ℕ) (t : Plan) → Spells ls s → line_at s l ≡ Ok t → Spells (ls ++ l ∷ []) t
@@ -228,15 +228,15 @@ step_turn ls l t ts u m h same =
     let ends = same_ends (filter is_meant ls) (texts_of t.procs ts) l (turn_line u) (sym (meant_more ls l m) ∙ h.spelled ∙ ap (λ (vs : List Turn). texts_of t.procs vs) same ∙ turn_spelling t.procs ts u) in
     let short = each_less (λ text. length text ≤ 4096) ls l h.short in
     let fits = each_less FitsTurn ts u (subst (λ (vs : List Turn). AllByRecursion FitsTurn vs) same h.fit_turns) in
-    let processes = each_less (IsOfProcess (length t.procs)) (map line_of ts) (line_of u) (subst (λ (vs : List Line). AllByRecursion (IsOfProcess (length t.procs)) vs) lines h.processes) in
-    let exits = exits_less (map line_of ts) (line_of u) (subst NoneAfterExit lines h.exits) in
+    let processes = each_less (IsOfProcess (length t.procs)) (map line_of ts) (line_of u) (subst (λ (vs : List Line). AllByRecursion (IsOfProcess (length t.procs)) vs) lines h.orderly.processes) in
+    let exits = exits_less (map line_of ts) (line_of u) (subst NoneAfterExit lines h.orderly.exits) in
     let first : ltb 0 u.pid ≡ true = lt-ltb 0 u.pid processes.1.0 in
     let last : leb u.pid (length t.procs) ≡ true = le-leb u.pid (length t.procs) processes.1.1 in
     let before : Plan = with_lines t (map line_of ts) in
     let adds : added before (Item.Call (line_of u)) ≡ Ok (with_lines t (map line_of ts ++ line_of u ∷ [])) = rw (first, last, exits.1) refl in
     let whole : with_lines t (map line_of ts ++ line_of u ∷ []) ≡ t = ap (λ (vs : List Line). with_lines t vs) (sym lines) in (
       before,
-      record { turns = ts; short = short.0; spelled = ends.0; meant = refl; fit_procs = h.fit_procs; fit_turns = fits.0; processes = processes.0; exits = exits.0 },
+      record { turns = ts; short = short.0; spelled = ends.0; meant = refl; fit_procs = h.fit_procs; fit_turns = fits.0; orderly = record { processes = processes.0; exits = exits.0 } },
       line_from before l (Item.Call (line_of u)) t (turn_again_line u l short.1 m ends.1 fits.1) (adds ∙ ap (λ (y : Plan). Ok y) whole),
     )
 
@@ -250,7 +250,7 @@ step_proc ls l t ps p m h none same =
     let before : Plan = record { procs = ps; lines = [] } in
     let whole : record { procs = ps ++ p ∷ []; lines = [] } ≡ t = ap (λ (qs : List ProcSpec). record { procs = qs; lines = [] }) (sym same) ∙ ap (λ (vs : List Line). with_lines t vs) (sym lines) in (
       before,
-      record { turns = []; short = short.0; spelled = ends.0; meant = refl; fit_procs = fits.0; fit_turns = tt; processes = tt; exits = tt },
+      record { turns = []; short = short.0; spelled = ends.0; meant = refl; fit_procs = fits.0; fit_turns = tt; orderly = record { processes = tt; exits = tt } },
       line_from before l (Item.Proc p) t (proc_again_line p l short.1 m ends.1 fits.1) (ap (λ (y : Plan). Ok y) whole),
     )
 
@@ -262,7 +262,7 @@ step_skip : (ls : List (List ℕ)) (l : List ℕ) (t : Plan) → is_meant l ≡ 
 step_skip ls l t m h =
     let short = each_less (λ text. length text ≤ 4096) ls l h.short in (
       t,
-      record { turns = h.turns; short = short.0; spelled = sym (skipped_more ls l m) ∙ h.spelled; meant = h.meant; fit_procs = h.fit_procs; fit_turns = h.fit_turns; processes = h.processes; exits = h.exits },
+      record { turns = h.turns; short = short.0; spelled = sym (skipped_more ls l m) ∙ h.spelled; meant = h.meant; fit_procs = h.fit_procs; fit_turns = h.fit_turns; orderly = h.orderly },
       line_from t l Item.Skipped t (skip_again l short.1 m) refl,
     )
 
@@ -281,7 +281,7 @@ line_again ls l t h = step_chosen ls l t (is_meant l) refl h
 -- ---- all lines
 
 pub none_spelled : Spells [] no_lines
-none_spelled = record { turns = []; short = tt; spelled = refl; meant = refl; fit_procs = tt; fit_turns = tt; processes = tt; exits = tt }
+none_spelled = record { turns = []; short = tt; spelled = refl; meant = refl; fit_procs = tt; fit_turns = tt; orderly = record { processes = tt; exits = tt } }
 
 on_ok : (n : ℕ) (go : Plan → Result Plan ScriptFault) (r : Result Plan Fault) (t : Plan) → on_line n go r ≡ Ok t → (s : Plan) × (r ≡ Ok s) × (go s ≡ Ok t)
 on_ok n go (Ok s) t e = (s, refl, e)
@@ -366,6 +366,10 @@ script_refused lines e k = lines_refused [] no_lines lines e none_spelled k
 pub gives_found : (r : Result Script ScriptFault) (lines : List (List ℕ)) → GivesScript r (lines_at 1 no_lines lines) → IfOk r (λ script. Spells lines (plan_of script))
 gives_found (Ok s) lines h = script_found lines (plan_of s) h
 gives_found (Err f) lines h = tt
+
+pub gives_orderly : (r : Result Script ScriptFault) (lines : List (List ℕ)) → GivesScript r (lines_at 1 no_lines lines) → IfOk r (λ script. IsOrderly (plan_of script))
+gives_orderly (Ok s) lines h = (script_found lines (plan_of s) h).orderly
+gives_orderly (Err f) lines h = tt
 
 pub gives_only : (r : Result Script ScriptFault) (lines : List (List ℕ)) (s : Plan) → GivesScript r (lines_at 1 no_lines lines) → Spells lines s → GivesScript r (Ok s)
 gives_only r lines s h k = subst (λ (read : Result Plan ScriptFault). GivesScript r read) (script_only lines s k) h

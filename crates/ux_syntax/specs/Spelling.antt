@@ -148,6 +148,11 @@ abbrev pub NoneAfterExit : List Line → Type 0
 NoneAfterExit [] = Unit {0}
 NoneAfterExit (line ∷ lines) = (is_exit line.request ≡ true → IsQuiet line.pid.0 lines) × NoneAfterExit lines
 
+-- each line is of a process that is there and hasn't made its exit
+pub record IsOrderly (s : Plan) : Type 0 where
+  pub processes : AllByRecursion (IsOfProcess (length s.procs)) s.lines
+  pub exits : NoneAfterExit s.lines
+
 -- ---- which lines spell which script
 
 -- The lines spell the script: short ones, of which those that say something are the processes' and then the calls' as they are written.
@@ -158,8 +163,7 @@ pub record Spells (texts : List (List ℕ)) (s : Plan) : Type 0 where
   pub meant : map line_of turns ≡ s.lines
   pub fit_procs : AllByRecursion FitsProc s.procs
   pub fit_turns : AllByRecursion FitsTurn turns
-  pub processes : AllByRecursion (IsOfProcess (length s.procs)) s.lines
-  pub exits : NoneAfterExit s.lines
+  pub orderly : IsOrderly s
 
 -- the line of this number, counted from 1, is the first at fault: those before it spell a script, and with it they spell none
 pub record IsFirstFault (texts : List (List ℕ)) (n : ℕ) : Type 0 where

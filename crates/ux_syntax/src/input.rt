@@ -2,7 +2,7 @@
 
 ghost use Rattle.std.specs.Prelude.{◌≡◌, ◌⊎◌, IfOk, OnOk, IfErr, IfSome};
 ghost use Rattle.std.specs.Io.KnownBytes.{IsAtEnd};
-ghost use Rattle.ux_syntax.specs.Spelling.{plan_of, Spells, lines_of};
+ghost use Rattle.ux_syntax.specs.Spelling.{plan_of, Spells, IsOrderly, lines_of};
 ghost use Rattle.ux_syntax.specs.Results.{Refuses};
 
 use crate::fault::ScriptFault;
@@ -15,7 +15,9 @@ use std::io::{ErrorKind, Read};
 pub fn read_script<R: Read>(alloc: Global, reader: &mut R) -> Result<Script, ScriptFault>
     // What is read is spelled so by the bytes that the reader had.
     ensures found { IfOk result (λ script. IfSome (R.remaining reader.old) (λ text. Spells (lines_of text) (plan_of script))) }
-    // None of them is left.
+    // Each line is of a process that is there and hasn't made its exit.
+    ensures orderly { IfOk result (λ script. IsOrderly (plan_of script)) }
+    // None of the reader's bytes is left.
     ensures end { OnOk result (IsAtEnd (R.remaining reader.new)) }
     // The read failed, or the fault is that of the first line at fault.
     ensures fault { IfErr result (λ f. (f ≡ ScriptFault.Reading) ⊎ IfSome (R.remaining reader.old) (λ text. Refuses (lines_of text) f)) }

@@ -2,7 +2,7 @@
 
 ghost use Rattle.std.specs.Prelude.{◌≡◌, ◌==◌, not, map, IfOk, IfErr, OnOk, Ok};
 ghost use Rattle.std.specs.List.{slice_split};
-ghost use Rattle.ux_syntax.specs.Spelling.{Plan, plan_of, Spells, OneScript, lines_of, is_meant};
+ghost use Rattle.ux_syntax.specs.Spelling.{Plan, plan_of, Spells, IsOrderly, OneScript, lines_of, is_meant};
 ghost use Rattle.ux_syntax.specs.Turns.{is_known};
 ghost use Rattle.ux_syntax.specs.Reading.{words_at, item_at, added, line_at, script_at};
 ghost use Rattle.ux_syntax.specs.Results.{Gives, Leaves, GivesScript, Refuses, Marks};
@@ -180,6 +180,8 @@ fn read_text(alloc: Global, text: &[u8]) -> Result<Script, ScriptFault>
 pub fn parse_script(alloc: Global, text: &[u8]) -> Result<Script, ScriptFault>
     // What is read is spelled so.
     ensures found { IfOk result (λ script. Spells (lines_of text.now) (plan_of script)) }
+    // Each line is of a process that is there and hasn't made its exit.
+    ensures orderly { IfOk result (λ script. IsOrderly (plan_of script)) }
     // What is spelled so is read, unless memory runs out.
     ensures only { (s : Plan) → Spells (lines_of text.now) s → GivesScript result (Ok s) }
     // A fault is that of the first line at fault.
