@@ -1,0 +1,77 @@
+//! How long it takes to read a script and to print a trace, for scripts of several lengths. The times
+//! go to standard error; `done` goes to standard output.
+#![tactic(auto)]
+
+use anyhow::anyhow;
+use std::alloc::{AllocError, Global};
+use std::time::{Duration, Instant};
+use ux_syntax::{Script, entry_text, parse_script};
+use ux_types::{Bytes, Entry, MsgFlags, Reply};
+
+const PROCESSES: usize = 64;
+
+/// A script of 64 processes that call in turn, and of this many calls.
+fn script_text(alloc: Global, calls: usize) -> Result<String, AllocError> {
+    let mut text = String::new(alloc);
+    for _ in 0..PROCESSES {
+        text.push_str("proc 1000 1000 0 1024\n")?;
+    }
+    for number in 0..calls {
+        let pid = number % PROCESSES + 1;
+        let call = match number % 4 {
+            0 => "pair stream anx",
+            1 => "send 10 - 48656c6c6f2c20776f726c6421 - d",
+            2 => "recv 11 4096 1024 dptx",
+            _ => "close 10",
+        };
+        let line = format!(in alloc; "{pid} {call}\n")?;
+        text.push_str(&line)?;
+    }
+    Ok(text)
+}
+
+/// A history of the script's calls, in which each received something.
+fn entries_of(alloc: Global, script: Script) -> Result<Vec<Entry>, AllocError> {
+    let mut entries = Vec::new(alloc);
+    for (number, line) in script.lines.into_iter().enumerate() {
+        let bytes = Bytes::new(Vec::from_slice(alloc, b"Hello, world!")?);
+        entries.push(Entry {
+            pid: line.pid,
+            k: number as u64,
+            request: line.request,
+            reply: Reply::Received {
+                count: 13,
+                bytes,
+                flags: MsgFlags::TRUNC,
+            },
+        })?;
+    }
+    Ok(entries)
+}
+
+fn nanoseconds_each(time: Duration, count: usize) -> u128 {
+    if count == 0 {
+        return 0;
+    }
+    time.as_nanos() / count as u128
+}
+
+fn main(rt: HostRuntime) -> anyhow::Result<()> {
+    for calls in [1_000, 10_000, 100_000] {
+        let text = script_text(rt.alloc(), calls)?;
+        let start = Instant::now(&rt)?;
+        let Ok(script) = parse_script(rt.alloc(), text.as_bytes()) else {
+            return Err(anyhow!("the script was refused"));
+        };
+        let reading = nanoseconds_each(start.elapsed(&rt)?, calls);
+        let entries = entries_of(rt.alloc(), script)?;
+        let start = Instant::now(&rt)?;
+        for (number, entry) in entries.iter().enumerate() {
+            entry_text(rt.alloc(), number, entry)?;
+        }
+        let printing = nanoseconds_each(start.elapsed(&rt)?, calls);
+        eprintln!(rt; "{calls} lines: reading {reading} ns a line, printing {printing} ns a line")?;
+    }
+    println!(rt; "done")?;
+    Ok(())
+}

@@ -1,0 +1,109 @@
+-- Bytes in pairs of digits, and a bit.
+use Rattle.std.proofs.Common.{◌≡◌, ℕ, ◌+◌, ◌*◌, ◌/◌, ◌%◌, ◌<◌, Bool, true, false, cond, List, [], ◌∷◌, length, Ok, Err, refl, ap, ◌∙◌, subst, arith, Decides}
+use Rattle.std.specs.List.{flat_map}
+use Rattle.std.specs.Fmt.{digit_glyph}
+use Rattle.std.specs.Str.{bytes_eq}
+use Rattle.std.proofs.lemmas.Bool.Decides.{nat_tests}
+use Rattle.std.proofs.lemmas.Slice.Eq.{bytes_eq-Decides}
+use Rattle.ux_syntax.specs.declared.fault.Fault.TheVariants.{BadLine}
+use Rattle.ux_syntax.specs.Trace.{dash, digit_pair, hex}
+use Rattle.ux_syntax.specs.Spelling.{AreBytes, bit}
+use Rattle.ux_syntax.specs.Reading.{◌>>=◌, digit_at, pairs_at, hex_at, bit_at}
+use Rattle.ux_syntax.proofs.Texts.{hex_is}
+use Rattle.ux_syntax.proofs.Rows.{IsSolid, IsKind, bind_ok, done, ok_is}
+
+digit_takes : (c n : ℕ) → digit_at c ≡ Ok n → (c ≡ digit_glyph false n) × (n < 16)
+digit_takes c n e = grind (arith, nat_tests, e)
+
+digit_again : (n : ℕ) → n < 16 → digit_at (digit_glyph false n) ≡ Ok n
+digit_again n h = grind (arith, nat_tests)
+
+glyph_solid : (n : ℕ) → n < 16 → 32 < digit_glyph false n
+glyph_solid n h = grind (arith, nat_tests)
+
+pub pairs_takes : (w bs : List ℕ) → pairs_at w ≡ Ok bs → (w ≡ flat_map digit_pair bs) × AreBytes bs
+pairs_takes [] bs e = subst (λ (x : List ℕ). ([] ≡ flat_map digit_pair x) × AreBytes x) (ok_is [] bs e) (refl, tt)
+pairs_takes (h ∷ []) bs e = absurd cc
+pairs_takes (h ∷ l ∷ rest) bs e =
+    let a = bind_ok (digit_at h) (λ high. digit_at l >>= λ low. pairs_at rest >>= λ bytes. Ok ((16 * high + low) ∷ bytes)) bs e in
+    let b = bind_ok (digit_at l) (λ low. pairs_at rest >>= λ bytes. Ok ((16 * a.0 + low) ∷ bytes)) bs a.2 in
+    let c = bind_ok (pairs_at rest) (λ bytes. Ok ((16 * a.0 + b.0) ∷ bytes)) bs b.2 in
+    let high = digit_takes h a.0 a.1 in
+    let low = digit_takes l b.0 b.1 in
+    let n = 16 * a.0 + b.0 in
+    let front : a.0 ≡ n / 16 = omega arith in
+    let back : b.0 ≡ n % 16 = omega arith in
+    let p = pairs_takes rest c.0 c.1 in
+    subst (λ (x : List ℕ). (h ∷ l ∷ rest ≡ flat_map digit_pair x) × AreBytes x) (ok_is (n ∷ c.0) bs c.2) (
+      ap (λ (x : ℕ). x ∷ l ∷ rest) (high.0 ∙ ap (digit_glyph false) front) ∙ ap (λ (x : ℕ). digit_glyph false (n / 16) ∷ x ∷ rest) (low.0 ∙ ap (digit_glyph false) back) ∙ ap (λ (x : List ℕ). digit_glyph false (n / 16) ∷ digit_glyph false (n % 16) ∷ x) p.0,
+      (omega (arith, high.1, low.1), p.1),
+    )
+
+pub pairs_again : (bs : List ℕ) → AreBytes bs → pairs_at (flat_map digit_pair bs) ≡ Ok bs
+pairs_again [] f = refl
+pairs_again (b ∷ bs) f =
+    let whole : 16 * (b / 16) + b % 16 ≡ b = omega arith in
+    rw (digit_again (b / 16) (omega (arith, f.0)), digit_again (b % 16) (omega arith), pairs_again bs f.1, whole) refl
+
+pub pairs_solid : (bs : List ℕ) → AreBytes bs → IsSolid (flat_map digit_pair bs)
+pairs_solid [] f = tt
+pairs_solid (b ∷ bs) f = (glyph_solid (b / 16) (omega (arith, f.0)), (glyph_solid (b % 16) (omega arith), pairs_solid bs f.1))
+
+pub pairs_long : (bs : List ℕ) → 0 < length (flat_map digit_pair bs) → 0 < length bs
+pairs_long [] h = absurd (omega arith)
+pairs_long (b ∷ bs) h = omega arith
+
+hex_chosen : (w bs : List ℕ) (t : Bool) → 0 < length w → Decides t (w ≡ dash) → cond t (done []) (pairs_at w) ≡ Ok bs → (w ≡ hex bs) × AreBytes bs
+hex_chosen w bs true long d e = subst (λ (x : List ℕ). (w ≡ hex x) × AreBytes x) (ok_is [] bs e) (d.0 refl, tt)
+hex_chosen w bs false long d e =
+    let p = pairs_takes w bs e in
+    (p.0 ∙ hex_is bs (pairs_long bs (subst (λ (x : List ℕ). 0 < length x) p.0 long)), p.1)
+
+hex_takes : (w bs : List ℕ) → hex_at w ≡ Ok bs → (w ≡ hex bs) × AreBytes bs
+unfolding hex_at
+hex_takes [] bs e = absurd cc
+hex_takes (c ∷ cs) bs e = hex_chosen (c ∷ cs) bs (bytes_eq (c ∷ cs) dash) (omega arith) (bytes_eq-Decides (c ∷ cs) dash) e
+
+no_dash : (a b : ℕ) (cs : List ℕ) (t : Bool) → Decides t (a ∷ b ∷ cs ≡ dash) → t ≡ false
+no_dash a b cs true d = let e : a ∷ b ∷ cs ≡ dash = d.0 refl in absurd (omega (arith, ap (λ (x : List ℕ). length x) e))
+no_dash a b cs false d = refl
+
+hex_again : (bs : List ℕ) → AreBytes bs → hex_at (hex bs) ≡ Ok bs
+unfolding hex_at
+hex_again [] f = refl
+hex_again (b ∷ bs) f =
+    let w = flat_map digit_pair (b ∷ bs) in
+    let other : bytes_eq w dash ≡ false = no_dash (digit_glyph false (b / 16)) (digit_glyph false (b % 16)) (flat_map digit_pair bs) (bytes_eq w dash) (bytes_eq-Decides w dash) in
+    rw other (pairs_again (b ∷ bs) f)
+
+pub dash_solid : IsSolid dash
+dash_solid = (omega arith, tt)
+
+hex_solid : (bs : List ℕ) → AreBytes bs → IsSolid (hex bs)
+hex_solid [] f = dash_solid
+hex_solid (b ∷ bs) f = pairs_solid (b ∷ bs) f
+
+pub hex_kind : IsKind hex_at hex AreBytes
+hex_kind = record { takes = hex_takes; again = hex_again; solid = hex_solid }
+
+-- ---- a bit
+
+bit_chosen : (w : List ℕ) (b t u : Bool) → Decides t (w ≡ 48 ∷ []) → Decides u (w ≡ 49 ∷ []) → cond t (done false) (cond u (done true) (Err BadLine)) ≡ Ok b → (w ≡ bit b) × Unit {0}
+bit_chosen w b true u d f e = (d.0 refl ∙ ap bit (ok_is false b e), tt)
+bit_chosen w b false true d f e = (f.0 refl ∙ ap bit (ok_is true b e), tt)
+bit_chosen w b false false d f e = absurd cc
+
+bit_again : (b : Bool) → bit_at (bit b) ≡ Ok b
+bit_again true = refl
+bit_again false = refl
+
+bit_solid : (b : Bool) → IsSolid (bit b)
+bit_solid true = (omega arith, tt)
+bit_solid false = (omega arith, tt)
+
+pub bit_kind : IsKind bit_at bit (λ _. Unit {0})
+bit_kind = record {
+  takes = λ w b e. bit_chosen w b (bytes_eq w (48 ∷ [])) (bytes_eq w (49 ∷ [])) (bytes_eq-Decides w (48 ∷ [])) (bytes_eq-Decides w (49 ∷ [])) e;
+  again = λ b h. bit_again b;
+  solid = λ b h. bit_solid b;
+}

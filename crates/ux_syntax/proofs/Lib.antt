@@ -1,0 +1,9 @@
+pub mod Texts
+pub mod Pairs
+pub mod Numbers
+pub mod Rows
+pub mod Bytes
+pub mod Flags
+pub mod Args
+pub mod Items
+pub mod Scripts

@@ -1,0 +1,155 @@
+-- A word or a row of words that is read is the spelling of what was read, and each spelling is read again.
+use Rattle.std.proofs.Common.{◌≡◌, ℕ, zero, suc, not, ◌<◌, ◌^◌, Bool, true, false, cond, ◌&&◌, ltb, eqb, List, [], ◌∷◌, length, get_or, Result, Ok, Err, refl, ap, sym, ◌∙◌, subst, arith, Decides}
+use Rattle.std.specs.Prelude.{decimal}
+use Rattle.std.specs.List.{list_all, AllByRecursion}
+use Rattle.std.specs.Char.{is_ascii_digit}
+use Rattle.std.specs.Str.{bytes_eq}
+use Rattle.std.specs.Str.Parse.{digits_value}
+use Rattle.std.proofs.lemmas.Bool.{lt-ltb, ltb-true, eqb-true}
+use Rattle.std.proofs.lemmas.Bool.Decides.{nat_tests}
+use Rattle.std.proofs.lemmas.Slice.Eq.{bytes_eq-Decides}
+use Rattle.std.proofs.lemmas.Fmt.{digits_decimal, digits_value-decimal, decimal-digits_value, first_decimal, decimal_nonempty, decimal_digit}
+use Rattle.ux_syntax.specs.declared.fault.Fault.{Fault}
+use Rattle.ux_syntax.specs.declared.fault.Fault.TheVariants.{BadLine}
+use Rattle.ux_syntax.specs.Spelling.{IsNumber}
+use Rattle.ux_syntax.specs.Reading.{◌>>=◌, is_plain, number_at, exactly, one, ends, ◌>>◌}
+use Rattle.ux_syntax.proofs.Numbers.{own}
+
+-- no byte of the word ends it
+abbrev pub IsSolid : List ℕ → Type 0
+IsSolid w = AllByRecursion (λ b. 32 < b) w
+
+-- how one word is read, and how it is spelled
+pub record IsKind {A : Type 0} (read : List ℕ → Result A Fault) (text : A → List ℕ) (Fits : A → Type 0) : Type 0 where
+  pub takes : (w : List ℕ) (x : A) → read w ≡ Ok x → (w ≡ text x) × Fits x
+  pub again : (x : A) → Fits x → read (text x) ≡ Ok x
+  pub solid : (x : A) → Fits x → IsSolid (text x)
+
+-- the same of all the words of a row
+pub record IsRow {A : Type 0} (read : List (List ℕ) → Result A Fault) (words : A → List (List ℕ)) (Fits : A → Type 0) : Type 0 where
+  pub takes : (ws : List (List ℕ)) (x : A) → read ws ≡ Ok x → (ws ≡ words x) × Fits x
+  pub again : (x : A) → Fits x → read (words x) ≡ Ok x
+  pub solid : (x : A) → Fits x → AllByRecursion IsSolid (words x)
+
+ends_takes : (ws : List (List ℕ)) (x : Unit {0}) → ends ws ≡ Ok x → (ws ≡ []) × Unit {0}
+ends_takes [] x e = (refl, tt)
+ends_takes (w ∷ ws) x e = absurd cc
+
+pub ends_row : IsRow ends (λ _. []) (λ _. Unit {0})
+ends_row = record { takes = ends_takes; again = λ x f. refl; solid = λ x f. tt }
+
+-- the value of a step that did not fail
+pub bind_ok : {A B : Type 0} (r : Result A Fault) (f : A → Result B Fault) (y : B) → (r >>= f) ≡ Ok y → (x : A) × (r ≡ Ok x) × (f x ≡ Ok y)
+bind_ok (Ok x) f y e = (x, refl, e)
+bind_ok (Err d) f y e = absurd cc
+
+abbrev pub done : {A : Type 0} → A → Result A Fault
+done x = Ok x
+
+pub ok_is : {A : Type 0} (x y : A) → done x ≡ done y → x ≡ y
+ok_is x y e = cc
+
+row_takes : {A B : Type 0} (k : List ℕ → Result A Fault) (text : A → List ℕ) (F : A → Type 0) (r : List (List ℕ) → Result B Fault) (words : B → List (List ℕ)) (G : B → Type 0)
+    → IsKind k text F → IsRow r words G → (ws : List (List ℕ)) (x : A × B) → (k >> r) ws ≡ Ok x → (ws ≡ text x.0 ∷ words x.1) × (F x.0 × G x.1)
+row_takes k text F r words G kind row [] x e = absurd cc
+row_takes {A = A} {B = B} k text F r words G kind row (w ∷ ws) x e =
+    let a = bind_ok (one k (w ∷ ws)) (λ v. r v.1 >>= λ y. Ok (v.0, y)) x e in
+    let b = bind_ok (k w) (λ v. Ok (v, ws)) a.0 a.1 in
+    let c = bind_ok (r a.0.1) (λ y. Ok (a.0.0, y)) x a.2 in
+    let same : (b.0, ws) ≡ a.0 = ok_is (b.0, ws) a.0 b.2 in
+    let head : b.0 ≡ a.0.0 = ap (λ (v : A × List (List ℕ)). v.0) same in
+    let rest : ws ≡ a.0.1 = ap (λ (v : A × List (List ℕ)). v.1) same in
+    let whole : (a.0.0, c.0) ≡ x = ok_is (a.0.0, c.0) x c.2 in
+    let p = kind.takes w a.0.0 (b.1 ∙ ap (λ v. done v) head) in
+    let q = row.takes a.0.1 c.0 c.1 in
+    subst (λ (y : A × B). (w ∷ ws ≡ text y.0 ∷ words y.1) × (F y.0 × G y.1)) whole
+    (ap (λ (v : List ℕ). v ∷ ws) p.0 ∙ ap (λ (vs : List (List ℕ)). text a.0.0 ∷ vs) (rest ∙ q.0), (p.1, q.1))
+
+pub row_then : {A B : Type 0} {k : List ℕ → Result A Fault} {text : A → List ℕ} {F : A → Type 0} {r : List (List ℕ) → Result B Fault} {words : B → List (List ℕ)} {G : B → Type 0}
+    → IsKind k text F → IsRow r words G → IsRow (k >> r) (λ x. text x.0 ∷ words x.1) (λ x. F x.0 × G x.1)
+row_then {k = k} {text = text} {F = F} {r = r} {words = words} {G = G} kind row = record {
+  takes = row_takes k text F r words G kind row;
+  again = λ x f. rw (kind.again x.0 f.0, row.again x.1 f.1) refl;
+  solid = λ x f. (kind.solid x.0 f.0, row.solid x.1 f.1);
+}
+
+-- ---- words that are given
+
+same_word : (text w : List ℕ) (b : Bool) → Decides b (w ≡ text) → cond b (done {A = Unit {0}} tt) (Err BadLine) ≡ done {A = Unit {0}} tt → w ≡ text
+same_word text w true d e = d.0 refl
+same_word text w false d e = absurd cc
+
+pub exactly_kind : (text : List ℕ) → IsSolid text → IsKind (exactly text) (λ _. text) (λ _. Unit {0})
+unfolding exactly
+exactly_kind text solid = record {
+  takes = λ w x e. (same_word text w (bytes_eq w text) (bytes_eq-Decides w text) e, tt);
+  again = λ x f. rw ((bytes_eq-Decides text text).1 refl) refl;
+  solid = λ x f. solid;
+}
+
+-- ---- numbers
+
+number_guard : (w : List ℕ) (b : Bool) (v n : ℕ) → cond b (done v) (Err BadLine) ≡ Ok n → (b ≡ true) × (v ≡ n)
+number_guard w true v n e = (refl, ok_is v n e)
+number_guard w false v n e = absurd cc
+
+pub and_parts : (a b : Bool) → (a && b) ≡ true → (a ≡ true) × (b ≡ true)
+and_parts true b e = (refl, e)
+and_parts false b e = absurd cc
+
+plain_test : (b : Bool) → (b ≡ true → ⊥) → not b ≡ true
+plain_test true h = absurd (h refl)
+plain_test false h = refl
+
+not_plain : (c : ℕ) → c ≡ 48 → not (eqb c 48) ≡ true → ⊥
+not_plain c e h = let same : eqb c 48 ≡ true = rw e refl in absurd cc
+
+plain_from : (c : ℕ) → (c ≡ 48 → ⊥) → not (eqb c 48) ≡ true
+plain_from c h = plain_test (eqb c 48) (λ e. h (eqb-true c 48 e))
+
+two_long : (d : ℕ) (ds : List ℕ) → suc (suc (length ds)) ≡ 1 → ⊥
+two_long d ds e = omega (arith, e)
+
+zero_alone : (n : ℕ) → n < 2 ^ 64 → get_or (decimal n) 0 0 ≡ 48 → length (decimal n) ≡ 1
+zero_alone zero small e = ap (λ (ds : List ℕ). length ds) (decimal_digit 0 (omega arith))
+zero_alone (suc n) small e = absurd (omega (arith, first_decimal (suc n) (omega arith) small))
+
+digits_solid : (w : List ℕ) → list_all is_ascii_digit w ≡ true → IsSolid w
+digits_solid [] h = tt
+digits_solid (c ∷ cs) h =
+    let p = and_parts (is_ascii_digit c) (list_all is_ascii_digit cs) h in
+    (grind (arith, nat_tests, p.0), digits_solid cs p.1)
+
+plain_form : (w : List ℕ) → is_plain w ≡ true → (0 < length w) × (get_or w 0 0 ≡ 48 → length w ≡ 1)
+plain_form [] h = absurd cc
+plain_form (c ∷ []) h = (omega arith, λ e. refl)
+plain_form (c ∷ d ∷ ds) h = (omega arith, λ e. absurd (not_plain c e h))
+
+form_plain : (w : List ℕ) → 0 < length w → (get_or w 0 0 ≡ 48 → length w ≡ 1) → is_plain w ≡ true
+form_plain [] h k = absurd (omega arith)
+form_plain (c ∷ []) h k = refl
+form_plain (c ∷ d ∷ ds) h k = plain_from c (λ e. two_long d ds (k e))
+
+number_takes : (w : List ℕ) (n : ℕ) → number_at w ≡ Ok n → (w ≡ decimal n) × IsNumber n
+unfolding number_at
+number_takes w n e =
+    let g = number_guard w (is_plain w && list_all is_ascii_digit w && ltb (digits_value 10 w) (2 ^ 32)) (digits_value 10 w) n e in
+    let p = and_parts (is_plain w && list_all is_ascii_digit w) (ltb (digits_value 10 w) (2 ^ 32)) g.0 in
+    let q = and_parts (is_plain w) (list_all is_ascii_digit w) p.0 in
+    let small : digits_value 10 w < 2 ^ 32 = ltb-true _ _ p.1 in
+    let form = plain_form w q.0 in
+    let text : decimal (digits_value 10 w) ≡ w = decimal-digits_value own w q.1 form.0 form.1 (omega arith) in
+    (sym text ∙ ap decimal g.1, rw g.1 at small)
+
+decimal_plain : (n : ℕ) → n < 2 ^ 64 → is_plain (decimal n) ≡ true
+decimal_plain n small = form_plain (decimal n) (decimal_nonempty n small) (λ e. zero_alone n small e)
+
+number_again : (n : ℕ) → IsNumber n → number_at (decimal n) ≡ Ok n
+unfolding number_at
+number_again n h =
+    let digits : list_all is_ascii_digit (decimal n) ≡ true = digits_decimal own n (omega arith) in
+    let value : digits_value 10 (decimal n) ≡ n = digits_value-decimal own n (omega arith) in
+    rw (decimal_plain n (omega arith), digits, value, lt-ltb n (2 ^ 32) h) refl
+
+pub number_kind : IsKind number_at decimal IsNumber
+number_kind = record { takes = number_takes; again = number_again; solid = λ n h. digits_solid (decimal n) (digits_decimal own n (omega arith)) }

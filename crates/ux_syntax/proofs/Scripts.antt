@@ -1,0 +1,387 @@
+-- Lines that are read spell the script that was read, and lines that spell a script are read.
+use Rattle.std.proofs.Common.{◌≡◌, ◌≢◌, ◌⊎◌, ℕ, suc, ◌-◌, ◌≤◌, Bool, true, false, cond, ltb, leb, eqb, eq-eqb, ◌&&◌, ◌||◌, List, [], ◌∷◌, ◌++◌, length, map, filter, take, Result, Ok, Err, refl, ap, sym, ◌∙◌, subst, append_assoc, arith, inl, inr}
+use Rattle.std.specs.Prelude.{IfOk, IfErr}
+use Rattle.std.specs.List.{AllByRecursion}
+use Rattle.std.proofs.lemmas.Bool.{ltb-true, lt-ltb, eqb-true, leb-true, le-leb}
+use Rattle.std.proofs.lemmas.List.{append-nil, map-append, nil_from_length, length-append, take_at}
+use Rattle.std.proofs.lemmas.List.Elements.{filter-append}
+use Rattle.ux_model.specs.Types.{ProcSpec}
+use Rattle.ux_syntax.specs.declared.fault.Fault.{Fault}
+use Rattle.ux_syntax.specs.declared.fault.Fault.TheVariants.{BadLine, UnknownProcess, TooLong}
+use Rattle.ux_syntax.specs.declared.fault.ScriptFault.{ScriptFault}
+use Rattle.ux_syntax.specs.declared.script.Line.{Line}
+use Rattle.ux_syntax.specs.declared.script.Script.{Script}
+use Rattle.ux_syntax.specs.declared.reading.Item.{Item}
+use Rattle.ux_syntax.specs.Spelling.{Turn, line_of, Plan, plan_of, proc_line, turn_line, is_meant, FitsProc, FitsTurn, IsOfProcess, is_exit, NoneAfterExit, IsOrderly, Spells, IsFirstFault}
+use Rattle.ux_syntax.specs.Turns.{has_exited, is_known}
+use Rattle.ux_syntax.specs.Reading.{line_fault, item_at, added, line_at, on_line, lines_at, no_lines}
+use Rattle.ux_syntax.specs.Results.{FailsAt, Refuses, GivesScript}
+use Rattle.ux_syntax.proofs.Rows.{bind_ok, ok_is}
+use Rattle.ux_syntax.proofs.Items.{Says, item_takes, skip_again, proc_again_line, turn_again_line}
+
+-- ---- lists from their ends
+
+each_more : {X : Type 0} (P : X → Type 0) (xs : List X) (x : X) → AllByRecursion P xs → P x → AllByRecursion P (xs ++ x ∷ [])
+each_more P [] x h p = (p, tt)
+each_more P (y ∷ ys) x h p = (h.0, each_more P ys x h.1 p)
+
+each_less : {X : Type 0} (P : X → Type 0) (xs : List X) (x : X) → AllByRecursion P (xs ++ x ∷ []) → AllByRecursion P xs × P x
+each_less P [] x h = (tt, h.0)
+each_less P (y ∷ ys) x h = let p = each_less P ys x h.1 in ((h.0, p.0), p.1)
+
+each_same : {X : Type 0} (P Q : X → Type 0) (xs : List X) → ((x : X) → P x → Q x) → AllByRecursion P xs → AllByRecursion Q xs
+each_same P Q [] f h = tt
+each_same P Q (x ∷ xs) f h = (f x h.0, each_same P Q xs f h.1)
+
+abbrev HasLast : {X : Type 0} → List X → Type 0
+HasLast {X} xs = (ys : List X) × (y : X) × (xs ≡ ys ++ y ∷ [])
+
+last_more : {X : Type 0} (x : X) (xs : List X) → (xs ≡ []) ⊎ HasLast xs → HasLast (x ∷ xs)
+last_more {X = X} x xs (inl e) = ([], x, ap (λ (ys : List X). x ∷ ys) e)
+last_more {X = X} x xs (inr h) = (x ∷ h.0, h.1, ap (λ (ys : List X). x ∷ ys) h.2)
+
+last_view : {X : Type 0} (xs : List X) → (xs ≡ []) ⊎ HasLast xs
+last_view [] = inl refl
+last_view (x ∷ xs) = inr (last_more x xs (last_view xs))
+
+same_ends : {X : Type 0} (xs ys : List X) (x y : X) → xs ++ x ∷ [] ≡ ys ++ y ∷ [] → (xs ≡ ys) × (x ≡ y)
+same_ends [] [] x y e = (refl, cc)
+same_ends [] (b ∷ []) x y e = absurd cc
+same_ends [] (b ∷ c ∷ ys) x y e = absurd cc
+same_ends (a ∷ []) [] x y e = absurd cc
+same_ends (a ∷ c ∷ xs) [] x y e = absurd cc
+same_ends {X = X} (a ∷ xs) (b ∷ ys) x y e =
+    let head : a ≡ b = cc in
+    let tail : xs ++ x ∷ [] ≡ ys ++ y ∷ [] = cc in
+    let p = same_ends xs ys x y tail in
+    (ap (λ (z : X). z ∷ xs) head ∙ ap (λ (zs : List X). b ∷ zs) p.0, p.1)
+
+-- what holds of no line, and with each further line, holds of all lines
+by_lines_from : (P : List (List ℕ) → Type 0) → ((ls : List (List ℕ)) (l : List ℕ) → P ls → P (ls ++ l ∷ [])) → (front rest : List (List ℕ)) → P front → P (front ++ rest)
+by_lines_from P step front [] h = subst P (sym (append-nil front)) h
+by_lines_from P step front (l ∷ ls) h = subst P (append_assoc front (l ∷ []) ls) (by_lines_from P step (front ++ l ∷ []) ls (step front l h))
+
+abbrev read_plan : Plan → Result Plan ScriptFault
+read_plan s = Ok s
+
+abbrev no_plan : ScriptFault → Result Plan ScriptFault
+no_plan e = Err e
+
+same_plan : (s t : Plan) → read_plan s ≡ read_plan t → s ≡ t
+same_plan s t e = cc
+
+same_fault : (e f : ScriptFault) → no_plan e ≡ no_plan f → e ≡ f
+same_fault e f k = cc
+
+ok_no_err : (s : Plan) (e : ScriptFault) → read_plan s ≡ no_plan e → ⊥
+ok_no_err s e k = cc
+
+not_both : (r : Result Plan Fault) (f : Fault) (t : Plan) → r ≡ Err f → r ≡ Ok t → ⊥
+not_both r f t a b = cc
+
+no_end : (xs : List (List ℕ)) (x : List ℕ) → xs ++ x ∷ [] ≡ [] → ⊥
+no_end [] x e = cc
+no_end (y ∷ ys) x e = cc
+
+take_next : (front : List (List ℕ)) (l : List ℕ) (ls : List (List ℕ)) → take (suc (length front)) (front ++ l ∷ ls) ≡ front ++ l ∷ []
+take_next [] l ls = refl
+take_next (x ∷ xs) l ls = ap (λ (ys : List (List ℕ)). x ∷ ys) (take_next xs l ls)
+
+-- ---- exits
+
+and_of : (a : Bool) → (a ≡ true → ⊥) → (a && true) ≡ false
+and_of true h = absurd (h refl)
+and_of false h = refl
+
+and_no : (a : Bool) → (a && false) ≡ false
+and_no true = refl
+and_no false = refl
+
+and_false : (a b : Bool) → (a && b) ≡ false → b ≡ true → a ≡ false
+and_false true b e h = cc
+and_false false b e h = refl
+
+or_false : (a b : Bool) → (a || b) ≡ false → (a ≡ false) × (b ≡ false)
+or_false true b e = absurd cc
+or_false false b e = (refl, e)
+
+differ : (a b : ℕ) → eqb a b ≡ false → b ≢ a
+differ a b h e = let same : eqb a b ≡ true = eq-eqb a b (sym e) in absurd cc
+
+quiet_and : (a b : ℕ) (x : Bool) → (x ≡ true → b ≢ a) → (eqb a b && x) ≡ false
+quiet_and a b true h = and_of (eqb a b) (λ e. h refl (sym (eqb-true a b e)))
+quiet_and a b false h = and_no (eqb a b)
+
+exits_more : (ls : List Line) (l : Line) → NoneAfterExit ls → has_exited ls l.pid.0 ≡ false → NoneAfterExit (ls ++ l ∷ [])
+exits_more [] l n h = (λ e. tt, tt)
+exits_more (u ∷ us) l n h =
+    let p = or_false (eqb u.pid.0 l.pid.0 && is_exit u.request) (has_exited us l.pid.0) h in
+    (λ e. each_more (λ v. v.pid.0 ≢ u.pid.0) us l (n.0 e) (differ u.pid.0 l.pid.0 (and_false (eqb u.pid.0 l.pid.0) (is_exit u.request) p.0 e)), exits_more us l n.1 p.1)
+
+exits_less : (ls : List Line) (l : Line) → NoneAfterExit (ls ++ l ∷ []) → NoneAfterExit ls × (has_exited ls l.pid.0 ≡ false)
+exits_less [] l n = (tt, refl)
+exits_less (u ∷ us) l n =
+    let p = exits_less us l n.1 in
+    let here : (eqb u.pid.0 l.pid.0 && is_exit u.request) ≡ false = quiet_and u.pid.0 l.pid.0 (is_exit u.request) (λ e. (each_less (λ v. v.pid.0 ≢ u.pid.0) us l (n.0 e)).1) in
+    ((λ e. (each_less (λ v. v.pid.0 ≢ u.pid.0) us l (n.0 e)).0, p.0), rw (here, p.1) refl)
+
+-- ---- one line
+
+meant_more : (ls : List (List ℕ)) (l : List ℕ) → is_meant l ≡ true → filter is_meant (ls ++ l ∷ []) ≡ filter is_meant ls ++ l ∷ []
+meant_more ls l m = filter-append is_meant ls (l ∷ []) ∙ ap (λ (b : Bool). filter is_meant ls ++ cond b (l ∷ []) []) m
+
+skipped_more : (ls : List (List ℕ)) (l : List ℕ) → is_meant l ≡ false → filter is_meant (ls ++ l ∷ []) ≡ filter is_meant ls
+skipped_more ls l m = filter-append is_meant ls (l ∷ []) ∙ ap (λ (b : Bool). filter is_meant ls ++ cond b (l ∷ []) []) m ∙ append-nil (filter is_meant ls)
+
+-- the lines of processes and of turns
+abbrev texts_of : List ProcSpec → List Turn → List (List ℕ)
+texts_of ps ts = map proc_line ps ++ map turn_line ts
+
+proc_spelling : (ps : List ProcSpec) (p : ProcSpec) → texts_of (ps ++ p ∷ []) [] ≡ texts_of ps [] ++ proc_line p ∷ []
+proc_spelling ps p = append-nil (map proc_line (ps ++ p ∷ [])) ∙ map-append proc_line ps (p ∷ []) ∙ ap (λ (ls : List (List ℕ)). ls ++ proc_line p ∷ []) (sym (append-nil (map proc_line ps)))
+
+turn_spelling : (ps : List ProcSpec) (ts : List Turn) (t : Turn) → texts_of ps (ts ++ t ∷ []) ≡ texts_of ps ts ++ turn_line t ∷ []
+turn_spelling ps ts t = ap (λ (ls : List (List ℕ)). map proc_line ps ++ ls) (map-append turn_line ts (t ∷ [])) ∙ sym (append_assoc (map proc_line ps) (map turn_line ts) (turn_line t ∷ []))
+
+turns_meant : (ts : List Turn) (t : Turn) → map line_of (ts ++ t ∷ []) ≡ map line_of ts ++ line_of t ∷ []
+turns_meant ts t = map-append line_of ts (t ∷ [])
+
+no_turns : (ts : List Turn) → map line_of ts ≡ [] → ts ≡ []
+no_turns [] e = refl
+no_turns (t ∷ ts) e = absurd cc
+
+guard_ok : {X : Type 0} (b : Bool) (f : Fault) (x y : X) → cond b (Ok x) (Err f) ≡ Ok y → (b ≡ true) × (x ≡ y)
+guard_ok true f x y e = (refl, ok_is x y e)
+guard_ok false f x y e = absurd cc
+
+known_ok : {X : Type 0} (b exited : Bool) (x y : X) → cond b (cond exited (Err BadLine) (Ok x)) (Err UnknownProcess) ≡ Ok y → (b ≡ true) × (exited ≡ false) × (x ≡ y)
+known_ok true true x y e = absurd cc
+known_ok true false x y e = (refl, refl, ok_is x y e)
+known_ok false exited x y e = absurd cc
+
+both_true : (a b : Bool) → (a && b) ≡ true → (a ≡ true) × (b ≡ true)
+both_true true b e = (refl, e)
+both_true false b e = absurd cc
+
+added_takes : (item : Item) (ls : List (List ℕ)) (s : Plan) (l : List ℕ) (t : Plan) → Spells ls s → length l ≤ 4096 → Says item l → added s item ≡ Ok t → Spells (ls ++ l ∷ []) t
+added_takes Item.Skipped ls s l t h short says e = subst (λ (y : Plan). Spells (ls ++ l ∷ []) y) (ok_is s t e) (record {
+  turns = h.turns;
+  short = each_more (λ text. length text ≤ 4096) ls l h.short short;
+  spelled = skipped_more ls l says ∙ h.spelled;
+  meant = h.meant;
+  fit_procs = h.fit_procs;
+  fit_turns = h.fit_turns;
+  orderly = h.orderly;
+})
+added_takes (Item.Proc p) ls s l t h short says e =
+    let g = guard_ok (eqb (length s.lines) 0) BadLine (record { procs = s.procs ++ p ∷ []; lines = s.lines }) t e in
+    let none : s.lines ≡ [] = nil_from_length s.lines (eqb-true (length s.lines) 0 g.0) in
+    let bare : h.turns ≡ [] = no_turns h.turns (h.meant ∙ none) in
+    let before : filter is_meant ls ≡ texts_of s.procs [] = h.spelled ∙ ap (λ (ts : List Turn). texts_of s.procs ts) bare in
+    let made : Spells (ls ++ l ∷ []) (record { procs = s.procs ++ p ∷ []; lines = [] }) = record {
+      turns = [];
+      short = each_more (λ text. length text ≤ 4096) ls l h.short short;
+      spelled = meant_more ls l says.0 ∙ ap (λ (xs : List (List ℕ)). xs ++ l ∷ []) before ∙ ap (λ (x : List ℕ). texts_of s.procs [] ++ x ∷ []) says.1 ∙ sym (proc_spelling s.procs p);
+      meant = refl;
+      fit_procs = each_more FitsProc s.procs p h.fit_procs says.2;
+      fit_turns = tt;
+      orderly = record { processes = tt; exits = tt };
+    } in
+    subst (λ (y : Plan). Spells (ls ++ l ∷ []) y) (ap (λ (ts : List Line). record { procs = s.procs ++ p ∷ []; lines = ts }) (sym none) ∙ g.1) made
+added_takes (Item.Call line) ls s l t h short says e =
+    let w = says.1 in
+    let g = known_ok (is_known s.procs line.pid.0) (has_exited s.lines line.pid.0) (record { procs = s.procs; lines = s.lines ++ line ∷ [] }) t e in
+    let known = both_true (ltb 0 line.pid.0) (leb line.pid.0 (length s.procs)) g.0 in
+    subst (λ (y : Plan). Spells (ls ++ l ∷ []) y) g.2 (record {
+      turns = h.turns ++ w.0 ∷ [];
+      short = each_more (λ text. length text ≤ 4096) ls l h.short short;
+      spelled = meant_more ls l says.0 ∙ ap (λ (xs : List (List ℕ)). xs ++ l ∷ []) h.spelled ∙ ap (λ (x : List ℕ). texts_of s.procs h.turns ++ x ∷ []) w.2 ∙ sym (turn_spelling s.procs h.turns w.0);
+      meant = turns_meant h.turns w.0 ∙ ap (λ (xs : List Line). xs ++ line_of w.0 ∷ []) h.meant ∙ ap (λ (x : Line). s.lines ++ x ∷ []) w.1;
+      fit_procs = h.fit_procs;
+      fit_turns = each_more FitsTurn h.turns w.0 h.fit_turns w.3;
+      orderly = record {
+        processes = each_more (IsOfProcess (length s.procs)) s.lines line h.orderly.processes (ltb-true 0 line.pid.0 known.0, leb-true line.pid.0 (length s.procs) known.1);
+        exits = exits_more s.lines line h.orderly.exits g.1;
+      };
+    })
+
+pub line_takes : (ls : List (List ℕ)) (s : Plan) (l : List ℕ) (t : Plan) → Spells ls s → line_at s l ≡ Ok t → Spells (ls ++ l ∷ []) t
+unfolding line_at
+line_takes ls s l t h e =
+    let a = bind_ok (item_at l) (λ item. added s item) t e in
+    let p = item_takes l a.0 a.1 in
+    added_takes a.0 ls s l t h p.0 p.1 a.2
+
+abbrev CanStep : List (List ℕ) → List ℕ → Plan → Type 0
+CanStep ls l t = (s : Plan) × Spells ls s × (line_at s l ≡ Ok t)
+
+line_from : (s : Plan) (l : List ℕ) (item : Item) (t : Plan) → item_at l ≡ Ok item → added s item ≡ Ok t → line_at s l ≡ Ok t
+unfolding line_at
+line_from s l item t e a = rw e a
+
+abbrev with_lines : Plan → List Line → Plan
+with_lines t ls = record { procs = t.procs; lines = ls }
+
+step_turn : (ls : List (List ℕ)) (l : List ℕ) (t : Plan) (ts : List Turn) (u : Turn) → is_meant l ≡ true → (h : Spells (ls ++ l ∷ []) t) → h.turns ≡ ts ++ u ∷ [] → CanStep ls l t
+step_turn ls l t ts u m h same =
+    let lines : t.lines ≡ map line_of ts ++ line_of u ∷ [] = sym h.meant ∙ ap (λ (vs : List Turn). map line_of vs) same ∙ turns_meant ts u in
+    let ends = same_ends (filter is_meant ls) (texts_of t.procs ts) l (turn_line u) (sym (meant_more ls l m) ∙ h.spelled ∙ ap (λ (vs : List Turn). texts_of t.procs vs) same ∙ turn_spelling t.procs ts u) in
+    let short = each_less (λ text. length text ≤ 4096) ls l h.short in
+    let fits = each_less FitsTurn ts u (subst (λ (vs : List Turn). AllByRecursion FitsTurn vs) same h.fit_turns) in
+    let processes = each_less (IsOfProcess (length t.procs)) (map line_of ts) (line_of u) (subst (λ (vs : List Line). AllByRecursion (IsOfProcess (length t.procs)) vs) lines h.orderly.processes) in
+    let exits = exits_less (map line_of ts) (line_of u) (subst NoneAfterExit lines h.orderly.exits) in
+    let first : ltb 0 u.pid ≡ true = lt-ltb 0 u.pid processes.1.0 in
+    let last : leb u.pid (length t.procs) ≡ true = le-leb u.pid (length t.procs) processes.1.1 in
+    let before : Plan = with_lines t (map line_of ts) in
+    let adds : added before (Item.Call (line_of u)) ≡ Ok (with_lines t (map line_of ts ++ line_of u ∷ [])) = rw (first, last, exits.1) refl in
+    let whole : with_lines t (map line_of ts ++ line_of u ∷ []) ≡ t = ap (λ (vs : List Line). with_lines t vs) (sym lines) in (
+      before,
+      record { turns = ts; short = short.0; spelled = ends.0; meant = refl; fit_procs = h.fit_procs; fit_turns = fits.0; orderly = record { processes = processes.0; exits = exits.0 } },
+      line_from before l (Item.Call (line_of u)) t (turn_again_line u l short.1 m ends.1 fits.1) (adds ∙ ap (λ (y : Plan). Ok y) whole),
+    )
+
+step_proc : (ls : List (List ℕ)) (l : List ℕ) (t : Plan) (ps : List ProcSpec) (p : ProcSpec) → is_meant l ≡ true → (h : Spells (ls ++ l ∷ []) t) → h.turns ≡ [] → t.procs ≡ ps ++ p ∷ [] → CanStep ls l t
+step_proc ls l t ps p m h none same =
+    let lines : t.lines ≡ [] = sym h.meant ∙ ap (λ (vs : List Turn). map line_of vs) none in
+    let ends = same_ends (filter is_meant ls) (texts_of ps []) l (proc_line p)
+    (sym (meant_more ls l m) ∙ h.spelled ∙ ap (λ (vs : List Turn). texts_of t.procs vs) none ∙ ap (λ (qs : List ProcSpec). texts_of qs []) same ∙ proc_spelling ps p) in
+    let short = each_less (λ text. length text ≤ 4096) ls l h.short in
+    let fits = each_less FitsProc ps p (subst (λ (qs : List ProcSpec). AllByRecursion FitsProc qs) same h.fit_procs) in
+    let before : Plan = record { procs = ps; lines = [] } in
+    let whole : record { procs = ps ++ p ∷ []; lines = [] } ≡ t = ap (λ (qs : List ProcSpec). record { procs = qs; lines = [] }) (sym same) ∙ ap (λ (vs : List Line). with_lines t vs) (sym lines) in (
+      before,
+      record { turns = []; short = short.0; spelled = ends.0; meant = refl; fit_procs = fits.0; fit_turns = tt; orderly = record { processes = tt; exits = tt } },
+      line_from before l (Item.Proc p) t (proc_again_line p l short.1 m ends.1 fits.1) (ap (λ (y : Plan). Ok y) whole),
+    )
+
+step_none : (ls : List (List ℕ)) (l : List ℕ) (t : Plan) → is_meant l ≡ true → (h : Spells (ls ++ l ∷ []) t) → h.turns ≡ [] → t.procs ≡ [] → ⊥
+step_none ls l t m h none empty =
+    no_end (filter is_meant ls) l (sym (meant_more ls l m) ∙ h.spelled ∙ ap (λ (vs : List Turn). texts_of t.procs vs) none ∙ ap (λ (qs : List ProcSpec). texts_of qs []) empty)
+
+step_skip : (ls : List (List ℕ)) (l : List ℕ) (t : Plan) → is_meant l ≡ false → Spells (ls ++ l ∷ []) t → CanStep ls l t
+step_skip ls l t m h =
+    let short = each_less (λ text. length text ≤ 4096) ls l h.short in (
+      t,
+      record { turns = h.turns; short = short.0; spelled = sym (skipped_more ls l m) ∙ h.spelled; meant = h.meant; fit_procs = h.fit_procs; fit_turns = h.fit_turns; orderly = h.orderly },
+      line_from t l Item.Skipped t (skip_again l short.1 m) refl,
+    )
+
+step_meant : (ls : List (List ℕ)) (l : List ℕ) (t : Plan) → is_meant l ≡ true → (h : Spells (ls ++ l ∷ []) t) → (h.turns ≡ []) ⊎ HasLast h.turns → (t.procs ≡ []) ⊎ HasLast t.procs → CanStep ls l t
+step_meant ls l t m h (inr v) w = step_turn ls l t v.0 v.1 m h v.2
+step_meant ls l t m h (inl v) (inr w) = step_proc ls l t w.0 w.1 m h v w.2
+step_meant ls l t m h (inl v) (inl w) = absurd (step_none ls l t m h v w)
+
+step_chosen : (ls : List (List ℕ)) (l : List ℕ) (t : Plan) (b : Bool) → is_meant l ≡ b → Spells (ls ++ l ∷ []) t → CanStep ls l t
+step_chosen ls l t true m h = step_meant ls l t m h (last_view h.turns) (last_view t.procs)
+step_chosen ls l t false m h = step_skip ls l t m h
+
+pub line_again : (ls : List (List ℕ)) (l : List ℕ) (t : Plan) → Spells (ls ++ l ∷ []) t → CanStep ls l t
+line_again ls l t h = step_chosen ls l t (is_meant l) refl h
+
+-- ---- all lines
+
+pub none_spelled : Spells [] no_lines
+none_spelled = record { turns = []; short = tt; spelled = refl; meant = refl; fit_procs = tt; fit_turns = tt; orderly = record { processes = tt; exits = tt } }
+
+on_ok : (n : ℕ) (go : Plan → Result Plan ScriptFault) (r : Result Plan Fault) (t : Plan) → on_line n go r ≡ Ok t → (s : Plan) × (r ≡ Ok s) × (go s ≡ Ok t)
+on_ok n go (Ok s) t e = (s, refl, e)
+on_ok n go (Err f) t e = absurd cc
+
+lines_found : (n : ℕ) (front : List (List ℕ)) (s : Plan) (lines : List (List ℕ)) (t : Plan) → Spells front s → lines_at n s lines ≡ Ok t → Spells (front ++ lines) t
+lines_found n front s [] t h e = subst (λ (ls : List (List ℕ)). Spells ls t) (sym (append-nil front)) (subst (λ (y : Plan). Spells front y) (same_plan s t e) h)
+lines_found n front s (l ∷ ls) t h e =
+    let a = on_ok n (λ u. lines_at (suc n) u ls) (line_at s l) t e in
+    subst (λ (xs : List (List ℕ)). Spells xs t) (append_assoc front (l ∷ []) ls) (lines_found (suc n) (front ++ l ∷ []) a.0 ls t (line_takes front s l a.0 h a.1) a.2)
+
+pub script_found : (lines : List (List ℕ)) (t : Plan) → lines_at 1 no_lines lines ≡ Ok t → Spells lines t
+script_found lines t e = lines_found 1 [] no_lines lines t none_spelled e
+
+lines_more : (n : ℕ) (s : Plan) (ls : List (List ℕ)) (l : List ℕ) (u t : Plan) → lines_at n s ls ≡ Ok u → line_at u l ≡ Ok t → lines_at n s (ls ++ l ∷ []) ≡ Ok t
+lines_more n s [] l u t e k = let same : s ≡ u = same_plan s u e in rw (same, k) refl
+lines_more n s (x ∷ xs) l u t e k =
+    let a = on_ok n (λ v. lines_at (suc n) v xs) (line_at s x) u e in
+    rw a.1 (lines_more (suc n) a.0 xs l u t a.2 k)
+
+no_spelling : (ps : List ProcSpec) (ts : List Turn) → [] ≡ texts_of ps ts → (ps ≡ []) × (ts ≡ [])
+no_spelling [] [] e = (refl, refl)
+no_spelling [] (t ∷ ts) e = absurd cc
+no_spelling (p ∷ ps) ts e = absurd cc
+
+empty_only : (t : Plan) → Spells [] t → t ≡ no_lines
+empty_only t h =
+    let p = no_spelling t.procs h.turns h.spelled in
+    let none : t.lines ≡ [] = sym h.meant ∙ ap (λ (ts : List Turn). map line_of ts) p.1 in
+    ap (λ (ls : List Line). with_lines t ls) none ∙ ap (λ (ps : List ProcSpec). record { procs = ps; lines = [] }) p.0
+
+abbrev IsRead : List (List ℕ) → Type 0
+IsRead ls = (t : Plan) → Spells ls t → lines_at 1 no_lines ls ≡ Ok t
+
+pub script_only : (lines : List (List ℕ)) (t : Plan) → Spells lines t → lines_at 1 no_lines lines ≡ Ok t
+script_only lines = by_lines_from IsRead (λ ls l h t k. let p = line_again ls l t k in lines_more 1 no_lines ls l p.0 t (h p.0 p.1) p.2) [] lines (λ t h. ap (λ (y : Plan). Ok y) (sym (empty_only t h)))
+
+pub script_unique : (lines : List (List ℕ)) (a b : Plan) → Spells lines a → Spells lines b → a ≡ b
+script_unique lines a b p q = same_plan a b (sym (script_only lines a p) ∙ script_only lines b q)
+
+-- ---- the first line at fault
+
+first_fault : (front : List (List ℕ)) (s : Plan) (l : List ℕ) (ls : List (List ℕ)) (f : Fault) → Spells front s → line_at s l ≡ Err f → IsFirstFault (front ++ l ∷ ls) (suc (length front))
+first_fault front s l ls f h e =
+    let before : take (length front) (front ++ l ∷ ls) ≡ front = take_at front (l ∷ ls) (length front) refl in
+    let with : take (suc (length front)) (front ++ l ∷ ls) ≡ front ++ l ∷ [] = take_next front l ls in
+    let back : suc (length front) - 1 ≡ length front = omega arith in
+    record {
+      first = omega arith;
+      last = omega (arith, length-append front (l ∷ ls));
+      before = (s, rw (back, before) h);
+      here = λ t k.
+          let p = line_again front l t (subst (λ (xs : List (List ℕ)). Spells xs t) with k) in
+          let same : p.0 ≡ s = script_unique front p.0 s p.1 h in
+          not_both (line_at s l) f t e (subst (λ (y : Plan). line_at y l ≡ Ok t) same p.2);
+    }
+
+named : (lines : List (List ℕ)) (n : ℕ) (f : Fault) → IsFirstFault lines n → Refuses lines (line_fault n f)
+named lines n BadLine h = h
+named lines n UnknownProcess h = h
+named lines n TooLong h = h
+
+refused_on : (front : List (List ℕ)) (s : Plan) (l : List ℕ) (ls : List (List ℕ)) (e : ScriptFault) → Spells front s → (r : Result Plan Fault) → line_at s l ≡ r
+    → ((t : Plan) → line_at s l ≡ Ok t → lines_at (suc (suc (length front))) t ls ≡ Err e → Refuses (front ++ l ∷ ls) e)
+    → on_line (suc (length front)) (λ t. lines_at (suc (suc (length front))) t ls) r ≡ Err e → Refuses (front ++ l ∷ ls) e
+refused_on front s l ls e h (Ok t) g later k = later t g k
+refused_on front s l ls e h (Err f) g later k =
+    subst (λ (x : ScriptFault). Refuses (front ++ l ∷ ls) x) (same_fault (line_fault (suc (length front)) f) e k) (named (front ++ l ∷ ls) (suc (length front)) f (first_fault front s l ls f h g))
+
+lines_refused : (front : List (List ℕ)) (s : Plan) (lines : List (List ℕ)) (e : ScriptFault) → Spells front s → lines_at (suc (length front)) s lines ≡ Err e → Refuses (front ++ lines) e
+lines_refused front s [] e h k = absurd (ok_no_err s e k)
+lines_refused front s (l ∷ ls) e h k = refused_on front s l ls e h (line_at s l) refl (λ t g q.
+    let long : length (front ++ l ∷ []) ≡ suc (length front) = omega (arith, length-append front (l ∷ [])) in
+    subst (λ (xs : List (List ℕ)). Refuses xs e) (append_assoc front (l ∷ []) ls)
+    (lines_refused (front ++ l ∷ []) t ls e (line_takes front s l t h g) (ap (λ (n : ℕ). lines_at (suc n) t ls) long ∙ q))) k
+
+pub script_refused : (lines : List (List ℕ)) (e : ScriptFault) → lines_at 1 no_lines lines ≡ Err e → Refuses lines e
+script_refused lines e k = lines_refused [] no_lines lines e none_spelled k
+
+-- ---- what a function returned
+
+pub gives_found : (r : Result Script ScriptFault) (lines : List (List ℕ)) → GivesScript r (lines_at 1 no_lines lines) → IfOk r (λ script. Spells lines (plan_of script))
+gives_found (Ok s) lines h = script_found lines (plan_of s) h
+gives_found (Err f) lines h = tt
+
+pub gives_orderly : (r : Result Script ScriptFault) (lines : List (List ℕ)) → GivesScript r (lines_at 1 no_lines lines) → IfOk r (λ script. IsOrderly (plan_of script))
+gives_orderly (Ok s) lines h = (script_found lines (plan_of s) h).orderly
+gives_orderly (Err f) lines h = tt
+
+pub gives_only : (r : Result Script ScriptFault) (lines : List (List ℕ)) (s : Plan) → GivesScript r (lines_at 1 no_lines lines) → Spells lines s → GivesScript r (Ok s)
+gives_only r lines s h k = subst (λ (read : Result Plan ScriptFault). GivesScript r read) (script_only lines s k) h
+
+fails_named : (e : ScriptFault) (lines : List (List ℕ)) → FailsAt e (lines_at 1 no_lines lines) → Refuses lines e
+fails_named (ScriptFault.BadLine n) lines h = script_refused lines (ScriptFault.BadLine n) h
+fails_named (ScriptFault.UnknownProcess n) lines h = script_refused lines (ScriptFault.UnknownProcess n) h
+fails_named (ScriptFault.TooLong n) lines h = script_refused lines (ScriptFault.TooLong n) h
+fails_named ScriptFault.Reading lines h = h
+fails_named ScriptFault.Writing lines h = h
+fails_named ScriptFault.NoMemory lines h = tt
+
+pub gives_fault : (r : Result Script ScriptFault) (lines : List (List ℕ)) → GivesScript r (lines_at 1 no_lines lines) → IfErr r (λ f. Refuses lines f)
+gives_fault (Ok s) lines h = tt
+gives_fault (Err f) lines h = fails_named f lines h

@@ -1,0 +1,102 @@
+-- The text of a history: a line for each entry.
+use Rattle.std.specs.Prelude.{ℕ, ◌+◌, ◌/◌, ◌%◌, Bool, false, List, [], ◌∷◌, ◌++◌, codes, decimal, if◌then◌else◌}
+use Rattle.std.specs.Fmt.{digit_glyph}
+use Rattle.std.specs.List.{flat_map, join_with_byte}
+use Rattle.ux_model.specs.Types.{Errno, MsgFlags, Request, Reply, Entry}
+use Rattle.ux_model.specs.Flags.{has_bits}
+use Rattle.ux_syntax.specs.declared.calls.CallWord.{CallWord}
+
+-- no value
+abbrev pub dash : List ℕ
+dash = 45 ∷ []
+
+-- the two digits of a byte, of 0-9a-f
+abbrev pub digit_pair : ℕ → List ℕ
+digit_pair b = digit_glyph false (b / 16) ∷ digit_glyph false (b % 16) ∷ []
+
+-- pairs of digits, or a dash for no bytes
+abbrev pub hex : List ℕ → List ℕ
+hex [] = dash
+hex (b ∷ bs) = flat_map digit_pair (b ∷ bs)
+
+-- the names of those that are set
+abbrev pub set_names : List (Bool × List ℕ) → List (List ℕ)
+set_names [] = []
+set_names (row ∷ rows) = if row.0 then row.1 ∷ set_names rows else set_names rows
+
+-- names joined by a vertical bar, or a dash where there is none
+abbrev pub joined : List (List ℕ) → List ℕ
+joined [] = dash
+joined (name ∷ names) = join_with_byte 124 (name ∷ names)
+
+abbrev pub flags_text : List (Bool × List ℕ) → List ℕ
+flags_text rows = joined (set_names rows)
+
+-- the flags that a receive sets, in the order of a trace
+abbrev pub received_rows : MsgFlags → List (Bool × List ℕ)
+received_rows f = (has_bits f.0 2, codes "TRUNC") ∷ (has_bits f.0 16, codes "CTRUNC") ∷ (has_bits f.0 32, codes "EOR") ∷ []
+
+abbrev pub received_flags_text : MsgFlags → List ℕ
+received_flags_text f = flags_text (received_rows f)
+
+-- a refusal's name, as POSIX and unix(7) have it
+abbrev pub errno_text : Errno → List ℕ
+errno_text Errno.EPERM = codes "EPERM"
+errno_text Errno.ENOENT = codes "ENOENT"
+errno_text Errno.ESRCH = codes "ESRCH"
+errno_text Errno.EIO = codes "EIO"
+errno_text Errno.EBADF = codes "EBADF"
+errno_text Errno.EAGAIN = codes "EAGAIN"
+errno_text Errno.ENOMEM = codes "ENOMEM"
+errno_text Errno.EINVAL = codes "EINVAL"
+errno_text Errno.EMFILE = codes "EMFILE"
+errno_text Errno.EFBIG = codes "EFBIG"
+errno_text Errno.ENOSPC = codes "ENOSPC"
+errno_text Errno.ESPIPE = codes "ESPIPE"
+errno_text Errno.EPIPE = codes "EPIPE"
+errno_text Errno.ENOTSOCK = codes "ENOTSOCK"
+errno_text Errno.EDESTADDRREQ = codes "EDESTADDRREQ"
+errno_text Errno.EMSGSIZE = codes "EMSGSIZE"
+errno_text Errno.EPROTOTYPE = codes "EPROTOTYPE"
+errno_text Errno.EOPNOTSUPP = codes "EOPNOTSUPP"
+errno_text Errno.EADDRINUSE = codes "EADDRINUSE"
+errno_text Errno.ECONNRESET = codes "ECONNRESET"
+errno_text Errno.EISCONN = codes "EISCONN"
+errno_text Errno.ENOTCONN = codes "ENOTCONN"
+errno_text Errno.ETOOMANYREFS = codes "ETOOMANYREFS"
+errno_text Errno.ECONNREFUSED = codes "ECONNREFUSED"
+
+abbrev pub reply_text : Reply → List ℕ
+reply_text Reply.Ok = codes "ok"
+reply_text (Reply.Fds a b) = codes "fds " ++ (decimal a.0 ++ (codes " " ++ decimal b.0))
+reply_text (Reply.Count n) = codes "n " ++ decimal n
+reply_text (Reply.Received count bytes flags) = codes "got " ++ (decimal count ++ (codes " " ++ (hex bytes ++ (codes " " ++ (received_flags_text flags ++ codes " - -")))))
+reply_text (Reply.Err e) = codes "err " ++ errno_text e
+
+-- the word that names a call, in a script and in a trace
+abbrev pub word_text : CallWord → List ℕ
+word_text CallWord.Pair = codes "pair"
+word_text CallWord.Send = codes "send"
+word_text CallWord.Recv = codes "recv"
+word_text CallWord.Close = codes "close"
+word_text CallWord.Exit = codes "exit"
+
+abbrev pub request_word : Request → CallWord
+request_word (Request.SocketPair kind flags) = CallWord.Pair
+request_word (Request.SendMsg fd bytes flags) = CallWord.Send
+request_word (Request.RecvMsg fd n space flags) = CallWord.Recv
+request_word (Request.Close fd) = CallWord.Close
+request_word Request.Exit = CallWord.Exit
+
+-- N PID K WORD = REPLY
+abbrev pub entry_line : ℕ → Entry → List ℕ
+entry_line n e = decimal n ++ (codes " " ++ (decimal e.pid.0 ++ (codes " " ++ (decimal e.k ++ (codes " " ++ (word_text (request_word e.request) ++ (codes " = " ++ (reply_text e.reply ++ (10 ∷ [])))))))))
+
+-- the lines of the entries, of which the first has this number
+abbrev pub trace_from : ℕ → List Entry → List ℕ
+trace_from n [] = []
+trace_from n (e ∷ es) = entry_line n e ++ trace_from (n + 1) es
+
+-- the text of a whole history
+abbrev pub trace : List Entry → List ℕ
+trace es = trace_from 0 es

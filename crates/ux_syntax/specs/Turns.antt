@@ -1,0 +1,25 @@
+-- Which calls a run of a script makes.
+use Rattle.std.specs.Prelude.{ℕ, Bool, List, length, ◌++◌, map, filter, not, ◌==◌, ◌&&◌, nat_lt, nat_le}
+use Rattle.std.specs.List.{list_any, range_with_len}
+use Rattle.ux_model.specs.Types.{ProcSpec, Request}
+use Rattle.ux_syntax.specs.declared.script.Line.{Line}
+use Rattle.ux_syntax.specs.Spelling.{Plan, is_exit}
+
+-- one of the lines is the process's exit
+abbrev pub has_exited : List Line → ℕ → Bool
+has_exited lines pid = list_any (λ line. line.pid.0 == pid && is_exit line.request) lines
+
+-- the process is there: processes are numbered from 1
+abbrev pub is_known : List ProcSpec → ℕ → Bool
+is_known procs pid = nat_lt 0 pid && nat_le pid (length procs)
+
+abbrev pub exit_line : ℕ → Line
+exit_line pid = record { pid = record { 0 = pid }; request = Request.Exit }
+
+-- the processes that don't exit by themselves, in order
+abbrev pub missing : Plan → List ℕ
+missing s = filter (λ pid. not (has_exited s.lines pid)) (range_with_len 1 (length s.procs))
+
+-- the script's calls in order, and then the missing exits
+abbrev pub all_turns : Plan → List Line
+all_turns s = s.lines ++ map exit_line (missing s)

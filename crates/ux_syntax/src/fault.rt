@@ -1,0 +1,81 @@
+//! Why a script gave no trace.
+
+ghost use Rattle.std.specs.Prelude.{◌≡◌};
+ghost use Rattle.ux_syntax.specs.declared.fault.LineError.TheVariants.{Memory};
+ghost use Rattle.ux_syntax.specs.Results.{fault_at};
+
+use std::alloc::{AllocError, AllocFailed};
+use thiserror::Error;
+
+/// What is wrong with a line.
+#[derive(Clone, Copy, Debug, PartialEq, Eq)]
+pub enum Fault {
+    /// It is none of the lines that a script may have there.
+    BadLine,
+    /// It is a call of a process that the header doesn't have.
+    UnknownProcess,
+    /// It has more than 4,096 bytes.
+    TooLong,
+}
+
+/// Why a line was not read.
+#[derive(Clone, Copy, Debug)]
+pub(crate) enum LineError {
+    Memory,
+    Fault(Fault),
+}
+
+pub(crate) const BAD: LineError = LineError::Fault(Fault::BadLine);
+
+/// Why a script gave no trace. The numbers are of lines, counted from 1.
+#[derive(Debug, Drop, Error)]
+pub enum ScriptFault {
+    /// A line that a script may not have there.
+    #[error("line {0}: bad line")]
+    BadLine(usize),
+    /// A call of a process that the header doesn't have.
+    #[error("line {0}: unknown process")]
+    UnknownProcess(usize),
+    /// A line of more than 4,096 bytes.
+    #[error("line {0}: too long")]
+    TooLong(usize),
+    /// The script couldn't be opened, or read to its end.
+    #[error("reading failed")]
+    Reading,
+    /// The trace couldn't be written to its end.
+    #[error("writing failed")]
+    Writing,
+    /// Memory ran out.
+    #[error("out of memory")]
+    NoMemory,
+}
+
+impl From<AllocError> for LineError {
+    ghost from_gives = { λ _ e. e ≡ Memory };
+
+    fn from(_e: AllocError) -> LineError {
+        LineError::Memory
+    }
+}
+
+impl<T: Drop> From<AllocFailed<T>> for LineError {
+    ghost from_gives = { λ _ e. e ≡ Memory };
+
+    fn from(_e: AllocFailed<T>) -> LineError {
+        LineError::Memory
+    }
+}
+
+impl LineError {
+    /// The fault of the line of this number.
+    pub(crate) fn at(self, number: usize) -> ScriptFault
+        ensures { result ≡ fault_at number self }
+    {
+        match self {
+            LineError::Memory => ScriptFault::NoMemory,
+            LineError::Fault(Fault::BadLine) => ScriptFault::BadLine(number),
+            LineError::Fault(Fault::UnknownProcess) => ScriptFault::UnknownProcess(number),
+            LineError::Fault(Fault::TooLong) => ScriptFault::TooLong(number),
+        }
+    }
+}

@@ -1,0 +1,20 @@
+//! Scripts of calls, which are read, and traces of histories, which are written.
+#![tactic(auto)]
+
+mod calls;
+mod fault;
+mod input;
+mod reading;
+mod script;
+mod trace;
+mod words;
+
+pub use calls::CallWord;
+pub use fault::{Fault, ScriptFault};
+pub use input::read_script;
+pub use reading::{one_script, parse_script};
+pub use script::{Line, Script};
+pub use trace::entry_text;
+
+#[cfg(test)]
+mod tests;

@@ -1,0 +1,198 @@
+//! Reading a script, line by line.
+
+ghost use Rattle.std.specs.Prelude.{◌≡◌, ◌==◌, not, map, IfOk, IfErr, OnOk, Ok};
+ghost use Rattle.std.specs.List.{slice_split};
+ghost use Rattle.ux_syntax.specs.Spelling.{Plan, plan_of, Spells, IsOrderly, OneScript, lines_of, is_meant};
+ghost use Rattle.ux_syntax.specs.Turns.{is_known};
+ghost use Rattle.ux_syntax.specs.Reading.{words_at, item_at, added, line_at, script_at};
+ghost use Rattle.ux_syntax.specs.Results.{Gives, Leaves, GivesScript, Refuses, Marks};
+
+use crate::calls::{proc_of, request_of, word_of};
+use crate::fault::{BAD, Fault, LineError, ScriptFault};
+use crate::script::{Line, Script, is_exit};
+use crate::words::{next, number_of};
+use std::alloc::{AllocError, Global};
+use ux_types::{Pid, ProcSpec};
+
+/// How many bytes a line may have, without its line feed.
+const LINE_LIMIT: usize = 4096;
+
+/// What a line says.
+#[derive(Drop)]
+enum Item {
+    /// Nothing: it is empty or a comment.
+    Skipped,
+    /// A process of the header.
+    Proc(ProcSpec),
+    /// A call.
+    Call(Line),
+}
+
+#[tactic(auto, unfolding(crate::specs::Reading::words_at))]
+fn words_of(alloc: Global, words: &[&[u8]]) -> Result<Item, LineError>
+    ensures { Gives (λ item. item) result (words_at (map (λ w. w.now) words.now)) }
+{
+    let (first, rest) = next(words)?;
+    if first == b"proc".as_slice() {
+        return Ok(Item::Proc(proc_of(rest)?));
+    }
+    let pid = Pid(number_of(first)?);
+    let (word, args) = next(rest)?;
+    let request = request_of(alloc, word_of(word)?, args)?;
+    Ok(Item::Call(Line { pid, request }))
+}
+
+fn is_comment(text: &[u8]) -> bool
+    ensures { result ≡ not (is_meant text.now) }
+{
+    match text {
+        [] => true,
+        [first, ..] => *first == b'#',
+    }
+}
+
+fn split_words<'a>(alloc: Global, text: &'a [u8]) -> Result<Vec<&'a [u8]>, AllocError>
+    ensures { IfOk result (λ words. map (λ w. w.now) words.items ≡ slice_split (λ b. b == 32) text.now) }
+{
+    text.split(|b| *b == b' ').collect(alloc)
+}
+
+fn split_lines<'a>(alloc: Global, text: &'a [u8]) -> Result<Vec<&'a [u8]>, AllocError>
+    ensures { IfOk result (λ lines. map (λ l. l.now) lines.items ≡ lines_of text.now) }
+{
+    text.split(|b| *b == b'\n').collect(alloc)
+}
+
+/// What one line says.
+#[tactic(auto, unfolding(crate::specs::Reading::item_at))]
+fn item_of(alloc: Global, text: &[u8]) -> Result<Item, LineError>
+    ensures { Gives (λ item. item) result (item_at text.now) }
+{
+    if text.len() > LINE_LIMIT {
+        return Err(LineError::Fault(Fault::TooLong));
+    }
+    if is_comment(text) {
+        return Ok(Item::Skipped);
+    }
+    let words = split_words(alloc, text)?;
+    words_of(alloc, &words)
+}
+
+/// A script as far as it was read, with a mark for each process that has made its exit.
+#[derive(Drop)]
+struct Reader {
+    script: Script,
+    exited: Vec<bool>,
+}
+
+impl Reader {
+    fn knows(&self, pid: Pid) -> bool
+        ensures { result ≡ is_known self.now.script.procs.items pid.0 }
+    {
+        0 < pid.0 && pid.0 as usize <= self.script.procs.len()
+    }
+
+    fn add_proc(&mut self, spec: ProcSpec) -> Result<(), LineError>
+        requires { Marks (plan_of self.old.script) self.old.exited.items }
+        ensures reads { Leaves (plan_of self.new.script) result (added (plan_of self.old.script) (Item.Proc spec)) }
+        ensures marks { OnOk result (Marks (plan_of self.new.script) self.new.exited.items) }
+    {
+        if !self.script.lines.is_empty() {
+            return Err(BAD);
+        }
+        self.script.procs.push(spec)?;
+        self.exited.push(false)?;
+        Ok(())
+    }
+
+    fn add_line(&mut self, line: Line) -> Result<(), LineError>
+        requires { Marks (plan_of self.old.script) self.old.exited.items }
+        ensures reads { Leaves (plan_of self.new.script) result (added (plan_of self.old.script) (Item.Call line)) }
+        ensures marks { OnOk result (Marks (plan_of self.new.script) self.new.exited.items) }
+    {
+        if !self.knows(line.pid) {
+            return Err(LineError::Fault(Fault::UnknownProcess));
+        }
+        let place = line.pid.0 as usize - 1;
+        if self.exited[place] {
+            return Err(BAD);
+        }
+        if is_exit(&line.request) {
+            self.exited[place] = true;
+        }
+        self.script.lines.push(line)?;
+        Ok(())
+    }
+
+    /// Reads a line and adds what it says.
+    #[tactic(auto, unfolding(crate::specs::Reading::line_at))]
+    fn read_line(&mut self, alloc: Global, text: &[u8]) -> Result<(), LineError>
+        requires { Marks (plan_of self.old.script) self.old.exited.items }
+        ensures reads { Leaves (plan_of self.new.script) result (line_at (plan_of self.old.script) text.now) }
+        ensures marks { OnOk result (Marks (plan_of self.new.script) self.new.exited.items) }
+    {
+        match item_of(alloc, text)? {
+            Item::Skipped => Ok(()),
+            Item::Proc(spec) => self.add_proc(spec),
+            Item::Call(line) => self.add_line(line),
+        }
+    }
+}
+
+/// Reads each line in turn.
+fn read_lines(alloc: Global, texts: &[&[u8]]) -> Result<Script, ScriptFault>
+    ensures { GivesScript result (script_at (map (λ l. l.now) texts.now)) }
+{
+    let script = Script {
+        procs: Vec::new(alloc),
+        lines: Vec::new(alloc),
+    };
+    let mut reader = Reader {
+        script,
+        exited: Vec::new(alloc),
+    };
+    for (index, text) in texts.iter().enumerate() {
+        match reader.read_line(alloc, text) {
+            Ok(()) => {}
+            Err(error) => return Err(error.at(index + 1)),
+        }
+    }
+    Ok(reader.script)
+}
+
+/// Reads all lines of a text.
+fn read_text(alloc: Global, text: &[u8]) -> Result<Script, ScriptFault>
+    ensures { GivesScript result (script_at (lines_of text.now)) }
+{
+    let Ok(texts) = split_lines(alloc, text) else {
+        return Err(ScriptFault::NoMemory);
+    };
+    read_lines(alloc, &texts)
+}
+
+/// The script that a text spells. It takes time in proportion to the text.
+///
+/// A script is lines that end at line feeds; the last may have none. Empty lines and those that begin
+/// with `#` are skipped, and counted. The words of a line stand one blank apart. Lines
+/// `proc UID GID PRIV LIMIT` come first and number the processes from 1; each further line is a
+/// process's number and a call of it: `pair stream OFLAGS`, `send FD - HEX - MFLAGS`,
+/// `recv FD N SPACE MFLAGS`, `close FD`, `exit`.
+pub fn parse_script(alloc: Global, text: &[u8]) -> Result<Script, ScriptFault>
+    // What is read is spelled so.
+    ensures found { IfOk result (λ script. Spells (lines_of text.now) (plan_of script)) }
+    // Each line is of a process that is there and hasn't made its exit.
+    ensures orderly { IfOk result (λ script. IsOrderly (plan_of script)) }
+    // What is spelled so is read, unless memory runs out.
+    ensures only { (s : Plan) → Spells (lines_of text.now) s → GivesScript result (Ok s) }
+    // A fault is that of the first line at fault.
+    ensures fault { IfErr result (λ f. Refuses (lines_of text.now) f) }
+    // Which fault it is: the first line that can't be read from left to right tells.
+    ensures exact { GivesScript result (script_at (lines_of text.now)) }
+{
+    read_text(alloc, text)
+}
+
+/// A text spells one script at most.
+pub fn one_script()
+    ensures { OneScript }
+{}
