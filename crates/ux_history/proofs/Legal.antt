@@ -22,7 +22,7 @@ get_push (y ∷ xs) x a zero h = inl (h, refl)
 get_push (y ∷ xs) x a (suc i) h =
     ⊎_elim (λ p. inl (p.0, ap (λ l. y ∷ l) p.1)) (λ p. inr (p.0, ap (λ l. y ∷ l) p.1)) (get_push xs x a i h)
 
-legal_push : (boot : State) (es : List Entry) (e : Entry) → IsLegal boot es → MayFollow boot es e → IsLegal boot (es ++ e ∷ [])
+pub legal_push : (boot : State) (es : List Entry) (e : Entry) → IsLegal boot es → MayFollow boot es e → IsLegal boot (es ++ e ∷ [])
 legal_push boot es e legal may =
     record {
       boots = legal.boots;

@@ -1,0 +1,11 @@
+//! Runs a script over a kernel, one call after the other, and writes the trace of its history.
+#![tactic(auto)]
+
+mod run;
+mod write;
+
+pub use run::run_serial;
+pub use write::write_trace;
+
+#[cfg(test)]
+mod tests;
