@@ -1,0 +1,75 @@
+//! Runs a script of socket calls, and prints the trace.
+#![tactic(auto)]
+
+ghost use Rattle.std.specs.Prelude.{IfOk};
+ghost use Rattle.ux_syntax.specs.Spelling.{plan_of, IsOrderly};
+
+mod args;
+mod fault;
+
+use args::read_args;
+use clap::error::ErrorKind;
+use fault::Fault;
+use std::alloc::Global;
+use std::io::BufWriter;
+use std::process::ExitCode;
+use std::rt::Files;
+use std::{env, fs, io};
+use ux_kernel::Kernel;
+use ux_script::run_serial;
+use ux_syntax::{Script, ScriptFault, read_script};
+
+/// The script that was named.
+fn script_of<R: Files + Input + AllocGlobal>(rt: &R, name: &str) -> Result<Script, ScriptFault>
+    ensures { IfOk result (λ script. IsOrderly (plan_of script)) }
+{
+    let alloc: Global = rt.alloc();
+    if name == "-" {
+        return read_script(alloc, &mut rt.reader());
+    }
+    match fs::open(rt, name) {
+        Ok(mut file) => read_script(alloc, &mut file),
+        Err(error) if error.kind() == io::ErrorKind::OutOfMemory => Err(ScriptFault::NoMemory),
+        Err(_) => Err(ScriptFault::Reading),
+    }
+}
+
+/// Runs the script that was named, and prints its trace to standard output.
+fn run<R: Files + Input + Print + AllocGlobal>(rt: &R, name: &str) -> Result<(), Fault> {
+    let alloc: Global = rt.alloc();
+    let script = script_of(rt, name)?;
+    let kernel = Kernel::boot(alloc, &script.procs)?;
+    let Ok(mut writer) = BufWriter::new(alloc, io::writer(rt)) else {
+        return Err(Fault::Script(ScriptFault::NoMemory));
+    };
+    run_serial(alloc, &script, &mut writer, kernel)?;
+    Ok(())
+}
+
+/// Tells why no whole trace was printed.
+fn failed(rt: &impl Eprint, fault: &Fault) -> ExitCode {
+    let _ = eprintln!(rt; "uxrun: {fault}");
+    ExitCode::FAILURE
+}
+
+fn main(rt: HostRuntime) -> ExitCode {
+    let no_memory = Fault::Script(ScriptFault::NoMemory);
+    let Ok(Ok(words)) = env::args(&rt).map(|words| words.collect::<Vec<String>>(rt.alloc())) else {
+        return failed(&rt, &no_memory);
+    };
+    let args = match read_args(rt.alloc(), words.as_slice()) {
+        Ok(args) => args,
+        Err(error) if error.kind() == ErrorKind::OutOfMemory => return failed(&rt, &no_memory),
+        Err(error) => {
+            let _ = error.print(&rt);
+            return ExitCode::from(error.exit_code() as u8);
+        }
+    };
+    match run(&rt, args.script) {
+        Ok(()) => ExitCode::SUCCESS,
+        Err(fault) => failed(&rt, &fault),
+    }
+}
+
+#[cfg(test)]
+mod tests;

@@ -1,0 +1,65 @@
+use crate::args::read_args;
+use crate::fault::Fault;
+use std::alloc::{AllocError, Global};
+use std::test::Fail;
+use ux_kernel::BootFault;
+use ux_syntax::ScriptFault;
+
+fn texts(alloc: Global, words: &[&str]) -> Result<Vec<String>, AllocError> {
+    let mut texts = Vec::new(alloc);
+    for word in words {
+        texts.push(String::from_str(alloc, word)?)?;
+    }
+    Ok(texts)
+}
+
+#[test]
+fn a_script_is_named(rt: HostRuntime) -> Result<(), Fail> {
+    for name in ["-", "a", "a/b.ux"] {
+        let words = texts(rt.alloc(), &["uxrun", name])?;
+        let Ok(args) = read_args(rt.alloc(), words.as_slice()) else {
+            return Err(Fail::from("not understood"));
+        };
+        assert_eq!(rt; args.script, name);
+    }
+    Ok(())
+}
+
+#[test]
+fn other_command_lines_are_refused(rt: HostRuntime) -> Result<(), Fail> {
+    let none = ["uxrun"];
+    let two = ["uxrun", "a", "b"];
+    let later = ["uxrun", "--threads", "a"];
+    for words in [none.as_slice(), two.as_slice(), later.as_slice()] {
+        let words = texts(rt.alloc(), words)?;
+        let told = read_args(rt.alloc(), words.as_slice())
+            .err()
+            .ok_or("understood")?;
+        assert_eq!(rt; told.exit_code(), 2);
+    }
+    Ok(())
+}
+
+#[test]
+fn help_is_no_fault(rt: HostRuntime) -> Result<(), Fail> {
+    let words = texts(rt.alloc(), &["uxrun", "--help"])?;
+    let told = read_args(rt.alloc(), words.as_slice())
+        .err()
+        .ok_or("no help")?;
+    assert_eq!(rt; told.exit_code(), 0);
+    Ok(())
+}
+
+#[test]
+fn faults_have_their_texts(rt: HostRuntime) -> Result<(), Fail> {
+    let rows = [
+        (Fault::from(ScriptFault::BadLine(3)), "line 3: bad line"),
+        (Fault::from(ScriptFault::Reading), "reading failed"),
+        (Fault::from(BootFault::TooManyProcesses), "boot fault 2"),
+        (Fault::from(BootFault::NoMemory), "out of memory"),
+    ];
+    for (fault, text) in rows {
+        assert_eq!(rt; fault.to_string(rt.alloc())?.as_str(), text);
+    }
+    Ok(())
+}
