@@ -1,16 +1,17 @@
 -- A call's words that are read are the spelling of what was read, and each spelling is read again.
-use Rattle.std.proofs.Common.{◌≡◌, ℕ, Bool, true, false, cond, List, [], ◌∷◌, Result, Ok, refl, sym, ◌∙◌, subst, codes, lit<}
-use Rattle.std.specs.Prelude.{decimal, Some}
+use Rattle.std.proofs.Common.{◌≡◌, ℕ, Bool, true, false, cond, List, [], ◌∷◌, Result, Ok, Err, refl, sym, ◌∙◌, subst, codes, lit<}
+use Rattle.std.specs.Prelude.{decimal, Option, Some, None}
 use Rattle.std.specs.List.{AllByRecursion, find}
 use Rattle.std.specs.Str.{bytes_eq}
 use Rattle.std.proofs.lemmas.Slice.Eq.{bytes_eq-Decides}
 use Rattle.ux_model.specs.Types.{ProcSpec, Request}
 use Rattle.ux_syntax.specs.declared.fault.Fault.{Fault}
+use Rattle.ux_syntax.specs.declared.fault.Fault.TheVariants.{BadLine}
 use Rattle.ux_syntax.specs.declared.calls.CallWord.{CallWord}
 use Rattle.ux_syntax.specs.Trace.{dash, word_text, request_word}
 use Rattle.ux_syntax.specs.Spelling.{Control, bare, Written, pair, send, recv, close, exit, meaning, control_text, args_of, bit, FitsControl, FitsCall, FitsProc}
 use Rattle.ux_syntax.specs.Reading.{◌>>=◌, exactly, dash_at, control_at, pair_at, send_at, recv_at, close_at, exit_at, proc_at, all_words, or_bad, word_at, args_at}
-use Rattle.ux_syntax.proofs.Rows.{IsSolid, IsKind, IsRow, bind_ok, ok_is, ends_row, row_then, exactly_kind, number_kind}
+use Rattle.ux_syntax.proofs.Rows.{IsSolid, IsBadOrOk, IsKind, IsRow, bind_ok, bind_bad, ok_is, ends_row, row_then, exactly_kind, number_kind}
 use Rattle.ux_syntax.proofs.Bytes.{dash_solid, hex_kind, bit_kind}
 use Rattle.ux_syntax.proofs.Flags.{open_flags_kind, msg_flags_kind}
 
@@ -30,7 +31,7 @@ control_solid : (c : Control) → FitsControl c → IsSolid (control_text c)
 control_solid bare f = dash_solid
 
 control_kind : IsKind control_at control_text FitsControl
-control_kind = record { takes = control_takes; again = control_again; solid = control_solid }
+control_kind = record { takes = control_takes; bad = λ w. bind_bad (dash_at w) (λ x. Ok bare) (dash_kind.bad w) (λ x. tt); again = control_again; solid = control_solid }
 
 -- the request is what some call means whose words these are
 pub record Spelled (word : CallWord) (ws : List (List ℕ)) (r : Request) : Type 0 where
@@ -40,25 +41,33 @@ pub record Spelled (word : CallWord) (ws : List (List ℕ)) (r : Request) : Type
   pub args : ws ≡ args_of call
   pub fits : FitsCall call
 
+-- what reading gives is spelled by the words, or they are bad
+abbrev IsReading : CallWord → List (List ℕ) → Result Request Fault → Type 0
+IsReading word ws (Ok r) = Spelled word ws r
+IsReading word ws (Err f) = f ≡ BadLine
+
 -- what a row of words makes is spelled by them, if that holds of each value of the row
 made : {X : Type 0} {read : List (List ℕ) → Result X Fault} {words : X → List (List ℕ)} {Fits : X → Type 0} (word : CallWord) (make : X → Written)
     → IsRow read words Fits → ((x : X) → Fits x → (request_word (meaning (make x)) ≡ word) × (words x ≡ args_of (make x)) × FitsCall (make x))
-    → (ws : List (List ℕ)) (r : Request) → (read ws >>= λ x. Ok (meaning (make x))) ≡ Ok r → Spelled word ws r
-made {read = read} word make row spelled ws r e =
-    let b = bind_ok (read ws) (λ x. Ok (meaning (make x))) r e in
-    let p = row.takes ws b.0 b.1 in
-    let q = spelled b.0 p.1 in
-    record { call = make b.0; means = ok_is (meaning (make b.0)) r b.2; names = q.0; args = p.0 ∙ q.1; fits = q.2 }
+    → (ws : List (List ℕ)) → IsReading word ws (read ws >>= λ x. Ok (meaning (make x)))
+made {X = X} {read = read} word make row spelled ws = made_of (read ws) refl
+  where
+  made_of : (r : Result X Fault) → read ws ≡ r → IsReading word ws (r >>= λ x. Ok (meaning (make x)))
+  made_of (Ok x) e =
+      let p = row.takes ws x e in
+      let q = spelled x p.1 in
+      record { call = make x; means = refl; names = q.0; args = p.0 ∙ q.1; fits = q.2 }
+  made_of (Err f) e = subst IsBadOrOk e (row.bad ws)
 
 -- ---- three laws a word
 
-pub args_takes : (word : CallWord) (ws : List (List ℕ)) (r : Request) → args_at word ws ≡ Ok r → Spelled word ws r
+args_read : (word : CallWord) (ws : List (List ℕ)) → IsReading word ws (args_at word ws)
 unfolding pair_at send_at recv_at close_at exit_at
-args_takes CallWord.Pair = made CallWord.Pair (λ x. pair x.1.0) (row_then stream_kind (row_then open_flags_kind ends_row)) (λ x f. (refl, refl, f.1.0))
-args_takes CallWord.Send = made CallWord.Send (λ x. send x.0 x.1.1.0 x.1.1.1.0 x.1.1.1.1.0) (row_then number_kind (row_then dash_kind (row_then hex_kind (row_then control_kind (row_then msg_flags_kind ends_row))))) (λ x f. (refl, refl, (f.0, f.1.1.0, f.1.1.1.0, f.1.1.1.1.0)))
-args_takes CallWord.Recv = made CallWord.Recv (λ x. recv x.0 x.1.0 x.1.1.0 x.1.1.1.0) (row_then number_kind (row_then number_kind (row_then number_kind (row_then msg_flags_kind ends_row)))) (λ x f. (refl, refl, (f.0, f.1.0, f.1.1.0, f.1.1.1.0)))
-args_takes CallWord.Close = made CallWord.Close (λ x. close x.0) (row_then number_kind ends_row) (λ x f. (refl, refl, f.0))
-args_takes CallWord.Exit = made CallWord.Exit (λ x. exit) ends_row (λ x f. (refl, refl, tt))
+args_read CallWord.Pair = made CallWord.Pair (λ x. pair x.1.0) (row_then stream_kind (row_then open_flags_kind ends_row)) (λ x f. (refl, refl, f.1.0))
+args_read CallWord.Send = made CallWord.Send (λ x. send x.0 x.1.1.0 x.1.1.1.0 x.1.1.1.1.0) (row_then number_kind (row_then dash_kind (row_then hex_kind (row_then control_kind (row_then msg_flags_kind ends_row))))) (λ x f. (refl, refl, (f.0, f.1.1.0, f.1.1.1.0, f.1.1.1.1.0)))
+args_read CallWord.Recv = made CallWord.Recv (λ x. recv x.0 x.1.0 x.1.1.0 x.1.1.1.0) (row_then number_kind (row_then number_kind (row_then number_kind (row_then msg_flags_kind ends_row)))) (λ x f. (refl, refl, (f.0, f.1.0, f.1.1.0, f.1.1.1.0)))
+args_read CallWord.Close = made CallWord.Close (λ x. close x.0) (row_then number_kind ends_row) (λ x f. (refl, refl, f.0))
+args_read CallWord.Exit = made CallWord.Exit (λ x. exit) ends_row (λ x f. (refl, refl, tt))
 
 pub args_again : (c : Written) → FitsCall c → args_at (request_word (meaning c)) (args_of c) ≡ Ok (meaning c)
 unfolding pair_at send_at recv_at close_at exit_at exactly
@@ -75,6 +84,18 @@ args_solid (recv fd n space flags) f = (number_kind.solid fd f.0, (number_kind.s
 args_solid (close fd) f = (number_kind.solid fd f, tt)
 args_solid exit f = tt
 
+-- ---- all words
+
+pub args_takes : (word : CallWord) (ws : List (List ℕ)) (r : Request) → args_at word ws ≡ Ok r → Spelled word ws r
+args_takes word ws r e = subst (λ (x : Result Request Fault). IsReading word ws x) e (args_read word ws)
+
+pub args_bad : (word : CallWord) (ws : List (List ℕ)) → IsBadOrOk (args_at word ws)
+args_bad word ws = bad_of (args_at word ws) (args_read word ws)
+  where
+  bad_of : (x : Result Request Fault) → IsReading word ws x → IsBadOrOk x
+  bad_of (Ok r) h = tt
+  bad_of (Err f) h = h
+
 -- ---- the word of a call
 
 head_or_tail : {X : Type 0} (p : X → Bool) (y : X) (ys : List X) (x : X) (b : Bool) → p y ≡ b → (or_bad (find p ys) ≡ Ok x → p x ≡ true) → or_bad (cond b (Some y) (find p ys)) ≡ Ok x → p x ≡ true
@@ -88,6 +109,14 @@ found_passes p (y ∷ ys) x e = head_or_tail p y ys x (p y) refl (found_passes p
 pub word_takes : (w : List ℕ) (word : CallWord) → word_at w ≡ Ok word → w ≡ word_text word
 unfolding word_at
 word_takes w word e = sym ((bytes_eq-Decides (word_text word) w).0 (found_passes (λ c. bytes_eq (word_text c) w) all_words word e))
+
+or_bad_bad : {A : Type 0} (o : Option A) → IsBadOrOk (or_bad o)
+or_bad_bad None = refl
+or_bad_bad (Some x) = tt
+
+pub word_bad : (w : List ℕ) → IsBadOrOk (word_at w)
+unfolding word_at
+word_bad w = or_bad_bad (find (λ c. bytes_eq (word_text c) w) all_words)
 
 pub word_again : (word : CallWord) → word_at (word_text word) ≡ Ok word
 unfolding word_at
@@ -116,6 +145,12 @@ proc_takes ws p e =
     let b = bind_ok _ (λ x. Ok (record { uid = x.0; gid = x.1.0; privileged = x.1.1.0; limit = x.1.1.1.0 })) p e in
     let q = row.takes ws b.0 b.1 in
     subst (λ (y : ProcSpec). (ws ≡ proc_args y) × FitsProc y) (ok_is (record { uid = b.0.0; gid = b.0.1.0; privileged = b.0.1.1.0; limit = b.0.1.1.1.0 }) p b.2) (q.0, (q.1.0, q.1.1.0, q.1.1.1.1.0))
+
+pub proc_bad : (ws : List (List ℕ)) → IsBadOrOk (proc_at ws)
+unfolding proc_at
+proc_bad ws =
+    let row = row_then number_kind (row_then number_kind (row_then bit_kind (row_then number_kind ends_row))) in
+    bind_bad _ _ (row.bad ws) (λ x. tt)
 
 pub proc_again : (p : ProcSpec) → FitsProc p → proc_at (proc_args p) ≡ Ok p
 unfolding proc_at

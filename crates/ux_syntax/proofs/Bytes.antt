@@ -1,5 +1,5 @@
 -- Bytes in pairs of digits, and a bit.
-use Rattle.std.proofs.Common.{◌≡◌, ℕ, ◌+◌, ◌*◌, ◌/◌, ◌%◌, ◌<◌, Bool, true, false, cond, List, [], ◌∷◌, length, Ok, Err, refl, ap, ◌∙◌, subst, arith, Decides}
+use Rattle.std.proofs.Common.{◌≡◌, ℕ, ◌+◌, ◌*◌, ◌/◌, ◌%◌, ◌-◌, ◌<◌, ◌&&◌, leb, Bool, true, false, cond, List, [], ◌∷◌, length, Ok, Err, refl, ap, ◌∙◌, subst, arith, Decides}
 use Rattle.std.specs.List.{flat_map}
 use Rattle.std.specs.Fmt.{digit_glyph}
 use Rattle.std.specs.Str.{bytes_eq}
@@ -10,7 +10,7 @@ use Rattle.ux_syntax.specs.Trace.{dash, digit_pair, hex}
 use Rattle.ux_syntax.specs.Spelling.{AreBytes, bit}
 use Rattle.ux_syntax.specs.Reading.{◌>>=◌, digit_at, pairs_at, hex_at, bit_at}
 use Rattle.ux_syntax.proofs.Texts.{hex_is}
-use Rattle.ux_syntax.proofs.Rows.{IsSolid, IsKind, bind_ok, done, ok_is}
+use Rattle.ux_syntax.proofs.Rows.{IsSolid, IsBadOrOk, IsKind, bind_ok, done, ok_is, guard_bad, either_bad, bind_bad}
 
 digit_takes : (c n : ℕ) → digit_at c ≡ Ok n → (c ≡ digit_glyph false n) × (n < 16)
 digit_takes c n e = grind (arith, nat_tests, e)
@@ -83,8 +83,21 @@ hex_solid : (bs : List ℕ) → AreBytes bs → IsSolid (hex bs)
 hex_solid [] f = dash_solid
 hex_solid (b ∷ bs) f = pairs_solid (b ∷ bs) f
 
+digit_bad : (c : ℕ) → IsBadOrOk (digit_at c)
+digit_bad c = either_bad (leb 48 c && leb c 57) (Ok (c - 48)) _ tt (guard_bad (leb 97 c && leb c 102) (c - 97 + 10))
+
+pairs_bad : (w : List ℕ) → IsBadOrOk (pairs_at w)
+pairs_bad [] = tt
+pairs_bad (h ∷ []) = refl
+pairs_bad (h ∷ l ∷ rest) = bind_bad (digit_at h) _ (digit_bad h) (λ high. bind_bad (digit_at l) _ (digit_bad l) (λ low. bind_bad (pairs_at rest) _ (pairs_bad rest) (λ bytes. tt)))
+
+hex_bad : (w : List ℕ) → IsBadOrOk (hex_at w)
+unfolding hex_at
+hex_bad [] = refl
+hex_bad (c ∷ cs) = either_bad (bytes_eq (c ∷ cs) dash) (Ok []) (pairs_at (c ∷ cs)) tt (pairs_bad (c ∷ cs))
+
 pub hex_kind : IsKind hex_at hex AreBytes
-hex_kind = record { takes = hex_takes; again = hex_again; solid = hex_solid }
+hex_kind = record { takes = hex_takes; bad = hex_bad; again = hex_again; solid = hex_solid }
 
 -- ---- a bit
 
@@ -104,6 +117,7 @@ bit_solid false = (omega arith, tt)
 pub bit_kind : IsKind bit_at bit (λ _. Unit {0})
 bit_kind = record {
   takes = λ w b e. bit_chosen w b (bytes_eq w (48 ∷ [])) (bytes_eq w (49 ∷ [])) (bytes_eq-Decides w (48 ∷ [])) (bytes_eq-Decides w (49 ∷ [])) e;
+  bad = λ w. either_bad (bytes_eq w (48 ∷ [])) (Ok false) _ tt (guard_bad (bytes_eq w (49 ∷ [])) true);
   again = λ b h. bit_again b;
   solid = λ b h. bit_solid b;
 }

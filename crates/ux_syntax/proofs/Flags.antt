@@ -10,7 +10,7 @@ use Rattle.ux_syntax.specs.declared.fault.Fault.TheVariants.{BadLine}
 use Rattle.ux_syntax.specs.Trace.{dash}
 use Rattle.ux_syntax.specs.Spelling.{letter, or_dash, open_flags, msg_flags, FitsOpenFlags, FitsMsgFlags}
 use Rattle.ux_syntax.specs.Reading.{letter_at, open_flags_at, msg_flags_at}
-use Rattle.ux_syntax.proofs.Rows.{IsSolid, IsKind, done, ok_is}
+use Rattle.ux_syntax.proofs.Rows.{IsSolid, IsBadOrOk, IsKind, done, ok_is, guard_bad, either_bad}
 use Rattle.ux_syntax.proofs.Bytes.{dash_solid}
 
 -- ---- letters in a row
@@ -104,6 +104,11 @@ open_takes (c ∷ cs) g e =
     let text = open_text a.0 n.0 x.0 in
     flags_chosen open_flags FitsOpenFlags (record { 0 = 0 }) (open_made a.0 n.0 x.0) g w (open_letters a.0 n.0 x.0) x.1 (bytes_eq w dash) (eqb (length x.1) 0) (omega arith) (bytes_eq-Decides w dash) (eqb-true (length x.1) 0) refl (lit< tt) (parts ∙ text.2 x.1) text.0 text.1 e
 
+open_bad : (w : List ℕ) → IsBadOrOk (open_flags_at w)
+unfolding open_flags_at
+open_bad [] = refl
+open_bad (c ∷ cs) = either_bad (bytes_eq (c ∷ cs) dash) (Ok (record { 0 = 0 })) _ tt (guard_bad _ _)
+
 abbrev OpenAgain : ℕ → Type 0
 OpenAgain n = open_flags_at (open_flags (record { 0 = n })) ≡ Ok (record { 0 = n })
 
@@ -119,7 +124,7 @@ open_solid : (f : OpenFlags) → FitsOpenFlags f → IsSolid (open_flags f)
 open_solid f h = or_dash_solid (open_letters (has_bits f.0 1) (has_bits f.0 2) (has_bits f.0 4)) (open_letters_solid (has_bits f.0 1) (has_bits f.0 2) (has_bits f.0 4))
 
 pub open_flags_kind : IsKind open_flags_at open_flags FitsOpenFlags
-open_flags_kind = record { takes = open_takes; again = λ f h. below_at OpenAgain 8 f.0 each_open h; solid = open_solid }
+open_flags_kind = record { takes = open_takes; bad = open_bad; again = λ f h. below_at OpenAgain 8 f.0 each_open h; solid = open_solid }
 
 -- ---- the letters dptx
 
@@ -166,6 +171,11 @@ msg_takes (c ∷ cs) g e =
     let text = msg_text d.0 p.0 t.0 x.0 in
     flags_chosen msg_flags FitsMsgFlags (record { 0 = 0 }) (msg_made d.0 p.0 t.0 x.0) g w (msg_letters d.0 p.0 t.0 x.0) x.1 (bytes_eq w dash) (eqb (length x.1) 0) (omega arith) (bytes_eq-Decides w dash) (eqb-true (length x.1) 0) refl (lit< tt) (parts ∙ text.2 x.1) text.0 text.1 e
 
+msg_bad : (w : List ℕ) → IsBadOrOk (msg_flags_at w)
+unfolding msg_flags_at
+msg_bad [] = refl
+msg_bad (c ∷ cs) = either_bad (bytes_eq (c ∷ cs) dash) (Ok (record { 0 = 0 })) _ tt (guard_bad _ _)
+
 abbrev MsgAgain : ℕ → Type 0
 MsgAgain n = msg_flags_at (msg_flags (record { 0 = n })) ≡ Ok (record { 0 = n })
 
@@ -182,4 +192,4 @@ msg_solid : (f : MsgFlags) → FitsMsgFlags f → IsSolid (msg_flags f)
 msg_solid f h = or_dash_solid (msg_letters (has_bits f.0 4) (has_bits f.0 1) (has_bits f.0 2) (has_bits f.0 8)) (msg_letters_solid (has_bits f.0 4) (has_bits f.0 1) (has_bits f.0 2) (has_bits f.0 8))
 
 pub msg_flags_kind : IsKind msg_flags_at msg_flags FitsMsgFlags
-msg_flags_kind = record { takes = msg_takes; again = λ f h. below_at MsgAgain 16 f.0 each_msg h; solid = msg_solid }
+msg_flags_kind = record { takes = msg_takes; bad = msg_bad; again = λ f h. below_at MsgAgain 16 f.0 each_msg h; solid = msg_solid }

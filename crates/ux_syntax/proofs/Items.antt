@@ -14,9 +14,9 @@ use Rattle.ux_syntax.specs.declared.reading.Item.{Item}
 use Rattle.ux_syntax.specs.Trace.{word_text, request_word}
 use Rattle.ux_syntax.specs.Spelling.{Turn, meaning, line_of, args_of, proc_line, turn_line, is_meant, IsNumber, FitsTurn, FitsProc}
 use Rattle.ux_syntax.specs.Reading.{◌>>=◌, number_at, one, proc_at, word_at, args_at, turn_at, words_at, item_at}
-use Rattle.ux_syntax.proofs.Rows.{IsSolid, bind_ok, done, ok_is, number_kind}
+use Rattle.ux_syntax.proofs.Rows.{IsSolid, IsBadOrOk, one_bad, either_bad, bind_bad, bind_ok, done, ok_is, number_kind}
 use Rattle.ux_syntax.proofs.Numbers.{number_refused}
-use Rattle.ux_syntax.proofs.Args.{args_takes, args_again, args_solid, word_takes, word_again, word_solid, proc_args, proc_takes, proc_again, proc_solid}
+use Rattle.ux_syntax.proofs.Args.{args_takes, args_bad, word_bad, proc_bad, args_again, args_solid, word_takes, word_again, word_solid, proc_args, proc_takes, proc_again, proc_solid}
 
 -- ---- words and the line that they make
 
@@ -85,6 +85,14 @@ words_takes : (ws : List (List ℕ)) (item : Item) → words_at ws ≡ Ok item �
 unfolding words_at
 words_takes [] item e = absurd cc
 words_takes (w ∷ ws) item e = words_chosen w ws item (bytes_eq w (codes "proc")) (bytes_eq-Decides w (codes "proc")) e
+
+turn_bad : (pid : ℕ) (ws : List (List ℕ)) → IsBadOrOk (turn_at pid ws)
+turn_bad pid ws = bind_bad (one word_at ws) _ (one_bad word_at word_bad ws) (λ word. bind_bad (args_at word.0 word.1) _ (args_bad word.0 word.1) (λ r. tt))
+
+pub words_bad : (ws : List (List ℕ)) → IsBadOrOk (words_at ws)
+unfolding words_at
+words_bad [] = refl
+words_bad (w ∷ ws) = either_bad (bytes_eq w (codes "proc")) _ _ (bind_bad (proc_at ws) _ (proc_bad ws) (λ p. tt)) (bind_bad (number_at w) _ (number_kind.bad w) (λ pid. turn_bad pid ws))
 
 err_ok : (n : ℕ) → Err BadLine ≡ done n → ⊥
 err_ok n e = cc

@@ -19,32 +19,60 @@ use Rattle.ux_syntax.proofs.Numbers.{own}
 abbrev pub IsSolid : List ℕ → Type 0
 IsSolid w = AllByRecursion (λ b. 32 < b) w
 
+abbrev pub done : {A : Type 0} → A → Result A Fault
+done x = Ok x
+
+-- reading fails in one way alone
+abbrev pub IsBadOrOk : {A : Type 0} → Result A Fault → Type 0
+IsBadOrOk (Ok x) = Unit {0}
+IsBadOrOk (Err f) = f ≡ BadLine
+
 -- how one word is read, and how it is spelled
 pub record IsKind {A : Type 0} (read : List ℕ → Result A Fault) (text : A → List ℕ) (Fits : A → Type 0) : Type 0 where
   pub takes : (w : List ℕ) (x : A) → read w ≡ Ok x → (w ≡ text x) × Fits x
+  pub bad : (w : List ℕ) → IsBadOrOk (read w)
   pub again : (x : A) → Fits x → read (text x) ≡ Ok x
   pub solid : (x : A) → Fits x → IsSolid (text x)
 
 -- the same of all the words of a row
 pub record IsRow {A : Type 0} (read : List (List ℕ) → Result A Fault) (words : A → List (List ℕ)) (Fits : A → Type 0) : Type 0 where
   pub takes : (ws : List (List ℕ)) (x : A) → read ws ≡ Ok x → (ws ≡ words x) × Fits x
+  pub bad : (ws : List (List ℕ)) → IsBadOrOk (read ws)
   pub again : (x : A) → Fits x → read (words x) ≡ Ok x
   pub solid : (x : A) → Fits x → AllByRecursion IsSolid (words x)
+
+-- a test that refuses a word
+pub guard_bad : {A : Type 0} (b : Bool) (x : A) → IsBadOrOk (cond b (done x) (Err BadLine))
+guard_bad true x = tt
+guard_bad false x = refl
+
+pub either_bad : {A : Type 0} (b : Bool) (r s : Result A Fault) → IsBadOrOk r → IsBadOrOk s → IsBadOrOk (cond b r s)
+either_bad true r s p q = p
+either_bad false r s p q = q
+
+pub bind_bad : {A B : Type 0} (r : Result A Fault) (f : A → Result B Fault) → IsBadOrOk r → ((x : A) → IsBadOrOk (f x)) → IsBadOrOk (r >>= f)
+bind_bad (Ok x) f p q = q x
+bind_bad (Err e) f p q = p
+
+pub one_bad : {A : Type 0} (kind : List ℕ → Result A Fault) → ((w : List ℕ) → IsBadOrOk (kind w)) → (ws : List (List ℕ)) → IsBadOrOk (one kind ws)
+one_bad kind h [] = refl
+one_bad kind h (w ∷ ws) = bind_bad (kind w) (λ x. Ok (x, ws)) (h w) (λ x. tt)
 
 ends_takes : (ws : List (List ℕ)) (x : Unit {0}) → ends ws ≡ Ok x → (ws ≡ []) × Unit {0}
 ends_takes [] x e = (refl, tt)
 ends_takes (w ∷ ws) x e = absurd cc
 
+ends_bad : (ws : List (List ℕ)) → IsBadOrOk (ends ws)
+ends_bad [] = tt
+ends_bad (w ∷ ws) = refl
+
 pub ends_row : IsRow ends (λ _. []) (λ _. Unit {0})
-ends_row = record { takes = ends_takes; again = λ x f. refl; solid = λ x f. tt }
+ends_row = record { takes = ends_takes; bad = ends_bad; again = λ x f. refl; solid = λ x f. tt }
 
 -- the value of a step that did not fail
 pub bind_ok : {A B : Type 0} (r : Result A Fault) (f : A → Result B Fault) (y : B) → (r >>= f) ≡ Ok y → (x : A) × (r ≡ Ok x) × (f x ≡ Ok y)
 bind_ok (Ok x) f y e = (x, refl, e)
 bind_ok (Err d) f y e = absurd cc
-
-abbrev pub done : {A : Type 0} → A → Result A Fault
-done x = Ok x
 
 pub ok_is : {A : Type 0} (x y : A) → done x ≡ done y → x ≡ y
 ok_is x y e = cc
@@ -69,6 +97,7 @@ pub row_then : {A B : Type 0} {k : List ℕ → Result A Fault} {text : A → Li
     → IsKind k text F → IsRow r words G → IsRow (k >> r) (λ x. text x.0 ∷ words x.1) (λ x. F x.0 × G x.1)
 row_then {k = k} {text = text} {F = F} {r = r} {words = words} {G = G} kind row = record {
   takes = row_takes k text F r words G kind row;
+  bad = λ ws. bind_bad (one k ws) (λ x. r x.1 >>= λ y. Ok (x.0, y)) (one_bad k kind.bad ws) (λ x. bind_bad (r x.1) (λ y. Ok (x.0, y)) (row.bad x.1) (λ y. tt));
   again = λ x f. rw (kind.again x.0 f.0, row.again x.1 f.1) refl;
   solid = λ x f. (kind.solid x.0 f.0, row.solid x.1 f.1);
 }
@@ -83,6 +112,7 @@ pub exactly_kind : (text : List ℕ) → IsSolid text → IsKind (exactly text) 
 unfolding exactly
 exactly_kind text solid = record {
   takes = λ w x e. (same_word text w (bytes_eq w text) (bytes_eq-Decides w text) e, tt);
+  bad = λ w. guard_bad (bytes_eq w text) tt;
   again = λ x f. rw ((bytes_eq-Decides text text).1 refl) refl;
   solid = λ x f. solid;
 }
@@ -151,5 +181,9 @@ number_again n h =
     let value : digits_value 10 (decimal n) ≡ n = digits_value-decimal own n (omega arith) in
     rw (decimal_plain n (omega arith), digits, value, lt-ltb n (2 ^ 32) h) refl
 
+number_bad : (w : List ℕ) → IsBadOrOk (number_at w)
+unfolding number_at
+number_bad w = guard_bad (is_plain w && list_all is_ascii_digit w && ltb (digits_value 10 w) (2 ^ 32)) (digits_value 10 w)
+
 pub number_kind : IsKind number_at decimal IsNumber
-number_kind = record { takes = number_takes; again = number_again; solid = λ n h. digits_solid (decimal n) (digits_decimal own n (omega arith)) }
+number_kind = record { takes = number_takes; bad = number_bad; again = number_again; solid = λ n h. digits_solid (decimal n) (digits_decimal own n (omega arith)) }

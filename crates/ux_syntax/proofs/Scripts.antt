@@ -1,8 +1,8 @@
 -- Lines that are read spell the script that was read, and lines that spell a script are read.
-use Rattle.std.proofs.Common.{◌≡◌, ◌≢◌, ◌⊎◌, ℕ, suc, ◌-◌, ◌≤◌, Bool, true, false, cond, ltb, leb, eqb, eq-eqb, ◌&&◌, ◌||◌, List, [], ◌∷◌, ◌++◌, length, map, filter, take, Result, Ok, Err, refl, ap, sym, ◌∙◌, subst, append_assoc, arith, inl, inr}
-use Rattle.std.specs.Prelude.{IfOk, IfErr}
-use Rattle.std.specs.List.{AllByRecursion}
-use Rattle.std.proofs.lemmas.Bool.{ltb-true, lt-ltb, eqb-true, leb-true, le-leb}
+use Rattle.std.proofs.Common.{◌≡◌, ◌≢◌, ◌⊎◌, ℕ, suc, ◌-◌, ◌<◌, ◌≤◌, Bool, true, false, cond, ltb, leb, eqb, eq-eqb, ◌&&◌, ◌||◌, List, [], ◌∷◌, ◌++◌, length, map, filter, take, Result, Ok, Err, refl, ap, sym, ◌∙◌, subst, append_assoc, arith, inl, inr}
+use Rattle.std.specs.Prelude.{IfOk, IfErr, slice_index_or}
+use Rattle.std.specs.List.{AllByRecursion, slice_split}
+use Rattle.std.proofs.lemmas.Bool.{ltb-true, ltb-false, lt-ltb, eqb-true, leb-true, le-leb}
 use Rattle.std.proofs.lemmas.List.{append-nil, map-append, nil_from_length, length-append, take_at}
 use Rattle.std.proofs.lemmas.List.Elements.{filter-append}
 use Rattle.ux_model.specs.Types.{ProcSpec}
@@ -12,12 +12,12 @@ use Rattle.ux_syntax.specs.declared.fault.ScriptFault.{ScriptFault}
 use Rattle.ux_syntax.specs.declared.script.Line.{Line}
 use Rattle.ux_syntax.specs.declared.script.Script.{Script}
 use Rattle.ux_syntax.specs.declared.reading.Item.{Item}
-use Rattle.ux_syntax.specs.Spelling.{Turn, line_of, Plan, plan_of, proc_line, turn_line, is_meant, FitsProc, FitsTurn, IsOfProcess, is_exit, NoneAfterExit, IsOrderly, Spells, IsFirstFault}
+use Rattle.ux_syntax.specs.Spelling.{Turn, line_of, Plan, plan_of, proc_line, turn_line, is_meant, FitsProc, FitsTurn, IsOfProcess, IsCallOfStranger, IsFaultOf, is_exit, NoneAfterExit, IsOrderly, Spells, IsFirstFault}
 use Rattle.ux_syntax.specs.Turns.{has_exited, is_known}
-use Rattle.ux_syntax.specs.Reading.{line_fault, item_at, added, line_at, on_line, lines_at, no_lines}
+use Rattle.ux_syntax.specs.Reading.{◌>>=◌, line_fault, words_at, item_at, added, line_at, on_line, lines_at, no_lines}
 use Rattle.ux_syntax.specs.Results.{FailsAt, Refuses, GivesScript}
-use Rattle.ux_syntax.proofs.Rows.{bind_ok, ok_is}
-use Rattle.ux_syntax.proofs.Items.{Says, item_takes, skip_again, proc_again_line, turn_again_line}
+use Rattle.ux_syntax.proofs.Rows.{IsBadOrOk, bind_ok, ok_is}
+use Rattle.ux_syntax.proofs.Items.{words_bad, Says, item_takes, skip_again, proc_again_line, turn_again_line}
 
 -- ---- lists from their ends
 
@@ -29,9 +29,6 @@ each_less : {X : Type 0} (P : X → Type 0) (xs : List X) (x : X) → AllByRecur
 each_less P [] x h = (tt, h.0)
 each_less P (y ∷ ys) x h = let p = each_less P ys x h.1 in ((h.0, p.0), p.1)
 
-each_same : {X : Type 0} (P Q : X → Type 0) (xs : List X) → ((x : X) → P x → Q x) → AllByRecursion P xs → AllByRecursion Q xs
-each_same P Q [] f h = tt
-each_same P Q (x ∷ xs) f h = (f x h.0, each_same P Q xs f h.1)
 
 abbrev HasLast : {X : Type 0} → List X → Type 0
 HasLast {X} xs = (ys : List X) × (y : X) × (xs ≡ ys ++ y ∷ [])
@@ -322,24 +319,119 @@ script_only lines = by_lines_from IsRead (λ ls l h t k. let p = line_again ls l
 pub script_unique : (lines : List (List ℕ)) (a b : Plan) → Spells lines a → Spells lines b → a ≡ b
 script_unique lines a b p q = same_plan a b (sym (script_only lines a p) ∙ script_only lines b q)
 
+-- ---- why a line is at fault
+
+abbrev failed : {X : Type 0} → Fault → Result X Fault
+failed f = Err f
+
+abbrev said : Item → Result Item Fault
+said item = Ok item
+
+err_is : {X : Type 0} (f g : Fault) → failed {X = X} f ≡ failed g → f ≡ g
+err_is f g e = cc
+
+ok_no_fault : {X : Type 0} (x : X) (f : Fault) → Ok x ≡ failed f → ⊥
+ok_no_fault x f e = cc
+
+same_call : (a b : Line) → said (Item.Call a) ≡ said (Item.Call b) → a ≡ b
+same_call a b e = cc
+
+call_no_proc : (a : Line) (p : ProcSpec) → said (Item.Call a) ≡ said (Item.Proc p) → ⊥
+call_no_proc a p e = cc
+
+-- the line as a call of a stranger is read as that call
+stranger_reads : (s : Plan) (l : List ℕ) (w : IsCallOfStranger s l) → length l ≤ 4096 → is_meant l ≡ true → item_at l ≡ Ok (Item.Call (line_of w.0))
+stranger_reads s l w short m = turn_again_line w.0 l short m w.1 w.2
+
+no_stranger : (s : Plan) (l : List ℕ) (m : Bool) → is_meant l ≡ m → length l ≤ 4096 → item_at l ≡ Err BadLine → IsCallOfStranger s l → ⊥
+no_stranger s l true m short e w = ok_no_fault (Item.Call (line_of w.0)) BadLine (sym (stranger_reads s l w short m) ∙ e)
+no_stranger s l false m short e w = ok_no_fault Item.Skipped BadLine (sym (skip_again l short m) ∙ e)
+
+-- a line whose words aren't read
+abbrev IsUnread : List ℕ → Fault → Type 0
+IsUnread l TooLong = 4096 < length l
+IsUnread l BadLine = length l ≤ 4096
+IsUnread l UnknownProcess = ⊥
+
+unread_by : (l : List ℕ) (f : Fault) (t u : Bool) → ltb 4096 (length l) ≡ t → cond t (Err TooLong) (cond u (words_at (slice_split (λ b. eqb b 32) l)) (Ok Item.Skipped)) ≡ Err f → IsUnread l f
+unread_by l f true u m e = subst (IsUnread l) (err_is {X = Item} TooLong f e) (ltb-true 4096 (length l) m)
+unread_by l f false true m e =
+    let bad : f ≡ BadLine = subst IsBadOrOk e (words_bad (slice_split (λ b. eqb b 32) l)) in
+    subst (IsUnread l) (sym bad) (ltb-false 4096 (length l) m)
+unread_by l f false false m e = absurd (ok_no_fault Item.Skipped f e)
+
+unread : (l : List ℕ) (f : Fault) → item_at l ≡ Err f → IsUnread l f
+unfolding item_at
+unread l f e = unread_by l f (ltb 4096 (length l)) (is_meant l) refl e
+
+unread_why : (s : Plan) (l : List ℕ) (f : Fault) → IsUnread l f → item_at l ≡ Err f → IsFaultOf f s l
+unread_why s l TooLong p e = p
+unread_why s l BadLine p e = (p, λ w. no_stranger s l (is_meant l) refl p e w)
+unread_why s l UnknownProcess p e = absurd p
+
+proc_why : (s : Plan) (l : List ℕ) (p : ProcSpec) (f : Fault) (x : Plan) (b : Bool) → length l ≤ 4096 → is_meant l ≡ true → item_at l ≡ Ok (Item.Proc p) → cond b (Ok x) (Err BadLine) ≡ Err f → IsFaultOf f s l
+proc_why s l p f x true short m k e = absurd (ok_no_fault x f e)
+proc_why s l p f x false short m k e =
+    subst (λ g. IsFaultOf g s l) (err_is {X = Plan} BadLine f e) (short, λ w. call_no_proc (line_of w.0) p (sym (stranger_reads s l w short m) ∙ k))
+
+known_from : (count : ℕ) (line : Line) → (ltb 0 line.pid.0 && leb line.pid.0 count) ≡ true → IsOfProcess count line
+known_from count line e = let p = both_true (ltb 0 line.pid.0) (leb line.pid.0 count) e in (ltb-true 0 line.pid.0 p.0, leb-true line.pid.0 count p.1)
+
+known_to : (count : ℕ) (line : Line) → IsOfProcess count line → (ltb 0 line.pid.0 && leb line.pid.0 count) ≡ true
+known_to count line o = let a : ltb 0 line.pid.0 ≡ true = lt-ltb 0 line.pid.0 o.0 in let b : leb line.pid.0 count ≡ true = le-leb line.pid.0 count o.1 in rw (a, b) refl
+
+not_known : (b : Bool) → b ≡ false → b ≡ true → ⊥
+not_known b e f = cc
+
+call_why : (s : Plan) (l : List ℕ) (line : Line) (f : Fault) (x : Plan) (b exited : Bool) → is_known s.procs line.pid.0 ≡ b → length l ≤ 4096 → Says (Item.Call line) l → item_at l ≡ Ok (Item.Call line)
+    → cond b (cond exited (Err BadLine) (Ok x)) (Err UnknownProcess) ≡ Err f → IsFaultOf f s l
+call_why s l line f x true true known short says k e =
+    subst (λ g. IsFaultOf g s l) (err_is {X = Plan} BadLine f e) (short, λ w.
+      let same : line ≡ line_of w.0 = same_call line (line_of w.0) (sym k ∙ stranger_reads s l w short says.0) in
+      w.3 (subst (IsOfProcess (length s.procs)) same (known_from (length s.procs) line known)))
+call_why s l line f x true false known short says k e = absurd (ok_no_fault x f e)
+call_why s l line f x false exited known short says k e =
+    let w = says.1 in
+    subst (λ g. IsFaultOf g s l) (err_is {X = Plan} UnknownProcess f e) (short, (w.0, w.2, w.3, λ o. not_known (is_known s.procs line.pid.0) known (known_to (length s.procs) line (subst (IsOfProcess (length s.procs)) w.1 o))))
+
+added_why : (s : Plan) (l : List ℕ) (item : Item) (f : Fault) → length l ≤ 4096 → Says item l → item_at l ≡ Ok item → added s item ≡ Err f → IsFaultOf f s l
+added_why s l Item.Skipped f short says k e = absurd (ok_no_fault s f e)
+added_why s l (Item.Proc p) f short says k e = proc_why s l p f _ (eqb (length s.lines) 0) short says.0 k e
+added_why s l (Item.Call line) f short says k e = call_why s l line f _ (is_known s.procs line.pid.0) (has_exited s.lines line.pid.0) refl short says k e
+
+why_of : (s : Plan) (l : List ℕ) (f : Fault) (r : Result Item Fault) → item_at l ≡ r → (r >>= λ item. added s item) ≡ Err f → IsFaultOf f s l
+why_of s l f (Ok item) k e = let p = item_takes l item k in added_why s l item f p.0 p.1 k e
+why_of s l f (Err g) k e = subst (λ x. IsFaultOf x s l) (err_is {X = Plan} g f e) (unread_why s l g (unread l g k) k)
+
+fault_is : (s : Plan) (l : List ℕ) (f : Fault) → line_at s l ≡ Err f → IsFaultOf f s l
+unfolding line_at
+fault_is s l f e = why_of s l f (item_at l) refl e
+
 -- ---- the first line at fault
 
-first_fault : (front : List (List ℕ)) (s : Plan) (l : List ℕ) (ls : List (List ℕ)) (f : Fault) → Spells front s → line_at s l ≡ Err f → IsFirstFault (front ++ l ∷ ls) (suc (length front))
+at_end : (front : List (List ℕ)) (l : List ℕ) (ls : List (List ℕ)) → slice_index_or (front ++ l ∷ ls) (length front) [] ≡ l
+at_end [] l ls = refl
+at_end (x ∷ xs) l ls = at_end xs l ls
+
+first_fault : (front : List (List ℕ)) (s : Plan) (l : List ℕ) (ls : List (List ℕ)) (f : Fault) → Spells front s → line_at s l ≡ Err f → IsFirstFault (front ++ l ∷ ls) (suc (length front)) f
 first_fault front s l ls f h e =
     let before : take (length front) (front ++ l ∷ ls) ≡ front = take_at front (l ∷ ls) (length front) refl in
     let with : take (suc (length front)) (front ++ l ∷ ls) ≡ front ++ l ∷ [] = take_next front l ls in
     let back : suc (length front) - 1 ≡ length front = omega arith in
+    let this : slice_index_or (front ++ l ∷ ls) (length front) [] ≡ l = at_end front l ls in
     record {
       first = omega arith;
       last = omega (arith, length-append front (l ∷ ls));
-      before = (s, rw (back, before) h);
+      script = s;
+      before = rw (back, before) h;
       here = λ t k.
           let p = line_again front l t (subst (λ (xs : List (List ℕ)). Spells xs t) with k) in
           let same : p.0 ≡ s = script_unique front p.0 s p.1 h in
           not_both (line_at s l) f t e (subst (λ (y : Plan). line_at y l ≡ Ok t) same p.2);
+      why = rw (back, this) (fault_is s l f e);
     }
 
-named : (lines : List (List ℕ)) (n : ℕ) (f : Fault) → IsFirstFault lines n → Refuses lines (line_fault n f)
+named : (lines : List (List ℕ)) (n : ℕ) (f : Fault) → IsFirstFault lines n f → Refuses lines (line_fault n f)
 named lines n BadLine h = h
 named lines n UnknownProcess h = h
 named lines n TooLong h = h

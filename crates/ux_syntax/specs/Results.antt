@@ -39,11 +39,11 @@ abbrev pub GivesScript : Result Script ScriptFault → Result Plan ScriptFault �
 GivesScript (Ok s) read = read ≡ Ok (plan_of s)
 GivesScript (Err f) read = FailsAt f read
 
--- a fault names the first line at fault, unless memory ran out
+-- a fault names the first line at fault and says why, unless memory ran out
 abbrev pub Refuses : List (List ℕ) → ScriptFault → Type 0
-Refuses texts (ScriptFault.BadLine n) = IsFirstFault texts n
-Refuses texts (ScriptFault.UnknownProcess n) = IsFirstFault texts n
-Refuses texts (ScriptFault.TooLong n) = IsFirstFault texts n
+Refuses texts (ScriptFault.BadLine n) = IsFirstFault texts n Fault.BadLine
+Refuses texts (ScriptFault.UnknownProcess n) = IsFirstFault texts n Fault.UnknownProcess
+Refuses texts (ScriptFault.TooLong n) = IsFirstFault texts n Fault.TooLong
 Refuses texts ScriptFault.Reading = ⊥
 Refuses texts ScriptFault.Writing = ⊥
 Refuses texts ScriptFault.NoMemory = Unit {0}

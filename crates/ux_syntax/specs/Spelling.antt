@@ -1,9 +1,10 @@
 -- Which lines spell which script.
-use Rattle.std.specs.Prelude.{◌≡◌, ◌≢◌, ℕ, ◌<◌, ◌≤◌, ◌^◌, ◌-◌, take, Bool, true, false, List, [], ◌∷◌, ◌++◌, length, map, filter, codes, decimal, if◌then◌else◌, ◌==◌, not}
+use Rattle.std.specs.Prelude.{◌≡◌, ◌≢◌, ℕ, ◌<◌, ◌≤◌, ◌^◌, ◌-◌, take, Bool, true, false, List, [], ◌∷◌, ◌++◌, length, map, filter, codes, decimal, if◌then◌else◌, ◌==◌, not, slice_index_or}
 use Rattle.std.specs.List.{AllByRecursion, slice_split, join_with_byte}
 use Rattle.ux_model.specs.Types.{OpenFlags, MsgFlags, SockType, ProcSpec, Request}
 use Rattle.ux_model.specs.Flags.{has_bits}
 use Rattle.ux_model.specs.Pairing.{fd_of}
+use Rattle.ux_syntax.specs.declared.fault.Fault.{Fault}
 use Rattle.ux_syntax.specs.declared.script.Line.{Line}
 use Rattle.ux_syntax.specs.declared.script.Script.{Script}
 use Rattle.ux_syntax.specs.Trace.{dash, hex, word_text, request_word}
@@ -165,12 +166,26 @@ pub record Spells (texts : List (List ℕ)) (s : Plan) : Type 0 where
   pub fit_turns : AllByRecursion FitsTurn turns
   pub orderly : IsOrderly s
 
--- the line of this number, counted from 1, is the first at fault: those before it spell a script, and with it they spell none
-pub record IsFirstFault (texts : List (List ℕ)) (n : ℕ) : Type 0 where
+-- ---- why a line is at fault
+
+-- the line is a call, rightly written, of a process that isn't there
+abbrev pub IsCallOfStranger : Plan → List ℕ → Type 0
+IsCallOfStranger s text = (t : Turn) × (text ≡ turn_line t) × FitsTurn t × (IsOfProcess (length s.procs) (line_of t) → ⊥)
+
+-- Why a line that comes after those of the script is at fault, if it is: too long before bad, and bad before unknown.
+abbrev pub IsFaultOf : Fault → Plan → List ℕ → Type 0
+IsFaultOf Fault.TooLong s text = 4096 < length text
+IsFaultOf Fault.UnknownProcess s text = (length text ≤ 4096) × IsCallOfStranger s text
+IsFaultOf Fault.BadLine s text = (length text ≤ 4096) × (IsCallOfStranger s text → ⊥)
+
+-- The line of this number, counted from 1, is the first at fault, and so: those before it spell a script, and with it they spell none.
+pub record IsFirstFault (texts : List (List ℕ)) (n : ℕ) (fault : Fault) : Type 0 where
   pub first : 1 ≤ n
   pub last : n ≤ length texts
-  pub before : (s : Plan) × Spells (take (n - 1) texts) s
+  pub script : Plan
+  pub before : Spells (take (n - 1) texts) script
   pub here : (s : Plan) → Spells (take n texts) s → ⊥
+  pub why : IsFaultOf fault script (slice_index_or texts (n - 1) [])
 
 -- ---- laws
 

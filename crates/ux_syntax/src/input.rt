@@ -19,7 +19,7 @@ pub fn read_script<R: Read>(alloc: Global, reader: &mut R) -> Result<Script, Scr
     ensures orderly { IfOk result (λ script. IsOrderly (plan_of script)) }
     // None of the reader's bytes is left.
     ensures end { OnOk result (IsAtEnd (R.remaining reader.new)) }
-    // The read failed, or the fault is that of the first line at fault.
+    // The read failed, or the fault is that of the first line at fault, and says why.
     ensures fault { IfErr result (λ f. (f ≡ ScriptFault.Reading) ⊎ IfSome (R.remaining reader.old) (λ text. Refuses (lines_of text) f)) }
 {
     let mut text = Vec::new(alloc);

@@ -184,7 +184,7 @@ pub fn parse_script(alloc: Global, text: &[u8]) -> Result<Script, ScriptFault>
     ensures orderly { IfOk result (λ script. IsOrderly (plan_of script)) }
     // What is spelled so is read, unless memory runs out.
     ensures only { (s : Plan) → Spells (lines_of text.now) s → GivesScript result (Ok s) }
-    // A fault is that of the first line at fault.
+    // A fault is that of the first line at fault, and says why.
     ensures fault { IfErr result (λ f. Refuses (lines_of text.now) f) }
     // Which fault it is: the first line that can't be read from left to right tells.
     ensures exact { GivesScript result (script_at (lines_of text.now)) }
