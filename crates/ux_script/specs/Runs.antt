@@ -4,6 +4,7 @@ use Rattle.std.specs.Io.KnownBytes.{Keeps}
 use Rattle.ux_model.specs.Types.{Entry}
 use Rattle.ux_model.specs.Boot.{boot_state}
 use Rattle.ux_model.specs.History.{IsLegal}
+use Rattle.ux_syntax.specs.declared.fault.ScriptFault.{ScriptFault}
 use Rattle.ux_syntax.specs.declared.script.Line.{Line}
 use Rattle.ux_syntax.specs.Spelling.{Plan}
 use Rattle.ux_syntax.specs.Turns.{all_turns}
@@ -18,3 +19,7 @@ line_of_entry e = record { pid = e.pid; request = e.request }
 abbrev pub WritesBeginning : Plan → Option (List ℕ) → Option (List ℕ) → Type 0
 WritesBeginning s old new = Keeps old new
     ⊎ ((history : List Entry) × IsLegal (boot_state s.procs) history × (map line_of_entry history ≡ all_turns s) × AppendsBeginning old new (trace history))
+
+-- the faults of a run: reading is over
+abbrev pub IsRunFault : ScriptFault → Type 0
+IsRunFault f = (f ≡ ScriptFault.Writing) ⊎ (f ≡ ScriptFault.NoMemory) ⊎ (f ≡ ScriptFault.Stranger)

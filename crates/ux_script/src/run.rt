@@ -1,6 +1,6 @@
 //! Making the calls of a script.
 
-ghost use Rattle.std.specs.Prelude.{◌≡◌, ◌⊎◌, true, map, IfOk, OnOk, IfErr, OnErr};
+ghost use Rattle.std.specs.Prelude.{◌≡◌, false, map, IfOk, OnOk, IfErr, OnErr};
 ghost use Rattle.std.specs.Io.KnownBytes.{Appends};
 ghost use Rattle.ux_model.specs.State.{is_live};
 ghost use Rattle.ux_model.specs.History.{calls_of, IsLegal};
@@ -9,12 +9,12 @@ ghost use Rattle.ux_history.specs.Books as books;
 ghost use Rattle.ux_syntax.specs.Spelling.{plan_of, IsOrderly};
 ghost use Rattle.ux_syntax.specs.Turns.{all_turns};
 ghost use Rattle.ux_syntax.specs.Trace.{trace};
-ghost use Rattle.ux_script.specs.Runs.{line_of_entry, WritesBeginning};
+ghost use Rattle.ux_script.specs.Runs.{line_of_entry, IsRunFault, WritesBeginning};
 
 use crate::write::write_trace;
 use std::alloc::Global;
 use std::io::Write;
-use ux_history::{Book, CallFault, NoMemory};
+use ux_history::{Book, CallFault};
 use ux_kernel::Kernel;
 use ux_syntax::{Script, ScriptFault};
 use ux_types::{Entry, Pid, Request};
@@ -28,8 +28,7 @@ pub fn run_serial<W: Write>(
     writer: &mut W,
     kernel: Kernel,
 ) -> Result<Vec<Entry>, ScriptFault>
-    requires boot { kernel ≡ boot_state script.now.procs.items }
-    requires orderly { IsOrderly (plan_of script.now) }
+    requires { kernel ≡ boot_state script.now.procs.items }
     // The entries are a legal history from the kernel's state.
     ensures legal { IfOk result (λ entries. IsLegal kernel entries.items) }
     // It makes the script's calls in order, and then the missing exits.
@@ -38,10 +37,14 @@ pub fn run_serial<W: Write>(
     ensures trace { IfOk result (λ entries. Appends (W.contents writer.old) (W.contents writer.new) (trace entries.items)) }
     // After a fault a beginning of such a trace was written.
     ensures beginning { OnErr result (WritesBeginning (plan_of script.now) (W.contents writer.old) (W.contents writer.new)) }
-    ensures fault { IfErr result (λ f. (f ≡ ScriptFault.Writing) ⊎ (f ≡ ScriptFault.NoMemory)) }
+    ensures fault { IfErr result (λ f. IsRunFault f) }
+    // A script that a text spells has no stranger.
+    ensures stranger { IfErr result (λ f. f ≡ ScriptFault.Stranger → ¬ IsOrderly (plan_of script.now)) }
 {
-    let Ok(entries) = run_calls(alloc, script, kernel) else {
-        return Err(ScriptFault::NoMemory);
+    let entries = match run_calls(alloc, script, kernel) {
+        Ok(entries) => entries,
+        Err(CallFault::Stranger) => return Err(ScriptFault::Stranger),
+        Err(CallFault::NoMemory) => return Err(ScriptFault::NoMemory),
     };
     write_trace(alloc, writer, &entries)?;
     if writer.flush().is_err() {
@@ -51,16 +54,16 @@ pub fn run_serial<W: Write>(
 }
 
 /// Makes the script's calls in order, and then the missing exits.
-fn run_calls(alloc: Global, script: &Script, kernel: Kernel) -> Result<Vec<Entry>, NoMemory>
-    requires boot { kernel ≡ boot_state script.now.procs.items }
-    requires orderly { IsOrderly (plan_of script.now) }
+fn run_calls(alloc: Global, script: &Script, kernel: Kernel) -> Result<Vec<Entry>, CallFault>
+    requires { kernel ≡ boot_state script.now.procs.items }
     ensures legal { IfOk result (λ entries. IsLegal kernel entries.items) }
     ensures calls { IfOk result (λ entries. map line_of_entry entries.items ≡ all_turns (plan_of script.now)) }
+    ensures stranger { IfErr result (λ f. f ≡ CallFault.Stranger → ¬ IsOrderly (plan_of script.now)) }
 {
     let count = kernel.process_count();
     let mut book = match Book::new(alloc, kernel) {
         Ok(book) => book,
-        Err(_) => return Err(NoMemory),
+        Err(_) => return Err(CallFault::NoMemory),
     };
     for line in &script.lines {
         call(&mut book, line.pid, &line.request)?;
@@ -74,15 +77,15 @@ fn run_calls(alloc: Global, script: &Script, kernel: Kernel) -> Result<Vec<Entry
     Ok(book.into_entries())
 }
 
-/// Makes the next call of a live process.
-fn call(book: &mut Book, pid: Pid, request: &Request) -> Result<(), NoMemory>
-    requires { is_live (books.state_of book.old) pid.0 ≡ true }
-    ensures { OnOk result (books.Appends book.old book.new pid (calls_of pid.0 book.old.entries) request.now) }
+/// Makes the next call of a process, which is a stranger where it doesn't live.
+fn call(book: &mut Book, pid: Pid, request: &Request) -> Result<(), CallFault>
+    ensures entry { OnOk result (books.Appends book.old book.new pid (calls_of pid.0 book.old.entries) request.now) }
+    ensures stranger { IfErr result (λ f. f ≡ CallFault.Stranger → is_live (books.state_of book.old) pid.0 ≡ false) }
 {
-    let k = book.calls_of(pid);
-    match book.record(pid, k, request) {
-        Ok(_) => Ok(()),
-        Err(CallFault::NoMemory) => Err(NoMemory),
-        Err(CallFault::Stranger) => unreachable!(),
+    if !book.is_live(pid) {
+        return Err(CallFault::Stranger);
     }
+    let k = book.calls_of(pid);
+    book.record(pid, k, request)?;
+    Ok(())
 }

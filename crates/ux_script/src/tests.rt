@@ -6,8 +6,8 @@ use std::io;
 use std::io::Write;
 use std::test::Fail;
 use ux_kernel::Kernel;
-use ux_syntax::{ScriptFault, parse_script};
-use ux_types::Entry;
+use ux_syntax::{Line, Script, ScriptFault, parse_script};
+use ux_types::{Entry, Pid, Request};
 
 const SEND_AND_RECEIVE: (&str, &str) = (
     "proc 1000 1000 0 16\n1 pair stream -\n1 send 0 - 6869 - -\n1 recv 1 8 0 -\n",
@@ -188,5 +188,26 @@ fn what_is_not_flushed_was_not_written(rt: HostRuntime) -> Result<(), Fail> {
     writer.fails_to_flush = true;
     let told = run(alloc, SEND_AND_RECEIVE.0, &mut writer);
     assert!(rt; matches!(told, Err(ScriptFault::Writing)));
+    Ok(())
+}
+
+#[test]
+fn a_call_of_nobody_is_a_stranger(rt: HostRuntime) -> Result<(), Fail> {
+    let alloc = rt.alloc();
+    let mut script = Script {
+        procs: Vec::new(alloc),
+        lines: Vec::new(alloc),
+    };
+    script.lines.push(Line {
+        pid: Pid(1),
+        request: Request::Exit,
+    })?;
+    let Ok(kernel) = Kernel::boot(alloc, &script.procs) else {
+        return Err(Fail::from("no kernel"));
+    };
+    let mut written: Vec<u8> = Vec::new(alloc);
+    let told = run_serial(alloc, &script, &mut written, kernel);
+    assert!(rt; matches!(told, Err(ScriptFault::Stranger)));
+    assert!(rt; written.is_empty());
     Ok(())
 }

@@ -473,6 +473,7 @@ fails_named (ScriptFault.TooLong n) lines h = script_refused lines (ScriptFault.
 fails_named ScriptFault.Reading lines h = h
 fails_named ScriptFault.Writing lines h = h
 fails_named ScriptFault.NoMemory lines h = tt
+fails_named ScriptFault.Stranger lines h = elim h [ ]
 
 pub gives_fault : (r : Result Script ScriptFault) (lines : List (List ℕ)) → GivesScript r (lines_at 1 no_lines lines) → IfErr r (λ f. Refuses lines f)
 gives_fault (Ok s) lines h = tt

@@ -34,6 +34,7 @@ FailsAt (ScriptFault.TooLong n) read = read ≡ Err (ScriptFault.TooLong n)
 FailsAt ScriptFault.Reading read = ⊥
 FailsAt ScriptFault.Writing read = ⊥
 FailsAt ScriptFault.NoMemory read = Unit {0}
+FailsAt ScriptFault.Stranger read = ⊥
 
 abbrev pub GivesScript : Result Script ScriptFault → Result Plan ScriptFault → Type 0
 GivesScript (Ok s) read = read ≡ Ok (plan_of s)
@@ -47,6 +48,7 @@ Refuses texts (ScriptFault.TooLong n) = IsFirstFault texts n Fault.TooLong
 Refuses texts ScriptFault.Reading = ⊥
 Refuses texts ScriptFault.Writing = ⊥
 Refuses texts ScriptFault.NoMemory = Unit {0}
+Refuses texts ScriptFault.Stranger = ⊥
 
 -- one mark for each process, which says whether the process has made its exit
 pub record Marks (s : Plan) (exited : List Bool) : Type 0 where

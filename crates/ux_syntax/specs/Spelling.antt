@@ -4,6 +4,7 @@ use Rattle.std.specs.List.{AllByRecursion, slice_split, join_with_byte}
 use Rattle.ux_model.specs.Types.{OpenFlags, MsgFlags, SockType, ProcSpec, Request}
 use Rattle.ux_model.specs.Flags.{has_bits}
 use Rattle.ux_model.specs.Pairing.{fd_of}
+pub use Rattle.ux_model.specs.History.{is_exit}
 use Rattle.ux_syntax.specs.declared.fault.Fault.{Fault}
 use Rattle.ux_syntax.specs.declared.script.Line.{Line}
 use Rattle.ux_syntax.specs.declared.script.Script.{Script}
@@ -132,13 +133,6 @@ FitsProc p = IsNumber p.uid × IsNumber p.gid × IsNumber p.limit
 -- the line is of one of this many processes, which are numbered from 1
 abbrev pub IsOfProcess : ℕ → Line → Type 0
 IsOfProcess count line = (1 ≤ line.pid.0) × (line.pid.0 ≤ count)
-
-abbrev pub is_exit : Request → Bool
-is_exit (Request.SocketPair kind flags) = false
-is_exit (Request.SendMsg fd bytes flags) = false
-is_exit (Request.RecvMsg fd n space flags) = false
-is_exit (Request.Close fd) = false
-is_exit Request.Exit = true
 
 -- none of the lines is of the process
 abbrev pub IsQuiet : ℕ → List Line → Type 0

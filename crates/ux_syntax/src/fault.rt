@@ -48,6 +48,9 @@ pub enum ScriptFault {
     /// Memory ran out.
     #[error("out of memory")]
     NoMemory,
+    /// A line is of no process, or of one that has exited. No text spells such a script.
+    #[error("stranger")]
+    Stranger,
 }
 
 impl From<AllocError> for LineError {

@@ -1,9 +1,6 @@
 //! Runs a script of socket calls, and prints the trace.
 #![tactic(auto)]
 
-ghost use Rattle.std.specs.Prelude.{IfOk};
-ghost use Rattle.ux_syntax.specs.Spelling.{plan_of, IsOrderly};
-
 mod args;
 mod fault;
 
@@ -20,9 +17,7 @@ use ux_script::run_serial;
 use ux_syntax::{Script, ScriptFault, read_script};
 
 /// The script that was named.
-fn script_of<R: Files + Input + AllocGlobal>(rt: &R, name: &str) -> Result<Script, ScriptFault>
-    ensures { IfOk result (λ script. IsOrderly (plan_of script)) }
-{
+fn script_of<R: Files + Input + AllocGlobal>(rt: &R, name: &str) -> Result<Script, ScriptFault> {
     let alloc: Global = rt.alloc();
     if name == "-" {
         return read_script(alloc, &mut rt.reader());
