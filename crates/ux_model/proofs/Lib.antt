@@ -3,3 +3,9 @@ pub mod AnyOrder
 pub mod Refusals
 pub mod Replays
 pub mod Fronts
+pub mod Appending
+mod Play
+mod StreamExamples
+mod LimitExamples
+mod ChoiceExamples
+mod LegalExample
