@@ -207,6 +207,25 @@ fn a_queue_of_single_bytes_is_taken_at_once(rt: HostRuntime) -> Result<(), Alloc
 }
 
 #[test]
+fn a_full_queue_is_taken_byte_by_byte(rt: HostRuntime) -> Result<(), AllocError> {
+    let alloc = rt.alloc();
+    let Ok(mut kernel) = Kernel::boot(alloc, &[process(16)]) else {
+        return Err(AllocError);
+    };
+    let k = &mut kernel;
+    let many: Vec<u8> = vec![in alloc; 120; 65535]?;
+    assert!(rt; answers(k, pair(), fds(0, 1)));
+    assert!(rt; answers(k, send(alloc, 0, &many)?, Reply::Count(65535)));
+    assert!(rt; answers(k, send(alloc, 0, b"y")?, Reply::Count(1)));
+    for _ in 0..65535 {
+        assert!(rt; answers(k, recv(1, 1, 0), got(alloc, b"x")?));
+    }
+    assert!(rt; answers(k, recv(1, 1, 0), got(alloc, b"y")?));
+    assert!(rt; answers(k, recv(1, 1, 0), refused(Errno::EAGAIN)));
+    Ok(())
+}
+
+#[test]
 fn a_pair_takes_the_two_lowest_free_numbers(rt: HostRuntime) -> Result<(), AllocError> {
     let alloc = rt.alloc();
     let Ok(mut kernel) = Kernel::boot(alloc, &[process(3)]) else {
