@@ -9,29 +9,10 @@ use Rattle.ux_model.specs.State.{State, is_live}
 use Rattle.ux_model.specs.Step.{Step}
 use Rattle.ux_model.specs.History.{calls_of, replay, MayFollow, IsLegal}
 use Rattle.ux_model.proofs.Replays.{step_replay}
+use Rattle.ux_model.proofs.Appending.{legal_push}
 use Rattle.ux_model.proofs.Living.{step_keeps_processes}
 use Rattle.ux_kernel.proofs.Lookups.{live_inside, live_positive}
 use Rattle.ux_history.specs.Books.{IsBook}
-
--- what stands in a list with one more element: what stood there, or the new one
-get_push : {A : Type 0} (xs : List A) (x a : A) (i : ℕ) → slice_get (xs ++ x ∷ []) i ≡ Some a
-    → ((slice_get xs i ≡ Some a) × (take i (xs ++ x ∷ []) ≡ take i xs)) ⊎ ((a ≡ x) × (take i (xs ++ x ∷ []) ≡ xs))
-get_push [] x a zero h = inr (cc, refl)
-get_push [] x a (suc i) h = absurd cc
-get_push (y ∷ xs) x a zero h = inl (h, refl)
-get_push (y ∷ xs) x a (suc i) h =
-    ⊎_elim (λ p. inl (p.0, ap (λ l. y ∷ l) p.1)) (λ p. inr (p.0, ap (λ l. y ∷ l) p.1)) (get_push xs x a i h)
-
-pub legal_push : (boot : State) (es : List Entry) (e : Entry) → IsLegal boot es → MayFollow boot es e → IsLegal boot (es ++ e ∷ [])
-legal_push boot es e legal may =
-    record {
-      boots = legal.boots;
-      each = λ i a h.
-          ⊎_elim {C = MayFollow boot (take i (es ++ e ∷ [])) a}
-          (λ p. subst (λ (l : List Entry). MayFollow boot l a) (sym p.1) (legal.each i a p.0))
-          (λ p. subst (λ (l : List Entry). MayFollow boot l a) (sym p.1) (subst (λ (b : Entry). MayFollow boot es b) (sym p.0) may))
-          (get_push es e a i h);
-    }
 
 -- a step from the end of a history is an entry that may follow
 may_follow : (boot S T : State) (es : List Entry) (e : Entry) → S ≡ replay boot es → is_live S e.pid.0 ≡ true →

@@ -2,14 +2,14 @@
 use Rattle.std.proofs.Common.{◌≡◌, ℕ, zero, suc, ◌+◌, ◌-◌, ◌<◌, ◌≤◌, min, List, [], ◌∷◌, ◌++◌, length, get_or, take, drop, ◌⊎◌, inl, inr, refl, ap, sym, ◌∙◌, if◌then◌else◌, arith}
 use Rattle.std.proofs.Math.Seq.{take-append-add}
 use Rattle.std.proofs.lemmas.Bool.{cases_lt, le-leb, lt-leb}
-use Rattle.std.proofs.lemmas.List.{append-nil, append_assoc, take_all, take_min, take_more, length-take, length-take-le, length-drop, take-append-le}
+use Rattle.std.proofs.lemmas.List.{append-nil, append_assoc, take_all, take_min, take_more, length-take, length-take-le, length-drop, take-append-le, take-append-drop}
+use Rattle.std.proofs.lemmas.List.Concat.{flat_map-append}
 use Rattle.std.proofs.lemmas.List.Sums.{sum_by-cons}
 use Rattle.ux_model.specs.Message.{Message, queued_bytes, all_bytes}
 use Rattle.ux_model.specs.Stream.{without_first}
 
 all_bytes_push : (q : List Message) (m : Message) → all_bytes (q ++ m ∷ []) ≡ all_bytes q ++ m.bytes
-all_bytes_push [] m = append-nil m.bytes
-all_bytes_push (x ∷ xs) m = ap (λ b. x.bytes ++ b) (all_bytes_push xs m) ∙ sym (append_assoc x.bytes (all_bytes xs) m.bytes)
+all_bytes_push q m = flat_map-append (λ m. Message.bytes m) q (m ∷ []) ∙ ap (λ b. all_bytes q ++ b) (append-nil m.bytes)
 
 -- the first n elements of two lists, one after the other
 take_both : (n : ℕ) (xs ys : List ℕ) → take n xs ++ take (min (n - length (take n xs)) (length ys)) ys ≡ take n (xs ++ ys)
@@ -47,6 +47,16 @@ front_step q i n m first out new ys count a b inside e so_far same la lb c last 
     front_more q i n m first out inside e so_far in
     let long = ap length more ∙ length-take n (first ++ all_bytes (take (i + 1) q)) in
     (more, omega (arith, long))
+
+-- where no more bytes are wanted, the messages behind add nothing
+pub front_full : (q : List Message) (i n : ℕ) (first out : List ℕ) → out ≡ take n (first ++ all_bytes (take i q)) → n ≤ length out → out ≡ take n (first ++ all_bytes q)
+front_full q i n first out so_far full =
+    let found : List ℕ = first ++ all_bytes (take i q) in
+    let long : n ≤ length found = omega (arith, full, ap length so_far, length-take n found) in
+    so_far ∙
+    sym (take-append-le n found (all_bytes (drop i q)) long) ∙
+    ap (take n) (append_assoc first (all_bytes (take i q)) (all_bytes (drop i q)) ∙
+    ap (λ b. first ++ b) (sym (flat_map-append (λ m. Message.bytes m) (take i q) (drop i q)) ∙ ap all_bytes (take-append-drop i q)))
 
 -- ---- bytes taken from the first message
 

@@ -21,7 +21,8 @@ pub enum BootFault {
 const PROCESS_LIMIT: usize = 64;
 
 impl Kernel {
-    /// A kernel with these processes, numbered from 1 on, in which nothing was made yet.
+    /// A kernel with these processes, numbered from 1 on, in which nothing was made yet. More than 64
+    /// are refused, and so is a boot for which memory is wanting.
     #[tactic(auto, using(crate::proofs::Boots::boots))]
     pub fn boot(alloc: Global, procs: &[ProcSpec]) -> Result<Kernel, BootFault>
         ensures state { IfOk result (λ k. k ≡ boot_state procs.now) }

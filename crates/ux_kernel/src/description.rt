@@ -10,7 +10,7 @@ ghost use Rattle.ux_kernel.specs.Changes.{without_reset, changed};
 
 use crate::message::Message;
 use crate::queue::Queue;
-use crate::table::has_bits;
+use bitflags::Flags;
 use std::alloc::{AllocError, Global};
 use std::marker::Model;
 use ux_types::OpenFlags;
@@ -56,8 +56,8 @@ impl Description {
         ensures { result ≡ socket_description flags (new_end peer) }
     {
         Description {
-            append: has_bits(flags.0, 1),
-            nonblock: has_bits(flags.0, 2),
+            append: flags.contains(OpenFlags::APPEND),
+            nonblock: flags.contains(OpenFlags::NONBLOCK),
             socket: Socket {
                 peer,
                 queue: Queue::new(alloc),

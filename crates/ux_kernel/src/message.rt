@@ -9,14 +9,20 @@ use std::marker::Model;
 pub(crate) struct Message {
     tag: u64,
     bytes: Vec<u8>,
+    /// How many of the bytes were received, from the first on. They stay where they are, so that a
+    /// short receive from a long message is quick.
+    taken: usize,
 }
 
 impl Model for Message {
+    ghost use Rattle.std.specs.Prelude.{drop, length, ◌≤◌};
     ghost use Rattle.ux_model.specs.Message as model;
 
     ghost Value = { model.Message };
 
-    ghost view = { λ m. record { tag = m.tag; bytes = m.bytes.items } };
+    ghost view = { λ m. record { tag = m.tag; bytes = drop m.taken m.bytes.items } };
+
+    ghost invariant = { λ m. m.taken ≤ length m.bytes.items };
 }
 
 impl Message {
@@ -27,6 +33,7 @@ impl Message {
         Ok(Message {
             tag,
             bytes: Vec::from_slice(alloc, bytes)?,
+            taken: 0,
         })
     }
 
@@ -34,14 +41,14 @@ impl Message {
     pub(crate) fn bytes(&self) -> &[u8]
         ensures { result.now ≡ self.now.bytes }
     {
-        &self.bytes
+        &self.bytes[self.taken..]
     }
 
     /// How many bytes it has.
     pub(crate) fn len(&self) -> usize
         ensures { result ≡ length self.now.bytes }
     {
-        self.bytes.len()
+        self.bytes.len() - self.taken
     }
 
     /// Takes this many bytes from its front.
@@ -49,8 +56,6 @@ impl Message {
         requires { n ≤ length self.old.bytes }
         ensures { self.new ≡ record self.old { bytes = drop n self.old.bytes } }
     {
-        let rest = self.bytes.len() - n;
-        self.bytes.rotate_left(n);
-        self.bytes.truncate(rest);
+        self.taken += n;
     }
 }

@@ -91,13 +91,17 @@ impl Queue {
     }
 }
 
-/// Adds the bytes of these messages until there are this many.
+/// Adds the bytes of these messages until there are this many, and looks at no message behind them.
 fn add_front(bytes: &mut Vec<u8>, messages: &[Message], n: usize) -> Result<(), AllocError>
     requires { length bytes.old.items ≤ n }
     ensures { OnOk result (bytes.new.items ≡ take n (bytes.old.items ++ all_bytes messages.now)) }
 {
     for m in messages {
-        let count = (n - bytes.len()).min(m.len());
+        let wanted = n - bytes.len();
+        if wanted == 0 {
+            return Ok(());
+        }
+        let count = wanted.min(m.len());
         bytes.extend_from_slice(&m.bytes()[..count])?;
     }
     Ok(())

@@ -1,6 +1,6 @@
 //! Receiving (recvmsg(2)).
 ghost use Rattle.std.specs.Prelude.{◌≡◌, ◌==◌, IsTrue, Some, length};
-ghost use Rattle.ux_model.specs.Flags.{are_receive_flags, asks_peek, no_flags};
+ghost use Rattle.ux_model.specs.Flags.{are_receive_flags, no_flags};
 ghost use Rattle.ux_model.specs.State.{is_live, socket_at};
 ghost use Rattle.ux_model.specs.Outcome.{Gives};
 ghost use Rattle.ux_model.specs.Stream.{shortened};
@@ -8,6 +8,7 @@ ghost use Rattle.ux_model.specs.Receiving as model;
 ghost use Rattle.ux_kernel.specs.Changes.{without_reset, with_socket_by, receive_at, receive_nothing_at};
 
 use crate::kernel::Kernel;
+use bitflags::Flags;
 use std::alloc::{AllocError, Global};
 use ux_types::{Bytes, Errno, Fd, MsgFlags, Pid, Reply};
 
@@ -49,7 +50,7 @@ impl Kernel {
             return Ok(self.recv_nothing(d));
         }
         let bytes = socket.queue.front(alloc, n)?;
-        if !asks_peek(flags) {
+        if !flags.contains(MsgFlags::PEEK) {
             self.take_at(d, n);
         }
         Ok(received(bytes))
@@ -113,12 +114,9 @@ fn received(bytes: Vec<u8>) -> Reply
 fn are_receive_flags(flags: MsgFlags) -> bool
     ensures { result ≡ are_receive_flags flags }
 {
-    flags.0 | 15 == 15
-}
-
-/// Whether the bytes are to stay.
-fn asks_peek(flags: MsgFlags) -> bool
-    ensures { result ≡ asks_peek flags }
-{
-    flags.0 & 1 == 1
+    MsgFlags::PEEK
+        .union(MsgFlags::TRUNC)
+        .union(MsgFlags::DONTWAIT)
+        .union(MsgFlags::CMSG_CLOEXEC)
+        .contains(flags)
 }

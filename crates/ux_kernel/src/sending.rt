@@ -11,6 +11,7 @@ ghost use Rattle.ux_model.specs.Sending as model;
 
 use crate::kernel::Kernel;
 use crate::message::Message;
+use bitflags::Flags;
 use std::alloc::AllocError;
 use ux_types::{Errno, Fd, MsgFlags, Pid, Reply};
 
@@ -78,5 +79,5 @@ impl Kernel {
 fn are_send_flags(flags: MsgFlags) -> bool
     ensures { result ≡ are_send_flags flags }
 {
-    flags.0 | 36 == 36
+    MsgFlags::DONTWAIT.union(MsgFlags::EOR).contains(flags)
 }

@@ -17,7 +17,8 @@ pub struct Done {
 
 impl Kernel {
     /// Makes one call of a process that hasn't exited, and releases what nothing refers to any more.
-    /// `tag` is the number of the call.
+    /// `tag` is the number of the call, which a message that it sends keeps. A refusal is the reply.
+    /// One with ENOMEM leaves the kernel as it was; close(2) and _exit(2) never give it.
     #[tactic(auto, unfolding(ux_model::specs::Step::Step))]
     pub fn step(&mut self, pid: Pid, tag: u64, request: &Request) -> Done
         requires { IsTrue (is_live self.old pid.0) }

@@ -3,12 +3,12 @@ ghost use Rattle.std.specs.Prelude.{◌≡◌, ◌+◌, ◌<◌, ◌≤◌, ◌^
 ghost use Rattle.std.specs.List.{list_any};
 ghost use Rattle.ux_model.specs.Places.{place};
 ghost use Rattle.ux_model.specs.Limits.{table_limit};
-ghost use Rattle.ux_model.specs.Flags.{has_bits};
 ghost use Rattle.ux_model.specs.Process.{two_lowest_free};
 ghost use Rattle.ux_model.specs.Pairing.{descriptor, fd_of};
 ghost use Rattle.ux_model.specs.References.{names_description};
 ghost use Rattle.ux_kernel.specs.Free.{IsFirstFree};
 
+use bitflags::Flags;
 use std::alloc::{AllocError, Global};
 use std::marker::Model;
 use ux_types::{Fd, OpenFlags};
@@ -37,16 +37,9 @@ impl Descriptor {
     {
         Descriptor {
             description,
-            cloexec: has_bits(flags.0, 4),
+            cloexec: flags.contains(OpenFlags::CLOEXEC),
         }
     }
-}
-
-/// Whether a set of flags has these.
-pub(crate) fn has_bits(bits: u8, flags: u8) -> bool
-    ensures { result ≡ has_bits bits flags }
-{
-    bits & flags == flags
 }
 
 /// The descriptors of a process. Contracts see the list of its places.

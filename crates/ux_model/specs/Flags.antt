@@ -1,9 +1,10 @@
 -- Tests of the flags of a call. A flag has the bit that its table gives it.
-use Rattle.std.specs.Prelude.{ℕ, Bool, ◌==◌, bit_and, bit_or}
+use Rattle.std.specs.Prelude.{ℕ, Bool, ◌==◌, bit_and}
 use Rattle.ux_model.specs.Types.{OpenFlags, MsgFlags}
 
+-- whether a set has all of these flags
 abbrev pub has_bits : ℕ → ℕ → Bool
-has_bits bits flag = bit_and bits flag == flag
+has_bits set flags = bit_and set flags == flags
 
 -- O_APPEND, O_NONBLOCK, O_CLOEXEC
 abbrev pub asks_append : OpenFlags → Bool
@@ -21,10 +22,10 @@ asks_peek f = has_bits f.0 1
 
 -- a send takes DONTWAIT and EOR, a receive PEEK, TRUNC, DONTWAIT and CMSG_CLOEXEC
 abbrev pub are_send_flags : MsgFlags → Bool
-are_send_flags f = bit_or f.0 36 == 36
+are_send_flags f = has_bits 36 f.0
 
 abbrev pub are_receive_flags : MsgFlags → Bool
-are_receive_flags f = bit_or f.0 15 == 15
+are_receive_flags f = has_bits 15 f.0
 
 abbrev pub no_flags : MsgFlags
 no_flags = record { 0 = 0 }

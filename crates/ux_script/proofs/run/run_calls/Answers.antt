@@ -8,7 +8,7 @@ use Rattle.ux_model.specs.Boot.{boot_state, new_process}
 use Rattle.ux_model.specs.History.{IsLegal, replay}
 use Rattle.ux_kernel.proofs.Boots.{boots}
 use Rattle.ux_history.specs.Books.{Held}
-use Rattle.ux_history.proofs.Legal.{legal_push}
+use Rattle.ux_model.proofs.Appending.{legal_push}
 use Rattle.ux_syntax.specs.declared.script.Line.{Line}
 use Rattle.ux_script.specs.Runs.{line_of_entry}
 use Rattle.ux_script.proofs.Runs.{line_lives, exit_known, exit_made, exit_there, not_false, not_true}
