@@ -134,11 +134,8 @@ abbrev pub IsOfProcess : ℕ → Line → Type 0
 IsOfProcess count line = (1 ≤ line.pid.0) × (line.pid.0 ≤ count)
 
 abbrev pub is_exit : Request → Bool
-is_exit (Request.SocketPair kind flags) = false
-is_exit (Request.SendMsg fd bytes flags) = false
-is_exit (Request.RecvMsg fd n space flags) = false
-is_exit (Request.Close fd) = false
 is_exit Request.Exit = true
+is_exit request = false
 
 -- none of the lines is of the process
 abbrev pub IsQuiet : ℕ → List Line → Type 0
