@@ -52,12 +52,12 @@ made : {X : Type 0} {read : List (List ℕ) → Result X Fault} {words : X → L
     → (ws : List (List ℕ)) → IsReading word ws (read ws >>= λ x. Ok (meaning (make x)))
 made {X = X} {read = read} word make row spelled ws = made_of (read ws) refl
   where
-  made_of : (r : Result X Fault) → read ws ≡ r → IsReading word ws (r >>= λ x. Ok (meaning (make x)))
-  made_of (Ok x) e =
-      let p = row.takes ws x e in
-      let q = spelled x p.1 in
-      record { call = make x; means = refl; names = q.0; args = p.0 ∙ q.1; fits = q.2 }
-  made_of (Err f) e = subst IsBadOrOk e (row.bad ws)
+    made_of : (r : Result X Fault) → read ws ≡ r → IsReading word ws (r >>= λ x. Ok (meaning (make x)))
+    made_of (Ok x) e =
+        let p = row.takes ws x e in
+        let q = spelled x p.1 in
+        record { call = make x; means = refl; names = q.0; args = p.0 ∙ q.1; fits = q.2 }
+    made_of (Err f) e = subst IsBadOrOk e (row.bad ws)
 
 -- ---- three laws a word, and its letters in `word_facts`
 
@@ -92,9 +92,9 @@ args_takes word ws r e = subst (λ (x : Result Request Fault). IsReading word ws
 pub args_bad : (word : CallWord) (ws : List (List ℕ)) → IsBadOrOk (args_at word ws)
 args_bad word ws = bad_of (args_at word ws) (args_read word ws)
   where
-  bad_of : (x : Result Request Fault) → IsReading word ws x → IsBadOrOk x
-  bad_of (Ok r) h = tt
-  bad_of (Err f) h = h
+    bad_of : (x : Result Request Fault) → IsReading word ws x → IsBadOrOk x
+    bad_of (Ok r) h = tt
+    bad_of (Err f) h = h
 
 -- ---- the word of a call
 
