@@ -1,7 +1,7 @@
 -- A call's words that are read are the spelling of what was read, and each spelling is read again.
-use Rattle.std.proofs.Common.{◌≡◌, ℕ, Bool, true, false, cond, List, [], ◌∷◌, Result, Ok, Err, refl, sym, ◌∙◌, subst, codes, lit<}
+use Rattle.std.proofs.Common.{◌≡◌, ℕ, Bool, true, false, cond, ltb, List, [], ◌∷◌, Result, Ok, Err, refl, sym, ◌∙◌, subst, codes}
 use Rattle.std.specs.Prelude.{decimal, Option, Some, None}
-use Rattle.std.specs.List.{AllByRecursion, find}
+use Rattle.std.specs.List.{AllByRecursion, find, list_all}
 use Rattle.std.specs.Str.{bytes_eq}
 use Rattle.std.proofs.lemmas.Slice.Eq.{bytes_eq-Decides}
 use Rattle.ux_model.specs.Types.{ProcSpec, Request}
@@ -11,7 +11,7 @@ use Rattle.ux_syntax.specs.declared.calls.CallWord.{CallWord}
 use Rattle.ux_syntax.specs.Trace.{dash, word_text, request_word}
 use Rattle.ux_syntax.specs.Spelling.{Control, bare, Written, pair, send, recv, close, exit, meaning, control_text, args_of, bit, FitsControl, FitsCall, FitsProc}
 use Rattle.ux_syntax.specs.Reading.{◌>>=◌, exactly, dash_at, control_at, pair_at, send_at, recv_at, close_at, exit_at, proc_at, all_words, or_bad, word_at, args_at}
-use Rattle.ux_syntax.proofs.Rows.{IsSolid, IsBadOrOk, IsKind, IsRow, bind_ok, bind_bad, ok_is, ends_row, row_then, exactly_kind, number_kind}
+use Rattle.ux_syntax.proofs.Rows.{IsSolid, IsBadOrOk, IsKind, IsRow, bind_ok, bind_bad, ok_is, solid_from, ends_row, row_then, exactly_kind, number_kind}
 use Rattle.ux_syntax.proofs.Bytes.{dash_solid, hex_kind, bit_kind}
 use Rattle.ux_syntax.proofs.Flags.{open_flags_kind, msg_flags_kind}
 
@@ -19,7 +19,7 @@ dash_kind : IsKind dash_at (λ _. dash) (λ _. Unit {0})
 dash_kind = exactly_kind dash dash_solid
 
 stream_kind : IsKind (exactly (codes "stream")) (λ _. codes "stream") (λ _. Unit {0})
-stream_kind = exactly_kind (codes "stream") (lit< tt, (lit< tt, (lit< tt, (lit< tt, (lit< tt, (lit< tt, tt))))))
+stream_kind = exactly_kind (codes "stream") (solid_from (codes "stream") refl)
 
 control_takes : (w : List ℕ) (c : Control) → control_at w ≡ Ok c → (w ≡ control_text c) × FitsControl c
 control_takes w bare e = let a = bind_ok (dash_at w) (λ x. Ok bare) bare e in dash_kind.takes w a.0 a.1
@@ -52,14 +52,14 @@ made : {X : Type 0} {read : List (List ℕ) → Result X Fault} {words : X → L
     → (ws : List (List ℕ)) → IsReading word ws (read ws >>= λ x. Ok (meaning (make x)))
 made {X = X} {read = read} word make row spelled ws = made_of (read ws) refl
   where
-  made_of : (r : Result X Fault) → read ws ≡ r → IsReading word ws (r >>= λ x. Ok (meaning (make x)))
-  made_of (Ok x) e =
-      let p = row.takes ws x e in
-      let q = spelled x p.1 in
-      record { call = make x; means = refl; names = q.0; args = p.0 ∙ q.1; fits = q.2 }
-  made_of (Err f) e = subst IsBadOrOk e (row.bad ws)
+    made_of : (r : Result X Fault) → read ws ≡ r → IsReading word ws (r >>= λ x. Ok (meaning (make x)))
+    made_of (Ok x) e =
+        let p = row.takes ws x e in
+        let q = spelled x p.1 in
+        record { call = make x; means = refl; names = q.0; args = p.0 ∙ q.1; fits = q.2 }
+    made_of (Err f) e = subst IsBadOrOk e (row.bad ws)
 
--- ---- three laws a word
+-- ---- three laws a word, and its letters in `word_facts`
 
 args_read : (word : CallWord) (ws : List (List ℕ)) → IsReading word ws (args_at word ws)
 unfolding pair_at send_at recv_at close_at exit_at
@@ -92,9 +92,9 @@ args_takes word ws r e = subst (λ (x : Result Request Fault). IsReading word ws
 pub args_bad : (word : CallWord) (ws : List (List ℕ)) → IsBadOrOk (args_at word ws)
 args_bad word ws = bad_of (args_at word ws) (args_read word ws)
   where
-  bad_of : (x : Result Request Fault) → IsReading word ws x → IsBadOrOk x
-  bad_of (Ok r) h = tt
-  bad_of (Err f) h = h
+    bad_of : (x : Result Request Fault) → IsReading word ws x → IsBadOrOk x
+    bad_of (Ok r) h = tt
+    bad_of (Err f) h = h
 
 -- ---- the word of a call
 
@@ -118,20 +118,20 @@ pub word_bad : (w : List ℕ) → IsBadOrOk (word_at w)
 unfolding word_at
 word_bad w = or_bad_bad (find (λ c. bytes_eq (word_text c) w) all_words)
 
-pub word_again : (word : CallWord) → word_at (word_text word) ≡ Ok word
+-- each word is found by its text, which has no blank
+word_facts : (word : CallWord) → (word_at (word_text word) ≡ Ok word) × (list_all (λ b. ltb 32 b) (word_text word) ≡ true)
 unfolding word_at
-word_again CallWord.Pair = refl
-word_again CallWord.Send = refl
-word_again CallWord.Recv = refl
-word_again CallWord.Close = refl
-word_again CallWord.Exit = refl
+word_facts CallWord.Pair = (refl, refl)
+word_facts CallWord.Send = (refl, refl)
+word_facts CallWord.Recv = (refl, refl)
+word_facts CallWord.Close = (refl, refl)
+word_facts CallWord.Exit = (refl, refl)
+
+pub word_again : (word : CallWord) → word_at (word_text word) ≡ Ok word
+word_again word = (word_facts word).0
 
 pub word_solid : (word : CallWord) → IsSolid (word_text word)
-word_solid CallWord.Pair = (lit< tt, (lit< tt, (lit< tt, (lit< tt, tt))))
-word_solid CallWord.Send = (lit< tt, (lit< tt, (lit< tt, (lit< tt, tt))))
-word_solid CallWord.Recv = (lit< tt, (lit< tt, (lit< tt, (lit< tt, tt))))
-word_solid CallWord.Close = (lit< tt, (lit< tt, (lit< tt, (lit< tt, (lit< tt, tt)))))
-word_solid CallWord.Exit = (lit< tt, (lit< tt, (lit< tt, (lit< tt, tt))))
+word_solid word = solid_from (word_text word) (word_facts word).1
 
 -- ---- a process
 

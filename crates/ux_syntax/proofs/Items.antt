@@ -1,5 +1,5 @@
 -- A line that is read is the spelling of what was read, and each spelling is read again.
-use Rattle.std.proofs.Common.{◌≡◌, ℕ, ◌<◌, ◌≤◌, Bool, true, false, cond, ltb, eqb, List, [], ◌∷◌, length, All, Ok, Err, refl, ap, sym, ◌∙◌, subst, arith, Decides, codes, lit<}
+use Rattle.std.proofs.Common.{◌≡◌, ℕ, ◌<◌, ◌≤◌, Bool, true, false, cond, ltb, eqb, List, [], ◌∷◌, length, All, Ok, Err, refl, ap, sym, ◌∙◌, subst, arith, Decides, codes}
 use Rattle.std.specs.Prelude.{decimal}
 use Rattle.std.specs.List.{AllByRecursion, slice_split, join_with_byte}
 use Rattle.std.specs.Str.{bytes_eq}
@@ -14,7 +14,7 @@ use Rattle.ux_syntax.specs.declared.reading.Item.{Item}
 use Rattle.ux_syntax.specs.Trace.{word_text, request_word}
 use Rattle.ux_syntax.specs.Spelling.{Turn, meaning, line_of, args_of, proc_line, turn_line, is_meant, IsNumber, FitsTurn, FitsProc}
 use Rattle.ux_syntax.specs.Reading.{◌>>=◌, number_at, one, proc_at, word_at, args_at, turn_at, words_at, item_at}
-use Rattle.ux_syntax.proofs.Rows.{IsSolid, IsBadOrOk, one_bad, either_bad, bind_bad, bind_ok, done, ok_is, number_kind}
+use Rattle.ux_syntax.proofs.Rows.{IsSolid, solid_from, IsBadOrOk, one_bad, either_bad, bind_bad, bind_ok, done, ok_is, number_kind}
 use Rattle.ux_syntax.proofs.Numbers.{number_refused}
 use Rattle.ux_syntax.proofs.Args.{args_takes, args_bad, word_bad, proc_bad, args_again, args_solid, word_takes, word_again, word_solid, proc_args, proc_takes, proc_again, proc_solid}
 
@@ -140,7 +140,7 @@ unfolding item_at
 item_takes text item e = item_chosen text item (ltb 4096 (length text)) (is_meant text) refl (ltb-false 4096 (length text)) e
 
 split_proc : (p : ProcSpec) → FitsProc p → slice_split is_blank (proc_line p) ≡ proc_words p
-split_proc p f = split_join (codes "proc") (proc_args p) (lit< tt, (lit< tt, (lit< tt, (lit< tt, tt)))) (proc_solid p f)
+split_proc p f = split_join (codes "proc") (proc_args p) (solid_from (codes "proc") refl) (proc_solid p f)
 
 split_turn : (t : Turn) → FitsTurn t → slice_split is_blank (turn_line t) ≡ turn_words t
 split_turn t f = split_join (decimal t.pid) _ (number_kind.solid t.pid f.0) (word_solid (request_word (meaning t.call)), args_solid t.call f.1)

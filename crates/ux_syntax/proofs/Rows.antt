@@ -127,6 +127,13 @@ pub and_parts : (a b : Bool) → (a && b) ≡ true → (a ≡ true) × (b ≡ tr
 and_parts true b e = (refl, e)
 and_parts false b e = absurd cc
 
+-- the same by a test that computes
+pub solid_from : (w : List ℕ) → list_all (λ b. ltb 32 b) w ≡ true → IsSolid w
+solid_from [] h = tt
+solid_from (c ∷ cs) h =
+    let p = and_parts (ltb 32 c) (list_all (λ b. ltb 32 b) cs) h in
+    (ltb-true 32 c p.0, solid_from cs p.1)
+
 plain_test : (b : Bool) → (b ≡ true → ⊥) → not b ≡ true
 plain_test true h = absurd (h refl)
 plain_test false h = refl

@@ -29,7 +29,6 @@ each_less : {X : Type 0} (P : X → Type 0) (xs : List X) (x : X) → AllByRecur
 each_less P [] x h = (tt, h.0)
 each_less P (y ∷ ys) x h = let p = each_less P ys x h.1 in ((h.0, p.0), p.1)
 
-
 abbrev HasLast : {X : Type 0} → List X → Type 0
 HasLast {X} xs = (ys : List X) × (y : X) × (xs ≡ ys ++ y ∷ [])
 
@@ -386,9 +385,12 @@ not_known b e f = cc
 call_why : (s : Plan) (l : List ℕ) (line : Line) (f : Fault) (x : Plan) (b exited : Bool) → is_known s.procs line.pid.0 ≡ b → length l ≤ 4096 → Says (Item.Call line) l → item_at l ≡ Ok (Item.Call line)
     → cond b (cond exited (Err BadLine) (Ok x)) (Err UnknownProcess) ≡ Err f → IsFaultOf f s l
 call_why s l line f x true true known short says k e =
-    subst (λ g. IsFaultOf g s l) (err_is {X = Plan} BadLine f e) (short, λ w.
-      let same : line ≡ line_of w.0 = same_call line (line_of w.0) (sym k ∙ stranger_reads s l w short says.0) in
-      w.3 (subst (IsOfProcess (length s.procs)) same (known_from (length s.procs) line known)))
+    subst (λ g. IsFaultOf g s l) (err_is {X = Plan} BadLine f e) (
+      short,
+      λ w.
+          let same : line ≡ line_of w.0 = same_call line (line_of w.0) (sym k ∙ stranger_reads s l w short says.0) in
+          w.3 (subst (IsOfProcess (length s.procs)) same (known_from (length s.procs) line known)),
+    )
 call_why s l line f x true false known short says k e = absurd (ok_no_fault x f e)
 call_why s l line f x false exited known short says k e =
     let w = says.1 in
