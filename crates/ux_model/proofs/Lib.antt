@@ -3,3 +3,4 @@ pub mod AnyOrder
 pub mod Refusals
 pub mod Replays
 pub mod Fronts
+pub mod ObjectExamples
