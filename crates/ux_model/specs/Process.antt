@@ -45,3 +45,7 @@ copy_of e = record e { cloexec = false }
 abbrev pub kept_on_exec : Option Descriptor → Option Descriptor
 kept_on_exec None = None
 kept_on_exec (Some e) = if e.cloexec then None else Some e
+
+-- a descriptor whose own flag was set or cleared (fcntl(2), F_SETFD)
+abbrev pub with_cloexec : Bool → Descriptor → Descriptor
+with_cloexec on e = record e { cloexec = on }
