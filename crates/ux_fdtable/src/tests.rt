@@ -1,4 +1,4 @@
-//! Tables at their limits.
+//! Tables at their limits. Each step is a function of its own, so that a test's proof stays short.
 use super::*;
 use std::alloc::{AllocError, Global};
 use std::process::Abort;
@@ -18,33 +18,118 @@ fn make_table(alloc: Global, limit: u32) -> Result<Table, AllocError> {
     Table::new(alloc, limit)
 }
 
-/// Opens the numbers from one up to another, each as the lowest that is free.
+/// Opens the lowest number that is free, which is this one.
+fn open(rt: &impl Abort, table: &mut Table, number: u32, description: u128, cloexec: bool) {
+    let answer = table.install(descriptor(description, cloexec));
+    assert!(rt; answer == Ok(Fd(number)), "{number}");
+}
+
+/// Closes a number at which this was open.
+fn close(rt: &impl Abort, table: &mut Table, number: u32, description: u128, cloexec: bool) {
+    let removed = table.remove(Fd(number));
+    assert!(rt;
+        removed == Some(descriptor(description, cloexec)),
+        "{number}"
+    );
+}
+
+/// Closes a number that isn't open.
+fn close_nothing(rt: &impl Abort, table: &mut Table, number: u32) {
+    assert!(rt; table.remove(Fd(number)).is_none(), "{number}");
+}
+
+/// Sees what is open at a number.
+fn expect_open(rt: &impl Abort, table: &Table, number: u32, description: u128, cloexec: bool) {
+    let found = table.get(Fd(number));
+    assert!(rt; found == Some(descriptor(description, cloexec)), "{number}");
+}
+
+/// Sees that a number isn't open.
+fn expect_closed(rt: &impl Abort, table: &Table, number: u32) {
+    assert!(rt; table.get(Fd(number)).is_none(), "{number}");
+}
+
+/// Sees which number is the lowest that is free.
+fn expect_lowest(rt: &impl Abort, table: &Table, number: u32) {
+    assert!(rt; table.lowest_free() == Some(Fd(number)), "{number}");
+}
+
+/// Sees which two numbers are the lowest that are free.
+fn expect_two(rt: &impl Abort, table: &Table, first: u32, second: u32) {
+    assert!(rt;
+        table.two_lowest_free() == Some((Fd(first), Fd(second))),
+        "{first}, {second}"
+    );
+}
+
+/// Sees that no two numbers are free.
+fn expect_no_two(rt: &impl Abort, table: &Table) {
+    assert!(rt; table.two_lowest_free().is_none());
+}
+
+/// Sees that no number is free.
+fn expect_full(rt: &impl Abort, table: &mut Table) {
+    assert!(rt; table.lowest_free().is_none());
+    assert!(rt; table.install(descriptor(8, true)) == Err(InstallError::Full));
+}
+
+/// Sees how many numbers lead to a description.
+fn expect_count(rt: &impl Abort, table: &Table, description: u128, count: u32) {
+    let counted = table.count(DescriptionId::new(description));
+    assert!(rt; counted == count as usize, "{description}");
+}
+
+/// Sees a table's limit, and that nothing is open in it.
+fn expect_empty(rt: &impl Abort, table: &Table, limit: u32) {
+    assert_eq!(rt; table.limit(), limit);
+    expect_lowest(rt, table, 0);
+    expect_closed(rt, table, limit);
+}
+
+/// Puts a copy at a number that isn't open.
+fn copy_to(rt: &impl Abort, table: &mut Table, number: u32, description: u128) {
+    let answer = table.dup_at(Fd(number), descriptor(description, true));
+    assert!(rt; answer == Ok(None), "{number}");
+}
+
+/// Puts a copy over what was open at a number.
+fn copy_over(rt: &impl Abort, table: &mut Table, number: u32, description: u128, replaced: u128) {
+    let answer = table.dup_at(Fd(number), descriptor(description, true));
+    assert!(rt; answer == Ok(Some(descriptor(replaced, true))), "{number}");
+}
+
+/// Puts a copy at a number that isn't below the limit.
+fn copy_beyond(rt: &impl Abort, table: &mut Table, number: u32) {
+    let answer = table.dup_at(Fd(number), descriptor(1, true));
+    assert!(rt; answer == Err(DupError::BadNumber), "{number}");
+}
+
+/// Opens the numbers from one up to another.
 fn fill(rt: &impl Abort, table: &mut Table, from: u32, to: u32) {
     for number in from..to {
-        assert_eq!(rt; table.lowest_free(), Some(Fd(number)));
-        let opened = table.install(descriptor(7, false));
-        assert_eq!(rt; opened, Ok(Fd(number)));
+        expect_lowest(rt, table, number);
+        open(rt, table, number, 7, false);
     }
 }
 
-/// Fills a table, and sees that no more fits and that the lowest of what is closed is opened again.
+/// Fills a table, and sees that no more fits and that what is closed is opened again.
 fn fill_up(rt: &impl Abort, alloc: Global, limit: u32) -> Result<(), Fail> {
     let mut table = make_table(alloc, limit)?;
-    assert_eq!(rt; table.limit(), limit);
+    expect_empty(rt, &table, limit);
     fill(rt, &mut table, 0, limit);
-    assert_eq!(rt; table.lowest_free(), None);
-    assert_eq!(rt; table.two_lowest_free(), None);
-    assert_eq!(rt; table.install(descriptor(8, true)), Err(InstallError::Full));
-    assert_eq!(rt; table.count(DescriptionId::new(7)), limit as usize);
-    assert_eq!(rt; table.count(DescriptionId::new(8)), 0);
-    let last = Fd(limit.saturating_sub(1));
-    assert_eq!(rt; table.remove(last), Some(descriptor(7, false)));
-    assert_eq!(rt; table.lowest_free(), Some(last));
-    assert_eq!(rt; table.two_lowest_free(), None);
-    let _ = table.remove(Fd(0));
-    assert_eq!(rt; table.lowest_free(), Some(Fd(0)));
-    assert_eq!(rt; table.install(descriptor(8, true)), Ok(Fd(0)));
-    assert_eq!(rt; table.get(Fd(0)), Some(descriptor(8, true)));
+    expect_full(rt, &mut table);
+    expect_no_two(rt, &table);
+    expect_count(rt, &table, 7, limit);
+    expect_count(rt, &table, 8, 0);
+    let last = limit.saturating_sub(1);
+    close(rt, &mut table, last, 7, false);
+    expect_lowest(rt, &table, last);
+    expect_no_two(rt, &table);
+    open(rt, &mut table, last, 7, false);
+    close(rt, &mut table, 0, 7, false);
+    open(rt, &mut table, 0, 8, true);
+    expect_open(rt, &table, 0, 8, true);
+    expect_full(rt, &mut table);
     Ok(())
 }
 
@@ -61,9 +146,7 @@ fn a_limit_is_between_1_and_1024(rt: HostRuntime) -> Result<(), Fail> {
     ];
     for (asked, limit) in rows {
         let table = make_table(rt.alloc(), asked)?;
-        assert_eq!(rt; table.limit(), limit, "{asked}");
-        assert_eq!(rt; table.lowest_free(), Some(Fd(0)), "{asked}");
-        assert_eq!(rt; table.get(Fd(limit)), None, "{asked}");
+        expect_empty(&rt, &table, limit);
     }
     Ok(())
 }
@@ -79,59 +162,56 @@ fn the_lowest_free_number_is_taken(rt: HostRuntime) -> Result<(), Fail> {
 #[test]
 fn numbers_that_are_closed_are_found_again(rt: HostRuntime) -> Result<(), Fail> {
     let mut table = make_table(rt.alloc(), 1024)?;
-    assert_eq!(rt; table.two_lowest_free(), Some((Fd(0), Fd(1))));
+    expect_two(&rt, &table, 0, 1);
     fill(&rt, &mut table, 0, 1000);
     for number in [900, 64, 63, 999, 130] {
-        assert_eq!(rt; table.remove(Fd(number)), Some(descriptor(7, false)));
-        assert_eq!(rt; table.remove(Fd(number)), None);
+        close(&rt, &mut table, number, 7, false);
+        close_nothing(&rt, &mut table, number);
     }
-    assert_eq!(rt; table.two_lowest_free(), Some((Fd(63), Fd(64))));
-    assert_eq!(rt; table.remove(Fd(1001)), None);
-    assert_eq!(rt; table.remove(Fd(u32::MAX)), None);
+    expect_two(&rt, &table, 63, 64);
+    close_nothing(&rt, &mut table, 1001);
+    close_nothing(&rt, &mut table, u32::MAX);
     for number in [63, 64, 130, 900, 999, 1000] {
-        assert_eq!(rt; table.install(descriptor(7, false)), Ok(Fd(number)));
+        open(&rt, &mut table, number, 7, false);
     }
     table.clear();
-    assert_eq!(rt; table.limit(), 1024);
-    assert_eq!(rt; table.count(DescriptionId::new(7)), 0);
-    assert_eq!(rt; table.two_lowest_free(), Some((Fd(0), Fd(1))));
+    expect_count(&rt, &table, 7, 0);
+    expect_empty(&rt, &table, 1024);
     Ok(())
 }
 
 #[test]
 fn a_copy_starts_without_close_on_exec(rt: HostRuntime) -> Result<(), Fail> {
     let mut table = make_table(rt.alloc(), 4)?;
-    let first = descriptor(u128::MAX, true);
-    assert_eq!(rt; first.description.number(), u128::MAX);
-    assert_eq!(rt; first.duplicate(), descriptor(u128::MAX, false));
-    assert_eq!(rt; table.install(first), Ok(Fd(0)));
-    assert_eq!(rt; table.get(Fd(0)), Some(first));
-    assert_eq!(rt; table.dup_at(Fd(3), first), Ok(None));
-    assert_eq!(rt; table.get(Fd(3)), Some(descriptor(u128::MAX, false)));
-    assert_eq!(rt; table.dup_at(Fd(0), descriptor(2, true)), Ok(Some(first)));
-    assert_eq!(rt; table.get(Fd(0)), Some(descriptor(2, false)));
-    assert_eq!(rt; table.dup_at(Fd(4), first), Err(DupError::BadNumber));
-    assert_eq!(rt; table.dup_at(Fd(u32::MAX), first), Err(DupError::BadNumber));
-    assert_eq!(rt; table.two_lowest_free(), Some((Fd(1), Fd(2))));
+    assert_eq!(rt; DescriptionId::new(u128::MAX).number(), u128::MAX);
+    assert!(rt; descriptor(3, true).duplicate() == descriptor(3, false));
+    open(&rt, &mut table, 0, 3, true);
+    copy_to(&rt, &mut table, 3, 3);
+    expect_open(&rt, &table, 3, 3, false);
+    copy_over(&rt, &mut table, 0, 2, 3);
+    expect_open(&rt, &table, 0, 2, false);
+    copy_beyond(&rt, &mut table, 4);
+    copy_beyond(&rt, &mut table, u32::MAX);
+    expect_two(&rt, &table, 1, 2);
     Ok(())
 }
 
 #[test]
 fn marked_numbers_are_closed_on_exec(rt: HostRuntime) -> Result<(), Fail> {
     let mut table = make_table(rt.alloc(), 5)?;
-    for (number, cloexec) in [(0, true), (1, false), (2, true), (3, false)] {
-        assert_eq!(rt; table.install(descriptor(number, cloexec)).is_ok(), true);
-    }
+    open(&rt, &mut table, 0, 10, true);
+    open(&rt, &mut table, 1, 11, false);
+    open(&rt, &mut table, 2, 12, true);
+    open(&rt, &mut table, 3, 13, false);
     table.set_cloexec(Fd(0), false);
     table.set_cloexec(Fd(3), true);
     table.set_cloexec(Fd(4), true);
     table.close_on_exec();
-    assert_eq!(rt; table.get(Fd(0)), Some(descriptor(0, false)));
-    assert_eq!(rt; table.get(Fd(1)), Some(descriptor(1, false)));
-    assert_eq!(rt; table.get(Fd(2)), None);
-    assert_eq!(rt; table.get(Fd(3)), None);
-    assert_eq!(rt; table.get(Fd(4)), None);
-    assert_eq!(rt; table.two_lowest_free(), Some((Fd(2), Fd(3))));
+    expect_open(&rt, &table, 0, 10, false);
+    expect_open(&rt, &table, 1, 11, false);
+    expect_closed(&rt, &table, 3);
+    expect_closed(&rt, &table, 4);
+    expect_two(&rt, &table, 2, 3);
     Ok(())
 }
 
@@ -141,14 +221,14 @@ fn a_growth_is_refused_and_changes_nothing(rt: HostRuntime) {
         return;
     };
     if let Err(error) = table.install(descriptor(1, true)) {
-        assert_eq!(rt; error, InstallError::NoMemory);
-        assert_eq!(rt; table.get(Fd(0)), None);
-        assert_eq!(rt; table.lowest_free(), Some(Fd(0)));
+        assert!(rt; error == InstallError::NoMemory);
+        expect_closed(&rt, &table, 0);
+        expect_lowest(&rt, &table, 0);
     }
-    if let Err(error) = table.dup_at(Fd(1000), descriptor(1, true)) {
-        assert_eq!(rt; error, DupError::NoMemory);
-        assert_eq!(rt; table.get(Fd(1000)), None);
-        assert_eq!(rt; table.count(DescriptionId::new(1)), 1);
+    if let Err(error) = table.dup_at(Fd(1000), descriptor(2, true)) {
+        assert!(rt; error == DupError::NoMemory);
+        expect_closed(&rt, &table, 1000);
+        expect_count(&rt, &table, 2, 0);
     }
 }
 

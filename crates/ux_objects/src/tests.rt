@@ -7,7 +7,7 @@ use std::process::Abort;
 use std::test::Fail;
 use ux_object::{FileObject, ObjError, ObjKind};
 
-/// The greatest length of a memory file, as the manual of this layer gives it.
+/// The greatest length of a memory file.
 const FILE_LIMIT: usize = 1048576;
 
 /// The capacity of a pipe (pipe(7)).
