@@ -46,40 +46,65 @@ fn read_many<O: FileObject>(object: &mut O, buf: &mut [u8], calls: u32) -> u32 {
     answered
 }
 
-/// Writes and reads an object in turn, so that a pipe never blocks, and prints the time of each.
+/// Writes and reads in turn, and answers how often there was something.
+fn alternate<O: FileObject>(object: &mut O, bytes: &[u8], buf: &mut [u8], calls: u32) -> u32 {
+    let mut answered: u32 = 0;
+    for _ in 0..calls {
+        let _ = write_many(object, bytes, 1);
+        answered = answered.saturating_add(read_many(object, buf, 1));
+    }
+    answered
+}
+
+/// Prints the time of a write, of a read behind as many writes, and of a write and a read in turn.
 fn measure_object<R: Clock + Eprint>(
     rt: &R,
     name: &str,
     mut object: Boxed,
+    bytes: &[u8],
     buf: &mut [u8],
 ) -> Result<()> {
     let mut writing = Duration::ZERO;
     let mut reading = Duration::ZERO;
+    let mut alternating = Duration::ZERO;
     let mut answered: u32 = 0;
     for _ in 0..ROUNDS {
         let start = Instant::now(rt)?;
-        answered = answered.saturating_add(write_many(&mut object, buf, BATCH));
+        let _ = write_many(&mut object, bytes, BATCH);
         writing = writing.saturating_add(start.elapsed(rt)?);
         let start = Instant::now(rt)?;
-        answered = answered.saturating_add(read_many(&mut object, buf, BATCH));
+        let _ = read_many(&mut object, buf, BATCH);
         reading = reading.saturating_add(start.elapsed(rt)?);
+        let start = Instant::now(rt)?;
+        answered = answered.saturating_add(alternate(&mut object, bytes, buf, BATCH));
+        alternating = alternating.saturating_add(start.elapsed(rt)?);
     }
-    let length = buf.len();
+    let length = bytes.len();
     let write = nanos(writing);
     let read = nanos(reading);
-    eprintln!(rt; "{name}, {length} bytes: write {write} ns, read {read} ns, {answered} of 6400 answered")?;
+    let both = nanos(alternating);
+    eprintln!(rt;
+        "{name}, {length} bytes: write {write} ns, read {read} ns, both in turn {both} ns ({answered} answered)"
+    )?;
     Ok(())
 }
 
 /// Measures the three kinds with so many bytes a call.
 fn measure_kinds<R: Clock + Eprint>(rt: &R, alloc: Global, length: usize) -> Result<()> {
-    let mut buf = vec![in alloc; 1; length]?;
-    let file: Boxed = Box::new(alloc, MemFile::new(alloc, buf.as_slice())?)?;
-    measure_object(rt, "memory file", file, buf.as_mut_slice())?;
+    let bytes = vec![in alloc; 1; length]?;
+    let mut buf = vec![in alloc; 0; length]?;
+    let file: Boxed = Box::new(alloc, MemFile::new(alloc, bytes.as_slice())?)?;
+    measure_object(
+        rt,
+        "memory file",
+        file,
+        bytes.as_slice(),
+        buf.as_mut_slice(),
+    )?;
     let counter: Boxed = Box::new(alloc, Counter::new())?;
-    measure_object(rt, "counter", counter, buf.as_mut_slice())?;
+    measure_object(rt, "counter", counter, bytes.as_slice(), buf.as_mut_slice())?;
     let pipe: Boxed = Box::new(alloc, Pipe::new(alloc)?)?;
-    measure_object(rt, "pipe", pipe, buf.as_mut_slice())
+    measure_object(rt, "pipe", pipe, bytes.as_slice(), buf.as_mut_slice())
 }
 
 /// Opens the lowest free number so often.

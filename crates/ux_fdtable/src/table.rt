@@ -1,6 +1,7 @@
 //! The descriptor table of a process.
 ghost use Rattle.std.specs.Prelude.{◌≡◌, ◌+◌, ◌<◌, ◌≤◌, ◌↔◌, IfOk, OnOk, OnErr, length, map, Some, None, slice_set};
 ghost use Rattle.std.specs.Prelude.{option_map};
+ghost use Rattle.ux_model.specs.Limits.{table_limit};
 ghost use Rattle.ux_model.specs.Places.{place, filled, emptied};
 ghost use Rattle.ux_model.specs.Process.{lowest_free, two_lowest_free, empty_table, copy_of, kept_on_exec, with_cloexec};
 ghost use Rattle.ux_model.specs.References.{table_refs};
@@ -212,7 +213,7 @@ impl Table {
     /// The first number, from this one on, that isn't open.
     fn free_from(&self, from: usize) -> Option<usize>
         ensures found { FindsFree self.now from result }
-        ensures small { length self.now ≤ 1024 }
+        ensures small { length self.now ≤ table_limit }
     {
         let number = self.marks.first_clear(from)?;
         if number < self.limit {
@@ -248,7 +249,7 @@ impl Table {
 
 /// Makes the places of a table reach a number, with empty ones.
 fn reach(places: &mut Vec<Option<Descriptor>>, number: usize) -> Result<(), AllocError>
-    requires { number < 1024 }
+    requires { number < table_limit }
     ensures reached { OnOk result (number < length places.new.items) }
     ensures ok { OnOk result (places.new.items ≡ padded places.old.items (number + 1)) }
     ensures err { OnErr result (places.new.items ≡ places.old.items) }
