@@ -10,3 +10,4 @@ mod StreamExamples
 mod LimitExamples
 mod ChoiceExamples
 mod LegalExample
+pub mod ObjectExamples

@@ -2,6 +2,7 @@
 pub mod Types
 pub mod Places
 pub mod Limits
+pub mod Object
 pub mod Flags
 pub mod Message
 pub mod Socket

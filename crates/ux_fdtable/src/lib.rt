@@ -1,0 +1,13 @@
+//! The descriptor table of a process: for each number below its limit a descriptor, or none. The
+//! lowest number that isn't open is found in a few steps, however many are.
+#![tactic(auto)]
+
+mod descriptor;
+mod marks;
+mod table;
+
+pub use descriptor::{DescriptionId, Descriptor};
+pub use table::{DupError, InstallError, Table};
+
+#[cfg(test)]
+mod tests;

@@ -1,0 +1,261 @@
+//! The descriptor table of a process.
+ghost use Rattle.std.specs.Prelude.{◌≡◌, ◌+◌, ◌<◌, ◌≤◌, ◌↔◌, IfOk, OnOk, OnErr, length, map, Some, None, slice_set};
+ghost use Rattle.std.specs.Prelude.{option_map};
+ghost use Rattle.ux_model.specs.Limits.{table_limit};
+ghost use Rattle.ux_model.specs.Places.{place, filled, emptied};
+ghost use Rattle.ux_model.specs.Process.{lowest_free, two_lowest_free, empty_table, copy_of, kept_on_exec, with_cloexec};
+ghost use Rattle.ux_model.specs.References.{table_refs};
+ghost use Rattle.ux_fdtable.specs.Padded.{FindsFree, padded};
+
+use super::descriptor::{DescriptionId, Descriptor};
+use super::marks::Marks;
+use std::alloc::{AllocError, Global};
+use std::marker::Model;
+use thiserror::Error;
+use ux_types::Fd;
+
+/// The most descriptors that one process may have.
+const GREATEST_LIMIT: u32 = 1024;
+
+/// The bits of a word of marks.
+const BITS: usize = 64;
+
+/// Why a descriptor got no number.
+#[derive(Clone, Copy, Debug, PartialEq, Eq, Error)]
+pub enum InstallError {
+    /// Every number below the limit is open (EMFILE).
+    #[error("too many open descriptors")]
+    Full,
+    /// The table was to grow, and found no memory (ENOMEM).
+    #[error("out of memory")]
+    NoMemory,
+}
+
+/// Why a descriptor wasn't put at a given number.
+#[derive(Clone, Copy, Debug, PartialEq, Eq, Error)]
+pub enum DupError {
+    /// The number isn't below the limit (EBADF).
+    #[error("bad descriptor number")]
+    BadNumber,
+    /// The table was to grow, and found no memory (ENOMEM).
+    #[error("out of memory")]
+    NoMemory,
+}
+
+/// The descriptors of a process by number. Contracts see a list with a place for each number below the
+/// limit (RLIMIT_NOFILE of getrlimit(2)).
+#[derive(Drop)]
+pub struct Table {
+    /// The places up to the greatest number that was ever open.
+    places: Vec<Option<Descriptor>>,
+    limit: usize,
+    /// The numbers that are open.
+    marks: Marks,
+}
+
+impl Model for Table {
+    ghost use Rattle.std.specs.Prelude.{List, Option};
+    ghost use Rattle.ux_model.specs.Process as model;
+    ghost use Rattle.ux_fdtable.specs.Padded.{padded, IsTable};
+
+    ghost Value = { List (Option model.Descriptor) };
+
+    ghost view = { λ t. padded t.places.items t.limit };
+
+    ghost invariant = { λ t. IsTable t.places.items t.limit t.marks };
+}
+
+impl Table {
+    /// A table with nothing open. A limit below 1 counts as 1, above 1,024 as 1,024.
+    pub fn new(alloc: Global, limit: u32) -> Result<Table, AllocError>
+        ensures { IfOk result (λ t. t ≡ empty_table limit) }
+    {
+        let limit = limit.min(GREATEST_LIMIT).max(1) as usize;
+        Ok(Table {
+            places: Vec::new(alloc),
+            limit,
+            marks: Marks::new(alloc, limit.div_ceil(BITS))?,
+        })
+    }
+
+    /// How many numbers there are: those below this one.
+    pub fn limit(&self) -> u32
+        ensures { result ≡ length self.now }
+    {
+        self.limit as u32
+    }
+
+    /// The descriptor with this number, if it is open.
+    pub fn get(&self, fd: Fd) -> Option<Descriptor>
+        ensures { result ≡ place self.now fd.0 }
+    {
+        match self.places.get(fd.0 as usize) {
+            Some(slot) => *slot,
+            None => None,
+        }
+    }
+
+    /// The lowest number that isn't open (POSIX.1-2017, System Interfaces 2.14).
+    pub fn lowest_free(&self) -> Option<Fd>
+        ensures { option_map (λ fd. fd.0) result ≡ lowest_free self.now }
+    {
+        let number = self.free_from(0)?;
+        Some(Fd(number as u32))
+    }
+
+    /// The two lowest numbers that aren't open, the lower first, as socketpair(2) takes them.
+    pub fn two_lowest_free(&self) -> Option<(Fd, Fd)>
+        ensures { option_map (λ two. (two.0.0, two.1.0)) result ≡ two_lowest_free self.now }
+    {
+        let first = self.free_from(0)?;
+        let second = self.free_from(first + 1)?;
+        Some((Fd(first as u32), Fd(second as u32)))
+    }
+
+    /// Opens the lowest number that is free, and answers it.
+    ///
+    /// # Errors
+    ///
+    /// `Full` exactly where no number is free, else `NoMemory`. The table is then as before.
+    pub fn install(&mut self, descriptor: Descriptor) -> Result<Fd, InstallError>
+        ensures lowest { IfOk result (λ fd. lowest_free self.old ≡ Some fd.0) }
+        ensures opened { IfOk result (λ fd. self.new ≡ filled self.old fd.0 descriptor) }
+        ensures full { (result ≡ Err InstallError.Full) ↔ (lowest_free self.old ≡ None) }
+        ensures err { OnErr result (self.new ≡ self.old) }
+    {
+        let Some(number) = self.free_from(0) else {
+            return Err(InstallError::Full);
+        };
+        match self.put(number, descriptor) {
+            Ok(()) => Ok(Fd(number as u32)),
+            Err(_) => Err(InstallError::NoMemory),
+        }
+    }
+
+    /// Puts a copy of a descriptor, without close-on-exec, at a given number, and answers what was open
+    /// there (dup2(2)).
+    ///
+    /// # Errors
+    ///
+    /// `BadNumber` exactly where the number isn't below the limit, else `NoMemory`. The table is then as
+    /// before.
+    pub fn dup_at(&mut self, fd: Fd, descriptor: Descriptor) -> Result<Option<Descriptor>, DupError>
+        ensures replaced { IfOk result (λ replaced. replaced ≡ place self.old fd.0) }
+        ensures opened { OnOk result (self.new ≡ filled self.old fd.0 (copy_of descriptor)) }
+        ensures bad_number { (result ≡ Err DupError.BadNumber) ↔ (length self.old ≤ fd.0) }
+        ensures err { OnErr result (self.new ≡ self.old) }
+    {
+        if fd.0 >= self.limit() {
+            return Err(DupError::BadNumber);
+        }
+        let replaced = self.get(fd);
+        match self.put(fd.0 as usize, descriptor.duplicate()) {
+            Ok(()) => Ok(replaced),
+            Err(_) => Err(DupError::NoMemory),
+        }
+    }
+
+    /// Closes a number, and answers what was open there.
+    pub fn remove(&mut self, fd: Fd) -> Option<Descriptor>
+        ensures removed { result ≡ place self.old fd.0 }
+        ensures closed { self.new ≡ emptied self.old fd.0 }
+    {
+        let number = fd.0 as usize;
+        if number >= self.places.len() {
+            return None;
+        }
+        let removed = self.places[number];
+        self.places[number] = None;
+        self.marks.put(number, false);
+        removed
+    }
+
+    /// Closes every number whose descriptor has close-on-exec (execve(2)).
+    pub fn close_on_exec(&mut self)
+        ensures { self.new ≡ map kept_on_exec self.old }
+    {
+        for number in 0..self.limit() {
+            self.close_marked(Fd(number));
+        }
+    }
+
+    /// Closes every number (_exit(2)).
+    pub fn clear(&mut self)
+        ensures { self.new ≡ map (λ _. None) self.old }
+    {
+        self.places.clear();
+        self.marks.clear();
+    }
+
+    /// Sets or clears close-on-exec of a number (fcntl(2), F_SETFD). One that isn't open stays so.
+    pub fn set_cloexec(&mut self, fd: Fd, cloexec: bool)
+        ensures { self.new ≡ slice_set self.old fd.0 (option_map (with_cloexec cloexec) (place self.old fd.0)) }
+    {
+        let number = fd.0 as usize;
+        if let Some(descriptor) = self.get(fd) {
+            self.places[number] = Some(Descriptor {
+                description: descriptor.description,
+                cloexec,
+            });
+        }
+    }
+
+    /// How many numbers lead to this description.
+    pub fn count(&self, description: DescriptionId) -> usize
+        ensures { result ≡ table_refs description self.now }
+    {
+        self.places
+            .iter()
+            .filter(|slot| slot.is_some_and(|e| e.description == description))
+            .count()
+    }
+
+    /// The first number, from this one on, that isn't open.
+    fn free_from(&self, from: usize) -> Option<usize>
+        ensures found { FindsFree self.now from result }
+        ensures small { length self.now ≤ table_limit }
+    {
+        let number = self.marks.first_clear(from)?;
+        if number < self.limit {
+            Some(number)
+        } else {
+            None
+        }
+    }
+
+    /// Closes a number if its descriptor has close-on-exec.
+    fn close_marked(&mut self, fd: Fd)
+        ensures { self.new ≡ slice_set self.old fd.0 (kept_on_exec (place self.old fd.0)) }
+    {
+        if let Some(descriptor) = self.get(fd) {
+            if descriptor.cloexec {
+                let _ = self.remove(fd);
+            }
+        }
+    }
+
+    /// Puts a descriptor at a number.
+    fn put(&mut self, number: usize, descriptor: Descriptor) -> Result<(), AllocError>
+        requires { number < length self.old }
+        ensures ok { OnOk result (self.new ≡ filled self.old number descriptor) }
+        ensures err { OnErr result (self.new ≡ self.old) }
+    {
+        reach(&mut self.places, number)?;
+        self.places[number] = Some(descriptor);
+        self.marks.put(number, true);
+        Ok(())
+    }
+}
+
+/// Makes the places of a table reach a number, with empty ones.
+fn reach(places: &mut Vec<Option<Descriptor>>, number: usize) -> Result<(), AllocError>
+    requires { number < table_limit }
+    ensures reached { OnOk result (number < length places.new.items) }
+    ensures ok { OnOk result (places.new.items ≡ padded places.old.items (number + 1)) }
+    ensures err { OnErr result (places.new.items ≡ places.old.items) }
+{
+    if number < places.len() {
+        return Ok(());
+    }
+    places.resize(number + 1, None)
+}

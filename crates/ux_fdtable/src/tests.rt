@@ -1,0 +1,245 @@
+//! Tables at their limits. Each step is a function of its own, so that a test's proof stays short.
+use super::*;
+use std::alloc::{AllocError, Global};
+use std::process::Abort;
+use std::test::Fail;
+use ux_types::Fd;
+
+/// A descriptor of the description with this number.
+fn descriptor(number: u128, cloexec: bool) -> Descriptor {
+    Descriptor {
+        description: DescriptionId::new(number),
+        cloexec,
+    }
+}
+
+/// A table of which the proofs know nothing, so that they needn't follow it.
+fn make_table(alloc: Global, limit: u32) -> Result<Table, AllocError> {
+    Table::new(alloc, limit)
+}
+
+/// Opens the lowest number that is free, which is this one.
+fn open(rt: &impl Abort, table: &mut Table, number: u32, description: u128, cloexec: bool) {
+    let answer = table.install(descriptor(description, cloexec));
+    assert!(rt; answer == Ok(Fd(number)), "{number}");
+}
+
+/// Closes a number at which this was open.
+fn close(rt: &impl Abort, table: &mut Table, number: u32, description: u128, cloexec: bool) {
+    let removed = table.remove(Fd(number));
+    assert!(rt;
+        removed == Some(descriptor(description, cloexec)),
+        "{number}"
+    );
+}
+
+/// Closes a number that isn't open.
+fn close_nothing(rt: &impl Abort, table: &mut Table, number: u32) {
+    assert!(rt; table.remove(Fd(number)).is_none(), "{number}");
+}
+
+/// Sees what is open at a number.
+fn expect_open(rt: &impl Abort, table: &Table, number: u32, description: u128, cloexec: bool) {
+    let found = table.get(Fd(number));
+    assert!(rt; found == Some(descriptor(description, cloexec)), "{number}");
+}
+
+/// Sees that a number isn't open.
+fn expect_closed(rt: &impl Abort, table: &Table, number: u32) {
+    assert!(rt; table.get(Fd(number)).is_none(), "{number}");
+}
+
+/// Sees which number is the lowest that is free.
+fn expect_lowest(rt: &impl Abort, table: &Table, number: u32) {
+    assert!(rt; table.lowest_free() == Some(Fd(number)), "{number}");
+}
+
+/// Sees which two numbers are the lowest that are free.
+fn expect_two(rt: &impl Abort, table: &Table, first: u32, second: u32) {
+    assert!(rt;
+        table.two_lowest_free() == Some((Fd(first), Fd(second))),
+        "{first}, {second}"
+    );
+}
+
+/// Sees that no two numbers are free.
+fn expect_no_two(rt: &impl Abort, table: &Table) {
+    assert!(rt; table.two_lowest_free().is_none());
+}
+
+/// Sees that no number is free.
+fn expect_full(rt: &impl Abort, table: &mut Table) {
+    assert!(rt; table.lowest_free().is_none());
+    assert!(rt; table.install(descriptor(8, true)) == Err(InstallError::Full));
+}
+
+/// Sees how many numbers lead to a description.
+fn expect_count(rt: &impl Abort, table: &Table, description: u128, count: u32) {
+    let counted = table.count(DescriptionId::new(description));
+    assert!(rt; counted == count as usize, "{description}");
+}
+
+/// Sees a table's limit, and that nothing is open in it.
+fn expect_empty(rt: &impl Abort, table: &Table, limit: u32) {
+    assert_eq!(rt; table.limit(), limit);
+    expect_lowest(rt, table, 0);
+    expect_closed(rt, table, limit);
+}
+
+/// Puts a copy at a number that isn't open.
+fn copy_to(rt: &impl Abort, table: &mut Table, number: u32, description: u128) {
+    let answer = table.dup_at(Fd(number), descriptor(description, true));
+    assert!(rt; answer == Ok(None), "{number}");
+}
+
+/// Puts a copy over what was open at a number.
+fn copy_over(rt: &impl Abort, table: &mut Table, number: u32, description: u128, replaced: u128) {
+    let answer = table.dup_at(Fd(number), descriptor(description, true));
+    assert!(rt; answer == Ok(Some(descriptor(replaced, true))), "{number}");
+}
+
+/// Puts a copy at a number that isn't below the limit.
+fn copy_beyond(rt: &impl Abort, table: &mut Table, number: u32) {
+    let answer = table.dup_at(Fd(number), descriptor(1, true));
+    assert!(rt; answer == Err(DupError::BadNumber), "{number}");
+}
+
+/// Opens the numbers from one up to another.
+fn fill(rt: &impl Abort, table: &mut Table, from: u32, to: u32) {
+    for number in from..to {
+        expect_lowest(rt, table, number);
+        open(rt, table, number, 7, false);
+    }
+}
+
+/// Fills a table, and sees that no more fits and that what is closed is opened again.
+fn fill_up(rt: &impl Abort, alloc: Global, limit: u32) -> Result<(), Fail> {
+    let mut table = make_table(alloc, limit)?;
+    expect_empty(rt, &table, limit);
+    fill(rt, &mut table, 0, limit);
+    expect_full(rt, &mut table);
+    expect_no_two(rt, &table);
+    expect_count(rt, &table, 7, limit);
+    expect_count(rt, &table, 8, 0);
+    let last = limit.saturating_sub(1);
+    close(rt, &mut table, last, 7, false);
+    expect_lowest(rt, &table, last);
+    expect_no_two(rt, &table);
+    open(rt, &mut table, last, 7, false);
+    close(rt, &mut table, 0, 7, false);
+    open(rt, &mut table, 0, 8, true);
+    expect_open(rt, &table, 0, 8, true);
+    expect_full(rt, &mut table);
+    Ok(())
+}
+
+#[test]
+fn a_limit_is_between_1_and_1024(rt: HostRuntime) -> Result<(), Fail> {
+    let rows = [
+        (0, 1),
+        (1, 1),
+        (2, 2),
+        (1023, 1023),
+        (1024, 1024),
+        (1025, 1024),
+        (u32::MAX, 1024),
+    ];
+    for (asked, limit) in rows {
+        let table = make_table(rt.alloc(), asked)?;
+        expect_empty(&rt, &table, limit);
+    }
+    Ok(())
+}
+
+#[test]
+fn the_lowest_free_number_is_taken(rt: HostRuntime) -> Result<(), Fail> {
+    for limit in [1, 2, 63, 64, 65, 128, 1024] {
+        fill_up(&rt, rt.alloc(), limit)?;
+    }
+    Ok(())
+}
+
+#[test]
+fn numbers_that_are_closed_are_found_again(rt: HostRuntime) -> Result<(), Fail> {
+    let mut table = make_table(rt.alloc(), 1024)?;
+    expect_two(&rt, &table, 0, 1);
+    fill(&rt, &mut table, 0, 1000);
+    for number in [900, 64, 63, 999, 130] {
+        close(&rt, &mut table, number, 7, false);
+        close_nothing(&rt, &mut table, number);
+    }
+    expect_two(&rt, &table, 63, 64);
+    close_nothing(&rt, &mut table, 1001);
+    close_nothing(&rt, &mut table, u32::MAX);
+    for number in [63, 64, 130, 900, 999, 1000] {
+        open(&rt, &mut table, number, 7, false);
+    }
+    table.clear();
+    expect_count(&rt, &table, 7, 0);
+    expect_empty(&rt, &table, 1024);
+    Ok(())
+}
+
+#[test]
+fn a_copy_starts_without_close_on_exec(rt: HostRuntime) -> Result<(), Fail> {
+    let mut table = make_table(rt.alloc(), 4)?;
+    assert_eq!(rt; DescriptionId::new(u128::MAX).number(), u128::MAX);
+    assert!(rt; descriptor(3, true).duplicate() == descriptor(3, false));
+    open(&rt, &mut table, 0, 3, true);
+    copy_to(&rt, &mut table, 3, 3);
+    expect_open(&rt, &table, 3, 3, false);
+    copy_over(&rt, &mut table, 0, 2, 3);
+    expect_open(&rt, &table, 0, 2, false);
+    copy_beyond(&rt, &mut table, 4);
+    copy_beyond(&rt, &mut table, u32::MAX);
+    expect_two(&rt, &table, 1, 2);
+    Ok(())
+}
+
+#[test]
+fn marked_numbers_are_closed_on_exec(rt: HostRuntime) -> Result<(), Fail> {
+    let mut table = make_table(rt.alloc(), 5)?;
+    open(&rt, &mut table, 0, 10, true);
+    open(&rt, &mut table, 1, 11, false);
+    open(&rt, &mut table, 2, 12, true);
+    open(&rt, &mut table, 3, 13, false);
+    table.set_cloexec(Fd(0), false);
+    table.set_cloexec(Fd(3), true);
+    table.set_cloexec(Fd(4), true);
+    table.close_on_exec();
+    expect_open(&rt, &table, 0, 10, false);
+    expect_open(&rt, &table, 1, 11, false);
+    expect_closed(&rt, &table, 3);
+    expect_closed(&rt, &table, 4);
+    expect_two(&rt, &table, 2, 3);
+    Ok(())
+}
+
+#[test]
+fn a_growth_is_refused_and_changes_nothing(rt: HostRuntime) {
+    let Ok(mut table) = make_table(rt.alloc(), 1024) else {
+        return;
+    };
+    if let Err(error) = table.install(descriptor(1, true)) {
+        assert!(rt; error == InstallError::NoMemory);
+        expect_closed(&rt, &table, 0);
+        expect_lowest(&rt, &table, 0);
+    }
+    if let Err(error) = table.dup_at(Fd(1000), descriptor(2, true)) {
+        assert!(rt; error == DupError::NoMemory);
+        expect_closed(&rt, &table, 1000);
+        expect_count(&rt, &table, 2, 0);
+    }
+}
+
+#[test]
+fn errors_are_told_in_words(rt: HostRuntime) -> Result<(), Fail> {
+    let full = InstallError::Full;
+    let bad = DupError::BadNumber;
+    let text = format!(in rt.alloc(); "{full}, {bad}")?;
+    assert_eq!(rt;
+        text.as_str(),
+        "too many open descriptors, bad descriptor number"
+    );
+    Ok(())
+}

@@ -1,0 +1,40 @@
+//! The interface at a box: each call goes to the object inside. Nothing else names the box.
+ghost use Rattle.std.specs.Prelude.{◌≡◌};
+
+use super::{FileObject, ObjError, ObjKind};
+
+impl FileObject for Box<dyn FileObject + Send> {
+    ghost view = { λ b. (FileObject-box b).view b.value };
+
+    fn kind(&self) -> ObjKind {
+        (**self).kind()
+    }
+
+    fn read(&mut self, at: u64, buf: &mut [u8]) -> Result<usize, ObjError> {
+        (**self).read(at, buf)
+    }
+
+    fn write(&mut self, at: u64, bytes: &[u8]) -> Result<usize, ObjError> {
+        (**self).write(at, bytes)
+    }
+
+    fn size(&self) -> u64 {
+        (**self).size()
+    }
+
+    fn ready(&self) -> (bool, bool) {
+        (**self).ready()
+    }
+
+    fn faults(&self) -> u64 {
+        (**self).faults()
+    }
+
+    fn is_open(&self) -> bool {
+        (**self).is_open()
+    }
+
+    fn close(&mut self) {
+        (**self).close()
+    }
+}

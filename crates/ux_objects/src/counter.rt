@@ -1,0 +1,106 @@
+//! A counter, which a write adds to and a read takes whole.
+ghost use Rattle.std.specs.Prelude.{ℕ, ◌≡◌, ◌≢◌, ◌+◌, ◌≤◌, ◌↔◌, IfOk, IfErr, length, take};
+ghost use Rattle.ux_model.specs.Limits.{counter_limit};
+ghost use Rattle.ux_object.specs.Calls.{GivesRead, GivesWrite, RefusesRead, RefusesWrite};
+ghost use Rattle.ux_objects.specs.Faultless.{Faultless, opened_with, counter_view};
+
+use std::marker::Model;
+use ux_object::{FileObject, ObjError, ObjKind};
+
+/// The greatest value of a counter (eventfd(2)).
+const GREATEST: u64 = u64::MAX - 1;
+
+/// A number that a write adds to and a read takes away (eventfd(2)).
+#[derive(Drop)]
+pub struct Counter {
+    value: u64,
+    opened: bool,
+}
+
+impl Model for Counter {
+    ghost Value = { Faultless ℕ };
+
+    ghost view = { λ c. record { opened = c.opened; content = c.value } };
+
+    ghost invariant = { λ c. c.value ≤ counter_limit };
+}
+
+impl Counter {
+    /// An open counter at 0.
+    pub fn new() -> Counter
+        ensures { result ≡ opened_with 0 }
+    {
+        Counter {
+            value: 0,
+            opened: true,
+        }
+    }
+}
+
+impl FileObject for Counter {
+    ghost view = { counter_view };
+
+    fn kind(&self) -> ObjKind {
+        ObjKind::Counter
+    }
+
+    fn read(&mut self, _at: u64, buf: &mut [u8]) -> Result<usize, ObjError>
+        ensures fits { IfOk result (λ n. n ≤ length buf.old) }
+        ensures gives { IfOk result (λ n. GivesRead (counter_view self.old) _at (length buf.old) (take n buf.new) (counter_view self.new)) }
+        ensures refuses { IfErr result (λ e. RefusesRead (counter_view self.old) _at (length buf.old) e (counter_view self.new)) }
+        ensures counts { (result ≡ Err ObjError.Io) ↔ ((counter_view self.new).faults ≡ (counter_view self.old).faults + 1) }
+        ensures works { result ≢ Err ObjError.Io }
+    {
+        if buf.len() < 8 {
+            return Err(ObjError::Invalid);
+        }
+        if self.value == 0 {
+            return Err(ObjError::WouldBlock);
+        }
+        buf[..8].copy_from_slice(&self.value.to_le_bytes());
+        self.value = 0;
+        Ok(8)
+    }
+
+    fn write(&mut self, _at: u64, bytes: &[u8]) -> Result<usize, ObjError>
+        ensures gives { IfOk result (λ n. GivesWrite (counter_view self.old) _at bytes.now n (counter_view self.new)) }
+        ensures refuses { IfErr result (λ e. RefusesWrite (counter_view self.old) _at bytes.now e (counter_view self.new)) }
+        ensures counts { (result ≡ Err ObjError.Io) ↔ ((counter_view self.new).faults ≡ (counter_view self.old).faults + 1) }
+        ensures works { result ≢ Err ObjError.Io }
+    {
+        if bytes.len() < 8 {
+            return Err(ObjError::Invalid);
+        }
+        let mut first = [0; 8];
+        first.copy_from_slice(&bytes[..8]);
+        let addend = u64::from_le_bytes(first);
+        if addend > GREATEST {
+            return Err(ObjError::Invalid);
+        }
+        if addend > GREATEST - self.value {
+            return Err(ObjError::WouldBlock);
+        }
+        self.value += addend;
+        Ok(8)
+    }
+
+    fn size(&self) -> u64 {
+        0
+    }
+
+    fn ready(&self) -> (bool, bool) {
+        (self.value > 0, self.value < GREATEST)
+    }
+
+    fn faults(&self) -> u64 {
+        0
+    }
+
+    fn is_open(&self) -> bool {
+        self.opened
+    }
+
+    fn close(&mut self) {
+        self.opened = false;
+    }
+}

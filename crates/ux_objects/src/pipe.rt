@@ -1,0 +1,108 @@
+//! A pipe: a bounded queue of bytes.
+ghost use Rattle.std.specs.Prelude.{ℕ, List, [], ◌≡◌, ◌≢◌, ◌+◌, ◌≤◌, ◌↔◌, IfOk, IfErr, length, take};
+ghost use Rattle.ux_model.specs.Limits.{pipe_limit};
+ghost use Rattle.ux_object.specs.Calls.{GivesRead, GivesWrite, RefusesRead, RefusesWrite};
+ghost use Rattle.ux_objects.specs.Faultless.{Faultless, opened_with, pipe_view};
+
+use circular_buffer::HeapCircularBuffer;
+use std::alloc::Global;
+use std::marker::Model;
+use ux_object::{FileObject, ObjError, ObjKind};
+
+/// The bytes that a pipe has room for (pipe(7), "Pipe capacity").
+const LIMIT: usize = 65536;
+
+/// The most bytes that are written whole or not at all (PIPE_BUF of limits.h, pipe(7)).
+const WHOLE: usize = 4096;
+
+/// Bytes that wait to be read, the oldest first (pipe(7)).
+#[derive(Drop)]
+pub struct Pipe {
+    bytes: HeapCircularBuffer<u8>,
+    opened: bool,
+}
+
+impl Model for Pipe {
+    ghost Value = { Faultless (List ℕ) };
+
+    ghost view = { λ p. record { opened = p.opened; content = p.bytes.items } };
+
+    ghost invariant = { λ p. p.bytes.capacity ≡ pipe_limit };
+}
+
+impl Pipe {
+    /// An open pipe with no bytes. Room for all that it may hold is taken here, once.
+    ///
+    /// # Errors
+    ///
+    /// `NoMemory` alone.
+    pub fn new(alloc: Global) -> Result<Pipe, ObjError>
+        ensures made { IfOk result (λ p. p ≡ opened_with []) }
+        ensures refused { IfErr result (λ e. e ≡ ObjError.NoMemory) }
+    {
+        match HeapCircularBuffer::with_capacity(alloc, LIMIT) {
+            Ok(bytes) => Ok(Pipe {
+                bytes,
+                opened: true,
+            }),
+            Err(_) => Err(ObjError::NoMemory),
+        }
+    }
+}
+
+impl FileObject for Pipe {
+    ghost view = { pipe_view };
+
+    fn kind(&self) -> ObjKind {
+        ObjKind::Pipe
+    }
+
+    fn read(&mut self, _at: u64, buf: &mut [u8]) -> Result<usize, ObjError>
+        ensures fits { IfOk result (λ n. n ≤ length buf.old) }
+        ensures gives { IfOk result (λ n. GivesRead (pipe_view self.old) _at (length buf.old) (take n buf.new) (pipe_view self.new)) }
+        ensures refuses { IfErr result (λ e. RefusesRead (pipe_view self.old) _at (length buf.old) e (pipe_view self.new)) }
+        ensures counts { (result ≡ Err ObjError.Io) ↔ ((pipe_view self.new).faults ≡ (pipe_view self.old).faults + 1) }
+        ensures works { result ≢ Err ObjError.Io }
+    {
+        if buf.is_empty() {
+            return Ok(0);
+        }
+        if self.bytes.is_empty() {
+            return Err(ObjError::WouldBlock);
+        }
+        Ok(self.bytes.read_into(buf))
+    }
+
+    fn write(&mut self, _at: u64, bytes: &[u8]) -> Result<usize, ObjError>
+        ensures gives { IfOk result (λ n. GivesWrite (pipe_view self.old) _at bytes.now n (pipe_view self.new)) }
+        ensures refuses { IfErr result (λ e. RefusesWrite (pipe_view self.old) _at bytes.now e (pipe_view self.new)) }
+        ensures counts { (result ≡ Err ObjError.Io) ↔ ((pipe_view self.new).faults ≡ (pipe_view self.old).faults + 1) }
+        ensures works { result ≢ Err ObjError.Io }
+    {
+        let room = LIMIT - self.bytes.len();
+        if bytes.len() > room && (bytes.len() <= WHOLE || room == 0) {
+            return Err(ObjError::WouldBlock);
+        }
+        Ok(self.bytes.fill_from_slice(bytes))
+    }
+
+    fn size(&self) -> u64 {
+        0
+    }
+
+    fn ready(&self) -> (bool, bool) {
+        (!self.bytes.is_empty(), self.bytes.len() <= LIMIT - WHOLE)
+    }
+
+    fn faults(&self) -> u64 {
+        0
+    }
+
+    fn is_open(&self) -> bool {
+        self.opened
+    }
+
+    fn close(&mut self) {
+        self.opened = false;
+    }
+}

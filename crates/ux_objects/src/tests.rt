@@ -1,0 +1,315 @@
+//! The kinds at their limits, each through the interface.
+ghost use Rattle.std.specs.Prelude.{◌≡◌, IfOk, vec_len};
+
+use super::*;
+use std::alloc::{AllocError, Global};
+use std::process::Abort;
+use std::test::Fail;
+use ux_object::{FileObject, ObjError, ObjKind};
+
+/// The greatest length of a memory file.
+const FILE_LIMIT: usize = 1048576;
+
+/// The capacity of a pipe (pipe(7)).
+const PIPE_LIMIT: usize = 65536;
+
+/// So many bytes, all alike.
+fn alike(alloc: Global, byte: u8, length: usize) -> Result<Vec<u8>, AllocError>
+    ensures { IfOk result (λ bytes. vec_len bytes ≡ length) }
+{
+    vec![in alloc; byte; length]
+}
+
+/// Reads from an open object.
+fn read<O: FileObject>(
+    rt: &impl Abort,
+    object: &mut O,
+    at: u64,
+    buf: &mut [u8],
+) -> Result<usize, ObjError> {
+    assert!(rt; object.is_open());
+    object.read(at, buf)
+}
+
+/// Writes to an open object.
+fn write<O: FileObject>(
+    rt: &impl Abort,
+    object: &mut O,
+    at: u64,
+    bytes: &[u8],
+) -> Result<usize, ObjError> {
+    assert!(rt; object.is_open());
+    object.write(at, bytes)
+}
+
+/// Closes an object, and sees that it is closed and never failed.
+fn close<O: FileObject>(rt: &impl Abort, mut object: O) {
+    assert!(rt; object.is_open());
+    object.close();
+    assert!(rt; !object.is_open());
+    assert_eq!(rt; object.faults(), 0);
+}
+
+/// An error of a test's own, where memory is wanting.
+fn made<T>(answer: Result<T, ObjError>) -> Result<T, Fail> {
+    Ok(answer?)
+}
+
+#[test]
+fn a_file_is_read_and_written_at_a_place(rt: HostRuntime) -> Result<(), Fail> {
+    let mut file = made(MemFile::new(rt.alloc(), b"abcdef"))?;
+    let mut buf = [0; 4];
+    assert_eq!(rt; file.kind(), ObjKind::Memory);
+    assert_eq!(rt; file.ready(), (true, true));
+    assert_eq!(rt; file.size(), 6);
+    assert_eq!(rt; read(&rt, &mut file, 4, &mut buf), Ok(2));
+    assert_eq!(rt; buf, *b"ef\0\0");
+    assert_eq!(rt; read(&rt, &mut file, 6, &mut buf), Ok(0));
+    assert_eq!(rt; read(&rt, &mut file, u64::MAX, &mut buf), Ok(0));
+    assert_eq!(rt; write(&rt, &mut file, 1, b"xy"), Ok(2));
+    assert_eq!(rt; write(&rt, &mut file, 5, b"zw"), Ok(2));
+    assert_eq!(rt; write(&rt, &mut file, 9, b"v"), Ok(1));
+    assert_eq!(rt; write(&rt, &mut file, 20, &[]), Ok(0));
+    let mut whole = [7; 11];
+    assert_eq!(rt; read(&rt, &mut file, 0, &mut whole), Ok(10));
+    assert_eq!(rt; whole, *b"axydezw\0\0v\x07");
+    close(&rt, file);
+    Ok(())
+}
+
+#[test]
+fn a_file_ends_at_its_limit(rt: HostRuntime) -> Result<(), Fail> {
+    let mut file = made(MemFile::new(rt.alloc(), b"abcdef"))?;
+    let last = FILE_LIMIT as u64 - 1;
+    let mut buf = [0; 4];
+    assert_eq!(rt; write(&rt, &mut file, last, b"xy"), Ok(1));
+    assert_eq!(rt; file.size(), 1048576);
+    assert_eq!(rt; write(&rt, &mut file, last + 1, b"z"), Err(ObjError::Full));
+    assert_eq!(rt; write(&rt, &mut file, u64::MAX, b"z"), Err(ObjError::Full));
+    assert_eq!(rt; write(&rt, &mut file, last + 1, &[]), Ok(0));
+    assert_eq!(rt; file.size(), 1048576);
+    assert_eq!(rt; read(&rt, &mut file, last, &mut buf), Ok(1));
+    assert_eq!(rt; buf, *b"x\0\0\0");
+    assert_eq!(rt; read(&rt, &mut file, 4, &mut buf), Ok(4));
+    assert_eq!(rt; buf, *b"ef\0\0");
+    Ok(())
+}
+
+#[test]
+fn a_file_is_made_up_to_its_limit(rt: HostRuntime) -> Result<(), Fail> {
+    let alloc = rt.alloc();
+    let mut bytes = alike(alloc, 7, FILE_LIMIT)?;
+    let greatest = made(MemFile::new(alloc, bytes.as_slice()))?;
+    assert_eq!(rt; greatest.size(), 1048576);
+    bytes.push(7).map_err(AllocError::from)?;
+    match MemFile::new(alloc, bytes.as_slice()) {
+        Err(error) => assert_eq!(rt; error, ObjError::Full),
+        Ok(_) => panic!(rt; "too large a file was made"),
+    }
+    Ok(())
+}
+
+#[test]
+fn a_counter_is_read_whole_and_cleared(rt: HostRuntime) {
+    let mut counter = Counter::new();
+    let mut buf = [0; 9];
+    assert_eq!(rt; counter.kind(), ObjKind::Counter);
+    assert_eq!(rt; counter.size(), 0);
+    assert_eq!(rt; counter.ready(), (false, true));
+    assert_eq!(rt;
+        read(&rt, &mut counter, 0, &mut buf),
+        Err(ObjError::WouldBlock)
+    );
+    assert_eq!(rt;
+        write(&rt, &mut counter, 0, &[5, 0, 0, 0, 0, 0, 0, 0, 9]),
+        Ok(8)
+    );
+    assert_eq!(rt;
+        write(&rt, &mut counter, 0, &[255; 8]),
+        Err(ObjError::Invalid)
+    );
+    assert_eq!(rt;
+        write(
+            &rt,
+            &mut counter,
+            0,
+            &[254, 255, 255, 255, 255, 255, 255, 255]
+        ),
+        Err(ObjError::WouldBlock)
+    );
+    assert_eq!(rt;
+        write(&rt, &mut counter, 0, &[1; 7]),
+        Err(ObjError::Invalid)
+    );
+    assert_eq!(rt;
+        read(&rt, &mut counter, 0, &mut buf[..7]),
+        Err(ObjError::Invalid)
+    );
+    assert_eq!(rt; counter.ready(), (true, true));
+    assert_eq!(rt; read(&rt, &mut counter, 3, &mut buf), Ok(8));
+    assert_eq!(rt; buf, [5, 0, 0, 0, 0, 0, 0, 0, 0]);
+    assert_eq!(rt; counter.ready(), (false, true));
+    assert_eq!(rt;
+        read(&rt, &mut counter, 0, &mut buf),
+        Err(ObjError::WouldBlock)
+    );
+    close(&rt, counter);
+}
+
+#[test]
+fn a_counter_reaches_its_greatest_value(rt: HostRuntime) {
+    let blocks = Err(ObjError::WouldBlock);
+    let rows = [
+        (0, u64::MAX - 1, Ok(8), (true, false)),
+        (1, u64::MAX - 2, Ok(8), (true, false)),
+        (1, u64::MAX - 3, Ok(8), (true, true)),
+        (1, u64::MAX - 1, blocks, (true, true)),
+        (u64::MAX - 1, 1, blocks, (true, false)),
+        (u64::MAX - 1, 0, Ok(8), (true, false)),
+        (u64::MAX - 2, 1, Ok(8), (true, false)),
+        (u64::MAX - 2, 2, blocks, (true, true)),
+        (0, u64::MAX, Err(ObjError::Invalid), (false, true)),
+    ];
+    for (first, addend, answer, ready) in rows {
+        let mut counter = Counter::new();
+        assert_eq!(rt; write(&rt, &mut counter, 0, &first.to_le_bytes()), Ok(8));
+        assert_eq!(rt;
+            write(&rt, &mut counter, 0, &addend.to_le_bytes()),
+            answer,
+            "{first} and {addend}"
+        );
+        assert_eq!(rt; counter.ready(), ready, "{first} and {addend}");
+    }
+}
+
+#[test]
+fn a_pipe_is_read_in_order(rt: HostRuntime) -> Result<(), Fail> {
+    let mut pipe = made(Pipe::new(rt.alloc()))?;
+    let mut buf = [0; 8];
+    assert_eq!(rt; pipe.kind(), ObjKind::Pipe);
+    assert_eq!(rt; pipe.size(), 0);
+    assert_eq!(rt; pipe.ready(), (false, true));
+    assert_eq!(rt;
+        read(&rt, &mut pipe, 0, &mut buf),
+        Err(ObjError::WouldBlock)
+    );
+    assert_eq!(rt; read(&rt, &mut pipe, 0, &mut []), Ok(0));
+    assert_eq!(rt; write(&rt, &mut pipe, 0, &[]), Ok(0));
+    assert_eq!(rt; write(&rt, &mut pipe, 9, b"abc"), Ok(3));
+    assert_eq!(rt; write(&rt, &mut pipe, 0, b"de"), Ok(2));
+    assert_eq!(rt; pipe.size(), 0);
+    assert_eq!(rt; pipe.ready(), (true, true));
+    assert_eq!(rt; read(&rt, &mut pipe, 7, &mut buf[..4]), Ok(4));
+    assert_eq!(rt; buf, *b"abcd\0\0\0\0");
+    assert_eq!(rt; read(&rt, &mut pipe, 0, &mut buf), Ok(1));
+    assert_eq!(rt; buf, *b"ebcd\0\0\0\0");
+    assert_eq!(rt;
+        read(&rt, &mut pipe, 0, &mut buf),
+        Err(ObjError::WouldBlock)
+    );
+    close(&rt, pipe);
+    Ok(())
+}
+
+/// Writes to a pipe in which so many bytes wait, and sees what it answers and whether it is ready then.
+fn write_behind(
+    rt: &impl Abort,
+    alloc: Global,
+    waiting: usize,
+    length: usize,
+    answer: Result<usize, ObjError>,
+    has_room: bool,
+) -> Result<(), Fail> {
+    let mut pipe = made(Pipe::new(alloc))?;
+    let first = alike(alloc, 7, waiting)?;
+    let second = alike(alloc, 8, length)?;
+    assert_eq!(rt; write(rt, &mut pipe, 0, first.as_slice()), Ok(waiting));
+    assert_eq!(rt;
+        write(rt, &mut pipe, 0, second.as_slice()),
+        answer,
+        "{length} behind {waiting}"
+    );
+    assert_eq!(rt; pipe.ready(), (true, has_room), "{length} behind {waiting}");
+    Ok(())
+}
+
+#[test]
+fn a_small_write_goes_whole_or_not_at_all(rt: HostRuntime) -> Result<(), Fail> {
+    let alloc = rt.alloc();
+    let blocks = Err(ObjError::WouldBlock);
+    // how much waits, how much is written, the answer, and whether room for a small write is left
+    let rows = [
+        (0, 65536, Ok(65536), false),
+        (0, 65537, Ok(65536), false),
+        (57344, 4096, Ok(4096), true),
+        (61440, 4096, Ok(4096), false),
+        (61441, 4096, blocks, false),
+        (61441, 4097, Ok(4095), false),
+        (61440, 0, Ok(0), true),
+        (65535, 1, Ok(1), false),
+        (65535, 2, blocks, false),
+        (65535, 4097, Ok(1), false),
+        (65536, 1, blocks, false),
+        (65536, 4097, blocks, false),
+        (65536, 0, Ok(0), false),
+    ];
+    for (waiting, length, answer, has_room) in rows {
+        write_behind(&rt, alloc, waiting, length, answer, has_room)?;
+    }
+    Ok(())
+}
+
+/// Passes bytes and a last one through a pipe.
+fn pass_through(rt: &impl Abort, alloc: Global, pipe: &mut Pipe, byte: u8) -> Result<(), Fail> {
+    let bytes = alike(alloc, byte, 50000)?;
+    let mut passed = alike(alloc, 0, 50000)?;
+    let mut last = [0; 8];
+    assert_eq!(rt; write(rt, pipe, 0, bytes.as_slice()), Ok(50000));
+    assert_eq!(rt; write(rt, pipe, 0, b"z"), Ok(1));
+    assert_eq!(rt; read(rt, pipe, 0, passed.as_mut_slice()), Ok(50000));
+    assert!(rt; passed.as_slice() == bytes.as_slice());
+    assert_eq!(rt; read(rt, pipe, 0, &mut last), Ok(1));
+    assert_eq!(rt; last, *b"z\0\0\0\0\0\0\0");
+    Ok(())
+}
+
+#[test]
+fn a_pipe_keeps_its_order_round_its_end(rt: HostRuntime) -> Result<(), Fail> {
+    let alloc = rt.alloc();
+    let mut pipe = made(Pipe::new(alloc))?;
+    for round in 1..6 {
+        pass_through(&rt, alloc, &mut pipe, round)?;
+    }
+    Ok(())
+}
+
+/// Whether a file that wanted memory is as it was before.
+fn grow(rt: &impl Abort, alloc: Global, at: u64) {
+    if let Ok(mut file) = MemFile::new(alloc, b"abcdef") {
+        let mut buf = [0; 8];
+        match write(rt, &mut file, at, b"xyz") {
+            Ok(count) => assert_eq!(rt; count, 3),
+            Err(error) => {
+                assert_eq!(rt; error, ObjError::NoMemory);
+                assert_eq!(rt; file.size(), 6);
+                assert_eq!(rt; read(rt, &mut file, 0, &mut buf), Ok(6));
+                assert_eq!(rt; buf, *b"abcdef\0\0");
+            }
+        }
+        assert_eq!(rt; file.faults(), 0);
+    }
+}
+
+#[test]
+fn a_growth_is_refused_and_changes_nothing(rt: HostRuntime) {
+    let alloc = rt.alloc();
+    grow(&rt, alloc, 5);
+    grow(&rt, alloc, 6);
+    grow(&rt, alloc, 100000);
+    if let Err(error) = Pipe::new(alloc) {
+        assert_eq!(rt; error, ObjError::NoMemory);
+    }
+    if let Err(error) = MemFile::new(alloc, b"a") {
+        assert_eq!(rt; error, ObjError::NoMemory);
+    }
+}
