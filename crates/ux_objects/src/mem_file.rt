@@ -1,5 +1,5 @@
 //! A file in memory.
-ghost use Rattle.std.specs.Prelude.{ℕ, List, ◌≡◌, ◌≢◌, ◌+◌, ◌-◌, ◌<◌, ◌≤◌, ◌↔◌, ◌++◌, ◌⊎◌, IfOk, IfErr, OnOk, OnErr, length, take, drop, replicate, vec_len};
+ghost use Rattle.std.specs.Prelude.{ℕ, List, ◌≡◌, ◌≢◌, ◌+◌, ◌-◌, ◌<◌, ◌≤◌, ◌↔◌, ◌++◌, ◌⊎◌, IfOk, IfErr, OnOk, OnErr, length, take, drop, replicate, min};
 ghost use Rattle.ux_model.specs.Limits.{file_limit};
 ghost use Rattle.ux_model.specs.Object.{overwritten};
 ghost use Rattle.ux_object.specs.Calls.{GivesRead, GivesWrite, RefusesRead, RefusesWrite};
@@ -81,7 +81,8 @@ impl FileObject for MemFile {
         ensures counts { (result ≡ Err ObjError.Io) ↔ ((memory_view self.new).faults ≡ (memory_view self.old).faults + 1) }
         ensures works { result ≢ Err ObjError.Io }
         // Only a file that is to grow takes memory.
-        ensures grows { result ≡ Err ObjError.NoMemory → length self.old.content < at + length bytes.now }
+        ensures has_data { result ≡ Err ObjError.NoMemory → 0 < length bytes.now }
+        ensures grows { result ≡ Err ObjError.NoMemory → length self.old.content < min (at + length bytes.now) file_limit }
     {
         if bytes.is_empty() {
             return Ok(0);
