@@ -8,13 +8,13 @@ use crate::process::Process;
 use std::alloc::{AllocError, Global};
 use ux_types::ProcSpec;
 
-/// Why no kernel could be made.
+/// Why no kernel could be made, with the number that a boot fault is told by.
 #[derive(Clone, Copy, Debug, PartialEq, Eq)]
 pub enum BootFault {
     /// More than 64 processes.
-    TooManyProcesses,
+    TooManyProcesses = 2,
     /// No memory.
-    NoMemory,
+    NoMemory = 5,
 }
 
 /// The processes that one kernel may have.

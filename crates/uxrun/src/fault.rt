@@ -10,9 +10,9 @@ pub enum Fault {
     /// The script was refused, or couldn't be read or run.
     #[error("{0}")]
     Script(ScriptFault),
-    /// The script has more processes than a kernel.
-    #[error("boot fault 2")]
-    TooManyProcesses,
+    /// No kernel could be made for the script's processes, for the reason of this number.
+    #[error("boot fault {0}")]
+    Boot(u8),
 }
 
 impl From<ScriptFault> for Fault {
@@ -24,8 +24,8 @@ impl From<ScriptFault> for Fault {
 impl From<BootFault> for Fault {
     fn from(fault: BootFault) -> Fault {
         match fault {
-            BootFault::TooManyProcesses => Fault::TooManyProcesses,
             BootFault::NoMemory => Fault::Script(ScriptFault::NoMemory),
+            BootFault::TooManyProcesses => Fault::Boot(fault as u8),
         }
     }
 }
