@@ -1,3 +1,4 @@
 pub mod MarkLaws
 pub mod FreePlaces
 pub mod Places
+pub mod TwoFree

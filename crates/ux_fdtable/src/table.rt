@@ -132,6 +132,35 @@ impl Table {
         }
     }
 
+    /// Opens the two lowest numbers that are free, and answers them, the lower first (socketpair(2)).
+    ///
+    /// # Errors
+    ///
+    /// `Full` exactly where fewer than two are free, else `NoMemory`. The table is then as before.
+    #[tactic(auto, using(crate::proofs::TwoFree::the_two, crate::proofs::TwoFree::taken_back))]
+    pub fn install_two(
+        &mut self,
+        first: Descriptor,
+        second: Descriptor,
+    ) -> Result<(Fd, Fd), InstallError>
+        ensures lowest { IfOk result (λ two. two_lowest_free self.old ≡ Some (two.0.0, two.1.0)) }
+        ensures opened { IfOk result (λ two. self.new ≡ filled (filled self.old two.0.0 first) two.1.0 second) }
+        ensures full { (result ≡ Err InstallError.Full) ↔ (two_lowest_free self.old ≡ None) }
+        ensures err { OnErr result (self.new ≡ self.old) }
+    {
+        if self.two_lowest_free().is_none() {
+            return Err(InstallError::Full);
+        }
+        let Ok(low) = self.install(first) else {
+            return Err(InstallError::NoMemory);
+        };
+        let Ok(high) = self.install(second) else {
+            let _ = self.remove(low);
+            return Err(InstallError::NoMemory);
+        };
+        Ok((low, high))
+    }
+
     /// Puts a copy of a descriptor, without close-on-exec, at a given number, and answers what was open
     /// there (dup2(2)).
     ///
