@@ -1,7 +1,7 @@
 pub mod Lookups
 pub mod Boots
-pub mod FreePlaces
 pub mod Queues
 pub mod Sockets
+pub mod Pairs
 pub mod Releasing
 pub mod Steps

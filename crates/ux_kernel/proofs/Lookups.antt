@@ -6,8 +6,8 @@ use Rattle.std.proofs.lemmas.List.{length-replicate}
 use Rattle.std.proofs.lemmas.Option.{slice_get_within, get_or_from_slice_get, unwrap_or-slice_get}
 use Rattle.std.proofs.lemmas.Bool.{false≢true}
 use Rattle.ux_model.specs.Places.{place}
-use Rattle.ux_model.specs.Process.{Process}
-use Rattle.ux_model.specs.State.{State, process_at, is_live, with_process}
+use Rattle.ux_model.specs.Process.{Process, Descriptor}
+use Rattle.ux_model.specs.State.{State, process_at, is_live, table_of, with_process, with_table}
 
 -- ---- processes
 
@@ -56,6 +56,16 @@ found_process S p P live e =
 pub with_process_is : (S : State) (p : ℕ) (P : Process) → 0 < p → record S { processes = set S.processes (p - 1) P } ≡ with_process S p P
 with_process_is S zero P h = absurd (omega (arith, h))
 with_process_is S (suc i) P h = let back : suc i - 1 ≡ i = omega arith in ap (λ n. record S { processes = set S.processes n P }) back
+
+-- the table of the process that stands in the place of a live one, and another put for it
+pub table_here : (S : State) (p : ℕ) (P : Process) → is_live S p ≡ true → P ≡ get_or S.processes (p - 1) P → table_of S p ≡ P.table
+table_here S p P live e = ap (λ o. elim o as (λ _. List (Option Descriptor)) [ Some P ↦ P.table | None ↦ [] ]) (found_process S p P live e)
+
+pub table_put : (S : State) (p : ℕ) (P : Process) (table : List (Option Descriptor)) → is_live S p ≡ true → P ≡ get_or S.processes (p - 1) P →
+    record S { processes = set S.processes (p - 1) (record P { table = table }) } ≡ with_table S p table
+table_put S p P table live e =
+    with_process_is S p (record P { table = table }) (live_positive S p live)
+    ∙ sym (ap (λ o. elim o as (λ _. State) [ Some P ↦ with_process S p (record P { table = table }) | None ↦ S ]) (found_process S p P live e))
 
 -- ---- places
 

@@ -1,7 +1,7 @@
 -- The sweep, one description at a time, against the definitions, which count references and drop all at once.
-use Rattle.std.proofs.Common.{◌≡◌, ℕ, ◌+◌, ◌<◌, ◌≤◌, Bool, true, false, not, ◌&&◌, ◌||◌, ◌==◌, eqb, cond, if◌then◌else◌, List, [], ◌∷◌, length, get_or, set, take, drop, ◌++◌, map, Option, Some, None, is_some, option_map, sym, ◌∙◌, ap, subst, refl, zero-add, arith}
+use Rattle.std.proofs.Common.{◌≡◌, ℕ, zero, suc, ◌+◌, ◌<◌, ◌≤◌, Bool, true, false, not, ◌&&◌, ◌||◌, ◌==◌, eqb, nat_lt, cond, if◌then◌else◌, List, [], ◌∷◌, length, get_or, set, take, drop, ◌++◌, map, Option, Some, None, is_some, option_map, sym, ◌∙◌, ap, subst, refl, zero-add, arith}
 use Rattle.std.specs.List.{sum_by, list_any, list_all, enumerate_from, filter}
-use Rattle.std.proofs.lemmas.Bool.{eqb-true, eqb-false, eq-eqb, ne_eqb}
+use Rattle.std.proofs.lemmas.Bool.{eqb-true, eqb-false, eq-eqb, ne_eqb, lt-ltb}
 use Rattle.std.proofs.lemmas.List.{get_or_read, take_all, drop_all, append-nil, get_or-map, get_or-set_same, get_or-set_other, ext_get_or, length-map, length-set}
 use Rattle.std.proofs.lemmas.List.FromFn.{length-enumerate_from, get_or-enumerate_from}
 use Rattle.std.proofs.lemmas.List.Folds.{sum_by-zero, list_any_none, list_any_at}
@@ -10,7 +10,7 @@ use Rattle.ux_model.specs.Socket.{Socket}
 use Rattle.ux_model.specs.Description.{Description}
 use Rattle.ux_model.specs.Process.{Process}
 use Rattle.ux_model.specs.State.{State, description_at, socket_at}
-use Rattle.ux_model.specs.References.{refs, names_description, table_refs}
+use Rattle.ux_model.specs.References.{refs, table_refs}
 use Rattle.ux_model.specs.Release.{resets_peer, description_after_loss, place_after_loss, without, is_unreferenced, has_unreferenced}
 use Rattle.ux_model.proofs.AnyOrder.{live_in, fewer_live}
 use Rattle.ux_kernel.specs.Loss.{is_referenced, losing}
@@ -28,16 +28,13 @@ all_not_any f p same (x ∷ xs) = (λ j. same x j && all_not_any f p same xs j) 
 sum_none : {X : Type 0} (f : X → ℕ) (p : X → Bool) → ((x : X) → eqb (f x) 0 ≡ not (p x)) → (xs : List X) → eqb (sum_by f xs) 0 ≡ not (list_any p xs)
 sum_none f p same xs = sum_by-zero f xs ∙ all_not_any f p same xs
 
-one_or_none : (b : Bool) → eqb (cond b 1 0) 0 ≡ not b
-one_or_none true = refl
-one_or_none false = refl
-
-count_none : {X : Type 0} (p : X → Bool) (xs : List X) → eqb (sum_by (λ x. cond (p x) 1 0) xs) 0 ≡ not (list_any p xs)
-count_none p xs = sum_none (λ x. cond (p x) 1 0) p (λ x. one_or_none (p x)) xs
+zero_or_more : (n : ℕ) → eqb n 0 ≡ not (nat_lt 0 n)
+zero_or_more zero = refl
+zero_or_more (suc n) = ne_eqb (suc n) 0 (λ h. omega (arith, h)) ∙ ap not (sym (lt-ltb 0 (suc n) (omega arith)))
 
 pub no_refs : (S : State) (d : ℕ) → eqb (refs S d) 0 ≡ not (is_referenced S d)
 unfolding refs
-no_refs S d = sum_none (λ P. table_refs d (Process.table P)) (λ P. list_any (names_description d) (Process.table P)) (λ P. count_none (names_description d) (Process.table P)) S.processes
+no_refs S d = sum_none (λ P. table_refs d (Process.table P)) (λ P. nat_lt 0 (table_refs d (Process.table P))) (λ P. zero_or_more (table_refs d (Process.table P))) S.processes
 
 -- the answer of a look at a place that is held
 pub unreferenced_here : (S : State) (d : ℕ) (x : Option Description) (r : Bool) → d < length S.descriptions → x ≡ get_or S.descriptions d x → is_some x ≡ true → r ≡ is_referenced S d →

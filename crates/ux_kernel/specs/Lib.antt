@@ -1,4 +1,3 @@
 pub mod Queue
-pub mod Free
 pub mod Loss
 pub mod Changes

@@ -1,10 +1,10 @@
 //! Closing descriptors (close(2)), and the end of a process (_exit(2)).
-ghost use Rattle.std.specs.Prelude.{◌≡◌, IsTrue, slice_set};
+ghost use Rattle.std.specs.Prelude.{◌≡◌, IsTrue};
+ghost use Rattle.ux_model.specs.Places.{emptied};
 ghost use Rattle.ux_model.specs.State.{is_live, with_table, table_of};
 ghost use Rattle.ux_model.specs.Closing as model;
 
 use crate::kernel::Kernel;
-use crate::table::Descriptor;
 use ux_types::{Fd, Pid, Reply};
 
 impl Kernel {
@@ -18,17 +18,17 @@ impl Kernel {
         if let Err(e) = self.find_description(pid, fd) {
             return Reply::Err(e);
         }
-        self.put(pid, fd, None);
+        self.close_number(pid, fd);
         Reply::Ok
     }
 
-    /// Empties or fills a place of a process's table.
-    fn put(&mut self, pid: Pid, fd: Fd, slot: Option<Descriptor>)
+    /// Empties a place of a process's table.
+    fn close_number(&mut self, pid: Pid, fd: Fd)
         requires { IsTrue (is_live self.old pid.0) }
-        ensures { self.new ≡ with_table self.old pid.0 (slice_set (table_of self.old pid.0) fd.0 slot) }
+        ensures { self.new ≡ with_table self.old pid.0 (emptied (table_of self.old pid.0) fd.0) }
     {
         let process = &mut self.processes[pid.0 as usize - 1];
-        process.put(fd, slot);
+        let _ = process.table.remove(fd);
     }
 
     /// _exit(2).

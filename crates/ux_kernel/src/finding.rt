@@ -1,5 +1,5 @@
 //! What a number of a process leads to.
-ghost use Rattle.std.specs.Prelude.{◌≡◌, Some, None, Ok, Err, IsTrue, MatchOption, MatchResult, IfOk, length, ◌≤◌};
+ghost use Rattle.std.specs.Prelude.{◌≡◌, ◌^◌, Some, None, Ok, Err, IsTrue, MatchOption, MatchResult, IfOk, length, ◌≤◌};
 ghost use Rattle.ux_model.specs.Limits.{process_limit};
 ghost use Rattle.ux_model.specs.State.{process_at, description_at, socket_at, is_live};
 ghost use Rattle.ux_model.specs.Outcome.{find_description};
@@ -7,7 +7,7 @@ ghost use Rattle.ux_model.specs.Outcome.{find_description};
 use crate::description::{Description, Socket};
 use crate::kernel::Kernel;
 use crate::process::Process;
-use crate::table::Descriptor;
+use ux_fdtable::{DescriptionId, Descriptor};
 use ux_types::{Errno, Fd, Pid};
 
 impl Kernel {
@@ -53,22 +53,27 @@ impl Kernel {
         }
     }
 
-    /// The description behind a descriptor.
+    /// The description behind a descriptor, and the place that it has here.
     pub(crate) fn find_description(
         &self,
         pid: Pid,
         fd: Fd,
-    ) -> Result<(Descriptor, &Description), Errno>
+    ) -> Result<(Descriptor, usize, &Description), Errno>
         requires { IsTrue (is_live self.now pid.0) }
-        ensures there { IfOk result (λ r. description_at self.now r.0.description ≡ Some r.1.now) }
-        ensures found { MatchResult result (λ r. find_description self.now pid.0 fd ≡ Ok (r.0, r.1.now)) (λ e. find_description self.now pid.0 fd ≡ Err e) }
+        ensures place { IfOk result (λ r. r.1 ≡ r.0.description) }
+        ensures there { IfOk result (λ r. description_at self.now r.0.description ≡ Some r.2.now) }
+        ensures found { MatchResult result (λ r. find_description self.now pid.0 fd ≡ Ok (r.0, r.2.now)) (λ e. find_description self.now pid.0 fd ≡ Err e) }
     {
         let process = self.process(pid);
         let Some(e) = process.table.get(fd) else {
             return Err(Errno::EBADF);
         };
-        match self.description(e.description) {
-            Some(x) => Ok((e, x)),
+        let Some(d) = place_of(e.description) else {
+            let _ = &self.descriptions;
+            return Err(Errno::EBADF);
+        };
+        match self.description(d) {
+            Some(x) => Ok((e, d, x)),
             None => Err(Errno::EBADF),
         }
     }
@@ -82,4 +87,11 @@ impl Kernel {
             None => None,
         }
     }
+}
+
+/// The place of a description by its number, if memory could hold so many.
+fn place_of(description: DescriptionId) -> Option<usize>
+    ensures { MatchOption result (2 ^ 64 ≤ description) (λ d. d ≡ description) }
+{
+    usize::try_from(description.number()).ok()
 }

@@ -15,7 +15,6 @@ mod receiving;
 mod release;
 mod sending;
 mod step;
-mod table;
 
 pub use boot::BootFault;
 pub use kernel::Kernel;

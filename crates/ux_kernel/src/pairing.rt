@@ -1,13 +1,17 @@
 //! Making a connected pair (socketpair(2)).
-ghost use Rattle.std.specs.Prelude.{◌≡◌, IsTrue, slice_set, Some, MatchResult, IfOk, ◌+◌, ◌<◌, ◌^◌};
+ghost use Rattle.std.specs.Prelude.{◌≡◌, ◌+◌, ◌<◌, ◌≤◌, ◌^◌, ◌++◌, ◌∷◌, [], IsTrue, Some, None, Err, IfOk, OnErr, length, vec_len, vec_capacity};
+ghost use Rattle.ux_model.specs.Places.{filled};
+ghost use Rattle.ux_model.specs.Process.{two_lowest_free};
+ghost use Rattle.ux_model.specs.Socket.{new_end};
 ghost use Rattle.ux_model.specs.State.{is_live, with_table, table_of, next_description};
 ghost use Rattle.ux_model.specs.Outcome.{Gives};
 ghost use Rattle.ux_model.specs.Pairing as model;
 
 use crate::description::Description;
 use crate::kernel::Kernel;
-use crate::table::Descriptor;
+use bitflags::Flags;
 use std::alloc::AllocError;
+use ux_fdtable::{DescriptionId, Descriptor, InstallError};
 use ux_types::{Errno, Fd, OpenFlags, Pid, Reply};
 
 impl Kernel {
@@ -18,44 +22,59 @@ impl Kernel {
         ensures { Gives self.old (model.make_pair self.old pid.0 flags) result self.new }
     {
         let process = self.process(pid);
-        let Some((a, b)) = process.table.two_lowest_free() else {
+        if process.table.two_lowest_free().is_none() {
             return Ok(Reply::Err(Errno::EMFILE));
-        };
-        let d = self.add_pair(flags)?;
-        self.put_two(
-            pid,
-            (a, Descriptor::new(flags, d)),
-            (b, Descriptor::new(flags, d + 1)),
-        );
-        Ok(Reply::Fds(a, b))
+        }
+        match self.open_pair(pid, flags) {
+            Ok((a, b)) => Ok(Reply::Fds(a, b)),
+            Err(_) => Err(AllocError),
+        }
     }
 
-    /// Adds two descriptions, of sockets that are connected to one another, and gives the first one's
-    /// number.
-    fn add_pair(&mut self, flags: OpenFlags) -> Result<usize, AllocError>
-        ensures done { MatchResult result
-            (λ d. (d ≡ next_description self.old) × (self.new ≡ model.with_pair self.old flags))
-            (λ _. self.new ≡ self.old) }
-        ensures fits { IfOk result (λ d. d + 1 < 2 ^ 64) }
+    /// Opens the two lowest free numbers for the ends of a new pair.
+    fn open_pair(&mut self, pid: Pid, flags: OpenFlags) -> Result<(Fd, Fd), InstallError>
+        requires { IsTrue (is_live self.old pid.0) }
+        ensures lowest { IfOk result (λ two. two_lowest_free (table_of self.old pid.0) ≡ Some (two.0.0, two.1.0)) }
+        ensures opened { IfOk result (λ two. self.new ≡ with_table (model.with_pair self.old flags) pid.0
+            (filled (filled (table_of self.old pid.0) two.0.0 (model.descriptor flags (next_description self.old)))
+            two.1.0 (model.descriptor flags (next_description self.old + 1)))) }
+        ensures err { OnErr result (self.new ≡ self.old) }
     {
         let d = self.descriptions.len();
-        let alloc = *self.descriptions.allocator();
-        self.descriptions.reserve(2)?;
-        self.descriptions
-            .push(Some(Description::pair_end(alloc, flags, d + 1)))?;
-        self.descriptions
-            .push(Some(Description::pair_end(alloc, flags, d)))?;
-        Ok(d)
-    }
-
-    /// Fills two places of a process's table.
-    fn put_two(&mut self, pid: Pid, first: (Fd, Descriptor), second: (Fd, Descriptor))
-        requires { IsTrue (is_live self.old pid.0) }
-        ensures { self.new ≡ with_table self.old pid.0
-            (slice_set (slice_set (table_of self.old pid.0) first.0.0 (Some first.1)) second.0.0 (Some second.1)) }
-    {
+        if self.descriptions.reserve(2).is_err() {
+            return Err(InstallError::NoMemory);
+        }
         let process = &mut self.processes[pid.0 as usize - 1];
-        process.put(first.0, Some(first.1));
-        process.put(second.0, Some(second.1));
+        let (a, b) = process
+            .table
+            .install_two(descriptor(flags, d), descriptor(flags, d + 1))?;
+        push_pair(&mut self.descriptions, flags);
+        Ok((a, b))
+    }
+}
+
+/// Adds the descriptions of two sockets that are connected to one another, for which there is room.
+fn push_pair(descriptions: &mut Vec<Option<Description>>, flags: OpenFlags)
+    requires { vec_len descriptions.old + 2 ≤ vec_capacity descriptions.old }
+    ensures { descriptions.new.items ≡ descriptions.old.items
+        ++ Some (model.socket_description flags (new_end (length descriptions.old.items + 1))) ∷ []
+        ++ Some (model.socket_description flags (new_end (length descriptions.old.items))) ∷ [] }
+{
+    let d = descriptions.len();
+    let alloc = *descriptions.allocator();
+    let first = Some(Description::pair_end(alloc, flags, d + 1));
+    let second = Some(Description::pair_end(alloc, flags, d));
+    if descriptions.push(first).is_err() || descriptions.push(second).is_err() {
+        unreachable!()
+    }
+}
+
+/// A descriptor of this description, as the flags of the call want it.
+fn descriptor(flags: OpenFlags, description: usize) -> Descriptor
+    ensures { result ≡ model.descriptor flags description }
+{
+    Descriptor {
+        description: DescriptionId::new(description as u128),
+        cloexec: flags.contains(OpenFlags::CLOEXEC),
     }
 }

@@ -1,11 +1,11 @@
 //! A process and its descriptor table.
-ghost use Rattle.std.specs.Prelude.{◌≡◌, map, None, true, slice_set, IfOk};
+ghost use Rattle.std.specs.Prelude.{◌≡◌, map, None, true, IfOk};
 ghost use Rattle.ux_model.specs.Boot.{new_process};
 
-use crate::table::{Descriptor, Table};
 use std::alloc::{AllocError, Global};
 use std::marker::Model;
-use ux_types::{Fd, ProcSpec};
+use ux_fdtable::Table;
+use ux_types::ProcSpec;
 
 /// A process.
 #[derive(Drop)]
@@ -25,29 +25,18 @@ impl Model for Process {
     ghost view = { λ p. record { uid = p.uid; gid = p.gid; privileged = p.privileged; exited = p.exited; table = p.table } };
 }
 
-/// The descriptors that one process may have.
-const TABLE_LIMIT: u32 = 1024;
-
 impl Process {
     /// A process that has opened nothing yet.
     pub(crate) fn new(alloc: Global, spec: &ProcSpec) -> Result<Process, AllocError>
         ensures { IfOk result (λ P. P ≡ new_process spec.now) }
     {
-        let limit = spec.limit.min(TABLE_LIMIT).max(1);
         Ok(Process {
             uid: spec.uid,
             gid: spec.gid,
             privileged: spec.privileged,
             exited: false,
-            table: Table::new(alloc, limit as usize)?,
+            table: Table::new(alloc, spec.limit)?,
         })
-    }
-
-    /// Empties or fills a place of its table.
-    pub(crate) fn put(&mut self, fd: Fd, slot: Option<Descriptor>)
-        ensures { self.new ≡ record self.old { table = slice_set self.old.table fd.0 slot } }
-    {
-        self.table.put(fd, slot);
     }
 
     /// Ends it: all its descriptors are closed.

@@ -26,7 +26,7 @@ impl Kernel {
         ensures { Gives self.old (model.recv_msg self.old pid.0 fd n flags) result self.new }
     {
         let d = match self.find_description(pid, fd) {
-            Ok((e, _)) => e.description,
+            Ok((_, d, _)) => d,
             Err(e) => return Ok(Reply::Err(e)),
         };
         if !are_receive_flags(flags) {

@@ -8,6 +8,7 @@ ghost use Rattle.ux_kernel.specs.Loss.{is_referenced, losing};
 
 use crate::description::Description;
 use crate::kernel::Kernel;
+use ux_fdtable::DescriptionId;
 
 impl Kernel {
     /// Drops each description that nothing refers to, again until none is left. It takes no memory.
@@ -44,7 +45,10 @@ impl Kernel {
     fn is_referenced(&self, d: usize) -> bool
         ensures { result ≡ is_referenced self.now d }
     {
-        self.processes.iter().any(|p| p.table.names(d))
+        let description = DescriptionId::new(d as u128);
+        self.processes
+            .iter()
+            .any(|p| 0 < p.table.count(description))
     }
 
     /// Drops this description with all that it holds.

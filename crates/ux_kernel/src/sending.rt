@@ -30,7 +30,7 @@ impl Kernel {
         ensures { Gives self.old (model.send_msg self.old pid.0 tag fd bytes.now flags) result self.new }
     {
         let peer = match self.find_description(pid, fd) {
-            Ok((_, x)) => x.socket.peer,
+            Ok((_, _, x)) => x.socket.peer,
             Err(e) => return Ok(Reply::Err(e)),
         };
         if !are_send_flags(flags) {
