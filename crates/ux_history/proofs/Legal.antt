@@ -1,5 +1,5 @@
 -- A history that grows by one entry.
-use Rattle.std.proofs.Common.{◌≡◌, ◌⊎◌, ℕ, zero, suc, ◌+◌, ◌-◌, ◌<◌, ◌==◌, List, [], ◌∷◌, ◌++◌, length, take, get_or, set, Bool, true, false, cond, Some, slice_get, refl, ap, sym, ◌∙◌, subst, arith, inl, inr, ⊎_elim}
+use Rattle.std.proofs.Common.{◌≡◌, ℕ, ◌+◌, ◌-◌, ◌<◌, ◌==◌, List, [], ◌∷◌, ◌++◌, length, get_or, set, Bool, true, false, cond, refl, ap, sym, ◌∙◌, subst, arith}
 use Rattle.std.specs.Prelude.{slice_index}
 use Rattle.std.proofs.lemmas.List.{length-set, get_or-set_same, get_or-set_other}
 use Rattle.std.proofs.lemmas.List.Sums.{sum_by_push}
@@ -7,7 +7,7 @@ use Rattle.std.proofs.lemmas.Bool.{eq-eqb, eqb-true, eqb-false, ne_eqb}
 use Rattle.ux_model.specs.Types.{Pid, Request, Reply, Entry}
 use Rattle.ux_model.specs.State.{State, is_live}
 use Rattle.ux_model.specs.Step.{Step}
-use Rattle.ux_model.specs.History.{calls_of, replay, MayFollow, IsLegal}
+use Rattle.ux_model.specs.History.{calls_of, replay, MayFollow}
 use Rattle.ux_model.proofs.Replays.{step_replay}
 use Rattle.ux_model.proofs.Appending.{legal_push}
 use Rattle.ux_model.proofs.Living.{step_keeps_processes}

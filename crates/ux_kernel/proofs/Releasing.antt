@@ -1,12 +1,11 @@
 -- The sweep, one description at a time, against the definitions, which count references and drop all at once.
-use Rattle.std.proofs.Common.{◌≡◌, ℕ, zero, suc, ◌+◌, ◌<◌, ◌≤◌, Bool, true, false, not, ◌&&◌, ◌||◌, ◌==◌, eqb, nat_lt, cond, if◌then◌else◌, List, [], ◌∷◌, length, get_or, set, take, drop, ◌++◌, map, Option, Some, None, is_some, option_map, sym, ◌∙◌, ap, subst, refl, zero-add, arith}
-use Rattle.std.specs.List.{sum_by, list_any, list_all, enumerate_from, filter}
+use Rattle.std.proofs.Common.{◌≡◌, ℕ, zero, suc, ◌+◌, ◌<◌, ◌≤◌, Bool, true, false, not, ◌&&◌, ◌||◌, ◌==◌, eqb, nat_lt, cond, List, [], ◌∷◌, length, get_or, set, take, drop, ◌++◌, map, Option, Some, None, is_some, option_map, sym, ◌∙◌, ap, subst, refl, zero-add, arith}
+use Rattle.std.specs.List.{sum_by, list_any, list_all, enumerate_from}
 use Rattle.std.proofs.lemmas.Bool.{eqb-true, eqb-false, eq-eqb, ne_eqb, lt-ltb}
 use Rattle.std.proofs.lemmas.List.{get_or_read, take_all, drop_all, append-nil, get_or-map, get_or-set_same, get_or-set_other, ext_get_or, length-map, length-set}
 use Rattle.std.proofs.lemmas.List.FromFn.{length-enumerate_from, get_or-enumerate_from}
 use Rattle.std.proofs.lemmas.List.Folds.{sum_by-zero, list_any_none, list_any_at}
 use Rattle.std.proofs.lemmas.List.Elements.{All-from_get_or}
-use Rattle.ux_model.specs.Socket.{Socket}
 use Rattle.ux_model.specs.Description.{Description}
 use Rattle.ux_model.specs.Process.{Process}
 use Rattle.ux_model.specs.State.{State, description_at, socket_at}

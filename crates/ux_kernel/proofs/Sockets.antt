@@ -1,5 +1,5 @@
 -- A socket by its number, and a change of it.
-use Rattle.std.proofs.Common.{◌≡◌, ℕ, get_or, set, Option, Some, None, sym, ◌∙◌, ap, refl}
+use Rattle.std.proofs.Common.{◌≡◌, ℕ, get_or, set, Option, Some, None, sym, ◌∙◌, ap}
 use Rattle.std.proofs.lemmas.Option.{same_Some, none-some}
 use Rattle.ux_model.specs.Socket.{Socket}
 use Rattle.ux_model.specs.Description.{Description}

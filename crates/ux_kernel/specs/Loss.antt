@@ -1,7 +1,6 @@
 -- What the release of one description asks and does.
 use Rattle.std.specs.Prelude.{ℕ, Bool, ◌==◌, ◌||◌, ◌&&◌, nat_lt}
 use Rattle.std.specs.List.{list_any}
-use Rattle.ux_model.specs.Socket.{Socket}
 use Rattle.ux_model.specs.Description.{Description}
 use Rattle.ux_model.specs.State.{State}
 use Rattle.ux_model.specs.References.{table_refs}

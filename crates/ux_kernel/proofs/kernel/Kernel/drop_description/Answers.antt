@@ -1,4 +1,4 @@
-use Rattle.std.proofs.Common.{◌≡◌, map, set, option_map, None, arith, ap, ◌∙◌, sym}
+use Rattle.std.proofs.Common.{◌≡◌, map, set, option_map, None, arith, ap, ◌∙◌}
 use Rattle.std.proofs.lemmas.List.{length-set}
 use Rattle.std.proofs.lemmas.List.Edits.{map_over_more}
 use Rattle.ux_model.specs.State.{State}

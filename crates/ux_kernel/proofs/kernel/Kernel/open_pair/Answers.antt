@@ -1,4 +1,4 @@
-use Rattle.std.proofs.Common.{◌∙◌, ◌≡◌, ap, arith, length, rules}
+use Rattle.std.proofs.Common.{◌∙◌, ap, arith}
 use Rattle.ux_kernel.specs.contracts.kernel.Kernel.{the_view}
 use Rattle.ux_kernel.specs.contracts.process.Process as process
 use Rattle.ux_kernel.proofs.Pairs.{with_ends, pair_opened, lowest_opened}
