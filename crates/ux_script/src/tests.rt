@@ -140,6 +140,7 @@ fn a_faulty_script_runs_nothing(rt: HostRuntime) -> Result<(), Fail> {
     let alloc = rt.alloc();
     for (script, text) in [
         ("1 read 0", "line 1: bad line"),
+        ("1 read 0 4", "line 1: bad line"),
         ("1 close", "line 1: bad line"),
         ("1 close 0", "line 1: unknown process"),
     ] {
