@@ -1,13 +1,15 @@
 -- In whatever order and in whatever lots unreferenced descriptions are dropped, the same state is left.
-use Rattle.std.specs.Prelude.{◌≡◌, ℕ, zero, suc, ◌+◌, ◌≤◌, Bool, true, false, ◌&&◌, ◌||◌, ◌==◌, if◌then◌else◌, List, [], ◌∷◌, length, map, Option, Some, None, is_some, option_map, refl}
+use Rattle.std.specs.Prelude.{◌≡◌, ℕ, zero, suc, ◌+◌, ◌≤◌, Bool, true, false, ◌||◌, ◌==◌, if◌then◌else◌, List, [], ◌∷◌, length, map, Option, Some, None, is_some, option_map, refl}
 use Rattle.std.specs.List.{enumerate_from, list_any}
 use Rattle.std.proofs.Common.{sym, ◌∙◌, ap, subst, arith}
-use Rattle.std.proofs.lemmas.Bool.{eqb-true, eq-eqb}
+use Rattle.std.proofs.lemmas.Bool.{eqb-true, eq-eqb, and_parts, and_from, and_left, or_parts}
+use mathlib.Core.Bool.{or-false}
 use Rattle.ux_model.specs.Places.{place}
-use Rattle.ux_model.specs.Description.{Description}
+use Rattle.ux_model.specs.Socket.{Socket}
+use Rattle.ux_model.specs.Description.{Description, Target, to_object, to_socket}
 use Rattle.ux_model.specs.State.{State, description_at}
 use Rattle.ux_model.specs.References.{refs}
-use Rattle.ux_model.specs.Release.{description_after_loss, place_after_loss, without, is_unreferenced, has_unreferenced, drop_all, drop_rounds, settled, Drops, none, another, EndsAlike}
+use Rattle.ux_model.specs.Release.{target_after_loss, description_after_loss, place_after_loss, without, is_unreferenced, has_unreferenced, drop_all, drop_rounds, drop_unreferenced, Drops, none, another, EndsAlike}
 use Rattle.ux_model.proofs.ReleaseLaws.{description_at-without, either, without-without}
 
 -- ---- what is left has no more references
@@ -22,18 +24,6 @@ refs-without d G S = refl
 bool_cases : {P : Type 0} (b : Bool) → (b ≡ true → P) → (b ≡ false → P) → P
 bool_cases true on off = on refl
 bool_cases false on off = off refl
-
-and_left : (a b : Bool) → a && b ≡ true → a ≡ true
-and_left true b e = refl
-and_left false b e = e
-
-and_right : (a b : Bool) → a && b ≡ true → b ≡ true
-and_right true b e = e
-and_right false b e = absurd (cc e)
-
-both : (a b : Bool) → a ≡ true → b ≡ true → a && b ≡ true
-both true b p q = q
-both false b p q = absurd (cc p)
 
 -- what stands in S without G stands in S without K, if K leaves it
 stands_still : (G K : ℕ → Bool) (S : State) (b c : Bool) (D : Option Description) →
@@ -51,13 +41,13 @@ IsSettled K S = (d : ℕ) → is_unreferenced (without K S) d ≡ false
 -- what nothing names without G goes with every K that takes all of G, and leaves nothing unreferenced
 goes_too : (G K : ℕ → Bool) (S : State) (d : ℕ) → ((i : ℕ) → G i ≡ true → K i ≡ true) → IsSettled K S → is_unreferenced (without G S) d ≡ true → K d ≡ true
 goes_too G K S d more over unreferenced = bool_cases (K d) (λ gone. gone) (λ left.
-    let some : is_some (description_at (without G S) d) ≡ true = and_left _ _ unreferenced in
-    let zero_left : refs (without G S) d ≡ 0 = eqb-true _ _ (and_right (is_some (description_at (without G S) d)) _ unreferenced) in
+    let some : is_some (description_at (without G S) d) ≡ true = (and_parts _ _ unreferenced).0 in
+    let zero_left : refs (without G S) d ≡ 0 = eqb-true _ _ (and_parts (is_some (description_at (without G S) d)) _ unreferenced).1 in
     let none_left : refs (without K S) d ≡ 0 = refs-without d K S ∙ sym (refs-without d G S) ∙ zero_left in
     let some_at : is_some (place_after_loss G S (d, description_at S d)) ≡ true = ap is_some (sym (description_at-without G S d)) ∙ some in
     let still : is_some (description_at (without K S) d) ≡ true =
     ap is_some (description_at-without K S d) ∙ stands_still G K S (G d) (K d) (description_at S d) some_at left in
-    let again : is_unreferenced (without K S) d ≡ true = both _ _ still (eq-eqb _ _ none_left) in
+    let again : is_unreferenced (without K S) d ≡ true = and_from _ _ still (eq-eqb _ _ none_left) in
     absurd (cc (again, over d)))
 
 -- ---- lots
@@ -136,26 +126,14 @@ fewer_live U T k (x ∷ xs) there found =
 pub nothing_found : {X : Type 0} (U : ℕ → Bool) (k d : ℕ) (xs : List (Option X)) → list_any (λ e. U e.0) (enumerate_from k xs) ≡ false →
     is_some (place xs d) ≡ true → U (k + d) ≡ false
 nothing_found U k d [] found some = absurd (cc some)
-nothing_found U k zero (x ∷ xs) found some = let e : k + 0 ≡ k = omega arith in ap U e ∙ or_left (U k) _ found
-  where
-    or_left : (a b : Bool) → a || b ≡ false → a ≡ false
-    or_left true b e = e
-    or_left false b e = refl
+nothing_found U k zero (x ∷ xs) found some = let e : k + 0 ≡ k = omega arith in ap U e ∙ (or_parts (U k) _ found).0
 nothing_found U k (suc d) (x ∷ xs) found some =
-    let e : k + suc d ≡ (k + 1) + d = omega arith in ap U e ∙ nothing_found U (k + 1) d xs (or_right (U k) _ found) some
-  where
-    or_right : (a b : Bool) → a || b ≡ false → b ≡ false
-    or_right true b e = absurd (cc e)
-    or_right false b e = e
+    let e : k + suc d ≡ (k + 1) + d = omega arith in ap U e ∙ nothing_found U (k + 1) d xs (or_parts (U k) _ found).1 some
 
 pub settled_of_none : (T : State) → has_unreferenced T ≡ false → (d : ℕ) → is_unreferenced T d ≡ false
 settled_of_none T found d = bool_cases (is_some (description_at T d))
     (λ some. let e : 0 + d ≡ d = omega arith in ap (is_unreferenced T) (sym e) ∙ nothing_found (is_unreferenced T) 0 d T.descriptions found some)
-    (λ gone. off (is_some (description_at T d)) _ gone)
-  where
-    off : (a b : Bool) → a ≡ false → a && b ≡ false
-    off true b e = absurd (cc e)
-    off false b e = refl
+    (λ gone. and_left _ _ gone)
 
 -- an end: what has gone, by lots, and that nothing unreferenced is left
 abbrev End : State → State → Type 0
@@ -169,18 +147,14 @@ round_end n S G can few found after =
     let U : ℕ → Bool = is_unreferenced (without G S) in
     let T : State = without G S in
     let fewer : suc (live_in (without U T).descriptions) ≤ live_in T.descriptions =
-    fewer_live U T 0 T.descriptions (λ d h. let e : d ≡ 0 + d = omega arith in and_left _ _ (ap U e ∙ h)) found in
+    fewer_live U T 0 T.descriptions (λ d h. let e : d ≡ 0 + d = omega arith in (and_parts _ _ (ap U e ∙ h)).0) found in
     let together : without U T ≡ without (either G U) S = without-without G U S in
     let small : live_in (without (either G U) S).descriptions ≤ n = subst (λ R. live_in (State.descriptions R) ≤ n) together (omega (arith, fewer, few)) in
     subst (λ R. End S (drop_rounds n R)) (sym together) (after (either G U) (lot U can (λ d h. h)) small)
 
 rounds_end : (n : ℕ) (S : State) (G : ℕ → Bool) → CanGo S G → live_in (without G S).descriptions ≤ n → End S (drop_rounds n (without G S))
 unfolding drop_rounds
-rounds_end zero S G can few = (G, can, refl, λ d. off _ _ (none_live (without G S).descriptions d few))
-  where
-    off : (a b : Bool) → a ≡ false → a && b ≡ false
-    off true b e = absurd (cc e)
-    off false b e = refl
+rounds_end zero S G can few = (G, can, refl, λ d. and_left _ _ (none_live (without G S).descriptions d few))
 rounds_end (suc n) S G can few = go (has_unreferenced (without G S)) refl (rounds_end n S)
   where
     go : (b : Bool) → has_unreferenced (without G S) ≡ b →
@@ -191,14 +165,17 @@ rounds_end (suc n) S G can few = go (has_unreferenced (without G S)) refl (round
 
 -- ---- with nothing gone
 
-or_false : (b : Bool) → b || false ≡ b
-or_false true = refl
-or_false false = refl
+socket_kept : (s : Socket) → record s { reset = s.reset || false } ≡ s
+socket_kept s = ap (λ b. record s { reset = b }) (or-false s.reset)
+
+target_kept : (S : State) (t : Target) → target_after_loss (λ d. false) S t ≡ t
+target_kept S (to_object o) = refl
+target_kept S (to_socket s) = ap to_socket (socket_kept s)
 
 places_kept : (S : State) (k : ℕ) (xs : List (Option Description)) → map (place_after_loss (λ d. false) S) (enumerate_from k xs) ≡ xs
 places_kept S k [] = refl
 places_kept S k (None ∷ xs) = ap (λ ys. None ∷ ys) (places_kept S (k + 1) xs)
-places_kept S k (Some D ∷ xs) = λ j. Some (record D { socket = record (D.socket) { reset = or_false D.socket.reset j } }) ∷ places_kept S (k + 1) xs j
+places_kept S k (Some D ∷ xs) = λ j. Some (record D { target = target_kept S D.target j }) ∷ places_kept S (k + 1) xs j
 
 without_none : (S : State) → without (λ d. false) S ≡ S
 unfolding without
@@ -206,8 +183,8 @@ without_none S = λ j. record S { descriptions = places_kept S 0 S.descriptions 
 
 -- ---- one at a time, in any order
 
-unreferenced_end : (S : State) → End S (settled S)
-unfolding settled
+unreferenced_end : (S : State) → End S (drop_unreferenced S)
+unfolding drop_unreferenced
 unreferenced_end S =
     let e : without (λ d. false) S ≡ S = without_none S in
     let few : live_in (without (λ d. false) S).descriptions ≤ length S.descriptions =
@@ -228,6 +205,6 @@ dropped_lots S (another {T} d drops unreferenced) = go (dropped_lots S drops)
 pub ends_alike : EndsAlike
 ends_alike S T drops over = go (dropped_lots S drops) (unreferenced_end S)
   where
-    go : (G : ℕ → Bool) × CanGo S G × (T ≡ without G S) → End S (settled S) → T ≡ settled S
+    go : (G : ℕ → Bool) × CanGo S G × (T ≡ without G S) → End S (drop_unreferenced S) → T ≡ drop_unreferenced S
     go one all = one.2 ∙ same_end S one.0 all.0 one.1 all.1
         (λ d. ap (λ R. is_unreferenced R d) (sym one.2) ∙ settled_of_none T over d) all.3 ∙ sym all.2

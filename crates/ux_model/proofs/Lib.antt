@@ -1,13 +1,15 @@
 pub mod ReleaseLaws
 pub mod AnyOrder
-pub mod Refusals
+pub mod Outcomes
 pub mod Replays
 pub mod Fronts
 pub mod Living
 pub mod Appending
+pub mod Moves
 mod Play
 mod StreamExamples
 mod LimitExamples
+mod FileExamples
 mod ChoiceExamples
 mod LegalExample
 pub mod ObjectExamples

@@ -1,28 +1,18 @@
 -- Which processes live after a call.
-use Rattle.std.proofs.Common.{◌≡◌, ℕ, zero, suc, Bool, true, false, not, ◌&&◌, ◌||◌, ◌==◌, if◌then◌else◌, List, [], ◌∷◌, ◌++◌, length, take, get_or, set, map, Option, Some, None, Result, Ok, Err, refl, ap, sym, subst, ◌∙◌, arith}
+use Rattle.std.proofs.Common.{◌≡◌, ℕ, zero, suc, Bool, true, false, not, ◌&&◌, ◌||◌, ◌==◌, List, [], ◌∷◌, ◌++◌, length, take, get_or, set, map, Option, Some, None, refl, ap, sym, subst, ◌∙◌, arith}
 use Rattle.std.specs.List.{slice_get}
-use Rattle.std.specs.Option.{is_none}
 use Rattle.std.proofs.lemmas.Bool.{eqb-true, eqb-false, eq-eqb, ne_eqb}
 use Rattle.std.proofs.lemmas.List.{get_or-set_other, length-set, length-map, take_all}
-use Rattle.ux_model.specs.Types.{Errno, Fd, OpenFlags, MsgFlags, Request, Reply, Entry}
-use Rattle.ux_model.specs.Flags.{are_send_flags, are_receive_flags, asks_peek}
-use Rattle.ux_model.specs.Socket.{Socket}
-use Rattle.ux_model.specs.Description.{Description}
-use Rattle.ux_model.specs.Process.{Process, Descriptor, two_lowest_free}
-use Rattle.ux_model.specs.State.{State, process_at, description_at, socket_at, is_live, with_process, with_socket, with_table}
-use Rattle.ux_model.specs.Release.{without, drop_rounds, drop_all, has_unreferenced, settled}
-use Rattle.ux_model.specs.Outcome.{Outcome, Chosen, own, lacking_memory, refuse, answer, on_descriptor, descriptor_at}
-use Rattle.ux_model.specs.Pairing.{make_pair, with_pair}
-use Rattle.ux_model.specs.Sending.{send_msg}
-use Rattle.ux_model.specs.Receiving.{recv_msg, receive_nothing}
-use Rattle.ux_model.specs.Stream.{stream_room, shortened}
-use Rattle.ux_model.specs.Closing.{close, exit}
-use Rattle.ux_model.specs.Step.{Step, outcome}
+use mathlib.Core.Bool.{and-true, or-true, or-false, or_assoc}
+use Rattle.ux_model.specs.Types.{Errno, Request, Reply, Entry}
+use Rattle.ux_model.specs.Process.{Process}
+use Rattle.ux_model.specs.State.{State, process_at, is_live, with_process}
+use Rattle.ux_model.specs.Release.{without, drop_rounds, drop_all, drop_unreferenced, has_unreferenced, settled}
+use Rattle.ux_model.specs.Outcome.{Outcome, Chosen, own, lacking_memory, failing, refuse, answer}
+use Rattle.ux_model.specs.Closing.{exit}
+use Rattle.ux_model.specs.Step.{Step, outcome, lacks_memory, fails}
 use Rattle.ux_model.specs.History.{is_exit, has_exited, replay, IsLegal, ExitAloneEnds, StepKeepsProcesses, LivesUntilExit}
-
--- for each process, whether it has exited
-abbrev pub exits : State → List Bool
-exits S = map (λ P. Process.exited P) S.processes
+use Rattle.ux_model.proofs.Outcomes.{exits, exits_set, IsPlain, open_plain, read_plain, write_plain, lseek_plain, dup_plain, dup2_plain, flags_plain, close_plain, unlink_plain, pair_plain, send_plain, recv_plain, off_plain}
 
 abbrev lives : List Bool → ℕ → Bool
 lives xs zero = false
@@ -48,89 +38,6 @@ settled_keeps (suc n) S = go (has_unreferenced S) (settled_keeps n (drop_all S))
     go true h = h
     go false h = refl
 
-socket_keeps : (S : State) (d : ℕ) (s : Socket) → (with_socket S d s).processes ≡ S.processes
-socket_keeps S d s = go (description_at S d)
-  where
-    go : (o : Option Description) → (elim o as (λ _. State) [ Some D ↦ record S { descriptions = set S.descriptions d (Some (record D { socket = s })) } | None ↦ S ]).processes ≡ S.processes
-    go None = refl
-    go (Some D) = refl
-
--- a process that is put in the place of another
-exits_set : (Ps : List Process) (i : ℕ) (Q : Process) → map (λ P. Process.exited P) (set Ps i Q) ≡ set (map (λ P. Process.exited P) Ps) i Q.exited
-exits_set [] i Q = refl
-exits_set (P ∷ Ps) zero Q = refl
-exits_set (P ∷ Ps) (suc i) Q = ap (λ l. P.exited ∷ l) (exits_set Ps i Q)
-
-set_same : (Ps : List Process) (i : ℕ) (P : Process) → slice_get Ps i ≡ Some P → set (map (λ P. Process.exited P) Ps) i P.exited ≡ map (λ P. Process.exited P) Ps
-set_same [] i P h = refl
-set_same (Q ∷ Ps) zero P h = let e : Q ≡ P = cc h in ap (λ R. Process.exited R ∷ map (λ P. Process.exited P) Ps) (sym e)
-set_same (Q ∷ Ps) (suc i) P h = ap (λ l. Q.exited ∷ l) (set_same Ps i P h)
-
-table_keeps : (S : State) (p : ℕ) (table : List (Option Descriptor)) → exits (with_table S p table) ≡ exits S
-table_keeps S zero table = refl
-table_keeps S (suc i) table = go (slice_get S.processes i) refl
-  where
-    go : (o : Option Process) → slice_get S.processes i ≡ o →
-        exits (elim o as (λ _. State) [ Some P ↦ record S { processes = set S.processes i (record P { table = table }) } | None ↦ S ]) ≡ exits S
-    go None h = refl
-    go (Some P) h = exits_set S.processes i (record P { table = table }) ∙ set_same S.processes i P h
-
--- ---- by what an outcome is made of
-
-abbrev IsKept : State → Outcome → Type 0
-IsKept S o = exits o.next ≡ exits S
-
-either : (S : State) (b : Bool) (x y : Outcome) → IsKept S x → IsKept S y → IsKept S (if b then x else y)
-either S true x y h k = h
-either S false x y h k = k
-
-maybe : {X : Type 0} (S : State) (o : Option X) (x : Outcome) (f : X → Outcome) → IsKept S x → ((a : X) → IsKept S (f a)) → IsKept S (elim o as (λ _. Outcome) [ None ↦ x | Some a ↦ f a ])
-maybe S None x f h k = h
-maybe S (Some a) x f h k = k a
-
-found : (S : State) (p : ℕ) (fd : Fd) (rest : Descriptor → Description → Outcome) → ((e : Descriptor) (D : Description) → IsKept S (rest e D)) → IsKept S (on_descriptor S p fd rest)
-found S p fd rest kept = go (descriptor_at S p fd)
-  where
-    open_at : (e : Descriptor) (o : Option Description) → IsKept S (elim (elim o as (λ _. Result (Descriptor × Description) Errno) [ None ↦ Err Errno.EBADF | Some D ↦ Ok (e, D) ]) as (λ _. Outcome) [ Err x ↦ refuse S x | Ok f ↦ rest f.0 f.1 ])
-    open_at e None = refl
-    open_at e (Some D) = kept e D
-
-    go : (o : Option Descriptor) → IsKept S (elim (elim o as (λ _. Result (Descriptor × Description) Errno) [
-      | None ↦ Err Errno.EBADF
-      | Some e ↦ elim (description_at S e.description) as (λ _. Result (Descriptor × Description) Errno) [ None ↦ Err Errno.EBADF | Some D ↦ Ok (e, D) ]
-    ]) as (λ _. Outcome) [ Err x ↦ refuse S x | Ok f ↦ rest f.0 f.1 ])
-    go None = refl
-    go (Some e) = open_at e (description_at S e.description)
-
--- ---- the calls
-
-pair_kept : (S : State) (p : ℕ) (flags : OpenFlags) → IsKept S (make_pair S p flags)
-unfolding make_pair
-pair_kept S p flags = maybe S (process_at S p) _ _ refl (λ P. maybe S (two_lowest_free P.table) _ _ refl (λ n. table_keeps (with_pair S flags) p _))
-
-send_kept : (S : State) (p tag : ℕ) (fd : Fd) (bytes : List ℕ) (flags : MsgFlags) → IsKept S (send_msg S p tag fd bytes flags)
-unfolding send_msg
-send_kept S p tag fd bytes flags = found S p fd _ (λ e D. either S (not (are_send_flags flags)) _ _ refl
-    (maybe S (socket_at S D.socket.peer) _ _ refl (λ other. either S (length bytes == 0) _ _ refl (either S (stream_room other == 0) _ _ refl
-    (ap (λ Ps. map (λ P. Process.exited P) Ps) (socket_keeps S D.socket.peer _))))))
-
-nothing_kept : (S : State) (d : ℕ) (s : Socket) → IsKept S (receive_nothing S d s)
-nothing_kept S d s = either S s.reset _ _ (ap (λ Ps. map (λ P. Process.exited P) Ps) (socket_keeps S d _)) (either S (is_none (socket_at S s.peer)) _ _ refl refl)
-
-receive_kept : (S : State) (p : ℕ) (fd : Fd) (n : ℕ) (flags : MsgFlags) → IsKept S (recv_msg S p fd n flags)
-unfolding recv_msg
-receive_kept S p fd n flags = found S p fd _ (λ e D. either S (not (are_receive_flags flags)) _ _ refl
-    (either S (n == 0) _ _ refl (either S (length D.socket.queue == 0) _ _ (nothing_kept S e.description D.socket)
-    (peeked e.description (shortened n D.socket) (asks_peek flags)))))
-  where
-    peeked : (d : ℕ) (s : Socket) (b : Bool) → exits (if b then S else with_socket S d s) ≡ exits S
-    peeked d s true = refl
-    peeked d s false = ap (λ Ps. map (λ P. Process.exited P) Ps) (socket_keeps S d s)
-
-close_kept : (S : State) (p : ℕ) (fd : Fd) → IsKept S (close S p fd)
-unfolding close
-close_kept S p fd = found S p fd _ (λ e D. table_keeps S p _)
-
 -- an exit ends its process
 set_past : (Ps : List Process) (i : ℕ) → slice_get Ps i ≡ None → set (map (λ P. Process.exited P) Ps) i true ≡ map (λ P. Process.exited P) Ps
 set_past [] i h = refl
@@ -146,13 +53,20 @@ exit_ends S i = go (slice_get S.processes i) refl
     go None h = sym (set_past S.processes i h)
     go (Some P) h = exits_set S.processes i (record P { exited = true; table = map (λ e. None) P.table })
 
-exit_has_memory : (S : State) (p : ℕ) → (exit S p).may_lack_memory ≡ false
+-- and takes no memory
+record IsOwn (o : Outcome) : Type 0 where
+  with_memory : lacks_memory o.reply ≡ false
+  without_failure : fails o.reply ≡ false
+  may : o.may_lack_memory ≡ false
+  failure : o.failure ≡ None
+
+exit_own : (S : State) (p : ℕ) → IsOwn (exit S p)
 unfolding exit
-exit_has_memory S p = go (process_at S p)
+exit_own S p = go (process_at S p)
   where
-    go : (o : Option Process) → (elim o as (λ _. Outcome) [ None ↦ refuse S Errno.ESRCH | Some P ↦ answer Reply.Ok (with_process S p (record P { exited = true; table = map (λ e. None) P.table })) ]).may_lack_memory ≡ false
-    go None = refl
-    go (Some P) = refl
+    go : (o : Option Process) → IsOwn (elim o as (λ _. Outcome) [ None ↦ refuse S Errno.ESRCH | Some P ↦ answer Reply.Ok (with_process S p (record P { exited = true; table = map (λ e. None) P.table })) ])
+    go None = record { with_memory = refl; without_failure = refl; may = refl; failure = refl }
+    go (Some P) = record { with_memory = refl; without_failure = refl; may = refl; failure = refl }
 
 -- ---- who lives
 
@@ -161,28 +75,16 @@ at_set [] i = refl
 at_set (x ∷ xs) zero = refl
 at_set (x ∷ xs) (suc i) = at_set xs i
 
-or_true : (b : Bool) → true ≡ b || true
-or_true true = refl
-or_true false = refl
-
-or_false : (b : Bool) → b ≡ b || false
-or_false true = refl
-or_false false = refl
-
 not_or : (a b : Bool) → not (a || b) ≡ not a && not b
 not_or true b = refl
 not_or false b = refl
-
-and_true : (b : Bool) → b ≡ b && true
-and_true true = refl
-and_true false = refl
 
 one_more : (xs : List Bool) (i j : ℕ) → get_or (set xs i true) j true ≡ get_or xs j true || (j == i)
 one_more xs i j = go (j == i) refl
   where
     go : (b : Bool) → (j == i) ≡ b → get_or (set xs i true) j true ≡ get_or xs j true || b
-    go true h = ap (λ n. get_or (set xs i true) n true) (eqb-true j i h) ∙ at_set xs i ∙ or_true (get_or xs j true)
-    go false h = get_or-set_other xs i j true true (eqb-false j i h) ∙ or_false (get_or xs j true)
+    go true h = ap (λ n. get_or (set xs i true) n true) (eqb-true j i h) ∙ at_set xs i ∙ sym (or-true (get_or xs j true))
+    go false h = get_or-set_other xs i j true true (eqb-false j i h) ∙ sym (or-false (get_or xs j true))
 
 same_test : (i j : ℕ) → (j == i) ≡ (suc i == suc j)
 same_test i j = go (j == i) refl
@@ -198,7 +100,7 @@ lives_set xs i (suc j) = ap not (one_more xs i j) ∙ not_or (get_or xs j true) 
 -- nobody has the number 0
 lives_none : (xs : List Bool) (q : ℕ) → lives xs q ≡ lives xs q && not (zero == q)
 lives_none xs zero = refl
-lives_none xs (suc j) = and_true (not (get_or xs j true)) ∙ ap (λ b. not (get_or xs j true) && not b) (sym (ne_eqb zero (suc j) (λ h. omega arith)))
+lives_none xs (suc j) = sym (and-true (not (get_or xs j true))) ∙ ap (λ b. not (get_or xs j true) && not b) (sym (ne_eqb zero (suc j) (λ h. omega arith)))
 
 exit_lives : (S : State) (p q : ℕ) → lives (exits (exit S p).next) q ≡ lives (exits S) q && not (p == q)
 unfolding exit
@@ -216,54 +118,63 @@ After S p request xs = ((q : ℕ) → lives xs q ≡ (lives (exits S) q && not (
 
 kept_after : (S : State) (p : ℕ) (request : Request) (xs : List Bool) → is_exit request ≡ false → xs ≡ exits S → After S p request xs
 kept_after S p request xs other e = (
-  λ q. ap (λ ys. lives ys q) e ∙ and_true (lives (exits S) q) ∙ ap (λ b. lives (exits S) q && not (b && (p == q))) (sym other),
+  λ q. ap (λ ys. lives ys q) e ∙ sym (and-true (lives (exits S) q)) ∙ ap (λ b. lives (exits S) q && not (b && (p == q))) (sym other),
   ap length e,
 )
 
-outcome_after : (S : State) (p tag : ℕ) (request : Request) → After S p request (exits (outcome S p tag request).next)
+plain_after : (S : State) (p : ℕ) (request : Request) (o : Outcome) → is_exit request ≡ false → IsPlain S o → (T : State) (reply : Reply) → Chosen S o reply T → After S p request (exits T)
+plain_after S p request o other plain T reply (own e f) = kept_after S p request (exits T) other (ap exits f ∙ plain.kept)
+plain_after S p request o other plain T reply (lacking_memory e may f) = kept_after S p request (exits T) other (ap exits f)
+plain_after S p request o other plain T reply (failing e f) = kept_after S p request (exits T) other (plain.kept_failing T f)
+
+exit_after : (S : State) (p : ℕ) (T : State) (reply : Reply) → Chosen S (exit S p) reply T → After S p Request.Exit (exits T)
+exit_after S p T reply (own e f) = subst (λ (U : State). After S p Request.Exit (exits U)) (sym f) (exit_lives S p, exit_long S p)
+exit_after S p T reply (lacking_memory e may f) = absurd (cc (may, (exit_own S p).may))
+exit_after S p T reply (failing e f) = absurd (cc (f, (exit_own S p).failure))
+
+-- An outcome's own reply tells neither of the two choices; and which processes live after whatever was chosen.
+abbrev IsCall : State → ℕ → Request → Outcome → Type 0
+IsCall S p request o = (lacks_memory o.reply ≡ false) × (fails o.reply ≡ false) × ((T : State) (reply : Reply) → Chosen S o reply T → After S p request (exits T))
+
+plain_call : (S : State) (p : ℕ) (request : Request) (o : Outcome) → is_exit request ≡ false → IsPlain S o → IsCall S p request o
+plain_call S p request o other plain = (plain.with_memory, plain.without_failure, plain_after S p request o other plain)
+
+pub each_call : (S : State) (p tag : ℕ) (request : Request) → IsCall S p request (outcome S p tag request)
 unfolding outcome
-outcome_after S p tag (Request.SocketPair kind flags) = kept_after S p (Request.SocketPair kind flags) _ refl (pair_kept S p flags)
-outcome_after S p tag (Request.SendMsg fd bytes flags) = kept_after S p (Request.SendMsg fd bytes flags) _ refl (send_kept S p tag fd bytes flags)
-outcome_after S p tag (Request.RecvMsg fd n space flags) = kept_after S p (Request.RecvMsg fd n space flags) _ refl (receive_kept S p fd n flags)
-outcome_after S p tag (Request.Close fd) = kept_after S p (Request.Close fd) _ refl (close_kept S p fd)
-outcome_after S p tag Request.Exit = (exit_lives S p, exit_long S p)
+each_call S p tag (Request.Open path mode flags) = plain_call S p (Request.Open path mode flags) _ refl (open_plain S p path mode flags)
+each_call S p tag (Request.Read fd n) = plain_call S p (Request.Read fd n) _ refl (read_plain S p fd n)
+each_call S p tag (Request.Write fd bytes) = plain_call S p (Request.Write fd bytes) _ refl (write_plain S p tag fd bytes)
+each_call S p tag (Request.Lseek fd offset whence) = plain_call S p (Request.Lseek fd offset whence) _ refl (lseek_plain S p fd offset whence)
+each_call S p tag (Request.Dup fd) = plain_call S p (Request.Dup fd) _ refl (dup_plain S p fd)
+each_call S p tag (Request.Dup2 fd to) = plain_call S p (Request.Dup2 fd to) _ refl (dup2_plain S p fd to)
+each_call S p tag (Request.SetFlags fd flags) = plain_call S p (Request.SetFlags fd flags) _ refl (flags_plain S p fd flags)
+each_call S p tag (Request.Close fd) = plain_call S p (Request.Close fd) _ refl (close_plain S p fd)
+each_call S p tag (Request.Unlink path) = plain_call S p (Request.Unlink path) _ refl (unlink_plain S path)
+each_call S p tag (Request.SocketPair kind flags) = plain_call S p (Request.SocketPair kind flags) _ refl (pair_plain S p flags)
+each_call S p tag (Request.SendMsg fd bytes flags) = plain_call S p (Request.SendMsg fd bytes flags) _ refl (send_plain S p tag fd bytes flags)
+each_call S p tag (Request.RecvMsg fd n space flags) = plain_call S p (Request.RecvMsg fd n space flags) _ refl (recv_plain S p fd n flags)
+each_call S p tag Request.Exit = ((exit_own S p).with_memory, (exit_own S p).without_failure, exit_after S p)
+each_call S p tag Request.Off = plain_call S p Request.Off _ refl (off_plain S)
 
--- want of memory changes nothing, and an exit wants none
-lacking_after : (S : State) (p tag : ℕ) (request : Request) → (outcome S p tag request).may_lack_memory ≡ true → After S p request (exits S)
-unfolding outcome
-lacking_after S p tag (Request.SocketPair kind flags) h = kept_after S p (Request.SocketPair kind flags) _ refl refl
-lacking_after S p tag (Request.SendMsg fd bytes flags) h = kept_after S p (Request.SendMsg fd bytes flags) _ refl refl
-lacking_after S p tag (Request.RecvMsg fd n space flags) h = kept_after S p (Request.RecvMsg fd n space flags) _ refl refl
-lacking_after S p tag (Request.Close fd) h = kept_after S p (Request.Close fd) _ refl refl
-lacking_after S p tag Request.Exit h = absurd (cc (h, exit_has_memory S p))
-
-chosen_after : (S T : State) (p tag : ℕ) (request : Request) (reply : Reply) → Chosen S (outcome S p tag request) reply T → After S p request (exits T)
-chosen_after S T p tag request reply (own e f) = subst (λ (U : State). After S p request (exits U)) (sym f) (outcome_after S p tag request)
-chosen_after S T p tag request reply (lacking_memory e may f) = subst (λ (U : State). After S p request (exits U)) (sym f) (lacking_after S p tag request may)
-
-step_keeps : (S T : State) (p tag : ℕ) (request : Request) (reply : Reply) → Step S p tag request reply T → After S p request (exits T)
-unfolding Step settled
-step_keeps S T p tag request reply s =
-    let same : exits T ≡ exits s.0 = ap exits s.2 ∙ ap (λ Ps. map (λ P. Process.exited P) Ps) (settled_keeps (length s.0.descriptions) s.0) in
-    subst (λ (xs : List Bool). After S p request xs) (sym same) (chosen_after S s.0 p tag request reply s.1)
+step_keeps : (S T : State) (p tag : ℕ) (request : Request) (reply : Reply) (gone : List ℕ) → Step S p tag request reply gone T → After S p request (exits T)
+unfolding Step settled drop_unreferenced
+step_keeps S T p tag request reply gone s =
+    let same : exits T ≡ exits s.0 = ap exits s.3 ∙ ap (λ Ps. map (λ P. Process.exited P) Ps) (settled_keeps (length s.0.descriptions) s.0) in
+    subst (λ (xs : List Bool). After S p request xs) (sym same) ((each_call S p tag request).2 s.0 reply s.1)
 
 pub exit_alone_ends : ExitAloneEnds
-exit_alone_ends S T p tag q request reply s =
-    live_is T q ∙ (step_keeps S T p tag request reply s).0 q ∙ ap (λ b. b && not (is_exit request && (p == q))) (sym (live_is S q))
+exit_alone_ends S T p tag q request reply gone s =
+    live_is T q ∙ (step_keeps S T p tag request reply gone s).0 q ∙ ap (λ b. b && not (is_exit request && (p == q))) (sym (live_is S q))
 
 pub step_keeps_processes : StepKeepsProcesses
-step_keeps_processes S T p tag request reply s =
-    sym (length-map T.processes (λ P. Process.exited P)) ∙ (step_keeps S T p tag request reply s).1 ∙ length-map S.processes (λ P. Process.exited P)
+step_keeps_processes S T p tag request reply gone s =
+    sym (length-map T.processes (λ P. Process.exited P)) ∙ (step_keeps S T p tag request reply gone s).1 ∙ length-map S.processes (λ P. Process.exited P)
 
 -- ---- over a history
 
 exited_push : (p : ℕ) (es : List Entry) (e : Entry) → has_exited p (es ++ e ∷ []) ≡ has_exited p es || (is_exit e.request && (e.pid.0 == p))
-exited_push p [] e = sym (or_false (is_exit e.request && (e.pid.0 == p)))
+exited_push p [] e = or-false (is_exit e.request && (e.pid.0 == p))
 exited_push p (x ∷ es) e = ap (λ b. (is_exit x.request && (x.pid.0 == p)) || b) (exited_push p es e) ∙ sym (or_assoc (is_exit x.request && (x.pid.0 == p)) (has_exited p es) (is_exit e.request && (e.pid.0 == p)))
-  where
-    or_assoc : (a b c : Bool) → (a || b) || c ≡ a || (b || c)
-    or_assoc true b c = refl
-    or_assoc false b c = refl
 
 neither : (a h t : Bool) → (a && not h) && not t ≡ a && not (h || t)
 neither true true t = refl
@@ -285,7 +196,7 @@ abbrev LivesAfter : State → ℕ → List Entry → Type 0
 LivesAfter boot p es = is_live (replay boot es) p ≡ (is_live boot p && not (has_exited p es))
 
 lives_front : (boot : State) (es : List Entry) (p n : ℕ) → IsLegal boot es → LivesAfter boot p (take n es)
-lives_front boot es p zero legal = and_true (is_live boot p)
+lives_front boot es p zero legal = sym (and-true (is_live boot p))
 lives_front boot es p (suc n) legal = go (slice_get es n) refl (lives_front boot es p n legal)
   where
     go : (o : Option Entry) → slice_get es n ≡ o → LivesAfter boot p (take n es) → LivesAfter boot p (take (suc n) es)
@@ -293,7 +204,7 @@ lives_front boot es p (suc n) legal = go (slice_get es n) refl (lives_front boot
     go (Some e) h so_far =
         let may = legal.each n e h in
         subst (LivesAfter boot p) (sym (take_next es n e h))
-        (exit_alone_ends (replay boot (take n es)) (replay boot (take n es ++ e ∷ [])) e.pid.0 (length (take n es)) p e.request e.reply may.steps
+        (exit_alone_ends (replay boot (take n es)) (replay boot (take n es ++ e ∷ [])) e.pid.0 (length (take n es)) p e.request e.reply e.released may.steps
         ∙ ap (λ b. b && not (is_exit e.request && (e.pid.0 == p))) so_far
         ∙ neither (is_live boot p) (has_exited p (take n es)) (is_exit e.request && (e.pid.0 == p))
         ∙ ap (λ b. is_live boot p && not b) (sym (exited_push p (take n es) e)))

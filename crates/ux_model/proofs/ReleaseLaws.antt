@@ -1,12 +1,12 @@
 -- Dropping descriptions in two goes is dropping them at once.
-use Rattle.std.specs.Prelude.{◌≡◌, ℕ, zero, suc, ◌+◌, Bool, true, false, ◌&&◌, ◌||◌, if◌then◌else◌, List, [], ◌∷◌, map, Option, Some, None, option_map, refl}
+use Rattle.std.specs.Prelude.{◌≡◌, ℕ, zero, suc, ◌+◌, Bool, true, false, ◌&&◌, ◌||◌, if◌then◌else◌, List, [], ◌∷◌, map, Option, Some, None, option_map, option_and_then, refl}
 use Rattle.std.specs.List.{enumerate_from}
 use Rattle.std.proofs.Common.{sym, ◌∙◌, ap, arith}
 use Rattle.ux_model.specs.Places.{place}
 use Rattle.ux_model.specs.Socket.{Socket}
-use Rattle.ux_model.specs.Description.{Description}
+use Rattle.ux_model.specs.Description.{Description, Target, to_object, to_socket, socket_of}
 use Rattle.ux_model.specs.State.{State, description_at, socket_at}
-use Rattle.ux_model.specs.Release.{resets_peer, socket_after_loss, description_after_loss, place_after_loss, without}
+use Rattle.ux_model.specs.Release.{resets_peer, socket_after_loss, target_after_loss, description_after_loss, place_after_loss, without}
 
 -- ---- lists of places
 
@@ -33,15 +33,21 @@ description_at-without gone S d =
     place-map (place_after_loss gone S) (none_stays gone S) 0 d S.descriptions ∙ ap (λ n. place_after_loss gone S (n, description_at S d)) e
 
 -- what a socket loses nothing of, when its own peer goes: its queue
+resets-target : (gone : ℕ → Bool) (S : State) (t : Target) → resets_peer (socket_of (target_after_loss gone S t)) ≡ resets_peer (socket_of t)
+resets-target gone S (to_object o) = refl
+resets-target gone S (to_socket s) = refl
+
+abbrev socket_in : Option Description → Option Socket
+socket_in D = option_and_then (λ D. socket_of (Description.target D)) D
+
 resets-place : (gone : ℕ → Bool) (S : State) (b : Bool) (D : Option Description) →
-    resets_peer (option_map (λ D. Description.socket D) (if b then None else option_map (description_after_loss gone S) D))
-    ≡ (if b then false else resets_peer (option_map (λ D. Description.socket D) D))
+    resets_peer (socket_in (if b then None else option_map (description_after_loss gone S) D)) ≡ (if b then false else resets_peer (socket_in D))
 resets-place gone S true D = refl
 resets-place gone S false None = refl
-resets-place gone S false (Some D) = refl
+resets-place gone S false (Some D) = resets-target gone S D.target
 
 resets-without : (gone : ℕ → Bool) (S : State) (p : ℕ) → resets_peer (socket_at (without gone S) p) ≡ (if gone p then false else resets_peer (socket_at S p))
-resets-without gone S p = ap (λ D. resets_peer (option_map (λ D. Description.socket D) D)) (description_at-without gone S p) ∙ resets-place gone S (gone p) (description_at S p)
+resets-without gone S p = ap (λ D. resets_peer (socket_in D)) (description_at-without gone S p) ∙ resets-place gone S (gone p) (description_at S p)
 
 -- ---- in two goes
 
@@ -62,6 +68,11 @@ socket_twice : (now later : ℕ → Bool) (S : State) (s : Socket) →
 socket_twice now later S s = (λ j. record s { reset = (s.reset || (now s.peer && resets_peer (socket_at S s.peer))) || (later s.peer && resets-without now S s.peer j) })
     ∙ (λ j. record s { reset = flags s.reset (now s.peer) (later s.peer) (resets_peer (socket_at S s.peer)) j })
 
+target_twice : (now later : ℕ → Bool) (S : State) (t : Target) →
+    target_after_loss later (without now S) (target_after_loss now S t) ≡ target_after_loss (either now later) S t
+target_twice now later S (to_object o) = refl
+target_twice now later S (to_socket s) = ap to_socket (socket_twice now later S s)
+
 place_twice : (now later : ℕ → Bool) (S : State) (i : ℕ) (D : Option Description) (y x : Bool) →
     (if x then None else option_map (description_after_loss later (without now S)) (if y then None else option_map (description_after_loss now S) D))
     ≡ (if y || x then None else option_map (description_after_loss (either now later) S) D)
@@ -69,7 +80,7 @@ place_twice now later S i D true true = refl
 place_twice now later S i D true false = refl
 place_twice now later S i D false true = refl
 place_twice now later S i None false false = refl
-place_twice now later S i (Some D) false false = ap (λ s. Some (record D { socket = s })) (socket_twice now later S D.socket)
+place_twice now later S i (Some D) false false = ap (λ t. Some (record D { target = t })) (target_twice now later S D.target)
 
 pub without-without : (now later : ℕ → Bool) (S : State) → without later (without now S) ≡ without (either now later) S
 unfolding without

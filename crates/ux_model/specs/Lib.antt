@@ -12,11 +12,15 @@ pub mod State
 pub mod References
 pub mod Release
 pub mod Outcome
+pub mod Naming
 pub mod Pairing
 pub mod Stream
 pub mod Sending
 pub mod Receiving
+pub mod Files
+pub mod Descriptors
 pub mod Closing
 pub mod Step
+pub mod Moves
 pub mod Boot
 pub mod History

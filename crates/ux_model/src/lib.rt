@@ -5,6 +5,7 @@
 
 ghost use Rattle.ux_model.specs.Release.{EndsAlike};
 ghost use Rattle.ux_model.specs.History.{LeadsToOne, FrontIsLegal, ExitAloneEnds, StepKeepsProcesses, LivesUntilExit};
+ghost use Rattle.ux_model.specs.Moves.{PutEntryCounts, TakenEntryCountsNot, NewKeepsReferences, ChangeKeepsReferences, NewCountsAtObject, SameTargetCountsAlike, TakenPathCountsNot};
 
 /// Descriptions without a reference may be dropped one at a time and in any order: the same state is
 /// left as when all go at once, again and again.
@@ -42,4 +43,46 @@ pub fn step_keeps_processes()
 #[tactic(auto, using(crate::proofs::Living::lives_until_exit))]
 pub fn processes_live_until_their_exit()
     ensures { LivesUntilExit }
+{}
+
+/// An entry that is put at a number of a process counts in place of what was open there.
+#[tactic(auto, using(crate::proofs::Moves::put_entry_counts))]
+pub fn put_entry_counts()
+    ensures { PutEntryCounts }
+{}
+
+/// An entry that is taken away no longer counts.
+#[tactic(auto, using(crate::proofs::Moves::taken_entry_counts_not))]
+pub fn taken_entry_counts_not()
+    ensures { TakenEntryCountsNot }
+{}
+
+/// A new description leaves all references as they are, and has none itself.
+#[tactic(auto, using(crate::proofs::Moves::new_keeps_references))]
+pub fn new_description_keeps_references()
+    ensures { NewKeepsReferences }
+{}
+
+/// So does a change of a description.
+#[tactic(auto, using(crate::proofs::Moves::change_keeps_references))]
+pub fn changed_description_keeps_references()
+    ensures { ChangeKeepsReferences }
+{}
+
+/// A new description counts at the file object that it leads to.
+#[tactic(auto, using(crate::proofs::Moves::new_counts_at_object))]
+pub fn new_description_counts_at_its_object()
+    ensures { NewCountsAtObject }
+{}
+
+/// A description that leads to the same file object as before counts as before.
+#[tactic(auto, using(crate::proofs::Moves::same_target_counts_alike))]
+pub fn same_target_counts_alike()
+    ensures { SameTargetCountsAlike }
+{}
+
+/// A path that is taken away no longer counts at the file object that it named.
+#[tactic(auto, using(crate::proofs::Moves::taken_path_counts_not))]
+pub fn taken_path_counts_not()
+    ensures { TakenPathCountsNot }
 {}
