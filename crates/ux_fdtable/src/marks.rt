@@ -6,8 +6,8 @@ ghost use Rattle.ux_fdtable.specs.Marking.{FindsClear, FindsClearBit, FindsOpenW
 use std::alloc::{AllocError, Global};
 use std::marker::Model;
 
-/// The bits of a word.
-const BITS: usize = 64;
+/// The bits of a word of marks.
+pub(crate) const BITS: usize = 64;
 
 /// Marks on the numbers from 0 on. `words` has a bit for each, and `full` a bit for each word of which
 /// every bit is set, so that a search looks at three words at most.

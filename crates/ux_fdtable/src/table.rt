@@ -8,7 +8,7 @@ ghost use Rattle.ux_model.specs.References.{table_refs};
 ghost use Rattle.ux_fdtable.specs.Padded.{FindsFree, padded};
 
 use super::descriptor::{DescriptionId, Descriptor};
-use super::marks::Marks;
+use super::marks::{BITS, Marks};
 use std::alloc::{AllocError, Global};
 use std::marker::Model;
 use thiserror::Error;
@@ -16,9 +16,6 @@ use ux_types::Fd;
 
 /// The most descriptors that one process may have.
 const GREATEST_LIMIT: u32 = 1024;
-
-/// The bits of a word of marks.
-const BITS: usize = 64;
 
 /// Why a descriptor got no number.
 #[derive(Clone, Copy, Debug, PartialEq, Eq, Error)]
@@ -137,7 +134,7 @@ impl Table {
     /// # Errors
     ///
     /// `Full` exactly where fewer than two are free, else `NoMemory`. The table is then as before.
-    #[tactic(auto, using(crate::proofs::TwoFree::the_two, crate::proofs::TwoFree::taken_back))]
+    #[tactic(auto, using(crate::proofs::TwoFree::first_inside, crate::proofs::TwoFree::second_inside, crate::proofs::TwoFree::taken_back))]
     pub fn install_two(
         &mut self,
         first: Descriptor,
@@ -148,16 +145,16 @@ impl Table {
         ensures full { (result ≡ Err InstallError.Full) ↔ (two_lowest_free self.old ≡ None) }
         ensures err { OnErr result (self.new ≡ self.old) }
     {
-        if self.two_lowest_free().is_none() {
+        let Some((low, high)) = self.two_lowest_free() else {
             return Err(InstallError::Full);
-        }
-        let Ok(low) = self.install(first) else {
-            return Err(InstallError::NoMemory);
         };
-        let Ok(high) = self.install(second) else {
+        if self.put(low.0 as usize, first).is_err() {
+            return Err(InstallError::NoMemory);
+        }
+        if self.put(high.0 as usize, second).is_err() {
             let _ = self.remove(low);
             return Err(InstallError::NoMemory);
-        };
+        }
         Ok((low, high))
     }
 
