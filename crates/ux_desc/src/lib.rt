@@ -1,0 +1,16 @@
+//! The open file description: what all descriptors of one open file share, and what it leads to, a file
+//! object or a socket with its queue.
+#![tactic(auto)]
+
+mod description;
+mod message;
+mod queue;
+mod socket;
+
+pub use description::{Description, Target};
+pub use message::Message;
+pub use queue::Queue;
+pub use socket::Socket;
+
+#[cfg(test)]
+mod tests;
