@@ -1,0 +1,10 @@
+use Rattle.std.proofs.Common.{not, rules}
+use Rattle.std.proofs.lemmas.Fn.{filter_same}
+use Rattle.ux_model.specs.Naming.{same_name}
+use Rattle.ux_state.proofs.Found.{unlinked}
+use Rattle.ux_state.proofs.state.State.unlink.Goals as goal
+
+pub returns : goal.returns
+returns g c =
+    let kept = filter_same _ (λ e. not (same_name e.0 c.args.name.now)) _ (λ x b f' k. search rules) _ _ c.retain.ensures.filtered in
+    unlinked _ _ c.args.name.now _ c.self.view_is kept

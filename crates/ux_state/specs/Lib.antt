@@ -1,0 +1,4 @@
+pub mod ObjectCalls
+pub mod Counting
+pub mod Keeping
+pub mod Moves

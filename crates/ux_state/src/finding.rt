@@ -1,0 +1,122 @@
+//! What a number leads to.
+ghost use Rattle.std.specs.Prelude.{◌≡◌, ◌<◌, ◌≤◌, Some, None, Ok, Err, IsTrue, MatchOption, MatchResult, length};
+ghost use Rattle.ux_model.specs.Limits.{process_limit};
+ghost use Rattle.ux_model.specs.Flags.{can_read, can_write};
+ghost use Rattle.ux_model.specs.Places.{place};
+ghost use Rattle.ux_model.specs.State.{description_at, socket_at, table_of, is_live};
+ghost use Rattle.ux_model.specs.Outcome.{find_description, find_socket};
+ghost use Rattle.ux_model.specs.Files.{is_open_for};
+ghost use Rattle.ux_model.specs.History.{has_live};
+
+use crate::state::State;
+use ux_desc::{Description, Socket};
+use ux_fdtable::{DescriptionId, Descriptor, Table};
+use ux_object::FileObject;
+use ux_types::{Errno, Fd, Pid};
+
+impl<O: FileObject> State<O> {
+    /// How many processes were made, exited ones too.
+    pub fn process_count(&self) -> usize
+        ensures count { result ≡ length self.now.processes }
+        ensures most { result ≤ process_limit }
+    {
+        self.processes.len()
+    }
+
+    /// Whether a process with this number was made, and hasn't exited.
+    #[tactic(auto, using(crate::proofs::Lookups::live_is, crate::proofs::Lookups::live_none, crate::proofs::Lookups::live_zero))]
+    pub fn is_live(&self, pid: Pid) -> bool
+        ensures { result ≡ is_live self.now pid.0 }
+    {
+        if pid.0 == 0 {
+            return false;
+        }
+        match self.processes.get(pid.0 as usize - 1) {
+            Some(process) => !process.exited,
+            None => false,
+        }
+    }
+
+    /// Whether some process hasn't exited.
+    pub fn has_live(&self) -> bool
+        ensures { result ≡ has_live self.now }
+    {
+        self.processes.iter().any(|process| !process.exited)
+    }
+
+    /// The descriptor table of a process.
+    #[tactic(auto, using(crate::proofs::Lookups::live_inside, crate::proofs::Lookups::live_positive, crate::proofs::Lookups::table_here))]
+    pub fn table(&self, pid: Pid) -> &Table
+        requires { IsTrue (is_live self.now pid.0) }
+        ensures { result.now ≡ table_of self.now pid.0 }
+    {
+        let process = &self.processes[pid.0 as usize - 1];
+        &process.table
+    }
+
+    /// The description that a handle names, while it is there.
+    #[tactic(auto, using(crate::proofs::Lookups::place_found, crate::proofs::Lookups::place_past))]
+    pub fn description(&self, id: DescriptionId) -> Option<&Description>
+        ensures { MatchOption result (description_at self.now id ≡ None) (λ x. description_at self.now id ≡ Some x.now) }
+    {
+        let d = self.index_of(id)?;
+        self.descriptions[d].as_ref()
+    }
+
+    /// The descriptor with a number, and its description.
+    ///
+    /// # Errors
+    ///
+    /// EBADF where the number isn't open.
+    pub fn find_description(&self, pid: Pid, fd: Fd) -> Result<(Descriptor, &Description), Errno>
+        requires { IsTrue (is_live self.now pid.0) }
+        ensures { MatchResult result (λ r. find_description self.now pid.0 fd ≡ Ok (r.0, r.1.now)) (λ e. find_description self.now pid.0 fd ≡ Err e) }
+    {
+        let Some(e) = self.table(pid).get(fd) else {
+            return Err(Errno::EBADF);
+        };
+        match self.description(e.description) {
+            Some(x) => Ok((e, x)),
+            None => Err(Errno::EBADF),
+        }
+    }
+
+    /// The socket that a number leads to, and the handle of its description.
+    ///
+    /// # Errors
+    ///
+    /// EBADF where the number isn't open, ENOTSOCK where it leads to no socket.
+    pub fn find_socket(&self, pid: Pid, fd: Fd) -> Result<(DescriptionId, &Socket), Errno>
+        requires { IsTrue (is_live self.now pid.0) }
+        ensures { MatchResult result (λ r. find_socket self.now pid.0 fd ≡ Ok (r.0, r.1.now)) (λ e. find_socket self.now pid.0 fd ≡ Err e) }
+    {
+        let (e, x) = match self.find_description(pid, fd) {
+            Ok(found) => found,
+            Err(refusal) => return Err(refusal),
+        };
+        match x.socket() {
+            Some(s) => Ok((e.description, s)),
+            None => Err(Errno::ENOTSOCK),
+        }
+    }
+
+    /// The socket of the description that a handle names, while it is there.
+    pub fn socket(&self, id: DescriptionId) -> Option<&Socket>
+        ensures { MatchOption result (socket_at self.now id ≡ None) (λ s. socket_at self.now id ≡ Some s.now) }
+    {
+        match self.description(id) {
+            Some(x) => x.socket(),
+            None => None,
+        }
+    }
+
+    /// The place of the description that a handle names, if there is one.
+    pub(crate) fn index_of(&self, id: DescriptionId) -> Option<usize>
+        ensures { MatchOption result (length self.now.descriptions ≤ id) (λ d. (d ≡ id) × (d < length self.now.descriptions)) }
+    {
+        match usize::try_from(id.number()) {
+            Ok(d) if d < self.descriptions.len() => Some(d),
+            _ => None,
+        }
+    }
+}

@@ -1,0 +1,23 @@
+//! The whole state of the layer as one value: file objects, open file descriptions, processes with their
+//! descriptor tables, and paths. It changes by named moves, each a method with its own clause, and
+//! `settle` lets go of what nothing refers to any more. Whatever counts or refers lies behind it.
+#![tactic(auto)]
+
+mod descriptions;
+mod entries;
+mod finding;
+mod making;
+mod naming;
+mod objects;
+mod openings;
+mod process;
+mod release;
+mod retired;
+mod slot;
+mod state;
+
+pub use retired::Retired;
+pub use state::State;
+
+#[cfg(test)]
+mod tests;

@@ -1,0 +1,113 @@
+//! The first state.
+ghost use Rattle.std.specs.Prelude.{◌≡◌, ◌≤◌, [], IsTrue, IfOk, IfErr, length, map, replicate, vec_len, vec_capacity, Some};
+ghost use Rattle.std.specs.List.{list_all, enumerate_from};
+ghost use Rattle.ux_model.specs.Limits.{object_limit, process_limit};
+ghost use Rattle.ux_model.specs.Boot.{boot_state, new_process};
+ghost use Rattle.ux_state.specs.Counting.{none_open};
+
+use crate::naming::Path;
+use crate::openings::Openings;
+use crate::process::Process;
+use crate::slot::Slot;
+use crate::state::State;
+use std::alloc::{AllocError, Global};
+use ux_object::FileObject;
+use ux_types::{Name, ProcSpec};
+
+/// The file objects of a state and their paths.
+#[derive(Drop)]
+struct Files<O: FileObject> {
+    objects: Vec<Slot<O>>,
+    paths: Vec<Path>,
+}
+
+impl<O: FileObject> State<O> {
+    /// A state with these open file objects, each under its path, and these processes, numbered from 1
+    /// on, in which nothing was made yet. The objects come back where memory is wanting.
+    pub fn new(
+        alloc: Global,
+        objects: Vec<(Name, O)>,
+        procs: &[ProcSpec],
+    ) -> Result<State<O>, Vec<(Name, O)>>
+        requires few_objects { length objects.items ≤ object_limit }
+        requires few_processes { length procs.now ≤ process_limit }
+        requires open { IsTrue (list_all (λ o. (O.view o.1).opened) objects.items) }
+        ensures state { IfOk result (λ s. s ≡ boot_state (map (λ o. (o.0, O.view o.1)) objects.items) procs.now) }
+        ensures back { IfErr result (λ back. back ≡ objects) }
+    {
+        let Ok(room) = room_for(alloc, objects.len()) else {
+            return Err(objects);
+        };
+        let Ok(openings) = none_for(alloc, objects.len()) else {
+            return Err(objects);
+        };
+        let Ok(processes) = new_processes(alloc, procs) else {
+            return Err(objects);
+        };
+        let files = filled(room, objects);
+        Ok(State {
+            objects: files.objects,
+            openings,
+            descriptions: Vec::new(alloc),
+            processes,
+            paths: files.paths,
+        })
+    }
+}
+
+/// Room for so many file objects.
+fn room_for<O: FileObject>(alloc: Global, count: usize) -> Result<Files<O>, AllocError>
+    ensures objects { IfOk result (λ f. f.objects.items ≡ []) }
+    ensures objects_room { IfOk result (λ f. count ≤ vec_capacity f.objects) }
+    ensures paths { IfOk result (λ f. f.paths.items ≡ []) }
+    ensures paths_room { IfOk result (λ f. count ≤ vec_capacity f.paths) }
+{
+    Ok(Files {
+        objects: Vec::with_capacity(alloc, count)?,
+        paths: Vec::with_capacity(alloc, count)?,
+    })
+}
+
+/// A count for each of so many file objects, of which nothing is open.
+fn none_for(alloc: Global, count: usize) -> Result<Vec<Openings>, AllocError>
+    ensures { IfOk result (λ v. v.items ≡ replicate count none_open) }
+{
+    Ok(vec![in alloc; Openings::new(); count]?)
+}
+
+/// A process for each that is wanted.
+fn new_processes(alloc: Global, procs: &[ProcSpec]) -> Result<Vec<Process>, AllocError>
+    ensures { IfOk result (λ v. v.items ≡ map new_process procs.now) }
+{
+    let mut processes = Vec::with_capacity(alloc, procs.len())?;
+    for spec in procs {
+        processes.push(Process::new(alloc, spec)?)?;
+    }
+    Ok(processes)
+}
+
+/// These file objects, numbered from 0 on, in room that is there.
+fn filled<O: FileObject>(files: Files<O>, objects: Vec<(Name, O)>) -> Files<O>
+    requires no_objects { files.objects.items ≡ [] }
+    requires objects_room { vec_len objects ≤ vec_capacity files.objects }
+    requires no_paths { files.paths.items ≡ [] }
+    requires paths_room { vec_len objects ≤ vec_capacity files.paths }
+    requires few { length objects.items ≤ object_limit }
+    requires open { IsTrue (list_all (λ o. (O.view o.1).opened) objects.items) }
+    ensures objects { result.objects.items ≡ map (λ o. Some (O.view o.1)) objects.items }
+    ensures paths { result.paths.items ≡ map (λ e. (e.1.0, e.0)) (enumerate_from 0 objects.items) }
+{
+    let mut slots = files.objects;
+    let mut paths = files.paths;
+    for (name, object) in objects {
+        paths.push_reserved(Path {
+            name,
+            object: slots.len() as u32,
+        });
+        slots.push_reserved(Slot::new(object));
+    }
+    Files {
+        objects: slots,
+        paths,
+    }
+}

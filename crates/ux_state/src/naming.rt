@@ -1,0 +1,44 @@
+//! Paths, and the file objects that they name.
+ghost use Rattle.std.specs.Prelude.{◌≡◌, filter, not};
+ghost use Rattle.ux_model.specs.Naming.{named, same_name};
+
+use crate::state::State;
+use std::marker::Model;
+use ux_object::FileObject;
+use ux_types::Name;
+
+/// A path, and the number of the file object that it names.
+#[derive(Drop)]
+pub(crate) struct Path {
+    pub(crate) name: Name,
+    pub(crate) object: u32,
+}
+
+impl Model for Path {
+    ghost use Rattle.std.specs.Prelude.{List, ℕ};
+
+    ghost Value = { List ℕ × ℕ };
+
+    ghost view = { λ p. (p.name, p.object) };
+}
+
+impl<O: FileObject> State<O> {
+    /// The file object that a path names.
+    pub fn path(&self, name: &Name) -> Option<u32>
+        ensures { result ≡ named name.now self.now.paths }
+    {
+        for path in &self.paths {
+            if path.name == *name {
+                return Some(path.object);
+            }
+        }
+        None
+    }
+
+    /// Takes away a path (unlink(2)).
+    pub fn unlink(&mut self, name: &Name)
+        ensures { self.new ≡ record self.old { paths = filter (λ e. not (same_name e.0 name.now)) self.old.paths } }
+    {
+        self.paths.retain(|path| path.name != *name);
+    }
+}

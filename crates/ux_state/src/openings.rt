@@ -1,0 +1,91 @@
+//! How many descriptions of each file object are open for reading, and for writing.
+ghost use Rattle.std.specs.Prelude.{◌≡◌, ◌+◌, ◌<◌, ◌≤◌, ◌^◌, ℕ, length};
+ghost use Rattle.ux_model.specs.Flags.{can_read, can_write};
+ghost use Rattle.ux_state.specs.Counting.{Counted, HasMore, HasRoom, IsAmong, more, one_if};
+
+use ux_desc::Description;
+use ux_types::Mode;
+
+/// How many descriptions of one file object are open for what.
+#[derive(Clone, Copy)]
+pub(crate) struct Openings {
+    pub(crate) readers: usize,
+    pub(crate) writers: usize,
+}
+
+/// Whether a file that is open so can be read.
+pub(crate) fn can_read(mode: Mode) -> bool
+    ensures { result ≡ can_read mode }
+{
+    matches!(mode, Mode::Read | Mode::Both)
+}
+
+/// Whether a file that is open so can be written.
+pub(crate) fn can_write(mode: Mode) -> bool
+    ensures { result ≡ can_write mode }
+{
+    matches!(mode, Mode::Write | Mode::Both)
+}
+
+impl Openings {
+    /// None.
+    pub(crate) fn new() -> Openings
+        ensures readers { result.readers ≡ 0 }
+        ensures writers { result.writers ≡ 0 }
+    {
+        Openings {
+            readers: 0,
+            writers: 0,
+        }
+    }
+
+    /// With one more description that is open for this.
+    fn with(self, mode: Mode) -> Openings
+        requires readers { self.readers + 1 < 2 ^ 64 }
+        requires writers { self.writers + 1 < 2 ^ 64 }
+        ensures { result ≡ more mode self }
+    {
+        Openings {
+            readers: self.readers + can_read(mode) as usize,
+            writers: self.writers + can_write(mode) as usize,
+        }
+    }
+
+    /// Without one of the descriptions that are open for this.
+    fn without(self, mode: Mode) -> Openings
+        requires readers { one_if (can_read mode) ≤ self.readers }
+        requires writers { one_if (can_write mode) ≤ self.writers }
+        ensures { more mode result ≡ self }
+    {
+        Openings {
+            readers: self.readers - can_read(mode) as usize,
+            writers: self.writers - can_write(mode) as usize,
+        }
+    }
+}
+
+/// Counts a description that is made.
+pub(crate) fn count_in(openings: &mut Vec<Openings>, description: &Description)
+    requires { HasRoom openings.old.items }
+    ensures { HasMore description.now openings.old.items openings.new.items }
+{
+    if let Some(object) = description.object() {
+        let o = object as usize;
+        if o < openings.len() {
+            openings[o] = openings[o].with(description.mode());
+        }
+    }
+}
+
+/// No longer counts a description that goes.
+pub(crate) fn count_out(openings: &mut Vec<Openings>, description: &Description)
+    requires { IsAmong description.now openings.old.items }
+    ensures { HasMore description.now openings.new.items openings.old.items }
+{
+    if let Some(object) = description.object() {
+        let o = object as usize;
+        if o < openings.len() {
+            openings[o] = openings[o].without(description.mode());
+        }
+    }
+}

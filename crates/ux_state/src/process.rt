@@ -1,0 +1,49 @@
+//! A process and its descriptor table.
+ghost use Rattle.std.specs.Prelude.{◌≡◌, map, None, true, IfOk};
+ghost use Rattle.ux_model.specs.Boot.{new_process};
+
+use std::alloc::{AllocError, Global};
+use std::marker::Model;
+use ux_fdtable::Table;
+use ux_types::ProcSpec;
+
+/// A process.
+#[derive(Drop)]
+pub(crate) struct Process {
+    pub(crate) uid: u32,
+    pub(crate) gid: u32,
+    pub(crate) privileged: bool,
+    pub(crate) exited: bool,
+    pub(crate) table: Table,
+}
+
+impl Model for Process {
+    ghost use Rattle.ux_model.specs.Process as model;
+
+    ghost Value = { model.Process };
+
+    ghost view = { λ p. record { uid = p.uid; gid = p.gid; privileged = p.privileged; exited = p.exited; table = p.table } };
+}
+
+impl Process {
+    /// A process that has opened nothing yet.
+    pub(crate) fn new(alloc: Global, spec: &ProcSpec) -> Result<Process, AllocError>
+        ensures { IfOk result (λ P. P ≡ new_process spec.now) }
+    {
+        Ok(Process {
+            uid: spec.uid,
+            gid: spec.gid,
+            privileged: spec.privileged,
+            exited: false,
+            table: Table::new(alloc, spec.limit)?,
+        })
+    }
+
+    /// Ends it: all its descriptors are closed.
+    pub(crate) fn exit(&mut self)
+        ensures { self.new ≡ record self.old { exited = true; table = map (λ e. None) self.old.table } }
+    {
+        self.exited = true;
+        self.table.clear();
+    }
+}

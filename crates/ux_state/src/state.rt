@@ -1,0 +1,34 @@
+//! The whole state as one value.
+use crate::naming::Path;
+use crate::openings::Openings;
+use crate::process::Process;
+use crate::slot::Slot;
+use std::marker::Model;
+use ux_desc::Description;
+use ux_object::FileObject;
+
+/// All file objects, open file descriptions, processes and paths. Contracts see it as the state that the
+/// definitions speak of.
+#[derive(Drop)]
+pub struct State<O: FileObject> {
+    /// By number.
+    pub(crate) objects: Vec<Slot<O>>,
+    /// What the descriptions of each file object are open for, so that no call looks through them.
+    pub(crate) openings: Vec<Openings>,
+    /// By number, in order of making; empty once dropped.
+    pub(crate) descriptions: Vec<Option<Description>>,
+    /// The process with number 1 first.
+    pub(crate) processes: Vec<Process>,
+    pub(crate) paths: Vec<Path>,
+}
+
+impl<O: FileObject> Model for State<O> {
+    ghost use Rattle.ux_model.specs.State as model;
+    ghost use Rattle.ux_state.specs.Keeping.{IsState};
+
+    ghost Value = { model.State };
+
+    ghost view = { λ s. record { objects = s.objects.items; descriptions = s.descriptions.items; processes = s.processes.items; paths = s.paths.items } };
+
+    ghost invariant = { λ s. IsState s.objects.items s.openings.items s.descriptions.items s.processes.items };
+}
