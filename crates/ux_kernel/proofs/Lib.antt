@@ -1,7 +1,5 @@
-pub mod Lookups
+pub mod Found
+pub mod Processes
 pub mod Boots
-pub mod Queues
-pub mod Sockets
-pub mod Pairs
-pub mod Releasing
-pub mod Steps
+pub mod Released
+pub mod FileCalls

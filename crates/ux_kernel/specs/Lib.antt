@@ -1,3 +1,4 @@
-pub mod Queue
-pub mod Loss
-pub mod Changes
+pub mod Faults
+pub mod Receipts
+pub mod Calling
+pub mod FileCalls

@@ -1,55 +1,121 @@
 //! The first state.
-ghost use Rattle.std.specs.Prelude.{◌≡◌, ◌<◌, ◌≤◌, ◌↔◌, length, map, IfOk, IfErr};
-ghost use Rattle.ux_model.specs.Limits.{process_limit};
-ghost use Rattle.ux_model.specs.Boot.{IsBootState, boot_state, new_process};
+ghost use Rattle.std.specs.Prelude.{◌≡◌, IfOk, IfErr, MatchOption, map, IsErrAnd};
+ghost use Rattle.std.specs.List.{list_any, list_all};
+ghost use Rattle.ux_model.specs.Naming as model;
+ghost use Rattle.ux_model.specs.Boot.{IsBootState, boot_state, are_distinct};
+ghost use Rattle.ux_kernel.specs.Faults.{fault_of};
 
 use crate::kernel::Kernel;
-use crate::process::Process;
-use std::alloc::{AllocError, Global};
-use ux_types::ProcSpec;
+use crate::naming::is_valid_path;
+use std::alloc::Global;
+use ux_object::FileObject;
+use ux_state::State;
+use ux_types::{Name, OBJECT_LIMIT, ProcSpec};
 
 /// Why no kernel could be made, with the number that a boot fault is told by.
 #[derive(Clone, Copy, Debug, PartialEq, Eq)]
 pub enum BootFault {
+    /// More than 64 file objects.
+    TooManyObjects = 1,
     /// More than 64 processes.
     TooManyProcesses = 2,
+    /// Two file objects under one path.
+    NameTwice = 3,
+    /// A file object that was closed before.
+    ObjectClosed = 4,
     /// No memory.
     NoMemory = 5,
+    /// A path that isn't 1 to 107 bytes without NUL (unix(7)).
+    BadPath = 6,
 }
 
 /// The processes that one kernel may have.
 const PROCESS_LIMIT: usize = 64;
 
-impl Kernel {
-    /// A kernel with these processes, numbered from 1 on, in which nothing was made yet. More than 64
-    /// are refused, and so is a boot for which memory is wanting.
-    #[tactic(auto, using(crate::proofs::Boots::boots))]
-    pub fn boot(alloc: Global, procs: &[ProcSpec]) -> Result<Kernel, BootFault>
-        ensures state { IfOk result (λ k. k ≡ boot_state procs.now) }
+impl<O: FileObject> Kernel<O> {
+    /// A kernel with these file objects, numbered from 0 on, each under its path, and these processes,
+    /// numbered from 1 on, in which nothing was opened yet.
+    ///
+    /// # Errors
+    ///
+    /// The first of `TooManyObjects`, `TooManyProcesses`, `BadPath`, `NameTwice`, `ObjectClosed` and
+    /// `NoMemory`, with all file objects, which are as before.
+    #[tactic(auto, using(crate::proofs::Boots::open_of, crate::proofs::Boots::boots))]
+    pub fn boot(
+        alloc: Global,
+        objects: Vec<(Name, O)>,
+        procs: &[ProcSpec],
+    ) -> Result<Kernel<O>, (BootFault, Vec<(Name, O)>)>
+        ensures state { IfOk result (λ k. k ≡ boot_state (map (λ o. (o.0, O.view o.1)) objects.items) procs.now) }
         ensures boots { IfOk result (λ k. IsBootState k) }
-        ensures few { IfOk result (λ k. length procs.now ≤ process_limit) }
-        ensures fault { IfErr result (λ e. e ≡ BootFault.TooManyProcesses ↔ process_limit < length procs.now) }
+        ensures fault { MatchOption (fault_of (map (λ o. (o.0, O.view o.1)) objects.items) procs.now)
+            (IfErr result (λ f. f.0 ≡ BootFault.NoMemory))
+            (λ due. IsErrAnd result (λ f. f.0 ≡ due)) }
+        ensures back { IfErr result (λ f. f.1 ≡ objects) }
     {
-        if procs.len() > PROCESS_LIMIT {
-            return Err(BootFault::TooManyProcesses);
+        if let Some(fault) = find_fault(&objects, procs) {
+            return Err((fault, objects));
         }
-        match new_processes(alloc, procs) {
-            Ok(processes) => Ok(Kernel {
-                descriptions: Vec::new(alloc),
-                processes,
-            }),
-            Err(_) => Err(BootFault::NoMemory),
+        match State::new(alloc, objects, procs) {
+            Ok(state) => Ok(Kernel { alloc, state }),
+            Err(objects) => Err((BootFault::NoMemory, objects)),
         }
     }
 }
 
-/// A process for each that is wanted.
-fn new_processes(alloc: Global, procs: &[ProcSpec]) -> Result<Vec<Process>, AllocError>
-    ensures { IfOk result (λ v. v.items ≡ map new_process procs.now) }
+/// The first fault but for want of memory.
+fn find_fault<O: FileObject>(objects: &[(Name, O)], procs: &[ProcSpec]) -> Option<BootFault>
+    ensures { result ≡ fault_of (map (λ o. (o.0, O.view o.1)) objects.now) procs.now }
 {
-    let mut processes = Vec::with_capacity(alloc, procs.len())?;
-    for spec in procs {
-        processes.push(Process::new(alloc, spec)?)?;
+    if objects.len() > OBJECT_LIMIT {
+        return Some(BootFault::TooManyObjects);
     }
-    Ok(processes)
+    if procs.len() > PROCESS_LIMIT {
+        return Some(BootFault::TooManyProcesses);
+    }
+    if !are_valid(objects) {
+        return Some(BootFault::BadPath);
+    }
+    if !are_distinct(objects) {
+        return Some(BootFault::NameTwice);
+    }
+    if !are_open(objects) {
+        return Some(BootFault::ObjectClosed);
+    }
+    None
+}
+
+/// Whether each of these file objects has a path that can be.
+fn are_valid<O: FileObject>(objects: &[(Name, O)]) -> bool
+    ensures { result ≡ list_all (λ o. model.is_valid_path o.0) objects.now }
+{
+    objects.iter().all(|o| is_valid_path(&o.0))
+}
+
+/// Whether none of these file objects was closed.
+fn are_open<O: FileObject>(objects: &[(Name, O)]) -> bool
+    ensures { result ≡ list_all (λ o. (O.view o.1).opened) objects.now }
+{
+    objects.iter().all(|o| o.1.is_open())
+}
+
+/// Whether no two file objects have one path.
+fn are_distinct<O: FileObject>(objects: &[(Name, O)]) -> bool
+    ensures { result ≡ are_distinct (map (λ o. o.0) objects.now) }
+{
+    let mut left = objects;
+    while let Some((first, rest)) = left.split_first() {
+        if is_named(rest, &first.0) {
+            return false;
+        }
+        left = rest;
+    }
+    true
+}
+
+/// Whether one of these file objects has this path.
+fn is_named<O: FileObject>(objects: &[(Name, O)], name: &Name) -> bool
+    ensures { result ≡ list_any (λ o. model.same_name o.0 name.now) objects.now }
+{
+    objects.iter().any(|o| o.0 == *name)
 }

@@ -1,26 +1,52 @@
 //! The whole layer as one value.
-use crate::description::Description;
-use crate::process::Process;
-use std::marker::Model;
+ghost use Rattle.std.specs.Prelude.{◌≡◌, ◌≤◌, length};
+ghost use Rattle.ux_model.specs.Limits.{process_limit};
+ghost use Rattle.ux_model.specs.State.{is_live};
+ghost use Rattle.ux_model.specs.History.{has_live};
 
-/// All processes and all open file descriptions. Contracts see it as the state that the definitions
-/// speak of.
+use std::alloc::Global;
+use std::marker::Model;
+use ux_object::FileObject;
+use ux_state::State;
+use ux_types::Pid;
+
+/// All file objects, open file descriptions, processes and paths. Contracts see it as the state that
+/// the definitions speak of.
 #[derive(Drop)]
-pub struct Kernel {
-    /// By number, in order of making; empty once dropped.
-    pub(crate) descriptions: Vec<Option<Description>>,
-    /// The process with number 1 first.
-    pub(crate) processes: Vec<Process>,
+pub struct Kernel<O: FileObject> {
+    /// Where the bytes of messages and of replies get their memory.
+    pub(crate) alloc: Global,
+    pub(crate) state: State<O>,
 }
 
-impl Model for Kernel {
-    ghost use Rattle.std.specs.Prelude.{length, ◌≤◌};
-    ghost use Rattle.ux_model.specs.Limits.{process_limit};
+impl<O: FileObject> Model for Kernel<O> {
     ghost use Rattle.ux_model.specs.State as model;
 
     ghost Value = { model.State };
 
-    ghost view = { λ k. record { descriptions = k.descriptions.items; processes = k.processes.items } };
+    ghost view = { λ k. k.state };
+}
 
-    ghost invariant = { λ k. length k.processes.items ≤ process_limit };
+impl<O: FileObject> Kernel<O> {
+    /// How many processes were made, exited ones too.
+    pub fn process_count(&self) -> usize
+        ensures count { result ≡ length self.now.processes }
+        ensures most { result ≤ process_limit }
+    {
+        self.state.process_count()
+    }
+
+    /// Whether a process with this number was made, and hasn't exited.
+    pub fn is_live(&self, pid: Pid) -> bool
+        ensures { result ≡ is_live self.now pid.0 }
+    {
+        self.state.is_live(pid)
+    }
+
+    /// Whether some process hasn't exited.
+    pub fn has_live(&self) -> bool
+        ensures { result ≡ has_live self.now }
+    {
+        self.state.has_live()
+    }
 }

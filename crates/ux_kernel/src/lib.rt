@@ -1,25 +1,24 @@
-//! The socket layer as a machine: one value with all processes, descriptions and queues, which makes
-//! one call at a time.
+//! The layer as a machine: one value with all file objects, open file descriptions, processes and
+//! paths, which makes one call at a time.
 #![tactic(auto)]
 
 mod boot;
 mod closing;
-mod description;
-mod finding;
+mod descriptors;
+mod files;
 mod kernel;
-mod message;
+mod naming;
+mod open_file;
 mod pairing;
-mod process;
-mod queue;
+mod reading;
 mod receiving;
-mod release;
 mod sending;
 mod step;
+mod writing;
 
 pub use boot::BootFault;
 pub use kernel::Kernel;
 pub use step::Done;
-pub use ux_types::ProcSpec;
 
 #[cfg(test)]
 mod tests;

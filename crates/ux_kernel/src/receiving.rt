@@ -1,19 +1,21 @@
 //! Receiving (recvmsg(2)).
-ghost use Rattle.std.specs.Prelude.{◌≡◌, ◌==◌, IsTrue, Some, length};
+ghost use Rattle.std.specs.Prelude.{◌≡◌, IsTrue, length};
 ghost use Rattle.ux_model.specs.Flags.{are_receive_flags, no_flags};
-ghost use Rattle.ux_model.specs.State.{is_live, socket_at};
+ghost use Rattle.ux_model.specs.State.{is_live};
 ghost use Rattle.ux_model.specs.Outcome.{Gives};
-ghost use Rattle.ux_model.specs.Stream.{shortened};
 ghost use Rattle.ux_model.specs.Receiving as model;
-ghost use Rattle.ux_kernel.specs.Changes.{without_reset, with_socket_by, receive_at, receive_nothing_at};
+ghost use Rattle.ux_kernel.specs.Receipts.{receive_at, receive_nothing_at};
 
 use crate::kernel::Kernel;
 use bitflags::Flags;
-use std::alloc::{AllocError, Global};
+use std::alloc::AllocError;
+use ux_fdtable::DescriptionId;
+use ux_object::FileObject;
 use ux_types::{Bytes, Errno, Fd, MsgFlags, Pid, Reply};
 
-impl Kernel {
-    /// recvmsg(2).
+impl<O: FileObject> Kernel<O> {
+    /// recvmsg(2). EBADF or ENOTSOCK where the number leads to no socket, EINVAL for flags that a receive
+    /// doesn't take, and where nothing waits, a pending ECONNRESET, or EAGAIN while the peer is there.
     #[tactic(auto, unfolding(ux_model::specs::Receiving::recv_msg))]
     pub(crate) fn recv(
         &mut self,
@@ -25,76 +27,57 @@ impl Kernel {
         requires { IsTrue (is_live self.old pid.0) }
         ensures { Gives self.old (model.recv_msg self.old pid.0 fd n flags) result self.new }
     {
-        let d = match self.find_description(pid, fd) {
-            Ok((_, d, _)) => d,
+        let id = match self.state.find_socket(pid, fd) {
+            Ok((id, _)) => id,
             Err(e) => return Ok(Reply::Err(e)),
         };
         if !are_receive_flags(flags) {
             return Ok(Reply::Err(Errno::EINVAL));
         }
-        self.recv_at(d, n, flags)
+        self.recv_at(id, n, flags)
     }
 
-    /// Receives at the socket with this number.
-    fn recv_at(&mut self, d: usize, n: usize, flags: MsgFlags) -> Result<Reply, AllocError>
-        ensures { Gives self.old (receive_at self.old d n flags) result self.new }
+    /// Receives at the socket of this description.
+    pub(crate) fn recv_at(
+        &mut self,
+        id: DescriptionId,
+        n: usize,
+        flags: MsgFlags,
+    ) -> Result<Reply, AllocError>
+        ensures { Gives self.old (receive_at self.old id n flags) result self.new }
     {
-        let alloc = *self.descriptions.allocator();
-        let Some(socket) = self.socket(d) else {
+        let Some(socket) = self.state.socket(id) else {
             return Ok(Reply::Err(Errno::EBADF));
         };
         if n == 0 {
-            return Ok(received(Vec::new(alloc)));
+            return Ok(received(Vec::new(self.alloc)));
         }
-        if socket.queue.is_empty() {
-            return Ok(self.recv_nothing(d));
+        if socket.queue().is_empty() {
+            return Ok(self.recv_nothing(id));
         }
-        let bytes = socket.queue.front(alloc, n)?;
+        let bytes = socket.queue().front(self.alloc, n)?;
         if !flags.contains(MsgFlags::PEEK) {
-            self.take_at(d, n);
+            self.state.remove_bytes(id, n);
         }
         Ok(received(bytes))
     }
 
     /// What a receive answers where nothing waits.
-    fn recv_nothing(&mut self, d: usize) -> Reply
-        ensures reply { result ≡ (receive_nothing_at self.old d).reply }
-        ensures state { self.new ≡ (receive_nothing_at self.old d).next }
+    fn recv_nothing(&mut self, id: DescriptionId) -> Reply
+        ensures reply { result ≡ (receive_nothing_at self.old id).reply }
+        ensures state { self.new ≡ (receive_nothing_at self.old id).next }
     {
-        let alloc = *self.descriptions.allocator();
-        let Some(socket) = self.socket(d) else {
+        let Some(socket) = self.state.socket(id) else {
             return Reply::Err(Errno::EBADF);
         };
-        let peer = socket.peer;
-        if socket.reset {
-            self.clear_reset_at(d);
+        let peer = socket.peer();
+        if socket.reset() {
+            self.state.clear_reset(id);
             return Reply::Err(Errno::ECONNRESET);
         }
-        match self.socket(peer) {
+        match self.state.socket(peer) {
             Some(_) => Reply::Err(Errno::EAGAIN),
-            None => received(Vec::new(alloc)),
-        }
-    }
-
-    /// Clears the pending error of the socket with this number.
-    fn clear_reset_at(&mut self, d: usize)
-        ensures { self.new ≡ with_socket_by self.old d without_reset }
-    {
-        if d < self.descriptions.len() {
-            if let Some(x) = &mut self.descriptions[d] {
-                x.clear_reset();
-            }
-        }
-    }
-
-    /// Takes bytes from the front of the queue of the socket with this number.
-    fn take_at(&mut self, d: usize, n: usize)
-        ensures { self.new ≡ with_socket_by self.old d (shortened n) }
-    {
-        if d < self.descriptions.len() {
-            if let Some(x) = &mut self.descriptions[d] {
-                x.take_front(n);
-            }
+            None => received(Vec::new(self.alloc)),
         }
     }
 }

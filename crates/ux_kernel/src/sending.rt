@@ -1,22 +1,22 @@
 //! Sending (sendmsg(2)).
-ghost use Rattle.std.specs.Prelude.{◌≡◌, ◌+◌, ◌≤◌, IsTrue, Some, OnOk, OnErr, length};
-ghost use Rattle.ux_model.specs.Limits.{stream_limit};
+ghost use Rattle.std.specs.Prelude.{◌≡◌, IsTrue};
 ghost use Rattle.ux_model.specs.Flags.{are_send_flags};
-ghost use Rattle.ux_model.specs.Message.{queued_bytes};
-ghost use Rattle.ux_model.specs.Socket.{Socket};
-ghost use Rattle.ux_model.specs.State.{is_live, socket_at, with_socket};
+ghost use Rattle.ux_model.specs.State.{is_live};
 ghost use Rattle.ux_model.specs.Outcome.{Gives};
-ghost use Rattle.ux_model.specs.Stream.{queued};
 ghost use Rattle.ux_model.specs.Sending as model;
 
 use crate::kernel::Kernel;
-use crate::message::Message;
 use bitflags::Flags;
 use std::alloc::AllocError;
+use ux_desc::Message;
+use ux_fdtable::DescriptionId;
+use ux_object::FileObject;
 use ux_types::{Errno, Fd, MsgFlags, Pid, Reply};
 
-impl Kernel {
-    /// sendmsg(2), as the call with number `tag`.
+impl<O: FileObject> Kernel<O> {
+    /// sendmsg(2), as the call with number `tag`. EBADF or ENOTSOCK where the number leads to no socket,
+    /// EINVAL for flags that a send doesn't take, EPIPE where the peer is gone, EAGAIN where its queue is
+    /// full, in this order.
     #[tactic(auto, unfolding(ux_model::specs::Sending::send_msg))]
     pub(crate) fn send(
         &mut self,
@@ -29,8 +29,8 @@ impl Kernel {
         requires { IsTrue (is_live self.old pid.0) }
         ensures { Gives self.old (model.send_msg self.old pid.0 tag fd bytes.now flags) result self.new }
     {
-        let peer = match self.find_description(pid, fd) {
-            Ok((_, _, x)) => x.socket.peer,
+        let peer = match self.state.find_socket(pid, fd) {
+            Ok((_, socket)) => socket.peer(),
             Err(e) => return Ok(Reply::Err(e)),
         };
         if !are_send_flags(flags) {
@@ -39,12 +39,17 @@ impl Kernel {
         self.send_to_peer(peer, tag, bytes)
     }
 
-    /// Sends bytes to the socket with this number, if it is still there.
-    fn send_to_peer(&mut self, d: usize, tag: u64, bytes: &[u8]) -> Result<Reply, AllocError>
-        ensures { Gives self.old (model.send_to_peer self.old tag d bytes.now) result self.new }
+    /// Sends bytes to the socket of this description, if it is still there, else EPIPE.
+    pub(crate) fn send_to_peer(
+        &mut self,
+        peer: DescriptionId,
+        tag: u64,
+        bytes: &[u8],
+    ) -> Result<Reply, AllocError>
+        ensures { Gives self.old (model.send_to_peer self.old tag peer bytes.now) result self.new }
     {
-        let room = match self.socket(d) {
-            Some(socket) => socket.queue.room(),
+        let room = match self.state.socket(peer) {
+            Some(socket) => socket.queue().room(),
             None => return Ok(Reply::Err(Errno::EPIPE)),
         };
         if bytes.is_empty() {
@@ -54,24 +59,9 @@ impl Kernel {
             return Ok(Reply::Err(Errno::EAGAIN));
         }
         let count = room.min(bytes.len());
-        let alloc = *self.descriptions.allocator();
-        let m = Message::new(alloc, tag, &bytes[..count])?;
-        self.push_at(d, m)?;
+        let m = Message::new(self.alloc, tag, &bytes[..count])?;
+        self.state.append_message(peer, m)?;
         Ok(Reply::Count(count))
-    }
-
-    /// Queues a message at the socket with this number.
-    fn push_at(&mut self, d: usize, m: Message) -> Result<(), AllocError>
-        requires { (s : Socket) → socket_at self.old d ≡ Some s → queued_bytes s.queue + length m.bytes ≤ stream_limit }
-        ensures ok { (s : Socket) → socket_at self.old d ≡ Some s → OnOk result (self.new ≡ with_socket self.old d (queued s m)) }
-        ensures err { OnErr result (self.new ≡ self.old) }
-    {
-        if d < self.descriptions.len() {
-            if let Some(x) = &mut self.descriptions[d] {
-                return x.push(m);
-            }
-        }
-        Ok(())
     }
 }
 

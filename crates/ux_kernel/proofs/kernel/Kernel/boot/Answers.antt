@@ -1,5 +1,6 @@
-use Rattle.ux_kernel.proofs.Boots.{boots}
+use Rattle.std.proofs.Common.{rules, sym, ◌∙◌}
+use Rattle.ux_kernel.proofs.Boots.{open_of}
 use Rattle.ux_kernel.proofs.kernel.Kernel.boot.Goals as goal
 
-pub returns-in-Ok-clause-boots : goal.returns-in-Ok-clause-boots
-returns-in-Ok-clause-boots c = rw (c.new.ensures.items, c.in-Ok.ensures) (boots c.args.procs.now)
+pub new-requires-clause-open : goal.new-requires-clause-open
+new-requires-clause-open g c = open_of g.O.FileObject.view c.args.objects.items c.args.procs.now (rw (← c.deref.ensures.value) (sym c.find_fault.ensures ∙ (search rules)))

@@ -1,0 +1,12 @@
+-- A receive at the socket of a description, where that may be gone.
+use Rattle.std.specs.Prelude.{ℕ, Some, None}
+use Rattle.ux_model.specs.Types.{Errno, MsgFlags}
+use Rattle.ux_model.specs.State.{State, socket_at}
+use Rattle.ux_model.specs.Outcome.{Outcome, refuse}
+use Rattle.ux_model.specs.Receiving.{receive, receive_nothing}
+
+abbrev pub receive_at : State → ℕ → ℕ → MsgFlags → Outcome
+receive_at S d n flags = elim (socket_at S d) [ None ↦ refuse S Errno.EBADF | Some s ↦ receive S d s n flags ]
+
+abbrev pub receive_nothing_at : State → ℕ → Outcome
+receive_nothing_at S d = elim (socket_at S d) [ None ↦ refuse S Errno.EBADF | Some s ↦ receive_nothing S d s ]

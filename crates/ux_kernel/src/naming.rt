@@ -1,0 +1,44 @@
+//! Paths (unlink(2)).
+ghost use Rattle.std.specs.Prelude.{◌≡◌, ◌==◌};
+ghost use Rattle.std.specs.List.{list_any};
+ghost use Rattle.ux_model.specs.Naming as model;
+
+use crate::kernel::Kernel;
+use ux_object::FileObject;
+use ux_types::{Errno, Name, Reply};
+
+/// The bytes of the longest path (sun_path of unix(7), without its NUL).
+const NAME_LIMIT: usize = 107;
+
+impl<O: FileObject> Kernel<O> {
+    /// unlink(2). EINVAL for a path that can't be, else ENOENT for one that isn't there.
+    #[tactic(auto, unfolding(ux_model::specs::Naming::unlink))]
+    pub(crate) fn unlink(&mut self, path: &Name) -> Reply
+        ensures reply { result ≡ (model.unlink self.old path.now).reply }
+        ensures state { self.new ≡ (model.unlink self.old path.now).next }
+    {
+        if !is_valid_path(path) {
+            return Reply::Err(Errno::EINVAL);
+        }
+        if self.state.path(path).is_none() {
+            return Reply::Err(Errno::ENOENT);
+        }
+        self.state.unlink(path);
+        Reply::Ok
+    }
+}
+
+/// Whether it can be a path: 1 to 107 bytes without NUL (unix(7)).
+pub(crate) fn is_valid_path(path: &Name) -> bool
+    ensures { result ≡ model.is_valid_path path.now }
+{
+    let bytes = path.as_bytes();
+    0 < bytes.len() && bytes.len() <= NAME_LIMIT && !has_nul(bytes)
+}
+
+/// Whether one of these bytes is NUL.
+fn has_nul(bytes: &[u8]) -> bool
+    ensures { result ≡ list_any (λ b. b == 0) bytes.now }
+{
+    bytes.iter().any(|b| *b == 0)
+}

@@ -1,0 +1,65 @@
+//! What is known of an open file object by its description.
+ghost use Rattle.std.specs.Prelude.{◌≡◌, Some, None, MatchOption};
+ghost use Rattle.ux_model.specs.Flags.{can_read, can_write};
+ghost use Rattle.ux_desc.specs.Changes.{object_of};
+ghost use Rattle.ux_kernel.specs.FileCalls.{description_of, errno_of};
+
+use ux_desc::Description;
+use ux_fdtable::DescriptionId;
+use ux_object::ObjError;
+use ux_types::{Errno, Mode};
+
+/// An open file object, with all that its description says.
+#[derive(Clone, Copy)]
+pub(crate) struct OpenFile {
+    pub(crate) id: DescriptionId,
+    pub(crate) object: u32,
+    pub(crate) offset: u64,
+    pub(crate) mode: Mode,
+    pub(crate) append: bool,
+    pub(crate) nonblock: bool,
+}
+
+impl OpenFile {
+    /// What a description says of the file object that it leads to, if it leads to one.
+    pub(crate) fn of(id: DescriptionId, description: &Description) -> Option<OpenFile>
+        ensures { MatchOption result (object_of description.now.target ≡ None) (λ f. (f.id ≡ id) × (description.now ≡ description_of f)) }
+    {
+        let object = description.object()?;
+        Some(OpenFile {
+            id,
+            object,
+            offset: description.offset(),
+            mode: description.mode(),
+            append: description.append(),
+            nonblock: description.nonblock(),
+        })
+    }
+}
+
+/// Whether a file that is open so can be read.
+pub(crate) fn can_read(mode: Mode) -> bool
+    ensures { result ≡ can_read mode }
+{
+    matches!(mode, Mode::Read | Mode::Both)
+}
+
+/// Whether a file that is open so can be written.
+pub(crate) fn can_write(mode: Mode) -> bool
+    ensures { result ≡ can_write mode }
+{
+    matches!(mode, Mode::Write | Mode::Both)
+}
+
+/// The refusal that stands for an error of a file object.
+pub(crate) fn errno_of(error: ObjError) -> Errno
+    ensures { result ≡ errno_of error }
+{
+    match error {
+        ObjError::WouldBlock => Errno::EAGAIN,
+        ObjError::Io => Errno::EIO,
+        ObjError::Full => Errno::EFBIG,
+        ObjError::NoMemory => Errno::ENOMEM,
+        ObjError::Invalid => Errno::EINVAL,
+    }
+}

@@ -1,0 +1,128 @@
+//! Reading (read(2)) of file objects and sockets.
+ghost use Rattle.std.specs.Prelude.{◌≡◌, ◌+◌, ◌<◌, ◌^◌, IsTrue, Some};
+ghost use Rattle.ux_model.specs.State.{is_live, description_at};
+ghost use Rattle.ux_model.specs.Object.{read_body};
+ghost use Rattle.ux_model.specs.Outcome.{Gives, GivesOrFails};
+ghost use Rattle.ux_model.specs.Files as model;
+ghost use Rattle.ux_object.specs.Kind.{kind_of};
+ghost use Rattle.ux_kernel.specs.FileCalls.{description_of, read_file, read_at, read_socket_at, IsReadable};
+
+use crate::kernel::Kernel;
+use crate::open_file::{OpenFile, can_read, errno_of};
+use std::alloc::AllocError;
+use ux_fdtable::DescriptionId;
+use ux_object::{FileObject, ObjKind};
+use ux_types::{Bytes, Errno, Fd, MsgFlags, Pid, Reply};
+
+/// The bytes that one read asks for at most.
+const READ_LIMIT: usize = 1048576;
+
+/// The bytes of a counter's value, which are read all at once (eventfd(2)).
+const COUNTER_BYTES: usize = 8;
+
+impl<O: FileObject> Kernel<O> {
+    /// read(2). EBADF where the number isn't open, or not for reading, EINVAL for fewer than 8 bytes of a
+    /// counter, EAGAIN where there is nothing to read, EIO where the file object failed.
+    #[tactic(auto, unfolding(ux_model::specs::Files::read))]
+    pub(crate) fn read(&mut self, pid: Pid, fd: Fd, n: usize) -> Result<Reply, AllocError>
+        requires { IsTrue (is_live self.old pid.0) }
+        ensures { GivesOrFails self.old (model.read self.old pid.0 fd n) result self.new }
+    {
+        let (entry, _) = match self.state.find_description(pid, fd) {
+            Ok(found) => found,
+            Err(e) => return Ok(Reply::Err(e)),
+        };
+        self.read_at(entry.description, n.min(READ_LIMIT))
+    }
+
+    /// Reads by this description.
+    fn read_at(&mut self, id: DescriptionId, n: usize) -> Result<Reply, AllocError>
+        ensures { GivesOrFails self.old (read_at self.old id n) result self.new }
+    {
+        let Some(description) = self.state.description(id) else {
+            return Ok(Reply::Err(Errno::EBADF));
+        };
+        match OpenFile::of(id, description) {
+            Some(file) => self.read_file(file, n),
+            None => self.read_socket(id, n),
+        }
+    }
+
+    /// Receives at the socket of this description, and answers the bytes alone.
+    fn read_socket(&mut self, id: DescriptionId, n: usize) -> Result<Reply, AllocError>
+        ensures { Gives self.old (read_socket_at self.old id n) result self.new }
+    {
+        Ok(match self.recv_at(id, n, MsgFlags(0))? {
+            Reply::Received { bytes, .. } => Reply::Bytes(bytes),
+            reply => reply,
+        })
+    }
+
+    /// Reads of an open file object.
+    fn read_file(&mut self, file: OpenFile, n: usize) -> Result<Reply, AllocError>
+        requires { description_at self.old file.id ≡ Some (description_of file) }
+        ensures { GivesOrFails self.old (read_file self.old file n) result self.new }
+    {
+        let Some(object) = self.state.object(file.object) else {
+            return Ok(Reply::Err(Errno::EBADF));
+        };
+        if !can_read(file.mode) {
+            return Ok(Reply::Err(Errno::EBADF));
+        }
+        let kind = object.kind();
+        if kind == ObjKind::Counter && n < COUNTER_BYTES {
+            return Ok(Reply::Err(Errno::EINVAL));
+        }
+        if kind != ObjKind::Counter && n == 0 {
+            return Ok(Reply::Bytes(Bytes::new(Vec::new(self.alloc))));
+        }
+        if object.ready().0 {
+            let wanted = wanted_of(object, file.offset, n);
+            return self.read_ready(file, kind, n, wanted);
+        }
+        // A pipe that nobody can write to has ended.
+        if kind == ObjKind::Pipe && !self.state.has_writer(file.object) {
+            return Ok(Reply::Bytes(Bytes::new(Vec::new(self.alloc))));
+        }
+        Ok(Reply::Err(Errno::EAGAIN))
+    }
+
+    /// Reads of an open file object that has something to give, and moves the offset of a memory file.
+    fn read_ready(
+        &mut self,
+        file: OpenFile,
+        kind: ObjKind,
+        n: usize,
+        wanted: usize,
+    ) -> Result<Reply, AllocError>
+        requires here { description_at self.old file.id ≡ Some (description_of file) }
+        requires readable { IsReadable self.old file kind n wanted }
+        ensures { GivesOrFails self.old (read_file self.old file n) result self.new }
+    {
+        let mut bytes = vec![in self.alloc; 0u8; wanted]?;
+        match self
+            .state
+            .read_object(file.object, file.offset, bytes.as_mut_slice())
+        {
+            Ok(count) => {
+                bytes.truncate(count);
+                if kind == ObjKind::Memory {
+                    self.state.set_offset(file.id, file.offset + count as u64);
+                }
+                Ok(Reply::Bytes(Bytes::new(bytes)))
+            }
+            Err(error) => Ok(Reply::Err(errno_of(error))),
+        }
+    }
+}
+
+/// How many bytes a read of n bytes wants of an object: of a memory file no more than it has.
+fn wanted_of<O: FileObject>(object: &O, offset: u64, n: usize) -> usize
+    ensures enough { read_body (O.view object.now).body offset result ≡ read_body (O.view object.now).body offset n }
+    ensures fits { kind_of (O.view object.now).body ≡ ObjKind.Memory → offset + result < 2 ^ 64 }
+{
+    match object.kind() {
+        ObjKind::Memory => n.min(object.size().saturating_sub(offset) as usize),
+        ObjKind::Counter | ObjKind::Pipe => n,
+    }
+}

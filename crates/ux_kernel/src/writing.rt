@@ -1,0 +1,103 @@
+//! Writing (write(2)) to file objects and sockets.
+ghost use Rattle.std.specs.Prelude.{◌≡◌, IsTrue, Some};
+ghost use Rattle.ux_model.specs.State.{is_live, description_at};
+ghost use Rattle.ux_model.specs.Outcome.{GivesOrFails};
+ghost use Rattle.ux_model.specs.Files as model;
+ghost use Rattle.ux_kernel.specs.FileCalls.{description_of, write_file, write_at, IsWritable};
+
+use crate::kernel::Kernel;
+use crate::open_file::{OpenFile, can_write, errno_of};
+use std::alloc::AllocError;
+use ux_fdtable::DescriptionId;
+use ux_object::{FileObject, ObjError, ObjKind};
+use ux_types::{Errno, Fd, Pid, Reply};
+
+impl<O: FileObject> Kernel<O> {
+    /// write(2), as the call with number `tag`, which a message to a socket keeps. EBADF where the number
+    /// isn't open, or not for writing, EPIPE where nobody can read a pipe, EINVAL, EFBIG or EAGAIN as the
+    /// file object has it, EIO where it failed.
+    #[tactic(auto, unfolding(ux_model::specs::Files::write))]
+    pub(crate) fn write(
+        &mut self,
+        pid: Pid,
+        tag: u64,
+        fd: Fd,
+        bytes: &[u8],
+    ) -> Result<Reply, AllocError>
+        requires { IsTrue (is_live self.old pid.0) }
+        ensures { GivesOrFails self.old (model.write self.old pid.0 tag fd bytes.now) result self.new }
+    {
+        let (entry, _) = match self.state.find_description(pid, fd) {
+            Ok(found) => found,
+            Err(e) => return Ok(Reply::Err(e)),
+        };
+        self.write_at(entry.description, tag, bytes)
+    }
+
+    /// Writes by this description.
+    fn write_at(&mut self, id: DescriptionId, tag: u64, bytes: &[u8]) -> Result<Reply, AllocError>
+        ensures { GivesOrFails self.old (write_at self.old tag id bytes.now) result self.new }
+    {
+        let Some(description) = self.state.description(id) else {
+            return Ok(Reply::Err(Errno::EBADF));
+        };
+        match (OpenFile::of(id, description), description.socket()) {
+            (Some(file), _) => self.write_file(file, bytes),
+            (None, Some(socket)) => {
+                let peer = socket.peer();
+                self.send_to_peer(peer, tag, bytes)
+            }
+            (None, None) => unreachable!(),
+        }
+    }
+
+    /// Writes to an open file object.
+    fn write_file(&mut self, file: OpenFile, bytes: &[u8]) -> Result<Reply, AllocError>
+        requires { description_at self.old file.id ≡ Some (description_of file) }
+        ensures { GivesOrFails self.old (write_file self.old file bytes.now) result self.new }
+    {
+        let Some(object) = self.state.object(file.object) else {
+            return Ok(Reply::Err(Errno::EBADF));
+        };
+        if !can_write(file.mode) {
+            return Ok(Reply::Err(Errno::EBADF));
+        }
+        let kind = object.kind();
+        if kind != ObjKind::Counter && bytes.is_empty() {
+            return Ok(Reply::Count(0));
+        }
+        let place = if file.append {
+            object.size()
+        } else {
+            file.offset
+        };
+        if kind == ObjKind::Pipe && !self.state.has_reader(file.object) {
+            return Ok(Reply::Err(Errno::EPIPE));
+        }
+        self.write_open(file, kind, place, bytes)
+    }
+
+    /// Hands the bytes to an open file object, and moves the offset of a memory file.
+    fn write_open(
+        &mut self,
+        file: OpenFile,
+        kind: ObjKind,
+        place: u64,
+        bytes: &[u8],
+    ) -> Result<Reply, AllocError>
+        requires here { description_at self.old file.id ≡ Some (description_of file) }
+        requires writable { IsWritable self.old file kind place bytes.now }
+        ensures { GivesOrFails self.old (write_file self.old file bytes.now) result self.new }
+    {
+        match self.state.write_object(file.object, place, bytes) {
+            Ok(count) => {
+                if kind == ObjKind::Memory {
+                    self.state.set_offset(file.id, place + count as u64);
+                }
+                Ok(Reply::Count(count))
+            }
+            Err(ObjError::NoMemory) => Err(AllocError),
+            Err(error) => Ok(Reply::Err(errno_of(error))),
+        }
+    }
+}
