@@ -1,29 +1,43 @@
 //! A kernel with all that was called since it started.
-ghost use Rattle.std.specs.Prelude.{◌≡◌, ◌==◌, ◌&&◌, ◌+◌, ◌<◌, ◌≤◌, ◌↔◌, ◌++◌, ◌∷◌, [], true, false, Err, length, replicate, slice_index, slice_set, vec_len, vec_capacity, ◌-◌, IfOk, IfErr, OnOk, OnErr};
+ghost use Rattle.std.specs.Prelude.{◌≡◌, ◌+◌, ◌<◌, ◌≤◌, ◌↔◌, ◌++◌, ◌∷◌, [], true, false, Err, length, map, replicate, slice_index, slice_set, vec_len, vec_capacity, IfOk, IfErr, OnOk, OnErr};
+ghost use Rattle.std.specs.List.{AllByRecursion};
 ghost use Rattle.ux_model.specs.Boot.{IsBootState};
 ghost use Rattle.ux_model.specs.State.{is_live};
-ghost use Rattle.ux_model.specs.History.{calls_of, replay, IsLegal};
-ghost use Rattle.ux_history.specs.Books.{state_of, knows, Appends};
+ghost use Rattle.ux_model.specs.History.{calls_of, is_off, replay, IsLegal};
+ghost use Rattle.ux_kernel.specs.Calling.{IsClosedObject};
+ghost use Rattle.ux_history.specs.Books.{state_of, may_call, Appends};
 
 use crate::fault::{CallFault, NoMemory};
+use arrayvec::ArrayVec;
 use std::alloc::{AllocError, Global};
 use std::marker::Model;
 use std::snapshot::Snapshot;
 use ux_kernel::Kernel;
-use ux_types::{Entry, Pid, Reply, Request};
+use ux_object::FileObject;
+use ux_state::Retired;
+use ux_types::{Entry, OBJECT_LIMIT, Pid, Released, Reply, Request};
 
 /// A kernel with all that was called since its boot state. Contracts see that state and the entries;
 /// the kernel is at the end of them.
 #[derive(Drop)]
-pub struct Book {
-    boot: Snapshot<Kernel>,
+pub struct Book<O: FileObject> {
+    boot: Snapshot<Kernel<O>>,
     entries: Vec<Entry>,
-    kernel: Kernel,
-    /// How many entries each process has, that with number 1 first.
+    kernel: Kernel<O>,
+    /// How many entries there are with each process's number, those of no process first.
     calls: Vec<u64>,
 }
 
-impl Model for Book {
+/// What a call left behind.
+#[derive(Drop)]
+pub struct Recorded<O: FileObject> {
+    /// The number of its entry.
+    pub number: usize,
+    /// The file objects that went with it, closed, by rising number.
+    pub retired: ArrayVec<Retired<O>, OBJECT_LIMIT>,
+}
+
+impl<O: FileObject> Model for Book<O> {
     ghost use Rattle.ux_history.specs.Books.{Held, IsBook};
 
     ghost Value = { Held };
@@ -33,14 +47,14 @@ impl Model for Book {
     ghost invariant = { λ b. IsBook b.boot.value b.entries.items b.kernel b.calls.items };
 }
 
-impl Book {
+impl<O: FileObject> Book<O> {
     /// A book at the start of this kernel, which it gives back where memory is wanting.
-    pub fn new(alloc: Global, kernel: Kernel) -> Result<Book, (Kernel, NoMemory)>
+    pub fn new(alloc: Global, kernel: Kernel<O>) -> Result<Book<O>, (Kernel<O>, NoMemory)>
         requires { IsBootState kernel }
         ensures book { IfOk result (λ b. b ≡ record { boot = kernel; entries = [] }) }
         ensures back { IfErr result (λ f. f.0 ≡ kernel) }
     {
-        match zeros(alloc, kernel.process_count()) {
+        match zeros(alloc, kernel.process_count() + 1) {
             Ok(calls) => Ok(Book {
                 boot: Snapshot::of(&kernel),
                 entries: Vec::new(alloc),
@@ -56,6 +70,7 @@ impl Book {
         ensures entries { result.now ≡ self.now.entries }
         ensures legal { IsLegal self.now.boot self.now.entries }
     {
+        // A borrow of the kernel opens the book, whose invariant is what `legal` says.
         let _ = &self.kernel;
         self.entries.as_slice()
     }
@@ -87,68 +102,114 @@ impl Book {
         requires { is_live (state_of self.now) pid.0 ≡ true }
         ensures { result ≡ calls_of pid.0 self.now.entries }
     {
-        self.calls[pid.0 as usize - 1]
+        self.calls[pid.0 as usize]
     }
 
-    /// Makes a call of this process, the one before which it made `k` calls, and keeps it as one more
-    /// entry, whose number it answers. All growths come before the call is made.
-    pub fn record(&mut self, pid: Pid, k: u64, request: &Request) -> Result<usize, CallFault>
-        ensures known { OnOk result (knows self.old pid k ≡ true) }
-        ensures stranger { (result ≡ Err CallFault.Stranger) ↔ (knows self.old pid k ≡ false) }
-        ensures entry { OnOk result (Appends self.old self.new pid k request.now) }
-        ensures number { IfOk result (λ n. n ≡ length self.old.entries) }
+    /// Whether this may be the next call: of a process that hasn't exited and made `k` calls before, or
+    /// the end of the layer, which is made by none, once, when no process is left.
+    pub fn may_call(&self, pid: Pid, k: u64, request: &Request) -> bool
+        ensures { result ≡ may_call self.now pid k request.now }
+    {
+        if is_off(request) {
+            let kernel = &self.kernel;
+            pid.0 == 0 && k == 0 && !kernel.has_live() && self.calls[0] == k
+        } else {
+            self.is_live(pid) && self.calls_of(pid) == k
+        }
+    }
+
+    /// Makes a call of this process, the one before which it made `k` calls, or the end of the layer, and
+    /// keeps it as one more entry. All growths come before the call is made.
+    ///
+    /// # Errors
+    ///
+    /// `Stranger` where this may not be the next call, else `NoMemory`. The book is then as before.
+    pub fn record(&mut self, pid: Pid, k: u64, request: &Request) -> Result<Recorded<O>, CallFault>
+        ensures known { OnOk result (may_call self.old pid k request.now ≡ true) }
+        ensures stranger { (result ≡ Err CallFault.Stranger) ↔ (may_call self.old pid k request.now ≡ false) }
+        ensures entry { IfOk result (λ r. Appends self.old self.new pid k request.now (map (λ o. o.0) r.retired.items)) }
+        ensures number { IfOk result (λ r. r.number ≡ length self.old.entries) }
+        ensures closed { IfOk result (λ r. AllByRecursion IsClosedObject r.retired.items) }
         ensures same { OnErr result (self.new ≡ self.old) }
     {
-        if !self.is_live(pid) || self.calls_of(pid) != k {
+        if !self.may_call(pid, k, request) {
             return Err(CallFault::Stranger);
         }
-        match self.append(pid, request) {
-            Ok(number) => Ok(number),
+        match self.append(pid, k, request) {
+            Ok(recorded) => Ok(recorded),
             Err(AllocError) => Err(CallFault::NoMemory),
         }
     }
 
-    /// Makes a call of a live process, and keeps it as one more entry.
-    fn append(&mut self, pid: Pid, request: &Request) -> Result<usize, AllocError>
-        requires { is_live (state_of self.old) pid.0 ≡ true }
-        ensures entry { OnOk result (Appends self.old self.new pid (calls_of pid.0 self.old.entries) request.now) }
-        ensures number { IfOk result (λ n. n ≡ length self.old.entries) }
+    /// Makes the next call, and keeps it as one more entry.
+    fn append(&mut self, pid: Pid, k: u64, request: &Request) -> Result<Recorded<O>, AllocError>
+        requires { may_call self.old pid k request.now ≡ true }
+        ensures entry { IfOk result (λ r. Appends self.old self.new pid k request.now (map (λ o. o.0) r.retired.items)) }
+        ensures number { IfOk result (λ r. r.number ≡ length self.old.entries) }
+        ensures closed { IfOk result (λ r. AllByRecursion IsClosedObject r.retired.items) }
         ensures same { OnErr result (self.new ≡ self.old) }
     {
-        let copy = request.clone()?;
+        let copy = copy_of(request)?;
         self.entries.reserve(1)?;
         let number = self.entries.len();
-        let done = self.kernel.step(pid, number as u64, request);
-        note(&mut self.entries, &mut self.calls, pid, copy, done.reply);
-        Ok(number)
+        let mut reply = Reply::Ok;
+        let retired = self
+            .kernel
+            .step_into(pid, number as u64, request, &mut reply);
+        let entry = Entry {
+            pid,
+            k,
+            request: copy,
+            reply,
+            released: numbers_of(retired.as_slice()),
+        };
+        note(&mut self.entries, &mut self.calls, entry);
+        Ok(Recorded { number, retired })
     }
 }
 
-/// Appends the entry of a call, for which there is room, and counts it.
-fn note(entries: &mut Vec<Entry>, calls: &mut Vec<u64>, pid: Pid, request: Request, reply: Reply)
-    requires process { (0 < pid.0) × (pid.0 ≤ vec_len calls.old) }
+/// Appends an entry, for which there is room, and counts it.
+fn note(entries: &mut Vec<Entry>, calls: &mut Vec<u64>, entry: Entry)
+    requires counted { entry.pid.0 < vec_len calls.old }
     requires room { vec_len entries.old < vec_capacity entries.old }
-    requires fits { slice_index calls.old.items (pid.0 - 1) ≤ vec_len entries.old }
-    ensures entries { entries.new.items ≡ entries.old.items ++ record { pid = pid; k = slice_index calls.old.items (pid.0 - 1); request = request; reply = reply } ∷ [] }
-    ensures calls { calls.new.items ≡ slice_set calls.old.items (pid.0 - 1) (slice_index calls.old.items (pid.0 - 1) + 1) }
+    requires fits { slice_index calls.old.items entry.pid.0 ≡ entry.k }
+    requires few { entry.k ≤ vec_len entries.old }
+    ensures entries { entries.new.items ≡ entries.old.items ++ entry ∷ [] }
+    ensures calls { calls.new.items ≡ slice_set calls.old.items entry.pid.0 (entry.k + 1) }
 {
-    let at = pid.0 as usize - 1;
-    let k = calls[at];
-    calls[at] = k + 1;
-    let entry = Entry {
-        pid,
-        k,
-        request,
-        reply,
-    };
-    if entries.push(entry).is_err() {
-        unreachable!()
-    }
+    calls[entry.pid.0 as usize] = entry.k + 1;
+    entries.push_reserved(entry);
 }
 
-/// One 0 for each process.
-fn zeros(alloc: Global, processes: usize) -> Result<Vec<u64>, AllocError>
-    ensures { IfOk result (λ v. v.items ≡ replicate processes 0) }
+/// A copy of a request.
+fn copy_of(request: &Request) -> Result<Request, AllocError>
+    ensures { IfOk result (λ copy. copy ≡ request.now) }
 {
-    Ok(vec![in alloc; 0u64; processes]?)
+    request.clone()
+}
+
+/// Whether it is the end of the layer.
+fn is_off(request: &Request) -> bool
+    ensures { result ≡ is_off request.now }
+{
+    matches!(request, Request::Off)
+}
+
+/// The numbers of file objects.
+fn numbers_of<O: FileObject>(retired: &[Retired<O>]) -> Released
+    requires { length retired.now ≤ 64 }
+    ensures { result ≡ map (λ r. r.0) retired.now }
+{
+    let mut numbers = Released::new();
+    for object in retired {
+        numbers.push(object.number());
+    }
+    numbers
+}
+
+/// One 0 for each of so many.
+fn zeros(alloc: Global, count: usize) -> Result<Vec<u64>, AllocError>
+    ensures { IfOk result (λ v. v.items ≡ replicate count 0) }
+{
+    Ok(vec![in alloc; 0u64; count]?)
 }

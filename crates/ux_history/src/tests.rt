@@ -1,11 +1,11 @@
-ghost use Rattle.std.specs.Prelude.{IfOk};
-ghost use Rattle.ux_model.specs.Boot.{IsBootState};
-
-use crate::{Book, CallFault};
-use std::alloc::Global;
+use crate::{Book, CallFault, Recorded};
+use bstr::BString;
+use std::alloc::{AllocError, Global};
 use std::test::Fail;
-use ux_kernel::{Kernel, ProcSpec};
-use ux_types::{Errno, Fd, OpenFlags, Pid, Reply, Request, SockType};
+use ux_kernel::Kernel;
+use ux_object::FileObject;
+use ux_objects::Counter;
+use ux_types::{Errno, Fd, Mode, Name, OpenFlags, Pid, ProcSpec, Reply, Request, SockType};
 
 const ONE: [ProcSpec; 1] = [ProcSpec {
     uid: 1000,
@@ -19,8 +19,14 @@ const PAIR: Request = Request::SocketPair {
     flags: OpenFlags(0),
 };
 
-fn new_book(alloc: Global) -> Result<Book, Fail> {
-    let Ok(kernel) = Kernel::boot(alloc, &ONE) else {
+/// A path of these bytes.
+fn named(alloc: Global, path: &[u8]) -> Result<Name, AllocError> {
+    Ok(Name::new(BString::new(Vec::from_slice(alloc, path)?)))
+}
+
+/// A book of one process and these file objects.
+fn book_of(alloc: Global, objects: Vec<(Name, Counter)>) -> Result<Book<Counter>, Fail> {
+    let Ok(kernel) = Kernel::boot(alloc, objects, &ONE) else {
         return Err(Fail::from("no kernel"));
     };
     match Book::new(alloc, kernel) {
@@ -29,15 +35,38 @@ fn new_book(alloc: Global) -> Result<Book, Fail> {
     }
 }
 
+/// Whether it is entry `number`, with which so many file objects went, all closed.
+fn is_entry(
+    recorded: &Result<Recorded<Counter>, CallFault>,
+    number: usize,
+    retired: usize,
+) -> bool {
+    recorded.as_ref().is_ok_and(|r| {
+        r.number == number
+            && r.retired.len() == retired
+            && r.retired
+                .iter()
+                .all(|o| o.object().is_some_and(|object| !object.is_open()))
+    })
+}
+
+/// Whether the book told a stranger.
+fn is_stranger(recorded: &Result<Recorded<Counter>, CallFault>) -> bool {
+    recorded
+        .as_ref()
+        .is_err_and(|fault| *fault == CallFault::Stranger)
+}
+
 #[test]
 fn each_call_is_one_entry(rt: HostRuntime) -> Result<(), Fail> {
-    let mut book = new_book(rt.alloc())?;
+    let alloc = rt.alloc();
+    let mut book = book_of(alloc, Vec::new(alloc))?;
     let pid = Pid(1);
-    assert!(rt; book.record(pid, 0, &PAIR) == Ok(0));
-    assert!(rt; book.record(pid, 1, &Request::Close { fd: Fd(7) }) == Ok(1));
+    assert!(rt; is_entry(&book.record(pid, 0, &PAIR), 0, 0));
+    assert!(rt; is_entry(&book.record(pid, 1, &Request::Close { fd: Fd(7) }), 1, 0));
     assert!(rt; book.is_live(pid));
     assert!(rt; book.calls_of(pid) == 2);
-    assert!(rt; book.record(pid, 2, &Request::Exit) == Ok(2));
+    assert!(rt; is_entry(&book.record(pid, 2, &Request::Exit), 2, 0));
     assert!(rt; !book.is_live(pid));
     let entries = book.into_entries();
     assert!(rt; entries.len() == 3);
@@ -50,12 +79,61 @@ fn each_call_is_one_entry(rt: HostRuntime) -> Result<(), Fail> {
 
 #[test]
 fn a_stranger_is_told_and_leaves_no_entry(rt: HostRuntime) -> Result<(), Fail> {
-    let mut book = new_book(rt.alloc())?;
-    assert!(rt; book.record(Pid(0), 0, &PAIR) == Err(CallFault::Stranger));
-    assert!(rt; book.record(Pid(2), 0, &PAIR) == Err(CallFault::Stranger));
-    assert!(rt; book.record(Pid(1), 1, &PAIR) == Err(CallFault::Stranger));
-    assert!(rt; book.record(Pid(1), 0, &Request::Exit) == Ok(0));
-    assert!(rt; book.record(Pid(1), 1, &Request::Exit) == Err(CallFault::Stranger));
+    let alloc = rt.alloc();
+    let mut book = book_of(alloc, Vec::new(alloc))?;
+    assert!(rt; is_stranger(&book.record(Pid(0), 0, &PAIR)));
+    assert!(rt; is_stranger(&book.record(Pid(2), 0, &PAIR)));
+    assert!(rt; is_stranger(&book.record(Pid(1), 1, &PAIR)));
+    assert!(rt; is_entry(&book.record(Pid(1), 0, &Request::Exit), 0, 0));
+    assert!(rt; is_stranger(&book.record(Pid(1), 1, &Request::Exit)));
     assert!(rt; book.entries().len() == 1);
+    Ok(())
+}
+
+#[test]
+fn the_end_comes_once_and_releases_all(rt: HostRuntime) -> Result<(), Fail> {
+    let alloc = rt.alloc();
+    let mut objects = Vec::new(alloc);
+    objects.push((named(alloc, b"c")?, Counter::new()))?;
+    let mut book = book_of(alloc, objects)?;
+    let off = Request::Off;
+    assert!(rt; !book.may_call(Pid(0), 0, &off));
+    assert!(rt; is_stranger(&book.record(Pid(0), 0, &off)));
+    assert!(rt; is_stranger(&book.record(Pid(1), 0, &off)));
+    assert!(rt; is_entry(&book.record(Pid(1), 0, &Request::Exit), 0, 0));
+    assert!(rt; is_stranger(&book.record(Pid(0), 1, &off)));
+    assert!(rt; book.may_call(Pid(0), 0, &off));
+    assert!(rt; is_entry(&book.record(Pid(0), 0, &off), 1, 1));
+    assert!(rt; is_stranger(&book.record(Pid(0), 0, &off)));
+    assert!(rt; is_stranger(&book.record(Pid(0), 1, &off)));
+    let entries = book.entries();
+    assert!(rt; entries.len() == 2);
+    assert!(rt; entries[0].released.as_slice().is_empty());
+    assert!(rt; entries[1].released.as_slice() == [0].as_slice());
+    Ok(())
+}
+
+#[test]
+fn an_object_goes_with_its_last_descriptor(rt: HostRuntime) -> Result<(), Fail> {
+    let alloc = rt.alloc();
+    let mut objects = Vec::new(alloc);
+    objects.push((named(alloc, b"c")?, Counter::new()))?;
+    let mut book = book_of(alloc, objects)?;
+    let open = Request::Open {
+        path: named(alloc, b"c")?,
+        mode: Mode::Both,
+        flags: OpenFlags(0),
+    };
+    let unlink = Request::Unlink {
+        path: named(alloc, b"c")?,
+    };
+    assert!(rt; is_entry(&book.record(Pid(1), 0, &open), 0, 0));
+    assert!(rt; is_entry(&book.record(Pid(1), 1, &unlink), 1, 0));
+    assert!(rt; is_entry(&book.record(Pid(1), 2, &Request::Close { fd: Fd(0) }), 2, 1));
+    let entries = book.entries();
+    assert!(rt; entries.len() == 3);
+    assert!(rt; entries[0].reply == Reply::Fd(Fd(0)));
+    assert!(rt; entries[1].released.as_slice().is_empty());
+    assert!(rt; entries[2].released.as_slice() == [0].as_slice());
     Ok(())
 }
