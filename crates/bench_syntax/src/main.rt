@@ -6,7 +6,7 @@ use anyhow::anyhow;
 use std::alloc::{AllocError, Global};
 use std::time::{Duration, Instant};
 use ux_syntax::{Script, entry_text, parse_script};
-use ux_types::{Bytes, Entry, MsgFlags, Reply};
+use ux_types::{Bytes, Entry, MsgFlags, Released, Reply};
 
 const PROCESSES: usize = 64;
 
@@ -44,6 +44,7 @@ fn entries_of(alloc: Global, script: Script) -> Result<Vec<Entry>, AllocError> {
                 bytes,
                 flags: MsgFlags::TRUNC,
             },
+            released: Released::new(),
         })?;
     }
     Ok(entries)

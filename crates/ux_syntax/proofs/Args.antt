@@ -1,19 +1,19 @@
 -- A call's words that are read are the spelling of what was read, and each spelling is read again.
-use Rattle.std.proofs.Common.{◌≡◌, ℕ, Bool, true, false, cond, ltb, List, [], ◌∷◌, Result, Ok, Err, refl, sym, ◌∙◌, subst, codes}
-use Rattle.std.specs.Prelude.{decimal, Option, Some, None}
-use Rattle.std.specs.List.{AllByRecursion, find, list_all}
-use Rattle.std.specs.Str.{bytes_eq}
-use Rattle.std.proofs.lemmas.Slice.Eq.{bytes_eq-Decides}
-use Rattle.ux_model.specs.Types.{ProcSpec, Request}
+use Rattle.std.proofs.Common.{◌≡◌, ℕ, true, ltb, List, Result, Ok, Err, refl, ◌∙◌, subst, codes}
+use Rattle.std.specs.List.{AllByRecursion, list_all}
+use Rattle.ux_model.specs.Types.{Request}
 use Rattle.ux_syntax.specs.declared.fault.Fault.{Fault}
 use Rattle.ux_syntax.specs.declared.fault.Fault.TheVariants.{BadLine}
 use Rattle.ux_syntax.specs.declared.calls.CallWord.{CallWord}
 use Rattle.ux_syntax.specs.Trace.{dash, word_text, request_word}
-use Rattle.ux_syntax.specs.Spelling.{Control, bare, Written, pair, send, recv, close, exit, meaning, control_text, args_of, bit, FitsControl, FitsCall, FitsProc}
-use Rattle.ux_syntax.specs.Reading.{◌>>=◌, exactly, dash_at, control_at, pair_at, send_at, recv_at, close_at, exit_at, proc_at, all_words, or_bad, word_at, args_at}
-use Rattle.ux_syntax.proofs.Rows.{IsSolid, IsBadOrOk, IsKind, IsRow, bind_ok, bind_bad, ok_is, solid_from, ends_row, row_then, exactly_kind, number_kind}
-use Rattle.ux_syntax.proofs.Bytes.{dash_solid, hex_kind, bit_kind}
+use Rattle.ux_syntax.specs.Spelling.{Control, bare, Written, open_path, read_fd, write_fd, seek, dup_fd, dup_onto, set_flags, close, unlink_path, pair, send, recv, exit, meaning, control_text, args_of, FitsControl, FitsCall}
+use Rattle.ux_syntax.specs.Reading.{◌>>=◌, exactly, dash_at, control_at, open_at, read_at, write_at, lseek_at, dup_at, dup2_at, set_flags_at, close_at, unlink_at, pair_at, send_at, recv_at, exit_at, all_words, word_at, args_at}
+use Rattle.ux_syntax.proofs.Rows.{IsSolid, IsBadOrOk, IsKind, IsRow, bind_ok, bind_bad, solid_from, ends_row, row_then, exactly_kind, number_kind}
+use Rattle.ux_syntax.proofs.Bytes.{dash_solid, hex_kind}
 use Rattle.ux_syntax.proofs.Flags.{open_flags_kind, msg_flags_kind}
+use Rattle.ux_syntax.proofs.Choices.{chosen_takes, chosen_bad, mode_kind, whence_kind}
+use Rattle.ux_syntax.proofs.Offsets.{offset_kind}
+use Rattle.ux_syntax.proofs.Names.{path_kind}
 
 dash_kind : IsKind dash_at (λ _. dash) (λ _. Unit {0})
 dash_kind = exactly_kind dash dash_solid
@@ -62,27 +62,69 @@ made {X = X} {read = read} word make row spelled ws = made_of (read ws) refl
 -- ---- three laws a word, and its letters in `word_facts`
 
 args_read : (word : CallWord) (ws : List (List ℕ)) → IsReading word ws (args_at word ws)
-unfolding pair_at send_at recv_at close_at exit_at
+unfolding open_at read_at write_at lseek_at dup_at dup2_at set_flags_at close_at unlink_at pair_at send_at recv_at exit_at
+args_read CallWord.Open = made CallWord.Open (λ x. open_path x.0 x.1.0 x.1.1.0) (row_then path_kind (row_then mode_kind (row_then open_flags_kind ends_row))) (λ x f. (refl, refl, (f.0, f.1.1.0)))
+args_read CallWord.Read = made CallWord.Read (λ x. read_fd x.0 x.1.0) (row_then number_kind (row_then number_kind ends_row)) (λ x f. (refl, refl, (f.0, f.1.0)))
+args_read CallWord.Write = made CallWord.Write (λ x. write_fd x.0 x.1.0) (row_then number_kind (row_then hex_kind ends_row)) (λ x f. (refl, refl, (f.0, f.1.0)))
+args_read CallWord.Lseek = made CallWord.Lseek (λ x. seek x.0 x.1.0 x.1.1.0) (row_then number_kind (row_then offset_kind (row_then whence_kind ends_row))) (λ x f. (refl, refl, (f.0, f.1.0)))
+args_read CallWord.Dup = made CallWord.Dup (λ x. dup_fd x.0) (row_then number_kind ends_row) (λ x f. (refl, refl, f.0))
+args_read CallWord.Dup2 = made CallWord.Dup2 (λ x. dup_onto x.0 x.1.0) (row_then number_kind (row_then number_kind ends_row)) (λ x f. (refl, refl, (f.0, f.1.0)))
+args_read CallWord.Flags = made CallWord.Flags (λ x. set_flags x.0 x.1.0) (row_then number_kind (row_then open_flags_kind ends_row)) (λ x f. (refl, refl, (f.0, f.1.0)))
+args_read CallWord.Close = made CallWord.Close (λ x. close x.0) (row_then number_kind ends_row) (λ x f. (refl, refl, f.0))
+args_read CallWord.Unlink = made CallWord.Unlink (λ x. unlink_path x.0) (row_then path_kind ends_row) (λ x f. (refl, refl, f.0))
 args_read CallWord.Pair = made CallWord.Pair (λ x. pair x.1.0) (row_then stream_kind (row_then open_flags_kind ends_row)) (λ x f. (refl, refl, f.1.0))
 args_read CallWord.Send = made CallWord.Send (λ x. send x.0 x.1.1.0 x.1.1.1.0 x.1.1.1.1.0) (row_then number_kind (row_then dash_kind (row_then hex_kind (row_then control_kind (row_then msg_flags_kind ends_row))))) (λ x f. (refl, refl, (f.0, f.1.1.0, f.1.1.1.0, f.1.1.1.1.0)))
 args_read CallWord.Recv = made CallWord.Recv (λ x. recv x.0 x.1.0 x.1.1.0 x.1.1.1.0) (row_then number_kind (row_then number_kind (row_then number_kind (row_then msg_flags_kind ends_row)))) (λ x f. (refl, refl, (f.0, f.1.0, f.1.1.0, f.1.1.1.0)))
-args_read CallWord.Close = made CallWord.Close (λ x. close x.0) (row_then number_kind ends_row) (λ x f. (refl, refl, f.0))
 args_read CallWord.Exit = made CallWord.Exit (λ x. exit) ends_row (λ x f. (refl, refl, tt))
+args_read CallWord.Off = λ ws. refl
 
 pub args_again : (c : Written) → FitsCall c → args_at (request_word (meaning c)) (args_of c) ≡ Ok (meaning c)
-unfolding pair_at send_at recv_at close_at exit_at exactly
+unfolding open_at read_at write_at lseek_at dup_at dup2_at set_flags_at close_at unlink_at pair_at send_at recv_at exit_at exactly
+args_again (open_path path mode flags) f = rw (path_kind.again path f.0, mode_kind.again mode tt, open_flags_kind.again flags f.1) refl
+args_again (read_fd fd n) f = rw (number_kind.again fd f.0, number_kind.again n f.1) refl
+args_again (write_fd fd bytes) f = rw (number_kind.again fd f.0, hex_kind.again bytes f.1) refl
+args_again (seek fd offset whence) f = rw (number_kind.again fd f.0, offset_kind.again offset f.1, whence_kind.again whence tt) refl
+args_again (dup_fd fd) f = rw (number_kind.again fd f) refl
+args_again (dup_onto fd other) f = rw (number_kind.again fd f.0, number_kind.again other f.1) refl
+args_again (set_flags fd flags) f = rw (number_kind.again fd f.0, open_flags_kind.again flags f.1) refl
+args_again (close fd) f = rw (number_kind.again fd f) refl
+args_again (unlink_path path) f = rw (path_kind.again path f) refl
 args_again (pair flags) f = rw (open_flags_kind.again flags f) refl
 args_again (send fd bytes control flags) f = rw (number_kind.again fd f.0, hex_kind.again bytes f.1, control_kind.again control f.2, msg_flags_kind.again flags f.3) refl
 args_again (recv fd n space flags) f = rw (number_kind.again fd f.0, number_kind.again n f.1, number_kind.again space f.2, msg_flags_kind.again flags f.3) refl
-args_again (close fd) f = rw (number_kind.again fd f) refl
 args_again exit f = refl
 
 pub args_solid : (c : Written) → FitsCall c → AllByRecursion IsSolid (args_of c)
+args_solid (open_path path mode flags) f = (path_kind.solid path f.0, (mode_kind.solid mode tt, (open_flags_kind.solid flags f.1, tt)))
+args_solid (read_fd fd n) f = (number_kind.solid fd f.0, (number_kind.solid n f.1, tt))
+args_solid (write_fd fd bytes) f = (number_kind.solid fd f.0, (hex_kind.solid bytes f.1, tt))
+args_solid (seek fd offset whence) f = (number_kind.solid fd f.0, (offset_kind.solid offset f.1, (whence_kind.solid whence tt, tt)))
+args_solid (dup_fd fd) f = (number_kind.solid fd f, tt)
+args_solid (dup_onto fd other) f = (number_kind.solid fd f.0, (number_kind.solid other f.1, tt))
+args_solid (set_flags fd flags) f = (number_kind.solid fd f.0, (open_flags_kind.solid flags f.1, tt))
+args_solid (close fd) f = (number_kind.solid fd f, tt)
+args_solid (unlink_path path) f = (path_kind.solid path f, tt)
 args_solid (pair flags) f = (stream_kind.solid tt tt, (open_flags_kind.solid flags f, tt))
 args_solid (send fd bytes control flags) f = (number_kind.solid fd f.0, (dash_solid, (hex_kind.solid bytes f.1, (control_kind.solid control f.2, (msg_flags_kind.solid flags f.3, tt)))))
 args_solid (recv fd n space flags) f = (number_kind.solid fd f.0, (number_kind.solid n f.1, (number_kind.solid space f.2, (msg_flags_kind.solid flags f.3, tt))))
-args_solid (close fd) f = (number_kind.solid fd f, tt)
 args_solid exit f = tt
+
+-- each call's word is found by its text, which has no blank
+word_facts : (c : Written) → (word_at (word_text (request_word (meaning c))) ≡ Ok (request_word (meaning c))) × (list_all (λ b. ltb 32 b) (word_text (request_word (meaning c))) ≡ true)
+unfolding word_at
+word_facts (open_path path mode flags) = (refl, refl)
+word_facts (read_fd fd n) = (refl, refl)
+word_facts (write_fd fd bytes) = (refl, refl)
+word_facts (seek fd offset whence) = (refl, refl)
+word_facts (dup_fd fd) = (refl, refl)
+word_facts (dup_onto fd other) = (refl, refl)
+word_facts (set_flags fd flags) = (refl, refl)
+word_facts (close fd) = (refl, refl)
+word_facts (unlink_path path) = (refl, refl)
+word_facts (pair flags) = (refl, refl)
+word_facts (send fd bytes control flags) = (refl, refl)
+word_facts (recv fd n space flags) = (refl, refl)
+word_facts exit = (refl, refl)
 
 -- ---- all words
 
@@ -98,63 +140,16 @@ args_bad word ws = bad_of (args_at word ws) (args_read word ws)
 
 -- ---- the word of a call
 
-head_or_tail : {X : Type 0} (p : X → Bool) (y : X) (ys : List X) (x : X) (b : Bool) → p y ≡ b → (or_bad (find p ys) ≡ Ok x → p x ≡ true) → or_bad (cond b (Some y) (find p ys)) ≡ Ok x → p x ≡ true
-head_or_tail p y ys x true h tail e = subst (λ z. p z ≡ true) (ok_is y x e) h
-head_or_tail p y ys x false h tail e = tail e
-
-found_passes : {X : Type 0} (p : X → Bool) (xs : List X) (x : X) → or_bad (find p xs) ≡ Ok x → p x ≡ true
-found_passes p [] x e = absurd cc
-found_passes p (y ∷ ys) x e = head_or_tail p y ys x (p y) refl (found_passes p ys x) e
-
 pub word_takes : (w : List ℕ) (word : CallWord) → word_at w ≡ Ok word → w ≡ word_text word
 unfolding word_at
-word_takes w word e = sym ((bytes_eq-Decides (word_text word) w).0 (found_passes (λ c. bytes_eq (word_text c) w) all_words word e))
-
-or_bad_bad : {A : Type 0} (o : Option A) → IsBadOrOk (or_bad o)
-or_bad_bad None = refl
-or_bad_bad (Some x) = tt
+word_takes w word e = chosen_takes word_text all_words w word e
 
 pub word_bad : (w : List ℕ) → IsBadOrOk (word_at w)
 unfolding word_at
-word_bad w = or_bad_bad (find (λ c. bytes_eq (word_text c) w) all_words)
+word_bad w = chosen_bad word_text all_words w
 
--- each word is found by its text, which has no blank
-word_facts : (word : CallWord) → (word_at (word_text word) ≡ Ok word) × (list_all (λ b. ltb 32 b) (word_text word) ≡ true)
-unfolding word_at
-word_facts CallWord.Pair = (refl, refl)
-word_facts CallWord.Send = (refl, refl)
-word_facts CallWord.Recv = (refl, refl)
-word_facts CallWord.Close = (refl, refl)
-word_facts CallWord.Exit = (refl, refl)
+pub word_again : (c : Written) → word_at (word_text (request_word (meaning c))) ≡ Ok (request_word (meaning c))
+word_again c = (word_facts c).0
 
-pub word_again : (word : CallWord) → word_at (word_text word) ≡ Ok word
-word_again word = (word_facts word).0
-
-pub word_solid : (word : CallWord) → IsSolid (word_text word)
-word_solid word = solid_from (word_text word) (word_facts word).1
-
--- ---- a process
-
-abbrev pub proc_args : ProcSpec → List (List ℕ)
-proc_args p = decimal p.uid ∷ decimal p.gid ∷ bit p.privileged ∷ decimal p.limit ∷ []
-
-pub proc_takes : (ws : List (List ℕ)) (p : ProcSpec) → proc_at ws ≡ Ok p → (ws ≡ proc_args p) × FitsProc p
-unfolding proc_at
-proc_takes ws p e =
-    let row = row_then number_kind (row_then number_kind (row_then bit_kind (row_then number_kind ends_row))) in
-    let b = bind_ok _ (λ x. Ok (record { uid = x.0; gid = x.1.0; privileged = x.1.1.0; limit = x.1.1.1.0 })) p e in
-    let q = row.takes ws b.0 b.1 in
-    subst (λ (y : ProcSpec). (ws ≡ proc_args y) × FitsProc y) (ok_is (record { uid = b.0.0; gid = b.0.1.0; privileged = b.0.1.1.0; limit = b.0.1.1.1.0 }) p b.2) (q.0, (q.1.0, q.1.1.0, q.1.1.1.1.0))
-
-pub proc_bad : (ws : List (List ℕ)) → IsBadOrOk (proc_at ws)
-unfolding proc_at
-proc_bad ws =
-    let row = row_then number_kind (row_then number_kind (row_then bit_kind (row_then number_kind ends_row))) in
-    bind_bad _ _ (row.bad ws) (λ x. tt)
-
-pub proc_again : (p : ProcSpec) → FitsProc p → proc_at (proc_args p) ≡ Ok p
-unfolding proc_at
-proc_again p f = rw (number_kind.again p.uid f.0, number_kind.again p.gid f.1, bit_kind.again p.privileged tt, number_kind.again p.limit f.2) refl
-
-pub proc_solid : (p : ProcSpec) → FitsProc p → AllByRecursion IsSolid (proc_args p)
-proc_solid p f = (number_kind.solid p.uid f.0, (number_kind.solid p.gid f.1, (bit_kind.solid p.privileged tt, (number_kind.solid p.limit f.2, tt))))
+pub word_solid : (c : Written) → IsSolid (word_text (request_word (meaning c)))
+word_solid c = solid_from (word_text (request_word (meaning c))) (word_facts c).1

@@ -12,13 +12,13 @@ use Rattle.ux_syntax.specs.Reading.{◌>>=◌, digit_at, pairs_at, hex_at, bit_a
 use Rattle.ux_syntax.proofs.Texts.{hex_is}
 use Rattle.ux_syntax.proofs.Rows.{IsSolid, IsBadOrOk, IsKind, bind_ok, done, ok_is, guard_bad, either_bad, bind_bad}
 
-digit_takes : (c n : ℕ) → digit_at c ≡ Ok n → (c ≡ digit_glyph false n) × (n < 16)
+pub digit_takes : (c n : ℕ) → digit_at c ≡ Ok n → (c ≡ digit_glyph false n) × (n < 16)
 digit_takes c n e = grind (arith, nat_tests, e)
 
-digit_again : (n : ℕ) → n < 16 → digit_at (digit_glyph false n) ≡ Ok n
+pub digit_again : (n : ℕ) → n < 16 → digit_at (digit_glyph false n) ≡ Ok n
 digit_again n h = grind (arith, nat_tests)
 
-glyph_solid : (n : ℕ) → n < 16 → 32 < digit_glyph false n
+pub glyph_solid : (n : ℕ) → n < 16 → 32 < digit_glyph false n
 glyph_solid n h = grind (arith, nat_tests)
 
 pub pairs_takes : (w bs : List ℕ) → pairs_at w ≡ Ok bs → (w ≡ flat_map digit_pair bs) × AreBytes bs
@@ -83,7 +83,7 @@ hex_solid : (bs : List ℕ) → AreBytes bs → IsSolid (hex bs)
 hex_solid [] f = dash_solid
 hex_solid (b ∷ bs) f = pairs_solid (b ∷ bs) f
 
-digit_bad : (c : ℕ) → IsBadOrOk (digit_at c)
+pub digit_bad : (c : ℕ) → IsBadOrOk (digit_at c)
 digit_bad c = either_bad (leb 48 c && leb c 57) (Ok (c - 48)) _ tt (guard_bad (leb 97 c && leb c 102) (c - 97 + 10))
 
 pairs_bad : (w : List ℕ) → IsBadOrOk (pairs_at w)

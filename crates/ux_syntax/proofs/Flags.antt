@@ -41,7 +41,7 @@ flags_chosen : {F : Type 0} (text : F → List ℕ) (Fits : F → Type 0) (none 
 flags_chosen {F = F} text Fits none f g w front rest true u long d h n m e p fits k = subst (λ (x : F). (w ≡ text x) × Fits x) (ok_is none g k) (d.0 refl ∙ sym n, m)
 flags_chosen text Fits none f g w front rest false u long d h n m e p fits k = flags_end text Fits f g w front rest u long h e p fits k
 
-solid_append : (v w : List ℕ) → IsSolid v → IsSolid w → IsSolid (v ++ w)
+pub solid_append : (v w : List ℕ) → IsSolid v → IsSolid w → IsSolid (v ++ w)
 solid_append [] w p q = q
 solid_append (c ∷ cs) w p q = (p.0, solid_append cs w p.1 q)
 

@@ -1,5 +1,5 @@
 -- A line that is read is the spelling of what was read, and each spelling is read again.
-use Rattle.std.proofs.Common.{◌≡◌, ℕ, ◌<◌, ◌≤◌, Bool, true, false, cond, ltb, eqb, List, [], ◌∷◌, length, All, Ok, Err, refl, ap, sym, ◌∙◌, subst, arith, Decides, codes}
+use Rattle.std.proofs.Common.{◌≡◌, ℕ, ◌<◌, ◌≤◌, Bool, true, false, cond, ltb, eqb, List, [], ◌∷◌, length, All, Result, Ok, Err, refl, ap, sym, ◌∙◌, subst, arith, Decides, codes}
 use Rattle.std.specs.Prelude.{decimal}
 use Rattle.std.specs.List.{AllByRecursion, slice_split, join_with_byte}
 use Rattle.std.specs.Str.{bytes_eq}
@@ -7,16 +7,19 @@ use Rattle.std.proofs.lemmas.Bool.{ltb-false, le-ltb, eqb-true}
 use Rattle.std.proofs.lemmas.List.Elements.{All-from_recursion}
 use Rattle.std.proofs.lemmas.List.Splits.{slice_split_at, slice_split_none, join_with_byte-slice_split}
 use Rattle.std.proofs.lemmas.Slice.Eq.{bytes_eq-Decides}
+use Rattle.ux_syntax.specs.declared.fault.Fault.{Fault}
 use Rattle.ux_syntax.specs.declared.fault.Fault.TheVariants.{BadLine, TooLong}
-use Rattle.ux_model.specs.Types.{ProcSpec, Request}
+use Rattle.ux_model.specs.Types.{Request}
 use Rattle.ux_syntax.specs.declared.calls.CallWord.{CallWord}
+use Rattle.ux_syntax.specs.declared.script.Header.{Header}
 use Rattle.ux_syntax.specs.declared.reading.Item.{Item}
 use Rattle.ux_syntax.specs.Trace.{word_text, request_word}
-use Rattle.ux_syntax.specs.Spelling.{Turn, meaning, line_of, args_of, proc_line, turn_line, is_meant, IsNumber, FitsTurn, FitsProc}
-use Rattle.ux_syntax.specs.Reading.{◌>>=◌, number_at, one, proc_at, word_at, args_at, turn_at, words_at, item_at}
-use Rattle.ux_syntax.proofs.Rows.{IsSolid, solid_from, IsBadOrOk, one_bad, either_bad, bind_bad, bind_ok, done, ok_is, number_kind}
+use Rattle.ux_syntax.specs.Spelling.{Turn, meaning, line_of, header_words, header_line, turn_words, turn_line, is_meant, IsNumber, FitsTurn, FitsHeader}
+use Rattle.ux_syntax.specs.Reading.{◌>>=◌, number_at, one, ends, proc_at, object_at, word_at, args_at, turn_at, words_at, item_at}
+use Rattle.ux_syntax.proofs.Rows.{IsSolid, solid_from, IsBadOrOk, one_bad, either_bad, bind_bad, bind_ok, done, ok_is, number_kind, ends_row}
 use Rattle.ux_syntax.proofs.Numbers.{number_refused}
-use Rattle.ux_syntax.proofs.Args.{args_takes, args_bad, word_bad, proc_bad, args_again, args_solid, word_takes, word_again, word_solid, proc_args, proc_takes, proc_again, proc_solid}
+use Rattle.ux_syntax.proofs.Args.{args_takes, args_bad, word_bad, args_again, args_solid, word_takes, word_again, word_solid}
+use Rattle.ux_syntax.proofs.HeaderLines.{header_args, proc_takes, proc_bad, proc_again, object_takes, object_bad, object_again, header_solid}
 
 -- ---- words and the line that they make
 
@@ -41,17 +44,15 @@ split_join w (v ∷ ws) h hs =
 
 -- ---- what words say
 
-abbrev proc_words : ProcSpec → List (List ℕ)
-proc_words p = codes "proc" ∷ proc_args p
-
-abbrev turn_words : Turn → List (List ℕ)
-turn_words t = decimal t.pid ∷ word_text (request_word (meaning t.call)) ∷ args_of t.call
+abbrev off_words : List (List ℕ)
+off_words = codes "off" ∷ []
 
 -- the words are the item's, as it may be written
 abbrev AreWords : List (List ℕ) → Item → Type 0
 AreWords ws Item.Skipped = ⊥
-AreWords ws (Item.Proc p) = (ws ≡ proc_words p) × FitsProc p
+AreWords ws (Item.Header h) = (ws ≡ header_words h) × FitsHeader h
 AreWords ws (Item.Call line) = (t : Turn) × (line_of t ≡ line) × (ws ≡ turn_words t) × FitsTurn t
+AreWords ws Item.Off = ws ≡ off_words
 
 turn_takes : (pid : ℕ) (ws : List (List ℕ)) (item : Item) → IsNumber pid → turn_at pid ws ≡ Ok item → AreWords (decimal pid ∷ ws) item
 turn_takes pid [] item h e = absurd cc
@@ -69,22 +70,59 @@ turn_takes pid (w ∷ args) item h e =
     subst (λ (y : Item). AreWords (decimal pid ∷ w ∷ args) y) (ok_is (Item.Call (record { pid = record { 0 = pid }; request = c.0 })) item c.2)
     (t, line, ap (λ (x : List ℕ). decimal pid ∷ x ∷ args) first ∙ ap (λ (xs : List (List ℕ)). decimal pid ∷ word_text (request_word (meaning p.call)) ∷ xs) (rest ∙ p.args), (h, p.fits))
 
-words_chosen : (w : List ℕ) (ws : List (List ℕ)) (item : Item) (t : Bool) → Decides t (w ≡ codes "proc")
-    → cond t (proc_at ws >>= λ p. Ok (Item.Proc p)) (number_at w >>= λ pid. turn_at pid ws) ≡ Ok item → AreWords (w ∷ ws) item
-words_chosen w ws item true d e =
-    let a = bind_ok (proc_at ws) (λ p. Ok (Item.Proc p)) item e in
+-- ---- a first word that names the kind of line
+
+abbrev proc_item : List (List ℕ) → Result Item Fault
+proc_item ws = proc_at ws >>= λ p. Ok (Item.Header (Header.Proc p))
+
+abbrev object_item : List (List ℕ) → Result Item Fault
+object_item ws = object_at ws >>= λ o. Ok (Item.Header (Header.Object o))
+
+abbrev off_item : List (List ℕ) → Result Item Fault
+off_item ws = ends ws >>= λ x. Ok Item.Off
+
+abbrev call_item : List ℕ → List (List ℕ) → Result Item Fault
+call_item w ws = number_at w >>= λ pid. turn_at pid ws
+
+proc_item_takes : (w : List ℕ) (ws : List (List ℕ)) (item : Item) → w ≡ codes "proc" → proc_item ws ≡ Ok item → AreWords (w ∷ ws) item
+proc_item_takes w ws item d e =
+    let a = bind_ok (proc_at ws) (λ p. Ok (Item.Header (Header.Proc p))) item e in
     let p = proc_takes ws a.0 a.1 in
-    subst (λ (y : Item). AreWords (w ∷ ws) y) (ok_is (Item.Proc a.0) item a.2)
-    (ap (λ (x : List ℕ). x ∷ ws) (d.0 refl) ∙ ap (λ (xs : List (List ℕ)). codes "proc" ∷ xs) p.0, p.1)
-words_chosen w ws item false d e =
+    subst (λ (y : Item). AreWords (w ∷ ws) y) (ok_is (Item.Header (Header.Proc a.0)) item a.2)
+    (ap (λ (x : List ℕ). x ∷ ws) d ∙ ap (λ (xs : List (List ℕ)). codes "proc" ∷ xs) p.0, p.1)
+
+object_item_takes : (w : List ℕ) (ws : List (List ℕ)) (item : Item) → w ≡ codes "object" → object_item ws ≡ Ok item → AreWords (w ∷ ws) item
+object_item_takes w ws item d e =
+    let a = bind_ok (object_at ws) (λ o. Ok (Item.Header (Header.Object o))) item e in
+    let p = object_takes ws a.0 a.1 in
+    subst (λ (y : Item). AreWords (w ∷ ws) y) (ok_is (Item.Header (Header.Object a.0)) item a.2)
+    (ap (λ (x : List ℕ). x ∷ ws) d ∙ ap (λ (xs : List (List ℕ)). codes "object" ∷ xs) p.0, p.1)
+
+off_item_takes : (w : List ℕ) (ws : List (List ℕ)) (item : Item) → w ≡ codes "off" → off_item ws ≡ Ok item → AreWords (w ∷ ws) item
+off_item_takes w ws item d e =
+    let a = bind_ok (ends ws) (λ x. Ok Item.Off) item e in
+    let p = ends_row.takes ws a.0 a.1 in
+    subst (λ (y : Item). AreWords (w ∷ ws) y) (ok_is Item.Off item a.2)
+    (ap (λ (x : List ℕ). x ∷ ws) d ∙ ap (λ (xs : List (List ℕ)). codes "off" ∷ xs) p.0)
+
+call_item_takes : (w : List ℕ) (ws : List (List ℕ)) (item : Item) → call_item w ws ≡ Ok item → AreWords (w ∷ ws) item
+call_item_takes w ws item e =
     let a = bind_ok (number_at w) (λ pid. turn_at pid ws) item e in
     let n = number_kind.takes w a.0 a.1 in
     subst (λ (x : List ℕ). AreWords (x ∷ ws) item) (sym n.0) (turn_takes a.0 ws item n.1 a.2)
 
+words_chosen : (w : List ℕ) (ws : List (List ℕ)) (item : Item) (t u v : Bool) → (t ≡ true → w ≡ codes "proc") → (u ≡ true → w ≡ codes "object") → (v ≡ true → w ≡ codes "off")
+    → cond t (proc_item ws) (cond u (object_item ws) (cond v (off_item ws) (call_item w ws))) ≡ Ok item → AreWords (w ∷ ws) item
+words_chosen w ws item true u v d f g e = proc_item_takes w ws item (d refl) e
+words_chosen w ws item false true v d f g e = object_item_takes w ws item (f refl) e
+words_chosen w ws item false false true d f g e = off_item_takes w ws item (g refl) e
+words_chosen w ws item false false false d f g e = call_item_takes w ws item e
+
 words_takes : (ws : List (List ℕ)) (item : Item) → words_at ws ≡ Ok item → AreWords ws item
 unfolding words_at
 words_takes [] item e = absurd cc
-words_takes (w ∷ ws) item e = words_chosen w ws item (bytes_eq w (codes "proc")) (bytes_eq-Decides w (codes "proc")) e
+words_takes (w ∷ ws) item e = words_chosen w ws item (bytes_eq w (codes "proc")) (bytes_eq w (codes "object")) (bytes_eq w (codes "off"))
+    (bytes_eq-Decides w (codes "proc")).0 (bytes_eq-Decides w (codes "object")).0 (bytes_eq-Decides w (codes "off")).0 e
 
 turn_bad : (pid : ℕ) (ws : List (List ℕ)) → IsBadOrOk (turn_at pid ws)
 turn_bad pid ws = bind_bad (one word_at ws) _ (one_bad word_at word_bad ws) (λ word. bind_bad (args_at word.0 word.1) _ (args_bad word.0 word.1) (λ r. tt))
@@ -92,43 +130,54 @@ turn_bad pid ws = bind_bad (one word_at ws) _ (one_bad word_at word_bad ws) (λ 
 pub words_bad : (ws : List (List ℕ)) → IsBadOrOk (words_at ws)
 unfolding words_at
 words_bad [] = refl
-words_bad (w ∷ ws) = either_bad (bytes_eq w (codes "proc")) _ _ (bind_bad (proc_at ws) _ (proc_bad ws) (λ p. tt)) (bind_bad (number_at w) _ (number_kind.bad w) (λ pid. turn_bad pid ws))
+words_bad (w ∷ ws) = either_bad (bytes_eq w (codes "proc")) (proc_item ws) _ (bind_bad (proc_at ws) _ (proc_bad ws) (λ p. tt))
+    (either_bad (bytes_eq w (codes "object")) (object_item ws) _ (bind_bad (object_at ws) _ (object_bad ws) (λ o. tt))
+    (either_bad (bytes_eq w (codes "off")) (off_item ws) (call_item w ws) (bind_bad (ends ws) _ (ends_row.bad ws) (λ x. tt)) (bind_bad (number_at w) _ (number_kind.bad w) (λ pid. turn_bad pid ws))))
 
 err_ok : (n : ℕ) → Err BadLine ≡ done n → ⊥
 err_ok n e = cc
 
-refused : (n : ℕ) → number_at (codes "proc") ≡ Ok n → ⊥
-refused n e = err_ok n (sym (number_refused (codes "proc") refl) ∙ e)
+-- a number is no other word
+no_number : (w : List ℕ) (n : ℕ) (t : Bool) → number_at w ≡ Err BadLine → IsNumber n → Decides t (decimal n ≡ w) → t ≡ false
+no_number w n true r h d =
+    let read : number_at w ≡ Ok n = rw (← d.0 refl) (number_kind.again n h) in
+    absurd (err_ok n (sym r ∙ read))
+no_number w n false r h d = refl
 
--- a number is no word
-no_proc : (n : ℕ) (t : Bool) → IsNumber n → Decides t (decimal n ≡ codes "proc") → t ≡ false
-no_proc n true h d =
-    let one_way : number_at (codes "proc") ≡ Ok n = rw (← d.0 refl) (number_kind.again n h) in
-    absurd (refused n one_way)
-no_proc n false h d = refl
-
-proc_words_again : (p : ProcSpec) → FitsProc p → words_at (proc_words p) ≡ Ok (Item.Proc p)
+header_words_again : (h : Header) → FitsHeader h → words_at (header_words h) ≡ Ok (Item.Header h)
 unfolding words_at
-proc_words_again p f = rw (proc_again p f) refl
+header_words_again (Header.Object o) f = rw (object_again o f) refl
+header_words_again (Header.Proc p) f = rw (proc_again p f) refl
+
+off_words_again : words_at off_words ≡ Ok Item.Off
+unfolding words_at
+off_words_again = refl
+
+other_word : (n : ℕ) (w : List ℕ) → number_at w ≡ Err BadLine → IsNumber n → bytes_eq (decimal n) w ≡ false
+other_word n w r h = no_number w n (bytes_eq (decimal n) w) r h (bytes_eq-Decides (decimal n) w)
 
 turn_words_again : (t : Turn) → FitsTurn t → words_at (turn_words t) ≡ Ok (Item.Call (line_of t))
 unfolding words_at
 turn_words_again t f =
-    let other : bytes_eq (decimal t.pid) (codes "proc") ≡ false = no_proc t.pid _ f.0 (bytes_eq-Decides (decimal t.pid) (codes "proc")) in
-    rw (other, number_kind.again t.pid f.0, word_again (request_word (meaning t.call)), args_again t.call f.1) refl
+    let no_proc = other_word t.pid (codes "proc") (number_refused (codes "proc") refl) f.0 in
+    let no_object = other_word t.pid (codes "object") (number_refused (codes "object") refl) f.0 in
+    let no_off = other_word t.pid (codes "off") (number_refused (codes "off") refl) f.0 in
+    rw (no_proc, no_object, no_off, number_kind.again t.pid f.0, word_again t.call, args_again t.call f.1) refl
 
 -- ---- what a line says
 
 -- a line says nothing, or it is a writing of the item
 abbrev pub Says : Item → List ℕ → Type 0
 Says Item.Skipped text = is_meant text ≡ false
-Says (Item.Proc p) text = (is_meant text ≡ true) × (text ≡ proc_line p) × FitsProc p
+Says (Item.Header h) text = (is_meant text ≡ true) × (text ≡ header_line h) × FitsHeader h
 Says (Item.Call line) text = (is_meant text ≡ true) × ((t : Turn) × (line_of t ≡ line) × (text ≡ turn_line t) × FitsTurn t)
+Says Item.Off text = (is_meant text ≡ true) × (text ≡ codes "off")
 
 said : (item : Item) (text : List ℕ) → is_meant text ≡ true → AreWords (slice_split is_blank text) item → Says item text
 said Item.Skipped text m e = absurd e
-said (Item.Proc p) text m e = (m, sym (join_with_byte-slice_split 32 text) ∙ ap (join_with_byte 32) e.0, e.1)
+said (Item.Header h) text m e = (m, sym (join_with_byte-slice_split 32 text) ∙ ap (join_with_byte 32) e.0, e.1)
 said (Item.Call line) text m e = (m, (e.0, e.1, sym (join_with_byte-slice_split 32 text) ∙ ap (join_with_byte 32) e.2, e.3))
+said Item.Off text m e = (m, sym (join_with_byte-slice_split 32 text) ∙ ap (join_with_byte 32) e)
 
 item_chosen : (text : List ℕ) (item : Item) (t u : Bool) → is_meant text ≡ u → (t ≡ false → length text ≤ 4096) → cond t (Err TooLong) (cond u (words_at (slice_split is_blank text)) (Ok Item.Skipped)) ≡ Ok item → (length text ≤ 4096) × Says item text
 item_chosen text item true u m short e = absurd cc
@@ -139,11 +188,12 @@ pub item_takes : (text : List ℕ) (item : Item) → item_at text ≡ Ok item �
 unfolding item_at
 item_takes text item e = item_chosen text item (ltb 4096 (length text)) (is_meant text) refl (ltb-false 4096 (length text)) e
 
-split_proc : (p : ProcSpec) → FitsProc p → slice_split is_blank (proc_line p) ≡ proc_words p
-split_proc p f = split_join (codes "proc") (proc_args p) (solid_from (codes "proc") refl) (proc_solid p f)
+split_header : (h : Header) → FitsHeader h → slice_split is_blank (header_line h) ≡ header_words h
+split_header (Header.Object o) f = split_join (codes "object") (header_args (Header.Object o)) (solid_from (codes "object") refl) (header_solid (Header.Object o) f)
+split_header (Header.Proc p) f = split_join (codes "proc") (header_args (Header.Proc p)) (solid_from (codes "proc") refl) (header_solid (Header.Proc p) f)
 
 split_turn : (t : Turn) → FitsTurn t → slice_split is_blank (turn_line t) ≡ turn_words t
-split_turn t f = split_join (decimal t.pid) _ (number_kind.solid t.pid f.0) (word_solid (request_word (meaning t.call)), args_solid t.call f.1)
+split_turn t f = split_join (decimal t.pid) _ (number_kind.solid t.pid f.0) (word_solid t.call, args_solid t.call f.1)
 
 spelled_again : (item : Item) (text spelling : List ℕ) (ws : List (List ℕ)) → length text ≤ 4096 → is_meant text ≡ true → text ≡ spelling → slice_split is_blank spelling ≡ ws → words_at ws ≡ Ok item → item_at text ≡ Ok item
 unfolding item_at
@@ -155,8 +205,11 @@ pub skip_again : (text : List ℕ) → length text ≤ 4096 → is_meant text �
 unfolding item_at
 skip_again text short m = rw (le-ltb 4096 (length text) short, m) refl
 
-pub proc_again_line : (p : ProcSpec) (text : List ℕ) → length text ≤ 4096 → is_meant text ≡ true → text ≡ proc_line p → FitsProc p → item_at text ≡ Ok (Item.Proc p)
-proc_again_line p text short m e f = spelled_again (Item.Proc p) text (proc_line p) (proc_words p) short m e (split_proc p f) (proc_words_again p f)
+pub header_again_line : (h : Header) (text : List ℕ) → length text ≤ 4096 → is_meant text ≡ true → text ≡ header_line h → FitsHeader h → item_at text ≡ Ok (Item.Header h)
+header_again_line h text short m e f = spelled_again (Item.Header h) text (header_line h) (header_words h) short m e (split_header h f) (header_words_again h f)
+
+pub off_again_line : (text : List ℕ) → length text ≤ 4096 → is_meant text ≡ true → text ≡ codes "off" → item_at text ≡ Ok Item.Off
+off_again_line text short m e = spelled_again Item.Off text (codes "off") off_words short m e refl off_words_again
 
 pub turn_again_line : (t : Turn) (text : List ℕ) → length text ≤ 4096 → is_meant text ≡ true → text ≡ turn_line t → FitsTurn t → item_at text ≡ Ok (Item.Call (line_of t))
 turn_again_line t text short m e f = spelled_again (Item.Call (line_of t)) text (turn_line t) (turn_words t) short m e (split_turn t f) (turn_words_again t f)

@@ -4,6 +4,10 @@ pub mod Numbers
 pub mod Rows
 pub mod Bytes
 pub mod Flags
+pub mod Choices
+pub mod Offsets
+pub mod Names
 pub mod Args
+pub mod HeaderLines
 pub mod Items
 pub mod Scripts

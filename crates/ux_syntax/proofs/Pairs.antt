@@ -8,7 +8,7 @@ use Rattle.ux_syntax.specs.Reading.{◌>>=◌, digit_at, pairs_at}
 abbrev pub with_front : List ℕ → Result (List ℕ) Fault → Result (List ℕ) Fault
 with_front front read = read >>= λ x. Ok (front ++ x)
 
-regroup : (front : List ℕ) (n : ℕ) (read : Result (List ℕ) Fault) → with_front front (read >>= λ x. Ok (n ∷ x)) ≡ with_front (front ++ n ∷ []) read
+pub regroup : (front : List ℕ) (n : ℕ) (read : Result (List ℕ) Fault) → with_front front (read >>= λ x. Ok (n ∷ x)) ≡ with_front (front ++ n ∷ []) read
 regroup front n (Ok x) = ap (λ (ns : List ℕ). Ok ns) (simp append_assoc)
 regroup front n (Err f) = refl
 

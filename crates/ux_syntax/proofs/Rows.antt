@@ -5,7 +5,7 @@ use Rattle.std.specs.List.{list_all, AllByRecursion}
 use Rattle.std.specs.Char.{is_ascii_digit}
 use Rattle.std.specs.Str.{bytes_eq}
 use Rattle.std.specs.Str.Parse.{digits_value}
-use Rattle.std.proofs.lemmas.Bool.{lt-ltb, ltb-true, eqb-true}
+use Rattle.std.proofs.lemmas.Bool.{lt-ltb, ltb-true, ne_eqb, and_parts, not_from_false}
 use Rattle.std.proofs.lemmas.Bool.Decides.{nat_tests}
 use Rattle.std.proofs.lemmas.Slice.Eq.{bytes_eq-Decides}
 use Rattle.std.proofs.lemmas.Fmt.{digits_decimal, digits_value-decimal, decimal-digits_value, first_decimal, decimal_nonempty, decimal_digit}
@@ -45,6 +45,11 @@ pub record IsRow {A : Type 0} (read : List (List ℕ) → Result A Fault) (words
 pub guard_bad : {A : Type 0} (b : Bool) (x : A) → IsBadOrOk (cond b (done x) (Err BadLine))
 guard_bad true x = tt
 guard_bad false x = refl
+
+-- and one that does not
+pub guard_ok : {A : Type 0} (b : Bool) (x y : A) → cond b (done x) (Err BadLine) ≡ Ok y → (b ≡ true) × (x ≡ y)
+guard_ok true x y e = (refl, cc)
+guard_ok false x y e = absurd cc
 
 pub either_bad : {A : Type 0} (b : Bool) (r s : Result A Fault) → IsBadOrOk r → IsBadOrOk s → IsBadOrOk (cond b r s)
 either_bad true r s p q = p
@@ -119,14 +124,6 @@ exactly_kind text solid = record {
 
 -- ---- numbers
 
-number_guard : (w : List ℕ) (b : Bool) (v n : ℕ) → cond b (done v) (Err BadLine) ≡ Ok n → (b ≡ true) × (v ≡ n)
-number_guard w true v n e = (refl, ok_is v n e)
-number_guard w false v n e = absurd cc
-
-pub and_parts : (a b : Bool) → (a && b) ≡ true → (a ≡ true) × (b ≡ true)
-and_parts true b e = (refl, e)
-and_parts false b e = absurd cc
-
 -- the same by a test that computes
 pub solid_from : (w : List ℕ) → list_all (λ b. ltb 32 b) w ≡ true → IsSolid w
 solid_from [] h = tt
@@ -134,15 +131,11 @@ solid_from (c ∷ cs) h =
     let p = and_parts (ltb 32 c) (list_all (λ b. ltb 32 b) cs) h in
     (ltb-true 32 c p.0, solid_from cs p.1)
 
-plain_test : (b : Bool) → (b ≡ true → ⊥) → not b ≡ true
-plain_test true h = absurd (h refl)
-plain_test false h = refl
-
 not_plain : (c : ℕ) → c ≡ 48 → not (eqb c 48) ≡ true → ⊥
 not_plain c e h = let same : eqb c 48 ≡ true = rw e refl in absurd cc
 
 plain_from : (c : ℕ) → (c ≡ 48 → ⊥) → not (eqb c 48) ≡ true
-plain_from c h = plain_test (eqb c 48) (λ e. h (eqb-true c 48 e))
+plain_from c h = not_from_false (eqb c 48) (ne_eqb c 48 h)
 
 two_long : (d : ℕ) (ds : List ℕ) → suc (suc (length ds)) ≡ 1 → ⊥
 two_long d ds e = omega (arith, e)
@@ -151,7 +144,7 @@ zero_alone : (n : ℕ) → n < 2 ^ 64 → get_or (decimal n) 0 0 ≡ 48 → leng
 zero_alone zero small e = ap (λ (ds : List ℕ). length ds) (decimal_digit 0 (omega arith))
 zero_alone (suc n) small e = absurd (omega (arith, first_decimal (suc n) (omega arith) small))
 
-digits_solid : (w : List ℕ) → list_all is_ascii_digit w ≡ true → IsSolid w
+pub digits_solid : (w : List ℕ) → list_all is_ascii_digit w ≡ true → IsSolid w
 digits_solid [] h = tt
 digits_solid (c ∷ cs) h =
     let p = and_parts (is_ascii_digit c) (list_all is_ascii_digit cs) h in
@@ -167,18 +160,21 @@ form_plain [] h k = absurd (omega arith)
 form_plain (c ∷ []) h k = refl
 form_plain (c ∷ d ∷ ds) h k = plain_from c (λ e. two_long d ds (k e))
 
+-- digits in their one form are those of the number
+pub numeral_text : (w : List ℕ) → is_plain w ≡ true → list_all is_ascii_digit w ≡ true → digits_value 10 w < 2 ^ 64 → decimal (digits_value 10 w) ≡ w
+numeral_text w plain digits small = let form = plain_form w plain in decimal-digits_value own w digits form.0 form.1 small
+
 number_takes : (w : List ℕ) (n : ℕ) → number_at w ≡ Ok n → (w ≡ decimal n) × IsNumber n
 unfolding number_at
 number_takes w n e =
-    let g = number_guard w (is_plain w && list_all is_ascii_digit w && ltb (digits_value 10 w) (2 ^ 32)) (digits_value 10 w) n e in
+    let g = guard_ok (is_plain w && list_all is_ascii_digit w && ltb (digits_value 10 w) (2 ^ 32)) (digits_value 10 w) n e in
     let p = and_parts (is_plain w && list_all is_ascii_digit w) (ltb (digits_value 10 w) (2 ^ 32)) g.0 in
     let q = and_parts (is_plain w) (list_all is_ascii_digit w) p.0 in
     let small : digits_value 10 w < 2 ^ 32 = ltb-true _ _ p.1 in
-    let form = plain_form w q.0 in
-    let text : decimal (digits_value 10 w) ≡ w = decimal-digits_value own w q.1 form.0 form.1 (omega arith) in
+    let text = numeral_text w q.0 q.1 (omega arith) in
     (sym text ∙ ap decimal g.1, rw g.1 at small)
 
-decimal_plain : (n : ℕ) → n < 2 ^ 64 → is_plain (decimal n) ≡ true
+pub decimal_plain : (n : ℕ) → n < 2 ^ 64 → is_plain (decimal n) ≡ true
 decimal_plain n small = form_plain (decimal n) (decimal_nonempty n small) (λ e. zero_alone n small e)
 
 number_again : (n : ℕ) → IsNumber n → number_at (decimal n) ≡ Ok n

@@ -1,23 +1,25 @@
 -- Lines that are read spell the script that was read, and lines that spell a script are read.
-use Rattle.std.proofs.Common.{◌≡◌, ◌≢◌, ◌⊎◌, ℕ, suc, ◌-◌, ◌<◌, ◌≤◌, Bool, true, false, cond, ltb, leb, eqb, eq-eqb, ◌&&◌, ◌||◌, List, [], ◌∷◌, ◌++◌, length, map, filter, take, Result, Ok, Err, refl, ap, sym, ◌∙◌, subst, append_assoc, arith, inl, inr}
+use Rattle.std.proofs.Common.{◌≡◌, ◌≢◌, ◌⊎◌, ℕ, suc, ◌-◌, ◌<◌, ◌≤◌, Bool, true, false, cond, not, ltb, leb, eqb, eq-eqb, ◌&&◌, List, [], ◌∷◌, ◌++◌, length, map, filter, take, codes, Result, Ok, Err, refl, ap, sym, ◌∙◌, subst, append_assoc, arith, inl, inr}
 use Rattle.std.specs.Prelude.{IfOk, IfErr, slice_index_or}
 use Rattle.std.specs.List.{AllByRecursion, slice_split}
-use Rattle.std.proofs.lemmas.Bool.{ltb-true, ltb-false, lt-ltb, eqb-true, leb-true, le-leb}
+use Rattle.std.proofs.lemmas.Bool.{ltb-true, ltb-false, lt-ltb, eqb-true, leb-true, le-leb, and_parts, and_from, and_left, and_right, or_parts, false_from_ne_true, both_ways}
 use Rattle.std.proofs.lemmas.List.{append-nil, map-append, nil_from_length, length-append, take_at}
 use Rattle.std.proofs.lemmas.List.Elements.{filter-append}
 use Rattle.ux_model.specs.Types.{ProcSpec}
 use Rattle.ux_syntax.specs.declared.fault.Fault.{Fault}
 use Rattle.ux_syntax.specs.declared.fault.Fault.TheVariants.{BadLine, UnknownProcess, TooLong}
 use Rattle.ux_syntax.specs.declared.fault.ScriptFault.{ScriptFault}
+use Rattle.ux_syntax.specs.declared.script.ObjectLine.{ObjectLine}
+use Rattle.ux_syntax.specs.declared.script.Header.{Header}
 use Rattle.ux_syntax.specs.declared.script.Line.{Line}
 use Rattle.ux_syntax.specs.declared.script.Script.{Script}
 use Rattle.ux_syntax.specs.declared.reading.Item.{Item}
-use Rattle.ux_syntax.specs.Spelling.{Turn, line_of, Plan, plan_of, proc_line, turn_line, is_meant, FitsProc, FitsTurn, IsOfProcess, IsCallOfStranger, IsFaultOf, is_exit, NoneAfterExit, IsOrderly, Spells, IsFirstFault}
+use Rattle.ux_syntax.specs.Spelling.{Written, open_path, read_fd, write_fd, seek, dup_fd, dup_onto, set_flags, close, unlink_path, pair, send, recv, exit, meaning, Turn, line_of, Plan, plan_of, objects_of, procs_of, header_line, turn_line, off_lines, is_meant, FitsHeader, FitsTurn, IsOfProcess, IsCallOfStranger, IsFaultOf, is_exit, is_off, NoneAfterExit, IsCall, IsOrderly, Spells, IsFirstFault}
 use Rattle.ux_syntax.specs.Turns.{has_exited, is_known}
-use Rattle.ux_syntax.specs.Reading.{◌>>=◌, line_fault, words_at, item_at, added, line_at, on_line, lines_at, no_lines}
+use Rattle.ux_syntax.specs.Reading.{◌>>=◌, line_fault, words_at, item_at, with_header, with_line, with_off, joined_by, is_skipped, added, line_at, on_line, lines_at, no_lines}
 use Rattle.ux_syntax.specs.Results.{FailsAt, Refuses, GivesScript}
-use Rattle.ux_syntax.proofs.Rows.{IsBadOrOk, bind_ok, ok_is}
-use Rattle.ux_syntax.proofs.Items.{words_bad, Says, item_takes, skip_again, proc_again_line, turn_again_line}
+use Rattle.ux_syntax.proofs.Rows.{IsBadOrOk, bind_ok, ok_is, guard_ok}
+use Rattle.ux_syntax.proofs.Items.{words_bad, Says, item_takes, skip_again, header_again_line, turn_again_line, off_again_line}
 
 -- ---- lists from their ends
 
@@ -85,34 +87,21 @@ take_next (x ∷ xs) l ls = ap (λ (ys : List (List ℕ)). x ∷ ys) (take_next 
 
 -- ---- exits
 
-and_of : (a : Bool) → (a ≡ true → ⊥) → (a && true) ≡ false
-and_of true h = absurd (h refl)
-and_of false h = refl
-
-and_no : (a : Bool) → (a && false) ≡ false
-and_no true = refl
-and_no false = refl
-
-and_false : (a b : Bool) → (a && b) ≡ false → b ≡ true → a ≡ false
-and_false true b e h = cc
-and_false false b e h = refl
-
-or_false : (a b : Bool) → (a || b) ≡ false → (a ≡ false) × (b ≡ false)
-or_false true b e = absurd cc
-or_false false b e = (refl, e)
-
 differ : (a b : ℕ) → eqb a b ≡ false → b ≢ a
 differ a b h e = let same : eqb a b ≡ true = eq-eqb a b (sym e) in absurd cc
 
 quiet_and : (a b : ℕ) (x : Bool) → (x ≡ true → b ≢ a) → (eqb a b && x) ≡ false
-quiet_and a b true h = and_of (eqb a b) (λ e. h refl (sym (eqb-true a b e)))
-quiet_and a b false h = and_no (eqb a b)
+quiet_and a b true h = and_left (eqb a b) true (false_from_ne_true (eqb a b) (λ e. h refl (sym (eqb-true a b e))))
+quiet_and a b false h = and_right (eqb a b) false refl
+
+left_false : (a b : Bool) → (a && b) ≡ false → b ≡ true → a ≡ false
+left_false a b e h = false_from_ne_true a (λ t. both_ways (a && b) e (and_from a b t h))
 
 exits_more : (ls : List Line) (l : Line) → NoneAfterExit ls → has_exited ls l.pid.0 ≡ false → NoneAfterExit (ls ++ l ∷ [])
 exits_more [] l n h = (λ e. tt, tt)
 exits_more (u ∷ us) l n h =
-    let p = or_false (eqb u.pid.0 l.pid.0 && is_exit u.request) (has_exited us l.pid.0) h in
-    (λ e. each_more (λ v. v.pid.0 ≢ u.pid.0) us l (n.0 e) (differ u.pid.0 l.pid.0 (and_false (eqb u.pid.0 l.pid.0) (is_exit u.request) p.0 e)), exits_more us l n.1 p.1)
+    let p = or_parts (eqb u.pid.0 l.pid.0 && is_exit u.request) (has_exited us l.pid.0) h in
+    (λ e. each_more (λ v. v.pid.0 ≢ u.pid.0) us l (n.0 e) (differ u.pid.0 l.pid.0 (left_false (eqb u.pid.0 l.pid.0) (is_exit u.request) p.0 e)), exits_more us l n.1 p.1)
 
 exits_less : (ls : List Line) (l : Line) → NoneAfterExit (ls ++ l ∷ []) → NoneAfterExit ls × (has_exited ls l.pid.0 ≡ false)
 exits_less [] l n = (tt, refl)
@@ -129,15 +118,25 @@ meant_more ls l m = filter-append is_meant ls (l ∷ []) ∙ ap (λ (b : Bool). 
 skipped_more : (ls : List (List ℕ)) (l : List ℕ) → is_meant l ≡ false → filter is_meant (ls ++ l ∷ []) ≡ filter is_meant ls
 skipped_more ls l m = filter-append is_meant ls (l ∷ []) ∙ ap (λ (b : Bool). filter is_meant ls ++ cond b (l ∷ []) []) m ∙ append-nil (filter is_meant ls)
 
--- the lines of processes and of turns
-abbrev texts_of : List ProcSpec → List Turn → List (List ℕ)
-texts_of ps ts = map proc_line ps ++ map turn_line ts
+-- the lines of a header, of turns, and the one that ends the layer
+abbrev texts_of : List Header → List Turn → Bool → List (List ℕ)
+texts_of hs ts off = map header_line hs ++ (map turn_line ts ++ off_lines off)
 
-proc_spelling : (ps : List ProcSpec) (p : ProcSpec) → texts_of (ps ++ p ∷ []) [] ≡ texts_of ps [] ++ proc_line p ∷ []
-proc_spelling ps p = append-nil (map proc_line (ps ++ p ∷ [])) ∙ map-append proc_line ps (p ∷ []) ∙ ap (λ (ls : List (List ℕ)). ls ++ proc_line p ∷ []) (sym (append-nil (map proc_line ps)))
+header_spelling : (hs : List Header) (h : Header) → texts_of (hs ++ h ∷ []) [] false ≡ texts_of hs [] false ++ header_line h ∷ []
+header_spelling hs h = append-nil (map header_line (hs ++ h ∷ [])) ∙ map-append header_line hs (h ∷ []) ∙ ap (λ (ls : List (List ℕ)). ls ++ header_line h ∷ []) (sym (append-nil (map header_line hs)))
 
-turn_spelling : (ps : List ProcSpec) (ts : List Turn) (t : Turn) → texts_of ps (ts ++ t ∷ []) ≡ texts_of ps ts ++ turn_line t ∷ []
-turn_spelling ps ts t = ap (λ (ls : List (List ℕ)). map proc_line ps ++ ls) (map-append turn_line ts (t ∷ [])) ∙ sym (append_assoc (map proc_line ps) (map turn_line ts) (turn_line t ∷ []))
+turn_spelling : (hs : List Header) (ts : List Turn) (t : Turn) → texts_of hs (ts ++ t ∷ []) false ≡ texts_of hs ts false ++ turn_line t ∷ []
+turn_spelling hs ts t =
+    let front = map header_line hs in
+    let turns = map turn_line ts in
+    ap (λ (ls : List (List ℕ)). front ++ ls) (append-nil (map turn_line (ts ++ t ∷ [])) ∙ map-append turn_line ts (t ∷ []) ∙ ap (λ (ls : List (List ℕ)). ls ++ turn_line t ∷ []) (sym (append-nil turns)))
+    ∙ sym (append_assoc front (turns ++ []) (turn_line t ∷ []))
+
+off_spelling : (hs : List Header) (ts : List Turn) → texts_of hs ts true ≡ texts_of hs ts false ++ codes "off" ∷ []
+off_spelling hs ts =
+    let front = map header_line hs in
+    let turns = map turn_line ts in
+    ap (λ (ls : List (List ℕ)). front ++ (ls ++ codes "off" ∷ [])) (sym (append-nil turns)) ∙ sym (append_assoc front (turns ++ []) (codes "off" ∷ []))
 
 turns_meant : (ts : List Turn) (t : Turn) → map line_of (ts ++ t ∷ []) ≡ map line_of ts ++ line_of t ∷ []
 turns_meant ts t = map-append line_of ts (t ∷ [])
@@ -146,67 +145,177 @@ no_turns : (ts : List Turn) → map line_of ts ≡ [] → ts ≡ []
 no_turns [] e = refl
 no_turns (t ∷ ts) e = absurd cc
 
-guard_ok : {X : Type 0} (b : Bool) (f : Fault) (x y : X) → cond b (Ok x) (Err f) ≡ Ok y → (b ≡ true) × (x ≡ y)
-guard_ok true f x y e = (refl, ok_is x y e)
-guard_ok false f x y e = absurd cc
+-- ---- a header
+
+-- the script of a header alone
+abbrev plan_from : List Header → Plan
+plan_from hs = record { objects = objects_of hs; procs = procs_of hs; lines = []; off = false }
+
+objects_more : (hs : List Header) (o : ObjectLine) → objects_of (hs ++ Header.Object o ∷ []) ≡ objects_of hs ++ o ∷ []
+objects_more [] o = refl
+objects_more (Header.Object p ∷ hs) o = ap (λ (ps : List ObjectLine). p ∷ ps) (objects_more hs o)
+objects_more (Header.Proc p ∷ hs) o = objects_more hs o
+
+objects_same : (hs : List Header) (p : ProcSpec) → objects_of (hs ++ Header.Proc p ∷ []) ≡ objects_of hs
+objects_same [] p = refl
+objects_same (Header.Object o ∷ hs) p = ap (λ (os : List ObjectLine). o ∷ os) (objects_same hs p)
+objects_same (Header.Proc q ∷ hs) p = objects_same hs p
+
+procs_more : (hs : List Header) (p : ProcSpec) → procs_of (hs ++ Header.Proc p ∷ []) ≡ procs_of hs ++ p ∷ []
+procs_more [] p = refl
+procs_more (Header.Object o ∷ hs) p = procs_more hs p
+procs_more (Header.Proc q ∷ hs) p = ap (λ (ps : List ProcSpec). q ∷ ps) (procs_more hs p)
+
+procs_same : (hs : List Header) (o : ObjectLine) → procs_of (hs ++ Header.Object o ∷ []) ≡ procs_of hs
+procs_same [] o = refl
+procs_same (Header.Object p ∷ hs) o = procs_same hs o
+procs_same (Header.Proc q ∷ hs) o = ap (λ (ps : List ProcSpec). q ∷ ps) (procs_same hs o)
+
+header_more : (hs : List Header) (h : Header) → plan_from (hs ++ h ∷ []) ≡ with_header (plan_from hs) h
+header_more hs (Header.Object o) = rw (objects_more hs o, procs_same hs o) refl
+header_more hs (Header.Proc p) = rw (objects_same hs p, procs_more hs p) refl
+
+-- the script is that of its header, if it says nothing else
+plan_is : (s : Plan) (hs : List Header) → objects_of hs ≡ s.objects → procs_of hs ≡ s.procs → s.lines ≡ [] → s.off ≡ false → s ≡ plan_from hs
+plan_is s hs o p l f = rw (o, p, ← l, ← f) refl
+
+-- ---- a line that is read
 
 known_ok : {X : Type 0} (b exited : Bool) (x y : X) → cond b (cond exited (Err BadLine) (Ok x)) (Err UnknownProcess) ≡ Ok y → (b ≡ true) × (exited ≡ false) × (x ≡ y)
 known_ok true true x y e = absurd cc
 known_ok true false x y e = (refl, refl, ok_is x y e)
 known_ok false exited x y e = absurd cc
 
-both_true : (a b : Bool) → (a && b) ≡ true → (a ≡ true) × (b ≡ true)
-both_true true b e = (refl, e)
-both_true false b e = absurd cc
+-- the lines with one more that says something
+meant_spelling : (ls : List (List ℕ)) (l line : List ℕ) (before after : List (List ℕ)) → is_meant l ≡ true → filter is_meant ls ≡ before → l ≡ line → after ≡ before ++ line ∷ [] → filter is_meant (ls ++ l ∷ []) ≡ after
+meant_spelling ls l line before after m h e k = meant_more ls l m ∙ ap (λ (xs : List (List ℕ)). xs ++ l ∷ []) h ∙ ap (λ (x : List ℕ). before ++ x ∷ []) e ∙ sym k
 
-added_takes : (item : Item) (ls : List (List ℕ)) (s : Plan) (l : List ℕ) (t : Plan) → Spells ls s → length l ≤ 4096 → Says item l → added s item ≡ Ok t → Spells (ls ++ l ∷ []) t
-added_takes Item.Skipped ls s l t h short says e = subst (λ (y : Plan). Spells (ls ++ l ∷ []) y) (ok_is s t e) (record {
+abbrev is_short : List ℕ → Type 0
+is_short text = length text ≤ 4096
+
+skip_takes : (ls : List (List ℕ)) (s : Plan) (l : List ℕ) → Spells ls s → is_short l → is_meant l ≡ false → Spells (ls ++ l ∷ []) s
+skip_takes ls s l h short says = record {
+  headers = h.headers;
   turns = h.turns;
-  short = each_more (λ text. length text ≤ 4096) ls l h.short short;
+  short = each_more is_short ls l h.short short;
   spelled = skipped_more ls l says ∙ h.spelled;
+  objects = h.objects;
+  procs = h.procs;
   meant = h.meant;
-  fit_procs = h.fit_procs;
+  fit_headers = h.fit_headers;
   fit_turns = h.fit_turns;
   orderly = h.orderly;
-})
-added_takes (Item.Proc p) ls s l t h short says e =
-    let g = guard_ok (eqb (length s.lines) 0) BadLine (record { procs = s.procs ++ p ∷ []; lines = s.lines }) t e in
-    let none : s.lines ≡ [] = nil_from_length s.lines (eqb-true (length s.lines) 0 g.0) in
+}
+
+header_takes : (ls : List (List ℕ)) (s : Plan) (l : List ℕ) (x : Header) → (h : Spells ls s) → s.lines ≡ [] → s.off ≡ false → is_short l → Says (Item.Header x) l → Spells (ls ++ l ∷ []) (with_header s x)
+header_takes ls s l x h none no_off short says =
     let bare : h.turns ≡ [] = no_turns h.turns (h.meant ∙ none) in
-    let before : filter is_meant ls ≡ texts_of s.procs [] = h.spelled ∙ ap (λ (ts : List Turn). texts_of s.procs ts) bare in
-    let made : Spells (ls ++ l ∷ []) (record { procs = s.procs ++ p ∷ []; lines = [] }) = record {
+    let before : filter is_meant ls ≡ texts_of h.headers [] false = h.spelled ∙ ap (λ (ts : List Turn). texts_of h.headers ts s.off) bare ∙ ap (λ (b : Bool). texts_of h.headers [] b) no_off in
+    let same : plan_from (h.headers ++ x ∷ []) ≡ with_header s x = header_more h.headers x ∙ ap (λ (t : Plan). with_header t x) (sym (plan_is s h.headers h.objects h.procs none no_off)) in
+    let made : Spells (ls ++ l ∷ []) (plan_from (h.headers ++ x ∷ [])) = record {
+      headers = h.headers ++ x ∷ [];
       turns = [];
-      short = each_more (λ text. length text ≤ 4096) ls l h.short short;
-      spelled = meant_more ls l says.0 ∙ ap (λ (xs : List (List ℕ)). xs ++ l ∷ []) before ∙ ap (λ (x : List ℕ). texts_of s.procs [] ++ x ∷ []) says.1 ∙ sym (proc_spelling s.procs p);
+      short = each_more is_short ls l h.short short;
+      spelled = meant_spelling ls l (header_line x) (texts_of h.headers [] false) (texts_of (h.headers ++ x ∷ []) [] false) says.0 before says.1 (header_spelling h.headers x);
+      objects = refl;
+      procs = refl;
       meant = refl;
-      fit_procs = each_more FitsProc s.procs p h.fit_procs says.2;
+      fit_headers = each_more FitsHeader h.headers x h.fit_headers says.2;
       fit_turns = tt;
-      orderly = record { processes = tt; exits = tt };
+      orderly = record { processes = tt; exits = tt; calls = tt };
     } in
-    subst (λ (y : Plan). Spells (ls ++ l ∷ []) y) (ap (λ (ts : List Line). record { procs = s.procs ++ p ∷ []; lines = ts }) (sym none) ∙ g.1) made
-added_takes (Item.Call line) ls s l t h short says e =
+    subst (λ (y : Plan). Spells (ls ++ l ∷ []) y) same made
+
+-- no call that is written ends the whole layer
+is_no_end : (c : Written) → is_off (meaning c) ≡ false
+is_no_end (open_path path mode flags) = refl
+is_no_end (read_fd fd n) = refl
+is_no_end (write_fd fd bytes) = refl
+is_no_end (seek fd offset whence) = refl
+is_no_end (dup_fd fd) = refl
+is_no_end (dup_onto fd other) = refl
+is_no_end (set_flags fd flags) = refl
+is_no_end (close fd) = refl
+is_no_end (unlink_path path) = refl
+is_no_end (pair flags) = refl
+is_no_end (send fd bytes control flags) = refl
+is_no_end (recv fd n space flags) = refl
+is_no_end exit = refl
+
+call_takes : (ls : List (List ℕ)) (s : Plan) (l : List ℕ) (line : Line) → (h : Spells ls s) → s.off ≡ false → is_known s.procs line.pid.0 ≡ true → has_exited s.lines line.pid.0 ≡ false → is_short l → Says (Item.Call line) l → Spells (ls ++ l ∷ []) (with_line s line)
+call_takes ls s l line h no_off known quiet short says =
     let w = says.1 in
-    let g = known_ok (is_known s.procs line.pid.0) (has_exited s.lines line.pid.0) (record { procs = s.procs; lines = s.lines ++ line ∷ [] }) t e in
-    let known = both_true (ltb 0 line.pid.0) (leb line.pid.0 (length s.procs)) g.0 in
-    subst (λ (y : Plan). Spells (ls ++ l ∷ []) y) g.2 (record {
+    let p = and_parts (ltb 0 line.pid.0) (leb line.pid.0 (length s.procs)) known in
+    let before : filter is_meant ls ≡ texts_of h.headers h.turns false = h.spelled ∙ ap (λ (b : Bool). texts_of h.headers h.turns b) no_off in
+    record {
+      headers = h.headers;
       turns = h.turns ++ w.0 ∷ [];
-      short = each_more (λ text. length text ≤ 4096) ls l h.short short;
-      spelled = meant_more ls l says.0 ∙ ap (λ (xs : List (List ℕ)). xs ++ l ∷ []) h.spelled ∙ ap (λ (x : List ℕ). texts_of s.procs h.turns ++ x ∷ []) w.2 ∙ sym (turn_spelling s.procs h.turns w.0);
+      short = each_more is_short ls l h.short short;
+      spelled = meant_spelling ls l (turn_line w.0) (texts_of h.headers h.turns false) (texts_of h.headers (h.turns ++ w.0 ∷ []) s.off) says.0 before w.2
+          (ap (λ (b : Bool). texts_of h.headers (h.turns ++ w.0 ∷ []) b) no_off ∙ turn_spelling h.headers h.turns w.0);
+      objects = h.objects;
+      procs = h.procs;
       meant = turns_meant h.turns w.0 ∙ ap (λ (xs : List Line). xs ++ line_of w.0 ∷ []) h.meant ∙ ap (λ (x : Line). s.lines ++ x ∷ []) w.1;
-      fit_procs = h.fit_procs;
+      fit_headers = h.fit_headers;
       fit_turns = each_more FitsTurn h.turns w.0 h.fit_turns w.3;
       orderly = record {
-        processes = each_more (IsOfProcess (length s.procs)) s.lines line h.orderly.processes (ltb-true 0 line.pid.0 known.0, leb-true line.pid.0 (length s.procs) known.1);
-        exits = exits_more s.lines line h.orderly.exits g.1;
+        processes = each_more (IsOfProcess (length s.procs)) s.lines line h.orderly.processes (ltb-true 0 line.pid.0 p.0, leb-true line.pid.0 (length s.procs) p.1);
+        exits = exits_more s.lines line h.orderly.exits quiet;
+        calls = each_more IsCall s.lines line h.orderly.calls (ap (λ (x : Line). is_off x.request) (sym w.1) ∙ is_no_end w.0.call);
       };
-    })
+    }
+
+off_takes : (ls : List (List ℕ)) (s : Plan) (l : List ℕ) → (h : Spells ls s) → s.off ≡ false → is_short l → Says Item.Off l → Spells (ls ++ l ∷ []) (with_off s)
+off_takes ls s l h no_off short says = record {
+  headers = h.headers;
+  turns = h.turns;
+  short = each_more is_short ls l h.short short;
+  spelled = meant_spelling ls l (codes "off") (texts_of h.headers h.turns false) (texts_of h.headers h.turns true) says.0
+      (h.spelled ∙ ap (λ (b : Bool). texts_of h.headers h.turns b) no_off) says.1 (off_spelling h.headers h.turns);
+  objects = h.objects;
+  procs = h.procs;
+  meant = h.meant;
+  fit_headers = h.fit_headers;
+  fit_turns = h.fit_turns;
+  orderly = record { processes = h.orderly.processes; exits = h.orderly.exits; calls = h.orderly.calls };
+}
+
+joined_takes : (item : Item) (ls : List (List ℕ)) (s : Plan) (l : List ℕ) (t : Plan) → Spells ls s → s.off ≡ false → is_short l → Says item l → joined_by s item ≡ Ok t → Spells (ls ++ l ∷ []) t
+joined_takes Item.Skipped ls s l t h no_off short says e = subst (λ (y : Plan). Spells (ls ++ l ∷ []) y) (ok_is s t e) (skip_takes ls s l h short says)
+joined_takes (Item.Header x) ls s l t h no_off short says e =
+    let g = guard_ok (eqb (length s.lines) 0) (with_header s x) t e in
+    let none : s.lines ≡ [] = nil_from_length s.lines (eqb-true (length s.lines) 0 g.0) in
+    subst (λ (y : Plan). Spells (ls ++ l ∷ []) y) g.1 (header_takes ls s l x h none no_off short says)
+joined_takes (Item.Call line) ls s l t h no_off short says e =
+    let g = known_ok (is_known s.procs line.pid.0) (has_exited s.lines line.pid.0) (with_line s line) t e in
+    subst (λ (y : Plan). Spells (ls ++ l ∷ []) y) g.2 (call_takes ls s l line h no_off g.0 g.1 short says)
+joined_takes Item.Off ls s l t h no_off short says e = subst (λ (y : Plan). Spells (ls ++ l ∷ []) y) (ok_is (with_off s) t e) (off_takes ls s l h no_off short says)
+
+is_skip : (item : Item) (l : List ℕ) → is_skipped item ≡ true → Says item l → is_meant l ≡ false
+is_skip Item.Skipped l k says = says
+is_skip (Item.Header x) l k says = absurd cc
+is_skip (Item.Call line) l k says = absurd cc
+is_skip Item.Off l k says = absurd cc
+
+skip_joins : (s : Plan) (item : Item) → is_skipped item ≡ true → joined_by s item ≡ Ok s
+skip_joins s Item.Skipped k = refl
+skip_joins s (Item.Header x) k = absurd cc
+skip_joins s (Item.Call line) k = absurd cc
+skip_joins s Item.Off k = absurd cc
+
+added_by : (item : Item) (ls : List (List ℕ)) (s : Plan) (l : List ℕ) (t : Plan) (off skipped : Bool) → s.off ≡ off → is_skipped item ≡ skipped → Spells ls s → is_short l → Says item l
+    → cond (off && not skipped) (Err BadLine) (joined_by s item) ≡ Ok t → Spells (ls ++ l ∷ []) t
+added_by item ls s l t false skipped f k h short says e = joined_takes item ls s l t h f short says e
+added_by item ls s l t true true f k h short says e =
+    subst (λ (y : Plan). Spells (ls ++ l ∷ []) y) (ok_is s t (sym (skip_joins s item k) ∙ e)) (skip_takes ls s l h short (is_skip item l k says))
+added_by item ls s l t true false f k h short says e = absurd cc
 
 pub line_takes : (ls : List (List ℕ)) (s : Plan) (l : List ℕ) (t : Plan) → Spells ls s → line_at s l ≡ Ok t → Spells (ls ++ l ∷ []) t
 unfolding line_at
 line_takes ls s l t h e =
     let a = bind_ok (item_at l) (λ item. added s item) t e in
     let p = item_takes l a.0 a.1 in
-    added_takes a.0 ls s l t h p.0 p.1 a.2
+    added_by a.0 ls s l t s.off (is_skipped a.0) refl refl h p.0 p.1 a.2
 
 abbrev CanStep : List (List ℕ) → List ℕ → Plan → Type 0
 CanStep ls l t = (s : Plan) × Spells ls s × (line_at s l ≡ Ok t)
@@ -216,59 +325,77 @@ unfolding line_at
 line_from s l item t e a = rw e a
 
 abbrev with_lines : Plan → List Line → Plan
-with_lines t ls = record { procs = t.procs; lines = ls }
+with_lines t ls = record { objects = t.objects; procs = t.procs; lines = ls; off = false }
 
-step_turn : (ls : List (List ℕ)) (l : List ℕ) (t : Plan) (ts : List Turn) (u : Turn) → is_meant l ≡ true → (h : Spells (ls ++ l ∷ []) t) → h.turns ≡ ts ++ u ∷ [] → CanStep ls l t
-step_turn ls l t ts u m h same =
+step_off : (ls : List (List ℕ)) (l : List ℕ) (t : Plan) → is_meant l ≡ true → (h : Spells (ls ++ l ∷ []) t) → t.off ≡ true → CanStep ls l t
+step_off ls l t m h on =
+    let ends = same_ends (filter is_meant ls) (texts_of h.headers h.turns false) l (codes "off")
+    (sym (meant_more ls l m) ∙ h.spelled ∙ ap (λ (b : Bool). texts_of h.headers h.turns b) on ∙ off_spelling h.headers h.turns) in
+    let short = each_less is_short ls l h.short in
+    let before : Plan = with_lines t t.lines in
+    let whole : with_off before ≡ t = rw (← on) refl in (
+      before,
+      record { headers = h.headers; turns = h.turns; short = short.0; spelled = ends.0; objects = h.objects; procs = h.procs; meant = h.meant; fit_headers = h.fit_headers; fit_turns = h.fit_turns; orderly = record { processes = h.orderly.processes; exits = h.orderly.exits; calls = h.orderly.calls } },
+      line_from before l Item.Off t (off_again_line l short.1 m ends.1) (ap (λ (y : Plan). Ok y) whole),
+    )
+
+step_turn : (ls : List (List ℕ)) (l : List ℕ) (t : Plan) (ts : List Turn) (u : Turn) → is_meant l ≡ true → (h : Spells (ls ++ l ∷ []) t) → t.off ≡ false → h.turns ≡ ts ++ u ∷ [] → CanStep ls l t
+step_turn ls l t ts u m h no_off same =
     let lines : t.lines ≡ map line_of ts ++ line_of u ∷ [] = sym h.meant ∙ ap (λ (vs : List Turn). map line_of vs) same ∙ turns_meant ts u in
-    let ends = same_ends (filter is_meant ls) (texts_of t.procs ts) l (turn_line u) (sym (meant_more ls l m) ∙ h.spelled ∙ ap (λ (vs : List Turn). texts_of t.procs vs) same ∙ turn_spelling t.procs ts u) in
-    let short = each_less (λ text. length text ≤ 4096) ls l h.short in
+    let ends = same_ends (filter is_meant ls) (texts_of h.headers ts false) l (turn_line u)
+    (sym (meant_more ls l m) ∙ h.spelled ∙ ap (λ (vs : List Turn). texts_of h.headers vs t.off) same ∙ ap (λ (b : Bool). texts_of h.headers (ts ++ u ∷ []) b) no_off ∙ turn_spelling h.headers ts u) in
+    let short = each_less is_short ls l h.short in
     let fits = each_less FitsTurn ts u (subst (λ (vs : List Turn). AllByRecursion FitsTurn vs) same h.fit_turns) in
     let processes = each_less (IsOfProcess (length t.procs)) (map line_of ts) (line_of u) (subst (λ (vs : List Line). AllByRecursion (IsOfProcess (length t.procs)) vs) lines h.orderly.processes) in
     let exits = exits_less (map line_of ts) (line_of u) (subst NoneAfterExit lines h.orderly.exits) in
+    let calls = each_less IsCall (map line_of ts) (line_of u) (subst (λ (vs : List Line). AllByRecursion IsCall vs) lines h.orderly.calls) in
     let first : ltb 0 u.pid ≡ true = lt-ltb 0 u.pid processes.1.0 in
     let last : leb u.pid (length t.procs) ≡ true = le-leb u.pid (length t.procs) processes.1.1 in
     let before : Plan = with_lines t (map line_of ts) in
-    let adds : added before (Item.Call (line_of u)) ≡ Ok (with_lines t (map line_of ts ++ line_of u ∷ [])) = rw (first, last, exits.1) refl in
-    let whole : with_lines t (map line_of ts ++ line_of u ∷ []) ≡ t = ap (λ (vs : List Line). with_lines t vs) (sym lines) in (
+    let adds : joined_by before (Item.Call (line_of u)) ≡ Ok (with_lines t (map line_of ts ++ line_of u ∷ [])) = rw (first, last, exits.1) refl in
+    let whole : with_lines t (map line_of ts ++ line_of u ∷ []) ≡ t = ap (λ (vs : List Line). with_lines t vs) (sym lines) ∙ rw (← no_off) refl in (
       before,
-      record { turns = ts; short = short.0; spelled = ends.0; meant = refl; fit_procs = h.fit_procs; fit_turns = fits.0; orderly = record { processes = processes.0; exits = exits.0 } },
+      record { headers = h.headers; turns = ts; short = short.0; spelled = ends.0; objects = h.objects; procs = h.procs; meant = refl; fit_headers = h.fit_headers; fit_turns = fits.0; orderly = record { processes = processes.0; exits = exits.0; calls = calls.0 } },
       line_from before l (Item.Call (line_of u)) t (turn_again_line u l short.1 m ends.1 fits.1) (adds ∙ ap (λ (y : Plan). Ok y) whole),
     )
 
-step_proc : (ls : List (List ℕ)) (l : List ℕ) (t : Plan) (ps : List ProcSpec) (p : ProcSpec) → is_meant l ≡ true → (h : Spells (ls ++ l ∷ []) t) → h.turns ≡ [] → t.procs ≡ ps ++ p ∷ [] → CanStep ls l t
-step_proc ls l t ps p m h none same =
+step_header : (ls : List (List ℕ)) (l : List ℕ) (t : Plan) (hs : List Header) (x : Header) → is_meant l ≡ true → (h : Spells (ls ++ l ∷ []) t) → t.off ≡ false → h.turns ≡ [] → h.headers ≡ hs ++ x ∷ [] → CanStep ls l t
+step_header ls l t hs x m h no_off none same =
     let lines : t.lines ≡ [] = sym h.meant ∙ ap (λ (vs : List Turn). map line_of vs) none in
-    let ends = same_ends (filter is_meant ls) (texts_of ps []) l (proc_line p)
-    (sym (meant_more ls l m) ∙ h.spelled ∙ ap (λ (vs : List Turn). texts_of t.procs vs) none ∙ ap (λ (qs : List ProcSpec). texts_of qs []) same ∙ proc_spelling ps p) in
-    let short = each_less (λ text. length text ≤ 4096) ls l h.short in
-    let fits = each_less FitsProc ps p (subst (λ (qs : List ProcSpec). AllByRecursion FitsProc qs) same h.fit_procs) in
-    let before : Plan = record { procs = ps; lines = [] } in
-    let whole : record { procs = ps ++ p ∷ []; lines = [] } ≡ t = ap (λ (qs : List ProcSpec). record { procs = qs; lines = [] }) (sym same) ∙ ap (λ (vs : List Line). with_lines t vs) (sym lines) in (
-      before,
-      record { turns = []; short = short.0; spelled = ends.0; meant = refl; fit_procs = fits.0; fit_turns = tt; orderly = record { processes = tt; exits = tt } },
-      line_from before l (Item.Proc p) t (proc_again_line p l short.1 m ends.1 fits.1) (ap (λ (y : Plan). Ok y) whole),
+    let ends = same_ends (filter is_meant ls) (texts_of hs [] false) l (header_line x)
+    (sym (meant_more ls l m) ∙ h.spelled ∙ ap (λ (vs : List Turn). texts_of h.headers vs t.off) none ∙ ap (λ (b : Bool). texts_of h.headers [] b) no_off ∙ ap (λ (ys : List Header). texts_of ys [] false) same ∙ header_spelling hs x) in
+    let short = each_less is_short ls l h.short in
+    let fits = each_less FitsHeader hs x (subst (λ (ys : List Header). AllByRecursion FitsHeader ys) same h.fit_headers) in
+    let whole : with_header (plan_from hs) x ≡ t = sym (header_more hs x) ∙ ap plan_from (sym same) ∙ sym (plan_is t h.headers h.objects h.procs lines no_off) in (
+      plan_from hs,
+      record { headers = hs; turns = []; short = short.0; spelled = ends.0; objects = refl; procs = refl; meant = refl; fit_headers = fits.0; fit_turns = tt; orderly = record { processes = tt; exits = tt; calls = tt } },
+      line_from (plan_from hs) l (Item.Header x) t (header_again_line x l short.1 m ends.1 fits.1) (ap (λ (y : Plan). Ok y) whole),
     )
 
-step_none : (ls : List (List ℕ)) (l : List ℕ) (t : Plan) → is_meant l ≡ true → (h : Spells (ls ++ l ∷ []) t) → h.turns ≡ [] → t.procs ≡ [] → ⊥
-step_none ls l t m h none empty =
-    no_end (filter is_meant ls) l (sym (meant_more ls l m) ∙ h.spelled ∙ ap (λ (vs : List Turn). texts_of t.procs vs) none ∙ ap (λ (qs : List ProcSpec). texts_of qs []) empty)
+step_none : (ls : List (List ℕ)) (l : List ℕ) (t : Plan) → is_meant l ≡ true → (h : Spells (ls ++ l ∷ []) t) → t.off ≡ false → h.turns ≡ [] → h.headers ≡ [] → ⊥
+step_none ls l t m h no_off none empty =
+    no_end (filter is_meant ls) l (sym (meant_more ls l m) ∙ h.spelled ∙ ap (λ (vs : List Turn). texts_of h.headers vs t.off) none ∙ ap (λ (b : Bool). texts_of h.headers [] b) no_off ∙ ap (λ (ys : List Header). texts_of ys [] false) empty)
+
+skip_added : (s : Plan) (off : Bool) → cond (off && not true) (Err BadLine) (joined_by s Item.Skipped) ≡ Ok s
+skip_added s true = refl
+skip_added s false = refl
 
 step_skip : (ls : List (List ℕ)) (l : List ℕ) (t : Plan) → is_meant l ≡ false → Spells (ls ++ l ∷ []) t → CanStep ls l t
 step_skip ls l t m h =
-    let short = each_less (λ text. length text ≤ 4096) ls l h.short in (
+    let short = each_less is_short ls l h.short in (
       t,
-      record { turns = h.turns; short = short.0; spelled = sym (skipped_more ls l m) ∙ h.spelled; meant = h.meant; fit_procs = h.fit_procs; fit_turns = h.fit_turns; orderly = h.orderly },
-      line_from t l Item.Skipped t (skip_again l short.1 m) refl,
+      record { headers = h.headers; turns = h.turns; short = short.0; spelled = sym (skipped_more ls l m) ∙ h.spelled; objects = h.objects; procs = h.procs; meant = h.meant; fit_headers = h.fit_headers; fit_turns = h.fit_turns; orderly = h.orderly },
+      line_from t l Item.Skipped t (skip_again l short.1 m) (skip_added t t.off),
     )
 
-step_meant : (ls : List (List ℕ)) (l : List ℕ) (t : Plan) → is_meant l ≡ true → (h : Spells (ls ++ l ∷ []) t) → (h.turns ≡ []) ⊎ HasLast h.turns → (t.procs ≡ []) ⊎ HasLast t.procs → CanStep ls l t
-step_meant ls l t m h (inr v) w = step_turn ls l t v.0 v.1 m h v.2
-step_meant ls l t m h (inl v) (inr w) = step_proc ls l t w.0 w.1 m h v w.2
-step_meant ls l t m h (inl v) (inl w) = absurd (step_none ls l t m h v w)
+step_meant : (ls : List (List ℕ)) (l : List ℕ) (t : Plan) (off : Bool) → is_meant l ≡ true → (h : Spells (ls ++ l ∷ []) t) → t.off ≡ off → (h.turns ≡ []) ⊎ HasLast h.turns → (h.headers ≡ []) ⊎ HasLast h.headers → CanStep ls l t
+step_meant ls l t true m h f v w = step_off ls l t m h f
+step_meant ls l t false m h f (inr v) w = step_turn ls l t v.0 v.1 m h f v.2
+step_meant ls l t false m h f (inl v) (inr w) = step_header ls l t w.0 w.1 m h f v w.2
+step_meant ls l t false m h f (inl v) (inl w) = absurd (step_none ls l t m h f v w)
 
 step_chosen : (ls : List (List ℕ)) (l : List ℕ) (t : Plan) (b : Bool) → is_meant l ≡ b → Spells (ls ++ l ∷ []) t → CanStep ls l t
-step_chosen ls l t true m h = step_meant ls l t m h (last_view h.turns) (last_view t.procs)
+step_chosen ls l t true m h = step_meant ls l t t.off m h refl (last_view h.turns) (last_view h.headers)
 step_chosen ls l t false m h = step_skip ls l t m h
 
 pub line_again : (ls : List (List ℕ)) (l : List ℕ) (t : Plan) → Spells (ls ++ l ∷ []) t → CanStep ls l t
@@ -277,7 +404,7 @@ line_again ls l t h = step_chosen ls l t (is_meant l) refl h
 -- ---- all lines
 
 pub none_spelled : Spells [] no_lines
-none_spelled = record { turns = []; short = tt; spelled = refl; meant = refl; fit_procs = tt; fit_turns = tt; orderly = record { processes = tt; exits = tt } }
+none_spelled = record { headers = []; turns = []; short = tt; spelled = refl; objects = refl; procs = refl; meant = refl; fit_headers = tt; fit_turns = tt; orderly = record { processes = tt; exits = tt; calls = tt } }
 
 on_ok : (n : ℕ) (go : Plan → Result Plan ScriptFault) (r : Result Plan Fault) (t : Plan) → on_line n go r ≡ Ok t → (s : Plan) × (r ≡ Ok s) × (go s ≡ Ok t)
 on_ok n go (Ok s) t e = (s, refl, e)
@@ -298,16 +425,17 @@ lines_more n s (x ∷ xs) l u t e k =
     let a = on_ok n (λ v. lines_at (suc n) v xs) (line_at s x) u e in
     rw a.1 (lines_more (suc n) a.0 xs l u t a.2 k)
 
-no_spelling : (ps : List ProcSpec) (ts : List Turn) → [] ≡ texts_of ps ts → (ps ≡ []) × (ts ≡ [])
-no_spelling [] [] e = (refl, refl)
-no_spelling [] (t ∷ ts) e = absurd cc
-no_spelling (p ∷ ps) ts e = absurd cc
+no_spelling : (hs : List Header) (ts : List Turn) (off : Bool) → [] ≡ texts_of hs ts off → (hs ≡ []) × (ts ≡ []) × (off ≡ false)
+no_spelling [] [] false e = (refl, refl, refl)
+no_spelling [] [] true e = absurd cc
+no_spelling [] (t ∷ ts) off e = absurd cc
+no_spelling (h ∷ hs) ts off e = absurd cc
 
 empty_only : (t : Plan) → Spells [] t → t ≡ no_lines
 empty_only t h =
-    let p = no_spelling t.procs h.turns h.spelled in
+    let p = no_spelling h.headers h.turns t.off h.spelled in
     let none : t.lines ≡ [] = sym h.meant ∙ ap (λ (ts : List Turn). map line_of ts) p.1 in
-    ap (λ (ls : List Line). with_lines t ls) none ∙ ap (λ (ps : List ProcSpec). record { procs = ps; lines = [] }) p.0
+    plan_is t h.headers h.objects h.procs none p.2 ∙ ap plan_from p.0
 
 abbrev IsRead : List (List ℕ) → Type 0
 IsRead ls = (t : Plan) → Spells ls t → lines_at 1 no_lines ls ≡ Ok t
@@ -335,8 +463,8 @@ ok_no_fault x f e = cc
 same_call : (a b : Line) → said (Item.Call a) ≡ said (Item.Call b) → a ≡ b
 same_call a b e = cc
 
-call_no_proc : (a : Line) (p : ProcSpec) → said (Item.Call a) ≡ said (Item.Proc p) → ⊥
-call_no_proc a p e = cc
+call_no_header : (a : Line) (x : Header) → said (Item.Call a) ≡ said (Item.Header x) → ⊥
+call_no_header a x e = cc
 
 -- the line as a call of a stranger is read as that call
 stranger_reads : (s : Plan) (l : List ℕ) (w : IsCallOfStranger s l) → length l ≤ 4096 → is_meant l ≡ true → item_at l ≡ Ok (Item.Call (line_of w.0))
@@ -368,41 +496,46 @@ unread_why s l TooLong p e = p
 unread_why s l BadLine p e = (p, λ w. no_stranger s l (is_meant l) refl p e w)
 unread_why s l UnknownProcess p e = absurd p
 
-proc_why : (s : Plan) (l : List ℕ) (p : ProcSpec) (f : Fault) (x : Plan) (b : Bool) → length l ≤ 4096 → is_meant l ≡ true → item_at l ≡ Ok (Item.Proc p) → cond b (Ok x) (Err BadLine) ≡ Err f → IsFaultOf f s l
-proc_why s l p f x true short m k e = absurd (ok_no_fault x f e)
-proc_why s l p f x false short m k e =
-    subst (λ g. IsFaultOf g s l) (err_is {X = Plan} BadLine f e) (short, λ w. call_no_proc (line_of w.0) p (sym (stranger_reads s l w short m) ∙ k))
+header_why : (s : Plan) (l : List ℕ) (x : Header) (f : Fault) (y : Plan) (b : Bool) → length l ≤ 4096 → is_meant l ≡ true → item_at l ≡ Ok (Item.Header x) → cond b (Ok y) (Err BadLine) ≡ Err f → IsFaultOf f s l
+header_why s l x f y true short m k e = absurd (ok_no_fault y f e)
+header_why s l x f y false short m k e =
+    subst (λ g. IsFaultOf g s l) (err_is {X = Plan} BadLine f e) (short, λ w. call_no_header (line_of w.0) x (sym (stranger_reads s l w short m) ∙ k))
 
 known_from : (count : ℕ) (line : Line) → (ltb 0 line.pid.0 && leb line.pid.0 count) ≡ true → IsOfProcess count line
-known_from count line e = let p = both_true (ltb 0 line.pid.0) (leb line.pid.0 count) e in (ltb-true 0 line.pid.0 p.0, leb-true line.pid.0 count p.1)
+known_from count line e = let p = and_parts (ltb 0 line.pid.0) (leb line.pid.0 count) e in (ltb-true 0 line.pid.0 p.0, leb-true line.pid.0 count p.1)
 
 known_to : (count : ℕ) (line : Line) → IsOfProcess count line → (ltb 0 line.pid.0 && leb line.pid.0 count) ≡ true
-known_to count line o = let a : ltb 0 line.pid.0 ≡ true = lt-ltb 0 line.pid.0 o.0 in let b : leb line.pid.0 count ≡ true = le-leb line.pid.0 count o.1 in rw (a, b) refl
+known_to count line o = and_from (ltb 0 line.pid.0) (leb line.pid.0 count) (lt-ltb 0 line.pid.0 o.0) (le-leb line.pid.0 count o.1)
 
-not_known : (b : Bool) → b ≡ false → b ≡ true → ⊥
-not_known b e f = cc
-
-call_why : (s : Plan) (l : List ℕ) (line : Line) (f : Fault) (x : Plan) (b exited : Bool) → is_known s.procs line.pid.0 ≡ b → length l ≤ 4096 → Says (Item.Call line) l → item_at l ≡ Ok (Item.Call line)
+call_why : (s : Plan) (l : List ℕ) (line : Line) (f : Fault) (x : Plan) (b exited : Bool) → s.off ≡ false → is_known s.procs line.pid.0 ≡ b → length l ≤ 4096 → Says (Item.Call line) l → item_at l ≡ Ok (Item.Call line)
     → cond b (cond exited (Err BadLine) (Ok x)) (Err UnknownProcess) ≡ Err f → IsFaultOf f s l
-call_why s l line f x true true known short says k e =
+call_why s l line f x true true no_off known short says k e =
     subst (λ g. IsFaultOf g s l) (err_is {X = Plan} BadLine f e) (
       short,
       λ w.
           let same : line ≡ line_of w.0 = same_call line (line_of w.0) (sym k ∙ stranger_reads s l w short says.0) in
-          w.3 (subst (IsOfProcess (length s.procs)) same (known_from (length s.procs) line known)),
+          w.4 (subst (IsOfProcess (length s.procs)) same (known_from (length s.procs) line known)),
     )
-call_why s l line f x true false known short says k e = absurd (ok_no_fault x f e)
-call_why s l line f x false exited known short says k e =
+call_why s l line f x true false no_off known short says k e = absurd (ok_no_fault x f e)
+call_why s l line f x false exited no_off known short says k e =
     let w = says.1 in
-    subst (λ g. IsFaultOf g s l) (err_is {X = Plan} UnknownProcess f e) (short, (w.0, w.2, w.3, λ o. not_known (is_known s.procs line.pid.0) known (known_to (length s.procs) line (subst (IsOfProcess (length s.procs)) w.1 o))))
+    subst (λ g. IsFaultOf g s l) (err_is {X = Plan} UnknownProcess f e)
+    (short, (w.0, w.2, w.3, no_off, λ o. both_ways (is_known s.procs line.pid.0) known (known_to (length s.procs) line (subst (IsOfProcess (length s.procs)) w.1 o))))
 
-added_why : (s : Plan) (l : List ℕ) (item : Item) (f : Fault) → length l ≤ 4096 → Says item l → item_at l ≡ Ok item → added s item ≡ Err f → IsFaultOf f s l
-added_why s l Item.Skipped f short says k e = absurd (ok_no_fault s f e)
-added_why s l (Item.Proc p) f short says k e = proc_why s l p f _ (eqb (length s.lines) 0) short says.0 k e
-added_why s l (Item.Call line) f short says k e = call_why s l line f _ (is_known s.procs line.pid.0) (has_exited s.lines line.pid.0) refl short says k e
+joined_why : (s : Plan) (l : List ℕ) (item : Item) (f : Fault) → s.off ≡ false → length l ≤ 4096 → Says item l → item_at l ≡ Ok item → joined_by s item ≡ Err f → IsFaultOf f s l
+joined_why s l Item.Skipped f no_off short says k e = absurd (ok_no_fault s f e)
+joined_why s l (Item.Header x) f no_off short says k e = header_why s l x f _ (eqb (length s.lines) 0) short says.0 k e
+joined_why s l (Item.Call line) f no_off short says k e = call_why s l line f _ (is_known s.procs line.pid.0) (has_exited s.lines line.pid.0) no_off refl short says k e
+joined_why s l Item.Off f no_off short says k e = absurd (ok_no_fault (with_off s) f e)
+
+added_why : (s : Plan) (l : List ℕ) (item : Item) (f : Fault) (off skipped : Bool) → s.off ≡ off → is_skipped item ≡ skipped → length l ≤ 4096 → Says item l → item_at l ≡ Ok item
+    → cond (off && not skipped) (Err BadLine) (joined_by s item) ≡ Err f → IsFaultOf f s l
+added_why s l item f false skipped o n short says k e = joined_why s l item f o short says k e
+added_why s l item f true true o n short says k e = absurd (ok_no_fault s f (sym (skip_joins s item n) ∙ e))
+added_why s l item f true false o n short says k e = subst (λ g. IsFaultOf g s l) (err_is {X = Plan} BadLine f e) (short, λ w. both_ways s.off w.3 o)
 
 why_of : (s : Plan) (l : List ℕ) (f : Fault) (r : Result Item Fault) → item_at l ≡ r → (r >>= λ item. added s item) ≡ Err f → IsFaultOf f s l
-why_of s l f (Ok item) k e = let p = item_takes l item k in added_why s l item f p.0 p.1 k e
+why_of s l f (Ok item) k e = let p = item_takes l item k in added_why s l item f s.off (is_skipped item) refl refl p.0 p.1 k e
 why_of s l f (Err g) k e = subst (λ x. IsFaultOf x s l) (err_is {X = Plan} g f e) (unread_why s l g (unread l g k) k)
 
 fault_is : (s : Plan) (l : List ℕ) (f : Fault) → line_at s l ≡ Err f → IsFaultOf f s l

@@ -1,10 +1,11 @@
 -- Texts of several parts, as far as a loop has come.
-use Rattle.std.proofs.Common.{◌≡◌, ℕ, ◌+◌, ◌-◌, ◌^◌, ◌<◌, get_or, take, Bool, true, false, cond, List, [], ◌∷◌, ◌++◌, length, refl, ap, sym, append_assoc, arith}
+use Rattle.std.specs.Prelude.{decimal}
+use Rattle.std.proofs.Common.{◌≡◌, ℕ, ◌+◌, ◌-◌, ◌^◌, ◌<◌, get_or, take, codes, Bool, true, false, cond, List, [], ◌∷◌, ◌++◌, length, refl, ap, sym, append_assoc, arith}
 use Rattle.std.specs.List.{flat_map, join_with_byte}
 use Rattle.std.specs.Fmt.{padded_integral, format_spec, digits}
 use Rattle.std.proofs.lemmas.List.{append-nil, take_more, flat_map_more}
 use Rattle.std.proofs.lemmas.Fmt.{hex_byte}
-use Rattle.ux_syntax.specs.Trace.{digit_pair, hex, set_names}
+use Rattle.ux_syntax.specs.Trace.{digit_pair, hex, set_names, spaced, closed_text}
 
 pub hex_is : (bs : List ℕ) → 0 < length bs → flat_map digit_pair bs ≡ hex bs
 hex_is [] h = absurd (omega arith)
@@ -35,6 +36,14 @@ join_more (a ∷ b ∷ names) name = rw (join_more (b ∷ names) name) (sym (app
 pub pairs_more : (bytes : List ℕ) (i : ℕ) → i < length bytes → get_or bytes i 0 < 256
     → flat_map digit_pair (take i bytes) ++ padded_integral (format_spec 32 0 4 2 (2 ^ 64 - 1)) false [] (digits 16 false (get_or bytes i 0)) ≡ flat_map digit_pair (take (i + 1) bytes)
 pairs_more bytes i lt small = rw (hex_byte false (get_or bytes i 0) small, take_more bytes i 0 lt) (flat_map_more digit_pair [] (take i bytes) (get_or bytes i 0))
+
+-- one more number
+pub spaced_more : (numbers : List ℕ) (i : ℕ) → i < length numbers → spaced (take i numbers) ++ (32 ∷ decimal (get_or numbers i 0)) ≡ spaced (take (i + 1) numbers)
+spaced_more numbers i lt = rw (take_more numbers i 0 lt) (flat_map_more (λ n. 32 ∷ decimal n) [] (take i numbers) (get_or numbers i 0))
+
+pub closed_is : (numbers : List ℕ) → 0 < length numbers → codes " closed" ++ spaced numbers ≡ closed_text numbers
+closed_is [] h = absurd (omega arith)
+closed_is (n ∷ ns) h = refl
 
 -- one more name, which is set
 pub name_more : (rows more : List (Bool × List ℕ)) (row : Bool × List ℕ) → more ≡ rows ++ row ∷ [] → row.0 ≡ true

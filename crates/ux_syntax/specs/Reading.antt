@@ -1,17 +1,21 @@
 -- Reading from left to right: a script, or the first line that is at fault.
-use Rattle.std.specs.Prelude.{ℕ, suc, ◌+◌, ◌-◌, ◌*◌, ◌^◌, Bool, true, false, List, [], ◌∷◌, ◌++◌, length, codes, Option, Some, None, Result, Ok, Err, nat_lt, nat_le, bit_or, ◌==◌, ◌&&◌, if◌then◌else◌, not}
+use Rattle.std.specs.Prelude.{ℕ, zero, suc, ◌+◌, ◌-◌, ◌*◌, ◌^◌, ℤ, pos, negsuc, Bool, true, false, List, [], ◌∷◌, ◌++◌, length, codes, Option, Some, None, Result, Ok, Err, nat_lt, nat_le, bit_or, ◌==◌, ◌&&◌, if◌then◌else◌, not}
 use Rattle.std.specs.List.{slice_split, find, list_all}
 use Rattle.std.specs.Str.{bytes_eq}
 use Rattle.std.specs.Char.{is_ascii_digit}
-use Rattle.std.specs.Str.Parse.{digits_value}
-use Rattle.ux_model.specs.Types.{OpenFlags, MsgFlags, ProcSpec, Request}
+use Rattle.std.specs.Str.Parse.{digits_value, signed_digits_value}
+use Rattle.ux_model.specs.Types.{Name, OpenFlags, MsgFlags, Mode, Whence, ProcSpec, Request}
+use Rattle.ux_object.specs.declared.ObjKind.{ObjKind}
 use Rattle.ux_syntax.specs.declared.fault.Fault.{Fault}
 use Rattle.ux_syntax.specs.declared.fault.Fault.TheVariants.{BadLine, UnknownProcess, TooLong}
 use Rattle.ux_syntax.specs.declared.fault.ScriptFault.{ScriptFault}
 use Rattle.ux_syntax.specs.declared.calls.CallWord.{CallWord}
+use Rattle.ux_syntax.specs.declared.script.ObjectLine.{ObjectLine}
+use Rattle.ux_syntax.specs.declared.script.Header.{Header}
+use Rattle.ux_syntax.specs.declared.script.Line.{Line}
 use Rattle.ux_syntax.specs.declared.reading.Item.{Item}
 use Rattle.ux_syntax.specs.Trace.{dash, word_text}
-use Rattle.ux_syntax.specs.Spelling.{Plan, Control, bare, pair, send, recv, close, exit, meaning, is_meant}
+use Rattle.ux_syntax.specs.Spelling.{Plan, Control, bare, open_path, read_fd, write_fd, seek, dup_fd, dup_onto, set_flags, close, unlink_path, pair, send, recv, exit, meaning, stands, mode_text, whence_text, kind_text, is_meant}
 use Rattle.ux_syntax.specs.Turns.{has_exited, is_known}
 
 infixl 10 ◌>>=◌
@@ -51,6 +55,69 @@ exactly text w = if bytes_eq w text then Ok tt else Err BadLine
 
 abbrev pub bit_at : List ℕ → Result Bool Fault
 bit_at w = if bytes_eq w (48 ∷ []) then Ok false else if bytes_eq w (49 ∷ []) then Ok true else Err BadLine
+
+abbrev pub or_bad : {A : Type 0} → Option A → Result A Fault
+or_bad None = Err BadLine
+or_bad (Some x) = Ok x
+
+-- the one of these values whose text the word is
+abbrev pub chosen_at : {A : Type 0} → (A → List ℕ) → List A → List ℕ → Result A Fault
+chosen_at text all w = or_bad (find (λ x. bytes_eq w (text x)) all)
+
+unfoldable pub mode_at : List ℕ → Result Mode Fault
+mode_at w = chosen_at mode_text (Mode.Read ∷ Mode.Write ∷ Mode.Both ∷ []) w
+
+unfoldable pub whence_at : List ℕ → Result Whence Fault
+whence_at w = chosen_at whence_text (Whence.Set ∷ Whence.Cur ∷ Whence.End ∷ []) w
+
+unfoldable pub kind_at : List ℕ → Result ObjKind Fault
+kind_at w = chosen_at kind_text (ObjKind.Memory ∷ ObjKind.Counter ∷ ObjKind.Pipe ∷ []) w
+
+-- a word without the - that it begins with, if any
+abbrev pub without_minus : List ℕ → List ℕ
+without_minus [] = []
+without_minus (c ∷ cs) = if c == 45 then cs else c ∷ cs
+
+abbrev pub is_i64 : ℤ → Bool
+is_i64 (pos n) = nat_lt n (2 ^ 63)
+is_i64 (negsuc n) = nat_lt n (2 ^ 63)
+
+-- digits that don't begin with a 0, or one digit, behind a - below 0
+unfoldable pub offset_at : List ℕ → Result ℤ Fault
+offset_at w =
+    if is_plain (without_minus w) && list_all is_ascii_digit (without_minus w) && not (bytes_eq w (45 ∷ 48 ∷ [])) && is_i64 (signed_digits_value 10 w)
+    then Ok (signed_digits_value 10 w) else Err BadLine
+
+abbrev pub plain_at : ℕ → Result ℕ Fault
+plain_at c = if stands c then Ok c else Err BadLine
+
+-- the byte of two digits, which doesn't stand for itself
+abbrev pub escaped_at : ℕ → ℕ → Result ℕ Fault
+escaped_at h l = do
+  high ← digit_at h
+  low ← digit_at l
+  if stands (16 * high + low) then Err BadLine else Ok (16 * high + low)
+
+-- the first byte of a name, and what follows its spelling
+abbrev pub byte_at : List ℕ → Result (ℕ × List ℕ) Fault
+byte_at [] = Err BadLine
+byte_at (c ∷ []) = plain_at c >>= λ b. Ok (b, [])
+byte_at (c ∷ d ∷ []) = plain_at c >>= λ b. Ok (b, d ∷ [])
+byte_at (c ∷ h ∷ l ∷ rest) = if c == 37 then (escaped_at h l >>= λ b. Ok (b, rest)) else (plain_at c >>= λ b. Ok (b, h ∷ l ∷ rest))
+
+-- a name of at most so many bytes
+abbrev pub name_upto : ℕ → List ℕ → Result Name Fault
+name_upto n [] = Ok []
+name_upto zero (c ∷ cs) = Err BadLine
+name_upto (suc n) (c ∷ cs) = byte_at (c ∷ cs) >>= λ x. name_upto n x.1 >>= λ bytes. Ok (x.0 ∷ bytes)
+
+unfoldable pub name_at : List ℕ → Result Name Fault
+name_at w = name_upto (length w) w
+
+abbrev pub path_at : List ℕ → Result Name Fault
+path_at [] = Err BadLine
+path_at (p ∷ []) = Err BadLine
+path_at (p ∷ colon ∷ name) = if p == 112 && colon == 58 then name_at name else Err BadLine
 
 -- whether a word begins with the letter, and what follows it
 abbrev pub letter_at : ℕ → List ℕ → Bool × List ℕ
@@ -100,6 +167,33 @@ dash_at w = exactly dash w
 abbrev pub control_at : List ℕ → Result Control Fault
 control_at w = dash_at w >>= λ x. Ok bare
 
+unfoldable pub open_at : List (List ℕ) → Result Request Fault
+open_at ws = (path_at >> mode_at >> open_flags_at >> ends) ws >>= λ x. Ok (meaning (open_path x.0 x.1.0 x.1.1.0))
+
+unfoldable pub read_at : List (List ℕ) → Result Request Fault
+read_at ws = (number_at >> number_at >> ends) ws >>= λ x. Ok (meaning (read_fd x.0 x.1.0))
+
+unfoldable pub write_at : List (List ℕ) → Result Request Fault
+write_at ws = (number_at >> hex_at >> ends) ws >>= λ x. Ok (meaning (write_fd x.0 x.1.0))
+
+unfoldable pub lseek_at : List (List ℕ) → Result Request Fault
+lseek_at ws = (number_at >> offset_at >> whence_at >> ends) ws >>= λ x. Ok (meaning (seek x.0 x.1.0 x.1.1.0))
+
+unfoldable pub dup_at : List (List ℕ) → Result Request Fault
+dup_at ws = (number_at >> ends) ws >>= λ x. Ok (meaning (dup_fd x.0))
+
+unfoldable pub dup2_at : List (List ℕ) → Result Request Fault
+dup2_at ws = (number_at >> number_at >> ends) ws >>= λ x. Ok (meaning (dup_onto x.0 x.1.0))
+
+unfoldable pub set_flags_at : List (List ℕ) → Result Request Fault
+set_flags_at ws = (number_at >> open_flags_at >> ends) ws >>= λ x. Ok (meaning (set_flags x.0 x.1.0))
+
+unfoldable pub close_at : List (List ℕ) → Result Request Fault
+close_at ws = (number_at >> ends) ws >>= λ x. Ok (meaning (close x.0))
+
+unfoldable pub unlink_at : List (List ℕ) → Result Request Fault
+unlink_at ws = (path_at >> ends) ws >>= λ x. Ok (meaning (unlink_path x.0))
+
 unfoldable pub pair_at : List (List ℕ) → Result Request Fault
 pair_at ws = (exactly (codes "stream") >> open_flags_at >> ends) ws >>= λ x. Ok (meaning (pair x.1.0))
 
@@ -109,31 +203,49 @@ send_at ws = (number_at >> dash_at >> hex_at >> control_at >> msg_flags_at >> en
 unfoldable pub recv_at : List (List ℕ) → Result Request Fault
 recv_at ws = (number_at >> number_at >> number_at >> msg_flags_at >> ends) ws >>= λ x. Ok (meaning (recv x.0 x.1.0 x.1.1.0 x.1.1.1.0))
 
-unfoldable pub close_at : List (List ℕ) → Result Request Fault
-close_at ws = (number_at >> ends) ws >>= λ x. Ok (meaning (close x.0))
-
 unfoldable pub exit_at : List (List ℕ) → Result Request Fault
 exit_at ws = ends ws >>= λ x. Ok (meaning exit)
 
-unfoldable pub proc_at : List (List ℕ) → Result ProcSpec Fault
-proc_at ws = (number_at >> number_at >> bit_at >> number_at >> ends) ws >>= λ x. Ok (record { uid = x.0; gid = x.1.0; privileged = x.1.1.0; limit = x.1.1.1.0 })
-
+-- the words of calls: `off` is none
 abbrev pub all_words : List CallWord
-all_words = CallWord.Pair ∷ CallWord.Send ∷ CallWord.Recv ∷ CallWord.Close ∷ CallWord.Exit ∷ []
-
-abbrev pub or_bad : {A : Type 0} → Option A → Result A Fault
-or_bad None = Err BadLine
-or_bad (Some x) = Ok x
+all_words = CallWord.Open ∷ CallWord.Read ∷ CallWord.Write ∷ CallWord.Lseek ∷ CallWord.Dup ∷ CallWord.Dup2 ∷ CallWord.Flags ∷ CallWord.Close ∷ CallWord.Unlink
+    ∷ CallWord.Pair ∷ CallWord.Send ∷ CallWord.Recv ∷ CallWord.Exit ∷ []
 
 unfoldable pub word_at : List ℕ → Result CallWord Fault
-word_at w = or_bad (find (λ c. bytes_eq (word_text c) w) all_words)
+word_at w = chosen_at word_text all_words w
 
 abbrev pub args_at : CallWord → List (List ℕ) → Result Request Fault
+args_at CallWord.Open ws = open_at ws
+args_at CallWord.Read ws = read_at ws
+args_at CallWord.Write ws = write_at ws
+args_at CallWord.Lseek ws = lseek_at ws
+args_at CallWord.Dup ws = dup_at ws
+args_at CallWord.Dup2 ws = dup2_at ws
+args_at CallWord.Flags ws = set_flags_at ws
+args_at CallWord.Close ws = close_at ws
+args_at CallWord.Unlink ws = unlink_at ws
 args_at CallWord.Pair ws = pair_at ws
 args_at CallWord.Send ws = send_at ws
 args_at CallWord.Recv ws = recv_at ws
-args_at CallWord.Close ws = close_at ws
 args_at CallWord.Exit ws = exit_at ws
+args_at CallWord.Off ws = Err BadLine
+
+-- ---- the header
+
+-- what an object of this kind starts with
+abbrev pub body_at : ObjKind → List (List ℕ) → Result (List ℕ) Fault
+body_at ObjKind.Memory ws = (hex_at >> ends) ws >>= λ x. Ok x.0
+body_at ObjKind.Counter ws = ends ws >>= λ x. Ok []
+body_at ObjKind.Pipe ws = ends ws >>= λ x. Ok []
+
+abbrev pub contents_at : List (List ℕ) → Result (ObjKind × List ℕ) Fault
+contents_at ws = one kind_at ws >>= λ x. body_at x.0 x.1 >>= λ body. Ok (x.0, body)
+
+unfoldable pub object_at : List (List ℕ) → Result ObjectLine Fault
+object_at ws = (path_at >> contents_at) ws >>= λ x. Ok (record { name = x.0; kind = x.1.0; body = x.1.1 })
+
+unfoldable pub proc_at : List (List ℕ) → Result ProcSpec Fault
+proc_at ws = (number_at >> number_at >> bit_at >> number_at >> ends) ws >>= λ x. Ok (record { uid = x.0; gid = x.1.0; privileged = x.1.1.0; limit = x.1.1.1.0 })
 
 -- ---- lines
 
@@ -145,16 +257,41 @@ turn_at pid ws = do
 
 unfoldable pub words_at : List (List ℕ) → Result Item Fault
 words_at [] = Err BadLine
-words_at (w ∷ ws) = if bytes_eq w (codes "proc") then (proc_at ws >>= λ p. Ok (Item.Proc p)) else (number_at w >>= λ pid. turn_at pid ws)
+words_at (w ∷ ws) =
+    if bytes_eq w (codes "proc") then (proc_at ws >>= λ p. Ok (Item.Header (Header.Proc p)))
+    else if bytes_eq w (codes "object") then (object_at ws >>= λ o. Ok (Item.Header (Header.Object o)))
+    else if bytes_eq w (codes "off") then (ends ws >>= λ x. Ok Item.Off)
+    else (number_at w >>= λ pid. turn_at pid ws)
 
 unfoldable pub item_at : List ℕ → Result Item Fault
 item_at text = if nat_lt 4096 (length text) then Err TooLong else if is_meant text then words_at (slice_split (λ b. b == 32) text) else Ok Item.Skipped
 
--- The script with one item more. A process that isn't there has no lines, so it has made no exit.
+abbrev pub with_header : Plan → Header → Plan
+with_header s (Header.Object o) = record { objects = s.objects ++ o ∷ []; procs = s.procs; lines = s.lines; off = s.off }
+with_header s (Header.Proc p) = record { objects = s.objects; procs = s.procs ++ p ∷ []; lines = s.lines; off = s.off }
+
+abbrev pub with_line : Plan → Line → Plan
+with_line s line = record { objects = s.objects; procs = s.procs; lines = s.lines ++ line ∷ []; off = s.off }
+
+abbrev pub with_off : Plan → Plan
+with_off s = record { objects = s.objects; procs = s.procs; lines = s.lines; off = true }
+
+-- The script with one item more where `off` was not said. A process that isn't there has no lines, so it has made no exit.
+abbrev pub joined_by : Plan → Item → Result Plan Fault
+joined_by s Item.Skipped = Ok s
+joined_by s (Item.Header h) = if length s.lines == 0 then Ok (with_header s h) else Err BadLine
+joined_by s (Item.Call line) = if is_known s.procs line.pid.0 then (if has_exited s.lines line.pid.0 then Err BadLine else Ok (with_line s line)) else Err UnknownProcess
+joined_by s Item.Off = Ok (with_off s)
+
+abbrev pub is_skipped : Item → Bool
+is_skipped Item.Skipped = true
+is_skipped (Item.Header h) = false
+is_skipped (Item.Call line) = false
+is_skipped Item.Off = false
+
+-- the script with one item more: nothing is said after `off`
 abbrev pub added : Plan → Item → Result Plan Fault
-added s Item.Skipped = Ok s
-added s (Item.Proc p) = if length s.lines == 0 then Ok (record { procs = s.procs ++ p ∷ []; lines = s.lines }) else Err BadLine
-added s (Item.Call line) = if is_known s.procs line.pid.0 then (if has_exited s.lines line.pid.0 then Err BadLine else Ok (record { procs = s.procs; lines = s.lines ++ line ∷ [] })) else Err UnknownProcess
+added s item = if s.off && not (is_skipped item) then Err BadLine else joined_by s item
 
 unfoldable pub line_at : Plan → List ℕ → Result Plan Fault
 line_at s text = item_at text >>= λ item. added s item
@@ -176,7 +313,7 @@ lines_at n s [] = Ok s
 lines_at n s (text ∷ texts) = on_line n (λ t. lines_at (suc n) t texts) (line_at s text)
 
 abbrev pub no_lines : Plan
-no_lines = record { procs = []; lines = [] }
+no_lines = record { objects = []; procs = []; lines = []; off = false }
 
 -- what reading the lines of a whole text gives
 abbrev pub script_at : List (List ℕ) → Result Plan ScriptFault

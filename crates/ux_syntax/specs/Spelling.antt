@@ -1,24 +1,41 @@
 -- Which lines spell which script.
-use Rattle.std.specs.Prelude.{◌≡◌, ◌≢◌, ℕ, ◌<◌, ◌≤◌, ◌^◌, ◌-◌, take, Bool, true, false, List, [], ◌∷◌, ◌++◌, length, map, filter, codes, decimal, if◌then◌else◌, ◌==◌, not, slice_index_or}
-use Rattle.std.specs.List.{AllByRecursion, slice_split, join_with_byte}
-use Rattle.ux_model.specs.Types.{OpenFlags, MsgFlags, SockType, ProcSpec, Request}
+use Rattle.std.specs.Prelude.{◌≡◌, ◌≢◌, ℕ, ◌<◌, ◌≤◌, ◌^◌, ◌-◌, ℤ, pos, negsuc, take, Bool, true, false, List, [], ◌∷◌, ◌++◌, length, map, filter, codes, decimal, if◌then◌else◌, ◌==◌, ◌&&◌, not, nat_le, slice_index_or}
+use Rattle.std.specs.List.{AllByRecursion, flat_map, slice_split, join_with_byte}
+use Rattle.std.specs.Fmt.{signed_decimal}
+use Rattle.ux_model.specs.Types.{Name, OpenFlags, MsgFlags, SockType, Mode, Whence, ProcSpec, Request}
 use Rattle.ux_model.specs.Flags.{has_bits}
-use Rattle.ux_model.specs.Pairing.{fd_of}
-pub use Rattle.ux_model.specs.History.{is_exit}
+use Rattle.ux_model.specs.Process.{fd_of}
+pub use Rattle.ux_model.specs.History.{is_exit, is_off}
+use Rattle.ux_object.specs.declared.ObjKind.{ObjKind}
 use Rattle.ux_syntax.specs.declared.fault.Fault.{Fault}
+use Rattle.ux_syntax.specs.declared.script.ObjectLine.{ObjectLine}
+use Rattle.ux_syntax.specs.declared.script.Header.{Header}
 use Rattle.ux_syntax.specs.declared.script.Line.{Line}
 use Rattle.ux_syntax.specs.declared.script.Script.{Script}
-use Rattle.ux_syntax.specs.Trace.{dash, hex, word_text, request_word}
+use Rattle.ux_syntax.specs.Trace.{dash, digit_pair, hex, word_text, request_word}
 
 -- ---- what a script says
 
--- its processes and its calls, without where they lie in memory
+-- its file objects, its processes and its calls, and whether the layer is ended at last, without where they lie in memory
 pub record Plan : Type 0 where
+  pub objects : List ObjectLine
   pub procs : List ProcSpec
   pub lines : List Line
+  pub off : Bool
 
 abbrev pub plan_of : Script → Plan
-plan_of s = record { procs = s.procs.items; lines = s.lines.items }
+plan_of s = record { objects = s.objects.items; procs = s.procs.items; lines = s.lines.items; off = s.off }
+
+-- the file objects and the processes of a header, each in order
+abbrev pub objects_of : List Header → List ObjectLine
+objects_of [] = []
+objects_of (Header.Object o ∷ hs) = o ∷ objects_of hs
+objects_of (Header.Proc p ∷ hs) = objects_of hs
+
+abbrev pub procs_of : List Header → List ProcSpec
+procs_of [] = []
+procs_of (Header.Object o ∷ hs) = procs_of hs
+procs_of (Header.Proc p ∷ hs) = p ∷ procs_of hs
 
 -- ---- calls as they are written
 
@@ -27,18 +44,34 @@ pub data Control : Type 0 where
   bare : Control
 
 pub data Written : Type 0 where
+  open_path : (path : Name) → (mode : Mode) → (flags : OpenFlags) → Written
+  read_fd : (fd n : ℕ) → Written
+  write_fd : (fd : ℕ) → (bytes : List ℕ) → Written
+  seek : (fd : ℕ) → (offset : ℤ) → (whence : Whence) → Written
+  dup_fd : (fd : ℕ) → Written
+  dup_onto : (fd other : ℕ) → Written
+  set_flags : (fd : ℕ) → (flags : OpenFlags) → Written
+  close : (fd : ℕ) → Written
+  unlink_path : (path : Name) → Written
   pair : (flags : OpenFlags) → Written
   send : (fd : ℕ) → (bytes : List ℕ) → (control : Control) → (flags : MsgFlags) → Written
   recv : (fd n space : ℕ) → (flags : MsgFlags) → Written
-  close : (fd : ℕ) → Written
   exit : Written
 
 -- the call that is meant
 abbrev pub meaning : Written → Request
+meaning (open_path path mode flags) = Request.Open path mode flags
+meaning (read_fd fd n) = Request.Read (fd_of fd) n
+meaning (write_fd fd bytes) = Request.Write (fd_of fd) bytes
+meaning (seek fd offset whence) = Request.Lseek (fd_of fd) offset whence
+meaning (dup_fd fd) = Request.Dup (fd_of fd)
+meaning (dup_onto fd other) = Request.Dup2 (fd_of fd) (fd_of other)
+meaning (set_flags fd flags) = Request.SetFlags (fd_of fd) flags
+meaning (close fd) = Request.Close (fd_of fd)
+meaning (unlink_path path) = Request.Unlink path
 meaning (pair flags) = Request.SocketPair SockType.Stream flags
 meaning (send fd bytes control flags) = Request.SendMsg (fd_of fd) bytes flags
 meaning (recv fd n space flags) = Request.RecvMsg (fd_of fd) n space flags
-meaning (close fd) = Request.Close (fd_of fd)
 meaning exit = Request.Exit
 
 -- a process's number, and a call of it as it is written
@@ -72,21 +105,76 @@ msg_flags f = or_dash (letter (has_bits f.0 4) 100 ++ (letter (has_bits f.0 1) 1
 abbrev pub bit : Bool → List ℕ
 bit b = if b then 49 ∷ [] else 48 ∷ []
 
+-- a byte from 0x21 to 0x7e, but no %
+abbrev pub stands : ℕ → Bool
+stands b = nat_le 33 b && nat_le b 126 && not (b == 37)
+
+-- such a byte stands for itself in a name, each other one is % and its two digits
+abbrev pub name_byte : ℕ → List ℕ
+name_byte b = if stands b then b ∷ [] else 37 ∷ digit_pair b
+
+abbrev pub name_text : Name → List ℕ
+name_text name = flat_map name_byte name
+
+-- p: and the name
+abbrev pub path_text : Name → List ℕ
+path_text name = 112 ∷ 58 ∷ name_text name
+
+abbrev pub mode_text : Mode → List ℕ
+mode_text Mode.Read = codes "r"
+mode_text Mode.Write = codes "w"
+mode_text Mode.Both = codes "rw"
+
+abbrev pub whence_text : Whence → List ℕ
+whence_text Whence.Set = codes "set"
+whence_text Whence.Cur = codes "cur"
+whence_text Whence.End = codes "end"
+
+abbrev pub kind_text : ObjKind → List ℕ
+kind_text ObjKind.Memory = codes "mem"
+kind_text ObjKind.Counter = codes "counter"
+kind_text ObjKind.Pipe = codes "pipe"
+
 -- the words that stand behind the call's word
 abbrev pub args_of : Written → List (List ℕ)
+args_of (open_path path mode flags) = path_text path ∷ mode_text mode ∷ open_flags flags ∷ []
+args_of (read_fd fd n) = decimal fd ∷ decimal n ∷ []
+args_of (write_fd fd bytes) = decimal fd ∷ hex bytes ∷ []
+args_of (seek fd offset whence) = decimal fd ∷ signed_decimal offset ∷ whence_text whence ∷ []
+args_of (dup_fd fd) = decimal fd ∷ []
+args_of (dup_onto fd other) = decimal fd ∷ decimal other ∷ []
+args_of (set_flags fd flags) = decimal fd ∷ open_flags flags ∷ []
+args_of (close fd) = decimal fd ∷ []
+args_of (unlink_path path) = path_text path ∷ []
 args_of (pair flags) = codes "stream" ∷ open_flags flags ∷ []
 args_of (send fd bytes control flags) = decimal fd ∷ dash ∷ hex bytes ∷ control_text control ∷ msg_flags flags ∷ []
 args_of (recv fd n space flags) = decimal fd ∷ decimal n ∷ decimal space ∷ msg_flags flags ∷ []
-args_of (close fd) = decimal fd ∷ []
 args_of exit = []
 
 -- ---- lines
 
-abbrev pub proc_line : ProcSpec → List ℕ
-proc_line p = join_with_byte 32 (codes "proc" ∷ decimal p.uid ∷ decimal p.gid ∷ bit p.privileged ∷ decimal p.limit ∷ [])
+-- a memory file's bytes
+abbrev pub body_words : ObjKind → List ℕ → List (List ℕ)
+body_words ObjKind.Memory body = hex body ∷ []
+body_words ObjKind.Counter body = []
+body_words ObjKind.Pipe body = []
+
+abbrev pub header_words : Header → List (List ℕ)
+header_words (Header.Object o) = codes "object" ∷ path_text o.name ∷ kind_text o.kind ∷ body_words o.kind o.body
+header_words (Header.Proc p) = codes "proc" ∷ decimal p.uid ∷ decimal p.gid ∷ bit p.privileged ∷ decimal p.limit ∷ []
+
+abbrev pub header_line : Header → List ℕ
+header_line h = join_with_byte 32 (header_words h)
+
+abbrev pub turn_words : Turn → List (List ℕ)
+turn_words t = decimal t.pid ∷ word_text (request_word (meaning t.call)) ∷ args_of t.call
 
 abbrev pub turn_line : Turn → List ℕ
-turn_line t = join_with_byte 32 (decimal t.pid ∷ word_text (request_word (meaning t.call)) ∷ args_of t.call)
+turn_line t = join_with_byte 32 (turn_words t)
+
+-- the line that ends the layer, where the script has it
+abbrev pub off_lines : Bool → List (List ℕ)
+off_lines off = if off then codes "off" ∷ [] else []
 
 -- an empty line says nothing, nor does one that begins with #
 abbrev pub is_meant : List ℕ → Bool
@@ -115,18 +203,38 @@ FitsOpenFlags f = f.0 < 8
 abbrev pub FitsMsgFlags : MsgFlags → Type 0
 FitsMsgFlags f = f.0 < 16
 
+-- an i64
+abbrev pub IsOffset : ℤ → Type 0
+IsOffset (pos n) = n < 2 ^ 63
+IsOffset (negsuc n) = n < 2 ^ 63
+
 abbrev pub FitsCall : Written → Type 0
+FitsCall (open_path path mode flags) = AreBytes path × FitsOpenFlags flags
+FitsCall (read_fd fd n) = IsNumber fd × IsNumber n
+FitsCall (write_fd fd bytes) = IsNumber fd × AreBytes bytes
+FitsCall (seek fd offset whence) = IsNumber fd × IsOffset offset
+FitsCall (dup_fd fd) = IsNumber fd
+FitsCall (dup_onto fd other) = IsNumber fd × IsNumber other
+FitsCall (set_flags fd flags) = IsNumber fd × FitsOpenFlags flags
+FitsCall (close fd) = IsNumber fd
+FitsCall (unlink_path path) = AreBytes path
 FitsCall (pair flags) = FitsOpenFlags flags
 FitsCall (send fd bytes control flags) = IsNumber fd × AreBytes bytes × FitsControl control × FitsMsgFlags flags
 FitsCall (recv fd n space flags) = IsNumber fd × IsNumber n × IsNumber space × FitsMsgFlags flags
-FitsCall (close fd) = IsNumber fd
 FitsCall exit = Unit {0}
 
 abbrev pub FitsTurn : Turn → Type 0
 FitsTurn t = IsNumber t.pid × FitsCall t.call
 
-abbrev pub FitsProc : ProcSpec → Type 0
-FitsProc p = IsNumber p.uid × IsNumber p.gid × IsNumber p.limit
+-- a memory file alone starts with bytes
+abbrev pub FitsBody : ObjKind → List ℕ → Type 0
+FitsBody ObjKind.Memory body = AreBytes body
+FitsBody ObjKind.Counter body = body ≡ []
+FitsBody ObjKind.Pipe body = body ≡ []
+
+abbrev pub FitsHeader : Header → Type 0
+FitsHeader (Header.Object o) = AreBytes o.name × FitsBody o.kind o.body
+FitsHeader (Header.Proc p) = IsNumber p.uid × IsNumber p.gid × IsNumber p.limit
 
 -- ---- which lines a script may have
 
@@ -143,28 +251,36 @@ abbrev pub NoneAfterExit : List Line → Type 0
 NoneAfterExit [] = Unit {0}
 NoneAfterExit (line ∷ lines) = (is_exit line.request ≡ true → IsQuiet line.pid.0 lines) × NoneAfterExit lines
 
--- each line is of a process that is there and hasn't made its exit
+-- the line is a call, and not the end of the whole layer
+abbrev pub IsCall : Line → Type 0
+IsCall line = is_off line.request ≡ false
+
+-- each line is a call of a process that is there and hasn't made its exit
 pub record IsOrderly (s : Plan) : Type 0 where
   pub processes : AllByRecursion (IsOfProcess (length s.procs)) s.lines
   pub exits : NoneAfterExit s.lines
+  pub calls : AllByRecursion IsCall s.lines
 
 -- ---- which lines spell which script
 
--- The lines spell the script: short ones, of which those that say something are the processes' and then the calls' as they are written.
+-- The lines spell the script: short ones, of which those that say something are the header's, then the calls' as they are written, and `off` at last where the script has it.
 pub record Spells (texts : List (List ℕ)) (s : Plan) : Type 0 where
+  pub headers : List Header
   pub turns : List Turn
   pub short : AllByRecursion (λ text. length text ≤ 4096) texts
-  pub spelled : filter is_meant texts ≡ map proc_line s.procs ++ map turn_line turns
+  pub spelled : filter is_meant texts ≡ map header_line headers ++ (map turn_line turns ++ off_lines s.off)
+  pub objects : objects_of headers ≡ s.objects
+  pub procs : procs_of headers ≡ s.procs
   pub meant : map line_of turns ≡ s.lines
-  pub fit_procs : AllByRecursion FitsProc s.procs
+  pub fit_headers : AllByRecursion FitsHeader headers
   pub fit_turns : AllByRecursion FitsTurn turns
   pub orderly : IsOrderly s
 
 -- ---- why a line is at fault
 
--- the line is a call, rightly written, of a process that isn't there
+-- the line is a call, rightly written, of a process that isn't there, and `off` was not said
 abbrev pub IsCallOfStranger : Plan → List ℕ → Type 0
-IsCallOfStranger s text = (t : Turn) × (text ≡ turn_line t) × FitsTurn t × (IsOfProcess (length s.procs) (line_of t) → ⊥)
+IsCallOfStranger s text = (t : Turn) × (text ≡ turn_line t) × FitsTurn t × (s.off ≡ false) × (IsOfProcess (length s.procs) (line_of t) → ⊥)
 
 -- Why a line that comes after those of the script is at fault, if it is: too long before bad, and bad before unknown.
 abbrev pub IsFaultOf : Fault → Plan → List ℕ → Type 0

@@ -68,29 +68,59 @@ errno_text Errno.ECONNREFUSED = codes "ECONNREFUSED"
 
 abbrev pub reply_text : Reply → List ℕ
 reply_text Reply.Ok = codes "ok"
+reply_text (Reply.Fd a) = codes "fd " ++ decimal a.0
 reply_text (Reply.Fds a b) = codes "fds " ++ (decimal a.0 ++ (codes " " ++ decimal b.0))
 reply_text (Reply.Count n) = codes "n " ++ decimal n
+reply_text (Reply.Bytes bytes) = codes "bytes " ++ hex bytes
+reply_text (Reply.At n) = codes "at " ++ decimal n
 reply_text (Reply.Received count bytes flags) = codes "got " ++ (decimal count ++ (codes " " ++ (hex bytes ++ (codes " " ++ (received_flags_text flags ++ codes " - -")))))
 reply_text (Reply.Err e) = codes "err " ++ errno_text e
 
 -- the word that names a call, in a script and in a trace
 abbrev pub word_text : CallWord → List ℕ
+word_text CallWord.Open = codes "open"
+word_text CallWord.Read = codes "read"
+word_text CallWord.Write = codes "write"
+word_text CallWord.Lseek = codes "lseek"
+word_text CallWord.Dup = codes "dup"
+word_text CallWord.Dup2 = codes "dup2"
+word_text CallWord.Flags = codes "flags"
+word_text CallWord.Close = codes "close"
+word_text CallWord.Unlink = codes "unlink"
 word_text CallWord.Pair = codes "pair"
 word_text CallWord.Send = codes "send"
 word_text CallWord.Recv = codes "recv"
-word_text CallWord.Close = codes "close"
 word_text CallWord.Exit = codes "exit"
+word_text CallWord.Off = codes "off"
 
 abbrev pub request_word : Request → CallWord
+request_word (Request.Open path mode flags) = CallWord.Open
+request_word (Request.Read fd n) = CallWord.Read
+request_word (Request.Write fd bytes) = CallWord.Write
+request_word (Request.Lseek fd offset whence) = CallWord.Lseek
+request_word (Request.Dup fd) = CallWord.Dup
+request_word (Request.Dup2 fd to) = CallWord.Dup2
+request_word (Request.SetFlags fd flags) = CallWord.Flags
+request_word (Request.Close fd) = CallWord.Close
+request_word (Request.Unlink path) = CallWord.Unlink
 request_word (Request.SocketPair kind flags) = CallWord.Pair
 request_word (Request.SendMsg fd bytes flags) = CallWord.Send
 request_word (Request.RecvMsg fd n space flags) = CallWord.Recv
-request_word (Request.Close fd) = CallWord.Close
 request_word Request.Exit = CallWord.Exit
+request_word Request.Off = CallWord.Off
 
--- N PID K WORD = REPLY
+-- numbers, each after a blank
+abbrev pub spaced : List ℕ → List ℕ
+spaced numbers = flat_map (λ n. 32 ∷ decimal n) numbers
+
+-- the file objects that were closed at the end of a call, or nothing where none was
+abbrev pub closed_text : List ℕ → List ℕ
+closed_text [] = []
+closed_text (n ∷ ns) = codes " closed" ++ spaced (n ∷ ns)
+
+-- N PID K WORD = REPLY, and behind that the file objects that were closed
 abbrev pub entry_line : ℕ → Entry → List ℕ
-entry_line n e = decimal n ++ (codes " " ++ (decimal e.pid.0 ++ (codes " " ++ (decimal e.k ++ (codes " " ++ (word_text (request_word e.request) ++ (codes " = " ++ (reply_text e.reply ++ (10 ∷ [])))))))))
+entry_line n e = decimal n ++ (codes " " ++ (decimal e.pid.0 ++ (codes " " ++ (decimal e.k ++ (codes " " ++ (word_text (request_word e.request) ++ (codes " = " ++ (reply_text e.reply ++ (closed_text e.released ++ (10 ∷ []))))))))))
 
 -- the lines of the entries, of which the first has this number
 abbrev pub trace_from : ℕ → List Entry → List ℕ

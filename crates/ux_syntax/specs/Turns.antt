@@ -1,5 +1,5 @@
 -- Which calls a run of a script makes.
-use Rattle.std.specs.Prelude.{ℕ, Bool, List, length, ◌++◌, map, filter, not, ◌==◌, ◌&&◌, nat_lt, nat_le}
+use Rattle.std.specs.Prelude.{ℕ, Bool, List, [], ◌∷◌, length, ◌++◌, map, filter, not, ◌==◌, ◌&&◌, nat_lt, nat_le, if◌then◌else◌}
 use Rattle.std.specs.List.{list_any, range_with_len}
 use Rattle.ux_model.specs.Types.{ProcSpec, Request}
 use Rattle.ux_syntax.specs.declared.script.Line.{Line}
@@ -20,6 +20,10 @@ exit_line pid = record { pid = record { 0 = pid }; request = Request.Exit }
 abbrev pub missing : Plan → List ℕ
 missing s = filter (λ pid. not (has_exited s.lines pid)) (range_with_len 1 (length s.procs))
 
--- the script's calls in order, and then the missing exits
+-- the end of the whole layer, which no process calls
+abbrev pub off_line : Line
+off_line = record { pid = record { 0 = 0 }; request = Request.Off }
+
+-- the script's calls in order, then the missing exits, and last the end of the layer where the script has it
 abbrev pub all_turns : Plan → List Line
-all_turns s = s.lines ++ map exit_line (missing s)
+all_turns s = s.lines ++ (map exit_line (missing s) ++ (if s.off then off_line ∷ [] else []))

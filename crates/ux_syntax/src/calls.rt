@@ -2,29 +2,49 @@
 
 ghost use Rattle.std.specs.Prelude.{◌≡◌, map};
 ghost use Rattle.ux_syntax.specs.Trace.{word_text, request_word};
-ghost use Rattle.ux_syntax.specs.Reading.{pair_at, send_at, recv_at, close_at, exit_at, proc_at, word_at, args_at};
+ghost use Rattle.ux_syntax.specs.Reading.{open_at, read_at, write_at, lseek_at, dup_at, dup2_at, set_flags_at, close_at, unlink_at, pair_at, send_at, recv_at, exit_at, word_at, args_at};
 ghost use Rattle.ux_syntax.specs.Results.{Gives};
 
 use crate::fault::{BAD, LineError};
-use crate::words::{bit, control, end, hex, msg_flags, number, open_flags, pass};
+use crate::row::{
+    control, end, hex, mode, msg_flags, number, offset, open_flags, pass, path, whence,
+};
 use std::alloc::Global;
-use ux_types::{Fd, ProcSpec, Request, SockType};
+use ux_types::{Fd, Request, SockType};
 
-/// The words that name calls.
+/// The words that name calls. A script has no call of the last.
 #[derive(Clone, Copy, Debug, PartialEq, Eq)]
 pub enum CallWord {
+    Open,
+    Read,
+    Write,
+    Lseek,
+    Dup,
+    Dup2,
+    Flags,
+    Close,
+    Unlink,
     Pair,
     Send,
     Recv,
-    Close,
     Exit,
+    Off,
 }
 
-const CALL_WORDS: [CallWord; 5] = [
+/// The words that a script may have behind a process's number.
+const CALL_WORDS: [CallWord; 13] = [
+    CallWord::Open,
+    CallWord::Read,
+    CallWord::Write,
+    CallWord::Lseek,
+    CallWord::Dup,
+    CallWord::Dup2,
+    CallWord::Flags,
+    CallWord::Close,
+    CallWord::Unlink,
     CallWord::Pair,
     CallWord::Send,
     CallWord::Recv,
-    CallWord::Close,
     CallWord::Exit,
 ];
 
@@ -34,11 +54,20 @@ impl CallWord {
         ensures { result ≡ request_word request.now }
     {
         match request {
+            Request::Open { .. } => CallWord::Open,
+            Request::Read { .. } => CallWord::Read,
+            Request::Write { .. } => CallWord::Write,
+            Request::Lseek { .. } => CallWord::Lseek,
+            Request::Dup { .. } => CallWord::Dup,
+            Request::Dup2 { .. } => CallWord::Dup2,
+            Request::SetFlags { .. } => CallWord::Flags,
+            Request::Close { .. } => CallWord::Close,
+            Request::Unlink { .. } => CallWord::Unlink,
             Request::SocketPair { .. } => CallWord::Pair,
             Request::SendMsg { .. } => CallWord::Send,
             Request::RecvMsg { .. } => CallWord::Recv,
-            Request::Close { .. } => CallWord::Close,
             Request::Exit => CallWord::Exit,
+            Request::Off => CallWord::Off,
         }
     }
 
@@ -47,11 +76,20 @@ impl CallWord {
         ensures { result.now ≡ word_text self }
     {
         match self {
+            CallWord::Open => "open",
+            CallWord::Read => "read",
+            CallWord::Write => "write",
+            CallWord::Lseek => "lseek",
+            CallWord::Dup => "dup",
+            CallWord::Dup2 => "dup2",
+            CallWord::Flags => "flags",
+            CallWord::Close => "close",
+            CallWord::Unlink => "unlink",
             CallWord::Pair => "pair",
             CallWord::Send => "send",
             CallWord::Recv => "recv",
-            CallWord::Close => "close",
             CallWord::Exit => "exit",
+            CallWord::Off => "off",
         }
     }
 }
@@ -63,7 +101,7 @@ pub(crate) fn word_of(word: &[u8]) -> Result<CallWord, LineError>
 {
     match CALL_WORDS
         .iter()
-        .find(|candidate| candidate.text().as_bytes() == word)
+        .find(|candidate| word == candidate.text().as_bytes())
     {
         Some(found) => Ok(*found),
         None => Err(BAD),
@@ -71,6 +109,104 @@ pub(crate) fn word_of(word: &[u8]) -> Result<CallWord, LineError>
 }
 
 // ---- the words behind the call's word
+
+/// `open ADDR MODE OFLAGS`.
+#[tactic(auto, unfolding(crate::specs::Reading::open_at))]
+fn open_of(alloc: Global, words: &[&[u8]]) -> Result<Request, LineError>
+    ensures { Gives (λ r. r) result (open_at (map (λ w. w.now) words.now)) }
+{
+    let (path, words) = path(alloc, words)?;
+    let (mode, words) = mode(words)?;
+    let (flags, words) = open_flags(words)?;
+    end(words)?;
+    Ok(Request::Open { path, mode, flags })
+}
+
+/// `read FD N`.
+#[tactic(auto, unfolding(crate::specs::Reading::read_at))]
+fn read_of(words: &[&[u8]]) -> Result<Request, LineError>
+    ensures { Gives (λ r. r) result (read_at (map (λ w. w.now) words.now)) }
+{
+    let (fd, words) = number(words)?;
+    let (n, words) = number(words)?;
+    end(words)?;
+    Ok(Request::Read {
+        fd: Fd(fd),
+        n: n as usize,
+    })
+}
+
+/// `write FD HEX`.
+#[tactic(auto, unfolding(crate::specs::Reading::write_at))]
+fn write_of(alloc: Global, words: &[&[u8]]) -> Result<Request, LineError>
+    ensures { Gives (λ r. r) result (write_at (map (λ w. w.now) words.now)) }
+{
+    let (fd, words) = number(words)?;
+    let (bytes, words) = hex(alloc, words)?;
+    end(words)?;
+    Ok(Request::Write { fd: Fd(fd), bytes })
+}
+
+/// `lseek FD OFFSET WHENCE`.
+#[tactic(auto, unfolding(crate::specs::Reading::lseek_at))]
+fn lseek_of(words: &[&[u8]]) -> Result<Request, LineError>
+    ensures { Gives (λ r. r) result (lseek_at (map (λ w. w.now) words.now)) }
+{
+    let (fd, words) = number(words)?;
+    let (offset, words) = offset(words)?;
+    let (whence, words) = whence(words)?;
+    end(words)?;
+    Ok(Request::Lseek {
+        fd: Fd(fd),
+        offset,
+        whence,
+    })
+}
+
+/// `dup FD`.
+#[tactic(auto, unfolding(crate::specs::Reading::dup_at))]
+fn dup_of(words: &[&[u8]]) -> Result<Request, LineError>
+    ensures { Gives (λ r. r) result (dup_at (map (λ w. w.now) words.now)) }
+{
+    let (fd, words) = number(words)?;
+    end(words)?;
+    Ok(Request::Dup { fd: Fd(fd) })
+}
+
+/// `dup2 FD FD`.
+#[tactic(auto, unfolding(crate::specs::Reading::dup2_at))]
+fn dup2_of(words: &[&[u8]]) -> Result<Request, LineError>
+    ensures { Gives (λ r. r) result (dup2_at (map (λ w. w.now) words.now)) }
+{
+    let (fd, words) = number(words)?;
+    let (to, words) = number(words)?;
+    end(words)?;
+    Ok(Request::Dup2 {
+        fd: Fd(fd),
+        to: Fd(to),
+    })
+}
+
+/// `flags FD OFLAGS`.
+#[tactic(auto, unfolding(crate::specs::Reading::set_flags_at))]
+fn set_flags_of(words: &[&[u8]]) -> Result<Request, LineError>
+    ensures { Gives (λ r. r) result (set_flags_at (map (λ w. w.now) words.now)) }
+{
+    let (fd, words) = number(words)?;
+    let (flags, words) = open_flags(words)?;
+    end(words)?;
+    Ok(Request::SetFlags { fd: Fd(fd), flags })
+}
+
+/// `unlink ADDR`.
+#[tactic(auto, unfolding(crate::specs::Reading::unlink_at))]
+fn unlink_of(alloc: Global, words: &[&[u8]]) -> Result<Request, LineError>
+    ensures { Gives (λ r. r) result (unlink_at (map (λ w. w.now) words.now)) }
+{
+    let (path, words) = path(alloc, words)?;
+    end(words)?;
+    Ok(Request::Unlink { path })
+}
 
 /// `pair stream OFLAGS`.
 #[tactic(auto, unfolding(crate::specs::Reading::pair_at))]
@@ -150,28 +286,19 @@ pub(crate) fn request_of(
     ensures { Gives (λ r. r) result (args_at word (map (λ w. w.now) args.now)) }
 {
     match word {
+        CallWord::Open => open_of(alloc, args),
+        CallWord::Read => read_of(args),
+        CallWord::Write => write_of(alloc, args),
+        CallWord::Lseek => lseek_of(args),
+        CallWord::Dup => dup_of(args),
+        CallWord::Dup2 => dup2_of(args),
+        CallWord::Flags => set_flags_of(args),
+        CallWord::Close => close_of(args),
+        CallWord::Unlink => unlink_of(alloc, args),
         CallWord::Pair => pair_of(args),
         CallWord::Send => send_of(alloc, args),
         CallWord::Recv => recv_of(args),
-        CallWord::Close => close_of(args),
         CallWord::Exit => exit_of(args),
+        CallWord::Off => Err(BAD),
     }
-}
-
-/// `proc UID GID PRIV LIMIT`, without its first word.
-#[tactic(auto, unfolding(crate::specs::Reading::proc_at))]
-pub(crate) fn proc_of(words: &[&[u8]]) -> Result<ProcSpec, LineError>
-    ensures { Gives (λ p. p) result (proc_at (map (λ w. w.now) words.now)) }
-{
-    let (uid, words) = number(words)?;
-    let (gid, words) = number(words)?;
-    let (privileged, words) = bit(words)?;
-    let (limit, words) = number(words)?;
-    end(words)?;
-    Ok(ProcSpec {
-        uid,
-        gid,
-        privileged,
-        limit,
-    })
 }

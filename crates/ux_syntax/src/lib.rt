@@ -3,8 +3,11 @@
 
 mod calls;
 mod fault;
+mod headers;
 mod input;
+mod paths;
 mod reading;
+mod row;
 mod script;
 mod trace;
 mod words;
@@ -13,7 +16,7 @@ pub use calls::CallWord;
 pub use fault::{Fault, ScriptFault};
 pub use input::read_script;
 pub use reading::{one_script, parse_script};
-pub use script::{Line, Script};
+pub use script::{Line, ObjectLine, Script};
 pub use trace::entry_text;
 
 #[cfg(test)]

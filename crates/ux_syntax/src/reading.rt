@@ -4,15 +4,17 @@ ghost use Rattle.std.specs.Prelude.{◌≡◌, ◌==◌, not, map, IfOk, IfErr, 
 ghost use Rattle.std.specs.List.{slice_split};
 ghost use Rattle.ux_syntax.specs.Spelling.{Plan, plan_of, Spells, IsOrderly, OneScript, lines_of, is_meant};
 ghost use Rattle.ux_syntax.specs.Turns.{is_known};
-ghost use Rattle.ux_syntax.specs.Reading.{words_at, item_at, added, line_at, script_at};
+ghost use Rattle.ux_syntax.specs.Reading.{words_at, item_at, joined_by, line_at, script_at};
 ghost use Rattle.ux_syntax.specs.Results.{Gives, Leaves, GivesScript, Refuses, Marks};
 
-use crate::calls::{proc_of, request_of, word_of};
+use crate::calls::{request_of, word_of};
 use crate::fault::{BAD, Fault, LineError, ScriptFault};
-use crate::script::{Line, Script, is_exit};
-use crate::words::{next, number_of};
+use crate::headers::{object_of, proc_of};
+use crate::row::{end, next};
+use crate::script::{Header, Line, Script, is_exit};
+use crate::words::number_of;
 use std::alloc::{AllocError, Global};
-use ux_types::{Pid, ProcSpec};
+use ux_types::Pid;
 
 /// How many bytes a line may have, without its line feed.
 const LINE_LIMIT: usize = 4096;
@@ -22,10 +24,12 @@ const LINE_LIMIT: usize = 4096;
 enum Item {
     /// Nothing: it is empty or a comment.
     Skipped,
-    /// A process of the header.
-    Proc(ProcSpec),
+    /// A line of the header.
+    Header(Header),
     /// A call.
     Call(Line),
+    /// The end of the layer.
+    Off,
 }
 
 #[tactic(auto, unfolding(crate::specs::Reading::words_at))]
@@ -34,7 +38,14 @@ fn words_of(alloc: Global, words: &[&[u8]]) -> Result<Item, LineError>
 {
     let (first, rest) = next(words)?;
     if first == b"proc".as_slice() {
-        return Ok(Item::Proc(proc_of(rest)?));
+        return Ok(Item::Header(Header::Proc(proc_of(rest)?)));
+    }
+    if first == b"object".as_slice() {
+        return Ok(Item::Header(Header::Object(object_of(alloc, rest)?)));
+    }
+    if first == b"off".as_slice() {
+        end(rest)?;
+        return Ok(Item::Off);
     }
     let pid = Pid(number_of(first)?);
     let (word, args) = next(rest)?;
@@ -42,7 +53,7 @@ fn words_of(alloc: Global, words: &[&[u8]]) -> Result<Item, LineError>
     Ok(Item::Call(Line { pid, request }))
 }
 
-fn is_comment(text: &[u8]) -> bool
+fn says_nothing(text: &[u8]) -> bool
     ensures { result ≡ not (is_meant text.now) }
 {
     match text {
@@ -71,7 +82,7 @@ fn item_of(alloc: Global, text: &[u8]) -> Result<Item, LineError>
     if text.len() > LINE_LIMIT {
         return Err(LineError::Fault(Fault::TooLong));
     }
-    if is_comment(text) {
+    if says_nothing(text) {
         return Ok(Item::Skipped);
     }
     let words = split_words(alloc, text)?;
@@ -92,22 +103,27 @@ impl Reader {
         0 < pid.0 && pid.0 as usize <= self.script.procs.len()
     }
 
-    fn add_proc(&mut self, spec: ProcSpec) -> Result<(), LineError>
+    fn add_header(&mut self, header: Header) -> Result<(), LineError>
         requires { Marks (plan_of self.old.script) self.old.exited.items }
-        ensures reads { Leaves (plan_of self.new.script) result (added (plan_of self.old.script) (Item.Proc spec)) }
+        ensures reads { Leaves (plan_of self.new.script) result (joined_by (plan_of self.old.script) (Item.Header header)) }
         ensures marks { OnOk result (Marks (plan_of self.new.script) self.new.exited.items) }
     {
         if !self.script.lines.is_empty() {
             return Err(BAD);
         }
-        self.script.procs.push(spec)?;
-        self.exited.push(false)?;
+        match header {
+            Header::Object(object) => self.script.objects.push(object)?,
+            Header::Proc(spec) => {
+                self.script.procs.push(spec)?;
+                self.exited.push(false)?;
+            }
+        }
         Ok(())
     }
 
     fn add_line(&mut self, line: Line) -> Result<(), LineError>
         requires { Marks (plan_of self.old.script) self.old.exited.items }
-        ensures reads { Leaves (plan_of self.new.script) result (added (plan_of self.old.script) (Item.Call line)) }
+        ensures reads { Leaves (plan_of self.new.script) result (joined_by (plan_of self.old.script) (Item.Call line)) }
         ensures marks { OnOk result (Marks (plan_of self.new.script) self.new.exited.items) }
     {
         if !self.knows(line.pid) {
@@ -131,10 +147,18 @@ impl Reader {
         ensures reads { Leaves (plan_of self.new.script) result (line_at (plan_of self.old.script) text.now) }
         ensures marks { OnOk result (Marks (plan_of self.new.script) self.new.exited.items) }
     {
-        match item_of(alloc, text)? {
+        let item = item_of(alloc, text)?;
+        if self.script.off && !matches!(item, Item::Skipped) {
+            return Err(BAD);
+        }
+        match item {
             Item::Skipped => Ok(()),
-            Item::Proc(spec) => self.add_proc(spec),
+            Item::Header(header) => self.add_header(header),
             Item::Call(line) => self.add_line(line),
+            Item::Off => {
+                self.script.off = true;
+                Ok(())
+            }
         }
     }
 }
@@ -144,8 +168,10 @@ fn read_lines(alloc: Global, texts: &[&[u8]]) -> Result<Script, ScriptFault>
     ensures { GivesScript result (script_at (map (λ l. l.now) texts.now)) }
 {
     let script = Script {
+        objects: Vec::new(alloc),
         procs: Vec::new(alloc),
         lines: Vec::new(alloc),
+        off: false,
     };
     let mut reader = Reader {
         script,
@@ -173,10 +199,13 @@ fn read_text(alloc: Global, text: &[u8]) -> Result<Script, ScriptFault>
 /// The script that a text spells. It takes time in proportion to the text.
 ///
 /// A script is lines that end at line feeds; the last may have none. Empty lines and those that begin
-/// with `#` are skipped, and counted. The words of a line stand one blank apart. Lines
-/// `proc UID GID PRIV LIMIT` come first and number the processes from 1; each further line is a
-/// process's number and a call of it: `pair stream OFLAGS`, `send FD - HEX - MFLAGS`,
-/// `recv FD N SPACE MFLAGS`, `close FD`, `exit`.
+/// with `#` are skipped, and counted. The words of a line stand one blank apart. The header comes first,
+/// its lines in any order: `object p:NAME mem HEX`, `object p:NAME counter` and `object p:NAME pipe`
+/// number the file objects from 0, and `proc UID GID PRIV LIMIT` the processes from 1. Each further line
+/// is a process's number and a call of it: `open p:NAME MODE OFLAGS`, `read FD N`, `write FD HEX`,
+/// `lseek FD OFFSET WHENCE`, `dup FD`, `dup2 FD FD`, `flags FD OFLAGS`, `close FD`, `unlink p:NAME`,
+/// `pair stream OFLAGS`, `send FD - HEX - MFLAGS`, `recv FD N SPACE MFLAGS`, `exit`. A line `off` may
+/// come last.
 pub fn parse_script(alloc: Global, text: &[u8]) -> Result<Script, ScriptFault>
     // What is read is spelled so.
     ensures found { IfOk result (λ script. Spells (lines_of text.now) (plan_of script)) }

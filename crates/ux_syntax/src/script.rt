@@ -1,10 +1,19 @@
-//! Scripts: processes, and the calls that they make.
+//! Scripts: file objects, processes, and the calls that they make.
 
 ghost use Rattle.std.specs.Prelude.{◌≡◌};
-ghost use Rattle.ux_syntax.specs.Spelling.{plan_of, is_exit};
-ghost use Rattle.ux_syntax.specs.Turns.{has_exited};
+ghost use Rattle.ux_syntax.specs.Spelling.{is_exit};
 
-use ux_types::{Pid, ProcSpec, Request};
+use ux_object::ObjKind;
+use ux_types::{Bytes, Name, Pid, ProcSpec, Request};
+
+/// A file object that is there from the start: its path, its kind, and what a memory file starts with.
+#[derive(Debug, Drop)]
+pub struct ObjectLine {
+    pub name: Name,
+    pub kind: ObjKind,
+    /// Empty for a counter and a pipe.
+    pub body: Bytes,
+}
 
 /// One call of a script, and the process that makes it.
 #[derive(Debug, Drop)]
@@ -13,26 +22,26 @@ pub struct Line {
     pub request: Request,
 }
 
-/// The processes of a script, of which the first has number 1, and their calls in order.
+/// The file objects of a script, of which the first has number 0, its processes, of which the first
+/// has number 1, and their calls in order.
 #[derive(Debug, Drop)]
 pub struct Script {
+    pub objects: Vec<ObjectLine>,
     pub procs: Vec<ProcSpec>,
     pub lines: Vec<Line>,
+    /// Whether the layer is ended after all calls.
+    pub off: bool,
+}
+
+/// A line of the header.
+#[derive(Drop)]
+pub(crate) enum Header {
+    Object(ObjectLine),
+    Proc(ProcSpec),
 }
 
 pub(crate) fn is_exit(request: &Request) -> bool
     ensures { result ≡ is_exit request.now }
 {
     matches!(request, Request::Exit)
-}
-
-impl Script {
-    /// Whether the process makes its exit in the script. It looks through all lines.
-    pub fn has_exited(&self, pid: Pid) -> bool
-        ensures { result ≡ has_exited (plan_of self.now).lines pid.0 }
-    {
-        self.lines
-            .iter()
-            .any(|line| line.pid == pid && is_exit(&line.request))
-    }
 }

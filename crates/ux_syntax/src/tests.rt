@@ -1,9 +1,14 @@
 use super::*;
+use bstr::BString;
 use std::alloc::Global;
 use std::io;
 use std::io::Read;
 use std::test::*;
-use ux_types::{Bytes, Entry, Errno, Fd, MsgFlags, OpenFlags, Pid, Reply, Request, SockType};
+use ux_object::ObjKind;
+use ux_types::{
+    Bytes, Entry, Errno, Fd, Mode, MsgFlags, Name, OpenFlags, Pid, Released, Reply, Request,
+    SockType, Whence,
+};
 
 /// The text of the fault of a script, or none if it is read.
 fn fault_of(alloc: Global, text: &[u8]) -> Result<String, Fail> {
@@ -11,6 +16,22 @@ fn fault_of(alloc: Global, text: &[u8]) -> Result<String, Fail> {
         Ok(_) => Ok(String::new(alloc)),
         Err(fault) => Ok(fault.to_string(alloc)?),
     }
+}
+
+fn name_of(alloc: Global, bytes: &[u8]) -> Result<Name, Fail> {
+    Ok(Name::new(BString::new(Vec::from_slice(alloc, bytes)?)))
+}
+
+fn bytes_of(alloc: Global, bytes: &[u8]) -> Result<Bytes, Fail> {
+    Ok(Bytes::new(Vec::from_slice(alloc, bytes)?))
+}
+
+/// The request that a call of a script asks for.
+fn request_in(alloc: Global, call: &str) -> Result<Request, Fail> {
+    let text = format!(in alloc; "proc 0 0 0 1\n1 {call}")?;
+    let mut script = parse_script(alloc, text.as_bytes())?;
+    let line = script.lines.pop().ok_or("no call")?;
+    Ok(line.request)
 }
 
 #[test]
@@ -48,8 +69,6 @@ fn a_script_is_read(rt: HostRuntime) -> Result<(), Fail> {
         assert_eq!(rt; line.pid.0, pids[index], "at {index}");
         assert!(rt; line.request == requests[index], "at {index}");
     }
-    assert!(rt; script.has_exited(Pid(1)));
-    assert!(rt; !script.has_exited(Pid(2)));
     Ok(())
 }
 
@@ -61,7 +80,7 @@ fn bad_lines_are_told(rt: HostRuntime) -> Result<(), Fail> {
         ("proc 0 0 0 1\n1 exit\n", ""),
         ("proc 0 0 0 1\n1 exit", ""),
         ("1 read 0", "line 1: bad line"),
-        ("1 read 0 4", "line 1: bad line"),
+        ("1 read 0 4", "line 1: unknown process"),
         ("1 close 0", "line 1: unknown process"),
         ("1 close", "line 1: bad line"),
         ("proc 0 0 0 1\n0 close 0", "line 2: unknown process"),
@@ -118,14 +137,270 @@ fn bad_calls_are_told(rt: HostRuntime) -> Result<(), Fail> {
         "1 recv 1 1 1 e",
         "1 recv 1 1 1",
         "1 wait 1 1",
-        "off",
-        "object p:f mem -",
+        "1 off",
+        "off x",
+        "off ",
+        " off",
+        "off\noff",
+        "off\n1 close 0",
+        "off\n9 close 0",
+        "off\nproc 0 0 0 1",
+        "off\nobject p:f pipe",
     ] {
         let text = format!(in rt.alloc(); "proc 0 0 0 1\n{call}")?;
         let line = if call.contains('\n') { 3 } else { 2 };
         let told = fault_of(rt.alloc(), text.as_bytes())?;
         let fault = format!(in rt.alloc(); "line {line}: bad line")?;
         assert_eq!(rt; told.as_str(), fault.as_str(), "{call}");
+    }
+    Ok(())
+}
+
+#[test]
+fn bad_calls_on_files_are_told(rt: HostRuntime) -> Result<(), Fail> {
+    for call in [
+        "open u r -",
+        "open a:x r -",
+        "open f r -",
+        "open p r -",
+        "open p:%61 r -",
+        "open p:%7e r -",
+        "open p:%2 r -",
+        "open p:% r -",
+        "open p:%FF r -",
+        "open p:%zz r -",
+        "open p:\u{7f} r -",
+        "open p:\t r -",
+        "open p:\u{e9} r -",
+        "open p:x wr -",
+        "open p:x R -",
+        "open p:x - -",
+        "open p:x r d",
+        "open p:x r",
+        "open p:x r - -",
+        "read 0",
+        "read 0 -1",
+        "read 0 4 4",
+        "read -1 4",
+        "write 0",
+        "write 0 6",
+        "write 0 - -",
+        "lseek 0 0",
+        "lseek 0 0 SET",
+        "lseek 0 0 here",
+        "lseek 0 0 set 0",
+        "dup",
+        "dup -",
+        "dup 0 1",
+        "dup2 0",
+        "dup2 0 1 2",
+        "flags 0",
+        "flags 0 xa",
+        "flags 0 - -",
+        "unlink",
+        "unlink u",
+        "unlink a:x",
+        "unlink p:x -",
+    ] {
+        let text = format!(in rt.alloc(); "proc 0 0 0 1\n1 {call}")?;
+        let told = fault_of(rt.alloc(), text.as_bytes())?;
+        assert_eq!(rt; told.as_str(), "line 2: bad line", "{call}");
+    }
+    Ok(())
+}
+
+#[test]
+fn calls_on_files_are_read(rt: HostRuntime) -> Result<(), Fail> {
+    let fd = Fd(3);
+    for (call, request) in [
+        (
+            "open p:f rw anx",
+            Request::Open {
+                path: name_of(rt.alloc(), b"f")?,
+                mode: Mode::Both,
+                flags: OpenFlags(7),
+            },
+        ),
+        (
+            "open p:log w a",
+            Request::Open {
+                path: name_of(rt.alloc(), b"log")?,
+                mode: Mode::Write,
+                flags: OpenFlags::APPEND,
+            },
+        ),
+        (
+            "open p: r -",
+            Request::Open {
+                path: name_of(rt.alloc(), b"")?,
+                mode: Mode::Read,
+                flags: OpenFlags(0),
+            },
+        ),
+        ("read 3 4294967295", Request::Read { fd, n: 4294967295 }),
+        (
+            "write 3 00ff",
+            Request::Write {
+                fd,
+                bytes: bytes_of(rt.alloc(), &[0, 0xff])?,
+            },
+        ),
+        (
+            "write 3 -",
+            Request::Write {
+                fd,
+                bytes: bytes_of(rt.alloc(), b"")?,
+            },
+        ),
+        ("dup 3", Request::Dup { fd }),
+        ("dup2 3 9", Request::Dup2 { fd, to: Fd(9) }),
+        (
+            "flags 3 nx",
+            Request::SetFlags {
+                fd,
+                flags: OpenFlags(6),
+            },
+        ),
+        (
+            "unlink p:f",
+            Request::Unlink {
+                path: name_of(rt.alloc(), b"f")?,
+            },
+        ),
+    ] {
+        let read = request_in(rt.alloc(), call)?;
+        assert!(rt; read == request, "{call}");
+    }
+    Ok(())
+}
+
+#[test]
+fn names_are_read(rt: HostRuntime) -> Result<(), Fail> {
+    for (text, bytes) in [
+        ("a", b"a".as_slice()),
+        ("!~", &[0x21, 0x7e]),
+        ("#p:", b"#p:".as_slice()),
+        ("%20", b" ".as_slice()),
+        ("%25", b"%".as_slice()),
+        ("%7f", &[0x7f]),
+        ("a%00%ffz", &[b'a', 0, 0xff, b'z']),
+        ("%e2%82%ac", &[0xe2, 0x82, 0xac]),
+    ] {
+        let call = format!(in rt.alloc(); "unlink p:{text}")?;
+        let read = request_in(rt.alloc(), &call)?;
+        let path = name_of(rt.alloc(), bytes)?;
+        assert!(rt; read == Request::Unlink { path }, "{text}");
+    }
+    Ok(())
+}
+
+#[test]
+fn offsets_are_read(rt: HostRuntime) -> Result<(), Fail> {
+    for (text, offset) in [
+        ("0", 0),
+        ("1", 1),
+        ("-1", -1),
+        ("10", 10),
+        ("-9223372036854775808", i64::MIN),
+        ("9223372036854775807", i64::MAX),
+    ] {
+        for (word, whence) in [
+            ("set", Whence::Set),
+            ("cur", Whence::Cur),
+            ("end", Whence::End),
+        ] {
+            let call = format!(in rt.alloc(); "lseek 0 {text} {word}")?;
+            let read = request_in(rt.alloc(), &call)?;
+            let fd = Fd(0);
+            assert!(rt; read == Request::Lseek { fd, offset, whence }, "{call}");
+        }
+    }
+    for text in [
+        "-0",
+        "00",
+        "01",
+        "-01",
+        "+1",
+        "-",
+        "--1",
+        "1-",
+        "9223372036854775808",
+        "-9223372036854775809",
+        "99999999999999999999",
+    ] {
+        let call = format!(in rt.alloc(); "proc 0 0 0 1\n1 lseek 0 {text} set")?;
+        let told = fault_of(rt.alloc(), call.as_bytes())?;
+        assert_eq!(rt; told.as_str(), "line 2: bad line", "{text}");
+    }
+    Ok(())
+}
+
+#[test]
+fn a_header_is_read(rt: HostRuntime) -> Result<(), Fail> {
+    let text =
+        b"object p:f mem 6869\nproc 0 0 0 16\nobject p:c counter\n# more\nobject p:%20 pipe\nproc 7 1 1 1\nobject p:e mem -\n1 exit\n";
+    let script = parse_script(rt.alloc(), text.as_slice())?;
+    assert_eq!(rt; script.procs.len(), 2);
+    assert_eq!(rt; script.procs[1].uid, 7);
+    assert_eq!(rt; script.lines.len(), 1);
+    let objects = [
+        (b"f".as_slice(), ObjKind::Memory, b"hi".as_slice()),
+        (b"c".as_slice(), ObjKind::Counter, b"".as_slice()),
+        (b" ".as_slice(), ObjKind::Pipe, b"".as_slice()),
+        (b"e".as_slice(), ObjKind::Memory, b"".as_slice()),
+    ];
+    assert_eq!(rt; script.objects.len(), objects.len());
+    for (index, object) in script.objects.iter().enumerate() {
+        let (name, kind, body) = objects[index];
+        assert!(rt; object.name.as_bytes() == name, "at {index}");
+        assert!(rt; object.kind == kind, "at {index}");
+        assert!(rt; object.body.as_slice() == body, "at {index}");
+    }
+    Ok(())
+}
+
+#[test]
+fn bad_headers_are_told(rt: HostRuntime) -> Result<(), Fail> {
+    for line in [
+        "object",
+        "object p:f",
+        "object p:f mem",
+        "object p:f mem 6",
+        "object p:f mem 6A",
+        "object p:f mem - -",
+        "object p:f counter -",
+        "object p:f pipe 00",
+        "object p:f disk",
+        "object p:f Mem -",
+        "object f mem -",
+        "object a:f mem -",
+        "object p:%66 mem -",
+        "object  p:f pipe",
+        "objects p:f pipe",
+        "1 close 0\nobject p:f mem -",
+        "1 close 0\nproc 0 0 0 1",
+    ] {
+        let text = format!(in rt.alloc(); "proc 0 0 0 1\n{line}")?;
+        let number = if line.contains('\n') { 3 } else { 2 };
+        let told = fault_of(rt.alloc(), text.as_bytes())?;
+        let fault = format!(in rt.alloc(); "line {number}: bad line")?;
+        assert_eq!(rt; told.as_str(), fault.as_str(), "{line}");
+    }
+    Ok(())
+}
+
+#[test]
+fn off_comes_last(rt: HostRuntime) -> Result<(), Fail> {
+    for (text, off) in [
+        ("", false),
+        ("proc 0 0 0 1\n1 exit\n", false),
+        ("# off\n", false),
+        ("off", true),
+        ("off\n\n# the end\n", true),
+        ("object p:f mem -\nproc 0 0 0 1\n1 exit\noff\n", true),
+    ] {
+        let script = parse_script(rt.alloc(), text.as_bytes())?;
+        assert!(rt; script.off == off, "{text}");
     }
     Ok(())
 }
@@ -248,6 +523,125 @@ fn entries_are_printed(rt: HostRuntime) -> Result<(), Fail> {
             k: number as u64,
             request: request.clone()?,
             reply: reply.clone()?,
+            released: Released::new(),
+        };
+        let text = entry_text(rt.alloc(), number, &entry)?;
+        assert_eq!(rt; text.as_str(), line);
+    }
+    Ok(())
+}
+
+#[test]
+fn entries_of_files_are_printed(rt: HostRuntime) -> Result<(), Fail> {
+    let fd = Fd(3);
+    let read = Request::Read { fd, n: 8 };
+    for (request, reply, line) in [
+        (
+            Request::Open {
+                path: name_of(rt.alloc(), b"f")?,
+                mode: Mode::Both,
+                flags: OpenFlags(0),
+            },
+            Reply::Fd(fd),
+            "5 1 7 open = fd 3\n",
+        ),
+        (
+            read.clone()?,
+            Reply::Bytes(bytes_of(rt.alloc(), b"hi")?),
+            "5 1 7 read = bytes 6869\n",
+        ),
+        (
+            read,
+            Reply::Bytes(bytes_of(rt.alloc(), b"")?),
+            "5 1 7 read = bytes -\n",
+        ),
+        (
+            Request::Write {
+                fd,
+                bytes: bytes_of(rt.alloc(), b"hi")?,
+            },
+            Reply::Count(2),
+            "5 1 7 write = n 2\n",
+        ),
+        (
+            Request::Lseek {
+                fd,
+                offset: -1,
+                whence: Whence::End,
+            },
+            Reply::At(9223372036854775807),
+            "5 1 7 lseek = at 9223372036854775807\n",
+        ),
+        (
+            Request::Dup { fd },
+            Reply::Fd(Fd(1023)),
+            "5 1 7 dup = fd 1023\n",
+        ),
+        (
+            Request::Dup2 { fd, to: Fd(9) },
+            Reply::Fd(Fd(9)),
+            "5 1 7 dup2 = fd 9\n",
+        ),
+        (
+            Request::SetFlags {
+                fd,
+                flags: OpenFlags(1),
+            },
+            Reply::Ok,
+            "5 1 7 flags = ok\n",
+        ),
+        (
+            Request::Unlink {
+                path: name_of(rt.alloc(), b"f")?,
+            },
+            Reply::Err(Errno::ENOENT),
+            "5 1 7 unlink = err ENOENT\n",
+        ),
+    ] {
+        let entry = Entry {
+            pid: Pid(1),
+            k: 7,
+            request,
+            reply,
+            released: Released::new(),
+        };
+        let text = entry_text(rt.alloc(), 5, &entry)?;
+        assert_eq!(rt; text.as_str(), line);
+    }
+    Ok(())
+}
+
+#[test]
+fn closed_objects_are_printed(rt: HostRuntime) -> Result<(), Fail> {
+    let mut one = Released::new();
+    one.push(0);
+    let mut three = Released::new();
+    three.push(2);
+    three.push(10);
+    three.push(63);
+    for (number, pid, request, released, line) in [
+        (
+            14,
+            1,
+            Request::Close { fd: Fd(0) },
+            one,
+            "14 1 14 close = ok closed 0\n",
+        ),
+        (
+            15,
+            0,
+            Request::Off,
+            three,
+            "15 0 15 off = ok closed 2 10 63\n",
+        ),
+        (16, 2, Request::Exit, Released::new(), "16 2 16 exit = ok\n"),
+    ] {
+        let entry = Entry {
+            pid: Pid(pid),
+            k: number as u64,
+            request,
+            reply: Reply::Ok,
+            released,
         };
         let text = entry_text(rt.alloc(), number, &entry)?;
         assert_eq!(rt; text.as_str(), line);
@@ -264,6 +658,7 @@ fn faults_have_their_texts(rt: HostRuntime) -> Result<(), Fail> {
         (ScriptFault::Reading, "reading failed"),
         (ScriptFault::Writing, "writing failed"),
         (ScriptFault::NoMemory, "out of memory"),
+        (ScriptFault::Stranger, "stranger"),
     ] {
         let told = fault.to_string(rt.alloc())?;
         assert_eq!(rt; told.as_str(), text);

@@ -1,7 +1,7 @@
 //! The text of a history.
 
 ghost use Rattle.std.specs.Prelude.{◌≡◌, IfOk, Some, map, string_bytes};
-ghost use Rattle.ux_syntax.specs.Trace.{hex, flags_text, received_flags_text, errno_text, reply_text, entry_line};
+ghost use Rattle.ux_syntax.specs.Trace.{hex, flags_text, received_flags_text, errno_text, reply_text, closed_text, entry_line};
 
 use crate::calls::CallWord;
 use bitflags::Flags;
@@ -110,12 +110,21 @@ impl fmt::Display for ReplyText<'_> {
     fn fmt<W: fmt::Write>(&self, f: &mut fmt::Formatter<W>) -> fmt::Result {
         match self.0 {
             Reply::Ok => write!(f, "ok"),
+            Reply::Fd(fd) => {
+                let fd = fd.0;
+                write!(f, "fd {fd}")
+            }
             Reply::Fds(first, second) => {
                 let first = first.0;
                 let second = second.0;
                 write!(f, "fds {first} {second}")
             }
             Reply::Count(count) => write!(f, "n {count}"),
+            Reply::Bytes(bytes) => {
+                let bytes = Hex(bytes.as_slice());
+                write!(f, "bytes {bytes}")
+            }
+            Reply::At(offset) => write!(f, "at {offset}"),
             Reply::Received {
                 count,
                 bytes,
@@ -133,8 +142,29 @@ impl fmt::Display for ReplyText<'_> {
     }
 }
 
-/// The line of a history's entry, with its line feed: `N PID K WORD = REPLY`. The number is the
-/// entry's place in the history, counted from 0.
+/// The file objects that were closed at the end of a call, or nothing where none was.
+#[derive(Clone, Copy)]
+struct Closed<'a>(&'a [u32]);
+
+impl fmt::Display for Closed<'_> {
+    ghost output = { λ c. Some (closed_text c.0.now) };
+
+    fn fmt<W: fmt::Write>(&self, f: &mut fmt::Formatter<W>) -> fmt::Result {
+        if self.0.is_empty() {
+            return Ok(());
+        }
+        write!(f, " closed")?;
+        for number in self.0 {
+            let number = *number;
+            write!(f, " {number}")?;
+        }
+        Ok(())
+    }
+}
+
+/// The line of a history's entry, with its line feed: `N PID K WORD = REPLY`, and behind that ` closed`
+/// and their numbers where file objects were closed. The number is the entry's place in the history,
+/// counted from 0.
 pub fn entry_text(alloc: Global, number: usize, entry: &Entry) -> Result<String, AllocError>
     ensures { IfOk result (λ text. string_bytes text ≡ entry_line number entry.now) }
 {
@@ -142,5 +172,6 @@ pub fn entry_text(alloc: Global, number: usize, entry: &Entry) -> Result<String,
     let k = entry.k;
     let word = CallWord::of(&entry.request).text();
     let reply = ReplyText(&entry.reply);
-    format!(in alloc; "{number} {pid} {k} {word} = {reply}\n")
+    let closed = Closed(entry.released.as_slice());
+    format!(in alloc; "{number} {pid} {k} {word} = {reply}{closed}\n")
 }

@@ -1,17 +1,16 @@
-//! Words of a line: numbers, bytes and flags. Each function of one word has its counterpart that takes
-//! the first of several words and gives those after it too.
+//! Words of a line: numbers, bytes, flags, and words from a small choice.
 
-ghost use Rattle.std.specs.Prelude.{◌≡◌, ◌<◌, IfOk, map, not, Ok};
+ghost use Rattle.std.specs.Prelude.{◌≡◌, ◌<◌, IfOk, not};
 ghost use Rattle.std.specs.List.{list_all};
 ghost use Rattle.std.specs.Char.{is_ascii_digit};
-ghost use Rattle.ux_syntax.specs.Spelling.{bare};
-ghost use Rattle.ux_syntax.specs.Reading.{is_plain, number_at, digit_at, pairs_at, hex_at, exactly, dash_at, control_at, bit_at, flag_at, open_flags_at, msg_flags_at, one, ends};
+ghost use Rattle.ux_syntax.specs.Reading.{is_plain, number_at, without_minus, offset_at, digit_at, pairs_at, hex_at, bit_at, mode_at, whence_at, kind_at, flag_at, open_flags_at, msg_flags_at};
 ghost use Rattle.ux_syntax.specs.Results.{Gives};
 
 use crate::fault::{BAD, LineError};
 use std::alloc::Global;
 use std::str;
-use ux_types::{Bytes, MsgFlags, OpenFlags};
+use ux_object::ObjKind;
+use ux_types::{Mode, MsgFlags, OpenFlags, Whence};
 
 /// Whether a word is empty or begins with a 0 that more follows.
 fn has_no_form(word: &[u8]) -> bool
@@ -46,7 +45,34 @@ pub(crate) fn number_of(word: &[u8]) -> Result<u32, LineError>
     }
 }
 
-fn digit_of(byte: u8) -> Result<u8, LineError>
+/// A word without the `-` that it begins with, if any.
+fn without_minus(word: &[u8]) -> &[u8]
+    ensures { result.now ≡ without_minus word.now }
+{
+    match word {
+        [first, rest @ ..] if *first == b'-' => rest,
+        _ => word,
+    }
+}
+
+/// The offset that a word spells: digits without leading zeros, behind a `-` below 0.
+pub(crate) fn offset_of(word: &[u8]) -> Result<i64, LineError>
+    ensures { Gives (λ z. z) result (offset_at word.now) }
+{
+    let digits = without_minus(word);
+    if has_no_form(digits) || !all_digits(digits) || word == b"-0".as_slice() {
+        return Err(BAD);
+    }
+    let Ok(text) = str::from_utf8(word) else {
+        return Err(BAD);
+    };
+    match text.parse::<i64>() {
+        Ok(offset) => Ok(offset),
+        Err(_) => Err(BAD),
+    }
+}
+
+pub(crate) fn digit_of(byte: u8) -> Result<u8, LineError>
     ensures exact { Gives (λ n. n) result (digit_at byte) }
     ensures small { IfOk result (λ n. n < 16) }
 {
@@ -73,7 +99,7 @@ fn pairs_of(alloc: Global, digits: &[u8]) -> Result<Vec<u8>, LineError>
 
 /// The bytes that a word spells: pairs of digits, or `-` for none.
 #[tactic(auto, unfolding(crate::specs::Reading::hex_at))]
-fn hex_of(alloc: Global, word: &[u8]) -> Result<Vec<u8>, LineError>
+pub(crate) fn hex_of(alloc: Global, word: &[u8]) -> Result<Vec<u8>, LineError>
     ensures { Gives (λ bytes. bytes.items) result (hex_at word.now) }
 {
     if word.is_empty() {
@@ -85,13 +111,59 @@ fn hex_of(alloc: Global, word: &[u8]) -> Result<Vec<u8>, LineError>
     pairs_of(alloc, word)
 }
 
-fn bit_of(word: &[u8]) -> Result<bool, LineError>
+pub(crate) fn bit_of(word: &[u8]) -> Result<bool, LineError>
     ensures { Gives (λ b. b) result (bit_at word.now) }
 {
     if word == b"0".as_slice() {
         Ok(false)
     } else if word == b"1".as_slice() {
         Ok(true)
+    } else {
+        Err(BAD)
+    }
+}
+
+/// What a file is to be open for.
+#[tactic(auto, unfolding(crate::specs::Reading::mode_at))]
+pub(crate) fn mode_of(word: &[u8]) -> Result<Mode, LineError>
+    ensures { Gives (λ m. m) result (mode_at word.now) }
+{
+    if word == b"r".as_slice() {
+        Ok(Mode::Read)
+    } else if word == b"w".as_slice() {
+        Ok(Mode::Write)
+    } else if word == b"rw".as_slice() {
+        Ok(Mode::Both)
+    } else {
+        Err(BAD)
+    }
+}
+
+#[tactic(auto, unfolding(crate::specs::Reading::whence_at))]
+pub(crate) fn whence_of(word: &[u8]) -> Result<Whence, LineError>
+    ensures { Gives (λ w. w) result (whence_at word.now) }
+{
+    if word == b"set".as_slice() {
+        Ok(Whence::Set)
+    } else if word == b"cur".as_slice() {
+        Ok(Whence::Cur)
+    } else if word == b"end".as_slice() {
+        Ok(Whence::End)
+    } else {
+        Err(BAD)
+    }
+}
+
+#[tactic(auto, unfolding(crate::specs::Reading::kind_at))]
+pub(crate) fn kind_of(word: &[u8]) -> Result<ObjKind, LineError>
+    ensures { Gives (λ k. k) result (kind_at word.now) }
+{
+    if word == b"mem".as_slice() {
+        Ok(ObjKind::Memory)
+    } else if word == b"counter".as_slice() {
+        Ok(ObjKind::Counter)
+    } else if word == b"pipe".as_slice() {
+        Ok(ObjKind::Pipe)
     } else {
         Err(BAD)
     }
@@ -109,7 +181,7 @@ fn flag_of(letter: u8, bits: u8, word: &[u8]) -> (u8, &[u8])
 
 /// The flags of an open file description that a word spells: letters of `anx`, or `-` for none.
 #[tactic(auto, unfolding(crate::specs::Reading::open_flags_at))]
-fn open_flags_of(word: &[u8]) -> Result<OpenFlags, LineError>
+pub(crate) fn open_flags_of(word: &[u8]) -> Result<OpenFlags, LineError>
     ensures { Gives (λ flags. flags) result (open_flags_at word.now) }
 {
     if word.is_empty() {
@@ -130,7 +202,7 @@ fn open_flags_of(word: &[u8]) -> Result<OpenFlags, LineError>
 
 /// The flags of a send or receive that a word spells: letters of `dptx`, or `-` for none.
 #[tactic(auto, unfolding(crate::specs::Reading::msg_flags_at))]
-fn msg_flags_of(word: &[u8]) -> Result<MsgFlags, LineError>
+pub(crate) fn msg_flags_of(word: &[u8]) -> Result<MsgFlags, LineError>
     ensures { Gives (λ flags. flags) result (msg_flags_at word.now) }
 {
     if word.is_empty() {
@@ -148,83 +220,4 @@ fn msg_flags_of(word: &[u8]) -> Result<MsgFlags, LineError>
     } else {
         Err(BAD)
     }
-}
-
-// ---- the first of several words, and those after it
-
-pub(crate) fn next<'a>(words: &'a [&'a [u8]]) -> Result<(&'a [u8], &'a [&'a [u8]]), LineError>
-    ensures { Gives (λ x. (x.0.now, map (λ w. w.now) x.1.now)) result (one (λ w. Ok w) (map (λ w. w.now) words.now)) }
-{
-    match words {
-        [word, rest @ ..] => Ok((*word, rest)),
-        [] => Err(BAD),
-    }
-}
-
-pub(crate) fn number<'a>(words: &'a [&'a [u8]]) -> Result<(u32, &'a [&'a [u8]]), LineError>
-    ensures { Gives (λ x. (x.0, map (λ w. w.now) x.1.now)) result (one number_at (map (λ w. w.now) words.now)) }
-{
-    let (word, rest) = next(words)?;
-    Ok((number_of(word)?, rest))
-}
-
-pub(crate) fn hex<'a>(
-    alloc: Global,
-    words: &'a [&'a [u8]],
-) -> Result<(Bytes, &'a [&'a [u8]]), LineError>
-    ensures { Gives (λ x. (x.0, map (λ w. w.now) x.1.now)) result (one hex_at (map (λ w. w.now) words.now)) }
-{
-    let (word, rest) = next(words)?;
-    Ok((Bytes::new(hex_of(alloc, word)?), rest))
-}
-
-pub(crate) fn bit<'a>(words: &'a [&'a [u8]]) -> Result<(bool, &'a [&'a [u8]]), LineError>
-    ensures { Gives (λ x. (x.0, map (λ w. w.now) x.1.now)) result (one bit_at (map (λ w. w.now) words.now)) }
-{
-    let (word, rest) = next(words)?;
-    Ok((bit_of(word)?, rest))
-}
-
-pub(crate) fn open_flags<'a>(
-    words: &'a [&'a [u8]],
-) -> Result<(OpenFlags, &'a [&'a [u8]]), LineError>
-    ensures { Gives (λ x. (x.0, map (λ w. w.now) x.1.now)) result (one open_flags_at (map (λ w. w.now) words.now)) }
-{
-    let (word, rest) = next(words)?;
-    Ok((open_flags_of(word)?, rest))
-}
-
-pub(crate) fn msg_flags<'a>(words: &'a [&'a [u8]]) -> Result<(MsgFlags, &'a [&'a [u8]]), LineError>
-    ensures { Gives (λ x. (x.0, map (λ w. w.now) x.1.now)) result (one msg_flags_at (map (λ w. w.now) words.now)) }
-{
-    let (word, rest) = next(words)?;
-    Ok((msg_flags_of(word)?, rest))
-}
-
-/// Passes a word that has to be this one.
-#[tactic(auto, unfolding(crate::specs::Reading::exactly))]
-pub(crate) fn pass<'a>(text: &[u8], words: &'a [&'a [u8]]) -> Result<&'a [&'a [u8]], LineError>
-    ensures { Gives (λ x. (tt, map (λ w. w.now) x.now)) result (one (exactly text.now) (map (λ w. w.now) words.now)) }
-{
-    let (word, rest) = next(words)?;
-    if word == text { Ok(rest) } else { Err(BAD) }
-}
-
-/// Passes control data, of which there is one writing: `-`, for none.
-#[tactic(auto, unfolding(crate::specs::Reading::exactly))]
-pub(crate) fn control<'a>(words: &'a [&'a [u8]]) -> Result<&'a [&'a [u8]], LineError>
-    ensures { Gives (λ x. (bare, map (λ w. w.now) x.now)) result (one control_at (map (λ w. w.now) words.now)) }
-{
-    let (word, rest) = next(words)?;
-    if word == b"-".as_slice() {
-        Ok(rest)
-    } else {
-        Err(BAD)
-    }
-}
-
-pub(crate) fn end(words: &[&[u8]]) -> Result<(), LineError>
-    ensures { Gives (λ x. x) result (ends (map (λ w. w.now) words.now)) }
-{
-    if words.is_empty() { Ok(()) } else { Err(BAD) }
 }

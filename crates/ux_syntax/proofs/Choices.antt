@@ -1,0 +1,68 @@
+-- A word that is the text of one of several values.
+use Rattle.std.proofs.Common.{◌≡◌, ℕ, Bool, true, false, cond, ltb, List, [], ◌∷◌, Ok, refl, subst}
+use Rattle.std.specs.Prelude.{Option, Some, None}
+use Rattle.std.specs.List.{find, list_all}
+use Rattle.std.specs.Str.{bytes_eq}
+use Rattle.std.proofs.lemmas.Slice.Eq.{bytes_eq-Decides}
+use Rattle.ux_model.specs.Types.{Mode, Whence}
+use Rattle.ux_object.specs.declared.ObjKind.{ObjKind}
+use Rattle.ux_syntax.specs.Spelling.{mode_text, whence_text, kind_text}
+use Rattle.ux_syntax.specs.Reading.{or_bad, chosen_at, mode_at, whence_at, kind_at}
+use Rattle.ux_syntax.proofs.Rows.{IsBadOrOk, IsKind, ok_is, solid_from}
+
+head_or_tail : {X : Type 0} (p : X → Bool) (y : X) (ys : List X) (x : X) (b : Bool) → p y ≡ b → (or_bad (find p ys) ≡ Ok x → p x ≡ true) → or_bad (cond b (Some y) (find p ys)) ≡ Ok x → p x ≡ true
+head_or_tail p y ys x true h tail e = subst (λ z. p z ≡ true) (ok_is y x e) h
+head_or_tail p y ys x false h tail e = tail e
+
+found_passes : {X : Type 0} (p : X → Bool) (xs : List X) (x : X) → or_bad (find p xs) ≡ Ok x → p x ≡ true
+found_passes p [] x e = absurd cc
+found_passes p (y ∷ ys) x e = head_or_tail p y ys x (p y) refl (found_passes p ys x) e
+
+pub chosen_takes : {X : Type 0} (text : X → List ℕ) (all : List X) (w : List ℕ) (x : X) → chosen_at text all w ≡ Ok x → w ≡ text x
+chosen_takes text all w x e = (bytes_eq-Decides w (text x)).0 (found_passes (λ y. bytes_eq w (text y)) all x e)
+
+or_bad_bad : {A : Type 0} (o : Option A) → IsBadOrOk (or_bad o)
+or_bad_bad None = refl
+or_bad_bad (Some x) = tt
+
+pub chosen_bad : {X : Type 0} (text : X → List ℕ) (all : List X) (w : List ℕ) → IsBadOrOk (chosen_at text all w)
+chosen_bad text all w = or_bad_bad (find (λ x. bytes_eq w (text x)) all)
+
+-- each value is found by its text, which has no blank
+abbrev IsChosen : {X : Type 0} → (X → List ℕ) → List X → X → Type 0
+IsChosen text all x = (chosen_at text all (text x) ≡ Ok x) × (list_all (λ b. ltb 32 b) (text x) ≡ true)
+
+chosen_kind : {X : Type 0} (text : X → List ℕ) (all : List X) → ((x : X) → IsChosen text all x) → IsKind (chosen_at text all) text (λ _. Unit {0})
+chosen_kind text all facts = record {
+  takes = λ w x e. (chosen_takes text all w x e, tt);
+  bad = chosen_bad text all;
+  again = λ x f. (facts x).0;
+  solid = λ x f. solid_from (text x) (facts x).1;
+}
+
+each_mode : (m : Mode) → IsChosen mode_text (Mode.Read ∷ Mode.Write ∷ Mode.Both ∷ []) m
+each_mode Mode.Read = (refl, refl)
+each_mode Mode.Write = (refl, refl)
+each_mode Mode.Both = (refl, refl)
+
+pub mode_kind : IsKind mode_at mode_text (λ _. Unit {0})
+unfolding mode_at
+mode_kind = chosen_kind mode_text (Mode.Read ∷ Mode.Write ∷ Mode.Both ∷ []) each_mode
+
+each_whence : (w : Whence) → IsChosen whence_text (Whence.Set ∷ Whence.Cur ∷ Whence.End ∷ []) w
+each_whence Whence.Set = (refl, refl)
+each_whence Whence.Cur = (refl, refl)
+each_whence Whence.End = (refl, refl)
+
+pub whence_kind : IsKind whence_at whence_text (λ _. Unit {0})
+unfolding whence_at
+whence_kind = chosen_kind whence_text (Whence.Set ∷ Whence.Cur ∷ Whence.End ∷ []) each_whence
+
+each_kind : (k : ObjKind) → IsChosen kind_text (ObjKind.Memory ∷ ObjKind.Counter ∷ ObjKind.Pipe ∷ []) k
+each_kind ObjKind.Memory = (refl, refl)
+each_kind ObjKind.Counter = (refl, refl)
+each_kind ObjKind.Pipe = (refl, refl)
+
+pub kind_kind : IsKind kind_at kind_text (λ _. Unit {0})
+unfolding kind_at
+kind_kind = chosen_kind kind_text (ObjKind.Memory ∷ ObjKind.Counter ∷ ObjKind.Pipe ∷ []) each_kind

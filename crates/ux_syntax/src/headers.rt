@@ -1,0 +1,58 @@
+//! The header of a script: lines of file objects and of processes.
+
+ghost use Rattle.std.specs.Prelude.{◌≡◌, map};
+ghost use Rattle.ux_syntax.specs.Reading.{body_at, object_at, proc_at};
+ghost use Rattle.ux_syntax.specs.Results.{Gives};
+
+use crate::fault::LineError;
+use crate::row::{bit, end, hex, kind, number, path};
+use crate::script::ObjectLine;
+use std::alloc::Global;
+use ux_object::ObjKind;
+use ux_types::{Bytes, ProcSpec};
+
+/// What an object of this kind starts with: `HEX` for a memory file, and nothing for the others.
+fn body_of(alloc: Global, kind: ObjKind, words: &[&[u8]]) -> Result<Bytes, LineError>
+    ensures { Gives (λ b. b) result (body_at kind (map (λ w. w.now) words.now)) }
+{
+    match kind {
+        ObjKind::Memory => {
+            let (bytes, words) = hex(alloc, words)?;
+            end(words)?;
+            Ok(bytes)
+        }
+        ObjKind::Counter | ObjKind::Pipe => {
+            end(words)?;
+            Ok(Bytes::new(Vec::new(alloc)))
+        }
+    }
+}
+
+/// `object p:NAME mem HEX`, `object p:NAME counter` or `object p:NAME pipe`, without its first word.
+#[tactic(auto, unfolding(crate::specs::Reading::object_at))]
+pub(crate) fn object_of(alloc: Global, words: &[&[u8]]) -> Result<ObjectLine, LineError>
+    ensures { Gives (λ o. o) result (object_at (map (λ w. w.now) words.now)) }
+{
+    let (name, words) = path(alloc, words)?;
+    let (kind, words) = kind(words)?;
+    let body = body_of(alloc, kind, words)?;
+    Ok(ObjectLine { name, kind, body })
+}
+
+/// `proc UID GID PRIV LIMIT`, without its first word.
+#[tactic(auto, unfolding(crate::specs::Reading::proc_at))]
+pub(crate) fn proc_of(words: &[&[u8]]) -> Result<ProcSpec, LineError>
+    ensures { Gives (λ p. p) result (proc_at (map (λ w. w.now) words.now)) }
+{
+    let (uid, words) = number(words)?;
+    let (gid, words) = number(words)?;
+    let (privileged, words) = bit(words)?;
+    let (limit, words) = number(words)?;
+    end(words)?;
+    Ok(ProcSpec {
+        uid,
+        gid,
+        privileged,
+        limit,
+    })
+}

@@ -1,0 +1,64 @@
+//! Names and paths. A byte of a name that would be mistaken for the end of a word, or can't be printed,
+//! is written as `%` and two digits.
+
+ghost use Rattle.std.specs.Prelude.{◌≡◌};
+ghost use Rattle.ux_syntax.specs.Spelling.{stands};
+ghost use Rattle.ux_syntax.specs.Reading.{byte_at, escaped_at, name_at, path_at};
+ghost use Rattle.ux_syntax.specs.Results.{Gives};
+
+use crate::fault::{BAD, LineError};
+use crate::words::digit_of;
+use bstr::BString;
+use std::alloc::Global;
+use ux_types::Name;
+
+/// Whether a byte stands for itself in a name.
+fn stands(byte: u8) -> bool
+    ensures { result ≡ stands byte }
+{
+    (0x21..=0x7e).contains(&byte) && byte != b'%'
+}
+
+/// The byte that two digits spell, which must be one that doesn't stand for itself.
+fn escaped_of(high: u8, low: u8) -> Result<u8, LineError>
+    ensures { Gives (λ b. b) result (escaped_at high low) }
+{
+    let high = digit_of(high)?;
+    let low = digit_of(low)?;
+    let byte = 16 * high + low;
+    if stands(byte) { Err(BAD) } else { Ok(byte) }
+}
+
+/// The first byte of a name, and what follows its spelling.
+fn byte_of(text: &[u8]) -> Result<(u8, &[u8]), LineError>
+    ensures { Gives (λ x. (x.0, x.1.now)) result (byte_at text.now) }
+{
+    match text {
+        [first, high, low, rest @ ..] if *first == b'%' => Ok((escaped_of(*high, *low)?, rest)),
+        [first, rest @ ..] if stands(*first) => Ok((*first, rest)),
+        _ => Err(BAD),
+    }
+}
+
+fn name_of(alloc: Global, text: &[u8]) -> Result<Name, LineError>
+    ensures { Gives (λ name. name) result (name_at text.now) }
+{
+    let mut bytes = Vec::new(alloc);
+    let mut rest = text;
+    while !rest.is_empty() {
+        let (byte, after) = byte_of(rest)?;
+        bytes.push(byte)?;
+        rest = after;
+    }
+    Ok(Name::new(BString::new(bytes)))
+}
+
+/// The path that a word spells: `p:` and a name. Whether a file can have it is found where it is used.
+pub(crate) fn path_of(alloc: Global, word: &[u8]) -> Result<Name, LineError>
+    ensures { Gives (λ name. name) result (path_at word.now) }
+{
+    match word {
+        [first, second, name @ ..] if *first == b'p' && *second == b':' => name_of(alloc, name),
+        _ => Err(BAD),
+    }
+}
