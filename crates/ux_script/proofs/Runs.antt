@@ -1,65 +1,67 @@
 -- A run of a script as far as it has come.
-use Rattle.std.proofs.Common.{◌≡◌, ◌≢◌, ℕ, zero, suc, ◌+◌, ◌-◌, ◌<◌, ◌≤◌, Bool, true, false, not, ◌&&◌, ◌||◌, ◌==◌, List, [], ◌∷◌, ◌++◌, length, get_or, take, map, filter, Option, Some, None, refl, ap, sym, subst, ◌∙◌, append_assoc, add-one, arith, nat_lt, nat_le}
-use Rattle.std.specs.Prelude.{if◌then◌else◌}
-use Rattle.std.specs.List.{AllByRecursion, range_with_len, list_any, slice_get}
-use Rattle.std.proofs.lemmas.Bool.{eqb-true, eqb-false, ne_eqb, eq-eqb}
+use mathlib.Core.Bool.{and_comm, and-true, or_assoc, or-true, or-false}
+use Rattle.std.proofs.Common.{◌≡◌, ◌≢◌, ℕ, zero, suc, ◌+◌, ◌<◌, ◌≤◌, Bool, true, false, cond, not, ◌&&◌, ◌||◌, ◌==◌, ◌⊎◌, inl, inr, List, [], ◌∷◌, ◌++◌, length, get_or, take, map, filter, Some, None, refl, ap, sym, subst, ◌∙◌, append_assoc, add-one, arith}
+use Rattle.std.specs.Prelude.{if◌then◌else◌, Result, Ok, Err, OnOk, IfErr}
+use Rattle.std.specs.List.{AllByRecursion, range_with_len, slice_get, list_any}
+use Rattle.std.proofs.lemmas.Bool.{and_left, and_right, ne_eqb, eq-eqb, cases_lt}
 use Rattle.std.proofs.lemmas.List.{append-nil, map-append, take_more}
 use Rattle.std.proofs.lemmas.List.Elements.{filter-append}
-use Rattle.ux_model.specs.Types.{ProcSpec, Entry, Request}
+use Rattle.std.proofs.lemmas.List.Sums.{sum_by-cons}
+use Rattle.ux_model.specs.Types.{Pid, ProcSpec, Request, Entry}
 use Rattle.ux_model.specs.Process.{Process}
 use Rattle.ux_model.specs.State.{State, is_live}
-use Rattle.ux_model.specs.Boot.{IsBootState, new_process, boot_state}
+use Rattle.ux_model.specs.Boot.{IsBootState, new_process}
 use Rattle.ux_model.specs.History as history
-use Rattle.ux_model.specs.History.{IsLegal, replay}
+use Rattle.ux_model.specs.History.{IsLegal, replay, is_off, has_live}
 use Rattle.ux_model.proofs.Living.{lives_until_exit}
+use Rattle.ux_model.proofs.Appending.{legal_empty, legal_push}
+use Rattle.ux_history.specs.Books.{Held, state_of, may_call}
+use Rattle.ux_history.specs.declared.fault.CallFault.{CallFault}
 use Rattle.ux_syntax.specs.declared.script.Line.{Line}
-use Rattle.ux_syntax.specs.Spelling.{is_exit, IsOfProcess, IsQuiet, NoneAfterExit}
-use Rattle.ux_syntax.specs.Turns.{has_exited, exit_line}
-use Rattle.ux_script.specs.Runs.{line_of_entry}
+use Rattle.ux_syntax.specs.declared.script.Script.{Script}
+use Rattle.ux_syntax.specs.Spelling.{plan_of, is_exit, IsOfProcess, IsQuiet, NoneAfterExit, IsCall, IsOrderly}
+use Rattle.ux_syntax.specs.Turns.{has_exited, exit_line, off_line, all_turns}
+use Rattle.ux_script.specs.Runs.{line_of_entry, exits_of, Makes, MakesOne}
 
 -- ---- who lives
 
-boot_live : (procs : List ProcSpec) (p : ℕ) → 1 ≤ p → p ≤ length procs → is_live (boot_state procs) p ≡ true
-boot_live procs zero first last = absurd (omega (arith, first))
-boot_live procs (suc i) first last = go procs i (omega (arith, last))
+-- the processes of a boot state are those that the script wants
+boot_live : (boot : State) (procs : List ProcSpec) (p : ℕ) → boot.processes ≡ map new_process procs → 1 ≤ p → p ≤ length procs → is_live boot p ≡ true
+boot_live boot procs zero same first last = absurd (omega (arith, first))
+boot_live boot procs (suc i) same first last = ap (λ (Ps : List Process). elim (slice_get Ps i) as (λ _. Bool) [ Some P ↦ not P.exited | None ↦ false ]) same ∙ go procs i (omega (arith, last))
   where
     go : (ps : List ProcSpec) (i : ℕ) → i < length ps → (elim (slice_get (map new_process ps) i) as (λ _. Bool) [ Some P ↦ not P.exited | None ↦ false ]) ≡ true
     go [] i h = absurd (omega (arith, h))
     go (p ∷ ps) zero h = refl
     go (p ∷ ps) (suc i) h = go ps i (omega (arith, h))
 
-same_exit : (r : Request) → history.is_exit r ≡ is_exit r
-same_exit (Request.SocketPair kind flags) = refl
-same_exit (Request.SendMsg fd bytes flags) = refl
-same_exit (Request.RecvMsg fd n space flags) = refl
-same_exit (Request.Close fd) = refl
-same_exit Request.Exit = refl
-
-and_comm : (a b : Bool) → a && b ≡ b && a
-and_comm true true = refl
-and_comm true false = refl
-and_comm false true = refl
-and_comm false false = refl
+boot_past : (boot : State) (procs : List ProcSpec) (i : ℕ) → boot.processes ≡ map new_process procs → length procs ≤ i → is_live boot (suc i) ≡ false
+boot_past boot procs i same past = ap (λ (Ps : List Process). elim (slice_get Ps i) as (λ _. Bool) [ Some P ↦ not P.exited | None ↦ false ]) same ∙ go procs i past
+  where
+    go : (ps : List ProcSpec) (i : ℕ) → length ps ≤ i → (elim (slice_get (map new_process ps) i) as (λ _. Bool) [ Some P ↦ not P.exited | None ↦ false ]) ≡ false
+    go [] i h = refl
+    go (p ∷ ps) zero h = absurd (omega (arith, h))
+    go (p ∷ ps) (suc i) h = go ps i (omega (arith, h))
 
 -- an exit in the history is one among its lines
 exited_lines : (es : List Entry) (p : ℕ) → history.has_exited p es ≡ has_exited (map line_of_entry es) p
 exited_lines [] p = refl
-exited_lines (e ∷ es) p = (λ j. (ap (λ b. b && (e.pid.0 == p)) (same_exit e.request) ∙ and_comm (is_exit e.request) (e.pid.0 == p)) j || exited_lines es p j)
+exited_lines (e ∷ es) p = (λ j. and_comm (is_exit e.request) (e.pid.0 == p) j || exited_lines es p j)
 
 -- in a run that made these lines, a process lives until its exit is among them
-pub lives_by_lines : (procs : List ProcSpec) (es : List Entry) (lines : List Line) (p : ℕ) → IsLegal (boot_state procs) es → map line_of_entry es ≡ lines → 1 ≤ p → p ≤ length procs →
-    is_live (replay (boot_state procs) es) p ≡ not (has_exited lines p)
-lives_by_lines procs es lines p legal made first last =
-    lives_until_exit (boot_state procs) es p legal
-    ∙ (λ j. boot_live procs p first last j && not (exited_lines es p j))
+pub lives_by_lines : (boot : State) (procs : List ProcSpec) (es : List Entry) (lines : List Line) (p : ℕ) → boot.processes ≡ map new_process procs → IsLegal boot es → map line_of_entry es ≡ lines → 1 ≤ p → p ≤ length procs →
+    is_live (replay boot es) p ≡ not (has_exited lines p)
+lives_by_lines boot procs es lines p same legal made first last =
+    lives_until_exit boot es p legal
+    ∙ (λ j. boot_live boot procs p same first last j && not (exited_lines es p j))
     ∙ ap (λ ls. not (has_exited ls p)) made
 
 -- ---- the script's own calls
 
-of_process : (count i : ℕ) (lines : List Line) (line : Line) → AllByRecursion (IsOfProcess count) lines → i < length lines → line ≡ get_or lines i line → IsOfProcess count line
-of_process count i [] line all inside item = absurd (omega (arith, inside))
-of_process count zero (x ∷ xs) line all inside item = subst (IsOfProcess count) (sym item) all.0
-of_process count (suc i) (x ∷ xs) line all inside item = of_process count i xs line all.1 (omega (arith, inside)) item
+all_at : (P : Line → Type 0) (i : ℕ) (lines : List Line) (line : Line) → AllByRecursion P lines → i < length lines → line ≡ get_or lines i line → P line
+all_at P i [] line all inside item = absurd (omega (arith, inside))
+all_at P zero (x ∷ xs) line all inside item = subst P (sym item) all.0
+all_at P (suc i) (x ∷ xs) line all inside item = all_at P i xs line all.1 (omega (arith, inside)) item
 
 quiet_at : (p i : ℕ) (lines : List Line) (line : Line) → IsQuiet p lines → i < length lines → line ≡ get_or lines i line → line.pid.0 ≢ p
 quiet_at p i [] line quiet inside item = absurd (omega (arith, inside))
@@ -76,16 +78,16 @@ not_exited (suc i) (x ∷ xs) line none inside item =
     first : (b : Bool) → is_exit x.request ≡ b → ((x.pid.0 == line.pid.0) && is_exit x.request) ≡ false
     first true h =
         let other = quiet_at x.pid.0 i xs line (none.0 h) (omega (arith, inside)) item in
-        ap (λ b. b && is_exit x.request) (ne_eqb x.pid.0 line.pid.0 (λ g. other (sym g)))
-    first false h = ap (λ b. (x.pid.0 == line.pid.0) && b) h ∙ and_comm (x.pid.0 == line.pid.0) false
+        and_left _ _ (ne_eqb x.pid.0 line.pid.0 (λ g. other (sym g)))
+    first false h = and_right _ _ h
 
 -- the process of a line lives when the lines before it were made
-pub line_lives : (procs : List ProcSpec) (lines : List Line) (es : List Entry) (i : ℕ) (line : Line) → IsLegal (boot_state procs) es → map line_of_entry es ≡ take i lines →
+pub line_lives : (boot : State) (procs : List ProcSpec) (lines : List Line) (es : List Entry) (i : ℕ) (line : Line) → boot.processes ≡ map new_process procs → IsLegal boot es → map line_of_entry es ≡ take i lines →
     AllByRecursion (IsOfProcess (length procs)) lines → NoneAfterExit lines → i < length lines → line ≡ get_or lines i line →
-    is_live (replay (boot_state procs) es) line.pid.0 ≡ true
-line_lives procs lines es i line legal made all none inside item =
-    let here = of_process (length procs) i lines line all inside item in
-    lives_by_lines procs es (take i lines) line.pid.0 legal made here.0 here.1 ∙ ap not (not_exited i lines line none inside item)
+    is_live (replay boot es) line.pid.0 ≡ true
+line_lives boot procs lines es i line same legal made all none inside item =
+    let here = all_at (IsOfProcess (length procs)) i lines line all inside item in
+    lives_by_lines boot procs es (take i lines) line.pid.0 same legal made here.0 here.1 ∙ ap not (not_exited i lines line none inside item)
 
 pub line_made : (lines made : List Line) (i : ℕ) (line : Line) → i < length lines → line ≡ get_or lines i line → made ≡ take i lines → made ++ line ∷ [] ≡ take (i + 1) lines
 line_made lines made i line inside item so_far = ap (λ l. l ++ line ∷ []) so_far ∙ ap (λ x. take i lines ++ x ∷ []) item ∙ sym (take_more lines i line inside)
@@ -95,10 +97,6 @@ line_made lines made i line inside item so_far = ap (λ l. l ++ line ∷ []) so_
 range_suc : (a n : ℕ) → range_with_len a (suc n) ≡ range_with_len a n ++ (a + n) ∷ []
 range_suc a zero = ap (λ k. k ∷ []) (omega arith)
 range_suc a (suc n) = ap (λ ks. a ∷ ks) (range_suc (a + 1) n ∙ ap (λ k. range_with_len (a + 1) n ++ k ∷ []) (omega arith))
-
--- the exits of the first n processes that don't exit by themselves
-abbrev pub exits_of : List Line → ℕ → List Line
-exits_of lines n = map exit_line (filter (λ pid. not (has_exited lines pid)) (range_with_len 1 n))
 
 exits_more : (lines : List Line) (n : ℕ) → exits_of lines (n + 1) ≡ exits_of lines n ++ map exit_line (filter (λ pid. not (has_exited lines pid)) ((n + 1) ∷ []))
 exits_more lines n =
@@ -117,14 +115,6 @@ exit_there lines made n gone so_far = rw (exits_more lines n, gone, append-nil (
 exited-append : (xs ys : List Line) (p : ℕ) → has_exited (xs ++ ys) p ≡ has_exited xs p || has_exited ys p
 exited-append [] ys p = refl
 exited-append (x ∷ xs) ys p = ap (λ b. ((x.pid.0 == p) && is_exit x.request) || b) (exited-append xs ys p) ∙ sym (or_assoc ((x.pid.0 == p) && is_exit x.request) (has_exited xs p) (has_exited ys p))
-  where
-    or_assoc : (a b c : Bool) → (a || b) || c ≡ a || (b || c)
-    or_assoc true b c = refl
-    or_assoc false b c = refl
-
-or_false : (b : Bool) → b || false ≡ b
-or_false true = refl
-or_false false = refl
 
 -- the exits so far are of other processes
 others_exits : (lines : List Line) (n p : ℕ) → n < p → has_exited (exits_of lines n) p ≡ false
@@ -141,16 +131,159 @@ others_exits lines (suc n) p below =
     last false = ap (λ b. (b && true) || false) (ne_eqb (n + 1) p (λ h. omega (arith, h, below)))
 
 -- whether the next process has made its exit, after the script's calls and some of the missing exits
-pub exit_known : (procs : List ProcSpec) (lines : List Line) (es : List Entry) (n : ℕ) → IsLegal (boot_state procs) es → map line_of_entry es ≡ lines ++ exits_of lines n → n < length procs →
-    is_live (replay (boot_state procs) es) (n + 1) ≡ not (has_exited lines (n + 1))
-exit_known procs lines es n legal made inside =
-    lives_by_lines procs es (lines ++ exits_of lines n) (n + 1) legal made (omega arith) (omega (arith, inside))
-    ∙ ap not (exited-append lines (exits_of lines n) (n + 1) ∙ ap (λ b. has_exited lines (n + 1) || b) (others_exits lines n (n + 1) (omega arith)) ∙ or_false (has_exited lines (n + 1)))
+pub exit_known : (boot : State) (procs : List ProcSpec) (lines : List Line) (es : List Entry) (n : ℕ) → boot.processes ≡ map new_process procs → IsLegal boot es → map line_of_entry es ≡ lines ++ exits_of lines n → n < length procs →
+    is_live (replay boot es) (n + 1) ≡ not (has_exited lines (n + 1))
+exit_known boot procs lines es n same legal made inside =
+    lives_by_lines boot procs es (lines ++ exits_of lines n) (n + 1) same legal made (omega arith) (omega (arith, inside))
+    ∙ ap not (exited-append lines (exits_of lines n) (n + 1) ∙ ap (λ b. has_exited lines (n + 1) || b) (others_exits lines n (n + 1) (omega arith)) ∙ or-false (has_exited lines (n + 1)))
 
-pub not_false : (b : Bool) → not b ≡ true → b ≡ false
-not_false true h = absurd (cc h)
-not_false false h = refl
+-- ---- the end
 
-pub not_true : (b : Bool) → not b ≡ false → b ≡ true
-not_true true h = refl
-not_true false h = absurd (cc h)
+-- each process makes its exit, in the script or behind it
+missing_exits : (lines : List Line) (n p : ℕ) → has_exited lines p ≡ false → 1 ≤ p → p ≤ n → has_exited (exits_of lines n) p ≡ true
+missing_exits lines zero p none first last = absurd (omega (arith, first, last))
+missing_exits lines (suc n) p none first last =
+    let one : suc n ≡ n + 1 = omega arith in
+    ap (λ k. has_exited (exits_of lines k) p) one
+    ∙ ap (λ ls. has_exited ls p) (exits_more lines n)
+    ∙ exited-append (exits_of lines n) (map exit_line (filter (λ pid. not (has_exited lines pid)) ((n + 1) ∷ []))) p
+    ∙ go (cases_lt n p) (missing_exits lines n p none first)
+  where
+    go : (n < p) ⊎ (p ≤ n) → (p ≤ n → has_exited (exits_of lines n) p ≡ true) →
+        (has_exited (exits_of lines n) p || has_exited (map exit_line (if not (has_exited lines (n + 1)) then (n + 1) ∷ [] else [])) p) ≡ true
+    go (inl behind) before =
+        let here : p ≡ n + 1 = omega (arith, behind, last) in
+        let gone : has_exited lines (n + 1) ≡ false = ap (has_exited lines) (sym here) ∙ none in
+        (λ j. has_exited (exits_of lines n) p || has_exited (map exit_line (if not (gone j) then (n + 1) ∷ [] else [])) p)
+        ∙ ap (λ b. has_exited (exits_of lines n) p || ((b && true) || false)) (eq-eqb (n + 1) p (sym here))
+        ∙ or-true (has_exited (exits_of lines n) p)
+    go (inr within) before = ap (λ b. b || has_exited (map exit_line (if not (has_exited lines (n + 1)) then (n + 1) ∷ [] else [])) p) (before within)
+
+exited_all : (lines : List Line) (n p : ℕ) → 1 ≤ p → p ≤ n → has_exited (lines ++ exits_of lines n) p ≡ true
+exited_all lines n p first last = exited-append lines (exits_of lines n) p ∙ go (has_exited lines p) refl
+  where
+    go : (b : Bool) → has_exited lines p ≡ b → (b || has_exited (exits_of lines n) p) ≡ true
+    go true h = refl
+    go false h = missing_exits lines n p h first last
+
+nobody : (S : State) → ((i : ℕ) → is_live S (suc i) ≡ false) → has_live S ≡ false
+nobody S gone = go S.processes gone
+  where
+    go : (Ps : List Process) → ((i : ℕ) → (elim (slice_get Ps i) as (λ _. Bool) [ Some P ↦ not P.exited | None ↦ false ]) ≡ false) → list_any (λ P. not (Process.exited P)) Ps ≡ false
+    go [] g = refl
+    go (P ∷ Ps) g = λ j. g 0 j || go Ps (λ i. g (suc i)) j
+
+all_gone : (boot : State) (procs : List ProcSpec) (lines : List Line) (es : List Entry) → boot.processes ≡ map new_process procs → IsLegal boot es → map line_of_entry es ≡ lines ++ exits_of lines (length procs) →
+    has_live (replay boot es) ≡ false
+all_gone boot procs lines es same legal made = nobody (replay boot es) (λ i. go i (cases_lt i (length procs)))
+  where
+    go : (i : ℕ) → (i < length procs) ⊎ (length procs ≤ i) → is_live (replay boot es) (suc i) ≡ false
+    go i (inl inside) =
+        lives_by_lines boot procs es (lines ++ exits_of lines (length procs)) (suc i) same legal made (omega arith) (omega (arith, inside))
+        ∙ ap not (exited_all lines (length procs) (suc i) (omega arith) (omega (arith, inside)))
+    go i (inr past) = lives_until_exit boot es (suc i) legal ∙ ap (λ b. b && not (history.has_exited (suc i) es)) (boot_past boot procs i same past)
+
+-- no line is of nobody
+abbrev IsOfSomebody : Line → Type 0
+IsOfSomebody line = 1 ≤ line.pid.0
+
+both_of : (xs ys : List Line) → AllByRecursion IsOfSomebody xs → AllByRecursion IsOfSomebody ys → AllByRecursion IsOfSomebody (xs ++ ys)
+both_of [] ys a b = b
+both_of (x ∷ xs) ys a b = (a.0, both_of xs ys a.1 b)
+
+known_of : (count : ℕ) (lines : List Line) → AllByRecursion (IsOfProcess count) lines → AllByRecursion IsOfSomebody lines
+known_of count [] all = tt
+known_of count (x ∷ xs) all = (all.0.0, known_of count xs all.1)
+
+exits_known : (lines : List Line) (n : ℕ) → AllByRecursion IsOfSomebody (exits_of lines n)
+exits_known lines zero = tt
+exits_known lines (suc n) =
+    let one : suc n ≡ n + 1 = omega arith in
+    subst (AllByRecursion IsOfSomebody) (sym (ap (exits_of lines) one ∙ exits_more lines n)) (both_of _ _ (exits_known lines n) (last (has_exited lines (n + 1))))
+  where
+    last : (b : Bool) → AllByRecursion IsOfSomebody (map exit_line (if not b then (n + 1) ∷ [] else []))
+    last true = tt
+    last false = (omega arith, tt)
+
+none_of_nobody : (es : List Entry) → AllByRecursion IsOfSomebody (map line_of_entry es) → history.calls_of 0 es ≡ 0
+none_of_nobody [] all = refl
+none_of_nobody (e ∷ es) all =
+    sum_by-cons (λ (x : Entry). cond {A = ℕ} (x.pid.0 == 0) 1 0) e es
+    ∙ (λ j. cond {A = ℕ} (ne_eqb e.pid.0 0 (λ h. omega (arith, h, all.0)) j) 1 0 + none_of_nobody es all.1 j)
+
+-- after all exits the layer may be ended
+pub end_allowed : (boot : State) (procs : List ProcSpec) (lines : List Line) (es : List Entry) → boot.processes ≡ map new_process procs → IsLegal boot es →
+    map line_of_entry es ≡ lines ++ exits_of lines (length procs) → AllByRecursion (IsOfProcess (length procs)) lines →
+    may_call (record { boot = boot; entries = es }) (record { 0 = 0 }) 0 Request.Off ≡ true
+end_allowed boot procs lines es same legal made all =
+    let somebody = subst (AllByRecursion IsOfSomebody) (sym made) (both_of _ _ (known_of (length procs) lines all) (exits_known lines (length procs))) in
+    (λ j. not (all_gone boot procs lines es same legal made j) && (none_of_nobody es somebody j == 0))
+
+-- a call of a live process, which isn't the end of the layer
+pub call_known : (book : Held) (pid : Pid) (k : ℕ) (request : Request) → is_off request ≡ false → k ≡ history.calls_of pid.0 book.entries → may_call book pid k request ≡ is_live (state_of book) pid.0
+call_known book pid k request call count =
+    (λ j. (if call j then (pid.0 == 0) && ((k == 0) && not (has_live (state_of book))) else is_live (state_of book) pid.0) && (sym count j == k))
+    ∙ ap (λ b. is_live (state_of book) pid.0 && b) (eq-eqb k k refl)
+    ∙ and-true (is_live (state_of book) pid.0)
+
+-- ---- a run as far as it has come
+
+-- one more entry of a process
+pub makes_more : (old new : Held) (script : Script) (pid : Pid) (request : Request) (made : List Line) → MakesOne old new pid request → Makes old script made →
+    Makes new script (made ++ record { pid = pid; request = request } ∷ [])
+makes_more old new script pid request made one so_far =
+    let now = one.appended.appended in
+    record {
+      processes = ap (λ (h : Held). State.processes h.boot) now ∙ so_far.processes;
+      legal = subst (λ (h : Held). IsLegal h.boot h.entries) (sym now) (legal_push old.boot old.entries _ so_far.legal one.appended.next);
+      calls = ap (λ (h : Held). map line_of_entry h.entries) now
+          ∙ map-append line_of_entry old.entries (_ ∷ [])
+          ∙ ap (λ ls. ls ++ record { pid = pid; request = request } ∷ []) so_far.calls;
+    }
+
+pub makes_same : (book : Held) (script : Script) (made more : List Line) → made ≡ more → Makes book script made → Makes book script more
+makes_same book script made more e so_far = record { processes = so_far.processes; legal = so_far.legal; calls = so_far.calls ∙ e }
+
+pub boot_kept : (old new : Held) (pid : Pid) (request : Request) → MakesOne old new pid request → new.boot ≡ old.boot
+boot_kept old new pid request one = ap Held.boot one.appended.appended
+
+-- a line of an orderly script is no stranger's
+pub no_stranger : (book : Held) (script : Script) (i : ℕ) (line : Line) → IsOrderly (plan_of script) → Makes book script (take i script.lines.items) → i < length script.lines.items → line ≡ get_or script.lines.items i line →
+    (is_off line.request ≡ false) × (is_live (state_of book) line.pid.0 ≡ true)
+no_stranger book script i line orderly so_far inside item = (
+  all_at IsCall i script.lines.items line orderly.calls inside item,
+  line_lives book.boot script.procs.items script.lines.items book.entries i line so_far.processes so_far.legal so_far.calls orderly.processes orderly.exits inside item,
+)
+
+-- nor is the end of the layer behind all exits
+pub no_stranger_ends : (book : Held) (script : Script) (n : ℕ) → IsOrderly (plan_of script) → n ≡ length script.procs.items → Makes book script (script.lines.items ++ exits_of script.lines.items n) →
+    may_call book (record { 0 = 0 }) 0 Request.Off ≡ true
+no_stranger_ends book script n orderly count so_far =
+    end_allowed book.boot script.procs.items script.lines.items book.entries so_far.processes so_far.legal
+    (so_far.calls ∙ ap (λ m. script.lines.items ++ exits_of script.lines.items m) count) orderly.processes
+
+-- all calls of a run without an end, and with one
+pub without_end : (script : Script) (n : ℕ) → n ≡ length script.procs.items → script.off ≡ false → script.lines.items ++ exits_of script.lines.items n ≡ all_turns (plan_of script)
+without_end script n count no_end =
+    ap (λ m. script.lines.items ++ exits_of script.lines.items m) count
+    ∙ ap (λ ls. script.lines.items ++ ls) (sym (append-nil (exits_of script.lines.items (length script.procs.items))))
+    ∙ ap (λ b. script.lines.items ++ (exits_of script.lines.items (length script.procs.items) ++ (if b then off_line ∷ [] else []))) (sym no_end)
+
+pub with_end : (script : Script) (n : ℕ) → n ≡ length script.procs.items → script.off ≡ true → (script.lines.items ++ exits_of script.lines.items n) ++ off_line ∷ [] ≡ all_turns (plan_of script)
+with_end script n count end =
+    ap (λ m. (script.lines.items ++ exits_of script.lines.items m) ++ off_line ∷ []) count
+    ∙ append_assoc script.lines.items (exits_of script.lines.items (length script.procs.items)) (off_line ∷ [])
+    ∙ ap (λ b. script.lines.items ++ (exits_of script.lines.items (length script.procs.items) ++ (if b then off_line ∷ [] else []))) (sym end)
+
+-- a book that was just opened
+pub makes_none : (book : Held) (script : Script) (boot : State) → book ≡ record { boot = boot; entries = [] } → IsBootState boot → boot.processes ≡ map new_process script.procs.items → Makes book script []
+makes_none book script boot new boots same = subst (λ (h : Held). Makes h script []) (sym new) (record { processes = same; legal = legal_empty boot boots; calls = refl })
+
+-- what follows from a success, and from a fault
+pub ok_then : {P Q : Type 0} (r : Result (Unit {0}) CallFault) → (P → Q) → OnOk r P → OnOk r Q
+ok_then (Ok u) f p = f p
+ok_then (Err e) f p = tt
+
+pub err_then : {P Q : CallFault → Type 0} (r : Result (Unit {0}) CallFault) → ((f : CallFault) → P f → Q f) → IfErr r P → IfErr r Q
+err_then (Ok u) f p = tt
+err_then (Err e) f p = f e p

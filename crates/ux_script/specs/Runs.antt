@@ -1,13 +1,17 @@
 -- Which histories are runs of a script.
-use Rattle.std.specs.Prelude.{◌≡◌, ◌⊎◌, ℕ, List, map, Option}
+use Rattle.std.specs.Prelude.{◌≡◌, ◌⊎◌, ℕ, not, List, map, filter, Option}
+use Rattle.std.specs.List.{range_with_len}
 use Rattle.std.specs.Io.KnownBytes.{Keeps}
-use Rattle.ux_model.specs.Types.{Entry}
-use Rattle.ux_model.specs.Boot.{boot_state}
+use Rattle.ux_model.specs.Types.{Pid, Request, Entry}
+use Rattle.ux_model.specs.State.{State}
+use Rattle.ux_model.specs.Boot.{new_process}
+use Rattle.ux_history.specs.Books.{Held, Appends}
 use Rattle.ux_model.specs.History.{IsLegal}
 use Rattle.ux_syntax.specs.declared.fault.ScriptFault.{ScriptFault}
 use Rattle.ux_syntax.specs.declared.script.Line.{Line}
+use Rattle.ux_syntax.specs.declared.script.Script.{Script}
 use Rattle.ux_syntax.specs.Spelling.{Plan}
-use Rattle.ux_syntax.specs.Turns.{all_turns}
+use Rattle.ux_syntax.specs.Turns.{has_exited, exit_line, all_turns}
 use Rattle.ux_syntax.specs.Trace.{trace}
 use Rattle.ux_script.specs.Writes.{AppendsBeginning}
 
@@ -15,11 +19,27 @@ use Rattle.ux_script.specs.Writes.{AppendsBeginning}
 abbrev pub line_of_entry : Entry → Line
 line_of_entry e = record { pid = e.pid; request = e.request }
 
--- nothing was written, or a beginning of the trace of a legal history that makes the script's calls in order and then the missing exits
-abbrev pub WritesBeginning : Plan → Option (List ℕ) → Option (List ℕ) → Type 0
-WritesBeginning s old new = Keeps old new
-    ⊎ ((history : List Entry) × IsLegal (boot_state s.procs) history × (map line_of_entry history ≡ all_turns s) × AppendsBeginning old new (trace history))
+-- nothing was written, or a beginning of the trace of a legal history from this state, which makes the script's calls in order, then the missing exits, and the end of the layer where the script has it
+abbrev pub WritesBeginning : State → Plan → Option (List ℕ) → Option (List ℕ) → Type 0
+WritesBeginning boot s old new = Keeps old new
+    ⊎ ((history : List Entry) × IsLegal boot history × (map line_of_entry history ≡ all_turns s) × AppendsBeginning old new (trace history))
 
 -- the faults of a run: reading is over
 abbrev pub IsRunFault : ScriptFault → Type 0
 IsRunFault f = (f ≡ ScriptFault.Writing) ⊎ (f ≡ ScriptFault.NoMemory) ⊎ (f ≡ ScriptFault.Stranger)
+
+-- the exits of the first n processes that don't make their own
+abbrev pub exits_of : List Line → ℕ → List Line
+exits_of lines n = map exit_line (filter (λ pid. not (has_exited lines pid)) (range_with_len 1 n))
+
+-- a book of the script's processes has come so far: these lines were made
+pub record Makes (book : Held) (script : Script) (lines : List Line) : Type 0 where
+  pub processes : book.boot.processes ≡ map new_process script.procs.items
+  pub legal : IsLegal book.boot book.entries
+  pub calls : map line_of_entry book.entries ≡ lines
+
+-- a book has one more entry, of this process and request
+pub record MakesOne (old new : Held) (pid : Pid) (request : Request) : Type 0 where
+  pub k : ℕ
+  pub released : List ℕ
+  pub appended : Appends old new pid k request released

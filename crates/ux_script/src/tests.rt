@@ -4,10 +4,13 @@ use super::*;
 use std::alloc::Global;
 use std::io;
 use std::io::Write;
+use std::process::Abort;
 use std::test::Fail;
 use ux_kernel::Kernel;
+use ux_object::{FileObject, ObjKind};
+use ux_objects::{Counter, MemFile, Pipe};
 use ux_syntax::{Line, Script, ScriptFault, parse_script};
-use ux_types::{Entry, Pid, Request};
+use ux_types::{Entry, Name, Pid, Request};
 
 const SEND_AND_RECEIVE: (&str, &str) = (
     "proc 1000 1000 0 16\n1 pair stream -\n1 send 0 - 6869 - -\n1 recv 1 8 0 -\n",
@@ -66,6 +69,126 @@ proc 1000 1000 0 16
 ",
 );
 
+/// A counter is added to and taken as a whole; a pipe breaks without a reader and ends without a writer.
+const COUNTER_AND_PIPE: (&str, &str) = (
+    "object p:c counter
+object p:p pipe
+proc 1000 1000 0 16
+1 open p:c rw -
+1 read 0 8
+1 write 0 0500000000000000
+1 write 0 ffffffffffffffff
+1 write 0 feffffffffffffff
+1 read 0 4
+1 read 0 8
+1 open p:p w -
+1 write 1 78
+1 open p:p r -
+1 write 1 78
+1 close 1
+1 read 2 8
+1 read 2 8
+1 lseek 2 0 set
+",
+    "0 1 0 open = fd 0
+1 1 1 read = err EAGAIN
+2 1 2 write = n 8
+3 1 3 write = err EINVAL
+4 1 4 write = err EAGAIN
+5 1 5 read = err EINVAL
+6 1 6 read = bytes 0500000000000000
+7 1 7 open = fd 1
+8 1 8 write = err EPIPE
+9 1 9 open = fd 2
+10 1 10 write = n 1
+11 1 11 close = ok
+12 1 12 read = bytes 78
+13 1 13 read = bytes -
+14 1 14 lseek = err ESPIPE
+15 1 15 exit = ok
+",
+);
+
+/// A memory file ends at 1,048,576 bytes, and no offset lies before its start or past the largest.
+const ENDS_OF_A_FILE: (&str, &str) = (
+    "object p:f mem 616263646566
+proc 1000 1000 0 16
+1 open p:f rw -
+1 lseek 0 1048575 set
+1 write 0 7879
+1 write 0 7a
+1 lseek 0 -1 end
+1 read 0 4
+1 lseek 0 -1 set
+1 lseek 0 9223372036854775807 cur
+",
+    "0 1 0 open = fd 0
+1 1 1 lseek = at 1048575
+2 1 2 write = n 1
+3 1 3 write = err EFBIG
+4 1 4 lseek = at 1048575
+5 1 5 read = bytes 78
+6 1 6 lseek = err EINVAL
+7 1 7 lseek = err EINVAL
+8 1 8 exit = ok
+",
+);
+
+/// All descriptors of one description share its offset and its flags, and the last close lets the file go.
+const ONE_OFFSET: (&str, &str) = (
+    "object p:f mem 616263646566
+proc 1000 1000 0 16
+1 open p:f rw a
+1 write 0 6768
+1 lseek 0 2 set
+1 dup 0
+1 read 1 2
+1 lseek 0 0 cur
+1 flags 0 -
+1 write 1 58
+1 read 0 8
+1 dup2 0 7
+1 dup2 0 16
+1 unlink p:f
+1 close 0
+1 close 1
+1 close 7
+1 pair stream -
+1 write 0 6869
+1 read 1 8
+",
+    "0 1 0 open = fd 0
+1 1 1 write = n 2
+2 1 2 lseek = at 2
+3 1 3 dup = fd 1
+4 1 4 read = bytes 6364
+5 1 5 lseek = at 4
+6 1 6 flags = ok
+7 1 7 write = n 1
+8 1 8 read = bytes 666768
+9 1 9 dup2 = fd 7
+10 1 10 dup2 = err EBADF
+11 1 11 unlink = ok
+12 1 12 close = ok
+13 1 13 close = ok
+14 1 14 close = ok closed 0
+15 1 15 pair = fds 0 1
+16 1 16 write = n 2
+17 1 17 read = bytes 6869
+18 1 18 exit = ok
+",
+);
+
+/// The end of the layer is an entry of process 0, behind the exits that a script leaves out.
+const ENDED_LAYER: (&str, &str) = (
+    "proc 1000 1000 0 16
+off
+",
+    "0 1 0 exit = ok
+1 0 0 off = ok
+",
+);
+
 /// Holds what it took. It takes at most `most` bytes a call, and fails at the write of the number
 /// `fails_at`, counted from 1, or at a flush.
 #[derive(Drop)]
@@ -110,37 +233,100 @@ impl Write for Fake {
     }
 }
 
+/// A file object as a kernel holds it.
+type Boxed = Box<dyn FileObject + Send>;
+
+/// What was made, or that memory is wanting.
+fn made<T, E: Drop>(outcome: Result<T, E>) -> Result<T, ScriptFault> {
+    outcome.map_err(|_| ScriptFault::NoMemory)
+}
+
+/// Runs a text over the file objects that it asks for.
 fn run<W: Write>(alloc: Global, text: &str, writer: &mut W) -> Result<Vec<Entry>, ScriptFault> {
     let script = parse_script(alloc, text.as_bytes())?;
-    match Kernel::boot(alloc, &script.procs) {
-        Ok(kernel) => run_serial(alloc, &script, writer, kernel),
+    let mut objects: Vec<(Name, Boxed)> = Vec::new(alloc);
+    for line in &script.objects {
+        let object: Boxed = match line.kind {
+            ObjKind::Memory => {
+                let file = made(MemFile::new(alloc, line.body.as_slice()))?;
+                made(Box::new(alloc, file))?
+            }
+            ObjKind::Counter => made(Box::new(alloc, Counter::new()))?,
+            ObjKind::Pipe => {
+                let pipe = made(Pipe::new(alloc))?;
+                made(Box::new(alloc, pipe))?
+            }
+        };
+        let name = made(line.name.clone())?;
+        made(objects.push((name, object)))?;
+    }
+    let mut room: Room<Boxed> = Room::new();
+    run_over(alloc, &script, writer, objects, &mut room)
+}
+
+/// Runs a script over these file objects.
+fn run_over<O: FileObject, W: Write>(
+    alloc: Global,
+    script: &Script,
+    writer: &mut W,
+    objects: Vec<(Name, O)>,
+    room: &mut Room<O>,
+) -> Result<Vec<Entry>, ScriptFault> {
+    match Kernel::boot(alloc, objects, &script.procs) {
+        Ok(kernel) => run_serial(alloc, script, writer, kernel, room),
         Err(_) => Err(ScriptFault::NoMemory),
     }
 }
 
+/// Whether a script has its trace, with a line for each entry.
+fn check_trace(rt: &impl Abort, alloc: Global, row: (&str, &str)) -> Result<(), Fail> {
+    let (script, trace) = row;
+    let mut written: Vec<u8> = Vec::new(alloc);
+    let entries = run(alloc, script, &mut written)?;
+    assert_eq!(rt; written.as_slice(), trace.as_bytes());
+    assert_eq!(rt; entries.len(), trace.lines().count());
+    Ok(())
+}
+
 #[test]
 fn scripts_have_their_traces(rt: HostRuntime) -> Result<(), Fail> {
-    let alloc = rt.alloc();
-    for (script, trace) in [
+    for row in [
         SEND_AND_RECEIVE,
         PEEK_RESET_AND_BROKEN_PIPE,
         TWO_PROCESSES,
         ("", ""),
     ] {
-        let mut written: Vec<u8> = Vec::new(alloc);
-        let entries = run(alloc, script, &mut written)?;
-        assert_eq!(rt; written.as_slice(), trace.as_bytes());
-        assert_eq!(rt; entries.len(), trace.lines().count());
+        check_trace(&rt, rt.alloc(), row)?;
     }
     Ok(())
+}
+
+#[test]
+fn a_counter_and_a_pipe_are_read_and_written(rt: HostRuntime) -> Result<(), Fail> {
+    check_trace(&rt, rt.alloc(), COUNTER_AND_PIPE)
+}
+
+#[test]
+fn a_memory_file_has_two_ends(rt: HostRuntime) -> Result<(), Fail> {
+    check_trace(&rt, rt.alloc(), ENDS_OF_A_FILE)
+}
+
+#[test]
+fn all_descriptors_of_a_description_have_one_offset(rt: HostRuntime) -> Result<(), Fail> {
+    check_trace(&rt, rt.alloc(), ONE_OFFSET)
+}
+
+#[test]
+fn the_layer_ends_where_the_script_says_so(rt: HostRuntime) -> Result<(), Fail> {
+    check_trace(&rt, rt.alloc(), ENDED_LAYER)
 }
 
 #[test]
 fn a_faulty_script_runs_nothing(rt: HostRuntime) -> Result<(), Fail> {
     let alloc = rt.alloc();
     for (script, text) in [
-        ("1 read 0", "line 1: bad line"),
-        ("1 read 0 4", "line 1: bad line"),
+        ("1 read 0\n", "line 1: bad line"),
+        ("1 read 0 4\n", "line 1: unknown process"),
         ("1 close", "line 1: bad line"),
         ("1 close 0", "line 1: unknown process"),
     ] {
@@ -196,18 +382,19 @@ fn what_is_not_flushed_was_not_written(rt: HostRuntime) -> Result<(), Fail> {
 fn a_call_of_nobody_is_a_stranger(rt: HostRuntime) -> Result<(), Fail> {
     let alloc = rt.alloc();
     let mut script = Script {
+        objects: Vec::new(alloc),
         procs: Vec::new(alloc),
         lines: Vec::new(alloc),
+        off: false,
     };
     script.lines.push(Line {
         pid: Pid(1),
         request: Request::Exit,
     })?;
-    let Ok(kernel) = Kernel::boot(alloc, &script.procs) else {
-        return Err(Fail::from("no kernel"));
-    };
+    let objects: Vec<(Name, Counter)> = Vec::new(alloc);
     let mut written: Vec<u8> = Vec::new(alloc);
-    let told = run_serial(alloc, &script, &mut written, kernel);
+    let mut room: Room<Counter> = Room::new();
+    let told = run_over(alloc, &script, &mut written, objects, &mut room);
     assert!(rt; matches!(told, Err(ScriptFault::Stranger)));
     assert!(rt; written.is_empty());
     Ok(())

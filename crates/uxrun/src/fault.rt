@@ -1,7 +1,9 @@
 //! Why no whole trace was printed.
 
+use std::alloc::{AllocError, AllocFailed};
 use thiserror::Error;
 use ux_kernel::BootFault;
+use ux_object::ObjError;
 use ux_syntax::ScriptFault;
 
 /// Why no whole trace was printed. Its text stands behind `uxrun: ` on standard error.
@@ -10,7 +12,7 @@ pub enum Fault {
     /// The script was refused, or couldn't be read or run.
     #[error("{0}")]
     Script(ScriptFault),
-    /// No kernel could be made for the script's processes, for the reason of this number.
+    /// No kernel could be made for the script's file objects and processes, for the reason of this number.
     #[error("boot fault {0}")]
     Boot(u8),
 }
@@ -23,9 +25,25 @@ impl From<ScriptFault> for Fault {
 
 impl From<BootFault> for Fault {
     fn from(fault: BootFault) -> Fault {
-        match fault {
-            BootFault::NoMemory => Fault::Script(ScriptFault::NoMemory),
-            BootFault::TooManyProcesses => Fault::Boot(fault as u8),
-        }
+        Fault::Boot(fault as u8)
+    }
+}
+
+impl From<AllocError> for Fault {
+    fn from(_error: AllocError) -> Fault {
+        Fault::Script(ScriptFault::NoMemory)
+    }
+}
+
+impl<T: Drop> From<AllocFailed<T>> for Fault {
+    fn from(_error: AllocFailed<T>) -> Fault {
+        Fault::Script(ScriptFault::NoMemory)
+    }
+}
+
+impl From<ObjError> for Fault {
+    /// A file object that isn't made lacks memory: no line of a script is as long as a file may be.
+    fn from(_error: ObjError) -> Fault {
+        Fault::Script(ScriptFault::NoMemory)
     }
 }

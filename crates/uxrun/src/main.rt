@@ -3,17 +3,16 @@
 
 mod args;
 mod fault;
+mod objects;
 
 use args::read_args;
 use clap::error::ErrorKind;
 use fault::Fault;
+use objects::run_script;
 use std::alloc::Global;
-use std::io::BufWriter;
 use std::process::ExitCode;
 use std::rt::Files;
 use std::{env, fs, io};
-use ux_kernel::Kernel;
-use ux_script::run_serial;
 use ux_syntax::{Script, ScriptFault, read_script};
 
 /// The script that was named.
@@ -31,14 +30,8 @@ fn script_of<R: Files + Input + AllocGlobal>(rt: &R, name: &str) -> Result<Scrip
 
 /// Runs the script that was named, and prints its trace to standard output.
 fn run<R: Files + Input + Print + AllocGlobal>(rt: &R, name: &str) -> Result<(), Fault> {
-    let alloc: Global = rt.alloc();
     let script = script_of(rt, name)?;
-    let kernel = Kernel::boot(alloc, &script.procs)?;
-    let Ok(mut writer) = BufWriter::new(alloc, io::writer(rt)) else {
-        return Err(Fault::Script(ScriptFault::NoMemory));
-    };
-    run_serial(alloc, &script, &mut writer, kernel)?;
-    Ok(())
+    run_script(rt, &script)
 }
 
 /// Tells why no whole trace was printed.

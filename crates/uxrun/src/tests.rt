@@ -3,6 +3,7 @@ use crate::fault::Fault;
 use std::alloc::{AllocError, Global};
 use std::test::Fail;
 use ux_kernel::BootFault;
+use ux_object::ObjError;
 use ux_syntax::ScriptFault;
 
 fn texts(alloc: Global, words: &[&str]) -> Result<Vec<String>, AllocError> {
@@ -55,11 +56,27 @@ fn faults_have_their_texts(rt: HostRuntime) -> Result<(), Fail> {
     let rows = [
         (Fault::from(ScriptFault::BadLine(3)), "line 3: bad line"),
         (Fault::from(ScriptFault::Reading), "reading failed"),
-        (Fault::from(BootFault::TooManyProcesses), "boot fault 2"),
-        (Fault::from(BootFault::NoMemory), "out of memory"),
+        (Fault::from(AllocError), "out of memory"),
+        (Fault::from(ObjError::NoMemory), "out of memory"),
     ];
     for (fault, text) in rows {
         assert_eq!(rt; fault.to_string(rt.alloc())?.as_str(), text);
+    }
+    Ok(())
+}
+
+#[test]
+fn boot_faults_are_told_by_their_numbers(rt: HostRuntime) -> Result<(), Fail> {
+    let rows = [
+        (BootFault::TooManyObjects, "boot fault 1"),
+        (BootFault::TooManyProcesses, "boot fault 2"),
+        (BootFault::NameTwice, "boot fault 3"),
+        (BootFault::ObjectClosed, "boot fault 4"),
+        (BootFault::NoMemory, "boot fault 5"),
+        (BootFault::BadPath, "boot fault 6"),
+    ];
+    for (fault, text) in rows {
+        assert_eq!(rt; Fault::from(fault).to_string(rt.alloc())?.as_str(), text);
     }
     Ok(())
 }

@@ -1,0 +1,42 @@
+use Rattle.std.proofs.Common.{◌++◌, ◌∙◌, sym}
+use Rattle.std.proofs.lemmas.Bool.{false≢true}
+use Rattle.std.proofs.lemmas.Result.{err_from_is_err_and}
+use Rattle.ux_model.specs.Types.{Request}
+use Rattle.ux_script.specs.Runs.{exits_of}
+use Rattle.ux_script.proofs.Runs.{makes_more, makes_same, boot_kept, without_end, with_end, no_stranger_ends, ok_then, err_then}
+use Rattle.ux_script.proofs.run.make_all.Goals as goal
+
+pub returns-in_err-make_calls-clause-stranger : goal.returns-in_err-make_calls-clause-stranger
+returns-in_err-make_calls-clause-stranger g c =
+    let p = err_from_is_err_and c.from_residual.result c.from_residual.ensures.1 in
+    rw (p.1, p.2) c.in_err-make_calls.ensures.stranger
+
+pub returns-in_err-make_exits-clause-stranger : goal.returns-in_err-make_exits-clause-stranger
+returns-in_err-make_exits-clause-stranger g c =
+    let p = err_from_is_err_and c.from_residual-in_err-make_exits.result c.from_residual-in_err-make_exits.ensures.1 in
+    rw (p.1, p.2) (λ stranger orderly. c.in_err-make_exits.ensures.stranger stranger)
+
+pub returns-then-not-script-clause-made : goal.returns-then-not-script-clause-made
+returns-then-not-script-clause-made g c =
+    let script = c.args.script.now in
+    makes_same c.make_exits.new.book script _ _ (without_end script c.args.count c.requires.count c.if-not-script.true) c.in_ok-make_exits.ensures.made
+
+pub returns-clause-made : goal.returns-clause-made
+returns-clause-made g c =
+    let script = c.args.script.now in
+    ok_then c.make_end.result
+    (λ one. makes_same c.make_end.new.book script _ _ (with_end script c.args.count c.requires.count c.if-not-script.false)
+    (makes_more c.make_exits.new.book c.make_end.new.book script (record { 0 = 0 }) Request.Off (script.lines.items ++ exits_of script.lines.items c.args.count) one c.in_ok-make_exits.ensures.made))
+    c.make_end.ensures.entry
+
+pub returns-clause-boot : goal.returns-clause-boot
+returns-clause-boot g c =
+    ok_then c.make_end.result
+    (λ one. boot_kept c.make_exits.new.book c.make_end.new.book (record { 0 = 0 }) Request.Off one ∙ c.in_ok-make_exits.ensures.boot ∙ c.in_ok-make_calls.ensures.boot)
+    c.make_end.ensures.entry
+
+pub returns-clause-stranger : goal.returns-clause-stranger
+returns-clause-stranger g c =
+    err_then c.make_end.result
+    (λ f told stranger orderly. false≢true (sym (told stranger) ∙ no_stranger_ends c.make_exits.new.book c.args.script.now c.args.count orderly c.requires.count c.in_ok-make_exits.ensures.made))
+    c.make_end.ensures.stranger
