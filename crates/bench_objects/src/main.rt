@@ -1,6 +1,9 @@
-//! Measures the calls of file objects and of descriptor tables. The times go to standard error.
+//! Measures the calls of file objects, of descriptor tables and of kernels. The times go to standard error.
 #![tactic(auto)]
 
+mod kernel_calls;
+
+use crate::kernel_calls::measure_kernel;
 use anyhow::Result;
 use std::alloc::Global;
 use std::rt::Clock;
@@ -152,6 +155,9 @@ fn main(rt: HostRuntime) -> Result<()> {
     }
     for entries in [0, 100, 1000] {
         measure_table(&rt, alloc, entries)?;
+    }
+    for entries in [4, 1000] {
+        measure_kernel(&rt, alloc, entries)?;
     }
     println!(rt; "done")?;
     Ok(())
