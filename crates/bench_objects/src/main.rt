@@ -156,8 +156,8 @@ fn main(rt: HostRuntime) -> Result<()> {
     for entries in [0, 100, 1000] {
         measure_table(&rt, alloc, entries)?;
     }
-    for entries in [4, 1000] {
-        measure_kernel(&rt, alloc, entries)?;
+    for copies in [0, 999] {
+        measure_kernel(&rt, alloc, copies)?;
     }
     println!(rt; "done")?;
     Ok(())
