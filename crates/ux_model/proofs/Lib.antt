@@ -10,6 +10,8 @@ mod Play
 mod StreamExamples
 mod LimitExamples
 mod FileExamples
+mod ControlExamples
 mod ChoiceExamples
 mod LegalExample
 pub mod ObjectExamples
+mod NameExamples

@@ -7,16 +7,17 @@ use Rattle.ux_model.specs.Types.{Errno, Fd, Name, Mode, OpenFlags, MsgFlags, Whe
 use Rattle.ux_model.specs.Places.{place}
 use Rattle.ux_model.specs.Limits.{read_limit, offset_limit}
 use Rattle.ux_model.specs.Flags.{are_send_flags, are_receive_flags, asks_peek, can_read, can_write, no_flags}
+use Rattle.ux_model.specs.Message.{Message}
 use Rattle.ux_model.specs.Object.{Body, View, ObjectError, would_block, full, invalid, read_body, write_body, is_memory, is_pipe, can_fail}
-use Rattle.ux_model.specs.Socket.{Socket}
+use Rattle.ux_model.specs.Socket.{Socket, stream_room, shortened}
 use Rattle.ux_model.specs.Description.{Description, Target, to_object, to_socket, socket_of}
-use Rattle.ux_model.specs.Process.{Process, Descriptor, lowest_free, two_lowest_free}
+use Rattle.ux_model.specs.Process.{Process, Descriptor, own_cred, lowest_free, two_lowest_free}
 use Rattle.ux_model.specs.State.{State, process_at, description_at, socket_at, table_of, with_socket, with_table, with_description, with_new}
 use Rattle.ux_model.specs.Outcome.{Outcome, refuse, on_descriptor, on_socket, descriptor_at}
-use Rattle.ux_model.specs.Naming.{named, is_valid_path, unlink}
+use Rattle.ux_model.specs.Names.{named, is_valid_path}
+use Rattle.ux_model.specs.Naming.{unlink}
 use Rattle.ux_model.specs.Pairing.{make_pair, with_pair}
-use Rattle.ux_model.specs.Stream.{stream_room, shortened}
-use Rattle.ux_model.specs.Sending.{send_msg, send_to_peer}
+use Rattle.ux_model.specs.Sending.{send_msg, send_to_peer, message_of}
 use Rattle.ux_model.specs.Receiving.{recv_msg, receive, receive_nothing, bytes_alone}
 use Rattle.ux_model.specs.Files.{open_file, read, write, lseek, file_description, or_failing, read_answer, read_error, write_answer, is_short_read, holds_bytes, is_open_for, write_place, seek_to, seek_base}
 use Rattle.ux_model.specs.Descriptors.{dup, dup2, set_flags, with_flags}
@@ -138,13 +139,14 @@ unfolding make_pair
 pair_plain S p flags = maybe S (process_at S p) _ _ (told S _ refl refl refl refl)
     (λ P. maybe S (two_lowest_free P.table) _ _ (told S _ refl refl refl refl) (λ n. told S _ refl refl (table_keeps (with_pair S flags) p _) refl))
 
-to_peer_plain : (S : State) (tag d : ℕ) (bytes : List ℕ) → IsPlain S (send_to_peer S tag d bytes)
-to_peer_plain S tag d bytes = maybe S (socket_at S d) _ _ (told S _ refl refl refl refl)
-    (λ other. either S (length bytes == 0) _ _ (told S _ refl refl refl refl) (either S (stream_room other == 0) _ _ (told S _ refl refl refl refl) (told S _ refl refl (socket_keeps S d _) refl)))
+to_peer_plain : (S : State) (d : ℕ) (m : Message) → IsPlain S (send_to_peer S d m)
+to_peer_plain S d m = maybe S (socket_at S d) _ _ (told S _ refl refl refl refl)
+    (λ other. either S (length m.bytes == 0) _ _ (told S _ refl refl refl refl) (either S (stream_room other == 0) _ _ (told S _ refl refl refl refl) (told S _ refl refl (socket_keeps S d _) refl)))
 
 pub send_plain : (S : State) (p tag : ℕ) (fd : Fd) (bytes : List ℕ) (flags : MsgFlags) → IsPlain S (send_msg S p tag fd bytes flags)
 unfolding send_msg
-send_plain S p tag fd bytes flags = found_socket S p fd _ (λ d s. either S (not (are_send_flags flags)) _ _ (told S _ refl refl refl refl) (to_peer_plain S tag s.peer bytes))
+send_plain S p tag fd bytes flags = maybe S (process_at S p) _ _ (told S _ refl refl refl refl)
+    (λ P. found_socket S p fd _ (λ d s. either S (not (are_send_flags flags)) _ _ (told S _ refl refl refl refl) (to_peer_plain S s.peer (message_of (own_cred p P) tag bytes))))
 
 nothing_plain : (S : State) (d : ℕ) (s : Socket) → IsPlain S (receive_nothing S d s)
 nothing_plain S d s = either S s.reset _ _ (told S _ refl refl (socket_keeps S d _) refl) (either S (is_none (socket_at S s.peer)) _ _ (told S _ refl refl refl refl) (told S _ refl refl refl refl))
@@ -238,7 +240,7 @@ write_plain S p tag fd bytes = found S p fd _ (λ e D. by_target S D.target _ _
     (either S (holds_bytes view.body && (length bytes == 0)) _ _ (told S _ refl refl refl refl)
     (either S (is_pipe view.body && not (is_open_for can_read S o)) _ _ (told S _ refl refl refl refl)
     (failing S o view _ (write_answer_plain S e.description D o view (write_body view.body (write_place D view) bytes)))))))
-    (λ s. to_peer_plain S tag s.peer bytes))
+    (λ s. maybe S (process_at S p) _ _ (told S _ refl refl refl refl) (λ P. to_peer_plain S s.peer (message_of (own_cred p P) tag bytes))))
 
 seek_to_plain : (S : State) (d : ℕ) (D : Description) (to : ℤ) → IsPlain S (seek_to S d D to)
 seek_to_plain S d D (pos n) = either S (nat_lt offset_limit n) _ _ (told S _ refl refl refl refl) (told S _ refl refl refl refl)
