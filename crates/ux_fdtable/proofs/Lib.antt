@@ -1,4 +1,3 @@
-pub mod MarkLaws
 pub mod FreePlaces
 pub mod Places
 pub mod TwoFree

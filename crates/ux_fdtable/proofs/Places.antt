@@ -1,11 +1,12 @@
 -- The places of a table that are kept as far as they were used.
-use Rattle.std.proofs.Common.{◌≡◌, ℕ, ◌+◌, ◌-◌, ◌<◌, ◌≤◌, max, true, List, [], ◌∷◌, ◌++◌, length, get_or, set, take, drop, map, replicate, Option, Some, None, inl, inr, ap, sym, refl, ◌∙◌, arith}
+use Rattle.std.proofs.Common.{◌≡◌, ℕ, ◌+◌, ◌-◌, ◌<◌, ◌≤◌, max, Bool, true, List, [], ◌∷◌, ◌++◌, length, get_or, set, take, drop, map, replicate, Option, Some, None, inl, inr, ap, sym, refl, ◌∙◌, arith}
+use Rattle.std.specs.Prelude.{is_some}
 use Rattle.std.proofs.lemmas.Bool.{cases_eq, cases_lt}
 use Rattle.std.proofs.lemmas.List.{append_assoc, replicate-append-replicate, length-append, length-replicate, length-set, length-map, length-take-le, get_or_append_left, get_or-append_right, get_or-replicate, get_or_past, get_or-set_same, get_or-set_other, set-append_left, set-append_right, set-get_or, drop_more, map_more}
 use Rattle.ux_model.specs.Places.{place}
 use Rattle.ux_model.specs.Process.{Descriptor}
-use Rattle.ux_fdtable.specs.Marking.{PutsMark}
-use Rattle.ux_fdtable.specs.Padded.{padded, mark_of, IsTable}
+use Rattle.ux_marks.specs.Marking.{PutsMark}
+use Rattle.ux_fdtable.specs.Padded.{padded, IsTable}
 
 pub length-padded : (xs : List (Option Descriptor)) (n : ℕ) → length (padded xs n) ≡ max (length xs) n
 length-padded xs n = omega (arith, length-append xs (replicate (n - length xs) None), length-replicate {A = Option Descriptor} (n - length xs) None)
@@ -46,7 +47,7 @@ filled_up_to xs limit n x small within =
     let inside : n < length (padded xs (n + 1)) = omega (arith, length-padded xs (n + 1)) in
     set_padded (padded xs (n + 1)) limit n x inside ∙ ap (λ ys. set ys n x) (padded_padded xs (n + 1) limit (omega arith) within)
 
-pub table_with : (xs : List (Option Descriptor)) (limit n : ℕ) (marks new : List ℕ) (e : Descriptor) → n < limit → IsTable xs limit marks → PutsMark marks new n true → IsTable (set (padded xs (n + 1)) n (Some e)) limit new
+pub table_with : (xs : List (Option Descriptor)) (limit n : ℕ) (marks new : List Bool) (e : Descriptor) → n < limit → IsTable xs limit marks → PutsMark marks new n true → IsTable (set (padded xs (n + 1)) n (Some e)) limit new
 table_with xs limit n marks new e small table put =
     let reached : length (padded xs (n + 1)) ≡ max (length xs) (n + 1) = length-padded xs (n + 1) in
     record {
@@ -56,7 +57,7 @@ table_with xs limit n marks new e small table put =
       agrees = λ i inside. elim (cases_eq i n) [
         | inl same ↦ rw (same, get_or-set_same (padded xs (n + 1)) n (Some e) None (omega (arith, reached))) put.this
         | inr other ↦ put.others i other ∙ table.agrees i inside
-            ∙ sym (ap mark_of (get_or-set_other (padded xs (n + 1)) n i (Some e) None other ∙ place_padded xs (n + 1) i))
+            ∙ sym (ap is_some (get_or-set_other (padded xs (n + 1)) n i (Some e) None other ∙ place_padded xs (n + 1) i))
       ];
     }
 

@@ -1,2 +1,2 @@
-pub mod Marking
 pub mod Padded
+pub mod Refusals

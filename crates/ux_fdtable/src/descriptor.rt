@@ -1,40 +1,9 @@
-//! A descriptor, and the handle by which it names its description.
+//! A descriptor.
 ghost use Rattle.std.specs.Prelude.{◌≡◌};
 ghost use Rattle.ux_model.specs.Process.{copy_of};
 
 use std::marker::Model;
-
-/// Names an open file description. Contracts see the description's number, which is never given twice.
-#[derive(Clone, Copy, Debug, PartialEq, Eq)]
-pub struct DescriptionId {
-    number: u128,
-}
-
-impl Model for DescriptionId {
-    ghost use Rattle.std.specs.Prelude.{ℕ};
-
-    ghost Value = { ℕ };
-
-    ghost view = { λ d. d.number };
-
-    ghost inverse = { λ n. record { number = n } };
-}
-
-impl DescriptionId {
-    /// The handle of the description with this number.
-    pub fn new(number: u128) -> DescriptionId
-        ensures { result ≡ number }
-    {
-        DescriptionId { number }
-    }
-
-    /// The description's number.
-    pub fn number(self) -> u128
-        ensures { result ≡ self }
-    {
-        self.number
-    }
-}
+use ux_types::DescriptionId;
 
 /// A descriptor: what it refers to, and its own flag (FD_CLOEXEC of fcntl(2)).
 #[derive(Clone, Copy, Debug, PartialEq, Eq)]

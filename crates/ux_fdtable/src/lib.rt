@@ -3,10 +3,9 @@
 #![tactic(auto)]
 
 mod descriptor;
-mod marks;
 mod table;
 
-pub use descriptor::{DescriptionId, Descriptor};
+pub use descriptor::Descriptor;
 pub use table::{DupError, InstallError, Table};
 
 #[cfg(test)]

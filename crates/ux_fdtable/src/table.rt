@@ -6,13 +6,14 @@ ghost use Rattle.ux_model.specs.Places.{place, filled, emptied};
 ghost use Rattle.ux_model.specs.Process.{lowest_free, two_lowest_free, empty_table, copy_of, kept_on_exec, with_cloexec};
 ghost use Rattle.ux_model.specs.References.{table_refs};
 ghost use Rattle.ux_fdtable.specs.Padded.{FindsFree, padded};
+ghost use Rattle.ux_fdtable.specs.Refusals.{refusal_of_install, refusal_of_dup};
 
-use super::descriptor::{DescriptionId, Descriptor};
-use super::marks::{BITS, Marks};
+use super::descriptor::Descriptor;
 use std::alloc::{AllocError, Global};
 use std::marker::Model;
 use thiserror::Error;
-use ux_types::Fd;
+use ux_marks::Marks;
+use ux_types::{DescriptionId, Errno, Fd, Refusal};
 
 /// The most descriptors that one process may have.
 const GREATEST_LIMIT: u32 = 1024;
@@ -37,6 +38,28 @@ pub enum DupError {
     /// The table was to grow, and found no memory (ENOMEM).
     #[error("out of memory")]
     NoMemory,
+}
+
+impl From<InstallError> for Refusal {
+    ghost from_gives = { λ e refusal. refusal ≡ refusal_of_install e };
+
+    fn from(error: InstallError) -> Refusal {
+        match error {
+            InstallError::Full => Refusal::Answer(Errno::EMFILE),
+            InstallError::NoMemory => Refusal::NoMemory,
+        }
+    }
+}
+
+impl From<DupError> for Refusal {
+    ghost from_gives = { λ e refusal. refusal ≡ refusal_of_dup e };
+
+    fn from(error: DupError) -> Refusal {
+        match error {
+            DupError::BadNumber => Refusal::Answer(Errno::EBADF),
+            DupError::NoMemory => Refusal::NoMemory,
+        }
+    }
 }
 
 /// The descriptors of a process by number. Contracts see a list with a place for each number below the
@@ -71,7 +94,7 @@ impl Table {
         Ok(Table {
             places: Vec::new(alloc),
             limit,
-            marks: Marks::new(alloc, limit.div_ceil(BITS))?,
+            marks: Marks::new(alloc, limit)?,
         })
     }
 
@@ -241,12 +264,7 @@ impl Table {
         ensures found { FindsFree self.now from result }
         ensures small { length self.now ≤ table_limit }
     {
-        let number = self.marks.first_clear(from)?;
-        if number < self.limit {
-            Some(number)
-        } else {
-            None
-        }
+        self.marks.first_clear(from)
     }
 
     /// Closes a number if its descriptor has close-on-exec.

@@ -1,9 +1,10 @@
 //! Tables at their limits. Each step is a function of its own, so that a test's proof stays short.
 use super::*;
+use hoard::Hoard;
 use std::alloc::{AllocError, Global};
 use std::process::Abort;
 use std::test::Fail;
-use ux_types::Fd;
+use ux_types::{DescriptionId, Fd};
 
 /// A descriptor of the description with this number.
 fn descriptor(number: u128, cloexec: bool) -> Descriptor {
@@ -216,20 +217,30 @@ fn marked_numbers_are_closed_on_exec(rt: HostRuntime) -> Result<(), Fail> {
 }
 
 #[test]
-fn a_growth_is_refused_and_changes_nothing(rt: HostRuntime) {
-    let Ok(mut table) = make_table(rt.alloc(), 1024) else {
-        return;
-    };
-    if let Err(error) = table.install(descriptor(1, true)) {
-        assert!(rt; error == InstallError::NoMemory);
-        expect_closed(&rt, &table, 0);
-        expect_lowest(&rt, &table, 0);
-    }
-    if let Err(error) = table.dup_at(Fd(1000), descriptor(2, true)) {
-        assert!(rt; error == DupError::NoMemory);
-        expect_closed(&rt, &table, 1000);
-        expect_count(&rt, &table, 2, 0);
-    }
+fn a_growth_is_refused_and_changes_nothing(rt: HostRuntime) -> Result<(), Fail> {
+    let alloc = rt.alloc();
+    let mut table = make_table(alloc, 1024)?;
+    let hoard = Hoard::take_all(alloc)?;
+    let installed = table.install(descriptor(1, true));
+    let copied = table.dup_at(Fd(1000), descriptor(2, true));
+    drop(hoard);
+    assert_eq!(rt; installed, Err(InstallError::NoMemory));
+    expect_closed(&rt, &table, 0);
+    expect_lowest(&rt, &table, 0);
+    assert_eq!(rt; copied, Err(DupError::NoMemory));
+    expect_closed(&rt, &table, 1000);
+    expect_count(&rt, &table, 2, 0);
+    Ok(())
+}
+
+#[test]
+fn a_table_is_refused_memory(rt: HostRuntime) -> Result<(), Fail> {
+    let alloc = rt.alloc();
+    let hoard = Hoard::take_all(alloc)?;
+    let refused = make_table(alloc, 1024).is_err();
+    drop(hoard);
+    assert!(rt; refused);
+    Ok(())
 }
 
 #[test]

@@ -1,0 +1,23 @@
+//! Control buffers of sendmsg(2) and recvmsg(2): which credentials and which descriptor numbers their bytes
+//! spell, and the bytes that spell them (cmsg(3), SCM_RIGHTS and SCM_CREDENTIALS of unix(7)).
+#![tactic(auto)]
+
+ghost use Rattle.ux_model.specs.Control.{ReadsOnce};
+
+mod control;
+mod item;
+mod reading;
+mod writing;
+
+pub use control::Control;
+pub use reading::{ControlError, read_control};
+pub use writing::write_control;
+
+/// A control buffer reads as one Control, or as none, and never as two.
+#[tactic(auto, using(crate::proofs::Collecting::reads_once))]
+pub fn control_buffer_reads_once()
+    ensures { ReadsOnce }
+{}
+
+#[cfg(test)]
+mod tests;

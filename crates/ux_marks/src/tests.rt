@@ -1,0 +1,115 @@
+//! Marks up to their limits. Each step is a function of its own, so that a test's proof stays short.
+use super::*;
+use hoard::Hoard;
+use std::process::Abort;
+use std::test::Fail;
+
+/// Marks so many numbers, each of which is the first that isn't marked.
+fn fill(rt: &impl Abort, marks: &mut Marks, numbers: usize) {
+    for number in 0..numbers {
+        assert_eq!(rt; marks.first_clear(0), Some(number));
+        put(rt, marks, number, true);
+    }
+    assert_eq!(rt; marks.first_clear(0), None);
+}
+
+/// Marks a number, or takes its mark away.
+fn put(rt: &impl Abort, marks: &mut Marks, number: usize, on: bool) {
+    assert!(rt; number < marks.numbers());
+    marks.put(number, on);
+}
+
+/// Marks a number of a group, or takes its mark away.
+fn put_in_groups(
+    rt: &impl Abort,
+    marks: &mut GroupedMarks,
+    number: usize,
+    on: bool,
+) -> Result<(), Fail> {
+    assert!(rt; number < marks.numbers());
+    if on {
+        marks.mark(number)?;
+    } else {
+        marks.unmark(number);
+    }
+    Ok(())
+}
+
+/// Marks the numbers from one up to another, each of which is then the first that isn't marked.
+fn fill_groups(
+    rt: &impl Abort,
+    marks: &mut GroupedMarks,
+    from: usize,
+    to: usize,
+) -> Result<(), Fail> {
+    for number in from..to {
+        assert_eq!(rt; marks.first_clear(), Some(number));
+        put_in_groups(rt, marks, number, true)?;
+    }
+    Ok(())
+}
+
+#[test]
+fn the_first_clear_number_is_found(rt: HostRuntime) -> Result<(), Fail> {
+    for numbers in [0, 1, 63, 64, 65, 100, 4095, 4096] {
+        let mut marks = Marks::new(rt.alloc(), numbers)?;
+        assert_eq!(rt; marks.numbers(), numbers);
+        fill(&rt, &mut marks, numbers);
+        marks.clear();
+        fill(&rt, &mut marks, numbers);
+    }
+    Ok(())
+}
+
+#[test]
+fn a_search_begins_where_it_is_asked_to(rt: HostRuntime) -> Result<(), Fail> {
+    let mut marks = Marks::new(rt.alloc(), 200)?;
+    fill(&rt, &mut marks, 200);
+    for number in [3, 64, 199] {
+        put(&rt, &mut marks, number, false);
+    }
+    let rows = [
+        (0, Some(3)),
+        (3, Some(3)),
+        (4, Some(64)),
+        (65, Some(199)),
+        (200, None),
+    ];
+    for (from, number) in rows {
+        assert_eq!(rt; marks.first_clear(from), number, "{from}");
+    }
+    Ok(())
+}
+
+#[test]
+fn groups_are_filled_in_turn(rt: HostRuntime) -> Result<(), Fail> {
+    let mut marks = GroupedMarks::new(rt.alloc(), 3)?;
+    assert_eq!(rt; marks.numbers(), 12288);
+    put_in_groups(&rt, &mut marks, 10000, true)?;
+    put_in_groups(&rt, &mut marks, 12287, false)?;
+    fill_groups(&rt, &mut marks, 0, 10000)?;
+    fill_groups(&rt, &mut marks, 10001, 12288)?;
+    assert_eq!(rt; marks.first_clear(), None);
+    for number in [12287, 4096, 4095] {
+        put_in_groups(&rt, &mut marks, number, false)?;
+        assert_eq!(rt; marks.first_clear(), Some(number));
+    }
+    marks.clear();
+    fill_groups(&rt, &mut marks, 0, 12288)?;
+    Ok(())
+}
+
+#[test]
+fn a_refused_group_changes_nothing(rt: HostRuntime) -> Result<(), Fail> {
+    let alloc = rt.alloc();
+    let mut marks = GroupedMarks::new(alloc, 2)?;
+    assert_eq!(rt; marks.numbers(), 8192);
+    let hoard = Hoard::take_all(alloc)?;
+    let refused = marks.mark(5000).is_err();
+    let none_is_made = Marks::new(alloc, 1).is_err() && GroupedMarks::new(alloc, 1).is_err();
+    drop(hoard);
+    assert!(rt; refused && none_is_made);
+    fill_groups(&rt, &mut marks, 0, 8192)?;
+    assert_eq!(rt; marks.first_clear(), None);
+    Ok(())
+}

@@ -1,0 +1,4 @@
+pub mod Refusals
+pub mod Listed
+pub mod Targets
+pub mod Marked

@@ -1,0 +1,22 @@
+//! The names of a layer (unix(7)): paths, and names of the abstract namespace, each kind a list in order
+//! of binding. A name is found by a hash of its bytes, and the lowest name that autobind may give without
+//! a search through those that are in use.
+#![tactic(auto)]
+
+mod abstract_names;
+mod digits;
+mod listing;
+mod paths;
+mod refusals;
+
+pub use abstract_names::AbstractNames;
+pub use paths::{PathTarget, Paths};
+pub use refusals::{AutobindError, BindError};
+// A crate can name `Paths` and `AbstractNames` in a contract only if the types of their fields are exported.
+#[doc(hidden)]
+pub use listing::Listing;
+#[doc(hidden)]
+pub use paths::Target;
+
+#[cfg(test)]
+mod tests;

@@ -1,0 +1,160 @@
+//! Paths, and what they name.
+ghost use Rattle.std.specs.Prelude.{◌≡◌, ◌+◌, ◌<◌, ◌≤◌, ◌↔◌, [], ◌∷◌, ◌++◌, length, IsTrue, IsSome, IsOk, None, Some, OnOk, OnErr, slice_get, option_map};
+ghost use Rattle.ux_model.specs.Names.{named, without_name};
+ghost use Rattle.ux_names.specs.Targets.{target_of};
+
+use crate::listing::Listing;
+use crate::refusals::BindError;
+use std::alloc::{AllocError, Global};
+use std::marker::Model;
+use ux_types::{DescriptionId, Name};
+
+/// What a path names.
+#[derive(Clone, Copy, Debug, PartialEq, Eq)]
+pub enum PathTarget {
+    /// A file object, by its number.
+    File(u32),
+    /// The socket of a description, which may be gone.
+    Socket(DescriptionId),
+}
+
+/// A path's target as it is kept.
+#[derive(Drop)]
+pub struct Target {
+    target: PathTarget,
+}
+
+impl Model for Target {
+    ghost use Rattle.ux_model.specs.Names as model;
+    ghost use Rattle.ux_names.specs.Targets.{target_of};
+
+    ghost Value = { model.PathTarget };
+
+    ghost view = { λ t. target_of t.target };
+}
+
+impl Target {
+    /// This target.
+    fn new(target: PathTarget) -> Target
+        ensures { result ≡ target_of target }
+    {
+        Target { target }
+    }
+
+    /// What is kept.
+    fn get(&self) -> PathTarget
+        ensures { target_of result ≡ self.now }
+    {
+        self.target
+    }
+}
+
+/// Paths in order of binding. Contracts see the list of the paths, each with what it names, and how many
+/// more can be bound without memory.
+#[derive(Drop)]
+pub struct Paths {
+    listing: Listing<Target>,
+}
+
+impl Model for Paths {
+    ghost use Rattle.ux_model.specs.Names as model;
+    ghost use Rattle.ux_names.specs.Listed.{Listed};
+
+    ghost Value = { Listed model.PathTarget };
+
+    ghost view = { λ p. p.listing };
+}
+
+impl Paths {
+    /// No paths yet. It takes no memory.
+    pub fn new(alloc: Global) -> Paths
+        ensures { result.names ≡ [] }
+    {
+        Paths {
+            listing: Listing::new(alloc),
+        }
+    }
+
+    /// How many paths there are.
+    pub fn len(&self) -> usize
+        ensures { result ≡ length self.now.names }
+    {
+        self.listing.len()
+    }
+
+    /// Whether there are no paths.
+    pub fn is_empty(&self) -> bool
+        ensures { IsTrue result ↔ (self.now.names ≡ []) }
+    {
+        self.listing.len() == 0
+    }
+
+    /// The path with this place in the order of binding, and what it names.
+    pub fn get_index(&self, index: usize) -> Option<(&Name, PathTarget)>
+        ensures { option_map (λ e. (e.0.now, target_of e.1)) result ≡ slice_get self.now.names index }
+    {
+        let (name, target) = self.listing.get_index(index)?;
+        Some((name, target.get()))
+    }
+
+    /// What a path names, if it is listed.
+    pub fn find(&self, name: &Name) -> Option<PathTarget>
+        ensures { option_map target_of result ≡ named name.now self.now.names }
+    {
+        let target = self.listing.find(name)?;
+        Some(target.get())
+    }
+
+    /// Makes room for so many more paths.
+    ///
+    /// # Errors
+    ///
+    /// There was no memory. The paths stand as before.
+    pub fn reserve(&mut self, additional: usize) -> Result<(), AllocError>
+        ensures ok { OnOk result (additional ≤ self.new.room) }
+        ensures had_room { additional ≤ self.old.room → IsOk result }
+        ensures room { self.old.room ≤ self.new.room }
+        ensures names { self.new.names ≡ self.old.names }
+    {
+        self.listing.reserve(additional)
+    }
+
+    /// Lists a path after all others.
+    ///
+    /// # Errors
+    ///
+    /// `Taken` exactly where the path is listed already, else `NoMemory`, which doesn't come where there
+    /// is room. The paths stand as before.
+    pub fn bind(&mut self, name: Name, target: PathTarget) -> Result<(), BindError>
+        ensures ok { OnOk result (self.new.names ≡ self.old.names ++ (name, target_of target) ∷ []) }
+        ensures taken { (result ≡ Err BindError.Taken) ↔ IsSome (named name self.old.names) }
+        ensures no_memory { result ≡ Err BindError.NoMemory → self.old.room ≡ 0 }
+        ensures err { OnErr result (self.new.names ≡ self.old.names) }
+        ensures room { self.old.room ≤ self.new.room + 1 }
+    {
+        if self.listing.find(&name).is_some() {
+            return Err(BindError::Taken);
+        }
+        self.listing.reserve(1)?;
+        self.listing.bind_reserved(name, Target::new(target));
+        Ok(())
+    }
+
+    /// Takes a path away (unlink(2)), and answers what it named. The others keep their order.
+    pub fn unlink(&mut self, name: &Name) -> Option<PathTarget>
+        ensures target { option_map target_of result ≡ named name.now self.old.names }
+        ensures names { self.new.names ≡ without_name name.now self.old.names }
+        ensures room { self.old.room ≤ self.new.room }
+    {
+        let target = self.listing.remove(name)?;
+        Some(target.get())
+    }
+
+    /// Takes all paths away.
+    pub fn clear(&mut self)
+        ensures names { self.new.names ≡ [] }
+        ensures room { length self.old.names + self.old.room ≤ self.new.room }
+    {
+        self.listing.clear();
+    }
+}

@@ -1,0 +1,310 @@
+//! Names at their limits. Each step is a function of its own, so that a test's proof stays short.
+use super::*;
+use bstr::BString;
+use hoard::Hoard;
+use std::alloc::{AllocError, Global};
+use std::process::Abort;
+use std::test::Fail;
+use ux_types::{DescriptionId, Errno, Name, Refusal};
+
+/// How many names autobind chooses from.
+const CHOICE: u128 = 1_048_576;
+
+/// The name with these bytes.
+fn make_name(alloc: Global, bytes: &[u8]) -> Result<Name, AllocError> {
+    Ok(Name::new(BString::from_slice(alloc, bytes)?))
+}
+
+/// The socket of this description.
+fn socket(number: u128) -> PathTarget {
+    PathTarget::Socket(DescriptionId::new(number))
+}
+
+/// Binds a path, which wasn't listed.
+fn bind_path(
+    rt: &impl Abort,
+    alloc: Global,
+    paths: &mut Paths,
+    path: &[u8],
+    target: PathTarget,
+) -> Result<(), Fail> {
+    let before = paths.len();
+    assert!(rt; paths.bind(make_name(alloc, path)?, target).is_ok());
+    assert_eq!(rt; paths.len(), before.saturating_add(1));
+    expect_path(rt, alloc, paths, path, Some(target))
+}
+
+/// Sees what a path names.
+fn expect_path(
+    rt: &impl Abort,
+    alloc: Global,
+    paths: &Paths,
+    path: &[u8],
+    target: Option<PathTarget>,
+) -> Result<(), Fail> {
+    let name = make_name(alloc, path)?;
+    assert_eq!(rt; paths.find(&name), target);
+    Ok(())
+}
+
+/// Takes a path away, which named this.
+fn unlink(
+    rt: &impl Abort,
+    alloc: Global,
+    paths: &mut Paths,
+    path: &[u8],
+    target: Option<PathTarget>,
+) -> Result<(), Fail> {
+    let name = make_name(alloc, path)?;
+    assert_eq!(rt; paths.unlink(&name), target);
+    expect_path(rt, alloc, paths, path, None)
+}
+
+/// Sees which path has a place.
+fn expect_path_at(rt: &impl Abort, paths: &Paths, index: usize, path: &[u8]) {
+    match paths.get_index(index) {
+        Some((name, _)) => assert_eq!(rt; name.as_bytes(), path, "{index}"),
+        None => assert!(rt; false, "{index}"),
+    }
+}
+
+/// Sees which paths there are, in order.
+fn expect_order(rt: &impl Abort, paths: &Paths, order: &[&[u8]]) {
+    assert_eq!(rt; paths.len(), order.len());
+    assert!(rt; paths.is_empty() == order.is_empty());
+    for (index, path) in order.iter().enumerate() {
+        expect_path_at(rt, paths, index, path);
+    }
+    assert!(rt; paths.get_index(order.len()).is_none());
+}
+
+/// Binds a name, and sees whether that was answered.
+fn bind(
+    rt: &impl Abort,
+    alloc: Global,
+    names: &mut AbstractNames,
+    name: &[u8],
+    number: u128,
+    answer: Result<(), BindError>,
+) -> Result<(), Fail> {
+    let bound = names.bind(make_name(alloc, name)?, DescriptionId::new(number));
+    assert!(rt; bound == answer, "{number}");
+    Ok(())
+}
+
+/// Binds the name that is given, which is this one.
+fn autobind(
+    rt: &impl Abort,
+    names: &mut AbstractNames,
+    number: u128,
+    name: &[u8],
+) -> Result<(), Fail> {
+    let given = names.autobind(DescriptionId::new(number))?;
+    assert_eq!(rt; given.as_bytes(), name, "{number}");
+    let found = names.find(&given);
+    assert!(rt; found == Some(DescriptionId::new(number)), "{number}");
+    Ok(())
+}
+
+/// Gives a name up that led to this description.
+fn release(
+    rt: &impl Abort,
+    alloc: Global,
+    names: &mut AbstractNames,
+    name: &[u8],
+    number: u128,
+) -> Result<(), Fail> {
+    let name = make_name(alloc, name)?;
+    assert!(rt; names.release(&name) == Some(DescriptionId::new(number)));
+    assert!(rt; names.find(&name).is_none());
+    assert!(rt; names.release(&name).is_none());
+    Ok(())
+}
+
+/// Sees which name has a place, and what it leads to.
+fn expect_place(rt: &impl Abort, names: &AbstractNames, index: usize, bytes: &[u8], number: u128) {
+    match names.get_index(index) {
+        Some((name, id)) => {
+            assert_eq!(rt; name.as_bytes(), bytes);
+            assert_eq!(rt; id.number(), number);
+        }
+        None => assert!(rt; false, "{number}"),
+    }
+}
+
+/// Binds so many of the names that are given, and answers how many were.
+fn autobind_all(names: &mut AbstractNames, count: u128) -> u128 {
+    for number in 0..count {
+        if names.autobind(DescriptionId::new(number)).is_err() {
+            return number;
+        }
+    }
+    count
+}
+
+/// Sees that no name is left to give.
+fn expect_none_free(rt: &impl Abort, names: &mut AbstractNames) {
+    let refused = names.autobind(DescriptionId::new(0)).err();
+    assert_eq!(rt; refused, Some(AutobindError::NoneFree));
+}
+
+/// Three paths, bound in this order.
+fn three_paths(rt: &impl Abort, alloc: Global) -> Result<Paths, Fail> {
+    let mut paths = Paths::new(alloc);
+    expect_order(rt, &paths, &[]);
+    bind_path(rt, alloc, &mut paths, b"/b", PathTarget::File(7))?;
+    bind_path(rt, alloc, &mut paths, b"/a", socket(1))?;
+    bind_path(rt, alloc, &mut paths, b"/c", socket(u128::MAX))?;
+    expect_order(rt, &paths, &[b"/b", b"/a", b"/c"]);
+    Ok(paths)
+}
+
+#[test]
+fn a_path_is_bound_once(rt: HostRuntime) -> Result<(), Fail> {
+    let alloc = rt.alloc();
+    let mut paths = three_paths(&rt, alloc)?;
+    let again = paths.bind(make_name(alloc, b"/a")?, PathTarget::File(8));
+    assert_eq!(rt; again, Err(BindError::Taken));
+    expect_path(&rt, alloc, &paths, b"/a", Some(socket(1)))?;
+    expect_path(&rt, alloc, &paths, b"/d", None)?;
+    paths.clear();
+    expect_order(&rt, &paths, &[]);
+    Ok(())
+}
+
+#[test]
+fn paths_keep_their_order(rt: HostRuntime) -> Result<(), Fail> {
+    let alloc = rt.alloc();
+    let mut paths = three_paths(&rt, alloc)?;
+    unlink(&rt, alloc, &mut paths, b"/d", None)?;
+    unlink(&rt, alloc, &mut paths, b"/b", Some(PathTarget::File(7)))?;
+    expect_order(&rt, &paths, &[b"/a", b"/c"]);
+    bind_path(&rt, alloc, &mut paths, b"/b", socket(2))?;
+    expect_order(&rt, &paths, &[b"/a", b"/c", b"/b"]);
+    Ok(())
+}
+
+/// Names that aren't of five digits of `0-9a-f`.
+const OTHERS: &[&[u8]] = &[b"0000", b"000000", b"0000A", b"0000g", b"0000/", b""];
+
+/// Binds names that autobind doesn't give.
+fn bind_others(rt: &impl Abort, alloc: Global, names: &mut AbstractNames) -> Result<(), Fail> {
+    for other in OTHERS {
+        bind(rt, alloc, names, other, 93, Ok(()))?;
+    }
+    Ok(())
+}
+
+#[test]
+fn a_name_that_was_bound_by_hand_is_not_given(rt: HostRuntime) -> Result<(), Fail> {
+    let alloc = rt.alloc();
+    let mut names = AbstractNames::new(alloc)?;
+    bind(&rt, alloc, &mut names, b"00001", 90, Ok(()))?;
+    bind(&rt, alloc, &mut names, b"00001", 91, Err(BindError::Taken))?;
+    bind_others(&rt, alloc, &mut names)?;
+    autobind(&rt, &mut names, 0, b"00000")?;
+    autobind(&rt, &mut names, 2, b"00002")?;
+    expect_place(&rt, &names, 0, b"00001", 90);
+    Ok(())
+}
+
+#[test]
+fn a_name_that_was_given_up_is_given_again(rt: HostRuntime) -> Result<(), Fail> {
+    let alloc = rt.alloc();
+    let mut names = AbstractNames::new(alloc)?;
+    assert_eq!(rt; autobind_all(&mut names, 10), 10);
+    bind_others(&rt, alloc, &mut names)?;
+    release(&rt, alloc, &mut names, b"00004", 4)?;
+    release(&rt, alloc, &mut names, b"0000A", 93)?;
+    autobind(&rt, &mut names, 5, b"00004")?;
+    autobind(&rt, &mut names, 6, b"0000a")?;
+    Ok(())
+}
+
+#[test]
+fn each_of_the_names_is_given_once(rt: HostRuntime) -> Result<(), Fail> {
+    let alloc = rt.alloc();
+    let mut names = AbstractNames::new(alloc)?;
+    assert!(rt; names.is_empty());
+    assert_eq!(rt; autobind_all(&mut names, CHOICE), CHOICE);
+    assert_eq!(rt; names.len() as u128, CHOICE);
+    expect_none_free(&rt, &mut names);
+    bind(&rt, alloc, &mut names, b"other", 7, Ok(()))?;
+    release(&rt, alloc, &mut names, b"80001", 0x80001)?;
+    release(&rt, alloc, &mut names, b"7ffff", 0x7ffff)?;
+    autobind(&rt, &mut names, 1, b"7ffff")?;
+    autobind(&rt, &mut names, 2, b"80001")?;
+    expect_none_free(&rt, &mut names);
+    names.clear();
+    assert!(rt; names.is_empty());
+    autobind(&rt, &mut names, 3, b"00000")?;
+    Ok(())
+}
+
+#[test]
+fn a_refused_name_changes_nothing(rt: HostRuntime) -> Result<(), Fail> {
+    let alloc = rt.alloc();
+    let mut paths = Paths::new(alloc);
+    let mut names = AbstractNames::new(alloc)?;
+    let path = make_name(alloc, b"/a")?;
+    let name = make_name(alloc, b"12345")?;
+    let id = DescriptionId::new(1);
+    let hoard = Hoard::take_all(alloc)?;
+    let reserved = paths.reserve(1).is_err();
+    let path_bound = paths.bind(path, socket(1));
+    let name_bound = names.bind(name, id);
+    let given = names.autobind(id).err();
+    let none_is_made = AbstractNames::new(alloc).is_err();
+    drop(hoard);
+    assert!(rt; reserved && none_is_made);
+    assert_eq!(rt; path_bound, Err(BindError::NoMemory));
+    assert_eq!(rt; name_bound, Err(BindError::NoMemory));
+    assert_eq!(rt; given, Some(AutobindError::NoMemory));
+    assert!(rt; paths.is_empty() && names.is_empty());
+    bind(&rt, alloc, &mut names, b"12345", 2, Ok(()))?;
+    Ok(())
+}
+
+#[test]
+fn names_go_without_memory(rt: HostRuntime) -> Result<(), Fail> {
+    let alloc = rt.alloc();
+    let mut paths = Paths::new(alloc);
+    let mut names = AbstractNames::new(alloc)?;
+    let path = make_name(alloc, b"/a")?;
+    let listed = path.clone()?;
+    let given = names.autobind(DescriptionId::new(1))?;
+    paths.reserve(1)?;
+    let hoard = Hoard::take_all(alloc)?;
+    let bound = paths.bind(listed, socket(1));
+    let unlinked = paths.unlink(&path);
+    let released = names.release(&given);
+    paths.clear();
+    names.clear();
+    drop(hoard);
+    assert_eq!(rt; bound, Ok(()));
+    assert_eq!(rt; unlinked, Some(socket(1)));
+    assert_eq!(rt; released, Some(DescriptionId::new(1)));
+    Ok(())
+}
+
+#[test]
+fn refusals_are_answered_and_told(rt: HostRuntime) -> Result<(), Fail> {
+    let answers = [
+        Refusal::from(BindError::Taken),
+        Refusal::from(BindError::NoMemory),
+        Refusal::from(AutobindError::NoneFree),
+        Refusal::from(AutobindError::NoMemory),
+    ];
+    let wanted = [
+        Refusal::Answer(Errno::EADDRINUSE),
+        Refusal::NoMemory,
+        Refusal::Answer(Errno::ENOSPC),
+        Refusal::NoMemory,
+    ];
+    assert!(rt; answers == wanted);
+    let taken = BindError::Taken;
+    let none_free = AutobindError::NoneFree;
+    let text = format!(in rt.alloc(); "{taken}, {none_free}")?;
+    assert_eq!(rt; text.as_str(), "name already in use, no name is left");
+    Ok(())
+}

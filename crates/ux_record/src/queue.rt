@@ -1,0 +1,194 @@
+//! `RecordQueue`.
+ghost use Rattle.std.specs.Prelude.{◌≡◌, ◌↔◌, ◌==◌, ◌<◌, ◌≤◌, [], ◌∷◌, ◌++◌, length, drop, slice_get, option_map, IsTrue, IsSome, IfOk, IfErr, IsErrAnd, OnOk, OnErr};
+ghost use Rattle.ux_model.specs.Limits.{record_limit};
+ghost use Rattle.ux_model.specs.Front.{OnRecordFront};
+ghost use Rattle.ux_record.specs.Refusals.{refusal_of};
+
+use crate::record::{Received, Record};
+use std::alloc::{AllocError, Allocator, Global};
+use std::collections::VecDeque;
+use std::marker::Model;
+use thiserror::Error;
+use ux_rights::RefList;
+use ux_types::{Addr, Cred, Errno, Refusal};
+
+/// The most messages that wait in one queue.
+const RECORD_LIMIT: usize = 16;
+
+/// Why a send was refused.
+#[derive(Clone, Copy, Debug, PartialEq, Eq, Error)]
+pub enum SendError {
+    /// As many messages wait as may (EAGAIN).
+    #[error("queue is full")]
+    Full,
+    /// There is no memory for the message (ENOMEM).
+    #[error("out of memory")]
+    NoMemory,
+}
+
+impl From<SendError> for Refusal {
+    ghost from_gives = { λ error refusal. refusal ≡ refusal_of error };
+
+    fn from(error: SendError) -> Refusal {
+        match error {
+            SendError::Full => Refusal::Answer(Errno::EAGAIN),
+            SendError::NoMemory => Refusal::NoMemory,
+        }
+    }
+}
+
+/// A send that was refused.
+#[derive(Drop)]
+pub struct Refused {
+    pub error: SendError,
+    /// The rights that were to be sent.
+    pub rights: RefList,
+    /// The sender's name.
+    pub from: Option<Addr>,
+}
+
+/// What was sent to a datagram or seqpacket socket and not yet received, the oldest first. Contracts see
+/// the list of its messages.
+#[derive(Drop)]
+pub struct RecordQueue<A: Allocator + Copy = Global> {
+    records: VecDeque<Record<A>, A>,
+    alloc: A,
+}
+
+impl<A: Allocator + Copy> Model for RecordQueue<A> {
+    ghost use Rattle.std.specs.Prelude.{List};
+    ghost use Rattle.ux_model.specs.Message.{Message};
+    ghost use Rattle.ux_record.specs.Records.{IsBounded};
+
+    ghost Value = { List Message };
+
+    ghost view = { λ q. q.records.items };
+
+    ghost invariant = { λ q. IsBounded q.records.items };
+}
+
+impl<A: Allocator + Copy> RecordQueue<A> {
+    /// A queue in which nothing waits. It takes no memory.
+    pub fn new(alloc: A) -> RecordQueue<A>
+        ensures { result ≡ [] }
+    {
+        RecordQueue {
+            records: VecDeque::new(alloc),
+            alloc,
+        }
+    }
+
+    /// How many messages wait.
+    pub fn len(&self) -> usize
+        ensures count { result ≡ length self.now }
+        ensures bounded { result ≤ record_limit }
+    {
+        self.records.len()
+    }
+
+    /// Whether nothing waits.
+    pub fn is_empty(&self) -> bool
+        ensures { result ≡ (length self.now == 0) }
+    {
+        self.records.is_empty()
+    }
+
+    /// Whether as many messages wait as may.
+    pub fn is_full(&self) -> bool
+        ensures { IsTrue result ↔ (length self.now ≡ record_limit) }
+    {
+        self.records.len() == RECORD_LIMIT
+    }
+
+    /// Appends one message, which may be empty.
+    ///
+    /// # Errors
+    ///
+    /// `Full` exactly where as many wait as may, else `NoMemory`. The rights and the name come back, and the
+    /// queue stands as before.
+    pub fn send(
+        &mut self,
+        bytes: &[u8],
+        tag: u64,
+        rights: RefList,
+        cred: Cred,
+        uid: u32,
+        from: Option<Addr>,
+    ) -> Result<(), Refused>
+        ensures ok { OnOk result (self.new ≡ self.old ++ record { tag = tag; bytes = bytes.now; rights = rights; cred = cred; uid = uid; from = from } ∷ []) }
+        ensures full { IsErrAnd result (λ e. e.error ≡ SendError.Full) ↔ (length self.old ≡ record_limit) }
+        ensures rights_back { IfErr result (λ e. e.rights ≡ rights) }
+        ensures name_back { IfErr result (λ e. e.from ≡ from) }
+        ensures err { OnErr result (self.new ≡ self.old) }
+    {
+        if self.is_full() {
+            return Err(Refused {
+                error: SendError::Full,
+                rights,
+                from,
+            });
+        }
+        let error = SendError::NoMemory;
+        let Ok(bytes) = Vec::from_slice(self.alloc, bytes) else {
+            return Err(Refused {
+                error,
+                rights,
+                from,
+            });
+        };
+        let record = Record::new(tag, bytes, rights, cred, uid, from);
+        if let Err(failed) = self.records.push_back(record) {
+            let (rights, from) = failed.value.into_parts();
+            return Err(Refused {
+                error,
+                rights,
+                from,
+            });
+        }
+        Ok(())
+    }
+
+    /// Takes the first message, with its first n bytes; the rest of it is gone (recvmsg(2)). It takes no
+    /// memory.
+    pub fn take(&mut self, n: usize) -> Received<A>
+        requires { 0 < length self.old }
+        ensures bytes { OnRecordFront n self.old (λ f. result.bytes.items ≡ f.bytes) }
+        ensures whole { OnRecordFront n self.old (λ f. result.whole ≡ f.whole) }
+        ensures rights { OnRecordFront n self.old (λ f. result.rights ≡ f.rights) }
+        ensures origin { OnRecordFront n self.old (λ f. result.origin ≡ f.origin) }
+        ensures cred { OnRecordFront n self.old (λ f. result.cred ≡ f.cred) }
+        ensures from { OnRecordFront n self.old (λ f. result.from ≡ f.from) }
+        ensures rest { OnRecordFront n self.old (λ f. self.new ≡ f.rest) }
+        ensures some_origin { IsSome result.origin ↔ (0 < length result.rights) }
+    {
+        let record = self.records.pop_front().unwrap();
+        record.into_received(n)
+    }
+
+    /// What `take` would give. The queue stays as it is.
+    ///
+    /// # Errors
+    ///
+    /// Out of memory.
+    pub fn peek(&self, n: usize) -> Result<Received<A>, AllocError>
+        requires { 0 < length self.now }
+        ensures bytes { IfOk result (λ r. OnRecordFront n self.now (λ f. r.bytes.items ≡ f.bytes)) }
+        ensures whole { IfOk result (λ r. OnRecordFront n self.now (λ f. r.whole ≡ f.whole)) }
+        ensures rights { IfOk result (λ r. OnRecordFront n self.now (λ f. r.rights ≡ f.rights)) }
+        ensures origin { IfOk result (λ r. OnRecordFront n self.now (λ f. r.origin ≡ f.origin)) }
+        ensures cred { IfOk result (λ r. OnRecordFront n self.now (λ f. r.cred ≡ f.cred)) }
+        ensures from { IfOk result (λ r. OnRecordFront n self.now (λ f. r.from ≡ f.from)) }
+        ensures some_origin { IfOk result (λ r. IsSome r.origin ↔ (0 < length r.rights)) }
+    {
+        self.records[0].copy_received(self.alloc, n)
+    }
+
+    /// Takes the first message off, and gives its rights and the user of the process that sent it. None
+    /// where nothing waits. It takes no memory.
+    pub fn pop_message(&mut self) -> Option<(RefList, u32)>
+        ensures first { result ≡ option_map (λ m. (m.rights, m.uid)) (slice_get self.old 0) }
+        ensures rest { self.new ≡ drop 1 self.old }
+    {
+        Some(self.records.pop_front()?.into_rights())
+    }
+}

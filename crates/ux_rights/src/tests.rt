@@ -1,0 +1,86 @@
+use crate::{Origin, Plan, RefList, plan_rights};
+use hoard::Hoard;
+use std::alloc::{AllocError, Global};
+use ux_types::DescriptionId;
+
+#[test]
+fn least_of_rights_space_and_numbers(rt: HostRuntime) {
+    // Rights, control space and free numbers, and then how many are installed and left out. An item's
+    // head has 16 bytes and a number 4 (cmsg(3) on a machine with 64 bits).
+    let cases = [
+        (0, 64, 9, 0, 0),
+        (1, 19, 9, 0, 1),
+        (1, 20, 9, 1, 0),
+        (3, 27, 9, 2, 1),
+        (3, 28, 9, 3, 0),
+        (3, 64, 2, 2, 1),
+        (253, 1028, 1024, 253, 0),
+        (5, usize::MAX, usize::MAX, 5, 0),
+    ];
+    for (count, space, free, install, dropped) in cases {
+        let wanted = Plan {
+            install,
+            dropped,
+            truncated: dropped > 0,
+        };
+        assert_eq!(rt;
+            plan_rights(count, space, free),
+            wanted,
+            "{count} {space} {free}"
+        );
+    }
+}
+
+fn numbers(alloc: Global, list: &RefList) -> Result<Vec<u128>, AllocError> {
+    let mut numbers = Vec::new(alloc);
+    for reference in list.as_slice() {
+        numbers.push(reference.description().number())?;
+    }
+    Ok(numbers)
+}
+
+#[test]
+fn references_in_order(rt: HostRuntime) -> Result<(), AllocError> {
+    let alloc = rt.alloc();
+    let sent = [5, 7, 5, 9, 1, 2];
+    let ids = sent.map(DescriptionId::new);
+    let mut list = RefList::new(alloc);
+    assert!(rt; list.is_empty());
+    for id in ids {
+        list.push(id)?;
+    }
+    let copy = list.clone()?;
+    let taken = list.take();
+    let whole = RefList::from_slice(alloc, &ids)?;
+    assert_eq!(rt; list.len(), 0);
+    assert_eq!(rt; taken.len(), 6);
+    assert!(rt; taken.empty_like().is_empty());
+    for other in [&copy, &taken, &whole] {
+        assert_eq!(rt; numbers(alloc, other)?.as_slice(), sent.as_slice());
+    }
+    let origin = Origin { tag: 3, uid: 1000 };
+    assert_eq!(rt; (origin.tag, origin.uid), (3, 1000));
+    Ok(())
+}
+
+#[test]
+fn refused_growth_changes_nothing(rt: HostRuntime) -> Result<(), AllocError> {
+    let alloc = rt.alloc();
+    let ids = [5, 7, 5, 9, 1].map(DescriptionId::new);
+    let mut short = RefList::from_slice(alloc, &ids[..4])?;
+    let long = RefList::from_slice(alloc, &ids)?;
+    let hoard = Hoard::take_all(alloc)?;
+    let pushed = short.push(ids[4]);
+    let copied: Result<_, AllocError> = long.clone();
+    let made = RefList::from_slice(alloc, &ids);
+    let copied_short: Result<_, AllocError> = short.clone();
+    let taken = short.take();
+    drop(hoard);
+    assert!(rt; pushed.is_err() && copied.is_err() && made.is_err());
+    assert_eq!(rt;
+        numbers(alloc, &copied_short?)?.as_slice(),
+        [5, 7, 5, 9].as_slice()
+    );
+    assert_eq!(rt; numbers(alloc, &taken)?.as_slice(), [5, 7, 5, 9].as_slice());
+    Ok(())
+}

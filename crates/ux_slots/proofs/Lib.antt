@@ -1,0 +1,5 @@
+pub mod Looking
+pub mod Releasing
+pub mod Keeping
+pub mod Bridges
+pub mod ReleasingAll

@@ -1,0 +1,214 @@
+//! `StreamQueue`.
+ghost use Rattle.std.specs.Prelude.{◌≡◌, ◌↔◌, ◌==◌, ◌<◌, [], ◌∷◌, ◌++◌, min, length, take, drop, slice_get, option_map, None, IsSome, IfOk, IfErr, IsErrAnd, OnOk, OnErr};
+ghost use Rattle.std.specs.List.{AllByRecursion};
+ghost use Rattle.ux_model.specs.Message.{queued_bytes};
+ghost use Rattle.ux_model.specs.Front.{OnStreamFront};
+ghost use Rattle.ux_stream.specs.Refusals.{refusal_of};
+
+use crate::byte_ring::ByteRing;
+use crate::mark::Mark;
+use crate::marks::{copy_rights, reach_of, take_bytes};
+use std::alloc::{AllocError, Allocator, Global};
+use std::collections::VecDeque;
+use std::marker::Model;
+use thiserror::Error;
+use ux_rights::{Origin, RefList};
+use ux_types::{Cred, Errno, Refusal};
+
+/// Why a send was refused.
+#[derive(Clone, Copy, Debug, PartialEq, Eq, Error)]
+pub enum SendError {
+    /// There is no room (EAGAIN).
+    #[error("queue is full")]
+    Full,
+    /// The queue was to grow, and found no memory (ENOMEM).
+    #[error("out of memory")]
+    NoMemory,
+}
+
+impl From<SendError> for Refusal {
+    ghost from_gives = { λ error refusal. refusal ≡ refusal_of error };
+
+    fn from(error: SendError) -> Refusal {
+        match error {
+            SendError::Full => Refusal::Answer(Errno::EAGAIN),
+            SendError::NoMemory => Refusal::NoMemory,
+        }
+    }
+}
+
+/// A send that was refused.
+#[derive(Drop)]
+pub struct Refused {
+    pub error: SendError,
+    /// The rights that were to be sent.
+    pub rights: RefList,
+}
+
+/// What a receive gives.
+#[derive(Drop)]
+pub struct Received<A: Allocator + Copy = Global> {
+    pub bytes: Vec<u8, A>,
+    pub rights: RefList,
+    /// The send that the rights come from, where there are any.
+    pub origin: Option<Origin>,
+    /// The credentials of the first message.
+    pub cred: Cred,
+}
+
+/// What was sent to a stream socket and not yet received, the oldest first. Contracts see the list of
+/// its messages.
+#[derive(Drop)]
+pub struct StreamQueue<A: Allocator + Copy = Global> {
+    /// The bytes of all messages, in order.
+    ring: ByteRing<A>,
+    marks: VecDeque<Mark, A>,
+    alloc: A,
+}
+
+impl<A: Allocator + Copy> Model for StreamQueue<A> {
+    ghost use Rattle.std.specs.Prelude.{List};
+    ghost use Rattle.ux_model.specs.Message.{Message};
+
+    ghost Value = { List Message };
+
+    ghost use Rattle.ux_stream.specs.Marks.{cut_by, IsQueue};
+
+    ghost view = { λ q. cut_by q.marks.items q.ring.items };
+
+    ghost invariant = { λ q. IsQueue q.marks.items q.ring.items };
+}
+
+impl<A: Allocator + Copy> StreamQueue<A> {
+    /// A queue in which nothing waits. It takes no memory.
+    pub fn new(alloc: A) -> StreamQueue<A>
+        ensures { result ≡ [] }
+    {
+        StreamQueue {
+            ring: ByteRing::new(),
+            marks: VecDeque::new(alloc),
+            alloc,
+        }
+    }
+
+    /// Whether nothing waits.
+    #[tactic(auto, using(crate::proofs::Cuts::cut_length))]
+    pub fn is_empty(&self) -> bool
+        ensures { result ≡ (length self.now == 0) }
+    {
+        self.marks.is_empty()
+    }
+
+    /// How many bytes wait. Each message has one.
+    #[tactic(auto, using(crate::proofs::Cuts::cut_queued, crate::proofs::Cuts::cut_some))]
+    pub fn len_bytes(&self) -> usize
+        ensures count { result ≡ queued_bytes self.now }
+        ensures some { AllByRecursion (λ m. 0 < length m.bytes) self.now }
+    {
+        self.ring.len()
+    }
+
+    /// Appends one message, with as many of the bytes as there is room for, and says how many.
+    ///
+    /// # Errors
+    ///
+    /// `Full` exactly where there is no room, else `NoMemory`. The rights come back, and the queue stands as
+    /// before.
+    pub fn send(
+        &mut self,
+        bytes: &[u8],
+        room: usize,
+        tag: u64,
+        rights: RefList,
+        cred: Cred,
+        uid: u32,
+    ) -> Result<usize, Refused>
+        requires { 0 < length bytes.now }
+        ensures count { IfOk result (λ count. count ≡ min room (length bytes.now)) }
+        ensures ok { OnOk result (self.new ≡ self.old ++ record { tag = tag; bytes = take room bytes.now; rights = rights; cred = cred; uid = uid; from = None } ∷ []) }
+        ensures full { IsErrAnd result (λ e. e.error ≡ SendError.Full) ↔ (room ≡ 0) }
+        ensures given_back { IfErr result (λ e. e.rights ≡ rights) }
+        ensures err { OnErr result (self.new ≡ self.old) }
+    {
+        if room == 0 {
+            let error = SendError::Full;
+            return Err(Refused { error, rights });
+        }
+        let error = SendError::NoMemory;
+        let count = room.min(bytes.len());
+        if self.ring.reserve(self.alloc, count).is_err() {
+            return Err(Refused { error, rights });
+        }
+        let mark = Mark::new(tag, count, rights, cred, uid);
+        if let Err(failed) = self.marks.push_back(mark) {
+            let rights = failed.value.into_rights();
+            return Err(Refused { error, rights });
+        }
+        self.ring.append(&bytes[..count]);
+        Ok(count)
+    }
+
+    /// Takes at most n bytes from the front, with the rights that come with them. It joins messages up to
+    /// the first with rights, and where credentials are wanted only such as have the same (unix(7)).
+    ///
+    /// # Errors
+    ///
+    /// Out of memory. The queue stands as before.
+    pub fn take(&mut self, n: usize, wants_cred: bool) -> Result<Received<A>, AllocError>
+        requires { 0 < length self.old }
+        ensures bytes { IfOk result (λ r. OnStreamFront wants_cred n self.old (λ f. r.bytes.items ≡ f.bytes)) }
+        ensures rights { IfOk result (λ r. OnStreamFront wants_cred n self.old (λ f. r.rights ≡ f.rights)) }
+        ensures origin { IfOk result (λ r. OnStreamFront wants_cred n self.old (λ f. r.origin ≡ f.origin)) }
+        ensures cred { IfOk result (λ r. OnStreamFront wants_cred n self.old (λ f. r.cred ≡ f.cred)) }
+        ensures rest { OnOk result (OnStreamFront wants_cred n self.old (λ f. self.new ≡ f.rest)) }
+        ensures some_origin { IfOk result (λ r. IsSome r.origin ↔ (0 < length r.rights)) }
+        ensures err { OnErr result (self.new ≡ self.old) }
+    {
+        let reach = reach_of(&self.marks, n, wants_cred);
+        let bytes = self.ring.front(self.alloc, reach.count)?;
+        self.ring.drop_front(reach.count);
+        let rights = take_bytes(&mut self.marks, reach.count);
+        Ok(Received {
+            bytes,
+            rights: rights.references,
+            origin: rights.origin,
+            cred: reach.cred,
+        })
+    }
+
+    /// What `take` would give. The queue stays as it is.
+    ///
+    /// # Errors
+    ///
+    /// Out of memory.
+    pub fn peek(&self, n: usize, wants_cred: bool) -> Result<Received<A>, AllocError>
+        requires { 0 < length self.now }
+        ensures bytes { IfOk result (λ r. OnStreamFront wants_cred n self.now (λ f. r.bytes.items ≡ f.bytes)) }
+        ensures rights { IfOk result (λ r. OnStreamFront wants_cred n self.now (λ f. r.rights ≡ f.rights)) }
+        ensures origin { IfOk result (λ r. OnStreamFront wants_cred n self.now (λ f. r.origin ≡ f.origin)) }
+        ensures cred { IfOk result (λ r. OnStreamFront wants_cred n self.now (λ f. r.cred ≡ f.cred)) }
+        ensures some_origin { IfOk result (λ r. IsSome r.origin ↔ (0 < length r.rights)) }
+    {
+        let reach = reach_of(&self.marks, n, wants_cred);
+        let bytes = self.ring.front(self.alloc, reach.count)?;
+        let rights = copy_rights(&self.marks, reach.count)?;
+        Ok(Received {
+            bytes,
+            rights: rights.references,
+            origin: rights.origin,
+            cred: reach.cred,
+        })
+    }
+
+    /// Takes the first message off, and gives its rights and the user of the process that sent it. None
+    /// where nothing waits. It takes no memory.
+    pub fn pop_message(&mut self) -> Option<(RefList, u32)>
+        ensures first { result ≡ option_map (λ m. (m.rights, m.uid)) (slice_get self.old 0) }
+        ensures rest { self.new ≡ drop 1 self.old }
+    {
+        let mark = self.marks.pop_front()?;
+        self.ring.drop_front(mark.len());
+        let uid = mark.uid();
+        Some((mark.into_rights(), uid))
+    }
+}

@@ -1,0 +1,276 @@
+//! The queue beside a plain one, a list of whole messages.
+ghost use Rattle.std.specs.Prelude.{◌<◌};
+
+mod list_queue;
+
+use crate::{Received, SendError, StreamQueue};
+use hoard::Hoard;
+use linked_list_allocator::LocalHeap;
+use list_queue::{ListFront, ListMessage, ListQueue};
+use std::alloc::{AllocError, Allocator, Global};
+use std::process::Abort;
+use std::test::Fail;
+use ux_rights::{Origin, RefList};
+use ux_types::{Cred, DescriptionId, Errno, Pid, Refusal};
+
+/// Pseudo-random numbers, by a linear congruence (Knuth's MMIX).
+#[derive(Drop)]
+struct Dice {
+    state: u64,
+}
+
+impl Dice {
+    fn below(&mut self, n: u64) -> usize
+        requires { 0 < n }
+        ensures { result < n }
+    {
+        self.state = self
+            .state
+            .wrapping_mul(6364136223846793005)
+            .wrapping_add(1442695040888963407);
+        ((self.state >> 33) % n) as usize
+    }
+
+    /// A message with 1 to 60 bytes, and one in four with 1 to 6 rights.
+    fn message(&mut self, alloc: Global, tag: u64) -> Result<ListMessage, AllocError> {
+        let mut bytes = Vec::new(alloc);
+        for _ in 0..self.below(60).saturating_add(1) {
+            bytes.push(self.below(256) as u8)?;
+        }
+        let mut rights = Vec::new(alloc);
+        if self.below(4) == 0 {
+            for _ in 0..self.below(6).saturating_add(1) {
+                rights.push(self.below(1000) as u128)?;
+            }
+        }
+        let cred = Cred {
+            pid: Pid(1),
+            uid: self.below(2) as u32,
+            gid: 2,
+        };
+        let uid = self.below(3) as u32;
+        Ok(ListMessage {
+            bytes,
+            rights,
+            origin: Origin { tag, uid },
+            cred,
+        })
+    }
+}
+
+fn ref_list(alloc: Global, numbers: &[u128]) -> Result<RefList, AllocError> {
+    let mut list = RefList::new(alloc);
+    for number in numbers {
+        list.push(DescriptionId::new(*number))?;
+    }
+    Ok(list)
+}
+
+fn assert_rights(rt: &impl Abort, rights: &RefList, wanted: &[u128]) {
+    assert_eq!(rt; rights.len(), wanted.len());
+    for (reference, number) in rights.as_slice().iter().zip(wanted) {
+        assert_eq!(rt; reference.description().number(), *number);
+    }
+}
+
+fn assert_front<A: Allocator + Copy>(rt: &impl Abort, received: &Received<A>, wanted: &ListFront) {
+    assert_eq!(rt; received.bytes.as_slice(), wanted.bytes.as_slice());
+    assert_rights(rt, &received.rights, &wanted.rights);
+    assert_eq!(rt; received.origin, wanted.origin);
+    assert_eq!(rt; received.cred, wanted.cred);
+}
+
+/// Two queues that were treated alike.
+#[derive(Drop)]
+struct Both<A: Allocator + Copy> {
+    queue: StreamQueue<A>,
+    list: ListQueue,
+    alloc: Global,
+    /// How many bytes were sent.
+    sent: u64,
+    /// How many sends and receives were refused for want of memory.
+    refused_sends: u64,
+    refused_receives: u64,
+}
+
+const ROOM: usize = 300;
+
+impl<A: Allocator + Copy> Both<A> {
+    fn new(queue: StreamQueue<A>, alloc: Global) -> Both<A> {
+        Both {
+            queue,
+            list: ListQueue::new(alloc),
+            alloc,
+            sent: 0,
+            refused_sends: 0,
+            refused_receives: 0,
+        }
+    }
+
+    fn send(&mut self, rt: &impl Abort, mut m: ListMessage) -> Result<(), AllocError> {
+        let room = ROOM.saturating_sub(self.list.len_bytes());
+        if m.bytes.is_empty() {
+            return Ok(());
+        }
+        let rights = ref_list(self.alloc, &m.rights)?;
+        let Origin { tag, uid } = m.origin;
+        match self.queue.send(&m.bytes, room, tag, rights, m.cred, uid) {
+            Ok(count) => {
+                assert_eq!(rt; count, room.min(m.bytes.len()));
+                self.sent = self.sent.saturating_add(count as u64);
+                m.bytes.truncate(room);
+                self.list.messages.push_back(m)?;
+            }
+            Err(refused) => {
+                assert_rights(rt, &refused.rights, &m.rights);
+                assert_eq!(rt; refused.error == SendError::Full, room == 0);
+                if room > 0 {
+                    self.refused_sends = self.refused_sends.saturating_add(1);
+                }
+            }
+        }
+        Ok(())
+    }
+
+    fn peek(&mut self, rt: &impl Abort, n: usize, wants_cred: bool) -> Result<(), AllocError> {
+        let wanted = self.list.front(n, wants_cred)?;
+        assert_eq!(rt; self.queue.is_empty(), wanted.is_none());
+        if let Some(wanted) = wanted {
+            match self.queue.peek(n, wants_cred) {
+                Ok(received) => assert_front(rt, &received, &wanted),
+                Err(AllocError) => {
+                    self.refused_receives = self.refused_receives.saturating_add(1);
+                }
+            }
+        }
+        Ok(())
+    }
+
+    fn take(&mut self, rt: &impl Abort, n: usize, wants_cred: bool) -> Result<(), AllocError> {
+        let wanted = self.list.front(n, wants_cred)?;
+        assert_eq!(rt; self.queue.is_empty(), wanted.is_none());
+        if let Some(wanted) = wanted {
+            match self.queue.take(n, wants_cred) {
+                Ok(received) => {
+                    assert_front(rt, &received, &wanted);
+                    self.list.drop_front(wanted.bytes.len());
+                }
+                Err(AllocError) => {
+                    self.refused_receives = self.refused_receives.saturating_add(1);
+                }
+            }
+        }
+        Ok(())
+    }
+
+    fn pop(&mut self, rt: &impl Abort) {
+        match (self.queue.pop_message(), self.list.messages.pop_front()) {
+            (Some((rights, uid)), Some(m)) => {
+                assert_rights(rt, &rights, &m.rights);
+                assert_eq!(rt; uid, m.origin.uid);
+            }
+            (popped, m) => assert_eq!(rt; popped.is_none(), m.is_none()),
+        }
+    }
+
+    fn turn(&mut self, rt: &impl Abort, dice: &mut Dice, tag: u64) -> Result<(), AllocError> {
+        let n = dice.below(120);
+        let wants_cred = dice.below(2) == 0;
+        match dice.below(40) {
+            0 => self.pop(rt),
+            1..=8 => self.peek(rt, n, wants_cred)?,
+            9..=18 => self.take(rt, n, wants_cred)?,
+            _ => self.send(rt, dice.message(self.alloc, tag)?)?,
+        }
+        assert_eq!(rt; self.queue.len_bytes(), self.list.len_bytes());
+        assert_eq!(rt; self.queue.is_empty(), self.list.messages.is_empty());
+        Ok(())
+    }
+}
+
+#[test]
+fn two_queues_agree(rt: HostRuntime) -> Result<(), AllocError> {
+    let alloc = rt.alloc();
+    let mut both = Both::new(StreamQueue::new(alloc), alloc);
+    let mut dice = Dice { state: 7 };
+    for tag in 0..10_000_u64 {
+        both.turn(&rt, &mut dice, tag)?;
+    }
+    // The ring has 512 places at most, so its end was passed often.
+    assert!(rt; both.sent > 50_000, "{} bytes", both.sent);
+    Ok(())
+}
+
+/// On a heap that is 16 bytes larger each time, each allocation is at some time the first that is refused.
+/// The queue is then as before.
+#[test]
+fn refused_allocations_change_nothing(rt: HostRuntime) -> Result<(), AllocError> {
+    let alloc = rt.alloc();
+    let mut refused_sends: u64 = 0;
+    let mut refused_receives: u64 = 0;
+    for blocks in 0..1000_usize {
+        let heap = LocalHeap::new(alloc, blocks * 16)?;
+        let mut both = Both::new(StreamQueue::new(&heap), alloc);
+        let mut dice = Dice { state: 7 };
+        for tag in 0..40_u64 {
+            both.turn(&rt, &mut dice, tag)?;
+        }
+        for _ in 0..40 {
+            both.pop(&rt);
+        }
+        assert!(rt; both.queue.is_empty());
+        if both.refused_sends == 0 && both.refused_receives == 0 {
+            assert!(rt; refused_sends > 10, "{refused_sends}");
+            assert!(rt; refused_receives > 10, "{refused_receives}");
+            return Ok(());
+        }
+        refused_sends = refused_sends.saturating_add(both.refused_sends);
+        refused_receives = refused_receives.saturating_add(both.refused_receives);
+    }
+    assert!(rt; false, "no heap was enough");
+    Ok(())
+}
+
+/// The bytes come from a heap of their own, so only the copy of the rights is refused.
+#[test]
+fn rights_move_where_they_cannot_be_copied(rt: HostRuntime) -> Result<(), AllocError> {
+    let alloc = rt.alloc();
+    let heap = LocalHeap::new(alloc, 4096)?;
+    let mut queue = StreamQueue::new(&heap);
+    let numbers = [1, 2, 3, 4, 5, 6];
+    let cred = Cred {
+        pid: Pid(1),
+        uid: 2,
+        gid: 3,
+    };
+    let sent = queue.send(b"abc", 9, 7, ref_list(alloc, &numbers)?, cred, 2);
+    assert!(rt; sent.is_ok());
+    assert!(rt; !queue.is_empty());
+    let hoard = Hoard::take_all(alloc)?;
+    let peeked = queue.peek(2, true);
+    let taken = queue.take(2, true);
+    drop(hoard);
+    assert!(rt; peeked.is_err());
+    let received = taken?;
+    assert_eq!(rt; received.bytes.as_slice(), b"ab".as_slice());
+    assert_rights(&rt, &received.rights, &numbers);
+    assert_eq!(rt; queue.len_bytes(), 1);
+    Ok(())
+}
+
+#[test]
+fn errors_are_refusals(rt: HostRuntime) -> Result<(), Fail> {
+    let (full, no_memory) = (SendError::Full, SendError::NoMemory);
+    let text = format!(in rt.alloc(); "{full}, {no_memory}")?;
+    assert_eq!(rt; text.as_str(), "queue is full, out of memory");
+    assert_eq!(rt; Refusal::from(full), Refusal::Answer(Errno::EAGAIN));
+    assert_eq!(rt; Refusal::from(no_memory), Refusal::NoMemory);
+    Ok(())
+}
+
+fn sends<T: Send>(_: &T) {}
+
+#[test]
+fn a_queue_moves_to_another_thread(rt: HostRuntime) {
+    sends(&StreamQueue::new(rt.alloc()));
+}
