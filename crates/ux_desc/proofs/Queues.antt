@@ -62,11 +62,11 @@ front_full q i n first out so_far full =
 
 pub taken_whole : (n : ℕ) (m : Message) (ms : List Message) → 0 < n → length m.bytes ≤ n → without_first (n - length m.bytes) ms ≡ without_first n (m ∷ ms)
 taken_whole zero m ms some fits = absurd (omega (arith, some))
-taken_whole (suc n) m ms some fits = sym (ap (λ b. if b then without_first (suc n - length m.bytes) ms else record m { bytes = drop (suc n) m.bytes } ∷ ms) (le-leb (length m.bytes) (suc n) fits))
+taken_whole (suc n) m ms some fits = sym (ap (λ b. if b then without_first (suc n - length m.bytes) ms else record m { bytes = drop (suc n) m.bytes; rights = [] } ∷ ms) (le-leb (length m.bytes) (suc n) fits))
 
-pub taken_part : (n : ℕ) (m : Message) (ms : List Message) → 0 < n → n < length m.bytes → record m { bytes = drop n m.bytes } ∷ ms ≡ without_first n (m ∷ ms)
+pub taken_part : (n : ℕ) (m : Message) (ms : List Message) → 0 < n → n < length m.bytes → record m { bytes = drop n m.bytes; rights = [] } ∷ ms ≡ without_first n (m ∷ ms)
 taken_part zero m ms some short = absurd (omega (arith, some))
-taken_part (suc n) m ms some short = sym (ap (λ b. if b then without_first (suc n - length m.bytes) ms else record m { bytes = drop (suc n) m.bytes } ∷ ms) (lt-leb (length m.bytes) (suc n) short))
+taken_part (suc n) m ms some short = sym (ap (λ b. if b then without_first (suc n - length m.bytes) ms else record m { bytes = drop (suc n) m.bytes; rights = [] } ∷ ms) (lt-leb (length m.bytes) (suc n) short))
 
 pub none_taken : (q : List Message) → without_first 0 q ≡ q
 none_taken [] = refl
@@ -83,9 +83,9 @@ left_bytes (suc n) (m ∷ ms) = go (cases_lt (suc n) (length m.bytes)) (left_byt
 
     go : (suc n < length m.bytes) ⊎ (length m.bytes ≤ suc n) → queued_bytes (without_first (suc n - length m.bytes) ms) ≡ queued_bytes ms - (suc n - length m.bytes) → queued_bytes (without_first (suc n) (m ∷ ms)) ≡ queued_bytes (m ∷ ms) - suc n
     go (inl h) less =
-        let rest = sum_by-cons (λ m. length (Message.bytes m)) (record m { bytes = drop (suc n) m.bytes }) ms in
+        let rest = sum_by-cons (λ m. length (Message.bytes m)) (record m { bytes = drop (suc n) m.bytes; rights = [] }) ms in
         let cut = length-drop (suc n) m.bytes in
-        let e : queued_bytes (record m { bytes = drop (suc n) m.bytes } ∷ ms) ≡ queued_bytes (m ∷ ms) - suc n = omega (arith, whole, rest, cut, h) in
+        let e : queued_bytes (record m { bytes = drop (suc n) m.bytes; rights = [] } ∷ ms) ≡ queued_bytes (m ∷ ms) - suc n = omega (arith, whole, rest, cut, h) in
         ap queued_bytes (sym (taken_part (suc n) m ms (omega arith) h)) ∙ e
     go (inr h) less =
         let e : queued_bytes (without_first (suc n - length m.bytes) ms) ≡ queued_bytes (m ∷ ms) - suc n = omega (arith, whole, less, h) in

@@ -3,7 +3,7 @@ ghost use Rattle.std.specs.Prelude.{◌≡◌, ◌+◌, ◌≤◌, Some, MatchOp
 ghost use Rattle.ux_model.specs.Limits.{stream_limit};
 ghost use Rattle.ux_model.specs.Message.{queued_bytes};
 ghost use Rattle.ux_model.specs.Socket.{Socket, new_end};
-ghost use Rattle.ux_model.specs.Stream.{queued, shortened};
+ghost use Rattle.ux_model.specs.Socket.{queued, shortened};
 ghost use Rattle.ux_model.specs.Description.{socket_of};
 ghost use Rattle.ux_model.specs.Pairing.{socket_description};
 ghost use Rattle.ux_model.specs.Files.{file_description};
@@ -15,8 +15,7 @@ use crate::socket::Socket;
 use bitflags::Flags;
 use std::alloc::{AllocError, Global};
 use std::marker::Model;
-use ux_fdtable::DescriptionId;
-use ux_types::{Mode, OpenFlags};
+use ux_types::{DescriptionId, Mode, OpenFlags};
 
 /// What a description leads to.
 #[derive(Drop)]

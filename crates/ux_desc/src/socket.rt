@@ -2,15 +2,14 @@
 ghost use Rattle.std.specs.Prelude.{◌≡◌, ◌+◌, ◌≤◌, OnOk, OnErr, length};
 ghost use Rattle.ux_model.specs.Limits.{stream_limit};
 ghost use Rattle.ux_model.specs.Message.{queued_bytes};
-ghost use Rattle.ux_model.specs.Socket.{new_end};
-ghost use Rattle.ux_model.specs.Stream.{queued, shortened};
+ghost use Rattle.ux_model.specs.Socket.{new_end, queued, shortened};
 ghost use Rattle.ux_desc.specs.Changes.{without_reset, losing};
 
 use crate::message::Message;
 use crate::queue::Queue;
 use std::alloc::{AllocError, Global};
 use std::marker::Model;
-use ux_fdtable::DescriptionId;
+use ux_types::DescriptionId;
 
 /// One end of a connected pair of stream sockets.
 #[derive(Drop)]

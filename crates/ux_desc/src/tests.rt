@@ -1,7 +1,6 @@
 use crate::{Description, Message};
 use std::alloc::AllocError;
-use ux_fdtable::DescriptionId;
-use ux_types::{Mode, OpenFlags};
+use ux_types::{Cred, DescriptionId, Mode, OpenFlags, Pid};
 
 #[test]
 fn a_file_has_no_queue(rt: HostRuntime) -> Result<(), AllocError> {
@@ -24,7 +23,12 @@ fn a_file_has_no_queue(rt: HostRuntime) -> Result<(), AllocError> {
 fn a_socket_keeps_what_was_sent(rt: HostRuntime) -> Result<(), AllocError> {
     let alloc = rt.alloc();
     let mut d = Description::pair_end(alloc, OpenFlags(0), DescriptionId::new(4));
-    d.push(Message::new(alloc, 9, b"abc")?)?;
+    let cred = Cred {
+        pid: Pid(1),
+        uid: 1000,
+        gid: 1000,
+    };
+    d.push(Message::new(alloc, 9, b"abc", cred)?)?;
     d.take_front(1);
     d.lose(DescriptionId::new(4), true);
     assert!(rt; d.object().is_none());

@@ -1,6 +1,7 @@
 //! A kernel with all that was called since it started.
 ghost use Rattle.std.specs.Prelude.{◌≡◌, ◌+◌, ◌<◌, ◌≤◌, ◌↔◌, ◌++◌, ◌∷◌, [], true, false, Err, length, map, replicate, slice_index, slice_set, vec_len, vec_capacity, IfOk, IfErr, OnOk, OnErr};
 ghost use Rattle.std.specs.List.{AllByRecursion};
+ghost use Rattle.ux_model.specs.Limits.{object_limit};
 ghost use Rattle.ux_model.specs.Boot.{IsBootState};
 ghost use Rattle.ux_model.specs.State.{is_live};
 ghost use Rattle.ux_model.specs.History.{calls_of, is_off, replay, IsLegal};
@@ -197,7 +198,7 @@ fn is_off(request: &Request) -> bool
 
 /// The numbers of file objects.
 fn numbers_of<O: FileObject>(retired: &[Retired<O>]) -> Released
-    requires { length retired.now ≤ 64 }
+    requires { length retired.now ≤ object_limit }
     ensures { result ≡ map (λ r. r.0) retired.now }
 {
     let mut numbers = Released::new();

@@ -5,7 +5,7 @@ use std::test::Fail;
 use ux_kernel::Kernel;
 use ux_object::FileObject;
 use ux_objects::Counter;
-use ux_types::{Errno, Fd, Mode, Name, OpenFlags, Pid, ProcSpec, Reply, Request, SockType};
+use ux_types::{Errno, Fd, Mode, Name, OpenFlags, Pid, ProcSpec, Reply, Request};
 
 const ONE: [ProcSpec; 1] = [ProcSpec {
     uid: 1000,
@@ -15,7 +15,6 @@ const ONE: [ProcSpec; 1] = [ProcSpec {
 }];
 
 const PAIR: Request = Request::SocketPair {
-    kind: SockType::Stream,
     flags: OpenFlags(0),
 };
 

@@ -9,7 +9,7 @@ use Rattle.ux_model.specs.Types.{Name, ProcSpec}
 use Rattle.ux_model.specs.Limits.{object_limit, process_limit}
 use Rattle.ux_model.specs.Object.{View}
 use Rattle.ux_model.specs.Process.{Process}
-use Rattle.ux_model.specs.Naming.{is_valid_path, same_name}
+use Rattle.ux_model.specs.Names.{is_valid_path, same_name}
 use Rattle.ux_model.specs.Boot.{IsBootState, is_open, are_distinct, new_process, boot_state}
 use Rattle.ux_kernel.specs.declared.boot.BootFault.{BootFault}
 use Rattle.ux_kernel.specs.Faults.{fault_of}

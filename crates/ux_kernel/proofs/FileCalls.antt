@@ -1,13 +1,13 @@
 -- A read and a write by the description that a number leads to.
 use Rattle.std.proofs.Common.{◌≡◌, ℕ, min, List, Some, None, Result, Ok, Err, sym, ◌∙◌, ap, subst}
 use Rattle.std.proofs.Math.Nat.{min_comm}
-use Rattle.std.specs.declared.alloc.AllocError.{AllocError}
-use Rattle.ux_model.specs.Types.{Errno, Fd, Reply}
+use Rattle.ux_model.specs.Types.{Errno, Refusal, Fd, Reply}
 use Rattle.ux_model.specs.Limits.{read_limit}
 use Rattle.ux_model.specs.Description.{Description}
 use Rattle.ux_model.specs.Process.{Descriptor}
 use Rattle.ux_model.specs.State.{State, description_at}
-use Rattle.ux_model.specs.Outcome.{Outcome, GivesOrFails, refuse, find_description}
+use Rattle.ux_model.specs.Outcome.{Outcome, refuse, find_description}
+use Rattle.ux_kernel.specs.Answers.{GivesOrFails}
 use Rattle.ux_model.specs.Files.{read, write}
 use Rattle.ux_kernel.specs.FileCalls.{read_of, read_at, write_of, write_at}
 use Rattle.ux_kernel.proofs.Found.{found}
@@ -20,16 +20,16 @@ by_entry S p fd e D rest h =
     ap (λ o. elim o as (λ _. Outcome) [ None ↦ refuse S Errno.EBADF | Some D ↦ rest e.description D ]) (found S p fd e D h).description
     ∙ sym (ap (λ r. elim r as (λ _. Outcome) [ Err x ↦ refuse S x | Ok f ↦ rest (Descriptor.description f.0) f.1 ]) h)
 
-pub read_found : (S T : State) (p : ℕ) (fd : Fd) (n d m : ℕ) (e : Descriptor) (D : Description) (r : Result Reply AllocError) → find_description S p fd ≡ Ok (e, D) →
+pub read_found : (S T : State) (p : ℕ) (fd : Fd) (n d m : ℕ) (e : Descriptor) (D : Description) (r : Result Reply Refusal) → find_description S p fd ≡ Ok (e, D) →
     d ≡ e.description → m ≡ min n read_limit → GivesOrFails S (read_at S d m) r T → GivesOrFails S (read S p fd n) r T
 unfolding read
 read_found S T p fd n d m e D r h same least g =
     let P : Outcome → Type 0 = λ o. GivesOrFails S o r T in
     subst P ((λ j. read_at S (same j) (least j)) ∙ ap (read_at S e.description) (min_comm n read_limit) ∙ by_entry S p fd e D (λ d D. read_of S d D (min read_limit n)) h) g
 
-pub write_found : (S T : State) (p tag : ℕ) (fd : Fd) (bytes : List ℕ) (d : ℕ) (e : Descriptor) (D : Description) (r : Result Reply AllocError) → find_description S p fd ≡ Ok (e, D) →
-    d ≡ e.description → GivesOrFails S (write_at S tag d bytes) r T → GivesOrFails S (write S p tag fd bytes) r T
+pub write_found : (S T : State) (p tag : ℕ) (fd : Fd) (bytes : List ℕ) (d : ℕ) (e : Descriptor) (D : Description) (r : Result Reply Refusal) → find_description S p fd ≡ Ok (e, D) →
+    d ≡ e.description → GivesOrFails S (write_at S p tag d bytes) r T → GivesOrFails S (write S p tag fd bytes) r T
 unfolding write
 write_found S T p tag fd bytes d e D r h same g =
     let P : Outcome → Type 0 = λ o. GivesOrFails S o r T in
-    subst P ((λ j. write_at S tag (same j) bytes) ∙ by_entry S p fd e D (λ d D. write_of S tag d D bytes) h) g
+    subst P ((λ j. write_at S p tag (same j) bytes) ∙ by_entry S p fd e D (λ d D. write_of S p tag d D bytes) h) g

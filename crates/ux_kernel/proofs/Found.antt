@@ -4,14 +4,14 @@ use Rattle.std.specs.Prelude.{option_and_then}
 use Rattle.std.proofs.lemmas.Option.{none-some}
 use Rattle.std.proofs.lemmas.List.{get_or_past}
 use Rattle.std.proofs.lemmas.Bool.{cases_lt}
-use Rattle.std.specs.declared.alloc.AllocError.{AllocError}
-use Rattle.ux_model.specs.Types.{Errno, Fd, MsgFlags, Reply}
+use Rattle.ux_model.specs.Types.{Errno, Refusal, Fd, MsgFlags, Reply}
 use Rattle.ux_model.specs.Flags.{are_receive_flags}
 use Rattle.ux_model.specs.Socket.{Socket}
 use Rattle.ux_model.specs.Description.{Description, socket_of}
 use Rattle.ux_model.specs.Process.{Descriptor}
 use Rattle.ux_model.specs.State.{State, description_at, socket_at, table_of}
-use Rattle.ux_model.specs.Outcome.{Outcome, Gives, refuse, descriptor_at, find_description, find_socket}
+use Rattle.ux_model.specs.Outcome.{Outcome, refuse, descriptor_at, find_description, find_socket}
+use Rattle.ux_kernel.specs.Answers.{Gives}
 use Rattle.ux_model.specs.Receiving.{receive, recv_msg}
 use Rattle.ux_kernel.specs.Receipts.{receive_at}
 
@@ -80,7 +80,7 @@ received_at S p fd n flags d s h ok =
       | Ok found ↦ if not (are_receive_flags flags) then refuse S Errno.EINVAL else receive S found.0 found.1 n flags
     ]) h)
 
-pub received_gives : (S T : State) (p : ℕ) (fd : Fd) (n : ℕ) (flags : MsgFlags) (d k : ℕ) (s : Socket) (r : Result Reply AllocError) → find_socket S p fd ≡ Ok (d, s) → are_receive_flags flags ≡ true →
+pub received_gives : (S T : State) (p : ℕ) (fd : Fd) (n : ℕ) (flags : MsgFlags) (d k : ℕ) (s : Socket) (r : Result Reply Refusal) → find_socket S p fd ≡ Ok (d, s) → are_receive_flags flags ≡ true →
     Gives S (receive_at S k n flags) r T → k ≡ d → Gives S (recv_msg S p fd n flags) r T
 received_gives S T p fd n flags d k s r h ok g same =
     let P : Outcome → Type 0 = λ o. Gives S o r T in

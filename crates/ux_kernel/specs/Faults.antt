@@ -4,7 +4,7 @@ use Rattle.std.specs.List.{list_all}
 use Rattle.ux_model.specs.Types.{Name, ProcSpec}
 use Rattle.ux_model.specs.Limits.{object_limit, process_limit}
 use Rattle.ux_model.specs.Object.{View}
-use Rattle.ux_model.specs.Naming.{is_valid_path}
+use Rattle.ux_model.specs.Names.{is_valid_path}
 use Rattle.ux_model.specs.Boot.{are_distinct}
 use Rattle.ux_kernel.specs.declared.boot.BootFault.{BootFault}
 

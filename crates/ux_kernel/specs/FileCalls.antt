@@ -10,7 +10,7 @@ use Rattle.ux_object.specs.declared.ObjKind.{ObjKind}
 use Rattle.ux_object.specs.declared.ObjError.{ObjError}
 use Rattle.ux_model.specs.Description.{Description, to_object, to_socket}
 use Rattle.ux_model.specs.State.{State, description_at, socket_at}
-use Rattle.ux_model.specs.Outcome.{Outcome, refuse}
+use Rattle.ux_model.specs.Outcome.{Outcome, refuse, as_process}
 use Rattle.ux_model.specs.Sending.{write_socket}
 use Rattle.ux_model.specs.Receiving.{read_socket}
 use Rattle.ux_model.specs.Files.{on_object, read_object, write_object, is_short_read, holds_bytes, is_open_for, write_place}
@@ -68,14 +68,14 @@ pub record IsReadable (S : State) (f : OpenFile) (kind : ObjKind) (n wanted : �
 abbrev pub write_file : State → OpenFile → List ℕ → Outcome
 write_file S f bytes = on_object S f.object (λ view. write_object S f.id (description_of f) f.object view bytes)
 
-abbrev pub write_of : State → ℕ → ℕ → Description → List ℕ → Outcome
-write_of S tag d D bytes = elim D.target [
+abbrev pub write_of : State → ℕ → ℕ → ℕ → Description → List ℕ → Outcome
+write_of S p tag d D bytes = elim D.target [
   | to_object o ↦ on_object S o (λ view. write_object S d D o view bytes)
-  | to_socket s ↦ write_socket S tag s bytes
+  | to_socket s ↦ as_process S p (λ P. write_socket S p P tag s bytes)
 ]
 
-abbrev pub write_at : State → ℕ → ℕ → List ℕ → Outcome
-write_at S tag d bytes = elim (description_at S d) [ None ↦ refuse S Errno.EBADF | Some D ↦ write_of S tag d D bytes ]
+abbrev pub write_at : State → ℕ → ℕ → ℕ → List ℕ → Outcome
+write_at S p tag d bytes = elim (description_at S d) [ None ↦ refuse S Errno.EBADF | Some D ↦ write_of S p tag d D bytes ]
 
 -- A write of these bytes at `at` will be answered by the object itself: it is there, may be written, and gives somebody to read it.
 pub record IsWritable (S : State) (f : OpenFile) (kind : ObjKind) (at : ℕ) (bytes : List ℕ) : Type 0 where

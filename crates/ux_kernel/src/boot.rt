@@ -1,31 +1,38 @@
 //! The first state.
 ghost use Rattle.std.specs.Prelude.{◌≡◌, IfOk, IfErr, MatchOption, map, IsErrAnd};
 ghost use Rattle.std.specs.List.{list_any, list_all};
-ghost use Rattle.ux_model.specs.Naming as model;
+ghost use Rattle.ux_model.specs.Names as model;
 ghost use Rattle.ux_model.specs.Boot.{IsBootState, boot_state, are_distinct};
 ghost use Rattle.ux_kernel.specs.Faults.{fault_of};
 
 use crate::kernel::Kernel;
 use crate::naming::is_valid_path;
 use std::alloc::Global;
+use thiserror::Error;
 use ux_object::FileObject;
 use ux_state::State;
 use ux_types::{Name, OBJECT_LIMIT, ProcSpec};
 
 /// Why no kernel could be made, with the number that a boot fault is told by.
-#[derive(Clone, Copy, Debug, PartialEq, Eq)]
+#[derive(Clone, Copy, Debug, PartialEq, Eq, Error)]
 pub enum BootFault {
     /// More than 64 file objects.
+    #[error("more than 64 file objects")]
     TooManyObjects = 1,
     /// More than 64 processes.
+    #[error("more than 64 processes")]
     TooManyProcesses = 2,
     /// Two file objects under one path.
+    #[error("two file objects with one path")]
     NameTwice = 3,
     /// A file object that was closed before.
+    #[error("a file object that was closed before")]
     ObjectClosed = 4,
     /// No memory.
+    #[error("out of memory")]
     NoMemory = 5,
     /// A path that isn't 1 to 107 bytes without NUL (unix(7)).
+    #[error("a path that isn't 1 to 107 bytes without NUL")]
     BadPath = 6,
 }
 

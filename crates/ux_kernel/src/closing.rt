@@ -2,24 +2,24 @@
 ghost use Rattle.std.specs.Prelude.{◌≡◌, IsTrue};
 ghost use Rattle.ux_model.specs.State.{is_live};
 ghost use Rattle.ux_model.specs.Closing as model;
+ghost use Rattle.ux_kernel.specs.Answers.{Gives};
 
 use crate::kernel::Kernel;
 use ux_object::FileObject;
-use ux_types::{Fd, Pid, Reply};
+use ux_types::{Fd, Pid, Refusal, Reply};
 
 impl<O: FileObject> Kernel<O> {
     /// close(2). EBADF where the number isn't open.
     #[tactic(auto, unfolding(ux_model::specs::Closing::close))]
-    pub(crate) fn close(&mut self, pid: Pid, fd: Fd) -> Reply
+    pub(crate) fn close(&mut self, pid: Pid, fd: Fd) -> Result<Reply, Refusal>
         requires { IsTrue (is_live self.old pid.0) }
-        ensures reply { result ≡ (model.close self.old pid.0 fd).reply }
-        ensures state { self.new ≡ (model.close self.old pid.0 fd).next }
+        ensures { Gives self.old (model.close self.old pid.0 fd) result self.new }
     {
         if let Err(e) = self.state.find_description(pid, fd) {
-            return Reply::Err(e);
+            return Err(Refusal::from(e));
         }
         self.state.take_entry(pid, fd);
-        Reply::Ok
+        Ok(Reply::Ok)
     }
 
     /// _exit(2). It is never refused.

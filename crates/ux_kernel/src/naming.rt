@@ -1,11 +1,13 @@
 //! Paths (unlink(2)).
 ghost use Rattle.std.specs.Prelude.{◌≡◌, ◌==◌};
 ghost use Rattle.std.specs.List.{list_any};
+ghost use Rattle.ux_model.specs.Names.{is_valid_path};
 ghost use Rattle.ux_model.specs.Naming as model;
+ghost use Rattle.ux_kernel.specs.Answers.{Gives};
 
 use crate::kernel::Kernel;
 use ux_object::FileObject;
-use ux_types::{Errno, Name, Reply};
+use ux_types::{Errno, Name, Refusal, Reply};
 
 /// The bytes of the longest path (sun_path of unix(7), without its NUL).
 const NAME_LIMIT: usize = 107;
@@ -13,24 +15,23 @@ const NAME_LIMIT: usize = 107;
 impl<O: FileObject> Kernel<O> {
     /// unlink(2). EINVAL for a path that can't be, else ENOENT for one that isn't there.
     #[tactic(auto, unfolding(ux_model::specs::Naming::unlink))]
-    pub(crate) fn unlink(&mut self, path: &Name) -> Reply
-        ensures reply { result ≡ (model.unlink self.old path.now).reply }
-        ensures state { self.new ≡ (model.unlink self.old path.now).next }
+    pub(crate) fn unlink(&mut self, path: &Name) -> Result<Reply, Refusal>
+        ensures { Gives self.old (model.unlink self.old path.now) result self.new }
     {
         if !is_valid_path(path) {
-            return Reply::Err(Errno::EINVAL);
+            return Err(Refusal::Answer(Errno::EINVAL));
         }
         if self.state.path(path).is_none() {
-            return Reply::Err(Errno::ENOENT);
+            return Err(Refusal::Answer(Errno::ENOENT));
         }
         self.state.unlink(path);
-        Reply::Ok
+        Ok(Reply::Ok)
     }
 }
 
 /// Whether it can be a path: 1 to 107 bytes without NUL (unix(7)).
 pub(crate) fn is_valid_path(path: &Name) -> bool
-    ensures { result ≡ model.is_valid_path path.now }
+    ensures { result ≡ is_valid_path path.now }
 {
     let bytes = path.as_bytes();
     0 < bytes.len() && bytes.len() <= NAME_LIMIT && !has_nul(bytes)

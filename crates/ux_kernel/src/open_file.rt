@@ -1,13 +1,11 @@
 //! What is known of an open file object by its description.
 ghost use Rattle.std.specs.Prelude.{◌≡◌, Some, None, MatchOption};
-ghost use Rattle.ux_model.specs.Flags.{can_read, can_write};
 ghost use Rattle.ux_desc.specs.Changes.{object_of};
 ghost use Rattle.ux_kernel.specs.FileCalls.{description_of, errno_of};
 
 use ux_desc::Description;
-use ux_fdtable::DescriptionId;
 use ux_object::ObjError;
-use ux_types::{Errno, Mode};
+use ux_types::{DescriptionId, Errno, Mode};
 
 /// An open file object, with all that its description says.
 #[derive(Clone, Copy)]
@@ -35,20 +33,6 @@ impl OpenFile {
             nonblock: description.nonblock(),
         })
     }
-}
-
-/// Whether a file that is open so can be read.
-pub(crate) fn can_read(mode: Mode) -> bool
-    ensures { result ≡ can_read mode }
-{
-    matches!(mode, Mode::Read | Mode::Both)
-}
-
-/// Whether a file that is open so can be written.
-pub(crate) fn can_write(mode: Mode) -> bool
-    ensures { result ≡ can_write mode }
-{
-    matches!(mode, Mode::Write | Mode::Both)
 }
 
 /// The refusal that stands for an error of a file object.

@@ -1,27 +1,21 @@
 //! Making a connected pair (socketpair(2)).
 ghost use Rattle.std.specs.Prelude.{IsTrue};
 ghost use Rattle.ux_model.specs.State.{is_live};
-ghost use Rattle.ux_model.specs.Outcome.{Gives};
+ghost use Rattle.ux_kernel.specs.Answers.{Gives};
 ghost use Rattle.ux_model.specs.Pairing as model;
 
 use crate::kernel::Kernel;
-use std::alloc::AllocError;
-use ux_fdtable::InstallError;
 use ux_object::FileObject;
-use ux_types::{Errno, OpenFlags, Pid, Reply};
+use ux_types::{OpenFlags, Pid, Refusal, Reply};
 
 impl<O: FileObject> Kernel<O> {
     /// socketpair(2). EMFILE where fewer than two numbers are free.
     #[tactic(auto, unfolding(ux_model::specs::Pairing::make_pair))]
-    pub(crate) fn make_pair(&mut self, pid: Pid, flags: OpenFlags) -> Result<Reply, AllocError>
+    pub(crate) fn make_pair(&mut self, pid: Pid, flags: OpenFlags) -> Result<Reply, Refusal>
         requires { IsTrue (is_live self.old pid.0) }
         ensures { Gives self.old (model.make_pair self.old pid.0 flags) result self.new }
     {
-        let (low, high) = match self.state.open_pair(pid, flags) {
-            Ok(numbers) => numbers,
-            Err(InstallError::Full) => return Ok(Reply::Err(Errno::EMFILE)),
-            Err(InstallError::NoMemory) => return Err(AllocError),
-        };
+        let (low, high) = self.state.open_pair(pid, flags)?;
         Ok(Reply::Fds(low, high))
     }
 }

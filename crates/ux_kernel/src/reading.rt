@@ -2,17 +2,15 @@
 ghost use Rattle.std.specs.Prelude.{◌≡◌, ◌+◌, ◌<◌, ◌^◌, IsTrue, Some};
 ghost use Rattle.ux_model.specs.State.{is_live, description_at};
 ghost use Rattle.ux_model.specs.Object.{read_body};
-ghost use Rattle.ux_model.specs.Outcome.{Gives, GivesOrFails};
+ghost use Rattle.ux_kernel.specs.Answers.{Gives, GivesOrFails};
 ghost use Rattle.ux_model.specs.Files as model;
 ghost use Rattle.ux_object.specs.Kind.{kind_of};
 ghost use Rattle.ux_kernel.specs.FileCalls.{description_of, read_file, read_at, read_socket_at, IsReadable};
 
 use crate::kernel::Kernel;
-use crate::open_file::{OpenFile, can_read, errno_of};
-use std::alloc::AllocError;
-use ux_fdtable::DescriptionId;
+use crate::open_file::{OpenFile, errno_of};
 use ux_object::{FileObject, ObjKind};
-use ux_types::{Bytes, Errno, Fd, MsgFlags, Pid, Reply};
+use ux_types::{Bytes, DescriptionId, Errno, Fd, MsgFlags, Pid, Refusal, Reply};
 
 /// The bytes that one read asks for at most.
 const READ_LIMIT: usize = 1048576;
@@ -24,23 +22,23 @@ impl<O: FileObject> Kernel<O> {
     /// read(2). EBADF where the number isn't open, or not for reading, EINVAL for fewer than 8 bytes of a
     /// counter, EAGAIN where there is nothing to read, EIO where the file object failed.
     #[tactic(auto, unfolding(ux_model::specs::Files::read))]
-    pub(crate) fn read(&mut self, pid: Pid, fd: Fd, n: usize) -> Result<Reply, AllocError>
+    pub(crate) fn read(&mut self, pid: Pid, fd: Fd, n: usize) -> Result<Reply, Refusal>
         requires { IsTrue (is_live self.old pid.0) }
         ensures { GivesOrFails self.old (model.read self.old pid.0 fd n) result self.new }
     {
         let (entry, _) = match self.state.find_description(pid, fd) {
             Ok(found) => found,
-            Err(e) => return Ok(Reply::Err(e)),
+            Err(e) => return Err(Refusal::from(e)),
         };
         self.read_at(entry.description, n.min(READ_LIMIT))
     }
 
     /// Reads by this description.
-    fn read_at(&mut self, id: DescriptionId, n: usize) -> Result<Reply, AllocError>
+    fn read_at(&mut self, id: DescriptionId, n: usize) -> Result<Reply, Refusal>
         ensures { GivesOrFails self.old (read_at self.old id n) result self.new }
     {
         let Some(description) = self.state.description(id) else {
-            return Ok(Reply::Err(Errno::EBADF));
+            return Err(Refusal::Answer(Errno::EBADF));
         };
         match OpenFile::of(id, description) {
             Some(file) => self.read_file(file, n),
@@ -49,7 +47,7 @@ impl<O: FileObject> Kernel<O> {
     }
 
     /// Receives at the socket of this description, and answers the bytes alone.
-    fn read_socket(&mut self, id: DescriptionId, n: usize) -> Result<Reply, AllocError>
+    fn read_socket(&mut self, id: DescriptionId, n: usize) -> Result<Reply, Refusal>
         ensures { Gives self.old (read_socket_at self.old id n) result self.new }
     {
         Ok(match self.recv_at(id, n, MsgFlags(0))? {
@@ -59,19 +57,19 @@ impl<O: FileObject> Kernel<O> {
     }
 
     /// Reads of an open file object.
-    fn read_file(&mut self, file: OpenFile, n: usize) -> Result<Reply, AllocError>
+    fn read_file(&mut self, file: OpenFile, n: usize) -> Result<Reply, Refusal>
         requires { description_at self.old file.id ≡ Some (description_of file) }
         ensures { GivesOrFails self.old (read_file self.old file n) result self.new }
     {
         let Some(object) = self.state.object(file.object) else {
-            return Ok(Reply::Err(Errno::EBADF));
+            return Err(Refusal::Answer(Errno::EBADF));
         };
-        if !can_read(file.mode) {
-            return Ok(Reply::Err(Errno::EBADF));
+        if !file.mode.can_read() {
+            return Err(Refusal::Answer(Errno::EBADF));
         }
         let kind = object.kind();
         if kind == ObjKind::Counter && n < COUNTER_BYTES {
-            return Ok(Reply::Err(Errno::EINVAL));
+            return Err(Refusal::Answer(Errno::EINVAL));
         }
         if kind != ObjKind::Counter && n == 0 {
             return Ok(Reply::Bytes(Bytes::new(Vec::new(self.alloc))));
@@ -84,7 +82,7 @@ impl<O: FileObject> Kernel<O> {
         if kind == ObjKind::Pipe && !self.state.has_writer(file.object) {
             return Ok(Reply::Bytes(Bytes::new(Vec::new(self.alloc))));
         }
-        Ok(Reply::Err(Errno::EAGAIN))
+        Err(Refusal::Answer(Errno::EAGAIN))
     }
 
     /// Reads of an open file object that has something to give, and moves the offset of a memory file.
@@ -94,7 +92,7 @@ impl<O: FileObject> Kernel<O> {
         kind: ObjKind,
         n: usize,
         wanted: usize,
-    ) -> Result<Reply, AllocError>
+    ) -> Result<Reply, Refusal>
         requires here { description_at self.old file.id ≡ Some (description_of file) }
         requires readable { IsReadable self.old file kind n wanted }
         ensures { GivesOrFails self.old (read_file self.old file n) result self.new }
@@ -111,7 +109,7 @@ impl<O: FileObject> Kernel<O> {
                 }
                 Ok(Reply::Bytes(Bytes::new(bytes)))
             }
-            Err(error) => Ok(Reply::Err(errno_of(error))),
+            Err(error) => Err(Refusal::Answer(errno_of(error))),
         }
     }
 }

@@ -2,16 +2,14 @@
 ghost use Rattle.std.specs.Prelude.{◌≡◌, IsTrue, length};
 ghost use Rattle.ux_model.specs.Flags.{are_receive_flags, no_flags};
 ghost use Rattle.ux_model.specs.State.{is_live};
-ghost use Rattle.ux_model.specs.Outcome.{Gives};
+ghost use Rattle.ux_kernel.specs.Answers.{Gives};
 ghost use Rattle.ux_model.specs.Receiving as model;
 ghost use Rattle.ux_kernel.specs.Receipts.{receive_at, receive_nothing_at};
 
 use crate::kernel::Kernel;
 use bitflags::Flags;
-use std::alloc::AllocError;
-use ux_fdtable::DescriptionId;
 use ux_object::FileObject;
-use ux_types::{Bytes, Errno, Fd, MsgFlags, Pid, Reply};
+use ux_types::{Bytes, DescriptionId, Errno, Fd, MsgFlags, Pid, Refusal, Reply};
 
 impl<O: FileObject> Kernel<O> {
     /// recvmsg(2). EBADF or ENOTSOCK where the number leads to no socket, EINVAL for flags that a receive
@@ -23,16 +21,16 @@ impl<O: FileObject> Kernel<O> {
         fd: Fd,
         n: usize,
         flags: MsgFlags,
-    ) -> Result<Reply, AllocError>
+    ) -> Result<Reply, Refusal>
         requires { IsTrue (is_live self.old pid.0) }
         ensures { Gives self.old (model.recv_msg self.old pid.0 fd n flags) result self.new }
     {
         let id = match self.state.find_socket(pid, fd) {
             Ok((id, _)) => id,
-            Err(e) => return Ok(Reply::Err(e)),
+            Err(e) => return Err(Refusal::from(e)),
         };
         if !are_receive_flags(flags) {
-            return Ok(Reply::Err(Errno::EINVAL));
+            return Err(Refusal::Answer(Errno::EINVAL));
         }
         self.recv_at(id, n, flags)
     }
@@ -43,17 +41,17 @@ impl<O: FileObject> Kernel<O> {
         id: DescriptionId,
         n: usize,
         flags: MsgFlags,
-    ) -> Result<Reply, AllocError>
+    ) -> Result<Reply, Refusal>
         ensures { Gives self.old (receive_at self.old id n flags) result self.new }
     {
         let Some(socket) = self.state.socket(id) else {
-            return Ok(Reply::Err(Errno::EBADF));
+            return Err(Refusal::Answer(Errno::EBADF));
         };
         if n == 0 {
             return Ok(received(Vec::new(self.alloc)));
         }
         if socket.queue().is_empty() {
-            return Ok(self.recv_nothing(id));
+            return self.recv_nothing(id);
         }
         let bytes = socket.queue().front(self.alloc, n)?;
         if !flags.contains(MsgFlags::PEEK) {
@@ -63,21 +61,20 @@ impl<O: FileObject> Kernel<O> {
     }
 
     /// What a receive answers where nothing waits.
-    fn recv_nothing(&mut self, id: DescriptionId) -> Reply
-        ensures reply { result ≡ (receive_nothing_at self.old id).reply }
-        ensures state { self.new ≡ (receive_nothing_at self.old id).next }
+    fn recv_nothing(&mut self, id: DescriptionId) -> Result<Reply, Refusal>
+        ensures { Gives self.old (receive_nothing_at self.old id) result self.new }
     {
         let Some(socket) = self.state.socket(id) else {
-            return Reply::Err(Errno::EBADF);
+            return Err(Refusal::Answer(Errno::EBADF));
         };
         let peer = socket.peer();
         if socket.reset() {
             self.state.clear_reset(id);
-            return Reply::Err(Errno::ECONNRESET);
+            return Err(Refusal::Answer(Errno::ECONNRESET));
         }
         match self.state.socket(peer) {
-            Some(_) => Reply::Err(Errno::EAGAIN),
-            None => received(Vec::new(self.alloc)),
+            Some(_) => Err(Refusal::Answer(Errno::EAGAIN)),
+            None => Ok(received(Vec::new(self.alloc))),
         }
     }
 }

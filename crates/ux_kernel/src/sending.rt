@@ -2,16 +2,14 @@
 ghost use Rattle.std.specs.Prelude.{◌≡◌, IsTrue};
 ghost use Rattle.ux_model.specs.Flags.{are_send_flags};
 ghost use Rattle.ux_model.specs.State.{is_live};
-ghost use Rattle.ux_model.specs.Outcome.{Gives};
+ghost use Rattle.ux_kernel.specs.Answers.{Gives};
 ghost use Rattle.ux_model.specs.Sending as model;
 
 use crate::kernel::Kernel;
 use bitflags::Flags;
-use std::alloc::AllocError;
 use ux_desc::Message;
-use ux_fdtable::DescriptionId;
 use ux_object::FileObject;
-use ux_types::{Errno, Fd, MsgFlags, Pid, Reply};
+use ux_types::{Cred, DescriptionId, Errno, Fd, MsgFlags, Pid, Refusal, Reply};
 
 impl<O: FileObject> Kernel<O> {
     /// sendmsg(2), as the call with number `tag`. EBADF or ENOTSOCK where the number leads to no socket,
@@ -25,41 +23,43 @@ impl<O: FileObject> Kernel<O> {
         fd: Fd,
         bytes: &[u8],
         flags: MsgFlags,
-    ) -> Result<Reply, AllocError>
+    ) -> Result<Reply, Refusal>
         requires { IsTrue (is_live self.old pid.0) }
         ensures { Gives self.old (model.send_msg self.old pid.0 tag fd bytes.now flags) result self.new }
     {
         let peer = match self.state.find_socket(pid, fd) {
             Ok((_, socket)) => socket.peer(),
-            Err(e) => return Ok(Reply::Err(e)),
+            Err(e) => return Err(Refusal::from(e)),
         };
         if !are_send_flags(flags) {
-            return Ok(Reply::Err(Errno::EINVAL));
+            return Err(Refusal::Answer(Errno::EINVAL));
         }
-        self.send_to_peer(peer, tag, bytes)
+        let cred = self.state.credentials(pid);
+        self.send_to_peer(peer, tag, cred, bytes)
     }
 
-    /// Sends bytes to the socket of this description, if it is still there, else EPIPE.
+    /// Sends the bytes of a process with these credentials to the socket of this description, if it is still there, else EPIPE.
     pub(crate) fn send_to_peer(
         &mut self,
         peer: DescriptionId,
         tag: u64,
+        cred: Cred,
         bytes: &[u8],
-    ) -> Result<Reply, AllocError>
-        ensures { Gives self.old (model.send_to_peer self.old tag peer bytes.now) result self.new }
+    ) -> Result<Reply, Refusal>
+        ensures { Gives self.old (model.send_to_peer self.old peer (model.message_of cred tag bytes.now)) result self.new }
     {
         let room = match self.state.socket(peer) {
             Some(socket) => socket.queue().room(),
-            None => return Ok(Reply::Err(Errno::EPIPE)),
+            None => return Err(Refusal::Answer(Errno::EPIPE)),
         };
         if bytes.is_empty() {
             return Ok(Reply::Count(0));
         }
         if room == 0 {
-            return Ok(Reply::Err(Errno::EAGAIN));
+            return Err(Refusal::Answer(Errno::EAGAIN));
         }
         let count = room.min(bytes.len());
-        let m = Message::new(self.alloc, tag, &bytes[..count])?;
+        let m = Message::new(self.alloc, tag, &bytes[..count], cred)?;
         self.state.append_message(peer, m)?;
         Ok(Reply::Count(count))
     }

@@ -1,16 +1,15 @@
 //! One call.
 ghost use Rattle.std.specs.Prelude.{map};
 ghost use Rattle.std.specs.List.{AllByRecursion};
-ghost use Rattle.ux_model.specs.Outcome.{GivesOrFails};
+ghost use Rattle.ux_kernel.specs.Answers.{GivesOrFails};
 ghost use Rattle.ux_model.specs.Step.{outcome, Step};
 ghost use Rattle.ux_kernel.specs.Calling.{IsCaller, IsClosedObject};
 
 use crate::kernel::Kernel;
 use arrayvec::ArrayVec;
-use std::alloc::AllocError;
 use ux_object::FileObject;
 use ux_state::Retired;
-use ux_types::{Errno, OBJECT_LIMIT, Pid, Reply, Request};
+use ux_types::{Errno, OBJECT_LIMIT, Pid, Refusal, Reply, Request};
 
 /// What a call left behind.
 #[derive(Drop)]
@@ -51,14 +50,15 @@ impl<O: FileObject> Kernel<O> {
     {
         *reply = match self.call(pid, tag, request) {
             Ok(reply) => reply,
-            Err(AllocError) => Reply::Err(Errno::ENOMEM),
+            Err(Refusal::Answer(errno)) => Reply::Err(errno),
+            Err(Refusal::NoMemory) => Reply::Err(Errno::ENOMEM),
         };
         self.state.settle()
     }
 
     /// Makes the call, and leaves what it lets go of.
     #[tactic(auto, unfolding(ux_model::specs::Step::outcome))]
-    fn call(&mut self, pid: Pid, tag: u64, request: &Request) -> Result<Reply, AllocError>
+    fn call(&mut self, pid: Pid, tag: u64, request: &Request) -> Result<Reply, Refusal>
         requires { IsCaller self.old pid.0 request.now }
         ensures { GivesOrFails self.old (outcome self.old pid.0 tag request.now) result self.new }
     {
@@ -66,13 +66,13 @@ impl<O: FileObject> Kernel<O> {
             Request::Open { path, mode, flags } => self.open_file(pid, path, *mode, *flags),
             Request::Read { fd, n } => self.read(pid, *fd, *n),
             Request::Write { fd, bytes } => self.write(pid, tag, *fd, bytes.as_slice()),
-            Request::Lseek { fd, offset, whence } => Ok(self.lseek(pid, *fd, *offset, *whence)),
+            Request::Lseek { fd, offset, whence } => self.lseek(pid, *fd, *offset, *whence),
             Request::Dup { fd } => self.dup(pid, *fd),
             Request::Dup2 { fd, to } => self.dup2(pid, *fd, *to),
-            Request::SetFlags { fd, flags } => Ok(self.set_flags(pid, *fd, *flags)),
-            Request::Close { fd } => Ok(self.close(pid, *fd)),
-            Request::Unlink { path } => Ok(self.unlink(path)),
-            Request::SocketPair { flags, .. } => self.make_pair(pid, *flags),
+            Request::SetFlags { fd, flags } => self.set_flags(pid, *fd, *flags),
+            Request::Close { fd } => self.close(pid, *fd),
+            Request::Unlink { path } => self.unlink(path),
+            Request::SocketPair { flags } => self.make_pair(pid, *flags),
             Request::SendMsg { fd, bytes, flags } => {
                 self.send(pid, tag, *fd, bytes.as_slice(), *flags)
             }

@@ -1,11 +1,11 @@
 use crate::{BootFault, Kernel};
 use bstr::BString;
+use hoard::Hoard;
 use std::alloc::{AllocError, Global};
+use std::process::Abort;
 use ux_object::FileObject;
 use ux_objects::Counter;
-use ux_types::{
-    Bytes, Errno, Fd, Mode, MsgFlags, Name, OpenFlags, Pid, ProcSpec, Reply, Request, SockType,
-};
+use ux_types::{Bytes, Errno, Fd, Mode, MsgFlags, Name, OpenFlags, Pid, ProcSpec, Reply, Request};
 
 /// A user's process with this descriptor limit.
 fn process(limit: u32) -> ProcSpec {
@@ -19,7 +19,6 @@ fn process(limit: u32) -> ProcSpec {
 
 fn pair() -> Request {
     Request::SocketPair {
-        kind: SockType::Stream,
         flags: OpenFlags(0),
     }
 }
@@ -81,14 +80,30 @@ fn ask(kernel: &mut Kernel<Counter>, pid: u32, request: &Request) -> Option<Repl
     Some(kernel.step(Pid(pid), 0, request).reply)
 }
 
-/// Makes a call of this process and compares its reply.
-fn says(kernel: &mut Kernel<Counter>, pid: u32, request: Request, reply: Reply) -> bool {
-    ask(kernel, pid, &request) == Some(reply)
+/// Makes a call of this process, which is answered so.
+fn says(rt: &impl Abort, kernel: &mut Kernel<Counter>, pid: u32, request: Request, reply: Reply) {
+    assert_eq!(rt; ask(kernel, pid, &request), Some(reply));
 }
 
-/// Makes a call of process 1 and compares its reply.
-fn answers(kernel: &mut Kernel<Counter>, request: Request, reply: Reply) -> bool {
-    says(kernel, 1, request, reply)
+/// Makes a call of process 1, which is answered so.
+fn answers(rt: &impl Abort, kernel: &mut Kernel<Counter>, request: Request, reply: Reply) {
+    says(rt, kernel, 1, request, reply);
+}
+
+/// Makes a call of process 1 while every allocation is refused, then again with memory.
+fn answers_at_last(
+    rt: &impl Abort,
+    alloc: Global,
+    kernel: &mut Kernel<Counter>,
+    request: Request,
+    reply: Reply,
+) -> Result<(), AllocError> {
+    let hoard = Hoard::take_all(alloc)?;
+    let first = ask(kernel, 1, &request);
+    drop(hoard);
+    assert_eq!(rt; first, Some(refused(Errno::ENOMEM)));
+    answers(rt, kernel, request, reply);
+    Ok(())
 }
 
 /// Ends the layer, once no process is left.
@@ -96,53 +111,44 @@ fn turns_off(kernel: &mut Kernel<Counter>) -> bool {
     !kernel.has_live() && kernel.step(Pid(0), 0, &Request::Off).reply == Reply::Ok
 }
 
-/// The same, where a call that lacked memory is made once more.
-fn answers_at_last(kernel: &mut Kernel<Counter>, request: Request, reply: Reply) -> bool {
-    let first = ask(kernel, 1, &request);
-    if first != Some(refused(Errno::ENOMEM)) {
-        return first == Some(reply);
-    }
-    answers(kernel, request, reply)
-}
-
 #[test]
 fn a_pair_from_its_making_to_its_end(rt: HostRuntime) -> Result<(), AllocError> {
     let alloc = rt.alloc();
     let mut kernel = bare(alloc, &[process(16)])?;
     let k = &mut kernel;
-    assert!(rt; answers(k, pair(), fds(0, 1)));
-    assert!(rt; answers(k, send(alloc, 0, b"ab")?, Reply::Count(2)));
-    assert!(rt; answers(k, recv(1, 1, 1), got(alloc, b"a")?));
-    assert!(rt; answers(k, recv(1, 8, 0), got(alloc, b"ab")?));
-    assert!(rt; answers(k, recv(1, 8, 0), refused(Errno::EAGAIN)));
-    assert!(rt; answers(k, send(alloc, 0, b"")?, Reply::Count(0)));
-    assert!(rt; answers(k, recv(1, 0, 0), got(alloc, b"")?));
-    assert!(rt; answers(k, send(alloc, 0, b"x")?, Reply::Count(1)));
-    assert!(rt; answers(k, close(1), Reply::Ok));
-    assert!(rt; answers(k, recv(0, 8, 0), refused(Errno::ECONNRESET)));
-    assert!(rt; answers(k, recv(0, 8, 0), got(alloc, b"")?));
-    assert!(rt; answers(k, send(alloc, 0, b"x")?, refused(Errno::EPIPE)));
-    assert!(rt; answers(k, close(0), Reply::Ok));
-    assert!(rt; answers(k, close(0), refused(Errno::EBADF)));
-    assert!(rt; answers(k, Request::Exit, Reply::Ok));
+    answers(&rt, k, pair(), fds(0, 1));
+    answers(&rt, k, send(alloc, 0, b"ab")?, Reply::Count(2));
+    answers(&rt, k, recv(1, 1, 1), got(alloc, b"a")?);
+    answers(&rt, k, recv(1, 8, 0), got(alloc, b"ab")?);
+    answers(&rt, k, recv(1, 8, 0), refused(Errno::EAGAIN));
+    answers(&rt, k, send(alloc, 0, b"")?, Reply::Count(0));
+    answers(&rt, k, recv(1, 0, 0), got(alloc, b"")?);
+    answers(&rt, k, send(alloc, 0, b"x")?, Reply::Count(1));
+    answers(&rt, k, close(1), Reply::Ok);
+    answers(&rt, k, recv(0, 8, 0), refused(Errno::ECONNRESET));
+    answers(&rt, k, recv(0, 8, 0), got(alloc, b"")?);
+    answers(&rt, k, send(alloc, 0, b"x")?, refused(Errno::EPIPE));
+    answers(&rt, k, close(0), Reply::Ok);
+    answers(&rt, k, close(0), refused(Errno::EBADF));
+    answers(&rt, k, Request::Exit, Reply::Ok);
     assert!(rt; !k.is_live(Pid(1)));
     Ok(())
 }
 
 #[test]
-fn a_call_that_lacked_memory_changed_nothing(rt: HostRuntime) -> Result<(), AllocError> {
+fn a_call_that_is_refused_memory_changes_nothing(rt: HostRuntime) -> Result<(), AllocError> {
     let alloc = rt.alloc();
     let mut kernel = bare(alloc, &[process(16)])?;
     let k = &mut kernel;
-    assert!(rt; answers_at_last(k, pair(), fds(0, 1)));
-    assert!(rt; answers_at_last(k, send(alloc, 0, b"abc")?, Reply::Count(3)));
-    assert!(rt; answers_at_last(k, send(alloc, 0, b"def")?, Reply::Count(3)));
-    assert!(rt; answers_at_last(k, recv(1, 1, 1), got(alloc, b"a")?));
-    assert!(rt; answers_at_last(k, recv(1, 4, 0), got(alloc, b"abcd")?));
-    assert!(rt; answers_at_last(k, pair(), fds(2, 3)));
-    assert!(rt; answers(k, close(1), Reply::Ok));
-    assert!(rt; answers(k, recv(0, 8, 0), refused(Errno::ECONNRESET)));
-    assert!(rt; answers(k, Request::Exit, Reply::Ok));
+    answers_at_last(&rt, alloc, k, pair(), fds(0, 1))?;
+    answers_at_last(&rt, alloc, k, send(alloc, 0, b"abc")?, Reply::Count(3))?;
+    answers(&rt, k, send(alloc, 0, b"def")?, Reply::Count(3));
+    answers_at_last(&rt, alloc, k, recv(1, 1, 1), got(alloc, b"a")?)?;
+    answers_at_last(&rt, alloc, k, recv(1, 4, 0), got(alloc, b"abcd")?)?;
+    answers(&rt, k, pair(), fds(2, 3));
+    answers(&rt, k, close(1), Reply::Ok);
+    answers(&rt, k, recv(0, 8, 0), refused(Errno::ECONNRESET));
+    answers(&rt, k, Request::Exit, Reply::Ok);
     Ok(())
 }
 
@@ -151,15 +157,15 @@ fn one_receive_joins_sends_and_cuts_the_last(rt: HostRuntime) -> Result<(), Allo
     let alloc = rt.alloc();
     let mut kernel = bare(alloc, &[process(16)])?;
     let k = &mut kernel;
-    assert!(rt; answers(k, pair(), fds(0, 1)));
-    assert!(rt; answers(k, send(alloc, 0, b"abc")?, Reply::Count(3)));
-    assert!(rt; answers(k, send(alloc, 0, b"def")?, Reply::Count(3)));
-    assert!(rt; answers(k, recv(1, 4, 1), got(alloc, b"abcd")?));
-    assert!(rt; answers(k, recv(1, 4, 0), got(alloc, b"abcd")?));
-    assert!(rt; answers(k, send(alloc, 0, b"ghi")?, Reply::Count(3)));
-    assert!(rt; answers(k, recv(1, 3, 0), got(alloc, b"efg")?));
-    assert!(rt; answers(k, recv(1, 9, 0), got(alloc, b"hi")?));
-    assert!(rt; answers(k, recv(1, 9, 0), refused(Errno::EAGAIN)));
+    answers(&rt, k, pair(), fds(0, 1));
+    answers(&rt, k, send(alloc, 0, b"abc")?, Reply::Count(3));
+    answers(&rt, k, send(alloc, 0, b"def")?, Reply::Count(3));
+    answers(&rt, k, recv(1, 4, 1), got(alloc, b"abcd")?);
+    answers(&rt, k, recv(1, 4, 0), got(alloc, b"abcd")?);
+    answers(&rt, k, send(alloc, 0, b"ghi")?, Reply::Count(3));
+    answers(&rt, k, recv(1, 3, 0), got(alloc, b"efg")?);
+    answers(&rt, k, recv(1, 9, 0), got(alloc, b"hi")?);
+    answers(&rt, k, recv(1, 9, 0), refused(Errno::EAGAIN));
     Ok(())
 }
 
@@ -168,18 +174,23 @@ fn flags_are_checked_behind_the_descriptor(rt: HostRuntime) -> Result<(), AllocE
     let alloc = rt.alloc();
     let mut kernel = bare(alloc, &[process(16)])?;
     let k = &mut kernel;
-    assert!(rt; answers(k, pair(), fds(0, 1)));
+    answers(&rt, k, pair(), fds(0, 1));
     for flags in [1, 2, 8, 16, 64, 128] {
-        assert!(rt; answers(k, send_with(alloc, 0, b"a", flags)?, refused(Errno::EINVAL)));
+        answers(
+            &rt,
+            k,
+            send_with(alloc, 0, b"a", flags)?,
+            refused(Errno::EINVAL),
+        );
     }
     for flags in [16, 32, 64, 128] {
-        assert!(rt; answers(k, recv(1, 8, flags), refused(Errno::EINVAL)));
+        answers(&rt, k, recv(1, 8, flags), refused(Errno::EINVAL));
     }
-    assert!(rt; answers(k, send_with(alloc, 2, b"a", 1)?, refused(Errno::EBADF)));
-    assert!(rt; answers(k, recv(2, 8, 16), refused(Errno::EBADF)));
-    assert!(rt; answers(k, send_with(alloc, 0, b"a", 36)?, Reply::Count(1)));
-    assert!(rt; answers(k, recv(1, 8, 15), got(alloc, b"a")?));
-    assert!(rt; answers(k, recv(1, 8, 14), got(alloc, b"a")?));
+    answers(&rt, k, send_with(alloc, 2, b"a", 1)?, refused(Errno::EBADF));
+    answers(&rt, k, recv(2, 8, 16), refused(Errno::EBADF));
+    answers(&rt, k, send_with(alloc, 0, b"a", 36)?, Reply::Count(1));
+    answers(&rt, k, recv(1, 8, 15), got(alloc, b"a")?);
+    answers(&rt, k, recv(1, 8, 14), got(alloc, b"a")?);
     Ok(())
 }
 
@@ -189,14 +200,14 @@ fn a_full_queue_takes_what_fits(rt: HostRuntime) -> Result<(), AllocError> {
     let mut kernel = bare(alloc, &[process(16)])?;
     let k = &mut kernel;
     let many: Vec<u8> = vec![in alloc; 120; 70000]?;
-    assert!(rt; answers(k, pair(), fds(0, 1)));
-    assert!(rt; answers(k, send(alloc, 0, &many)?, Reply::Count(65536)));
-    assert!(rt; answers(k, send(alloc, 0, b"y")?, refused(Errno::EAGAIN)));
-    assert!(rt; answers(k, send(alloc, 0, b"")?, Reply::Count(0)));
-    assert!(rt; answers(k, recv(1, 1, 0), got(alloc, b"x")?));
-    assert!(rt; answers(k, send(alloc, 0, b"yz")?, Reply::Count(1)));
-    assert!(rt; answers(k, recv(1, 65535, 0), got(alloc, &many[..65535])?));
-    assert!(rt; answers(k, recv(1, 8, 0), got(alloc, b"y")?));
+    answers(&rt, k, pair(), fds(0, 1));
+    answers(&rt, k, send(alloc, 0, &many)?, Reply::Count(65536));
+    answers(&rt, k, send(alloc, 0, b"y")?, refused(Errno::EAGAIN));
+    answers(&rt, k, send(alloc, 0, b"")?, Reply::Count(0));
+    answers(&rt, k, recv(1, 1, 0), got(alloc, b"x")?);
+    answers(&rt, k, send(alloc, 0, b"yz")?, Reply::Count(1));
+    answers(&rt, k, recv(1, 65535, 0), got(alloc, &many[..65535])?);
+    answers(&rt, k, recv(1, 8, 0), got(alloc, b"y")?);
     Ok(())
 }
 
@@ -206,14 +217,14 @@ fn a_queue_of_single_bytes_is_taken_at_once(rt: HostRuntime) -> Result<(), Alloc
     let mut kernel = bare(alloc, &[process(16)])?;
     let k = &mut kernel;
     let many: Vec<u8> = vec![in alloc; 120; 65536]?;
-    assert!(rt; answers(k, pair(), fds(0, 1)));
+    answers(&rt, k, pair(), fds(0, 1));
     for _ in 0..65536 {
-        assert!(rt; answers(k, send(alloc, 0, b"x")?, Reply::Count(1)));
+        answers(&rt, k, send(alloc, 0, b"x")?, Reply::Count(1));
     }
-    assert!(rt; answers(k, send(alloc, 0, b"x")?, refused(Errno::EAGAIN)));
-    assert!(rt; answers(k, recv(1, 1000000, 1), got(alloc, &many)?));
-    assert!(rt; answers(k, recv(1, 1000000, 0), got(alloc, &many)?));
-    assert!(rt; answers(k, recv(1, 1000000, 0), refused(Errno::EAGAIN)));
+    answers(&rt, k, send(alloc, 0, b"x")?, refused(Errno::EAGAIN));
+    answers(&rt, k, recv(1, 1000000, 1), got(alloc, &many)?);
+    answers(&rt, k, recv(1, 1000000, 0), got(alloc, &many)?);
+    answers(&rt, k, recv(1, 1000000, 0), refused(Errno::EAGAIN));
     Ok(())
 }
 
@@ -223,14 +234,14 @@ fn a_full_queue_is_taken_byte_by_byte(rt: HostRuntime) -> Result<(), AllocError>
     let mut kernel = bare(alloc, &[process(16)])?;
     let k = &mut kernel;
     let many: Vec<u8> = vec![in alloc; 120; 65535]?;
-    assert!(rt; answers(k, pair(), fds(0, 1)));
-    assert!(rt; answers(k, send(alloc, 0, &many)?, Reply::Count(65535)));
-    assert!(rt; answers(k, send(alloc, 0, b"y")?, Reply::Count(1)));
+    answers(&rt, k, pair(), fds(0, 1));
+    answers(&rt, k, send(alloc, 0, &many)?, Reply::Count(65535));
+    answers(&rt, k, send(alloc, 0, b"y")?, Reply::Count(1));
     for _ in 0..65535 {
-        assert!(rt; answers(k, recv(1, 1, 0), got(alloc, b"x")?));
+        answers(&rt, k, recv(1, 1, 0), got(alloc, b"x")?);
     }
-    assert!(rt; answers(k, recv(1, 1, 0), got(alloc, b"y")?));
-    assert!(rt; answers(k, recv(1, 1, 0), refused(Errno::EAGAIN)));
+    answers(&rt, k, recv(1, 1, 0), got(alloc, b"y")?);
+    answers(&rt, k, recv(1, 1, 0), refused(Errno::EAGAIN));
     Ok(())
 }
 
@@ -239,12 +250,12 @@ fn a_pair_takes_the_two_lowest_free_numbers(rt: HostRuntime) -> Result<(), Alloc
     let alloc = rt.alloc();
     let mut kernel = bare(alloc, &[process(3)])?;
     let k = &mut kernel;
-    assert!(rt; answers(k, pair(), fds(0, 1)));
-    assert!(rt; answers(k, pair(), refused(Errno::EMFILE)));
-    assert!(rt; answers(k, close(0), Reply::Ok));
-    assert!(rt; answers(k, pair(), fds(0, 2)));
-    assert!(rt; answers(k, pair(), refused(Errno::EMFILE)));
-    assert!(rt; answers(k, close(3), refused(Errno::EBADF)));
+    answers(&rt, k, pair(), fds(0, 1));
+    answers(&rt, k, pair(), refused(Errno::EMFILE));
+    answers(&rt, k, close(0), Reply::Ok);
+    answers(&rt, k, pair(), fds(0, 2));
+    answers(&rt, k, pair(), refused(Errno::EMFILE));
+    answers(&rt, k, close(3), refused(Errno::EBADF));
     Ok(())
 }
 
@@ -253,9 +264,9 @@ fn a_limit_of_0_counts_as_1(rt: HostRuntime) -> Result<(), AllocError> {
     let alloc = rt.alloc();
     let mut kernel = bare(alloc, &[process(0), process(1), process(2)])?;
     let k = &mut kernel;
-    assert!(rt; says(k, 1, pair(), refused(Errno::EMFILE)));
-    assert!(rt; says(k, 2, pair(), refused(Errno::EMFILE)));
-    assert!(rt; says(k, 3, pair(), fds(0, 1)));
+    says(&rt, k, 1, pair(), refused(Errno::EMFILE));
+    says(&rt, k, 2, pair(), refused(Errno::EMFILE));
+    says(&rt, k, 3, pair(), fds(0, 1));
     Ok(())
 }
 
@@ -266,7 +277,7 @@ fn a_kernel_has_64_processes_at_most(rt: HostRuntime) -> Result<(), AllocError> 
     let mut kernel = bare(alloc, &specs[..64])?;
     let k = &mut kernel;
     for pid in 1..65 {
-        assert!(rt; says(k, pid, pair(), fds(0, 1)));
+        says(&rt, k, pid, pair(), fds(0, 1));
     }
     assert!(rt; !k.is_live(Pid(0)));
     assert!(rt; !k.is_live(Pid(65)));
@@ -278,14 +289,14 @@ fn an_exit_leaves_the_pairs_of_others(rt: HostRuntime) -> Result<(), AllocError>
     let alloc = rt.alloc();
     let mut kernel = bare(alloc, &[process(16), process(16)])?;
     let k = &mut kernel;
-    assert!(rt; says(k, 1, pair(), fds(0, 1)));
-    assert!(rt; says(k, 2, pair(), fds(0, 1)));
-    assert!(rt; says(k, 1, send(alloc, 0, b"a")?, Reply::Count(1)));
-    assert!(rt; says(k, 2, send(alloc, 0, b"b")?, Reply::Count(1)));
-    assert!(rt; says(k, 1, Request::Exit, Reply::Ok));
+    says(&rt, k, 1, pair(), fds(0, 1));
+    says(&rt, k, 2, pair(), fds(0, 1));
+    says(&rt, k, 1, send(alloc, 0, b"a")?, Reply::Count(1));
+    says(&rt, k, 2, send(alloc, 0, b"b")?, Reply::Count(1));
+    says(&rt, k, 1, Request::Exit, Reply::Ok);
     assert!(rt; !k.is_live(Pid(1)));
-    assert!(rt; says(k, 2, recv(1, 8, 0), got(alloc, b"b")?));
-    assert!(rt; says(k, 2, Request::Exit, Reply::Ok));
+    says(&rt, k, 2, recv(1, 8, 0), got(alloc, b"b")?);
+    says(&rt, k, 2, Request::Exit, Reply::Ok);
     assert!(rt; !k.has_live());
     assert!(rt; k.process_count() == 2);
     assert!(rt; turns_off(k));
@@ -315,18 +326,52 @@ fn one_closed(alloc: Global) -> Result<Vec<(Name, Counter)>, AllocError> {
     Ok(objects)
 }
 
-/// Whether these can't be booted for this fault, and all file objects come back. Memory may be wanting
-/// where no other fault is.
+/// These file objects have the same paths and contents as those.
+fn are_as_before(rt: &impl Abort, objects: &[(Name, Counter)], before: &[(Name, Counter)]) {
+    assert_eq!(rt; objects.len(), before.len());
+    for (object, before) in objects.iter().zip(before) {
+        assert_eq!(rt; object.0, before.0);
+        assert_eq!(rt; object.1.is_open(), before.1.is_open());
+        assert_eq!(rt; object.1.ready(), before.1.ready());
+    }
+}
+
+/// These can't be booted, for this fault, and all file objects come back as they were.
 fn faults(
+    rt: &impl Abort,
     alloc: Global,
-    objects: Vec<(Name, Counter)>,
+    (objects, as_before): (Vec<(Name, Counter)>, Vec<(Name, Counter)>),
     procs: &[ProcSpec],
     fault: BootFault,
-) -> bool {
-    let count = objects.len();
+) {
     match Kernel::boot(alloc, objects, procs) {
-        Ok(_) => fault == BootFault::NoMemory,
-        Err((found, back)) => found == fault && back.len() == count,
+        Ok(_) => assert!(rt; false, "booted, and not {fault}"),
+        Err((found, back)) => {
+            assert_eq!(rt; found, fault);
+            are_as_before(rt, &back, &as_before);
+        }
+    }
+}
+
+/// Counters under these paths, the first of them at 5, and the same once more.
+fn two_alike(
+    rt: &impl Abort,
+    alloc: Global,
+    paths: &[&[u8]],
+) -> Result<(Vec<(Name, Counter)>, Vec<(Name, Counter)>), AllocError> {
+    let mut first = counters(alloc, paths)?;
+    let mut second = counters(alloc, paths)?;
+    add_five(rt, &mut first);
+    add_five(rt, &mut second);
+    Ok((first, second))
+}
+
+/// Adds 5 to the first of these counters.
+fn add_five(rt: &impl Abort, objects: &mut Vec<(Name, Counter)>) {
+    if let Some(first) = objects.first_mut() {
+        if first.1.is_open() {
+            assert_eq!(rt; first.1.write(0, &5u64.to_le_bytes()), Ok(8));
+        }
     }
 }
 
@@ -334,67 +379,50 @@ fn faults(
 fn each_fault_stops_a_boot(rt: HostRuntime) -> Result<(), AllocError> {
     let alloc = rt.alloc();
     let one = [process(16)];
-    let many: Vec<ProcSpec> = vec![in alloc; process(2); 65]?;
     let crowd: [&[u8]; 65] = [b"a"; 65];
+    let many: Vec<ProcSpec> = vec![in alloc; process(2); 65]?;
+    let objects = two_alike(&rt, alloc, &crowd)?;
+    faults(&rt, alloc, objects, &one, BootFault::TooManyObjects);
+    let objects = two_alike(&rt, alloc, &[b"a"])?;
+    faults(&rt, alloc, objects, &many, BootFault::TooManyProcesses);
+    let objects = two_alike(&rt, alloc, &[b"a", b"b", b"a"])?;
+    faults(&rt, alloc, objects, &one, BootFault::NameTwice);
+    let objects = (one_closed(alloc)?, one_closed(alloc)?);
+    faults(&rt, alloc, objects, &one, BootFault::ObjectClosed);
+    Ok(())
+}
+
+#[test]
+fn a_path_that_cannot_be_stops_a_boot(rt: HostRuntime) -> Result<(), AllocError> {
+    let alloc = rt.alloc();
+    let one = [process(16)];
     let long: Vec<u8> = vec![in alloc; 97; 108]?;
-    assert!(rt;
-        faults(
-            alloc,
-            counters(alloc, &crowd)?,
-            &one,
-            BootFault::TooManyObjects
-        )
-    );
-    assert!(rt;
-        faults(
-            alloc,
-            counters(alloc, &[b"a"])?,
-            &many,
-            BootFault::TooManyProcesses
-        )
-    );
-    assert!(rt;
-        faults(
-            alloc,
-            counters(alloc, &[b"a", b""])?,
-            &one,
-            BootFault::BadPath
-        )
-    );
-    assert!(rt;
-        faults(
-            alloc,
-            counters(alloc, &[b"a", b"b\0"])?,
-            &one,
-            BootFault::BadPath
-        )
-    );
-    assert!(rt; faults(alloc, counters(alloc, &[&long])?, &one, BootFault::BadPath));
-    assert!(rt;
-        faults(
-            alloc,
-            counters(alloc, &[&long[1..]])?,
-            &one,
-            BootFault::NoMemory
-        )
-    );
-    assert!(rt;
-        faults(
-            alloc,
-            counters(alloc, &[b"a", b"b", b"a"])?,
-            &one,
-            BootFault::NameTwice
-        )
-    );
-    assert!(rt; faults(alloc, one_closed(alloc)?, &one, BootFault::ObjectClosed));
-    assert!(rt;
-        faults(
-            alloc,
-            counters(alloc, &[b"a", b"b"])?,
-            &one,
-            BootFault::NoMemory
-        )
-    );
+    let objects = two_alike(&rt, alloc, &[b"a", b""])?;
+    faults(&rt, alloc, objects, &one, BootFault::BadPath);
+    let objects = two_alike(&rt, alloc, &[b"a", b"b\0"])?;
+    faults(&rt, alloc, objects, &one, BootFault::BadPath);
+    let objects = two_alike(&rt, alloc, &[&long])?;
+    faults(&rt, alloc, objects, &one, BootFault::BadPath);
+    let longest = counters(alloc, &[&long[1..]])?;
+    assert!(rt; Kernel::boot(alloc, longest, &one).is_ok());
+    Ok(())
+}
+
+#[test]
+fn a_boot_that_is_refused_memory_gives_the_objects_back(rt: HostRuntime) -> Result<(), AllocError> {
+    let alloc = rt.alloc();
+    let one = [process(16)];
+    let (objects, as_before) = two_alike(&rt, alloc, &[b"a", b"b"])?;
+    let hoard = Hoard::take_all(alloc)?;
+    let refused = Kernel::boot(alloc, objects, &one).err();
+    drop(hoard);
+    match refused {
+        Some((fault, back)) => {
+            assert_eq!(rt; fault, BootFault::NoMemory);
+            are_as_before(&rt, &back, &as_before);
+        }
+        None => assert!(rt; false, "booted without memory"),
+    }
     Ok(())
 }
 
@@ -404,33 +432,17 @@ fn of_two_faults_one_is_told(rt: HostRuntime) -> Result<(), AllocError> {
     let one = [process(16)];
     let many: Vec<ProcSpec> = vec![in alloc; process(2); 65]?;
     let crowd: [&[u8]; 65] = [b"a"; 65];
-    assert!(rt;
-        faults(
-            alloc,
-            counters(alloc, &crowd)?,
-            &many,
-            BootFault::TooManyObjects
-        )
-    );
-    assert!(rt;
-        faults(
-            alloc,
-            counters(alloc, &[b""])?,
-            &many,
-            BootFault::TooManyProcesses
-        )
-    );
-    assert!(rt;
-        faults(
-            alloc,
-            counters(alloc, &[b"", b""])?,
-            &one,
-            BootFault::BadPath
-        )
-    );
+    let objects = two_alike(&rt, alloc, &crowd)?;
+    faults(&rt, alloc, objects, &many, BootFault::TooManyObjects);
+    let objects = two_alike(&rt, alloc, &[b""])?;
+    faults(&rt, alloc, objects, &many, BootFault::TooManyProcesses);
+    let objects = two_alike(&rt, alloc, &[b"", b""])?;
+    faults(&rt, alloc, objects, &one, BootFault::BadPath);
     let mut twice = one_closed(alloc)?;
     twice.push((named(alloc, b"a")?, Counter::new()))?;
-    assert!(rt; faults(alloc, twice, &one, BootFault::NameTwice));
+    let mut same = one_closed(alloc)?;
+    same.push((named(alloc, b"a")?, Counter::new()))?;
+    faults(&rt, alloc, (twice, same), &one, BootFault::NameTwice);
     Ok(())
 }
 
@@ -479,11 +491,11 @@ fn an_object_without_a_path_is_handed_out(rt: HostRuntime) -> Result<(), AllocEr
     let alloc = rt.alloc();
     let mut kernel = with_counters(alloc, &[b"a", b"b"])?;
     let k = &mut kernel;
-    assert!(rt; answers(k, unlink(alloc, b"")?, refused(Errno::EINVAL)));
-    assert!(rt; answers(k, unlink(alloc, b"c")?, refused(Errno::ENOENT)));
+    answers(&rt, k, unlink(alloc, b"")?, refused(Errno::EINVAL));
+    answers(&rt, k, unlink(alloc, b"c")?, refused(Errno::ENOENT));
     assert!(rt; lets_go(k, unlink(alloc, b"b")?, 1));
-    assert!(rt; answers(k, unlink(alloc, b"b")?, refused(Errno::ENOENT)));
-    assert!(rt; answers(k, Request::Exit, Reply::Ok));
+    answers(&rt, k, unlink(alloc, b"b")?, refused(Errno::ENOENT));
+    answers(&rt, k, Request::Exit, Reply::Ok);
     assert!(rt; !k.has_live());
     let done = k.step(Pid(0), 0, &Request::Off);
     assert!(rt; done.retired.len() == 1);
@@ -499,7 +511,7 @@ fn a_kernel_goes_with_its_open_objects(rt: HostRuntime) -> Result<(), AllocError
         mode: Mode::Both,
         flags: OpenFlags(0),
     };
-    assert!(rt; answers(&mut kernel, open, Reply::Fd(Fd(0))));
+    answers(&rt, &mut kernel, open, Reply::Fd(Fd(0)));
     drop(kernel);
     Ok(())
 }
@@ -514,21 +526,21 @@ fn further_descriptors_lead_to_one_socket(rt: HostRuntime) -> Result<(), AllocEr
         fd: Fd(fd),
         to: Fd(to),
     };
-    assert!(rt; answers(k, pair(), fds(0, 1)));
-    assert!(rt; answers(k, dup(0), Reply::Fd(Fd(2))));
-    assert!(rt; answers(k, dup2(1, 3), Reply::Fd(Fd(3))));
-    assert!(rt; answers(k, dup(0), refused(Errno::EMFILE)));
-    assert!(rt; answers(k, dup2(0, 4), refused(Errno::EBADF)));
-    assert!(rt; answers(k, dup2(0, 0), Reply::Fd(Fd(0))));
-    assert!(rt; answers(k, close(0), Reply::Ok));
-    assert!(rt; answers(k, dup2(0, 1), refused(Errno::EBADF)));
-    assert!(rt; answers(k, send(alloc, 2, b"a")?, Reply::Count(1)));
-    assert!(rt; answers(k, dup2(2, 1), Reply::Fd(Fd(1))));
-    assert!(rt; answers(k, recv(3, 8, 0), got(alloc, b"a")?));
+    answers(&rt, k, pair(), fds(0, 1));
+    answers(&rt, k, dup(0), Reply::Fd(Fd(2)));
+    answers(&rt, k, dup2(1, 3), Reply::Fd(Fd(3)));
+    answers(&rt, k, dup(0), refused(Errno::EMFILE));
+    answers(&rt, k, dup2(0, 4), refused(Errno::EBADF));
+    answers(&rt, k, dup2(0, 0), Reply::Fd(Fd(0)));
+    answers(&rt, k, close(0), Reply::Ok);
+    answers(&rt, k, dup2(0, 1), refused(Errno::EBADF));
+    answers(&rt, k, send(alloc, 2, b"a")?, Reply::Count(1));
+    answers(&rt, k, dup2(2, 1), Reply::Fd(Fd(1)));
+    answers(&rt, k, recv(3, 8, 0), got(alloc, b"a")?);
     let flags = Request::SetFlags {
         fd: Fd(3),
         flags: OpenFlags(7),
     };
-    assert!(rt; answers(k, flags, Reply::Ok));
+    answers(&rt, k, flags, Reply::Ok);
     Ok(())
 }

@@ -1,16 +1,14 @@
 //! Writing (write(2)) to file objects and sockets.
 ghost use Rattle.std.specs.Prelude.{◌≡◌, IsTrue, Some};
 ghost use Rattle.ux_model.specs.State.{is_live, description_at};
-ghost use Rattle.ux_model.specs.Outcome.{GivesOrFails};
+ghost use Rattle.ux_kernel.specs.Answers.{GivesOrFails};
 ghost use Rattle.ux_model.specs.Files as model;
 ghost use Rattle.ux_kernel.specs.FileCalls.{description_of, write_file, write_at, IsWritable};
 
 use crate::kernel::Kernel;
-use crate::open_file::{OpenFile, can_write, errno_of};
-use std::alloc::AllocError;
-use ux_fdtable::DescriptionId;
+use crate::open_file::{OpenFile, errno_of};
 use ux_object::{FileObject, ObjError, ObjKind};
-use ux_types::{Errno, Fd, Pid, Reply};
+use ux_types::{DescriptionId, Errno, Fd, Pid, Refusal, Reply};
 
 impl<O: FileObject> Kernel<O> {
     /// write(2), as the call with number `tag`, which a message to a socket keeps. EBADF where the number
@@ -23,44 +21,52 @@ impl<O: FileObject> Kernel<O> {
         tag: u64,
         fd: Fd,
         bytes: &[u8],
-    ) -> Result<Reply, AllocError>
+    ) -> Result<Reply, Refusal>
         requires { IsTrue (is_live self.old pid.0) }
         ensures { GivesOrFails self.old (model.write self.old pid.0 tag fd bytes.now) result self.new }
     {
         let (entry, _) = match self.state.find_description(pid, fd) {
             Ok(found) => found,
-            Err(e) => return Ok(Reply::Err(e)),
+            Err(e) => return Err(Refusal::from(e)),
         };
-        self.write_at(entry.description, tag, bytes)
+        self.write_at(pid, entry.description, tag, bytes)
     }
 
     /// Writes by this description.
-    fn write_at(&mut self, id: DescriptionId, tag: u64, bytes: &[u8]) -> Result<Reply, AllocError>
-        ensures { GivesOrFails self.old (write_at self.old tag id bytes.now) result self.new }
+    fn write_at(
+        &mut self,
+        pid: Pid,
+        id: DescriptionId,
+        tag: u64,
+        bytes: &[u8],
+    ) -> Result<Reply, Refusal>
+        requires { IsTrue (is_live self.old pid.0) }
+        ensures { GivesOrFails self.old (write_at self.old pid.0 tag id bytes.now) result self.new }
     {
         let Some(description) = self.state.description(id) else {
-            return Ok(Reply::Err(Errno::EBADF));
+            return Err(Refusal::Answer(Errno::EBADF));
         };
         match (OpenFile::of(id, description), description.socket()) {
             (Some(file), _) => self.write_file(file, bytes),
             (None, Some(socket)) => {
                 let peer = socket.peer();
-                self.send_to_peer(peer, tag, bytes)
+                let cred = self.state.credentials(pid);
+                self.send_to_peer(peer, tag, cred, bytes)
             }
             (None, None) => unreachable!(),
         }
     }
 
     /// Writes to an open file object.
-    fn write_file(&mut self, file: OpenFile, bytes: &[u8]) -> Result<Reply, AllocError>
+    fn write_file(&mut self, file: OpenFile, bytes: &[u8]) -> Result<Reply, Refusal>
         requires { description_at self.old file.id ≡ Some (description_of file) }
         ensures { GivesOrFails self.old (write_file self.old file bytes.now) result self.new }
     {
         let Some(object) = self.state.object(file.object) else {
-            return Ok(Reply::Err(Errno::EBADF));
+            return Err(Refusal::Answer(Errno::EBADF));
         };
-        if !can_write(file.mode) {
-            return Ok(Reply::Err(Errno::EBADF));
+        if !file.mode.can_write() {
+            return Err(Refusal::Answer(Errno::EBADF));
         }
         let kind = object.kind();
         if kind != ObjKind::Counter && bytes.is_empty() {
@@ -72,7 +78,7 @@ impl<O: FileObject> Kernel<O> {
             file.offset
         };
         if kind == ObjKind::Pipe && !self.state.has_reader(file.object) {
-            return Ok(Reply::Err(Errno::EPIPE));
+            return Err(Refusal::Answer(Errno::EPIPE));
         }
         self.write_open(file, kind, place, bytes)
     }
@@ -84,7 +90,7 @@ impl<O: FileObject> Kernel<O> {
         kind: ObjKind,
         place: u64,
         bytes: &[u8],
-    ) -> Result<Reply, AllocError>
+    ) -> Result<Reply, Refusal>
         requires here { description_at self.old file.id ≡ Some (description_of file) }
         requires writable { IsWritable self.old file kind place bytes.now }
         ensures { GivesOrFails self.old (write_file self.old file bytes.now) result self.new }
@@ -96,8 +102,8 @@ impl<O: FileObject> Kernel<O> {
                 }
                 Ok(Reply::Count(count))
             }
-            Err(ObjError::NoMemory) => Err(AllocError),
-            Err(error) => Ok(Reply::Err(errno_of(error))),
+            Err(ObjError::NoMemory) => Err(Refusal::NoMemory),
+            Err(error) => Err(Refusal::Answer(errno_of(error))),
         }
     }
 }

@@ -2,6 +2,7 @@
 ghost use Rattle.std.specs.Prelude.{◌≡◌, IfOk, vec_len};
 
 use super::*;
+use hoard::Hoard;
 use std::alloc::{AllocError, Global};
 use std::process::Abort;
 use std::test::Fail;
@@ -283,33 +284,37 @@ fn a_pipe_keeps_its_order_round_its_end(rt: HostRuntime) -> Result<(), Fail> {
     Ok(())
 }
 
-/// Whether a file that wanted memory is as it was before.
-fn grow(rt: &impl Abort, alloc: Global, at: u64) {
-    if let Ok(mut file) = MemFile::new(alloc, b"abcdef") {
-        let mut buf = [0; 8];
-        match write(rt, &mut file, at, b"xyz") {
-            Ok(count) => assert_eq!(rt; count, 3),
-            Err(error) => {
-                assert_eq!(rt; error, ObjError::NoMemory);
-                assert_eq!(rt; file.size(), 6);
-                assert_eq!(rt; read(rt, &mut file, 0, &mut buf), Ok(6));
-                assert_eq!(rt; buf, *b"abcdef\0\0");
-            }
-        }
-        assert_eq!(rt; file.faults(), 0);
-    }
+/// A file that is refused memory for a write at this place is as it was before.
+fn grow(rt: &impl Abort, alloc: Global, at: u64) -> Result<(), Fail> {
+    let mut file = made(MemFile::new(alloc, b"abcdef"))?;
+    let mut buf = [0; 8];
+    let hoard = Hoard::take_all(alloc)?;
+    let written = write(rt, &mut file, at, b"xyz");
+    drop(hoard);
+    assert_eq!(rt; written, Err(ObjError::NoMemory));
+    assert_eq!(rt; file.size(), 6);
+    assert_eq!(rt; read(rt, &mut file, 0, &mut buf), Ok(6));
+    assert_eq!(rt; buf, *b"abcdef\0\0");
+    assert_eq!(rt; file.faults(), 0);
+    Ok(())
 }
 
 #[test]
-fn a_growth_is_refused_and_changes_nothing(rt: HostRuntime) {
+fn a_growth_is_refused_and_changes_nothing(rt: HostRuntime) -> Result<(), Fail> {
     let alloc = rt.alloc();
-    grow(&rt, alloc, 5);
-    grow(&rt, alloc, 6);
-    grow(&rt, alloc, 100000);
-    if let Err(error) = Pipe::new(alloc) {
-        assert_eq!(rt; error, ObjError::NoMemory);
-    }
-    if let Err(error) = MemFile::new(alloc, b"a") {
-        assert_eq!(rt; error, ObjError::NoMemory);
-    }
+    // A few bytes more may fit into the block that is there.
+    grow(&rt, alloc, 5000)?;
+    grow(&rt, alloc, 100000)
+}
+
+#[test]
+fn an_object_is_refused_memory(rt: HostRuntime) -> Result<(), Fail> {
+    let alloc = rt.alloc();
+    let hoard = Hoard::take_all(alloc)?;
+    let pipe = Pipe::new(alloc).err();
+    let file = MemFile::new(alloc, b"a").err();
+    drop(hoard);
+    assert_eq!(rt; pipe, Some(ObjError::NoMemory));
+    assert_eq!(rt; file, Some(ObjError::NoMemory));
+    Ok(())
 }

@@ -11,7 +11,7 @@ use Rattle.ux_model.specs.Description.{Description}
 use Rattle.ux_model.specs.Process.{Process}
 use Rattle.ux_model.specs.State.{State}
 use Rattle.ux_model.specs.Files.{is_opening}
-use Rattle.ux_model.specs.Naming.{named, same_name}
+use Rattle.ux_model.specs.Names.{named, same_name}
 use Rattle.ux_state.specs.declared.openings.Openings.{Openings}
 use Rattle.ux_state.specs.Counting.{none_open}
 use Rattle.ux_state.specs.Keeping.{IsState}

@@ -4,7 +4,7 @@ ghost use Rattle.ux_model.specs.Limits.{stream_limit};
 ghost use Rattle.ux_model.specs.Message.{queued_bytes};
 ghost use Rattle.ux_model.specs.Socket.{Socket};
 ghost use Rattle.ux_model.specs.State.{socket_at};
-ghost use Rattle.ux_model.specs.Stream.{queued, shortened};
+ghost use Rattle.ux_model.specs.Socket.{queued, shortened};
 ghost use Rattle.ux_model.specs.Descriptors.{with_flags};
 ghost use Rattle.ux_desc.specs.Changes.{changed, without_reset};
 ghost use Rattle.ux_state.specs.Moves.{with_description_by, at_offset};
@@ -12,9 +12,8 @@ ghost use Rattle.ux_state.specs.Moves.{with_description_by, at_offset};
 use crate::state::State;
 use std::alloc::AllocError;
 use ux_desc::Message;
-use ux_fdtable::DescriptionId;
 use ux_object::FileObject;
-use ux_types::OpenFlags;
+use ux_types::{DescriptionId, OpenFlags};
 
 impl<O: FileObject> State<O> {
     /// Appends a message to the queue of a socket, if that is still there. The caller knows that its bytes

@@ -12,9 +12,9 @@ use crate::openings::count_in;
 use crate::state::State;
 use bitflags::Flags;
 use ux_desc::Description;
-use ux_fdtable::{DescriptionId, Descriptor, DupError, InstallError};
+use ux_fdtable::{Descriptor, DupError, InstallError};
 use ux_object::FileObject;
-use ux_types::{Fd, Mode, OpenFlags, Pid};
+use ux_types::{DescriptionId, Fd, Mode, OpenFlags, Pid};
 
 impl<O: FileObject> State<O> {
     /// Makes a description of a file object, and opens the lowest free number of a process for it (open(2)).

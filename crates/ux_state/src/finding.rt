@@ -1,18 +1,19 @@
 //! What a number leads to.
-ghost use Rattle.std.specs.Prelude.{◌≡◌, ◌<◌, ◌≤◌, Some, None, Ok, Err, IsTrue, MatchOption, MatchResult, length};
+ghost use Rattle.std.specs.Prelude.{◌≡◌, ◌<◌, ◌≤◌, Some, None, Ok, Err, IsTrue, IsSomeAnd, MatchOption, MatchResult, length};
 ghost use Rattle.ux_model.specs.Limits.{process_limit};
 ghost use Rattle.ux_model.specs.Flags.{can_read, can_write};
 ghost use Rattle.ux_model.specs.Places.{place};
-ghost use Rattle.ux_model.specs.State.{description_at, socket_at, table_of, is_live};
+ghost use Rattle.ux_model.specs.Process.{own_cred};
+ghost use Rattle.ux_model.specs.State.{description_at, socket_at, process_at, table_of, is_live};
 ghost use Rattle.ux_model.specs.Outcome.{find_description, find_socket};
 ghost use Rattle.ux_model.specs.Files.{is_open_for};
 ghost use Rattle.ux_model.specs.History.{has_live};
 
 use crate::state::State;
 use ux_desc::{Description, Socket};
-use ux_fdtable::{DescriptionId, Descriptor, Table};
+use ux_fdtable::{Descriptor, Table};
 use ux_object::FileObject;
-use ux_types::{Errno, Fd, Pid};
+use ux_types::{Cred, DescriptionId, Errno, Fd, Pid};
 
 impl<O: FileObject> State<O> {
     /// How many processes were made, exited ones too.
@@ -52,6 +53,20 @@ impl<O: FileObject> State<O> {
     {
         let process = &self.processes[pid.0 as usize - 1];
         &process.table
+    }
+
+    /// The credentials of a process.
+    #[tactic(auto, using(crate::proofs::Lookups::live_inside, crate::proofs::Lookups::live_positive, crate::proofs::Lookups::found_process))]
+    pub fn credentials(&self, pid: Pid) -> Cred
+        requires { IsTrue (is_live self.now pid.0) }
+        ensures { IsSomeAnd (process_at self.now pid.0) (λ P. result ≡ own_cred pid.0 P) }
+    {
+        let process = &self.processes[pid.0 as usize - 1];
+        Cred {
+            pid,
+            uid: process.uid,
+            gid: process.gid,
+        }
     }
 
     /// The description that a handle names, while it is there.

@@ -1,6 +1,6 @@
 //! Paths, and the file objects that they name.
 ghost use Rattle.std.specs.Prelude.{◌≡◌, filter, not};
-ghost use Rattle.ux_model.specs.Naming.{named, same_name};
+ghost use Rattle.ux_model.specs.Names.{named, same_name};
 
 use crate::state::State;
 use std::marker::Model;

@@ -13,20 +13,6 @@ pub(crate) struct Openings {
     pub(crate) writers: usize,
 }
 
-/// Whether a file that is open so can be read.
-pub(crate) fn can_read(mode: Mode) -> bool
-    ensures { result ≡ can_read mode }
-{
-    matches!(mode, Mode::Read | Mode::Both)
-}
-
-/// Whether a file that is open so can be written.
-pub(crate) fn can_write(mode: Mode) -> bool
-    ensures { result ≡ can_write mode }
-{
-    matches!(mode, Mode::Write | Mode::Both)
-}
-
 impl Openings {
     /// None.
     pub(crate) fn new() -> Openings
@@ -46,8 +32,8 @@ impl Openings {
         ensures { result ≡ more mode self }
     {
         Openings {
-            readers: self.readers + can_read(mode) as usize,
-            writers: self.writers + can_write(mode) as usize,
+            readers: self.readers + mode.can_read() as usize,
+            writers: self.writers + mode.can_write() as usize,
         }
     }
 
@@ -58,8 +44,8 @@ impl Openings {
         ensures { more mode result ≡ self }
     {
         Openings {
-            readers: self.readers - can_read(mode) as usize,
-            writers: self.writers - can_write(mode) as usize,
+            readers: self.readers - mode.can_read() as usize,
+            writers: self.writers - mode.can_write() as usize,
         }
     }
 }

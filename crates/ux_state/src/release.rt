@@ -18,9 +18,8 @@ use crate::retired::Retired;
 use crate::state::State;
 use arrayvec::ArrayVec;
 use ux_desc::Description;
-use ux_fdtable::DescriptionId;
 use ux_object::FileObject;
-use ux_types::OBJECT_LIMIT;
+use ux_types::{DescriptionId, OBJECT_LIMIT};
 
 impl<O: FileObject> State<O> {
     /// Drops each description that nothing refers to, again until none is left, then closes each file

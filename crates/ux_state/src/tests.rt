@@ -7,10 +7,12 @@ use std::alloc::{AllocError, Global};
 use std::process::Abort;
 use std::test::Fail;
 use ux_desc::Message;
-use ux_fdtable::{DescriptionId, Descriptor, DupError, InstallError};
+use ux_fdtable::{Descriptor, DupError, InstallError};
 use ux_object::FileObject;
 use ux_objects::{Counter, MemFile, Pipe};
-use ux_types::{Errno, Fd, Mode, Name, OBJECT_LIMIT, OpenFlags, Pid, ProcSpec};
+use ux_types::{
+    Cred, DescriptionId, Errno, Fd, Mode, Name, OBJECT_LIMIT, OpenFlags, Pid, ProcSpec,
+};
 
 /// A path with these bytes.
 fn name(alloc: Global, bytes: &[u8]) -> Result<Name, AllocError> {
@@ -157,7 +159,12 @@ fn append<O: FileObject>(
     id: u128,
     bytes: &[u8],
 ) -> Result<(), Fail> {
-    let message = Message::new(alloc, 1, bytes)?;
+    let cred = Cred {
+        pid: Pid(1),
+        uid: 1000,
+        gid: 1000,
+    };
+    let message = Message::new(alloc, 1, bytes, cred)?;
     match state.socket(DescriptionId::new(id)) {
         Some(socket) => {
             assert!(rt; 0 < message.len());

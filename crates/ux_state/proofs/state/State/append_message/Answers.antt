@@ -1,6 +1,6 @@
 use Rattle.std.proofs.Common.{ap, length, arith}
 use Rattle.ux_model.specs.State.{State}
-use Rattle.ux_model.specs.Stream.{queued}
+use Rattle.ux_model.specs.Socket.{queued}
 use Rattle.ux_state.proofs.Changing.{kept_set, pushed_alike}
 use Rattle.ux_state.proofs.state.State.append_message.Goals as goal
 

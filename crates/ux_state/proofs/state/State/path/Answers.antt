@@ -1,6 +1,6 @@
 use Rattle.std.proofs.Common.{◌≡◌, true, false, Some, ap, ◌∙◌, sym, arith}
 use Rattle.ux_model.specs.State.{State}
-use Rattle.ux_model.specs.Naming.{named, same_name}
+use Rattle.ux_model.specs.Names.{named, same_name}
 use Rattle.ux_state.proofs.Found.{path_found, path_passed, no_path}
 use Rattle.ux_state.proofs.state.State.path.Goals as goal
 

@@ -1,5 +1,5 @@
 use Rattle.std.proofs.Common.{◌≡◌, drop}
-use Rattle.ux_model.specs.Naming.{named}
+use Rattle.ux_model.specs.Names.{named}
 use Rattle.ux_state.proofs.state.State.path.Given as goal
 
 -- the paths so far have another name

@@ -1,6 +1,6 @@
 use Rattle.std.proofs.Common.{ap, length, arith}
 use Rattle.ux_model.specs.State.{State}
-use Rattle.ux_model.specs.Stream.{shortened}
+use Rattle.ux_model.specs.Socket.{shortened}
 use Rattle.ux_state.proofs.Changing.{kept_set, changed_alike}
 use Rattle.ux_state.proofs.state.State.remove_bytes.Goals as goal
 

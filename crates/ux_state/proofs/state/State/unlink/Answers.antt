@@ -1,6 +1,6 @@
 use Rattle.std.proofs.Common.{not, rules}
 use Rattle.std.proofs.lemmas.Fn.{filter_same}
-use Rattle.ux_model.specs.Naming.{same_name}
+use Rattle.ux_model.specs.Names.{same_name}
 use Rattle.ux_state.proofs.Found.{unlinked}
 use Rattle.ux_state.proofs.state.State.unlink.Goals as goal
 
