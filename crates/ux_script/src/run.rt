@@ -2,6 +2,7 @@
 
 ghost use Rattle.std.specs.Prelude.{◌≡◌, ◌≤◌, ◌⊎◌, ◌++◌, [], false, length, map, IfOk, OnOk, IfErr, OnErr};
 ghost use Rattle.std.specs.Io.KnownBytes.{Appends};
+ghost use Rattle.ux_model.specs.Limits.{process_limit};
 ghost use Rattle.ux_model.specs.State.{is_live};
 ghost use Rattle.ux_model.specs.History.{is_off, IsLegal};
 ghost use Rattle.ux_model.specs.Boot.{IsBootState, new_process};
@@ -12,7 +13,7 @@ ghost use Rattle.ux_syntax.specs.Trace.{trace};
 ghost use Rattle.ux_script.specs.Writes.{AppendsBeginning};
 ghost use Rattle.ux_script.specs.Runs.{line_of_entry, exits_of, Makes, MakesOne, IsRunFault, WritesBeginning};
 
-use crate::room::Room;
+use crate::object_size::ObjectSize;
 use crate::write::write_trace;
 use std::alloc::Global;
 use std::io::Write;
@@ -31,7 +32,7 @@ pub fn run_serial<O: FileObject, W: Write>(
     script: &Script,
     writer: &mut W,
     kernel: Kernel<O>,
-    room: &mut Room<O>,
+    size: &ObjectSize<O>,
 ) -> Result<Vec<Entry>, ScriptFault>
     requires boots { IsBootState kernel }
     requires processes { kernel.processes ≡ map new_process script.now.procs.items }
@@ -47,7 +48,7 @@ pub fn run_serial<O: FileObject, W: Write>(
     // A script that a text spells has no stranger.
     ensures stranger { IfErr result (λ f. f ≡ ScriptFault.Stranger → ¬ IsOrderly (plan_of script.now)) }
 {
-    let entries = match run_calls(alloc, script, kernel, room) {
+    let entries = match run_calls(alloc, script, kernel, size) {
         Ok(entries) => entries,
         Err(CallFault::Stranger) => return Err(ScriptFault::Stranger),
         Err(CallFault::NoMemory) => return Err(ScriptFault::NoMemory),
@@ -76,7 +77,7 @@ fn run_calls<O: FileObject>(
     alloc: Global,
     script: &Script,
     kernel: Kernel<O>,
-    room: &mut Room<O>,
+    size: &ObjectSize<O>,
 ) -> Result<Vec<Entry>, CallFault>
     requires boots { IsBootState kernel }
     requires processes { kernel.processes ≡ map new_process script.now.procs.items }
@@ -88,7 +89,7 @@ fn run_calls<O: FileObject>(
     let Ok(mut book) = Book::new(alloc, kernel) else {
         return Err(CallFault::NoMemory);
     };
-    make_all(&mut book, script, count, room)?;
+    make_all(&mut book, script, count, size)?;
     Ok(book.into_entries())
 }
 
@@ -97,28 +98,28 @@ fn make_all<O: FileObject>(
     book: &mut Book<O>,
     script: &Script,
     count: usize,
-    room: &mut Room<O>,
+    size: &ObjectSize<O>,
 ) -> Result<(), CallFault>
     requires begun { Makes book.old script.now [] }
     requires count { count ≡ length script.now.procs.items }
-    requires few { count ≤ 64 }
+    requires few { count ≤ process_limit }
     ensures made { OnOk result (Makes book.new script.now (all_turns (plan_of script.now))) }
     ensures boot { OnOk result (book.new.boot ≡ book.old.boot) }
     ensures stranger { IfErr result (λ f. f ≡ CallFault.Stranger → ¬ IsOrderly (plan_of script.now)) }
 {
-    make_calls(book, script, room)?;
-    make_exits(book, script, count, room)?;
+    make_calls(book, script, size)?;
+    make_exits(book, script, count, size)?;
     if !script.off {
         return Ok(());
     }
-    make_end(book, room)
+    make_end(book, size)
 }
 
 /// Makes the script's calls in order.
 fn make_calls<O: FileObject>(
     book: &mut Book<O>,
     script: &Script,
-    room: &mut Room<O>,
+    size: &ObjectSize<O>,
 ) -> Result<(), CallFault>
     requires { Makes book.old script.now [] }
     ensures made { OnOk result (Makes book.new script.now script.now.lines.items) }
@@ -126,7 +127,7 @@ fn make_calls<O: FileObject>(
     ensures stranger { IfErr result (λ f. f ≡ CallFault.Stranger → ¬ IsOrderly (plan_of script.now)) }
 {
     for line in &script.lines {
-        call(book, line.pid, &line.request, room)?;
+        call(book, line.pid, &line.request, size)?;
     }
     Ok(())
 }
@@ -136,11 +137,11 @@ fn make_exits<O: FileObject>(
     book: &mut Book<O>,
     script: &Script,
     count: usize,
-    room: &mut Room<O>,
+    size: &ObjectSize<O>,
 ) -> Result<(), CallFault>
     requires begun { Makes book.old script.now script.now.lines.items }
     requires count { count ≡ length script.now.procs.items }
-    requires few { count ≤ 64 }
+    requires few { count ≤ process_limit }
     ensures made { OnOk result (Makes book.new script.now (script.now.lines.items ++ exits_of script.now.lines.items count)) }
     ensures boot { OnOk result (book.new.boot ≡ book.old.boot) }
     ensures stranger { IfErr result (λ f. f ≡ CallFault.Stranger → ⊥) }
@@ -148,18 +149,18 @@ fn make_exits<O: FileObject>(
     for index in 0..count {
         let pid = Pid(index as u32 + 1);
         if book.is_live(pid) {
-            call(book, pid, &Request::Exit, room)?;
+            call(book, pid, &Request::Exit, size)?;
         }
     }
     Ok(())
 }
 
 /// Ends the layer, when no process is left.
-fn make_end<O: FileObject>(book: &mut Book<O>, room: &mut Room<O>) -> Result<(), CallFault>
+fn make_end<O: FileObject>(book: &mut Book<O>, size: &ObjectSize<O>) -> Result<(), CallFault>
     ensures entry { OnOk result (MakesOne book.old book.new (record { 0 = 0 }) Request.Off) }
     ensures stranger { IfErr result (λ f. f ≡ CallFault.Stranger → books.may_call book.old (record { 0 = 0 }) 0 Request.Off ≡ false) }
 {
-    record(book, Pid(0), 0, &Request::Off, room)
+    record(book, Pid(0), 0, &Request::Off, size)
 }
 
 /// Makes the next call of a process, which is a stranger where it doesn't live.
@@ -167,7 +168,7 @@ fn call<O: FileObject>(
     book: &mut Book<O>,
     pid: Pid,
     request: &Request,
-    room: &mut Room<O>,
+    size: &ObjectSize<O>,
 ) -> Result<(), CallFault>
     ensures entry { OnOk result (MakesOne book.old book.new pid request.now) }
     ensures stranger { IfErr result (λ f. f ≡ CallFault.Stranger → is_off request.now ≡ false → is_live (books.state_of book.old) pid.0 ≡ false) }
@@ -176,7 +177,7 @@ fn call<O: FileObject>(
         return Err(CallFault::Stranger);
     }
     let k = book.calls_of(pid);
-    record(book, pid, k, request, room)
+    record(book, pid, k, request, size)
 }
 
 /// Makes a call, and drops what it let go of.
@@ -185,12 +186,11 @@ fn record<O: FileObject>(
     pid: Pid,
     k: u64,
     request: &Request,
-    room: &mut Room<O>,
+    _size: &ObjectSize<O>,
 ) -> Result<(), CallFault>
     ensures entry { OnOk result (MakesOne book.old book.new pid request.now) }
     ensures stranger { IfErr result (λ f. f ≡ CallFault.Stranger → books.may_call book.old pid k request.now ≡ false) }
 {
-    room.clear();
     match book.record(pid, k, request) {
         Ok(_) => Ok(()),
         Err(fault) => Err(fault),

@@ -198,6 +198,8 @@ struct Fake {
     fails_at: usize,
     writes: usize,
     fails_to_flush: bool,
+    /// Whether every other write is interrupted.
+    interrupted: bool,
 }
 
 impl Fake {
@@ -208,6 +210,7 @@ impl Fake {
             fails_at,
             writes: 0,
             fails_to_flush: false,
+            interrupted: false,
         }
     }
 }
@@ -217,6 +220,9 @@ impl Write for Fake {
 
     fn write(&mut self, buf: &[u8]) -> io::Result<usize> {
         self.writes = self.writes.saturating_add(1);
+        if self.interrupted && self.writes % 2 == 1 {
+            return Err(io::Error::from(io::ErrorKind::Interrupted));
+        }
         if self.writes == self.fails_at {
             return Err(io::Error::from(io::ErrorKind::BrokenPipe));
         }
@@ -260,8 +266,8 @@ fn run<W: Write>(alloc: Global, text: &str, writer: &mut W) -> Result<Vec<Entry>
         let name = made(line.name.clone())?;
         made(objects.push((name, object)))?;
     }
-    let mut room: Room<Boxed> = Room::new();
-    run_over(alloc, &script, writer, objects, &mut room)
+    let size: ObjectSize<Boxed> = ObjectSize::new();
+    run_over(alloc, &script, writer, objects, &size)
 }
 
 /// Runs a script over these file objects.
@@ -270,10 +276,10 @@ fn run_over<O: FileObject, W: Write>(
     script: &Script,
     writer: &mut W,
     objects: Vec<(Name, O)>,
-    room: &mut Room<O>,
+    size: &ObjectSize<O>,
 ) -> Result<Vec<Entry>, ScriptFault> {
     match Kernel::boot(alloc, objects, &script.procs) {
-        Ok(kernel) => run_serial(alloc, script, writer, kernel, room),
+        Ok(kernel) => run_serial(alloc, script, writer, kernel, size),
         Err(_) => Err(ScriptFault::NoMemory),
     }
 }
@@ -369,6 +375,17 @@ fn a_writer_may_take_a_byte_a_call(rt: HostRuntime) -> Result<(), Fail> {
 }
 
 #[test]
+fn a_write_that_is_interrupted_is_made_again(rt: HostRuntime) -> Result<(), Fail> {
+    let alloc = rt.alloc();
+    let (script, trace) = PEEK_RESET_AND_BROKEN_PIPE;
+    let mut writer = Fake::new(alloc, 5, 0);
+    writer.interrupted = true;
+    run(alloc, script, &mut writer)?;
+    assert_eq!(rt; writer.taken.as_slice(), trace.as_bytes());
+    Ok(())
+}
+
+#[test]
 fn what_is_not_flushed_was_not_written(rt: HostRuntime) -> Result<(), Fail> {
     let alloc = rt.alloc();
     let mut writer = Fake::new(alloc, 100, 0);
@@ -393,8 +410,8 @@ fn a_call_of_nobody_is_a_stranger(rt: HostRuntime) -> Result<(), Fail> {
     })?;
     let objects: Vec<(Name, Counter)> = Vec::new(alloc);
     let mut written: Vec<u8> = Vec::new(alloc);
-    let mut room: Room<Counter> = Room::new();
-    let told = run_over(alloc, &script, &mut written, objects, &mut room);
+    let size: ObjectSize<Counter> = ObjectSize::new();
+    let told = run_over(alloc, &script, &mut written, objects, &size);
     assert!(rt; matches!(told, Err(ScriptFault::Stranger)));
     assert!(rt; written.is_empty());
     Ok(())

@@ -1,14 +1,36 @@
 //! Writing a trace.
 
-ghost use Rattle.std.specs.Prelude.{◌≡◌, ◌⊎◌, OnOk, OnErr, IfErr};
-ghost use Rattle.std.specs.Io.KnownBytes.{Appends};
+ghost use Rattle.std.specs.Prelude.{◌≡◌, ◌<◌, ◌≤◌, ◌⊎◌, length, take, IfOk, OnOk, OnErr, IfErr};
+ghost use Rattle.std.specs.Io.KnownBytes.{Appends, Keeps};
 ghost use Rattle.ux_syntax.specs.Trace.{trace};
 ghost use Rattle.ux_script.specs.Writes.{AppendsBeginning};
 
 use std::alloc::Global;
-use std::io::Write;
+use std::io::{ErrorKind, Write};
 use ux_syntax::{ScriptFault, entry_text};
 use ux_types::Entry;
+
+/// How often a write that is interrupted is made again.
+const TURNS: u64 = u64::MAX;
+
+/// Writes some of the bytes. A write that was interrupted (EINTR of write(2)) is made again.
+fn put_some<W: Write>(writer: &mut W, bytes: &[u8]) -> Result<usize, ScriptFault>
+    ensures some { IfOk result (λ count. 0 < count) }
+    ensures fits { IfOk result (λ count. count ≤ length bytes.now) }
+    ensures ok { IfOk result (λ count. Appends (W.contents writer.old) (W.contents writer.new) (take count bytes.now)) }
+    ensures err { OnErr result (Keeps (W.contents writer.old) (W.contents writer.new)) }
+    ensures fault { IfErr result (λ e. e ≡ ScriptFault.Writing) }
+{
+    for _ in 0..TURNS {
+        match writer.write(bytes) {
+            Ok(0) => return Err(ScriptFault::Writing),
+            Ok(count) => return Ok(count),
+            Err(error) if error.kind() == ErrorKind::Interrupted => {}
+            Err(_) => return Err(ScriptFault::Writing),
+        }
+    }
+    Err(ScriptFault::Writing)
+}
 
 /// Writes all bytes. After a fault a beginning of them was written.
 fn put_all<W: Write>(writer: &mut W, bytes: &[u8]) -> Result<(), ScriptFault>
@@ -18,10 +40,8 @@ fn put_all<W: Write>(writer: &mut W, bytes: &[u8]) -> Result<(), ScriptFault>
 {
     let mut rest = bytes;
     while !rest.is_empty() {
-        match writer.write(rest) {
-            Ok(0) | Err(_) => return Err(ScriptFault::Writing),
-            Ok(count) => rest = &rest[count..],
-        }
+        let count = put_some(writer, rest)?;
+        rest = &rest[count..];
     }
     Ok(())
 }

@@ -11,3 +11,4 @@ pub mod Args
 pub mod HeaderLines
 pub mod Items
 pub mod Scripts
+pub mod Feeding

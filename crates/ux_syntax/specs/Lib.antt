@@ -4,3 +4,4 @@ pub mod Spelling
 pub mod Turns
 pub mod Reading
 pub mod Results
+pub mod Continuing

@@ -2,7 +2,7 @@
 use Rattle.std.specs.Prelude.{◌≡◌, ◌≢◌, ℕ, ◌<◌, ◌≤◌, ◌^◌, ◌-◌, ℤ, pos, negsuc, take, Bool, true, false, List, [], ◌∷◌, ◌++◌, length, map, filter, codes, decimal, if◌then◌else◌, ◌==◌, ◌&&◌, not, nat_le, slice_index_or}
 use Rattle.std.specs.List.{AllByRecursion, flat_map, slice_split, join_with_byte}
 use Rattle.std.specs.Fmt.{signed_decimal}
-use Rattle.ux_model.specs.Types.{Name, OpenFlags, MsgFlags, SockType, Mode, Whence, ProcSpec, Request}
+use Rattle.ux_model.specs.Types.{Name, OpenFlags, MsgFlags, Mode, Whence, ProcSpec, Request}
 use Rattle.ux_model.specs.Flags.{has_bits}
 use Rattle.ux_model.specs.Process.{fd_of}
 pub use Rattle.ux_model.specs.History.{is_exit, is_off}
@@ -69,7 +69,7 @@ meaning (dup_onto fd other) = Request.Dup2 (fd_of fd) (fd_of other)
 meaning (set_flags fd flags) = Request.SetFlags (fd_of fd) flags
 meaning (close fd) = Request.Close (fd_of fd)
 meaning (unlink_path path) = Request.Unlink path
-meaning (pair flags) = Request.SocketPair SockType.Stream flags
+meaning (pair flags) = Request.SocketPair flags
 meaning (send fd bytes control flags) = Request.SendMsg (fd_of fd) bytes flags
 meaning (recv fd n space flags) = Request.RecvMsg (fd_of fd) n space flags
 meaning exit = Request.Exit

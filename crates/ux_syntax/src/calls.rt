@@ -10,7 +10,7 @@ use crate::row::{
     control, end, hex, mode, msg_flags, number, offset, open_flags, pass, path, whence,
 };
 use std::alloc::Global;
-use ux_types::{Fd, Request, SockType};
+use ux_types::{Fd, Request};
 
 /// The words that name calls. A script has no call of the last.
 #[derive(Clone, Copy, Debug, PartialEq, Eq)]
@@ -216,10 +216,7 @@ fn pair_of(words: &[&[u8]]) -> Result<Request, LineError>
     let words = pass(b"stream", words)?;
     let (flags, words) = open_flags(words)?;
     end(words)?;
-    Ok(Request::SocketPair {
-        kind: SockType::Stream,
-        flags,
-    })
+    Ok(Request::SocketPair { flags })
 }
 
 /// `send FD - HEX CONTROL MFLAGS`.

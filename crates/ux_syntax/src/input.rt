@@ -4,14 +4,22 @@ ghost use Rattle.std.specs.Prelude.{◌≡◌, ◌⊎◌, Ok, Err, IfOk, OnOk, I
 ghost use Rattle.std.specs.Io.KnownBytes.{IsAtEnd};
 ghost use Rattle.ux_syntax.specs.Spelling.{Plan, plan_of, Spells, IsOrderly, lines_of};
 ghost use Rattle.ux_syntax.specs.Results.{GivesScript, Refuses};
+ghost use Rattle.ux_syntax.specs.Continuing.{Found};
 
 use crate::fault::ScriptFault;
-use crate::reading::parse_script;
+use crate::progress::Progress;
 use crate::script::Script;
 use std::alloc::Global;
 use std::io::{ErrorKind, Read};
 
-/// The script that the bytes of a reader spell. The reader is read to its end.
+/// The bytes that are read at once.
+const CHUNK: usize = 4096;
+
+/// How often is read, so that each line has a number.
+const TURNS: u64 = u64::MAX / 8192;
+
+/// The script that the bytes of a reader spell. It is read to its end, or until a line is at fault: no
+/// more is kept than the script and one line, and nothing is read after a line that is told.
 pub fn read_script<R: Read>(alloc: Global, reader: &mut R) -> Result<Script, ScriptFault>
     // What is read is spelled so by the bytes that the reader had.
     ensures found { IfOk result (λ script. IfSome (R.remaining reader.old) (λ text. Spells (lines_of text) (plan_of script))) }
@@ -24,10 +32,26 @@ pub fn read_script<R: Read>(alloc: Global, reader: &mut R) -> Result<Script, Scr
     // The read failed, or the fault is that of the first line at fault, and says why.
     ensures fault { IfErr result (λ f. (f ≡ ScriptFault.Reading) ⊎ IfSome (R.remaining reader.old) (λ text. Refuses (lines_of text) f)) }
 {
-    let mut text = Vec::new(alloc);
-    match reader.read_to_end(&mut text) {
-        Ok(_) => parse_script(alloc, &text),
-        Err(error) if error.kind() == ErrorKind::OutOfMemory => Err(ScriptFault::NoMemory),
-        Err(_) => Err(ScriptFault::Reading),
+    read_lines_of(alloc, reader)
+}
+
+/// Reads on while no line is at fault.
+fn read_lines_of<R: Read>(alloc: Global, reader: &mut R) -> Result<Script, ScriptFault>
+    ensures found { (result ≡ Err ScriptFault.Reading) ⊎ Found (R.remaining reader.old) result }
+    ensures end { OnOk result (IsAtEnd (R.remaining reader.new)) }
+{
+    let mut progress = Progress::new(alloc);
+    let mut buffer = [0; CHUNK];
+    for turn in 0..TURNS {
+        match reader.read(&mut buffer) {
+            Ok(0) => return progress.finish(alloc),
+            Ok(count) => progress.take_bytes(alloc, &buffer[..count])?,
+            Err(error) if error.kind() == ErrorKind::Interrupted => {}
+            Err(error) if error.kind() == ErrorKind::OutOfMemory => {
+                return Err(ScriptFault::NoMemory);
+            }
+            Err(_) => return Err(ScriptFault::Reading),
+        }
     }
+    Err(ScriptFault::Reading)
 }

@@ -6,6 +6,7 @@ mod fault;
 mod headers;
 mod input;
 mod paths;
+mod progress;
 mod reading;
 mod row;
 mod script;

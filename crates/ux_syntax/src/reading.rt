@@ -4,7 +4,7 @@ ghost use Rattle.std.specs.Prelude.{◌≡◌, ◌==◌, not, map, IfOk, IfErr, 
 ghost use Rattle.std.specs.List.{slice_split};
 ghost use Rattle.ux_syntax.specs.Spelling.{Plan, plan_of, Spells, IsOrderly, OneScript, lines_of, is_meant};
 ghost use Rattle.ux_syntax.specs.Turns.{is_known};
-ghost use Rattle.ux_syntax.specs.Reading.{words_at, item_at, joined_by, line_at, script_at};
+ghost use Rattle.ux_syntax.specs.Reading.{words_at, item_at, joined_by, line_at, no_lines, script_at};
 ghost use Rattle.ux_syntax.specs.Results.{Gives, Leaves, GivesScript, Refuses, Marks};
 
 use crate::calls::{request_of, word_of};
@@ -17,7 +17,7 @@ use std::alloc::{AllocError, Global};
 use ux_types::Pid;
 
 /// How many bytes a line may have, without its line feed.
-const LINE_LIMIT: usize = 4096;
+pub(crate) const LINE_LIMIT: usize = 4096;
 
 /// What a line says.
 #[derive(Drop)]
@@ -91,12 +91,28 @@ fn item_of(alloc: Global, text: &[u8]) -> Result<Item, LineError>
 
 /// A script as far as it was read, with a mark for each process that has made its exit.
 #[derive(Drop)]
-struct Reader {
-    script: Script,
-    exited: Vec<bool>,
+pub(crate) struct Reader {
+    pub(crate) script: Script,
+    pub(crate) exited: Vec<bool>,
 }
 
 impl Reader {
+    /// Nothing was read yet.
+    pub(crate) fn new(alloc: Global) -> Reader
+        ensures nothing { plan_of result.script ≡ no_lines }
+        ensures marks { Marks (plan_of result.script) result.exited.items }
+    {
+        Reader {
+            script: Script {
+                objects: Vec::new(alloc),
+                procs: Vec::new(alloc),
+                lines: Vec::new(alloc),
+                off: false,
+            },
+            exited: Vec::new(alloc),
+        }
+    }
+
     fn knows(&self, pid: Pid) -> bool
         ensures { result ≡ is_known self.now.script.procs.items pid.0 }
     {
@@ -142,7 +158,7 @@ impl Reader {
 
     /// Reads a line and adds what it says.
     #[tactic(auto, unfolding(crate::specs::Reading::line_at))]
-    fn read_line(&mut self, alloc: Global, text: &[u8]) -> Result<(), LineError>
+    pub(crate) fn read_line(&mut self, alloc: Global, text: &[u8]) -> Result<(), LineError>
         requires { Marks (plan_of self.old.script) self.old.exited.items }
         ensures reads { Leaves (plan_of self.new.script) result (line_at (plan_of self.old.script) text.now) }
         ensures marks { OnOk result (Marks (plan_of self.new.script) self.new.exited.items) }
@@ -167,16 +183,7 @@ impl Reader {
 fn read_lines(alloc: Global, texts: &[&[u8]]) -> Result<Script, ScriptFault>
     ensures { GivesScript result (script_at (map (λ l. l.now) texts.now)) }
 {
-    let script = Script {
-        objects: Vec::new(alloc),
-        procs: Vec::new(alloc),
-        lines: Vec::new(alloc),
-        off: false,
-    };
-    let mut reader = Reader {
-        script,
-        exited: Vec::new(alloc),
-    };
+    let mut reader = Reader::new(alloc);
     for (index, text) in texts.iter().enumerate() {
         match reader.read_line(alloc, text) {
             Ok(()) => {}
@@ -215,8 +222,6 @@ pub fn parse_script(alloc: Global, text: &[u8]) -> Result<Script, ScriptFault>
     ensures only { (s : Plan) → Spells (lines_of text.now) s → GivesScript result (Ok s) }
     // A fault is that of the first line at fault, and says why.
     ensures fault { IfErr result (λ f. Refuses (lines_of text.now) f) }
-    // Which fault it is: the first line that can't be read from left to right tells.
-    ensures exact { GivesScript result (script_at (lines_of text.now)) }
 {
     read_text(alloc, text)
 }

@@ -1,13 +1,13 @@
 use super::*;
 use bstr::BString;
+use hoard::Hoard;
 use std::alloc::Global;
 use std::io;
 use std::io::Read;
 use std::test::*;
 use ux_object::ObjKind;
 use ux_types::{
-    Bytes, Entry, Errno, Fd, Mode, MsgFlags, Name, OpenFlags, Pid, Released, Reply, Request,
-    SockType, Whence,
+    Bytes, Entry, Errno, Fd, Mode, MsgFlags, Name, OpenFlags, Pid, Released, Reply, Request, Whence,
 };
 
 /// The text of the fault of a script, or none if it is read.
@@ -47,7 +47,6 @@ fn a_script_is_read(rt: HostRuntime) -> Result<(), Fail> {
     let bytes = Bytes::new(Vec::from_slice(rt.alloc(), &[0x68, 0xff])?);
     let requests = [
         Request::SocketPair {
-            kind: SockType::Stream,
             flags: OpenFlags(7),
         },
         Request::SendMsg {
@@ -462,7 +461,6 @@ fn entries_are_printed(rt: HostRuntime) -> Result<(), Fail> {
         flags: MsgFlags(2 + 16 + 32 + 1),
     };
     let pair = Request::SocketPair {
-        kind: SockType::Stream,
         flags: OpenFlags(0),
     };
     let send = Request::SendMsg {
@@ -696,5 +694,57 @@ fn a_reader_is_read_to_its_end(rt: HostRuntime) -> Result<(), Fail> {
         let told = told.to_string(rt.alloc())?;
         assert_eq!(rt; told.as_str(), fault, "at {place}");
     }
+    Ok(())
+}
+
+/// Gives these bytes again and again, and is interrupted before each read.
+#[derive(Drop)]
+struct Endless {
+    bytes: Vec<u8>,
+    interrupted: bool,
+}
+
+impl Read for Endless {
+    fn read(&mut self, buf: &mut [u8]) -> io::Result<usize> {
+        self.interrupted = !self.interrupted;
+        if self.interrupted {
+            return Err(io::Error::from(io::ErrorKind::Interrupted));
+        }
+        let count = self.bytes.len().min(buf.len());
+        buf[..count].copy_from_slice(&self.bytes[..count]);
+        Ok(count)
+    }
+}
+
+#[test]
+fn an_endless_input_ends_at_its_first_fault(rt: HostRuntime) -> Result<(), Fail> {
+    let alloc = rt.alloc();
+    for (bytes, fault) in [
+        (b"\0".as_slice(), "line 1: too long"),
+        (b"y\n".as_slice(), "line 1: bad line"),
+        (b"#\n\n1 exit\n".as_slice(), "line 3: unknown process"),
+        (b"proc 0 0 1 16\n1 exit\n".as_slice(), "line 3: bad line"),
+    ] {
+        let mut reader = Endless {
+            bytes: Vec::from_slice(alloc, bytes)?,
+            interrupted: false,
+        };
+        let told = read_script(alloc, &mut reader).err().ok_or("a script")?;
+        assert_eq!(rt; told.to_string(alloc)?.as_str(), fault);
+    }
+    Ok(())
+}
+
+#[test]
+fn a_script_that_is_refused_memory_is_told_so(rt: HostRuntime) -> Result<(), Fail> {
+    let alloc = rt.alloc();
+    let text = b"proc 1000 1000 0 16\n1 pair stream -\n1 exit\n".as_slice();
+    let mut reader = text;
+    let hoard = Hoard::take_all(alloc)?;
+    let parsed = parse_script(alloc, text).err();
+    let read = read_script(alloc, &mut reader).err();
+    drop(hoard);
+    assert!(rt; matches!(parsed, Some(ScriptFault::NoMemory)));
+    assert!(rt; matches!(read, Some(ScriptFault::NoMemory)));
     Ok(())
 }

@@ -3,6 +3,9 @@
 use clap::{Arg, ArgAction, Command, Error};
 use std::alloc::Global;
 
+/// What `--version` tells behind the program's name.
+const VERSION: &str = "0.2.0";
+
 /// What was asked for on the command line.
 #[derive(Debug, Drop)]
 pub struct Args<'a> {
@@ -18,6 +21,7 @@ pub fn read_args<'a>(alloc: Global, words: &'a [String]) -> Result<Args<'a>, Err
         .help("The script's path, or - for standard input");
     let command = Command::new(alloc, "uxrun")
         .about("Runs a script of socket calls and prints its trace")
+        .version(VERSION)
         .arg(script)?;
     let matches = command.try_get_matches_from(words)?;
     Ok(Args {

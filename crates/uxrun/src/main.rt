@@ -6,6 +6,7 @@ mod fault;
 mod objects;
 
 use args::read_args;
+use clap::Error;
 use clap::error::ErrorKind;
 use fault::Fault;
 use objects::run_script;
@@ -14,6 +15,9 @@ use std::process::ExitCode;
 use std::rt::Files;
 use std::{env, fs, io};
 use ux_syntax::{Script, ScriptFault, read_script};
+
+/// The exit status where the command line wasn't understood, as clap has it.
+const NOT_UNDERSTOOD: u8 = 2;
 
 /// The script that was named.
 fn script_of<R: Files + Input + AllocGlobal>(rt: &R, name: &str) -> Result<Script, ScriptFault> {
@@ -40,18 +44,36 @@ fn failed(rt: &impl Eprint, fault: &Fault) -> ExitCode {
     ExitCode::FAILURE
 }
 
+/// Tells why the command line wasn't understood, or what was asked of the program itself.
+fn told<R: Print + Eprint>(rt: &R, error: &Error) -> ExitCode {
+    if error.print(rt).is_err() && !error.use_stderr() {
+        return failed(rt, &Fault::Script(ScriptFault::Writing));
+    }
+    ExitCode::from(error.exit_code() as u8)
+}
+
+/// Tells why the words of the command line can't be had.
+fn no_words(rt: &impl Eprint, error: &io::Error) -> ExitCode {
+    if error.kind() == io::ErrorKind::OutOfMemory {
+        return failed(rt, &Fault::Script(ScriptFault::NoMemory));
+    }
+    let _ = eprintln!(rt; "uxrun: an argument isn't UTF-8");
+    ExitCode::from(NOT_UNDERSTOOD)
+}
+
 fn main(rt: HostRuntime) -> ExitCode {
     let no_memory = Fault::Script(ScriptFault::NoMemory);
-    let Ok(Ok(words)) = env::args(&rt).map(|words| words.collect::<Vec<String>>(rt.alloc())) else {
+    let words = match env::args(&rt) {
+        Ok(words) => words,
+        Err(error) => return no_words(&rt, &error),
+    };
+    let Ok(words) = words.collect::<Vec<String>>(rt.alloc()) else {
         return failed(&rt, &no_memory);
     };
     let args = match read_args(rt.alloc(), words.as_slice()) {
         Ok(args) => args,
         Err(error) if error.kind() == ErrorKind::OutOfMemory => return failed(&rt, &no_memory),
-        Err(error) => {
-            let _ = error.print(&rt);
-            return ExitCode::from(error.exit_code() as u8);
-        }
+        Err(error) => return told(&rt, &error),
     };
     match run(&rt, args.script) {
         Ok(()) => ExitCode::SUCCESS,

@@ -4,19 +4,23 @@ use crate::fault::Fault;
 use std::alloc::{AllocError, Global};
 use std::io;
 use std::io::BufWriter;
-use ux_kernel::Kernel;
+use ux_kernel::{BootFault, Kernel};
 use ux_object::{FileObject, ObjKind};
 use ux_objects::{Counter, MemFile, Pipe};
-use ux_script::{Room, run_serial};
+use ux_script::{ObjectSize, run_serial};
 use ux_syntax::Script;
-use ux_types::Name;
+use ux_types::{Name, OBJECT_LIMIT};
 
 /// A file object as a kernel holds it.
 type Boxed = Box<dyn FileObject + Send>;
 
 /// Makes the script's file objects, runs the script over them, and prints its trace to standard output.
+/// More objects than a kernel may have are counted before any is made.
 pub fn run_script<R: Print + AllocGlobal>(rt: &R, script: &Script) -> Result<(), Fault> {
     let alloc: Global = rt.alloc();
+    if script.objects.len() > OBJECT_LIMIT {
+        return Err(Fault::from(BootFault::TooManyObjects));
+    }
     let mut objects: Vec<(Name, Boxed)> = Vec::new(alloc);
     for line in &script.objects {
         let object: Boxed = match line.kind {
@@ -26,8 +30,8 @@ pub fn run_script<R: Print + AllocGlobal>(rt: &R, script: &Script) -> Result<(),
         };
         objects.push((line.name.clone()?, object))?;
     }
-    let mut room: Room<Boxed> = Room::new();
-    run_over(rt, script, objects, &mut room)
+    let size: ObjectSize<Boxed> = ObjectSize::new();
+    run_over(rt, script, objects, &size)
 }
 
 /// Runs the script over these file objects, and prints its trace to standard output.
@@ -35,7 +39,7 @@ fn run_over<O: FileObject, R: Print + AllocGlobal>(
     rt: &R,
     script: &Script,
     objects: Vec<(Name, O)>,
-    room: &mut Room<O>,
+    size: &ObjectSize<O>,
 ) -> Result<(), Fault> {
     let alloc: Global = rt.alloc();
     let kernel = match Kernel::boot(alloc, objects, &script.procs) {
@@ -43,6 +47,6 @@ fn run_over<O: FileObject, R: Print + AllocGlobal>(
         Err((fault, _objects)) => return Err(Fault::from(fault)),
     };
     let mut writer = BufWriter::new(alloc, io::writer(rt)).map_err(|_| AllocError)?;
-    run_serial(alloc, script, &mut writer, kernel, room)?;
+    run_serial(alloc, script, &mut writer, kernel, size)?;
     Ok(())
 }

@@ -1,0 +1,84 @@
+//! Runs each script of `data/`, and compares its trace with the one that lies beside it.
+#![tactic(auto)]
+
+use anyhow::{Result, anyhow};
+use std::alloc::Global;
+use std::fs;
+use std::rt::Files;
+use ux_kernel::Kernel;
+use ux_object::{FileObject, ObjKind};
+use ux_objects::{Counter, MemFile, Pipe};
+use ux_script::{ObjectSize, run_serial};
+use ux_syntax::{Script, parse_script};
+use ux_types::Name;
+
+/// The scripts by their names.
+const SCRIPTS: [&str; 7] = [
+    "hello",
+    "lost_peer",
+    "peek_then_read",
+    "too_many_files",
+    "last_close",
+    "semaphore",
+    "pipe_of_two",
+];
+
+/// A file object as a kernel holds it.
+type Boxed = Box<dyn FileObject + Send>;
+
+/// The trace of a script.
+fn trace_of(alloc: Global, script: &Script) -> Result<Vec<u8>> {
+    let mut objects: Vec<(Name, Boxed)> = Vec::new(alloc);
+    for line in &script.objects {
+        let object: Boxed = match line.kind {
+            ObjKind::Memory => Box::new(alloc, MemFile::new(alloc, line.body.as_slice())?)?,
+            ObjKind::Counter => Box::new(alloc, Counter::new())?,
+            ObjKind::Pipe => Box::new(alloc, Pipe::new(alloc)?)?,
+        };
+        objects.push((line.name.clone()?, object))?;
+    }
+    let size: ObjectSize<Boxed> = ObjectSize::new();
+    run_over(alloc, script, objects, &size)
+}
+
+/// The trace of a script over these file objects.
+fn run_over<O: FileObject>(
+    alloc: Global,
+    script: &Script,
+    objects: Vec<(Name, O)>,
+    size: &ObjectSize<O>,
+) -> Result<Vec<u8>> {
+    let kernel = match Kernel::boot(alloc, objects, &script.procs) {
+        Ok(kernel) => kernel,
+        Err((fault, _objects)) => return Err(anyhow!("{fault}")),
+    };
+    let mut trace: Vec<u8> = Vec::new(alloc);
+    run_serial(alloc, script, &mut trace, kernel, size)?;
+    Ok(trace)
+}
+
+/// Whether a script has the trace that lies beside it.
+fn has_its_trace<R: Files + AllocGlobal>(rt: &R, name: &str) -> Result<bool> {
+    let alloc: Global = rt.alloc();
+    let script = format!(in alloc; "{name}.ux")?;
+    let trace = format!(in alloc; "{name}.trace")?;
+    let text = fs::read(rt, script.as_str())?;
+    let wanted = fs::read(rt, trace.as_str())?;
+    let script = parse_script(alloc, &text)?;
+    let found = trace_of(alloc, &script)?;
+    Ok(found.as_slice() == wanted.as_slice())
+}
+
+fn run<R: Files + Print + AllocGlobal>(rt: &R) -> Result<()> {
+    for name in SCRIPTS {
+        if !has_its_trace(rt, name)? {
+            return Err(anyhow!("{name}: another trace"));
+        }
+        println!(rt; "{name}: ok")?;
+    }
+    Ok(())
+}
+
+fn main(rt: HostRuntime) -> Result<()> {
+    run(&rt)
+}

@@ -1,0 +1,90 @@
+//! The layer as a library: one process writes a file, reads it by a second descriptor, and closes both.
+//! The calls go through a book, which keeps them as a history that is proved legal.
+#![tactic(auto)]
+
+use anyhow::{Result, anyhow};
+use bstr::BString;
+use std::alloc::Global;
+use ux_history::Book;
+use ux_kernel::Kernel;
+use ux_objects::MemFile;
+use ux_syntax::entry_text;
+use ux_types::{Bytes, Fd, Mode, Name, OpenFlags, Pid, ProcSpec, Request, Whence};
+
+/// The one process. It is numbered from 1.
+const WRITER: Pid = Pid(1);
+
+/// A kernel with one memory file, at the path `notes`, and one process.
+fn start(alloc: Global) -> Result<Book<MemFile>> {
+    let path = Name::new(BString::from_slice(alloc, b"notes")?);
+    let file = MemFile::new(alloc, b"")?;
+    let writer = ProcSpec {
+        uid: 1000,
+        gid: 1000,
+        privileged: false,
+        limit: 16,
+    };
+    let objects = vec![in alloc; (path, file)]?;
+    let kernel = match Kernel::boot(alloc, objects, &[writer]) {
+        Ok(kernel) => kernel,
+        // The file comes back with the fault.
+        Err((fault, _objects)) => return Err(anyhow!("{fault}")),
+    };
+    match Book::new(alloc, kernel) {
+        Ok(book) => Ok(book),
+        Err((_kernel, error)) => Err(anyhow!("{error}")),
+    }
+}
+
+/// The calls that the process makes.
+fn calls(alloc: Global) -> Result<Vec<Request>> {
+    let open = Request::Open {
+        path: Name::new(BString::from_slice(alloc, b"notes")?),
+        mode: Mode::Both,
+        flags: OpenFlags(0),
+    };
+    let write = Request::Write {
+        fd: Fd(0),
+        bytes: Bytes::new(Vec::from_slice(alloc, b"hello")?),
+    };
+    // The dup shares the offset of its original, which is set back to the beginning.
+    let rewind = Request::Lseek {
+        fd: Fd(1),
+        offset: 0,
+        whence: Whence::Set,
+    };
+    let read = Request::Read { fd: Fd(0), n: 64 };
+    Ok(vec![in alloc;
+        open,
+        write,
+        Request::Dup { fd: Fd(0) },
+        rewind,
+        read,
+        Request::Close { fd: Fd(0) },
+        Request::Exit,
+    ]?)
+}
+
+/// Makes the calls, and prints the history.
+fn run(rt: &(impl Print + AllocGlobal)) -> Result<()> {
+    let mut book = start(rt.alloc())?;
+    for request in &calls(rt.alloc())? {
+        if !book.is_live(WRITER) {
+            return Err(anyhow!("the process has exited"));
+        }
+        let k = book.calls_of(WRITER);
+        match book.record(WRITER, k, request) {
+            // A file object that went with the call is dropped here, closed.
+            Ok(_recorded) => {}
+            Err(fault) => return Err(anyhow!("{fault}")),
+        }
+    }
+    for (number, entry) in book.entries().iter().enumerate() {
+        print!(rt; "{}", entry_text(rt.alloc(), number, entry)?)?;
+    }
+    Ok(())
+}
+
+fn main(rt: HostRuntime) -> Result<()> {
+    run(&rt)
+}
