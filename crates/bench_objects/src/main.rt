@@ -8,10 +8,10 @@ use anyhow::Result;
 use std::alloc::Global;
 use std::rt::Clock;
 use std::time::{Duration, Instant};
-use ux_fdtable::{DescriptionId, Descriptor, Table};
+use ux_fdtable::{Descriptor, Table};
 use ux_object::FileObject;
 use ux_objects::{Counter, MemFile, Pipe};
-use ux_types::Fd;
+use ux_types::{DescriptionId, Fd};
 
 /// A file object as a kernel holds it.
 type Boxed = Box<dyn FileObject + Send>;
