@@ -1,23 +1,43 @@
 -- In whatever order and in whatever lots unreferenced descriptions are dropped, the same state is left.
-use Rattle.std.specs.Prelude.{◌≡◌, ℕ, zero, suc, ◌+◌, ◌≤◌, Bool, true, false, ◌||◌, ◌==◌, if◌then◌else◌, List, [], ◌∷◌, length, map, Option, Some, None, is_some, option_map, refl}
+use Rattle.std.specs.Prelude.{◌≡◌, ℕ, zero, suc, ◌+◌, ◌≤◌, Bool, true, false, ◌||◌, ◌==◌, if◌then◌else◌, List, [], ◌∷◌, length, map, filter, fold, Option, Some, None, is_some, option_map, refl}
 use Rattle.std.specs.List.{enumerate_from, list_any}
 use Rattle.std.proofs.Common.{sym, ◌∙◌, ap, subst, arith}
 use Rattle.std.proofs.lemmas.Bool.{eqb-true, eq-eqb, and_parts, and_from, and_left, or_parts}
 use mathlib.Core.Bool.{or-false}
 use Rattle.ux_model.specs.Places.{place}
-use Rattle.ux_model.specs.Socket.{Socket}
+use Rattle.ux_model.specs.Socket.{Phase, idle, listening, connected, associated}
 use Rattle.ux_model.specs.Description.{Description, Target, to_object, to_socket}
 use Rattle.ux_model.specs.State.{State, description_at}
-use Rattle.ux_model.specs.References.{refs}
-use Rattle.ux_model.specs.Release.{target_after_loss, description_after_loss, place_after_loss, without, is_unreferenced, has_unreferenced, drop_all, drop_rounds, drop_unreferenced, Drops, none, another, EndsAlike}
+use Rattle.ux_model.specs.References.{target_refs, description_refs, refs}
+use Rattle.ux_model.specs.Release.{target_after_loss, description_after_loss, place_after_loss, without, is_unreferenced, has_unreferenced, drop_all, drop_rounds, drop_unreferenced, is_reset_by_loss, Drops, none, another, EndsAlike}
 use Rattle.ux_model.proofs.ReleaseLaws.{description_at-without, either, without-without}
 
 -- ---- what is left has no more references
 
--- what goes changes no table
-pub refs-without : (d : ℕ) (G : ℕ → Bool) (S : State) → refs (without G S) d ≡ refs S d
+fold_le : {X Y : Type 0} (f : Y → ℕ) (g h : X → Y) → ((x : X) → f (g x) ≤ f (h x)) → (xs : List X) (a b : ℕ) → a ≤ b →
+    fold (λ n y. n + f y) a (map g xs) ≤ fold (λ n y. n + f y) b (map h xs)
+fold_le f g h below [] a b e = e
+fold_le f g h below (x ∷ xs) a b e = fold_le f g h below xs (a + f (g x)) (b + f (h x)) (let p : f (g x) ≤ f (h x) = below x in omega (arith, p, e))
+
+target_refs-after_loss : (d : ℕ) (G : ℕ → Bool) (S : State) (t : Target) → target_refs d (target_after_loss G S t) ≡ target_refs d t
+target_refs-after_loss d G S (to_object o) = refl
+target_refs-after_loss d G S (to_socket s) = refl
+
+refs_at : (d : ℕ) (G K : ℕ → Bool) (S : State) (b c : Bool) (D : Option Description) → (b ≡ true → c ≡ true) →
+    description_refs d (if c then None else option_map (description_after_loss K S) D) ≤ description_refs d (if b then None else option_map (description_after_loss G S) D)
+refs_at d G K S b true D more = omega arith
+refs_at d G K S true false D more = absurd (cc (more refl))
+refs_at d G K S false false None more = omega arith
+refs_at d G K S false false (Some D) more =
+    let p : target_refs d (target_after_loss G S D.target) ≡ target_refs d D.target = target_refs-after_loss d G S D.target in
+    let q : target_refs d (target_after_loss K S D.target) ≡ target_refs d D.target = target_refs-after_loss d K S D.target in
+    omega (arith, p, q)
+
+pub refs-without_more : (d : ℕ) (G K : ℕ → Bool) (S : State) → ((i : ℕ) → G i ≡ true → K i ≡ true) → refs (without K S) d ≤ refs (without G S) d
 unfolding refs without
-refs-without d G S = refl
+refs-without_more d G K S more =
+    let p = fold_le (description_refs d) (place_after_loss K S) (place_after_loss G S) (λ e. refs_at d G K S (G e.0) (K e.0) e.1 (more e.0)) (enumerate_from 0 S.descriptions) 0 0 (omega arith) in
+    omega (arith, p)
 
 -- ---- one description
 
@@ -43,7 +63,8 @@ goes_too : (G K : ℕ → Bool) (S : State) (d : ℕ) → ((i : ℕ) → G i ≡
 goes_too G K S d more over unreferenced = bool_cases (K d) (λ gone. gone) (λ left.
     let some : is_some (description_at (without G S) d) ≡ true = (and_parts _ _ unreferenced).0 in
     let zero_left : refs (without G S) d ≡ 0 = eqb-true _ _ (and_parts (is_some (description_at (without G S) d)) _ unreferenced).1 in
-    let none_left : refs (without K S) d ≡ 0 = refs-without d K S ∙ sym (refs-without d G S) ∙ zero_left in
+    let fewer : refs (without K S) d ≤ refs (without G S) d = refs-without_more d G K S more in
+    let none_left : refs (without K S) d ≡ 0 = omega (arith, zero_left, fewer) in
     let some_at : is_some (place_after_loss G S (d, description_at S d)) ≡ true = ap is_some (sym (description_at-without G S d)) ∙ some in
     let still : is_some (description_at (without K S) d) ≡ true =
     ap is_some (description_at-without K S d) ∙ stands_still G K S (G d) (K d) (description_at S d) some_at left in
@@ -165,21 +186,28 @@ rounds_end (suc n) S G can few = go (has_unreferenced (without G S)) refl (round
 
 -- ---- with nothing gone
 
-socket_kept : (s : Socket) → record s { reset = s.reset || false } ≡ s
-socket_kept s = ap (λ b. record s { reset = b }) (or-false s.reset)
+no_reset : (S : State) (phase : Phase) → is_reset_by_loss (λ d. false) S phase ≡ false
+no_reset S idle = refl
+no_reset S (listening backlog cred) = refl
+no_reset S (connected p) = refl
+no_reset S (associated target) = refl
 
 target_kept : (S : State) (t : Target) → target_after_loss (λ d. false) S t ≡ t
 target_kept S (to_object o) = refl
-target_kept S (to_socket s) = ap to_socket (socket_kept s)
+target_kept S (to_socket s) = ap (λ b. to_socket (record s { reset = b })) (ap (λ b. s.reset || b) (no_reset S s.phase) ∙ or-false s.reset)
 
 places_kept : (S : State) (k : ℕ) (xs : List (Option Description)) → map (place_after_loss (λ d. false) S) (enumerate_from k xs) ≡ xs
 places_kept S k [] = refl
 places_kept S k (None ∷ xs) = ap (λ ys. None ∷ ys) (places_kept S (k + 1) xs)
 places_kept S k (Some D ∷ xs) = λ j. Some (record D { target = target_kept S D.target j }) ∷ places_kept S (k + 1) xs j
 
+filter_all : {X : Type 0} (xs : List X) → filter (λ x. true) xs ≡ xs
+filter_all [] = refl
+filter_all (x ∷ xs) = ap (λ ys. x ∷ ys) (filter_all xs)
+
 without_none : (S : State) → without (λ d. false) S ≡ S
 unfolding without
-without_none S = λ j. record S { descriptions = places_kept S 0 S.descriptions j }
+without_none S = λ j. record S { descriptions = places_kept S 0 S.descriptions j; abstract_names = filter_all S.abstract_names j }
 
 -- ---- one at a time, in any order
 

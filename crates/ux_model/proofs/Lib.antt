@@ -5,7 +5,10 @@ pub mod Replays
 pub mod Fronts
 pub mod Living
 pub mod Appending
+pub mod ChangedPlaces
 pub mod Moves
+pub mod OneGoes
+pub mod Sockets
 mod Play
 mod StreamExamples
 mod LimitExamples

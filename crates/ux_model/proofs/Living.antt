@@ -4,7 +4,7 @@ use Rattle.std.specs.List.{slice_get}
 use Rattle.std.proofs.lemmas.Bool.{eqb-true, eqb-false, eq-eqb, ne_eqb}
 use Rattle.std.proofs.lemmas.List.{get_or-set_other, length-set, length-map, take_all}
 use mathlib.Core.Bool.{and-true, or-true, or-false, or_assoc}
-use Rattle.ux_model.specs.Types.{Errno, Request, Reply, Entry}
+use Rattle.ux_model.specs.Types.{Errno, SockType, Request, Reply, Entry}
 use Rattle.ux_model.specs.Process.{Process}
 use Rattle.ux_model.specs.State.{State, process_at, is_live, with_process}
 use Rattle.ux_model.specs.Release.{without, drop_rounds, drop_all, drop_unreferenced, has_unreferenced, settled}
@@ -150,7 +150,7 @@ each_call S p tag (Request.Dup2 fd to) = plain_call S p (Request.Dup2 fd to) _ r
 each_call S p tag (Request.SetFlags fd flags) = plain_call S p (Request.SetFlags fd flags) _ refl (flags_plain S p fd flags)
 each_call S p tag (Request.Close fd) = plain_call S p (Request.Close fd) _ refl (close_plain S p fd)
 each_call S p tag (Request.Unlink path) = plain_call S p (Request.Unlink path) _ refl (unlink_plain S path)
-each_call S p tag (Request.SocketPair flags) = plain_call S p (Request.SocketPair flags) _ refl (pair_plain S p flags)
+each_call S p tag (Request.SocketPair flags) = plain_call S p (Request.SocketPair flags) _ refl (pair_plain S p SockType.Stream flags)
 each_call S p tag (Request.SendMsg fd bytes flags) = plain_call S p (Request.SendMsg fd bytes flags) _ refl (send_plain S p tag fd bytes flags)
 each_call S p tag (Request.RecvMsg fd n space flags) = plain_call S p (Request.RecvMsg fd n space flags) _ refl (recv_plain S p fd n flags)
 each_call S p tag Request.Exit = ((exit_own S p).with_memory, (exit_own S p).without_failure, exit_after S p)

@@ -3,25 +3,25 @@
 use Rattle.std.proofs.Common.{◌≡◌, ℕ, zero, suc, ◌+◌, Bool, true, false, not, ◌&&◌, ◌==◌, if◌then◌else◌, List, [], ◌∷◌, length, set, map, Option, Some, None, Result, Ok, Err, refl, ap, sym, ◌∙◌}
 use Rattle.std.specs.Prelude.{min, nat_le, nat_lt, ℤ, pos, negsuc, ◌+ℤ◌, is_none, is_some}
 use Rattle.std.specs.List.{slice_get}
-use Rattle.ux_model.specs.Types.{Errno, Fd, Name, Mode, OpenFlags, MsgFlags, Whence, Reply}
+use Rattle.ux_model.specs.Types.{Errno, Fd, Name, SockType, Mode, OpenFlags, MsgFlags, Whence, Reply}
 use Rattle.ux_model.specs.Places.{place}
 use Rattle.ux_model.specs.Limits.{read_limit, offset_limit}
 use Rattle.ux_model.specs.Flags.{are_send_flags, are_receive_flags, asks_peek, can_read, can_write, no_flags}
 use Rattle.ux_model.specs.Message.{Message}
 use Rattle.ux_model.specs.Object.{Body, View, ObjectError, would_block, full, invalid, read_body, write_body, is_memory, is_pipe, can_fail}
-use Rattle.ux_model.specs.Socket.{Socket, stream_room, shortened}
+use Rattle.ux_model.specs.Socket.{Socket, Phase, idle, listening, connected, associated, stream_room, shortened}
 use Rattle.ux_model.specs.Description.{Description, Target, to_object, to_socket, socket_of}
 use Rattle.ux_model.specs.Process.{Process, Descriptor, own_cred, lowest_free, two_lowest_free}
-use Rattle.ux_model.specs.State.{State, process_at, description_at, socket_at, table_of, with_socket, with_table, with_description, with_new}
+use Rattle.ux_model.specs.State.{State, process_at, description_at, socket_at, table_of, with_socket_by, with_table, with_description, with_new}
 use Rattle.ux_model.specs.Outcome.{Outcome, refuse, on_descriptor, on_socket, descriptor_at}
-use Rattle.ux_model.specs.Names.{named, is_valid_path}
+use Rattle.ux_model.specs.Names.{PathTarget, file, bound, named, is_valid_path}
 use Rattle.ux_model.specs.Naming.{unlink}
 use Rattle.ux_model.specs.Pairing.{make_pair, with_pair}
-use Rattle.ux_model.specs.Sending.{send_msg, send_to_peer, message_of}
-use Rattle.ux_model.specs.Receiving.{recv_msg, receive, receive_nothing, bytes_alone}
+use Rattle.ux_model.specs.Sending.{send_msg, send_to_peer, send_connected, message_of}
+use Rattle.ux_model.specs.Receiving.{recv_msg, receive, receive_connected, receive_nothing, bytes_alone}
 use Rattle.ux_model.specs.Files.{open_file, read, write, lseek, file_description, or_failing, read_answer, read_error, write_answer, is_short_read, holds_bytes, is_open_for, write_place, seek_to, seek_base}
 use Rattle.ux_model.specs.Descriptors.{dup, dup2, set_flags, with_flags}
-use Rattle.ux_model.specs.Closing.{close, off}
+use Rattle.ux_model.specs.Closing.{close, off, with_nothing_open}
 use Rattle.ux_model.specs.Step.{lacks_memory, fails}
 
 -- for each process, whether it has exited
@@ -35,13 +35,6 @@ pub record IsPlain (S : State) (o : Outcome) : Type 0 where
   pub kept_failing : (T : State) → o.failure ≡ Some T → exits T ≡ exits S
 
 -- ---- what leaves all as they are
-
-socket_keeps : (S : State) (d : ℕ) (s : Socket) → exits (with_socket S d s) ≡ exits S
-socket_keeps S d s = go (description_at S d)
-  where
-    go : (o : Option Description) → exits (elim o as (λ _. State) [ Some D ↦ with_description S d (record D { target = to_socket s }) | None ↦ S ]) ≡ exits S
-    go None = refl
-    go (Some D) = refl
 
 -- a process that is put in the place of another
 pub exits_set : (Ps : List Process) (i : ℕ) (Q : Process) → map (λ P. Process.exited P) (set Ps i Q) ≡ set (map (λ P. Process.exited P) Ps) i Q.exited
@@ -81,6 +74,17 @@ by_target : (S : State) (t : Target) (f : ℕ → Outcome) (g : Socket → Outco
     IsPlain S (elim t as (λ _. Outcome) [ to_object o ↦ f o | to_socket s ↦ g s ])
 by_target S (to_object o) f g h k = h o
 by_target S (to_socket s) f g h k = k s
+
+by_phase : (S : State) (phase : Phase) (x : Outcome) (f : ℕ → Outcome) → IsPlain S x → ((peer : ℕ) → IsPlain S (f peer)) →
+    IsPlain S (elim phase as (λ _. Outcome) [ idle ↦ x | listening backlog cred ↦ x | connected peer ↦ f peer | associated target ↦ x ])
+by_phase S idle x f h k = h
+by_phase S (listening backlog cred) x f h k = h
+by_phase S (connected peer) x f h k = k peer
+by_phase S (associated target) x f h k = h
+
+by_path : (S : State) (t : PathTarget) (f : ℕ → Outcome) (x : Outcome) → ((o : ℕ) → IsPlain S (f o)) → IsPlain S x → IsPlain S (elim t as (λ _. Outcome) [ file o ↦ f o | bound d ↦ x ])
+by_path S (file o) f x h k = h o
+by_path S (bound d) f x h k = k
 
 found : (S : State) (p : ℕ) (fd : Fd) (rest : Descriptor → Description → Outcome) → ((e : Descriptor) (D : Description) → IsPlain S (rest e D)) → IsPlain S (on_descriptor S p fd rest)
 found S p fd rest plain = go (descriptor_at S p fd)
@@ -134,30 +138,34 @@ failing S o view x plain = record { with_memory = plain.with_memory; without_fai
 
 -- ---- the calls
 
-pub pair_plain : (S : State) (p : ℕ) (flags : OpenFlags) → IsPlain S (make_pair S p flags)
+pub pair_plain : (S : State) (p : ℕ) (kind : SockType) (flags : OpenFlags) → IsPlain S (make_pair S p kind flags)
 unfolding make_pair
-pair_plain S p flags = maybe S (process_at S p) _ _ (told S _ refl refl refl refl)
-    (λ P. maybe S (two_lowest_free P.table) _ _ (told S _ refl refl refl refl) (λ n. told S _ refl refl (table_keeps (with_pair S flags) p _) refl))
+pair_plain S p kind flags = maybe S (process_at S p) _ _ (told S _ refl refl refl refl)
+    (λ P. maybe S (two_lowest_free P.table) _ _ (told S _ refl refl refl refl) (λ n. told S _ refl refl (table_keeps (with_pair S kind flags (own_cred p P)) p _) refl))
 
 to_peer_plain : (S : State) (d : ℕ) (m : Message) → IsPlain S (send_to_peer S d m)
 to_peer_plain S d m = maybe S (socket_at S d) _ _ (told S _ refl refl refl refl)
-    (λ other. either S (length m.bytes == 0) _ _ (told S _ refl refl refl refl) (either S (stream_room other == 0) _ _ (told S _ refl refl refl refl) (told S _ refl refl (socket_keeps S d _) refl)))
+    (λ other. either S (length m.bytes == 0) _ _ (told S _ refl refl refl refl) (either S (stream_room other == 0) _ _ (told S _ refl refl refl refl) (told S _ refl refl refl refl)))
+
+connected_plain : (S : State) (s : Socket) (m : Message) → IsPlain S (send_connected S s m)
+connected_plain S s m = by_phase S s.phase _ _ (told S _ refl refl refl refl) (λ peer. to_peer_plain S peer m)
 
 pub send_plain : (S : State) (p tag : ℕ) (fd : Fd) (bytes : List ℕ) (flags : MsgFlags) → IsPlain S (send_msg S p tag fd bytes flags)
 unfolding send_msg
 send_plain S p tag fd bytes flags = maybe S (process_at S p) _ _ (told S _ refl refl refl refl)
-    (λ P. found_socket S p fd _ (λ d s. either S (not (are_send_flags flags)) _ _ (told S _ refl refl refl refl) (to_peer_plain S s.peer (message_of (own_cred p P) tag bytes))))
+    (λ P. found_socket S p fd _ (λ d s. either S (not (are_send_flags flags)) _ _ (told S _ refl refl refl refl) (connected_plain S s (message_of (own_cred p P) tag bytes))))
 
-nothing_plain : (S : State) (d : ℕ) (s : Socket) → IsPlain S (receive_nothing S d s)
-nothing_plain S d s = either S s.reset _ _ (told S _ refl refl (socket_keeps S d _) refl) (either S (is_none (socket_at S s.peer)) _ _ (told S _ refl refl refl refl) (told S _ refl refl refl refl))
+nothing_plain : (S : State) (d : ℕ) (s : Socket) (peer : ℕ) → IsPlain S (receive_nothing S d s peer)
+nothing_plain S d s peer = either S s.reset _ _ (told S _ refl refl refl refl) (either S (is_none (socket_at S peer)) _ _ (told S _ refl refl refl refl) (told S _ refl refl refl refl))
 
 receive_plain : (S : State) (d : ℕ) (s : Socket) (n : ℕ) (flags : MsgFlags) → IsPlain S (receive S d s n flags)
-receive_plain S d s n flags = either S (n == 0) _ _ (told S _ refl refl refl refl) (either S (length s.queue == 0) _ _ (nothing_plain S d s)
-    (told S _ refl refl (peeked (asks_peek flags)) refl))
+receive_plain S d s n flags = by_phase S s.phase _ _ (told S _ refl refl refl refl)
+    (λ peer. either S (n == 0) _ _ (told S _ refl refl refl refl) (either S (length s.queue == 0) _ _ (nothing_plain S d s peer)
+    (told S _ refl refl (peeked (asks_peek flags)) refl)))
   where
-    peeked : (b : Bool) → exits (if b then S else with_socket S d (shortened n s)) ≡ exits S
+    peeked : (b : Bool) → exits (if b then S else with_socket_by S d (shortened n)) ≡ exits S
     peeked true = refl
-    peeked false = socket_keeps S d (shortened n s)
+    peeked false = refl
 
 pub recv_plain : (S : State) (p : ℕ) (fd : Fd) (n : ℕ) (flags : MsgFlags) → IsPlain S (recv_msg S p fd n flags)
 unfolding recv_msg
@@ -169,7 +177,11 @@ close_plain S p fd = found S p fd _ (λ e D. told S _ refl refl (table_keeps S p
 
 pub off_plain : (S : State) → IsPlain S (off S)
 unfolding off
-off_plain S = told S _ refl refl refl refl
+off_plain S = told S _ refl refl (still S.processes) refl
+  where
+    still : (Ps : List Process) → map (λ P. Process.exited P) (map with_nothing_open Ps) ≡ map (λ P. Process.exited P) Ps
+    still [] = refl
+    still (P ∷ Ps) = ap (λ l. P.exited ∷ l) (still Ps)
 
 pub unlink_plain : (S : State) (path : Name) → IsPlain S (unlink S path)
 unfolding unlink
@@ -191,7 +203,8 @@ flags_plain S p fd flags = found S p fd _ (λ e D. told S _ refl refl (table_kee
 pub open_plain : (S : State) (p : ℕ) (path : Name) (mode : Mode) (flags : OpenFlags) → IsPlain S (open_file S p path mode flags)
 unfolding open_file
 open_plain S p path mode flags = either S (not (is_valid_path path)) _ _ (told S _ refl refl refl refl) (maybe S (named path S.paths) _ _ (told S _ refl refl refl refl)
-    (λ o. maybe S (lowest_free (table_of S p)) _ _ (told S _ refl refl refl refl) (λ n. told S _ refl refl (table_keeps (with_new S (file_description o mode flags)) p _) refl)))
+    (λ t. by_path S t _ _ (λ o. maybe S (lowest_free (table_of S p)) _ _ (told S _ refl refl refl refl) (λ n. told S _ refl refl (table_keeps (with_new S (file_description o mode flags)) p _) refl))
+    (told S _ refl refl refl refl)))
 
 read_error_plain : (S : State) (o : ℕ) (view : View) (e : ObjectError) → IsPlain S (read_error S o view e)
 read_error_plain S o view would_block = either S (is_pipe view.body && not (is_open_for can_write S o)) _ _ (told S _ refl refl refl refl) (told S _ refl refl refl refl)
@@ -240,7 +253,7 @@ write_plain S p tag fd bytes = found S p fd _ (λ e D. by_target S D.target _ _
     (either S (holds_bytes view.body && (length bytes == 0)) _ _ (told S _ refl refl refl refl)
     (either S (is_pipe view.body && not (is_open_for can_read S o)) _ _ (told S _ refl refl refl refl)
     (failing S o view _ (write_answer_plain S e.description D o view (write_body view.body (write_place D view) bytes)))))))
-    (λ s. maybe S (process_at S p) _ _ (told S _ refl refl refl refl) (λ P. to_peer_plain S s.peer (message_of (own_cred p P) tag bytes))))
+    (λ s. maybe S (process_at S p) _ _ (told S _ refl refl refl refl) (λ P. connected_plain S s (message_of (own_cred p P) tag bytes))))
 
 seek_to_plain : (S : State) (d : ℕ) (D : Description) (to : ℤ) → IsPlain S (seek_to S d D to)
 seek_to_plain S d D (pos n) = either S (nat_lt offset_limit n) _ _ (told S _ refl refl refl refl) (told S _ refl refl refl refl)

@@ -1,12 +1,12 @@
 -- Dropping descriptions in two goes is dropping them at once.
-use Rattle.std.specs.Prelude.{◌≡◌, ℕ, zero, suc, ◌+◌, Bool, true, false, ◌&&◌, ◌||◌, if◌then◌else◌, List, [], ◌∷◌, map, Option, Some, None, option_map, option_and_then, refl}
+use Rattle.std.specs.Prelude.{◌≡◌, ℕ, zero, suc, ◌+◌, Bool, true, false, not, ◌&&◌, ◌||◌, if◌then◌else◌, List, [], ◌∷◌, map, filter, Option, Some, None, option_map, option_and_then, cond, refl}
 use Rattle.std.specs.List.{enumerate_from}
 use Rattle.std.proofs.Common.{sym, ◌∙◌, ap, arith}
 use Rattle.ux_model.specs.Places.{place}
-use Rattle.ux_model.specs.Socket.{Socket}
+use Rattle.ux_model.specs.Socket.{Socket, Phase, idle, listening, connected, associated}
 use Rattle.ux_model.specs.Description.{Description, Target, to_object, to_socket, socket_of}
 use Rattle.ux_model.specs.State.{State, description_at, socket_at}
-use Rattle.ux_model.specs.Release.{resets_peer, socket_after_loss, target_after_loss, description_after_loss, place_after_loss, without}
+use Rattle.ux_model.specs.Release.{resets_peer, is_reset_by_loss, target_after_loss, description_after_loss, place_after_loss, without}
 
 -- ---- lists of places
 
@@ -32,7 +32,7 @@ description_at-without gone S d =
     let e : 0 + d ≡ d = omega arith in
     place-map (place_after_loss gone S) (none_stays gone S) 0 d S.descriptions ∙ ap (λ n. place_after_loss gone S (n, description_at S d)) e
 
--- what a socket loses nothing of, when its own peer goes: its queue
+-- what a socket loses nothing of, when its own peer goes: its queue, and whether it was accepted
 resets-target : (gone : ℕ → Bool) (S : State) (t : Target) → resets_peer (socket_of (target_after_loss gone S t)) ≡ resets_peer (socket_of t)
 resets-target gone S (to_object o) = refl
 resets-target gone S (to_socket s) = refl
@@ -63,15 +63,21 @@ flags false true false true = refl
 flags false true false false = refl
 flags false false x q = refl
 
-socket_twice : (now later : ℕ → Bool) (S : State) (s : Socket) →
-    socket_after_loss later (without now S) (socket_after_loss now S s) ≡ socket_after_loss (either now later) S s
-socket_twice now later S s = (λ j. record s { reset = (s.reset || (now s.peer && resets_peer (socket_at S s.peer))) || (later s.peer && resets-without now S s.peer j) })
-    ∙ (λ j. record s { reset = flags s.reset (now s.peer) (later s.peer) (resets_peer (socket_at S s.peer)) j })
+reset_twice : (now later : ℕ → Bool) (S : State) (r : Bool) (phase : Phase) →
+    (r || is_reset_by_loss now S phase) || is_reset_by_loss later (without now S) phase ≡ r || is_reset_by_loss (either now later) S phase
+reset_twice now later S r (connected p) =
+    ap (λ q. (r || (now p && resets_peer (socket_at S p))) || (later p && q)) (resets-without now S p) ∙ flags r (now p) (later p) (resets_peer (socket_at S p))
+reset_twice now later S true idle = refl
+reset_twice now later S true (listening backlog cred) = refl
+reset_twice now later S true (associated target) = refl
+reset_twice now later S false idle = refl
+reset_twice now later S false (listening backlog cred) = refl
+reset_twice now later S false (associated target) = refl
 
 target_twice : (now later : ℕ → Bool) (S : State) (t : Target) →
     target_after_loss later (without now S) (target_after_loss now S t) ≡ target_after_loss (either now later) S t
 target_twice now later S (to_object o) = refl
-target_twice now later S (to_socket s) = ap to_socket (socket_twice now later S s)
+target_twice now later S (to_socket s) = ap (λ b. to_socket (record s { reset = b })) (reset_twice now later S s.reset s.phase)
 
 place_twice : (now later : ℕ → Bool) (S : State) (i : ℕ) (D : Option Description) (y x : Bool) →
     (if x then None else option_map (description_after_loss later (without now S)) (if y then None else option_map (description_after_loss now S) D))
@@ -82,9 +88,19 @@ place_twice now later S i D false true = refl
 place_twice now later S i None false false = refl
 place_twice now later S i (Some D) false false = ap (λ t. Some (record D { target = t })) (target_twice now later S D.target)
 
+filter_step : {X : Type 0} (q : X → Bool) (x : X) (a : Bool) (ys zs : List X) → filter (λ x. not (q x)) ys ≡ zs →
+    filter (λ x. not (q x)) (cond (not a) (x ∷ ys) ys) ≡ cond (not (a || q x)) (x ∷ zs) zs
+filter_step q x true ys zs e = e
+filter_step q x false ys zs e = ap (λ l. cond (not (q x)) (x ∷ l) l) e
+
+filter_twice : {X : Type 0} (p q : X → Bool) (xs : List X) → filter (λ x. not (q x)) (filter (λ x. not (p x)) xs) ≡ filter (λ x. not (p x || q x)) xs
+filter_twice p q [] = refl
+filter_twice p q (x ∷ xs) = filter_step q x (p x) (filter (λ x. not (p x)) xs) (filter (λ x. not (p x || q x)) xs) (filter_twice p q xs)
+
 pub without-without : (now later : ℕ → Bool) (S : State) → without later (without now S) ≡ without (either now later) S
 unfolding without
 without-without now later S = λ j. record S {
   descriptions = map_twice (place_after_loss later (without now S)) (place_after_loss now S) (place_after_loss (either now later) S)
       (λ i D. place_twice now later S i D (now i) (later i)) 0 S.descriptions j;
+  abstract_names = filter_twice (λ e. now e.1) (λ e. later e.1) S.abstract_names j;
 }

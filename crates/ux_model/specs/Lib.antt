@@ -27,6 +27,7 @@ pub mod Files
 pub mod Descriptors
 pub mod Closing
 pub mod Step
+pub mod Peers
 pub mod Moves
 pub mod Boot
 pub mod History

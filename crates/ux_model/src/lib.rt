@@ -5,7 +5,8 @@
 
 ghost use Rattle.ux_model.specs.Release.{EndsAlike};
 ghost use Rattle.ux_model.specs.History.{LeadsToOne, FrontIsLegal, ExitAloneEnds, StepKeepsProcesses, LivesUntilExit};
-ghost use Rattle.ux_model.specs.Moves.{PutEntryCounts, TakenEntryCountsNot, NewKeepsReferences, ChangeKeepsReferences, NewCountsAtObject, SameTargetCountsAlike, TakenPathCountsNot};
+ghost use Rattle.ux_model.specs.Peers.{OneGoes};
+ghost use Rattle.ux_model.specs.Moves.{ProcessCounts, SocketCounts, NewCounts, NewCountsAtObject, SameTargetCountsAlike, TakenPathCountsNot};
 
 /// Descriptions without a reference may be dropped one at a time and in any order: the same state is
 /// left as when all go at once, again and again.
@@ -45,28 +46,28 @@ pub fn processes_live_until_their_exit()
     ensures { LivesUntilExit }
 {}
 
-/// An entry that is put at a number of a process counts in place of what was open there.
-#[tactic(auto, using(crate::proofs::Moves::put_entry_counts))]
-pub fn put_entry_counts()
-    ensures { PutEntryCounts }
+/// Another process in the place of one changes the references by those of the two tables.
+#[tactic(auto, using(crate::proofs::Moves::process_counts))]
+pub fn process_counts()
+    ensures { ProcessCounts }
 {}
 
-/// An entry that is taken away no longer counts.
-#[tactic(auto, using(crate::proofs::Moves::taken_entry_counts_not))]
-pub fn taken_entry_counts_not()
-    ensures { TakenEntryCountsNot }
+/// A changed socket changes the references by those that it holds before and after.
+#[tactic(auto, using(crate::proofs::Sockets::socket_counts))]
+pub fn socket_counts()
+    ensures { SocketCounts }
 {}
 
-/// A new description leaves all references as they are, and has none itself.
-#[tactic(auto, using(crate::proofs::Moves::new_keeps_references))]
-pub fn new_description_keeps_references()
-    ensures { NewKeepsReferences }
+/// A new description adds the references that it holds.
+#[tactic(auto, using(crate::proofs::Moves::new_counts))]
+pub fn new_description_counts()
+    ensures { NewCounts }
 {}
 
-/// So does a change of a description.
-#[tactic(auto, using(crate::proofs::Moves::change_keeps_references))]
-pub fn changed_description_keeps_references()
-    ensures { ChangeKeepsReferences }
+/// Where connected sockets name one another, one description that goes has one other to tell.
+#[tactic(auto, using(crate::proofs::OneGoes::one_goes))]
+pub fn one_description_goes()
+    ensures { OneGoes }
 {}
 
 /// A new description counts at the file object that it leads to.

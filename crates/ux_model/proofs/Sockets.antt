@@ -1,0 +1,32 @@
+-- A change of one socket.
+use Rattle.std.proofs.Common.{◌≡◌, ℕ, ◌+◌, Option, Some, None, option_map, refl, arith}
+use Rattle.ux_model.specs.Socket.{Socket, peer_of}
+use Rattle.ux_model.specs.Description.{Description, Target, to_object, to_socket, changed, changed_target}
+use Rattle.ux_model.specs.References.{socket_refs, target_refs, description_refs, refs}
+use Rattle.ux_model.specs.Peers.{target_peer, peer_in, at_target, at_socket}
+use Rattle.ux_model.specs.Moves.{SocketCounts}
+use Rattle.ux_model.proofs.ChangedPlaces.{sum_by-changed}
+
+target_change : (d : ℕ) (change : Socket → Socket) (more less : Socket → ℕ) → ((s : Socket) → socket_refs d (change s) + less s ≡ socket_refs d s + more s) →
+    (t : Target) → target_refs d (changed_target change t) + at_target less t ≡ target_refs d t + at_target more t
+target_change d change more less by (to_object o) = refl
+target_change d change more less by (to_socket s) = by s
+
+place_change : (d : ℕ) (change : Socket → Socket) (more less : Socket → ℕ) → ((s : Socket) → socket_refs d (change s) + less s ≡ socket_refs d s + more s) →
+    (x : Option Description) → description_refs d (option_map (changed change) x) + at_socket less x ≡ description_refs d x + at_socket more x
+place_change d change more less by None = refl
+place_change d change more less by (Some D) = target_change d change more less by D.target
+
+pub socket_counts : SocketCounts
+unfolding refs
+socket_counts S n d change more less by =
+    let e = sum_by-changed (description_refs d) (changed change) (at_socket more) (at_socket less) (place_change d change more less by) S.descriptions n in
+    omega (arith, e)
+
+target_peer-changed : (change : Socket → Socket) → ((s : Socket) → peer_of (change s).phase ≡ peer_of s.phase) → (t : Target) → target_peer (changed_target change t) ≡ target_peer t
+target_peer-changed change same (to_object o) = refl
+target_peer-changed change same (to_socket s) = same s
+
+pub peer_in-changed : (change : Socket → Socket) → ((s : Socket) → peer_of (change s).phase ≡ peer_of s.phase) → (x : Option Description) → peer_in (option_map (changed change) x) ≡ peer_in x
+peer_in-changed change same None = refl
+peer_in-changed change same (Some D) = target_peer-changed change same D.target
