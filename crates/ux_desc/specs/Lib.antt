@@ -1,3 +1,2 @@
-pub mod Queue
+pub mod Views
 pub mod Targets
-pub mod Changes

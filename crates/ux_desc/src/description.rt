@@ -1,19 +1,16 @@
 //! An open file description.
-ghost use Rattle.std.specs.Prelude.{◌≡◌, ◌+◌, ◌≤◌, Some, MatchOption, IsSome, None, OnOk, OnErr, length, option_map};
-ghost use Rattle.ux_model.specs.Limits.{stream_limit};
-ghost use Rattle.ux_model.specs.Message.{queued_bytes};
-ghost use Rattle.ux_model.specs.Socket.{Socket, new_end};
-ghost use Rattle.ux_model.specs.Socket.{queued, shortened};
-ghost use Rattle.ux_model.specs.Description.{socket_of};
+ghost use Rattle.std.specs.Prelude.{◌≡◌, ◌<◌, Some, MatchOption, None, IfOk, OnOk, OnErr, length, min};
+ghost use Rattle.ux_model.specs.Socket.{Socket, stream_room, sent_part, queued, with_queue, with_reset};
+ghost use Rattle.ux_model.specs.Front.{OnStreamFront};
+ghost use Rattle.ux_model.specs.Description.{socket_of, object_of, changed};
 ghost use Rattle.ux_model.specs.Pairing.{socket_description};
 ghost use Rattle.ux_model.specs.Files.{file_description};
 ghost use Rattle.ux_model.specs.Descriptors.{with_flags};
-ghost use Rattle.ux_desc.specs.Changes.{object_of, changed, without_reset, losing};
+ghost use Rattle.ux_model.specs.Peers.{lost_peer};
+ghost use Rattle.ux_desc.specs.Targets.{target_of};
 
-use crate::message::Message;
 use crate::socket::Socket;
 use bitflags::Flags;
-use std::alloc::{AllocError, Global};
 use std::marker::Model;
 use ux_types::{DescriptionId, Mode, OpenFlags};
 
@@ -60,16 +57,16 @@ impl Description {
         }
     }
 
-    /// One end of a new pair of sockets (socketpair(2)).
-    pub fn pair_end(alloc: Global, flags: OpenFlags, peer: DescriptionId) -> Description
-        ensures { result ≡ socket_description flags (new_end peer) }
+    /// A new description of a socket.
+    pub fn of_socket(flags: OpenFlags, socket: Socket) -> Description
+        ensures { result ≡ socket_description flags socket }
     {
         Description {
             offset: 0,
             mode: Mode::Both,
             append: flags.contains(OpenFlags::APPEND),
             nonblock: flags.contains(OpenFlags::NONBLOCK),
-            target: Target::Socket(Socket::new_end(alloc, peer)),
+            target: Target::Socket(socket),
         }
     }
 
@@ -136,42 +133,29 @@ impl Description {
         self.nonblock = flags.contains(OpenFlags::NONBLOCK);
     }
 
-    /// Queues a message at its socket, if it leads to one, for which there is room.
-    pub fn push(&mut self, m: Message) -> Result<(), AllocError>
-        requires { (s : Socket) → socket_of self.old.target ≡ Some s → queued_bytes s.queue + length m.bytes ≤ stream_limit }
-        ensures ok { OnOk result (self.new ≡ changed (λ s. queued s m) self.old) }
-        ensures err { OnErr result (self.new ≡ self.old) }
+    /// The description that its loss resets, if there is one.
+    pub fn lost_peer(&self) -> Option<DescriptionId>
+        ensures { result ≡ lost_peer self.now }
     {
-        match &mut self.target {
-            Target::Object(_) => Ok(()),
-            Target::Socket(s) => s.push(m),
+        match &self.target {
+            Target::Socket(s) if s.resets_peer() => s.peer(),
+            _ => None,
         }
     }
 
-    /// Takes bytes from the front of its socket's queue.
-    pub fn take_front(&mut self, n: usize)
-        ensures { self.new ≡ changed (shortened n) self.old }
+    /// ECONNRESET is pending at its socket from now on, or no longer.
+    pub fn set_reset(&mut self, on: bool)
+        ensures { self.new ≡ changed (with_reset on) self.old }
     {
         if let Target::Socket(s) = &mut self.target {
-            s.take_front(n);
+            s.set_reset(on);
         }
     }
 
-    /// Clears its socket's pending error.
-    pub fn clear_reset(&mut self)
-        ensures { self.new ≡ changed without_reset self.old }
+    /// What it leads to, taken out of it.
+    pub fn into_target(self) -> Target
+        ensures { target_of result ≡ self.target }
     {
-        if let Target::Socket(s) = &mut self.target {
-            s.clear_reset();
-        }
-    }
-
-    /// Another description goes. Where its socket was this one's peer, this one may be reset.
-    pub fn lose(&mut self, d: DescriptionId, resets: bool)
-        ensures { self.new ≡ changed (losing d resets) self.old }
-    {
-        if let Target::Socket(s) = &mut self.target {
-            s.lose(d, resets);
-        }
+        self.target
     }
 }

@@ -3,12 +3,12 @@
 #![tactic(auto)]
 
 mod description;
-mod message;
+mod phase;
 mod queue;
 mod socket;
 
 pub use description::{Description, Target};
-pub use message::Message;
+pub use phase::{Listener, Phase};
 pub use queue::Queue;
 pub use socket::Socket;
 

@@ -9,7 +9,7 @@ use Rattle.ux_model.specs.Limits.{read_limit, offset_limit}
 use Rattle.ux_model.specs.Flags.{are_send_flags, are_receive_flags, asks_peek, can_read, can_write, no_flags}
 use Rattle.ux_model.specs.Message.{Message}
 use Rattle.ux_model.specs.Object.{Body, View, ObjectError, would_block, full, invalid, read_body, write_body, is_memory, is_pipe, can_fail}
-use Rattle.ux_model.specs.Socket.{Socket, Phase, idle, listening, connected, associated, stream_room, shortened}
+use Rattle.ux_model.specs.Socket.{Socket, Phase, idle, listening, connected, associated, stream_room, with_queue}
 use Rattle.ux_model.specs.Description.{Description, Target, to_object, to_socket, socket_of}
 use Rattle.ux_model.specs.Process.{Process, Descriptor, own_cred, lowest_free, two_lowest_free}
 use Rattle.ux_model.specs.State.{State, process_at, description_at, socket_at, table_of, with_socket_by, with_table, with_description, with_new}
@@ -18,7 +18,8 @@ use Rattle.ux_model.specs.Names.{PathTarget, file, bound, named, is_valid_path}
 use Rattle.ux_model.specs.Naming.{unlink}
 use Rattle.ux_model.specs.Pairing.{make_pair, with_pair}
 use Rattle.ux_model.specs.Sending.{send_msg, send_to_peer, send_connected, message_of}
-use Rattle.ux_model.specs.Receiving.{recv_msg, receive, receive_connected, receive_nothing, bytes_alone}
+use Rattle.ux_model.specs.Receiving.{recv_msg, receive, receive_connected, receive_bytes, receive_nothing, bytes_alone}
+use Rattle.ux_model.specs.Front.{stream_front}
 use Rattle.ux_model.specs.Files.{open_file, read, write, lseek, file_description, or_failing, read_answer, read_error, write_answer, is_short_read, holds_bytes, is_open_for, write_place, seek_to, seek_base}
 use Rattle.ux_model.specs.Descriptors.{dup, dup2, set_flags, with_flags}
 use Rattle.ux_model.specs.Closing.{close, off, with_nothing_open}
@@ -160,12 +161,15 @@ nothing_plain S d s peer = either S s.reset _ _ (told S _ refl refl refl refl) (
 
 receive_plain : (S : State) (d : ℕ) (s : Socket) (n : ℕ) (flags : MsgFlags) → IsPlain S (receive S d s n flags)
 receive_plain S d s n flags = by_phase S s.phase _ _ (told S _ refl refl refl refl)
-    (λ peer. either S (n == 0) _ _ (told S _ refl refl refl refl) (either S (length s.queue == 0) _ _ (nothing_plain S d s peer)
-    (told S _ refl refl (peeked (asks_peek flags)) refl)))
+    (λ peer. either S (n == 0) _ _ (told S _ refl refl refl refl) (by_queue peer s.queue))
   where
-    peeked : (b : Bool) → exits (if b then S else with_socket_by S d (shortened n)) ≡ exits S
-    peeked true = refl
-    peeked false = refl
+    peeked : (b : Bool) (rest : List Message) → exits (if b then S else with_socket_by S d (with_queue rest)) ≡ exits S
+    peeked true rest = refl
+    peeked false rest = refl
+
+    by_queue : (peer : ℕ) (q : List Message) → IsPlain S (elim q as (λ _. Outcome) [ [] ↦ receive_nothing S d s peer | m ∷ ms ↦ receive_bytes S d flags (stream_front s.passcred n m ms) ])
+    by_queue peer [] = nothing_plain S d s peer
+    by_queue peer (m ∷ ms) = told S _ refl refl (peeked (asks_peek flags) _) refl
 
 pub recv_plain : (S : State) (p : ℕ) (fd : Fd) (n : ℕ) (flags : MsgFlags) → IsPlain S (recv_msg S p fd n flags)
 unfolding recv_msg
