@@ -1,6 +1,6 @@
 //! An open file description.
-ghost use Rattle.std.specs.Prelude.{◌≡◌, ◌<◌, Some, MatchOption, None, IfOk, OnOk, OnErr, length, min};
-ghost use Rattle.ux_model.specs.Socket.{Socket, stream_room, sent_part, queued, with_queue, with_reset};
+ghost use Rattle.std.specs.Prelude.{◌≡◌, ◌↔◌, ◌<◌, Some, None, MatchOption, IsSomeAnd, IsErrAnd, IfOk, IfErr, OnOk, OnErr, length, min};
+ghost use Rattle.ux_model.specs.Socket.{stream_room, sent, with_queue, with_reset};
 ghost use Rattle.ux_model.specs.Front.{OnStreamFront};
 ghost use Rattle.ux_model.specs.Description.{socket_of, object_of, changed};
 ghost use Rattle.ux_model.specs.Pairing.{socket_description};
@@ -11,8 +11,11 @@ ghost use Rattle.ux_desc.specs.Targets.{target_of};
 
 use crate::socket::Socket;
 use bitflags::Flags;
+use std::alloc::AllocError;
 use std::marker::Model;
-use ux_types::{DescriptionId, Mode, OpenFlags};
+use ux_rights::RefList;
+use ux_stream::{Received, Refused, SendError};
+use ux_types::{Cred, DescriptionId, Mode, OpenFlags, SockType};
 
 /// What a description leads to.
 #[derive(Drop)]
@@ -131,6 +134,54 @@ impl Description {
     {
         self.append = flags.contains(OpenFlags::APPEND);
         self.nonblock = flags.contains(OpenFlags::NONBLOCK);
+    }
+
+    /// Queues the bytes that its stream socket has room for, and says how many.
+    ///
+    /// # Errors
+    ///
+    /// `Full` exactly where there is no room, else `NoMemory`. The rights come back, and the description stands
+    /// as before.
+    pub fn send_stream(
+        &mut self,
+        bytes: &[u8],
+        tag: u64,
+        rights: RefList,
+        cred: Cred,
+        uid: u32,
+    ) -> Result<usize, Refused>
+        requires stream { IsSomeAnd (socket_of self.old.target) (λ s. s.kind ≡ SockType.Stream) }
+        requires some { 0 < length bytes.now }
+        ensures count { IfOk result (λ count. IsSomeAnd (socket_of self.old.target) (λ s. count ≡ min (stream_room s) (length bytes.now))) }
+        ensures ok { OnOk result (self.new ≡ changed (sent (record { tag = tag; bytes = bytes.now; rights = rights; cred = cred; uid = uid; from = None })) self.old) }
+        ensures full { IsErrAnd result (λ e. e.error ≡ SendError.Full) ↔ IsSomeAnd (socket_of self.old.target) (λ s. stream_room s ≡ 0) }
+        ensures given_back { IfErr result (λ e. e.rights ≡ rights) }
+        ensures err { OnErr result (self.new ≡ self.old) }
+    {
+        match &mut self.target {
+            Target::Object(_) => unreachable!(),
+            Target::Socket(s) => s.send_stream(bytes, tag, rights, cred, uid),
+        }
+    }
+
+    /// Takes at most n bytes from the front of its stream socket's queue, with the rights that come with
+    /// them.
+    ///
+    /// # Errors
+    ///
+    /// Out of memory. The description stands as before.
+    pub fn take_stream(&mut self, n: usize, wants_cred: bool) -> Result<Received, AllocError>
+        requires stream { IsSomeAnd (socket_of self.old.target) (λ s. s.kind ≡ SockType.Stream) }
+        requires some { IsSomeAnd (socket_of self.old.target) (λ s. 0 < length s.queue) }
+        ensures bytes { IfOk result (λ r. IsSomeAnd (socket_of self.old.target) (λ s. OnStreamFront wants_cred n s.queue (λ f. r.bytes.items ≡ f.bytes))) }
+        ensures rights { IfOk result (λ r. IsSomeAnd (socket_of self.old.target) (λ s. OnStreamFront wants_cred n s.queue (λ f. r.rights ≡ f.rights))) }
+        ensures rest { OnOk result (IsSomeAnd (socket_of self.old.target) (λ s. OnStreamFront wants_cred n s.queue (λ f. self.new ≡ changed (with_queue f.rest) self.old))) }
+        ensures err { OnErr result (self.new ≡ self.old) }
+    {
+        match &mut self.target {
+            Target::Object(_) => unreachable!(),
+            Target::Socket(s) => s.take_stream(n, wants_cred),
+        }
     }
 
     /// The description that its loss resets, if there is one.

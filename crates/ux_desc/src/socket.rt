@@ -1,6 +1,6 @@
 //! A socket.
 ghost use Rattle.std.specs.Prelude.{◌≡◌, ◌↔◌, ◌==◌, ◌<◌, min, length, drop, Some, None, IsTrue, IsSome, IfOk, IfErr, IsErrAnd, OnOk, OnErr, option_map, slice_get};
-ghost use Rattle.ux_model.specs.Socket.{new_socket, pair_end, peer_of, stream_room, sent_part, queued, with_queue, with_reset};
+ghost use Rattle.ux_model.specs.Socket.{new_socket, pair_end, peer_of, pending_ends, stream_room, sent_part, queued, with_queue, with_reset};
 ghost use Rattle.ux_model.specs.Front.{OnStreamFront};
 ghost use Rattle.ux_model.specs.Release.{resets_peer};
 ghost use Rattle.ux_desc.specs.Views.{is_stream, is_stream_queue};
@@ -230,6 +230,18 @@ impl Socket {
         ensures rest { self.new ≡ with_queue (drop 1 self.old.queue) self.old }
     {
         self.queue.pop_message()
+    }
+
+    /// Takes the oldest of the ends that wait for accept off. It takes no memory.
+    pub fn pop_pending(&mut self) -> Option<DescriptionId>
+        ensures first { result ≡ slice_get (pending_ends self.old.phase) 0 }
+        ensures rest { pending_ends self.new.phase ≡ drop 1 (pending_ends self.old.phase) }
+        ensures queue { self.new.queue ≡ self.old.queue }
+    {
+        match &mut self.phase {
+            Phase::Listening(listener) => listener.backlog.pop(),
+            _ => None,
+        }
     }
 
     /// ECONNRESET is pending from now on, or no longer.

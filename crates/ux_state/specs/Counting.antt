@@ -28,8 +28,8 @@ pub record HasMore (D : Description) (old new : List Openings) : Type 0 where
 
 -- one more can be counted
 pub record HasRoom (openings : List Openings) : Type 0 where
-  pub readers : (o : ℕ) → o < length openings → (counts_of openings o).readers + 1 < 2 ^ 64
-  pub writers : (o : ℕ) → o < length openings → (counts_of openings o).writers + 1 < 2 ^ 64
+  pub readers : (o : ℕ) → o < length openings → (counts_of openings o).readers + 1 < 2 ^ 128
+  pub writers : (o : ℕ) → o < length openings → (counts_of openings o).writers + 1 < 2 ^ 128
 
 -- this description was counted
 pub record IsAmong (D : Description) (openings : List Openings) : Type 0 where

@@ -1,17 +1,17 @@
--- Changes of one description, where that may be gone.
-use Rattle.std.specs.Prelude.{ℕ, Bool, Some, None}
-use Rattle.std.specs.List.{list_any}
+-- What the moves of a state ask for, and changes of one description.
+use Rattle.std.specs.Prelude.{◌≡◌, ℕ, ◌<◌, IsSomeAnd, List}
+use Rattle.ux_model.specs.Types.{SockType}
 use Rattle.ux_model.specs.Description.{Description}
-use Rattle.ux_model.specs.References.{table_refs}
-use Rattle.ux_model.specs.State.{State, description_at, with_description}
-use Rattle.std.specs.Prelude.{nat_lt}
-
-abbrev pub with_description_by : State → ℕ → (Description → Description) → State
-with_description_by S d change = elim (description_at S d) [ None ↦ S | Some D ↦ with_description S d (change D) ]
+use Rattle.ux_model.specs.State.{State, socket_at}
+use Rattle.ux_model.specs.References.{times, refs}
 
 abbrev pub at_offset : ℕ → Description → Description
 at_offset offset D = record D { offset = offset }
 
--- a descriptor of some process leads to it
-abbrev pub is_referenced : State → ℕ → Bool
-is_referenced S d = list_any (λ P. nat_lt 0 (table_refs d P.table)) S.processes
+-- a stream socket has this number
+abbrev pub IsStreamAt : State → ℕ → Type 0
+IsStreamAt S d = IsSomeAnd (socket_at S d) (λ s. s.kind ≡ SockType.Stream)
+
+-- something refers to each of them
+abbrev pub AreReferenced : State → List ℕ → Type 0
+AreReferenced S numbers = (d : ℕ) → 0 < times d numbers → 0 < refs S d

@@ -1,56 +1,106 @@
-//! Changes of one description: its flags and offset, and the queue of its socket.
-ghost use Rattle.std.specs.Prelude.{◌≡◌, ◌+◌, ◌≤◌, Some, OnOk, OnErr, length};
-ghost use Rattle.ux_model.specs.Limits.{stream_limit};
-ghost use Rattle.ux_model.specs.Message.{queued_bytes};
-ghost use Rattle.ux_model.specs.Socket.{Socket};
-ghost use Rattle.ux_model.specs.State.{socket_at};
-ghost use Rattle.ux_model.specs.Socket.{queued, shortened};
+//! Changes of one description: its flags and offset, and its socket.
+ghost use Rattle.std.specs.Prelude.{◌≡◌, ◌↔◌, ◌<◌, min, Err, None, IfOk, IfErr, OnOk, OnErr, IsSomeAnd, length};
+ghost use Rattle.ux_model.specs.Places.{place, changed_place};
+ghost use Rattle.ux_model.specs.Description.{socket_in, changed};
+ghost use Rattle.ux_model.specs.Socket.{stream_room, sent, with_queue, with_reset};
+ghost use Rattle.ux_model.specs.Front.{OnStreamFront};
+ghost use Rattle.ux_model.specs.State.{socket_at, with_socket_by, with_description_by};
 ghost use Rattle.ux_model.specs.Descriptors.{with_flags};
-ghost use Rattle.ux_desc.specs.Changes.{changed, without_reset};
-ghost use Rattle.ux_state.specs.Moves.{with_description_by, at_offset};
+ghost use Rattle.ux_state.specs.Moves.{at_offset, IsStreamAt, AreReferenced};
 
+use crate::references::{have_room, release_all, retain_all};
 use crate::state::State;
 use std::alloc::AllocError;
-use ux_desc::Message;
+use ux_desc::Description;
 use ux_object::FileObject;
-use ux_types::{DescriptionId, OpenFlags};
+use ux_rights::RefList;
+use ux_slots::Slots;
+use ux_stream::{Received, SendError};
+use ux_types::{Cred, DescriptionId, OpenFlags, SockType};
 
 impl<O: FileObject> State<O> {
-    /// Appends a message to the queue of a socket, if that is still there. The caller knows that its bytes
-    /// have room.
-    pub fn append_message(&mut self, id: DescriptionId, m: Message) -> Result<(), AllocError>
-        requires { (s : Socket) → socket_at self.old id ≡ Some s → queued_bytes s.queue + length m.bytes ≤ stream_limit }
-        ensures ok { OnOk result (self.new ≡ with_description_by self.old id (changed (λ s. queued s m))) }
+    /// Queues a message at a stream socket, with as many of the bytes as there is room for, and says how
+    /// many (sendmsg(2)).
+    ///
+    /// # Errors
+    ///
+    /// `Full` exactly where there is no room, else `NoMemory`, also where no more references can be counted.
+    /// The state is then as before.
+    pub fn send_stream(
+        &mut self,
+        id: DescriptionId,
+        bytes: &[u8],
+        tag: u64,
+        rights: RefList,
+        cred: Cred,
+        uid: u32,
+    ) -> Result<usize, SendError>
+        requires socket { IsStreamAt self.old id }
+        requires some { 0 < length bytes.now }
+        requires held { AreReferenced self.old rights }
+        ensures count { IfOk result (λ count. IsSomeAnd (socket_at self.old id) (λ s. count ≡ min (stream_room s) (length bytes.now))) }
+        ensures ok { OnOk result (self.new ≡ with_socket_by self.old id (sent (record { tag = tag; bytes = bytes.now; rights = rights; cred = cred; uid = uid; from = None }))) }
+        ensures full { (result ≡ Err SendError.Full) ↔ IsSomeAnd (socket_at self.old id) (λ s. stream_room s ≡ 0) }
         ensures err { OnErr result (self.new ≡ self.old) }
     {
-        let Some(d) = self.index_of(id) else {
-            return Ok(());
-        };
-        if let Some(x) = &mut self.descriptions[d] {
-            return x.push(m);
+        if self.stream_room(id) == 0 {
+            return Err(SendError::Full);
         }
-        Ok(())
-    }
-
-    /// Removes bytes from the front of the queue of a socket, with the messages that they end.
-    pub fn remove_bytes(&mut self, id: DescriptionId, n: usize)
-        ensures { self.new ≡ with_description_by self.old id (changed (shortened n)) }
-    {
-        if let Some(d) = self.index_of(id) {
-            if let Some(x) = &mut self.descriptions[d] {
-                x.take_front(n);
+        if !have_room(&self.slots, rights.as_slice()) {
+            return Err(SendError::NoMemory);
+        }
+        retain_all(&mut self.slots, rights.as_slice());
+        match push_stream(&mut self.slots, id, bytes, tag, rights, cred, uid) {
+            Ok(count) => Ok(count),
+            Err(rights) => {
+                release_all(&mut self.slots, rights.as_slice());
+                Err(SendError::NoMemory)
             }
         }
     }
+}
 
-    /// Clears the pending error of a socket.
-    pub fn clear_reset(&mut self, id: DescriptionId)
-        ensures { self.new ≡ with_description_by self.old id (changed without_reset) }
+impl<O: FileObject> State<O> {
+    /// The bytes that the queue of a stream socket still takes.
+    pub fn stream_room(&self, id: DescriptionId) -> usize
+        requires { IsStreamAt self.now id }
+        ensures { IsSomeAnd (socket_at self.now id) (λ s. result ≡ stream_room s) }
     {
-        if let Some(d) = self.index_of(id) {
-            if let Some(x) = &mut self.descriptions[d] {
-                x.clear_reset();
-            }
+        match self.socket(id) {
+            Some(socket) => socket.stream_room(),
+            None => unreachable!(),
+        }
+    }
+
+    /// Takes at most n bytes from the front of the queue of a stream socket (recvmsg(2)). The rights that
+    /// come with them are closed.
+    ///
+    /// # Errors
+    ///
+    /// Out of memory. The state is then as before.
+    pub fn take_bytes(
+        &mut self,
+        id: DescriptionId,
+        n: usize,
+        wants_cred: bool,
+    ) -> Result<Vec<u8>, AllocError>
+        requires socket { IsStreamAt self.old id }
+        requires some { IsSomeAnd (socket_at self.old id) (λ s. 0 < length s.queue) }
+        ensures bytes { IfOk result (λ v. IsSomeAnd (socket_at self.old id) (λ s. OnStreamFront wants_cred n s.queue (λ f. v.items ≡ f.bytes))) }
+        ensures rest { OnOk result (IsSomeAnd (socket_at self.old id) (λ s. OnStreamFront wants_cred n s.queue (λ f. self.new ≡ with_socket_by self.old id (with_queue f.rest)))) }
+        ensures err { OnErr result (self.new ≡ self.old) }
+    {
+        let received = take_stream(&mut self.slots, id, n, wants_cred)?;
+        release_all(&mut self.slots, received.rights.as_slice());
+        Ok(received.bytes)
+    }
+
+    /// ECONNRESET is pending at a socket from now on, or no longer.
+    pub fn set_reset(&mut self, id: DescriptionId, on: bool)
+        ensures { self.new ≡ with_socket_by self.old id (with_reset on) }
+    {
+        if let Some(x) = self.slots.get_mut(id) {
+            x.set_reset(on);
         }
     }
 
@@ -58,10 +108,8 @@ impl<O: FileObject> State<O> {
     pub fn set_offset(&mut self, id: DescriptionId, offset: u64)
         ensures { self.new ≡ with_description_by self.old id (at_offset offset) }
     {
-        if let Some(d) = self.index_of(id) {
-            if let Some(x) = &mut self.descriptions[d] {
-                x.set_offset(offset);
-            }
+        if let Some(x) = self.slots.get_mut(id) {
+            x.set_offset(offset);
         }
     }
 
@@ -69,10 +117,57 @@ impl<O: FileObject> State<O> {
     pub fn set_flags(&mut self, id: DescriptionId, flags: OpenFlags)
         ensures { self.new ≡ with_description_by self.old id (with_flags flags) }
     {
-        if let Some(d) = self.index_of(id) {
-            if let Some(x) = &mut self.descriptions[d] {
-                x.set_flags(flags);
-            }
+        if let Some(x) = self.slots.get_mut(id) {
+            x.set_flags(flags);
         }
+    }
+}
+
+/// Queues a message at a stream socket, or gives its rights back where memory is wanting.
+fn push_stream(
+    slots: &mut Slots<Description>,
+    id: DescriptionId,
+    bytes: &[u8],
+    tag: u64,
+    rights: RefList,
+    cred: Cred,
+    uid: u32,
+) -> Result<usize, RefList>
+    requires socket { IsSomeAnd (socket_in (place slots.old.places id)) (λ s. s.kind ≡ SockType.Stream) }
+    requires some { 0 < length bytes.now }
+    requires room { IsSomeAnd (socket_in (place slots.old.places id)) (λ s. 0 < stream_room s) }
+    ensures count { IfOk result (λ count. IsSomeAnd (socket_in (place slots.old.places id)) (λ s. count ≡ min (stream_room s) (length bytes.now))) }
+    ensures places { OnOk result (slots.new.places ≡ changed_place slots.old.places id (changed (sent (record { tag = tag; bytes = bytes.now; rights = rights; cred = cred; uid = uid; from = None })))) }
+    ensures counts { slots.new.counts ≡ slots.old.counts }
+    ensures back { IfErr result (λ back. back ≡ rights) }
+    ensures err { OnErr result (slots.new.places ≡ slots.old.places) }
+{
+    match slots.get_mut(id) {
+        Some(x) => match x.send_stream(bytes, tag, rights, cred, uid) {
+            Ok(count) => Ok(count),
+            Err(refused) => Err(refused.rights),
+        },
+        None => unreachable!(),
+    }
+}
+
+/// Takes bytes from the front of the queue of a stream socket, with the rights that come with them.
+fn take_stream(
+    slots: &mut Slots<Description>,
+    id: DescriptionId,
+    n: usize,
+    wants_cred: bool,
+) -> Result<Received, AllocError>
+    requires socket { IsSomeAnd (socket_in (place slots.old.places id)) (λ s. s.kind ≡ SockType.Stream) }
+    requires some { IsSomeAnd (socket_in (place slots.old.places id)) (λ s. 0 < length s.queue) }
+    ensures bytes { IfOk result (λ r. IsSomeAnd (socket_in (place slots.old.places id)) (λ s. OnStreamFront wants_cred n s.queue (λ f. r.bytes.items ≡ f.bytes))) }
+    ensures rights { IfOk result (λ r. IsSomeAnd (socket_in (place slots.old.places id)) (λ s. OnStreamFront wants_cred n s.queue (λ f. r.rights ≡ f.rights))) }
+    ensures rest { OnOk result (IsSomeAnd (socket_in (place slots.old.places id)) (λ s. OnStreamFront wants_cred n s.queue (λ f. slots.new.places ≡ changed_place slots.old.places id (changed (with_queue f.rest))))) }
+    ensures counts { slots.new.counts ≡ slots.old.counts }
+    ensures err { OnErr result (slots.new.places ≡ slots.old.places) }
+{
+    match slots.get_mut(id) {
+        Some(x) => x.take_stream(n, wants_cred),
+        None => unreachable!(),
     }
 }

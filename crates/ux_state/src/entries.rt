@@ -1,20 +1,23 @@
 //! Table entries: opening, copying and closing descriptors.
-ghost use Rattle.std.specs.Prelude.{◌≡◌, ◌+◌, ◌<◌, ◌≤◌, ◌↔◌, ◌++◌, ◌∷◌, [], IsTrue, Some, None, Err, IfOk, OnOk, OnErr, length, map, true, slice_set, option_map, vec_len, vec_capacity};
+ghost use Rattle.std.specs.Prelude.{◌≡◌, ◌+◌, ◌<◌, ◌≤◌, ◌↔◌, IsTrue, Some, None, Err, IfOk, OnOk, OnErr, length, slice_set, option_map};
 ghost use Rattle.ux_model.specs.Places.{place, filled, emptied};
-ghost use Rattle.ux_model.specs.Socket.{new_end};
 ghost use Rattle.ux_model.specs.Process.{lowest_free, two_lowest_free, descriptor, copy_of, with_cloexec};
 ghost use Rattle.ux_model.specs.State.{is_live, table_of, with_table, with_new, next_description};
+ghost use Rattle.ux_model.specs.References.{refs};
+ghost use Rattle.ux_model.specs.Socket.{pair_end};
 ghost use Rattle.ux_model.specs.Pairing.{socket_description, with_pair};
 ghost use Rattle.ux_model.specs.Files.{file_description};
 ghost use Rattle.ux_model.specs.Closing as model;
 
+use crate::references::{release, release_table, retain};
 use crate::openings::count_in;
 use crate::state::State;
 use bitflags::Flags;
-use ux_desc::Description;
+use std::alloc::Global;
+use ux_desc::{Description, Socket};
 use ux_fdtable::{Descriptor, DupError, InstallError};
 use ux_object::FileObject;
-use ux_types::{DescriptionId, Fd, Mode, OpenFlags, Pid};
+use ux_types::{Cred, DescriptionId, Fd, Mode, OpenFlags, Pid, SockType};
 
 impl<O: FileObject> State<O> {
     /// Makes a description of a file object, and opens the lowest free number of a process for it (open(2)).
@@ -40,15 +43,15 @@ impl<O: FileObject> State<O> {
         if self.table(pid).lowest_free().is_none() {
             return Err(InstallError::Full);
         }
-        if self.descriptions.reserve(1).is_err() {
+        if self.slots.reserve(1).is_err() {
             return Err(InstallError::NoMemory);
         }
-        let d = self.descriptions.len();
+        let id = self.slots.next_id();
         let process = &mut self.processes[pid.0 as usize - 1];
-        let fd = process.table.install(new_entry(flags, d))?;
+        let fd = process.table.install(new_entry(flags, id))?;
         let description = Description::of_object(object, mode, flags);
         count_in(&mut self.openings, &description);
-        self.descriptions.push_reserved(Some(description));
+        let _id = self.slots.insert_reserved(description);
         Ok(fd)
     }
 
@@ -58,10 +61,16 @@ impl<O: FileObject> State<O> {
     /// # Errors
     ///
     /// `Full` where fewer than two numbers are free, else `NoMemory`. The state is then as before.
-    pub fn open_pair(&mut self, pid: Pid, flags: OpenFlags) -> Result<(Fd, Fd), InstallError>
+    pub fn open_pair(
+        &mut self,
+        pid: Pid,
+        kind: SockType,
+        flags: OpenFlags,
+        cred: Cred,
+    ) -> Result<(Fd, Fd), InstallError>
         requires { IsTrue (is_live self.old pid.0) }
         ensures lowest { IfOk result (λ two. two_lowest_free (table_of self.old pid.0) ≡ Some (two.0.0, two.1.0)) }
-        ensures opened { IfOk result (λ two. self.new ≡ with_table (with_pair self.old flags) pid.0
+        ensures opened { IfOk result (λ two. self.new ≡ with_table (with_pair self.old kind flags cred) pid.0
             (filled (filled (table_of self.old pid.0) two.0.0 (descriptor flags (next_description self.old)))
             two.1.0 (descriptor flags (next_description self.old + 1)))) }
         ensures full { (result ≡ Err InstallError.Full) ↔ (two_lowest_free (table_of self.old pid.0) ≡ None) }
@@ -70,47 +79,78 @@ impl<O: FileObject> State<O> {
         if self.table(pid).two_lowest_free().is_none() {
             return Err(InstallError::Full);
         }
-        if self.descriptions.reserve(2).is_err() {
+        if self.slots.reserve(2).is_err() {
             return Err(InstallError::NoMemory);
         }
-        let d = self.descriptions.len();
+        let alloc = *self.processes.allocator();
+        let first = self.slots.next_id();
+        let second = DescriptionId::new(first.number() + 1);
         let process = &mut self.processes[pid.0 as usize - 1];
-        let (low, high) = process
+        let two = process
             .table
-            .install_two(new_entry(flags, d), new_entry(flags, d + 1))?;
-        push_pair(&mut self.descriptions, flags);
-        Ok((low, high))
+            .install_two(new_entry(flags, first), new_entry(flags, second))?;
+        let _first = self
+            .slots
+            .insert_reserved(pair_end(alloc, kind, flags, second, cred));
+        let _second = self
+            .slots
+            .insert_reserved(pair_end(alloc, kind, flags, first, cred));
+        Ok(two)
     }
 
-    /// Puts an entry at the lowest free number of a process.
+    /// Puts an entry at the lowest free number of a process, which leads to what something leads to
+    /// already.
     ///
     /// # Errors
     ///
-    /// `Full` where no number is free, else `NoMemory`. The state is then as before.
+    /// `Full` where no number is free, else `NoMemory`, also where no more references can be counted.
+    /// The state is then as before.
     pub fn put_lowest(&mut self, pid: Pid, entry: Descriptor) -> Result<Fd, InstallError>
-        requires { IsTrue (is_live self.old pid.0) }
+        requires live { IsTrue (is_live self.old pid.0) }
+        requires held { 0 < refs self.old entry.description }
         ensures lowest { IfOk result (λ fd. lowest_free (table_of self.old pid.0) ≡ Some fd.0) }
         ensures opened { IfOk result (λ fd. self.new ≡ with_table self.old pid.0 (filled (table_of self.old pid.0) fd.0 entry)) }
         ensures full { (result ≡ Err InstallError.Full) ↔ (lowest_free (table_of self.old pid.0) ≡ None) }
         ensures err { OnErr result (self.new ≡ self.old) }
     {
+        // A full table comes before a count that can't rise.
+        if self.table(pid).lowest_free().is_none() {
+            return Err(InstallError::Full);
+        }
+        if !self.slots.has_room(entry.description, 1) {
+            return Err(InstallError::NoMemory);
+        }
         let process = &mut self.processes[pid.0 as usize - 1];
-        process.table.install(entry)
+        let fd = process.table.install(entry)?;
+        retain(&mut self.slots, entry.description);
+        Ok(fd)
     }
 
-    /// Puts a copy of an entry at a number of a process, in place of what was open there (dup2(2)).
+    /// Puts a copy of an entry at a number of a process, in place of what was open there (dup2(2)). It
+    /// leads to what something leads to already.
     ///
     /// # Errors
     ///
-    /// `BadNumber` where the number isn't below the limit, else `NoMemory`. The state is then as before.
+    /// `BadNumber` where the number isn't below the limit, else `NoMemory`, also where no more references
+    /// can be counted. The state is then as before.
     pub fn put_copy_at(&mut self, pid: Pid, fd: Fd, entry: Descriptor) -> Result<(), DupError>
-        requires { IsTrue (is_live self.old pid.0) }
+        requires live { IsTrue (is_live self.old pid.0) }
+        requires held { 0 < refs self.old entry.description }
         ensures opened { OnOk result (self.new ≡ with_table self.old pid.0 (filled (table_of self.old pid.0) fd.0 (copy_of entry))) }
         ensures bad_number { (result ≡ Err DupError.BadNumber) ↔ (length (table_of self.old pid.0) ≤ fd.0) }
         ensures err { OnErr result (self.new ≡ self.old) }
     {
+        if fd.0 >= self.table(pid).limit() {
+            return Err(DupError::BadNumber);
+        }
+        if !self.slots.has_room(entry.description, 1) {
+            return Err(DupError::NoMemory);
+        }
         let process = &mut self.processes[pid.0 as usize - 1];
-        process.table.dup_at(fd, entry)?;
+        let replaced = process.table.dup_at(fd, entry)?;
+        // Both may lead to one description, so the new entry counts before the old one no longer does.
+        retain(&mut self.slots, entry.description);
+        release(&mut self.slots, replaced);
         Ok(())
     }
 
@@ -120,7 +160,8 @@ impl<O: FileObject> State<O> {
         ensures { self.new ≡ with_table self.old pid.0 (emptied (table_of self.old pid.0) fd.0) }
     {
         let process = &mut self.processes[pid.0 as usize - 1];
-        let _ = process.table.remove(fd);
+        let removed = process.table.remove(fd);
+        release(&mut self.slots, removed);
     }
 
     /// Sets or clears close-on-exec of the entry at a number, if that is open (fcntl(2), F_SETFD).
@@ -140,36 +181,30 @@ impl<O: FileObject> State<O> {
         ensures { self.new ≡ (model.exit self.old pid.0).next }
     {
         let process = &mut self.processes[pid.0 as usize - 1];
+        release_table(&mut self.slots, &process.table);
         process.exit();
     }
 }
 
-/// The handle of the description in this place.
-fn id_of(d: usize) -> DescriptionId
-    ensures { result ≡ d }
+/// The description of one end of a pair, which is tied to the other.
+fn pair_end(
+    alloc: Global,
+    kind: SockType,
+    flags: OpenFlags,
+    peer: DescriptionId,
+    cred: Cred,
+) -> Description
+    ensures { result ≡ socket_description flags (pair_end kind peer cred) }
 {
-    DescriptionId::new(d as u128)
+    Description::of_socket(flags, Socket::pair_end(alloc, kind, peer, cred))
 }
 
-/// An entry that leads to the description in this place, as the flags of the call want it.
-fn new_entry(flags: OpenFlags, d: usize) -> Descriptor
-    ensures { result ≡ descriptor flags d }
+/// An entry that leads to this description, as the flags of the call want it.
+fn new_entry(flags: OpenFlags, id: DescriptionId) -> Descriptor
+    ensures { result ≡ descriptor flags id }
 {
     Descriptor {
-        description: id_of(d),
+        description: id,
         cloexec: flags.contains(OpenFlags::CLOEXEC),
     }
-}
-
-/// Adds the descriptions of two sockets that are connected to one another, for which there is room.
-fn push_pair(descriptions: &mut Vec<Option<Description>>, flags: OpenFlags)
-    requires { vec_len descriptions.old + 2 ≤ vec_capacity descriptions.old }
-    ensures { descriptions.new.items ≡ descriptions.old.items
-        ++ Some (socket_description flags (new_end (length descriptions.old.items + 1))) ∷ []
-        ++ Some (socket_description flags (new_end (length descriptions.old.items))) ∷ [] }
-{
-    let d = descriptions.len();
-    let alloc = *descriptions.allocator();
-    descriptions.push_reserved(Some(Description::pair_end(alloc, flags, id_of(d + 1))));
-    descriptions.push_reserved(Some(Description::pair_end(alloc, flags, id_of(d))));
 }

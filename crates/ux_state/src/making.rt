@@ -2,6 +2,7 @@
 ghost use Rattle.std.specs.Prelude.{◌≡◌, ◌≤◌, [], IsTrue, IfOk, IfErr, length, map, replicate, vec_len, vec_capacity, Some};
 ghost use Rattle.std.specs.List.{list_all, enumerate_from};
 ghost use Rattle.ux_model.specs.Limits.{object_limit, process_limit};
+ghost use Rattle.ux_model.specs.Names.{file};
 ghost use Rattle.ux_model.specs.Boot.{boot_state, new_process};
 ghost use Rattle.ux_state.specs.Counting.{none_open};
 
@@ -12,6 +13,7 @@ use crate::slot::Slot;
 use crate::state::State;
 use std::alloc::{AllocError, Global};
 use ux_object::FileObject;
+use ux_slots::Slots;
 use ux_types::{Name, ProcSpec};
 
 /// The file objects of a state and their paths.
@@ -48,7 +50,7 @@ impl<O: FileObject> State<O> {
         Ok(State {
             objects: files.objects,
             openings,
-            descriptions: Vec::new(alloc),
+            slots: Slots::new(alloc),
             processes,
             paths: files.paths,
         })
@@ -95,7 +97,7 @@ fn filled<O: FileObject>(files: Files<O>, objects: Vec<(Name, O)>) -> Files<O>
     requires few { length objects.items ≤ object_limit }
     requires open { IsTrue (list_all (λ o. (O.view o.1).opened) objects.items) }
     ensures objects { result.objects.items ≡ map (λ o. Some (O.view o.1)) objects.items }
-    ensures paths { result.paths.items ≡ map (λ e. (e.1.0, e.0)) (enumerate_from 0 objects.items) }
+    ensures paths { result.paths.items ≡ map (λ e. (e.1.0, file e.0)) (enumerate_from 0 objects.items) }
 {
     let mut slots = files.objects;
     let mut paths = files.paths;

@@ -1,6 +1,6 @@
 //! Paths, and the file objects that they name.
-ghost use Rattle.std.specs.Prelude.{◌≡◌, filter, not};
-ghost use Rattle.ux_model.specs.Names.{named, same_name};
+ghost use Rattle.std.specs.Prelude.{◌≡◌, option_map};
+ghost use Rattle.ux_model.specs.Names.{file, named, without_name};
 
 use crate::state::State;
 use std::marker::Model;
@@ -15,17 +15,18 @@ pub(crate) struct Path {
 }
 
 impl Model for Path {
-    ghost use Rattle.std.specs.Prelude.{List, ℕ};
+    ghost use Rattle.ux_model.specs.Types.{Name};
+    ghost use Rattle.ux_model.specs.Names.{PathTarget, file};
 
-    ghost Value = { List ℕ × ℕ };
+    ghost Value = { Name × PathTarget };
 
-    ghost view = { λ p. (p.name, p.object) };
+    ghost view = { λ p. (p.name, file p.object) };
 }
 
 impl<O: FileObject> State<O> {
     /// The file object that a path names.
     pub fn path(&self, name: &Name) -> Option<u32>
-        ensures { result ≡ named name.now self.now.paths }
+        ensures { option_map file result ≡ named name.now self.now.paths }
     {
         for path in &self.paths {
             if path.name == *name {
@@ -37,7 +38,7 @@ impl<O: FileObject> State<O> {
 
     /// Takes away a path (unlink(2)).
     pub fn unlink(&mut self, name: &Name)
-        ensures { self.new ≡ record self.old { paths = filter (λ e. not (same_name e.0 name.now)) self.old.paths } }
+        ensures { self.new ≡ record self.old { paths = without_name name.now self.old.paths } }
     {
         self.paths.retain(|path| path.name != *name);
     }

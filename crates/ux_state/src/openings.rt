@@ -6,11 +6,12 @@ ghost use Rattle.ux_state.specs.Counting.{Counted, HasMore, HasRoom, IsAmong, mo
 use ux_desc::Description;
 use ux_types::Mode;
 
-/// How many descriptions of one file object are open for what.
+/// How many descriptions of one file object are open for what. There are fewer than numbers of
+/// descriptions.
 #[derive(Clone, Copy)]
 pub(crate) struct Openings {
-    pub(crate) readers: usize,
-    pub(crate) writers: usize,
+    pub(crate) readers: u128,
+    pub(crate) writers: u128,
 }
 
 impl Openings {
@@ -27,13 +28,13 @@ impl Openings {
 
     /// With one more description that is open for this.
     fn with(self, mode: Mode) -> Openings
-        requires readers { self.readers + 1 < 2 ^ 64 }
-        requires writers { self.writers + 1 < 2 ^ 64 }
+        requires readers { self.readers + 1 < 2 ^ 128 }
+        requires writers { self.writers + 1 < 2 ^ 128 }
         ensures { result ≡ more mode self }
     {
         Openings {
-            readers: self.readers + mode.can_read() as usize,
-            writers: self.writers + mode.can_write() as usize,
+            readers: self.readers + mode.can_read() as u128,
+            writers: self.writers + mode.can_write() as u128,
         }
     }
 
@@ -44,8 +45,8 @@ impl Openings {
         ensures { more mode result ≡ self }
     {
         Openings {
-            readers: self.readers - mode.can_read() as usize,
-            writers: self.writers - mode.can_write() as usize,
+            readers: self.readers - mode.can_read() as u128,
+            writers: self.writers - mode.can_write() as u128,
         }
     }
 }

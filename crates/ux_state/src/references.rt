@@ -1,0 +1,108 @@
+//! Counts of the references that table entries, messages and waiting ends are.
+ghost use Rattle.std.specs.Prelude.{◌≡◌, ◌+◌, ◌<◌, ◌≤◌, ◌^◌, ℕ, IsTrue};
+ghost use Rattle.ux_model.specs.References.{times, queue_refs, socket_refs, target_refs, table_refs};
+ghost use Rattle.ux_model.specs.Socket.{pending_ends};
+ghost use Rattle.ux_slots.specs.Held.{count_at, once, HasMore};
+ghost use Rattle.ux_state.specs.EntryCounts.{entry_refs, AreHeld, HaveRoom};
+
+use ux_desc::{Description, Socket, Target};
+use ux_fdtable::{Descriptor, Table};
+use ux_rights::Reference;
+use ux_slots::Slots;
+use ux_types::{DescriptionId, Fd};
+
+/// Counts one more reference to a description that has one, where there is room.
+pub(crate) fn retain(slots: &mut Slots<Description>, id: DescriptionId)
+    requires held { 0 < count_at slots.old id }
+    requires room { count_at slots.old id + 1 < 2 ^ 64 }
+    ensures { HasMore (once id) slots.old slots.new }
+{
+    if slots.retain_ref(id).is_err() {
+        unreachable!();
+    }
+}
+
+/// Counts an entry that was taken away less, if there was one.
+pub(crate) fn release(slots: &mut Slots<Description>, entry: Option<Descriptor>)
+    requires { (k : ℕ) → entry_refs k entry ≤ count_at slots.old k }
+    ensures { HasMore (λ k. entry_refs k entry) slots.new slots.old }
+{
+    if let Some(entry) = entry {
+        slots.release_ref(entry.description);
+    }
+}
+
+/// Counts all entries of a table less.
+pub(crate) fn release_table(slots: &mut Slots<Description>, table: &Table)
+    requires { (k : ℕ) → table_refs k table.now ≤ count_at slots.old k }
+    ensures { HasMore (λ k. table_refs k table.now) slots.new slots.old }
+{
+    for number in 0..table.limit() {
+        release(slots, table.get(Fd(number)));
+    }
+}
+
+/// Whether each of these can be counted as often as it stands there.
+pub(crate) fn have_room(slots: &Slots<Description>, references: &[Reference]) -> bool
+    ensures { IsTrue result → HaveRoom slots.now references.now }
+{
+    for reference in references {
+        if !slots.has_room(reference.description(), references.len()) {
+            return false;
+        }
+    }
+    true
+}
+
+/// Counts one more reference of each.
+pub(crate) fn retain_all(slots: &mut Slots<Description>, references: &[Reference])
+    requires held { AreHeld slots.old references.now }
+    requires room { HaveRoom slots.old references.now }
+    ensures { HasMore (λ k. times k references.now) slots.old slots.new }
+{
+    for reference in references {
+        retain(slots, reference.description());
+    }
+}
+
+/// Counts one reference of each less.
+pub(crate) fn release_all(slots: &mut Slots<Description>, references: &[Reference])
+    requires { (k : ℕ) → times k references.now ≤ count_at slots.old k }
+    ensures { HasMore (λ k. times k references.now) slots.new slots.old }
+{
+    for reference in references {
+        slots.release_ref(reference.description());
+    }
+}
+
+/// Counts the references less that a socket's messages hold, one message after another.
+fn release_queue(slots: &mut Slots<Description>, socket: &mut Socket)
+    requires { (k : ℕ) → queue_refs k socket.old.queue ≤ count_at slots.old k }
+    ensures counted { HasMore (λ k. queue_refs k socket.old.queue) slots.new slots.old }
+    ensures phase { socket.new.phase ≡ socket.old.phase }
+{
+    while let Some((rights, _)) = socket.pop_message() {
+        release_all(slots, rights.as_slice());
+    }
+}
+
+/// Counts the ends less that wait at a socket.
+fn release_pending(slots: &mut Slots<Description>, socket: &mut Socket)
+    requires { (k : ℕ) → times k (pending_ends socket.old.phase) ≤ count_at slots.old k }
+    ensures { HasMore (λ k. times k (pending_ends socket.old.phase)) slots.new slots.old }
+{
+    while let Some(end) = socket.pop_pending() {
+        slots.release_ref(end);
+    }
+}
+
+/// Counts the references less that a description holds, which has gone.
+pub(crate) fn release_held(slots: &mut Slots<Description>, gone: Description)
+    requires { (k : ℕ) → target_refs k gone.target ≤ count_at slots.old k }
+    ensures { HasMore (λ k. target_refs k gone.target) slots.new slots.old }
+{
+    if let Target::Socket(mut socket) = gone.into_target() {
+        release_queue(slots, &mut socket);
+        release_pending(slots, &mut socket);
+    }
+}
