@@ -1,5 +1,5 @@
 //! An open file description.
-ghost use Rattle.std.specs.Prelude.{◌≡◌, ◌↔◌, ◌<◌, Some, None, MatchOption, IsSomeAnd, IsErrAnd, IfOk, IfErr, OnOk, OnErr, length, min};
+ghost use Rattle.std.specs.Prelude.{◌≡◌, ◌↔◌, ◌<◌, Some, None, MatchOption, IsSome, IsSomeAnd, IsErrAnd, IfOk, IfErr, OnOk, OnErr, length, min};
 ghost use Rattle.ux_model.specs.Socket.{stream_room, sent, with_queue, with_reset};
 ghost use Rattle.ux_model.specs.Front.{OnStreamFront};
 ghost use Rattle.ux_model.specs.Description.{socket_of, object_of, changed};
@@ -15,7 +15,7 @@ use std::alloc::AllocError;
 use std::marker::Model;
 use ux_rights::RefList;
 use ux_stream::{Received, Refused, SendError};
-use ux_types::{Cred, DescriptionId, Mode, OpenFlags, SockType};
+use ux_types::{Cred, DescriptionId, Mode, OpenFlags};
 
 /// What a description leads to.
 #[derive(Drop)]
@@ -136,13 +136,13 @@ impl Description {
         self.nonblock = flags.contains(OpenFlags::NONBLOCK);
     }
 
-    /// Queues the bytes that its stream socket has room for, and says how many.
+    /// Queues the bytes that its socket has room for, and says how many.
     ///
     /// # Errors
     ///
     /// `Full` exactly where there is no room, else `NoMemory`. The rights come back, and the description stands
     /// as before.
-    pub fn send_stream(
+    pub fn send(
         &mut self,
         bytes: &[u8],
         tag: u64,
@@ -150,7 +150,7 @@ impl Description {
         cred: Cred,
         uid: u32,
     ) -> Result<usize, Refused>
-        requires stream { IsSomeAnd (socket_of self.old.target) (λ s. s.kind ≡ SockType.Stream) }
+        requires socket { IsSome (socket_of self.old.target) }
         requires some { 0 < length bytes.now }
         ensures count { IfOk result (λ count. IsSomeAnd (socket_of self.old.target) (λ s. count ≡ min (stream_room s) (length bytes.now))) }
         ensures ok { OnOk result (self.new ≡ changed (sent (record { tag = tag; bytes = bytes.now; rights = rights; cred = cred; uid = uid; from = None })) self.old) }
@@ -160,18 +160,17 @@ impl Description {
     {
         match &mut self.target {
             Target::Object(_) => unreachable!(),
-            Target::Socket(s) => s.send_stream(bytes, tag, rights, cred, uid),
+            Target::Socket(s) => s.send(bytes, tag, rights, cred, uid),
         }
     }
 
-    /// Takes at most n bytes from the front of its stream socket's queue, with the rights that come with
+    /// Takes at most n bytes from the front of its socket's queue, with the rights that come with
     /// them.
     ///
     /// # Errors
     ///
     /// Out of memory. The description stands as before.
-    pub fn take_stream(&mut self, n: usize, wants_cred: bool) -> Result<Received, AllocError>
-        requires stream { IsSomeAnd (socket_of self.old.target) (λ s. s.kind ≡ SockType.Stream) }
+    pub fn take(&mut self, n: usize, wants_cred: bool) -> Result<Received, AllocError>
         requires some { IsSomeAnd (socket_of self.old.target) (λ s. 0 < length s.queue) }
         ensures bytes { IfOk result (λ r. IsSomeAnd (socket_of self.old.target) (λ s. OnStreamFront wants_cred n s.queue (λ f. r.bytes.items ≡ f.bytes))) }
         ensures rights { IfOk result (λ r. IsSomeAnd (socket_of self.old.target) (λ s. OnStreamFront wants_cred n s.queue (λ f. r.rights ≡ f.rights))) }
@@ -180,7 +179,7 @@ impl Description {
     {
         match &mut self.target {
             Target::Object(_) => unreachable!(),
-            Target::Socket(s) => s.take_stream(n, wants_cred),
+            Target::Socket(s) => s.take(n, wants_cred),
         }
     }
 

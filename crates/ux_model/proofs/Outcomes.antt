@@ -9,7 +9,7 @@ use Rattle.ux_model.specs.Limits.{read_limit, offset_limit}
 use Rattle.ux_model.specs.Flags.{are_send_flags, are_receive_flags, asks_peek, can_read, can_write, no_flags}
 use Rattle.ux_model.specs.Message.{Message}
 use Rattle.ux_model.specs.Object.{Body, View, ObjectError, would_block, full, invalid, read_body, write_body, is_memory, is_pipe, can_fail}
-use Rattle.ux_model.specs.Socket.{Socket, Phase, idle, listening, connected, associated, stream_room, with_queue}
+use Rattle.ux_model.specs.Socket.{Socket, peer_of, stream_room, with_queue}
 use Rattle.ux_model.specs.Description.{Description, Target, to_object, to_socket, socket_of}
 use Rattle.ux_model.specs.Process.{Process, Descriptor, own_cred, lowest_free, two_lowest_free}
 use Rattle.ux_model.specs.State.{State, process_at, description_at, socket_at, table_of, with_socket_by, with_table, with_description, with_new}
@@ -75,13 +75,6 @@ by_target : (S : State) (t : Target) (f : ℕ → Outcome) (g : Socket → Outco
     IsPlain S (elim t as (λ _. Outcome) [ to_object o ↦ f o | to_socket s ↦ g s ])
 by_target S (to_object o) f g h k = h o
 by_target S (to_socket s) f g h k = k s
-
-by_phase : (S : State) (phase : Phase) (x : Outcome) (f : ℕ → Outcome) → IsPlain S x → ((peer : ℕ) → IsPlain S (f peer)) →
-    IsPlain S (elim phase as (λ _. Outcome) [ idle ↦ x | listening backlog cred ↦ x | connected peer ↦ f peer | associated target ↦ x ])
-by_phase S idle x f h k = h
-by_phase S (listening backlog cred) x f h k = h
-by_phase S (connected peer) x f h k = k peer
-by_phase S (associated target) x f h k = h
 
 by_path : (S : State) (t : PathTarget) (f : ℕ → Outcome) (x : Outcome) → ((o : ℕ) → IsPlain S (f o)) → IsPlain S x → IsPlain S (elim t as (λ _. Outcome) [ file o ↦ f o | bound d ↦ x ])
 by_path S (file o) f x h k = h o
@@ -149,7 +142,7 @@ to_peer_plain S d m = maybe S (socket_at S d) _ _ (told S _ refl refl refl refl)
     (λ other. either S (length m.bytes == 0) _ _ (told S _ refl refl refl refl) (either S (stream_room other == 0) _ _ (told S _ refl refl refl refl) (told S _ refl refl refl refl)))
 
 connected_plain : (S : State) (s : Socket) (m : Message) → IsPlain S (send_connected S s m)
-connected_plain S s m = by_phase S s.phase _ _ (told S _ refl refl refl refl) (λ peer. to_peer_plain S peer m)
+connected_plain S s m = maybe S (peer_of s.phase) _ _ (told S _ refl refl refl refl) (λ peer. to_peer_plain S peer m)
 
 pub send_plain : (S : State) (p tag : ℕ) (fd : Fd) (bytes : List ℕ) (flags : MsgFlags) → IsPlain S (send_msg S p tag fd bytes flags)
 unfolding send_msg
@@ -160,7 +153,7 @@ nothing_plain : (S : State) (d : ℕ) (s : Socket) (peer : ℕ) → IsPlain S (r
 nothing_plain S d s peer = either S s.reset _ _ (told S _ refl refl refl refl) (either S (is_none (socket_at S peer)) _ _ (told S _ refl refl refl refl) (told S _ refl refl refl refl))
 
 receive_plain : (S : State) (d : ℕ) (s : Socket) (n : ℕ) (flags : MsgFlags) → IsPlain S (receive S d s n flags)
-receive_plain S d s n flags = by_phase S s.phase _ _ (told S _ refl refl refl refl)
+receive_plain S d s n flags = maybe S (peer_of s.phase) _ _ (told S _ refl refl refl refl)
     (λ peer. either S (n == 0) _ _ (told S _ refl refl refl refl) (by_queue peer s.queue))
   where
     peeked : (b : Bool) (rest : List Message) → exits (if b then S else with_socket_by S d (with_queue rest)) ≡ exits S

@@ -1,6 +1,5 @@
 -- What the moves of a state ask for, and changes of one description.
-use Rattle.std.specs.Prelude.{◌≡◌, ℕ, ◌<◌, IsSomeAnd, List}
-use Rattle.ux_model.specs.Types.{SockType}
+use Rattle.std.specs.Prelude.{◌≡◌, ℕ, ◌<◌, IsSome, List}
 use Rattle.ux_model.specs.Description.{Description}
 use Rattle.ux_model.specs.State.{State, socket_at}
 use Rattle.ux_model.specs.References.{times, refs}
@@ -8,9 +7,9 @@ use Rattle.ux_model.specs.References.{times, refs}
 abbrev pub at_offset : ℕ → Description → Description
 at_offset offset D = record D { offset = offset }
 
--- a stream socket has this number
-abbrev pub IsStreamAt : State → ℕ → Type 0
-IsStreamAt S d = IsSomeAnd (socket_at S d) (λ s. s.kind ≡ SockType.Stream)
+-- a socket has this number
+abbrev pub IsSocketAt : State → ℕ → Type 0
+IsSocketAt S d = IsSome (socket_at S d)
 
 -- something refers to each of them
 abbrev pub AreReferenced : State → List ℕ → Type 0

@@ -6,7 +6,7 @@ ghost use Rattle.ux_model.specs.Socket.{stream_room, sent, with_queue, with_rese
 ghost use Rattle.ux_model.specs.Front.{OnStreamFront};
 ghost use Rattle.ux_model.specs.State.{socket_at, with_socket_by, with_description_by};
 ghost use Rattle.ux_model.specs.Descriptors.{with_flags};
-ghost use Rattle.ux_state.specs.Moves.{at_offset, IsStreamAt, AreReferenced};
+ghost use Rattle.ux_state.specs.Moves.{at_offset, IsSocketAt, AreReferenced};
 
 use crate::references::{have_room, release_all, retain_all};
 use crate::state::State;
@@ -16,7 +16,7 @@ use ux_object::FileObject;
 use ux_rights::RefList;
 use ux_slots::Slots;
 use ux_stream::{Received, SendError};
-use ux_types::{Cred, DescriptionId, OpenFlags, SockType};
+use ux_types::{Cred, DescriptionId, OpenFlags};
 
 impl<O: FileObject> State<O> {
     /// Queues a message at a stream socket, with as many of the bytes as there is room for, and says how
@@ -35,7 +35,7 @@ impl<O: FileObject> State<O> {
         cred: Cred,
         uid: u32,
     ) -> Result<usize, SendError>
-        requires socket { IsStreamAt self.old id }
+        requires socket { IsSocketAt self.old id }
         requires some { 0 < length bytes.now }
         requires held { AreReferenced self.old rights }
         ensures count { IfOk result (λ count. IsSomeAnd (socket_at self.old id) (λ s. count ≡ min (stream_room s) (length bytes.now))) }
@@ -63,11 +63,11 @@ impl<O: FileObject> State<O> {
 impl<O: FileObject> State<O> {
     /// The bytes that the queue of a stream socket still takes.
     pub fn stream_room(&self, id: DescriptionId) -> usize
-        requires { IsStreamAt self.now id }
+        requires { IsSocketAt self.now id }
         ensures { IsSomeAnd (socket_at self.now id) (λ s. result ≡ stream_room s) }
     {
         match self.socket(id) {
-            Some(socket) => socket.stream_room(),
+            Some(socket) => socket.room(),
             None => unreachable!(),
         }
     }
@@ -84,7 +84,6 @@ impl<O: FileObject> State<O> {
         n: usize,
         wants_cred: bool,
     ) -> Result<Vec<u8>, AllocError>
-        requires socket { IsStreamAt self.old id }
         requires some { IsSomeAnd (socket_at self.old id) (λ s. 0 < length s.queue) }
         ensures bytes { IfOk result (λ v. IsSomeAnd (socket_at self.old id) (λ s. OnStreamFront wants_cred n s.queue (λ f. v.items ≡ f.bytes))) }
         ensures rest { OnOk result (IsSomeAnd (socket_at self.old id) (λ s. OnStreamFront wants_cred n s.queue (λ f. self.new ≡ with_socket_by self.old id (with_queue f.rest)))) }
@@ -133,7 +132,6 @@ fn push_stream(
     cred: Cred,
     uid: u32,
 ) -> Result<usize, RefList>
-    requires socket { IsSomeAnd (socket_in (place slots.old.places id)) (λ s. s.kind ≡ SockType.Stream) }
     requires some { 0 < length bytes.now }
     requires room { IsSomeAnd (socket_in (place slots.old.places id)) (λ s. 0 < stream_room s) }
     ensures count { IfOk result (λ count. IsSomeAnd (socket_in (place slots.old.places id)) (λ s. count ≡ min (stream_room s) (length bytes.now))) }
@@ -143,7 +141,7 @@ fn push_stream(
     ensures err { OnErr result (slots.new.places ≡ slots.old.places) }
 {
     match slots.get_mut(id) {
-        Some(x) => match x.send_stream(bytes, tag, rights, cred, uid) {
+        Some(x) => match x.send(bytes, tag, rights, cred, uid) {
             Ok(count) => Ok(count),
             Err(refused) => Err(refused.rights),
         },
@@ -158,7 +156,6 @@ fn take_stream(
     n: usize,
     wants_cred: bool,
 ) -> Result<Received, AllocError>
-    requires socket { IsSomeAnd (socket_in (place slots.old.places id)) (λ s. s.kind ≡ SockType.Stream) }
     requires some { IsSomeAnd (socket_in (place slots.old.places id)) (λ s. 0 < length s.queue) }
     ensures bytes { IfOk result (λ r. IsSomeAnd (socket_in (place slots.old.places id)) (λ s. OnStreamFront wants_cred n s.queue (λ f. r.bytes.items ≡ f.bytes))) }
     ensures rights { IfOk result (λ r. IsSomeAnd (socket_in (place slots.old.places id)) (λ s. OnStreamFront wants_cred n s.queue (λ f. r.rights ≡ f.rights))) }
@@ -167,7 +164,7 @@ fn take_stream(
     ensures err { OnErr result (slots.new.places ≡ slots.old.places) }
 {
     match slots.get_mut(id) {
-        Some(x) => x.take_stream(n, wants_cred),
+        Some(x) => x.take(n, wants_cred),
         None => unreachable!(),
     }
 }

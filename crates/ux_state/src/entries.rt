@@ -4,6 +4,7 @@ ghost use Rattle.ux_model.specs.Places.{place, filled, emptied};
 ghost use Rattle.ux_model.specs.Process.{lowest_free, two_lowest_free, descriptor, copy_of, with_cloexec};
 ghost use Rattle.ux_model.specs.State.{is_live, table_of, with_table, with_new, next_description};
 ghost use Rattle.ux_model.specs.References.{refs};
+ghost use Rattle.ux_model.specs.Types.{SockType};
 ghost use Rattle.ux_model.specs.Socket.{pair_end};
 ghost use Rattle.ux_model.specs.Pairing.{socket_description, with_pair};
 ghost use Rattle.ux_model.specs.Files.{file_description};
@@ -17,7 +18,7 @@ use std::alloc::Global;
 use ux_desc::{Description, Socket};
 use ux_fdtable::{Descriptor, DupError, InstallError};
 use ux_object::FileObject;
-use ux_types::{Cred, DescriptionId, Fd, Mode, OpenFlags, Pid, SockType};
+use ux_types::{Cred, DescriptionId, Fd, Mode, OpenFlags, Pid};
 
 impl<O: FileObject> State<O> {
     /// Makes a description of a file object, and opens the lowest free number of a process for it (open(2)).
@@ -64,13 +65,12 @@ impl<O: FileObject> State<O> {
     pub fn open_pair(
         &mut self,
         pid: Pid,
-        kind: SockType,
         flags: OpenFlags,
         cred: Cred,
     ) -> Result<(Fd, Fd), InstallError>
         requires { IsTrue (is_live self.old pid.0) }
         ensures lowest { IfOk result (λ two. two_lowest_free (table_of self.old pid.0) ≡ Some (two.0.0, two.1.0)) }
-        ensures opened { IfOk result (λ two. self.new ≡ with_table (with_pair self.old kind flags cred) pid.0
+        ensures opened { IfOk result (λ two. self.new ≡ with_table (with_pair self.old SockType.Stream flags cred) pid.0
             (filled (filled (table_of self.old pid.0) two.0.0 (descriptor flags (next_description self.old)))
             two.1.0 (descriptor flags (next_description self.old + 1)))) }
         ensures full { (result ≡ Err InstallError.Full) ↔ (two_lowest_free (table_of self.old pid.0) ≡ None) }
@@ -91,10 +91,10 @@ impl<O: FileObject> State<O> {
             .install_two(new_entry(flags, first), new_entry(flags, second))?;
         let _first = self
             .slots
-            .insert_reserved(pair_end(alloc, kind, flags, second, cred));
+            .insert_reserved(pair_end(alloc, flags, second, cred));
         let _second = self
             .slots
-            .insert_reserved(pair_end(alloc, kind, flags, first, cred));
+            .insert_reserved(pair_end(alloc, flags, first, cred));
         Ok(two)
     }
 
@@ -189,14 +189,13 @@ impl<O: FileObject> State<O> {
 /// The description of one end of a pair, which is tied to the other.
 fn pair_end(
     alloc: Global,
-    kind: SockType,
     flags: OpenFlags,
     peer: DescriptionId,
     cred: Cred,
 ) -> Description
-    ensures { result ≡ socket_description flags (pair_end kind peer cred) }
+    ensures { result ≡ socket_description flags (pair_end SockType.Stream peer cred) }
 {
-    Description::of_socket(flags, Socket::pair_end(alloc, kind, peer, cred))
+    Description::of_socket(flags, Socket::pair_end(alloc, peer, cred))
 }
 
 /// An entry that leads to this description, as the flags of the call want it.
