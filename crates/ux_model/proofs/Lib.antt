@@ -9,6 +9,7 @@ pub mod ChangedPlaces
 pub mod Moves
 pub mod OneGoes
 pub mod Sockets
+pub mod Making
 mod Play
 mod StreamExamples
 mod LimitExamples

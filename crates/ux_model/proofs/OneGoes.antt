@@ -8,7 +8,7 @@ use Rattle.std.proofs.lemmas.List.Folds.{list_any_none, list_any_at}
 use Rattle.std.proofs.lemmas.List.Elements.{All-from_get_or}
 use Rattle.std.proofs.lemmas.List.Sums.{sum_by-cons, sum_by-set, get_or-le-sum_by}
 use mathlib.Core.Bool.{or-false}
-use Rattle.ux_model.specs.Places.{place, emptied, changed_place}
+use Rattle.ux_model.specs.Places.{place, filled, emptied, changed_place}
 use Rattle.ux_model.specs.Socket.{Phase, idle, listening, connected, associated, peer_of, with_reset}
 use Rattle.ux_model.specs.Description.{Description, Target, to_object, to_socket, socket_of, changed, changed_target}
 use Rattle.ux_model.specs.State.{State, description_at, socket_at}
@@ -193,26 +193,34 @@ some-map : {X : Type 0} (f : X → X) (x : Option X) → is_some (option_map f x
 some-map f None = refl
 some-map f (Some x) = refl
 
--- peers stay as they are where one place changes and names the same peer
-pub paired-changed : (ds : List (Option Description)) (p : ℕ) (f : Description → Description) → ((x : Option Description) → peer_in (option_map f x) ≡ peer_in x) → Paired ds → Paired (changed_place ds p f)
-paired-changed ds p f same paired = record {
+-- peers stay as they are where each place names the same
+pub paired-alike : (ds es : List (Option Description)) → length es ≡ length ds → ((n : ℕ) → peer_in (place es n) ≡ peer_in (place ds n)) → ((n : ℕ) → is_some (place es n) ≡ is_some (place ds n)) →
+    Paired ds → Paired es
+paired-alike ds es long peer held paired = record {
   returned = λ i q e there. peer q ∙ paired.returned i q (sym (peer i) ∙ e) (sym (held q) ∙ there);
-  known = λ i q e. let a = paired.known i q (sym (peer i) ∙ e) in let b = length-changed ds p f in omega (arith, a, b);
+  known = λ i q e. let a = paired.known i q (sym (peer i) ∙ e) in omega (arith, a, long);
 }
-  where
-    peer : (n : ℕ) → peer_in (place (changed_place ds p f) n) ≡ peer_in (place ds n)
-    peer n = ap peer_in (place-changed ds p n f) ∙ go (p == n)
-      where
-        go : (b : Bool) → peer_in (cond b (option_map f (place ds n)) (place ds n)) ≡ peer_in (place ds n)
-        go true = same (place ds n)
-        go false = refl
 
-    held : (n : ℕ) → is_some (place (changed_place ds p f) n) ≡ is_some (place ds n)
-    held n = ap is_some (place-changed ds p n f) ∙ go (p == n)
-      where
-        go : (b : Bool) → is_some (cond b (option_map f (place ds n)) (place ds n)) ≡ is_some (place ds n)
-        go true = some-map f (place ds n)
-        go false = refl
+-- as where one changes
+pub paired-changed : (ds : List (Option Description)) (p : ℕ) (f : Description → Description) → ((x : Option Description) → peer_in (option_map f x) ≡ peer_in x) → Paired ds → Paired (changed_place ds p f)
+paired-changed ds p f same = paired-alike ds (changed_place ds p f) (length-changed ds p f)
+    (λ n. ap peer_in (place-changed ds p n f) ∙ either n peer_in (same (place ds n)))
+    (λ n. ap is_some (place-changed ds p n f) ∙ either n is_some (some-map f (place ds n)))
+  where
+    either : {Y : Type 0} (n : ℕ) (g : Option Description → Y) → g (option_map f (place ds n)) ≡ g (place ds n) → g (cond (p == n) (option_map f (place ds n)) (place ds n)) ≡ g (place ds n)
+    either n g e = elim (p == n) as (λ b. g (cond b (option_map f (place ds n)) (place ds n)) ≡ g (place ds n)) [ true ↦ e | false ↦ refl ]
+
+-- or is put again
+pub paired-filled : (ds : List (Option Description)) (d : ℕ) (x y : Description) → place ds d ≡ Some x → target_peer y.target ≡ target_peer x.target → Paired ds → Paired (filled ds d y)
+paired-filled ds d x y here same = paired-alike ds (filled ds d y) (length-set ds d (Some y))
+    (λ n. at n peer_in (same ∙ sym (ap peer_in here)))
+    (λ n. at n is_some (sym (ap is_some here)))
+  where
+    at : {Y : Type 0} (n : ℕ) (g : Option Description → Y) → g (Some y) ≡ g (place ds d) → g (place (filled ds d y) n) ≡ g (place ds n)
+    at n g e = bool_cases (n == d)
+        (λ h. let q : n ≡ d = eqb-true n d h in
+        ap (λ m. g (place (filled ds d y) m)) q ∙ ap g (get_or-set_same ds d (Some y) None (place_within ds d x here)) ∙ e ∙ ap (λ m. g (place ds m)) (sym q))
+        (λ h. ap g (get_or-set_other ds d n (Some y) None (eqb-false n d h)))
 
 pub paired-emptied : (ds : List (Option Description)) (d : ℕ) → d < length ds → Paired ds → Paired (emptied ds d)
 paired-emptied ds d inside paired = record {

@@ -1,55 +1,75 @@
--- The kept counts after descriptions go or change.
-use Rattle.std.proofs.Common.{◌≡◌, ℕ, zero, suc, ◌+◌, Bool, ◌&&◌, List, [], ◌∷◌, map, Option, Some, None, option_map, sym, ◌∙◌, ap, refl}
-use Rattle.std.specs.List.{count_by}
+-- The kept counts where no description is left.
+use Rattle.std.proofs.Common.{◌≡◌, ℕ, zero, suc, ◌+◌, Bool, List, [], ◌∷◌, length, map, Option, None, ◌∙◌, sym, ap, refl, arith}
+use Rattle.std.specs.List.{count_by, sum_by}
 use Rattle.std.proofs.lemmas.List.Sums.{sum_by-cons}
-use Rattle.ux_model.specs.Types.{Mode}
+use Rattle.std.proofs.lemmas.List.{length-map}
+use Rattle.ux_model.specs.Types.{Mode, Name}
+use Rattle.ux_model.specs.Names.{PathTarget}
 use Rattle.ux_model.specs.Flags.{can_read, can_write}
-use Rattle.ux_model.specs.Socket.{Socket}
-use Rattle.ux_model.specs.Description.{Description, Target, to_object, to_socket}
-use Rattle.ux_model.specs.References.{leads_to}
+use Rattle.ux_model.specs.Places.{place}
+use Rattle.ux_model.specs.Object.{View}
+use Rattle.ux_model.specs.Description.{Description}
+use Rattle.ux_model.specs.Process.{Process}
 use Rattle.ux_model.specs.Files.{is_opening}
-use Rattle.ux_desc.specs.Changes.{changed, changed_target}
+use Rattle.ux_model.specs.References.{table_refs, description_refs, refs}
+use Rattle.ux_model.specs.Closing.{with_nothing_open}
+use Rattle.ux_model.specs.Peers.{peer_in, Paired}
+use Rattle.ux_slots.specs.Held.{Held, count_at}
 use Rattle.ux_state.specs.declared.openings.Openings.{Openings}
-use Rattle.ux_state.specs.Counting.{one_if, none_open, counts_of, Counted}
-
--- ---- sockets change
-
-same_leads : (change : Socket → Socket) (o : ℕ) (t : Target) → leads_to o (changed_target change t) ≡ leads_to o t
-same_leads change o (to_object n) = refl
-same_leads change o (to_socket s) = refl
-
-same_opening : (change : Socket → Socket) (allows : Mode → Bool) (o : ℕ) (D : Option Description) → one_if (is_opening allows o (option_map (changed change) D)) ≡ one_if (is_opening allows o D)
-same_opening change allows o None = refl
-same_opening change allows o (Some D) = ap (λ b. one_if (b && allows D.mode)) (same_leads change o D.target)
-
-count_changed : (change : Socket → Socket) (allows : Mode → Bool) (o : ℕ) (ds : List (Option Description)) →
-    count_by (is_opening allows o) (map (option_map (changed change)) ds) ≡ count_by (is_opening allows o) ds
-count_changed change allows o [] = refl
-count_changed change allows o (D ∷ ds) =
-    let new : count_by (is_opening allows o) (map (option_map (changed change)) (D ∷ ds)) ≡ one_if (is_opening allows o (option_map (changed change) D)) + count_by (is_opening allows o) (map (option_map (changed change)) ds) =
-    sum_by-cons (λ x. one_if (is_opening allows o x)) (option_map (changed change) D) (map (option_map (changed change)) ds) in
-    let old : count_by (is_opening allows o) (D ∷ ds) ≡ one_if (is_opening allows o D) + count_by (is_opening allows o) ds = sum_by-cons (λ x. one_if (is_opening allows o x)) D ds in
-    new ∙ (λ j. same_opening change allows o D j + count_changed change allows o ds j) ∙ sym old
-
-pub Counted-changed : (change : Socket → Socket) (ds : List (Option Description)) (openings : List Openings) → Counted ds openings → Counted (map (option_map (changed change)) ds) openings
-Counted-changed change ds openings counted = record {
-  readers = λ o h. counted.readers o h ∙ sym (count_changed change can_read o ds);
-  writers = λ o h. counted.writers o h ∙ sym (count_changed change can_write o ds);
-}
-
--- ---- all go
+use Rattle.ux_state.specs.Counting.{one_if, counts_of, Counted}
+use Rattle.ux_state.specs.Counting as counts
+use Rattle.ux_state.specs.Keeping.{state_of, IsState}
+use Rattle.ux_state.proofs.TableCounts.{none_open}
 
 count_none : (allows : Mode → Bool) (o : ℕ) (ds : List (Option Description)) → count_by (is_opening allows o) (map (λ _. None) ds) ≡ 0
 count_none allows o [] = refl
 count_none allows o (D ∷ ds) = sum_by-cons (λ x. one_if (is_opening allows o x)) None (map (λ _. None) ds) ∙ ap (λ n. 0 + n) (count_none allows o ds)
 
-counts_none : (openings : List Openings) (o : ℕ) → counts_of (map (λ _. none_open) openings) o ≡ none_open
+counts_none : (openings : List Openings) (o : ℕ) → counts_of (map (λ _. counts.none_open) openings) o ≡ counts.none_open
 counts_none [] o = refl
 counts_none (x ∷ xs) zero = refl
 counts_none (x ∷ xs) (suc o) = counts_none xs o
 
-pub Counted-none : (ds : List (Option Description)) (openings : List Openings) → Counted (map (λ _. None) ds) (map (λ _. none_open) openings)
+pub Counted-none : (ds : List (Option Description)) (openings : List Openings) → Counted (map (λ _. None) ds) (map (λ _. counts.none_open) openings)
 Counted-none ds openings = record {
   readers = λ o h. ap (λ (x : Openings). x.readers) (counts_none openings o) ∙ sym (count_none can_read o ds);
   writers = λ o h. ap (λ (x : Openings). x.writers) (counts_none openings o) ∙ sym (count_none can_write o ds);
+}
+
+no_place : (ds : List (Option Description)) (i : ℕ) → place (map {B = Option Description} (λ _. None) ds) i ≡ None
+no_place [] i = refl
+no_place (x ∷ xs) zero = refl
+no_place (x ∷ xs) (suc i) = no_place xs i
+
+nobody : (ds : List (Option Description)) → Paired (map (λ _. None) ds)
+nobody ds = record { returned = λ i p e there. absurd (cc (sym (ap peer_in (no_place ds i)) ∙ e)); known = λ i p e. absurd (cc (sym (ap peer_in (no_place ds i)) ∙ e)) }
+
+-- what nothing holds
+held_by_none : (k : ℕ) (ds : List (Option Description)) → ◌≡◌ {A = ℕ} (sum_by (description_refs k) (map (λ _. None) ds)) 0
+held_by_none k [] = refl
+held_by_none k (D ∷ ds) = sum_by-cons (description_refs k) None (map (λ _. None) ds) ∙ ap (λ n. 0 + n) (held_by_none k ds)
+
+nothing_open : (k : ℕ) (ps : List Process) → sum_by (λ P. table_refs k (Process.table P)) (map with_nothing_open ps) ≡ 0
+nothing_open k [] = refl
+nothing_open k (P ∷ ps) =
+    let a = sum_by-cons (λ P. table_refs k (Process.table P)) (with_nothing_open P) (map with_nothing_open ps) in
+    let b = none_open k P.table in
+    let c = nothing_open k ps in
+    omega (arith, a, b, c)
+
+-- all descriptors and all descriptions went
+pub forgotten_kept : (xs ys : List Openings) (H K : Held Description) (os : List (Option View)) (ps qs : List Process) (old new : List (Name × PathTarget)) → IsState xs H (state_of os H ps old) →
+    qs ≡ map with_nothing_open ps → K.places ≡ map (λ _. None) H.places → ((k : ℕ) → count_at K k ≡ 0) → ys ≡ map (λ _. counts.none_open) xs → IsState ys K (state_of os K qs new)
+unfolding refs
+forgotten_kept xs ys H K os ps qs old new state cleared places counts counted = record {
+  few_objects = state.few_objects;
+  few_processes = let e = ap length cleared ∙ length-map ps with_nothing_open in let few = state.few_processes in omega (arith, e, few);
+  one_each = rw (counted, length-map) state.one_each;
+  opened = rw (places, counted) (Counted-none H.places xs);
+  counted = λ k.
+      let a = counts k in
+      let b : sum_by (description_refs k) K.places ≡ 0 = ap (sum_by (description_refs k)) places ∙ held_by_none k H.places in
+      let c : sum_by (λ P. table_refs k (Process.table P)) qs ≡ 0 = ap (sum_by (λ P. table_refs k (Process.table P))) cleared ∙ nothing_open k ps in
+      omega (arith, a, b, c);
+  paired = rw places (nobody H.places);
 }

@@ -3,25 +3,24 @@ use Rattle.std.proofs.Common.{◌≡◌, ℕ, zero, suc, ◌+◌, ◌<◌, ◌�
 use Rattle.std.specs.Prelude.{count_by, sum_by, IsSome}
 use Rattle.std.proofs.lemmas.List.Sums.{get_or-le-sum_by, sum_by-cons, sum_by-set}
 use Rattle.ux_model.specs.Types.{Mode, Name}
+use Rattle.ux_model.specs.Names.{PathTarget}
 use Rattle.ux_model.specs.Flags.{can_read, can_write}
-use Rattle.ux_model.specs.Places.{place, emptied}
+use Rattle.ux_model.specs.Places.{place, emptied, changed_place}
 use Rattle.ux_model.specs.Object.{View}
-use Rattle.ux_model.specs.Socket.{Socket}
-use Rattle.ux_model.specs.Description.{Description, Target, to_object, to_socket}
+use Rattle.ux_model.specs.Socket.{Socket, with_reset}
+use Rattle.ux_model.specs.Description.{Description, Target, to_object, to_socket, changed, changed_target}
 use Rattle.ux_model.specs.Process.{Process}
-use Rattle.ux_model.specs.References.{leads_to}
+use Rattle.ux_model.specs.References.{leads_to, target_refs}
 use Rattle.ux_model.specs.Release.{without, is_unreferenced, has_unreferenced}
 use Rattle.ux_model.specs.Files.{is_opening}
-use Rattle.ux_model.specs.Changes.{changed, changed_target, with_reset}
-use Rattle.ux_model.specs.Peers.{lost_peer, changed_place, told}
+use Rattle.ux_model.specs.Peers.{lost_peer, told}
 use Rattle.ux_model.proofs.AnyOrder.{live_in}
-use Rattle.ux_model.proofs.Moves.{place_within}
-use Rattle.ux_model.proofs.OneGoes.{one_goes, paired-emptied, paired-told, none_unreferenced, unreferenced}
-use Rattle.ux_slots.specs.Held.{Held, count_at, IsNoneDead}
+use Rattle.ux_model.proofs.ChangedPlaces.{place_within}
+use Rattle.ux_model.proofs.OneGoes.{one_goes, left_refs, held_refs, paired-emptied, paired-told, none_unreferenced, unreferenced}
+use Rattle.ux_slots.specs.Held.{Held, count_at, HasMore, IsNoneDead}
 use Rattle.ux_state.specs.declared.openings.Openings.{Openings}
 use Rattle.ux_state.specs.Counting.{one_if, Counted, CountsOneMore, IsAmong}
 use Rattle.ux_state.specs.Keeping.{state_of, IsState}
-use Rattle.ux_state.proofs.TableCounts.{same_refs}
 
 -- ---- what is open
 
@@ -45,7 +44,7 @@ sum_by-changed g f same (x ∷ xs) (suc p) = sum_by-cons g x (changed_place xs p
 
 told_opens : (allows : Mode → Bool) (o : ℕ) (l : Option ℕ) (ds : List (Option Description)) → count_by (is_opening allows o) (told l ds) ≡ count_by (is_opening allows o) ds
 told_opens allows o None ds = refl
-told_opens allows o (Some p) ds = sum_by-changed (opens allows o) (changed with_reset) (same_opening with_reset allows o) ds p
+told_opens allows o (Some p) ds = sum_by-changed (opens allows o) (changed (with_reset true)) (same_opening (with_reset true) allows o) ds p
 
 -- without d, which was D, and its peer told
 left_opens : (allows : Mode → Bool) (o d : ℕ) (D : Description) (ds : List (Option Description)) → place ds d ≡ Some D →
@@ -74,17 +73,29 @@ counted_left ds xs ys d D here counted more = record {
 
 -- ---- the state
 
-module _ (xs : List Openings) (H : Held Description) (os : List (Option View)) (ps : List Process) (paths : List (Name × ℕ)) (state : IsState xs H (state_of os H ps paths)) where
-  pub left_kept : (ys : List Openings) (K : Held Description) (d : ℕ) (D : Description) → place H.places d ≡ Some D → K.places ≡ told (lost_peer D) (emptied H.places d) → K.counts ≡ H.counts →
-      CountsOneMore D ys xs → IsState ys K (state_of os K ps paths)
-  left_kept ys K d D here places counts more = record {
+module _ (xs : List Openings) (H : Held Description) (os : List (Option View)) (ps : List Process) (paths : List (Name × PathTarget)) (state : IsState xs H (state_of os H ps paths)) where
+  -- what the lost one held is counted
+  pub all_counted : (T : Held Description) (d k : ℕ) (D : Description) → place H.places d ≡ Some D → T.counts ≡ H.counts → target_refs k D.target ≤ count_at T k
+  all_counted T d k D here same =
+      let a = held_refs (state_of os H ps paths) d k D here in
+      let b = state.counted k in
+      let e : count_at T k ≡ count_at H k = ap (λ cs. count_at (record H { counts = cs }) k) same in
+      omega (arith, a, b, e)
+
+  pub left_kept : (ys : List Openings) (T K : Held Description) (d : ℕ) (D : Description) → place H.places d ≡ Some D → K.places ≡ told (lost_peer D) (emptied H.places d) → T.counts ≡ H.counts →
+      ((k : ℕ) → count_at T k ≡ count_at K k + target_refs k D.target) → CountsOneMore D ys xs → IsState ys K (state_of os K ps paths)
+  left_kept ys T K d D here places same counts more = record {
     few_objects = state.few_objects;
     few_processes = state.few_processes;
     one_each = sym more.long ∙ state.one_each;
     opened = rw places (counted_left H.places xs ys d D here state.opened more);
-    counted = λ k. ap (λ cs. count_at (record H { counts = cs }) k) counts ∙ state.counted k ∙ sym (same_refs os H K ps paths k);
+    counted = λ k.
+        let a = left_refs (state_of os H ps paths) (state_of os K ps paths) d k D here refl places in
+        let b = state.counted k in
+        let e : count_at T k ≡ count_at H k = ap (λ cs. count_at (record H { counts = cs }) k) same in
+        let f = counts k in
+        omega (arith, a, b, e, f);
     paired = rw places (paired-told (lost_peer D) (emptied H.places d) (paired-emptied H.places d (place_within H.places d D here) state.paired));
-    closed = state.closed;
   }
 
   pub is_without : (K : Held Description) (d : ℕ) (D : Description) → place H.places d ≡ Some D → K.places ≡ told (lost_peer D) (emptied H.places d) →
@@ -92,7 +103,7 @@ module _ (xs : List Openings) (H : Held Description) (os : List (Option View)) (
   unfolding without
   is_without K d D here places =
       let all = places ∙ one_goes (state_of os H ps paths) d D state.paired here in
-      λ j. record { objects = os; descriptions = all j; processes = ps; paths = paths }
+      λ j. record { objects = os; descriptions = all j; processes = ps; paths = paths; abstract_names = [] }
 
   pub was_dead : (d : ℕ) (D : Description) → place H.places d ≡ Some D → count_at H d ≡ 0 → is_unreferenced (state_of os H ps paths) d ≡ true
   was_dead d D here none = unreferenced (state_of os H ps paths) d D here (sym (state.counted d) ∙ none)

@@ -1,7 +1,7 @@
 //! How many descriptions of each file object are open for reading, and for writing.
 ghost use Rattle.std.specs.Prelude.{◌≡◌, ◌+◌, ◌<◌, ◌≤◌, ◌^◌, ℕ, length};
 ghost use Rattle.ux_model.specs.Flags.{can_read, can_write};
-ghost use Rattle.ux_state.specs.Counting.{Counted, HasMore, HasRoom, IsAmong, more, one_if};
+ghost use Rattle.ux_state.specs.Counting.{Counted, CountsOneMore, HasRoom, IsAmong, more, one_if};
 
 use ux_desc::Description;
 use ux_types::Mode;
@@ -54,7 +54,7 @@ impl Openings {
 /// Counts a description that is made.
 pub(crate) fn count_in(openings: &mut Vec<Openings>, description: &Description)
     requires { HasRoom openings.old.items }
-    ensures { HasMore description.now openings.old.items openings.new.items }
+    ensures { CountsOneMore description.now openings.old.items openings.new.items }
 {
     if let Some(object) = description.object() {
         let o = object as usize;
@@ -67,7 +67,7 @@ pub(crate) fn count_in(openings: &mut Vec<Openings>, description: &Description)
 /// No longer counts a description that goes.
 pub(crate) fn count_out(openings: &mut Vec<Openings>, description: &Description)
     requires { IsAmong description.now openings.old.items }
-    ensures { HasMore description.now openings.new.items openings.old.items }
+    ensures { CountsOneMore description.now openings.new.items openings.old.items }
 {
     if let Some(object) = description.object() {
         let o = object as usize;

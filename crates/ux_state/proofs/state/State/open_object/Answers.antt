@@ -1,27 +1,29 @@
-use Rattle.std.proofs.Common.{[], ◌∷◌, ◌++◌, ap, sym, ◌∙◌, length, Some, arith, subst}
-use Rattle.ux_model.specs.Places.{filled}
-use Rattle.ux_model.specs.Process.{lowest_free}
-use Rattle.ux_state.specs.Counting.{Counted}
-use Rattle.ux_state.specs.contracts.process.Process as process
-use Rattle.ux_state.proofs.Opening.{counted_push, kept_open, entries_put, table_is, new_one, entry_is}
+use Rattle.std.proofs.Common.{rules, ◌≡◌, ◌+◌, ◌<◌, ◌≤◌, ◌↔◌, IsTrue, Some, None, Err, IfOk, OnOk, OnErr, length, slice_set, option_map, ℕ, ◌-◌, ◌*◌, ◌/◌, ◌%◌, Bool, true, false, nat_eq, nat_lt, List, [], ◌∷◌, ◌++◌, slice_index_or, bit_and, bit_or, Fits, w8, w32, w64, Bor, MutBor}
+use Rattle.ux_model.specs.Places.{place, filled, emptied}
+use Rattle.ux_model.specs.Process.{lowest_free, two_lowest_free, descriptor, copy_of, with_cloexec}
+use Rattle.ux_model.specs.State.{is_live, table_of, with_table, with_new, next_description}
+use Rattle.ux_model.specs.References.{refs}
+use Rattle.ux_model.specs.Pairing.{with_pair}
+use Rattle.ux_model.specs.Files.{file_description}
+use Rattle.ux_model.specs.Closing as model
 use Rattle.ux_state.proofs.state.State.open_object.Goals as goal
 
+-- src/entries.rt:50:13
+pub invariant_of-self-in_default : goal.invariant_of-self-in_default
+invariant_of-self-in_default g c = ?
+
+-- src/entries.rt:53:9
+pub count_in-requires : goal.count_in-requires
+count_in-requires g c = ?
+
+-- src/entries.rt:26:5
 pub invariant_of-self-2 : goal.invariant_of-self-2
-invariant_of-self-2 g c =
-    let added = c.push_reserved.ensures.items ∙ ap (λ ds. ds ++ Some c.of_object-description.result ∷ []) c.reserve.ensures.items in
-    kept_open _ _ _ _ _ _ _ _ c.self.invariant c.count_in.ensures.long
-    (subst (λ ds. Counted ds c.count_in.new.openings.items) (sym added) (counted_push _ _ _ c.of_object-description.result c.self.invariant.counted c.count_in.ensures))
+invariant_of-self-2 g c = ?
 
+-- src/entries.rt:26:5
 pub returns-clause-lowest : goal.returns-clause-lowest
-returns-clause-lowest g c =
-    ap lowest_free (sym (table_is _ c.args.self.now c.args.pid.0 c.index_mut-process.result.now (process.the_view c.process.inside) c.requires c.self.view_is c.index_mut-process.ensures.value c.process.view_is))
-    ∙ c.in_ok-fd.ensures.lowest
+returns-clause-lowest g c = ?
 
+-- src/entries.rt:26:5
 pub returns-clause-opened : goal.returns-clause-opened
-returns-clause-opened g c =
-    let added = c.push_reserved.ensures.items ∙ (λ j. c.reserve.ensures.items j ++ Some (c.of_object-description.ensures j) ∷ []) in
-    let table = table_is _ c.args.self.now c.args.pid.0 c.index_mut-process.result.now (process.the_view c.process.inside) c.requires c.self.view_is c.index_mut-process.ensures.value c.process.view_is in
-    let entry = entry_is _ c.args.self.now c.args.flags c.len-d.result (λ n. n) c.new_entry.result c.self.view_is (omega (arith, c.len-d.ensures, ap length c.reserve.ensures.items, c.reserve.new.self.ok.0)) c.new_entry.ensures in
-    entries_put _ c.args.self.now _ c.args.pid.0 c.index_mut-process.result.now (process.the_view c.process.inside) _ _ _ c.requires c.self.view_is c.index_mut-process.ensures.value c.process.view_is
-    (new_one _ c.args.self.now _ _ c.self.view_is added)
-    (c.in_ok-fd.ensures.opened ∙ λ j. filled (table j) c.in_ok-fd.fd.0 (entry j))
+returns-clause-opened g c = ?
