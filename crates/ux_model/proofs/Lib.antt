@@ -10,6 +10,7 @@ pub mod Moves
 pub mod OneGoes
 pub mod Sockets
 pub mod Making
+pub mod FrontRights
 mod Play
 mod StreamExamples
 mod LimitExamples

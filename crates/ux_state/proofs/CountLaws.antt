@@ -41,7 +41,7 @@ no_place [] i = refl
 no_place (x ∷ xs) zero = refl
 no_place (x ∷ xs) (suc i) = no_place xs i
 
-nobody : (ds : List (Option Description)) → Paired (map (λ _. None) ds)
+pub nobody : (ds : List (Option Description)) → Paired (map (λ _. None) ds)
 nobody ds = record { returned = λ i p e there. absurd (cc (sym (ap peer_in (no_place ds i)) ∙ e)); known = λ i p e. absurd (cc (sym (ap peer_in (no_place ds i)) ∙ e)) }
 
 -- what nothing holds

@@ -17,7 +17,7 @@ use Rattle.ux_model.specs.Peers.{lost_peer, told}
 use Rattle.ux_model.proofs.AnyOrder.{live_in}
 use Rattle.ux_model.proofs.ChangedPlaces.{place_within}
 use Rattle.ux_model.proofs.OneGoes.{one_goes, left_refs, held_refs, paired-emptied, paired-told, none_unreferenced, unreferenced}
-use Rattle.ux_slots.specs.Held.{Held, count_at, HasMore, IsNoneDead}
+use Rattle.ux_slots.specs.Held.{Held, count_at, IsNoneDead}
 use Rattle.ux_state.specs.declared.openings.Openings.{Openings}
 use Rattle.ux_state.specs.Counting.{one_if, Counted, CountsOneMore, IsAmong}
 use Rattle.ux_state.specs.Keeping.{state_of, IsState}
@@ -113,7 +113,7 @@ module _ (xs : List Openings) (H : Held Description) (os : List (Option View)) (
 
 -- ---- all go
 
-pub live_in-emptied : (ds : List (Option Description)) (d : ℕ) (D : Description) → place ds d ≡ Some D → live_in (emptied ds d) < live_in ds
+live_in-emptied : (ds : List (Option Description)) (d : ℕ) (D : Description) → place ds d ≡ Some D → live_in (emptied ds d) < live_in ds
 live_in-emptied [] d D e = absurd (cc e)
 live_in-emptied (None ∷ xs) zero D e = absurd (cc e)
 live_in-emptied (Some x ∷ xs) zero D e = omega arith
@@ -121,12 +121,29 @@ live_in-emptied (None ∷ xs) (suc d) D e = live_in-emptied xs d D e
 live_in-emptied (Some x ∷ xs) (suc d) D e = let h = live_in-emptied xs d D e in omega (arith, h)
 
 -- places that are all empty
-pub all_empty : (ds : List (Option Description)) → ((d : ℕ) → IsSome (place ds d) → ⊥) → ds ≡ map (λ _. None) ds
+all_empty : (ds : List (Option Description)) → ((d : ℕ) → IsSome (place ds d) → ⊥) → ds ≡ map (λ _. None) ds
 all_empty [] none = refl
 all_empty (None ∷ xs) none = ap (λ l. None ∷ l) (all_empty xs (λ d. none (suc d)))
 all_empty (Some x ∷ xs) none = absurd (none 0 refl)
 
-pub emptied_alike : (ds : List (Option Description)) (d : ℕ) → map (λ _. None) (emptied ds d) ≡ map {B = Option Description} (λ _. None) ds
+emptied_alike : (ds : List (Option Description)) (d : ℕ) → map (λ _. None) (emptied ds d) ≡ map {B = Option Description} (λ _. None) ds
 emptied_alike [] d = refl
 emptied_alike (x ∷ xs) zero = refl
 emptied_alike (x ∷ xs) (suc d) = ap (λ l. None ∷ l) (emptied_alike xs d)
+
+pub fewer_left : (H K : Held Description) (d : ℕ) (D : Description) → place H.places d ≡ Some D → K.places ≡ emptied H.places d → live_in K.places < live_in H.places
+fewer_left H K d D here taken = rw taken (live_in-emptied H.places d D here)
+
+pub still_alike : (ds : List (Option Description)) (H K : Held Description) (d : ℕ) → K.places ≡ emptied H.places d → map (λ _. None) H.places ≡ map {B = Option Description} (λ _. None) ds →
+    map (λ _. None) K.places ≡ map {B = Option Description} (λ _. None) ds
+still_alike ds H K d taken alike = ap (map (λ _. None)) taken ∙ emptied_alike H.places d ∙ alike
+
+pub none_counted : (H K : Held Description) → K.counts ≡ H.counts → ((d : ℕ) → count_at H d ≡ 0) → (d : ℕ) → count_at K d ≡ 0
+none_counted H K same none d = ap (λ cs. count_at (record H { counts = cs }) d) same ∙ none d
+
+-- where none is dead and nothing counts, none is there
+pub none_left : (ds : List (Option Description)) (H K : Held Description) → K ≡ H → IsNoneDead H → ((d : ℕ) → count_at H d ≡ 0) → map (λ _. None) H.places ≡ map {B = Option Description} (λ _. None) ds →
+    K.places ≡ map (λ _. None) ds
+none_left ds H K same each none alike =
+    ap (λ (h : Held Description). h.places) same
+    ∙ all_empty H.places (λ d there. let a = each d there in let b = none d in omega (arith, a, b)) ∙ alike

@@ -7,3 +7,5 @@ pub mod Opening
 pub mod CountLaws
 pub mod Dropping
 pub mod Orphans
+pub mod Queues
+pub mod SocketMoves

@@ -1,5 +1,5 @@
 -- New descriptions with their entries, part by part.
-use Rattle.std.proofs.Common.{◌≡◌, ℕ, suc, ◌+◌, ◌-◌, ◌<◌, true, cond, List, [], ◌∷◌, ◌++◌, length, get_or, set, Option, Some, None, ap, sym, ◌∙◌, arith, refl, Bool}
+use Rattle.std.proofs.Common.{◌≡◌, ℕ, suc, ◌+◌, ◌-◌, ◌^◌, ◌<◌, true, cond, List, [], ◌∷◌, ◌++◌, length, get_or, set, Option, Some, None, ap, sym, ◌∙◌, arith, refl, Bool}
 use Rattle.std.specs.Prelude.{count_by}
 use Rattle.std.proofs.lemmas.List.{length_push}
 use Rattle.std.proofs.lemmas.List.Sums.{sum_by_push, count_by-le-length}
@@ -13,7 +13,7 @@ use Rattle.ux_model.specs.Description.{Description}
 use Rattle.ux_model.specs.Process.{Process, Descriptor, descriptor, lowest_free, two_lowest_free}
 use Rattle.ux_model.specs.State.{State, is_live, table_of, next_description, with_table, with_new}
 use Rattle.ux_model.specs.Pairing.{socket_description, with_pair}
-use Rattle.ux_model.specs.Files.{is_opening}
+use Rattle.ux_model.specs.Files.{is_opening, file_description}
 use Rattle.ux_model.specs.References.{table_refs, target_refs, description_refs}
 use Rattle.ux_model.specs.Peers.{target_peer, HoldsNothing}
 use Rattle.ux_model.proofs.Moves.{one, table_filled}
@@ -21,7 +21,7 @@ use Rattle.ux_model.proofs.Making.{paired-push, paired-pair}
 use Rattle.ux_fdtable.proofs.TwoFree.{free_at, first_free, second_free}
 use Rattle.ux_state.specs.declared.openings.Openings.{Openings}
 use Rattle.ux_state.specs.Counting.{Counted, CountsOneMore, HasRoom, one_if}
-use Rattle.ux_slots.specs.Held.{Held, Adds, once}
+use Rattle.ux_slots.specs.Held.{Held, Adds, count_at, once}
 use Rattle.ux_state.specs.Keeping.{state_of, IsState}
 use Rattle.ux_state.proofs.Lookups.{table_here, table_put}
 use Rattle.ux_state.proofs.TableCounts.{HoldAlike, process_kept}
@@ -40,12 +40,8 @@ counted_push ds xs ys D counted more = record {
     pushed allows o = sum_by_push (λ (p : Option Description). cond {A = ℕ} (is_opening allows o p) 1 0) ds (Some D)
 
 -- a socket is open of no file object
-pub counted_sockets : (ds : List (Option Description)) (xs : List Openings) (flags : OpenFlags) (cred : Cred) (a b : ℕ) → Counted ds xs →
-    Counted (ds ++ Some (socket_description flags (pair_end SockType.Stream a cred)) ∷ [] ++ Some (socket_description flags (pair_end SockType.Stream b cred)) ∷ []) xs
-counted_sockets ds xs flags cred a b counted = counted_push _ xs xs _ (counted_push ds xs xs _ counted (none a)) (none b)
-  where
-    none : (peer : ℕ) → CountsOneMore (socket_description flags (pair_end SockType.Stream peer cred)) xs xs
-    none peer = record { long = refl; readers = λ o h. omega arith; writers = λ o h. omega arith }
+pub socket_counted : (xs : List Openings) (flags : OpenFlags) (cred : Cred) (peer : ℕ) (D : Description) → D ≡ socket_description flags (pair_end SockType.Stream peer cred) → CountsOneMore D xs xs
+socket_counted xs flags cred peer D e = rw e (record { long = refl; readers = λ o h. omega arith; writers = λ o h. omega arith })
 
 -- one more can be counted while there are numbers
 pub room_to_count : (ds : List (Option Description)) (xs : List Openings) → Counted ds xs → length ds + 1 < 2 ^ 128 → HasRoom xs
@@ -56,9 +52,27 @@ room_to_count ds xs counted few = record {
 
 -- ---- references
 
+-- a file's description refers to nothing
+pub holds_nothing : (o : ℕ) (mode : Mode) (flags : OpenFlags) (D : Description) → D ≡ file_description o mode flags → HoldsNothing D
+holds_nothing o mode flags D is = record { refs = λ k. ap (λ E. target_refs k (Description.target E)) is; peer = ap (λ E. target_peer (Description.target E)) is }
+
+-- nor does a new socket, while nothing waits at it
+pub end_holds : (peer : ℕ) (flags : OpenFlags) (cred : Cred) (D : Description) → D ≡ socket_description flags (pair_end SockType.Stream peer cred) → (k : ℕ) → target_refs k D.target ≡ 0
+end_holds peer flags cred D is k = ap (λ E. target_refs k (Description.target E)) is
+
 -- one more that refers to nothing
 held_push : (ds : List (Option Description)) (D : Description) → ((k : ℕ) → target_refs k D.target ≡ 0) → HoldAlike ds (ds ++ Some D ∷ [])
 held_push ds D none k = let a = sum_by_push (description_refs k) ds (Some D) in let b = none k in omega (arith, a, b)
+
+pub adds_from : (H J K : Held Description) (D : Description) → J.places ≡ H.places → J.counts ≡ H.counts → Adds D J K → Adds D H K
+adds_from H J K D places counts adds = record {
+  places = adds.places ∙ ap (λ ds. ds ++ Some D ∷ []) places;
+  counts = λ k.
+      let a = adds.counts k in
+      let b = ap (λ cs. count_at (record H { counts = cs }) k) counts in
+      let c = ap (λ ds. once (length ds) k) places in
+      omega (arith, a, b, c);
+}
 
 module _ (xs : List Openings) (H : Held Description) (os : List (Option View)) (ps : List Process) (paths : List (Name × PathTarget)) (state : IsState xs H (state_of os H ps paths))
     (p : ℕ) (P : Process) (live : is_live (state_of os H ps paths) p ≡ true) (at : P ≡ get_or ps (p - 1) P) where
@@ -111,6 +125,10 @@ entries_put V S T p P R ds table t live same here r end e =
     (λ j. record V { descriptions = ds; processes = set V.processes (p - 1) (record (r j) { table = e j }) })
     ∙ table_put (record V { descriptions = ds }) p P t (ap (λ U. is_live U p) same ∙ live) here
     ∙ ap (λ U. with_table U p t) end
+
+-- the descriptions stay
+pub same_places : (V S : State) (ds : List (Option Description)) → V ≡ S → ds ≡ V.descriptions → record V { descriptions = ds } ≡ S
+same_places V S ds same e = (λ j. record V { descriptions = e j }) ∙ same
 
 -- the table of the process, through its parts
 pub table_is : (V S : State) (p : ℕ) (P R : Process) → is_live S p ≡ true → V ≡ S → P ≡ get_or V.processes (p - 1) P → R ≡ P → R.table ≡ table_of S p

@@ -1,6 +1,6 @@
 -- Counts where the table of a process changes.
-use Rattle.std.proofs.Common.{◌≡◌, ℕ, zero, suc, ◌+◌, ◌-◌, ◌<◌, ◌≤◌, true, false, not, ◌⊎◌, inl, inr, List, [], ◌∷◌, length, get_or, set, map, take, Option, Some, None, option_map, refl, sym, ◌∙◌, ap, arith}
-use Rattle.std.specs.List.{slice_get, sum_by, list_any}
+use Rattle.std.proofs.Common.{◌≡◌, ℕ, zero, suc, ◌+◌, ◌-◌, ◌<◌, ◌≤◌, true, List, [], ◌∷◌, length, get_or, set, map, take, Option, Some, None, option_map, refl, sym, ◌∙◌, ap, arith}
+use Rattle.std.specs.List.{sum_by}
 use Rattle.std.specs.Prelude.{Bool, slice_set}
 use Rattle.std.proofs.lemmas.List.{length-set}
 use Rattle.std.proofs.lemmas.List.Sums.{get_or-le-sum_by, sum_by-cons, sum_by_more, sum_by-take-le}
@@ -32,8 +32,8 @@ pub same_refs : (os : List (Option View)) (H K : Held Description) (ps : List Pr
 unfolding refs
 same_refs os H K ps paths k alike = ap (λ n. sum_by (λ P. table_refs k (Process.table P)) ps + n) (alike k)
 
-pub same_places : (ds es : List (Option Description)) → es ≡ ds → HoldAlike ds es
-same_places ds es same k = ap (sum_by (description_refs k)) same
+pub held_same : (ds es : List (Option Description)) → es ≡ ds → HoldAlike ds es
+held_same ds es same k = ap (sum_by (description_refs k)) same
 
 module _ (xs : List Openings) (H : Held Description) (os : List (Option View)) (ps : List Process) (paths : List (Name × PathTarget)) (state : IsState xs H (state_of os H ps paths)) where
   module _ (p : ℕ) (P : Process) (live : is_live (state_of os H ps paths) p ≡ true) (at : P ≡ get_or ps (p - 1) P) where
@@ -62,7 +62,7 @@ module _ (xs : List Openings) (H : Held Description) (os : List (Option View)) (
     pub table_kept : (K : Held Description) (Q : Process) → K.places ≡ H.places →
         ((k : ℕ) → count_at K k + table_refs k P.table ≡ count_at H k + table_refs k Q.table) → IsState xs K (state_of os K (set ps (p - 1) Q) paths)
     table_kept K Q same counts =
-        process_kept xs K Q refl (same_places H.places K.places same) (rw same state.opened) (rw same state.paired) counts
+        process_kept xs K Q refl (held_same H.places K.places same) (rw same state.opened) (rw same state.paired) counts
 
     -- what its table refers to is counted
     pub table_counted : (k : ℕ) → table_refs k P.table ≤ count_at H k
@@ -72,6 +72,18 @@ module _ (xs : List Openings) (H : Held Description) (os : List (Option View)) (
         let b : table_refs k (get_or ps (p - 1) P).table ≡ table_refs k P.table = ap (λ R. table_refs k (Process.table R)) (sym at) in
         let c = state.counted k in
         omega (arith, a, b, c)
+
+  -- other objects, as many, and other paths refer to nothing
+  pub rest_kept : (os' : List (Option View)) (paths' : List (Name × PathTarget)) → length os' ≡ length os → IsState xs H (state_of os' H ps paths')
+  unfolding refs
+  rest_kept os' paths' long = record {
+    few_objects = let few = state.few_objects in omega (arith, few, long);
+    few_processes = state.few_processes;
+    one_each = state.one_each ∙ sym long;
+    opened = state.opened;
+    counted = state.counted;
+    paired = state.paired;
+  }
 
 -- ---- entries
 

@@ -3,3 +3,4 @@ pub mod Counting
 pub mod Keeping
 pub mod Moves
 pub mod EntryCounts
+pub mod Releases

@@ -49,7 +49,9 @@ impl<O: FileObject> State<O> {
         }
         let id = self.slots.next_id();
         let process = &mut self.processes[pid.0 as usize - 1];
-        let fd = process.table.install(new_entry(flags, id))?;
+        let Ok(fd) = process.table.install(new_entry(flags, id)) else {
+            return Err(InstallError::NoMemory);
+        };
         let description = Description::of_object(object, mode, flags);
         count_in(&mut self.openings, &description);
         let _id = self.slots.insert_reserved(description);
@@ -86,9 +88,10 @@ impl<O: FileObject> State<O> {
         let first = self.slots.next_id();
         let second = DescriptionId::new(first.number() + 1);
         let process = &mut self.processes[pid.0 as usize - 1];
-        let two = process
-            .table
-            .install_two(new_entry(flags, first), new_entry(flags, second))?;
+        let entries = (new_entry(flags, first), new_entry(flags, second));
+        let Ok(two) = process.table.install_two(entries.0, entries.1) else {
+            return Err(InstallError::NoMemory);
+        };
         let _first = self
             .slots
             .insert_reserved(pair_end(alloc, flags, second, cred));

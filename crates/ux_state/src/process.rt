@@ -1,6 +1,7 @@
 //! A process and its descriptor table.
 ghost use Rattle.std.specs.Prelude.{◌≡◌, map, None, true, IfOk};
 ghost use Rattle.ux_model.specs.Boot.{new_process};
+ghost use Rattle.ux_model.specs.Closing.{with_nothing_open};
 
 use std::alloc::{AllocError, Global};
 use std::marker::Model;
@@ -37,6 +38,13 @@ impl Process {
             exited: false,
             table: Table::new(alloc, spec.limit)?,
         })
+    }
+
+    /// Closes all its descriptors.
+    pub(crate) fn close_all(&mut self)
+        ensures { self.new ≡ with_nothing_open self.old }
+    {
+        self.table.clear();
     }
 
     /// Ends it: all its descriptors are closed.

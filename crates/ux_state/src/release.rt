@@ -62,13 +62,13 @@ impl<O: FileObject> State<O> {
             ((self.new ≡ self.old) × (has_unreferenced self.old ≡ false))
             (λ d. (is_unreferenced self.old d ≡ true) × (self.new ≡ without (λ n. n == d) self.old)) }
     {
-        let Some((d, x)) = self.slots.next_dead() else {
+        let Some(gone) = self.slots.next_dead() else {
             return None;
         };
-        tell(&mut self.slots, x.lost_peer());
-        count_out(&mut self.openings, &x);
-        release_held(&mut self.slots, x);
-        Some(d)
+        tell(&mut self.slots, gone.1.lost_peer());
+        count_out(&mut self.openings, &gone.1);
+        release_held(&mut self.slots, gone.1);
+        Some(gone.0)
     }
 
     /// Closes each file object that neither a path nor a description leads to, and hands it out.
@@ -160,7 +160,7 @@ fn clear_tables(processes: &mut Vec<Process>)
     ensures { processes.new.items ≡ map with_nothing_open processes.old.items }
 {
     for process in processes.iter_mut() {
-        process.table.clear();
+        process.close_all();
     }
 }
 

@@ -2,6 +2,7 @@ use Rattle.std.proofs.Common.{◌≡◌, ◌≤◌, ◌+◌, ◌++◌, true, Som
 use Rattle.std.specs.List.{list_all, enumerate_from}
 use Rattle.std.specs.Vec.Iter.{into_iter_items}
 use Rattle.ux_model.specs.Object.{View}
+use Rattle.ux_model.specs.Names.{file}
 use Rattle.ux_state.proofs.making.filled.Given as goal
 
 -- the places so far, and those of the objects that are left, are those of all objects
@@ -13,5 +14,5 @@ invariant-loop-name g l =
     (vec_len l.paths + length (into_iter_items l.name-iterator) ≤ vec_capacity l.paths) ×
     (vec_len l.slots + length (into_iter_items l.name-iterator) ≡ length l.fn.objects.items) ×
     (l.slots.items ++ map (λ o. Some (g.O.FileObject.view o.1)) (into_iter_items l.name-iterator) ≡ map (λ o. Some (g.O.FileObject.view o.1)) l.fn.objects.items) ×
-    (l.paths.items ++ map (λ e. (e.1.0, e.0)) (enumerate_from (vec_len l.slots) (into_iter_items l.name-iterator)) ≡ map (λ e. (e.1.0, e.0)) (enumerate_from 0 l.fn.objects.items)) ×
+    (l.paths.items ++ map (λ e. (e.1.0, file e.0)) (enumerate_from (vec_len l.slots) (into_iter_items l.name-iterator)) ≡ map (λ e. (e.1.0, file e.0)) (enumerate_from 0 l.fn.objects.items)) ×
     (list_all (λ o. View.opened (g.O.FileObject.view o.1)) (into_iter_items l.name-iterator) ≡ true)

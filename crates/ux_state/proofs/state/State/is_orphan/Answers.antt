@@ -1,5 +1,6 @@
 use Rattle.std.proofs.Common.{not, ◌&&◌, ◌==◌, ap, sym, ◌∙◌}
 use Rattle.std.specs.List.{list_any}
+use Rattle.ux_model.specs.References.{path_names}
 use Rattle.ux_state.proofs.Orphans.{no_orefs}
 use Rattle.ux_state.proofs.state.State.is_orphan.Goals as goal
 
@@ -9,5 +10,5 @@ returns-then-not-is_open g c =
 
 pub returns-else-not-is_open : goal.returns-else-not-is_open
 returns-else-not-is_open g c =
-    ap not c.if-not-is_open.false ∙ sym (ap (λ b. not b && not (list_any (λ e. e.1 == c.args.o) c.args.self.now.paths)) c.if-not-is_open.false)
-    ∙ (λ j. not (c.is_open.ensures j) && not (list_any (λ e. e.1 == c.args.o) c.args.self.now.paths)) ∙ no_orefs c.args.self.now c.args.o
+    ap not c.if-not-is_open.false ∙ sym (ap (λ b. not b && not (list_any (λ e. path_names c.args.o e.1) c.args.self.now.paths)) c.if-not-is_open.false)
+    ∙ (λ j. not (c.is_open.ensures j) && not (list_any (λ e. path_names c.args.o e.1) c.args.self.now.paths)) ∙ no_orefs c.args.self.now c.args.o

@@ -1,4 +1,4 @@
-use Rattle.std.proofs.Common.{ap, refl, sym, ◌∙◌, arith}
+use Rattle.std.proofs.Common.{◌-◌, ap, refl, sym, ◌∙◌, arith}
 use Rattle.ux_model.specs.Places.{emptied}
 use Rattle.ux_model.specs.State.{is_live}
 use Rattle.ux_model.specs.References.{table_refs}
@@ -13,7 +13,7 @@ use Rattle.ux_state.proofs.state.State.take_entry.Goals as goal
 pub release-requires : goal.release-requires
 release-requires g c = λ k.
     let live = ap (λ S. is_live S c.args.pid.0) c.self.view_is ∙ c.requires in
-    let at = at_view _ _ _ (process.the_view c.process.inside) c.index_mut-process.ensures.value c.process.view_is in
+    let at = at_view c.self.inside.processes.items (c.args.pid.0 - 1) _ (process.the_view c.process.inside) c.index_mut-process.ensures.value c.process.view_is in
     let all = table_counted _ _ _ _ _ c.self.invariant c.args.pid.0 (process.the_view c.process.inside) live at k in
     let one = entry_in_table k c.process.inside.table c.args.fd.0 in
     let same = ap (entry_refs k) c.remove-removed.ensures.removed in
@@ -22,8 +22,8 @@ release-requires g c = λ k.
 pub invariant_of-self : goal.invariant_of-self
 invariant_of-self g c =
     let live = ap (λ S. is_live S c.args.pid.0) c.self.view_is ∙ c.requires in
-    let at = at_view _ _ _ (process.the_view c.process.inside) c.index_mut-process.ensures.value c.process.view_is in
-    table_kept _ _ _ _ _ c.self.invariant c.args.pid.0 (process.the_view c.process.inside) live at c.release.new.slots _ (sym c.release.ensures.places) refl (λ k.
+    let at = at_view c.self.inside.processes.items (c.args.pid.0 - 1) _ (process.the_view c.process.inside) c.index_mut-process.ensures.value c.process.view_is in
+    table_kept _ _ _ _ _ c.self.invariant c.args.pid.0 (process.the_view c.process.inside) live at c.release.new.slots _ (sym c.release.ensures.places) (λ k.
     let taken = table_emptied k c.process.inside.table c.args.fd.0 in
     let table = ap (table_refs k) c.remove-removed.ensures.closed in
     let same = ap (entry_refs k) c.remove-removed.ensures.removed in
