@@ -9,7 +9,7 @@ use Rattle.ux_model.specs.Types.{Name, ProcSpec}
 use Rattle.ux_model.specs.Limits.{object_limit, process_limit}
 use Rattle.ux_model.specs.Object.{View}
 use Rattle.ux_model.specs.Process.{Process}
-use Rattle.ux_model.specs.Names.{is_valid_path, same_name}
+use Rattle.ux_model.specs.Names.{PathTarget, file, is_valid_path, same_name}
 use Rattle.ux_model.specs.Boot.{IsBootState, is_open, are_distinct, new_process, boot_state}
 use Rattle.ux_kernel.specs.declared.boot.BootFault.{BootFault}
 use Rattle.ux_kernel.specs.Faults.{fault_of}
@@ -115,11 +115,11 @@ all_open : (objects : List (Name × View)) → list_all is_open (map (λ o. Some
 all_open [] = refl
 all_open (o ∷ os) = ap (λ b. View.opened o.1 && b) (all_open os)
 
-numbers_of : (n : ℕ) (objects : List (Name × View)) → map (λ (e : Name × ℕ). e.1) (map (λ (e : ℕ × (Name × View)). (e.1.0, e.0)) (enumerate_from n objects)) ≡ map (λ e. e.0) (enumerate_from n (map (λ o. Some o.1) objects))
+numbers_of : (n : ℕ) (objects : List (Name × View)) → map (λ (e : Name × PathTarget). e.1) (map (λ (e : ℕ × (Name × View)). (e.1.0, file e.0)) (enumerate_from n objects)) ≡ map (λ e. file e.0) (enumerate_from n (map (λ o. Some o.1) objects))
 numbers_of n [] = refl
-numbers_of n (o ∷ os) = ap (λ ns. n ∷ ns) (numbers_of (n + 1) os)
+numbers_of n (o ∷ os) = ap (λ ns. file n ∷ ns) (numbers_of (n + 1) os)
 
-names_of : (n : ℕ) (objects : List (Name × View)) → map (λ (e : Name × ℕ). e.0) (map (λ (e : ℕ × (Name × View)). (e.1.0, e.0)) (enumerate_from n objects)) ≡ map (λ o. o.0) objects
+names_of : (n : ℕ) (objects : List (Name × View)) → map (λ (e : Name × PathTarget). e.0) (map (λ (e : ℕ × (Name × View)). (e.1.0, file e.0)) (enumerate_from n objects)) ≡ map (λ o. o.0) objects
 names_of n [] = refl
 names_of n (o ∷ os) = ap (λ ns. o.0 ∷ ns) (names_of (n + 1) os)
 
@@ -128,6 +128,7 @@ boots objects specs h =
     let f : IsFaultless objects specs = faultless objects specs h in
     record {
       no_descriptions = refl;
+      no_abstract_names = refl;
       live_processes = none_exited specs;
       empty_tables = tables_empty specs;
       open_objects = all_open objects ∙ f.opened;

@@ -8,5 +8,5 @@ use Rattle.ux_model.specs.Receiving.{receive, receive_nothing}
 abbrev pub receive_at : State → ℕ → ℕ → MsgFlags → Outcome
 receive_at S d n flags = elim (socket_at S d) [ None ↦ refuse S Errno.EBADF | Some s ↦ receive S d s n flags ]
 
-abbrev pub receive_nothing_at : State → ℕ → Outcome
-receive_nothing_at S d = elim (socket_at S d) [ None ↦ refuse S Errno.EBADF | Some s ↦ receive_nothing S d s ]
+abbrev pub receive_nothing_at : State → ℕ → ℕ → Outcome
+receive_nothing_at S d peer = elim (socket_at S d) [ None ↦ refuse S Errno.EBADF | Some s ↦ receive_nothing S d s peer ]

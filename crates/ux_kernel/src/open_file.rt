@@ -1,6 +1,6 @@
 //! What is known of an open file object by its description.
 ghost use Rattle.std.specs.Prelude.{◌≡◌, Some, None, MatchOption};
-ghost use Rattle.ux_desc.specs.Changes.{object_of};
+ghost use Rattle.ux_model.specs.Description.{object_of};
 ghost use Rattle.ux_kernel.specs.FileCalls.{description_of, errno_of};
 
 use ux_desc::Description;

@@ -1,5 +1,6 @@
 //! Making a connected pair (socketpair(2)).
 ghost use Rattle.std.specs.Prelude.{IsTrue};
+ghost use Rattle.ux_model.specs.Types.{SockType};
 ghost use Rattle.ux_model.specs.State.{is_live};
 ghost use Rattle.ux_kernel.specs.Answers.{Gives};
 ghost use Rattle.ux_model.specs.Pairing as model;
@@ -13,9 +14,10 @@ impl<O: FileObject> Kernel<O> {
     #[tactic(auto, unfolding(ux_model::specs::Pairing::make_pair))]
     pub(crate) fn make_pair(&mut self, pid: Pid, flags: OpenFlags) -> Result<Reply, Refusal>
         requires { IsTrue (is_live self.old pid.0) }
-        ensures { Gives self.old (model.make_pair self.old pid.0 flags) result self.new }
+        ensures { Gives self.old (model.make_pair self.old pid.0 SockType.Stream flags) result self.new }
     {
-        let (low, high) = self.state.open_pair(pid, flags)?;
+        let cred = self.state.credentials(pid);
+        let (low, high) = self.state.open_pair(pid, flags, cred)?;
         Ok(Reply::Fds(low, high))
     }
 }

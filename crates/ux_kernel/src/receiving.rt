@@ -47,29 +47,33 @@ impl<O: FileObject> Kernel<O> {
         let Some(socket) = self.state.socket(id) else {
             return Err(Refusal::Answer(Errno::EBADF));
         };
+        let Some(peer) = socket.peer() else {
+            return Err(Refusal::Answer(Errno::ENOTCONN));
+        };
         if n == 0 {
             return Ok(received(Vec::new(self.alloc)));
         }
-        if socket.queue().is_empty() {
-            return self.recv_nothing(id);
+        if socket.is_empty() {
+            return self.recv_nothing(id, peer);
         }
-        let bytes = socket.queue().front(self.alloc, n)?;
-        if !flags.contains(MsgFlags::PEEK) {
-            self.state.remove_bytes(id, n);
+        let wants_cred = socket.passcred();
+        if flags.contains(MsgFlags::PEEK) {
+            let front = socket.peek(n, wants_cred)?;
+            return Ok(received(front.bytes));
         }
+        let bytes = self.state.take_bytes(id, n, wants_cred)?;
         Ok(received(bytes))
     }
 
-    /// What a receive answers where nothing waits.
-    fn recv_nothing(&mut self, id: DescriptionId) -> Result<Reply, Refusal>
-        ensures { Gives self.old (receive_nothing_at self.old id) result self.new }
+    /// What a receive answers where nothing waits, at a socket with this peer.
+    fn recv_nothing(&mut self, id: DescriptionId, peer: DescriptionId) -> Result<Reply, Refusal>
+        ensures { Gives self.old (receive_nothing_at self.old id peer) result self.new }
     {
         let Some(socket) = self.state.socket(id) else {
             return Err(Refusal::Answer(Errno::EBADF));
         };
-        let peer = socket.peer();
         if socket.reset() {
-            self.state.clear_reset(id);
+            self.state.set_reset(id, false);
             return Err(Refusal::Answer(Errno::ECONNRESET));
         }
         match self.state.socket(peer) {

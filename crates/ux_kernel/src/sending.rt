@@ -7,14 +7,14 @@ ghost use Rattle.ux_model.specs.Sending as model;
 
 use crate::kernel::Kernel;
 use bitflags::Flags;
-use ux_desc::Message;
 use ux_object::FileObject;
+use ux_rights::RefList;
 use ux_types::{Cred, DescriptionId, Errno, Fd, MsgFlags, Pid, Refusal, Reply};
 
 impl<O: FileObject> Kernel<O> {
     /// sendmsg(2), as the call with number `tag`. EBADF or ENOTSOCK where the number leads to no socket,
-    /// EINVAL for flags that a send doesn't take, EPIPE where the peer is gone, EAGAIN where its queue is
-    /// full, in this order.
+    /// EINVAL for flags that a send doesn't take, ENOTCONN, EPIPE where the peer is gone, EAGAIN where its
+    /// queue is full, in this order.
     #[tactic(auto, unfolding(ux_model::specs::Sending::send_msg))]
     pub(crate) fn send(
         &mut self,
@@ -35,32 +35,33 @@ impl<O: FileObject> Kernel<O> {
             return Err(Refusal::Answer(Errno::EINVAL));
         }
         let cred = self.state.credentials(pid);
-        self.send_to_peer(peer, tag, cred, bytes)
+        self.send_connected(peer, tag, cred, bytes)
     }
 
-    /// Sends the bytes of a process with these credentials to the socket of this description, if it is still there, else EPIPE.
-    pub(crate) fn send_to_peer(
+    /// Sends the bytes of a process with these credentials to the peer of its socket: ENOTCONN where it has
+    /// none, EPIPE where that is gone.
+    pub(crate) fn send_connected(
         &mut self,
-        peer: DescriptionId,
+        peer: Option<DescriptionId>,
         tag: u64,
         cred: Cred,
         bytes: &[u8],
     ) -> Result<Reply, Refusal>
-        ensures { Gives self.old (model.send_to_peer self.old peer (model.message_of cred tag bytes.now)) result self.new }
+        ensures { Gives self.old (model.send_connected self.old peer (model.message_of cred tag bytes.now)) result self.new }
     {
-        let room = match self.state.socket(peer) {
-            Some(socket) => socket.queue().room(),
-            None => return Err(Refusal::Answer(Errno::EPIPE)),
+        let Some(peer) = peer else {
+            return Err(Refusal::Answer(Errno::ENOTCONN));
         };
+        if self.state.socket(peer).is_none() {
+            return Err(Refusal::Answer(Errno::EPIPE));
+        }
         if bytes.is_empty() {
             return Ok(Reply::Count(0));
         }
-        if room == 0 {
-            return Err(Refusal::Answer(Errno::EAGAIN));
-        }
-        let count = room.min(bytes.len());
-        let m = Message::new(self.alloc, tag, &bytes[..count], cred)?;
-        self.state.append_message(peer, m)?;
+        let none = RefList::new(self.alloc);
+        let count = self
+            .state
+            .send_stream(peer, bytes, tag, none, cred, cred.uid)?;
         Ok(Reply::Count(count))
     }
 }

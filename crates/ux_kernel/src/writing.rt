@@ -51,7 +51,7 @@ impl<O: FileObject> Kernel<O> {
             (None, Some(socket)) => {
                 let peer = socket.peer();
                 let cred = self.state.credentials(pid);
-                self.send_to_peer(peer, tag, cred, bytes)
+                self.send_connected(peer, tag, cred, bytes)
             }
             (None, None) => unreachable!(),
         }

@@ -141,13 +141,14 @@ to_peer_plain : (S : State) (d : ℕ) (m : Message) → IsPlain S (send_to_peer 
 to_peer_plain S d m = maybe S (socket_at S d) _ _ (told S _ refl refl refl refl)
     (λ other. either S (length m.bytes == 0) _ _ (told S _ refl refl refl refl) (either S (stream_room other == 0) _ _ (told S _ refl refl refl refl) (told S _ refl refl refl refl)))
 
-connected_plain : (S : State) (s : Socket) (m : Message) → IsPlain S (send_connected S s m)
-connected_plain S s m = maybe S (peer_of s.phase) _ _ (told S _ refl refl refl refl) (λ peer. to_peer_plain S peer m)
+connected_plain : (S : State) (peer : Option ℕ) (m : Message) → IsPlain S (send_connected S peer m)
+connected_plain S None m = told S _ refl refl refl refl
+connected_plain S (Some peer) m = to_peer_plain S peer m
 
 pub send_plain : (S : State) (p tag : ℕ) (fd : Fd) (bytes : List ℕ) (flags : MsgFlags) → IsPlain S (send_msg S p tag fd bytes flags)
 unfolding send_msg
 send_plain S p tag fd bytes flags = maybe S (process_at S p) _ _ (told S _ refl refl refl refl)
-    (λ P. found_socket S p fd _ (λ d s. either S (not (are_send_flags flags)) _ _ (told S _ refl refl refl refl) (connected_plain S s (message_of (own_cred p P) tag bytes))))
+    (λ P. found_socket S p fd _ (λ d s. either S (not (are_send_flags flags)) _ _ (told S _ refl refl refl refl) (connected_plain S (peer_of s.phase) (message_of (own_cred p P) tag bytes))))
 
 nothing_plain : (S : State) (d : ℕ) (s : Socket) (peer : ℕ) → IsPlain S (receive_nothing S d s peer)
 nothing_plain S d s peer = either S s.reset _ _ (told S _ refl refl refl refl) (either S (is_none (socket_at S peer)) _ _ (told S _ refl refl refl refl) (told S _ refl refl refl refl))
@@ -250,7 +251,7 @@ write_plain S p tag fd bytes = found S p fd _ (λ e D. by_target S D.target _ _
     (either S (holds_bytes view.body && (length bytes == 0)) _ _ (told S _ refl refl refl refl)
     (either S (is_pipe view.body && not (is_open_for can_read S o)) _ _ (told S _ refl refl refl refl)
     (failing S o view _ (write_answer_plain S e.description D o view (write_body view.body (write_place D view) bytes)))))))
-    (λ s. maybe S (process_at S p) _ _ (told S _ refl refl refl refl) (λ P. connected_plain S s (message_of (own_cred p P) tag bytes))))
+    (λ s. maybe S (process_at S p) _ _ (told S _ refl refl refl refl) (λ P. connected_plain S (peer_of s.phase) (message_of (own_cred p P) tag bytes))))
 
 seek_to_plain : (S : State) (d : ℕ) (D : Description) (to : ℤ) → IsPlain S (seek_to S d D to)
 seek_to_plain S d D (pos n) = either S (nat_lt offset_limit n) _ _ (told S _ refl refl refl refl) (told S _ refl refl refl refl)
