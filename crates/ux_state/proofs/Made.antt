@@ -12,7 +12,6 @@ use Rattle.ux_model.specs.Process.{Process, Descriptor}
 use Rattle.ux_model.specs.State.{State}
 use Rattle.ux_model.specs.References.{table_refs, refs}
 use Rattle.ux_model.specs.Boot.{boot_state, new_process}
-
 use Rattle.ux_slots.specs.Held.{Held, count_at}
 use Rattle.ux_state.specs.declared.openings.Openings.{Openings}
 use Rattle.ux_state.specs.Counting.{none_open, counts_of}

@@ -5,6 +5,7 @@ ghost use Rattle.ux_model.specs.Flags.{can_read, can_write};
 ghost use Rattle.ux_model.specs.Places.{place};
 ghost use Rattle.ux_model.specs.Process.{own_cred};
 ghost use Rattle.ux_model.specs.State.{description_at, socket_at, process_at, table_of, is_live};
+ghost use Rattle.ux_model.specs.References.{refs};
 ghost use Rattle.ux_model.specs.Outcome.{find_description, find_socket};
 ghost use Rattle.ux_model.specs.Files.{is_open_for};
 ghost use Rattle.ux_model.specs.History.{has_live};
@@ -74,6 +75,13 @@ impl<O: FileObject> State<O> {
         ensures { MatchOption result (description_at self.now id ≡ None) (λ x. description_at self.now id ≡ Some x.now) }
     {
         self.slots.get(id)
+    }
+
+    /// How many references a description has: the entries that lead to it, over all tables.
+    pub fn count(&self, id: DescriptionId) -> u64
+        ensures { result ≡ refs self.now id }
+    {
+        self.slots.count(id)
     }
 
     /// The descriptor with a number, and its description.
