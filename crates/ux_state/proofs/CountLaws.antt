@@ -16,7 +16,6 @@ use Rattle.ux_slots.specs.Held.{Held, count_at}
 use Rattle.ux_state.specs.declared.openings.Openings.{Openings}
 use Rattle.ux_state.specs.Counting.{one_if, none_open, counts_of, Counted}
 use Rattle.ux_state.specs.Keeping.{state_of, IsState}
-use Rattle.ux_state.proofs.TableCounts.{same_refs}
 
 count_none : (allows : Mode → Bool) (o : ℕ) (ds : List (Option Description)) → count_by (is_opening allows o) (map (λ _. None) ds) ≡ 0
 count_none allows o [] = refl

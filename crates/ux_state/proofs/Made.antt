@@ -8,7 +8,7 @@ use Rattle.ux_model.specs.Limits.{table_limit, object_limit, process_limit}
 use Rattle.ux_model.specs.Types.{Name, ProcSpec}
 use Rattle.ux_model.specs.Object.{View}
 use Rattle.ux_model.specs.Description.{Description}
-use Rattle.ux_model.specs.Process.{Process, Descriptor}
+use Rattle.ux_model.specs.Process.{Process}
 use Rattle.ux_model.specs.State.{State}
 use Rattle.ux_model.specs.References.{table_refs, refs}
 use Rattle.ux_model.specs.Boot.{boot_state, new_process}

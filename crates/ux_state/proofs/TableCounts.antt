@@ -6,7 +6,7 @@ use Rattle.std.proofs.lemmas.Bool.{or_parts}
 use Rattle.std.proofs.lemmas.List.{length-set}
 use Rattle.std.proofs.lemmas.List.Sums.{get_or-le-sum_by, sum_by-cons, sum_by_more, sum_by-take-le}
 use Rattle.ux_model.specs.Types.{Name}
-use Rattle.ux_model.specs.Places.{place, filled, emptied}
+use Rattle.ux_model.specs.Places.{place}
 use Rattle.ux_model.specs.Object.{View}
 use Rattle.ux_model.specs.Description.{Description}
 use Rattle.ux_model.specs.Process.{Process, Descriptor, with_cloexec}

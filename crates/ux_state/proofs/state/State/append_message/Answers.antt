@@ -2,7 +2,6 @@ use Rattle.std.proofs.Common.{◌≡◌, Some, ap, sym, ◌∙◌, refl}
 use Rattle.std.specs.Option.{option_copied_mut}
 use Rattle.ux_model.specs.Places.{place}
 use Rattle.ux_model.specs.Socket.{queued}
-use Rattle.ux_slots.specs.Held.{Held}
 use Rattle.ux_state.specs.Keeping.{state_of}
 use Rattle.ux_state.proofs.Changing.{changed_kept, pushed_alike, put_back, on_err}
 use Rattle.ux_state.proofs.state.State.append_message.Goals as goal

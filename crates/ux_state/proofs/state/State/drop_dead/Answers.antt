@@ -1,8 +1,6 @@
-use Rattle.std.proofs.Common.{◌≡◌, ◌==◌, Some, ap, refl, sym, ◌∙◌}
-use Rattle.ux_model.specs.Places.{place, emptied}
+use Rattle.std.proofs.Common.{◌==◌, ap, refl, sym, ◌∙◌}
 use Rattle.ux_model.specs.Release.{is_unreferenced, has_unreferenced, without}
-use Rattle.ux_model.specs.Peers.{lost_peer, told}
-use Rattle.ux_slots.specs.Held.{Held}
+use Rattle.ux_model.specs.Peers.{told}
 use Rattle.ux_state.specs.Keeping.{state_of}
 use Rattle.ux_state.proofs.Dropping.{counted_among, left_kept, is_without, was_dead, none_dead}
 use Rattle.ux_state.proofs.state.State.drop_dead.Goals as goal

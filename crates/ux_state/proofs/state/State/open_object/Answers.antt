@@ -1,4 +1,4 @@
-use Rattle.std.proofs.Common.{◌-◌, ◌≡◌, ℕ, [], ◌∷◌, ◌++◌, length, Some, ap, refl, sym, ◌∙◌, arith}
+use Rattle.std.proofs.Common.{◌-◌, [], ◌∷◌, ◌++◌, length, Some, ap, refl, sym, ◌∙◌, arith}
 use Rattle.ux_model.specs.Places.{filled}
 use Rattle.ux_model.specs.Description.{Description}
 use Rattle.ux_model.specs.Process.{Descriptor, lowest_free}
