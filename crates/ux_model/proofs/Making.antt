@@ -1,14 +1,11 @@
 -- Peers where descriptions are made.
-use Rattle.std.proofs.Common.{◌≡◌, ℕ, zero, suc, ◌+◌, ◌<◌, ◌==◌, Bool, true, false, cond, List, [], ◌∷◌, ◌++◌, length, Option, Some, None, is_some, refl, ap, sym, ◌∙◌, arith}
+use Rattle.std.proofs.Common.{◌≡◌, ℕ, zero, suc, ◌+◌, ◌<◌, ◌==◌, true, false, List, [], ◌∷◌, ◌++◌, length, Option, Some, None, is_some, refl, ap, sym, ◌∙◌, arith}
 use Rattle.std.proofs.lemmas.Bool.{eqb-true, eqb-false, eq-eqb, ne_eqb}
 use Rattle.std.proofs.lemmas.List.{get_or_push, length_push}
 use Rattle.ux_model.specs.Places.{place}
 use Rattle.ux_model.specs.Description.{Description}
 use Rattle.ux_model.specs.Peers.{target_peer, peer_in, Paired}
-
-bool_cases : {P : Type 0} (b : Bool) → (b ≡ true → P) → (b ≡ false → P) → P
-bool_cases true on off = on refl
-bool_cases false on off = off refl
+use Rattle.ux_model.proofs.AnyOrder.{bool_cases}
 
 place_other : (ds : List (Option Description)) (x : Option Description) (i : ℕ) → (i == length ds) ≡ false → place (ds ++ x ∷ []) i ≡ place ds i
 place_other [] x zero e = absurd (cc (e, eq-eqb 0 0 refl))
@@ -16,19 +13,9 @@ place_other [] x (suc i) e = refl
 place_other (y ∷ ys) x zero e = refl
 place_other (y ∷ ys) x (suc i) e = place_other ys x i (bool_cases (i == length ys) (λ h. let s : suc i ≡ length (y ∷ ys) = ap suc (eqb-true i (length ys) h) in absurd (eqb-false (suc i) (length (y ∷ ys)) e s)) (λ h. h))
 
--- what stands at i behind one more
-pub place-push : (ds : List (Option Description)) (x : Option Description) (i : ℕ) → place (ds ++ x ∷ []) i ≡ cond (i == length ds) x (place ds i)
-place-push ds x i = bool_cases (i == length ds)
-    (λ h. ap (place (ds ++ x ∷ [])) (eqb-true i (length ds) h) ∙ get_or_push ds x None (length ds) refl ∙ sym (ap (λ b. cond b x (place ds i)) h))
-    (λ h. place_other ds x i h ∙ sym (ap (λ b. cond b x (place ds i)) h))
-
+-- the last place
 place_last : (ds : List (Option Description)) (x : Option Description) → place (ds ++ x ∷ []) (length ds) ≡ x
 place_last ds x = get_or_push ds x None (length ds) refl
-
-within : (ds : List (Option Description)) (i p : ℕ) → peer_in (place ds i) ≡ Some p → i < length ds
-within [] i p e = absurd (cc e)
-within (x ∷ xs) zero p e = omega arith
-within (x ∷ xs) (suc i) p e = let h = within xs i p e in omega (arith, h)
 
 -- one that names nobody, or a number that was made
 pub paired-push : (ds : List (Option Description)) (D : Description) → target_peer D.target ≡ None → Paired ds → Paired (ds ++ Some D ∷ [])

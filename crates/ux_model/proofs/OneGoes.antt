@@ -14,14 +14,10 @@ use Rattle.ux_model.specs.References.{refs}
 use Rattle.ux_model.specs.Release.{resets_peer, target_after_loss, description_after_loss, place_after_loss, without, is_unreferenced, has_unreferenced}
 use Rattle.ux_model.specs.Changes.{changed, changed_target, with_reset}
 use Rattle.ux_model.specs.Peers.{target_peer, peer_in, Paired, lost_peer, changed_place, told, OneGoes}
-use Rattle.ux_model.proofs.AnyOrder.{live_in, fewer_live}
+use Rattle.ux_model.proofs.AnyOrder.{bool_cases, live_in, fewer_live}
 use Rattle.ux_model.proofs.Moves.{place_within}
 
 -- ---- one place
-
-bool_cases : {P : Type 0} (b : Bool) → (b ≡ true → P) → (b ≡ false → P) → P
-bool_cases true on off = on refl
-bool_cases false on off = off refl
 
 changed_here : (ds : List (Option Description)) (i : ℕ) (f : Description → Description) → place (changed_place ds i f) i ≡ option_map f (place ds i)
 changed_here [] i f = refl
