@@ -8,7 +8,9 @@ ghost use Rattle.ux_model.specs.Description.{socket_of};
 ghost use Rattle.ux_model.specs.Pairing.{socket_description};
 ghost use Rattle.ux_model.specs.Files.{file_description};
 ghost use Rattle.ux_model.specs.Descriptors.{with_flags};
-ghost use Rattle.ux_desc.specs.Changes.{object_of, changed, without_reset, losing};
+ghost use Rattle.ux_model.specs.Changes.{changed, with_reset};
+ghost use Rattle.ux_model.specs.Peers.{lost_peer};
+ghost use Rattle.ux_desc.specs.Changes.{object_of, without_reset};
 
 use crate::message::Message;
 use crate::socket::Socket;
@@ -166,12 +168,22 @@ impl Description {
         }
     }
 
-    /// Another description goes. Where its socket was this one's peer, this one may be reset.
-    pub fn lose(&mut self, d: DescriptionId, resets: bool)
-        ensures { self.new ≡ changed (losing d resets) self.old }
+    /// Whom its loss resets: the peer of a socket at which messages are unread.
+    pub fn lost_peer(&self) -> Option<DescriptionId>
+        ensures { result ≡ lost_peer self.now }
+    {
+        match &self.target {
+            Target::Socket(s) if !s.queue().is_empty() => Some(s.peer()),
+            _ => None,
+        }
+    }
+
+    /// Its socket, if it leads to one, has lost its peer, which left messages unread.
+    pub fn set_reset(&mut self)
+        ensures { self.new ≡ changed with_reset self.old }
     {
         if let Target::Socket(s) = &mut self.target {
-            s.lose(d, resets);
+            s.set_reset();
         }
     }
 }

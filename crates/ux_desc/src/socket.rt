@@ -3,7 +3,8 @@ ghost use Rattle.std.specs.Prelude.{◌≡◌, ◌+◌, ◌≤◌, OnOk, OnErr, 
 ghost use Rattle.ux_model.specs.Limits.{stream_limit};
 ghost use Rattle.ux_model.specs.Message.{queued_bytes};
 ghost use Rattle.ux_model.specs.Socket.{new_end, queued, shortened};
-ghost use Rattle.ux_desc.specs.Changes.{without_reset, losing};
+ghost use Rattle.ux_model.specs.Changes.{with_reset};
+ghost use Rattle.ux_desc.specs.Changes.{without_reset};
 
 use crate::message::Message;
 use crate::queue::Queue;
@@ -86,10 +87,10 @@ impl Socket {
         self.reset = false;
     }
 
-    /// A description goes. Where it was this one's peer, this one may be reset.
-    pub fn lose(&mut self, d: DescriptionId, resets: bool)
-        ensures { self.new ≡ losing d resets self.old }
+    /// The peer has gone with messages unread: the error is pending from now on.
+    pub fn set_reset(&mut self)
+        ensures { self.new ≡ with_reset self.old }
     {
-        self.reset = self.reset || (self.peer == d && resets);
+        self.reset = true;
     }
 }

@@ -8,7 +8,8 @@ fn a_file_has_no_queue(rt: HostRuntime) -> Result<(), AllocError> {
     d.set_offset(7);
     d.take_front(1);
     d.clear_reset();
-    d.lose(DescriptionId::new(0), true);
+    d.set_reset();
+    assert!(rt; d.lost_peer().is_none());
     assert!(rt; d.object() == Some(3));
     assert!(rt; d.socket().is_none());
     assert!(rt; d.offset() == 7);
@@ -28,9 +29,11 @@ fn a_socket_keeps_what_was_sent(rt: HostRuntime) -> Result<(), AllocError> {
         uid: 1000,
         gid: 1000,
     };
+    assert!(rt; d.lost_peer().is_none());
     d.push(Message::new(alloc, 9, b"abc", cred)?)?;
     d.take_front(1);
-    d.lose(DescriptionId::new(4), true);
+    d.set_reset();
+    assert!(rt; d.lost_peer() == Some(DescriptionId::new(4)));
     assert!(rt; d.object().is_none());
     match d.socket() {
         Some(s) => {

@@ -1,15 +1,19 @@
 -- What a number of a process leads to.
-use Rattle.std.proofs.Common.{◌≡◌, ℕ, ◌<◌, ◌≤◌, length, true, not, ◌⊎◌, inl, inr, if◌then◌else◌, Option, Some, None, Result, Ok, Err, sym, ◌∙◌, ap, subst, refl}
-use Rattle.std.specs.Prelude.{option_and_then}
-use Rattle.std.proofs.lemmas.Option.{none-some}
+use Rattle.std.proofs.Common.{arith, cond, List, [], zero, suc, slice_get, ◌≡◌, ℕ, ◌<◌, ◌≤◌, length, true, not, ◌⊎◌, inl, inr, if◌then◌else◌, Option, Some, None, Result, Ok, Err, sym, ◌∙◌, ap, subst, refl}
+use Rattle.std.specs.Prelude.{option_and_then, sum_by}
+use Rattle.std.proofs.lemmas.Option.{none-some, slice_get_within, get_or_from_slice_get}
+use Rattle.std.proofs.lemmas.List.Sums.{get_or-le-sum_by}
 use Rattle.std.proofs.lemmas.List.{get_or_past}
-use Rattle.std.proofs.lemmas.Bool.{cases_lt}
+use Rattle.std.proofs.lemmas.Bool.{cases_lt, eq-eqb}
+use Rattle.ux_model.specs.Places.{place}
 use Rattle.ux_model.specs.Types.{Errno, Refusal, Fd, MsgFlags, Reply}
 use Rattle.ux_model.specs.Flags.{are_receive_flags}
 use Rattle.ux_model.specs.Socket.{Socket}
 use Rattle.ux_model.specs.Description.{Description, socket_of}
-use Rattle.ux_model.specs.Process.{Descriptor}
+use Rattle.ux_model.specs.Process.{Process, Descriptor}
 use Rattle.ux_model.specs.State.{State, description_at, socket_at, table_of}
+use Rattle.ux_model.specs.References.{table_refs, refs}
+use Rattle.ux_model.proofs.Moves.{one, table_emptied}
 use Rattle.ux_model.specs.Outcome.{Outcome, refuse, descriptor_at, find_description, find_socket}
 use Rattle.ux_kernel.specs.Answers.{Gives}
 use Rattle.ux_model.specs.Receiving.{receive, recv_msg}
@@ -47,6 +51,26 @@ open_inside S p fd e D h = go (cases_lt fd.0 (length (table_of S p)))
     go : (fd.0 < length (table_of S p)) ⊎ (length (table_of S p) ≤ fd.0) → fd.0 < length (table_of S p)
     go (inl inside) = inside
     go (inr past) = absurd (none-some e (sym (get_or_past (table_of S p) fd.0 None past) ∙ (found S p fd e D h).entry))
+
+-- what an entry of a table leads to has a reference
+entry_refers : (S : State) (p n : ℕ) (e : Descriptor) → place (table_of S p) n ≡ Some e → 0 < refs S e.description
+unfolding refs
+entry_refers S zero n e h = absurd (cc h)
+entry_refers S (suc i) n e h = go (slice_get S.processes i) refl h
+  where
+    go : (o : Option Process) → slice_get S.processes i ≡ o → place (elim o as (λ _. List (Option Descriptor)) [ Some P ↦ P.table | None ↦ [] ]) n ≡ Some e →
+        0 < sum_by (λ P. table_refs e.description (Process.table P)) S.processes
+    go None f h = absurd (cc h)
+    go (Some P) f h =
+        let whole = get_or-le-sum_by (λ R. table_refs e.description (Process.table R)) S.processes i P (slice_get_within S.processes i P f) in
+        let own = ap (λ R. table_refs e.description (Process.table R)) (get_or_from_slice_get S.processes i P P f) in
+        let part = table_emptied e.description P.table n in
+        let here = ap (one e.description) h in
+        let itself : one e.description (Some e) ≡ 1 = ap (λ b. cond {A = ℕ} b 1 0) (eq-eqb e.description e.description refl) in
+        omega (arith, whole, own, part, here, itself)
+
+pub found_held : (S : State) (p : ℕ) (fd : Fd) (e : Descriptor) (D : Description) → find_description S p fd ≡ Ok (e, D) → 0 < refs S e.description
+found_held S p fd e D h = entry_refers S p fd.0 e (found S p fd e D h).entry
 
 -- the socket of its description
 pub socket_found : (S : State) (p : ℕ) (fd : Fd) (d : ℕ) (s : Socket) → find_socket S p fd ≡ Ok (d, s) → socket_at S d ≡ Some s

@@ -1,6 +1,7 @@
 //! Closing descriptors (close(2)), the end of a process (_exit(2)), and that of the whole layer.
-ghost use Rattle.std.specs.Prelude.{◌≡◌, IsTrue};
+ghost use Rattle.std.specs.Prelude.{◌≡◌, IsTrue, false};
 ghost use Rattle.ux_model.specs.State.{is_live};
+ghost use Rattle.ux_model.specs.History.{has_live};
 ghost use Rattle.ux_model.specs.Closing as model;
 ghost use Rattle.ux_kernel.specs.Answers.{Gives};
 
@@ -33,9 +34,11 @@ impl<O: FileObject> Kernel<O> {
         Reply::Ok
     }
 
-    /// The end of the layer: every path and every description goes. It is never refused.
+    /// The end of the layer, once no process is left: every path and every description goes. It is never
+    /// refused.
     #[tactic(auto, unfolding(ux_model::specs::Closing::off))]
     pub(crate) fn off(&mut self) -> Reply
+        requires { has_live self.old ≡ false }
         ensures reply { result ≡ (model.off self.old).reply }
         ensures state { self.new ≡ (model.off self.old).next }
     {

@@ -21,7 +21,7 @@ refs-without d G S = refl
 
 -- ---- one description
 
-bool_cases : {P : Type 0} (b : Bool) → (b ≡ true → P) → (b ≡ false → P) → P
+pub bool_cases : {P : Type 0} (b : Bool) → (b ≡ true → P) → (b ≡ false → P) → P
 bool_cases true on off = on refl
 bool_cases false on off = off refl
 

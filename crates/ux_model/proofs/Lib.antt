@@ -6,6 +6,8 @@ pub mod Fronts
 pub mod Living
 pub mod Appending
 pub mod Moves
+pub mod OneGoes
+pub mod Making
 mod Play
 mod StreamExamples
 mod LimitExamples

@@ -13,11 +13,13 @@ pub mod Credentials
 pub mod Backlog
 pub mod Socket
 pub mod Description
+pub mod Changes
 pub mod Process
 pub mod Delivery
 pub mod State
 pub mod References
 pub mod Release
+pub mod Peers
 pub mod Outcome
 pub mod Naming
 pub mod Pairing

@@ -5,7 +5,8 @@
 
 ghost use Rattle.ux_model.specs.Release.{EndsAlike};
 ghost use Rattle.ux_model.specs.History.{LeadsToOne, FrontIsLegal, ExitAloneEnds, StepKeepsProcesses, LivesUntilExit};
-ghost use Rattle.ux_model.specs.Moves.{PutEntryCounts, TakenEntryCountsNot, NewKeepsReferences, ChangeKeepsReferences, NewCountsAtObject, SameTargetCountsAlike, TakenPathCountsNot};
+ghost use Rattle.ux_model.specs.Moves.{ProcessCounts, NewKeepsReferences, ChangeKeepsReferences, NewCountsAtObject, SameTargetCountsAlike, TakenPathCountsNot};
+ghost use Rattle.ux_model.specs.Peers.{OneGoes};
 
 /// Descriptions without a reference may be dropped one at a time and in any order: the same state is
 /// left as when all go at once, again and again.
@@ -45,16 +46,10 @@ pub fn processes_live_until_their_exit()
     ensures { LivesUntilExit }
 {}
 
-/// An entry that is put at a number of a process counts in place of what was open there.
-#[tactic(auto, using(crate::proofs::Moves::put_entry_counts))]
-pub fn put_entry_counts()
-    ensures { PutEntryCounts }
-{}
-
-/// An entry that is taken away no longer counts.
-#[tactic(auto, using(crate::proofs::Moves::taken_entry_counts_not))]
-pub fn taken_entry_counts_not()
-    ensures { TakenEntryCountsNot }
+/// Another process in the place of one changes the references by those of the two tables.
+#[tactic(auto, using(crate::proofs::Moves::process_counts))]
+pub fn process_counts()
+    ensures { ProcessCounts }
 {}
 
 /// A new description leaves all references as they are, and has none itself.
@@ -85,4 +80,10 @@ pub fn same_target_counts_alike()
 #[tactic(auto, using(crate::proofs::Moves::taken_path_counts_not))]
 pub fn taken_path_counts_not()
     ensures { TakenPathCountsNot }
+{}
+
+/// One description goes: its place is emptied, and one other is told, if that.
+#[tactic(auto, using(crate::proofs::OneGoes::one_goes))]
+pub fn one_goes()
+    ensures { OneGoes }
 {}

@@ -125,6 +125,7 @@ impl<T> Slots<T> {
         ensures ok { OnOk result (additional ≤ self.new.room) }
         ensures had_room { 0 < additional → additional ≤ self.old.room → IsOk result }
         ensures room { self.old.room ≤ self.new.room }
+        ensures numbers { self.new.room + length self.new.places < 2 ^ 128 }
         ensures places { self.new.places ≡ self.old.places }
         ensures counts { self.new.counts ≡ self.old.counts }
     {

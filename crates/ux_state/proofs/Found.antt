@@ -6,12 +6,11 @@ use Rattle.std.proofs.Math.Seq.{drop-cons}
 use Rattle.ux_model.specs.Types.{Name}
 use Rattle.ux_model.specs.Places.{place}
 use Rattle.ux_model.specs.Flags.{can_read, can_write}
-use Rattle.ux_model.specs.Object.{View}
 use Rattle.ux_model.specs.Description.{Description}
-use Rattle.ux_model.specs.Process.{Process}
 use Rattle.ux_model.specs.State.{State}
 use Rattle.ux_model.specs.Files.{is_opening}
 use Rattle.ux_model.specs.Names.{named, same_name}
+use Rattle.ux_slots.specs.Held.{Held}
 use Rattle.ux_state.specs.declared.openings.Openings.{Openings}
 use Rattle.ux_state.specs.Counting.{none_open}
 use Rattle.ux_state.specs.Keeping.{IsState}
@@ -48,18 +47,18 @@ held_inside [] o e = absurd (cc e)
 held_inside (x ∷ xs) zero e = omega arith
 held_inside (x ∷ xs) (suc o) e = let h = held_inside xs o e in omega (arith, h)
 
-pub readers_there : (os : List (Option View)) (xs : List Openings) (ds : List (Option Description)) (ps : List Process) (o : ℕ) (x : Openings) →
-    IsState os xs ds ps → is_some (place os o) ≡ true → x ≡ get_or xs o x → x.readers ≡ count_by (is_opening can_read o) ds
-readers_there os xs ds ps o x state held e =
-    let inside = held_inside os o held in
+pub readers_there : (xs : List Openings) (H : Held Description) (S : State) (o : ℕ) (x : Openings) → IsState xs H S → is_some (place S.objects o) ≡ true → x ≡ get_or xs o x →
+    x.readers ≡ count_by (is_opening can_read o) S.descriptions
+readers_there xs H S o x state held e =
+    let inside = held_inside S.objects o held in
     let each = state.one_each in
     let within : o < length xs = omega (arith, inside, each) in
-    ap (λ (y : Openings). y.readers) (get_or_read xs o x within e none_open) ∙ state.counted.readers o within
+    ap (λ (y : Openings). y.readers) (get_or_read xs o x within e none_open) ∙ state.opened.readers o within
 
-pub writers_there : (os : List (Option View)) (xs : List Openings) (ds : List (Option Description)) (ps : List Process) (o : ℕ) (x : Openings) →
-    IsState os xs ds ps → is_some (place os o) ≡ true → x ≡ get_or xs o x → x.writers ≡ count_by (is_opening can_write o) ds
-writers_there os xs ds ps o x state held e =
-    let inside = held_inside os o held in
+pub writers_there : (xs : List Openings) (H : Held Description) (S : State) (o : ℕ) (x : Openings) → IsState xs H S → is_some (place S.objects o) ≡ true → x ≡ get_or xs o x →
+    x.writers ≡ count_by (is_opening can_write o) S.descriptions
+writers_there xs H S o x state held e =
+    let inside = held_inside S.objects o held in
     let each = state.one_each in
     let within : o < length xs = omega (arith, inside, each) in
-    ap (λ (y : Openings). y.writers) (get_or_read xs o x within e none_open) ∙ state.counted.writers o within
+    ap (λ (y : Openings). y.writers) (get_or_read xs o x within e none_open) ∙ state.opened.writers o within

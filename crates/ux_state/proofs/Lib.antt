@@ -1,8 +1,9 @@
 pub mod Lookups
+pub mod TableCounts
 pub mod Changing
 pub mod Found
 pub mod Made
 pub mod Opening
 pub mod CountLaws
-pub mod Releasing
+pub mod Dropping
 pub mod Orphans

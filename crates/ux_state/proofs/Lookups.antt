@@ -66,6 +66,10 @@ table_put S p P table live e =
     with_process_is S p (record P { table = table }) (live_positive S p live)
     ∙ sym (ap (λ o. elim o as (λ _. State) [ Some P ↦ with_process S p (record P { table = table }) | None ↦ S ]) (found_process S p P live e))
 
+-- a process through its parts
+pub at_view : (ps : List Process) (i : ℕ) (P R : Process) → P ≡ get_or ps i P → R ≡ P → R ≡ get_or ps i R
+at_view ps i P R at same = subst (λ Q. Q ≡ get_or ps i Q) (sym same) at
+
 -- ---- places
 
 pub place_found : {X : Type 0} (xs : List (Option X)) (i : ℕ) (x : Option X) → slice_get xs i ≡ Some x → place xs i ≡ x

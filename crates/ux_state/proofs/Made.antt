@@ -1,12 +1,23 @@
 -- A state that was just made.
-use Rattle.std.proofs.Common.{◌≡◌, ℕ, ◌+◌, List, [], ◌∷◌, map, Option, Some, refl, ◌∙◌, ap}
-use Rattle.std.specs.List.{enumerate_from}
+use Rattle.std.proofs.Common.{◌≡◌, ℕ, zero, suc, ◌+◌, ◌≤◌, List, [], ◌∷◌, length, map, Option, Some, None, refl, sym, ◌∙◌, ap, arith}
+use Rattle.std.specs.Prelude.{max, min, replicate}
+use Rattle.std.specs.List.{enumerate_from, slice_get, sum_by}
+use Rattle.std.proofs.lemmas.List.{length-map, length-replicate}
+use Rattle.std.proofs.lemmas.List.Sums.{sum_by-cons}
+use Rattle.ux_model.specs.Limits.{table_limit, object_limit, process_limit}
 use Rattle.ux_model.specs.Types.{Name, ProcSpec}
 use Rattle.ux_model.specs.Object.{View}
 use Rattle.ux_model.specs.Description.{Description}
 use Rattle.ux_model.specs.Process.{Process}
 use Rattle.ux_model.specs.State.{State}
+use Rattle.ux_model.specs.References.{table_refs, refs}
 use Rattle.ux_model.specs.Boot.{boot_state, new_process}
+use Rattle.ux_slots.specs.Held.{Held, count_at}
+use Rattle.ux_state.specs.declared.openings.Openings.{Openings}
+use Rattle.ux_state.specs.Counting.{none_open, counts_of}
+use Rattle.ux_state.specs.EntryCounts.{entry_refs}
+use Rattle.ux_state.specs.Keeping.{state_of, IsState}
+use Rattle.ux_state.proofs.CountLaws.{nobody}
 
 -- the views of the objects, and their paths
 views_of : {X : Type 0} (view : X → View) (xs : List (Name × X)) → map (λ o. Some (view o.1)) xs ≡ map (λ o. Some o.1) (map {B = Name × View} (λ o. (o.0, view o.1)) xs)
@@ -26,4 +37,48 @@ made view xs os ds ps paths specs a b c d = λ j. record {
   descriptions = b j;
   processes = c j;
   paths = (d ∙ paths_of view 0 xs) j;
+}
+
+-- ---- nothing is open yet
+
+none_of : (n o : ℕ) → counts_of (replicate n none_open) o ≡ none_open
+none_of zero o = refl
+none_of (suc n) zero = refl
+none_of (suc n) (suc o) = none_of n o
+
+no_entries : (k n : ℕ) → ◌≡◌ {A = ℕ} (table_refs k (replicate n None)) 0
+no_entries k zero = refl
+no_entries k (suc n) = sum_by-cons (entry_refs k) None (replicate n None) ∙ ap (λ m. 0 + m) (no_entries k n)
+
+new_table : (k i : ℕ) (specs : List ProcSpec) (P : Process) → slice_get (map new_process specs) i ≡ Some P → ◌≡◌ {A = ℕ} (table_refs k P.table) 0
+new_table k i [] P e = absurd (cc e)
+new_table k zero (s ∷ ss) P e = let same : new_process s ≡ P = cc e in ap (λ R. table_refs k (Process.table R)) (sym same) ∙ no_entries k (max 1 (min table_limit s.limit))
+new_table k (suc i) (s ∷ ss) P e = new_table k i ss P e
+
+new_tables : (k : ℕ) (specs : List ProcSpec) → ◌≡◌ {A = ℕ} (sum_by (λ P. table_refs k (Process.table P)) (map new_process specs)) 0
+new_tables k [] = refl
+new_tables k (s ∷ ss) =
+    let all = sum_by-cons (λ P. table_refs k (Process.table P)) (new_process s) (map new_process ss) in
+    let first = new_table k 0 (s ∷ ss) (new_process s) refl in
+    let rest = new_tables k ss in
+    omega (arith, all, first, rest)
+
+pub made_kept : {X : Type 0} (view : X → View) (objects : List (Name × X)) (n : ℕ) (xs : List Openings) (H : Held Description) (os : List (Option View)) (ps : List Process) (paths : List (Name × ℕ)) (specs : List ProcSpec) →
+    os ≡ map (λ o. Some (view o.1)) objects → H.places ≡ [] → H.counts ≡ [] → ps ≡ map new_process specs → xs ≡ replicate n none_open → n ≡ length objects →
+    length objects ≤ object_limit → length specs ≤ process_limit → IsState xs H (state_of os H ps paths)
+unfolding refs
+made_kept view objects n xs H os ps paths specs objects_are places counts processes openings one_each few_objects few_processes = record {
+  few_objects = let a = ap length objects_are in let b = length-map objects (λ o. Some (view o.1)) in omega (arith, a, b, few_objects);
+  few_processes = let a = ap length processes in let b = length-map specs new_process in omega (arith, a, b, few_processes);
+  one_each =
+      let a = ap length objects_are in let b = length-map objects (λ o. Some (view o.1)) in
+      let c = ap length openings in let d = length-replicate n none_open in
+      omega (arith, a, b, c, d, one_each);
+  opened = rw places (record {
+    readers = λ o h. ap (λ ys. (counts_of ys o).readers) openings ∙ ap (λ (y : Openings). y.readers) (none_of n o);
+    writers = λ o h. ap (λ ys. (counts_of ys o).writers) openings ∙ ap (λ (y : Openings). y.writers) (none_of n o);
+  });
+  counted = λ k. ap (λ cs. count_at (record H { counts = cs }) k) counts ∙ sym (ap (sum_by (λ P. table_refs k (Process.table P))) processes ∙ new_tables k specs);
+  paired = rw places (nobody []);
+  closed = λ i P e exited d. new_table d i specs P (sym (ap (λ qs. slice_get qs i) processes) ∙ e);
 }

@@ -1,25 +1,33 @@
 -- New descriptions with their entries, part by part.
-use Rattle.std.proofs.Common.{◌≡◌, ℕ, suc, ◌+◌, ◌-◌, ◌<◌, true, cond, List, [], ◌∷◌, ◌++◌, length, get_or, set, Option, Some, ap, sym, ◌∙◌, arith, refl, Bool}
+use Rattle.std.proofs.Common.{◌≡◌, ℕ, suc, ◌+◌, ◌-◌, ◌^◌, ◌<◌, true, cond, List, [], ◌∷◌, ◌++◌, length, get_or, set, Option, Some, None, ap, sym, ◌∙◌, arith, refl, Bool}
 use Rattle.std.specs.Prelude.{count_by}
-use Rattle.std.proofs.lemmas.List.{length-set}
+use Rattle.std.proofs.lemmas.List.{length_push}
 use Rattle.std.proofs.lemmas.List.Sums.{sum_by_push, count_by-le-length}
-use Rattle.ux_model.specs.Types.{Mode, OpenFlags}
+use Rattle.ux_model.specs.Types.{Mode, Name, OpenFlags}
 use Rattle.ux_model.specs.Flags.{can_read, can_write}
+use Rattle.ux_model.specs.Places.{place, filled}
 use Rattle.ux_model.specs.Object.{View}
 use Rattle.ux_model.specs.Socket.{new_end}
 use Rattle.ux_model.specs.Description.{Description}
-use Rattle.ux_model.specs.Process.{Process, Descriptor, descriptor}
+use Rattle.ux_model.specs.Process.{Process, Descriptor, descriptor, lowest_free, two_lowest_free}
 use Rattle.ux_model.specs.State.{State, is_live, table_of, next_description, with_table, with_new}
 use Rattle.ux_model.specs.Pairing.{socket_description, with_pair}
 use Rattle.ux_model.specs.Files.{is_opening}
+use Rattle.ux_model.specs.References.{table_refs}
+use Rattle.ux_model.specs.Peers.{target_peer}
+use Rattle.ux_model.proofs.Moves.{one, table_filled}
+use Rattle.ux_model.proofs.Making.{paired-push, paired-pair}
+use Rattle.ux_fdtable.proofs.TwoFree.{free_at, first_free, second_free}
 use Rattle.ux_state.specs.declared.openings.Openings.{Openings}
-use Rattle.ux_state.specs.Counting.{Counted, HasMore, HasRoom, one_if}
-use Rattle.ux_state.specs.Keeping.{IsState}
+use Rattle.ux_state.specs.Counting.{Counted, CountsOneMore, HasRoom, one_if}
+use Rattle.ux_slots.specs.Held.{Held, Adds, count_at, once}
+use Rattle.ux_state.specs.Keeping.{state_of, IsState}
 use Rattle.ux_state.proofs.Lookups.{table_here, table_put}
+use Rattle.ux_state.proofs.TableCounts.{process_kept, live_closed}
 
 -- ---- counts
 
-pub counted_push : (ds : List (Option Description)) (xs ys : List Openings) (D : Description) → Counted ds xs → HasMore D xs ys → Counted (ds ++ Some D ∷ []) ys
+pub counted_push : (ds : List (Option Description)) (xs ys : List Openings) (D : Description) → Counted ds xs → CountsOneMore D xs ys → Counted (ds ++ Some D ∷ []) ys
 counted_push ds xs ys D counted more = record {
   readers = λ o h. let within : o < length xs = let long = more.long in omega (arith, h, long) in
       more.readers o within ∙ ap (λ n. n + one_if (is_opening can_read o (Some D))) (counted.readers o within) ∙ sym (pushed can_read o);
@@ -31,28 +39,70 @@ counted_push ds xs ys D counted more = record {
     pushed allows o = sum_by_push (λ (p : Option Description). cond {A = ℕ} (is_opening allows o p) 1 0) ds (Some D)
 
 -- a socket is open of no file object
-pub counted_sockets : (ds : List (Option Description)) (xs : List Openings) (flags : OpenFlags) (a b : ℕ) → Counted ds xs →
-    Counted (ds ++ Some (socket_description flags (new_end a)) ∷ [] ++ Some (socket_description flags (new_end b)) ∷ []) xs
-counted_sockets ds xs flags a b counted = counted_push _ xs xs _ (counted_push ds xs xs _ counted (none a)) (none b)
-  where
-    none : (peer : ℕ) → HasMore (socket_description flags (new_end peer)) xs xs
-    none peer = record { long = refl; readers = λ o h. omega arith; writers = λ o h. omega arith }
+pub socket_counted : (xs : List Openings) (flags : OpenFlags) (peer : ℕ) (D : Description) → D ≡ socket_description flags (new_end peer) → CountsOneMore D xs xs
+socket_counted xs flags peer D e = rw e (record { long = refl; readers = λ o h. omega arith; writers = λ o h. omega arith })
 
--- one more can be counted while memory holds the descriptions
-pub room_to_count : (ds : List (Option Description)) (xs : List Openings) → Counted ds xs → length ds < 9223372036854775808 → HasRoom xs
+-- one more can be counted while there are numbers
+pub room_to_count : (ds : List (Option Description)) (xs : List Openings) → Counted ds xs → length ds + 1 < 2 ^ 128 → HasRoom xs
 room_to_count ds xs counted few = record {
   readers = λ o h. let e = counted.readers o h in let le = count_by-le-length (is_opening can_read o) ds in omega (arith, e, le, few);
   writers = λ o h. let e = counted.writers o h in let le = count_by-le-length (is_opening can_write o) ds in omega (arith, e, le, few);
 }
 
-pub kept_open : (os : List (Option View)) (xs ys : List Openings) (ds es : List (Option Description)) (ps : List Process) (i : ℕ) (P : Process) →
-    IsState os xs ds ps → length ys ≡ length xs → Counted es ys → IsState os ys es (set ps i P)
-kept_open os xs ys ds es ps i P state long counted = record {
-  few_objects = state.few_objects;
-  few_processes = let e = length-set ps i P in let few = state.few_processes in omega (arith, e, few);
-  one_each = long ∙ state.one_each;
-  counted = counted;
+-- ---- references
+
+pub adds_from : (H J K : Held Description) (D : Description) → J.places ≡ H.places → J.counts ≡ H.counts → Adds D J K → Adds D H K
+adds_from H J K D places counts adds = record {
+  places = adds.places ∙ ap (λ ds. ds ++ Some D ∷ []) places;
+  counts = λ k.
+      let a = adds.counts k in
+      let b = ap (λ cs. count_at (record H { counts = cs }) k) counts in
+      let c = ap (λ ds. once (length ds) k) places in
+      omega (arith, a, b, c);
 }
+
+module _ (xs : List Openings) (H : Held Description) (os : List (Option View)) (ps : List Process) (paths : List (Name × ℕ)) (state : IsState xs H (state_of os H ps paths))
+    (p : ℕ) (P : Process) (live : is_live (state_of os H ps paths) p ≡ true) (at : P ≡ get_or ps (p - 1) P) where
+  -- a file's description more, to which the lowest free number leads
+  pub object_opened : (ys : List Openings) (K : Held Description) (Q : Process) (n : ℕ) (e : Descriptor) (D : Description) → Q ≡ record P { table = filled P.table n e } → lowest_free P.table ≡ Some n →
+      e.description ≡ length H.places → Adds D H K → target_peer D.target ≡ None → CountsOneMore D xs ys → IsState ys K (state_of os K (set ps (p - 1) Q) paths)
+  object_opened ys K Q n e D new lowest last adds nobody more =
+      process_kept xs H os ps paths state p P live at ys K Q more.long
+      (rw adds.places (counted_push H.places xs ys D state.opened more)) (rw adds.places (paired-push H.places D nobody state.paired))
+      (live_closed xs H os ps paths state p P live at Q (ap (λ R. Process.exited R) new))
+      (λ k.
+      let free = free_at P.table 0 n lowest in
+      let a = table_filled k P.table n e free.0 in
+      let b : one k (place P.table n) ≡ 0 = ap (one k) free.1 in
+      let c : table_refs k Q.table ≡ table_refs k (filled P.table n e) = ap (λ R. table_refs k (Process.table R)) new in
+      let f = adds.counts k in
+      let g : one k (Some e) ≡ once (length H.places) k = ap (λ m. once m k) last in
+      omega (arith, a, b, c, f, g))
+
+  -- two sockets' descriptions more, which name one another
+  pub pair_opened : (J K : Held Description) (Q : Process) (n m : ℕ) (e f : Descriptor) (D E : Description) → Q ≡ record P { table = filled (filled P.table n e) m f } → two_lowest_free P.table ≡ Some (n, m) →
+      e.description ≡ length H.places → f.description ≡ length H.places + 1 → Adds D H J → Adds E J K → target_peer D.target ≡ Some (length H.places + 1) → target_peer E.target ≡ Some (length H.places) →
+      CountsOneMore D xs xs → CountsOneMore E xs xs → IsState xs K (state_of os K (set ps (p - 1) Q) paths)
+  pair_opened J K Q n m e f D E new lowest first second adds adds' ahead back d_more e_more =
+      let two : K.places ≡ (H.places ++ Some D ∷ []) ++ Some E ∷ [] = adds'.places ∙ ap (λ ds. ds ++ Some E ∷ []) adds.places in
+      process_kept xs H os ps paths state p P live at xs K Q refl
+      (rw two (counted_push _ xs xs E (counted_push H.places xs xs D state.opened d_more) e_more)) (rw two (paired-pair H.places D E ahead back state.paired))
+      (live_closed xs H os ps paths state p P live at Q (ap (λ R. Process.exited R) new))
+      (λ k.
+      let low = first_free P.table n m lowest in
+      let a = table_filled k P.table n e low.0 in
+      let b : one k (place P.table n) ≡ 0 = ap (one k) low.1 in
+      let high = second_free P.table n m e lowest in
+      let c = table_filled k (filled P.table n e) m f high.0 in
+      let g : one k (place (filled P.table n e) m) ≡ 0 = ap (one k) high.1 in
+      let h : table_refs k Q.table ≡ table_refs k (filled (filled P.table n e) m f) = ap (λ R. table_refs k (Process.table R)) new in
+      let i = adds.counts k in
+      let j = adds'.counts k in
+      let long : length J.places ≡ length H.places + 1 = ap length adds.places ∙ length_push H.places (Some D) in
+      let o : once (length J.places) k ≡ once (length H.places + 1) k = ap (λ x. once x k) long in
+      let q : one k (Some e) ≡ once (length H.places) k = ap (λ x. once x k) first in
+      let r : one k (Some f) ≡ once (length H.places + 1) k = ap (λ x. once x k) second in
+      omega (arith, a, b, c, g, h, i, j, o, q, r))
 
 -- ---- entries
 
@@ -64,6 +114,10 @@ entries_put V S T p P R ds table t live same here r end e =
     (λ j. record V { descriptions = ds; processes = set V.processes (p - 1) (record (r j) { table = e j }) })
     ∙ table_put (record V { descriptions = ds }) p P t (ap (λ U. is_live U p) same ∙ live) here
     ∙ ap (λ U. with_table U p t) end
+
+-- the descriptions stay
+pub same_places : (V S : State) (ds : List (Option Description)) → V ≡ S → ds ≡ V.descriptions → record V { descriptions = ds } ≡ S
+same_places V S ds same e = (λ j. record V { descriptions = e j }) ∙ same
 
 -- the table of the process, through its parts
 pub table_is : (V S : State) (p : ℕ) (P R : Process) → is_live S p ≡ true → V ≡ S → P ≡ get_or V.processes (p - 1) P → R ≡ P → R.table ≡ table_of S p

@@ -1,10 +1,11 @@
 -- The file objects that neither a path nor a description leads to, one at a time.
 use Rattle.std.proofs.Common.{◌≡◌, ℕ, zero, suc, ◌+◌, ◌-◌, ◌<◌, ◌≤◌, Bool, true, false, not, ◌&&◌, ◌||◌, ◌==◌, eqb, nat_lt, if◌then◌else◌, List, [], ◌∷◌, ◌++◌, length, cond, get_or, set, take, drop, map, Option, Some, None, is_some, option_map, sym, ◌∙◌, ap, refl, zero-add, arith, append_assoc, length-append, length-drop, length-take-le}
-use Rattle.std.specs.List.{count_by, list_any, enumerate_from, filter}
+use Rattle.std.specs.List.{count_by, sum_by, list_any, list_all, enumerate_from, filter}
 use Rattle.std.proofs.lemmas.Bool.{ne_eqb, lt-ltb, and_right}
 use Rattle.std.proofs.lemmas.List.{take_more, append-nil, map-append, set-append_right, set-get_or, get_or-append_right, get_or-drop, drop_more, length-map}
 use Rattle.std.proofs.lemmas.List.Elements.{filter-append}
 use Rattle.std.proofs.lemmas.List.FromFn.{length-enumerate_from}
+use Rattle.std.proofs.lemmas.List.Folds.{sum_by-zero}
 use Rattle.std.proofs.lemmas.List.{get_or_read}
 use Rattle.ux_model.specs.Types.{Mode}
 use Rattle.ux_model.specs.Flags.{can_read, can_write}
@@ -16,9 +17,19 @@ use Rattle.ux_model.specs.Files.{is_opening}
 use Rattle.ux_model.specs.Release.{is_orphan}
 use Rattle.ux_state.specs.declared.openings.Openings.{Openings}
 use Rattle.ux_state.specs.Counting.{one_if, none_open, counts_of, Counted}
-use Rattle.ux_state.proofs.Releasing.{sum_none}
 
 -- ---- whether any is counted
+
+not_or : (a b : Bool) → (not a && not b) ≡ not (a || b)
+not_or true b = refl
+not_or false b = refl
+
+all_not_any : {X : Type 0} (f : X → ℕ) (p : X → Bool) → ((x : X) → eqb (f x) 0 ≡ not (p x)) → (xs : List X) → list_all (λ x. eqb (f x) 0) xs ≡ not (list_any p xs)
+all_not_any f p same [] = refl
+all_not_any f p same (x ∷ xs) = (λ j. same x j && all_not_any f p same xs j) ∙ not_or (p x) (list_any p xs)
+
+sum_none : {X : Type 0} (f : X → ℕ) (p : X → Bool) → ((x : X) → eqb (f x) 0 ≡ not (p x)) → (xs : List X) → eqb (sum_by f xs) 0 ≡ not (list_any p xs)
+sum_none f p same xs = sum_by-zero f xs ∙ all_not_any f p same xs
 
 none_counted : (b : Bool) → eqb (one_if b) 0 ≡ not b
 none_counted true = refl

@@ -21,15 +21,15 @@ abbrev pub more : Mode → Openings → Openings
 more mode counts = record { readers = counts.readers + one_if (can_read mode); writers = counts.writers + one_if (can_write mode) }
 
 -- the new counts have this description more than the old
-pub record HasMore (D : Description) (old new : List Openings) : Type 0 where
+pub record CountsOneMore (D : Description) (old new : List Openings) : Type 0 where
   pub long : length new ≡ length old
   pub readers : (o : ℕ) → o < length old → (counts_of new o).readers ≡ (counts_of old o).readers + one_if (is_opening can_read o (Some D))
   pub writers : (o : ℕ) → o < length old → (counts_of new o).writers ≡ (counts_of old o).writers + one_if (is_opening can_write o (Some D))
 
 -- one more can be counted
 pub record HasRoom (openings : List Openings) : Type 0 where
-  pub readers : (o : ℕ) → o < length openings → (counts_of openings o).readers + 1 < 2 ^ 64
-  pub writers : (o : ℕ) → o < length openings → (counts_of openings o).writers + 1 < 2 ^ 64
+  pub readers : (o : ℕ) → o < length openings → (counts_of openings o).readers + 1 < 2 ^ 128
+  pub writers : (o : ℕ) → o < length openings → (counts_of openings o).writers + 1 < 2 ^ 128
 
 -- this description was counted
 pub record IsAmong (D : Description) (openings : List Openings) : Type 0 where

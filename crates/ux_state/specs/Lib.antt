@@ -2,3 +2,4 @@ pub mod ObjectCalls
 pub mod Counting
 pub mod Keeping
 pub mod Moves
+pub mod EntryCounts

@@ -6,7 +6,8 @@ ghost use Rattle.ux_model.specs.Socket.{Socket};
 ghost use Rattle.ux_model.specs.State.{socket_at};
 ghost use Rattle.ux_model.specs.Socket.{queued, shortened};
 ghost use Rattle.ux_model.specs.Descriptors.{with_flags};
-ghost use Rattle.ux_desc.specs.Changes.{changed, without_reset};
+ghost use Rattle.ux_model.specs.Changes.{changed};
+ghost use Rattle.ux_desc.specs.Changes.{without_reset};
 ghost use Rattle.ux_state.specs.Moves.{with_description_by, at_offset};
 
 use crate::state::State;
@@ -23,23 +24,18 @@ impl<O: FileObject> State<O> {
         ensures ok { OnOk result (self.new ≡ with_description_by self.old id (changed (λ s. queued s m))) }
         ensures err { OnErr result (self.new ≡ self.old) }
     {
-        let Some(d) = self.index_of(id) else {
-            return Ok(());
-        };
-        if let Some(x) = &mut self.descriptions[d] {
-            return x.push(m);
+        match self.slots.get_mut(id) {
+            Some(x) => x.push(m),
+            None => Ok(()),
         }
-        Ok(())
     }
 
     /// Removes bytes from the front of the queue of a socket, with the messages that they end.
     pub fn remove_bytes(&mut self, id: DescriptionId, n: usize)
         ensures { self.new ≡ with_description_by self.old id (changed (shortened n)) }
     {
-        if let Some(d) = self.index_of(id) {
-            if let Some(x) = &mut self.descriptions[d] {
-                x.take_front(n);
-            }
+        if let Some(x) = self.slots.get_mut(id) {
+            x.take_front(n);
         }
     }
 
@@ -47,10 +43,8 @@ impl<O: FileObject> State<O> {
     pub fn clear_reset(&mut self, id: DescriptionId)
         ensures { self.new ≡ with_description_by self.old id (changed without_reset) }
     {
-        if let Some(d) = self.index_of(id) {
-            if let Some(x) = &mut self.descriptions[d] {
-                x.clear_reset();
-            }
+        if let Some(x) = self.slots.get_mut(id) {
+            x.clear_reset();
         }
     }
 
@@ -58,10 +52,8 @@ impl<O: FileObject> State<O> {
     pub fn set_offset(&mut self, id: DescriptionId, offset: u64)
         ensures { self.new ≡ with_description_by self.old id (at_offset offset) }
     {
-        if let Some(d) = self.index_of(id) {
-            if let Some(x) = &mut self.descriptions[d] {
-                x.set_offset(offset);
-            }
+        if let Some(x) = self.slots.get_mut(id) {
+            x.set_offset(offset);
         }
     }
 
@@ -69,10 +61,8 @@ impl<O: FileObject> State<O> {
     pub fn set_flags(&mut self, id: DescriptionId, flags: OpenFlags)
         ensures { self.new ≡ with_description_by self.old id (with_flags flags) }
     {
-        if let Some(d) = self.index_of(id) {
-            if let Some(x) = &mut self.descriptions[d] {
-                x.set_flags(flags);
-            }
+        if let Some(x) = self.slots.get_mut(id) {
+            x.set_flags(flags);
         }
     }
 }

@@ -1,14 +1,15 @@
 //! Table entries: opening, copying and closing descriptors.
-ghost use Rattle.std.specs.Prelude.{◌≡◌, ◌+◌, ◌<◌, ◌≤◌, ◌↔◌, ◌++◌, ◌∷◌, [], IsTrue, Some, None, Err, IfOk, OnOk, OnErr, length, map, true, slice_set, option_map, vec_len, vec_capacity};
+ghost use Rattle.std.specs.Prelude.{◌≡◌, ◌+◌, ◌<◌, ◌≤◌, ◌↔◌, IsTrue, Some, None, Err, IfOk, OnOk, OnErr, length, slice_set, option_map};
 ghost use Rattle.ux_model.specs.Places.{place, filled, emptied};
-ghost use Rattle.ux_model.specs.Socket.{new_end};
 ghost use Rattle.ux_model.specs.Process.{lowest_free, two_lowest_free, descriptor, copy_of, with_cloexec};
 ghost use Rattle.ux_model.specs.State.{is_live, table_of, with_table, with_new, next_description};
-ghost use Rattle.ux_model.specs.Pairing.{socket_description, with_pair};
+ghost use Rattle.ux_model.specs.References.{refs};
+ghost use Rattle.ux_model.specs.Pairing.{with_pair};
 ghost use Rattle.ux_model.specs.Files.{file_description};
 ghost use Rattle.ux_model.specs.Closing as model;
 
 use crate::openings::count_in;
+use crate::references::{release, release_table, retain};
 use crate::state::State;
 use bitflags::Flags;
 use ux_desc::Description;
@@ -40,15 +41,17 @@ impl<O: FileObject> State<O> {
         if self.table(pid).lowest_free().is_none() {
             return Err(InstallError::Full);
         }
-        if self.descriptions.reserve(1).is_err() {
+        if self.slots.reserve(1).is_err() {
             return Err(InstallError::NoMemory);
         }
-        let d = self.descriptions.len();
+        let id = self.slots.next_id();
         let process = &mut self.processes[pid.0 as usize - 1];
-        let fd = process.table.install(new_entry(flags, d))?;
+        let Ok(fd) = process.table.install(new_entry(flags, id)) else {
+            return Err(InstallError::NoMemory);
+        };
         let description = Description::of_object(object, mode, flags);
         count_in(&mut self.openings, &description);
-        self.descriptions.push_reserved(Some(description));
+        let _id = self.slots.insert_reserved(description);
         Ok(fd)
     }
 
@@ -70,47 +73,79 @@ impl<O: FileObject> State<O> {
         if self.table(pid).two_lowest_free().is_none() {
             return Err(InstallError::Full);
         }
-        if self.descriptions.reserve(2).is_err() {
+        if self.slots.reserve(2).is_err() {
             return Err(InstallError::NoMemory);
         }
-        let d = self.descriptions.len();
+        let alloc = *self.processes.allocator();
+        let first = self.slots.next_id();
+        let second = DescriptionId::new(first.number() + 1);
         let process = &mut self.processes[pid.0 as usize - 1];
-        let (low, high) = process
-            .table
-            .install_two(new_entry(flags, d), new_entry(flags, d + 1))?;
-        push_pair(&mut self.descriptions, flags);
-        Ok((low, high))
+        let entries = (new_entry(flags, first), new_entry(flags, second));
+        let Ok(two) = process.table.install_two(entries.0, entries.1) else {
+            return Err(InstallError::NoMemory);
+        };
+        let _first = self
+            .slots
+            .insert_reserved(Description::pair_end(alloc, flags, second));
+        let _second = self
+            .slots
+            .insert_reserved(Description::pair_end(alloc, flags, first));
+        Ok(two)
     }
 
-    /// Puts an entry at the lowest free number of a process.
+    /// Puts an entry at the lowest free number of a process, which leads to what something leads to
+    /// already.
     ///
     /// # Errors
     ///
-    /// `Full` where no number is free, else `NoMemory`. The state is then as before.
+    /// `Full` where no number is free, else `NoMemory`, also where no more references can be counted.
+    /// The state is then as before.
     pub fn put_lowest(&mut self, pid: Pid, entry: Descriptor) -> Result<Fd, InstallError>
-        requires { IsTrue (is_live self.old pid.0) }
+        requires live { IsTrue (is_live self.old pid.0) }
+        requires held { 0 < refs self.old entry.description }
         ensures lowest { IfOk result (λ fd. lowest_free (table_of self.old pid.0) ≡ Some fd.0) }
         ensures opened { IfOk result (λ fd. self.new ≡ with_table self.old pid.0 (filled (table_of self.old pid.0) fd.0 entry)) }
         ensures full { (result ≡ Err InstallError.Full) ↔ (lowest_free (table_of self.old pid.0) ≡ None) }
         ensures err { OnErr result (self.new ≡ self.old) }
     {
+        // A full table comes before a count that can't rise.
+        if self.table(pid).lowest_free().is_none() {
+            return Err(InstallError::Full);
+        }
+        if !self.slots.has_room(entry.description, 1) {
+            return Err(InstallError::NoMemory);
+        }
         let process = &mut self.processes[pid.0 as usize - 1];
-        process.table.install(entry)
+        let fd = process.table.install(entry)?;
+        retain(&mut self.slots, entry.description);
+        Ok(fd)
     }
 
-    /// Puts a copy of an entry at a number of a process, in place of what was open there (dup2(2)).
+    /// Puts a copy of an entry at a number of a process, in place of what was open there (dup2(2)). It
+    /// leads to what something leads to already.
     ///
     /// # Errors
     ///
-    /// `BadNumber` where the number isn't below the limit, else `NoMemory`. The state is then as before.
+    /// `BadNumber` where the number isn't below the limit, else `NoMemory`, also where no more references
+    /// can be counted. The state is then as before.
     pub fn put_copy_at(&mut self, pid: Pid, fd: Fd, entry: Descriptor) -> Result<(), DupError>
-        requires { IsTrue (is_live self.old pid.0) }
+        requires live { IsTrue (is_live self.old pid.0) }
+        requires held { 0 < refs self.old entry.description }
         ensures opened { OnOk result (self.new ≡ with_table self.old pid.0 (filled (table_of self.old pid.0) fd.0 (copy_of entry))) }
         ensures bad_number { (result ≡ Err DupError.BadNumber) ↔ (length (table_of self.old pid.0) ≤ fd.0) }
         ensures err { OnErr result (self.new ≡ self.old) }
     {
+        if fd.0 >= self.table(pid).limit() {
+            return Err(DupError::BadNumber);
+        }
+        if !self.slots.has_room(entry.description, 1) {
+            return Err(DupError::NoMemory);
+        }
         let process = &mut self.processes[pid.0 as usize - 1];
-        process.table.dup_at(fd, entry)?;
+        let replaced = process.table.dup_at(fd, entry)?;
+        // Both may lead to one description, so the new entry counts before the old one no longer does.
+        retain(&mut self.slots, entry.description);
+        release(&mut self.slots, replaced);
         Ok(())
     }
 
@@ -120,7 +155,8 @@ impl<O: FileObject> State<O> {
         ensures { self.new ≡ with_table self.old pid.0 (emptied (table_of self.old pid.0) fd.0) }
     {
         let process = &mut self.processes[pid.0 as usize - 1];
-        let _ = process.table.remove(fd);
+        let removed = process.table.remove(fd);
+        release(&mut self.slots, removed);
     }
 
     /// Sets or clears close-on-exec of the entry at a number, if that is open (fcntl(2), F_SETFD).
@@ -140,36 +176,17 @@ impl<O: FileObject> State<O> {
         ensures { self.new ≡ (model.exit self.old pid.0).next }
     {
         let process = &mut self.processes[pid.0 as usize - 1];
+        release_table(&mut self.slots, &process.table);
         process.exit();
     }
 }
 
-/// The handle of the description in this place.
-fn id_of(d: usize) -> DescriptionId
-    ensures { result ≡ d }
-{
-    DescriptionId::new(d as u128)
-}
-
-/// An entry that leads to the description in this place, as the flags of the call want it.
-fn new_entry(flags: OpenFlags, d: usize) -> Descriptor
-    ensures { result ≡ descriptor flags d }
+/// An entry that leads to this description, as the flags of the call want it.
+fn new_entry(flags: OpenFlags, id: DescriptionId) -> Descriptor
+    ensures { result ≡ descriptor flags id }
 {
     Descriptor {
-        description: id_of(d),
+        description: id,
         cloexec: flags.contains(OpenFlags::CLOEXEC),
     }
-}
-
-/// Adds the descriptions of two sockets that are connected to one another, for which there is room.
-fn push_pair(descriptions: &mut Vec<Option<Description>>, flags: OpenFlags)
-    requires { vec_len descriptions.old + 2 ≤ vec_capacity descriptions.old }
-    ensures { descriptions.new.items ≡ descriptions.old.items
-        ++ Some (socket_description flags (new_end (length descriptions.old.items + 1))) ∷ []
-        ++ Some (socket_description flags (new_end (length descriptions.old.items))) ∷ [] }
-{
-    let d = descriptions.len();
-    let alloc = *descriptions.allocator();
-    descriptions.push_reserved(Some(Description::pair_end(alloc, flags, id_of(d + 1))));
-    descriptions.push_reserved(Some(Description::pair_end(alloc, flags, id_of(d))));
 }

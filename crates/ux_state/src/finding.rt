@@ -1,10 +1,11 @@
 //! What a number leads to.
-ghost use Rattle.std.specs.Prelude.{◌≡◌, ◌<◌, ◌≤◌, Some, None, Ok, Err, IsTrue, IsSomeAnd, MatchOption, MatchResult, length};
+ghost use Rattle.std.specs.Prelude.{◌≡◌, ◌≤◌, Some, None, Ok, Err, IsTrue, IsSomeAnd, MatchOption, MatchResult, length};
 ghost use Rattle.ux_model.specs.Limits.{process_limit};
 ghost use Rattle.ux_model.specs.Flags.{can_read, can_write};
 ghost use Rattle.ux_model.specs.Places.{place};
 ghost use Rattle.ux_model.specs.Process.{own_cred};
 ghost use Rattle.ux_model.specs.State.{description_at, socket_at, process_at, table_of, is_live};
+ghost use Rattle.ux_model.specs.References.{refs};
 ghost use Rattle.ux_model.specs.Outcome.{find_description, find_socket};
 ghost use Rattle.ux_model.specs.Files.{is_open_for};
 ghost use Rattle.ux_model.specs.History.{has_live};
@@ -70,12 +71,17 @@ impl<O: FileObject> State<O> {
     }
 
     /// The description that a handle names, while it is there.
-    #[tactic(auto, using(crate::proofs::Lookups::place_found, crate::proofs::Lookups::place_past))]
     pub fn description(&self, id: DescriptionId) -> Option<&Description>
         ensures { MatchOption result (description_at self.now id ≡ None) (λ x. description_at self.now id ≡ Some x.now) }
     {
-        let d = self.index_of(id)?;
-        self.descriptions[d].as_ref()
+        self.slots.get(id)
+    }
+
+    /// How many references a description has: the entries that lead to it, over all tables.
+    pub fn count(&self, id: DescriptionId) -> u64
+        ensures { result ≡ refs self.now id }
+    {
+        self.slots.count(id)
     }
 
     /// The descriptor with a number, and its description.
@@ -122,16 +128,6 @@ impl<O: FileObject> State<O> {
         match self.description(id) {
             Some(x) => x.socket(),
             None => None,
-        }
-    }
-
-    /// The place of the description that a handle names, if there is one.
-    pub(crate) fn index_of(&self, id: DescriptionId) -> Option<usize>
-        ensures { MatchOption result (length self.now.descriptions ≤ id) (λ d. (d ≡ id) × (d < length self.now.descriptions)) }
-    {
-        match usize::try_from(id.number()) {
-            Ok(d) if d < self.descriptions.len() => Some(d),
-            _ => None,
         }
     }
 }

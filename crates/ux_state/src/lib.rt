@@ -11,6 +11,7 @@ mod naming;
 mod objects;
 mod openings;
 mod process;
+mod references;
 mod release;
 mod retired;
 mod slot;

@@ -12,6 +12,7 @@ use crate::slot::Slot;
 use crate::state::State;
 use std::alloc::{AllocError, Global};
 use ux_object::FileObject;
+use ux_slots::Slots;
 use ux_types::{Name, ProcSpec};
 
 /// The file objects of a state and their paths.
@@ -48,7 +49,7 @@ impl<O: FileObject> State<O> {
         Ok(State {
             objects: files.objects,
             openings,
-            descriptions: Vec::new(alloc),
+            slots: Slots::new(alloc),
             processes,
             paths: files.paths,
         })

@@ -1,16 +1,17 @@
 //! How many descriptions of each file object are open for reading, and for writing.
 ghost use Rattle.std.specs.Prelude.{◌≡◌, ◌+◌, ◌<◌, ◌≤◌, ◌^◌, ℕ, length};
 ghost use Rattle.ux_model.specs.Flags.{can_read, can_write};
-ghost use Rattle.ux_state.specs.Counting.{Counted, HasMore, HasRoom, IsAmong, more, one_if};
+ghost use Rattle.ux_state.specs.Counting.{Counted, CountsOneMore, HasRoom, IsAmong, more, one_if};
 
 use ux_desc::Description;
 use ux_types::Mode;
 
-/// How many descriptions of one file object are open for what.
+/// How many descriptions of one file object are open for what. There are fewer than numbers of
+/// descriptions.
 #[derive(Clone, Copy)]
 pub(crate) struct Openings {
-    pub(crate) readers: usize,
-    pub(crate) writers: usize,
+    pub(crate) readers: u128,
+    pub(crate) writers: u128,
 }
 
 impl Openings {
@@ -27,13 +28,13 @@ impl Openings {
 
     /// With one more description that is open for this.
     fn with(self, mode: Mode) -> Openings
-        requires readers { self.readers + 1 < 2 ^ 64 }
-        requires writers { self.writers + 1 < 2 ^ 64 }
+        requires readers { self.readers + 1 < 2 ^ 128 }
+        requires writers { self.writers + 1 < 2 ^ 128 }
         ensures { result ≡ more mode self }
     {
         Openings {
-            readers: self.readers + mode.can_read() as usize,
-            writers: self.writers + mode.can_write() as usize,
+            readers: self.readers + mode.can_read() as u128,
+            writers: self.writers + mode.can_write() as u128,
         }
     }
 
@@ -44,8 +45,8 @@ impl Openings {
         ensures { more mode result ≡ self }
     {
         Openings {
-            readers: self.readers - mode.can_read() as usize,
-            writers: self.writers - mode.can_write() as usize,
+            readers: self.readers - mode.can_read() as u128,
+            writers: self.writers - mode.can_write() as u128,
         }
     }
 }
@@ -53,7 +54,7 @@ impl Openings {
 /// Counts a description that is made.
 pub(crate) fn count_in(openings: &mut Vec<Openings>, description: &Description)
     requires { HasRoom openings.old.items }
-    ensures { HasMore description.now openings.old.items openings.new.items }
+    ensures { CountsOneMore description.now openings.old.items openings.new.items }
 {
     if let Some(object) = description.object() {
         let o = object as usize;
@@ -66,7 +67,7 @@ pub(crate) fn count_in(openings: &mut Vec<Openings>, description: &Description)
 /// No longer counts a description that goes.
 pub(crate) fn count_out(openings: &mut Vec<Openings>, description: &Description)
     requires { IsAmong description.now openings.old.items }
-    ensures { HasMore description.now openings.new.items openings.old.items }
+    ensures { CountsOneMore description.now openings.new.items openings.old.items }
 {
     if let Some(object) = description.object() {
         let o = object as usize;

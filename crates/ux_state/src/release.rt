@@ -1,17 +1,17 @@
 //! The end of a call: what nothing refers to goes.
-ghost use Rattle.std.specs.Prelude.{◌≡◌, ◌<◌, ◌==◌, [], length, map, option_map, true, false, MatchOption, None, is_some, filter, ◌++◌, ◌∷◌};
+ghost use Rattle.std.specs.Prelude.{◌≡◌, ℕ, ◌<◌, ◌==◌, [], length, map, option_map, true, false, MatchOption, None, is_some, filter, ◌++◌, ◌∷◌};
 ghost use Rattle.std.specs.List.{list_any};
 ghost use Rattle.arrayvec.specs.ArrayVec.{array_vec_len};
 ghost use Rattle.ux_model.specs.Limits.{object_limit};
 ghost use Rattle.ux_model.specs.Object.{closed};
 ghost use Rattle.ux_model.specs.Places.{place, emptied};
-ghost use Rattle.ux_model.specs.State.{socket_at};
 ghost use Rattle.ux_model.specs.References.{is_open_of, orefs};
-ghost use Rattle.ux_model.specs.Release.{is_unreferenced, has_unreferenced, resets_peer, without, drop_unreferenced, orphans, without_orphans, retired, settled};
+ghost use Rattle.ux_model.specs.Release.{is_unreferenced, has_unreferenced, without, drop_unreferenced, orphans, without_orphans, retired, settled};
+ghost use Rattle.ux_model.specs.Peers.{told};
+ghost use Rattle.ux_model.specs.History.{has_live};
 ghost use Rattle.ux_model.specs.Closing as model;
-ghost use Rattle.ux_desc.specs.Changes.{changed, losing};
-ghost use Rattle.ux_state.specs.Counting.{Counted, none_open};
-ghost use Rattle.ux_state.specs.Moves.{is_referenced};
+ghost use Rattle.ux_slots.specs.Held.{count_at};
+ghost use Rattle.ux_state.specs.Counting.{none_open};
 
 use crate::openings::{Openings, count_out};
 use crate::retired::Retired;
@@ -19,6 +19,7 @@ use crate::state::State;
 use arrayvec::ArrayVec;
 use ux_desc::Description;
 use ux_object::FileObject;
+use ux_slots::Slots;
 use ux_types::{DescriptionId, OBJECT_LIMIT};
 
 impl<O: FileObject> State<O> {
@@ -34,79 +35,38 @@ impl<O: FileObject> State<O> {
         self.close_orphans()
     }
 
-    /// Takes away all paths and all descriptions (the end of the layer).
+    /// Takes away all paths and all descriptions (the end of the layer). No process is left then, so no
+    /// entry leads to what goes.
     #[tactic(auto, unfolding(ux_model::specs::Closing::off))]
     pub fn forget_all(&mut self)
+        requires { has_live self.old ≡ false }
         ensures { self.new ≡ (model.off self.old).next }
     {
         self.paths.clear();
-        forget(&mut self.descriptions);
+        forget(&mut self.slots);
         uncount_all(&mut self.openings);
     }
 
-    /// Drops each description that nothing refers to, again until none is left.
+    /// Drops each description that nothing refers to, again until none is left. It looks at none but
+    /// those that go and the peer of each.
     fn drop_unreferenced(&mut self)
         ensures { self.new ≡ drop_unreferenced self.old }
     {
-        while let Some(d) = self.first_unreferenced() {
-            self.drop_description(d);
-        }
+        while let Some(d) = self.drop_dead() {}
     }
 
-    /// The first description that nothing refers to.
-    fn first_unreferenced(&self) -> Option<usize>
-        ensures { MatchOption result (has_unreferenced self.now ≡ false)
-            (λ d. (d < length self.now.descriptions) × (is_unreferenced self.now d ≡ true)) }
+    /// Drops some description that nothing refers to, with all that it holds, and gives its handle.
+    fn drop_dead(&mut self) -> Option<DescriptionId>
+        ensures { MatchOption result
+            ((self.new ≡ self.old) × (has_unreferenced self.old ≡ false))
+            (λ d. (is_unreferenced self.old d ≡ true) × (self.new ≡ without (λ n. n == d) self.old)) }
     {
-        for d in 0..self.descriptions.len() {
-            if self.is_unreferenced(d) {
-                return Some(d);
-            }
-        }
-        None
-    }
-
-    /// Whether this description is there, and nothing refers to it.
-    fn is_unreferenced(&self, d: usize) -> bool
-        requires { d < length self.now.descriptions }
-        ensures { result ≡ is_unreferenced self.now d }
-    {
-        self.descriptions[d].is_some() && !self.is_referenced(d)
-    }
-
-    /// Whether a descriptor of any process leads to this description.
-    fn is_referenced(&self, d: usize) -> bool
-        ensures { result ≡ is_referenced self.now d }
-    {
-        let description = DescriptionId::new(d as u128);
-        self.processes
-            .iter()
-            .any(|p| 0 < p.table.count(description))
-    }
-
-    /// Drops this description with all that it holds.
-    fn drop_description(&mut self, d: usize)
-        requires { d < length self.old.descriptions }
-        ensures { self.new ≡ without (λ n. n == d) self.old }
-    {
-        let resets = self.resets_peer(d);
-        take_out(&mut self.descriptions, &mut self.openings, d);
-        lose_all(
-            &mut self.descriptions,
-            DescriptionId::new(d as u128),
-            resets,
-        );
-    }
-
-    /// Whether the loss of this description resets its peer.
-    fn resets_peer(&self, d: usize) -> bool
-        requires { d < length self.now.descriptions }
-        ensures { result ≡ resets_peer (socket_at self.now d) }
-    {
-        match self.socket(DescriptionId::new(d as u128)) {
-            Some(s) => !s.queue().is_empty(),
-            None => false,
-        }
+        let Some(gone) = self.slots.next_dead() else {
+            return None;
+        };
+        tell(&mut self.slots, gone.1.lost_peer());
+        count_out(&mut self.openings, &gone.1);
+        Some(gone.0)
     }
 
     /// Closes each file object that neither a path nor a description leads to, and hands it out.
@@ -172,37 +132,25 @@ fn hand_out<O: FileObject>(
     }
 }
 
-/// Takes the description out of a place, if one is there, and no longer counts it.
-fn take_out(descriptions: &mut Vec<Option<Description>>, openings: &mut Vec<Openings>, d: usize)
-    requires inside { d < length descriptions.old.items }
-    requires counted { Counted descriptions.old.items openings.old.items }
-    ensures emptied { descriptions.new.items ≡ emptied descriptions.old.items d }
-    ensures counted { Counted descriptions.new.items openings.new.items }
-    ensures one_each { length openings.new.items ≡ length openings.old.items }
+/// One description is told that it was reset, if it is still there.
+fn tell(slots: &mut Slots<Description>, peer: Option<DescriptionId>)
+    ensures places { slots.new.places ≡ told peer slots.old.places }
+    ensures counts { slots.new.counts ≡ slots.old.counts }
 {
-    if let Some(gone) = descriptions[d].take() {
-        count_out(openings, &gone);
-    }
-}
-
-/// Each description loses another.
-fn lose_all(descriptions: &mut Vec<Option<Description>>, d: DescriptionId, resets: bool)
-    ensures { descriptions.new.items ≡ map (option_map (changed (losing d resets))) descriptions.old.items }
-{
-    for place in descriptions.iter_mut() {
-        if let Some(x) = place {
-            x.lose(d, resets);
+    if let Some(id) = peer {
+        if let Some(x) = slots.get_mut(id) {
+            x.set_reset();
         }
     }
 }
 
-/// Each description goes.
-fn forget(descriptions: &mut Vec<Option<Description>>)
-    ensures { descriptions.new.items ≡ map (λ _. None) descriptions.old.items }
+/// Each description goes, whatever refers to it.
+fn forget(slots: &mut Slots<Description>)
+    ensures places { slots.new.places ≡ map (λ _. None) slots.old.places }
+    ensures counts { (d : ℕ) → count_at slots.new d ≡ 0 }
 {
-    for place in descriptions.iter_mut() {
-        *place = None;
-    }
+    slots.release_all();
+    while let Some(gone) = slots.next_dead() {}
 }
 
 /// No description is counted any more.

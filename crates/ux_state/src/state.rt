@@ -6,17 +6,18 @@ use crate::slot::Slot;
 use std::marker::Model;
 use ux_desc::Description;
 use ux_object::FileObject;
+use ux_slots::Slots;
 
 /// All file objects, open file descriptions, processes and paths. Contracts see it as the state that the
-/// definitions speak of.
+/// definitions speak of; the counts of references are in its invariant alone.
 #[derive(Drop)]
 pub struct State<O: FileObject> {
     /// By number.
     pub(crate) objects: Vec<Slot<O>>,
     /// What the descriptions of each file object are open for, so that no call looks through them.
     pub(crate) openings: Vec<Openings>,
-    /// By number, in order of making; empty once dropped.
-    pub(crate) descriptions: Vec<Option<Description>>,
+    /// By number, in order of making, each with a count of the references to it.
+    pub(crate) slots: Slots<Description>,
     /// The process with number 1 first.
     pub(crate) processes: Vec<Process>,
     pub(crate) paths: Vec<Path>,
@@ -24,11 +25,11 @@ pub struct State<O: FileObject> {
 
 impl<O: FileObject> Model for State<O> {
     ghost use Rattle.ux_model.specs.State as model;
-    ghost use Rattle.ux_state.specs.Keeping.{IsState};
+    ghost use Rattle.ux_state.specs.Keeping.{state_of, IsState};
 
     ghost Value = { model.State };
 
-    ghost view = { λ s. record { objects = s.objects.items; descriptions = s.descriptions.items; processes = s.processes.items; paths = s.paths.items } };
+    ghost view = { λ s. state_of s.objects.items s.slots s.processes.items s.paths.items };
 
-    ghost invariant = { λ s. IsState s.objects.items s.openings.items s.descriptions.items s.processes.items };
+    ghost invariant = { λ s. IsState s.openings.items s.slots (state_of s.objects.items s.slots s.processes.items s.paths.items) };
 }

@@ -1,6 +1,12 @@
-use Rattle.std.proofs.Common.{◌≡◌, ◌++◌, map, take, drop, None}
+use Rattle.std.proofs.Common.{◌≡◌, ℕ, map, Option, None}
+use Rattle.ux_model.specs.Description.{Description}
+use Rattle.ux_model.proofs.AnyOrder.{live_in}
+use Rattle.ux_slots.specs.Held.{count_at}
 use Rattle.ux_state.proofs.release.forget.Given as goal
 
--- those before the place are empty
-abbrev pub invariant-loop-place : goal.invariant-loop-place
-invariant-loop-place l = l.place-items ≡ map (λ _. None) (take l.place-index l.initial.place-items) ++ drop l.place-index l.initial.place-items
+-- there are as many places, and nothing counts
+abbrev pub invariant-loop-gone : goal.invariant-loop-gone
+invariant-loop-gone l = (map {B = Option Description} (λ _. None) l.slots.places ≡ map (λ _. None) l.fn.slots.places) × ((d : ℕ) → count_at l.slots d ≡ 0)
+
+abbrev pub decreases-loop-gone : goal.decreases-loop-gone
+decreases-loop-gone l = live_in l.slots.places

@@ -1,11 +1,13 @@
-use Rattle.std.proofs.Common.{ap, length, arith}
-use Rattle.ux_model.specs.State.{State}
+use Rattle.std.proofs.Common.{ap, sym, ◌∙◌, refl}
+use Rattle.std.specs.Option.{option_copied_mut}
 use Rattle.ux_desc.specs.Changes.{without_reset}
-use Rattle.ux_state.proofs.Changing.{kept_set, changed_alike}
+use Rattle.ux_state.proofs.Changing.{changed_kept, changed_alike}
 use Rattle.ux_state.proofs.state.State.clear_reset.Goals as goal
+use Rattle.ux_state.proofs.state.State.clear_reset.Goals.{in-Some, in_default}
 
 pub invariant_of-self : goal.invariant_of-self
-invariant_of-self g c =
-    let long = ap (λ S. length (State.descriptions S)) c.self.view_is in
-    kept_set _ _ _ _ _ _ c.in-Some-index_mut.x c.clear_reset.new.self c.self.invariant (omega (arith, long)) c.index_mut.ensures.value c.in-Some-index_mut.is
-    (changed_alike without_reset _ _ c.clear_reset.ensures)
+invariant_of-self g c = elim c.match-get_mut.branch [
+  | in-Some w ↦ rw w.self-inside-is (changed_kept _ _ _ _ _ _ _ w.in-Some.x.now w.clear_reset.new.self c.self.invariant (sym c.get_mut.ensures.value ∙ ap option_copied_mut w.in-Some.is) refl refl
+      (changed_alike without_reset _ _ (λ s. refl) w.clear_reset.ensures))
+  | in_default w ↦ rw w.self-inside-is c.self.invariant
+]

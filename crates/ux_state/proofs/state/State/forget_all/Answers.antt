@@ -1,11 +1,10 @@
-use Rattle.std.proofs.lemmas.List.{length-map}
-use Rattle.ux_state.proofs.CountLaws.{Counted-none}
+use Rattle.std.proofs.Common.{ap, ◌∙◌}
+use Rattle.ux_model.specs.History.{has_live}
+use Rattle.ux_state.proofs.TableCounts.{nothing_referred}
+use Rattle.ux_state.proofs.CountLaws.{forgotten_kept}
 use Rattle.ux_state.proofs.state.State.forget_all.Goals as goal
 
 pub invariant_of-self : goal.invariant_of-self
-invariant_of-self g c = record {
-  few_objects = c.self.invariant.few_objects;
-  few_processes = c.self.invariant.few_processes;
-  one_each = rw (c.uncount_all.ensures, length-map) c.self.invariant.one_each;
-  counted = rw (c.forget.ensures, c.uncount_all.ensures) (Counted-none c.self.inside.descriptions.items c.self.inside.openings.items);
-}
+invariant_of-self g c =
+    forgotten_kept _ _ _ _ _ _ _ _ c.self.invariant (nothing_referred _ _ _ _ _ c.self.invariant (ap has_live c.self.view_is ∙ c.requires))
+    c.forget.ensures.places c.forget.ensures.counts c.uncount_all.ensures

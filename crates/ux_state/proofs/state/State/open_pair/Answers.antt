@@ -1,31 +1,59 @@
-use Rattle.std.proofs.Common.{◌≡◌, ◌+◌, [], ◌∷◌, ◌++◌, ap, sym, ◌∙◌, length, Some, arith, subst, refl}
+use Rattle.std.proofs.Common.{◌-◌, ◌≡◌, ◌+◌, [], ◌∷◌, ◌++◌, length, Some, ap, refl, sym, ◌∙◌, arith}
 use Rattle.ux_model.specs.Places.{filled}
 use Rattle.ux_model.specs.Socket.{new_end}
-use Rattle.ux_model.specs.Process.{two_lowest_free}
+use Rattle.ux_model.specs.Description.{Description}
+use Rattle.ux_model.specs.Process.{Descriptor, descriptor, two_lowest_free}
+use Rattle.ux_model.specs.State.{is_live}
+use Rattle.ux_model.specs.References.{table_refs}
 use Rattle.ux_model.specs.Pairing.{socket_description}
-use Rattle.ux_state.specs.Counting.{Counted}
+use Rattle.ux_model.specs.Peers.{target_peer}
+use Rattle.ux_slots.specs.Held.{count_at}
 use Rattle.ux_state.specs.contracts.process.Process as process
-use Rattle.ux_state.proofs.Opening.{counted_sockets, kept_open, entries_put, table_is, new_two, entry_is}
+use Rattle.ux_state.proofs.Lookups.{at_view}
+use Rattle.ux_state.proofs.TableCounts.{table_kept}
+use Rattle.ux_state.proofs.Opening.{pair_opened, socket_counted, adds_from, entries_put, table_is, new_two, entry_is}
 use Rattle.ux_state.proofs.state.State.open_pair.Goals as goal
+
+pub invariant_of-self-in_default : goal.invariant_of-self-in_default
+invariant_of-self-in_default g c =
+    let live = ap (λ S. is_live S c.args.pid.0) c.self.view_is ∙ c.requires in
+    let at = at_view c.self.inside.processes.items (c.args.pid.0 - 1) _ (process.the_view c.process.inside) c.index_mut-process.ensures.value c.process.view_is in
+    table_kept _ _ _ _ _ c.self.invariant c.args.pid.0 (process.the_view c.process.inside) live at c.reserve.new.self _ c.reserve.ensures.places refl (λ k.
+    let same = ap (λ cs. count_at (record c.self.inside.slots { counts = cs }) k) c.reserve.ensures.counts in
+    let table = ap (table_refs k) c.in_default.ensures.err in
+    omega (arith, same, table))
 
 pub invariant_of-self-2 : goal.invariant_of-self-2
 invariant_of-self-2 g c =
-    let added = c.push_pair.ensures ∙ ap (λ ds. ds ++ Some (socket_description c.args.flags (new_end (length ds + 1))) ∷ [] ++ Some (socket_description c.args.flags (new_end (length ds))) ∷ []) c.reserve.ensures.items in
-    kept_open _ _ _ _ _ _ _ _ c.self.invariant refl
-    (subst (λ ds. Counted ds c.self.inside.openings.items) (sym added) (counted_sockets _ _ c.args.flags _ _ c.self.invariant.counted))
+    let live = ap (λ S. is_live S c.args.pid.0) c.self.view_is ∙ c.requires in
+    let at = at_view c.self.inside.processes.items (c.args.pid.0 - 1) _ (process.the_view c.process.inside) c.index_mut-process.ensures.value c.process.view_is in
+    let first : c.next_id-first.result ≡ length c.self.inside.slots.places = c.next_id-first.ensures ∙ ap length c.reserve.ensures.places in
+    let second : c.new-second.result ≡ length c.self.inside.slots.places + 1 = c.new-second.ensures ∙ ap (λ n. n + 1) (c.number.ensures ∙ first) in
+    pair_opened _ _ _ _ _ c.self.invariant c.args.pid.0 (process.the_view c.process.inside) live at c.insert_reserved-first.new.self c.insert_reserved-second.new.self _
+    c.in-Ok.two.0.0 c.in-Ok.two.1.0 c.new_entry.result c.new_entry-2.result c.pair_end.result c.pair_end-2.result
+    (ap (λ t. record (process.the_view c.process.inside) { table = t }) c.in-Ok.ensures.opened) c.in-Ok.ensures.lowest
+    (ap (λ e. Descriptor.description e) c.new_entry.ensures ∙ first) (ap (λ e. Descriptor.description e) c.new_entry-2.ensures ∙ second)
+    (adds_from _ c.reserve.new.self _ _ c.reserve.ensures.places c.reserve.ensures.counts c.insert_reserved-first.ensures.added) c.insert_reserved-second.ensures.added
+    (ap (λ D. target_peer (Description.target D)) c.pair_end.ensures ∙ ap (λ n. Some n) second)
+    (ap (λ D. target_peer (Description.target D)) c.pair_end-2.ensures ∙ ap (λ n. Some n) first)
+    (socket_counted _ c.args.flags _ _ c.pair_end.ensures) (socket_counted _ c.args.flags _ _ c.pair_end-2.ensures)
 
 pub returns-clause-lowest : goal.returns-clause-lowest
 returns-clause-lowest g c =
     ap two_lowest_free (sym (table_is _ c.args.self.now c.args.pid.0 c.index_mut-process.result.now (process.the_view c.process.inside) c.requires c.self.view_is c.index_mut-process.ensures.value c.process.view_is))
-    ∙ c.in_ok-low.ensures.lowest
+    ∙ c.in-Ok.ensures.lowest
 
 pub returns-clause-opened : goal.returns-clause-opened
 returns-clause-opened g c =
-    let added = c.push_pair.ensures ∙ ap (λ ds. ds ++ Some (socket_description c.args.flags (new_end (length ds + 1))) ∷ [] ++ Some (socket_description c.args.flags (new_end (length ds))) ∷ []) c.reserve.ensures.items in
+    let first : c.next_id-first.result ≡ length c.self.inside.slots.places = c.next_id-first.ensures ∙ ap length c.reserve.ensures.places in
+    let second : c.new-second.result ≡ c.next_id-first.result + 1 = c.new-second.ensures ∙ ap (λ n. n + 1) c.number.ensures in
+    let ahead = c.pair_end.ensures ∙ (λ j. socket_description c.args.flags (new_end ((second ∙ ap (λ n. n + 1) first) j))) in
+    let back = c.pair_end-2.ensures ∙ (λ j. socket_description c.args.flags (new_end (first j))) in
+    let added = c.insert_reserved-second.ensures.added.places
+    ∙ (λ j. (c.insert_reserved-first.ensures.added.places ∙ (λ i. c.reserve.ensures.places i ++ Some (ahead i) ∷ [])) j ++ Some (back j) ∷ []) in
     let table = table_is _ c.args.self.now c.args.pid.0 c.index_mut-process.result.now (process.the_view c.process.inside) c.requires c.self.view_is c.index_mut-process.ensures.value c.process.view_is in
-    let number : c.len-d.result ≡ length c.self.inside.descriptions.items = omega (arith, c.len-d.ensures, ap length c.reserve.ensures.items, c.reserve.new.self.ok.0) in
-    let first = entry_is _ c.args.self.now c.args.flags c.len-d.result (λ n. n) c.new_entry.result c.self.view_is number c.new_entry.ensures in
-    let second = entry_is _ c.args.self.now c.args.flags c.len-d.result (λ n. n + 1) c.new_entry-2.result c.self.view_is number c.new_entry-2.ensures in
+    let low = entry_is _ c.args.self.now c.args.flags c.next_id-first.result (λ n. n) c.new_entry.result c.self.view_is first c.new_entry.ensures in
+    let high = entry_is _ c.args.self.now c.args.flags c.next_id-first.result (λ n. n + 1) c.new_entry-2.result c.self.view_is first (c.new_entry-2.ensures ∙ ap (descriptor c.args.flags) second) in
     entries_put _ c.args.self.now _ c.args.pid.0 c.index_mut-process.result.now (process.the_view c.process.inside) _ _ _ c.requires c.self.view_is c.index_mut-process.ensures.value c.process.view_is
     (new_two _ c.args.self.now c.args.flags _ c.self.view_is added)
-    (c.in_ok-low.ensures.opened ∙ λ j. filled (filled (table j) c.in_ok-low.low.0 (first j)) c.in_ok-low.high.0 (second j))
+    (c.in-Ok.ensures.opened ∙ λ j. filled (filled (table j) c.in-Ok.two.0.0 (low j)) c.in-Ok.two.1.0 (high j))

@@ -1,10 +1,12 @@
-use Rattle.std.proofs.Common.{ap, length, arith}
-use Rattle.ux_model.specs.State.{State}
-use Rattle.ux_state.proofs.Changing.{kept_set, flags_alike}
+use Rattle.std.proofs.Common.{ap, sym, ◌∙◌, refl}
+use Rattle.std.specs.Option.{option_copied_mut}
+use Rattle.ux_state.proofs.Changing.{changed_kept, flags_alike}
 use Rattle.ux_state.proofs.state.State.set_flags.Goals as goal
+use Rattle.ux_state.proofs.state.State.set_flags.Goals.{in-Some, in_default}
 
 pub invariant_of-self : goal.invariant_of-self
-invariant_of-self g c =
-    let long = ap (λ S. length (State.descriptions S)) c.self.view_is in
-    kept_set _ _ _ _ _ _ c.in-Some-index_mut.x c.set_flags.new.self c.self.invariant (omega (arith, long)) c.index_mut.ensures.value c.in-Some-index_mut.is
-    (flags_alike c.args.flags c.in-Some-index_mut.x c.set_flags.new.self c.set_flags.ensures)
+invariant_of-self g c = elim c.match-get_mut.branch [
+  | in-Some w ↦ rw w.self-inside-is (changed_kept _ _ _ _ _ _ _ w.in-Some.x.now w.set_flags.new.self c.self.invariant (sym c.get_mut.ensures.value ∙ ap option_copied_mut w.in-Some.is) refl refl
+      (flags_alike c.args.flags _ _ w.set_flags.ensures))
+  | in_default w ↦ rw w.self-inside-is c.self.invariant
+]

@@ -1,0 +1,262 @@
+-- One description goes: its place is emptied, and one other is told.
+use Rattle.std.proofs.Common.{◌≡◌, ℕ, zero, suc, ◌+◌, ◌<◌, Bool, true, false, ◌&&◌, ◌||◌, ◌==◌, cond, List, [], ◌∷◌, length, get_or, map, Option, Some, None, is_some, option_map, option_and_then, sym, ◌∙◌, ap, subst, refl, zero-add, arith}
+use Rattle.std.specs.List.{list_any, enumerate_from}
+use Rattle.std.proofs.lemmas.Bool.{eqb-true, eqb-false, eq-eqb, ne_eqb, and_parts}
+use Rattle.std.proofs.lemmas.List.{get_or-map, get_or-set_same, get_or-set_other, ext_get_or, length-map, length-set}
+use Rattle.std.proofs.lemmas.List.FromFn.{length-enumerate_from, get_or-enumerate_from}
+use Rattle.std.proofs.lemmas.List.Folds.{list_any_none, list_any_at}
+use Rattle.std.proofs.lemmas.List.Elements.{All-from_get_or}
+use mathlib.Core.Bool.{or-false}
+use Rattle.ux_model.specs.Places.{place, filled, emptied}
+use Rattle.ux_model.specs.Description.{Description, Target, to_object, to_socket, socket_of}
+use Rattle.ux_model.specs.State.{State, description_at, socket_at}
+use Rattle.ux_model.specs.References.{refs}
+use Rattle.ux_model.specs.Release.{resets_peer, target_after_loss, description_after_loss, place_after_loss, without, is_unreferenced, has_unreferenced}
+use Rattle.ux_model.specs.Changes.{changed, changed_target, with_reset}
+use Rattle.ux_model.specs.Peers.{target_peer, peer_in, Paired, lost_peer, changed_place, told, OneGoes}
+use Rattle.ux_model.proofs.AnyOrder.{bool_cases, live_in, fewer_live}
+use Rattle.ux_model.proofs.Moves.{place_within}
+
+-- ---- one place
+
+changed_here : (ds : List (Option Description)) (i : ℕ) (f : Description → Description) → place (changed_place ds i f) i ≡ option_map f (place ds i)
+changed_here [] i f = refl
+changed_here (x ∷ xs) zero f = refl
+changed_here (x ∷ xs) (suc i) f = changed_here xs i f
+
+-- what stands at i, where place p was changed
+pub place-changed : (ds : List (Option Description)) (p i : ℕ) (f : Description → Description) →
+    place (changed_place ds p f) i ≡ cond (p == i) (option_map f (place ds i)) (place ds i)
+place-changed ds p i f = bool_cases (p == i)
+    (λ h. ap (λ n. place (changed_place ds n f) i) (eqb-true p i h) ∙ changed_here ds i f ∙ sym (ap (λ b. cond b (option_map f (place ds i)) (place ds i)) h))
+    (λ h. get_or-set_other ds p i (option_map f (place ds p)) None (λ e. eqb-false p i h (sym e)) ∙ sym (ap (λ b. cond b (option_map f (place ds i)) (place ds i)) h))
+
+pub length-changed : (ds : List (Option Description)) (p : ℕ) (f : Description → Description) → length (changed_place ds p f) ≡ length ds
+length-changed ds p f = length-set ds p (option_map f (place ds p))
+
+-- ---- who is told
+
+abbrev pub tells : Option ℕ → ℕ → Bool
+tells None i = false
+tells (Some p) i = p == i
+
+place-told : (l : Option ℕ) (ds : List (Option Description)) (i : ℕ) →
+    place (told l ds) i ≡ cond (tells l i) (option_map (changed with_reset) (place ds i)) (place ds i)
+place-told None ds i = refl
+place-told (Some p) ds i = place-changed ds p i (changed with_reset)
+
+length-told : (l : Option ℕ) (ds : List (Option Description)) → length (told l ds) ≡ length ds
+length-told None ds = refl
+length-told (Some p) ds = length-changed ds p (changed with_reset)
+
+-- what is told has this peer
+tells_peer : (D : Description) (i : ℕ) → tells (lost_peer D) i ≡ true → target_peer D.target ≡ Some i
+tells_peer D i = go (resets_peer (socket_of D.target)) (target_peer D.target)
+  where
+    go : (r : Bool) (l : Option ℕ) → tells (cond r l None) i ≡ true → l ≡ Some i
+    go true None h = absurd (cc h)
+    go true (Some p) h = ap Some (eqb-true p i h)
+    go false l h = absurd (cc h)
+
+-- where its peer is this one, it is told exactly if the loss resets
+tells_where : (D : Description) (i : ℕ) → target_peer D.target ≡ Some i → tells (lost_peer D) i ≡ resets_peer (socket_of D.target)
+tells_where D i h = ap (λ l. tells (cond (resets_peer (socket_of D.target)) l None) i) h ∙ go (resets_peer (socket_of D.target))
+  where
+    go : (r : Bool) → tells (cond r (Some i) None) i ≡ r
+    go true = eq-eqb i i refl
+    go false = refl
+
+untold : (D : Description) (i : ℕ) → (target_peer D.target ≡ Some i → ⊥) → tells (lost_peer D) i ≡ false
+untold D i other = bool_cases (tells (lost_peer D) i) (λ h. absurd (other (tells_peer D i h))) (λ h. h)
+
+-- a socket is reset by the loss of D exactly where it is told
+reset_as_told : (S : State) (d i peer : ℕ) (D : Description) → description_at S d ≡ Some D → (Some peer ≡ Some d → target_peer D.target ≡ Some i) → (target_peer D.target ≡ Some i → Some peer ≡ Some d) →
+    ((peer == d) && resets_peer (socket_at S peer)) ≡ tells (lost_peer D) i
+reset_as_told S d i peer D here there back = bool_cases (peer == d)
+    (λ h.
+    let e : peer ≡ d = eqb-true peer d h in
+    let socket : resets_peer (socket_at S peer) ≡ resets_peer (socket_of D.target) =
+    ap (λ n. resets_peer (socket_at S n)) e ∙ ap (λ x. resets_peer (option_and_then (λ E. socket_of (Description.target E)) x)) here in
+    ap (λ b. b && resets_peer (socket_at S peer)) h ∙ socket ∙ sym (tells_where D i (there (ap (λ n. Some n) e))))
+    (λ h. ap (λ b. b && resets_peer (socket_at S peer)) h ∙ sym (untold D i (λ q. wrong h (back q))))
+  where
+    wrong : (peer == d) ≡ false → Some peer ≡ Some d → ⊥
+    wrong h q = let e : peer ≡ d = cc q in eqb-false peer d h e
+
+-- what is left at a place that doesn't go
+told_target : (S : State) (d i : ℕ) (D : Description) (t : Target) → description_at S d ≡ Some D →
+    (target_peer t ≡ Some d → target_peer D.target ≡ Some i) → (target_peer D.target ≡ Some i → target_peer t ≡ Some d) →
+    target_after_loss (λ n. n == d) S t ≡ cond (tells (lost_peer D) i) (changed_target with_reset t) t
+told_target S d i D (to_object o) here there back = go (tells (lost_peer D) i)
+  where
+    go : (b : Bool) → to_object o ≡ cond b (to_object o) (to_object o)
+    go true = refl
+    go false = refl
+told_target S d i D (to_socket s) here there back =
+    ap (λ b. to_socket (record s { reset = s.reset || b })) (reset_as_told S d i s.peer D here there back) ∙ go (tells (lost_peer D) i)
+  where
+    always : (r : Bool) → r || true ≡ true
+    always true = refl
+    always false = refl
+
+    go : (b : Bool) → to_socket (record s { reset = s.reset || b }) ≡ cond b (to_socket (record s { reset = true })) (to_socket s)
+    go true = ap (λ r. to_socket (record s { reset = r })) (always s.reset)
+    go false = ap (λ r. to_socket (record s { reset = r })) (or-false s.reset)
+
+told_place : (S : State) (d i : ℕ) (D : Description) (x : Option Description) → Paired S.descriptions → description_at S d ≡ Some D → description_at S i ≡ x →
+    option_map (description_after_loss (λ n. n == d) S) x ≡ cond (tells (lost_peer D) i) (option_map (changed with_reset) x) x
+told_place S d i D None paired here at = go (tells (lost_peer D) i)
+  where
+    go : (b : Bool) → ◌≡◌ {A = Option Description} None (cond b None None)
+    go true = refl
+    go false = refl
+told_place S d i D (Some E) paired here at =
+    ap (λ t. Some (record E { target = t })) (told_target S d i D E.target here there back) ∙ go (tells (lost_peer D) i)
+  where
+    there : target_peer E.target ≡ Some d → target_peer D.target ≡ Some i
+    there h = sym (ap peer_in here) ∙ paired.returned i d (ap peer_in at ∙ h) (ap is_some here)
+
+    back : target_peer D.target ≡ Some i → target_peer E.target ≡ Some d
+    back h = sym (ap peer_in at) ∙ paired.returned d i (ap peer_in here ∙ h) (ap is_some at)
+
+    go : (b : Bool) → Some (record E { target = cond b (changed_target with_reset E.target) E.target }) ≡ cond b (Some (changed with_reset E)) (Some E)
+    go true = refl
+    go false = refl
+
+-- ---- all places
+
+-- the place i of a list that is numbered from 0
+numbered : {X : Type 0} (xs : List X) (i : ℕ) (d : ℕ × X) → i < length xs → get_or (enumerate_from 0 xs) i d ≡ (i, get_or xs i d.1)
+numbered xs i d inside = get_or-enumerate_from 0 xs i d inside ∙ ap (λ n. (n, get_or xs i d.1)) (zero-add i)
+
+after_loss : (S : State) (d i : ℕ) (D : Description) → Paired S.descriptions → description_at S d ≡ Some D → d < length S.descriptions →
+    place (told (lost_peer D) (emptied S.descriptions d)) i ≡ place_after_loss (λ n. n == d) S (i, description_at S i)
+after_loss S d i D paired here inside = place-told (lost_peer D) (emptied S.descriptions d) i ∙ bool_cases (i == d)
+    (λ h.
+    let gone : place (emptied S.descriptions d) i ≡ None = ap (place (emptied S.descriptions d)) (eqb-true i d h) ∙ get_or-set_same S.descriptions d None None inside in
+    ap (λ x. cond (tells (lost_peer D) i) (option_map (changed with_reset) x) x) gone ∙ nothing (tells (lost_peer D) i)
+    ∙ sym (ap (λ b. cond b None (option_map (description_after_loss (λ n. n == d) S) (description_at S i))) h))
+    (λ h.
+    let still : place (emptied S.descriptions d) i ≡ description_at S i = get_or-set_other S.descriptions d i None None (eqb-false i d h) in
+    ap (λ x. cond (tells (lost_peer D) i) (option_map (changed with_reset) x) x) still
+    ∙ sym (told_place S d i D (description_at S i) paired here refl)
+    ∙ sym (ap (λ b. cond b None (option_map (description_after_loss (λ n. n == d) S) (description_at S i))) h))
+  where
+    nothing : (b : Bool) → cond b (option_map (changed with_reset) None) None ≡ None
+    nothing true = refl
+    nothing false = refl
+
+-- its place is emptied, and its peer told: that is the definitions' loss
+pub one_goes : OneGoes
+one_goes S d D paired here =
+    let inside : d < length S.descriptions = place_within S.descriptions d D here in
+    let long : length (told (lost_peer D) (emptied S.descriptions d)) ≡ length S.descriptions = length-told (lost_peer D) (emptied S.descriptions d) ∙ length-set S.descriptions d None in
+    let long' : length (map (place_after_loss (λ n. n == d) S) (enumerate_from 0 S.descriptions)) ≡ length S.descriptions = length-map (enumerate_from 0 S.descriptions) (place_after_loss (λ n. n == d) S) ∙ length-enumerate_from 0 S.descriptions in
+    ext_get_or None _ _ (long ∙ sym long') (λ i h.
+    let at : i < length S.descriptions = subst (λ n. i < n) long h in
+    let at_all : i < length (enumerate_from 0 S.descriptions) = subst (λ n. i < n) (sym (length-enumerate_from 0 S.descriptions)) at in
+    after_loss S d i D paired here inside ∙
+    sym (get_or-map (place_after_loss (λ n. n == d) S) (enumerate_from 0 S.descriptions) i (0, None) None at_all ∙
+    ap (place_after_loss (λ n. n == d) S) (numbered S.descriptions i (0, None) at)))
+
+-- ---- who is whose peer
+
+peer-reset : (x : Option Description) → peer_in (option_map (changed with_reset) x) ≡ peer_in x
+peer-reset None = refl
+peer-reset (Some D) = by_target D.target
+  where
+    by_target : (t : Target) → target_peer (changed_target with_reset t) ≡ target_peer t
+    by_target (to_object o) = refl
+    by_target (to_socket s) = refl
+
+some-map : {X : Type 0} (f : X → X) (x : Option X) → is_some (option_map f x) ≡ is_some x
+some-map f None = refl
+some-map f (Some x) = refl
+
+-- peers stay as they are where each place names the same
+pub paired-alike : (ds es : List (Option Description)) → length es ≡ length ds → ((n : ℕ) → peer_in (place es n) ≡ peer_in (place ds n)) → ((n : ℕ) → is_some (place es n) ≡ is_some (place ds n)) →
+    Paired ds → Paired es
+paired-alike ds es long peer held paired = record {
+  returned = λ i q e there. peer q ∙ paired.returned i q (sym (peer i) ∙ e) (sym (held q) ∙ there);
+  known = λ i q e. let a = paired.known i q (sym (peer i) ∙ e) in omega (arith, a, long);
+}
+
+-- as where one changes
+pub paired-changed : (ds : List (Option Description)) (p : ℕ) (f : Description → Description) → ((x : Option Description) → peer_in (option_map f x) ≡ peer_in x) → Paired ds → Paired (changed_place ds p f)
+paired-changed ds p f same = paired-alike ds (changed_place ds p f) (length-changed ds p f)
+    (λ n. ap peer_in (place-changed ds p n f) ∙ either n peer_in (same (place ds n)))
+    (λ n. ap is_some (place-changed ds p n f) ∙ either n is_some (some-map f (place ds n)))
+  where
+    either : {Y : Type 0} (n : ℕ) (g : Option Description → Y) → g (option_map f (place ds n)) ≡ g (place ds n) → g (cond (p == n) (option_map f (place ds n)) (place ds n)) ≡ g (place ds n)
+    either n g e = elim (p == n) as (λ b. g (cond b (option_map f (place ds n)) (place ds n)) ≡ g (place ds n)) [ true ↦ e | false ↦ refl ]
+
+-- or is put again
+pub paired-filled : (ds : List (Option Description)) (d : ℕ) (x y : Description) → place ds d ≡ Some x → target_peer y.target ≡ target_peer x.target → Paired ds → Paired (filled ds d y)
+paired-filled ds d x y here same = paired-alike ds (filled ds d y) (length-set ds d (Some y))
+    (λ n. at n peer_in (same ∙ sym (ap peer_in here)))
+    (λ n. at n is_some (sym (ap is_some here)))
+  where
+    at : {Y : Type 0} (n : ℕ) (g : Option Description → Y) → g (Some y) ≡ g (place ds d) → g (place (filled ds d y) n) ≡ g (place ds n)
+    at n g e = bool_cases (n == d)
+        (λ h. let q : n ≡ d = eqb-true n d h in
+        ap (λ m. g (place (filled ds d y) m)) q ∙ ap g (get_or-set_same ds d (Some y) None (place_within ds d x here)) ∙ e ∙ ap (λ m. g (place ds m)) (sym q))
+        (λ h. ap g (get_or-set_other ds d n (Some y) None (eqb-false n d h)))
+
+pub paired-emptied : (ds : List (Option Description)) (d : ℕ) → d < length ds → Paired ds → Paired (emptied ds d)
+paired-emptied ds d inside paired = record {
+  returned = λ i q e there. bool_cases (q == d)
+      (λ g. absurd (cc (there, ap is_some (ap (place (emptied ds d)) (eqb-true q d g) ∙ get_or-set_same ds d None None inside))))
+      (λ g.
+      let at_q : place (emptied ds d) q ≡ place ds q = get_or-set_other ds d q None None (eqb-false q d g) in
+      ap peer_in at_q ∙ paired.returned i q (before i q e) (sym (ap is_some at_q) ∙ there));
+  known = λ i q e. let a = paired.known i q (before i q e) in let b = length-set ds d None in omega (arith, a, b);
+}
+  where
+    before : (i q : ℕ) → peer_in (place (emptied ds d) i) ≡ Some q → peer_in (place ds i) ≡ Some q
+    before i q e = bool_cases (i == d)
+        (λ h. absurd (cc (e, ap peer_in (ap (place (emptied ds d)) (eqb-true i d h) ∙ get_or-set_same ds d None None inside))))
+        (λ h. sym (ap peer_in (get_or-set_other ds d i None None (eqb-false i d h))) ∙ e)
+
+pub paired-told : (l : Option ℕ) (ds : List (Option Description)) → Paired ds → Paired (told l ds)
+paired-told None ds paired = paired
+paired-told (Some p) ds paired = paired-changed ds p (changed with_reset) peer-reset paired
+
+-- ---- again and again
+
+off : (b : Bool) → b && false ≡ false
+off true = refl
+off false = refl
+
+-- none is left where no count is 0
+pub none_unreferenced : (S : State) → ((k : ℕ) → is_some (description_at S k) ≡ true → 0 < refs S k) → has_unreferenced S ≡ false
+none_unreferenced S each = list_any_none (λ e. is_unreferenced S e.0) (enumerate_from 0 S.descriptions)
+    (All-from_get_or (λ e. is_unreferenced S e.0 ≡ false) (enumerate_from 0 S.descriptions) (0, None) (λ i h.
+    let inside : i < length S.descriptions = subst (λ n. i < n) (length-enumerate_from 0 S.descriptions) h in
+    ap (λ e. is_unreferenced S e.0) (numbered S.descriptions i (0, None) inside) ∙ at i))
+  where
+    at : (i : ℕ) → is_unreferenced S i ≡ false
+    at i = bool_cases (is_some (description_at S i))
+        (λ h. let more : 0 < refs S i = each i h in
+        let ne : (refs S i == 0) ≡ false = ne_eqb (refs S i) 0 (λ e. omega (arith, e, more)) in
+        ap (λ b. is_some (description_at S i) && b) ne ∙ off (is_some (description_at S i)))
+        (λ h. ap (λ b. b && (refs S i == 0)) h)
+
+pub unreferenced : (S : State) (d : ℕ) (D : Description) → description_at S d ≡ Some D → refs S d ≡ 0 → is_unreferenced S d ≡ true
+unreferenced S d D here none = ap (λ b. b && (refs S d == 0)) (ap is_some here) ∙ eq-eqb (refs S d) 0 none
+
+pub fewer_live_without : (S : State) (d : ℕ) → is_unreferenced S d ≡ true → live_in (State.descriptions (without (λ n. n == d) S)) < live_in S.descriptions
+unfolding without
+fewer_live_without S d e =
+    let some : is_some (description_at S d) ≡ true = (and_parts _ _ e).0 in
+    let inside : d < length S.descriptions = within S.descriptions d some in
+    let found : list_any (λ e. e.0 == d) (enumerate_from 0 S.descriptions) ≡ true =
+    list_any_at (λ e. e.0 == d) (enumerate_from 0 S.descriptions) d (0, None)
+    (subst (λ n. d < n) (sym (length-enumerate_from 0 S.descriptions)) inside)
+    (ap (λ e. e.0 == d) (numbered S.descriptions d (0, None) inside) ∙ eq-eqb d d refl) in
+    let fewer = fewer_live (λ n. n == d) S 0 S.descriptions (λ n h. let same : n ≡ d = let q : 0 + n ≡ d = eqb-true (0 + n) d h in omega (arith, q) in ap (λ m. is_some (description_at S m)) same ∙ some) found in
+    omega (arith, fewer)
+  where
+    within : (ds : List (Option Description)) (n : ℕ) → is_some (place ds n) ≡ true → n < length ds
+    within [] n h = absurd (cc h)
+    within (x ∷ xs) zero h = omega arith
+    within (x ∷ xs) (suc n) h = let r = within xs n h in omega (arith, r)

@@ -1,0 +1,138 @@
+-- One description goes.
+use Rattle.std.proofs.Common.{◌≡◌, ℕ, zero, suc, ◌+◌, ◌<◌, ◌==◌, Bool, ◌&&◌, true, false, List, [], ◌∷◌, length, map, Option, Some, None, option_map, refl, sym, ◌∙◌, ap, arith}
+use Rattle.std.specs.Prelude.{count_by, sum_by, IsSome}
+use Rattle.std.proofs.lemmas.List.Sums.{sum_by-cons, sum_by-set}
+use Rattle.ux_model.specs.Types.{Mode, Name}
+use Rattle.ux_model.specs.Flags.{can_read, can_write}
+use Rattle.ux_model.specs.Places.{place, emptied}
+use Rattle.ux_model.specs.Object.{View}
+use Rattle.ux_model.specs.Socket.{Socket}
+use Rattle.ux_model.specs.Description.{Description, Target, to_object, to_socket}
+use Rattle.ux_model.specs.Process.{Process}
+use Rattle.ux_model.specs.References.{leads_to}
+use Rattle.ux_model.specs.Release.{without, is_unreferenced, has_unreferenced}
+use Rattle.ux_model.specs.Files.{is_opening}
+use Rattle.ux_model.specs.Changes.{changed, changed_target, with_reset}
+use Rattle.ux_model.specs.Peers.{lost_peer, changed_place, told}
+use Rattle.ux_model.proofs.AnyOrder.{live_in}
+use Rattle.ux_model.proofs.Moves.{place_within}
+use Rattle.ux_model.proofs.OneGoes.{one_goes, paired-emptied, paired-told, none_unreferenced, unreferenced}
+use Rattle.ux_slots.specs.Held.{Held, count_at, IsNoneDead}
+use Rattle.ux_state.specs.declared.openings.Openings.{Openings}
+use Rattle.ux_state.specs.Counting.{one_if, Counted, CountsOneMore, IsAmong}
+use Rattle.ux_state.specs.Keeping.{state_of, IsState}
+use Rattle.ux_state.proofs.TableCounts.{same_refs}
+
+-- ---- what is open
+
+-- what one place counts
+abbrev opens : (Mode → Bool) → ℕ → Option Description → ℕ
+opens allows o x = one_if (is_opening allows o x)
+
+-- one that changes its socket is open for the same
+same_opening : (change : Socket → Socket) (allows : Mode → Bool) (o : ℕ) (x : Option Description) → opens allows o (option_map (changed change) x) ≡ opens allows o x
+same_opening change allows o None = refl
+same_opening change allows o (Some D) = ap (λ b. one_if (b && allows D.mode)) (by_target D.target)
+  where
+    by_target : (t : Target) → leads_to o (changed_target change t) ≡ leads_to o t
+    by_target (to_object n) = refl
+    by_target (to_socket s) = refl
+
+sum_by-changed : (g : Option Description → ℕ) (f : Description → Description) → ((x : Option Description) → g (option_map f x) ≡ g x) → (ds : List (Option Description)) (p : ℕ) → sum_by g (changed_place ds p f) ≡ sum_by g ds
+sum_by-changed g f same [] p = refl
+sum_by-changed g f same (x ∷ xs) zero = sum_by-cons g (option_map f x) xs ∙ ap (λ n. n + sum_by g xs) (same x) ∙ sym (sum_by-cons g x xs)
+sum_by-changed g f same (x ∷ xs) (suc p) = sum_by-cons g x (changed_place xs p f) ∙ ap (λ n. g x + n) (sum_by-changed g f same xs p) ∙ sym (sum_by-cons g x xs)
+
+told_opens : (allows : Mode → Bool) (o : ℕ) (l : Option ℕ) (ds : List (Option Description)) → count_by (is_opening allows o) (told l ds) ≡ count_by (is_opening allows o) ds
+told_opens allows o None ds = refl
+told_opens allows o (Some p) ds = sum_by-changed (opens allows o) (changed with_reset) (same_opening with_reset allows o) ds p
+
+-- without d, which was D, and its peer told
+left_opens : (allows : Mode → Bool) (o d : ℕ) (D : Description) (ds : List (Option Description)) → place ds d ≡ Some D →
+    count_by (is_opening allows o) (told (lost_peer D) (emptied ds d)) + opens allows o (Some D) ≡ count_by (is_opening allows o) ds
+left_opens allows o d D ds here =
+    let a = told_opens allows o (lost_peer D) (emptied ds d) in
+    let b = sum_by-set (opens allows o) ds d None None (place_within ds d D here) in
+    let c : opens allows o (place ds d) ≡ opens allows o (Some D) = ap (opens allows o) here in
+    omega (arith, a, b, c)
+
+pub counted_among : (ds : List (Option Description)) (xs : List Openings) (d : ℕ) (D : Description) → place ds d ≡ Some D → Counted ds xs → IsAmong D xs
+counted_among ds xs d D here counted = record {
+  readers = λ o h. let a = counted.readers o h in let b = left_opens can_read o d D ds here in omega (arith, a, b);
+  writers = λ o h. let a = counted.writers o h in let b = left_opens can_write o d D ds here in omega (arith, a, b);
+}
+
+pub counted_left : (ds : List (Option Description)) (xs ys : List Openings) (d : ℕ) (D : Description) → place ds d ≡ Some D → Counted ds xs → CountsOneMore D ys xs → Counted (told (lost_peer D) (emptied ds d)) ys
+counted_left ds xs ys d D here counted more = record {
+  readers = λ o h.
+      let inside : o < length xs = let long = more.long in omega (arith, long, h) in
+      let a = counted.readers o inside in let b = left_opens can_read o d D ds here in let c = more.readers o h in omega (arith, a, b, c);
+  writers = λ o h.
+      let inside : o < length xs = let long = more.long in omega (arith, long, h) in
+      let a = counted.writers o inside in let b = left_opens can_write o d D ds here in let c = more.writers o h in omega (arith, a, b, c);
+}
+
+-- ---- the state
+
+module _ (xs : List Openings) (H : Held Description) (os : List (Option View)) (ps : List Process) (paths : List (Name × ℕ)) (state : IsState xs H (state_of os H ps paths)) where
+  pub left_kept : (ys : List Openings) (K : Held Description) (d : ℕ) (D : Description) → place H.places d ≡ Some D → K.places ≡ told (lost_peer D) (emptied H.places d) → K.counts ≡ H.counts →
+      CountsOneMore D ys xs → IsState ys K (state_of os K ps paths)
+  left_kept ys K d D here places counts more = record {
+    few_objects = state.few_objects;
+    few_processes = state.few_processes;
+    one_each = sym more.long ∙ state.one_each;
+    opened = rw places (counted_left H.places xs ys d D here state.opened more);
+    counted = λ k. ap (λ cs. count_at (record H { counts = cs }) k) counts ∙ state.counted k ∙ sym (same_refs os H K ps paths k);
+    paired = rw places (paired-told (lost_peer D) (emptied H.places d) (paired-emptied H.places d (place_within H.places d D here) state.paired));
+    closed = state.closed;
+  }
+
+  pub is_without : (K : Held Description) (d : ℕ) (D : Description) → place H.places d ≡ Some D → K.places ≡ told (lost_peer D) (emptied H.places d) →
+      state_of os K ps paths ≡ without (λ n. n == d) (state_of os H ps paths)
+  unfolding without
+  is_without K d D here places =
+      let all = places ∙ one_goes (state_of os H ps paths) d D state.paired here in
+      λ j. record { objects = os; descriptions = all j; processes = ps; paths = paths }
+
+  pub was_dead : (d : ℕ) (D : Description) → place H.places d ≡ Some D → count_at H d ≡ 0 → is_unreferenced (state_of os H ps paths) d ≡ true
+  was_dead d D here none = unreferenced (state_of os H ps paths) d D here (sym (state.counted d) ∙ none)
+
+  pub none_dead : IsNoneDead H → has_unreferenced (state_of os H ps paths) ≡ false
+  none_dead each = none_unreferenced (state_of os H ps paths) (λ k some. let a = each k some in let b = state.counted k in omega (arith, a, b))
+
+-- ---- all go
+
+live_in-emptied : (ds : List (Option Description)) (d : ℕ) (D : Description) → place ds d ≡ Some D → live_in (emptied ds d) < live_in ds
+live_in-emptied [] d D e = absurd (cc e)
+live_in-emptied (None ∷ xs) zero D e = absurd (cc e)
+live_in-emptied (Some x ∷ xs) zero D e = omega arith
+live_in-emptied (None ∷ xs) (suc d) D e = live_in-emptied xs d D e
+live_in-emptied (Some x ∷ xs) (suc d) D e = let h = live_in-emptied xs d D e in omega (arith, h)
+
+-- places that are all empty
+all_empty : (ds : List (Option Description)) → ((d : ℕ) → IsSome (place ds d) → ⊥) → ds ≡ map (λ _. None) ds
+all_empty [] none = refl
+all_empty (None ∷ xs) none = ap (λ l. None ∷ l) (all_empty xs (λ d. none (suc d)))
+all_empty (Some x ∷ xs) none = absurd (none 0 refl)
+
+emptied_alike : (ds : List (Option Description)) (d : ℕ) → map (λ _. None) (emptied ds d) ≡ map {B = Option Description} (λ _. None) ds
+emptied_alike [] d = refl
+emptied_alike (x ∷ xs) zero = refl
+emptied_alike (x ∷ xs) (suc d) = ap (λ l. None ∷ l) (emptied_alike xs d)
+
+pub fewer_left : (H K : Held Description) (d : ℕ) (D : Description) → place H.places d ≡ Some D → K.places ≡ emptied H.places d → live_in K.places < live_in H.places
+fewer_left H K d D here taken = rw taken (live_in-emptied H.places d D here)
+
+pub still_alike : (ds : List (Option Description)) (H K : Held Description) (d : ℕ) → K.places ≡ emptied H.places d → map (λ _. None) H.places ≡ map {B = Option Description} (λ _. None) ds →
+    map (λ _. None) K.places ≡ map {B = Option Description} (λ _. None) ds
+still_alike ds H K d taken alike = ap (map (λ _. None)) taken ∙ emptied_alike H.places d ∙ alike
+
+pub none_counted : (H K : Held Description) → K.counts ≡ H.counts → ((d : ℕ) → count_at H d ≡ 0) → (d : ℕ) → count_at K d ≡ 0
+none_counted H K same none d = ap (λ cs. count_at (record H { counts = cs }) d) same ∙ none d
+
+-- where none is dead and nothing counts, none is there
+pub none_left : (ds : List (Option Description)) (H K : Held Description) → K ≡ H → IsNoneDead H → ((d : ℕ) → count_at H d ≡ 0) → map (λ _. None) H.places ≡ map {B = Option Description} (λ _. None) ds →
+    K.places ≡ map (λ _. None) ds
+none_left ds H K same each none alike =
+    ap (λ (h : Held Description). h.places) same
+    ∙ all_empty H.places (λ d there. let a = each d there in let b = none d in omega (arith, a, b)) ∙ alike

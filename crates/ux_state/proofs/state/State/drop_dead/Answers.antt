@@ -1,0 +1,29 @@
+use Rattle.std.proofs.Common.{◌==◌, ap, refl, sym, ◌∙◌}
+use Rattle.ux_model.specs.Release.{is_unreferenced, has_unreferenced, without}
+use Rattle.ux_model.specs.Peers.{told}
+use Rattle.ux_state.specs.Keeping.{state_of}
+use Rattle.ux_state.proofs.Dropping.{counted_among, left_kept, is_without, was_dead, none_dead}
+use Rattle.ux_state.proofs.state.State.drop_dead.Goals as goal
+
+pub returns-in_default : goal.returns-in_default
+returns-in_default g c = (
+  ap (λ h. state_of c.self.inside.objects.items h c.self.inside.processes.items c.self.inside.paths.items) c.in_default.ensures.unchanged ∙ c.self.view_is,
+  ap has_unreferenced (sym c.self.view_is) ∙ none_dead _ _ _ _ _ c.self.invariant (c.in_default.ensures.none.0 refl),
+)
+
+pub count_out-requires : goal.count_out-requires
+count_out-requires g c = counted_among _ _ c.in-Some.gone.0 c.in-Some.gone.1 c.in-Some.ensures.dead c.self.invariant.opened
+
+pub invariant_of-self-2 : goal.invariant_of-self-2
+invariant_of-self-2 g c =
+    left_kept _ _ _ _ _ c.self.invariant _ c.tell.new.slots c.in-Some.gone.0 c.in-Some.gone.1 c.in-Some.ensures.dead
+    (c.tell.ensures.places ∙ (λ j. told (c.lost_peer.ensures j) (c.in-Some.ensures.taken j)))
+    (c.tell.ensures.counts ∙ c.in-Some.ensures.counts) c.count_out.ensures
+
+pub returns : goal.returns
+returns g c = (
+  ap (λ S. is_unreferenced S c.in-Some.gone.0) (sym c.self.view_is) ∙ was_dead _ _ _ _ _ c.self.invariant c.in-Some.gone.0 c.in-Some.gone.1 c.in-Some.ensures.dead c.in-Some.ensures.uncounted,
+  is_without _ _ _ _ _ c.self.invariant c.tell.new.slots c.in-Some.gone.0 c.in-Some.gone.1 c.in-Some.ensures.dead
+      (c.tell.ensures.places ∙ (λ j. told (c.lost_peer.ensures j) (c.in-Some.ensures.taken j)))
+      ∙ ap (without (λ n. n == c.in-Some.gone.0)) c.self.view_is,
+)
