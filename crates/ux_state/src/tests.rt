@@ -3,6 +3,7 @@
 use super::*;
 use arrayvec::ArrayVec;
 use bstr::BString;
+use hoard::Hoard;
 use std::alloc::{AllocError, Global};
 use std::process::Abort;
 use std::test::Fail;
@@ -40,12 +41,24 @@ fn descriptor(description: u128, cloexec: bool) -> Descriptor {
 /// The first state with these two file objects under the paths `a` and `b`, and with two processes,
 /// which may have four descriptors and one.
 fn start<O: FileObject>(rt: &impl Abort, alloc: Global, a: O, b: O) -> Result<State<O>, Fail> {
+    start_with(rt, alloc, a, b, &[process(4), process(1)])
+}
+
+/// The same with these processes.
+fn start_with<O: FileObject>(
+    rt: &impl Abort,
+    alloc: Global,
+    a: O,
+    b: O,
+    procs: &[ProcSpec],
+) -> Result<State<O>, Fail> {
+    assert!(rt; procs.len() <= 64);
     assert!(rt; a.is_open());
     assert!(rt; b.is_open());
     let mut objects = Vec::new(alloc);
     objects.push((name(alloc, b"a")?, a))?;
     objects.push((name(alloc, b"b")?, b))?;
-    match State::new(alloc, objects, &[process(4), process(1)]) {
+    match State::new(alloc, objects, procs) {
         Ok(state) => Ok(state),
         Err(_) => Err(AllocError)?,
     }
@@ -95,6 +108,7 @@ fn end<O: FileObject>(rt: &impl Abort, state: &mut State<O>, pid: u32) {
 /// Puts an entry at the lowest free number of process 1, which is this one.
 fn put_lowest<O: FileObject>(rt: &impl Abort, state: &mut State<O>, entry: Descriptor, fd: u32) {
     assert!(rt; state.is_live(Pid(1)));
+    assert!(rt; state.count(entry.description) > 0);
     let put = state.put_lowest(Pid(1), entry);
     assert!(rt; put == Ok(Fd(fd)));
 }
@@ -108,6 +122,7 @@ fn put_copy_at<O: FileObject>(
     answer: Result<(), DupError>,
 ) {
     assert!(rt; state.is_live(Pid(1)));
+    assert!(rt; state.count(entry.description) > 0);
     let put = state.put_copy_at(Pid(1), Fd(fd), entry);
     assert!(rt; put == answer);
 }
@@ -330,6 +345,9 @@ fn entries_are_put_and_taken(rt: HostRuntime) -> Result<(), Fail> {
     expect_entry(&rt, s, 1, None);
     expect_entry(&rt, s, 2, Some(descriptor(1, true)));
     put_lowest(&rt, s, descriptor(1, false), 1);
+    assert!(rt; s.count(DescriptionId::new(0)) == 2);
+    assert!(rt; s.count(DescriptionId::new(1)) == 2);
+    assert!(rt; s.count(DescriptionId::new(2)) == 0);
     Ok(())
 }
 
@@ -404,12 +422,79 @@ fn all_goes_at_the_end(rt: HostRuntime) -> Result<(), Fail> {
     append(&rt, alloc, s, 1, b"abc")?;
     end(&rt, s, 1);
     end(&rt, s, 2);
-    assert!(rt; !s.has_live());
     settle(&rt, s, &[]);
+    assert!(rt; !s.has_live());
     s.forget_all();
     settle(&rt, s, &[0, 1]);
     settle(&rt, s, &[]);
     assert!(rt; s.process_count() == 2);
     assert!(rt; s.path(&name(alloc, b"a")?).is_none());
+    Ok(())
+}
+
+/// Makes two connected sockets of process 1, if there is memory.
+fn opens_pair<O: FileObject>(state: &mut State<O>) -> bool {
+    state.is_live(Pid(1)) && state.open_pair(Pid(1), OpenFlags(0)).is_ok()
+}
+
+#[test]
+fn pairs_with_unread_bytes_leave_no_slot_taken(rt: HostRuntime) -> Result<(), Fail> {
+    let alloc = rt.alloc();
+    let mut state = start_with_files(&rt, alloc)?;
+    let s = &mut state;
+    for pair in 0..10_000u32 {
+        open_pair(&rt, s, 0, 1);
+        append(&rt, alloc, s, 2 * pair as u128 + 1, b"x")?;
+        close(&rt, s, 1, 0);
+        close(&rt, s, 1, 1);
+        settle(&rt, s, &[]);
+    }
+    let hoard = Hoard::take_all(alloc)?;
+    let opened = opens_pair(s);
+    drop(hoard);
+    assert!(rt; opened);
+    expect_socket(&rt, s, 1, Ok((20_001, 20_000)));
+    Ok(())
+}
+
+#[test]
+fn a_state_settles_under_refused_memory(rt: HostRuntime) -> Result<(), Fail> {
+    let alloc = rt.alloc();
+    let mut state = start(&rt, alloc, Counter::new(), Counter::new())?;
+    let s = &mut state;
+    open(&rt, s, 1, 0, Mode::Both, Ok(Fd(0)));
+    open_pair(&rt, s, 1, 2);
+    append(&rt, alloc, s, 2, b"abc")?;
+    s.unlink(&name(alloc, b"a")?);
+    close(&rt, s, 1, 0);
+    close(&rt, s, 1, 2);
+    let hoard = Hoard::take_all(alloc)?;
+    let retired = s.settle();
+    let opened = opens_pair(s);
+    drop(hoard);
+    assert!(rt; retired.len() == 1);
+    assert!(rt; s.object(0).is_none());
+    assert!(rt; s.socket(DescriptionId::new(2)).is_none());
+    expect_queue(&rt, alloc, s, 1, b"", true)?;
+    assert!(rt; opened);
+    Ok(())
+}
+
+#[test]
+fn a_process_of_64_opens_1024_descriptors_and_exits(rt: HostRuntime) -> Result<(), Fail> {
+    let alloc = rt.alloc();
+    let procs = vec![in alloc; process(1024); 64]?;
+    let mut state = start_with(&rt, alloc, Counter::new(), Counter::new(), &procs)?;
+    let s = &mut state;
+    for fd in 0..1024 {
+        open(&rt, s, 64, 0, Mode::Read, Ok(Fd(fd)));
+    }
+    open(&rt, s, 64, 0, Mode::Read, Err(InstallError::Full));
+    expect_openings(&rt, s, 0, true, false);
+    end(&rt, s, 64);
+    settle(&rt, s, &[]);
+    expect_openings(&rt, s, 0, false, false);
+    assert!(rt; s.description(DescriptionId::new(1023)).is_none());
+    assert!(rt; s.is_live(Pid(63)));
     Ok(())
 }

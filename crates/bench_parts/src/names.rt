@@ -1,0 +1,222 @@
+//! Names of the abstract namespace.
+use crate::measuring::{Batch, nanos};
+use anyhow::{Result, anyhow};
+use bstr::BString;
+use std::alloc::{AllocError, Global};
+use std::rt::Clock;
+use ux_names::AbstractNames;
+use ux_types::{DescriptionId, Name};
+
+/// How often a batch is measured.
+const ROUNDS: u32 = 100;
+
+/// How often a batch is measured in which the oldest names go.
+const SLOW_ROUNDS: u32 = 5;
+
+/// The calls of a batch.
+const CALLS: u32 = 16;
+
+/// What is measured.
+#[derive(Clone, Copy, Drop)]
+enum Step {
+    Bind,
+    Find,
+    Autobind,
+    ReleaseNewest,
+    ReleaseOldest,
+}
+
+/// Names in use.
+#[derive(Drop)]
+struct Crowd {
+    alloc: Global,
+    names: AbstractNames,
+    /// How many stay in use.
+    count: usize,
+    /// The names of the next batch.
+    chosen: Vec<Name>,
+    step: Step,
+}
+
+/// The description of every name.
+fn description() -> DescriptionId {
+    DescriptionId::new(7)
+}
+
+/// Names that autobind doesn't give.
+fn other_names(alloc: Global) -> Result<Vec<Name>, AllocError> {
+    let mut names = Vec::new(alloc);
+    for number in 0..CALLS {
+        let text = format!(in alloc; "service-{number}")?;
+        names.push(Name::new(BString::from_slice(alloc, text.as_bytes())?))?;
+    }
+    Ok(names)
+}
+
+/// The place in the order of binding of a batch's name.
+fn place_of(step: Step, call: usize, len: usize) -> usize {
+    match step {
+        Step::ReleaseOldest => call,
+        Step::ReleaseNewest => len.saturating_sub(call).saturating_sub(1),
+        _ => call.saturating_mul(len) / CALLS as usize,
+    }
+}
+
+/// Copies of the names of a batch.
+fn choose(alloc: Global, names: &AbstractNames, step: Step) -> Result<Vec<Name>, AllocError> {
+    let mut chosen = Vec::new(alloc);
+    for call in 0..CALLS as usize {
+        if let Some((name, _)) = names.get_index(place_of(step, call, names.len())) {
+            chosen.push(name.clone()?)?;
+        }
+    }
+    Ok(chosen)
+}
+
+/// Gives names until so many are in use, and answers how many were given.
+fn autobind_to(names: &mut AbstractNames, count: usize) -> u32 {
+    let mut granted: u32 = 0;
+    for _ in names.len()..count {
+        let given = names.autobind(description()).is_ok();
+        granted = granted.saturating_add(u32::from(given));
+    }
+    granted
+}
+
+/// Binds these names.
+fn bind_all(names: &mut AbstractNames, chosen: &mut Vec<Name>) -> u32 {
+    let mut granted: u32 = 0;
+    for _ in 0..CALLS {
+        if let Some(name) = chosen.pop() {
+            let bound = names.bind(name, description()).is_ok();
+            granted = granted.saturating_add(u32::from(bound));
+        }
+    }
+    granted
+}
+
+/// Finds these names.
+fn find_all(names: &AbstractNames, chosen: &[Name]) -> u32 {
+    let mut granted: u32 = 0;
+    for name in chosen {
+        let found = names.find(name) == Some(description());
+        granted = granted.saturating_add(u32::from(found));
+    }
+    granted
+}
+
+/// Takes these names away.
+fn release_all(names: &mut AbstractNames, chosen: &[Name]) -> u32 {
+    let mut granted: u32 = 0;
+    for name in chosen {
+        let released = names.release(name).is_some();
+        granted = granted.saturating_add(u32::from(released));
+    }
+    granted
+}
+
+/// Takes away as many of the newest names as a batch has calls.
+fn release_newest(alloc: Global, names: &mut AbstractNames) -> Result<(), AllocError> {
+    let newest = choose(alloc, names, Step::ReleaseNewest)?;
+    let _ = release_all(names, newest.as_slice());
+    Ok(())
+}
+
+impl Crowd {
+    /// With so many names in use.
+    fn new(alloc: Global, count: usize) -> Result<Crowd> {
+        let mut names = AbstractNames::new(alloc)?;
+        let given = autobind_to(&mut names, count);
+        if names.len() != count {
+            return Err(anyhow!("only {given} names were given"));
+        }
+        Ok(Crowd {
+            alloc,
+            names,
+            count,
+            chosen: Vec::new(alloc),
+            step: Step::Bind,
+        })
+    }
+
+    /// How many names are in use when those of a batch are.
+    fn full(&self) -> usize {
+        self.count.saturating_add(CALLS as usize)
+    }
+
+    /// Has no more names in use than those that stay.
+    fn thin(&mut self) -> Result<(), AllocError> {
+        if self.names.len() > self.count {
+            release_newest(self.alloc, &mut self.names)?;
+        }
+        Ok(())
+    }
+}
+
+impl Batch for Crowd {
+    fn calls(&self) -> u32 {
+        CALLS
+    }
+
+    fn prepare(&mut self) -> Result<()> {
+        match self.step {
+            Step::Bind => {
+                self.thin()?;
+                self.chosen = other_names(self.alloc)?;
+            }
+            Step::Autobind => self.thin()?,
+            _ => {
+                let full = self.full();
+                let _ = autobind_to(&mut self.names, full);
+                self.chosen = choose(self.alloc, &self.names, self.step)?;
+            }
+        }
+        Ok(())
+    }
+
+    fn run(&mut self) -> u32 {
+        match self.step {
+            Step::Bind => bind_all(&mut self.names, &mut self.chosen),
+            Step::Find => find_all(&self.names, self.chosen.as_slice()),
+            Step::Autobind => {
+                let full = self.full();
+                autobind_to(&mut self.names, full)
+            }
+            _ => release_all(&mut self.names, self.chosen.as_slice()),
+        }
+    }
+}
+
+/// The time of a step, in the quickest of so many rounds.
+fn measure_step<R: Clock>(rt: &R, rounds: u32, crowd: &mut Crowd, step: Step) -> Result<u128> {
+    crowd.step = step;
+    nanos(rt, rounds, crowd)
+}
+
+/// Prints the times of names that come.
+fn measure_coming<R: Clock + Eprint>(rt: &R, crowd: &mut Crowd) -> Result<()> {
+    let bind = measure_step(rt, ROUNDS, crowd, Step::Bind)?;
+    let autobind = measure_step(rt, ROUNDS, crowd, Step::Autobind)?;
+    let find = measure_step(rt, ROUNDS, crowd, Step::Find)?;
+    let count = crowd.count;
+    eprintln!(rt; "names, {count} in use: bind {bind} ns, autobind {autobind} ns, find {find} ns")?;
+    Ok(())
+}
+
+/// Prints the times of names that go.
+fn measure_going<R: Clock + Eprint>(rt: &R, crowd: &mut Crowd) -> Result<()> {
+    let newest = measure_step(rt, ROUNDS, crowd, Step::ReleaseNewest)?;
+    let oldest = measure_step(rt, SLOW_ROUNDS, crowd, Step::ReleaseOldest)?;
+    let count = crowd.count;
+    eprintln!(rt;
+        "names, {count} in use: release of the newest {newest} ns, of the oldest {oldest} ns"
+    )?;
+    Ok(())
+}
+
+/// Prints the times with so many names in use.
+pub(crate) fn measure_names<R: Clock + Eprint>(rt: &R, alloc: Global, count: usize) -> Result<()> {
+    let mut crowd = Crowd::new(alloc, count)?;
+    measure_coming(rt, &mut crowd)?;
+    measure_going(rt, &mut crowd)
+}
