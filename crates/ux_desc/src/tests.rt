@@ -1,1 +1,150 @@
+//! A description of each kind, and what a socket does with what is sent to it. The helpers promise
+//! nothing, so that the proofs needn't follow a socket through a test.
+use crate::{Description, Socket, Target};
+use std::alloc::{AllocError, Global};
+use std::process::Abort;
+use ux_rights::RefList;
+use ux_stream::{Received, SendError};
+use ux_types::{Addr, Cred, DescriptionId, Mode, OpenFlags, Pid};
 
+fn user() -> Cred {
+    Cred {
+        pid: Pid(1),
+        uid: 1000,
+        gid: 1000,
+    }
+}
+
+/// One end of a pair, whose other end has number 4.
+fn pair_end(alloc: Global) -> Socket {
+    Socket::pair_end(alloc, DescriptionId::new(4), user())
+}
+
+fn rights(alloc: Global, numbers: [u128; 2]) -> Result<RefList, AllocError> {
+    RefList::from_slice(alloc, &numbers.map(DescriptionId::new))
+}
+
+/// Sends, of which so many bytes are taken.
+fn send(rt: &impl Abort, s: &mut Socket, bytes: &[u8], rights: RefList, count: usize) {
+    assert!(rt; !bytes.is_empty());
+    match s.send(bytes, 1, rights, user(), 1000) {
+        Ok(sent) => assert!(rt; sent == count),
+        Err(_) => assert!(rt; false),
+    }
+}
+
+/// Sees that these references are there.
+fn expect_rights(rt: &impl Abort, rights: &RefList, numbers: &[u128]) {
+    assert!(rt; rights.len() == numbers.len());
+    for (reference, number) in rights.as_slice().iter().zip(numbers) {
+        assert!(rt; reference.description().number() == *number);
+    }
+}
+
+/// Sees what a receive gave.
+fn expect(rt: &impl Abort, received: &Received, bytes: &[u8], numbers: &[u128]) {
+    assert!(rt; received.bytes.as_slice() == bytes);
+    expect_rights(rt, &received.rights, numbers);
+}
+
+/// Takes these bytes with these rights off.
+fn take(
+    rt: &impl Abort,
+    s: &mut Socket,
+    n: usize,
+    bytes: &[u8],
+    numbers: &[u128],
+) -> Result<(), AllocError> {
+    assert!(rt; !s.is_empty());
+    expect(rt, &s.take(n, false)?, bytes, numbers);
+    Ok(())
+}
+
+#[test]
+fn a_file_has_no_socket(rt: HostRuntime) {
+    let mut d = Description::of_object(3, Mode::Write, OpenFlags(1));
+    d.set_offset(7);
+    d.set_reset(true);
+    assert!(rt; d.object() == Some(3));
+    assert!(rt; d.socket().is_none());
+    assert!(rt; d.lost_peer().is_none());
+    assert!(rt; d.offset() == 7);
+    assert!(rt; d.mode() == Mode::Write);
+    assert!(rt; d.append());
+    assert!(rt; !d.nonblock());
+    d.set_flags(OpenFlags(2));
+    assert!(rt; !d.append());
+    assert!(rt; d.nonblock());
+    match d.into_target() {
+        Target::Object(o) => assert!(rt; o == 3),
+        Target::Socket(_) => assert!(rt; false),
+    }
+}
+
+#[test]
+fn a_socket_keeps_what_was_sent(rt: HostRuntime) -> Result<(), AllocError> {
+    let alloc = rt.alloc();
+    let mut s = pair_end(alloc);
+    assert!(rt; s.peer() == Some(DescriptionId::new(4)));
+    assert!(rt; *s.name() == Addr::Unnamed);
+    assert!(rt; !s.passcred());
+    assert!(rt; s.room() == 65536);
+    send(&rt, &mut s, b"abc", RefList::new(alloc), 3);
+    send(&rt, &mut s, b"de", rights(alloc, [9, 7])?, 2);
+    assert!(rt; s.room() == 65531);
+    take(&rt, &mut s, 2, b"ab", &[])?;
+    assert!(rt; !s.is_empty());
+    expect(&rt, &s.peek(9, false)?, b"cde", &[9, 7]);
+    take(&rt, &mut s, 9, b"cde", &[9, 7])?;
+    assert!(rt; s.is_empty());
+    assert!(rt; s.pop_message().is_none());
+    Ok(())
+}
+
+#[test]
+fn a_full_socket_gives_rights_back(rt: HostRuntime) -> Result<(), AllocError> {
+    let alloc = rt.alloc();
+    let mut s = pair_end(alloc);
+    let most = vec![in alloc; b'x'; 65535]?;
+    send(&rt, &mut s, &most, rights(alloc, [5, 6])?, 65535);
+    send(&rt, &mut s, b"yz", rights(alloc, [8, 8])?, 1);
+    match s.send(b"z", 3, rights(alloc, [1, 2])?, user(), 1000) {
+        Ok(_) => assert!(rt; false),
+        Err(refused) => {
+            assert!(rt; refused.error == SendError::Full);
+            expect_rights(&rt, &refused.rights, &[1, 2]);
+        }
+    }
+    for numbers in [[5, 6], [8, 8]] {
+        match s.pop_message() {
+            Some((rights, uid)) => {
+                expect_rights(&rt, &rights, &numbers);
+                assert!(rt; uid == 1000);
+            }
+            None => assert!(rt; false),
+        }
+    }
+    assert!(rt; s.is_empty());
+    assert!(rt; s.room() == 65536);
+    assert!(rt; s.pop_pending().is_none());
+    Ok(())
+}
+
+#[test]
+fn unread_messages_reset_the_peer(rt: HostRuntime) -> Result<(), AllocError> {
+    let alloc = rt.alloc();
+    let mut d = Description::of_socket(OpenFlags(0), pair_end(alloc));
+    assert!(rt; d.object().is_none());
+    assert!(rt; d.lost_peer().is_none());
+    let sent = d.send(b"ab", 1, RefList::new(alloc), user(), 1000);
+    assert!(rt; sent.is_ok_and(|count| count == 2));
+    assert!(rt; d.lost_peer() == Some(DescriptionId::new(4)));
+    assert!(rt; d.socket().is_some_and(|s| !s.is_empty()));
+    expect(&rt, &d.take(2, false)?, b"ab", &[]);
+    assert!(rt; d.lost_peer().is_none());
+    d.set_reset(true);
+    assert!(rt; d.socket().is_some_and(|s| s.reset()));
+    d.set_reset(false);
+    assert!(rt; d.socket().is_some_and(|s| !s.reset()));
+    Ok(())
+}
