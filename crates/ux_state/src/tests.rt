@@ -7,10 +7,10 @@ use hoard::Hoard;
 use std::alloc::{AllocError, Global};
 use std::process::Abort;
 use std::test::Fail;
-use ux_desc::Message;
 use ux_fdtable::{Descriptor, DupError, InstallError};
 use ux_object::FileObject;
 use ux_objects::{Counter, MemFile, Pipe};
+use ux_rights::RefList;
 use ux_types::{
     Cred, DescriptionId, Errno, Fd, Mode, Name, OBJECT_LIMIT, OpenFlags, Pid, ProcSpec,
 };
@@ -27,6 +27,15 @@ fn process(limit: u32) -> ProcSpec {
         gid: 1000,
         privileged: false,
         limit,
+    }
+}
+
+/// The credentials of such a process with number 1.
+fn user() -> Cred {
+    Cred {
+        pid: Pid(1),
+        uid: 1000,
+        gid: 1000,
     }
 }
 
@@ -88,7 +97,7 @@ fn open<O: FileObject>(
 /// Opens two sockets of process 1 that are connected to one another, at these numbers.
 fn open_pair<O: FileObject>(rt: &impl Abort, state: &mut State<O>, low: u32, high: u32) {
     assert!(rt; state.is_live(Pid(1)));
-    let opened = state.open_pair(Pid(1), OpenFlags(0));
+    let opened = state.open_pair(Pid(1), OpenFlags(0), user());
     assert!(rt; opened == Ok((Fd(low), Fd(high))));
 }
 
@@ -159,9 +168,10 @@ fn expect_socket<O: FileObject>(
 ) {
     assert!(rt; state.is_live(Pid(1)));
     match state.find_socket(Pid(1), Fd(fd)) {
-        Ok((id, socket)) => {
-            assert!(rt; answer == Ok((id.number(), socket.peer().number())), "{fd}");
-        }
+        Ok((id, socket)) => match socket.peer() {
+            Some(peer) => assert!(rt; answer == Ok((id.number(), peer.number())), "{fd}"),
+            None => assert!(rt; false, "{fd}"),
+        },
         Err(refusal) => assert!(rt; answer == Err(refusal), "{fd}"),
     }
 }
@@ -173,28 +183,49 @@ fn append<O: FileObject>(
     state: &mut State<O>,
     id: u128,
     bytes: &[u8],
-) -> Result<(), Fail> {
-    let cred = Cred {
-        pid: Pid(1),
-        uid: 1000,
-        gid: 1000,
-    };
-    let message = Message::new(alloc, 1, bytes, cred)?;
-    match state.socket(DescriptionId::new(id)) {
-        Some(socket) => {
-            assert!(rt; 0 < message.len());
-            assert!(rt; message.len() <= socket.queue().room());
-        }
-        None => assert!(rt; false),
-    }
-    state.append_message(DescriptionId::new(id), message)?;
+) {
+    let id = DescriptionId::new(id);
+    assert!(rt; !bytes.is_empty());
+    assert!(rt; state.socket(id).is_some());
+    let sent = state.send_stream(id, bytes, 1, RefList::new(alloc), user(), 1000);
+    assert!(rt; sent == Ok(bytes.len()));
+}
+
+/// Sends a reference to a description to a socket.
+fn pass<O: FileObject>(
+    rt: &impl Abort,
+    alloc: Global,
+    state: &mut State<O>,
+    id: u128,
+    passed: u128,
+) -> Result<(), AllocError> {
+    let id = DescriptionId::new(id);
+    let passed = DescriptionId::new(passed);
+    assert!(rt; state.socket(id).is_some());
+    assert!(rt; state.count(passed) > 0);
+    let rights = RefList::from_slice(alloc, &[passed])?;
+    let sent = state.send_stream(id, b"x", 1, rights, user(), 1000);
+    assert!(rt; sent == Ok(1));
+    Ok(())
+}
+
+/// Takes these bytes from a socket.
+fn take<O: FileObject>(
+    rt: &impl Abort,
+    state: &mut State<O>,
+    id: u128,
+    bytes: &[u8],
+) -> Result<(), AllocError> {
+    let id = DescriptionId::new(id);
+    assert!(rt; state.socket(id).is_some_and(|socket| !socket.is_empty()));
+    let taken = state.take_bytes(id, bytes.len(), false)?;
+    assert!(rt; taken.as_slice() == bytes);
     Ok(())
 }
 
 /// Sees what waits at a socket, and whether it is reset.
 fn expect_queue<O: FileObject>(
     rt: &impl Abort,
-    alloc: Global,
     state: &State<O>,
     id: u128,
     bytes: &[u8],
@@ -202,9 +233,12 @@ fn expect_queue<O: FileObject>(
 ) -> Result<(), Fail> {
     match state.socket(DescriptionId::new(id)) {
         Some(socket) => {
-            let front = socket.queue().front(alloc, 100)?;
-            assert!(rt; front.as_slice() == bytes);
             assert!(rt; socket.reset() == reset);
+            assert!(rt; socket.is_empty() == bytes.is_empty());
+            if !socket.is_empty() {
+                let front = socket.peek(100, false)?;
+                assert!(rt; front.bytes.as_slice() == bytes);
+            }
         }
         None => assert!(rt; false),
     }
@@ -362,17 +396,17 @@ fn a_pair_has_messages_and_a_reset(rt: HostRuntime) -> Result<(), Fail> {
     expect_socket(&rt, s, 1, Ok((1, 2)));
     expect_socket(&rt, s, 2, Ok((2, 1)));
     expect_socket(&rt, s, 3, Err(Errno::EBADF));
-    append(&rt, alloc, s, 2, b"abc")?;
-    append(&rt, alloc, s, 2, b"de")?;
-    s.remove_bytes(DescriptionId::new(2), 2);
-    expect_queue(&rt, alloc, s, 1, b"", false)?;
-    expect_queue(&rt, alloc, s, 2, b"cde", false)?;
+    append(&rt, alloc, s, 2, b"abc");
+    append(&rt, alloc, s, 2, b"de");
+    take(&rt, s, 2, b"ab")?;
+    expect_queue(&rt, s, 1, b"", false)?;
+    expect_queue(&rt, s, 2, b"cde", false)?;
     close(&rt, s, 1, 2);
     settle(&rt, s, &[]);
     assert!(rt; s.socket(DescriptionId::new(2)).is_none());
-    expect_queue(&rt, alloc, s, 1, b"", true)?;
-    s.clear_reset(DescriptionId::new(1));
-    expect_queue(&rt, alloc, s, 1, b"", false)?;
+    expect_queue(&rt, s, 1, b"", true)?;
+    s.set_reset(DescriptionId::new(1), false);
+    expect_queue(&rt, s, 1, b"", false)?;
     Ok(())
 }
 
@@ -419,7 +453,7 @@ fn all_goes_at_the_end(rt: HostRuntime) -> Result<(), Fail> {
     let s = &mut state;
     open(&rt, s, 1, 0, Mode::Both, Ok(Fd(0)));
     open_pair(&rt, s, 1, 2);
-    append(&rt, alloc, s, 1, b"abc")?;
+    append(&rt, alloc, s, 1, b"abc");
     end(&rt, s, 1);
     end(&rt, s, 2);
     settle(&rt, s, &[]);
@@ -434,7 +468,7 @@ fn all_goes_at_the_end(rt: HostRuntime) -> Result<(), Fail> {
 
 /// Makes two connected sockets of process 1, if there is memory.
 fn opens_pair<O: FileObject>(state: &mut State<O>) -> bool {
-    state.is_live(Pid(1)) && state.open_pair(Pid(1), OpenFlags(0)).is_ok()
+    state.is_live(Pid(1)) && state.open_pair(Pid(1), OpenFlags(0), user()).is_ok()
 }
 
 #[test]
@@ -444,7 +478,7 @@ fn pairs_with_unread_bytes_leave_no_slot_taken(rt: HostRuntime) -> Result<(), Fa
     let s = &mut state;
     for pair in 0..10_000u32 {
         open_pair(&rt, s, 0, 1);
-        append(&rt, alloc, s, 2 * pair as u128 + 1, b"x")?;
+        append(&rt, alloc, s, 2 * pair as u128 + 1, b"x");
         close(&rt, s, 1, 0);
         close(&rt, s, 1, 1);
         settle(&rt, s, &[]);
@@ -458,13 +492,41 @@ fn pairs_with_unread_bytes_leave_no_slot_taken(rt: HostRuntime) -> Result<(), Fa
 }
 
 #[test]
+fn a_chain_of_passed_sockets_goes_at_once(rt: HostRuntime) -> Result<(), Fail> {
+    let alloc = rt.alloc();
+    let mut state = start_with_files(&rt, alloc)?;
+    let s = &mut state;
+    open_pair(&rt, s, 0, 1);
+    close(&rt, s, 1, 1);
+    // The last socket is open at the one of the numbers 0 and 1, the next at the other.
+    for last in 0..9_999u32 {
+        let at = last % 2;
+        let (last, next) = (2 * last as u128, 2 * last as u128 + 2);
+        open_pair(&rt, s, 1 - at, 2);
+        pass(&rt, alloc, s, next, last)?;
+        close(&rt, s, 1, at);
+        close(&rt, s, 1, 2);
+        settle(&rt, s, &[]);
+        assert!(rt; s.count(DescriptionId::new(last)) == 1);
+    }
+    assert!(rt; s.socket(DescriptionId::new(0)).is_some());
+    assert!(rt; s.socket(DescriptionId::new(10_000)).is_some());
+    close(&rt, s, 1, 1);
+    settle(&rt, s, &[]);
+    for id in 0..20_000u32 {
+        assert!(rt; s.description(DescriptionId::new(id as u128)).is_none());
+    }
+    Ok(())
+}
+
+#[test]
 fn a_state_settles_under_refused_memory(rt: HostRuntime) -> Result<(), Fail> {
     let alloc = rt.alloc();
     let mut state = start(&rt, alloc, Counter::new(), Counter::new())?;
     let s = &mut state;
     open(&rt, s, 1, 0, Mode::Both, Ok(Fd(0)));
     open_pair(&rt, s, 1, 2);
-    append(&rt, alloc, s, 2, b"abc")?;
+    append(&rt, alloc, s, 2, b"abc");
     s.unlink(&name(alloc, b"a")?);
     close(&rt, s, 1, 0);
     close(&rt, s, 1, 2);
@@ -475,7 +537,7 @@ fn a_state_settles_under_refused_memory(rt: HostRuntime) -> Result<(), Fail> {
     assert!(rt; retired.len() == 1);
     assert!(rt; s.object(0).is_none());
     assert!(rt; s.socket(DescriptionId::new(2)).is_none());
-    expect_queue(&rt, alloc, s, 1, b"", true)?;
+    expect_queue(&rt, s, 1, b"", true)?;
     assert!(rt; opened);
     Ok(())
 }
