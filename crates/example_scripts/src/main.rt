@@ -13,7 +13,7 @@ use ux_syntax::{Script, parse_script};
 use ux_types::Name;
 
 /// The scripts by their names.
-const SCRIPTS: [&str; 7] = [
+const SCRIPTS: [&str; 10] = [
     "hello",
     "lost_peer",
     "peek_then_read",
@@ -21,6 +21,9 @@ const SCRIPTS: [&str; 7] = [
     "last_close",
     "semaphore",
     "pipe_of_two",
+    "counter_and_pipe",
+    "ends_of_a_file",
+    "one_offset",
 ];
 
 /// A file object as a kernel holds it.

@@ -64,15 +64,15 @@ fn each_call_is_one_entry(rt: HostRuntime) -> Result<(), Fail> {
     assert!(rt; is_entry(&book.record(pid, 0, &PAIR), 0, 0));
     assert!(rt; is_entry(&book.record(pid, 1, &Request::Close { fd: Fd(7) }), 1, 0));
     assert!(rt; book.is_live(pid));
-    assert!(rt; book.calls_of(pid) == 2);
+    assert_eq!(rt; book.calls_of(pid), 2);
     assert!(rt; is_entry(&book.record(pid, 2, &Request::Exit), 2, 0));
     assert!(rt; !book.is_live(pid));
     let entries = book.into_entries();
-    assert!(rt; entries.len() == 3);
-    assert!(rt; entries[0].reply == Reply::Fds(Fd(0), Fd(1)));
-    assert!(rt; entries[1].reply == Reply::Err(Errno::EBADF));
-    assert!(rt; entries[1].request == Request::Close { fd: Fd(7) });
-    assert!(rt; entries[2].k == 2);
+    assert_eq!(rt; entries.len(), 3);
+    assert_eq!(rt; entries[0].reply, Reply::Fds(Fd(0), Fd(1)));
+    assert_eq!(rt; entries[1].reply, Reply::Err(Errno::EBADF));
+    assert_eq!(rt; entries[1].request, Request::Close { fd: Fd(7) });
+    assert_eq!(rt; entries[2].k, 2);
     Ok(())
 }
 
@@ -85,7 +85,7 @@ fn a_stranger_is_told_and_leaves_no_entry(rt: HostRuntime) -> Result<(), Fail> {
     assert!(rt; is_stranger(&book.record(Pid(1), 1, &PAIR)));
     assert!(rt; is_entry(&book.record(Pid(1), 0, &Request::Exit), 0, 0));
     assert!(rt; is_stranger(&book.record(Pid(1), 1, &Request::Exit)));
-    assert!(rt; book.entries().len() == 1);
+    assert_eq!(rt; book.entries().len(), 1);
     Ok(())
 }
 
@@ -106,9 +106,9 @@ fn the_end_comes_once_and_releases_all(rt: HostRuntime) -> Result<(), Fail> {
     assert!(rt; is_stranger(&book.record(Pid(0), 0, &off)));
     assert!(rt; is_stranger(&book.record(Pid(0), 1, &off)));
     let entries = book.entries();
-    assert!(rt; entries.len() == 2);
+    assert_eq!(rt; entries.len(), 2);
     assert!(rt; entries[0].released.as_slice().is_empty());
-    assert!(rt; entries[1].released.as_slice() == [0].as_slice());
+    assert_eq!(rt; entries[1].released.as_slice(), [0].as_slice());
     Ok(())
 }
 
@@ -130,9 +130,9 @@ fn an_object_goes_with_its_last_descriptor(rt: HostRuntime) -> Result<(), Fail> 
     assert!(rt; is_entry(&book.record(Pid(1), 1, &unlink), 1, 0));
     assert!(rt; is_entry(&book.record(Pid(1), 2, &Request::Close { fd: Fd(0) }), 2, 1));
     let entries = book.entries();
-    assert!(rt; entries.len() == 3);
-    assert!(rt; entries[0].reply == Reply::Fd(Fd(0)));
+    assert_eq!(rt; entries.len(), 3);
+    assert_eq!(rt; entries[0].reply, Reply::Fd(Fd(0)));
     assert!(rt; entries[1].released.as_slice().is_empty());
-    assert!(rt; entries[2].released.as_slice() == [0].as_slice());
+    assert_eq!(rt; entries[2].released.as_slice(), [0].as_slice());
     Ok(())
 }

@@ -93,4 +93,3 @@ paired-pair ds D E first second paired = record {
         let q : i ≡ length ds = eqb-true i (length ds) h in
         place_other (ds ++ Some D ∷ []) (Some E) i (not_second i (ne_eqb i (length ds + 1) (λ t. omega (arith, q, t))))
         ∙ ap (place (ds ++ Some D ∷ [])) q ∙ place_last ds (Some D)
-

@@ -21,26 +21,44 @@ fn alike(alloc: Global, byte: u8, length: usize) -> Result<Vec<u8>, AllocError>
     vec![in alloc; byte; length]
 }
 
-/// Reads from an open object.
+/// Reads from an open object, and sees what that answers.
 fn read<O: FileObject>(
     rt: &impl Abort,
     object: &mut O,
     at: u64,
     buf: &mut [u8],
-) -> Result<usize, ObjError> {
+    answer: Result<usize, ObjError>,
+) {
     assert!(rt; object.is_open());
-    object.read(at, buf)
+    assert_eq!(rt; object.read(at, buf), answer, "at {at}");
 }
 
-/// Writes to an open object.
+/// Writes to an open object, and sees what that answers.
 fn write<O: FileObject>(
     rt: &impl Abort,
     object: &mut O,
     at: u64,
     bytes: &[u8],
-) -> Result<usize, ObjError> {
+    answer: Result<usize, ObjError>,
+) {
+    let length = bytes.len();
     assert!(rt; object.is_open());
-    object.write(at, bytes)
+    assert_eq!(rt; object.write(at, bytes), answer, "{length} bytes at {at}");
+}
+
+/// Sees whether an object can be read and written.
+fn expect_ready<O: FileObject>(rt: &impl Abort, object: &O, ready: (bool, bool)) {
+    assert_eq!(rt; object.ready(), ready);
+}
+
+/// Sees how long an object is.
+fn expect_size<O: FileObject>(rt: &impl Abort, object: &O, size: u64) {
+    assert_eq!(rt; object.size(), size);
+}
+
+/// Sees which bytes were read.
+fn expect_bytes(rt: &impl Abort, buf: &[u8], bytes: &[u8]) {
+    assert_eq!(rt; buf, bytes);
 }
 
 /// Closes an object, and sees that it is closed and never failed.
@@ -61,19 +79,19 @@ fn a_file_is_read_and_written_at_a_place(rt: HostRuntime) -> Result<(), Fail> {
     let mut file = made(MemFile::new(rt.alloc(), b"abcdef"))?;
     let mut buf = [0; 4];
     assert_eq!(rt; file.kind(), ObjKind::Memory);
-    assert_eq!(rt; file.ready(), (true, true));
-    assert_eq!(rt; file.size(), 6);
-    assert_eq!(rt; read(&rt, &mut file, 4, &mut buf), Ok(2));
-    assert_eq!(rt; buf, *b"ef\0\0");
-    assert_eq!(rt; read(&rt, &mut file, 6, &mut buf), Ok(0));
-    assert_eq!(rt; read(&rt, &mut file, u64::MAX, &mut buf), Ok(0));
-    assert_eq!(rt; write(&rt, &mut file, 1, b"xy"), Ok(2));
-    assert_eq!(rt; write(&rt, &mut file, 5, b"zw"), Ok(2));
-    assert_eq!(rt; write(&rt, &mut file, 9, b"v"), Ok(1));
-    assert_eq!(rt; write(&rt, &mut file, 20, &[]), Ok(0));
+    expect_ready(&rt, &file, (true, true));
+    expect_size(&rt, &file, 6);
+    read(&rt, &mut file, 4, &mut buf, Ok(2));
+    expect_bytes(&rt, &buf, b"ef\0\0");
+    read(&rt, &mut file, 6, &mut buf, Ok(0));
+    read(&rt, &mut file, u64::MAX, &mut buf, Ok(0));
+    write(&rt, &mut file, 1, b"xy", Ok(2));
+    write(&rt, &mut file, 5, b"zw", Ok(2));
+    write(&rt, &mut file, 9, b"v", Ok(1));
+    write(&rt, &mut file, 20, &[], Ok(0));
     let mut whole = [7; 11];
-    assert_eq!(rt; read(&rt, &mut file, 0, &mut whole), Ok(10));
-    assert_eq!(rt; whole, *b"axydezw\0\0v\x07");
+    read(&rt, &mut file, 0, &mut whole, Ok(10));
+    expect_bytes(&rt, &whole, b"axydezw\0\0v\x07");
     close(&rt, file);
     Ok(())
 }
@@ -83,16 +101,16 @@ fn a_file_ends_at_its_limit(rt: HostRuntime) -> Result<(), Fail> {
     let mut file = made(MemFile::new(rt.alloc(), b"abcdef"))?;
     let last = FILE_LIMIT as u64 - 1;
     let mut buf = [0; 4];
-    assert_eq!(rt; write(&rt, &mut file, last, b"xy"), Ok(1));
-    assert_eq!(rt; file.size(), 1048576);
-    assert_eq!(rt; write(&rt, &mut file, last + 1, b"z"), Err(ObjError::Full));
-    assert_eq!(rt; write(&rt, &mut file, u64::MAX, b"z"), Err(ObjError::Full));
-    assert_eq!(rt; write(&rt, &mut file, last + 1, &[]), Ok(0));
-    assert_eq!(rt; file.size(), 1048576);
-    assert_eq!(rt; read(&rt, &mut file, last, &mut buf), Ok(1));
-    assert_eq!(rt; buf, *b"x\0\0\0");
-    assert_eq!(rt; read(&rt, &mut file, 4, &mut buf), Ok(4));
-    assert_eq!(rt; buf, *b"ef\0\0");
+    write(&rt, &mut file, last, b"xy", Ok(1));
+    expect_size(&rt, &file, 1048576);
+    write(&rt, &mut file, last + 1, b"z", Err(ObjError::Full));
+    write(&rt, &mut file, u64::MAX, b"z", Err(ObjError::Full));
+    write(&rt, &mut file, last + 1, &[], Ok(0));
+    expect_size(&rt, &file, 1048576);
+    read(&rt, &mut file, last, &mut buf, Ok(1));
+    expect_bytes(&rt, &buf, b"x\0\0\0");
+    read(&rt, &mut file, 4, &mut buf, Ok(4));
+    expect_bytes(&rt, &buf, b"ef\0\0");
     Ok(())
 }
 
@@ -101,7 +119,7 @@ fn a_file_is_made_up_to_its_limit(rt: HostRuntime) -> Result<(), Fail> {
     let alloc = rt.alloc();
     let mut bytes = alike(alloc, 7, FILE_LIMIT)?;
     let greatest = made(MemFile::new(alloc, bytes.as_slice()))?;
-    assert_eq!(rt; greatest.size(), 1048576);
+    expect_size(&rt, &greatest, 1048576);
     bytes.push(7).map_err(AllocError::from)?;
     match MemFile::new(alloc, bytes.as_slice()) {
         Err(error) => assert_eq!(rt; error, ObjError::Full),
@@ -115,45 +133,25 @@ fn a_counter_is_read_whole_and_cleared(rt: HostRuntime) {
     let mut counter = Counter::new();
     let mut buf = [0; 9];
     assert_eq!(rt; counter.kind(), ObjKind::Counter);
-    assert_eq!(rt; counter.size(), 0);
-    assert_eq!(rt; counter.ready(), (false, true));
-    assert_eq!(rt;
-        read(&rt, &mut counter, 0, &mut buf),
-        Err(ObjError::WouldBlock)
+    expect_size(&rt, &counter, 0);
+    expect_ready(&rt, &counter, (false, true));
+    read(&rt, &mut counter, 0, &mut buf, Err(ObjError::WouldBlock));
+    write(&rt, &mut counter, 0, &[5, 0, 0, 0, 0, 0, 0, 0, 9], Ok(8));
+    write(&rt, &mut counter, 0, &[255; 8], Err(ObjError::Invalid));
+    write(
+        &rt,
+        &mut counter,
+        0,
+        &[254, 255, 255, 255, 255, 255, 255, 255],
+        Err(ObjError::WouldBlock),
     );
-    assert_eq!(rt;
-        write(&rt, &mut counter, 0, &[5, 0, 0, 0, 0, 0, 0, 0, 9]),
-        Ok(8)
-    );
-    assert_eq!(rt;
-        write(&rt, &mut counter, 0, &[255; 8]),
-        Err(ObjError::Invalid)
-    );
-    assert_eq!(rt;
-        write(
-            &rt,
-            &mut counter,
-            0,
-            &[254, 255, 255, 255, 255, 255, 255, 255]
-        ),
-        Err(ObjError::WouldBlock)
-    );
-    assert_eq!(rt;
-        write(&rt, &mut counter, 0, &[1; 7]),
-        Err(ObjError::Invalid)
-    );
-    assert_eq!(rt;
-        read(&rt, &mut counter, 0, &mut buf[..7]),
-        Err(ObjError::Invalid)
-    );
-    assert_eq!(rt; counter.ready(), (true, true));
-    assert_eq!(rt; read(&rt, &mut counter, 3, &mut buf), Ok(8));
-    assert_eq!(rt; buf, [5, 0, 0, 0, 0, 0, 0, 0, 0]);
-    assert_eq!(rt; counter.ready(), (false, true));
-    assert_eq!(rt;
-        read(&rt, &mut counter, 0, &mut buf),
-        Err(ObjError::WouldBlock)
-    );
+    write(&rt, &mut counter, 0, &[1; 7], Err(ObjError::Invalid));
+    read(&rt, &mut counter, 0, &mut buf[..7], Err(ObjError::Invalid));
+    expect_ready(&rt, &counter, (true, true));
+    read(&rt, &mut counter, 3, &mut buf, Ok(8));
+    expect_bytes(&rt, &buf, &[5, 0, 0, 0, 0, 0, 0, 0, 0]);
+    expect_ready(&rt, &counter, (false, true));
+    read(&rt, &mut counter, 0, &mut buf, Err(ObjError::WouldBlock));
     close(&rt, counter);
 }
 
@@ -173,12 +171,8 @@ fn a_counter_reaches_its_greatest_value(rt: HostRuntime) {
     ];
     for (first, addend, answer, ready) in rows {
         let mut counter = Counter::new();
-        assert_eq!(rt; write(&rt, &mut counter, 0, &first.to_le_bytes()), Ok(8));
-        assert_eq!(rt;
-            write(&rt, &mut counter, 0, &addend.to_le_bytes()),
-            answer,
-            "{first} and {addend}"
-        );
+        write(&rt, &mut counter, 0, &first.to_le_bytes(), Ok(8));
+        write(&rt, &mut counter, 0, &addend.to_le_bytes(), answer);
         assert_eq!(rt; counter.ready(), ready, "{first} and {addend}");
     }
 }
@@ -188,26 +182,20 @@ fn a_pipe_is_read_in_order(rt: HostRuntime) -> Result<(), Fail> {
     let mut pipe = made(Pipe::new(rt.alloc()))?;
     let mut buf = [0; 8];
     assert_eq!(rt; pipe.kind(), ObjKind::Pipe);
-    assert_eq!(rt; pipe.size(), 0);
-    assert_eq!(rt; pipe.ready(), (false, true));
-    assert_eq!(rt;
-        read(&rt, &mut pipe, 0, &mut buf),
-        Err(ObjError::WouldBlock)
-    );
-    assert_eq!(rt; read(&rt, &mut pipe, 0, &mut []), Ok(0));
-    assert_eq!(rt; write(&rt, &mut pipe, 0, &[]), Ok(0));
-    assert_eq!(rt; write(&rt, &mut pipe, 9, b"abc"), Ok(3));
-    assert_eq!(rt; write(&rt, &mut pipe, 0, b"de"), Ok(2));
-    assert_eq!(rt; pipe.size(), 0);
-    assert_eq!(rt; pipe.ready(), (true, true));
-    assert_eq!(rt; read(&rt, &mut pipe, 7, &mut buf[..4]), Ok(4));
-    assert_eq!(rt; buf, *b"abcd\0\0\0\0");
-    assert_eq!(rt; read(&rt, &mut pipe, 0, &mut buf), Ok(1));
-    assert_eq!(rt; buf, *b"ebcd\0\0\0\0");
-    assert_eq!(rt;
-        read(&rt, &mut pipe, 0, &mut buf),
-        Err(ObjError::WouldBlock)
-    );
+    expect_size(&rt, &pipe, 0);
+    expect_ready(&rt, &pipe, (false, true));
+    read(&rt, &mut pipe, 0, &mut buf, Err(ObjError::WouldBlock));
+    read(&rt, &mut pipe, 0, &mut [], Ok(0));
+    write(&rt, &mut pipe, 0, &[], Ok(0));
+    write(&rt, &mut pipe, 9, b"abc", Ok(3));
+    write(&rt, &mut pipe, 0, b"de", Ok(2));
+    expect_size(&rt, &pipe, 0);
+    expect_ready(&rt, &pipe, (true, true));
+    read(&rt, &mut pipe, 7, &mut buf[..4], Ok(4));
+    expect_bytes(&rt, &buf, b"abcd\0\0\0\0");
+    read(&rt, &mut pipe, 0, &mut buf, Ok(1));
+    expect_bytes(&rt, &buf, b"ebcd\0\0\0\0");
+    read(&rt, &mut pipe, 0, &mut buf, Err(ObjError::WouldBlock));
     close(&rt, pipe);
     Ok(())
 }
@@ -224,12 +212,8 @@ fn write_behind(
     let mut pipe = made(Pipe::new(alloc))?;
     let first = alike(alloc, 7, waiting)?;
     let second = alike(alloc, 8, length)?;
-    assert_eq!(rt; write(rt, &mut pipe, 0, first.as_slice()), Ok(waiting));
-    assert_eq!(rt;
-        write(rt, &mut pipe, 0, second.as_slice()),
-        answer,
-        "{length} behind {waiting}"
-    );
+    write(rt, &mut pipe, 0, first.as_slice(), Ok(waiting));
+    write(rt, &mut pipe, 0, second.as_slice(), answer);
     assert_eq!(rt; pipe.ready(), (true, has_room), "{length} behind {waiting}");
     Ok(())
 }
@@ -265,12 +249,12 @@ fn pass_through(rt: &impl Abort, alloc: Global, pipe: &mut Pipe, byte: u8) -> Re
     let bytes = alike(alloc, byte, 50000)?;
     let mut passed = alike(alloc, 0, 50000)?;
     let mut last = [0; 8];
-    assert_eq!(rt; write(rt, pipe, 0, bytes.as_slice()), Ok(50000));
-    assert_eq!(rt; write(rt, pipe, 0, b"z"), Ok(1));
-    assert_eq!(rt; read(rt, pipe, 0, passed.as_mut_slice()), Ok(50000));
+    write(rt, pipe, 0, bytes.as_slice(), Ok(50000));
+    write(rt, pipe, 0, b"z", Ok(1));
+    read(rt, pipe, 0, passed.as_mut_slice(), Ok(50000));
     assert!(rt; passed.as_slice() == bytes.as_slice());
-    assert_eq!(rt; read(rt, pipe, 0, &mut last), Ok(1));
-    assert_eq!(rt; last, *b"z\0\0\0\0\0\0\0");
+    read(rt, pipe, 0, &mut last, Ok(1));
+    expect_bytes(rt, &last, b"z\0\0\0\0\0\0\0");
     Ok(())
 }
 
@@ -289,12 +273,11 @@ fn grow(rt: &impl Abort, alloc: Global, at: u64) -> Result<(), Fail> {
     let mut file = made(MemFile::new(alloc, b"abcdef"))?;
     let mut buf = [0; 8];
     let hoard = Hoard::take_all(alloc)?;
-    let written = write(rt, &mut file, at, b"xyz");
+    write(rt, &mut file, at, b"xyz", Err(ObjError::NoMemory));
     drop(hoard);
-    assert_eq!(rt; written, Err(ObjError::NoMemory));
-    assert_eq!(rt; file.size(), 6);
-    assert_eq!(rt; read(rt, &mut file, 0, &mut buf), Ok(6));
-    assert_eq!(rt; buf, *b"abcdef\0\0");
+    expect_size(rt, &file, 6);
+    read(rt, &mut file, 0, &mut buf, Ok(6));
+    expect_bytes(rt, &buf, b"abcdef\0\0");
     assert_eq!(rt; file.faults(), 0);
     Ok(())
 }

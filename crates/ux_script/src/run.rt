@@ -89,10 +89,8 @@ fn run_calls<O: FileObject>(
     let Ok(mut book) = Book::new(alloc, kernel) else {
         return Err(CallFault::NoMemory);
     };
-    match make_all(&mut book, script, count, size) {
-        Ok(()) => Ok(book.into_entries()),
-        Err(fault) => Err(fault),
-    }
+    make_all(&mut book, script, count, size)?;
+    Ok(book.into_entries())
 }
 
 /// Makes the script's calls in order, then the missing exits, and ends the layer where the script says so.

@@ -10,8 +10,8 @@ ghost use Rattle.ux_model.specs.Pairing.{socket_description, with_pair};
 ghost use Rattle.ux_model.specs.Files.{file_description};
 ghost use Rattle.ux_model.specs.Closing as model;
 
-use crate::references::{release, release_table, retain};
 use crate::openings::count_in;
+use crate::references::{release, release_table, retain};
 use crate::state::State;
 use bitflags::Flags;
 use std::alloc::Global;
@@ -190,12 +190,7 @@ impl<O: FileObject> State<O> {
 }
 
 /// The description of one end of a pair, which is tied to the other.
-fn pair_end(
-    alloc: Global,
-    flags: OpenFlags,
-    peer: DescriptionId,
-    cred: Cred,
-) -> Description
+fn pair_end(alloc: Global, flags: OpenFlags, peer: DescriptionId, cred: Cred) -> Description
     ensures { result ≡ socket_description flags (pair_end SockType.Stream peer cred) }
 {
     Description::of_socket(flags, Socket::pair_end(alloc, peer, cred))

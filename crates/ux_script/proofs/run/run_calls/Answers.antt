@@ -1,5 +1,6 @@
 use Rattle.std.proofs.Common.{ap, ◌∙◌, length, rules}
 use Rattle.std.proofs.lemmas.List.{length-map}
+use Rattle.std.proofs.lemmas.Result.{err_from_is_err_and}
 use Rattle.ux_model.specs.Boot.{new_process}
 use Rattle.ux_script.proofs.Runs.{makes_none}
 use Rattle.ux_script.proofs.run.run_calls.Goals as goal
@@ -15,3 +16,8 @@ make_all-requires g c = (
     ),
   ),
 )
+
+pub returns-in_err-make_all-clause-stranger : goal.returns-in_err-make_all-clause-stranger
+returns-in_err-make_all-clause-stranger g c =
+    let p = err_from_is_err_and c.from_residual.result c.from_residual.ensures.1 in
+    rw (p.1, p.2) c.in_err-make_all.ensures.stranger

@@ -29,6 +29,6 @@ pub returns : goal.returns
 returns g c = (
   ap (λ S. is_unreferenced S c.in-Some.gone.0) (sym c.self.view_is) ∙ was_dead _ _ _ _ _ c.self.invariant c.in-Some.gone.0 c.in-Some.gone.1 c.in-Some.ensures.dead c.in-Some.ensures.uncounted,
   is_without _ _ _ _ _ c.self.invariant c.release_held.new.slots c.in-Some.gone.0 c.in-Some.gone.1 c.in-Some.ensures.dead
-  (sym c.release_held.ensures.places ∙ c.tell.ensures.places ∙ (λ j. told (c.lost_peer.ensures j) (c.in-Some.ensures.taken j)))
-  ∙ ap (without (λ n. n == c.in-Some.gone.0)) c.self.view_is,
+      (sym c.release_held.ensures.places ∙ c.tell.ensures.places ∙ (λ j. told (c.lost_peer.ensures j) (c.in-Some.ensures.taken j)))
+      ∙ ap (without (λ n. n == c.in-Some.gone.0)) c.self.view_is,
 )
