@@ -1,9 +1,6 @@
-//! Measures the calls of file objects, of descriptor tables and of kernels. The times go to standard error.
+//! Measures the calls of file objects and of descriptor tables. The times go to standard error.
 #![tactic(auto)]
 
-mod kernel_calls;
-
-use crate::kernel_calls::measure_kernel;
 use anyhow::Result;
 use std::alloc::Global;
 use std::rt::Clock;
@@ -155,9 +152,6 @@ fn main(rt: HostRuntime) -> Result<()> {
     }
     for entries in [0, 100, 1000] {
         measure_table(&rt, alloc, entries)?;
-    }
-    for copies in [0, 999] {
-        measure_kernel(&rt, alloc, copies)?;
     }
     println!(rt; "done")?;
     Ok(())

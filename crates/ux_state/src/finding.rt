@@ -77,7 +77,8 @@ impl<O: FileObject> State<O> {
         self.slots.get(id)
     }
 
-    /// How many references a description has: the entries that lead to it, over all tables.
+    /// How many references a description has: from descriptors, from rights in unread messages, and from
+    /// listeners at which it waits.
     pub fn count(&self, id: DescriptionId) -> u64
         ensures { result ≡ refs self.now id }
     {

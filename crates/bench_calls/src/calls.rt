@@ -1,0 +1,177 @@
+//! What is measured: a few calls that leave the layer as it was.
+use crate::layers::{CALLER, Layer, must, opening};
+use anyhow::{Result, anyhow};
+use std::alloc::{AllocError, Global};
+use std::rt::Clock;
+use std::time::{Duration, Instant};
+use ux_types::{Bytes, Fd, MsgFlags, OpenFlags, Request, Whence};
+
+/// How often the calls are made in one batch.
+const TURNS: u32 = 16;
+
+/// How often a batch is measured.
+const ROUNDS: u32 = 40;
+
+/// A pair of sockets, at the numbers 1 and 2.
+const PAIR: Request = Request::SocketPair {
+    flags: OpenFlags(0),
+};
+
+/// Back to the front of the file.
+const REWIND: Request = Request::Lseek {
+    fd: Fd(0),
+    offset: 0,
+    whence: Whence::Set,
+};
+
+/// A call that closes a number.
+fn close(number: u32) -> Request {
+    Request::Close { fd: Fd(number) }
+}
+
+/// Calls that are measured together.
+#[derive(Drop)]
+pub(crate) struct Calls {
+    pub(crate) name: &'static str,
+    /// Made before a batch, and not measured.
+    before: Vec<Request>,
+    /// Made in turn.
+    measured: Vec<Request>,
+    /// Made after a batch, and not measured.
+    after: Vec<Request>,
+}
+
+/// A send of so many bytes, and its receive.
+fn stream(alloc: Global, name: &'static str, length: usize) -> Result<Calls, AllocError> {
+    let send = Request::SendMsg {
+        fd: Fd(1),
+        bytes: Bytes::new(vec![in alloc; 90; length]?),
+        flags: MsgFlags(0),
+    };
+    let receive = Request::RecvMsg {
+        fd: Fd(2),
+        n: length,
+        space: 0,
+        flags: MsgFlags(0),
+    };
+    Ok(Calls {
+        name,
+        before: vec![in alloc; PAIR]?,
+        measured: vec![in alloc; send, receive]?,
+        after: vec![in alloc; close(1), close(2)]?,
+    })
+}
+
+/// Calls that need nothing before or after.
+fn alone(alloc: Global, name: &'static str, measured: Vec<Request>) -> Calls {
+    Calls {
+        name,
+        before: Vec::new(alloc),
+        measured,
+        after: Vec::new(alloc),
+    }
+}
+
+/// A call on the file, which starts at its front.
+fn on_file(alloc: Global, name: &'static str, call: Request) -> Result<Calls, AllocError> {
+    Ok(Calls {
+        name,
+        before: vec![in alloc; REWIND]?,
+        measured: vec![in alloc; call]?,
+        after: Vec::new(alloc),
+    })
+}
+
+/// The calls on sockets.
+fn socket_calls(alloc: Global) -> Result<Vec<Calls>, AllocError> {
+    let pair = vec![in alloc; PAIR, close(1), close(2)]?;
+    Ok(vec![in alloc;
+        stream(alloc, "send and receive, 1 byte", 1)?,
+        stream(alloc, "send and receive, 64 bytes", 64)?,
+        stream(alloc, "send and receive, 4,096 bytes", 4096)?,
+        stream(alloc, "send and receive, 65,536 bytes", 65_536)?,
+        alone(alloc, "pair and two closes", pair),
+    ]?)
+}
+
+/// The calls on files.
+fn file_calls(alloc: Global) -> Result<Vec<Calls>, AllocError> {
+    let open = vec![in alloc; opening(alloc)?, close(1)]?;
+    let dup = vec![in alloc; Request::Dup { fd: Fd(0) }, close(1)]?;
+    let bytes = Bytes::new(vec![in alloc; 90; 1]?);
+    Ok(vec![in alloc;
+        alone(alloc, "open and close", open),
+        alone(alloc, "dup and close", dup),
+        on_file(alloc, "write, 1 byte", Request::Write { fd: Fd(0), bytes })?,
+        on_file(alloc, "read, 1 byte", Request::Read { fd: Fd(0), n: 1 })?,
+    ]?)
+}
+
+/// Makes these calls, each of which must be granted.
+fn make<L: Layer>(layer: &mut L, requests: &[Request]) -> Result<()> {
+    for request in requests {
+        must(layer, CALLER, request)?;
+    }
+    Ok(())
+}
+
+/// Makes these calls in turn, and answers how many were granted.
+fn repeat<L: Layer>(layer: &mut L, requests: &[Request]) -> usize {
+    let mut granted: usize = 0;
+    for _ in 0..TURNS {
+        for request in requests {
+            granted = granted.saturating_add(usize::from(layer.ask(CALLER, request)));
+        }
+    }
+    granted
+}
+
+/// The time of one batch.
+fn time_of<R: Clock, L: Layer>(rt: &R, layer: &mut L, calls: &Calls) -> Result<Duration> {
+    make(layer, calls.before.as_slice())?;
+    let start = Instant::now(rt)?;
+    let granted = repeat(layer, calls.measured.as_slice());
+    let time = start.elapsed(rt)?;
+    make(layer, calls.after.as_slice())?;
+    if granted != calls.measured.len().saturating_mul(TURNS as usize) {
+        return Err(anyhow!("only {granted} calls were granted"));
+    }
+    Ok(time)
+}
+
+/// The time of the calls in nanoseconds, all together, in the quickest of some rounds.
+fn nanos<R: Clock, L: Layer>(rt: &R, layer: &mut L, calls: &Calls) -> Result<u128> {
+    let mut quickest = Duration::MAX;
+    for _ in 0..ROUNDS {
+        quickest = quickest.min(time_of(rt, layer, calls)?);
+    }
+    Ok(quickest.as_nanos() / u128::from(TURNS))
+}
+
+/// Prints the time of each of these.
+fn print_times<R: Clock + Eprint, L: Layer>(
+    rt: &R,
+    what: &str,
+    layer: &mut L,
+    all: &[Calls],
+) -> Result<()> {
+    for calls in all {
+        let time = nanos(rt, layer, calls)?;
+        let name = calls.name;
+        eprintln!(rt; "{what}: {name}: {time} ns")?;
+    }
+    Ok(())
+}
+
+/// Prints the time of each kind of call on a layer.
+pub(crate) fn measure<R: Clock + Eprint, L: Layer>(
+    rt: &R,
+    alloc: Global,
+    what: &str,
+    layer: &mut L,
+) -> Result<()> {
+    let sockets = socket_calls(alloc)?;
+    print_times(rt, what, layer, sockets.as_slice())?;
+    let files = file_calls(alloc)?;
+    print_times(rt, what, layer, files.as_slice())
+}

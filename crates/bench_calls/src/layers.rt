@@ -1,0 +1,163 @@
+//! A kernel alone, and a book that keeps what was called.
+use anyhow::{Result, anyhow};
+use bstr::BString;
+use std::alloc::{AllocError, Global};
+use ux_history::Book;
+use ux_kernel::Kernel;
+use ux_objects::MemFile;
+use ux_types::{Fd, Mode, Name, OpenFlags, Pid, ProcSpec, Reply, Request};
+
+/// A user's process with the greatest table.
+const PROCESS: ProcSpec = ProcSpec {
+    uid: 1000,
+    gid: 1000,
+    privileged: false,
+    limit: 1024,
+};
+
+/// The processes. The first makes the calls that are measured, the others hold descriptors.
+const PROCESSES: [ProcSpec; 5] = [PROCESS, PROCESS, PROCESS, PROCESS, PROCESS];
+
+/// What is in the file at first.
+const CONTENTS: [u8; 64] = [120; 64];
+
+/// The process whose calls are measured.
+pub(crate) const CALLER: Pid = Pid(1);
+
+/// Where calls are made.
+pub(crate) trait Layer {
+    /// Makes a call, if the process lives, and answers whether it was granted.
+    fn ask(&mut self, pid: Pid, request: &Request) -> bool;
+}
+
+/// A kernel alone.
+#[derive(Drop)]
+pub(crate) struct Stepped {
+    kernel: Kernel<MemFile>,
+    tag: u64,
+}
+
+/// A book.
+#[derive(Drop)]
+pub(crate) struct Recorded {
+    book: Book<MemFile>,
+}
+
+/// The path of the file.
+fn path(alloc: Global) -> Result<Name, AllocError> {
+    Ok(Name::new(BString::from_slice(alloc, b"file")?))
+}
+
+/// A request that opens the file.
+pub(crate) fn opening(alloc: Global) -> Result<Request, AllocError> {
+    Ok(Request::Open {
+        path: path(alloc)?,
+        mode: Mode::Both,
+        flags: OpenFlags(0),
+    })
+}
+
+impl Stepped {
+    /// A kernel with one file.
+    pub(crate) fn new(alloc: Global) -> Result<Stepped> {
+        let file = MemFile::new(alloc, &CONTENTS)?;
+        let objects = vec![in alloc; (path(alloc)?, file)]?;
+        match Kernel::boot(alloc, objects, &PROCESSES) {
+            Ok(kernel) => Ok(Stepped { kernel, tag: 0 }),
+            Err((fault, _objects)) => Err(anyhow!("{fault}")),
+        }
+    }
+}
+
+impl Recorded {
+    /// A book of a kernel with one file.
+    pub(crate) fn new(alloc: Global) -> Result<Recorded> {
+        let file = MemFile::new(alloc, &CONTENTS)?;
+        let objects = vec![in alloc; (path(alloc)?, file)]?;
+        let kernel = match Kernel::boot(alloc, objects, &PROCESSES) {
+            Ok(kernel) => kernel,
+            Err((fault, _objects)) => return Err(anyhow!("{fault}")),
+        };
+        match Book::new(alloc, kernel) {
+            Ok(book) => Ok(Recorded { book }),
+            Err((_kernel, error)) => Err(anyhow!("{error}")),
+        }
+    }
+
+    /// Whether the entry with this number tells no refusal.
+    fn is_granted(&self, number: usize) -> bool {
+        match self.book.entries().get(number) {
+            Some(entry) => !matches!(entry.reply, Reply::Err(_)),
+            None => false,
+        }
+    }
+}
+
+impl Layer for Stepped {
+    fn ask(&mut self, pid: Pid, request: &Request) -> bool {
+        if matches!(request, Request::Off) || !self.kernel.is_live(pid) {
+            return false;
+        }
+        let tag = self.tag;
+        self.tag = tag.wrapping_add(1);
+        !matches!(self.kernel.step(pid, tag, request).reply, Reply::Err(_))
+    }
+}
+
+impl Layer for Recorded {
+    fn ask(&mut self, pid: Pid, request: &Request) -> bool {
+        if !self.book.is_live(pid) {
+            return false;
+        }
+        let k = self.book.calls_of(pid);
+        match self.book.record(pid, k, request) {
+            Ok(recorded) => self.is_granted(recorded.number),
+            Err(_) => false,
+        }
+    }
+}
+
+/// Makes a call that must be granted.
+pub(crate) fn must<L: Layer>(layer: &mut L, pid: Pid, request: &Request) -> Result<()> {
+    if layer.ask(pid, request) {
+        return Ok(());
+    }
+    Err(anyhow!("a call was refused"))
+}
+
+/// Opens the file in each process, with so many descriptors of it in all.
+pub(crate) fn fill<L: Layer>(alloc: Global, layer: &mut L, open: u32) -> Result<()> {
+    let request = opening(alloc)?;
+    must(layer, CALLER, &request)?;
+    for pid in 2..=5 {
+        fill_process(layer, Pid(pid), &request, open / 4)?;
+    }
+    Ok(())
+}
+
+/// Opens so many descriptors of the file in a process, all but the first of them copies.
+fn fill_process<L: Layer>(layer: &mut L, pid: Pid, request: &Request, open: u32) -> Result<()> {
+    must(layer, pid, request)?;
+    for _ in 1..open {
+        must(layer, pid, &Request::Dup { fd: Fd(0) })?;
+    }
+    Ok(())
+}
+
+/// Makes so many descriptions of sockets, and closes them.
+pub(crate) fn make_before<L: Layer>(layer: &mut L, made: u32) -> Result<()> {
+    for _ in 0..made / 2 {
+        make_pair(layer)?;
+    }
+    Ok(())
+}
+
+/// Makes a pair, and closes it.
+fn make_pair<L: Layer>(layer: &mut L) -> Result<()> {
+    let pair = Request::SocketPair {
+        flags: OpenFlags(0),
+    };
+    must(layer, CALLER, &pair)?;
+    must(layer, CALLER, &Request::Close { fd: Fd(1) })?;
+    must(layer, CALLER, &Request::Close { fd: Fd(2) })
+}
