@@ -5,6 +5,7 @@ use std::alloc::{AllocError, Global};
 use ux_history::Book;
 use ux_kernel::Kernel;
 use ux_objects::MemFile;
+use ux_state::RetiredList;
 use ux_types::{Fd, Mode, Name, OpenFlags, Pid, ProcSpec, Reply, Request};
 
 /// A user's process with the greatest table.
@@ -34,6 +35,7 @@ pub(crate) trait Layer {
 #[derive(Drop)]
 pub(crate) struct Stepped {
     kernel: Kernel<MemFile>,
+    retired: RetiredList<MemFile>,
     tag: u64,
 }
 
@@ -41,6 +43,7 @@ pub(crate) struct Stepped {
 #[derive(Drop)]
 pub(crate) struct Recorded {
     book: Book<MemFile>,
+    retired: RetiredList<MemFile>,
 }
 
 /// The path of the file.
@@ -63,7 +66,11 @@ impl Stepped {
         let file = MemFile::new(alloc, &CONTENTS)?;
         let objects = vec![in alloc; (path(alloc)?, file)]?;
         match Kernel::boot(alloc, objects, &PROCESSES) {
-            Ok(kernel) => Ok(Stepped { kernel, tag: 0 }),
+            Ok(kernel) => Ok(Stepped {
+                kernel,
+                retired: RetiredList::new(alloc)?,
+                tag: 0,
+            }),
             Err((fault, _objects)) => Err(anyhow!("{fault}")),
         }
     }
@@ -79,7 +86,10 @@ impl Recorded {
             Err((fault, _objects)) => return Err(anyhow!("{fault}")),
         };
         match Book::new(alloc, kernel) {
-            Ok(book) => Ok(Recorded { book }),
+            Ok(book) => Ok(Recorded {
+                book,
+                retired: RetiredList::new(alloc)?,
+            }),
             Err((_kernel, error)) => Err(anyhow!("{error}")),
         }
     }
@@ -100,7 +110,9 @@ impl Layer for Stepped {
         }
         let tag = self.tag;
         self.tag = tag.wrapping_add(1);
-        !matches!(self.kernel.step(pid, tag, request).reply, Reply::Err(_))
+        self.retired.clear();
+        let reply = self.kernel.step(pid, tag, request, &mut self.retired);
+        !matches!(reply, Reply::Err(_))
     }
 }
 
@@ -110,8 +122,9 @@ impl Layer for Recorded {
             return false;
         }
         let k = self.book.calls_of(pid);
-        match self.book.record(pid, k, request) {
-            Ok(recorded) => self.is_granted(recorded.number),
+        self.retired.clear();
+        match self.book.record(pid, k, request, &mut self.retired) {
+            Ok(number) => self.is_granted(number),
             Err(_) => false,
         }
     }

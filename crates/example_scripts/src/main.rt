@@ -8,7 +8,7 @@ use std::rt::Files;
 use ux_kernel::Kernel;
 use ux_object::{FileObject, ObjKind};
 use ux_objects::{Counter, MemFile, Pipe};
-use ux_script::{ObjectSize, run_serial};
+use ux_script::run_serial;
 use ux_syntax::{Script, parse_script};
 use ux_types::Name;
 
@@ -40,8 +40,7 @@ fn trace_of(alloc: Global, script: &Script) -> Result<Vec<u8>> {
         };
         objects.push((line.name.clone()?, object))?;
     }
-    let size: ObjectSize<Boxed> = ObjectSize::new();
-    run_over(alloc, script, objects, &size)
+    run_over(alloc, script, objects)
 }
 
 /// The trace of a script over these file objects.
@@ -49,14 +48,13 @@ fn run_over<O: FileObject>(
     alloc: Global,
     script: &Script,
     objects: Vec<(Name, O)>,
-    size: &ObjectSize<O>,
 ) -> Result<Vec<u8>> {
     let kernel = match Kernel::boot(alloc, objects, &script.procs) {
         Ok(kernel) => kernel,
         Err((fault, _objects)) => return Err(anyhow!("{fault}")),
     };
     let mut trace: Vec<u8> = Vec::new(alloc);
-    run_serial(alloc, script, &mut trace, kernel, size)?;
+    run_serial(alloc, script, &mut trace, kernel)?;
     Ok(trace)
 }
 

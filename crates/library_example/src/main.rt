@@ -8,6 +8,7 @@ use std::alloc::Global;
 use ux_history::Book;
 use ux_kernel::Kernel;
 use ux_objects::MemFile;
+use ux_state::RetiredList;
 use ux_syntax::entry_text;
 use ux_types::{Bytes, Fd, Mode, Name, OpenFlags, Pid, ProcSpec, Request, Whence};
 
@@ -68,15 +69,16 @@ fn calls(alloc: Global) -> Result<Vec<Request>> {
 /// Makes the calls, and prints the history.
 fn run(rt: &(impl Print + AllocGlobal)) -> Result<()> {
     let mut book = start(rt.alloc())?;
+    let mut retired = RetiredList::new(rt.alloc())?;
     for request in &calls(rt.alloc())? {
         if !book.is_live(WRITER) {
             return Err(anyhow!("the process has exited"));
         }
         let k = book.calls_of(WRITER);
-        match book.record(WRITER, k, request) {
-            // A file object that went with the call is dropped here, closed.
-            Ok(_recorded) => {}
-            Err(fault) => return Err(anyhow!("{fault}")),
+        // The file objects that went with the call before, closed, are dropped here.
+        retired.clear();
+        if let Err(fault) = book.record(WRITER, k, request, &mut retired) {
+            return Err(anyhow!("{fault}"));
         }
     }
     for (number, entry) in book.entries().iter().enumerate() {

@@ -4,7 +4,7 @@ ghost use Rattle.ux_model.specs.Socket.{stream_room, sent, with_queue, with_rese
 ghost use Rattle.ux_model.specs.Front.{OnStreamFront};
 ghost use Rattle.ux_model.specs.Description.{socket_of, object_of, changed};
 ghost use Rattle.ux_model.specs.Pairing.{socket_description};
-ghost use Rattle.ux_model.specs.Files.{file_description};
+ghost use Rattle.ux_model.specs.Opening.{file_description};
 ghost use Rattle.ux_model.specs.Descriptors.{with_flags};
 ghost use Rattle.ux_model.specs.Peers.{lost_peer};
 ghost use Rattle.ux_desc.specs.Targets.{target_of};
@@ -34,7 +34,7 @@ pub struct Description {
     mode: Mode,
     append: bool,
     nonblock: bool,
-    target: Target,
+    pub(crate) target: Target,
 }
 
 impl Model for Description {

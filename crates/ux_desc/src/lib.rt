@@ -2,6 +2,7 @@
 //! object or a socket with its queue.
 #![tactic(auto)]
 
+mod connecting;
 mod description;
 mod phase;
 mod socket;

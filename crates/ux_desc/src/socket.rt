@@ -3,6 +3,7 @@ ghost use Rattle.std.specs.Prelude.{◌≡◌, ◌↔◌, ◌==◌, ◌<◌, min
 ghost use Rattle.ux_model.specs.Socket.{new_socket, pair_end, peer_of, pending_ends, stream_room, sent_part, queued, with_queue, with_reset};
 ghost use Rattle.ux_model.specs.Types.{SockType};
 ghost use Rattle.ux_model.specs.Front.{OnStreamFront};
+ghost use Rattle.ux_model.specs.Accepting.{without_first_end};
 ghost use Rattle.ux_model.specs.Release.{resets_peer};
 
 use crate::phase::Phase;
@@ -18,20 +19,20 @@ const STREAM_LIMIT: usize = 65536;
 /// A stream socket, without what its descriptors and its description say (unix(7)).
 #[derive(Drop)]
 pub struct Socket {
-    phase: Phase,
+    pub(crate) phase: Phase,
     /// What was sent to it.
-    queue: StreamQueue,
-    name: Addr,
+    pub(crate) queue: StreamQueue,
+    pub(crate) name: Addr,
     /// SO_PASSCRED.
     passcred: bool,
     read_shut: bool,
     write_shut: bool,
     /// SO_PEERCRED, where a peer's credentials were recorded.
-    peer_cred: Option<Cred>,
+    pub(crate) peer_cred: Option<Cred>,
     /// ECONNRESET is pending.
     reset: bool,
     /// False of a server's end that no accept has taken.
-    accepted: bool,
+    pub(crate) accepted: bool,
 }
 
 impl Model for Socket {
@@ -201,6 +202,7 @@ impl Socket {
         ensures first { result ≡ slice_get (pending_ends self.old.phase) 0 }
         ensures rest { pending_ends self.new.phase ≡ drop 1 (pending_ends self.old.phase) }
         ensures queue { self.new.queue ≡ self.old.queue }
+        ensures others { self.new ≡ without_first_end self.old }
     {
         match &mut self.phase {
             Phase::Listening(listener) => listener.backlog.pop(),

@@ -1,11 +1,13 @@
 //! A description of each kind, and what a socket does with what is sent to it. The helpers promise
 //! nothing, so that the proofs needn't follow a socket through a test.
 use crate::{Description, Socket, Target};
+use bstr::BString;
 use std::alloc::{AllocError, Global};
 use std::process::Abort;
+use ux_backlog::PushError;
 use ux_rights::RefList;
 use ux_stream::{Received, SendError};
-use ux_types::{Addr, Cred, DescriptionId, Mode, OpenFlags, Pid};
+use ux_types::{Addr, Cred, DescriptionId, Mode, Name, OpenFlags, Pid, SockType};
 
 fn user() -> Cred {
     Cred {
@@ -146,5 +148,62 @@ fn unread_messages_reset_the_peer(rt: HostRuntime) -> Result<(), AllocError> {
     assert!(rt; d.socket().is_some_and(|s| s.reset()));
     d.set_reset(false);
     assert!(rt; d.socket().is_some_and(|s| !s.reset()));
+    Ok(())
+}
+
+/// A path with these bytes, as an address.
+fn path(alloc: Global, bytes: &[u8]) -> Result<Addr, AllocError> {
+    Ok(Addr::Path(Name::new(BString::from_slice(alloc, bytes)?)))
+}
+
+/// One more end waits, or the backlog is full.
+fn expect_push(rt: &impl Abort, s: &mut Socket, end: u128, answer: Result<(), PushError>) {
+    assert!(rt; s.is_listening());
+    assert!(rt; s.push_pending(DescriptionId::new(end)) == answer);
+}
+
+#[test]
+fn a_listener_keeps_its_ends_when_it_listens_again(rt: HostRuntime) -> Result<(), AllocError> {
+    let alloc = rt.alloc();
+    let mut s = Socket::new(alloc);
+    assert!(rt; s.kind() == SockType::Stream);
+    assert!(rt; s.backlog().is_none());
+    assert!(rt; s.is_unnamed());
+    s.set_name(path(alloc, b"a")?);
+    s.listen(alloc, 2, user());
+    expect_push(&rt, &mut s, 8, Ok(()));
+    expect_push(&rt, &mut s, 9, Ok(()));
+    expect_push(&rt, &mut s, 10, Err(PushError::Full));
+    s.listen(alloc, 3, Cred { uid: 5, ..user() });
+    assert!(rt; s.listener_cred().is_some_and(|cred| cred.uid == 5));
+    expect_push(&rt, &mut s, 10, Ok(()));
+    assert!(rt; s.pop_pending() == Some(DescriptionId::new(8)));
+    assert!(rt; s.backlog().is_some_and(|backlog| backlog.len() == 2));
+    Ok(())
+}
+
+#[test]
+fn a_server_end_shows_its_listeners_name(rt: HostRuntime) -> Result<(), AllocError> {
+    let alloc = rt.alloc();
+    let mut listener = Socket::new(alloc);
+    listener.set_name(path(alloc, b"a")?);
+    listener.listen(alloc, 1, user());
+    let mut end = listener.server_end(alloc, DescriptionId::new(7), user())?;
+    assert!(rt; *end.name() == path(alloc, b"a")?);
+    assert!(rt; end.peer() == Some(DescriptionId::new(7)));
+    assert!(rt; end.is_connected());
+    assert!(rt; end.resets_peer());
+    end.set_accepted();
+    assert!(rt; !end.resets_peer());
+    let mut client = Description::of_socket(OpenFlags(0), Socket::new(alloc));
+    client.tie(DescriptionId::new(3), user());
+    client.set_accepted(OpenFlags(2));
+    assert!(rt; client.nonblock());
+    assert!(rt;
+        client
+            .socket()
+            .is_some_and(|s| s.peer() == Some(DescriptionId::new(3)))
+    );
+    assert!(rt; client.abstract_name().is_none());
     Ok(())
 }

@@ -1,19 +1,35 @@
--- A history that grows by one entry.
-use Rattle.std.proofs.Common.{◌≡◌, ℕ, ◌+◌, ◌<◌, ◌==◌, ◌&&◌, not, List, [], ◌∷◌, ◌++◌, length, get_or, set, Bool, true, false, cond, if◌then◌else◌, refl, ap, sym, ◌∙◌, subst, arith}
+-- A history that begins, and one that grows by one entry.
+use Rattle.std.proofs.Common.{◌≡◌, ℕ, ◌+◌, ◌<◌, ◌==◌, ◌&&◌, not, List, [], ◌∷◌, ◌++◌, length, get_or, set, replicate, Bool, true, false, cond, if◌then◌else◌, refl, ap, sym, ◌∙◌, subst, arith}
 use Rattle.std.specs.Prelude.{slice_index}
-use Rattle.std.proofs.lemmas.List.{length-set, get_or-set_same, get_or-set_other}
+use Rattle.std.proofs.lemmas.List.{length-set, length-replicate, get_or-replicate, get_or-set_same, get_or-set_other}
 use Rattle.std.proofs.lemmas.List.Sums.{sum_by_push}
 use Rattle.std.proofs.lemmas.Bool.{eqb-true, eqb-false, and_parts, and_from}
 use Rattle.ux_model.specs.Types.{Pid, Request, Entry}
 use Rattle.ux_model.specs.State.{State, is_live}
+use Rattle.ux_model.specs.Boot.{IsBootState}
 use Rattle.ux_model.specs.Step.{Step}
 use Rattle.ux_model.specs.History.{calls_of, is_off, has_live, is_allowed, replay, MayFollow}
 use Rattle.ux_model.proofs.Replays.{step_replay}
-use Rattle.ux_model.proofs.Appending.{legal_push}
+use Rattle.ux_model.proofs.Appending.{legal_empty, legal_push}
 use Rattle.ux_model.proofs.Living.{step_keeps_processes}
 use Rattle.ux_state.proofs.Lookups.{live_inside, live_positive}
 use Rattle.ux_kernel.specs.Calling.{IsCaller}
 use Rattle.ux_history.specs.Books.{Held, IsBook, state_of, may_call}
+
+-- a book without entries, whose counts are all 0
+zeros_book : (S : State) (n : ℕ) → IsBootState S → n ≡ length S.processes + 1 → IsBook S [] S (replicate n 0)
+zeros_book S n boots count = record {
+  legal = legal_empty S boots;
+  at_replay = refl;
+  slots = length-replicate n 0 ∙ count;
+  counted = λ p h. let long = length-replicate {A = ℕ} n 0 in get_or-replicate n p 0 0 (omega (arith, h, long));
+}
+
+pub book_empty : (boot S : State) (es : List Entry) (cs : List ℕ) (n : ℕ) → IsBootState S → boot ≡ S → es ≡ [] → n ≡ length S.processes + 1 → cs ≡ replicate n 0 → IsBook boot es S cs
+book_empty boot S es cs n boots same none count zeros =
+    subst (λ (b : State). IsBook b es S cs) (sym same)
+    (subst (λ (l : List Entry). IsBook S l S cs) (sym none)
+    (subst (λ (l : List ℕ). IsBook S [] S l) (sym zeros) (zeros_book S n boots count)))
 
 -- a step from the end of a history is an entry that may follow
 may_follow : (boot S T : State) (es : List Entry) (e : Entry) → S ≡ replay boot es → is_allowed S e.pid.0 e.k e.request ≡ true →

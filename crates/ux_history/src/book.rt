@@ -5,18 +5,17 @@ ghost use Rattle.ux_model.specs.Limits.{object_limit};
 ghost use Rattle.ux_model.specs.Boot.{IsBootState};
 ghost use Rattle.ux_model.specs.State.{is_live};
 ghost use Rattle.ux_model.specs.History.{calls_of, is_off, replay, IsLegal};
-ghost use Rattle.ux_kernel.specs.Calling.{IsClosedObject};
+ghost use Rattle.ux_model.specs.HandingOut.{IsHandedOut};
 ghost use Rattle.ux_history.specs.Books.{state_of, may_call, Appends};
 
 use crate::fault::{CallFault, NoMemory};
-use arrayvec::ArrayVec;
 use std::alloc::{AllocError, Global};
 use std::marker::Model;
 use std::snapshot::Snapshot;
 use ux_kernel::Kernel;
 use ux_object::FileObject;
-use ux_state::Retired;
-use ux_types::{Entry, OBJECT_LIMIT, Pid, Released, Reply, Request};
+use ux_state::{Retired, RetiredList};
+use ux_types::{Entry, Pid, Released, Reply, Request};
 
 /// A kernel with all that was called since its boot state. Contracts see that state and the entries;
 /// the kernel is at the end of them.
@@ -27,15 +26,6 @@ pub struct Book<O: FileObject> {
     kernel: Kernel<O>,
     /// How many entries there are with each process's number, those of no process first.
     calls: Vec<u64>,
-}
-
-/// What a call left behind.
-#[derive(Drop)]
-pub struct Recorded<O: FileObject> {
-    /// The number of its entry.
-    pub number: usize,
-    /// The file objects that went with it, closed, by rising number.
-    pub retired: ArrayVec<Retired<O>, OBJECT_LIMIT>,
 }
 
 impl<O: FileObject> Model for Book<O> {
@@ -120,43 +110,58 @@ impl<O: FileObject> Book<O> {
     }
 
     /// Makes a call of this process, the one before which it made `k` calls, or the end of the layer, and
-    /// keeps it as one more entry. All growths come before the call is made.
+    /// keeps it as one more entry, whose number it gives. The file objects that went with the call are put
+    /// into an empty list by rising number, closed and otherwise as they were. All growths come before the
+    /// call is made.
     ///
     /// # Errors
     ///
     /// `Stranger` where this may not be the next call, else `NoMemory`. The book is then as before.
-    pub fn record(&mut self, pid: Pid, k: u64, request: &Request) -> Result<Recorded<O>, CallFault>
+    pub fn record(
+        &mut self,
+        pid: Pid,
+        k: u64,
+        request: &Request,
+        retired: &mut RetiredList<O>,
+    ) -> Result<usize, CallFault>
+        requires empty { retired.old ≡ [] }
         ensures known { OnOk result (may_call self.old pid k request.now ≡ true) }
         ensures stranger { (result ≡ Err CallFault.Stranger) ↔ (may_call self.old pid k request.now ≡ false) }
-        ensures entry { IfOk result (λ r. Appends self.old self.new pid k request.now (map (λ o. o.0) r.retired.items)) }
-        ensures number { IfOk result (λ r. r.number ≡ length self.old.entries) }
-        ensures closed { IfOk result (λ r. AllByRecursion IsClosedObject r.retired.items) }
+        ensures entry { OnOk result (Appends self.old self.new pid k request.now (map (λ r. r.0) retired.new)) }
+        ensures number { IfOk result (λ n. n ≡ length self.old.entries) }
+        ensures handed_out { OnOk result (AllByRecursion (IsHandedOut (state_of self.old)) retired.new) }
         ensures same { OnErr result (self.new ≡ self.old) }
+        ensures none { OnErr result (retired.new ≡ []) }
     {
         if !self.may_call(pid, k, request) {
             return Err(CallFault::Stranger);
         }
-        match self.append(pid, k, request) {
-            Ok(recorded) => Ok(recorded),
+        match self.append(pid, k, request, retired) {
+            Ok(number) => Ok(number),
             Err(AllocError) => Err(CallFault::NoMemory),
         }
     }
 
     /// Makes the next call, and keeps it as one more entry.
-    fn append(&mut self, pid: Pid, k: u64, request: &Request) -> Result<Recorded<O>, AllocError>
-        requires { may_call self.old pid k request.now ≡ true }
-        ensures entry { IfOk result (λ r. Appends self.old self.new pid k request.now (map (λ o. o.0) r.retired.items)) }
-        ensures number { IfOk result (λ r. r.number ≡ length self.old.entries) }
-        ensures closed { IfOk result (λ r. AllByRecursion IsClosedObject r.retired.items) }
+    fn append(
+        &mut self,
+        pid: Pid,
+        k: u64,
+        request: &Request,
+        retired: &mut RetiredList<O>,
+    ) -> Result<usize, AllocError>
+        requires call { may_call self.old pid k request.now ≡ true }
+        requires empty { retired.old ≡ [] }
+        ensures entry { OnOk result (Appends self.old self.new pid k request.now (map (λ r. r.0) retired.new)) }
+        ensures number { IfOk result (λ n. n ≡ length self.old.entries) }
+        ensures handed_out { OnOk result (AllByRecursion (IsHandedOut (state_of self.old)) retired.new) }
         ensures same { OnErr result (self.new ≡ self.old) }
+        ensures none { OnErr result (retired.new ≡ []) }
     {
         let copy = copy_of(request)?;
         self.entries.reserve(1)?;
         let number = self.entries.len();
-        let mut reply = Reply::Ok;
-        let retired = self
-            .kernel
-            .step_into(pid, number as u64, request, &mut reply);
+        let reply = self.kernel.step(pid, number as u64, request, retired);
         let entry = Entry {
             pid,
             k,
@@ -165,7 +170,7 @@ impl<O: FileObject> Book<O> {
             released: numbers_of(retired.as_slice()),
         };
         note(&mut self.entries, &mut self.calls, entry);
-        Ok(Recorded { number, retired })
+        Ok(number)
     }
 }
 

@@ -4,7 +4,7 @@
 mod book;
 mod fault;
 
-pub use book::{Book, Recorded};
+pub use book::Book;
 pub use fault::{CallFault, NoMemory};
 pub use ux_types::Entry;
 

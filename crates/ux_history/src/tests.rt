@@ -1,10 +1,11 @@
-use crate::{Book, CallFault, Recorded};
+use crate::{Book, CallFault};
 use bstr::BString;
 use std::alloc::{AllocError, Global};
 use std::test::Fail;
 use ux_kernel::Kernel;
 use ux_object::FileObject;
 use ux_objects::Counter;
+use ux_state::RetiredList;
 use ux_types::{Errno, Fd, Mode, Name, OpenFlags, Pid, ProcSpec, Reply, Request};
 
 const ONE: [ProcSpec; 1] = [ProcSpec {
@@ -23,51 +24,64 @@ fn named(alloc: Global, path: &[u8]) -> Result<Name, AllocError> {
     Ok(Name::new(BString::new(Vec::from_slice(alloc, path)?)))
 }
 
+/// A book, and a list for what its calls let go of.
+#[derive(Drop)]
+struct Shelf {
+    book: Book<Counter>,
+    retired: RetiredList<Counter>,
+}
+
 /// A book of one process and these file objects.
-fn book_of(alloc: Global, objects: Vec<(Name, Counter)>) -> Result<Book<Counter>, Fail> {
+fn book_of(alloc: Global, objects: Vec<(Name, Counter)>) -> Result<Shelf, Fail> {
     let Ok(kernel) = Kernel::boot(alloc, objects, &ONE) else {
         return Err(Fail::from("no kernel"));
     };
     match Book::new(alloc, kernel) {
-        Ok(book) => Ok(book),
+        Ok(book) => Ok(Shelf {
+            book,
+            retired: RetiredList::new(alloc)?,
+        }),
         Err(_) => Err(Fail::from("no book")),
     }
 }
 
-/// Whether it is entry `number`, with which so many file objects went, all closed.
+/// Whether this call makes entry `number`, and so many file objects go with it, all closed.
 fn is_entry(
-    recorded: &Result<Recorded<Counter>, CallFault>,
+    shelf: &mut Shelf,
+    pid: u32,
+    k: u64,
+    request: &Request,
     number: usize,
-    retired: usize,
+    gone: usize,
 ) -> bool {
-    recorded.as_ref().is_ok_and(|r| {
-        r.number == number
-            && r.retired.len() == retired
-            && r.retired
-                .iter()
-                .all(|o| o.object().is_some_and(|object| !object.is_open()))
-    })
+    shelf.retired.clear();
+    shelf.book.record(Pid(pid), k, request, &mut shelf.retired) == Ok(number)
+        && shelf.retired.len() == gone
+        && shelf
+            .retired
+            .as_slice()
+            .iter()
+            .all(|o| !o.object().is_open())
 }
 
-/// Whether the book told a stranger.
-fn is_stranger(recorded: &Result<Recorded<Counter>, CallFault>) -> bool {
-    recorded
-        .as_ref()
-        .is_err_and(|fault| *fault == CallFault::Stranger)
+/// Whether the book refuses this call as a stranger's.
+fn is_stranger(shelf: &mut Shelf, pid: u32, k: u64, request: &Request) -> bool {
+    shelf.retired.clear();
+    shelf.book.record(Pid(pid), k, request, &mut shelf.retired) == Err(CallFault::Stranger)
 }
 
 #[test]
 fn each_call_is_one_entry(rt: HostRuntime) -> Result<(), Fail> {
     let alloc = rt.alloc();
-    let mut book = book_of(alloc, Vec::new(alloc))?;
-    let pid = Pid(1);
-    assert!(rt; is_entry(&book.record(pid, 0, &PAIR), 0, 0));
-    assert!(rt; is_entry(&book.record(pid, 1, &Request::Close { fd: Fd(7) }), 1, 0));
-    assert!(rt; book.is_live(pid));
-    assert_eq!(rt; book.calls_of(pid), 2);
-    assert!(rt; is_entry(&book.record(pid, 2, &Request::Exit), 2, 0));
-    assert!(rt; !book.is_live(pid));
-    let entries = book.into_entries();
+    let mut shelf = book_of(alloc, Vec::new(alloc))?;
+    let b = &mut shelf;
+    assert!(rt; is_entry(b, 1, 0, &PAIR, 0, 0));
+    assert!(rt; is_entry(b, 1, 1, &Request::Close { fd: Fd(7) }, 1, 0));
+    assert!(rt; b.book.is_live(Pid(1)));
+    assert_eq!(rt; b.book.calls_of(Pid(1)), 2);
+    assert!(rt; is_entry(b, 1, 2, &Request::Exit, 2, 0));
+    assert!(rt; !b.book.is_live(Pid(1)));
+    let entries = shelf.book.into_entries();
     assert_eq!(rt; entries.len(), 3);
     assert_eq!(rt; entries[0].reply, Reply::Fds(Fd(0), Fd(1)));
     assert_eq!(rt; entries[1].reply, Reply::Err(Errno::EBADF));
@@ -79,13 +93,14 @@ fn each_call_is_one_entry(rt: HostRuntime) -> Result<(), Fail> {
 #[test]
 fn a_stranger_is_told_and_leaves_no_entry(rt: HostRuntime) -> Result<(), Fail> {
     let alloc = rt.alloc();
-    let mut book = book_of(alloc, Vec::new(alloc))?;
-    assert!(rt; is_stranger(&book.record(Pid(0), 0, &PAIR)));
-    assert!(rt; is_stranger(&book.record(Pid(2), 0, &PAIR)));
-    assert!(rt; is_stranger(&book.record(Pid(1), 1, &PAIR)));
-    assert!(rt; is_entry(&book.record(Pid(1), 0, &Request::Exit), 0, 0));
-    assert!(rt; is_stranger(&book.record(Pid(1), 1, &Request::Exit)));
-    assert_eq!(rt; book.entries().len(), 1);
+    let mut shelf = book_of(alloc, Vec::new(alloc))?;
+    let b = &mut shelf;
+    assert!(rt; is_stranger(b, 0, 0, &PAIR));
+    assert!(rt; is_stranger(b, 2, 0, &PAIR));
+    assert!(rt; is_stranger(b, 1, 1, &PAIR));
+    assert!(rt; is_entry(b, 1, 0, &Request::Exit, 0, 0));
+    assert!(rt; is_stranger(b, 1, 1, &Request::Exit));
+    assert_eq!(rt; shelf.book.entries().len(), 1);
     Ok(())
 }
 
@@ -94,18 +109,19 @@ fn the_end_comes_once_and_releases_all(rt: HostRuntime) -> Result<(), Fail> {
     let alloc = rt.alloc();
     let mut objects = Vec::new(alloc);
     objects.push((named(alloc, b"c")?, Counter::new()))?;
-    let mut book = book_of(alloc, objects)?;
+    let mut shelf = book_of(alloc, objects)?;
+    let b = &mut shelf;
     let off = Request::Off;
-    assert!(rt; !book.may_call(Pid(0), 0, &off));
-    assert!(rt; is_stranger(&book.record(Pid(0), 0, &off)));
-    assert!(rt; is_stranger(&book.record(Pid(1), 0, &off)));
-    assert!(rt; is_entry(&book.record(Pid(1), 0, &Request::Exit), 0, 0));
-    assert!(rt; is_stranger(&book.record(Pid(0), 1, &off)));
-    assert!(rt; book.may_call(Pid(0), 0, &off));
-    assert!(rt; is_entry(&book.record(Pid(0), 0, &off), 1, 1));
-    assert!(rt; is_stranger(&book.record(Pid(0), 0, &off)));
-    assert!(rt; is_stranger(&book.record(Pid(0), 1, &off)));
-    let entries = book.entries();
+    assert!(rt; !b.book.may_call(Pid(0), 0, &off));
+    assert!(rt; is_stranger(b, 0, 0, &off));
+    assert!(rt; is_stranger(b, 1, 0, &off));
+    assert!(rt; is_entry(b, 1, 0, &Request::Exit, 0, 0));
+    assert!(rt; is_stranger(b, 0, 1, &off));
+    assert!(rt; b.book.may_call(Pid(0), 0, &off));
+    assert!(rt; is_entry(b, 0, 0, &off, 1, 1));
+    assert!(rt; is_stranger(b, 0, 0, &off));
+    assert!(rt; is_stranger(b, 0, 1, &off));
+    let entries = shelf.book.entries();
     assert_eq!(rt; entries.len(), 2);
     assert!(rt; entries[0].released.as_slice().is_empty());
     assert_eq!(rt; entries[1].released.as_slice(), [0].as_slice());
@@ -117,7 +133,8 @@ fn an_object_goes_with_its_last_descriptor(rt: HostRuntime) -> Result<(), Fail> 
     let alloc = rt.alloc();
     let mut objects = Vec::new(alloc);
     objects.push((named(alloc, b"c")?, Counter::new()))?;
-    let mut book = book_of(alloc, objects)?;
+    let mut shelf = book_of(alloc, objects)?;
+    let b = &mut shelf;
     let open = Request::Open {
         path: named(alloc, b"c")?,
         mode: Mode::Both,
@@ -126,10 +143,10 @@ fn an_object_goes_with_its_last_descriptor(rt: HostRuntime) -> Result<(), Fail> 
     let unlink = Request::Unlink {
         path: named(alloc, b"c")?,
     };
-    assert!(rt; is_entry(&book.record(Pid(1), 0, &open), 0, 0));
-    assert!(rt; is_entry(&book.record(Pid(1), 1, &unlink), 1, 0));
-    assert!(rt; is_entry(&book.record(Pid(1), 2, &Request::Close { fd: Fd(0) }), 2, 1));
-    let entries = book.entries();
+    assert!(rt; is_entry(b, 1, 0, &open, 0, 0));
+    assert!(rt; is_entry(b, 1, 1, &unlink, 1, 0));
+    assert!(rt; is_entry(b, 1, 2, &Request::Close { fd: Fd(0) }, 2, 1));
+    let entries = shelf.book.entries();
     assert_eq!(rt; entries.len(), 3);
     assert_eq!(rt; entries[0].reply, Reply::Fd(Fd(0)));
     assert!(rt; entries[1].released.as_slice().is_empty());

@@ -65,6 +65,10 @@ pub open_of : {X : Type 0} (V : X → View) (xs : List (Name × X)) (specs : Lis
     list_all (λ o. View.opened (V o.1)) xs ≡ true
 open_of V xs specs h = sym (list_all-map (λ o. View.opened o.1) (λ o. (o.0, V o.1)) xs) ∙ (faultless (map (λ o. (o.0, V o.1)) xs) specs h).opened
 
+pub distinct_of : {X : Type 0} (V : X → View) (xs : List (Name × X)) (specs : List ProcSpec) → fault_of (map (λ o. (o.0, V o.1)) xs) specs ≡ None →
+    are_distinct (map (λ o. o.0) xs) ≡ true
+distinct_of V xs specs h = sym (ap are_distinct (names_kept V xs)) ∙ (faultless (map (λ o. (o.0, V o.1)) xs) specs h).distinct
+
 -- the first fault by the tests of the objects themselves
 abbrev pub fault_by : Bool → Bool → Bool → Bool → Bool → Option BootFault
 fault_by many_objects many_processes valid distinct opened =

@@ -7,10 +7,11 @@ use Rattle.ux_model.specs.Description.{Description}
 use Rattle.ux_model.specs.Process.{Descriptor}
 use Rattle.ux_model.specs.State.{State, description_at}
 use Rattle.ux_model.specs.Outcome.{Outcome, refuse, find_description}
-use Rattle.ux_kernel.specs.Answers.{GivesOrFails}
-use Rattle.ux_model.specs.Files.{read, write}
+use Rattle.ux_msg.specs.Answers.{GivesOrFails}
+use Rattle.ux_model.specs.Reading.{read}
+use Rattle.ux_model.specs.Writing.{write}
 use Rattle.ux_kernel.specs.FileCalls.{read_of, read_at, write_of, write_at}
-use Rattle.ux_kernel.proofs.Found.{found}
+use Rattle.ux_msg.proofs.Found.{found}
 
 -- what the rest says of the description that was found, by its number and by the entry
 by_entry : (S : State) (p : ℕ) (fd : Fd) (e : Descriptor) (D : Description) (rest : ℕ → Description → Outcome) → find_description S p fd ≡ Ok (e, D) →

@@ -1,14 +1,9 @@
--- Who may make a call, and what goes with it.
-use Rattle.std.specs.Prelude.{◌≡◌, ℕ, false, not, ◌&&◌, ◌==◌, if◌then◌else◌, IsTrue, Option, IsSomeAnd}
+-- Who may make a call.
+use Rattle.std.specs.Prelude.{ℕ, not, ◌&&◌, ◌==◌, if◌then◌else◌, IsTrue}
 use Rattle.ux_model.specs.Types.{Request}
-use Rattle.ux_model.specs.Object.{View}
 use Rattle.ux_model.specs.State.{State, is_live}
 use Rattle.ux_model.specs.History.{is_off, has_live}
 
 -- A process that hasn't exited may make any call but off, which none makes once no process is left.
 abbrev pub IsCaller : State → ℕ → Request → Type 0
 IsCaller S p request = IsTrue (if is_off request then (p == 0) && not (has_live S) else is_live S p)
-
--- a file object that is handed out is there, and closed
-abbrev pub IsClosedObject : ℕ × Option View → Type 0
-IsClosedObject r = IsSomeAnd r.1 (λ view. view.opened ≡ false)

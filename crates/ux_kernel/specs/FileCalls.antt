@@ -9,11 +9,13 @@ use Rattle.ux_object.specs.Kind.{kind_of}
 use Rattle.ux_object.specs.declared.ObjKind.{ObjKind}
 use Rattle.ux_object.specs.declared.ObjError.{ObjError}
 use Rattle.ux_model.specs.Description.{Description, to_object, to_socket}
-use Rattle.ux_model.specs.State.{State, description_at, socket_at}
+use Rattle.ux_model.specs.State.{State, description_at}
 use Rattle.ux_model.specs.Outcome.{Outcome, refuse, as_process}
 use Rattle.ux_model.specs.Sending.{write_socket}
 use Rattle.ux_model.specs.Receiving.{read_socket}
-use Rattle.ux_model.specs.Files.{on_object, read_object, write_object, is_short_read, holds_bytes, is_open_for, write_place}
+use Rattle.ux_model.specs.FileObjects.{on_object, holds_bytes, is_open_for}
+use Rattle.ux_model.specs.Reading.{read_object, is_short_read}
+use Rattle.ux_model.specs.Writing.{write_object, write_place}
 use Rattle.ux_kernel.specs.declared.open_file.OpenFile.{OpenFile}
 
 -- the offset, if it is at least 0 and has 63 bits
@@ -46,9 +48,6 @@ read_of S d D n = elim D.target [
 
 abbrev pub read_at : State → ℕ → ℕ → Outcome
 read_at S d n = elim (description_at S d) [ None ↦ refuse S Errno.EBADF | Some D ↦ read_of S d D n ]
-
-abbrev pub read_socket_at : State → ℕ → ℕ → Outcome
-read_socket_at S d n = elim (socket_at S d) [ None ↦ refuse S Errno.EBADF | Some s ↦ read_socket S d s n ]
 
 -- A read of n bytes will be answered by the object itself: it is there, may be read, and has something to give. So many bytes are
 -- wanted of it as are asked for, or as a memory file has behind the offset.

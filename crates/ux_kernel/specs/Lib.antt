@@ -1,5 +1,3 @@
-pub mod Answers
 pub mod Faults
-pub mod Receipts
 pub mod Calling
 pub mod FileCalls

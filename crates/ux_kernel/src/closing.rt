@@ -2,7 +2,7 @@
 ghost use Rattle.std.specs.Prelude.{◌≡◌, IsTrue};
 ghost use Rattle.ux_model.specs.State.{is_live};
 ghost use Rattle.ux_model.specs.Closing as model;
-ghost use Rattle.ux_kernel.specs.Answers.{Gives};
+ghost use Rattle.ux_msg.specs.Answers.{Gives};
 
 use crate::kernel::Kernel;
 use ux_object::FileObject;

@@ -1,7 +1,7 @@
 //! Further descriptors (dup(2), dup2(2)), and the flags of one (fcntl(2)).
 ghost use Rattle.std.specs.Prelude.{◌≡◌, IsTrue};
 ghost use Rattle.ux_model.specs.State.{is_live};
-ghost use Rattle.ux_kernel.specs.Answers.{Gives};
+ghost use Rattle.ux_msg.specs.Answers.{Gives};
 ghost use Rattle.ux_model.specs.Descriptors as model;
 
 use crate::kernel::Kernel;
@@ -12,7 +12,7 @@ use ux_types::{Fd, OpenFlags, Pid, Refusal, Reply};
 impl<O: FileObject> Kernel<O> {
     /// dup(2): the lowest free number leads to the same description. EBADF where the number isn't open,
     /// else EMFILE where none is free.
-    #[tactic(auto, using(crate::proofs::Found::found_held), unfolding(ux_model::specs::Descriptors::dup))]
+    #[tactic(auto, using(ux_msg::proofs::Found::found_held), unfolding(ux_model::specs::Descriptors::dup))]
     pub(crate) fn dup(&mut self, pid: Pid, fd: Fd) -> Result<Reply, Refusal>
         requires { IsTrue (is_live self.old pid.0) }
         ensures { Gives self.old (model.dup self.old pid.0 fd) result self.new }
@@ -27,7 +27,7 @@ impl<O: FileObject> Kernel<O> {
 
     /// dup2(2): a number of the caller's choice leads to the same description, in place of what was open
     /// there. EBADF where the first isn't open or the second isn't below the limit.
-    #[tactic(auto, using(crate::proofs::Found::found_held), unfolding(ux_model::specs::Descriptors::dup2))]
+    #[tactic(auto, using(ux_msg::proofs::Found::found_held), unfolding(ux_model::specs::Descriptors::dup2))]
     pub(crate) fn dup2(&mut self, pid: Pid, fd: Fd, to: Fd) -> Result<Reply, Refusal>
         requires { IsTrue (is_live self.old pid.0) }
         ensures { Gives self.old (model.dup2 self.old pid.0 fd to) result self.new }

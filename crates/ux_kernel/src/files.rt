@@ -1,12 +1,14 @@
 //! Opening file objects (open(2)), and moving in them (lseek(2)).
 ghost use Rattle.std.specs.Prelude.{◌≡◌, IsTrue, pos, ◌+ℤ◌};
 ghost use Rattle.ux_model.specs.State.{is_live};
-ghost use Rattle.ux_kernel.specs.Answers.{Gives};
-ghost use Rattle.ux_model.specs.Files as model;
+ghost use Rattle.ux_msg.specs.Answers.{Gives};
+ghost use Rattle.ux_model.specs.Opening as opening;
+ghost use Rattle.ux_model.specs.Seeking as seeking;
 ghost use Rattle.ux_kernel.specs.FileCalls.{seek_target};
 
 use crate::kernel::Kernel;
 use crate::naming::is_valid_path;
+use ux_names::PathTarget;
 use ux_object::{FileObject, ObjKind};
 use ux_types::{Errno, Fd, Mode, Name, OpenFlags, Pid, Refusal, Reply, Whence};
 
@@ -14,9 +16,9 @@ use ux_types::{Errno, Fd, Mode, Name, OpenFlags, Pid, Refusal, Reply, Whence};
 const OFFSET_LIMIT: i128 = 9223372036854775807;
 
 impl<O: FileObject> Kernel<O> {
-    /// open(2). EINVAL for a path that can't be, ENOENT for one that isn't there, EMFILE where no number is
-    /// free, in this order.
-    #[tactic(auto, unfolding(ux_model::specs::Files::open_file))]
+    /// open(2). EINVAL for a path that can't be, ENOENT for one that isn't there, EOPNOTSUPP for one of a
+    /// socket, EMFILE where no number is free, in this order.
+    #[tactic(auto, unfolding(ux_model::specs::Opening::open_file))]
     pub(crate) fn open_file(
         &mut self,
         pid: Pid,
@@ -25,19 +27,23 @@ impl<O: FileObject> Kernel<O> {
         flags: OpenFlags,
     ) -> Result<Reply, Refusal>
         requires { IsTrue (is_live self.old pid.0) }
-        ensures { Gives self.old (model.open_file self.old pid.0 path.now mode flags) result self.new }
+        ensures { Gives self.old (opening.open_file self.old pid.0 path.now mode flags) result self.new }
     {
         if !is_valid_path(path) {
             return Err(Refusal::Answer(Errno::EINVAL));
         }
-        let object = self.state.path(path).ok_or(Errno::ENOENT)?;
+        let object = match self.state.path(path) {
+            Some(PathTarget::File(object)) => object,
+            Some(PathTarget::Socket(_)) => return Err(Refusal::Answer(Errno::EOPNOTSUPP)),
+            None => return Err(Refusal::Answer(Errno::ENOENT)),
+        };
         let fd = self.state.open_object(pid, object, mode, flags)?;
         Ok(Reply::Fd(fd))
     }
 
     /// lseek(2). EBADF where the number isn't open, ESPIPE where it leads to no memory file, EINVAL for an
     /// offset below 0 or above 2^63 - 1.
-    #[tactic(auto, unfolding(ux_model::specs::Files::lseek))]
+    #[tactic(auto, unfolding(ux_model::specs::Seeking::lseek))]
     pub(crate) fn lseek(
         &mut self,
         pid: Pid,
@@ -46,7 +52,7 @@ impl<O: FileObject> Kernel<O> {
         whence: Whence,
     ) -> Result<Reply, Refusal>
         requires { IsTrue (is_live self.old pid.0) }
-        ensures { Gives self.old (model.lseek self.old pid.0 fd offset whence) result self.new }
+        ensures { Gives self.old (seeking.lseek self.old pid.0 fd offset whence) result self.new }
     {
         let (entry, description) = match self.state.find_description(pid, fd) {
             Ok(found) => found,

@@ -11,14 +11,8 @@ mod naming;
 mod open_file;
 mod pairing;
 mod reading;
-mod receiving;
-mod sending;
 mod step;
 mod writing;
 
 pub use boot::BootFault;
 pub use kernel::Kernel;
-pub use step::Done;
-
-#[cfg(test)]
-mod tests;

@@ -3,7 +3,7 @@ ghost use Rattle.std.specs.Prelude.{◌≡◌, ◌==◌};
 ghost use Rattle.std.specs.List.{list_any};
 ghost use Rattle.ux_model.specs.Names.{is_valid_path};
 ghost use Rattle.ux_model.specs.Naming as model;
-ghost use Rattle.ux_kernel.specs.Answers.{Gives};
+ghost use Rattle.ux_msg.specs.Answers.{Gives};
 
 use crate::kernel::Kernel;
 use ux_object::FileObject;

@@ -2,7 +2,7 @@
 ghost use Rattle.std.specs.Prelude.{IsTrue};
 ghost use Rattle.ux_model.specs.Types.{SockType};
 ghost use Rattle.ux_model.specs.State.{is_live};
-ghost use Rattle.ux_kernel.specs.Answers.{Gives};
+ghost use Rattle.ux_msg.specs.Answers.{Gives};
 ghost use Rattle.ux_model.specs.Pairing as model;
 
 use crate::kernel::Kernel;

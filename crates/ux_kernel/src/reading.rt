@@ -2,15 +2,16 @@
 ghost use Rattle.std.specs.Prelude.{◌≡◌, ◌+◌, ◌<◌, ◌^◌, IsTrue, Some};
 ghost use Rattle.ux_model.specs.State.{is_live, description_at};
 ghost use Rattle.ux_model.specs.Object.{read_body};
-ghost use Rattle.ux_kernel.specs.Answers.{Gives, GivesOrFails};
-ghost use Rattle.ux_model.specs.Files as model;
+ghost use Rattle.ux_msg.specs.Answers.{GivesOrFails};
+ghost use Rattle.ux_model.specs.Reading as model;
 ghost use Rattle.ux_object.specs.Kind.{kind_of};
-ghost use Rattle.ux_kernel.specs.FileCalls.{description_of, read_file, read_at, read_socket_at, IsReadable};
+ghost use Rattle.ux_kernel.specs.FileCalls.{description_of, read_file, read_at, IsReadable};
 
 use crate::kernel::Kernel;
 use crate::open_file::{OpenFile, errno_of};
+use ux_msg::read_socket;
 use ux_object::{FileObject, ObjKind};
-use ux_types::{Bytes, DescriptionId, Errno, Fd, MsgFlags, Pid, Refusal, Reply};
+use ux_types::{Bytes, DescriptionId, Errno, Fd, Pid, Refusal, Reply};
 
 /// The bytes that one read asks for at most.
 const READ_LIMIT: usize = 1048576;
@@ -21,7 +22,7 @@ const COUNTER_BYTES: usize = 8;
 impl<O: FileObject> Kernel<O> {
     /// read(2). EBADF where the number isn't open, or not for reading, EINVAL for fewer than 8 bytes of a
     /// counter, EAGAIN where there is nothing to read, EIO where the file object failed.
-    #[tactic(auto, unfolding(ux_model::specs::Files::read))]
+    #[tactic(auto, unfolding(ux_model::specs::Reading::read))]
     pub(crate) fn read(&mut self, pid: Pid, fd: Fd, n: usize) -> Result<Reply, Refusal>
         requires { IsTrue (is_live self.old pid.0) }
         ensures { GivesOrFails self.old (model.read self.old pid.0 fd n) result self.new }
@@ -42,18 +43,8 @@ impl<O: FileObject> Kernel<O> {
         };
         match OpenFile::of(id, description) {
             Some(file) => self.read_file(file, n),
-            None => self.read_socket(id, n),
+            None => read_socket(&mut self.state, self.alloc, id, n),
         }
-    }
-
-    /// Receives at the socket of this description, and answers the bytes alone.
-    fn read_socket(&mut self, id: DescriptionId, n: usize) -> Result<Reply, Refusal>
-        ensures { Gives self.old (read_socket_at self.old id n) result self.new }
-    {
-        Ok(match self.recv_at(id, n, MsgFlags(0))? {
-            Reply::Received { bytes, .. } => Reply::Bytes(bytes),
-            reply => reply,
-        })
     }
 
     /// Reads of an open file object.

@@ -1,64 +1,57 @@
 //! One call.
-ghost use Rattle.std.specs.Prelude.{map};
+ghost use Rattle.std.specs.Prelude.{◌≡◌, [], map};
 ghost use Rattle.std.specs.List.{AllByRecursion};
-ghost use Rattle.ux_kernel.specs.Answers.{GivesOrFails};
+ghost use Rattle.ux_msg.specs.Answers.{GivesOrFails};
 ghost use Rattle.ux_model.specs.Step.{outcome, Step};
-ghost use Rattle.ux_kernel.specs.Calling.{IsCaller, IsClosedObject};
+ghost use Rattle.ux_model.specs.Outcome.{Chosen};
+ghost use Rattle.ux_model.specs.HandingOut.{IsHandedOut};
+ghost use Rattle.ux_kernel.specs.Calling.{IsCaller};
 
 use crate::kernel::Kernel;
-use arrayvec::ArrayVec;
+use ux_msg::{recv_msg, send_msg};
 use ux_object::FileObject;
-use ux_state::Retired;
-use ux_types::{Errno, OBJECT_LIMIT, Pid, Refusal, Reply, Request};
-
-/// What a call left behind.
-#[derive(Drop)]
-pub struct Done<O: FileObject> {
-    /// What the process is answered.
-    pub reply: Reply,
-    /// The file objects that went with the call, closed, by rising number.
-    pub retired: ArrayVec<Retired<O>, OBJECT_LIMIT>,
-}
+use ux_state::RetiredList;
+use ux_types::{Errno, Pid, Refusal, Reply, Request};
 
 impl<O: FileObject> Kernel<O> {
     /// Makes one call of a process that hasn't exited, or the end of the layer once none is left, and
-    /// releases what nothing refers to any more. `tag` is the number of the call, which a message that
-    /// it sends keeps. A refusal is the reply. One with ENOMEM leaves the kernel as it was; close(2) and
-    /// _exit(2) never give it.
-    pub fn step(&mut self, pid: Pid, tag: u64, request: &Request) -> Done<O>
-        requires { IsCaller self.old pid.0 request.now }
-        ensures step { Step self.old pid.0 tag request.now result.reply (map (λ r. r.0) result.retired.items) self.new }
-        ensures closed { AllByRecursion IsClosedObject result.retired.items }
-    {
-        let mut reply = Reply::Ok;
-        let retired = self.step_into(pid, tag, request, &mut reply);
-        Done { reply, retired }
-    }
-
-    /// The same, with the reply put in a place of the caller's.
+    /// releases what nothing refers to any more: the file objects that went with the call are put into an
+    /// empty list by rising number, closed and otherwise as they were. `tag` is the number of the call, which a message that it sends
+    /// keeps. A refusal is the reply. One with ENOMEM leaves the kernel as it was; close(2) and _exit(2)
+    /// never give it.
     #[tactic(auto, unfolding(ux_model::specs::Step::Step))]
-    pub fn step_into(
+    pub fn step(
         &mut self,
         pid: Pid,
         tag: u64,
         request: &Request,
-        reply: &mut Reply,
-    ) -> ArrayVec<Retired<O>, OBJECT_LIMIT>
-        requires { IsCaller self.old pid.0 request.now }
-        ensures step { Step self.old pid.0 tag request.now reply.new (map (λ r. r.0) result.items) self.new }
-        ensures closed { AllByRecursion IsClosedObject result.items }
+        retired: &mut RetiredList<O>,
+    ) -> Reply
+        requires caller { IsCaller self.old pid.0 request.now }
+        requires empty { retired.old ≡ [] }
+        ensures step { Step self.old pid.0 tag request.now result (map (λ r. r.0) retired.new) self.new }
+        ensures handed_out { AllByRecursion (IsHandedOut self.old) retired.new }
     {
-        *reply = match self.call(pid, tag, request) {
-            Ok(reply) => reply,
-            Err(Refusal::Answer(errno)) => Reply::Err(errno),
-            Err(Refusal::NoMemory) => Reply::Err(Errno::ENOMEM),
-        };
-        self.state.settle()
+        let reply = self.call(pid, tag, request);
+        self.state.settle(retired);
+        reply
     }
 
     /// Makes the call, and leaves what it lets go of.
+    fn call(&mut self, pid: Pid, tag: u64, request: &Request) -> Reply
+        requires { IsCaller self.old pid.0 request.now }
+        ensures { Chosen self.old (outcome self.old pid.0 tag request.now) result self.new }
+    {
+        match self.dispatch(pid, tag, request) {
+            Ok(reply) => reply,
+            Err(Refusal::Answer(errno)) => Reply::Err(errno),
+            Err(Refusal::NoMemory) => Reply::Err(Errno::ENOMEM),
+        }
+    }
+
+    /// Hands the call to the function of its name.
     #[tactic(auto, unfolding(ux_model::specs::Step::outcome))]
-    fn call(&mut self, pid: Pid, tag: u64, request: &Request) -> Result<Reply, Refusal>
+    fn dispatch(&mut self, pid: Pid, tag: u64, request: &Request) -> Result<Reply, Refusal>
         requires { IsCaller self.old pid.0 request.now }
         ensures { GivesOrFails self.old (outcome self.old pid.0 tag request.now) result self.new }
     {
@@ -74,9 +67,12 @@ impl<O: FileObject> Kernel<O> {
             Request::Unlink { path } => self.unlink(path),
             Request::SocketPair { flags } => self.make_pair(pid, *flags),
             Request::SendMsg { fd, bytes, flags } => {
-                self.send(pid, tag, *fd, bytes.as_slice(), *flags)
+                let bytes = bytes.as_slice();
+                send_msg(&mut self.state, self.alloc, pid, tag, *fd, bytes, *flags)
             }
-            Request::RecvMsg { fd, n, flags, .. } => self.recv(pid, *fd, *n, *flags),
+            Request::RecvMsg { fd, n, flags, .. } => {
+                recv_msg(&mut self.state, self.alloc, pid, *fd, *n, *flags)
+            }
             Request::Exit => Ok(self.exit(pid)),
             Request::Off => Ok(self.off()),
         }

@@ -1,12 +1,13 @@
 //! Writing (write(2)) to file objects and sockets.
 ghost use Rattle.std.specs.Prelude.{◌≡◌, IsTrue, Some};
 ghost use Rattle.ux_model.specs.State.{is_live, description_at};
-ghost use Rattle.ux_kernel.specs.Answers.{GivesOrFails};
-ghost use Rattle.ux_model.specs.Files as model;
+ghost use Rattle.ux_msg.specs.Answers.{GivesOrFails};
+ghost use Rattle.ux_model.specs.Writing as model;
 ghost use Rattle.ux_kernel.specs.FileCalls.{description_of, write_file, write_at, IsWritable};
 
 use crate::kernel::Kernel;
 use crate::open_file::{OpenFile, errno_of};
+use ux_msg::send_connected;
 use ux_object::{FileObject, ObjError, ObjKind};
 use ux_types::{DescriptionId, Errno, Fd, Pid, Refusal, Reply};
 
@@ -14,7 +15,7 @@ impl<O: FileObject> Kernel<O> {
     /// write(2), as the call with number `tag`, which a message to a socket keeps. EBADF where the number
     /// isn't open, or not for writing, EPIPE where nobody can read a pipe, EINVAL, EFBIG or EAGAIN as the
     /// file object has it, EIO where it failed.
-    #[tactic(auto, unfolding(ux_model::specs::Files::write))]
+    #[tactic(auto, unfolding(ux_model::specs::Writing::write))]
     pub(crate) fn write(
         &mut self,
         pid: Pid,
@@ -51,7 +52,7 @@ impl<O: FileObject> Kernel<O> {
             (None, Some(socket)) => {
                 let peer = socket.peer();
                 let cred = self.state.credentials(pid);
-                self.send_connected(peer, tag, cred, bytes)
+                send_connected(&mut self.state, self.alloc, peer, tag, cred, bytes)
             }
             (None, None) => unreachable!(),
         }

@@ -157,7 +157,7 @@ settled_of_none T found d = bool_cases (is_some (description_at T d))
     (λ gone. and_left _ _ gone)
 
 -- an end: what has gone, by lots, and that nothing unreferenced is left
-abbrev End : State → State → Type 0
+abbrev pub End : State → State → Type 0
 End S T = (G : ℕ → Bool) × CanGo S G × (T ≡ without G S) × IsSettled G S
 
 round_end : (n : ℕ) (S : State) (G : ℕ → Bool) → CanGo S G → live_in (without G S).descriptions ≤ suc n → has_unreferenced (without G S) ≡ true →
@@ -205,13 +205,13 @@ filter_all : {X : Type 0} (xs : List X) → filter (λ x. true) xs ≡ xs
 filter_all [] = refl
 filter_all (x ∷ xs) = ap (λ ys. x ∷ ys) (filter_all xs)
 
-without_none : (S : State) → without (λ d. false) S ≡ S
+pub without_none : (S : State) → without (λ d. false) S ≡ S
 unfolding without
 without_none S = λ j. record S { descriptions = places_kept S 0 S.descriptions j; abstract_names = filter_all S.abstract_names j }
 
 -- ---- one at a time, in any order
 
-unreferenced_end : (S : State) → End S (drop_unreferenced S)
+pub unreferenced_end : (S : State) → End S (drop_unreferenced S)
 unfolding drop_unreferenced
 unreferenced_end S =
     let e : without (λ d. false) S ≡ S = without_none S in

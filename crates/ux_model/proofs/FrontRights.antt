@@ -7,7 +7,7 @@ use Rattle.std.proofs.lemmas.List.Sums.{sum_by-cons, sum_by-append}
 use Rattle.ux_model.specs.Types.{Cred}
 use Rattle.ux_model.specs.Message.{Message, same_cred, queued_bytes}
 use Rattle.ux_model.specs.Stream.{front_with_cred, front_to_barrier, joined_run, rights_within, without_first}
-use Rattle.ux_model.specs.Front.{Front, stream_front, OnStreamFront}
+use Rattle.ux_model.specs.Front.{stream_front}
 use Rattle.ux_model.specs.References.{times, queue_refs}
 
 -- the rights of the messages that lose a byte go, whichever they are

@@ -1,16 +1,31 @@
 pub mod ReleaseLaws
 pub mod AnyOrder
-pub mod Outcomes
-pub mod Replays
 pub mod Fronts
-pub mod Living
 pub mod Appending
+pub mod Induction
 pub mod ChangedPlaces
+pub mod OnePlace
 pub mod Moves
 pub mod OneGoes
 pub mod Sockets
 pub mod Making
+pub mod Owning
 pub mod FrontRights
+pub mod Sound
+pub mod Named
+pub mod Walk
+pub mod Reaching
+pub mod HeldOpen
+pub mod Calls
+pub mod Replays
+pub mod Living
+pub mod Settling
+pub mod Refusals
+pub mod KeptSound
+pub mod ReleasedSound
+pub mod Dangling
+pub mod Closed
+pub mod HandingOut
 mod Play
 mod StreamExamples
 mod LimitExamples
@@ -18,5 +33,6 @@ mod FileExamples
 mod ControlExamples
 mod ChoiceExamples
 mod LegalExample
+mod ClosingExample
 pub mod ObjectExamples
 mod NameExamples

@@ -1,18 +1,24 @@
 -- Which processes live after a call.
-use Rattle.std.proofs.Common.{◌≡◌, ℕ, zero, suc, Bool, true, false, not, ◌&&◌, ◌||◌, ◌==◌, List, [], ◌∷◌, ◌++◌, length, take, get_or, set, map, Option, Some, None, refl, ap, sym, subst, ◌∙◌, arith}
+use Rattle.std.proofs.Common.{◌≡◌, ℕ, zero, suc, Bool, true, false, not, ◌&&◌, ◌||◌, ◌==◌, List, [], ◌∷◌, ◌++◌, length, get_or, set, map, Option, Some, None, refl, ap, sym, subst, ◌∙◌, arith}
 use Rattle.std.specs.List.{slice_get}
 use Rattle.std.proofs.lemmas.Bool.{eqb-true, eqb-false, eq-eqb, ne_eqb}
-use Rattle.std.proofs.lemmas.List.{get_or-set_other, length-set, length-map, take_all}
+use Rattle.std.proofs.lemmas.List.{get_or-set_other, length-set, length-map}
 use mathlib.Core.Bool.{and-true, or-true, or-false, or_assoc}
-use Rattle.ux_model.specs.Types.{Errno, SockType, Request, Reply, Entry}
+use Rattle.ux_model.specs.Types.{Errno, Request, Reply, Entry}
 use Rattle.ux_model.specs.Process.{Process}
 use Rattle.ux_model.specs.State.{State, process_at, is_live, with_process}
 use Rattle.ux_model.specs.Release.{without, drop_rounds, drop_all, drop_unreferenced, has_unreferenced, settled}
 use Rattle.ux_model.specs.Outcome.{Outcome, Chosen, own, lacking_memory, failing, refuse, answer}
-use Rattle.ux_model.specs.Closing.{exit}
+use Rattle.ux_model.specs.Closing.{exit, with_nothing_open}
 use Rattle.ux_model.specs.Step.{Step, outcome, lacks_memory, fails}
-use Rattle.ux_model.specs.History.{is_exit, has_exited, replay, IsLegal, ExitAloneEnds, StepKeepsProcesses, LivesUntilExit}
-use Rattle.ux_model.proofs.Outcomes.{exits, exits_set, IsPlain, open_plain, read_plain, write_plain, lseek_plain, dup_plain, dup2_plain, flags_plain, close_plain, unlink_plain, pair_plain, send_plain, recv_plain, off_plain}
+use Rattle.ux_model.specs.History.{is_exit, has_exited, ExitAloneEnds, StepKeepsProcesses, LivesUntilExit}
+use Rattle.ux_model.proofs.Induction.{IsKept, kept_throughout}
+use Rattle.ux_model.proofs.Reaching.{Reaches, still, process_changed, description_made, peers_made, description_changed, object_changed, paths_taken, turned_off}
+use Rattle.ux_model.proofs.Calls.{each_obeys, chosen_reached}
+
+-- for each process, whether it has exited
+abbrev exits : State → List Bool
+exits S = map (λ P. Process.exited P) S.processes
 
 abbrev lives : List Bool → ℕ → Bool
 lives xs zero = false
@@ -37,6 +43,34 @@ settled_keeps (suc n) S = go (has_unreferenced S) (settled_keeps n (drop_all S))
     go : (b : Bool) → (drop_rounds n (drop_all S)).processes ≡ S.processes → (elim b as (λ _. State) [ true ↦ drop_rounds n (drop_all S) | false ↦ S ]).processes ≡ S.processes
     go true h = h
     go false h = refl
+
+-- a process that is put in the place of another
+exits_set : (Ps : List Process) (i : ℕ) (Q : Process) → map (λ P. Process.exited P) (set Ps i Q) ≡ set (map (λ P. Process.exited P) Ps) i Q.exited
+exits_set [] i Q = refl
+exits_set (P ∷ Ps) zero Q = refl
+exits_set (P ∷ Ps) (suc i) Q = ap (λ l. P.exited ∷ l) (exits_set Ps i Q)
+
+set_same : (Ps : List Process) (i : ℕ) (P : Process) → slice_get Ps i ≡ Some P → set (map (λ P. Process.exited P) Ps) i P.exited ≡ map (λ P. Process.exited P) Ps
+set_same [] i P h = refl
+set_same (Q ∷ Ps) zero P h = let e : Q ≡ P = cc h in ap (λ R. Process.exited R ∷ map (λ P. Process.exited P) Ps) (sym e)
+set_same (Q ∷ Ps) (suc i) P h = ap (λ l. Q.exited ∷ l) (set_same Ps i P h)
+
+-- where all tables are emptied
+exits_turned : (Ps : List Process) → map (λ P. Process.exited P) (map with_nothing_open Ps) ≡ map (λ P. Process.exited P) Ps
+exits_turned [] = refl
+exits_turned (P ∷ Ps) = ap (λ l. P.exited ∷ l) (exits_turned Ps)
+
+-- every call but an exit
+exits_kept : (S T : State) → Reaches S false T → exits T ≡ exits S
+exits_kept S T still = refl
+exits_kept S T (process_changed {T = U} i P Q r h names kept) =
+    exits_set U.processes i Q ∙ ap (set (exits U) i) (kept refl) ∙ set_same U.processes i P h ∙ exits_kept S U r
+exits_kept S T (description_made {T = U} D r leads nothing) = exits_kept S U r
+exits_kept S T (peers_made {T = U} D E r peers) = exits_kept S U r
+exits_kept S T (description_changed {T = U} d x r keeps) = exits_kept S U r
+exits_kept S T (object_changed {T = U} o old new r h same) = exits_kept S U r
+exits_kept S T (paths_taken {T = U} keep r) = exits_kept S U r
+exits_kept S T (turned_off {T = U} r) = exits_turned U.processes ∙ exits_kept S U r
 
 -- an exit ends its process
 set_past : (Ps : List Process) (i : ℕ) → slice_get Ps i ≡ None → set (map (λ P. Process.exited P) Ps) i true ≡ map (λ P. Process.exited P) Ps
@@ -122,45 +156,23 @@ kept_after S p request xs other e = (
   ap length e,
 )
 
-plain_after : (S : State) (p : ℕ) (request : Request) (o : Outcome) → is_exit request ≡ false → IsPlain S o → (T : State) (reply : Reply) → Chosen S o reply T → After S p request (exits T)
-plain_after S p request o other plain T reply (own e f) = kept_after S p request (exits T) other (ap exits f ∙ plain.kept)
-plain_after S p request o other plain T reply (lacking_memory e may f) = kept_after S p request (exits T) other (ap exits f)
-plain_after S p request o other plain T reply (failing e f) = kept_after S p request (exits T) other (plain.kept_failing T f)
-
 exit_after : (S : State) (p : ℕ) (T : State) (reply : Reply) → Chosen S (exit S p) reply T → After S p Request.Exit (exits T)
 exit_after S p T reply (own e f) = subst (λ (U : State). After S p Request.Exit (exits U)) (sym f) (exit_lives S p, exit_long S p)
 exit_after S p T reply (lacking_memory e may f) = absurd (cc (may, (exit_own S p).may))
 exit_after S p T reply (failing e f) = absurd (cc (f, (exit_own S p).failure))
 
--- An outcome's own reply tells neither of the two choices; and which processes live after whatever was chosen.
-abbrev IsCall : State → ℕ → Request → Outcome → Type 0
-IsCall S p request o = (lacks_memory o.reply ≡ false) × (fails o.reply ≡ false) × ((T : State) (reply : Reply) → Chosen S o reply T → After S p request (exits T))
-
-plain_call : (S : State) (p : ℕ) (request : Request) (o : Outcome) → is_exit request ≡ false → IsPlain S o → IsCall S p request o
-plain_call S p request o other plain = (plain.with_memory, plain.without_failure, plain_after S p request o other plain)
-
-pub each_call : (S : State) (p tag : ℕ) (request : Request) → IsCall S p request (outcome S p tag request)
+-- of whatever was chosen
+after_call : (S : State) (p tag : ℕ) (request : Request) (reply : Reply) (T : State) → Chosen S (outcome S p tag request) reply T → After S p request (exits T)
 unfolding outcome
-each_call S p tag (Request.Open path mode flags) = plain_call S p (Request.Open path mode flags) _ refl (open_plain S p path mode flags)
-each_call S p tag (Request.Read fd n) = plain_call S p (Request.Read fd n) _ refl (read_plain S p fd n)
-each_call S p tag (Request.Write fd bytes) = plain_call S p (Request.Write fd bytes) _ refl (write_plain S p tag fd bytes)
-each_call S p tag (Request.Lseek fd offset whence) = plain_call S p (Request.Lseek fd offset whence) _ refl (lseek_plain S p fd offset whence)
-each_call S p tag (Request.Dup fd) = plain_call S p (Request.Dup fd) _ refl (dup_plain S p fd)
-each_call S p tag (Request.Dup2 fd to) = plain_call S p (Request.Dup2 fd to) _ refl (dup2_plain S p fd to)
-each_call S p tag (Request.SetFlags fd flags) = plain_call S p (Request.SetFlags fd flags) _ refl (flags_plain S p fd flags)
-each_call S p tag (Request.Close fd) = plain_call S p (Request.Close fd) _ refl (close_plain S p fd)
-each_call S p tag (Request.Unlink path) = plain_call S p (Request.Unlink path) _ refl (unlink_plain S path)
-each_call S p tag (Request.SocketPair flags) = plain_call S p (Request.SocketPair flags) _ refl (pair_plain S p SockType.Stream flags)
-each_call S p tag (Request.SendMsg fd bytes flags) = plain_call S p (Request.SendMsg fd bytes flags) _ refl (send_plain S p tag fd bytes flags)
-each_call S p tag (Request.RecvMsg fd n space flags) = plain_call S p (Request.RecvMsg fd n space flags) _ refl (recv_plain S p fd n flags)
-each_call S p tag Request.Exit = ((exit_own S p).with_memory, (exit_own S p).without_failure, exit_after S p)
-each_call S p tag Request.Off = plain_call S p Request.Off _ refl (off_plain S)
+after_call S p tag Request.Exit reply T c = exit_after S p T reply c
+after_call S p tag request reply T c =
+    kept_after S p request (exits T) refl (exits_kept S T (chosen_reached S T _ _ reply (each_obeys S p tag request) c))
 
 step_keeps : (S T : State) (p tag : ℕ) (request : Request) (reply : Reply) (gone : List ℕ) → Step S p tag request reply gone T → After S p request (exits T)
 unfolding Step settled drop_unreferenced
 step_keeps S T p tag request reply gone s =
     let same : exits T ≡ exits s.0 = ap exits s.3 ∙ ap (λ Ps. map (λ P. Process.exited P) Ps) (settled_keeps (length s.0.descriptions) s.0) in
-    subst (λ (xs : List Bool). After S p request xs) (sym same) ((each_call S p tag request).2 s.0 reply s.1)
+    subst (λ (xs : List Bool). After S p request xs) (sym same) (after_call S p tag request reply s.0 s.1)
 
 pub exit_alone_ends : ExitAloneEnds
 exit_alone_ends S T p tag q request reply gone s =
@@ -181,33 +193,18 @@ neither true true t = refl
 neither true false t = refl
 neither false h t = refl
 
-take_past : {X : Type 0} (xs : List X) (n : ℕ) → slice_get xs n ≡ None → take (suc n) xs ≡ take n xs
-take_past [] zero h = refl
-take_past [] (suc n) h = refl
-take_past (x ∷ xs) zero h = absurd (cc h)
-take_past (x ∷ xs) (suc n) h = ap (λ l. x ∷ l) (take_past xs n h)
+abbrev LivesAfter : State → ℕ → List Entry → State → Type 0
+LivesAfter boot p es S = is_live S p ≡ (is_live boot p && not (has_exited p es))
 
-take_next : {X : Type 0} (xs : List X) (n : ℕ) (x : X) → slice_get xs n ≡ Some x → take (suc n) xs ≡ take n xs ++ x ∷ []
-take_next [] n x h = absurd (cc h)
-take_next (y ∷ xs) zero x h = let e : y ≡ x = cc h in ap (λ z. z ∷ []) e
-take_next (y ∷ xs) (suc n) x h = ap (λ l. y ∷ l) (take_next xs n x h)
-
-abbrev LivesAfter : State → ℕ → List Entry → Type 0
-LivesAfter boot p es = is_live (replay boot es) p ≡ (is_live boot p && not (has_exited p es))
-
-lives_front : (boot : State) (es : List Entry) (p n : ℕ) → IsLegal boot es → LivesAfter boot p (take n es)
-lives_front boot es p zero legal = sym (and-true (is_live boot p))
-lives_front boot es p (suc n) legal = go (slice_get es n) refl (lives_front boot es p n legal)
-  where
-    go : (o : Option Entry) → slice_get es n ≡ o → LivesAfter boot p (take n es) → LivesAfter boot p (take (suc n) es)
-    go None h so_far = subst (LivesAfter boot p) (sym (take_past es n h)) so_far
-    go (Some e) h so_far =
-        let may = legal.each n e h in
-        subst (LivesAfter boot p) (sym (take_next es n e h))
-        (exit_alone_ends (replay boot (take n es)) (replay boot (take n es ++ e ∷ [])) e.pid.0 (length (take n es)) p e.request e.reply e.released may.steps
-        ∙ ap (λ b. b && not (is_exit e.request && (e.pid.0 == p))) so_far
-        ∙ neither (is_live boot p) (has_exited p (take n es)) (is_exit e.request && (e.pid.0 == p))
-        ∙ ap (λ b. is_live boot p && not b) (sym (exited_push p (take n es) e)))
+keeps_living : (boot : State) (p : ℕ) → IsKept boot (LivesAfter boot p)
+keeps_living boot p = record {
+  at_boot = λ boots. sym (and-true (is_live boot p));
+  by_entry = λ es e S T so_far step allowed.
+      exit_alone_ends S T e.pid.0 (length es) p e.request e.reply e.released step
+      ∙ ap (λ b. b && not (is_exit e.request && (e.pid.0 == p))) so_far
+      ∙ neither (is_live boot p) (has_exited p es) (is_exit e.request && (e.pid.0 == p))
+      ∙ ap (λ b. is_live boot p && not b) (sym (exited_push p es e));
+}
 
 pub lives_until_exit : LivesUntilExit
-lives_until_exit boot es p legal = subst (LivesAfter boot p) (take_all (length es) es (omega arith)) (lives_front boot es p (length es) legal)
+lives_until_exit boot es p legal = kept_throughout boot (LivesAfter boot p) (keeps_living boot p) es legal

@@ -1,11 +1,11 @@
 -- Peers where descriptions are made.
-use Rattle.std.proofs.Common.{◌≡◌, ℕ, zero, suc, ◌+◌, ◌<◌, ◌==◌, Bool, true, false, cond, List, [], ◌∷◌, ◌++◌, length, Option, Some, None, is_some, refl, ap, sym, ◌∙◌, arith}
+use Rattle.std.proofs.Common.{◌≡◌, ℕ, zero, suc, ◌+◌, ◌<◌, ◌==◌, true, false, cond, List, [], ◌∷◌, ◌++◌, length, Option, Some, None, is_some, option_map, refl, ap, sym, ◌∙◌, arith}
 use Rattle.std.proofs.lemmas.Bool.{eqb-true, eqb-false, eq-eqb, ne_eqb}
-use Rattle.std.proofs.lemmas.List.{get_or_push, length_push}
-use Rattle.ux_model.specs.Places.{place}
+use Rattle.std.proofs.lemmas.List.{get_or_push, length_push, length-set}
+use Rattle.ux_model.specs.Places.{place, changed_place}
 use Rattle.ux_model.specs.Description.{Description}
 use Rattle.ux_model.specs.Peers.{target_peer, peer_in, Paired}
-use Rattle.ux_model.proofs.ChangedPlaces.{bool_cases}
+use Rattle.ux_model.proofs.ChangedPlaces.{bool_cases, place_within, place-changed}
 
 place_other : (ds : List (Option Description)) (x : Option Description) (i : ℕ) → (i == length ds) ≡ false → place (ds ++ x ∷ []) i ≡ place ds i
 place_other [] x zero e = absurd (cc (e, eq-eqb 0 0 refl))
@@ -93,3 +93,65 @@ paired-pair ds D E first second paired = record {
         let q : i ≡ length ds = eqb-true i (length ds) h in
         place_other (ds ++ Some D ∷ []) (Some E) i (not_second i (ne_eqb i (length ds + 1) (λ t. omega (arith, q, t))))
         ∙ ap (place (ds ++ Some D ∷ [])) q ∙ place_last ds (Some D)
+
+-- a new one that names c, which named nobody and names it now
+pub paired-tied : (ds : List (Option Description)) (E C F : Description) (c : ℕ) (f : Description → Description) → Paired ds → place ds c ≡ Some C → target_peer C.target ≡ None → target_peer E.target ≡ Some c →
+    f C ≡ F → target_peer F.target ≡ Some (length ds) → Paired (changed_place (ds ++ Some E ∷ []) c f)
+paired-tied ds E C F c f paired here none new is tied = record {
+  returned = λ i p e there. bool_cases (c == i)
+      (λ h.
+      let q : Some (length ds) ≡ Some p = sym (at_c i h) ∙ e in
+      let r : p ≡ length ds = cc q in
+      at_new p r ∙ ap Some (eqb-true c i h))
+      (λ h. bool_cases (i == length ds)
+      (λ g.
+      let q : Some c ≡ Some p = sym (at_new i (eqb-true i (length ds) g)) ∙ e in
+      let r : c ≡ p = cc q in
+      at_c p (eq-eqb c p r) ∙ ap Some (sym (eqb-true i (length ds) g)))
+      (λ g.
+      let was : peer_in (place ds i) ≡ Some p = sym (ap peer_in (at_old i h g)) ∙ e in
+      let p_old : p < length ds = paired.known i p was in
+      let p_new : (p == length ds) ≡ false = ne_eqb p (length ds) (λ t. omega (arith, t, p_old)) in
+      bool_cases (c == p)
+      (λ t.
+      let same : c ≡ p = eqb-true c p t in
+      let back : peer_in (place ds c) ≡ Some i = ap (λ n. peer_in (place ds n)) same ∙ paired.returned i p was (ap (λ n. is_some (place ds n)) (sym same) ∙ ap is_some here) in
+      let nobody : peer_in (place ds c) ≡ None = ap peer_in here ∙ none in
+      absurd (cc (back, nobody)))
+      (λ t. ap peer_in (at_old p t p_new) ∙ paired.returned i p was (sym (ap is_some (at_old p t p_new)) ∙ there))));
+  known = λ i p e.
+      let a = length_push ds (Some E) in
+      let b = length-set (ds ++ Some E ∷ []) c (option_map f (place (ds ++ Some E ∷ []) c)) in
+      let short : p < length ds + 1 = bool_cases (c == i)
+      (λ h. let q : Some (length ds) ≡ Some p = sym (at_c i h) ∙ e in let r : p ≡ length ds = cc q in omega (arith, r))
+      (λ h. bool_cases (i == length ds)
+      (λ g. let q : Some c ≡ Some p = sym (at_new i (eqb-true i (length ds) g)) ∙ e in let r : p ≡ c = cc q in omega (arith, r, c_old))
+      (λ g. let s = paired.known i p (sym (ap peer_in (at_old i h g)) ∙ e) in omega (arith, s))) in
+      omega (arith, a, b, short);
+}
+  where
+    c_old : c < length ds
+    c_old = place_within ds c C here
+
+    c_new : (c == length ds) ≡ false
+    c_new = ne_eqb c (length ds) (λ t. let a = c_old in omega (arith, t, a))
+
+    at : (i : ℕ) → place (changed_place (ds ++ Some E ∷ []) c f) i ≡ cond (c == i) (option_map f (place (ds ++ Some E ∷ []) i)) (place (ds ++ Some E ∷ []) i)
+    at i = place-changed (ds ++ Some E ∷ []) c i f
+
+    at_c : (i : ℕ) → (c == i) ≡ true → peer_in (place (changed_place (ds ++ Some E ∷ []) c f) i) ≡ Some (length ds)
+    at_c i h =
+        ap peer_in (at i ∙ ap (λ b. cond b (option_map f (place (ds ++ Some E ∷ []) i)) (place (ds ++ Some E ∷ []) i)) h)
+        ∙ ap (λ n. peer_in (option_map f (place (ds ++ Some E ∷ []) n))) (sym (eqb-true c i h))
+        ∙ ap (λ x. peer_in (option_map f x)) (place_other ds (Some E) c c_new ∙ here)
+        ∙ ap (λ X. target_peer (Description.target X)) is ∙ tied
+
+    at_other : (i : ℕ) → (c == i) ≡ false → place (changed_place (ds ++ Some E ∷ []) c f) i ≡ place (ds ++ Some E ∷ []) i
+    at_other i h = at i ∙ ap (λ b. cond b (option_map f (place (ds ++ Some E ∷ []) i)) (place (ds ++ Some E ∷ []) i)) h
+
+    at_new : (i : ℕ) → i ≡ length ds → peer_in (place (changed_place (ds ++ Some E ∷ []) c f) i) ≡ Some c
+    at_new i h =
+        ap peer_in (at_other i (ne_eqb c i (λ t. let a = c_old in omega (arith, t, h, a))) ∙ ap (place (ds ++ Some E ∷ [])) h ∙ place_last ds (Some E)) ∙ new
+
+    at_old : (i : ℕ) → (c == i) ≡ false → (i == length ds) ≡ false → place (changed_place (ds ++ Some E ∷ []) c f) i ≡ place ds i
+    at_old i h g = at_other i h ∙ place_other ds (Some E) i g

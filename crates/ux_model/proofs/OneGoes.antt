@@ -6,7 +6,7 @@ use Rattle.std.proofs.lemmas.List.{get_or-map, get_or-set_same, get_or-set_other
 use Rattle.std.proofs.lemmas.List.FromFn.{length-enumerate_from, get_or-enumerate_from}
 use Rattle.std.proofs.lemmas.List.Folds.{list_any_none, list_any_at}
 use Rattle.std.proofs.lemmas.List.Elements.{All-from_get_or}
-use Rattle.std.proofs.lemmas.List.Sums.{sum_by-cons, sum_by-set, get_or-le-sum_by}
+use Rattle.std.proofs.lemmas.List.Sums.{sum_by-set, get_or-le-sum_by}
 use mathlib.Core.Bool.{or-false}
 use Rattle.ux_model.specs.Places.{place, filled, emptied, changed_place}
 use Rattle.ux_model.specs.Socket.{Phase, idle, listening, connected, associated, peer_of, with_reset}
@@ -201,14 +201,19 @@ paired-alike ds es long peer held paired = record {
   known = λ i q e. let a = paired.known i q (sym (peer i) ∙ e) in omega (arith, a, long);
 }
 
--- as where one changes
-pub paired-changed : (ds : List (Option Description)) (p : ℕ) (f : Description → Description) → ((x : Option Description) → peer_in (option_map f x) ≡ peer_in x) → Paired ds → Paired (changed_place ds p f)
-paired-changed ds p f same = paired-alike ds (changed_place ds p f) (length-changed ds p f)
-    (λ n. ap peer_in (place-changed ds p n f) ∙ either n peer_in (same (place ds n)))
-    (λ n. ap is_some (place-changed ds p n f) ∙ either n is_some (some-map f (place ds n)))
+-- as where one changes, which names the same
+pub paired-here : (ds : List (Option Description)) (p : ℕ) (f : Description → Description) → peer_in (option_map f (place ds p)) ≡ peer_in (place ds p) → Paired ds → Paired (changed_place ds p f)
+paired-here ds p f same = paired-alike ds (changed_place ds p f) (length-changed ds p f)
+    (λ n. ap peer_in (place-changed ds p n f) ∙ either n peer_in same)
+    (λ n. ap is_some (place-changed ds p n f) ∙ either n is_some (some-map f (place ds p)))
   where
-    either : {Y : Type 0} (n : ℕ) (g : Option Description → Y) → g (option_map f (place ds n)) ≡ g (place ds n) → g (cond (p == n) (option_map f (place ds n)) (place ds n)) ≡ g (place ds n)
-    either n g e = elim (p == n) as (λ b. g (cond b (option_map f (place ds n)) (place ds n)) ≡ g (place ds n)) [ true ↦ e | false ↦ refl ]
+    either : {Y : Type 0} (n : ℕ) (g : Option Description → Y) → g (option_map f (place ds p)) ≡ g (place ds p) → g (cond (p == n) (option_map f (place ds n)) (place ds n)) ≡ g (place ds n)
+    either n g e = bool_cases (p == n)
+        (λ h. ap (λ b. g (cond b (option_map f (place ds n)) (place ds n))) h ∙ subst (λ i. g (option_map f (place ds i)) ≡ g (place ds i)) (eqb-true p n h) e)
+        (λ h. ap (λ b. g (cond b (option_map f (place ds n)) (place ds n))) h)
+
+pub paired-changed : (ds : List (Option Description)) (p : ℕ) (f : Description → Description) → ((x : Option Description) → peer_in (option_map f x) ≡ peer_in x) → Paired ds → Paired (changed_place ds p f)
+paired-changed ds p f same = paired-here ds p f (same (place ds p))
 
 -- or is put again
 pub paired-filled : (ds : List (Option Description)) (d : ℕ) (x y : Description) → place ds d ≡ Some x → target_peer y.target ≡ target_peer x.target → Paired ds → Paired (filled ds d y)

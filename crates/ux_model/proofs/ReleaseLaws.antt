@@ -10,12 +10,12 @@ use Rattle.ux_model.specs.Release.{resets_peer, is_reset_by_loss, target_after_l
 
 -- ---- lists of places
 
-map_twice : {X Y Z : Type 0} (f : ℕ × Y → Z) (g : ℕ × X → Y) (h : ℕ × X → Z) → ((i : ℕ) (x : X) → f (i, g (i, x)) ≡ h (i, x)) →
+pub map_twice : {X Y Z : Type 0} (f : ℕ × Y → Z) (g : ℕ × X → Y) (h : ℕ × X → Z) → ((i : ℕ) (x : X) → f (i, g (i, x)) ≡ h (i, x)) →
     (i : ℕ) (xs : List X) → map f (enumerate_from i (map g (enumerate_from i xs))) ≡ map h (enumerate_from i xs)
 map_twice f g h same i [] = refl
 map_twice f g h same i (x ∷ xs) = λ j. same i x j ∷ map_twice f g h same (i + 1) xs j
 
-place-map : {X Y : Type 0} (g : ℕ × Option X → Option Y) → ((i : ℕ) → g (i, None) ≡ None) →
+pub place-map : {X Y : Type 0} (g : ℕ × Option X → Option Y) → ((i : ℕ) → g (i, None) ≡ None) →
     (k d : ℕ) (xs : List (Option X)) → place (map g (enumerate_from k xs)) d ≡ g (k + d, place xs d)
 place-map g none k d [] = sym (none (k + d))
 place-map g none k zero (x ∷ xs) = let e : k ≡ k + 0 = omega arith in ap (λ n. g (n, x)) e

@@ -4,8 +4,11 @@
 #![tactic(auto)]
 
 ghost use Rattle.ux_model.specs.Release.{EndsAlike};
+ghost use Rattle.ux_model.specs.HandingOut.{HandsOutWhatWasHeld};
 ghost use Rattle.ux_model.specs.History.{LeadsToOne, FrontIsLegal, ExitAloneEnds, StepKeepsProcesses, LivesUntilExit};
 ghost use Rattle.ux_model.specs.Peers.{OneGoes};
+ghost use Rattle.ux_model.specs.Invariants.{NoneLeftUnreferenced, SettlesAtOnce, StaysSettled, RefusalChangesNothing, RefusedEntryChangesNothing, NothingDangles, ClosedOnce};
+ghost use Rattle.ux_model.specs.Owning.{NameGoes};
 ghost use Rattle.ux_model.specs.Moves.{ProcessCounts, SocketCounts, NewCounts, NewCountsAtObject, SameTargetCountsAlike, TakenPathCountsNot};
 
 /// Descriptions without a reference may be dropped one at a time and in any order: the same state is
@@ -86,4 +89,60 @@ pub fn same_target_counts_alike()
 #[tactic(auto, using(crate::proofs::Moves::taken_path_counts_not))]
 pub fn taken_path_counts_not()
     ensures { TakenPathCountsNot }
+{}
+
+/// After the rounds no description is there that nothing refers to.
+#[tactic(auto, using(crate::proofs::Settling::none_left_unreferenced))]
+pub fn no_description_is_left_unreferenced()
+    ensures { NoneLeftUnreferenced }
+{}
+
+/// What was released once has nothing more to release.
+#[tactic(auto, using(crate::proofs::Settling::settles_at_once))]
+pub fn state_settles_at_once()
+    ensures { SettlesAtOnce }
+{}
+
+/// No state of a legal history has anything left to release.
+#[tactic(auto, using(crate::proofs::Settling::stays_settled))]
+pub fn legal_history_stays_settled()
+    ensures { StaysSettled }
+{}
+
+/// An error leaves the very state, of which nothing was left to release, and releases nothing. But EIO
+/// leaves one more failure of one file object, and a pending ECONNRESET is cleared by its answer;
+/// besides, nothing changes there either.
+#[tactic(auto, using(crate::proofs::Refusals::refusal_changes_nothing))]
+pub fn refusal_changes_nothing()
+    ensures { RefusalChangesNothing }
+{}
+
+/// So of each entry of a legal history that tells of an error.
+pub fn refused_entry_changes_nothing()
+    ensures { RefusedEntryChangesNothing }
+{}
+
+/// In each state of a legal history what is there is what is referenced, whatever is named is there, and
+/// the file objects are open. An end in a backlog stands there once, in no other backlog, and no accept
+/// has taken it; connections are mutual; an abstract name leads to a socket that has it.
+pub fn nothing_dangles()
+    ensures { NothingDangles }
+{}
+
+/// One entry of a legal history at most tells of a file object that it was closed: the one by which its
+/// last reference goes, and that one does. The file object is there in no state after that.
+pub fn objects_are_closed_once()
+    ensures { ClosedOnce }
+{}
+
+/// Each file object that a step hands out is the one that was held under that number before the call,
+/// open or not as it was, now closed and otherwise the same. That holds of every state.
+pub fn what_a_step_hands_out()
+    ensures { HandsOutWhatWasHeld }
+{}
+
+/// Where whoever an abstract name leads to shows it, one name at most goes with a description.
+#[tactic(auto, using(crate::proofs::Owning::name_goes))]
+pub fn one_name_goes()
+    ensures { NameGoes }
 {}

@@ -1,11 +1,9 @@
 //! Runs a script over a kernel, one call after the other, and writes the trace of its history.
 #![tactic(auto)]
 
-mod object_size;
 mod run;
 mod write;
 
-pub use object_size::ObjectSize;
 pub use run::run_serial;
 pub use write::write_trace;
 

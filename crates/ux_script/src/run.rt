@@ -13,13 +13,13 @@ ghost use Rattle.ux_syntax.specs.Trace.{trace};
 ghost use Rattle.ux_script.specs.Writes.{AppendsBeginning};
 ghost use Rattle.ux_script.specs.Runs.{line_of_entry, exits_of, Makes, MakesOne, IsRunFault, WritesBeginning};
 
-use crate::object_size::ObjectSize;
 use crate::write::write_trace;
 use std::alloc::Global;
 use std::io::Write;
 use ux_history::{Book, CallFault};
 use ux_kernel::Kernel;
 use ux_object::FileObject;
+use ux_state::RetiredList;
 use ux_syntax::{Script, ScriptFault};
 use ux_types::{Entry, Pid, Request};
 
@@ -32,7 +32,6 @@ pub fn run_serial<O: FileObject, W: Write>(
     script: &Script,
     writer: &mut W,
     kernel: Kernel<O>,
-    size: &ObjectSize<O>,
 ) -> Result<Vec<Entry>, ScriptFault>
     requires boots { IsBootState kernel }
     requires processes { kernel.processes ≡ map new_process script.now.procs.items }
@@ -48,7 +47,7 @@ pub fn run_serial<O: FileObject, W: Write>(
     // A script that a text spells has no stranger.
     ensures stranger { IfErr result (λ f. f ≡ ScriptFault.Stranger → ¬ IsOrderly (plan_of script.now)) }
 {
-    let entries = match run_calls(alloc, script, kernel, size) {
+    let entries = match run_calls(alloc, script, kernel) {
         Ok(entries) => entries,
         Err(CallFault::Stranger) => return Err(ScriptFault::Stranger),
         Err(CallFault::NoMemory) => return Err(ScriptFault::NoMemory),
@@ -77,7 +76,6 @@ fn run_calls<O: FileObject>(
     alloc: Global,
     script: &Script,
     kernel: Kernel<O>,
-    size: &ObjectSize<O>,
 ) -> Result<Vec<Entry>, CallFault>
     requires boots { IsBootState kernel }
     requires processes { kernel.processes ≡ map new_process script.now.procs.items }
@@ -89,7 +87,10 @@ fn run_calls<O: FileObject>(
     let Ok(mut book) = Book::new(alloc, kernel) else {
         return Err(CallFault::NoMemory);
     };
-    make_all(&mut book, script, count, size)?;
+    let Ok(mut retired) = RetiredList::new(alloc) else {
+        return Err(CallFault::NoMemory);
+    };
+    make_all(&mut book, script, count, &mut retired)?;
     Ok(book.into_entries())
 }
 
@@ -98,7 +99,7 @@ fn make_all<O: FileObject>(
     book: &mut Book<O>,
     script: &Script,
     count: usize,
-    size: &ObjectSize<O>,
+    retired: &mut RetiredList<O>,
 ) -> Result<(), CallFault>
     requires begun { Makes book.old script.now [] }
     requires count { count ≡ length script.now.procs.items }
@@ -107,19 +108,19 @@ fn make_all<O: FileObject>(
     ensures boot { OnOk result (book.new.boot ≡ book.old.boot) }
     ensures stranger { IfErr result (λ f. f ≡ CallFault.Stranger → ¬ IsOrderly (plan_of script.now)) }
 {
-    make_calls(book, script, size)?;
-    make_exits(book, script, count, size)?;
+    make_calls(book, script, retired)?;
+    make_exits(book, script, count, retired)?;
     if !script.off {
         return Ok(());
     }
-    make_end(book, size)
+    make_end(book, retired)
 }
 
 /// Makes the script's calls in order.
 fn make_calls<O: FileObject>(
     book: &mut Book<O>,
     script: &Script,
-    size: &ObjectSize<O>,
+    retired: &mut RetiredList<O>,
 ) -> Result<(), CallFault>
     requires { Makes book.old script.now [] }
     ensures made { OnOk result (Makes book.new script.now script.now.lines.items) }
@@ -127,7 +128,7 @@ fn make_calls<O: FileObject>(
     ensures stranger { IfErr result (λ f. f ≡ CallFault.Stranger → ¬ IsOrderly (plan_of script.now)) }
 {
     for line in &script.lines {
-        call(book, line.pid, &line.request, size)?;
+        call(book, line.pid, &line.request, retired)?;
     }
     Ok(())
 }
@@ -137,7 +138,7 @@ fn make_exits<O: FileObject>(
     book: &mut Book<O>,
     script: &Script,
     count: usize,
-    size: &ObjectSize<O>,
+    retired: &mut RetiredList<O>,
 ) -> Result<(), CallFault>
     requires begun { Makes book.old script.now script.now.lines.items }
     requires count { count ≡ length script.now.procs.items }
@@ -149,18 +150,21 @@ fn make_exits<O: FileObject>(
     for index in 0..count {
         let pid = Pid(index as u32 + 1);
         if book.is_live(pid) {
-            call(book, pid, &Request::Exit, size)?;
+            call(book, pid, &Request::Exit, retired)?;
         }
     }
     Ok(())
 }
 
 /// Ends the layer, when no process is left.
-fn make_end<O: FileObject>(book: &mut Book<O>, size: &ObjectSize<O>) -> Result<(), CallFault>
+fn make_end<O: FileObject>(
+    book: &mut Book<O>,
+    retired: &mut RetiredList<O>,
+) -> Result<(), CallFault>
     ensures entry { OnOk result (MakesOne book.old book.new (record { 0 = 0 }) Request.Off) }
     ensures stranger { IfErr result (λ f. f ≡ CallFault.Stranger → books.may_call book.old (record { 0 = 0 }) 0 Request.Off ≡ false) }
 {
-    record(book, Pid(0), 0, &Request::Off, size)
+    record(book, Pid(0), 0, &Request::Off, retired)
 }
 
 /// Makes the next call of a process, which is a stranger where it doesn't live.
@@ -168,7 +172,7 @@ fn call<O: FileObject>(
     book: &mut Book<O>,
     pid: Pid,
     request: &Request,
-    size: &ObjectSize<O>,
+    retired: &mut RetiredList<O>,
 ) -> Result<(), CallFault>
     ensures entry { OnOk result (MakesOne book.old book.new pid request.now) }
     ensures stranger { IfErr result (λ f. f ≡ CallFault.Stranger → is_off request.now ≡ false → is_live (books.state_of book.old) pid.0 ≡ false) }
@@ -177,21 +181,22 @@ fn call<O: FileObject>(
         return Err(CallFault::Stranger);
     }
     let k = book.calls_of(pid);
-    record(book, pid, k, request, size)
+    record(book, pid, k, request, retired)
 }
 
-/// Makes a call, and drops what it let go of.
+/// Makes a call. What the call before let go of is dropped first.
 fn record<O: FileObject>(
     book: &mut Book<O>,
     pid: Pid,
     k: u64,
     request: &Request,
-    _size: &ObjectSize<O>,
+    retired: &mut RetiredList<O>,
 ) -> Result<(), CallFault>
     ensures entry { OnOk result (MakesOne book.old book.new pid request.now) }
     ensures stranger { IfErr result (λ f. f ≡ CallFault.Stranger → books.may_call book.old pid k request.now ≡ false) }
 {
-    match book.record(pid, k, request) {
+    retired.clear();
+    match book.record(pid, k, request, retired) {
         Ok(_) => Ok(()),
         Err(fault) => Err(fault),
     }

@@ -142,9 +142,8 @@ fn run_over<W: Write>(
     writer: &mut W,
 ) -> Result<Vec<Entry>, ScriptFault> {
     let objects: Vec<(Name, Counter)> = Vec::new(alloc);
-    let size = ObjectSize::new();
     match Kernel::boot(alloc, objects, &script.procs) {
-        Ok(kernel) => run_serial(alloc, script, writer, kernel, &size),
+        Ok(kernel) => run_serial(alloc, script, writer, kernel),
         Err(_) => Err(ScriptFault::NoMemory),
     }
 }

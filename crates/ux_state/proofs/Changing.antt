@@ -1,5 +1,5 @@
 -- A change of one description leaves what is open of each file object, and who is whose peer, unless it leads to another or is open for something else.
-use Rattle.std.proofs.Common.{◌≡◌, ℕ, ◌<◌, Bool, cond, List, length, get_or, set, Option, Some, None, refl, sym, ◌∙◌, ap, arith}
+use Rattle.std.proofs.Common.{◌≡◌, ℕ, Bool, cond, List, set, Option, Some, None, refl, sym, ◌∙◌, ap, arith}
 use Rattle.std.specs.Prelude.{count_by}
 use Rattle.std.proofs.lemmas.List.{set-get_or}
 use Rattle.std.proofs.lemmas.List.Sums.{sum_by-set}
@@ -11,12 +11,14 @@ use Rattle.ux_model.specs.Object.{View}
 use Rattle.ux_model.specs.Socket.{Socket, peer_of}
 use Rattle.ux_model.specs.Description.{Description, Target, to_object, to_socket, changed, changed_target}
 use Rattle.ux_model.specs.Process.{Process}
-use Rattle.ux_model.specs.Files.{is_opening}
+use Rattle.ux_model.specs.FileObjects.{is_opening}
 use Rattle.ux_model.specs.Descriptors.{with_flags}
 use Rattle.ux_model.specs.References.{socket_refs, target_refs, description_refs}
 use Rattle.ux_model.specs.Peers.{target_peer}
 use Rattle.ux_model.proofs.ChangedPlaces.{place_within}
+use Rattle.ux_model.specs.Owning.{target_name}
 use Rattle.ux_model.proofs.OneGoes.{paired-filled}
+use Rattle.ux_model.proofs.Owning.{target_name-changed, owned_still, names_filled}
 use Rattle.ux_slots.specs.Held.{Held, count_at}
 use Rattle.ux_state.specs.declared.openings.Openings.{Openings}
 use Rattle.ux_state.specs.Counting.{Counted}
@@ -29,12 +31,14 @@ pub record IsAlike (x y : Description) : Type 0 where
   pub holds : (k : ℕ) → target_refs k y.target ≡ target_refs k x.target
   pub opens : (allows : Mode → Bool) (o : ℕ) → is_opening allows o (Some y) ≡ is_opening allows o (Some x)
   pub peer : target_peer y.target ≡ target_peer x.target
+  pub name : target_name y.target ≡ target_name x.target
 
-pub changed_alike : (f : Socket → Socket) (x y : Description) → ((s : Socket) → peer_of (f s).phase ≡ peer_of s.phase) → ((k : ℕ) (s : Socket) → socket_refs k (f s) ≡ socket_refs k s) → y ≡ changed f x → IsAlike x y
-changed_alike f x y keeps refers e = record {
+pub changed_alike : (f : Socket → Socket) (x y : Description) → ((s : Socket) → peer_of (f s).phase ≡ peer_of s.phase) → ((s : Socket) → (f s).name ≡ s.name) → ((k : ℕ) (s : Socket) → socket_refs k (f s) ≡ socket_refs k s) → y ≡ changed f x → IsAlike x y
+changed_alike f x y keeps shows refers e = record {
   holds = λ k. ap (λ D. target_refs k (Description.target D)) e ∙ holds k x.target;
   opens = λ allows o. ap (λ D. is_opening allows o (Some D)) e ∙ opens allows o x.target;
   peer = ap (λ D. target_peer (Description.target D)) e ∙ peer x.target;
+  name = ap (λ D. target_name (Description.target D)) e ∙ target_name-changed f shows x.target;
 }
   where
     opens : (allows : Mode → Bool) (o : ℕ) (t : Target) → is_opening allows o (Some (record x { target = changed_target f t })) ≡ is_opening allows o (Some (record x { target = t }))
@@ -50,10 +54,10 @@ changed_alike f x y keeps refers e = record {
     holds k (to_socket s) = refers k s
 
 pub flags_alike : (flags : OpenFlags) (x y : Description) → y ≡ with_flags flags x → IsAlike x y
-flags_alike flags x y e = record { holds = λ k. ap (λ D. target_refs k (Description.target D)) e; opens = λ allows o. ap (λ D. is_opening allows o (Some D)) e; peer = ap (λ D. target_peer (Description.target D)) e }
+flags_alike flags x y e = record { holds = λ k. ap (λ D. target_refs k (Description.target D)) e; opens = λ allows o. ap (λ D. is_opening allows o (Some D)) e; peer = ap (λ D. target_peer (Description.target D)) e; name = ap (λ D. target_name (Description.target D)) e }
 
 pub offset_alike : (offset : ℕ) (x y : Description) → y ≡ at_offset offset x → IsAlike x y
-offset_alike offset x y e = record { holds = λ k. ap (λ D. target_refs k (Description.target D)) e; opens = λ allows o. ap (λ D. is_opening allows o (Some D)) e; peer = ap (λ D. target_peer (Description.target D)) e }
+offset_alike offset x y e = record { holds = λ k. ap (λ D. target_refs k (Description.target D)) e; opens = λ allows o. ap (λ D. is_opening allows o (Some D)) e; peer = ap (λ D. target_peer (Description.target D)) e; name = ap (λ D. target_name (Description.target D)) e }
 
 -- a description is put in the place of another
 counted_set : (ds : List (Option Description)) (xs : List Openings) (d : ℕ) (x y : Description) → place ds d ≡ Some x → IsAlike x y → Counted ds xs → Counted (filled ds d y) xs
@@ -77,15 +81,18 @@ held_set ds d x y here alike k =
     let new = alike.holds k in
     omega (arith, s, old, new)
 
-pub changed_kept : (xs : List Openings) (H K : Held Description) (os : List (Option View)) (ps : List Process) (paths : List (Name × PathTarget)) (d : ℕ) (x y : Description) →
-    IsState xs H (state_of os H ps paths) → place H.places d ≡ Some x → K.places ≡ filled H.places d y → K.counts ≡ H.counts → IsAlike x y → IsState xs K (state_of os K ps paths)
-changed_kept xs H K os ps paths d x y state here places counts alike = record {
+pub changed_kept : (xs : List Openings) (ls : List ℕ) (H K : Held Description) (os : List (Option View)) (ps : List Process) (paths : List (Name × PathTarget)) (names : List (Name × ℕ)) (d : ℕ) (x y : Description) →
+    IsState xs ls H (state_of os H ps paths names) → place H.places d ≡ Some x → K.places ≡ filled H.places d y → K.counts ≡ H.counts → IsAlike x y → IsState xs ls K (state_of os K ps paths names)
+changed_kept xs ls H K os ps paths names d x y state here places counts alike = record {
   few_objects = state.few_objects;
   few_processes = state.few_processes;
   one_each = state.one_each;
+  link_each = state.link_each;
+  linked = state.linked;
   opened = rw places (counted_set H.places xs d x y here alike state.opened);
-  counted = λ k. ap (λ cs. count_at (record H { counts = cs }) k) counts ∙ state.counted k ∙ sym (same_refs os H K ps paths k (rw places (held_set H.places d x y here alike)));
+  counted = λ k. ap (λ cs. count_at (record H { counts = cs }) k) counts ∙ state.counted k ∙ sym (same_refs os H K ps paths names k (rw places (held_set H.places d x y here alike)));
   paired = rw places (paired-filled H.places d x y here alike.peer state.paired);
+  owned = rw places (owned_still H.places (filled H.places d y) names (names_filled H.places d x y here alike.name) state.owned);
 }
 
 -- a description that is put back as it was

@@ -10,7 +10,7 @@ use Rattle.ux_model.specs.Places.{place}
 use Rattle.ux_model.specs.Object.{View}
 use Rattle.ux_model.specs.Description.{Description}
 use Rattle.ux_model.specs.Process.{Process}
-use Rattle.ux_model.specs.Files.{is_opening}
+use Rattle.ux_model.specs.FileObjects.{is_opening}
 use Rattle.ux_model.specs.References.{table_refs, description_refs, refs}
 use Rattle.ux_model.specs.Closing.{with_nothing_open}
 use Rattle.ux_model.specs.Peers.{peer_in, Paired}
@@ -18,7 +18,8 @@ use Rattle.ux_slots.specs.Held.{Held, count_at}
 use Rattle.ux_state.specs.declared.openings.Openings.{Openings}
 use Rattle.ux_state.specs.Counting.{one_if, counts_of, Counted}
 use Rattle.ux_state.specs.Counting as counts
-use Rattle.ux_state.specs.Keeping.{state_of, IsState}
+use Rattle.ux_model.proofs.Owning.{owned_none}
+use Rattle.ux_state.specs.Keeping.{state_of, links_of, IsState}
 use Rattle.ux_state.proofs.TableCounts.{none_open}
 
 count_none : (allows : Mode → Bool) (o : ℕ) (ds : List (Option Description)) → count_by (is_opening allows o) (map (λ _. None) ds) ≡ 0
@@ -57,19 +58,28 @@ nothing_open k (P ∷ ps) =
     let c = nothing_open k ps in
     omega (arith, a, b, c)
 
--- all descriptors and all descriptions went
-pub forgotten_kept : (xs ys : List Openings) (H K : Held Description) (os : List (Option View)) (ps qs : List Process) (old new : List (Name × PathTarget)) → IsState xs H (state_of os H ps old) →
-    qs ≡ map with_nothing_open ps → K.places ≡ map (λ _. None) H.places → ((k : ℕ) → count_at K k ≡ 0) → ys ≡ map (λ _. counts.none_open) xs → IsState ys K (state_of os K qs new)
+links_none : (ls : List ℕ) (o : ℕ) → links_of (map (λ _. 0) ls) o ≡ 0
+links_none [] o = refl
+links_none (l ∷ ls) zero = refl
+links_none (l ∷ ls) (suc o) = links_none ls o
+
+-- all descriptors, all descriptions and all names went
+pub forgotten_kept : (xs ys : List Openings) (ls ms : List ℕ) (H K : Held Description) (os : List (Option View)) (ps qs : List Process) (old new : List (Name × PathTarget)) (names left : List (Name × ℕ)) →
+    IsState xs ls H (state_of os H ps old names) → qs ≡ map with_nothing_open ps → K.places ≡ map (λ _. None) H.places → ((k : ℕ) → count_at K k ≡ 0) → ys ≡ map (λ _. counts.none_open) xs →
+    ms ≡ map (λ _. 0) ls → new ≡ [] → left ≡ [] → IsState ys ms K (state_of os K qs new left)
 unfolding refs
-forgotten_kept xs ys H K os ps qs old new state cleared places counts counted = record {
+forgotten_kept xs ys ls ms H K os ps qs old new names left state cleared places counts counted unlinked no_paths no_names = record {
   few_objects = state.few_objects;
   few_processes = let e = ap length cleared ∙ length-map ps with_nothing_open in let few = state.few_processes in omega (arith, e, few);
   one_each = rw (counted, length-map) state.one_each;
+  link_each = rw (unlinked, length-map) state.link_each;
   opened = rw (places, counted) (Counted-none H.places xs);
+  linked = rw no_paths (record { once = refl; counted = λ o h. ap (λ ns. links_of ns o) unlinked ∙ links_none ls o });
   counted = λ k.
       let a = counts k in
       let b : sum_by (description_refs k) K.places ≡ 0 = ap (sum_by (description_refs k)) places ∙ held_by_none k H.places in
       let c : sum_by (λ P. table_refs k (Process.table P)) qs ≡ 0 = ap (sum_by (λ P. table_refs k (Process.table P))) cleared ∙ nothing_open k ps in
       omega (arith, a, b, c);
   paired = rw places (nobody H.places);
+  owned = rw no_names (owned_none K.places);
 }

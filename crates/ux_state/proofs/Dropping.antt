@@ -1,7 +1,7 @@
 -- One description goes.
-use Rattle.std.proofs.Common.{◌≡◌, ℕ, zero, suc, ◌+◌, ◌<◌, ◌≤◌, ◌==◌, Bool, ◌&&◌, true, false, List, [], ◌∷◌, length, map, Option, Some, None, is_some, option_map, refl, sym, ◌∙◌, ap, arith}
-use Rattle.std.specs.Prelude.{count_by, sum_by, IsSome}
-use Rattle.std.proofs.lemmas.List.Sums.{get_or-le-sum_by, sum_by-cons, sum_by-set}
+use Rattle.std.proofs.Common.{◌≡◌, ℕ, zero, suc, ◌+◌, ◌<◌, ◌≤◌, ◌==◌, Bool, ◌&&◌, true, false, List, [], ◌∷◌, length, map, Option, Some, None, option_map, refl, sym, ◌∙◌, ap, arith}
+use Rattle.std.specs.Prelude.{not, filter, count_by, sum_by, IsSome}
+use Rattle.std.proofs.lemmas.List.Sums.{sum_by-cons, sum_by-set}
 use Rattle.ux_model.specs.Types.{Mode, Name}
 use Rattle.ux_model.specs.Names.{PathTarget}
 use Rattle.ux_model.specs.Flags.{can_read, can_write}
@@ -12,11 +12,13 @@ use Rattle.ux_model.specs.Description.{Description, Target, to_object, to_socket
 use Rattle.ux_model.specs.Process.{Process}
 use Rattle.ux_model.specs.References.{leads_to, target_refs}
 use Rattle.ux_model.specs.Release.{without, is_unreferenced, has_unreferenced}
-use Rattle.ux_model.specs.Files.{is_opening}
+use Rattle.ux_model.specs.FileObjects.{is_opening}
 use Rattle.ux_model.specs.Peers.{lost_peer, told}
+use Rattle.ux_model.specs.Owning.{target_name, name_in, without_shown}
 use Rattle.ux_model.proofs.AnyOrder.{live_in}
 use Rattle.ux_model.proofs.ChangedPlaces.{place_within}
 use Rattle.ux_model.proofs.OneGoes.{one_goes, left_refs, held_refs, paired-emptied, paired-told, none_unreferenced, unreferenced}
+use Rattle.ux_model.proofs.Owning.{name_goes, owned_without}
 use Rattle.ux_slots.specs.Held.{Held, count_at, IsNoneDead}
 use Rattle.ux_state.specs.declared.openings.Openings.{Openings}
 use Rattle.ux_state.specs.Counting.{one_if, Counted, CountsOneMore, IsAmong}
@@ -73,43 +75,51 @@ counted_left ds xs ys d D here counted more = record {
 
 -- ---- the state
 
-module _ (xs : List Openings) (H : Held Description) (os : List (Option View)) (ps : List Process) (paths : List (Name × PathTarget)) (state : IsState xs H (state_of os H ps paths)) where
+module _ (xs : List Openings) (ls : List ℕ) (H : Held Description) (os : List (Option View)) (ps : List Process) (paths : List (Name × PathTarget)) (names : List (Name × ℕ)) (state : IsState xs ls H (state_of os H ps paths names)) where
   -- what the lost one held is counted
   pub all_counted : (T : Held Description) (d k : ℕ) (D : Description) → place H.places d ≡ Some D → T.counts ≡ H.counts → target_refs k D.target ≤ count_at T k
   all_counted T d k D here same =
-      let a = held_refs (state_of os H ps paths) d k D here in
+      let a = held_refs (state_of os H ps paths names) d k D here in
       let b = state.counted k in
       let e : count_at T k ≡ count_at H k = ap (λ cs. count_at (record H { counts = cs }) k) same in
       omega (arith, a, b, e)
 
-  pub left_kept : (ys : List Openings) (T K : Held Description) (d : ℕ) (D : Description) → place H.places d ≡ Some D → K.places ≡ told (lost_peer D) (emptied H.places d) → T.counts ≡ H.counts →
-      ((k : ℕ) → count_at T k ≡ count_at K k + target_refs k D.target) → CountsOneMore D ys xs → IsState ys K (state_of os K ps paths)
-  left_kept ys T K d D here places same counts more = record {
+  -- the names that are left
+  left_names : (d : ℕ) (D : Description) (left : List (Name × ℕ)) → place H.places d ≡ Some D → left ≡ without_shown (target_name D.target) d names → left ≡ filter (λ e. not (e.1 == d)) names
+  left_names d D left here shown = shown ∙ ap (λ x. without_shown (name_in x) d names) (sym here) ∙ name_goes (state_of os H ps paths names) d state.owned
+
+  pub left_kept : (ys : List Openings) (T K : Held Description) (left : List (Name × ℕ)) (d : ℕ) (D : Description) → place H.places d ≡ Some D → K.places ≡ told (lost_peer D) (emptied H.places d) → T.counts ≡ H.counts →
+      ((k : ℕ) → count_at T k ≡ count_at K k + target_refs k D.target) → CountsOneMore D ys xs → left ≡ without_shown (target_name D.target) d names → IsState ys ls K (state_of os K ps paths left)
+  left_kept ys T K left d D here places same counts more shown = record {
     few_objects = state.few_objects;
     few_processes = state.few_processes;
     one_each = sym more.long ∙ state.one_each;
+    link_each = state.link_each;
     opened = rw places (counted_left H.places xs ys d D here state.opened more);
+    linked = state.linked;
     counted = λ k.
-        let a = left_refs (state_of os H ps paths) (state_of os K ps paths) d k D here refl places in
+        let a = left_refs (state_of os H ps paths names) (state_of os K ps paths left) d k D here refl places in
         let b = state.counted k in
         let e : count_at T k ≡ count_at H k = ap (λ cs. count_at (record H { counts = cs }) k) same in
         let f = counts k in
         omega (arith, a, b, e, f);
     paired = rw places (paired-told (lost_peer D) (emptied H.places d) (paired-emptied H.places d (place_within H.places d D here) state.paired));
+    owned = rw (places, left_names d D left here shown) (owned_without H.places d (lost_peer D) names state.owned);
   }
 
-  pub is_without : (K : Held Description) (d : ℕ) (D : Description) → place H.places d ≡ Some D → K.places ≡ told (lost_peer D) (emptied H.places d) →
-      state_of os K ps paths ≡ without (λ n. n == d) (state_of os H ps paths)
+  pub is_without : (K : Held Description) (left : List (Name × ℕ)) (d : ℕ) (D : Description) → place H.places d ≡ Some D → K.places ≡ told (lost_peer D) (emptied H.places d) →
+      left ≡ without_shown (target_name D.target) d names → state_of os K ps paths left ≡ without (λ n. n == d) (state_of os H ps paths names)
   unfolding without
-  is_without K d D here places =
-      let all = places ∙ one_goes (state_of os H ps paths) d D state.paired here in
-      λ j. record { objects = os; descriptions = all j; processes = ps; paths = paths; abstract_names = [] }
+  is_without K left d D here places shown =
+      let all = places ∙ one_goes (state_of os H ps paths names) d D state.paired here in
+      let rest = left_names d D left here shown in
+      λ j. record { objects = os; descriptions = all j; processes = ps; paths = paths; abstract_names = rest j }
 
-  pub was_dead : (d : ℕ) (D : Description) → place H.places d ≡ Some D → count_at H d ≡ 0 → is_unreferenced (state_of os H ps paths) d ≡ true
-  was_dead d D here none = unreferenced (state_of os H ps paths) d D here (sym (state.counted d) ∙ none)
+  pub was_dead : (d : ℕ) (D : Description) → place H.places d ≡ Some D → count_at H d ≡ 0 → is_unreferenced (state_of os H ps paths names) d ≡ true
+  was_dead d D here none = unreferenced (state_of os H ps paths names) d D here (sym (state.counted d) ∙ none)
 
-  pub none_dead : IsNoneDead H → has_unreferenced (state_of os H ps paths) ≡ false
-  none_dead each = none_unreferenced (state_of os H ps paths) (λ k some. let a = each k some in let b = state.counted k in omega (arith, a, b))
+  pub none_dead : IsNoneDead H → has_unreferenced (state_of os H ps paths names) ≡ false
+  none_dead each = none_unreferenced (state_of os H ps paths names) (λ k some. let a = each k some in let b = state.counted k in omega (arith, a, b))
 
 -- ---- all go
 

@@ -2,10 +2,12 @@ pub mod Lookups
 pub mod TableCounts
 pub mod Changing
 pub mod Found
-pub mod Made
 pub mod Opening
 pub mod CountLaws
 pub mod Dropping
 pub mod Orphans
+pub mod Links
+pub mod Made
 pub mod Queues
 pub mod SocketMoves
+pub mod Tying

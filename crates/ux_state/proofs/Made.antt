@@ -1,5 +1,5 @@
 -- A state that was just made.
-use Rattle.std.proofs.Common.{◌≡◌, ℕ, zero, suc, ◌+◌, ◌≤◌, List, [], ◌∷◌, length, map, Option, Some, None, refl, sym, ◌∙◌, ap, arith}
+use Rattle.std.proofs.Common.{◌≡◌, ℕ, zero, suc, ◌+◌, ◌<◌, ◌≤◌, true, List, [], ◌∷◌, length, map, Option, Some, None, refl, sym, ◌∙◌, ap, arith}
 use Rattle.std.specs.Prelude.{max, min, replicate}
 use Rattle.std.specs.List.{enumerate_from, slice_get, sum_by}
 use Rattle.std.proofs.lemmas.List.{length-map, length-replicate}
@@ -9,16 +9,18 @@ use Rattle.ux_model.specs.Types.{Name, ProcSpec}
 use Rattle.ux_model.specs.Names.{PathTarget, file}
 use Rattle.ux_model.specs.Object.{View}
 use Rattle.ux_model.specs.Description.{Description}
-use Rattle.ux_model.specs.Process.{Process, Descriptor}
+use Rattle.ux_model.specs.Process.{Process}
 use Rattle.ux_model.specs.State.{State}
 use Rattle.ux_model.specs.References.{table_refs, description_refs, refs}
-use Rattle.ux_model.specs.Boot.{boot_state, new_process}
+use Rattle.ux_model.specs.Boot.{boot_state, are_distinct, new_process}
 use Rattle.ux_slots.specs.Held.{Held, count_at}
 use Rattle.ux_state.specs.declared.openings.Openings.{Openings}
 use Rattle.ux_state.specs.Counting.{none_open, counts_of}
 use Rattle.ux_state.specs.EntryCounts.{entry_refs}
-use Rattle.ux_state.specs.Keeping.{state_of, IsState}
+use Rattle.ux_model.proofs.Owning.{owned_none}
+use Rattle.ux_state.specs.Keeping.{state_of, links_of, IsState}
 use Rattle.ux_state.proofs.CountLaws.{nobody}
+use Rattle.ux_state.proofs.Links.{file_paths, names_of, one_path_each}
 
 -- the views of the objects, and their paths
 views_of : {X : Type 0} (view : X → View) (xs : List (Name × X)) → map (λ o. Some (view o.1)) xs ≡ map (λ o. Some o.1) (map {B = Name × View} (λ o. (o.0, view o.1)) xs)
@@ -30,15 +32,15 @@ paths_of : {X : Type 0} (view : X → View) (i : ℕ) (xs : List (Name × X)) �
 paths_of view i [] = refl
 paths_of view i (x ∷ xs) = ap (λ l. (x.0, file i) ∷ l) (paths_of view (i + 1) xs)
 
-pub made : {X : Type 0} (view : X → View) (xs : List (Name × X)) (os : List (Option View)) (ds : List (Option Description)) (ps : List Process) (paths : List (Name × PathTarget)) (specs : List ProcSpec) →
-    os ≡ map (λ o. Some (view o.1)) xs → ds ≡ [] → ps ≡ map new_process specs → paths ≡ map {B = Name × PathTarget} (λ e. (e.1.0, file e.0)) (enumerate_from 0 xs) →
-    ◌≡◌ {A = State} (record { objects = os; descriptions = ds; processes = ps; paths = paths; abstract_names = [] }) (boot_state (map {B = Name × View} (λ o. (o.0, view o.1)) xs) specs)
-made view xs os ds ps paths specs a b c d = λ j. record {
+pub made : {X : Type 0} (view : X → View) (xs : List (Name × X)) (os : List (Option View)) (ds : List (Option Description)) (ps : List Process) (paths : List (Name × PathTarget)) (names : List (Name × ℕ)) (specs : List ProcSpec) →
+    os ≡ map (λ o. Some (view o.1)) xs → ds ≡ [] → ps ≡ map new_process specs → paths ≡ map {B = Name × PathTarget} (λ e. (e.1.0, file e.0)) (enumerate_from 0 xs) → names ≡ [] →
+    ◌≡◌ {A = State} (record { objects = os; descriptions = ds; processes = ps; paths = paths; abstract_names = names }) (boot_state (map {B = Name × View} (λ o. (o.0, view o.1)) xs) specs)
+made view xs os ds ps paths names specs a b c d none = λ j. record {
   objects = (a ∙ views_of view xs) j;
   descriptions = b j;
   processes = c j;
   paths = (d ∙ paths_of view 0 xs) j;
-  abstract_names = [];
+  abstract_names = none j;
 }
 
 -- ---- nothing is open yet
@@ -65,20 +67,35 @@ new_tables k (s ∷ ss) =
     let rest = new_tables k ss in
     omega (arith, all, first, rest)
 
-pub made_kept : {X : Type 0} (view : X → View) (objects : List (Name × X)) (n : ℕ) (xs : List Openings) (H : Held Description) (os : List (Option View)) (ps : List Process) (paths : List (Name × PathTarget)) (specs : List ProcSpec) →
-    os ≡ map (λ o. Some (view o.1)) objects → H.places ≡ [] → H.counts ≡ [] → ps ≡ map new_process specs → xs ≡ replicate n none_open → n ≡ length objects →
-    length objects ≤ object_limit → length specs ≤ process_limit → IsState xs H (state_of os H ps paths)
+ones : (n o : ℕ) → o < n → links_of (replicate n 1) o ≡ 1
+ones zero o inside = absurd (omega (arith, inside))
+ones (suc n) zero inside = refl
+ones (suc n) (suc o) inside = ones n o (omega (arith, inside))
+
+pub made_kept : {X : Type 0} (view : X → View) (objects : List (Name × X)) (n : ℕ) (xs : List Openings) (ls : List ℕ) (H : Held Description) (os : List (Option View)) (ps : List Process) (paths : List (Name × PathTarget)) (names : List (Name × ℕ)) (specs : List ProcSpec) →
+    os ≡ map (λ o. Some (view o.1)) objects → H.places ≡ [] → H.counts ≡ [] → ps ≡ map new_process specs → xs ≡ replicate n none_open → ls ≡ replicate n 1 → paths ≡ file_paths 0 objects → are_distinct (map (λ o. o.0) objects) ≡ true → names ≡ [] →
+    n ≡ length objects → length objects ≤ object_limit → length specs ≤ process_limit → IsState xs ls H (state_of os H ps paths names)
 unfolding refs
-made_kept view objects n xs H os ps paths specs objects_are places counts processes openings one_each few_objects few_processes = record {
+made_kept view objects n xs ls H os ps paths names specs objects_are places counts processes openings links found once none_bound one_each few_objects few_processes = record {
   few_objects = let a = ap length objects_are in let b = length-map objects (λ o. Some (view o.1)) in omega (arith, a, b, few_objects);
   few_processes = let a = ap length processes in let b = length-map specs new_process in omega (arith, a, b, few_processes);
   one_each =
       let a = ap length objects_are in let b = length-map objects (λ o. Some (view o.1)) in
       let c = ap length openings in let d = length-replicate n none_open in
       omega (arith, a, b, c, d, one_each);
+  link_each =
+      let a = ap length objects_are in let b = length-map objects (λ o. Some (view o.1)) in
+      let c = ap length links in let d = length-replicate {A = ℕ} n 1 in
+      omega (arith, a, b, c, d, one_each);
   opened = rw places (record {
     readers = λ o h. ap (λ ys. (counts_of ys o).readers) openings ∙ ap (λ (y : Openings). y.readers) (none_of n o);
     writers = λ o h. ap (λ ys. (counts_of ys o).writers) openings ∙ ap (λ (y : Openings). y.writers) (none_of n o);
+  });
+  linked = rw found (record {
+    once = ap are_distinct (names_of 0 objects) ∙ once;
+    counted = λ o h.
+        let inside : o < n = let c = ap length links in let d = length-replicate {A = ℕ} n 1 in omega (arith, h, c, d) in
+        ap (λ ns. links_of ns o) links ∙ ones n o inside ∙ sym (one_path_each o objects (omega (arith, inside, one_each)));
   });
   counted = λ k.
       let none = ap (λ cs. count_at (record H { counts = cs }) k) counts in
@@ -86,4 +103,5 @@ made_kept view objects n xs H os ps paths specs objects_are places counts proces
       let held : sum_by (description_refs k) H.places ≡ 0 = ap (sum_by (description_refs k)) places in
       omega (arith, none, tables, held);
   paired = rw places (nobody []);
+  owned = rw none_bound (owned_none H.places);
 }

@@ -1,5 +1,5 @@
 -- New descriptions with their entries, part by part.
-use Rattle.std.proofs.Common.{◌≡◌, ℕ, suc, ◌+◌, ◌-◌, ◌^◌, ◌<◌, true, cond, List, [], ◌∷◌, ◌++◌, length, get_or, set, Option, Some, None, ap, sym, ◌∙◌, arith, refl, Bool}
+use Rattle.std.proofs.Common.{◌≡◌, ℕ, suc, ◌+◌, ◌-◌, ◌^◌, ◌<◌, true, cond, List, [], ◌∷◌, ◌++◌, length, get_or, set, Option, Some, ap, sym, ◌∙◌, arith, refl, Bool}
 use Rattle.std.specs.Prelude.{count_by}
 use Rattle.std.proofs.lemmas.List.{length_push}
 use Rattle.std.proofs.lemmas.List.Sums.{sum_by_push, count_by-le-length}
@@ -8,16 +8,18 @@ use Rattle.ux_model.specs.Names.{PathTarget}
 use Rattle.ux_model.specs.Flags.{can_read, can_write}
 use Rattle.ux_model.specs.Places.{place, filled}
 use Rattle.ux_model.specs.Object.{View}
-use Rattle.ux_model.specs.Socket.{pair_end}
+use Rattle.ux_model.specs.Socket.{Socket, new_socket, pair_end}
 use Rattle.ux_model.specs.Description.{Description}
 use Rattle.ux_model.specs.Process.{Process, Descriptor, descriptor, lowest_free, two_lowest_free}
 use Rattle.ux_model.specs.State.{State, is_live, table_of, next_description, with_table, with_new}
 use Rattle.ux_model.specs.Pairing.{socket_description, with_pair}
-use Rattle.ux_model.specs.Files.{is_opening, file_description}
+use Rattle.ux_model.specs.FileObjects.{is_opening}
+use Rattle.ux_model.specs.Opening.{file_description}
 use Rattle.ux_model.specs.References.{table_refs, target_refs, description_refs}
 use Rattle.ux_model.specs.Peers.{target_peer, HoldsNothing}
 use Rattle.ux_model.proofs.Moves.{one, table_filled}
 use Rattle.ux_model.proofs.Making.{paired-push, paired-pair}
+use Rattle.ux_model.proofs.Owning.{owned_still, names_push}
 use Rattle.ux_fdtable.proofs.TwoFree.{free_at, first_free, second_free}
 use Rattle.ux_state.specs.declared.openings.Openings.{Openings}
 use Rattle.ux_state.specs.Counting.{Counted, CountsOneMore, HasRoom, one_if}
@@ -40,8 +42,11 @@ counted_push ds xs ys D counted more = record {
     pushed allows o = sum_by_push (λ (p : Option Description). cond {A = ℕ} (is_opening allows o p) 1 0) ds (Some D)
 
 -- a socket is open of no file object
+pub any_socket_counted : (xs : List Openings) (flags : OpenFlags) (s : Socket) (D : Description) → D ≡ socket_description flags s → CountsOneMore D xs xs
+any_socket_counted xs flags s D e = rw e (record { long = refl; readers = λ o h. omega arith; writers = λ o h. omega arith })
+
 pub socket_counted : (xs : List Openings) (flags : OpenFlags) (cred : Cred) (peer : ℕ) (D : Description) → D ≡ socket_description flags (pair_end SockType.Stream peer cred) → CountsOneMore D xs xs
-socket_counted xs flags cred peer D e = rw e (record { long = refl; readers = λ o h. omega arith; writers = λ o h. omega arith })
+socket_counted xs flags cred peer D e = any_socket_counted xs flags (pair_end SockType.Stream peer cred) D e
 
 -- one more can be counted while there are numbers
 pub room_to_count : (ds : List (Option Description)) (xs : List Openings) → Counted ds xs → length ds + 1 < 2 ^ 128 → HasRoom xs
@@ -55,6 +60,10 @@ room_to_count ds xs counted few = record {
 -- a file's description refers to nothing
 pub holds_nothing : (o : ℕ) (mode : Mode) (flags : OpenFlags) (D : Description) → D ≡ file_description o mode flags → HoldsNothing D
 holds_nothing o mode flags D is = record { refs = λ k. ap (λ E. target_refs k (Description.target E)) is; peer = ap (λ E. target_peer (Description.target E)) is }
+
+-- nor does a socket that is tied to nobody
+pub idle_holds : (flags : OpenFlags) (D : Description) → D ≡ socket_description flags (new_socket SockType.Stream) → HoldsNothing D
+idle_holds flags D is = record { refs = λ k. ap (λ E. target_refs k (Description.target E)) is; peer = ap (λ E. target_peer (Description.target E)) is }
 
 -- nor does a new socket, while nothing waits at it
 pub end_holds : (peer : ℕ) (flags : OpenFlags) (cred : Cred) (D : Description) → D ≡ socket_description flags (pair_end SockType.Stream peer cred) → (k : ℕ) → target_refs k D.target ≡ 0
@@ -74,14 +83,15 @@ adds_from H J K D places counts adds = record {
       omega (arith, a, b, c);
 }
 
-module _ (xs : List Openings) (H : Held Description) (os : List (Option View)) (ps : List Process) (paths : List (Name × PathTarget)) (state : IsState xs H (state_of os H ps paths))
-    (p : ℕ) (P : Process) (live : is_live (state_of os H ps paths) p ≡ true) (at : P ≡ get_or ps (p - 1) P) where
+module _ (xs : List Openings) (ls : List ℕ) (H : Held Description) (os : List (Option View)) (ps : List Process) (paths : List (Name × PathTarget)) (names : List (Name × ℕ)) (state : IsState xs ls H (state_of os H ps paths names))
+    (p : ℕ) (P : Process) (live : is_live (state_of os H ps paths names) p ≡ true) (at : P ≡ get_or ps (p - 1) P) where
   -- a file's description more, to which the lowest free number leads
   pub object_opened : (ys : List Openings) (K : Held Description) (Q : Process) (n : ℕ) (e : Descriptor) (D : Description) → Q ≡ record P { table = filled P.table n e } → lowest_free P.table ≡ Some n →
-      e.description ≡ length H.places → Adds D H K → HoldsNothing D → CountsOneMore D xs ys → IsState ys K (state_of os K (set ps (p - 1) Q) paths)
+      e.description ≡ length H.places → Adds D H K → HoldsNothing D → CountsOneMore D xs ys → IsState ys ls K (state_of os K (set ps (p - 1) Q) paths names)
   object_opened ys K Q n e D new lowest last adds none more =
-      process_kept xs H os ps paths state p P live at ys K Q more.long (rw adds.places (held_push H.places D none.refs))
+      process_kept xs ls H os ps paths names state p P live at ys K Q more.long (rw adds.places (held_push H.places D none.refs))
       (rw adds.places (counted_push H.places xs ys D state.opened more)) (rw adds.places (paired-push H.places D none.peer state.paired))
+      (rw adds.places (owned_still H.places _ names (names_push H.places D) state.owned))
       (λ k.
       let free = free_at P.table 0 n lowest in
       let a = table_filled k P.table n e free.0 in
@@ -94,11 +104,12 @@ module _ (xs : List Openings) (H : Held Description) (os : List (Option View)) (
   -- two sockets' descriptions more, which name one another
   pub pair_opened : (J K : Held Description) (Q : Process) (n m : ℕ) (e f : Descriptor) (D E : Description) → Q ≡ record P { table = filled (filled P.table n e) m f } → two_lowest_free P.table ≡ Some (n, m) →
       e.description ≡ length H.places → f.description ≡ length H.places + 1 → Adds D H J → Adds E J K → target_peer D.target ≡ Some (length H.places + 1) → target_peer E.target ≡ Some (length H.places) →
-      ((k : ℕ) → target_refs k D.target ≡ 0) → ((k : ℕ) → target_refs k E.target ≡ 0) → CountsOneMore D xs xs → CountsOneMore E xs xs → IsState xs K (state_of os K (set ps (p - 1) Q) paths)
+      ((k : ℕ) → target_refs k D.target ≡ 0) → ((k : ℕ) → target_refs k E.target ≡ 0) → CountsOneMore D xs xs → CountsOneMore E xs xs → IsState xs ls K (state_of os K (set ps (p - 1) Q) paths names)
   pair_opened J K Q n m e f D E new lowest first second adds adds' ahead back d_holds e_holds d_more e_more =
       let two : K.places ≡ (H.places ++ Some D ∷ []) ++ Some E ∷ [] = adds'.places ∙ ap (λ ds. ds ++ Some E ∷ []) adds.places in
-      process_kept xs H os ps paths state p P live at xs K Q refl (rw two (λ k. held_push (H.places ++ Some D ∷ []) E e_holds k ∙ held_push H.places D d_holds k))
+      process_kept xs ls H os ps paths names state p P live at xs K Q refl (rw two (λ k. held_push (H.places ++ Some D ∷ []) E e_holds k ∙ held_push H.places D d_holds k))
       (rw two (counted_push _ xs xs E (counted_push H.places xs xs D state.opened d_more) e_more)) (rw two (paired-pair H.places D E ahead back state.paired))
+      (rw two (owned_still _ _ names (names_push (H.places ++ Some D ∷ []) E) (owned_still H.places _ names (names_push H.places D) state.owned)))
       (λ k.
       let low = first_free P.table n m lowest in
       let a = table_filled k P.table n e low.0 in

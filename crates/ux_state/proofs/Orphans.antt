@@ -1,5 +1,5 @@
 -- The file objects that neither a path nor a description leads to, one at a time.
-use Rattle.std.proofs.Common.{◌≡◌, ℕ, zero, suc, ◌+◌, ◌-◌, ◌<◌, ◌≤◌, Bool, true, false, not, ◌&&◌, ◌||◌, ◌==◌, eqb, nat_lt, if◌then◌else◌, List, [], ◌∷◌, ◌++◌, length, cond, get_or, set, take, drop, map, Option, Some, None, is_some, option_map, sym, ◌∙◌, ap, refl, zero-add, arith, append_assoc, length-append, length-drop, length-take-le}
+use Rattle.std.proofs.Common.{◌≡◌, ℕ, zero, suc, ◌+◌, ◌-◌, ◌<◌, ◌≤◌, Bool, true, false, not, ◌&&◌, ◌||◌, eqb, nat_lt, if◌then◌else◌, List, [], ◌∷◌, ◌++◌, length, cond, get_or, set, take, drop, map, Option, Some, None, is_some, option_map, sym, ◌∙◌, ap, refl, zero-add, arith, append_assoc, length-append, length-drop, length-take-le}
 use Rattle.std.specs.List.{count_by, sum_by, list_any, list_all, enumerate_from, filter}
 use Rattle.std.proofs.lemmas.Bool.{ne_eqb, lt-ltb, and_right}
 use Rattle.std.proofs.lemmas.List.{take_more, append-nil, map-append, set-append_right, set-get_or, get_or-append_right, get_or-drop, drop_more, length-map}
@@ -13,7 +13,7 @@ use Rattle.ux_model.specs.Object.{View, closed}
 use Rattle.ux_model.specs.Description.{Description}
 use Rattle.ux_model.specs.State.{State}
 use Rattle.ux_model.specs.References.{path_names, leads_to, is_open_of, orefs}
-use Rattle.ux_model.specs.Files.{is_opening}
+use Rattle.ux_model.specs.FileObjects.{is_opening}
 use Rattle.ux_model.specs.Release.{is_orphan}
 use Rattle.ux_state.specs.declared.openings.Openings.{Openings}
 use Rattle.ux_state.specs.Counting.{one_if, none_open, counts_of, Counted}
@@ -44,7 +44,7 @@ some_counted zero false e = refl
 some_counted (suc n) true e = sym (lt-ltb 0 (suc n) (omega arith))
 some_counted (suc n) false e = absurd (cc (e, ne_eqb (suc n) 0 (λ h. omega (arith, h))))
 
-any_counted : {X : Type 0} (p : X → Bool) (xs : List X) → list_any p xs ≡ nat_lt 0 (count_by p xs)
+pub any_counted : {X : Type 0} (p : X → Bool) (xs : List X) → list_any p xs ≡ nat_lt 0 (count_by p xs)
 any_counted p xs = some_counted (count_by p xs) (list_any p xs) (count_zero p xs)
 
 -- ---- each description is open for something

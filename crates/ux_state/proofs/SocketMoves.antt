@@ -1,5 +1,5 @@
 -- Counts where a socket changes: a message is queued, or bytes are taken.
-use Rattle.std.proofs.Common.{◌≡◌, ℕ, ◌+◌, ◌<◌, ◌≤◌, cond, Bool, ◌&&◌, List, [], ◌∷◌, length, Option, Some, None, option_map, refl, ap, sym, ◌∙◌, arith}
+use Rattle.std.proofs.Common.{◌≡◌, ℕ, ◌+◌, ◌<◌, ◌≤◌, Bool, ◌&&◌, List, [], ◌∷◌, length, Option, Some, None, option_map, refl, ap, sym, subst, ◌∙◌, arith}
 use Rattle.std.specs.Prelude.{IsSome, IsSomeAnd, count_by, sum_by}
 use Rattle.std.proofs.lemmas.List.Sums.{sum_by-set, sum_by_push, get_or-le-sum_by}
 use Rattle.ux_model.specs.Types.{Name, Mode}
@@ -11,17 +11,19 @@ use Rattle.ux_model.specs.Message.{Message}
 use Rattle.ux_model.specs.Socket.{Socket, peer_of, sent, sent_part, with_queue}
 use Rattle.ux_model.specs.Description.{Description, Target, to_object, to_socket, socket_in, socket_of, changed, changed_target}
 use Rattle.ux_model.specs.Process.{Process}
-use Rattle.ux_model.specs.Files.{is_opening}
+use Rattle.ux_model.specs.FileObjects.{is_opening}
 use Rattle.ux_model.specs.Front.{stream_front, OnStreamFront}
-use Rattle.ux_model.specs.References.{leads_to, times, queue_refs, socket_refs, target_refs, table_refs, description_refs, refs}
+use Rattle.ux_model.specs.References.{leads_to, times, queue_refs, socket_refs, target_refs, description_refs, refs}
 use Rattle.ux_model.proofs.ChangedPlaces.{place_within, sum_by-changed}
-use Rattle.ux_model.proofs.Sockets.{peer_in-changed}
-use Rattle.ux_model.proofs.OneGoes.{paired-changed}
+use Rattle.ux_model.specs.Peers.{target_peer, peer_in}
+use Rattle.ux_model.specs.Owning.{AreOwned}
+use Rattle.ux_model.proofs.OneGoes.{paired-here}
+use Rattle.ux_model.proofs.Owning.{owned_still, names_changed_socket}
 use Rattle.ux_model.proofs.FrontRights.{front_refs}
 use Rattle.ux_slots.specs.Held.{Held, count_at, HasMore}
 use Rattle.ux_state.specs.declared.openings.Openings.{Openings}
 use Rattle.ux_state.specs.Counting.{one_if, Counted}
-use Rattle.ux_state.specs.Keeping.{state_of, IsState}
+use Rattle.ux_state.specs.Keeping.{state_of, AreLinked, IsState}
 
 -- ---- what is open
 
@@ -33,7 +35,7 @@ opening_changed change allows o (Some D) = ap (λ b. one_if (b && allows D.mode)
     by_target (to_object n) = refl
     by_target (to_socket s) = refl
 
-counted_changed : (change : Socket → Socket) (ds : List (Option Description)) (n : ℕ) (xs : List Openings) → Counted ds xs → Counted (changed_place ds n (changed change)) xs
+pub counted_changed : (change : Socket → Socket) (ds : List (Option Description)) (n : ℕ) (xs : List Openings) → Counted ds xs → Counted (changed_place ds n (changed change)) xs
 counted_changed change ds n xs counted = record {
   readers = λ o h. let a = alike can_read o in let b = counted.readers o h in omega (arith, a, b);
   writers = λ o h. let a = alike can_write o in let b = counted.writers o h in omega (arith, a, b);
@@ -44,14 +46,14 @@ counted_changed change ds n xs counted = record {
 
 -- ---- what a socket holds
 
-there : (ds : List (Option Description)) (n : ℕ) (s : Socket) → socket_in (place ds n) ≡ Some s → n < length ds
+pub there : (ds : List (Option Description)) (n : ℕ) (s : Socket) → socket_in (place ds n) ≡ Some s → n < length ds
 there ds n s e = go (place ds n) refl e
   where
     go : (x : Option Description) → place ds n ≡ x → socket_in x ≡ Some s → n < length ds
     go None h e = absurd (cc e)
     go (Some D) h e = place_within ds n D h
 
-held_by : (k : ℕ) (x : Option Description) (s : Socket) → socket_in x ≡ Some s → description_refs k x ≡ socket_refs k s
+pub held_by : (k : ℕ) (x : Option Description) (s : Socket) → socket_in x ≡ Some s → description_refs k x ≡ socket_refs k s
 held_by k None s e = absurd (cc e)
 held_by k (Some D) s e = by_target D.target e
   where
@@ -59,13 +61,22 @@ held_by k (Some D) s e = by_target D.target e
     by_target (to_object o) e = absurd (cc e)
     by_target (to_socket u) e = let same : u ≡ s = cc e in ap (socket_refs k) same
 
-held_by_changed : (k : ℕ) (change : Socket → Socket) (x : Option Description) (s : Socket) → socket_in x ≡ Some s → description_refs k (option_map (changed change) x) ≡ socket_refs k (change s)
+pub held_by_changed : (k : ℕ) (change : Socket → Socket) (x : Option Description) (s : Socket) → socket_in x ≡ Some s → description_refs k (option_map (changed change) x) ≡ socket_refs k (change s)
 held_by_changed k change None s e = absurd (cc e)
 held_by_changed k change (Some D) s e = by_target D.target e
   where
     by_target : (t : Target) → socket_of t ≡ Some s → target_refs k (changed_target change t) ≡ socket_refs k (change s)
     by_target (to_object o) e = absurd (cc e)
     by_target (to_socket u) e = let same : u ≡ s = cc e in ap (λ t. socket_refs k (change t)) same
+
+-- the peer that it names
+peer_by : (change : Socket → Socket) (x : Option Description) (s : Socket) → socket_in x ≡ Some s → peer_of (change s).phase ≡ peer_of s.phase → peer_in (option_map (changed change) x) ≡ peer_in x
+peer_by change None s e same = absurd (cc e)
+peer_by change (Some D) s e same = by_target D.target e
+  where
+    by_target : (t : Target) → socket_of t ≡ Some s → target_peer (changed_target change t) ≡ target_peer t
+    by_target (to_object o) e = absurd (cc e)
+    by_target (to_socket u) e = let is : s ≡ u = sym (cc e) in subst (λ t. peer_of (change t).phase ≡ peer_of t.phase) is same
 
 -- the socket that stands there
 abbrev pub Found : List (Option Description) → ℕ → Type 0
@@ -78,16 +89,19 @@ found ds n some = go (socket_in (place ds n)) refl some
     go None h some = absurd (cc some)
     go (Some s) h some = (s, h)
 
-module _ (xs : List Openings) (H : Held Description) (os : List (Option View)) (ps : List Process) (paths : List (Name × PathTarget)) (state : IsState xs H (state_of os H ps paths)) where
-  -- one socket changes, and the counts follow
-  pub socket_kept : (K : Held Description) (n : ℕ) (change : Socket → Socket) (s : Socket) → socket_in (place H.places n) ≡ Some s → K.places ≡ changed_place H.places n (changed change) →
-      ((t : Socket) → peer_of (change t).phase ≡ peer_of t.phase) → ((k : ℕ) → count_at K k + socket_refs k s ≡ count_at H k + socket_refs k (change s)) → IsState xs K (state_of os K ps paths)
+module _ (xs : List Openings) (ls : List ℕ) (H : Held Description) (os : List (Option View)) (ps : List Process) (paths : List (Name × PathTarget)) (names : List (Name × ℕ)) (state : IsState xs ls H (state_of os H ps paths names)) where
+  -- one socket changes, perhaps with a name, and the counts follow
+  pub socket_changed : (K : Held Description) (more : List (Name × PathTarget)) (shown : List (Name × ℕ)) (n : ℕ) (change : Socket → Socket) (s : Socket) → socket_in (place H.places n) ≡ Some s →
+      K.places ≡ changed_place H.places n (changed change) → peer_of (change s).phase ≡ peer_of s.phase → ((k : ℕ) → count_at K k + socket_refs k s ≡ count_at H k + socket_refs k (change s)) →
+      AreLinked more ls → AreOwned (changed_place H.places n (changed change)) shown → IsState xs ls K (state_of os K ps more shown)
   unfolding refs
-  socket_kept K n change s here places ties counts = record {
+  socket_changed K more shown n change s here places ties counts linked owned = record {
     few_objects = state.few_objects;
     few_processes = state.few_processes;
     one_each = state.one_each;
+    link_each = state.link_each;
     opened = rw places (counted_changed change H.places n xs state.opened);
+    linked = linked;
     counted = λ k.
         let a = sum_by-set (description_refs k) H.places n (option_map (changed change) (place H.places n)) None (there H.places n s here) in
         let b = held_by k (place H.places n) s here in
@@ -96,27 +110,37 @@ module _ (xs : List Openings) (H : Held Description) (os : List (Option View)) (
         let e = counts k in
         let f = state.counted k in
         omega (arith, a, b, c, d, e, f);
-    paired = rw places (paired-changed H.places n (changed change) (peer_in-changed change ties) state.paired);
+    paired = rw places (paired-here H.places n (changed change) (peer_by change (place H.places n) s here ties) state.paired);
+    owned = rw places owned;
   }
 
+  -- the same, where it keeps its name
+  pub socket_kept : (K : Held Description) (n : ℕ) (change : Socket → Socket) (s : Socket) → socket_in (place H.places n) ≡ Some s → K.places ≡ changed_place H.places n (changed change) →
+      peer_of (change s).phase ≡ peer_of s.phase → ((t : Socket) → (change t).name ≡ t.name) → ((k : ℕ) → count_at K k + socket_refs k s ≡ count_at H k + socket_refs k (change s)) → IsState xs ls K (state_of os K ps paths names)
+  socket_kept K n change s here places ties shows counts =
+      socket_changed K paths names n change s here places ties counts state.linked (owned_still H.places _ names (names_changed_socket H.places n change shows) state.owned)
+
   -- the same places and counts
-  pub same_kept : (K : Held Description) → K.places ≡ H.places → ((k : ℕ) → count_at K k ≡ count_at H k) → IsState xs K (state_of os K ps paths)
+  pub same_kept : (K : Held Description) → K.places ≡ H.places → ((k : ℕ) → count_at K k ≡ count_at H k) → IsState xs ls K (state_of os K ps paths names)
   unfolding refs
   same_kept K places counts = record {
     few_objects = state.few_objects;
     few_processes = state.few_processes;
     one_each = state.one_each;
+    link_each = state.link_each;
     opened = rw places state.opened;
+    linked = state.linked;
     counted = λ k. let a = counts k in let b = state.counted k in let c = ap (sum_by (description_refs k)) places in omega (arith, a, b, c);
     paired = rw places state.paired;
+    owned = rw places state.owned;
   }
 
   -- a message is queued, whose rights were counted before
   pub message_added : (R P : Held Description) (n : ℕ) (m : Message) (rights : List ℕ) → rights ≡ m.rights → HasMore (λ k. times k rights) H R → P.places ≡ changed_place R.places n (changed (sent m)) → P.counts ≡ R.counts →
-      IsSome (socket_in (place H.places n)) → IsState xs P (state_of os P ps paths)
+      IsSome (socket_in (place H.places n)) → IsState xs ls P (state_of os P ps paths names)
   message_added R P n m rights same more places counts some =
       let f = found H.places n some in
-      socket_kept P n (sent m) f.0 f.1 (places ∙ ap (λ ds. changed_place ds n (changed (sent m))) more.places) (λ t. refl) (λ k.
+      socket_kept P n (sent m) f.0 f.1 (places ∙ ap (λ ds. changed_place ds n (changed (sent m))) more.places) refl (λ t. refl) (λ k.
       let a = more.counts k in
       let b : count_at P k ≡ count_at R k = ap (λ cs. count_at (record H { counts = cs }) k) counts in
       let c = sum_by_push (λ (m : Message). times k m.rights) (Socket.queue f.0) (sent_part f.0 m) in
@@ -125,7 +149,7 @@ module _ (xs : List Openings) (H : Held Description) (os : List (Option View)) (
 
   -- it wasn't, and its rights no longer count
   pub message_back : (R P K : Held Description) (rights back : List ℕ) → back ≡ rights → HasMore (λ k. times k rights) H R → P.places ≡ R.places → P.counts ≡ R.counts → HasMore (λ k. times k back) K P →
-      IsState xs K (state_of os K ps paths)
+      IsState xs ls K (state_of os K ps paths names)
   message_back R P K rights back same more places counts less = same_kept K (sym less.places ∙ places ∙ more.places) (λ k.
       let a = more.counts k in
       let b : count_at P k ≡ count_at R k = ap (λ cs. count_at (record H { counts = cs }) k) counts in
@@ -160,13 +184,13 @@ module _ (xs : List Openings) (H : Held Description) (os : List (Option View)) (
   pub bytes_taken : (P K : Held Description) (n : ℕ) (wants : Bool) (c : ℕ) (rights given : List ℕ) → given ≡ rights → P.counts ≡ H.counts →
       IsSomeAnd (socket_in (place H.places n)) (λ s. 0 < length s.queue) → IsSomeAnd (socket_in (place H.places n)) (λ s. OnStreamFront wants c s.queue (λ f. rights ≡ f.rights)) →
       IsSomeAnd (socket_in (place H.places n)) (λ s. OnStreamFront wants c s.queue (λ f. P.places ≡ changed_place H.places n (changed (with_queue f.rest)))) →
-      HasMore (λ k. times k given) K P → IsState xs K (state_of os K ps paths)
+      HasMore (λ k. times k given) K P → IsState xs ls K (state_of os K ps paths names)
   bytes_taken P K n wants c rights given handed same some gives leaves less = go (socket_in (place H.places n)) refl some gives leaves
     where
       by_queue : (s : Socket) (q : List Message) → s.queue ≡ q → socket_in (place H.places n) ≡ Some s → 0 < length q → OnStreamFront wants c q (λ f. rights ≡ f.rights) →
-          OnStreamFront wants c q (λ f. P.places ≡ changed_place H.places n (changed (with_queue f.rest))) → IsState xs K (state_of os K ps paths)
+          OnStreamFront wants c q (λ f. P.places ≡ changed_place H.places n (changed (with_queue f.rest))) → IsState xs ls K (state_of os K ps paths names)
       by_queue s [] e here some gives leaves = absurd (omega (arith, some))
-      by_queue s (m ∷ ms) e here some gives leaves = socket_kept K n (with_queue (stream_front wants c m ms).rest) s here (sym less.places ∙ leaves) (λ t. refl) (λ k.
+      by_queue s (m ∷ ms) e here some gives leaves = socket_kept K n (with_queue (stream_front wants c m ms).rest) s here (sym less.places ∙ leaves) refl (λ t. refl) (λ k.
           let a = front_refs k wants c m ms in
           let b = ap (times k) gives in
           let d = ap (queue_refs k) e in
@@ -176,6 +200,6 @@ module _ (xs : List Openings) (H : Held Description) (os : List (Option View)) (
           omega (arith, a, b, d, f, i, j))
 
       go : (o : Option Socket) → socket_in (place H.places n) ≡ o → IsSomeAnd o (λ s. 0 < length s.queue) → IsSomeAnd o (λ s. OnStreamFront wants c s.queue (λ f. rights ≡ f.rights)) →
-          IsSomeAnd o (λ s. OnStreamFront wants c s.queue (λ f. P.places ≡ changed_place H.places n (changed (with_queue f.rest)))) → IsState xs K (state_of os K ps paths)
+          IsSomeAnd o (λ s. OnStreamFront wants c s.queue (λ f. P.places ≡ changed_place H.places n (changed (with_queue f.rest)))) → IsState xs ls K (state_of os K ps paths names)
       go None here some gives leaves = absurd some
       go (Some s) here some gives leaves = by_queue s s.queue refl here some gives leaves

@@ -6,19 +6,20 @@ use Rattle.std.proofs.lemmas.List.{length-set}
 use Rattle.std.proofs.lemmas.List.Sums.{get_or-le-sum_by, sum_by-cons, sum_by_more, sum_by-take-le}
 use Rattle.ux_model.specs.Types.{Name}
 use Rattle.ux_model.specs.Names.{PathTarget}
-use Rattle.ux_model.specs.Places.{place, filled, emptied}
+use Rattle.ux_model.specs.Places.{place}
 use Rattle.ux_model.specs.Object.{View}
 use Rattle.ux_model.specs.Description.{Description}
 use Rattle.ux_model.specs.Process.{Process, Descriptor, with_cloexec}
 use Rattle.ux_model.specs.State.{State, is_live, with_process}
 use Rattle.ux_model.specs.References.{table_refs, description_refs, refs}
 use Rattle.ux_model.specs.Peers.{Paired}
+use Rattle.ux_model.specs.Owning.{AreOwned}
 use Rattle.ux_model.proofs.Moves.{table_emptied, process_counts}
 use Rattle.ux_slots.specs.Held.{Held, count_at}
 use Rattle.ux_state.specs.declared.openings.Openings.{Openings}
 use Rattle.ux_state.specs.Counting.{Counted}
 use Rattle.ux_state.specs.EntryCounts.{entry_refs}
-use Rattle.ux_state.specs.Keeping.{state_of, IsState}
+use Rattle.ux_state.specs.Keeping.{state_of, AreLinked, IsState}
 use Rattle.ux_state.proofs.Lookups.{live_at, live_positive, found_process, with_process_is}
 
 -- ---- any change of one process
@@ -27,42 +28,45 @@ use Rattle.ux_state.proofs.Lookups.{live_at, live_positive, found_process, with_
 abbrev pub HoldAlike : List (Option Description) → List (Option Description) → Type 0
 HoldAlike old new = (k : ℕ) → sum_by (description_refs k) new ≡ sum_by (description_refs k) old
 
-pub same_refs : (os : List (Option View)) (H K : Held Description) (ps : List Process) (paths : List (Name × PathTarget)) (k : ℕ) → HoldAlike H.places K.places →
-    refs (state_of os K ps paths) k ≡ refs (state_of os H ps paths) k
+pub same_refs : (os : List (Option View)) (H K : Held Description) (ps : List Process) (paths : List (Name × PathTarget)) (names : List (Name × ℕ)) (k : ℕ) → HoldAlike H.places K.places →
+    refs (state_of os K ps paths names) k ≡ refs (state_of os H ps paths names) k
 unfolding refs
-same_refs os H K ps paths k alike = ap (λ n. sum_by (λ P. table_refs k (Process.table P)) ps + n) (alike k)
+same_refs os H K ps paths names k alike = ap (λ n. sum_by (λ P. table_refs k (Process.table P)) ps + n) (alike k)
 
 pub held_same : (ds es : List (Option Description)) → es ≡ ds → HoldAlike ds es
 held_same ds es same k = ap (sum_by (description_refs k)) same
 
-module _ (xs : List Openings) (H : Held Description) (os : List (Option View)) (ps : List Process) (paths : List (Name × PathTarget)) (state : IsState xs H (state_of os H ps paths)) where
-  module _ (p : ℕ) (P : Process) (live : is_live (state_of os H ps paths) p ≡ true) (at : P ≡ get_or ps (p - 1) P) where
+module _ (xs : List Openings) (ls : List ℕ) (H : Held Description) (os : List (Option View)) (ps : List Process) (paths : List (Name × PathTarget)) (names : List (Name × ℕ)) (state : IsState xs ls H (state_of os H ps paths names)) where
+  module _ (p : ℕ) (P : Process) (live : is_live (state_of os H ps paths names) p ≡ true) (at : P ≡ get_or ps (p - 1) P) where
     abbrev S : State
-    S = state_of os H ps paths
+    S = state_of os H ps paths names
 
     -- another process stands in its place, and the counts follow
-    pub process_kept : (ys : List Openings) (K : Held Description) (Q : Process) → length ys ≡ length xs → HoldAlike H.places K.places → Counted K.places ys → Paired K.places →
-        ((k : ℕ) → count_at K k + table_refs k P.table ≡ count_at H k + table_refs k Q.table) → IsState ys K (state_of os K (set ps (p - 1) Q) paths)
-    process_kept ys K Q long alike opened paired counts = record {
+    pub process_kept : (ys : List Openings) (K : Held Description) (Q : Process) → length ys ≡ length xs → HoldAlike H.places K.places → Counted K.places ys → Paired K.places → AreOwned K.places names →
+        ((k : ℕ) → count_at K k + table_refs k P.table ≡ count_at H k + table_refs k Q.table) → IsState ys ls K (state_of os K (set ps (p - 1) Q) paths names)
+    process_kept ys K Q long alike opened paired owned counts = record {
       few_objects = state.few_objects;
       few_processes = let e = length-set ps (p - 1) Q in let few = state.few_processes in omega (arith, e, few);
       one_each = long ∙ state.one_each;
+      link_each = state.link_each;
+      linked = state.linked;
       opened = opened;
       counted = λ k.
           let a = process_counts S p k P Q (found_process S p P live at) in
-          let b : refs (state_of os K (set ps (p - 1) Q) paths) k ≡ refs (with_process S p Q) k =
-          same_refs os H K (set ps (p - 1) Q) paths k alike ∙ ap (λ T. refs T k) (with_process_is S p Q (live_positive S p live)) in
+          let b : refs (state_of os K (set ps (p - 1) Q) paths names) k ≡ refs (with_process S p Q) k =
+          same_refs os H K (set ps (p - 1) Q) paths names k alike ∙ ap (λ T. refs T k) (with_process_is S p Q (live_positive S p live)) in
           let c = counts k in
           let e = state.counted k in
           omega (arith, a, b, c, e);
       paired = paired;
+      owned = owned;
     }
 
     -- it has another table, with the same descriptions
     pub table_kept : (K : Held Description) (Q : Process) → K.places ≡ H.places →
-        ((k : ℕ) → count_at K k + table_refs k P.table ≡ count_at H k + table_refs k Q.table) → IsState xs K (state_of os K (set ps (p - 1) Q) paths)
+        ((k : ℕ) → count_at K k + table_refs k P.table ≡ count_at H k + table_refs k Q.table) → IsState xs ls K (state_of os K (set ps (p - 1) Q) paths names)
     table_kept K Q same counts =
-        process_kept xs K Q refl (held_same H.places K.places same) (rw same state.opened) (rw same state.paired) counts
+        process_kept xs K Q refl (held_same H.places K.places same) (rw same state.opened) (rw same state.paired) (rw same state.owned) counts
 
     -- what its table refers to is counted
     pub table_counted : (k : ℕ) → table_refs k P.table ≤ count_at H k
@@ -73,16 +77,34 @@ module _ (xs : List Openings) (H : Held Description) (os : List (Option View)) (
         let c = state.counted k in
         omega (arith, a, b, c)
 
-  -- other objects, as many, and other paths refer to nothing
-  pub rest_kept : (os' : List (Option View)) (paths' : List (Name × PathTarget)) → length os' ≡ length os → IsState xs H (state_of os' H ps paths')
+  -- other objects, as many, refer to nothing
+  pub objects_kept : (os' : List (Option View)) → length os' ≡ length os → IsState xs ls H (state_of os' H ps paths names)
   unfolding refs
-  rest_kept os' paths' long = record {
+  objects_kept os' long = record {
     few_objects = let few = state.few_objects in omega (arith, few, long);
     few_processes = state.few_processes;
     one_each = state.one_each ∙ sym long;
+    link_each = state.link_each ∙ sym long;
     opened = state.opened;
+    linked = state.linked;
     counted = state.counted;
     paired = state.paired;
+    owned = state.owned;
+  }
+
+  -- nor do other paths
+  pub paths_kept : (left : List (Name × PathTarget)) (ms : List ℕ) → length ms ≡ length ls → AreLinked left ms → IsState xs ms H (state_of os H ps left names)
+  unfolding refs
+  paths_kept left ms long linked = record {
+    few_objects = state.few_objects;
+    few_processes = state.few_processes;
+    one_each = state.one_each;
+    link_each = long ∙ state.link_each;
+    opened = state.opened;
+    linked = linked;
+    counted = state.counted;
+    paired = state.paired;
+    owned = state.owned;
   }
 
 -- ---- entries

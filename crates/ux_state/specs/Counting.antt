@@ -3,7 +3,7 @@ use Rattle.std.specs.Prelude.{◌≡◌, ℕ, ◌+◌, ◌<◌, ◌≤◌, ◌^�
 use Rattle.ux_model.specs.Types.{Mode}
 use Rattle.ux_model.specs.Flags.{can_read, can_write}
 use Rattle.ux_model.specs.Description.{Description}
-use Rattle.ux_model.specs.Files.{is_opening}
+use Rattle.ux_model.specs.FileObjects.{is_opening}
 use Rattle.ux_state.specs.declared.openings.Openings.{Openings}
 
 abbrev pub one_if : Bool → ℕ

@@ -5,9 +5,10 @@ ghost use Rattle.ux_model.specs.Process.{lowest_free, two_lowest_free, descripto
 ghost use Rattle.ux_model.specs.State.{is_live, table_of, with_table, with_new, next_description};
 ghost use Rattle.ux_model.specs.References.{refs};
 ghost use Rattle.ux_model.specs.Types.{SockType};
-ghost use Rattle.ux_model.specs.Socket.{pair_end};
+ghost use Rattle.ux_model.specs.Socket.{new_socket, pair_end};
 ghost use Rattle.ux_model.specs.Pairing.{socket_description, with_pair};
-ghost use Rattle.ux_model.specs.Files.{file_description};
+ghost use Rattle.ux_model.specs.Opening.{file_description};
+ghost use Rattle.ux_model.specs.Peers.{HoldsNothing};
 ghost use Rattle.ux_model.specs.Closing as model;
 
 use crate::openings::count_in;
@@ -40,6 +41,46 @@ impl<O: FileObject> State<O> {
         ensures full { (result ≡ Err InstallError.Full) ↔ (lowest_free (table_of self.old pid.0) ≡ None) }
         ensures err { OnErr result (self.new ≡ self.old) }
     {
+        self.open_description(pid, flags, Description::of_object(object, mode, flags))
+    }
+
+    /// Makes a description of a stream socket, which is tied to nobody, and opens the lowest free number of
+    /// a process for it (socket(2)).
+    ///
+    /// # Errors
+    ///
+    /// `Full` where no number is free, else `NoMemory`. The state is then as before.
+    pub fn open_socket(&mut self, pid: Pid, flags: OpenFlags) -> Result<Fd, InstallError>
+        requires { IsTrue (is_live self.old pid.0) }
+        ensures lowest { IfOk result (λ fd. lowest_free (table_of self.old pid.0) ≡ Some fd.0) }
+        ensures opened { IfOk result (λ fd. self.new ≡ with_table (with_new self.old (socket_description flags (new_socket SockType.Stream))) pid.0
+            (filled (table_of self.old pid.0) fd.0 (descriptor flags (next_description self.old)))) }
+        ensures full { (result ≡ Err InstallError.Full) ↔ (lowest_free (table_of self.old pid.0) ≡ None) }
+        ensures err { OnErr result (self.new ≡ self.old) }
+    {
+        let alloc = *self.processes.allocator();
+        self.open_description(
+            pid,
+            flags,
+            Description::of_socket(flags, Socket::new(alloc)),
+        )
+    }
+
+    /// Opens the lowest free number of a process for a new description, which refers to nothing yet.
+    fn open_description(
+        &mut self,
+        pid: Pid,
+        flags: OpenFlags,
+        description: Description,
+    ) -> Result<Fd, InstallError>
+        requires live { IsTrue (is_live self.old pid.0) }
+        requires new { HoldsNothing description }
+        ensures lowest { IfOk result (λ fd. lowest_free (table_of self.old pid.0) ≡ Some fd.0) }
+        ensures opened { IfOk result (λ fd. self.new ≡ with_table (with_new self.old description) pid.0
+            (filled (table_of self.old pid.0) fd.0 (descriptor flags (next_description self.old)))) }
+        ensures full { (result ≡ Err InstallError.Full) ↔ (lowest_free (table_of self.old pid.0) ≡ None) }
+        ensures err { OnErr result (self.new ≡ self.old) }
+    {
         // A full table comes before want of memory.
         if self.table(pid).lowest_free().is_none() {
             return Err(InstallError::Full);
@@ -52,7 +93,6 @@ impl<O: FileObject> State<O> {
         let Ok(fd) = process.table.install(new_entry(flags, id)) else {
             return Err(InstallError::NoMemory);
         };
-        let description = Description::of_object(object, mode, flags);
         count_in(&mut self.openings, &description);
         let _id = self.slots.insert_reserved(description);
         Ok(fd)
@@ -197,7 +237,7 @@ fn pair_end(alloc: Global, flags: OpenFlags, peer: DescriptionId, cred: Cred) ->
 }
 
 /// An entry that leads to this description, as the flags of the call want it.
-fn new_entry(flags: OpenFlags, id: DescriptionId) -> Descriptor
+pub(crate) fn new_entry(flags: OpenFlags, id: DescriptionId) -> Descriptor
     ensures { result ≡ descriptor flags id }
 {
     Descriptor {

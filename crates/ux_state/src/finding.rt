@@ -7,7 +7,7 @@ ghost use Rattle.ux_model.specs.Process.{own_cred};
 ghost use Rattle.ux_model.specs.State.{description_at, socket_at, process_at, table_of, is_live};
 ghost use Rattle.ux_model.specs.References.{refs};
 ghost use Rattle.ux_model.specs.Outcome.{find_description, find_socket};
-ghost use Rattle.ux_model.specs.Files.{is_open_for};
+ghost use Rattle.ux_model.specs.FileObjects.{is_open_for};
 ghost use Rattle.ux_model.specs.History.{has_live};
 
 use crate::state::State;

@@ -3,6 +3,7 @@
 //! `settle` lets go of what nothing refers to any more. Whatever counts or refers lies behind it.
 #![tactic(auto)]
 
+mod connecting;
 mod descriptions;
 mod entries;
 mod finding;
@@ -17,8 +18,5 @@ mod retired;
 mod slot;
 mod state;
 
-pub use retired::Retired;
+pub use retired::{Retired, RetiredList};
 pub use state::State;
-
-#[cfg(test)]
-mod tests;

@@ -1,17 +1,17 @@
 //! The first state.
-ghost use Rattle.std.specs.Prelude.{◌≡◌, ◌≤◌, [], IsTrue, IfOk, IfErr, length, map, replicate, vec_len, vec_capacity, Some};
+ghost use Rattle.std.specs.Prelude.{◌≡◌, ◌+◌, ◌<◌, ◌≤◌, [], ◌∷◌, ◌++◌, IsTrue, IfOk, IfErr, length, map, replicate, vec_len, vec_capacity, None, Some};
 ghost use Rattle.std.specs.List.{list_all, enumerate_from};
 ghost use Rattle.ux_model.specs.Limits.{object_limit, process_limit};
-ghost use Rattle.ux_model.specs.Names.{file};
-ghost use Rattle.ux_model.specs.Boot.{boot_state, new_process};
+ghost use Rattle.ux_model.specs.Names.{file, named};
+ghost use Rattle.ux_model.specs.Boot.{are_distinct, boot_state, new_process};
 ghost use Rattle.ux_state.specs.Counting.{none_open};
 
-use crate::naming::Path;
 use crate::openings::Openings;
 use crate::process::Process;
 use crate::slot::Slot;
 use crate::state::State;
 use std::alloc::{AllocError, Global};
+use ux_names::{AbstractNames, BindError, PathTarget, Paths};
 use ux_object::FileObject;
 use ux_slots::Slots;
 use ux_types::{Name, ProcSpec};
@@ -20,7 +20,7 @@ use ux_types::{Name, ProcSpec};
 #[derive(Drop)]
 struct Files<O: FileObject> {
     objects: Vec<Slot<O>>,
-    paths: Vec<Path>,
+    paths: Paths,
 }
 
 impl<O: FileObject> State<O> {
@@ -34,16 +34,24 @@ impl<O: FileObject> State<O> {
         requires few_objects { length objects.items ≤ object_limit }
         requires few_processes { length procs.now ≤ process_limit }
         requires open { IsTrue (list_all (λ o. (O.view o.1).opened) objects.items) }
+        requires own_paths { IsTrue (are_distinct (map (λ o. o.0) objects.items)) }
         ensures state { IfOk result (λ s. s ≡ boot_state (map (λ o. (o.0, O.view o.1)) objects.items) procs.now) }
         ensures back { IfErr result (λ back. back ≡ objects) }
     {
-        let Ok(room) = room_for(alloc, objects.len()) else {
+        let count = objects.len();
+        let Ok(room) = room_for(alloc, count) else {
             return Err(objects);
         };
-        let Ok(openings) = none_for(alloc, objects.len()) else {
+        let Ok(openings) = none_for(alloc, count) else {
+            return Err(objects);
+        };
+        let Ok(links) = one_for(alloc, count) else {
             return Err(objects);
         };
         let Ok(processes) = new_processes(alloc, procs) else {
+            return Err(objects);
+        };
+        let Ok(abstract_names) = AbstractNames::new(alloc) else {
             return Err(objects);
         };
         let files = filled(room, objects);
@@ -53,6 +61,8 @@ impl<O: FileObject> State<O> {
             slots: Slots::new(alloc),
             processes,
             paths: files.paths,
+            links,
+            abstract_names,
         })
     }
 }
@@ -61,12 +71,14 @@ impl<O: FileObject> State<O> {
 fn room_for<O: FileObject>(alloc: Global, count: usize) -> Result<Files<O>, AllocError>
     ensures objects { IfOk result (λ f. f.objects.items ≡ []) }
     ensures objects_room { IfOk result (λ f. count ≤ vec_capacity f.objects) }
-    ensures paths { IfOk result (λ f. f.paths.items ≡ []) }
-    ensures paths_room { IfOk result (λ f. count ≤ vec_capacity f.paths) }
+    ensures paths { IfOk result (λ f. f.paths.names ≡ []) }
+    ensures paths_room { IfOk result (λ f. count ≤ f.paths.room) }
 {
+    let mut paths = Paths::new(alloc);
+    paths.reserve(count)?;
     Ok(Files {
         objects: Vec::with_capacity(alloc, count)?,
-        paths: Vec::with_capacity(alloc, count)?,
+        paths,
     })
 }
 
@@ -75,6 +87,13 @@ fn none_for(alloc: Global, count: usize) -> Result<Vec<Openings>, AllocError>
     ensures { IfOk result (λ v. v.items ≡ replicate count none_open) }
 {
     Ok(vec![in alloc; Openings::new(); count]?)
+}
+
+/// A count for each of so many file objects, each of which one path names.
+fn one_for(alloc: Global, count: usize) -> Result<Vec<usize>, AllocError>
+    ensures { IfOk result (λ v. v.items ≡ replicate count 1) }
+{
+    Ok(vec![in alloc; 1usize; count]?)
 }
 
 /// A process for each that is wanted.
@@ -92,24 +111,36 @@ fn new_processes(alloc: Global, procs: &[ProcSpec]) -> Result<Vec<Process>, Allo
 fn filled<O: FileObject>(files: Files<O>, objects: Vec<(Name, O)>) -> Files<O>
     requires no_objects { files.objects.items ≡ [] }
     requires objects_room { vec_len objects ≤ vec_capacity files.objects }
-    requires no_paths { files.paths.items ≡ [] }
-    requires paths_room { vec_len objects ≤ vec_capacity files.paths }
+    requires no_paths { files.paths.names ≡ [] }
+    requires paths_room { vec_len objects ≤ files.paths.room }
+    requires own_paths { IsTrue (are_distinct (map (λ o. o.0) objects.items)) }
     requires few { length objects.items ≤ object_limit }
     requires open { IsTrue (list_all (λ o. (O.view o.1).opened) objects.items) }
     ensures objects { result.objects.items ≡ map (λ o. Some (O.view o.1)) objects.items }
-    ensures paths { result.paths.items ≡ map (λ e. (e.1.0, file e.0)) (enumerate_from 0 objects.items) }
+    ensures paths { result.paths.names ≡ map (λ e. (e.1.0, file e.0)) (enumerate_from 0 objects.items) }
 {
     let mut slots = files.objects;
     let mut paths = files.paths;
     for (name, object) in objects {
-        paths.push_reserved(Path {
-            name,
-            object: slots.len() as u32,
-        });
+        bind_file(&mut paths, name, slots.len() as u32);
         slots.push_reserved(Slot::new(object));
     }
     Files {
         objects: slots,
         paths,
+    }
+}
+
+/// One more path, of a file object, in room that is there.
+fn bind_file(paths: &mut Paths, name: Name, object: u32)
+    requires new { named name paths.old.names ≡ None }
+    requires some_room { 0 < paths.old.room }
+    ensures names { paths.new.names ≡ paths.old.names ++ (name, file object) ∷ [] }
+    ensures room { paths.old.room ≤ paths.new.room + 1 }
+{
+    match paths.bind(name, PathTarget::File(object)) {
+        Ok(()) => {}
+        Err(BindError::Taken) => unreachable!(),
+        Err(BindError::NoMemory) => unreachable!(),
     }
 }

@@ -2,7 +2,7 @@
 ghost use Rattle.std.specs.Prelude.{◌≡◌, ◌≤◌, Some, None, IsTrue, IfOk, MatchOption, is_some, length};
 ghost use Rattle.ux_model.specs.Flags.{can_read, can_write};
 ghost use Rattle.ux_model.specs.Places.{place};
-ghost use Rattle.ux_model.specs.Files.{is_open_for};
+ghost use Rattle.ux_model.specs.FileObjects.{is_open_for};
 ghost use Rattle.ux_state.specs.ObjectCalls.{ReadsObject, WritesObject, bytes_read};
 
 use crate::state::State;

@@ -1,48 +1,51 @@
 //! The end of a call: what nothing refers to goes.
 ghost use Rattle.std.specs.Prelude.{◌≡◌, ℕ, ◌<◌, ◌==◌, [], length, map, option_map, true, false, MatchOption, None, is_some, filter, ◌++◌, ◌∷◌};
 ghost use Rattle.std.specs.List.{list_any};
-ghost use Rattle.arrayvec.specs.ArrayVec.{array_vec_len};
 ghost use Rattle.ux_model.specs.Limits.{object_limit};
 ghost use Rattle.ux_model.specs.Object.{closed};
 ghost use Rattle.ux_model.specs.Places.{place, emptied};
 ghost use Rattle.ux_model.specs.References.{path_names, is_open_of, orefs};
-ghost use Rattle.ux_model.specs.Release.{is_unreferenced, has_unreferenced, without, drop_unreferenced, orphans, without_orphans, retired, settled};
+ghost use Rattle.ux_model.specs.Release.{is_unreferenced, has_unreferenced, without, drop_unreferenced, orphans, without_orphans, settled};
+ghost use Rattle.ux_model.specs.Release as release;
 ghost use Rattle.ux_model.specs.Peers.{told};
 ghost use Rattle.ux_model.specs.Closing.{with_nothing_open};
 ghost use Rattle.ux_model.specs.Closing as model;
 ghost use Rattle.ux_slots.specs.Held.{count_at};
 ghost use Rattle.ux_state.specs.Counting.{none_open};
 
+use crate::naming::{drop_name, unlink_all};
 use crate::openings::{Openings, count_out};
 use crate::process::Process;
 use crate::references::release_held;
-use crate::retired::Retired;
+use crate::retired::{Retired, RetiredList};
 use crate::state::State;
-use arrayvec::ArrayVec;
 use ux_desc::Description;
 use ux_object::FileObject;
 use ux_slots::Slots;
-use ux_types::{DescriptionId, OBJECT_LIMIT};
+use ux_types::DescriptionId;
 
 impl<O: FileObject> State<O> {
     /// Drops each description that nothing refers to, again until none is left, then closes each file
-    /// object that neither a path nor a description leads to, and hands these out by rising number. It
-    /// takes no memory.
+    /// object that neither a path nor a description leads to, and puts these into an empty list by rising
+    /// number. It takes no memory.
     #[tactic(auto, unfolding(ux_model::specs::Release::settled, ux_model::specs::Release::retired))]
-    pub fn settle(&mut self) -> ArrayVec<Retired<O>, OBJECT_LIMIT>
-        ensures retired { result.items ≡ retired self.old }
+    pub fn settle(&mut self, retired: &mut RetiredList<O>)
+        requires empty { retired.old ≡ [] }
+        ensures retired { retired.new ≡ release.retired self.old }
         ensures settled { self.new ≡ settled self.old }
     {
         self.drop_unreferenced();
-        self.close_orphans()
+        self.close_orphans(retired);
     }
 
-    /// Takes away all paths, all descriptors and all descriptions (the end of the layer).
+    /// Takes away all names, all descriptors and all descriptions (the end of the layer).
     #[tactic(auto, unfolding(ux_model::specs::Closing::off))]
     pub fn forget_all(&mut self)
         ensures { self.new ≡ (model.off self.old).next }
     {
         self.paths.clear();
+        unlink_all(&mut self.links);
+        self.abstract_names.clear();
         clear_tables(&mut self.processes);
         forget(&mut self.slots);
         uncount_all(&mut self.openings);
@@ -67,23 +70,23 @@ impl<O: FileObject> State<O> {
         };
         tell(&mut self.slots, gone.1.lost_peer());
         count_out(&mut self.openings, &gone.1);
+        drop_name(&mut self.abstract_names, &gone.1, gone.0);
         release_held(&mut self.slots, gone.1);
         Some(gone.0)
     }
 
     /// Closes each file object that neither a path nor a description leads to, and hands it out.
-    fn close_orphans(&mut self) -> ArrayVec<Retired<O>, OBJECT_LIMIT>
-        ensures retired { result.items ≡ map (λ e. (e.0, option_map closed e.1)) (orphans self.old) }
+    fn close_orphans(&mut self, retired: &mut RetiredList<O>)
+        requires empty { retired.old ≡ [] }
+        ensures retired { retired.new ≡ map (λ e. (e.0, option_map closed e.1)) (orphans self.old) }
         ensures state { self.new ≡ without_orphans self.old }
     {
-        let mut retired = ArrayVec::new();
         for o in 0..self.objects.len() {
             if self.is_orphan(o) {
                 let object = self.retire(o);
-                hand_out(&mut retired, o as u32, object);
+                hand_out(retired, o as u32, object);
             }
         }
-        retired
     }
 
     /// Takes the file object out of this place, closed.
@@ -114,20 +117,18 @@ impl<O: FileObject> State<O> {
 
     /// Whether a path names the file object in this place.
     fn is_named(&self, o: usize) -> bool
+        requires { o < length self.now.objects }
         ensures { result ≡ list_any (λ e. path_names o e.1) self.now.paths }
     {
-        self.paths.iter().any(|path| path.object as usize == o)
+        0 < self.links[o]
     }
 }
 
 /// Hands out a file object, if one is there, under its number.
-fn hand_out<O: FileObject>(
-    retired: &mut ArrayVec<Retired<O>, OBJECT_LIMIT>,
-    number: u32,
-    object: Option<O>,
-)
-    requires { array_vec_len retired.old < object_limit }
-    ensures { retired.new.items ≡ retired.old.items ++ filter (λ e. is_some e.1) ((number, option_map O.view object) ∷ []) }
+fn hand_out<O: FileObject>(retired: &mut RetiredList<O>, number: u32, object: Option<O>)
+    requires room { length retired.old < object_limit }
+    requires small { number < object_limit }
+    ensures { retired.new ≡ retired.old ++ filter (λ e. is_some e.1) ((number, option_map O.view object) ∷ []) }
 {
     if let Some(object) = object {
         retired.push(Retired::new(number, object));

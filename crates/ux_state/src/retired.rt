@@ -1,57 +1,124 @@
 //! The file objects that one call let go of.
-ghost use Rattle.std.specs.Prelude.{◌≡◌, Some, option_map, MatchOption, None};
+ghost use Rattle.std.specs.Prelude.{◌≡◌, ◌<◌, ◌≤◌, ◌==◌, ◌++◌, ◌∷◌, [], Some, IfOk, length};
+ghost use Rattle.ux_model.specs.Limits.{object_limit};
 
+use std::alloc::{AllocError, Global};
 use std::marker::Model;
 use ux_object::FileObject;
+use ux_types::OBJECT_LIMIT;
 
 /// A file object that was closed at the end of a call, with its number. Contracts see the number beside
-/// its view. A default one, by which a list has room for it, has none.
+/// its view.
 #[derive(Drop)]
 pub struct Retired<O: FileObject> {
     number: u32,
-    object: Option<O>,
+    object: O,
 }
 
 impl<O: FileObject> Model for Retired<O> {
-    ghost use Rattle.std.specs.Prelude.{ℕ, Option, option_map};
+    ghost use Rattle.std.specs.Prelude.{ℕ, ◌<◌, Option, Some};
+    ghost use Rattle.ux_model.specs.Limits.{object_limit};
     ghost use Rattle.ux_model.specs.Object.{View};
 
     ghost Value = { ℕ × Option View };
 
-    ghost view = { λ r. (r.number, option_map O.view r.object) };
-}
+    ghost view = { λ r. (r.number, Some (O.view r.object)) };
 
-impl<O: FileObject> Default for Retired<O> {
-    fn default() -> Retired<O> {
-        Retired {
-            number: 0,
-            object: None,
-        }
-    }
+    ghost invariant = { λ r. r.number < object_limit };
 }
 
 impl<O: FileObject> Retired<O> {
     /// This object under its number.
     pub(crate) fn new(number: u32, object: O) -> Retired<O>
+        requires { number < object_limit }
         ensures { result ≡ (number, Some (O.view object)) }
     {
-        Retired {
-            number,
-            object: Some(object),
-        }
+        Retired { number, object }
     }
 
     /// The number that the object had.
     pub fn number(&self) -> u32
-        ensures { result ≡ self.now.0 }
+        ensures number { result ≡ self.now.0 }
+        ensures small { result < object_limit }
     {
         self.number
     }
 
     /// The object.
-    pub fn object(&self) -> Option<&O>
-        ensures { MatchOption result (self.now.1 ≡ None) (λ x. self.now.1 ≡ Some (O.view x.now)) }
+    pub fn object(&self) -> &O
+        ensures { Some (O.view result.now) ≡ self.now.1 }
     {
-        self.object.as_ref()
+        &self.object
+    }
+}
+
+/// The file objects that one call let go of, by rising number. Their room is made before, so a call that
+/// lets go of them takes no memory. Contracts see them as a list.
+#[derive(Drop)]
+pub struct RetiredList<O: FileObject> {
+    objects: Vec<Retired<O>>,
+}
+
+impl<O: FileObject> Model for RetiredList<O> {
+    ghost use Rattle.std.specs.Prelude.{ℕ, ◌≤◌, List, Option, length, vec_capacity};
+    ghost use Rattle.ux_model.specs.Limits.{object_limit};
+    ghost use Rattle.ux_model.specs.Object.{View};
+
+    ghost Value = { List (ℕ × Option View) };
+
+    ghost view = { λ l. l.objects.items };
+
+    ghost invariant = { λ l. (length l.objects.items ≤ object_limit) × (object_limit ≤ vec_capacity l.objects) };
+}
+
+impl<O: FileObject> RetiredList<O> {
+    /// An empty list, with room for all file objects of a kernel.
+    ///
+    /// # Errors
+    ///
+    /// Out of memory.
+    pub fn new(alloc: Global) -> Result<RetiredList<O>, AllocError>
+        ensures { IfOk result (λ l. l ≡ []) }
+    {
+        Ok(RetiredList {
+            objects: Vec::with_capacity(alloc, OBJECT_LIMIT)?,
+        })
+    }
+
+    /// How many there are.
+    pub fn len(&self) -> usize
+        ensures { result ≡ length self.now }
+    {
+        self.objects.len()
+    }
+
+    /// Whether there is none.
+    pub fn is_empty(&self) -> bool
+        ensures { result ≡ (length self.now == 0) }
+    {
+        self.objects.is_empty()
+    }
+
+    /// All of them.
+    pub fn as_slice(&self) -> &[Retired<O>]
+        ensures objects { result.now ≡ self.now }
+        ensures few { length self.now ≤ object_limit }
+    {
+        self.objects.as_slice()
+    }
+
+    /// Drops all of them. The room stays.
+    pub fn clear(&mut self)
+        ensures { self.new ≡ [] }
+    {
+        self.objects.clear();
+    }
+
+    /// One more.
+    pub(crate) fn push(&mut self, retired: Retired<O>)
+        requires { length self.old < object_limit }
+        ensures { self.new ≡ self.old ++ retired ∷ [] }
+    {
+        self.objects.push_reserved(retired);
     }
 }

@@ -1,14 +1,14 @@
 //! The whole state as one value.
-use crate::naming::Path;
 use crate::openings::Openings;
 use crate::process::Process;
 use crate::slot::Slot;
 use std::marker::Model;
 use ux_desc::Description;
+use ux_names::{AbstractNames, Paths};
 use ux_object::FileObject;
 use ux_slots::Slots;
 
-/// All file objects, open file descriptions, processes and paths. Contracts see it as the state that the
+/// All file objects, open file descriptions, processes and names. Contracts see it as the state that the
 /// definitions speak of; the counts of references are in its invariant alone.
 #[derive(Drop)]
 pub struct State<O: FileObject> {
@@ -20,7 +20,11 @@ pub struct State<O: FileObject> {
     pub(crate) slots: Slots<Description>,
     /// The process with number 1 first.
     pub(crate) processes: Vec<Process>,
-    pub(crate) paths: Vec<Path>,
+    pub(crate) paths: Paths,
+    /// How many paths name each file object, so that no call looks through them.
+    pub(crate) links: Vec<usize>,
+    /// With the descriptions whose sockets they lead to.
+    pub(crate) abstract_names: AbstractNames,
 }
 
 impl<O: FileObject> Model for State<O> {
@@ -29,7 +33,7 @@ impl<O: FileObject> Model for State<O> {
 
     ghost Value = { model.State };
 
-    ghost view = { λ s. state_of s.objects.items s.slots s.processes.items s.paths.items };
+    ghost view = { λ s. state_of s.objects.items s.slots s.processes.items s.paths.names s.abstract_names };
 
-    ghost invariant = { λ s. IsState s.openings.items s.slots (state_of s.objects.items s.slots s.processes.items s.paths.items) };
+    ghost invariant = { λ s. IsState s.openings.items s.links.items s.slots (state_of s.objects.items s.slots s.processes.items s.paths.names s.abstract_names) };
 }

@@ -6,9 +6,7 @@ ghost use Rattle.ux_syntax.specs.Reading.{open_at, read_at, write_at, lseek_at, 
 ghost use Rattle.ux_syntax.specs.Results.{Gives};
 
 use crate::fault::{BAD, LineError};
-use crate::row::{
-    control, end, hex, mode, msg_flags, number, offset, open_flags, pass, path, whence,
-};
+use crate::row::{control, end, pass, word};
 use std::alloc::Global;
 use ux_types::{Fd, Request};
 
@@ -115,20 +113,20 @@ pub(crate) fn word_of(word: &[u8]) -> Result<CallWord, LineError>
 fn open_of(alloc: Global, words: &[&[u8]]) -> Result<Request, LineError>
     ensures { Gives (λ r. r) result (open_at (map (λ w. w.now) words.now)) }
 {
-    let (path, words) = path(alloc, words)?;
-    let (mode, words) = mode(words)?;
-    let (flags, words) = open_flags(words)?;
+    let (path, words) = word(alloc, words)?;
+    let (mode, words) = word(alloc, words)?;
+    let (flags, words) = word(alloc, words)?;
     end(words)?;
     Ok(Request::Open { path, mode, flags })
 }
 
 /// `read FD N`.
 #[tactic(auto, unfolding(crate::specs::Reading::read_at))]
-fn read_of(words: &[&[u8]]) -> Result<Request, LineError>
+fn read_of(alloc: Global, words: &[&[u8]]) -> Result<Request, LineError>
     ensures { Gives (λ r. r) result (read_at (map (λ w. w.now) words.now)) }
 {
-    let (fd, words) = number(words)?;
-    let (n, words) = number(words)?;
+    let (fd, words) = word(alloc, words)?;
+    let (n, words) = word::<u32>(alloc, words)?;
     end(words)?;
     Ok(Request::Read {
         fd: Fd(fd),
@@ -141,20 +139,20 @@ fn read_of(words: &[&[u8]]) -> Result<Request, LineError>
 fn write_of(alloc: Global, words: &[&[u8]]) -> Result<Request, LineError>
     ensures { Gives (λ r. r) result (write_at (map (λ w. w.now) words.now)) }
 {
-    let (fd, words) = number(words)?;
-    let (bytes, words) = hex(alloc, words)?;
+    let (fd, words) = word(alloc, words)?;
+    let (bytes, words) = word(alloc, words)?;
     end(words)?;
     Ok(Request::Write { fd: Fd(fd), bytes })
 }
 
 /// `lseek FD OFFSET WHENCE`.
 #[tactic(auto, unfolding(crate::specs::Reading::lseek_at))]
-fn lseek_of(words: &[&[u8]]) -> Result<Request, LineError>
+fn lseek_of(alloc: Global, words: &[&[u8]]) -> Result<Request, LineError>
     ensures { Gives (λ r. r) result (lseek_at (map (λ w. w.now) words.now)) }
 {
-    let (fd, words) = number(words)?;
-    let (offset, words) = offset(words)?;
-    let (whence, words) = whence(words)?;
+    let (fd, words) = word(alloc, words)?;
+    let (offset, words) = word(alloc, words)?;
+    let (whence, words) = word(alloc, words)?;
     end(words)?;
     Ok(Request::Lseek {
         fd: Fd(fd),
@@ -165,21 +163,21 @@ fn lseek_of(words: &[&[u8]]) -> Result<Request, LineError>
 
 /// `dup FD`.
 #[tactic(auto, unfolding(crate::specs::Reading::dup_at))]
-fn dup_of(words: &[&[u8]]) -> Result<Request, LineError>
+fn dup_of(alloc: Global, words: &[&[u8]]) -> Result<Request, LineError>
     ensures { Gives (λ r. r) result (dup_at (map (λ w. w.now) words.now)) }
 {
-    let (fd, words) = number(words)?;
+    let (fd, words) = word(alloc, words)?;
     end(words)?;
     Ok(Request::Dup { fd: Fd(fd) })
 }
 
 /// `dup2 FD FD`.
 #[tactic(auto, unfolding(crate::specs::Reading::dup2_at))]
-fn dup2_of(words: &[&[u8]]) -> Result<Request, LineError>
+fn dup2_of(alloc: Global, words: &[&[u8]]) -> Result<Request, LineError>
     ensures { Gives (λ r. r) result (dup2_at (map (λ w. w.now) words.now)) }
 {
-    let (fd, words) = number(words)?;
-    let (to, words) = number(words)?;
+    let (fd, words) = word(alloc, words)?;
+    let (to, words) = word(alloc, words)?;
     end(words)?;
     Ok(Request::Dup2 {
         fd: Fd(fd),
@@ -189,11 +187,11 @@ fn dup2_of(words: &[&[u8]]) -> Result<Request, LineError>
 
 /// `flags FD OFLAGS`.
 #[tactic(auto, unfolding(crate::specs::Reading::set_flags_at))]
-fn set_flags_of(words: &[&[u8]]) -> Result<Request, LineError>
+fn set_flags_of(alloc: Global, words: &[&[u8]]) -> Result<Request, LineError>
     ensures { Gives (λ r. r) result (set_flags_at (map (λ w. w.now) words.now)) }
 {
-    let (fd, words) = number(words)?;
-    let (flags, words) = open_flags(words)?;
+    let (fd, words) = word(alloc, words)?;
+    let (flags, words) = word(alloc, words)?;
     end(words)?;
     Ok(Request::SetFlags { fd: Fd(fd), flags })
 }
@@ -203,18 +201,18 @@ fn set_flags_of(words: &[&[u8]]) -> Result<Request, LineError>
 fn unlink_of(alloc: Global, words: &[&[u8]]) -> Result<Request, LineError>
     ensures { Gives (λ r. r) result (unlink_at (map (λ w. w.now) words.now)) }
 {
-    let (path, words) = path(alloc, words)?;
+    let (path, words) = word(alloc, words)?;
     end(words)?;
     Ok(Request::Unlink { path })
 }
 
 /// `pair stream OFLAGS`.
 #[tactic(auto, unfolding(crate::specs::Reading::pair_at))]
-fn pair_of(words: &[&[u8]]) -> Result<Request, LineError>
+fn pair_of(alloc: Global, words: &[&[u8]]) -> Result<Request, LineError>
     ensures { Gives (λ r. r) result (pair_at (map (λ w. w.now) words.now)) }
 {
     let words = pass(b"stream", words)?;
-    let (flags, words) = open_flags(words)?;
+    let (flags, words) = word(alloc, words)?;
     end(words)?;
     Ok(Request::SocketPair { flags })
 }
@@ -224,11 +222,11 @@ fn pair_of(words: &[&[u8]]) -> Result<Request, LineError>
 fn send_of(alloc: Global, words: &[&[u8]]) -> Result<Request, LineError>
     ensures { Gives (λ r. r) result (send_at (map (λ w. w.now) words.now)) }
 {
-    let (fd, words) = number(words)?;
+    let (fd, words) = word(alloc, words)?;
     let words = pass(b"-", words)?;
-    let (bytes, words) = hex(alloc, words)?;
+    let (bytes, words) = word(alloc, words)?;
     let words = control(words)?;
-    let (flags, words) = msg_flags(words)?;
+    let (flags, words) = word(alloc, words)?;
     end(words)?;
     Ok(Request::SendMsg {
         fd: Fd(fd),
@@ -239,13 +237,13 @@ fn send_of(alloc: Global, words: &[&[u8]]) -> Result<Request, LineError>
 
 /// `recv FD N SPACE MFLAGS`.
 #[tactic(auto, unfolding(crate::specs::Reading::recv_at))]
-fn recv_of(words: &[&[u8]]) -> Result<Request, LineError>
+fn recv_of(alloc: Global, words: &[&[u8]]) -> Result<Request, LineError>
     ensures { Gives (λ r. r) result (recv_at (map (λ w. w.now) words.now)) }
 {
-    let (fd, words) = number(words)?;
-    let (n, words) = number(words)?;
-    let (space, words) = number(words)?;
-    let (flags, words) = msg_flags(words)?;
+    let (fd, words) = word(alloc, words)?;
+    let (n, words) = word::<u32>(alloc, words)?;
+    let (space, words) = word::<u32>(alloc, words)?;
+    let (flags, words) = word(alloc, words)?;
     end(words)?;
     Ok(Request::RecvMsg {
         fd: Fd(fd),
@@ -257,10 +255,10 @@ fn recv_of(words: &[&[u8]]) -> Result<Request, LineError>
 
 /// `close FD`.
 #[tactic(auto, unfolding(crate::specs::Reading::close_at))]
-fn close_of(words: &[&[u8]]) -> Result<Request, LineError>
+fn close_of(alloc: Global, words: &[&[u8]]) -> Result<Request, LineError>
     ensures { Gives (λ r. r) result (close_at (map (λ w. w.now) words.now)) }
 {
-    let (fd, words) = number(words)?;
+    let (fd, words) = word(alloc, words)?;
     end(words)?;
     Ok(Request::Close { fd: Fd(fd) })
 }
@@ -284,17 +282,17 @@ pub(crate) fn request_of(
 {
     match word {
         CallWord::Open => open_of(alloc, args),
-        CallWord::Read => read_of(args),
+        CallWord::Read => read_of(alloc, args),
         CallWord::Write => write_of(alloc, args),
-        CallWord::Lseek => lseek_of(args),
-        CallWord::Dup => dup_of(args),
-        CallWord::Dup2 => dup2_of(args),
-        CallWord::Flags => set_flags_of(args),
-        CallWord::Close => close_of(args),
+        CallWord::Lseek => lseek_of(alloc, args),
+        CallWord::Dup => dup_of(alloc, args),
+        CallWord::Dup2 => dup2_of(alloc, args),
+        CallWord::Flags => set_flags_of(alloc, args),
+        CallWord::Close => close_of(alloc, args),
         CallWord::Unlink => unlink_of(alloc, args),
-        CallWord::Pair => pair_of(args),
+        CallWord::Pair => pair_of(alloc, args),
         CallWord::Send => send_of(alloc, args),
-        CallWord::Recv => recv_of(args),
+        CallWord::Recv => recv_of(alloc, args),
         CallWord::Exit => exit_of(args),
         CallWord::Off => Err(BAD),
     }

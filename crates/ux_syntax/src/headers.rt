@@ -5,7 +5,7 @@ ghost use Rattle.ux_syntax.specs.Reading.{body_at, object_at, proc_at};
 ghost use Rattle.ux_syntax.specs.Results.{Gives};
 
 use crate::fault::LineError;
-use crate::row::{bit, end, hex, kind, number, path};
+use crate::row::{end, word};
 use crate::script::ObjectLine;
 use std::alloc::Global;
 use ux_object::ObjKind;
@@ -17,7 +17,7 @@ fn body_of(alloc: Global, kind: ObjKind, words: &[&[u8]]) -> Result<Bytes, LineE
 {
     match kind {
         ObjKind::Memory => {
-            let (bytes, words) = hex(alloc, words)?;
+            let (bytes, words) = word(alloc, words)?;
             end(words)?;
             Ok(bytes)
         }
@@ -33,21 +33,21 @@ fn body_of(alloc: Global, kind: ObjKind, words: &[&[u8]]) -> Result<Bytes, LineE
 pub(crate) fn object_of(alloc: Global, words: &[&[u8]]) -> Result<ObjectLine, LineError>
     ensures { Gives (λ o. o) result (object_at (map (λ w. w.now) words.now)) }
 {
-    let (name, words) = path(alloc, words)?;
-    let (kind, words) = kind(words)?;
+    let (name, words) = word(alloc, words)?;
+    let (kind, words) = word(alloc, words)?;
     let body = body_of(alloc, kind, words)?;
     Ok(ObjectLine { name, kind, body })
 }
 
 /// `proc UID GID PRIV LIMIT`, without its first word.
 #[tactic(auto, unfolding(crate::specs::Reading::proc_at))]
-pub(crate) fn proc_of(words: &[&[u8]]) -> Result<ProcSpec, LineError>
+pub(crate) fn proc_of(alloc: Global, words: &[&[u8]]) -> Result<ProcSpec, LineError>
     ensures { Gives (λ p. p) result (proc_at (map (λ w. w.now) words.now)) }
 {
-    let (uid, words) = number(words)?;
-    let (gid, words) = number(words)?;
-    let (privileged, words) = bit(words)?;
-    let (limit, words) = number(words)?;
+    let (uid, words) = word(alloc, words)?;
+    let (gid, words) = word(alloc, words)?;
+    let (privileged, words) = word(alloc, words)?;
+    let (limit, words) = word(alloc, words)?;
     end(words)?;
     Ok(ProcSpec {
         uid,

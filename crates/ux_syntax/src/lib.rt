@@ -19,6 +19,3 @@ pub use input::read_script;
 pub use reading::{one_script, parse_script};
 pub use script::{Line, ObjectLine, Script};
 pub use trace::entry_text;
-
-#[cfg(test)]
-mod tests;

@@ -7,7 +7,7 @@ ghost use Rattle.ux_syntax.specs.Reading.{byte_at, escaped_at, name_at, path_at}
 ghost use Rattle.ux_syntax.specs.Results.{Gives};
 
 use crate::fault::{BAD, LineError};
-use crate::words::digit_of;
+use crate::words::{Word, digit_of};
 use bstr::BString;
 use std::alloc::Global;
 use ux_types::Name;
@@ -54,11 +54,13 @@ fn name_of(alloc: Global, text: &[u8]) -> Result<Name, LineError>
 }
 
 /// The path that a word spells: `p:` and a name. Whether a file can have it is found where it is used.
-pub(crate) fn path_of(alloc: Global, word: &[u8]) -> Result<Name, LineError>
-    ensures { Gives (λ name. name) result (path_at word.now) }
-{
-    match word {
-        [first, second, name @ ..] if *first == b'p' && *second == b':' => name_of(alloc, name),
-        _ => Err(BAD),
+impl Word for Name {
+    ghost at = { path_at };
+
+    fn of(alloc: Global, word: &[u8]) -> Result<Name, LineError> {
+        match word {
+            [first, second, name @ ..] if *first == b'p' && *second == b':' => name_of(alloc, name),
+            _ => Err(BAD),
+        }
     }
 }

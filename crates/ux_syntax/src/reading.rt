@@ -12,7 +12,7 @@ use crate::fault::{BAD, Fault, LineError, ScriptFault};
 use crate::headers::{object_of, proc_of};
 use crate::row::{end, next};
 use crate::script::{Header, Line, Script, is_exit};
-use crate::words::number_of;
+use crate::words::Word;
 use std::alloc::{AllocError, Global};
 use ux_types::Pid;
 
@@ -38,7 +38,7 @@ fn words_of(alloc: Global, words: &[&[u8]]) -> Result<Item, LineError>
 {
     let (first, rest) = next(words)?;
     if first == b"proc".as_slice() {
-        return Ok(Item::Header(Header::Proc(proc_of(rest)?)));
+        return Ok(Item::Header(Header::Proc(proc_of(alloc, rest)?)));
     }
     if first == b"object".as_slice() {
         return Ok(Item::Header(Header::Object(object_of(alloc, rest)?)));
@@ -47,7 +47,7 @@ fn words_of(alloc: Global, words: &[&[u8]]) -> Result<Item, LineError>
         end(rest)?;
         return Ok(Item::Off);
     }
-    let pid = Pid(number_of(first)?);
+    let pid = Pid(u32::of(alloc, first)?);
     let (word, args) = next(rest)?;
     let request = request_of(alloc, word_of(word)?, args)?;
     Ok(Item::Call(Line { pid, request }))

@@ -144,7 +144,7 @@ impl fmt::Display for ReplyText<'_> {
 
 /// The file objects that were closed at the end of a call, or nothing where none was.
 #[derive(Clone, Copy)]
-struct Closed<'a>(&'a [u32]);
+struct Closed<'a>(&'a [u8]);
 
 impl fmt::Display for Closed<'_> {
     ghost output = { λ c. Some (closed_text c.0.now) };

@@ -1,6 +1,7 @@
 //! Words of a line: numbers, bytes, flags, and words from a small choice.
 
-ghost use Rattle.std.specs.Prelude.{◌≡◌, ◌<◌, IfOk, not};
+ghost use Rattle.std.specs.Prelude.{◌≡◌, ◌<◌, ℕ, List, Result, IfOk, not};
+ghost use Rattle.ux_syntax.specs.declared.fault.Fault.{Fault};
 ghost use Rattle.std.specs.List.{list_all};
 ghost use Rattle.std.specs.Char.{is_ascii_digit};
 ghost use Rattle.ux_syntax.specs.Reading.{is_plain, number_at, without_minus, offset_at, digit_at, pairs_at, hex_at, bit_at, mode_at, whence_at, kind_at, flag_at, open_flags_at, msg_flags_at};
@@ -10,7 +11,15 @@ use crate::fault::{BAD, LineError};
 use std::alloc::Global;
 use std::str;
 use ux_object::ObjKind;
-use ux_types::{Mode, MsgFlags, OpenFlags, Whence};
+use ux_types::{Bytes, Mode, MsgFlags, OpenFlags, Whence};
+
+/// A value that one word spells.
+pub(crate) trait Word: Sized {
+    ghost at: { List ℕ → Result Self Fault };
+
+    fn of(alloc: Global, word: &[u8]) -> Result<Self, LineError>
+        ensures { Gives (λ x. x) result (at word.now) };
+}
 
 /// Whether a word is empty or begins with a 0 that more follows.
 fn has_no_form(word: &[u8]) -> bool
@@ -30,18 +39,20 @@ fn all_digits(word: &[u8]) -> bool
 }
 
 /// The number that a word spells: digits without leading zeros, below 2^32.
-pub(crate) fn number_of(word: &[u8]) -> Result<u32, LineError>
-    ensures { Gives (λ n. n) result (number_at word.now) }
-{
-    if has_no_form(word) || !all_digits(word) {
-        return Err(BAD);
-    }
-    let Ok(text) = str::from_utf8(word) else {
-        return Err(BAD);
-    };
-    match text.parse::<u32>() {
-        Ok(number) => Ok(number),
-        Err(_) => Err(BAD),
+impl Word for u32 {
+    ghost at = { number_at };
+
+    fn of(_alloc: Global, word: &[u8]) -> Result<u32, LineError> {
+        if has_no_form(word) || !all_digits(word) {
+            return Err(BAD);
+        }
+        let Ok(text) = str::from_utf8(word) else {
+            return Err(BAD);
+        };
+        match text.parse::<u32>() {
+            Ok(number) => Ok(number),
+            Err(_) => Err(BAD),
+        }
     }
 }
 
@@ -56,19 +67,21 @@ fn without_minus(word: &[u8]) -> &[u8]
 }
 
 /// The offset that a word spells: digits without leading zeros, behind a `-` below 0.
-pub(crate) fn offset_of(word: &[u8]) -> Result<i64, LineError>
-    ensures { Gives (λ z. z) result (offset_at word.now) }
-{
-    let digits = without_minus(word);
-    if has_no_form(digits) || !all_digits(digits) || word == b"-0".as_slice() {
-        return Err(BAD);
-    }
-    let Ok(text) = str::from_utf8(word) else {
-        return Err(BAD);
-    };
-    match text.parse::<i64>() {
-        Ok(offset) => Ok(offset),
-        Err(_) => Err(BAD),
+impl Word for i64 {
+    ghost at = { offset_at };
+
+    fn of(_alloc: Global, word: &[u8]) -> Result<i64, LineError> {
+        let digits = without_minus(word);
+        if has_no_form(digits) || !all_digits(digits) || word == b"-0".as_slice() {
+            return Err(BAD);
+        }
+        let Ok(text) = str::from_utf8(word) else {
+            return Err(BAD);
+        };
+        match text.parse::<i64>() {
+            Ok(offset) => Ok(offset),
+            Err(_) => Err(BAD),
+        }
     }
 }
 
@@ -98,74 +111,84 @@ fn pairs_of(alloc: Global, digits: &[u8]) -> Result<Vec<u8>, LineError>
 }
 
 /// The bytes that a word spells: pairs of digits, or `-` for none.
-#[tactic(auto, unfolding(crate::specs::Reading::hex_at))]
-pub(crate) fn hex_of(alloc: Global, word: &[u8]) -> Result<Vec<u8>, LineError>
-    ensures { Gives (λ bytes. bytes.items) result (hex_at word.now) }
-{
-    if word.is_empty() {
-        return Err(BAD);
+impl Word for Bytes {
+    ghost at = { hex_at };
+
+    #[tactic(auto, unfolding(crate::specs::Reading::hex_at))]
+    fn of(alloc: Global, word: &[u8]) -> Result<Bytes, LineError> {
+        if word.is_empty() {
+            return Err(BAD);
+        }
+        if word == b"-".as_slice() {
+            return Ok(Bytes::new(Vec::new(alloc)));
+        }
+        Ok(Bytes::new(pairs_of(alloc, word)?))
     }
-    if word == b"-".as_slice() {
-        return Ok(Vec::new(alloc));
-    }
-    pairs_of(alloc, word)
 }
 
-pub(crate) fn bit_of(word: &[u8]) -> Result<bool, LineError>
-    ensures { Gives (λ b. b) result (bit_at word.now) }
-{
-    if word == b"0".as_slice() {
-        Ok(false)
-    } else if word == b"1".as_slice() {
-        Ok(true)
-    } else {
-        Err(BAD)
+impl Word for bool {
+    ghost at = { bit_at };
+
+    fn of(_alloc: Global, word: &[u8]) -> Result<bool, LineError> {
+        if word == b"0".as_slice() {
+            Ok(false)
+        } else if word == b"1".as_slice() {
+            Ok(true)
+        } else {
+            Err(BAD)
+        }
     }
 }
 
 /// What a file is to be open for.
-#[tactic(auto, unfolding(crate::specs::Reading::mode_at))]
-pub(crate) fn mode_of(word: &[u8]) -> Result<Mode, LineError>
-    ensures { Gives (λ m. m) result (mode_at word.now) }
-{
-    if word == b"r".as_slice() {
-        Ok(Mode::Read)
-    } else if word == b"w".as_slice() {
-        Ok(Mode::Write)
-    } else if word == b"rw".as_slice() {
-        Ok(Mode::Both)
-    } else {
-        Err(BAD)
+impl Word for Mode {
+    ghost at = { mode_at };
+
+    #[tactic(auto, unfolding(crate::specs::Reading::mode_at))]
+    fn of(_alloc: Global, word: &[u8]) -> Result<Mode, LineError> {
+        if word == b"r".as_slice() {
+            Ok(Mode::Read)
+        } else if word == b"w".as_slice() {
+            Ok(Mode::Write)
+        } else if word == b"rw".as_slice() {
+            Ok(Mode::Both)
+        } else {
+            Err(BAD)
+        }
     }
 }
 
-#[tactic(auto, unfolding(crate::specs::Reading::whence_at))]
-pub(crate) fn whence_of(word: &[u8]) -> Result<Whence, LineError>
-    ensures { Gives (λ w. w) result (whence_at word.now) }
-{
-    if word == b"set".as_slice() {
-        Ok(Whence::Set)
-    } else if word == b"cur".as_slice() {
-        Ok(Whence::Cur)
-    } else if word == b"end".as_slice() {
-        Ok(Whence::End)
-    } else {
-        Err(BAD)
+impl Word for Whence {
+    ghost at = { whence_at };
+
+    #[tactic(auto, unfolding(crate::specs::Reading::whence_at))]
+    fn of(_alloc: Global, word: &[u8]) -> Result<Whence, LineError> {
+        if word == b"set".as_slice() {
+            Ok(Whence::Set)
+        } else if word == b"cur".as_slice() {
+            Ok(Whence::Cur)
+        } else if word == b"end".as_slice() {
+            Ok(Whence::End)
+        } else {
+            Err(BAD)
+        }
     }
 }
 
-#[tactic(auto, unfolding(crate::specs::Reading::kind_at))]
-pub(crate) fn kind_of(word: &[u8]) -> Result<ObjKind, LineError>
-    ensures { Gives (λ k. k) result (kind_at word.now) }
-{
-    if word == b"mem".as_slice() {
-        Ok(ObjKind::Memory)
-    } else if word == b"counter".as_slice() {
-        Ok(ObjKind::Counter)
-    } else if word == b"pipe".as_slice() {
-        Ok(ObjKind::Pipe)
-    } else {
-        Err(BAD)
+impl Word for ObjKind {
+    ghost at = { kind_at };
+
+    #[tactic(auto, unfolding(crate::specs::Reading::kind_at))]
+    fn of(_alloc: Global, word: &[u8]) -> Result<ObjKind, LineError> {
+        if word == b"mem".as_slice() {
+            Ok(ObjKind::Memory)
+        } else if word == b"counter".as_slice() {
+            Ok(ObjKind::Counter)
+        } else if word == b"pipe".as_slice() {
+            Ok(ObjKind::Pipe)
+        } else {
+            Err(BAD)
+        }
     }
 }
 
@@ -180,44 +203,48 @@ fn flag_of(letter: u8, bits: u8, word: &[u8]) -> (u8, &[u8])
 }
 
 /// The flags of an open file description that a word spells: letters of `anx`, or `-` for none.
-#[tactic(auto, unfolding(crate::specs::Reading::open_flags_at))]
-pub(crate) fn open_flags_of(word: &[u8]) -> Result<OpenFlags, LineError>
-    ensures { Gives (λ flags. flags) result (open_flags_at word.now) }
-{
-    if word.is_empty() {
-        return Err(BAD);
-    }
-    if word == b"-".as_slice() {
-        return Ok(OpenFlags(0));
-    }
-    let (append, rest) = flag_of(b'a', OpenFlags::APPEND.0, word);
-    let (nonblock, rest) = flag_of(b'n', OpenFlags::NONBLOCK.0, rest);
-    let (cloexec, rest) = flag_of(b'x', OpenFlags::CLOEXEC.0, rest);
-    if rest.is_empty() {
-        Ok(OpenFlags(append | nonblock | cloexec))
-    } else {
-        Err(BAD)
+impl Word for OpenFlags {
+    ghost at = { open_flags_at };
+
+    #[tactic(auto, unfolding(crate::specs::Reading::open_flags_at))]
+    fn of(_alloc: Global, word: &[u8]) -> Result<OpenFlags, LineError> {
+        if word.is_empty() {
+            return Err(BAD);
+        }
+        if word == b"-".as_slice() {
+            return Ok(OpenFlags(0));
+        }
+        let (append, rest) = flag_of(b'a', OpenFlags::APPEND.0, word);
+        let (nonblock, rest) = flag_of(b'n', OpenFlags::NONBLOCK.0, rest);
+        let (cloexec, rest) = flag_of(b'x', OpenFlags::CLOEXEC.0, rest);
+        if rest.is_empty() {
+            Ok(OpenFlags(append | nonblock | cloexec))
+        } else {
+            Err(BAD)
+        }
     }
 }
 
 /// The flags of a send or receive that a word spells: letters of `dptx`, or `-` for none.
-#[tactic(auto, unfolding(crate::specs::Reading::msg_flags_at))]
-pub(crate) fn msg_flags_of(word: &[u8]) -> Result<MsgFlags, LineError>
-    ensures { Gives (λ flags. flags) result (msg_flags_at word.now) }
-{
-    if word.is_empty() {
-        return Err(BAD);
-    }
-    if word == b"-".as_slice() {
-        return Ok(MsgFlags(0));
-    }
-    let (dontwait, rest) = flag_of(b'd', MsgFlags::DONTWAIT.0, word);
-    let (peek, rest) = flag_of(b'p', MsgFlags::PEEK.0, rest);
-    let (trunc, rest) = flag_of(b't', MsgFlags::TRUNC.0, rest);
-    let (cloexec, rest) = flag_of(b'x', MsgFlags::CMSG_CLOEXEC.0, rest);
-    if rest.is_empty() {
-        Ok(MsgFlags(dontwait | peek | trunc | cloexec))
-    } else {
-        Err(BAD)
+impl Word for MsgFlags {
+    ghost at = { msg_flags_at };
+
+    #[tactic(auto, unfolding(crate::specs::Reading::msg_flags_at))]
+    fn of(_alloc: Global, word: &[u8]) -> Result<MsgFlags, LineError> {
+        if word.is_empty() {
+            return Err(BAD);
+        }
+        if word == b"-".as_slice() {
+            return Ok(MsgFlags(0));
+        }
+        let (dontwait, rest) = flag_of(b'd', MsgFlags::DONTWAIT.0, word);
+        let (peek, rest) = flag_of(b'p', MsgFlags::PEEK.0, rest);
+        let (trunc, rest) = flag_of(b't', MsgFlags::TRUNC.0, rest);
+        let (cloexec, rest) = flag_of(b'x', MsgFlags::CMSG_CLOEXEC.0, rest);
+        if rest.is_empty() {
+            Ok(MsgFlags(dontwait | peek | trunc | cloexec))
+        } else {
+            Err(BAD)
+        }
     }
 }

@@ -7,7 +7,7 @@ use std::io::BufWriter;
 use ux_kernel::{BootFault, Kernel};
 use ux_object::{FileObject, ObjKind};
 use ux_objects::{Counter, MemFile, Pipe};
-use ux_script::{ObjectSize, run_serial};
+use ux_script::run_serial;
 use ux_syntax::Script;
 use ux_types::{Name, OBJECT_LIMIT};
 
@@ -30,8 +30,7 @@ pub fn run_script<R: Print + AllocGlobal>(rt: &R, script: &Script) -> Result<(),
         };
         objects.push((line.name.clone()?, object))?;
     }
-    let size: ObjectSize<Boxed> = ObjectSize::new();
-    run_over(rt, script, objects, &size)
+    run_over(rt, script, objects)
 }
 
 /// Runs the script over these file objects, and prints its trace to standard output.
@@ -39,7 +38,6 @@ fn run_over<O: FileObject, R: Print + AllocGlobal>(
     rt: &R,
     script: &Script,
     objects: Vec<(Name, O)>,
-    size: &ObjectSize<O>,
 ) -> Result<(), Fault> {
     let alloc: Global = rt.alloc();
     let kernel = match Kernel::boot(alloc, objects, &script.procs) {
@@ -47,6 +45,6 @@ fn run_over<O: FileObject, R: Print + AllocGlobal>(
         Err((fault, _objects)) => return Err(Fault::from(fault)),
     };
     let mut writer = BufWriter::new(alloc, io::writer(rt)).map_err(|_| AllocError)?;
-    run_serial(alloc, script, &mut writer, kernel, size)?;
+    run_serial(alloc, script, &mut writer, kernel)?;
     Ok(())
 }

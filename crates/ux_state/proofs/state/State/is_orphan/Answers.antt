@@ -1,4 +1,4 @@
-use Rattle.std.proofs.Common.{not, ◌&&◌, ◌==◌, ap, sym, ◌∙◌}
+use Rattle.std.proofs.Common.{not, ◌&&◌, ap, sym, ◌∙◌}
 use Rattle.std.specs.List.{list_any}
 use Rattle.ux_model.specs.References.{path_names}
 use Rattle.ux_state.proofs.Orphans.{no_orefs}

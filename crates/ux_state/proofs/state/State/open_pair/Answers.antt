@@ -1,4 +1,4 @@
-use Rattle.std.proofs.Common.{◌-◌, ◌≡◌, ℕ, ◌+◌, [], ◌∷◌, ◌++◌, length, Some, ap, refl, sym, ◌∙◌, arith}
+use Rattle.std.proofs.Common.{◌-◌, ◌≡◌, ◌+◌, [], ◌∷◌, ◌++◌, length, Some, ap, sym, ◌∙◌, arith}
 use Rattle.ux_model.specs.Types.{SockType}
 use Rattle.ux_model.specs.Places.{filled}
 use Rattle.ux_model.specs.Socket.{pair_end}
@@ -19,7 +19,7 @@ pub invariant_of-self-in_default : goal.invariant_of-self-in_default
 invariant_of-self-in_default g c =
     let live = ap (λ S. is_live S c.args.pid.0) c.self.view_is ∙ c.requires in
     let at = at_view c.self.inside.processes.items (c.args.pid.0 - 1) _ (process.the_view c.process.inside) c.index_mut-process.ensures.value c.process.view_is in
-    table_kept _ _ _ _ _ c.self.invariant c.args.pid.0 (process.the_view c.process.inside) live at c.reserve.new.self _ c.reserve.ensures.places (λ k.
+    table_kept _ _ _ _ _ _ _ c.self.invariant c.args.pid.0 (process.the_view c.process.inside) live at c.reserve.new.self _ c.reserve.ensures.places (λ k.
     let same = ap (λ cs. count_at (record c.self.inside.slots { counts = cs }) k) c.reserve.ensures.counts in
     let table = ap (table_refs k) c.in_default.ensures.err in
     omega (arith, same, table))
@@ -30,7 +30,7 @@ invariant_of-self-2 g c =
     let at = at_view c.self.inside.processes.items (c.args.pid.0 - 1) _ (process.the_view c.process.inside) c.index_mut-process.ensures.value c.process.view_is in
     let first : c.next_id-first.result ≡ length c.self.inside.slots.places = c.next_id-first.ensures ∙ ap length c.reserve.ensures.places in
     let second : c.new-second.result ≡ length c.self.inside.slots.places + 1 = c.new-second.ensures ∙ ap (λ n. n + 1) (c.number.ensures ∙ first) in
-    pair_opened _ _ _ _ _ c.self.invariant c.args.pid.0 (process.the_view c.process.inside) live at c.insert_reserved-first.new.self c.insert_reserved-second.new.self _
+    pair_opened _ _ _ _ _ _ _ c.self.invariant c.args.pid.0 (process.the_view c.process.inside) live at c.insert_reserved-first.new.self c.insert_reserved-second.new.self _
     c.in-Ok.two.0.0 c.in-Ok.two.1.0 c.new_entry.result c.new_entry-2.result c.pair_end.result c.pair_end-2.result
     (ap (λ t. record (process.the_view c.process.inside) { table = t }) c.in-Ok.ensures.opened) c.in-Ok.ensures.lowest
     (ap (λ e. Descriptor.description e) c.new_entry.ensures ∙ first) (ap (λ e. Descriptor.description e) c.new_entry-2.ensures ∙ second)

@@ -1,4 +1,4 @@
-use Rattle.std.proofs.Common.{◌-◌, ◌<◌, length, ap, refl, sym, ◌∙◌, arith}
+use Rattle.std.proofs.Common.{◌-◌, ◌<◌, length, ap, sym, ◌∙◌, arith}
 use Rattle.ux_model.specs.Places.{filled}
 use Rattle.ux_model.specs.Process.{Descriptor, copy_of}
 use Rattle.ux_model.specs.State.{is_live}
@@ -16,7 +16,7 @@ pub release-requires : goal.release-requires
 release-requires g c = λ k.
     let live = ap (λ S. is_live S c.args.pid.0) c.self.view_is ∙ c.requires.live in
     let at = at_view c.self.inside.processes.items (c.args.pid.0 - 1) _ (process.the_view c.process.inside) c.index_mut-process.ensures.value c.process.view_is in
-    let all = table_counted _ _ _ _ _ c.self.invariant c.args.pid.0 (process.the_view c.process.inside) live at k in
+    let all = table_counted _ _ _ _ _ _ _ c.self.invariant c.args.pid.0 (process.the_view c.process.inside) live at k in
     let one = entry_in_table k c.process.inside.table c.args.fd.0 in
     let same = ap (entry_refs k) c.in_ok-replaced.ensures.replaced in
     let more = c.retain.ensures.counts k in
@@ -28,7 +28,7 @@ invariant_of-self-2 g c =
     let at = at_view c.self.inside.processes.items (c.args.pid.0 - 1) _ (process.the_view c.process.inside) c.index_mut-process.ensures.value c.process.view_is in
     let table = table_is _ c.args.self.now c.args.pid.0 c.index_mut-process.result.now (process.the_view c.process.inside) c.requires.live c.self.view_is c.index_mut-process.ensures.value c.process.view_is in
     let inside : c.args.fd.0 < length c.process.inside.table = omega (arith, ap length table, ap length c.table.ensures, c.limit.ensures, c.if-fd-limit.false) in
-    table_kept _ _ _ _ _ c.self.invariant c.args.pid.0 (process.the_view c.process.inside) live at c.release.new.slots _ (sym c.release.ensures.places ∙ c.retain.ensures.places) (λ k.
+    table_kept _ _ _ _ _ _ _ c.self.invariant c.args.pid.0 (process.the_view c.process.inside) live at c.release.new.slots _ (sym c.release.ensures.places ∙ c.retain.ensures.places) (λ k.
     let put = table_filled k c.process.inside.table c.args.fd.0 (copy_of c.args.entry) inside in
     let new = ap (table_refs k) c.in_ok-replaced.ensures.opened in
     let old = ap (entry_refs k) c.in_ok-replaced.ensures.replaced in

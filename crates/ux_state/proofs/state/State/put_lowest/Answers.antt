@@ -1,4 +1,4 @@
-use Rattle.std.proofs.Common.{◌-◌, ap, refl, sym, ◌∙◌, arith}
+use Rattle.std.proofs.Common.{◌-◌, ap, sym, ◌∙◌, arith}
 use Rattle.ux_model.specs.Places.{filled}
 use Rattle.ux_model.specs.Process.{Descriptor, lowest_free}
 use Rattle.ux_model.specs.State.{is_live}
@@ -16,7 +16,7 @@ pub invariant_of-self-2 : goal.invariant_of-self-2
 invariant_of-self-2 g c =
     let live = ap (λ S. is_live S c.args.pid.0) c.self.view_is ∙ c.requires.live in
     let at = at_view c.self.inside.processes.items (c.args.pid.0 - 1) _ (process.the_view c.process.inside) c.index_mut-process.ensures.value c.process.view_is in
-    table_kept _ _ _ _ _ c.self.invariant c.args.pid.0 (process.the_view c.process.inside) live at c.retain.new.slots _ c.retain.ensures.places (λ k.
+    table_kept _ _ _ _ _ _ _ c.self.invariant c.args.pid.0 (process.the_view c.process.inside) live at c.retain.new.slots _ c.retain.ensures.places (λ k.
     let free = free_at c.process.inside.table 0 c.in_ok-fd.fd.0 c.in_ok-fd.ensures.lowest in
     let put = table_filled k c.process.inside.table c.in_ok-fd.fd.0 c.args.entry free.0 in
     let none = ap (one k) free.1 in

@@ -6,15 +6,15 @@ use Rattle.ux_state.proofs.state.State.send_stream.Goals as goal
 
 pub invariant_of-self : goal.invariant_of-self
 invariant_of-self g c =
-    message_added _ _ _ _ _ c.self.invariant c.retain_all.new.slots c.push_stream.new.slots c.args.id _ _ c.as_slice-2.ensures c.retain_all.ensures c.in-Ok.ensures.places c.in-Ok.ensures.counts
+    message_added _ _ _ _ _ _ _ c.self.invariant c.retain_all.new.slots c.push_stream.new.slots c.args.id _ _ c.as_slice-2.ensures c.retain_all.ensures c.in-Ok.ensures.places c.in-Ok.ensures.counts
     (subst (λ (S : State). IsSome (socket_at S c.args.id)) (sym c.self.view_is) c.requires.socket)
 
 pub invariant_of-self-in-Err : goal.invariant_of-self-in-Err
 invariant_of-self-in-Err g c =
-    message_back _ _ _ _ _ c.self.invariant c.retain_all.new.slots c.push_stream.new.slots c.release_all.new.slots _ _
+    message_back _ _ _ _ _ _ _ c.self.invariant c.retain_all.new.slots c.push_stream.new.slots c.release_all.new.slots _ _
     (c.as_slice-in-Err.ensures ∙ c.in-Err.ensures.back ∙ sym c.as_slice-2.ensures) c.retain_all.ensures c.in-Err.ensures.err c.in-Err.ensures.counts c.release_all.ensures
 
 pub invariant_of-self-in-Err-2 : goal.invariant_of-self-in-Err-2
 invariant_of-self-in-Err-2 g c =
-    message_back _ _ _ _ _ c.self.invariant c.retain_all.new.slots c.push_stream.new.slots c.release_all.new.slots _ _
+    message_back _ _ _ _ _ _ _ c.self.invariant c.retain_all.new.slots c.push_stream.new.slots c.release_all.new.slots _ _
     (c.as_slice-in-Err.ensures ∙ c.in-Err.ensures.back ∙ sym c.as_slice-2.ensures) c.retain_all.ensures c.in-Err.ensures.err c.in-Err.ensures.counts c.release_all.ensures

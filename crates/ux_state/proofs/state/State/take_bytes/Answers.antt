@@ -8,12 +8,12 @@ use Rattle.ux_state.proofs.state.State.take_bytes.Goals as goal
 pub release_all-requires : goal.release_all-requires
 release_all-requires g c = λ k.
     let some = subst (λ (S : State). IsSomeAnd (socket_at S c.args.id) (λ s. 0 < length s.queue)) (sym c.self.view_is) c.requires.some in
-    let a = rights_counted _ _ _ _ _ c.self.invariant c.take_stream.new.slots c.args.id c.args.wants_cred c.args.n c.in_ok-received.received.rights c.in_ok-received.ensures.counts some c.in_ok-received.ensures.rights k in
+    let a = rights_counted _ _ _ _ _ _ _ c.self.invariant c.take_stream.new.slots c.args.id c.args.wants_cred c.args.n c.in_ok-received.received.rights c.in_ok-received.ensures.counts some c.in_ok-received.ensures.rights k in
     let b = ap (times k) c.as_slice.ensures in
     omega (arith, a, b)
 
 pub invariant_of-self-2 : goal.invariant_of-self-2
 invariant_of-self-2 g c =
     let some = subst (λ (S : State). IsSomeAnd (socket_at S c.args.id) (λ s. 0 < length s.queue)) (sym c.self.view_is) c.requires.some in
-    bytes_taken _ _ _ _ _ c.self.invariant c.take_stream.new.slots c.release_all.new.slots c.args.id c.args.wants_cred c.args.n c.in_ok-received.received.rights _ c.as_slice.ensures c.in_ok-received.ensures.counts
+    bytes_taken _ _ _ _ _ _ _ c.self.invariant c.take_stream.new.slots c.release_all.new.slots c.args.id c.args.wants_cred c.args.n c.in_ok-received.received.rights _ c.as_slice.ensures c.in_ok-received.ensures.counts
     some c.in_ok-received.ensures.rights c.in_ok-received.ensures.rest c.release_all.ensures

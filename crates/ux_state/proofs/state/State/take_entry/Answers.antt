@@ -1,4 +1,4 @@
-use Rattle.std.proofs.Common.{◌-◌, ap, refl, sym, ◌∙◌, arith}
+use Rattle.std.proofs.Common.{◌-◌, ap, sym, ◌∙◌, arith}
 use Rattle.ux_model.specs.Places.{emptied}
 use Rattle.ux_model.specs.State.{is_live}
 use Rattle.ux_model.specs.References.{table_refs}
@@ -14,7 +14,7 @@ pub release-requires : goal.release-requires
 release-requires g c = λ k.
     let live = ap (λ S. is_live S c.args.pid.0) c.self.view_is ∙ c.requires in
     let at = at_view c.self.inside.processes.items (c.args.pid.0 - 1) _ (process.the_view c.process.inside) c.index_mut-process.ensures.value c.process.view_is in
-    let all = table_counted _ _ _ _ _ c.self.invariant c.args.pid.0 (process.the_view c.process.inside) live at k in
+    let all = table_counted _ _ _ _ _ _ _ c.self.invariant c.args.pid.0 (process.the_view c.process.inside) live at k in
     let one = entry_in_table k c.process.inside.table c.args.fd.0 in
     let same = ap (entry_refs k) c.remove-removed.ensures.removed in
     omega (arith, all, one, same)
@@ -23,7 +23,7 @@ pub invariant_of-self : goal.invariant_of-self
 invariant_of-self g c =
     let live = ap (λ S. is_live S c.args.pid.0) c.self.view_is ∙ c.requires in
     let at = at_view c.self.inside.processes.items (c.args.pid.0 - 1) _ (process.the_view c.process.inside) c.index_mut-process.ensures.value c.process.view_is in
-    table_kept _ _ _ _ _ c.self.invariant c.args.pid.0 (process.the_view c.process.inside) live at c.release.new.slots _ (sym c.release.ensures.places) (λ k.
+    table_kept _ _ _ _ _ _ _ c.self.invariant c.args.pid.0 (process.the_view c.process.inside) live at c.release.new.slots _ (sym c.release.ensures.places) (λ k.
     let taken = table_emptied k c.process.inside.table c.args.fd.0 in
     let table = ap (table_refs k) c.remove-removed.ensures.closed in
     let same = ap (entry_refs k) c.remove-removed.ensures.removed in

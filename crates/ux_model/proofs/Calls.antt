@@ -1,0 +1,433 @@
+-- Of each call: what a refusal leaves, and that what else it leaves comes of the state by the changes of Reaching, where a file object is
+-- as before or held open. One lemma a call, and one line of `each_obeys`, at the end.
+use Rattle.std.proofs.Common.{◌≡◌, ℕ, suc, ◌≤◌, ◌<◌, Bool, true, false, not, ◌&&◌, ◌||◌, ◌==◌, if◌then◌else◌, cond, List, [], ◌∷◌, ◌++◌, length, map, Option, Some, None, Result, Ok, Err, refl, ap, sym, ◌∙◌, subst, arith}
+use Rattle.std.specs.Prelude.{min, nat_le, nat_lt, ℤ, pos, negsuc, ◌+ℤ◌, is_none, is_some, count_by}
+use Rattle.std.proofs.lemmas.Bool.{eqb-true, eq-eqb}
+use Rattle.std.proofs.lemmas.List.{length_push}
+use Rattle.std.proofs.lemmas.List.Sums.{sum_by-cons, sum_by_push}
+use Rattle.ux_model.specs.Types.{Errno, Fd, Name, SockType, Mode, OpenFlags, MsgFlags, Whence, Request, Reply}
+use Rattle.ux_model.specs.Places.{place, filled}
+use Rattle.ux_model.specs.Limits.{read_limit, offset_limit}
+use Rattle.ux_model.specs.Flags.{are_send_flags, are_receive_flags, asks_peek, asks_cloexec, can_read, can_write, no_flags}
+use Rattle.ux_model.specs.Object.{Body, View, ObjectError, would_block, full, invalid, read_body, write_body, is_memory, is_pipe, with_body, can_fail, after_failure}
+use Rattle.ux_model.specs.Names.{PathTarget, file, same_name, named, is_valid_path}
+use Rattle.ux_model.specs.Message.{Message}
+use Rattle.ux_model.specs.Front.{stream_front}
+use Rattle.ux_model.specs.Socket.{Socket, peer_of, stream_room, sent_part, sent, with_queue, with_reset}
+use Rattle.ux_model.specs.Description.{Description, to_object, to_socket, socket_of, socket_in}
+use Rattle.ux_model.specs.Process.{Process, Descriptor, own_cred, lowest_free, two_lowest_free, descriptor, copy_of, with_cloexec}
+use Rattle.ux_model.specs.State.{State, process_at, description_at, socket_at, table_of, next_description, with_object, with_description, with_socket_by, with_table, with_new}
+use Rattle.ux_model.specs.References.{times, queue_refs, path_names, orefs}
+use Rattle.ux_model.specs.Outcome.{Outcome, Chosen, own, lacking_memory, failing, refuse, descriptor_at}
+use Rattle.ux_model.specs.Naming.{unlink}
+use Rattle.ux_model.specs.Pairing.{make_pair, with_pair}
+use Rattle.ux_model.specs.Sending.{send_msg, send_to_peer, send_connected, message_of}
+use Rattle.ux_model.specs.Receiving.{recv_msg, receive, receive_nothing, receive_bytes, bytes_alone}
+use Rattle.ux_model.specs.FileObjects.{or_failing, holds_bytes, is_open_for}
+use Rattle.ux_model.specs.Opening.{open_file, file_description}
+use Rattle.ux_model.specs.Reading.{read, read_answer, read_error, offset_after_read, is_short_read}
+use Rattle.ux_model.specs.Writing.{write, write_answer, offset_after_write, write_place}
+use Rattle.ux_model.specs.Seeking.{lseek, seek_to, seek_base}
+use Rattle.ux_model.specs.Descriptors.{dup, dup2, set_flags, with_flags}
+use Rattle.ux_model.specs.Closing.{close, exit, off}
+use Rattle.ux_model.specs.Release.{settled, released}
+use Rattle.ux_model.specs.Step.{Step, outcome, lacks_memory, fails}
+use Rattle.ux_model.specs.History.{is_exit}
+use Rattle.ux_model.specs.Invariants.{OneMoreFailure, LeftByRefusal}
+use Rattle.ux_model.proofs.FrontRights.{front_refs}
+use Rattle.ux_model.proofs.Sound.{IsSound}
+use Rattle.ux_model.proofs.Named.{table_in}
+use Rattle.ux_model.proofs.Walk.{either, maybe, by_target, by_path, by_queue, found, found_socket}
+use Rattle.ux_model.proofs.Reaching.{Reaches, still, description_made, peers_made, object_changed, paths_taken, turned_off, KeepsSocket, same_target, queue_changed, NamesWhatIsThere, put_names, taken_names, same_names, none_counts, with_table_reached, with_process_reached, with_description_reached, with_socket_reached, some_filled, some_more, some_pushed}
+use Rattle.ux_model.proofs.HeldOpen.{IsHeldOpen, KeepsObjects, same_objects, held_changed, held_by_changed, with_process_objects, with_table_objects}
+
+-- a reply that tells which of the two free choices was made
+abbrev pub tells_choice : Reply → Bool
+tells_choice reply = lacks_memory reply || fails reply
+
+abbrev is_error : Reply → Bool
+is_error (Reply.Err e) = true
+is_error _ = false
+
+-- of an outcome in S; `ends` says whether the call may end a process
+pub record Obeys (S : State) (ends : Bool) (o : Outcome) : Type 0 where
+  pub own_reply : tells_choice o.reply ≡ false
+  pub refused : (e : Errno) → o.reply ≡ Reply.Err e → LeftByRefusal S e o.next
+  pub failed : (T : State) → o.failure ≡ Some T → OneMoreFailure S T × KeepsObjects S T
+  pub reached : Reaches S ends o.next
+  pub objects : KeepsObjects S o.next
+
+-- ---- by what an outcome is made of
+
+refuses : {S : State} {ends : Bool} {e : Errno} → tells_choice (Reply.Err e) ≡ false → LeftByRefusal S e S → Obeys S ends (refuse S e)
+refuses {S} {ends} {e} own_one left = record {
+  own_reply = own_one;
+  refused = λ f h. let same : e ≡ f = cc h in subst (λ g. LeftByRefusal S g S) same left;
+  failed = λ T h. absurd (cc h);
+  reached = still;
+  objects = same_objects S S refl;
+}
+
+-- an answer that may leave a file object changed, if that is held open then
+uses : {S : State} {ends : Bool} {o : Outcome} → tells_choice o.reply ≡ false → is_error o.reply ≡ false → o.failure ≡ None → KeepsObjects S o.next → Reaches S ends o.next → Obeys S ends o
+uses {S} {ends} {o} own_one told n kept r = record {
+  own_reply = own_one;
+  refused = λ e h. let one : is_error o.reply ≡ true = ap is_error h in absurd (cc (one, told));
+  failed = λ T h. absurd (cc (h, n));
+  reached = r;
+  objects = kept;
+}
+
+-- and one that leaves all file objects as they were
+answers : {S : State} {ends : Bool} {o : Outcome} → tells_choice o.reply ≡ false → is_error o.reply ≡ false → o.failure ≡ None → o.next.objects ≡ S.objects → Reaches S ends o.next → Obeys S ends o
+answers {S} {ends} {o} own_one told n same r = uses own_one told n (same_objects S o.next same) r
+
+-- a call of a file object may leave what a failure does
+may_fail : (S : State) (ends : Bool) (o : ℕ) (view : View) (x : Outcome) → IsHeldOpen S o → place S.objects o ≡ Some view → Obeys S ends x → Obeys S ends (or_failing S o view x)
+may_fail S ends o view x held there obeys = record { own_reply = obeys.own_reply; refused = obeys.refused; failed = at_failure (can_fail view); reached = obeys.reached; objects = obeys.objects }
+  where
+    at_failure : (b : Bool) (T : State) → (if b then Some (with_object S o (after_failure view)) else None) ≡ Some T → OneMoreFailure S T × KeepsObjects S T
+    at_failure true T h =
+        let e : with_object S o (after_failure view) ≡ T = cc h in
+        (record { object = o; view = view; there = there; left = sym e }, subst (KeepsObjects S) e (held_changed S S o (after_failure view) refl held))
+    at_failure false T h = absurd (cc h)
+
+-- ---- descriptors
+
+-- a call that ends no process
+abbrev Call : State → Outcome → Type 0
+Call S = Obeys S false
+
+there_of : (S : State) (d : ℕ) (D : Description) → description_at S d ≡ Some D → is_some (description_at S d) ≡ true
+there_of S d D h = ap is_some h
+
+pub dup_obeys : (S : State) (p : ℕ) (fd : Fd) → Call S (dup S p fd)
+unfolding dup
+dup_obeys S p fd = found (Call S) S p fd _ (refuses refl refl) (λ e D g h. maybe (Call S) (lowest_free (table_of S p)) _ _ (refuses refl refl)
+    (λ n low. answers refl refl refl (with_table_objects S p _) (with_table_reached S p _ still
+    (λ sound. put_names S (table_of S p) (table_of S p) n (copy_of e) (there_of S e.description D h) (same_names S (table_of S p))))))
+
+pub dup2_obeys : (S : State) (p : ℕ) (fd to : Fd) → Call S (dup2 S p fd to)
+unfolding dup2
+dup2_obeys S p fd to = found (Call S) S p fd _ (refuses refl refl) (λ e D g h. either (Call S) (nat_le (length (table_of S p)) to.0) _ _ (λ b. refuses refl refl)
+    (λ b. either (Call S) (to.0 == fd.0) _ _ (λ b. answers refl refl refl refl still)
+    (λ b. answers refl refl refl (with_table_objects S p _) (with_table_reached S p _ still
+    (λ sound. put_names S (table_of S p) (table_of S p) to.0 (copy_of e) (there_of S e.description D h) (same_names S (table_of S p)))))))
+
+pub flags_obeys : (S : State) (p : ℕ) (fd : Fd) (flags : OpenFlags) → Call S (set_flags S p fd flags)
+unfolding set_flags
+flags_obeys S p fd flags = found (Call S) S p fd _ (refuses refl refl) (λ e D g h.
+    let T : State = with_description S e.description (with_flags flags D) in
+    let there : is_some (description_at T e.description) ≡ true = some_filled S.descriptions e.description e.description (with_flags flags D) (there_of S e.description D h) in
+    answers refl refl refl (with_table_objects T p _) (with_table_reached T p _ (with_description_reached S e.description D (with_flags flags D) still h (λ sound. same_target S e.description D.target))
+    (λ sound. put_names T (table_of T p) (table_of T p) fd.0 (with_cloexec (asks_cloexec flags) e) there (same_names T (table_of T p)))))
+
+pub close_obeys : (S : State) (p : ℕ) (fd : Fd) → Call S (close S p fd)
+unfolding close
+close_obeys S p fd = found (Call S) S p fd _ (refuses refl refl) (λ e D g h.
+    answers refl refl refl (with_table_objects S p _) (with_table_reached S p _ still (λ sound. taken_names S (table_of S p) fd.0)))
+
+-- ---- ends
+
+pub exit_obeys : (S : State) (p : ℕ) → Obeys S true (exit S p)
+unfolding exit
+exit_obeys S p = maybe (Obeys S true) (process_at S p) _ _ (refuses refl refl)
+    (λ P h. answers refl refl refl (with_process_objects S p _) (with_process_reached S p P (record P { exited = true; table = map (λ e. None) P.table }) still h (λ d. none_counts d P.table)))
+
+pub off_obeys : (S : State) → Call S (off S)
+unfolding off
+off_obeys S = answers refl refl refl refl (turned_off still)
+
+-- ---- paths
+
+pub unlink_obeys : (S : State) (path : Name) → Call S (unlink S path)
+unfolding unlink
+unlink_obeys S path = either (Call S) (not (is_valid_path path)) _ _ (λ b. refuses refl refl)
+    (λ b. either (Call S) (not (is_some (named path S.paths))) _ _ (λ b. refuses refl refl) (λ b. answers refl refl refl refl (paths_taken (λ e. not (same_name e.0 path)) still)))
+
+-- ---- pairs
+
+-- the two sockets
+pair_made : (S : State) (kind : SockType) (p : ℕ) (P : Process) (flags : OpenFlags) → Reaches S false (with_pair S kind flags (own_cred p P))
+pair_made S SockType.Stream p P flags = peers_made _ _ still (record { first_refs = λ n. refl; second_refs = λ n. refl; first_peer = ap Some (omega arith); second_peer = refl })
+pair_made S SockType.Dgram p P flags = description_made _ (description_made _ still (λ sound o h. absurd (cc h)) (record { refs = λ d. refl; peer = refl })) (λ sound o h. absurd (cc h)) (record { refs = λ d. refl; peer = refl })
+pair_made S SockType.Seq p P flags = peers_made _ _ still (record { first_refs = λ n. refl; second_refs = λ n. refl; first_peer = ap Some (omega arith); second_peer = refl })
+
+-- and two entries for them
+pair_names : (S : State) (p : ℕ) (A B : Description) (P : Process) (n : ℕ × ℕ) (flags : OpenFlags) → process_at S p ≡ Some P →
+    NamesWhatIsThere (with_new (with_new S A) B) (table_of S p) (filled (filled P.table n.0 (descriptor flags (next_description S))) n.1 (descriptor flags (suc (next_description S))))
+pair_names S p A B P n flags here =
+    let T : State = with_new (with_new S A) B in
+    let one : is_some (description_at T (next_description S)) ≡ true = some_more (S.descriptions ++ Some A ∷ []) (Some B ∷ []) (length S.descriptions) (some_pushed S.descriptions A) in
+    let more = length_push S.descriptions (Some A) in
+    let long : length (S.descriptions ++ Some A ∷ []) ≡ suc (length S.descriptions) = omega (arith, more) in
+    let two : is_some (description_at T (suc (next_description S))) ≡ true = subst (λ k. is_some (description_at T k) ≡ true) long (some_pushed (S.descriptions ++ Some A ∷ []) B) in
+    let same : P.table ≡ table_of S p = sym (ap table_in here) in
+    let old : NamesWhatIsThere T (table_of S p) P.table = subst (λ (t : List (Option Descriptor)). NamesWhatIsThere T (table_of S p) t) (sym same) (same_names T (table_of S p)) in
+    put_names T (table_of S p) (filled P.table n.0 (descriptor flags (next_description S))) n.1 (descriptor flags (suc (next_description S))) two
+    (put_names T (table_of S p) P.table n.0 (descriptor flags (next_description S)) one old)
+
+pub pair_obeys : (S : State) (p : ℕ) (kind : SockType) (flags : OpenFlags) → Call S (make_pair S p kind flags)
+unfolding make_pair
+pair_obeys S p kind flags = maybe (Call S) (process_at S p) _ _ (refuses refl refl)
+    (λ P h. maybe (Call S) (two_lowest_free P.table) _ _ (refuses refl refl)
+    (λ n low. answers refl refl refl (with_table_objects (with_pair S kind flags (own_cred p P)) p _) (with_table_reached (with_pair S kind flags (own_cred p P)) p _ (pair_made S kind p P flags) (λ sound. pair_names S p _ _ P n flags h))))
+
+-- ---- sending
+
+-- a message refers to what its rights do
+sent_keeps : (S : State) (n : ℕ) (m : Message) (s : Socket) → ((d : ℕ) → is_some (description_at S d) ≡ false → times d m.rights ≡ 0) → KeepsSocket S n s (sent m s)
+sent_keeps S n m s none = queue_changed S n s (s.queue ++ sent_part s m ∷ []) s.reset (λ d gone.
+    let more = sum_by_push (λ m. times d (Message.rights m)) s.queue (sent_part s m) in
+    let z : times d m.rights ≡ 0 = none d gone in
+    omega (arith, more, z))
+
+to_peer_obeys : (S : State) (d : ℕ) (m : Message) → (IsSound S → (k : ℕ) → is_some (description_at S k) ≡ false → times k m.rights ≡ 0) → Call S (send_to_peer S d m)
+to_peer_obeys S d m names = maybe (Call S) (socket_at S d) _ _ (refuses refl refl)
+    (λ other h. either (Call S) (length m.bytes == 0) _ _ (λ b. answers refl refl refl refl still)
+    (λ b. either (Call S) (stream_room other == 0) _ _ (λ b. refuses refl refl)
+    (λ b. answers refl refl refl refl (with_socket_reached S d (sent m) still (λ sound s here. sent_keeps S d m s (names sound))))))
+
+connected_obeys : (S : State) (peer : Option ℕ) (m : Message) → (IsSound S → (k : ℕ) → is_some (description_at S k) ≡ false → times k m.rights ≡ 0) → Call S (send_connected S peer m)
+connected_obeys S None m names = refuses refl refl
+connected_obeys S (Some peer) m names = to_peer_obeys S peer m names
+
+pub send_obeys : (S : State) (p tag : ℕ) (fd : Fd) (bytes : List ℕ) (flags : MsgFlags) → Call S (send_msg S p tag fd bytes flags)
+unfolding send_msg
+send_obeys S p tag fd bytes flags = maybe (Call S) (process_at S p) _ _ (refuses refl refl)
+    (λ P here. found_socket (Call S) S p fd _ (refuses refl refl) (refuses refl refl)
+    (λ d s h. either (Call S) (not (are_send_flags flags)) _ _ (λ b. refuses refl refl)
+    (λ b. connected_obeys S (peer_of s.phase) (message_of (own_cred p P) tag bytes) (λ sound k gone. refl))))
+
+-- ---- receiving
+
+-- the pending error that is answered
+reset_obeys : (S : State) (d : ℕ) (s : Socket) → socket_at S d ≡ Some s → s.reset ≡ true →
+    Call S (record { reply = Reply.Err Errno.ECONNRESET; next = with_socket_by S d (with_reset false); may_lack_memory = false; failure = None })
+reset_obeys S d s h pending = record {
+  own_reply = refl;
+  refused = λ e told. let same : Errno.ECONNRESET ≡ e = cc told in
+      subst (λ g. LeftByRefusal S g (with_socket_by S d (with_reset false))) same (record { description = d; socket = s; there = h; was_pending = pending; left = refl });
+  failed = λ T none. absurd (cc none);
+  reached = with_socket_reached S d (with_reset false) still (λ sound t here. queue_changed S d t t.queue false (λ k gone. omega arith));
+  objects = same_objects S (with_socket_by S d (with_reset false)) refl;
+}
+
+nothing_obeys : (S : State) (d : ℕ) (s : Socket) (peer : ℕ) → socket_at S d ≡ Some s → Call S (receive_nothing S d s peer)
+nothing_obeys S d s peer h = either (Call S) s.reset _ _ (λ b. reset_obeys S d s h b)
+    (λ b. either (Call S) (is_none (socket_at S peer)) _ _ (λ b. answers refl refl refl refl still) (λ b. refuses refl refl))
+
+bytes_obeys : (S : State) (d n : ℕ) (s : Socket) (flags : MsgFlags) (m : Message) (ms : List Message) → socket_at S d ≡ Some s → s.queue ≡ m ∷ ms →
+    Call S (receive_bytes S d flags (stream_front s.passcred n m ms))
+bytes_obeys S d n s flags m ms h q = answers refl refl refl (same (asks_peek flags)) (peeked (asks_peek flags))
+  where
+    same : (b : Bool) → (if b then S else with_socket_by S d (with_queue (stream_front s.passcred n m ms).rest)).objects ≡ S.objects
+    same true = refl
+    same false = refl
+
+    fewer : (t : Socket) → socket_at S d ≡ Some t → (k : ℕ) → queue_refs k (stream_front s.passcred n m ms).rest ≤ queue_refs k t.queue
+    fewer t here k =
+        let same : s ≡ t = cc (sym h ∙ here) in
+        let all : queue_refs k t.queue ≡ queue_refs k (m ∷ ms) = ap (λ u. queue_refs k (Socket.queue u)) (sym same) ∙ ap (queue_refs k) q in
+        let parts = front_refs k s.passcred n m ms in
+        omega (arith, all, parts)
+
+    peeked : (b : Bool) → Reaches S false (if b then S else with_socket_by S d (with_queue (stream_front s.passcred n m ms).rest))
+    peeked true = still
+    peeked false = with_socket_reached S d (with_queue (stream_front s.passcred n m ms).rest) still (λ sound t here. queue_changed S d t (stream_front s.passcred n m ms).rest t.reset (λ k gone. fewer t here k))
+
+receive_obeys : (S : State) (d : ℕ) (s : Socket) (n : ℕ) (flags : MsgFlags) → socket_at S d ≡ Some s → Call S (receive S d s n flags)
+receive_obeys S d s n flags h = maybe (Call S) (peer_of s.phase) _ _ (refuses refl refl)
+    (λ peer is. either (Call S) (n == 0) _ _ (λ b. answers refl refl refl refl still)
+    (λ b. by_queue (Call S) s.queue _ _ (nothing_obeys S d s peer h) (λ m ms q. bytes_obeys S d n s flags m ms h q)))
+
+pub recv_obeys : (S : State) (p : ℕ) (fd : Fd) (n : ℕ) (flags : MsgFlags) → Call S (recv_msg S p fd n flags)
+unfolding recv_msg
+recv_obeys S p fd n flags = found_socket (Call S) S p fd _ (refuses refl refl) (refuses refl refl)
+    (λ d s h. either (Call S) (not (are_receive_flags flags)) _ _ (λ b. refuses refl refl) (λ b. receive_obeys S d s n flags h))
+
+-- ---- open
+
+-- a path leads to its file object
+first_named : (path : Name) (o : ℕ) (e : Name × PathTarget) (es : List (Name × PathTarget)) (b : Bool) → (if b then Some e.1 else named path es) ≡ Some (file o) →
+    (named path es ≡ Some (file o) → 0 < count_by (λ e. path_names o e.1) es) → 0 < count_by (λ e. path_names o e.1) (e ∷ es)
+first_named path o e es true h rest =
+    let s = sum_by-cons (λ (e : Name × PathTarget). cond (path_names o e.1) 1 0) e es in
+    let is : e.1 ≡ file o = cc h in
+    let one : cond {A = ℕ} (path_names o e.1) 1 0 ≡ 1 = ap (λ t. cond {A = ℕ} (path_names o t) 1 0) is ∙ ap (λ b. cond {A = ℕ} b 1 0) (eq-eqb o o refl) in
+    omega (arith, s, one)
+first_named path o e es false h rest =
+    let s = sum_by-cons (λ (e : Name × PathTarget). cond (path_names o e.1) 1 0) e es in
+    let r : 0 < count_by (λ e. path_names o e.1) es = rest h in
+    omega (arith, s, r)
+
+named_counts : (path : Name) (o : ℕ) (es : List (Name × PathTarget)) → named path es ≡ Some (file o) → 0 < count_by (λ e. path_names o e.1) es
+named_counts path o [] h = absurd (cc h)
+named_counts path o (e ∷ es) h = first_named path o e es (same_name e.0 path) h (named_counts path o es)
+
+name_counts : (S : State) (path : Name) (o : ℕ) → named path S.paths ≡ Some (file o) → 0 < orefs S o
+unfolding orefs
+name_counts S path o h = let n = named_counts path o S.paths h in omega (arith, n)
+
+-- a new description of the file object that a path names, and an entry for it
+opened : (S : State) (p : ℕ) (path : Name) (mode : Mode) (flags : OpenFlags) (o n : ℕ) → named path S.paths ≡ Some (file o) →
+    Reaches S false (with_table (with_new S (file_description o mode flags)) p (filled (table_of S p) n (descriptor flags (next_description S))))
+opened S p path mode flags o n is =
+    let D : Description = file_description o mode flags in
+    let T : State = with_new S D in
+    let made : Reaches S false T = description_made D still (λ sound k h. subst (λ m. 0 < orefs S m) (eqb-true o k h) (name_counts S path o is)) (record { refs = λ d. refl; peer = refl }) in
+    with_table_reached T p _ made (λ sound. put_names T (table_of T p) (table_of T p) n (descriptor flags (next_description S)) (some_pushed S.descriptions D) (same_names T (table_of T p)))
+
+pub open_obeys : (S : State) (p : ℕ) (path : Name) (mode : Mode) (flags : OpenFlags) → Call S (open_file S p path mode flags)
+unfolding open_file
+open_obeys S p path mode flags = either (Call S) (not (is_valid_path path)) _ _ (λ b. refuses refl refl)
+    (λ b. maybe (Call S) (named path S.paths) _ _ (refuses refl refl)
+    (λ t is. by_path (Call S) t _ _
+    (λ o led. maybe (Call S) (lowest_free (table_of S p)) _ _ (refuses refl refl) (λ n low. answers refl refl refl (with_table_objects (with_new S (file_description o mode flags)) p _) (opened S p path mode flags o n (is ∙ ap Some led))))
+    (λ d led. refuses refl refl)))
+
+-- ---- file objects
+
+-- the description and its object change
+both_changed : (S : State) (o n : ℕ) (held : IsHeldOpen S o) (old new : View) → place S.objects o ≡ Some old → new.opened ≡ old.opened →
+    Reaches S false (with_object (with_description S held.entry.description (record held.description { offset = n })) o new)
+both_changed S o n held old new there opened =
+    let d : ℕ = held.entry.description in
+    object_changed o old new (with_description_reached S d held.description (record held.description { offset = n }) still held.there (λ sound. same_target S d held.description.target)) there opened
+
+-- and the object is held open still
+both_kept : (S : State) (o n : ℕ) (held : IsHeldOpen S o) (new : View) → KeepsObjects S (with_object (with_description S held.entry.description (record held.description { offset = n })) o new)
+both_kept S o n held new = held_changed S (with_description S held.entry.description (record held.description { offset = n })) o new refl (held_by_changed S o held (record held.description { offset = n }) held.leads)
+
+-- by the descriptor that the call was given
+abbrev held_by : (S : State) (p : ℕ) (fd : Fd) (e : Descriptor) (D : Description) (o : ℕ) → descriptor_at S p fd ≡ Some e → description_at S e.description ≡ Some D → D.target ≡ to_object o → IsHeldOpen S o
+held_by S p fd e D o g h t = record { process = p; number = fd.0; entry = e; description = D; named = g; there = h; leads = t }
+
+read_error_obeys : (S : State) (o : ℕ) (view : View) (e : ObjectError) → Call S (read_error S o view e)
+read_error_obeys S o view would_block = either (Call S) (is_pipe view.body && not (is_open_for can_write S o)) _ _ (λ b. answers refl refl refl refl still) (λ b. refuses refl refl)
+read_error_obeys S o view full = refuses refl refl
+read_error_obeys S o view invalid = refuses refl refl
+
+read_answer_obeys : (S : State) (o : ℕ) (held : IsHeldOpen S o) (view : View) (r : Result (List ℕ × Body) ObjectError) → place S.objects o ≡ Some view →
+    Call S (read_answer S held.entry.description held.description o view r)
+read_answer_obeys S o held view (Ok found) there =
+    let n : ℕ = offset_after_read held.description view found.0 in
+    uses refl refl refl (both_kept S o n held (with_body view found.1)) (both_changed S o n held view (with_body view found.1) there refl)
+read_answer_obeys S o held view (Err e) there = read_error_obeys S o view e
+
+-- read(2) of a socket answers the bytes alone
+still_error : (r : Reply) (e : Errno) → bytes_alone r ≡ Reply.Err e → r ≡ Reply.Err e
+still_error Reply.Ok e h = h
+still_error (Reply.Fd a) e h = h
+still_error (Reply.Fds a b) e h = h
+still_error (Reply.Count n) e h = h
+still_error (Reply.Bytes bytes) e h = h
+still_error (Reply.At n) e h = h
+still_error (Reply.Received count bytes flags) e h = absurd (cc h)
+still_error (Reply.Err f) e h = h
+
+still_own : (r : Reply) → tells_choice r ≡ false → tells_choice (bytes_alone r) ≡ false
+still_own Reply.Ok h = h
+still_own (Reply.Fd a) h = h
+still_own (Reply.Fds a b) h = h
+still_own (Reply.Count n) h = h
+still_own (Reply.Bytes bytes) h = h
+still_own (Reply.At n) h = h
+still_own (Reply.Received count bytes flags) h = refl
+still_own (Reply.Err e) h = h
+
+socket_read_obeys : (S : State) (o : Outcome) → Call S o → Call S (record o { reply = bytes_alone o.reply })
+socket_read_obeys S o obeys = record {
+  own_reply = still_own o.reply obeys.own_reply;
+  refused = λ e h. obeys.refused e (still_error o.reply e h);
+  failed = obeys.failed;
+  reached = obeys.reached;
+  objects = obeys.objects;
+}
+
+socket_at_is : (S : State) (d : ℕ) (D : Description) (s : Socket) → description_at S d ≡ Some D → D.target ≡ to_socket s → socket_at S d ≡ Some s
+socket_at_is S d D s h t = ap socket_in h ∙ ap socket_of t
+
+pub read_obeys : (S : State) (p : ℕ) (fd : Fd) (n : ℕ) → Call S (read S p fd n)
+unfolding read
+read_obeys S p fd n = found (Call S) S p fd _ (refuses refl refl) (λ e D g h. by_target (Call S) D.target _ _
+    (λ o t. maybe (Call S) (place S.objects o) _ _ (refuses refl refl) (λ view there. either (Call S) (not (can_read D.mode)) _ _ (λ b. refuses refl refl)
+    (λ b. either (Call S) (is_short_read view.body (min read_limit n)) _ _ (λ b. refuses refl refl)
+    (λ b. either (Call S) (holds_bytes view.body && (min read_limit n == 0)) _ _ (λ b. answers refl refl refl refl still)
+    (λ b. let held : IsHeldOpen S o = held_by S p fd e D o g h t in may_fail S _ o view _ held there (read_answer_obeys S o held view (read_body view.body D.offset (min read_limit n)) there))))))
+    (λ s t. socket_read_obeys S _ (receive_obeys S e.description s (min read_limit n) no_flags (socket_at_is S e.description D s h t))))
+
+write_answer_obeys : (S : State) (o : ℕ) (held : IsHeldOpen S o) (view : View) (r : Result (ℕ × Body) ObjectError) → place S.objects o ≡ Some view →
+    Call S (write_answer S held.entry.description held.description o view r)
+write_answer_obeys S o held view (Ok made) there =
+    let n : ℕ = offset_after_write held.description view made.0 in
+    uses refl refl refl (both_kept S o n held (with_body view made.1)) (both_changed S o n held view (with_body view made.1) there refl)
+write_answer_obeys S o held view (Err would_block) there = refuses refl refl
+write_answer_obeys S o held view (Err full) there = refuses refl refl
+write_answer_obeys S o held view (Err invalid) there = refuses refl refl
+
+pub write_obeys : (S : State) (p tag : ℕ) (fd : Fd) (bytes : List ℕ) → Call S (write S p tag fd bytes)
+unfolding write
+write_obeys S p tag fd bytes = found (Call S) S p fd _ (refuses refl refl) (λ e D g h. by_target (Call S) D.target _ _
+    (λ o t. maybe (Call S) (place S.objects o) _ _ (refuses refl refl) (λ view there. either (Call S) (not (can_write D.mode)) _ _ (λ b. refuses refl refl)
+    (λ b. either (Call S) (holds_bytes view.body && (length bytes == 0)) _ _ (λ b. answers refl refl refl refl still)
+    (λ b. either (Call S) (is_pipe view.body && not (is_open_for can_read S o)) _ _ (λ b. refuses refl refl)
+    (λ b. let held : IsHeldOpen S o = held_by S p fd e D o g h t in may_fail S _ o view _ held there (write_answer_obeys S o held view (write_body view.body (write_place D view) bytes) there))))))
+    (λ s t. maybe (Call S) (process_at S p) _ _ (refuses refl refl)
+    (λ P here. connected_obeys S (peer_of s.phase) (message_of (own_cred p P) tag bytes) (λ sound k gone. refl))))
+
+seek_to_obeys : (S : State) (d : ℕ) (D : Description) (to : ℤ) → description_at S d ≡ Some D → Call S (seek_to S d D to)
+seek_to_obeys S d D (pos n) h = either (Call S) (nat_lt offset_limit n) _ _ (λ b. refuses refl refl)
+    (λ b. answers refl refl refl refl (with_description_reached S d D (record D { offset = n }) still h (λ sound. same_target S d D.target)))
+seek_to_obeys S d D (negsuc n) h = refuses refl refl
+
+pub lseek_obeys : (S : State) (p : ℕ) (fd : Fd) (offset : ℤ) (whence : Whence) → Call S (lseek S p fd offset whence)
+unfolding lseek
+lseek_obeys S p fd offset whence = found (Call S) S p fd _ (refuses refl refl) (λ e D g h. by_target (Call S) D.target _ _
+    (λ o t. maybe (Call S) (place S.objects o) _ _ (refuses refl refl) (λ view there. either (Call S) (not (is_memory view.body)) _ _ (λ b. refuses refl refl)
+    (λ b. seek_to_obeys S e.description D (pos (seek_base whence D view) +ℤ offset) h)))
+    (λ s t. refuses refl refl))
+
+-- ---- all calls
+
+pub each_obeys : (S : State) (p tag : ℕ) (request : Request) → Obeys S (is_exit request) (outcome S p tag request)
+unfolding outcome
+each_obeys S p tag (Request.Open path mode flags) = open_obeys S p path mode flags
+each_obeys S p tag (Request.Read fd n) = read_obeys S p fd n
+each_obeys S p tag (Request.Write fd bytes) = write_obeys S p tag fd bytes
+each_obeys S p tag (Request.Lseek fd offset whence) = lseek_obeys S p fd offset whence
+each_obeys S p tag (Request.Dup fd) = dup_obeys S p fd
+each_obeys S p tag (Request.Dup2 fd to) = dup2_obeys S p fd to
+each_obeys S p tag (Request.SetFlags fd flags) = flags_obeys S p fd flags
+each_obeys S p tag (Request.Close fd) = close_obeys S p fd
+each_obeys S p tag (Request.Unlink path) = unlink_obeys S path
+each_obeys S p tag (Request.SocketPair flags) = pair_obeys S p SockType.Stream flags
+each_obeys S p tag (Request.SendMsg fd bytes flags) = send_obeys S p tag fd bytes flags
+each_obeys S p tag (Request.RecvMsg fd n space flags) = recv_obeys S p fd n flags
+each_obeys S p tag Request.Exit = exit_obeys S p
+each_obeys S p tag Request.Off = off_obeys S
+
+-- ---- what was chosen
+
+pub chosen_reached : (S T : State) (ends : Bool) (o : Outcome) (reply : Reply) → Obeys S ends o → Chosen S o reply T → Reaches S ends T
+chosen_reached S T ends o reply obeys (own e f) = subst (Reaches S ends) (sym f) obeys.reached
+chosen_reached S T ends o reply obeys (lacking_memory e may_lack f) = subst (Reaches S ends) (sym f) still
+chosen_reached S T ends o reply obeys (failing e f) =
+    let one = (obeys.failed T f).0 in
+    subst (Reaches S ends) (sym one.left) (object_changed one.object one.view (after_failure one.view) still one.there refl)
+
+pub chosen_left : (S T : State) (ends : Bool) (o : Outcome) (e : Errno) → Obeys S ends o → Chosen S o (Reply.Err e) T → LeftByRefusal S e T
+chosen_left S T ends o e obeys (own is f) = subst (LeftByRefusal S e) (sym f) (obeys.refused e (sym is))
+chosen_left S T ends o e obeys (lacking_memory is may_lack f) = let same : Errno.ENOMEM ≡ e = cc is in subst (λ g. LeftByRefusal S g T) same f
+chosen_left S T ends o e obeys (failing is f) = let same : Errno.EIO ≡ e = cc is in subst (λ g. LeftByRefusal S g T) same (obeys.failed T f).0
+
+pub chosen_objects : (S T : State) (ends : Bool) (o : Outcome) (reply : Reply) → Obeys S ends o → Chosen S o reply T → KeepsObjects S T
+chosen_objects S T ends o reply obeys (own e f) = subst (KeepsObjects S) (sym f) obeys.objects
+chosen_objects S T ends o reply obeys (lacking_memory e may_lack f) = same_objects S T (ap (λ R. State.objects R) f)
+chosen_objects S T ends o reply obeys (failing e f) = (obeys.failed T f).1
+
+-- So a step makes such changes, and then all goes that has to.
+pub step_reached : (S T : State) (p tag : ℕ) (request : Request) (reply : Reply) (gone : List ℕ) → Step S p tag request reply gone T →
+    (U : State) × Reaches S (is_exit request) U × (gone ≡ released U) × (T ≡ settled U)
+unfolding Step
+step_reached S T p tag request reply gone s = (s.0, chosen_reached S s.0 (is_exit request) (outcome S p tag request) reply (each_obeys S p tag request) s.1, s.2, s.3)

@@ -1,0 +1,33 @@
+-- A list of places, where another thing or nothing stands in one of them.
+use Rattle.std.proofs.Common.{◌≡◌, ℕ, zero, suc, ◌≤◌, List, [], ◌∷◌, set, sum_by, Option, refl, ap, arith}
+use Rattle.std.proofs.lemmas.List.Sums.{sum_by-cons}
+use Rattle.ux_model.specs.Places.{place}
+
+-- what is the same of it is the same of each place
+pub same_at : {X Y : Type 0} (g : Option X → Y) (xs : List (Option X)) (n i : ℕ) (x : Option X) → g x ≡ g (place xs n) → g (place (set xs n x) i) ≡ g (place xs i)
+same_at g [] n i x h = refl
+same_at g (y ∷ xs) zero zero x h = h
+same_at g (y ∷ xs) zero (suc i) x h = refl
+same_at g (y ∷ xs) (suc n) zero x h = refl
+same_at g (y ∷ xs) (suc n) (suc i) x h = same_at g xs n i x h
+
+-- and what counts no more makes no sum greater
+pub no_more_by : {X : Type 0} (f : Option X → ℕ) (xs : List (Option X)) (n : ℕ) (x : Option X) → f x ≤ f (place xs n) → sum_by f (set xs n x) ≤ sum_by f xs
+no_more_by f [] n x h = omega arith
+no_more_by f (y ∷ xs) zero x h =
+    let new = sum_by-cons f x xs in
+    let old = sum_by-cons f y xs in
+    omega (arith, new, old, h)
+no_more_by f (y ∷ xs) (suc n) x h =
+    let new = sum_by-cons f y (set xs n x) in
+    let old = sum_by-cons f y xs in
+    let rest = no_more_by f xs n x h in
+    omega (arith, new, old, rest)
+
+-- what holds of a place holds of it then, if it does of what is put there
+pub at_each : {X : Type 0} (Q : Option X → Type 0) (xs : List (Option X)) (n i : ℕ) (x : Option X) → Q (place xs i) → (n ≡ i → Q (place xs i) → Q x) → Q (place (set xs n x) i)
+at_each Q [] n i x h put = h
+at_each Q (y ∷ xs) zero zero x h put = put refl h
+at_each Q (y ∷ xs) zero (suc i) x h put = h
+at_each Q (y ∷ xs) (suc n) zero x h put = h
+at_each Q (y ∷ xs) (suc n) (suc i) x h put = at_each Q xs n i x h (λ e. put (ap suc e))

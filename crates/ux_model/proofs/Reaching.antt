@@ -1,0 +1,220 @@
+-- What a call may do to a state, part by part: each call's next state comes of its first by such changes. What each of these changes
+-- keeps, every call keeps. A call that changes what none of these do brings a further one, which owes a line of `exits_kept` (Living), of
+-- `reached_sound` (KeptSound) and of `reached_there` (Closed).
+use Rattle.std.proofs.Common.{◌≡◌, ℕ, zero, suc, ◌+◌, ◌≤◌, ◌<◌, ◌==◌, Bool, true, false, cond, List, [], ◌∷◌, ◌++◌, length, map, set, Option, Some, None, refl, ap, sym, subst, ◌∙◌, arith}
+use Rattle.std.specs.Prelude.{is_some, filter, option_map}
+use Rattle.std.specs.List.{slice_get}
+use Rattle.std.proofs.lemmas.Bool.{eqb-true}
+use Rattle.std.proofs.lemmas.List.Sums.{sum_by-cons}
+use Rattle.ux_model.specs.Types.{Name, Addr}
+use Rattle.ux_model.specs.Places.{place, filled, emptied}
+use Rattle.ux_model.specs.Object.{View}
+use Rattle.ux_model.specs.Names.{PathTarget}
+use Rattle.ux_model.specs.Message.{Message}
+use Rattle.ux_model.specs.Socket.{Socket, peer_of}
+use Rattle.ux_model.specs.Description.{Description, Target, to_object, to_socket, socket_of, socket_in, changed, changed_target}
+use Rattle.ux_model.specs.Process.{Process, Descriptor}
+use Rattle.ux_model.specs.State.{State, description_at, socket_at, process_at, table_of, with_object, with_description, with_socket_by, with_process, with_table, with_new}
+use Rattle.ux_model.specs.References.{names_description, table_refs, queue_refs, socket_refs, target_refs, description_refs, leads_to, is_open_of, orefs}
+use Rattle.ux_model.specs.Peers.{target_peer, peer_in, at_target, at_socket, HoldsNothing}
+use Rattle.ux_model.specs.Closing.{with_nothing_open}
+use Rattle.ux_model.specs.Invariants.{pends, pends_at_all}
+use Rattle.ux_model.proofs.Named.{table_in}
+use Rattle.ux_model.proofs.Sound.{IsSound, unaccepted, target_name, name_in}
+
+-- the new table has no more entries than the old one for a description that isn't there
+abbrev pub NamesWhatIsThere : State → List (Option Descriptor) → List (Option Descriptor) → Type 0
+NamesWhatIsThere S old new = (d : ℕ) → is_some (description_at S d) ≡ false → table_refs d new ≤ table_refs d old
+
+-- Of what stands at place n before and after: it leads where it led, has the same peer, and keeps an abstract name that it has; it refers
+-- to what is there, and no more ends wait at it; and while it waits for accept itself, none has taken it.
+pub record KeepsPlace (S : State) (n : ℕ) (old new : Option Description) : Type 0 where
+  pub held : is_some new ≡ is_some old
+  pub leads : (o : ℕ) → is_open_of o new ≡ is_open_of o old
+  pub holds : (d : ℕ) → is_some (description_at S d) ≡ false → description_refs d new ≤ description_refs d old
+  pub peer : peer_in new ≡ peer_in old
+  pub pending : (d : ℕ) → at_socket (pends d) new ≤ at_socket (pends d) old
+  pub waits : 0 < pends_at_all n S.descriptions → at_socket unaccepted old ≤ at_socket unaccepted new
+  pub named : (name : Name) → name_in old ≡ Some (Addr.Abstract name) → name_in new ≡ Some (Addr.Abstract name)
+
+-- two new descriptions of sockets that are connected to one another, where the first gets number d
+pub record ArePeers (d : ℕ) (D E : Description) : Type 0 where
+  pub first_refs : (n : ℕ) → ◌≡◌ {A = ℕ} (target_refs n D.target) 0
+  pub second_refs : (n : ℕ) → ◌≡◌ {A = ℕ} (target_refs n E.target) 0
+  pub first_peer : target_peer D.target ≡ Some (d + 1)
+  pub second_peer : target_peer E.target ≡ Some d
+
+-- T comes of S by changes of one part each. A condition may use that nothing dangles in S. `ends` says whether it may end a process.
+pub data Reaches (S : State) (ends : Bool) : State → Type 0 where
+  still : Reaches S ends S
+  -- a process changes, and its table names what is there
+  process_changed : {T : State} (i : ℕ) (P Q : Process) → Reaches S ends T → slice_get T.processes i ≡ Some P → (IsSound S → NamesWhatIsThere T P.table Q.table) →
+      (ends ≡ false → Q.exited ≡ P.exited) → Reaches S ends (record T { processes = set T.processes i Q })
+  -- a new description refers to nothing, and leads to a file object that something leads to already, or to a socket without a peer
+  description_made : {T : State} (D : Description) → Reaches S ends T → (IsSound S → (o : ℕ) → leads_to o D.target ≡ true → 0 < orefs T o) → HoldsNothing D →
+      Reaches S ends (with_new T D)
+  -- two sockets that are connected to one another
+  peers_made : {T : State} (D E : Description) → Reaches S ends T → ArePeers (length T.descriptions) D E → Reaches S ends (with_new (with_new T D) E)
+  -- what stands in one place changes
+  description_changed : {T : State} (d : ℕ) (x : Option Description) → Reaches S ends T → (IsSound S → KeepsPlace T d (description_at T d) x) →
+      Reaches S ends (record T { descriptions = set T.descriptions d x })
+  -- a file object that is there changes, and stays open
+  object_changed : {T : State} (o : ℕ) (old new : View) → Reaches S ends T → place T.objects o ≡ Some old → new.opened ≡ old.opened → Reaches S ends (with_object T o new)
+  -- paths are taken away
+  paths_taken : {T : State} (keep : Name × PathTarget → Bool) → Reaches S ends T → Reaches S ends (record T { paths = filter keep T.paths })
+  -- everything goes but the file objects
+  turned_off : {T : State} → Reaches S ends T →
+      Reaches S ends (record T { descriptions = map (λ D. None) T.descriptions; processes = map with_nothing_open T.processes; paths = []; abstract_names = [] })
+
+-- ---- tables
+
+-- what one place counts
+abbrev one : ℕ → Option Descriptor → ℕ
+one d e = cond (names_description d e) 1 0
+
+filled_counts : (d : ℕ) (table : List (Option Descriptor)) (n : ℕ) (e : Descriptor) → table_refs d (filled table n e) ≤ table_refs d table + one d (Some e)
+filled_counts d [] n e = omega arith
+filled_counts d (x ∷ xs) zero e =
+    let new = sum_by-cons (one d) (Some e) xs in
+    let old = sum_by-cons (one d) x xs in
+    omega (arith, new, old)
+filled_counts d (x ∷ xs) (suc n) e =
+    let new = sum_by-cons (one d) x (filled xs n e) in
+    let old = sum_by-cons (one d) x xs in
+    let rest = filled_counts d xs n e in
+    omega (arith, new, old, rest)
+
+emptied_counts : (d : ℕ) (table : List (Option Descriptor)) (n : ℕ) → table_refs d (emptied table n) ≤ table_refs d table
+emptied_counts d [] n = omega arith
+emptied_counts d (x ∷ xs) zero =
+    let new = sum_by-cons (one d) None xs in
+    let old = sum_by-cons (one d) x xs in
+    omega (arith, new, old)
+emptied_counts d (x ∷ xs) (suc n) =
+    let new = sum_by-cons (one d) x (emptied xs n) in
+    let old = sum_by-cons (one d) x xs in
+    let rest = emptied_counts d xs n in
+    omega (arith, new, old, rest)
+
+pub none_counts : (d : ℕ) (table : List (Option Descriptor)) → table_refs d (map (λ e. None) table) ≡ 0
+none_counts d [] = refl
+none_counts d (x ∷ xs) = none_counts d xs
+
+abbrev IsThere : State → Descriptor → Type 0
+IsThere S e = is_some (description_at S e.description) ≡ true
+
+pub put_names : (S : State) (old table : List (Option Descriptor)) (n : ℕ) (e : Descriptor) → IsThere S e → NamesWhatIsThere S old table → NamesWhatIsThere S old (filled table n e)
+put_names S old table n e there names d gone = go (e.description == d) refl
+  where
+    go : (b : Bool) → (e.description == d) ≡ b → table_refs d (filled table n e) ≤ table_refs d old
+    go true h =
+        let same : e.description ≡ d = eqb-true e.description d h in
+        let so : is_some (description_at S e.description) ≡ false = ap (λ k. is_some (description_at S k)) same ∙ gone in
+        absurd (cc (so, there))
+    go false h =
+        let none : one d (Some e) ≡ 0 = ap (λ b. cond {A = ℕ} b 1 0) h in
+        let put = filled_counts d table n e in
+        let rest : table_refs d table ≤ table_refs d old = names d gone in
+        omega (arith, none, put, rest)
+
+pub taken_names : (S : State) (table : List (Option Descriptor)) (n : ℕ) → NamesWhatIsThere S table (emptied table n)
+taken_names S table n d gone = emptied_counts d table n
+
+pub same_names : (S : State) (table : List (Option Descriptor)) → NamesWhatIsThere S table table
+same_names S table d gone = omega arith
+
+-- ---- one description
+
+-- the same of a target, at place n
+pub record KeepsTarget (S : State) (n : ℕ) (old new : Target) : Type 0 where
+  pub leads : (o : ℕ) → leads_to o new ≡ leads_to o old
+  pub holds : (d : ℕ) → is_some (description_at S d) ≡ false → target_refs d new ≤ target_refs d old
+  pub peer : target_peer new ≡ target_peer old
+  pub pending : (d : ℕ) → at_target (pends d) new ≤ at_target (pends d) old
+  pub waits : 0 < pends_at_all n S.descriptions → at_target unaccepted old ≤ at_target unaccepted new
+  pub named : (name : Name) → target_name old ≡ Some (Addr.Abstract name) → target_name new ≡ Some (Addr.Abstract name)
+
+pub same_target : (S : State) (n : ℕ) (t : Target) → KeepsTarget S n t t
+same_target S n t = record { leads = λ o. refl; holds = λ d gone. omega arith; peer = refl; pending = λ d. omega arith; waits = λ h. omega arith; named = λ name h. h }
+
+kept_place : (S : State) (n : ℕ) (D E : Description) → KeepsTarget S n D.target E.target → KeepsPlace S n (Some D) (Some E)
+kept_place S n D E k = record { held = refl; leads = k.leads; holds = k.holds; peer = k.peer; pending = k.pending; waits = k.waits; named = k.named }
+
+-- the same of a socket
+pub record KeepsSocket (S : State) (n : ℕ) (s t : Socket) : Type 0 where
+  pub holds : (d : ℕ) → is_some (description_at S d) ≡ false → socket_refs d t ≤ socket_refs d s
+  pub peer : peer_of t.phase ≡ peer_of s.phase
+  pub pending : (d : ℕ) → pends d t ≤ pends d s
+  pub waits : 0 < pends_at_all n S.descriptions → unaccepted s ≤ unaccepted t
+  pub named : (name : Name) → s.name ≡ Addr.Abstract name → t.name ≡ Addr.Abstract name
+
+kept_socket : (S : State) (n : ℕ) (s t : Socket) → KeepsSocket S n s t → KeepsTarget S n (to_socket s) (to_socket t)
+kept_socket S n s t k = record {
+  leads = λ o. refl;
+  holds = k.holds;
+  peer = k.peer;
+  pending = k.pending;
+  waits = k.waits;
+  named = λ name h. ap Some (k.named name (let e : s.name ≡ Addr.Abstract name = cc h in e));
+}
+
+-- where only the queue and what is pending change
+pub queue_changed : (S : State) (n : ℕ) (s : Socket) (queue : List Message) (reset : Bool) →
+    ((d : ℕ) → is_some (description_at S d) ≡ false → queue_refs d queue ≤ queue_refs d s.queue) → KeepsSocket S n s (record s { queue = queue; reset = reset })
+queue_changed S n s queue reset holds = record {
+  holds = λ d gone. let h : queue_refs d queue ≤ queue_refs d s.queue = holds d gone in omega (arith, h);
+  peer = refl;
+  pending = λ d. omega arith;
+  waits = λ h. omega arith;
+  named = λ name h. h;
+}
+
+-- ---- the changes as calls make them
+
+pub with_table_reached : {S : State} {ends : Bool} (T : State) (p : ℕ) (table : List (Option Descriptor)) → Reaches S ends T → (IsSound S → NamesWhatIsThere T (table_of T p) table) →
+    Reaches S ends (with_table T p table)
+with_table_reached {S} {ends} T zero table r names = r
+with_table_reached {S} {ends} T (suc i) table r names = go (slice_get T.processes i) refl names
+  where
+    go : (o : Option Process) → slice_get T.processes i ≡ o → (IsSound S → NamesWhatIsThere T (table_in o) table) →
+        Reaches S ends (elim o as (λ _. State) [ Some P ↦ record T { processes = set T.processes i (record P { table = table }) } | None ↦ T ])
+    go None h names = r
+    go (Some P) h names = process_changed i P (record P { table = table }) r h names (λ k. refl)
+
+pub with_process_reached : {S : State} (T : State) (p : ℕ) (P Q : Process) → Reaches S true T → process_at T p ≡ Some P → ((d : ℕ) → table_refs d Q.table ≡ 0) → Reaches S true (with_process T p Q)
+with_process_reached T zero P Q r h none = absurd (cc h)
+with_process_reached T (suc i) P Q r h none = process_changed i P Q r h (λ sound d gone. let z = none d in omega (arith, z)) (λ e. absurd (cc e))
+
+pub with_description_reached : {S : State} {ends : Bool} (T : State) (d : ℕ) (D E : Description) → Reaches S ends T → description_at T d ≡ Some D → (IsSound S → KeepsTarget T d D.target E.target) →
+    Reaches S ends (with_description T d E)
+with_description_reached T d D E r h keeps = description_changed d (Some E) r (λ sound. subst (λ x. KeepsPlace T d x (Some E)) (sym h) (kept_place T d D E (keeps sound)))
+
+pub with_socket_reached : {S : State} {ends : Bool} (T : State) (d : ℕ) (change : Socket → Socket) → Reaches S ends T →
+    (IsSound S → (s : Socket) → socket_at T d ≡ Some s → KeepsSocket T d s (change s)) → Reaches S ends (with_socket_by T d change)
+with_socket_reached {S} {ends} T d change r keeps = description_changed d (option_map (changed change) (description_at T d)) r (λ sound. at_place (keeps sound) (description_at T d) refl)
+  where
+    at_target : ((s : Socket) → socket_at T d ≡ Some s → KeepsSocket T d s (change s)) → (t : Target) → socket_at T d ≡ socket_of t → KeepsTarget T d t (changed_target change t)
+    at_target k (to_object o) h = same_target T d (to_object o)
+    at_target k (to_socket s) h = kept_socket T d s (change s) (k s h)
+
+    at_place : ((s : Socket) → socket_at T d ≡ Some s → KeepsSocket T d s (change s)) → (x : Option Description) → description_at T d ≡ x → KeepsPlace T d x (option_map (changed change) x)
+    at_place k None h = record { held = refl; leads = λ o. refl; holds = λ d gone. omega arith; peer = refl; pending = λ d. omega arith; waits = λ h. omega arith; named = λ name h. h }
+    at_place k (Some D) h = kept_place T d D (changed change D) (at_target k D.target (ap socket_in h))
+
+-- ---- places
+
+pub some_filled : {X : Type 0} (xs : List (Option X)) (n i : ℕ) (x : X) → is_some (place xs i) ≡ true → is_some (place (filled xs n x) i) ≡ true
+some_filled [] n i x h = h
+some_filled (y ∷ xs) zero zero x h = refl
+some_filled (y ∷ xs) zero (suc i) x h = h
+some_filled (y ∷ xs) (suc n) zero x h = h
+some_filled (y ∷ xs) (suc n) (suc i) x h = some_filled xs n i x h
+
+pub some_more : {X : Type 0} (xs ys : List (Option X)) (i : ℕ) → is_some (place xs i) ≡ true → is_some (place (xs ++ ys) i) ≡ true
+some_more [] ys i h = absurd (cc h)
+some_more (x ∷ xs) ys zero h = h
+some_more (x ∷ xs) ys (suc i) h = some_more xs ys i h
+
+pub some_pushed : {X : Type 0} (xs : List (Option X)) (x : X) → is_some (place (xs ++ Some x ∷ []) (length xs)) ≡ true
+some_pushed [] x = refl
+some_pushed (y ∷ xs) x = some_pushed xs x

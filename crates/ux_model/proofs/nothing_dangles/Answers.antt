@@ -1,0 +1,5 @@
+use Rattle.ux_model.proofs.Dangling.{nothing_dangles}
+use Rattle.ux_model.proofs.nothing_dangles.Goals as goal
+
+pub returns : goal.returns
+returns c = nothing_dangles

@@ -1,0 +1,5 @@
+use Rattle.ux_model.proofs.Closed.{closed_once}
+use Rattle.ux_model.proofs.objects_are_closed_once.Goals as goal
+
+pub returns : goal.returns
+returns c = closed_once

@@ -1,0 +1,5 @@
+use Rattle.ux_model.proofs.HandingOut.{handed_out}
+use Rattle.ux_model.proofs.what_a_step_hands_out.Goals as goal
+
+pub returns : goal.returns
+returns c = handed_out

@@ -1,0 +1,92 @@
+-- A socket that listens (listen(2)), and one that connects to it (connect(2)).
+use Rattle.std.specs.Prelude.{ℕ, false, not, ◌||◌, nat_le, if◌then◌else◌, length, ℤ, Option, Some, None, Result, Ok, Err, is_some}
+use Rattle.ux_model.specs.Types.{Errno, Fd, Cred, Addr, SockType, OpenFlags, Reply}
+use Rattle.ux_model.specs.Places.{filled}
+use Rattle.ux_model.specs.Names.{is_valid_addr, is_unnamed_addr}
+use Rattle.ux_model.specs.Backlog.{Backlog, backlog_of}
+use Rattle.ux_model.specs.Socket.{Socket, Phase, idle, listening, connected, associated, new_socket, pending_ends, peer_of, awaiting}
+use Rattle.ux_model.specs.Process.{lowest_free, fd_of, descriptor, own_cred}
+use Rattle.ux_model.specs.State.{State, socket_at, table_of, next_description, with_socket_by, with_table, with_new}
+use Rattle.ux_model.specs.Outcome.{Outcome, refuse, answer, growing, on_socket, as_process}
+use Rattle.ux_model.specs.Pairing.{socket_description}
+use Rattle.ux_model.specs.Binding.{look_up}
+
+-- ---- making one
+
+-- socket(2)
+unfoldable pub make_socket : State → ℕ → SockType → OpenFlags → Outcome
+make_socket S p kind flags = elim (lowest_free (table_of S p)) [
+  | None ↦ refuse S Errno.EMFILE
+  | Some n ↦ growing (Reply.Fd (fd_of n))
+      (with_table (with_new S (socket_description flags (new_socket kind))) p (filled (table_of S p) n (descriptor flags (next_description S))))
+]
+
+-- ---- listening
+
+-- what a listener keeps: its backlog, and the credentials of the process that called listen
+abbrev pub listener_of : Phase → Option (Backlog × Cred)
+listener_of idle = None
+listener_of (listening backlog cred) = Some (backlog, cred)
+listener_of (connected peer) = None
+listener_of (associated target) = None
+
+-- it listens, with this backlog; the ends that wait already stay
+abbrev pub with_listening : ℕ → Cred → Socket → Socket
+with_listening limit cred s = record s { phase = listening (record { limit = limit; pending = pending_ends s.phase }) cred }
+
+-- listen(2). Listening again replaces the backlog and the credentials, and drops no end that waits.
+unfoldable pub listen : State → ℕ → Fd → ℤ → Outcome
+listen S p fd backlog = as_process S p (λ P. on_socket S p fd (λ d s.
+    if is_some (peer_of s.phase) then refuse S Errno.EINVAL else
+    if is_unnamed_addr s.name then refuse S Errno.EDESTADDRREQ else
+    answer Reply.Ok (with_socket_by S d (with_listening (backlog_of backlog) (own_cred p P)))))
+
+-- ---- connecting
+
+-- the end that a listener's side of a new connection gets: options off, the listener's name, not yet accepted
+abbrev pub server_end : Socket → ℕ → Cred → Socket
+server_end listener client cred = record (new_socket listener.kind) { phase = connected client; name = listener.name; peer_cred = Some cred; accepted = false }
+
+abbrev pub no_open_flags : OpenFlags
+no_open_flags = record { 0 = 0 }
+
+-- connected to the socket with this number, whose process has these credentials
+abbrev pub tied : ℕ → Cred → Socket → Socket
+tied peer cred s = record s { phase = connected peer; peer_cred = Some cred }
+
+-- client d, whose process has these credentials, is connected to a new end that waits at listener l
+abbrev pub with_connection : State → ℕ → Cred → ℕ → Socket → Cred → State
+with_connection S d cred l listener listener_cred =
+    let e : ℕ = next_description S in
+    with_socket_by (with_new (with_socket_by S l (awaiting e)) (socket_description no_open_flags (server_end listener d cred))) d (tied e listener_cred)
+
+-- where a listener keeps this
+abbrev pub connect_to_listener : State → ℕ → Cred → ℕ → Socket → Backlog × Cred → Outcome
+connect_to_listener S d cred l listener kept =
+    if nat_le kept.0.limit (length kept.0.pending) then refuse S Errno.EAGAIN else
+    growing Reply.Ok (with_connection S d cred l listener kept.1)
+
+-- a socket that doesn't listen refuses
+abbrev pub connect_to : State → ℕ → Cred → ℕ → Socket → Outcome
+connect_to S d cred l other = elim (listener_of other.phase) [ None ↦ refuse S Errno.ECONNREFUSED | Some kept ↦ connect_to_listener S d cred l other kept ]
+
+-- by the socket that an address leads to
+abbrev pub connect_by : State → ℕ → Socket → Addr → Cred → Outcome
+connect_by S d s addr cred = elim (look_up S s.kind addr) [ Err e ↦ refuse S e | Ok found ↦ connect_to S d cred found.0 found.1 ]
+
+-- connect(2)
+unfoldable pub connect : State → ℕ → Fd → Addr → Outcome
+connect S p fd addr = as_process S p (λ P. on_socket S p fd (λ d s.
+    if not (is_valid_addr addr) || is_unnamed_addr addr || is_some (listener_of s.phase) then refuse S Errno.EINVAL else
+    if is_some (peer_of s.phase) then refuse S Errno.EISCONN else
+    connect_by S d s addr (own_cred p P)))
+
+-- ---- who the peer is
+
+-- the name of the socket with this number; ENOTCONN where it is gone
+abbrev pub name_at : State → ℕ → Result Addr Errno
+name_at S d = elim (socket_at S d) [ None ↦ Err Errno.ENOTCONN | Some s ↦ Ok s.name ]
+
+-- the name of the peer of a socket; ENOTCONN where it has none (getpeername(2))
+abbrev pub peer_name : State → Phase → Result Addr Errno
+peer_name S phase = elim (peer_of phase) [ None ↦ Err Errno.ENOTCONN | Some peer ↦ name_at S peer ]

@@ -1,0 +1,117 @@
+-- Laws: what holds in every state that a legal history leads to. Nothing here defines a call.
+use Rattle.std.specs.Prelude.{◌≡◌, ℕ, suc, ◌<◌, ◌≤◌, true, false, List, [], ◌∷◌, ◌++◌, take, Some, Option, None, is_some, nat_lt, slice_get, sum_by}
+use Rattle.ux_model.specs.Types.{Errno, Name, Addr, Request, Reply, Entry}
+use Rattle.ux_model.specs.Places.{place}
+use Rattle.ux_model.specs.Object.{View, after_failure}
+use Rattle.ux_model.specs.Names.{file}
+use Rattle.ux_model.specs.Message.{Message}
+use Rattle.ux_model.specs.Socket.{Socket, pending_ends, with_reset}
+use Rattle.ux_model.specs.Description.{Description, to_object}
+use Rattle.ux_model.specs.Process.{Descriptor}
+use Rattle.ux_model.specs.State.{State, description_at, socket_at, table_of, with_object, with_socket_by}
+use Rattle.ux_model.specs.References.{times, refs, orefs}
+use Rattle.ux_model.specs.Boot.{is_open}
+use Rattle.ux_model.specs.Peers.{Paired, at_socket}
+use Rattle.ux_model.specs.Release.{has_unreferenced, drop_unreferenced, settled}
+use Rattle.ux_model.specs.Step.{Step}
+use Rattle.ux_model.specs.History.{replay, IsLegal}
+
+-- ---- nothing is left over
+
+-- after the rounds no description is there that nothing refers to
+abbrev pub NoneLeftUnreferenced : Type 0
+NoneLeftUnreferenced = (S : State) → has_unreferenced (drop_unreferenced S) ≡ false
+
+-- what was released once has nothing more to release
+abbrev pub SettlesAtOnce : Type 0
+SettlesAtOnce = (S : State) → settled (settled S) ≡ settled S
+
+-- no state of a legal history has anything left to release
+abbrev pub StaysSettled : Type 0
+StaysSettled = (boot : State) (entries : List Entry) → IsLegal boot entries → settled (replay boot entries) ≡ replay boot entries
+
+-- ---- a refusal changes nothing
+
+-- T is S with one more failure of one file object, and nothing else
+pub record OneMoreFailure (S T : State) : Type 0 where
+  pub object : ℕ
+  pub view : View
+  pub there : place S.objects object ≡ Some view
+  pub left : T ≡ with_object S object (after_failure view)
+
+-- T is S without the ECONNRESET that was pending at one socket, and nothing else
+pub record ResetCleared (S T : State) : Type 0 where
+  pub description : ℕ
+  pub socket : Socket
+  pub there : socket_at S description ≡ Some socket
+  pub was_pending : socket.reset ≡ true
+  pub left : T ≡ with_socket_by S description (with_reset false)
+
+-- What an error leaves of S: the very state, but for a failure of a file object and a pending error, which its answer clears.
+abbrev pub LeftByRefusal : State → Errno → State → Type 0
+LeftByRefusal S Errno.EIO T = OneMoreFailure S T
+LeftByRefusal S Errno.ECONNRESET T = ResetCleared S T
+LeftByRefusal S _ T = T ≡ S
+
+-- of a state that has nothing left to release, as all states of legal histories are
+abbrev pub RefusalChangesNothing : Type 0
+RefusalChangesNothing = (S T : State) (p tag : ℕ) (request : Request) (error : Errno) (gone : List ℕ) → settled S ≡ S →
+    Step S p tag request (Reply.Err error) gone T → LeftByRefusal S error T × (gone ≡ [])
+
+-- so of an entry of a legal history that tells of an error
+abbrev pub RefusedEntryChangesNothing : Type 0
+RefusedEntryChangesNothing = (boot : State) (before : List Entry) (e : Entry) (error : Errno) → IsLegal boot (before ++ e ∷ []) → e.reply ≡ Reply.Err error →
+    LeftByRefusal (replay boot before) error (replay boot (before ++ e ∷ [])) × (e.released ≡ [])
+
+-- ---- nothing dangles
+
+-- how often an end waits for accept at one socket, and at all
+abbrev pub pends : ℕ → Socket → ℕ
+pends e s = times e (pending_ends s.phase)
+
+abbrev pub pends_at_all : ℕ → List (Option Description) → ℕ
+pends_at_all e ds = sum_by (at_socket (pends e)) ds
+
+-- What is there is what is referenced, and whatever is named is there.
+pub record IsWhole (S : State) : Type 0 where
+  -- a description is there exactly if a descriptor, a message or a listening socket refers to it
+  pub descriptions_referenced : (d : ℕ) → is_some (description_at S d) ≡ nat_lt 0 (refs S d)
+  -- a file object is there exactly if a description or a path leads to it, and it is open then
+  pub objects_referenced : (o : ℕ) → is_some (place S.objects o) ≡ nat_lt 0 (orefs S o)
+  pub objects_open : (o : ℕ) (view : View) → place S.objects o ≡ Some view → view.opened ≡ true
+  pub descriptors_lead : (p n : ℕ) (e : Descriptor) → place (table_of S p) n ≡ Some e → is_some (description_at S e.description) ≡ true
+  -- ancillary data: each right in a message that waits
+  pub rights_lead : (d i j r : ℕ) (s : Socket) (m : Message) → socket_at S d ≡ Some s → slice_get s.queue i ≡ Some m → slice_get m.rights j ≡ Some r →
+      is_some (description_at S r) ≡ true
+  pub descriptions_lead : (d o : ℕ) (D : Description) → description_at S d ≡ Some D → D.target ≡ to_object o → is_open (place S.objects o) ≡ true
+  pub paths_lead : (i o : ℕ) (path : Name) → slice_get S.paths i ≡ Some (path, file o) → is_open (place S.objects o) ≡ true
+  -- an end in a backlog is a socket that no accept has taken, and stands in no other backlog, nor twice
+  pub pending_ends_wait : (d i e : ℕ) (s : Socket) → socket_at S d ≡ Some s → slice_get (pending_ends s.phase) i ≡ Some e →
+      (t : Socket) × (socket_at S e ≡ Some t) × (t.accepted ≡ false)
+  pub pending_once : (e : ℕ) → pends_at_all e S.descriptions ≤ 1
+  -- the peer of a socket, while it is there, has that one as its own peer
+  pub connections_mutual : Paired S.descriptions
+  pub abstract_names_lead : (i : ℕ) (e : Name × ℕ) → slice_get S.abstract_names i ≡ Some e → (s : Socket) × (socket_at S e.1 ≡ Some s) × (s.name ≡ Addr.Abstract e.0)
+
+abbrev pub NothingDangles : Type 0
+NothingDangles = (boot : State) (entries : List Entry) → IsLegal boot entries → IsWhole (replay boot entries)
+
+-- ---- closed once
+
+-- how often the entries tell of a file object that it was closed
+abbrev pub times_released : ℕ → List Entry → ℕ
+times_released o entries = sum_by (λ e. times o e.released) entries
+
+-- With the entry at place i a file object loses its last reference: it has none after that, and had one after all fewer entries.
+abbrev pub LosesLast : State → List Entry → ℕ → ℕ → Type 0
+LosesLast boot entries i o = (orefs (replay boot (take (suc i) entries)) o ≡ 0) × ((n : ℕ) → n ≤ i → 0 < orefs (replay boot (take n entries)) o)
+
+-- Of a file object: one entry at most tells that it was closed, that by which it loses its last reference; and it is there in no state after that.
+pub record IsClosedOnce (boot : State) (entries : List Entry) (o : ℕ) : Type 0 where
+  pub once : times_released o entries ≤ 1
+  pub only_at_the_last : (i : ℕ) (e : Entry) → slice_get entries i ≡ Some e → 0 < times o e.released → LosesLast boot entries i o
+  pub surely_at_the_last : (i : ℕ) (e : Entry) → slice_get entries i ≡ Some e → LosesLast boot entries i o → times o e.released ≡ 1
+  pub gone_for_good : (i n : ℕ) (e : Entry) → slice_get entries i ≡ Some e → 0 < times o e.released → i < n → place (replay boot (take n entries)).objects o ≡ None
+
+abbrev pub ClosedOnce : Type 0
+ClosedOnce = (boot : State) (entries : List Entry) (o : ℕ) → IsLegal boot entries → IsClosedOnce boot entries o

@@ -1,0 +1,162 @@
+//! Each move of a state, and what comes out of it at the end of a call. The steps are functions that
+//! promise nothing, so that the proofs needn't follow a state through a test.
+
+mod connections;
+mod files;
+mod sockets;
+
+use bstr::BString;
+use std::alloc::{AllocError, Global};
+use std::process::Abort;
+use std::test::Fail;
+use ux_fdtable::InstallError;
+use ux_object::FileObject;
+use ux_objects::MemFile;
+use ux_rights::RefList;
+use ux_state::{RetiredList, State};
+use ux_types::{Cred, DescriptionId, Fd, Mode, Name, OpenFlags, Pid, ProcSpec};
+
+/// A path with these bytes.
+fn name(alloc: Global, bytes: &[u8]) -> Result<Name, AllocError> {
+    Ok(Name::new(BString::from_slice(alloc, bytes)?))
+}
+
+/// A user's process with this descriptor limit.
+fn process(limit: u32) -> ProcSpec {
+    ProcSpec {
+        uid: 1000,
+        gid: 1000,
+        privileged: false,
+        limit,
+    }
+}
+
+/// The credentials of such a process with number 1.
+fn user() -> Cred {
+    Cred {
+        pid: Pid(1),
+        uid: 1000,
+        gid: 1000,
+    }
+}
+
+/// The first state with these two file objects under the paths `a` and `b`, and with two processes,
+/// which may have four descriptors and one.
+fn start<O: FileObject>(rt: &impl Abort, alloc: Global, a: O, b: O) -> Result<State<O>, Fail> {
+    start_with(rt, alloc, a, b, &[process(4), process(1)])
+}
+
+/// The same with these processes.
+fn start_with<O: FileObject>(
+    rt: &impl Abort,
+    alloc: Global,
+    a: O,
+    b: O,
+    procs: &[ProcSpec],
+) -> Result<State<O>, Fail> {
+    assert!(rt; procs.len() <= 64);
+    assert!(rt; a.is_open());
+    assert!(rt; b.is_open());
+    let (first, second) = (name(alloc, b"a")?, name(alloc, b"b")?);
+    assert!(rt; second != first);
+    let mut objects = Vec::new(alloc);
+    objects.push((first, a))?;
+    objects.push((second, b))?;
+    match State::new(alloc, objects, procs) {
+        Ok(state) => Ok(state),
+        Err(_) => Err(AllocError)?,
+    }
+}
+
+/// The same with two memory files.
+fn start_with_files(rt: &impl Abort, alloc: Global) -> Result<State<MemFile>, Fail> {
+    let a = MemFile::new(alloc, b"abc")?;
+    let b = MemFile::new(alloc, b"xy")?;
+    start(rt, alloc, a, b)
+}
+
+/// Opens a file object, which gives this answer.
+fn open<O: FileObject>(
+    rt: &impl Abort,
+    state: &mut State<O>,
+    pid: u32,
+    object: u32,
+    mode: Mode,
+    answer: Result<Fd, InstallError>,
+) {
+    assert!(rt; state.is_live(Pid(pid)));
+    let opened = state.open_object(Pid(pid), object, mode, OpenFlags(0));
+    assert!(rt; opened == answer);
+}
+
+/// Opens two sockets of process 1 that are connected to one another, at these numbers.
+fn open_pair<O: FileObject>(rt: &impl Abort, state: &mut State<O>, low: u32, high: u32) {
+    assert!(rt; state.is_live(Pid(1)));
+    let opened = state.open_pair(Pid(1), OpenFlags(0), user());
+    assert!(rt; opened == Ok((Fd(low), Fd(high))));
+}
+
+/// Closes a number.
+fn close<O: FileObject>(rt: &impl Abort, state: &mut State<O>, pid: u32, fd: u32) {
+    assert!(rt; state.is_live(Pid(pid)));
+    state.take_entry(Pid(pid), Fd(fd));
+}
+
+/// Ends a process.
+fn end<O: FileObject>(rt: &impl Abort, state: &mut State<O>, pid: u32) {
+    assert!(rt; state.is_live(Pid(pid)));
+    state.end_process(Pid(pid));
+    assert!(rt; !state.is_live(Pid(pid)));
+}
+
+/// Sends bytes to a socket.
+fn append<O: FileObject>(
+    rt: &impl Abort,
+    alloc: Global,
+    state: &mut State<O>,
+    id: u128,
+    bytes: &[u8],
+) {
+    let id = DescriptionId::new(id);
+    assert!(rt; !bytes.is_empty());
+    assert!(rt; state.socket(id).is_some());
+    let sent = state.send_stream(id, bytes, 1, RefList::new(alloc), user(), 1000);
+    assert!(rt; sent == Ok(bytes.len()));
+}
+
+/// Sees what waits at a socket, and whether it is reset.
+fn expect_queue<O: FileObject>(
+    rt: &impl Abort,
+    state: &State<O>,
+    id: u128,
+    bytes: &[u8],
+    reset: bool,
+) -> Result<(), Fail> {
+    match state.socket(DescriptionId::new(id)) {
+        Some(socket) => {
+            assert!(rt; socket.reset() == reset);
+            assert!(rt; socket.is_empty() == bytes.is_empty());
+            if !socket.is_empty() {
+                let front = socket.peek(100, false)?;
+                assert!(rt; front.bytes.as_slice() == bytes);
+            }
+        }
+        None => assert!(rt; false),
+    }
+    Ok(())
+}
+
+/// Ends a call, and sees which file objects come out, each closed and gone from the state.
+fn settle<O: FileObject>(rt: &(impl Abort + AllocGlobal), state: &mut State<O>, numbers: &[u32]) {
+    let Ok(mut retired) = RetiredList::new(rt.alloc()) else {
+        assert!(rt; false);
+        return;
+    };
+    state.settle(&mut retired);
+    assert!(rt; retired.len() == numbers.len());
+    for (gone, number) in retired.as_slice().iter().zip(numbers) {
+        assert!(rt; gone.number() == *number);
+        assert!(rt; state.object(*number).is_none());
+        assert!(rt; !gone.object().is_open());
+    }
+}

@@ -1,0 +1,164 @@
+//! Connected sockets: messages, resets, and what goes with their queues.
+use super::{
+    append, close, expect_queue, name, open, open_pair, settle, start, start_with_files, user,
+};
+use hoard::Hoard;
+use std::alloc::{AllocError, Global};
+use std::process::Abort;
+use std::test::Fail;
+use ux_object::FileObject;
+use ux_objects::Counter;
+use ux_rights::RefList;
+use ux_state::{RetiredList, State};
+use ux_types::{DescriptionId, Errno, Fd, Mode, OpenFlags, Pid};
+
+/// Sees which socket a number of process 1 leads to, by its own handle and its peer's, or why none.
+fn expect_socket<O: FileObject>(
+    rt: &impl Abort,
+    state: &State<O>,
+    fd: u32,
+    answer: Result<(u128, u128), Errno>,
+) {
+    assert!(rt; state.is_live(Pid(1)));
+    match state.find_socket(Pid(1), Fd(fd)) {
+        Ok((id, socket)) => match socket.peer() {
+            Some(peer) => assert!(rt; answer == Ok((id.number(), peer.number())), "{fd}"),
+            None => assert!(rt; false, "{fd}"),
+        },
+        Err(refusal) => assert!(rt; answer == Err(refusal), "{fd}"),
+    }
+}
+
+/// Sends a reference to a description to a socket.
+fn pass<O: FileObject>(
+    rt: &impl Abort,
+    alloc: Global,
+    state: &mut State<O>,
+    id: u128,
+    passed: u128,
+) -> Result<(), AllocError> {
+    let id = DescriptionId::new(id);
+    let passed = DescriptionId::new(passed);
+    assert!(rt; state.socket(id).is_some());
+    assert!(rt; state.count(passed) > 0);
+    let rights = RefList::from_slice(alloc, &[passed])?;
+    let sent = state.send_stream(id, b"x", 1, rights, user(), 1000);
+    assert!(rt; sent == Ok(1));
+    Ok(())
+}
+
+/// Takes these bytes from a socket.
+fn take<O: FileObject>(
+    rt: &impl Abort,
+    state: &mut State<O>,
+    id: u128,
+    bytes: &[u8],
+) -> Result<(), AllocError> {
+    let id = DescriptionId::new(id);
+    assert!(rt; state.socket(id).is_some_and(|socket| !socket.is_empty()));
+    let taken = state.take_bytes(id, bytes.len(), false)?;
+    assert!(rt; taken.as_slice() == bytes);
+    Ok(())
+}
+
+#[test]
+fn a_pair_has_messages_and_a_reset(rt: HostRuntime) -> Result<(), Fail> {
+    let alloc = rt.alloc();
+    let mut state = start_with_files(&rt, alloc)?;
+    let s = &mut state;
+    open(&rt, s, 1, 0, Mode::Both, Ok(Fd(0)));
+    open_pair(&rt, s, 1, 2);
+    expect_socket(&rt, s, 0, Err(Errno::ENOTSOCK));
+    expect_socket(&rt, s, 1, Ok((1, 2)));
+    expect_socket(&rt, s, 2, Ok((2, 1)));
+    expect_socket(&rt, s, 3, Err(Errno::EBADF));
+    append(&rt, alloc, s, 2, b"abc");
+    append(&rt, alloc, s, 2, b"de");
+    take(&rt, s, 2, b"ab")?;
+    expect_queue(&rt, s, 1, b"", false)?;
+    expect_queue(&rt, s, 2, b"cde", false)?;
+    close(&rt, s, 1, 2);
+    settle(&rt, s, &[]);
+    assert!(rt; s.socket(DescriptionId::new(2)).is_none());
+    expect_queue(&rt, s, 1, b"", true)?;
+    s.set_reset(DescriptionId::new(1), false);
+    expect_queue(&rt, s, 1, b"", false)?;
+    Ok(())
+}
+
+/// Makes two connected sockets of process 1, if there is memory.
+fn opens_pair<O: FileObject>(state: &mut State<O>) -> bool {
+    state.is_live(Pid(1)) && state.open_pair(Pid(1), OpenFlags(0), user()).is_ok()
+}
+
+#[test]
+fn pairs_with_unread_bytes_leave_no_slot_taken(rt: HostRuntime) -> Result<(), Fail> {
+    let alloc = rt.alloc();
+    let mut state = start_with_files(&rt, alloc)?;
+    let s = &mut state;
+    for pair in 0..10_000u32 {
+        open_pair(&rt, s, 0, 1);
+        append(&rt, alloc, s, 2 * pair as u128 + 1, b"x");
+        close(&rt, s, 1, 0);
+        close(&rt, s, 1, 1);
+        settle(&rt, s, &[]);
+    }
+    let hoard = Hoard::take_all(alloc)?;
+    let opened = opens_pair(s);
+    drop(hoard);
+    assert!(rt; opened);
+    expect_socket(&rt, s, 1, Ok((20_001, 20_000)));
+    Ok(())
+}
+
+#[test]
+fn a_chain_of_passed_sockets_goes_at_once(rt: HostRuntime) -> Result<(), Fail> {
+    let alloc = rt.alloc();
+    let mut state = start_with_files(&rt, alloc)?;
+    let s = &mut state;
+    open_pair(&rt, s, 0, 1);
+    close(&rt, s, 1, 1);
+    // The last socket is open at the one of the numbers 0 and 1, the next at the other.
+    for last in 0..9_999u32 {
+        let at = last % 2;
+        let (last, next) = (2 * last as u128, 2 * last as u128 + 2);
+        open_pair(&rt, s, 1 - at, 2);
+        pass(&rt, alloc, s, next, last)?;
+        close(&rt, s, 1, at);
+        close(&rt, s, 1, 2);
+        settle(&rt, s, &[]);
+        assert!(rt; s.count(DescriptionId::new(last)) == 1);
+    }
+    assert!(rt; s.socket(DescriptionId::new(0)).is_some());
+    assert!(rt; s.socket(DescriptionId::new(10_000)).is_some());
+    close(&rt, s, 1, 1);
+    settle(&rt, s, &[]);
+    for id in 0..20_000u32 {
+        assert!(rt; s.description(DescriptionId::new(id as u128)).is_none());
+    }
+    Ok(())
+}
+
+#[test]
+fn a_state_settles_under_refused_memory(rt: HostRuntime) -> Result<(), Fail> {
+    let alloc = rt.alloc();
+    let mut state = start(&rt, alloc, Counter::new(), Counter::new())?;
+    let s = &mut state;
+    open(&rt, s, 1, 0, Mode::Both, Ok(Fd(0)));
+    open_pair(&rt, s, 1, 2);
+    append(&rt, alloc, s, 2, b"abc");
+    s.unlink(&name(alloc, b"a")?);
+    close(&rt, s, 1, 0);
+    close(&rt, s, 1, 2);
+    let mut retired = RetiredList::new(alloc)?;
+    let hoard = Hoard::take_all(alloc)?;
+    s.settle(&mut retired);
+    let opened = opens_pair(s);
+    drop(hoard);
+    assert!(rt; retired.len() == 1);
+    assert!(rt; s.object(0).is_none());
+    assert!(rt; s.socket(DescriptionId::new(2)).is_none());
+    expect_queue(&rt, s, 1, b"", true)?;
+    assert!(rt; opened);
+    Ok(())
+}

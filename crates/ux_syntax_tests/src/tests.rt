@@ -1,0 +1,52 @@
+//! Scripts and traces by examples. Each step is a function of its own, so that a test's proof stays short.
+
+mod calls;
+mod readers;
+mod scripts;
+mod traces;
+
+use bstr::BString;
+use std::alloc::Global;
+use std::process::Abort;
+use std::test::*;
+use ux_syntax::{ScriptFault, parse_script};
+use ux_types::{Bytes, Name};
+
+/// The text of the fault of a script, or none if it is read.
+fn fault_of(alloc: Global, text: &[u8]) -> Result<String, Fail> {
+    match parse_script(alloc, text) {
+        Ok(_) => Ok(String::new(alloc)),
+        Err(fault) => Ok(fault.to_string(alloc)?),
+    }
+}
+
+fn name_of(alloc: Global, bytes: &[u8]) -> Result<Name, Fail> {
+    Ok(Name::new(BString::new(Vec::from_slice(alloc, bytes)?)))
+}
+
+fn bytes_of(alloc: Global, bytes: &[u8]) -> Result<Bytes, Fail> {
+    Ok(Bytes::new(Vec::from_slice(alloc, bytes)?))
+}
+
+/// Sees which fault a script has, if any.
+fn expect_fault(rt: &impl Abort, alloc: Global, text: &str, fault: &str) -> Result<(), Fail> {
+    let told = fault_of(alloc, text.as_bytes())?;
+    assert_eq!(rt; told.as_str(), fault, "{text}");
+    Ok(())
+}
+
+/// Sees that the last line behind a process, which may be its second, is a bad one.
+fn expect_bad_line(rt: &impl Abort, alloc: Global, lines: &str) -> Result<(), Fail> {
+    let number = if lines.contains('\n') { 3 } else { 2 };
+    let text = format!(in alloc; "proc 0 0 0 1\n{lines}")?;
+    let fault = format!(in alloc; "line {number}: bad line")?;
+    expect_fault(rt, alloc, &text, &fault)
+}
+
+/// Sees the text of a fault.
+fn expect_told(rt: &impl Abort, alloc: Global, fault: &ScriptFault, text: &str) {
+    match fault.to_string(alloc) {
+        Ok(told) => assert_eq!(rt; told.as_str(), text),
+        Err(_) => assert!(rt; false, "no memory"),
+    }
+}

@@ -1,0 +1,238 @@
+//! The lines of a trace.
+use super::{bytes_of, name_of};
+use std::alloc::Global;
+use std::process::Abort;
+use std::test::*;
+use ux_syntax::entry_text;
+use ux_types::{
+    Entry, Errno, Fd, Mode, MsgFlags, OpenFlags, Pid, Released, Reply, Request, Whence,
+};
+
+/// Sees an entry's line, in which no file object was closed.
+fn expect_text(
+    rt: &impl Abort,
+    alloc: Global,
+    number: usize,
+    k: u64,
+    request: Request,
+    reply: Reply,
+    line: &str,
+) -> Result<(), Fail> {
+    let entry = Entry {
+        pid: Pid(1),
+        k,
+        request,
+        reply,
+        released: Released::new(),
+    };
+    expect_entry(rt, alloc, number, &entry, line)
+}
+
+/// Sees an entry's line.
+fn expect_entry(
+    rt: &impl Abort,
+    alloc: Global,
+    number: usize,
+    entry: &Entry,
+    line: &str,
+) -> Result<(), Fail> {
+    let text = entry_text(alloc, number, entry)?;
+    assert_eq!(rt; text.as_str(), line);
+    Ok(())
+}
+
+/// A send.
+fn send(alloc: Global) -> Result<Request, Fail> {
+    Ok(Request::SendMsg {
+        fd: Fd(0),
+        bytes: bytes_of(alloc, b"hi")?,
+        flags: MsgFlags(0),
+    })
+}
+
+/// A receive.
+const RECEIVE: Request = Request::RecvMsg {
+    fd: Fd(1),
+    n: 8,
+    space: 0,
+    flags: MsgFlags(0),
+};
+
+#[test]
+fn entries_are_printed(rt: HostRuntime) -> Result<(), Fail> {
+    let alloc = rt.alloc();
+    let pair = Request::SocketPair {
+        flags: OpenFlags(0),
+    };
+    let fds = Reply::Fds(Fd(0), Fd(1));
+    expect_text(&rt, alloc, 0, 0, pair, fds, "0 1 0 pair = fds 0 1\n")?;
+    let count = Reply::Count(2);
+    expect_text(&rt, alloc, 1, 1, send(alloc)?, count, "1 1 1 send = n 2\n")?;
+    let broken = Reply::Err(Errno::EPIPE);
+    let line = "11 1 11 send = err EPIPE\n";
+    expect_text(&rt, alloc, 11, 11, send(alloc)?, broken, line)?;
+    let close = Request::Close { fd: Fd(0) };
+    expect_text(&rt, alloc, 12, 12, close, Reply::Ok, "12 1 12 close = ok\n")?;
+    let line = "14 1 14 exit = ok\n";
+    expect_text(&rt, alloc, 14, 14, Request::Exit, Reply::Ok, line)
+}
+
+/// Sees the line of a receive that got this.
+fn expect_received(
+    rt: &impl Abort,
+    alloc: Global,
+    number: usize,
+    count: usize,
+    bytes: &[u8],
+    flags: MsgFlags,
+    line: &str,
+) -> Result<(), Fail> {
+    let bytes = bytes_of(alloc, bytes)?;
+    let reply = Reply::Received {
+        count,
+        bytes,
+        flags,
+    };
+    expect_text(rt, alloc, number, number as u64, RECEIVE, reply, line)
+}
+
+#[test]
+fn receives_are_printed(rt: HostRuntime) -> Result<(), Fail> {
+    let alloc = rt.alloc();
+    let none = MsgFlags(0);
+    let line = "2 1 2 recv = got 2 6869 - - -\n";
+    expect_received(&rt, alloc, 2, 2, b"hi", none, line)?;
+    let again = Reply::Err(Errno::EAGAIN);
+    expect_text(
+        &rt,
+        alloc,
+        4,
+        4,
+        RECEIVE,
+        again,
+        "4 1 4 recv = err EAGAIN\n",
+    )?;
+    let line = "6 1 6 recv = got 0 - - - -\n";
+    expect_received(&rt, alloc, 6, 0, b"", none, line)?;
+    let reset = Reply::Err(Errno::ECONNRESET);
+    let line = "9 1 9 recv = err ECONNRESET\n";
+    expect_text(&rt, alloc, 9, 9, RECEIVE, reset, line)?;
+    let cut = MsgFlags(2 + 16 + 32 + 1);
+    let line = "15 1 15 recv = got 300 00ab TRUNC|CTRUNC|EOR - -\n";
+    expect_received(&rt, alloc, 15, 300, &[0, 0xab], cut, line)
+}
+
+/// Sees the line of the entry of number 5, the eighth call of its process.
+fn expect_fifth(
+    rt: &impl Abort,
+    alloc: Global,
+    request: Request,
+    reply: Reply,
+    line: &str,
+) -> Result<(), Fail> {
+    expect_text(rt, alloc, 5, 7, request, reply, line)
+}
+
+#[test]
+fn entries_of_files_are_printed(rt: HostRuntime) -> Result<(), Fail> {
+    let alloc = rt.alloc();
+    let fd = Fd(3);
+    let open = Request::Open {
+        path: name_of(alloc, b"f")?,
+        mode: Mode::Both,
+        flags: OpenFlags(0),
+    };
+    expect_fifth(&rt, alloc, open, Reply::Fd(fd), "5 1 7 open = fd 3\n")?;
+    let bytes = Reply::Bytes(bytes_of(alloc, b"hi")?);
+    let read = Request::Read { fd, n: 8 };
+    expect_fifth(&rt, alloc, read, bytes, "5 1 7 read = bytes 6869\n")?;
+    let bytes = Reply::Bytes(bytes_of(alloc, b"")?);
+    let read = Request::Read { fd, n: 8 };
+    expect_fifth(&rt, alloc, read, bytes, "5 1 7 read = bytes -\n")?;
+    let bytes = bytes_of(alloc, b"hi")?;
+    let write = Request::Write { fd, bytes };
+    expect_fifth(&rt, alloc, write, Reply::Count(2), "5 1 7 write = n 2\n")?;
+    let path = name_of(alloc, b"f")?;
+    let absent = Reply::Err(Errno::ENOENT);
+    let line = "5 1 7 unlink = err ENOENT\n";
+    expect_fifth(&rt, alloc, Request::Unlink { path }, absent, line)
+}
+
+#[test]
+fn entries_of_descriptors_are_printed(rt: HostRuntime) -> Result<(), Fail> {
+    let alloc = rt.alloc();
+    let fd = Fd(3);
+    let seek = Request::Lseek {
+        fd,
+        offset: -1,
+        whence: Whence::End,
+    };
+    let line = "5 1 7 lseek = at 9223372036854775807\n";
+    expect_fifth(&rt, alloc, seek, Reply::At(9223372036854775807), line)?;
+    let dup = Request::Dup { fd };
+    expect_fifth(
+        &rt,
+        alloc,
+        dup,
+        Reply::Fd(Fd(1023)),
+        "5 1 7 dup = fd 1023\n",
+    )?;
+    let dup2 = Request::Dup2 { fd, to: Fd(9) };
+    expect_fifth(&rt, alloc, dup2, Reply::Fd(Fd(9)), "5 1 7 dup2 = fd 9\n")?;
+    let flags = OpenFlags(1);
+    let set = Request::SetFlags { fd, flags };
+    expect_fifth(&rt, alloc, set, Reply::Ok, "5 1 7 flags = ok\n")
+}
+
+/// Sees the line of an entry whose number is its count, in which these file objects were closed.
+fn expect_closed(
+    rt: &impl Abort,
+    alloc: Global,
+    number: usize,
+    pid: u32,
+    request: Request,
+    released: Released,
+    line: &str,
+) -> Result<(), Fail> {
+    let entry = Entry {
+        pid: Pid(pid),
+        k: number as u64,
+        request,
+        reply: Reply::Ok,
+        released,
+    };
+    expect_entry(rt, alloc, number, &entry, line)
+}
+
+#[test]
+fn closed_objects_are_printed(rt: HostRuntime) -> Result<(), Fail> {
+    let alloc = rt.alloc();
+    let mut one = Released::new();
+    one.push(0);
+    let close = Request::Close { fd: Fd(0) };
+    expect_closed(
+        &rt,
+        alloc,
+        14,
+        1,
+        close,
+        one,
+        "14 1 14 close = ok closed 0\n",
+    )?;
+    let mut three = Released::new();
+    three.push(2);
+    three.push(10);
+    three.push(63);
+    let line = "15 0 15 off = ok closed 2 10 63\n";
+    expect_closed(&rt, alloc, 15, 0, Request::Off, three, line)?;
+    let none = Released::new();
+    expect_closed(
+        &rt,
+        alloc,
+        16,
+        2,
+        Request::Exit,
+        none,
+        "16 2 16 exit = ok\n",
+    )
+}
