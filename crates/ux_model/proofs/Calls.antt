@@ -1,5 +1,5 @@
--- Of each call: what a refusal leaves, and that what else it leaves comes of the state by the changes of Reaching, where a file object is
--- as before or held open. One lemma a call, and one line of `each_obeys`, at the end.
+-- Of each call: that its outcome obeys what all do. One lemma a call, and one line of `each_obeys`, at the end. Those of names and connections
+-- stand in NameCalls.
 use Rattle.std.proofs.Common.{◌≡◌, ℕ, suc, ◌≤◌, ◌<◌, Bool, true, false, not, ◌&&◌, ◌||◌, ◌==◌, if◌then◌else◌, cond, List, [], ◌∷◌, ◌++◌, length, map, Option, Some, None, Result, Ok, Err, refl, ap, sym, ◌∙◌, subst, arith}
 use Rattle.std.specs.Prelude.{min, nat_le, nat_lt, ℤ, pos, negsuc, ◌+ℤ◌, is_none, is_some, count_by}
 use Rattle.std.proofs.lemmas.Bool.{eqb-true, eq-eqb}
@@ -31,75 +31,19 @@ use Rattle.ux_model.specs.Seeking.{lseek, seek_to, seek_base}
 use Rattle.ux_model.specs.Descriptors.{dup, dup2, set_flags, with_flags}
 use Rattle.ux_model.specs.Closing.{close, exit, off}
 use Rattle.ux_model.specs.Release.{settled, released}
-use Rattle.ux_model.specs.Step.{Step, outcome, lacks_memory, fails}
+use Rattle.ux_model.specs.Step.{Step, outcome}
 use Rattle.ux_model.specs.History.{is_exit}
-use Rattle.ux_model.specs.Invariants.{OneMoreFailure, LeftByRefusal}
+use Rattle.ux_model.specs.Invariants.{LeftByRefusal}
 use Rattle.ux_model.proofs.FrontRights.{front_refs}
 use Rattle.ux_model.proofs.Sound.{IsSound}
 use Rattle.ux_model.proofs.Named.{table_in}
 use Rattle.ux_model.proofs.Walk.{either, maybe, by_target, by_path, by_queue, found, found_socket}
 use Rattle.ux_model.proofs.Reaching.{Reaches, still, description_made, peers_made, object_changed, paths_taken, turned_off, KeepsSocket, same_target, queue_changed, NamesWhatIsThere, put_names, taken_names, same_names, none_counts, with_table_reached, with_process_reached, with_description_reached, with_socket_reached, some_filled, some_more, some_pushed}
+use Rattle.ux_model.proofs.Obeying.{tells_choice, Obeys, Call, refuses, uses, answers, may_fail, there_of}
+use Rattle.ux_model.proofs.NameCalls.{socket_obeys, bind_obeys, listen_obeys, connect_obeys, accept_obeys, sock_name_obeys, peer_name_obeys}
 use Rattle.ux_model.proofs.HeldOpen.{IsHeldOpen, KeepsObjects, same_objects, held_changed, held_by_changed, with_process_objects, with_table_objects}
 
--- a reply that tells which of the two free choices was made
-abbrev pub tells_choice : Reply → Bool
-tells_choice reply = lacks_memory reply || fails reply
-
-abbrev is_error : Reply → Bool
-is_error (Reply.Err e) = true
-is_error _ = false
-
--- of an outcome in S; `ends` says whether the call may end a process
-pub record Obeys (S : State) (ends : Bool) (o : Outcome) : Type 0 where
-  pub own_reply : tells_choice o.reply ≡ false
-  pub refused : (e : Errno) → o.reply ≡ Reply.Err e → LeftByRefusal S e o.next
-  pub failed : (T : State) → o.failure ≡ Some T → OneMoreFailure S T × KeepsObjects S T
-  pub reached : Reaches S ends o.next
-  pub objects : KeepsObjects S o.next
-
--- ---- by what an outcome is made of
-
-refuses : {S : State} {ends : Bool} {e : Errno} → tells_choice (Reply.Err e) ≡ false → LeftByRefusal S e S → Obeys S ends (refuse S e)
-refuses {S} {ends} {e} own_one left = record {
-  own_reply = own_one;
-  refused = λ f h. let same : e ≡ f = cc h in subst (λ g. LeftByRefusal S g S) same left;
-  failed = λ T h. absurd (cc h);
-  reached = still;
-  objects = same_objects S S refl;
-}
-
--- an answer that may leave a file object changed, if that is held open then
-uses : {S : State} {ends : Bool} {o : Outcome} → tells_choice o.reply ≡ false → is_error o.reply ≡ false → o.failure ≡ None → KeepsObjects S o.next → Reaches S ends o.next → Obeys S ends o
-uses {S} {ends} {o} own_one told n kept r = record {
-  own_reply = own_one;
-  refused = λ e h. let one : is_error o.reply ≡ true = ap is_error h in absurd (cc (one, told));
-  failed = λ T h. absurd (cc (h, n));
-  reached = r;
-  objects = kept;
-}
-
--- and one that leaves all file objects as they were
-answers : {S : State} {ends : Bool} {o : Outcome} → tells_choice o.reply ≡ false → is_error o.reply ≡ false → o.failure ≡ None → o.next.objects ≡ S.objects → Reaches S ends o.next → Obeys S ends o
-answers {S} {ends} {o} own_one told n same r = uses own_one told n (same_objects S o.next same) r
-
--- a call of a file object may leave what a failure does
-may_fail : (S : State) (ends : Bool) (o : ℕ) (view : View) (x : Outcome) → IsHeldOpen S o → place S.objects o ≡ Some view → Obeys S ends x → Obeys S ends (or_failing S o view x)
-may_fail S ends o view x held there obeys = record { own_reply = obeys.own_reply; refused = obeys.refused; failed = at_failure (can_fail view); reached = obeys.reached; objects = obeys.objects }
-  where
-    at_failure : (b : Bool) (T : State) → (if b then Some (with_object S o (after_failure view)) else None) ≡ Some T → OneMoreFailure S T × KeepsObjects S T
-    at_failure true T h =
-        let e : with_object S o (after_failure view) ≡ T = cc h in
-        (record { object = o; view = view; there = there; left = sym e }, subst (KeepsObjects S) e (held_changed S S o (after_failure view) refl held))
-    at_failure false T h = absurd (cc h)
-
 -- ---- descriptors
-
--- a call that ends no process
-abbrev Call : State → Outcome → Type 0
-Call S = Obeys S false
-
-there_of : (S : State) (d : ℕ) (D : Description) → description_at S d ≡ Some D → is_some (description_at S d) ≡ true
-there_of S d D h = ap is_some h
 
 pub dup_obeys : (S : State) (p : ℕ) (fd : Fd) → Call S (dup S p fd)
 unfolding dup
@@ -324,6 +268,8 @@ still_error (Reply.Count n) e h = h
 still_error (Reply.Bytes bytes) e h = h
 still_error (Reply.At n) e h = h
 still_error (Reply.Received count bytes flags) e h = absurd (cc h)
+still_error (Reply.Accepted fd addr) e h = h
+still_error (Reply.Addr addr) e h = h
 still_error (Reply.Err f) e h = h
 
 still_own : (r : Reply) → tells_choice r ≡ false → tells_choice (bytes_alone r) ≡ false
@@ -334,6 +280,8 @@ still_own (Reply.Count n) h = h
 still_own (Reply.Bytes bytes) h = h
 still_own (Reply.At n) h = h
 still_own (Reply.Received count bytes flags) h = refl
+still_own (Reply.Accepted fd addr) h = h
+still_own (Reply.Addr addr) h = h
 still_own (Reply.Err e) h = h
 
 socket_read_obeys : (S : State) (o : Outcome) → Call S o → Call S (record o { reply = bytes_alone o.reply })
@@ -401,7 +349,14 @@ each_obeys S p tag (Request.Dup2 fd to) = dup2_obeys S p fd to
 each_obeys S p tag (Request.SetFlags fd flags) = flags_obeys S p fd flags
 each_obeys S p tag (Request.Close fd) = close_obeys S p fd
 each_obeys S p tag (Request.Unlink path) = unlink_obeys S path
+each_obeys S p tag (Request.Socket flags) = socket_obeys S p SockType.Stream flags
 each_obeys S p tag (Request.SocketPair flags) = pair_obeys S p SockType.Stream flags
+each_obeys S p tag (Request.Bind fd addr) = bind_obeys S p fd addr
+each_obeys S p tag (Request.Listen fd backlog) = listen_obeys S p fd backlog
+each_obeys S p tag (Request.Connect fd addr) = connect_obeys S p fd addr
+each_obeys S p tag (Request.Accept fd flags) = accept_obeys S p fd flags
+each_obeys S p tag (Request.GetSockName fd) = sock_name_obeys S p fd
+each_obeys S p tag (Request.GetPeerName fd) = peer_name_obeys S p fd
 each_obeys S p tag (Request.SendMsg fd bytes flags) = send_obeys S p tag fd bytes flags
 each_obeys S p tag (Request.RecvMsg fd n space flags) = recv_obeys S p fd n flags
 each_obeys S p tag Request.Exit = exit_obeys S p

@@ -1,5 +1,5 @@
 -- A list of places, one of which is changed.
-use Rattle.std.proofs.Common.{◌≡◌, ℕ, zero, suc, ◌+◌, ◌<◌, Bool, true, false, ◌==◌, cond, List, [], ◌∷◌, length, Option, Some, None, option_map, sym, ◌∙◌, ap, refl, arith}
+use Rattle.std.proofs.Common.{◌≡◌, ℕ, zero, suc, ◌+◌, ◌<◌, Bool, true, false, ◌==◌, cond, List, [], ◌∷◌, ◌++◌, length, Option, Some, None, option_map, sym, ◌∙◌, ap, refl, arith}
 use Rattle.std.specs.List.{sum_by}
 use Rattle.std.proofs.lemmas.Bool.{eqb-true, eqb-false}
 use Rattle.std.proofs.lemmas.List.{get_or-set_other, length-set}
@@ -16,10 +16,16 @@ pub bool_cases : {P : Type 0} (b : Bool) → (b ≡ true → P) → (b ≡ false
 bool_cases true on off = on refl
 bool_cases false on off = off refl
 
-changed_here : {X : Type 0} (ds : List (Option X)) (i : ℕ) (f : X → X) → place (changed_place ds i f) i ≡ option_map f (place ds i)
+pub changed_here : {X : Type 0} (ds : List (Option X)) (i : ℕ) (f : X → X) → place (changed_place ds i f) i ≡ option_map f (place ds i)
 changed_here [] i f = refl
 changed_here (x ∷ xs) zero f = refl
 changed_here (x ∷ xs) (suc i) f = changed_here xs i f
+
+-- a change before one more is pushed, and after
+pub changed_push : {X : Type 0} (xs : List (Option X)) (n : ℕ) (f : X → X) (x : Option X) → n < length xs → changed_place (xs ++ x ∷ []) n f ≡ changed_place xs n f ++ x ∷ []
+changed_push [] n f x h = absurd (omega (arith, h))
+changed_push (y ∷ ys) zero f x h = refl
+changed_push (y ∷ ys) (suc n) f x h = ap (λ l. y ∷ l) (changed_push ys n f x (omega (arith, h)))
 
 -- what stands at i, where place p was changed
 pub place-changed : {X : Type 0} (ds : List (Option X)) (p i : ℕ) (f : X → X) →

@@ -17,7 +17,7 @@ use Rattle.ux_model.proofs.Fronts.{front_is_legal}
 use Rattle.ux_model.proofs.OnePlace.{same_at}
 use Rattle.ux_model.proofs.Induction.{IsKept, kept_throughout, take_past, take_next}
 use Rattle.ux_model.proofs.Settling.{closed_numbers, object_left}
-use Rattle.ux_model.proofs.Reaching.{Reaches, still, process_changed, description_made, peers_made, description_changed, object_changed, paths_taken, turned_off}
+use Rattle.ux_model.proofs.Reaching.{Reaches, still, process_changed, description_made, peers_made, connection_made, description_changed, object_changed, paths_taken, path_bound, name_bound, turned_off}
 use Rattle.ux_model.proofs.Calls.{step_reached}
 use Rattle.ux_model.proofs.Dangling.{nothing_dangles}
 
@@ -35,9 +35,12 @@ reached_there S ends T still o = refl
 reached_there S ends T (process_changed {T = U} i P Q r h names kept) o = reached_there S ends U r o
 reached_there S ends T (description_made {T = U} D r leads nothing) o = reached_there S ends U r o
 reached_there S ends T (peers_made {T = U} D E r peers) o = reached_there S ends U r o
+reached_there S ends T (connection_made {T = U} d l cred listener_cred s listener r client free there) o = reached_there S ends U r o
 reached_there S ends T (description_changed {T = U} d x r keeps) o = reached_there S ends U r o
 reached_there S ends T (object_changed {T = U} n old new r h same) o = same_at is_some U.objects n o (Some new) (sym (ap is_some h)) ∙ reached_there S ends U r o
 reached_there S ends T (paths_taken {T = U} keep r) o = reached_there S ends U r o
+reached_there S ends T (path_bound {T = U} name d r) o = reached_there S ends U r o
+reached_there S ends T (name_bound {T = U} name d r shown) o = reached_there S ends U r o
 reached_there S ends T (turned_off {T = U} r) o = reached_there S ends U r o
 
 -- ---- one that is released is no longer there

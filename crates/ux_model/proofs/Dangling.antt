@@ -22,7 +22,7 @@ use Rattle.ux_model.proofs.Induction.{IsKept, kept_throughout}
 use Rattle.ux_model.proofs.Sound.{IsSound, name_in}
 use Rattle.ux_model.proofs.Named.{entry_counts, right_counts, opening_counts, path_counts, exactly, named_open, described, pending_listed, at_most_one, waiting_socket, named_socket}
 use Rattle.ux_model.proofs.Calls.{step_reached}
-use Rattle.ux_model.proofs.KeptSound.{reached_sound}
+use Rattle.ux_model.proofs.ReachedSound.{reached_sound}
 use Rattle.ux_model.proofs.ReleasedSound.{settled_sound}
 
 -- ---- boot states

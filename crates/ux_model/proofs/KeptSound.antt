@@ -1,4 +1,4 @@
--- Each change of a call keeps that nothing dangles. One lemma a change, and one line of `reached_sound`, at the end.
+-- Each change of a call keeps that nothing dangles. One lemma a change, and one line of `reached_sound` (ReachedSound).
 use Rattle.std.proofs.Common.{◌≡◌, ◌⊎◌, inl, inr, ⊎_elim, ℕ, zero, suc, ◌+◌, ◌≤◌, ◌<◌, Bool, true, false, if◌then◌else◌, cond, List, [], ◌∷◌, ◌++◌, length, map, set, sum_by, count_by, Option, Some, None, refl, ap, sym, subst, ◌∙◌, arith}
 use Rattle.std.specs.Prelude.{is_some, filter}
 use Rattle.std.specs.List.{slice_get}
@@ -7,7 +7,7 @@ use Rattle.std.proofs.lemmas.List.Sums.{sum_by-cons, sum_by_push}
 use Rattle.ux_model.specs.Types.{Name, Addr}
 use Rattle.ux_model.specs.Places.{place, filled}
 use Rattle.ux_model.specs.Object.{View}
-use Rattle.ux_model.specs.Names.{PathTarget}
+use Rattle.ux_model.specs.Names.{PathTarget, bound}
 use Rattle.ux_model.specs.Description.{Description, Target, to_object, to_socket}
 use Rattle.ux_model.specs.Process.{Process}
 use Rattle.ux_model.specs.State.{State, description_at, with_object, with_new}
@@ -20,7 +20,7 @@ use Rattle.ux_model.proofs.Making.{paired-push, paired-pair}
 use Rattle.ux_model.proofs.OneGoes.{paired-alike}
 use Rattle.ux_model.proofs.OnePlace.{same_at, no_more_by, at_each}
 use Rattle.ux_model.proofs.Sound.{IsHeld, IsSound, unaccepted, name_in}
-use Rattle.ux_model.proofs.Reaching.{Reaches, still, process_changed, description_made, peers_made, description_changed, object_changed, paths_taken, turned_off, NamesWhatIsThere, KeepsPlace, ArePeers, none_counts, some_filled, some_more}
+use Rattle.ux_model.proofs.Reaching.{NamesWhatIsThere, KeepsReferences, KeepsPlace, ArePeers, none_counts, some_filled, some_more}
 
 -- ---- what is there stays there
 
@@ -37,7 +37,7 @@ same_orefs_processes : (S : State) (Ps : List Process) (o : ℕ) → orefs (reco
 unfolding orefs
 same_orefs_processes S Ps o = refl
 
-process_held : (S : State) (i : ℕ) (P Q : Process) → IsHeld S → slice_get S.processes i ≡ Some P → NamesWhatIsThere S P.table Q.table → IsHeld (record S { processes = set S.processes i Q })
+pub process_held : (S : State) (i : ℕ) (P Q : Process) → IsHeld S → slice_get S.processes i ≡ Some P → NamesWhatIsThere S P.table Q.table → IsHeld (record S { processes = set S.processes i Q })
 process_held S i P Q held h names = record {
   no_description_dangles = λ d gone.
       let moved = process_counts S (suc i) d P Q h in
@@ -71,7 +71,7 @@ led_or_not : (b : Bool) (n m : ℕ) → m ≡ n + (if b then 1 else 0) → n ≡
 led_or_not true n m e z h = let p : 0 < n = h refl in absurd (omega (arith, p, z))
 led_or_not false n m e z h = omega (arith, e, z)
 
-made_held : (S : State) (D : Description) → IsHeld S → ((o : ℕ) → leads_to o D.target ≡ true → 0 < orefs S o) → ((d : ℕ) → ◌≡◌ {A = ℕ} (target_refs d D.target) 0) → IsHeld (with_new S D)
+pub made_held : (S : State) (D : Description) → IsHeld S → ((o : ℕ) → leads_to o D.target ≡ true → 0 < orefs S o) → ((d : ℕ) → ◌≡◌ {A = ℕ} (target_refs d D.target) 0) → IsHeld (with_new S D)
 made_held S D held leads none = record {
   no_description_dangles = λ d gone.
       let more = new_counts S D d in
@@ -90,7 +90,7 @@ made_held S D held leads none = record {
   names_owned = λ i e h. named_more S.descriptions (Some D ∷ []) e.1 (Addr.Abstract e.0) (held.names_owned i e h);
 }
 
-made_sound : (S : State) (D : Description) → IsSound S → ((o : ℕ) → leads_to o D.target ≡ true → 0 < orefs S o) → HoldsNothing D → IsSound (with_new S D)
+pub made_sound : (S : State) (D : Description) → IsSound S → ((o : ℕ) → leads_to o D.target ≡ true → 0 < orefs S o) → HoldsNothing D → IsSound (with_new S D)
 made_sound S D sound leads nothing = record {
   held = made_held S D sound.held leads nothing.refs;
   paired = paired-push S.descriptions D nothing.peer sound.paired;
@@ -101,7 +101,7 @@ leads_nowhere : (o p : ℕ) (t : Target) → target_peer t ≡ Some p → leads_
 leads_nowhere o p (to_object n) h = absurd (cc h)
 leads_nowhere o p (to_socket s) h = refl
 
-peers_sound : (S : State) (D E : Description) → IsSound S → ArePeers (length S.descriptions) D E → IsSound (with_new (with_new S D) E)
+pub peers_sound : (S : State) (D E : Description) → IsSound S → ArePeers (length S.descriptions) D E → IsSound (with_new (with_new S D) E)
 peers_sound S D E sound peers = record {
   held = made_held (with_new S D) E
       (made_held S D sound.held (λ o h. absurd (cc (h, leads_nowhere o (length S.descriptions + 1) D.target peers.first_peer))) peers.first_refs)
@@ -126,30 +126,38 @@ as_many : (p a b : ℕ) → p ≤ a → (0 < p → a ≤ b) → p ≤ b
 as_many zero a b h more = omega arith
 as_many (suc p) a b h more = let l : a ≤ b = more (omega arith) in omega (arith, h, l)
 
-place_held : (S : State) (n : ℕ) (x : Option Description) → IsHeld S → KeepsPlace S n (description_at S n) x → IsHeld (record S { descriptions = set S.descriptions n x })
-place_held S n x held keeps = record {
+-- its place refers to what is there, and whatever waits is taken by no accept
+pub place_held : (S : State) (n : ℕ) (x : Option Description) → IsHeld S → KeepsReferences S (description_at S n) x →
+    ((d : ℕ) → pends_at_all d (set S.descriptions n x) ≤ at_socket unaccepted (place (set S.descriptions n x) d)) → IsHeld (record S { descriptions = set S.descriptions n x })
+place_held S n x held keeps ends = record {
   no_description_dangles = λ d gone.
       let before : is_some (description_at S d) ≡ false = sym (same_at is_some S.descriptions n d x keeps.held) ∙ gone in
       none_less (refs (record S { descriptions = set S.descriptions n x }) d) (refs S d) (fewer_refs S n d x (keeps.holds d before)) (held.no_description_dangles d before);
   no_object_dangles = λ o gone. none_less (orefs (record S { descriptions = set S.descriptions n x }) o) (orefs S o) (fewer_orefs S n o x (keeps.leads o)) (held.no_object_dangles o gone);
   all_open = held.all_open;
-  ends_wait = λ d.
-      let fewer = no_more_by (at_socket (pends d)) S.descriptions n x (keeps.pending d) in
-      let old = held.ends_wait d in
-      let all : pends_at_all d S.descriptions ≤ at_socket unaccepted (place (set S.descriptions n x) d) =
-      at_each (λ y. pends_at_all d S.descriptions ≤ at_socket unaccepted y) S.descriptions n d x old
-      (λ e h. as_many (pends_at_all d S.descriptions) (at_socket unaccepted (description_at S d)) (at_socket unaccepted x) h
-      (subst (λ m. 0 < pends_at_all m S.descriptions → at_socket unaccepted (description_at S m) ≤ at_socket unaccepted x) e keeps.waits)) in
-      omega (arith, fewer, all);
+  ends_wait = ends;
   names_owned = λ i e h. at_each (λ y. name_in y ≡ Some (Addr.Abstract e.0)) S.descriptions n e.1 x (held.names_owned i e h)
       (λ q. subst (λ m. name_in (description_at S m) ≡ Some (Addr.Abstract e.0) → name_in x ≡ Some (Addr.Abstract e.0)) q (keeps.named e.0));
 }
 
-place_sound : (S : State) (n : ℕ) (x : Option Description) → IsSound S → KeepsPlace S n (description_at S n) x → IsSound (record S { descriptions = set S.descriptions n x })
+-- no more ends wait, and what waits itself is taken by no accept
+pub ends_still : (S : State) (n : ℕ) (x : Option Description) → IsHeld S → ((d : ℕ) → at_socket (pends d) x ≤ at_socket (pends d) (description_at S n)) →
+    (0 < pends_at_all n S.descriptions → at_socket unaccepted (description_at S n) ≤ at_socket unaccepted x) → (d : ℕ) →
+    pends_at_all d (set S.descriptions n x) ≤ at_socket unaccepted (place (set S.descriptions n x) d)
+ends_still S n x held pending waits d =
+    let fewer = no_more_by (at_socket (pends d)) S.descriptions n x (pending d) in
+    let old = held.ends_wait d in
+    let all : pends_at_all d S.descriptions ≤ at_socket unaccepted (place (set S.descriptions n x) d) =
+    at_each (λ y. pends_at_all d S.descriptions ≤ at_socket unaccepted y) S.descriptions n d x old
+    (λ e h. as_many (pends_at_all d S.descriptions) (at_socket unaccepted (description_at S d)) (at_socket unaccepted x) h
+    (subst (λ m. 0 < pends_at_all m S.descriptions → at_socket unaccepted (description_at S m) ≤ at_socket unaccepted x) e waits)) in
+    omega (arith, fewer, all)
+
+pub place_sound : (S : State) (n : ℕ) (x : Option Description) → IsSound S → KeepsPlace S n (description_at S n) x → IsSound (record S { descriptions = set S.descriptions n x })
 place_sound S n x sound keeps = record {
-  held = place_held S n x sound.held keeps;
+  held = place_held S n x sound.held keeps.references (ends_still S n x sound.held keeps.pending keeps.waits);
   paired = paired-alike S.descriptions (set S.descriptions n x) (length-set S.descriptions n x) (λ i. same_at peer_in S.descriptions n i x keeps.peer)
-      (λ i. same_at is_some S.descriptions n i x keeps.held) sound.paired;
+      (λ i. same_at is_some S.descriptions n i x keeps.references.held) sound.paired;
 }
 
 -- ---- file objects and paths
@@ -169,7 +177,7 @@ filled_is (z ∷ xs) zero (suc i) x y h = inl h
 filled_is (z ∷ xs) (suc n) zero x y h = inl h
 filled_is (z ∷ xs) (suc n) (suc i) x y h = filled_is xs n i x y h
 
-object_held : (S : State) (o : ℕ) (old new : View) → IsHeld S → place S.objects o ≡ Some old → new.opened ≡ old.opened → IsHeld (with_object S o new)
+pub object_held : (S : State) (o : ℕ) (old new : View) → IsHeld S → place S.objects o ≡ Some old → new.opened ≡ old.opened → IsHeld (with_object S o new)
 object_held S n old new held here same = record {
   no_description_dangles = λ d gone. same_refs_objects S (filled S.objects n new) d ∙ held.no_description_dangles d gone;
   no_object_dangles = λ o gone. same_orefs_objects S (filled S.objects n new) o
@@ -199,13 +207,52 @@ taken_counts : (S : State) (keep : Name × PathTarget → Bool) (o : ℕ) → or
 unfolding orefs
 taken_counts S keep o = let f = filter_counts (λ (e : Name × PathTarget). path_names o e.1) keep S.paths in omega (arith, f)
 
-paths_held : (S : State) (keep : Name × PathTarget → Bool) → IsHeld S → IsHeld (record S { paths = filter keep S.paths })
+pub paths_held : (S : State) (keep : Name × PathTarget → Bool) → IsHeld S → IsHeld (record S { paths = filter keep S.paths })
 paths_held S keep held = record {
   no_description_dangles = λ d gone. same_refs_paths S (filter keep S.paths) d ∙ held.no_description_dangles d gone;
   no_object_dangles = λ o gone. none_less (orefs (record S { paths = filter keep S.paths }) o) (orefs S o) (taken_counts S keep o) (held.no_object_dangles o gone);
   all_open = held.all_open;
   ends_wait = held.ends_wait;
   names_owned = held.names_owned;
+}
+
+-- ---- names of sockets
+
+bound_counts : (S : State) (name : Name) (d o : ℕ) → orefs (record S { paths = S.paths ++ (name, bound d) ∷ [] }) o ≡ orefs S o
+unfolding orefs
+bound_counts S name d o = let s = sum_by_push (λ (e : Name × PathTarget). cond {A = ℕ} (path_names o e.1) 1 0) S.paths (name, bound d) in omega (arith, s)
+
+pub path_held : (S : State) (name : Name) (d : ℕ) → IsHeld S → IsHeld (record S { paths = S.paths ++ (name, bound d) ∷ [] })
+path_held S name d held = record {
+  no_description_dangles = λ k gone. same_refs_paths S (S.paths ++ (name, bound d) ∷ []) k ∙ held.no_description_dangles k gone;
+  no_object_dangles = λ o gone. bound_counts S name d o ∙ held.no_object_dangles o gone;
+  all_open = held.all_open;
+  ends_wait = held.ends_wait;
+  names_owned = held.names_owned;
+}
+
+same_refs_names : (S : State) (names : List (Name × ℕ)) (d : ℕ) → refs (record S { abstract_names = names }) d ≡ refs S d
+unfolding refs
+same_refs_names S names d = refl
+
+same_orefs_names : (S : State) (names : List (Name × ℕ)) (o : ℕ) → orefs (record S { abstract_names = names }) o ≡ orefs S o
+unfolding orefs
+same_orefs_names S names o = refl
+
+pushed_is : {X : Type 0} (xs : List X) (x y : X) (i : ℕ) → slice_get (xs ++ x ∷ []) i ≡ Some y → (slice_get xs i ≡ Some y) ⊎ (x ≡ y)
+pushed_is [] x y zero h = let e : x ≡ y = cc h in inr e
+pushed_is [] x y (suc i) h = absurd (cc h)
+pushed_is (z ∷ xs) x y zero h = inl h
+pushed_is (z ∷ xs) x y (suc i) h = pushed_is xs x y i h
+
+pub name_held : (S : State) (name : Name) (d : ℕ) → IsHeld S → name_in (description_at S d) ≡ Some (Addr.Abstract name) → IsHeld (record S { abstract_names = S.abstract_names ++ (name, d) ∷ [] })
+name_held S name d held shown = record {
+  no_description_dangles = λ k gone. same_refs_names S (S.abstract_names ++ (name, d) ∷ []) k ∙ held.no_description_dangles k gone;
+  no_object_dangles = λ o gone. same_orefs_names S (S.abstract_names ++ (name, d) ∷ []) o ∙ held.no_object_dangles o gone;
+  all_open = held.all_open;
+  ends_wait = held.ends_wait;
+  names_owned = λ i e h. ⊎_elim {C = name_in (description_at S e.1) ≡ Some (Addr.Abstract e.0)} (λ p. held.names_owned i e p)
+      (λ p. subst (λ (f : Name × ℕ). name_in (description_at S f.1) ≡ Some (Addr.Abstract f.0)) p shown) (pushed_is S.abstract_names (name, d) e i h);
 }
 
 -- ---- the end of the layer
@@ -245,7 +292,7 @@ nothing_leads : (S : State) (o : ℕ) → orefs (turned S) o ≡ 0
 unfolding orefs
 nothing_leads S o = let none = none_sum (λ D. cond {A = ℕ} (is_open_of o D) 1 0) S.descriptions refl in omega (arith, none)
 
-off_sound : (S : State) → IsSound S → IsSound (turned S)
+pub off_sound : (S : State) → IsSound S → IsSound (turned S)
 off_sound S sound = record {
   held = record {
     no_description_dangles = λ d gone. nobody_refers S d;
@@ -263,22 +310,3 @@ off_sound S sound = record {
 
     nobody : {P : Type 0} (i p : ℕ) → peer_in (place (map (λ D. None) S.descriptions) i) ≡ Some p → P
     nobody i p e = let none : peer_in (place (map (λ D. None) S.descriptions) i) ≡ None = ap peer_in (none_at S.descriptions i) in absurd (cc (none, e))
-
--- ---- all changes
-
--- a change that leaves the descriptions as they are
-same_peers : (S T : State) → IsSound S → IsHeld T → T.descriptions ≡ S.descriptions → IsSound T
-same_peers S T sound held same = record { held = held; paired = subst Paired (sym same) sound.paired }
-
-pub reached_sound : (S : State) (ends : Bool) (T : State) → IsSound S → Reaches S ends T → IsSound T
-reached_sound S ends T sound still = sound
-reached_sound S ends T sound (process_changed {T = U} i P Q r h names kept) =
-    let before = reached_sound S ends U sound r in same_peers U _ before (process_held U i P Q before.held h (names sound)) refl
-reached_sound S ends T sound (description_made {T = U} D r leads nothing) = made_sound U D (reached_sound S ends U sound r) (leads sound) nothing
-reached_sound S ends T sound (peers_made {T = U} D E r peers) = peers_sound U D E (reached_sound S ends U sound r) peers
-reached_sound S ends T sound (description_changed {T = U} d x r keeps) = place_sound U d x (reached_sound S ends U sound r) (keeps sound)
-reached_sound S ends T sound (object_changed {T = U} o old new r h same) =
-    let before = reached_sound S ends U sound r in same_peers U _ before (object_held U o old new before.held h same) refl
-reached_sound S ends T sound (paths_taken {T = U} keep r) =
-    let before = reached_sound S ends U sound r in same_peers U _ before (paths_held U keep before.held) refl
-reached_sound S ends T sound (turned_off {T = U} r) = off_sound U (reached_sound S ends U sound r)

@@ -16,12 +16,16 @@ pub mod Named
 pub mod Walk
 pub mod Reaching
 pub mod HeldOpen
+pub mod Obeying
+pub mod NameCalls
 pub mod Calls
 pub mod Replays
 pub mod Living
 pub mod Settling
 pub mod Refusals
 pub mod KeptSound
+pub mod ConnectedSound
+pub mod ReachedSound
 pub mod ReleasedSound
 pub mod Dangling
 pub mod Closed

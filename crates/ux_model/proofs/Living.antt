@@ -13,7 +13,7 @@ use Rattle.ux_model.specs.Closing.{exit, with_nothing_open}
 use Rattle.ux_model.specs.Step.{Step, outcome, lacks_memory, fails}
 use Rattle.ux_model.specs.History.{is_exit, has_exited, ExitAloneEnds, StepKeepsProcesses, LivesUntilExit}
 use Rattle.ux_model.proofs.Induction.{IsKept, kept_throughout}
-use Rattle.ux_model.proofs.Reaching.{Reaches, still, process_changed, description_made, peers_made, description_changed, object_changed, paths_taken, turned_off}
+use Rattle.ux_model.proofs.Reaching.{Reaches, still, process_changed, description_made, peers_made, connection_made, description_changed, object_changed, paths_taken, path_bound, name_bound, turned_off}
 use Rattle.ux_model.proofs.Calls.{each_obeys, chosen_reached}
 
 -- for each process, whether it has exited
@@ -67,9 +67,12 @@ exits_kept S T (process_changed {T = U} i P Q r h names kept) =
     exits_set U.processes i Q ∙ ap (set (exits U) i) (kept refl) ∙ set_same U.processes i P h ∙ exits_kept S U r
 exits_kept S T (description_made {T = U} D r leads nothing) = exits_kept S U r
 exits_kept S T (peers_made {T = U} D E r peers) = exits_kept S U r
+exits_kept S T (connection_made {T = U} d l cred listener_cred s listener r client free there) = exits_kept S U r
 exits_kept S T (description_changed {T = U} d x r keeps) = exits_kept S U r
 exits_kept S T (object_changed {T = U} o old new r h same) = exits_kept S U r
 exits_kept S T (paths_taken {T = U} keep r) = exits_kept S U r
+exits_kept S T (path_bound {T = U} name d r) = exits_kept S U r
+exits_kept S T (name_bound {T = U} name d r shown) = exits_kept S U r
 exits_kept S T (turned_off {T = U} r) = exits_turned U.processes ∙ exits_kept S U r
 
 -- an exit ends its process

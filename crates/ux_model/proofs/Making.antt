@@ -19,7 +19,7 @@ place-push ds x i = bool_cases (i == length ds)
     (λ h. ap (place (ds ++ x ∷ [])) (eqb-true i (length ds) h) ∙ get_or_push ds x None (length ds) refl ∙ sym (ap (λ b. cond b x (place ds i)) h))
     (λ h. place_other ds x i h ∙ sym (ap (λ b. cond b x (place ds i)) h))
 
-place_last : (ds : List (Option Description)) (x : Option Description) → place (ds ++ x ∷ []) (length ds) ≡ x
+pub place_last : (ds : List (Option Description)) (x : Option Description) → place (ds ++ x ∷ []) (length ds) ≡ x
 place_last ds x = get_or_push ds x None (length ds) refl
 
 within : (ds : List (Option Description)) (i p : ℕ) → peer_in (place ds i) ≡ Some p → i < length ds

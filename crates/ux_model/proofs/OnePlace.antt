@@ -1,5 +1,5 @@
 -- A list of places, where another thing or nothing stands in one of them.
-use Rattle.std.proofs.Common.{◌≡◌, ℕ, zero, suc, ◌≤◌, List, [], ◌∷◌, set, sum_by, Option, refl, ap, arith}
+use Rattle.std.proofs.Common.{◌≡◌, ℕ, zero, suc, ◌+◌, ◌≤◌, List, [], ◌∷◌, set, sum_by, Option, refl, ap, arith}
 use Rattle.std.proofs.lemmas.List.Sums.{sum_by-cons}
 use Rattle.ux_model.specs.Places.{place}
 
@@ -11,18 +11,21 @@ same_at g (y ∷ xs) zero (suc i) x h = refl
 same_at g (y ∷ xs) (suc n) zero x h = refl
 same_at g (y ∷ xs) (suc n) (suc i) x h = same_at g xs n i x h
 
--- and what counts no more makes no sum greater
-pub no_more_by : {X : Type 0} (f : Option X → ℕ) (xs : List (Option X)) (n : ℕ) (x : Option X) → f x ≤ f (place xs n) → sum_by f (set xs n x) ≤ sum_by f xs
-no_more_by f [] n x h = omega arith
-no_more_by f (y ∷ xs) zero x h =
+-- and what counts so much more makes no sum greater by more
+pub more_by : {X : Type 0} (f : Option X → ℕ) (xs : List (Option X)) (n more : ℕ) (x : Option X) → f x ≤ f (place xs n) + more → sum_by f (set xs n x) ≤ sum_by f xs + more
+more_by f [] n more x h = omega arith
+more_by f (y ∷ xs) zero more x h =
     let new = sum_by-cons f x xs in
     let old = sum_by-cons f y xs in
     omega (arith, new, old, h)
-no_more_by f (y ∷ xs) (suc n) x h =
+more_by f (y ∷ xs) (suc n) more x h =
     let new = sum_by-cons f y (set xs n x) in
     let old = sum_by-cons f y xs in
-    let rest = no_more_by f xs n x h in
+    let rest = more_by f xs n more x h in
     omega (arith, new, old, rest)
+
+pub no_more_by : {X : Type 0} (f : Option X → ℕ) (xs : List (Option X)) (n : ℕ) (x : Option X) → f x ≤ f (place xs n) → sum_by f (set xs n x) ≤ sum_by f xs
+no_more_by f xs n x h = let all = more_by f xs n 0 x (omega (arith, h)) in omega (arith, all)
 
 -- what holds of a place holds of it then, if it does of what is put there
 pub at_each : {X : Type 0} (Q : Option X → Type 0) (xs : List (Option X)) (n i : ℕ) (x : Option X) → Q (place xs i) → (n ≡ i → Q (place xs i) → Q x) → Q (place (set xs n x) i)

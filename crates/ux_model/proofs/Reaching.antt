@@ -1,15 +1,15 @@
 -- What a call may do to a state, part by part: each call's next state comes of its first by such changes. What each of these changes
 -- keeps, every call keeps. A call that changes what none of these do brings a further one, which owes a line of `exits_kept` (Living), of
--- `reached_sound` (KeptSound) and of `reached_there` (Closed).
+-- `reached_sound` (ReachedSound) and of `reached_there` (Closed).
 use Rattle.std.proofs.Common.{◌≡◌, ℕ, zero, suc, ◌+◌, ◌≤◌, ◌<◌, ◌==◌, Bool, true, false, cond, List, [], ◌∷◌, ◌++◌, length, map, set, Option, Some, None, refl, ap, sym, subst, ◌∙◌, arith}
 use Rattle.std.specs.Prelude.{is_some, filter, option_map}
 use Rattle.std.specs.List.{slice_get}
 use Rattle.std.proofs.lemmas.Bool.{eqb-true}
 use Rattle.std.proofs.lemmas.List.Sums.{sum_by-cons}
-use Rattle.ux_model.specs.Types.{Name, Addr}
+use Rattle.ux_model.specs.Types.{Cred, Name, Addr}
 use Rattle.ux_model.specs.Places.{place, filled, emptied}
 use Rattle.ux_model.specs.Object.{View}
-use Rattle.ux_model.specs.Names.{PathTarget}
+use Rattle.ux_model.specs.Names.{PathTarget, bound}
 use Rattle.ux_model.specs.Message.{Message}
 use Rattle.ux_model.specs.Socket.{Socket, peer_of}
 use Rattle.ux_model.specs.Description.{Description, Target, to_object, to_socket, socket_of, socket_in, changed, changed_target}
@@ -17,6 +17,7 @@ use Rattle.ux_model.specs.Process.{Process, Descriptor}
 use Rattle.ux_model.specs.State.{State, description_at, socket_at, process_at, table_of, with_object, with_description, with_socket_by, with_process, with_table, with_new}
 use Rattle.ux_model.specs.References.{names_description, table_refs, queue_refs, socket_refs, target_refs, description_refs, leads_to, is_open_of, orefs}
 use Rattle.ux_model.specs.Peers.{target_peer, peer_in, at_target, at_socket, HoldsNothing}
+use Rattle.ux_model.specs.Connecting.{with_connection}
 use Rattle.ux_model.specs.Closing.{with_nothing_open}
 use Rattle.ux_model.specs.Invariants.{pends, pends_at_all}
 use Rattle.ux_model.proofs.Named.{table_in}
@@ -26,16 +27,19 @@ use Rattle.ux_model.proofs.Sound.{IsSound, unaccepted, target_name, name_in}
 abbrev pub NamesWhatIsThere : State → List (Option Descriptor) → List (Option Descriptor) → Type 0
 NamesWhatIsThere S old new = (d : ℕ) → is_some (description_at S d) ≡ false → table_refs d new ≤ table_refs d old
 
--- Of what stands at place n before and after: it leads where it led, has the same peer, and keeps an abstract name that it has; it refers
--- to what is there, and no more ends wait at it; and while it waits for accept itself, none has taken it.
-pub record KeepsPlace (S : State) (n : ℕ) (old new : Option Description) : Type 0 where
+-- Of what stands at a place before and after: it leads where it led, keeps an abstract name that it has, and refers to what is there.
+pub record KeepsReferences (S : State) (old new : Option Description) : Type 0 where
   pub held : is_some new ≡ is_some old
   pub leads : (o : ℕ) → is_open_of o new ≡ is_open_of o old
   pub holds : (d : ℕ) → is_some (description_at S d) ≡ false → description_refs d new ≤ description_refs d old
+  pub named : (name : Name) → name_in old ≡ Some (Addr.Abstract name) → name_in new ≡ Some (Addr.Abstract name)
+
+-- And of place n: it has the same peer, and no more ends wait at it; and while it waits for accept itself, none has taken it.
+pub record KeepsPlace (S : State) (n : ℕ) (old new : Option Description) : Type 0 where
+  pub references : KeepsReferences S old new
   pub peer : peer_in new ≡ peer_in old
   pub pending : (d : ℕ) → at_socket (pends d) new ≤ at_socket (pends d) old
   pub waits : 0 < pends_at_all n S.descriptions → at_socket unaccepted old ≤ at_socket unaccepted new
-  pub named : (name : Name) → name_in old ≡ Some (Addr.Abstract name) → name_in new ≡ Some (Addr.Abstract name)
 
 -- two new descriptions of sockets that are connected to one another, where the first gets number d
 pub record ArePeers (d : ℕ) (D E : Description) : Type 0 where
@@ -55,6 +59,9 @@ pub data Reaches (S : State) (ends : Bool) : State → Type 0 where
       Reaches S ends (with_new T D)
   -- two sockets that are connected to one another
   peers_made : {T : State} (D E : Description) → Reaches S ends T → ArePeers (length T.descriptions) D E → Reaches S ends (with_new (with_new T D) E)
+  -- a socket without a peer is connected to a new end, which waits at another
+  connection_made : {T : State} (d l : ℕ) (cred listener_cred : Cred) (s listener : Socket) → Reaches S ends T → socket_at T d ≡ Some s → peer_of s.phase ≡ None →
+      socket_at T l ≡ Some listener → Reaches S ends (with_connection T d cred l listener listener_cred)
   -- what stands in one place changes
   description_changed : {T : State} (d : ℕ) (x : Option Description) → Reaches S ends T → (IsSound S → KeepsPlace T d (description_at T d) x) →
       Reaches S ends (record T { descriptions = set T.descriptions d x })
@@ -62,6 +69,11 @@ pub data Reaches (S : State) (ends : Bool) : State → Type 0 where
   object_changed : {T : State} (o : ℕ) (old new : View) → Reaches S ends T → place T.objects o ≡ Some old → new.opened ≡ old.opened → Reaches S ends (with_object T o new)
   -- paths are taken away
   paths_taken : {T : State} (keep : Name × PathTarget → Bool) → Reaches S ends T → Reaches S ends (record T { paths = filter keep T.paths })
+  -- a path leads to a socket
+  path_bound : {T : State} (name : Name) (d : ℕ) → Reaches S ends T → Reaches S ends (record T { paths = T.paths ++ (name, bound d) ∷ [] })
+  -- a name of the abstract namespace leads to a socket that shows it
+  name_bound : {T : State} (name : Name) (d : ℕ) → Reaches S ends T → name_in (description_at T d) ≡ Some (Addr.Abstract name) →
+      Reaches S ends (record T { abstract_names = T.abstract_names ++ (name, d) ∷ [] })
   -- everything goes but the file objects
   turned_off : {T : State} → Reaches S ends T →
       Reaches S ends (record T { descriptions = map (λ D. None) T.descriptions; processes = map with_nothing_open T.processes; paths = []; abstract_names = [] })
@@ -137,8 +149,8 @@ pub record KeepsTarget (S : State) (n : ℕ) (old new : Target) : Type 0 where
 pub same_target : (S : State) (n : ℕ) (t : Target) → KeepsTarget S n t t
 same_target S n t = record { leads = λ o. refl; holds = λ d gone. omega arith; peer = refl; pending = λ d. omega arith; waits = λ h. omega arith; named = λ name h. h }
 
-kept_place : (S : State) (n : ℕ) (D E : Description) → KeepsTarget S n D.target E.target → KeepsPlace S n (Some D) (Some E)
-kept_place S n D E k = record { held = refl; leads = k.leads; holds = k.holds; peer = k.peer; pending = k.pending; waits = k.waits; named = k.named }
+pub kept_place : (S : State) (n : ℕ) (D E : Description) → KeepsTarget S n D.target E.target → KeepsPlace S n (Some D) (Some E)
+kept_place S n D E k = record { references = record { held = refl; leads = k.leads; holds = k.holds; named = k.named }; peer = k.peer; pending = k.pending; waits = k.waits }
 
 -- the same of a socket
 pub record KeepsSocket (S : State) (n : ℕ) (s t : Socket) : Type 0 where
@@ -148,7 +160,7 @@ pub record KeepsSocket (S : State) (n : ℕ) (s t : Socket) : Type 0 where
   pub waits : 0 < pends_at_all n S.descriptions → unaccepted s ≤ unaccepted t
   pub named : (name : Name) → s.name ≡ Addr.Abstract name → t.name ≡ Addr.Abstract name
 
-kept_socket : (S : State) (n : ℕ) (s t : Socket) → KeepsSocket S n s t → KeepsTarget S n (to_socket s) (to_socket t)
+pub kept_socket : (S : State) (n : ℕ) (s t : Socket) → KeepsSocket S n s t → KeepsTarget S n (to_socket s) (to_socket t)
 kept_socket S n s t k = record {
   leads = λ o. refl;
   holds = k.holds;
@@ -189,6 +201,9 @@ pub with_description_reached : {S : State} {ends : Bool} (T : State) (d : ℕ) (
     Reaches S ends (with_description T d E)
 with_description_reached T d D E r h keeps = description_changed d (Some E) r (λ sound. subst (λ x. KeepsPlace T d x (Some E)) (sym h) (kept_place T d D E (keeps sound)))
 
+pub nothing_there : (S : State) (n : ℕ) → KeepsPlace S n None None
+nothing_there S n = record { references = record { held = refl; leads = λ o. refl; holds = λ d gone. omega arith; named = λ name h. h }; peer = refl; pending = λ d. omega arith; waits = λ h. omega arith }
+
 pub with_socket_reached : {S : State} {ends : Bool} (T : State) (d : ℕ) (change : Socket → Socket) → Reaches S ends T →
     (IsSound S → (s : Socket) → socket_at T d ≡ Some s → KeepsSocket T d s (change s)) → Reaches S ends (with_socket_by T d change)
 with_socket_reached {S} {ends} T d change r keeps = description_changed d (option_map (changed change) (description_at T d)) r (λ sound. at_place (keeps sound) (description_at T d) refl)
@@ -198,7 +213,7 @@ with_socket_reached {S} {ends} T d change r keeps = description_changed d (optio
     at_target k (to_socket s) h = kept_socket T d s (change s) (k s h)
 
     at_place : ((s : Socket) → socket_at T d ≡ Some s → KeepsSocket T d s (change s)) → (x : Option Description) → description_at T d ≡ x → KeepsPlace T d x (option_map (changed change) x)
-    at_place k None h = record { held = refl; leads = λ o. refl; holds = λ d gone. omega arith; peer = refl; pending = λ d. omega arith; waits = λ h. omega arith; named = λ name h. h }
+    at_place k None h = nothing_there T d
     at_place k (Some D) h = kept_place T d D (changed change D) (at_target k D.target (ap socket_in h))
 
 -- ---- places

@@ -1,7 +1,8 @@
 -- A change of one socket.
 use Rattle.std.proofs.Common.{◌≡◌, ℕ, ◌+◌, Option, Some, None, option_map, refl, arith}
-use Rattle.ux_model.specs.Socket.{Socket, peer_of}
+use Rattle.ux_model.specs.Socket.{Socket, Phase, idle, listening, connected, associated, peer_of, phase_with_pending}
 use Rattle.ux_model.specs.Description.{Description, Target, to_object, to_socket, changed, changed_target}
+use Rattle.ux_model.specs.Accepting.{phase_without_first_end}
 use Rattle.ux_model.specs.References.{socket_refs, target_refs, description_refs, refs}
 use Rattle.ux_model.specs.Peers.{target_peer, peer_in, at_target, at_socket}
 use Rattle.ux_model.specs.Moves.{SocketCounts}
@@ -30,3 +31,17 @@ target_peer-changed change same (to_socket s) = same s
 pub peer_in-changed : (change : Socket → Socket) → ((s : Socket) → peer_of (change s).phase ≡ peer_of s.phase) → (x : Option Description) → peer_in (option_map (changed change) x) ≡ peer_in x
 peer_in-changed change same None = refl
 peer_in-changed change same (Some D) = target_peer-changed change same D.target
+
+-- ---- ends that come to wait, or no longer do
+
+pub peer_left : (p : Phase) → peer_of (phase_without_first_end p) ≡ peer_of p
+peer_left idle = refl
+peer_left (listening backlog cred) = refl
+peer_left (connected peer) = refl
+peer_left (associated target) = refl
+
+pub peer_awaiting : (e : ℕ) (p : Phase) → peer_of (phase_with_pending e p) ≡ peer_of p
+peer_awaiting e idle = refl
+peer_awaiting e (listening backlog cred) = refl
+peer_awaiting e (connected peer) = refl
+peer_awaiting e (associated target) = refl

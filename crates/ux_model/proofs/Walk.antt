@@ -1,13 +1,15 @@
 -- How a call finds its way to an outcome. Each lemma goes one branching of the definitions down, for any property of outcomes, and
 -- tells what was found there; so a property is proved of a call by naming the call's branchings in order.
 use Rattle.std.proofs.Common.{◌≡◌, ℕ, Bool, true, false, if◌then◌else◌, List, [], ◌∷◌, Option, Some, None, Result, Ok, Err, refl, ap}
-use Rattle.ux_model.specs.Types.{Errno, Fd}
-use Rattle.ux_model.specs.Names.{PathTarget, file, bound}
+use Rattle.ux_model.specs.Types.{Errno, Fd, Name, Addr, SockType}
+use Rattle.ux_model.specs.Names.{PathTarget, file, bound, named}
 use Rattle.ux_model.specs.Message.{Message}
-use Rattle.ux_model.specs.Socket.{Socket}
+use Rattle.ux_model.specs.Socket.{Socket, Phase, peer_of}
 use Rattle.ux_model.specs.Description.{Description, Target, to_object, to_socket, socket_of, socket_in}
 use Rattle.ux_model.specs.Process.{Descriptor}
 use Rattle.ux_model.specs.State.{State, description_at, socket_at}
+use Rattle.ux_model.specs.Binding.{same_kind, socket_of_target, look_up}
+use Rattle.ux_model.specs.Connecting.{peer_name}
 use Rattle.ux_model.specs.Outcome.{Outcome, refuse, on_descriptor, on_socket, descriptor_at}
 
 pub either : (Q : Outcome → Type 0) (b : Bool) (x y : Outcome) → (b ≡ true → Q x) → (b ≡ false → Q y) → Q (if b then x else y)
@@ -82,3 +84,52 @@ found_socket Q S p fd rest bad other rest_of = go (descriptor_at S p fd)
     go : (o : Option Descriptor) → Q (on_found S rest (socket_found (led S o)))
     go None = bad
     go (Some e) = there e (description_at S e.description) refl
+
+-- ---- what an address leads to
+
+abbrev typed : ℕ → Socket → Bool → Result (ℕ × Socket) Errno
+typed d s b = if b then Ok (d, s) else Err Errno.EPROTOTYPE
+
+abbrev of_kind : SockType → ℕ → Option Socket → Result (ℕ × Socket) Errno
+of_kind kind d o = elim o [ None ↦ Err Errno.ECONNREFUSED | Some s ↦ typed d s (same_kind kind s.kind) ]
+
+pub found_named : (Q : Outcome → Type 0) (S : State) (kind : SockType) (addr : Addr) (rest : ℕ → Socket → Outcome) → Q (refuse S Errno.EINVAL) → Q (refuse S Errno.ENOENT) →
+    Q (refuse S Errno.ECONNREFUSED) → Q (refuse S Errno.EPROTOTYPE) → ((d : ℕ) (s : Socket) → socket_at S d ≡ Some s → Q (rest d s)) → Q (on_found S rest (look_up S kind addr))
+found_named Q S kind addr rest bad none nobody other rest_of = by_addr addr
+  where
+    by_kind : (d : ℕ) (s : Socket) → socket_at S d ≡ Some s → (b : Bool) → Q (on_found S rest (typed d s b))
+    by_kind d s h true = rest_of d s h
+    by_kind d s h false = other
+
+    by_socket : (d : ℕ) (o : Option Socket) → socket_at S d ≡ o → Q (on_found S rest (of_kind kind d o))
+    by_socket d None h = nobody
+    by_socket d (Some s) h = by_kind d s h (same_kind kind s.kind)
+
+    at_path : (o : Option PathTarget) → Q (on_found S rest (elim o as (λ _. Result (ℕ × Socket) Errno) [ None ↦ Err Errno.ENOENT | Some t ↦ socket_of_target S kind t ]))
+    at_path None = none
+    at_path (Some (file o)) = nobody
+    at_path (Some (bound d)) = by_socket d (socket_at S d) refl
+
+    at_name : (o : Option ℕ) → Q (on_found S rest (elim o as (λ _. Result (ℕ × Socket) Errno) [ None ↦ Err Errno.ECONNREFUSED | Some d ↦ of_kind kind d (socket_at S d) ]))
+    at_name None = nobody
+    at_name (Some d) = by_socket d (socket_at S d) refl
+
+    by_addr : (a : Addr) → Q (on_found S rest (look_up S kind a))
+    by_addr Addr.Unnamed = bad
+    by_addr (Addr.Path name) = at_path (named name S.paths)
+    by_addr (Addr.Abstract name) = at_name (named name S.abstract_names)
+
+-- the name of a peer
+abbrev on_name : State → (Addr → Outcome) → Result Addr Errno → Outcome
+on_name S rest r = elim r [ Err e ↦ refuse S e | Ok name ↦ rest name ]
+
+pub found_peer : (Q : Outcome → Type 0) (S : State) (phase : Phase) (rest : Addr → Outcome) → Q (refuse S Errno.ENOTCONN) → ((name : Addr) → Q (rest name)) → Q (on_name S rest (peer_name S phase))
+found_peer Q S phase rest none rest_of = by_peer (peer_of phase)
+  where
+    by_socket : (o : Option Socket) → Q (on_name S rest (elim o as (λ _. Result Addr Errno) [ None ↦ Err Errno.ENOTCONN | Some s ↦ Ok s.name ]))
+    by_socket None = none
+    by_socket (Some s) = rest_of s.name
+
+    by_peer : (o : Option ℕ) → Q (on_name S rest (elim o as (λ _. Result Addr Errno) [ None ↦ Err Errno.ENOTCONN | Some peer ↦ elim (socket_at S peer) as (λ _. Result Addr Errno) [ None ↦ Err Errno.ENOTCONN | Some s ↦ Ok s.name ] ]))
+    by_peer None = none
+    by_peer (Some peer) = by_socket (socket_at S peer)

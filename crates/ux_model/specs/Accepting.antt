@@ -1,12 +1,14 @@
 -- Taking the oldest end that waits at a listener (accept(2)).
-use Rattle.std.specs.Prelude.{ℕ, true, drop, Option, Some, None}
-use Rattle.ux_model.specs.Types.{Addr, OpenFlags}
+use Rattle.std.specs.Prelude.{ℕ, true, drop, if◌then◌else◌, Option, Some, None, is_none, slice_get}
+use Rattle.ux_model.specs.Types.{Errno, Fd, Addr, OpenFlags, Reply}
 use Rattle.ux_model.specs.Places.{filled}
-use Rattle.ux_model.specs.Socket.{Socket, Phase, idle, listening, connected, associated, peer_of}
+use Rattle.ux_model.specs.Socket.{Socket, Phase, idle, listening, connected, associated, pending_ends, peer_of}
 use Rattle.ux_model.specs.Description.{Description, changed}
-use Rattle.ux_model.specs.Process.{descriptor}
+use Rattle.ux_model.specs.Process.{lowest_free, fd_of, descriptor}
 use Rattle.ux_model.specs.State.{State, socket_at, table_of, with_description_by, with_socket_by, with_table}
+use Rattle.ux_model.specs.Outcome.{Outcome, refuse, growing, on_socket}
 use Rattle.ux_model.specs.Descriptors.{with_flags}
+use Rattle.ux_model.specs.Connecting.{listener_of}
 
 -- ---- the client
 
@@ -46,4 +48,17 @@ without_first_end s = record s { phase = phase_without_first_end s.phase }
 -- end e, the oldest that waits at listener d, gets number n of process p
 abbrev pub with_accepted : State → ℕ → ℕ → ℕ → ℕ → OpenFlags → State
 with_accepted S p n d e flags =
-    with_socket_by (with_description_by (with_table S p (filled (table_of S p) n (descriptor flags e))) e (accepted_with flags)) d without_first_end
+    with_description_by (with_socket_by (with_table S p (filled (table_of S p) n (descriptor flags e))) d without_first_end) e (accepted_with flags)
+
+-- ---- the call
+
+-- of those that wait, the oldest
+abbrev pub accept_first : State → ℕ → ℕ → ℕ → OpenFlags → Option ℕ → Outcome
+accept_first S p n d flags None = refuse S Errno.EAGAIN
+accept_first S p n d flags (Some e) = growing (Reply.Accepted (fd_of n) (client_name S e)) (with_accepted S p n d e flags)
+
+-- accept4(2). Where no number is free, the end waits on.
+unfoldable pub accept : State → ℕ → Fd → OpenFlags → Outcome
+accept S p fd flags = on_socket S p fd (λ d s.
+    if is_none (listener_of s.phase) then refuse S Errno.EINVAL else
+    elim (lowest_free (table_of S p)) [ None ↦ refuse S Errno.EMFILE | Some n ↦ accept_first S p n d flags (slice_get (pending_ends s.phase) 0) ])

@@ -70,3 +70,7 @@ unfoldable pub bind : State → ℕ → Fd → Addr → Outcome
 bind S p fd addr = on_socket S p fd (λ d s.
     if not (is_unnamed_addr s.name) || not (is_valid_addr addr) then refuse S Errno.EINVAL else
     bind_to S d addr)
+
+-- getsockname(2)
+unfoldable pub get_sock_name : State → ℕ → Fd → Outcome
+get_sock_name S p fd = on_socket S p fd (λ d s. growing (Reply.Addr s.name) S)

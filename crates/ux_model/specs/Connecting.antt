@@ -90,3 +90,7 @@ name_at S d = elim (socket_at S d) [ None ↦ Err Errno.ENOTCONN | Some s ↦ Ok
 -- the name of the peer of a socket; ENOTCONN where it has none (getpeername(2))
 abbrev pub peer_name : State → Phase → Result Addr Errno
 peer_name S phase = elim (peer_of phase) [ None ↦ Err Errno.ENOTCONN | Some peer ↦ name_at S peer ]
+
+-- getpeername(2)
+unfoldable pub get_peer_name : State → ℕ → Fd → Outcome
+get_peer_name S p fd = on_socket S p fd (λ d s. elim (peer_name S s.phase) [ Err e ↦ refuse S e | Ok name ↦ growing (Reply.Addr name) S ])

@@ -26,7 +26,7 @@ use Rattle.ux_model.proofs.ChangedPlaces.{place-changed, length-changed, sum_by-
 use Rattle.ux_model.proofs.Making.{place-push, paired-tied}
 use Rattle.ux_model.proofs.OneGoes.{paired-changed}
 use Rattle.ux_model.proofs.Owning.{owned_still, names_given, names_changed_socket, names_push, owned-push}
-use Rattle.ux_model.proofs.Sockets.{peer_in-changed}
+use Rattle.ux_model.proofs.Sockets.{peer_in-changed, peer_left, peer_awaiting}
 use Rattle.ux_slots.specs.Held.{Held, count_at, once, Adds}
 use Rattle.ux_state.specs.declared.openings.Openings.{Openings}
 use Rattle.ux_state.specs.Keeping.{state_of, IsState}
@@ -126,18 +126,6 @@ place_left k (Some D) = by_target D.target
     by_target : (t : Target) → target_refs k (changed_target without_first_end t) + end_count k (first_of (socket_of t)) ≡ target_refs k t + 0
     by_target (to_object o) = refl
     by_target (to_socket s) = let a = phase_left k s.phase in omega (arith, a)
-
-peer_left : (p : Phase) → peer_of (phase_without_first_end p) ≡ peer_of p
-peer_left idle = refl
-peer_left (listening backlog cred) = refl
-peer_left (connected peer) = refl
-peer_left (associated target) = refl
-
-peer_awaiting : (e : ℕ) (p : Phase) → peer_of (phase_with_pending e p) ≡ peer_of p
-peer_awaiting e idle = refl
-peer_awaiting e (listening backlog cred) = refl
-peer_awaiting e (connected peer) = refl
-peer_awaiting e (associated target) = refl
 
 -- a further end counts at a listener
 awaiting_refs : (k e : ℕ) (s : Socket) (kept : Backlog × Cred) → listener_of s.phase ≡ Some kept → socket_refs k (awaiting e s) ≡ socket_refs k s + one e k
