@@ -2,8 +2,11 @@
 //! paths, which makes one call at a time.
 #![tactic(auto)]
 
+mod accepting;
+mod binding;
 mod boot;
 mod closing;
+mod connecting;
 mod descriptors;
 mod files;
 mod kernel;

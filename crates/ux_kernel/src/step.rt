@@ -65,7 +65,14 @@ impl<O: FileObject> Kernel<O> {
             Request::SetFlags { fd, flags } => self.set_flags(pid, *fd, *flags),
             Request::Close { fd } => self.close(pid, *fd),
             Request::Unlink { path } => self.unlink(path),
+            Request::Socket { flags } => self.make_socket(pid, *flags),
             Request::SocketPair { flags } => self.make_pair(pid, *flags),
+            Request::Bind { fd, addr } => self.bind(pid, *fd, addr),
+            Request::Listen { fd, backlog } => self.listen(pid, *fd, *backlog),
+            Request::Connect { fd, addr } => self.connect(pid, *fd, addr),
+            Request::Accept { fd, flags } => self.accept(pid, *fd, *flags),
+            Request::GetSockName { fd } => self.get_sock_name(pid, *fd),
+            Request::GetPeerName { fd } => self.get_peer_name(pid, *fd),
             Request::SendMsg { fd, bytes, flags } => {
                 let bytes = bytes.as_slice();
                 send_msg(&mut self.state, self.alloc, pid, tag, *fd, bytes, *flags)

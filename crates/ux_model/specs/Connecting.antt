@@ -70,16 +70,16 @@ connect_to_listener S d cred l listener kept =
 abbrev pub connect_to : State → ℕ → Cred → ℕ → Socket → Outcome
 connect_to S d cred l other = elim (listener_of other.phase) [ None ↦ refuse S Errno.ECONNREFUSED | Some kept ↦ connect_to_listener S d cred l other kept ]
 
--- by the socket that an address leads to
-abbrev pub connect_by : State → ℕ → Socket → Addr → Cred → Outcome
-connect_by S d s addr cred = elim (look_up S s.kind addr) [ Err e ↦ refuse S e | Ok found ↦ connect_to S d cred found.0 found.1 ]
+-- by the socket of this type that an address leads to
+abbrev pub connect_by : State → ℕ → SockType → Addr → Cred → Outcome
+connect_by S d kind addr cred = elim (look_up S kind addr) [ Err e ↦ refuse S e | Ok found ↦ connect_to S d cred found.0 found.1 ]
 
 -- connect(2)
 unfoldable pub connect : State → ℕ → Fd → Addr → Outcome
 connect S p fd addr = as_process S p (λ P. on_socket S p fd (λ d s.
     if not (is_valid_addr addr) || is_unnamed_addr addr || is_some (listener_of s.phase) then refuse S Errno.EINVAL else
     if is_some (peer_of s.phase) then refuse S Errno.EISCONN else
-    connect_by S d s addr (own_cred p P)))
+    connect_by S d s.kind addr (own_cred p P)))
 
 -- ---- who the peer is
 

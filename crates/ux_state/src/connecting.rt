@@ -88,8 +88,8 @@ impl<O: FileObject> State<O> {
         };
         // Its new descriptor counts before the listener no longer does.
         let fd = self.put_lowest(pid, new_entry(flags, end))?;
-        self.set_accepted(end, flags);
         self.pop_pending(listener);
+        self.set_accepted(end, flags);
         Ok(fd)
     }
 
