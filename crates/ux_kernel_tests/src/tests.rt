@@ -337,10 +337,11 @@ fn a_full_queue_takes_what_fits(rt: HostRuntime) -> Result<(), AllocError> {
     let mut machine = bare(alloc, &[process(16)])?;
     let k = &mut machine;
     let many: Vec<u8> = vec![in alloc; 120; 70000]?;
+    let most: Vec<u8> = vec![in alloc; 120; 65535]?;
     answers(&rt, k, pair(), fds(0, 1));
     answers(&rt, k, send(alloc, 0, &many)?, Reply::Count(65536));
     says_rows(&rt, alloc, k, ONE_BYTE)?;
-    answers(&rt, k, recv(1, 65535, 0), got(alloc, &many[..65535])?);
+    answers(&rt, k, recv(1, 65535, 0), got(alloc, &most)?);
     answers(&rt, k, recv(1, 8, 0), got(alloc, b"y")?);
     Ok(())
 }
