@@ -1,3 +1,4 @@
 pub mod Processes
 pub mod Boots
 pub mod FileCalls
+pub mod Listening

@@ -28,7 +28,6 @@ impl<O: FileObject> Kernel<O> {
         requires { IsTrue (is_live self.old pid.0) }
         ensures { Gives self.old (model.listen self.old pid.0 fd backlog) result self.new }
     {
-        let cred = self.state.credentials(pid);
         let (id, socket) = match self.state.find_socket(pid, fd) {
             Ok(found) => found,
             Err(e) => return Err(Refusal::from(e)),
@@ -39,6 +38,7 @@ impl<O: FileObject> Kernel<O> {
         if socket.is_unnamed() {
             return Err(Refusal::Answer(Errno::EDESTADDRREQ));
         }
+        let cred = self.state.credentials(pid);
         self.state.listen(id, backlog, cred);
         Ok(Reply::Ok)
     }

@@ -1,6 +1,6 @@
 -- Of each call: that its outcome obeys what all do. One lemma a call, and one line of `each_obeys`, at the end. Those of names and connections
 -- stand in NameCalls.
-use Rattle.std.proofs.Common.{◌≡◌, ℕ, suc, ◌≤◌, ◌<◌, Bool, true, false, not, ◌&&◌, ◌||◌, ◌==◌, if◌then◌else◌, cond, List, [], ◌∷◌, ◌++◌, length, map, Option, Some, None, Result, Ok, Err, refl, ap, sym, ◌∙◌, subst, arith}
+use Rattle.std.proofs.Common.{◌≡◌, ℕ, suc, ◌≤◌, ◌<◌, Bool, true, false, not, ◌&&◌, ◌==◌, if◌then◌else◌, cond, List, [], ◌∷◌, ◌++◌, length, map, Option, Some, None, Result, Ok, Err, refl, ap, sym, ◌∙◌, subst, arith}
 use Rattle.std.specs.Prelude.{min, nat_le, nat_lt, ℤ, pos, negsuc, ◌+ℤ◌, is_none, is_some, count_by}
 use Rattle.std.proofs.lemmas.Bool.{eqb-true, eq-eqb}
 use Rattle.std.proofs.lemmas.List.{length_push}
@@ -9,7 +9,7 @@ use Rattle.ux_model.specs.Types.{Errno, Fd, Name, SockType, Mode, OpenFlags, Msg
 use Rattle.ux_model.specs.Places.{place, filled}
 use Rattle.ux_model.specs.Limits.{read_limit, offset_limit}
 use Rattle.ux_model.specs.Flags.{are_send_flags, are_receive_flags, asks_peek, asks_cloexec, can_read, can_write, no_flags}
-use Rattle.ux_model.specs.Object.{Body, View, ObjectError, would_block, full, invalid, read_body, write_body, is_memory, is_pipe, with_body, can_fail, after_failure}
+use Rattle.ux_model.specs.Object.{Body, View, ObjectError, would_block, full, invalid, read_body, write_body, is_memory, is_pipe, with_body, after_failure}
 use Rattle.ux_model.specs.Names.{PathTarget, file, same_name, named, is_valid_path}
 use Rattle.ux_model.specs.Message.{Message}
 use Rattle.ux_model.specs.Front.{stream_front}
@@ -18,12 +18,12 @@ use Rattle.ux_model.specs.Description.{Description, to_object, to_socket, socket
 use Rattle.ux_model.specs.Process.{Process, Descriptor, own_cred, lowest_free, two_lowest_free, descriptor, copy_of, with_cloexec}
 use Rattle.ux_model.specs.State.{State, process_at, description_at, socket_at, table_of, next_description, with_object, with_description, with_socket_by, with_table, with_new}
 use Rattle.ux_model.specs.References.{times, queue_refs, path_names, orefs}
-use Rattle.ux_model.specs.Outcome.{Outcome, Chosen, own, lacking_memory, failing, refuse, descriptor_at}
+use Rattle.ux_model.specs.Outcome.{Outcome, Chosen, own, lacking_memory, failing, descriptor_at}
 use Rattle.ux_model.specs.Naming.{unlink}
 use Rattle.ux_model.specs.Pairing.{make_pair, with_pair}
 use Rattle.ux_model.specs.Sending.{send_msg, send_to_peer, send_connected, message_of}
 use Rattle.ux_model.specs.Receiving.{recv_msg, receive, receive_nothing, receive_bytes, bytes_alone}
-use Rattle.ux_model.specs.FileObjects.{or_failing, holds_bytes, is_open_for}
+use Rattle.ux_model.specs.FileObjects.{holds_bytes, is_open_for}
 use Rattle.ux_model.specs.Opening.{open_file, file_description}
 use Rattle.ux_model.specs.Reading.{read, read_answer, read_error, offset_after_read, is_short_read}
 use Rattle.ux_model.specs.Writing.{write, write_answer, offset_after_write, write_place}

@@ -1,14 +1,14 @@
 -- A socket that is connected to a new end, which waits at another, keeps that nothing dangles: the end is made, waits, and gets its peer.
-use Rattle.std.proofs.Common.{◌≡◌, ℕ, zero, suc, ◌+◌, ◌≤◌, ◌<◌, ◌==◌, Bool, true, false, cond, List, [], ◌∷◌, ◌++◌, length, set, Option, Some, None, refl, ap, sym, subst, ◌∙◌, arith}
+use Rattle.std.proofs.Common.{◌≡◌, ℕ, ◌+◌, ◌≤◌, ◌<◌, ◌==◌, true, false, cond, List, [], ◌∷◌, ◌++◌, length, Option, Some, None, refl, ap, sym, subst, ◌∙◌, arith}
 use Rattle.std.specs.Prelude.{is_some, option_map}
-use Rattle.std.proofs.lemmas.Bool.{eqb-true, ne_eqb}
+use Rattle.std.proofs.lemmas.Bool.{eqb-true}
 use Rattle.std.proofs.lemmas.List.Sums.{sum_by_push}
-use Rattle.ux_model.specs.Types.{Cred, Name, Addr}
+use Rattle.ux_model.specs.Types.{Cred}
 use Rattle.ux_model.specs.Places.{place, changed_place}
 use Rattle.ux_model.specs.Socket.{Socket, Phase, idle, listening, connected, associated, peer_of, pending_ends, phase_with_pending, awaiting}
 use Rattle.ux_model.specs.Description.{Description, Target, to_object, to_socket, socket_in, changed, changed_target}
 use Rattle.ux_model.specs.State.{State, description_at, socket_at, with_socket_by, with_new}
-use Rattle.ux_model.specs.References.{times, queue_refs, socket_refs, target_refs, leads_to}
+use Rattle.ux_model.specs.References.{times, socket_refs, target_refs, leads_to}
 use Rattle.ux_model.specs.Pairing.{socket_description}
 use Rattle.ux_model.specs.Connecting.{server_end, no_open_flags, tied, with_connection}
 use Rattle.ux_model.specs.Peers.{target_peer, peer_in, Paired, at_target, at_socket}

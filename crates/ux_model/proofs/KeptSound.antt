@@ -12,7 +12,7 @@ use Rattle.ux_model.specs.Description.{Description, Target, to_object, to_socket
 use Rattle.ux_model.specs.Process.{Process}
 use Rattle.ux_model.specs.State.{State, description_at, with_object, with_new}
 use Rattle.ux_model.specs.References.{table_refs, target_refs, description_refs, path_names, leads_to, is_open_of, refs, orefs}
-use Rattle.ux_model.specs.Peers.{target_peer, peer_in, Paired, at_target, at_socket, HoldsNothing}
+use Rattle.ux_model.specs.Peers.{target_peer, peer_in, at_target, at_socket, HoldsNothing}
 use Rattle.ux_model.specs.Closing.{with_nothing_open}
 use Rattle.ux_model.specs.Invariants.{pends, pends_at_all}
 use Rattle.ux_model.proofs.Moves.{process_counts, new_counts, new_counts_at_object}

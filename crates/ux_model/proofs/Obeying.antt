@@ -1,6 +1,6 @@
 -- What each call's outcome obeys: what a refusal leaves, and that what else it leaves comes of the state by the changes of Reaching, where
 -- a file object is as before or held open.
-use Rattle.std.proofs.Common.{◌≡◌, ℕ, Bool, true, false, ◌||◌, if◌then◌else◌, Option, Some, None, refl, ap, sym, subst}
+use Rattle.std.proofs.Common.{◌≡◌, ℕ, Bool, true, false, ◌||◌, if◌then◌else◌, Some, None, refl, ap, sym, subst}
 use Rattle.std.specs.Prelude.{is_some}
 use Rattle.ux_model.specs.Types.{Errno, Reply}
 use Rattle.ux_model.specs.Places.{place}

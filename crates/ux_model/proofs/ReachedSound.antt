@@ -1,5 +1,5 @@
 -- What comes of a state by the changes of a call dangles nowhere, if that state doesn't. One line a change.
-use Rattle.std.proofs.Common.{◌≡◌, ℕ, Bool, refl, sym, subst}
+use Rattle.std.proofs.Common.{◌≡◌, Bool, refl, sym, subst}
 use Rattle.ux_model.specs.State.{State}
 use Rattle.ux_model.specs.Peers.{Paired}
 use Rattle.ux_model.proofs.Sound.{IsHeld, IsSound}
