@@ -6,14 +6,14 @@ use Rattle.ux_syntax.specs.declared.fault.Fault.{Fault}
 use Rattle.ux_syntax.specs.declared.fault.Fault.TheVariants.{BadLine}
 use Rattle.ux_syntax.specs.declared.calls.CallWord.{CallWord}
 use Rattle.ux_syntax.specs.Trace.{dash, word_text, request_word}
-use Rattle.ux_syntax.specs.Spelling.{Control, bare, Written, open_path, read_fd, write_fd, seek, dup_fd, dup_onto, set_flags, close, unlink_path, pair, send, recv, exit, meaning, control_text, args_of, FitsControl, FitsCall}
-use Rattle.ux_syntax.specs.Reading.{◌>>=◌, exactly, dash_at, control_at, open_at, read_at, write_at, lseek_at, dup_at, dup2_at, set_flags_at, close_at, unlink_at, pair_at, send_at, recv_at, exit_at, all_words, word_at, args_at}
+use Rattle.ux_syntax.specs.Spelling.{Control, bare, Written, open_path, read_fd, write_fd, seek, dup_fd, dup_onto, set_flags, close, unlink_path, socket, pair, bind, listen, connect, accept, sock_name, peer_name, send, recv, exit, meaning, control_text, args_of, FitsControl, FitsCall}
+use Rattle.ux_syntax.specs.Reading.{◌>>=◌, exactly, dash_at, control_at, open_at, read_at, write_at, lseek_at, dup_at, dup2_at, set_flags_at, close_at, unlink_at, socket_at, pair_at, bind_at, listen_at, connect_at, accept_at, sock_name_at, peer_name_at, send_at, recv_at, exit_at, all_words, word_at, args_at}
 use Rattle.ux_syntax.proofs.Rows.{IsSolid, IsBadOrOk, IsKind, IsRow, bind_ok, bind_bad, solid_from, ends_row, row_then, exactly_kind, number_kind}
 use Rattle.ux_syntax.proofs.Bytes.{dash_solid, hex_kind}
 use Rattle.ux_syntax.proofs.Flags.{open_flags_kind, msg_flags_kind}
 use Rattle.ux_syntax.proofs.Choices.{chosen_takes, chosen_bad, mode_kind, whence_kind}
-use Rattle.ux_syntax.proofs.Offsets.{offset_kind}
-use Rattle.ux_syntax.proofs.Names.{path_kind}
+use Rattle.ux_syntax.proofs.Offsets.{offset_kind, backlog_kind}
+use Rattle.ux_syntax.proofs.Names.{path_kind, addr_kind}
 
 dash_kind : IsKind dash_at (λ _. dash) (λ _. Unit {0})
 dash_kind = exactly_kind dash dash_solid
@@ -62,7 +62,7 @@ made {X = X} {read = read} word make row spelled ws = made_of (read ws) refl
 -- ---- three laws a word, and its letters in `word_facts`
 
 args_read : (word : CallWord) (ws : List (List ℕ)) → IsReading word ws (args_at word ws)
-unfolding open_at read_at write_at lseek_at dup_at dup2_at set_flags_at close_at unlink_at pair_at send_at recv_at exit_at
+unfolding open_at read_at write_at lseek_at dup_at dup2_at set_flags_at close_at unlink_at socket_at pair_at bind_at listen_at connect_at accept_at sock_name_at peer_name_at send_at recv_at exit_at
 args_read CallWord.Open = made CallWord.Open (λ x. open_path x.0 x.1.0 x.1.1.0) (row_then path_kind (row_then mode_kind (row_then open_flags_kind ends_row))) (λ x f. (refl, refl, (f.0, f.1.1.0)))
 args_read CallWord.Read = made CallWord.Read (λ x. read_fd x.0 x.1.0) (row_then number_kind (row_then number_kind ends_row)) (λ x f. (refl, refl, (f.0, f.1.0)))
 args_read CallWord.Write = made CallWord.Write (λ x. write_fd x.0 x.1.0) (row_then number_kind (row_then hex_kind ends_row)) (λ x f. (refl, refl, (f.0, f.1.0)))
@@ -72,14 +72,21 @@ args_read CallWord.Dup2 = made CallWord.Dup2 (λ x. dup_onto x.0 x.1.0) (row_the
 args_read CallWord.Flags = made CallWord.Flags (λ x. set_flags x.0 x.1.0) (row_then number_kind (row_then open_flags_kind ends_row)) (λ x f. (refl, refl, (f.0, f.1.0)))
 args_read CallWord.Close = made CallWord.Close (λ x. close x.0) (row_then number_kind ends_row) (λ x f. (refl, refl, f.0))
 args_read CallWord.Unlink = made CallWord.Unlink (λ x. unlink_path x.0) (row_then path_kind ends_row) (λ x f. (refl, refl, f.0))
+args_read CallWord.Socket = made CallWord.Socket (λ x. socket x.1.0) (row_then stream_kind (row_then open_flags_kind ends_row)) (λ x f. (refl, refl, f.1.0))
 args_read CallWord.Pair = made CallWord.Pair (λ x. pair x.1.0) (row_then stream_kind (row_then open_flags_kind ends_row)) (λ x f. (refl, refl, f.1.0))
+args_read CallWord.Bind = made CallWord.Bind (λ x. bind x.0 x.1.0) (row_then number_kind (row_then addr_kind ends_row)) (λ x f. (refl, refl, (f.0, f.1.0)))
+args_read CallWord.Listen = made CallWord.Listen (λ x. listen x.0 x.1.0) (row_then number_kind (row_then backlog_kind ends_row)) (λ x f. (refl, refl, (f.0, f.1.0)))
+args_read CallWord.Connect = made CallWord.Connect (λ x. connect x.0 x.1.0) (row_then number_kind (row_then addr_kind ends_row)) (λ x f. (refl, refl, (f.0, f.1.0)))
+args_read CallWord.Accept = made CallWord.Accept (λ x. accept x.0 x.1.0) (row_then number_kind (row_then open_flags_kind ends_row)) (λ x f. (refl, refl, (f.0, f.1.0)))
+args_read CallWord.SockName = made CallWord.SockName (λ x. sock_name x.0) (row_then number_kind ends_row) (λ x f. (refl, refl, f.0))
+args_read CallWord.PeerName = made CallWord.PeerName (λ x. peer_name x.0) (row_then number_kind ends_row) (λ x f. (refl, refl, f.0))
 args_read CallWord.Send = made CallWord.Send (λ x. send x.0 x.1.1.0 x.1.1.1.0 x.1.1.1.1.0) (row_then number_kind (row_then dash_kind (row_then hex_kind (row_then control_kind (row_then msg_flags_kind ends_row))))) (λ x f. (refl, refl, (f.0, f.1.1.0, f.1.1.1.0, f.1.1.1.1.0)))
 args_read CallWord.Recv = made CallWord.Recv (λ x. recv x.0 x.1.0 x.1.1.0 x.1.1.1.0) (row_then number_kind (row_then number_kind (row_then number_kind (row_then msg_flags_kind ends_row)))) (λ x f. (refl, refl, (f.0, f.1.0, f.1.1.0, f.1.1.1.0)))
 args_read CallWord.Exit = made CallWord.Exit (λ x. exit) ends_row (λ x f. (refl, refl, tt))
 args_read CallWord.Off = λ ws. refl
 
 pub args_again : (c : Written) → FitsCall c → args_at (request_word (meaning c)) (args_of c) ≡ Ok (meaning c)
-unfolding open_at read_at write_at lseek_at dup_at dup2_at set_flags_at close_at unlink_at pair_at send_at recv_at exit_at exactly
+unfolding open_at read_at write_at lseek_at dup_at dup2_at set_flags_at close_at unlink_at socket_at pair_at bind_at listen_at connect_at accept_at sock_name_at peer_name_at send_at recv_at exit_at exactly
 args_again (open_path path mode flags) f = rw (path_kind.again path f.0, mode_kind.again mode tt, open_flags_kind.again flags f.1) refl
 args_again (read_fd fd n) f = rw (number_kind.again fd f.0, number_kind.again n f.1) refl
 args_again (write_fd fd bytes) f = rw (number_kind.again fd f.0, hex_kind.again bytes f.1) refl
@@ -89,7 +96,14 @@ args_again (dup_onto fd other) f = rw (number_kind.again fd f.0, number_kind.aga
 args_again (set_flags fd flags) f = rw (number_kind.again fd f.0, open_flags_kind.again flags f.1) refl
 args_again (close fd) f = rw (number_kind.again fd f) refl
 args_again (unlink_path path) f = rw (path_kind.again path f) refl
+args_again (socket flags) f = rw (open_flags_kind.again flags f) refl
 args_again (pair flags) f = rw (open_flags_kind.again flags f) refl
+args_again (bind fd addr) f = rw (number_kind.again fd f.0, addr_kind.again addr f.1) refl
+args_again (listen fd backlog) f = rw (number_kind.again fd f.0, backlog_kind.again backlog f.1) refl
+args_again (connect fd addr) f = rw (number_kind.again fd f.0, addr_kind.again addr f.1) refl
+args_again (accept fd flags) f = rw (number_kind.again fd f.0, open_flags_kind.again flags f.1) refl
+args_again (sock_name fd) f = rw (number_kind.again fd f) refl
+args_again (peer_name fd) f = rw (number_kind.again fd f) refl
 args_again (send fd bytes control flags) f = rw (number_kind.again fd f.0, hex_kind.again bytes f.1, control_kind.again control f.2, msg_flags_kind.again flags f.3) refl
 args_again (recv fd n space flags) f = rw (number_kind.again fd f.0, number_kind.again n f.1, number_kind.again space f.2, msg_flags_kind.again flags f.3) refl
 args_again exit f = refl
@@ -104,7 +118,14 @@ args_solid (dup_onto fd other) f = (number_kind.solid fd f.0, (number_kind.solid
 args_solid (set_flags fd flags) f = (number_kind.solid fd f.0, (open_flags_kind.solid flags f.1, tt))
 args_solid (close fd) f = (number_kind.solid fd f, tt)
 args_solid (unlink_path path) f = (path_kind.solid path f, tt)
+args_solid (socket flags) f = (stream_kind.solid tt tt, (open_flags_kind.solid flags f, tt))
 args_solid (pair flags) f = (stream_kind.solid tt tt, (open_flags_kind.solid flags f, tt))
+args_solid (bind fd addr) f = (number_kind.solid fd f.0, (addr_kind.solid addr f.1, tt))
+args_solid (listen fd backlog) f = (number_kind.solid fd f.0, (backlog_kind.solid backlog f.1, tt))
+args_solid (connect fd addr) f = (number_kind.solid fd f.0, (addr_kind.solid addr f.1, tt))
+args_solid (accept fd flags) f = (number_kind.solid fd f.0, (open_flags_kind.solid flags f.1, tt))
+args_solid (sock_name fd) f = (number_kind.solid fd f, tt)
+args_solid (peer_name fd) f = (number_kind.solid fd f, tt)
 args_solid (send fd bytes control flags) f = (number_kind.solid fd f.0, (dash_solid, (hex_kind.solid bytes f.1, (control_kind.solid control f.2, (msg_flags_kind.solid flags f.3, tt)))))
 args_solid (recv fd n space flags) f = (number_kind.solid fd f.0, (number_kind.solid n f.1, (number_kind.solid space f.2, (msg_flags_kind.solid flags f.3, tt))))
 args_solid exit f = tt
@@ -121,7 +142,14 @@ word_facts (dup_onto fd other) = (refl, refl)
 word_facts (set_flags fd flags) = (refl, refl)
 word_facts (close fd) = (refl, refl)
 word_facts (unlink_path path) = (refl, refl)
+word_facts (socket flags) = (refl, refl)
 word_facts (pair flags) = (refl, refl)
+word_facts (bind fd addr) = (refl, refl)
+word_facts (listen fd backlog) = (refl, refl)
+word_facts (connect fd addr) = (refl, refl)
+word_facts (accept fd flags) = (refl, refl)
+word_facts (sock_name fd) = (refl, refl)
+word_facts (peer_name fd) = (refl, refl)
 word_facts (send fd bytes control flags) = (refl, refl)
 word_facts (recv fd n space flags) = (refl, refl)
 word_facts exit = (refl, refl)

@@ -1,8 +1,8 @@
 -- Reading on, a byte at a time.
-use Rattle.std.proofs.Common.{◌≡◌, ◌⊎◌, inl, inr, ℕ, suc, ◌+◌, ◌<◌, ◌≤◌, Bool, true, false, cond, ltb, eqb, List, [], ◌∷◌, ◌++◌, length, Option, Some, None, Result, Ok, Err, refl, ap, sym, ◌∙◌, subst, append_assoc, arith, length-append}
+use Rattle.std.proofs.Common.{◌≡◌, ◌⊎◌, inl, inr, ℕ, suc, ◌<◌, ◌≤◌, Bool, true, false, cond, eqb, List, [], ◌∷◌, ◌++◌, length, Option, Some, None, Result, Ok, Err, refl, ap, sym, ◌∙◌, subst, append_assoc, arith, length-append}
 use Rattle.std.specs.Prelude.{take, IfSome, IfOk, IfErr, IsErrAnd}
 use Rattle.std.specs.Io.KnownBytes.{Consumes, Keeps, IsAtEnd}
-use Rattle.std.specs.List.{slice_split, onto_first}
+use Rattle.std.specs.List.{onto_first}
 use Rattle.std.proofs.lemmas.Bool.{lt-ltb}
 use Rattle.std.proofs.lemmas.List.{append-nil}
 use Rattle.ux_syntax.specs.declared.fault.Fault.{Fault}
@@ -11,7 +11,7 @@ use Rattle.ux_syntax.specs.declared.fault.LineError.{LineError}
 use Rattle.ux_syntax.specs.declared.fault.ScriptFault.{ScriptFault}
 use Rattle.ux_syntax.specs.declared.script.Script.{Script}
 use Rattle.ux_syntax.specs.Spelling.{Plan, plan_of, lines_of, Spells, IsOrderly}
-use Rattle.ux_syntax.specs.Reading.{◌>>=◌, item_at, line_at, line_fault, on_line, lines_at, no_lines, script_at}
+use Rattle.ux_syntax.specs.Reading.{item_at, line_at, line_fault, on_line, lines_at, no_lines, script_at}
 use Rattle.ux_syntax.specs.Results.{Fails, FailsAt, Refuses, fault_at, GivesScript}
 use Rattle.ux_syntax.specs.Continuing.{onto_front, continued, Found}
 use Rattle.ux_syntax.proofs.Scripts.{gives_found, gives_orderly, gives_only, gives_fault}

@@ -6,8 +6,8 @@ use Rattle.ux_model.specs.Types.{ProcSpec}
 use Rattle.ux_object.specs.declared.ObjKind.{ObjKind}
 use Rattle.ux_syntax.specs.declared.script.ObjectLine.{ObjectLine}
 use Rattle.ux_syntax.specs.declared.script.Header.{Header}
-use Rattle.ux_syntax.specs.Trace.{hex}
-use Rattle.ux_syntax.specs.Spelling.{bit, path_text, kind_text, body_words, AreBytes, FitsBody, FitsHeader}
+use Rattle.ux_syntax.specs.Trace.{hex, path_text}
+use Rattle.ux_syntax.specs.Spelling.{bit, kind_text, body_words, AreBytes, FitsBody, FitsHeader}
 use Rattle.ux_syntax.specs.Reading.{◌>>=◌, one, ends, ◌>>◌, hex_at, path_at, kind_at, body_at, contents_at, object_at, proc_at}
 use Rattle.ux_syntax.proofs.Rows.{IsSolid, IsBadOrOk, IsRow, bind_ok, bind_bad, one_bad, ok_is, ends_row, row_then, number_kind}
 use Rattle.ux_syntax.proofs.Bytes.{hex_kind, bit_kind}

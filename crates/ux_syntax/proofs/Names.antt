@@ -1,13 +1,19 @@
--- Names and paths.
-use Rattle.std.proofs.Common.{◌≡◌, ℕ, zero, suc, ◌+◌, ◌-◌, ◌*◌, ◌/◌, ◌%◌, ◌<◌, ◌≤◌, ◌&&◌, Bool, true, false, cond, eqb, leb, List, [], ◌∷◌, ◌++◌, length, Result, Ok, Err, refl, ap, sym, ◌∙◌, subst, not, arith}
-use Rattle.std.specs.Fmt.{digit_glyph}
-use Rattle.std.proofs.lemmas.Bool.{and_parts, leb-true, eqb-true, not-true}
-use Rattle.std.proofs.lemmas.List.{append-nil, length-append}
+-- Names, paths and addresses.
+use Rattle.std.proofs.Common.{◌≡◌, codes, lit<, ℕ, zero, suc, ◌+◌, ◌-◌, ◌*◌, ◌/◌, ◌%◌, ◌<◌, ◌≤◌, ◌^◌, ◌&&◌, get_or, take, Bool, true, false, cond, eqb, leb, List, [], ◌∷◌, ◌++◌, length, Result, Ok, Err, refl, ap, sym, ◌∙◌, subst, not, arith}
+use Rattle.std.specs.Char.{encode_utf8}
+use Rattle.std.specs.Fmt.{digit_glyph, padded_integral, format_spec, digits}
+use Rattle.std.specs.Str.{bytes_eq}
+use Rattle.std.proofs.lemmas.Bool.{and_parts, leb-true, eqb-true, eq-eqb, not-true}
+use Rattle.std.proofs.lemmas.List.{append-nil, length-append, take_more, flat_map_more}
+use Rattle.std.proofs.lemmas.Fmt.{hex_byte}
+use Rattle.std.proofs.lemmas.Str.{encode_ascii}
+use Rattle.std.proofs.lemmas.Slice.Eq.{bytes_eq-Decides}
+use Rattle.ux_model.specs.Types.{Addr}
 use Rattle.ux_syntax.specs.declared.fault.Fault.{Fault}
 use Rattle.ux_syntax.specs.declared.fault.Fault.TheVariants.{BadLine}
-use Rattle.ux_syntax.specs.Trace.{digit_pair}
-use Rattle.ux_syntax.specs.Spelling.{AreBytes, stands, name_byte, name_text, path_text}
-use Rattle.ux_syntax.specs.Reading.{◌>>=◌, digit_at, plain_at, escaped_at, byte_at, name_upto, name_at, path_at}
+use Rattle.ux_syntax.specs.Trace.{digit_pair, stands, name_byte, name_text, lettered, path_text, addr_text}
+use Rattle.ux_syntax.specs.Spelling.{AreBytes, FitsAddr}
+use Rattle.ux_syntax.specs.Reading.{◌>>=◌, digit_at, plain_at, escaped_at, byte_at, name_upto, name_at, lettered_at, path_at, letter_at, addr_at}
 use Rattle.ux_syntax.proofs.Rows.{IsSolid, IsBadOrOk, IsKind, bind_ok, done, ok_is, guard_bad, either_bad, bind_bad}
 use Rattle.ux_syntax.proofs.Bytes.{digit_takes, digit_again, digit_bad, glyph_solid}
 use Rattle.ux_syntax.proofs.Flags.{solid_append}
@@ -139,33 +145,80 @@ name_bad zero (c ∷ cs) = refl
 name_bad (suc n) [] = tt
 name_bad (suc n) (c ∷ cs) = bind_bad (byte_at (c ∷ cs)) _ (byte_bad (c ∷ cs)) (λ x. bind_bad (name_upto n x.1) _ (name_bad n x.1) (λ bytes. tt))
 
--- ---- a path
+-- ---- a name behind a letter
 
-path_chosen : (p colon : ℕ) (name bs : List ℕ) (t u : Bool) → (t ≡ true → p ≡ 112) → (u ≡ true → colon ≡ 58) → cond (t && u) (name_at name) (Err BadLine) ≡ Ok bs → (p ∷ colon ∷ name ≡ path_text bs) × AreBytes bs
+lettered_chosen : (letter c colon : ℕ) (name bs : List ℕ) (t u : Bool) → (t ≡ true → c ≡ letter) → (u ≡ true → colon ≡ 58) → cond (t && u) (name_at name) (Err BadLine) ≡ Ok bs → (c ∷ colon ∷ name ≡ lettered letter bs) × AreBytes bs
 unfolding name_at
-path_chosen p colon name bs true true d f e =
+lettered_chosen letter c colon name bs true true d f e =
     let q = name_takes (length name) name bs e in
-    (ap (λ (x : ℕ). x ∷ colon ∷ name) (d refl) ∙ ap (λ (x : ℕ). 112 ∷ x ∷ name) (f refl) ∙ ap (λ (x : List ℕ). 112 ∷ 58 ∷ x) q.0, q.1)
-path_chosen p colon name bs true false d f e = absurd cc
-path_chosen p colon name bs false u d f e = absurd cc
+    (ap (λ (x : ℕ). x ∷ colon ∷ name) (d refl) ∙ ap (λ (x : ℕ). letter ∷ x ∷ name) (f refl) ∙ ap (λ (x : List ℕ). letter ∷ 58 ∷ x) q.0, q.1)
+lettered_chosen letter c colon name bs true false d f e = absurd cc
+lettered_chosen letter c colon name bs false u d f e = absurd cc
 
-path_takes : (w bs : List ℕ) → path_at w ≡ Ok bs → (w ≡ path_text bs) × AreBytes bs
-path_takes [] bs e = absurd cc
-path_takes (p ∷ []) bs e = absurd cc
-path_takes (p ∷ colon ∷ name) bs e = path_chosen p colon name bs (eqb p 112) (eqb colon 58) (eqb-true p 112) (eqb-true colon 58) e
+lettered_takes : (letter : ℕ) (w bs : List ℕ) → lettered_at letter w ≡ Ok bs → (w ≡ lettered letter bs) × AreBytes bs
+lettered_takes letter [] bs e = absurd cc
+lettered_takes letter (c ∷ []) bs e = absurd cc
+lettered_takes letter (c ∷ colon ∷ name) bs e = lettered_chosen letter c colon name bs (eqb c letter) (eqb colon 58) (eqb-true c letter) (eqb-true colon 58) e
 
-path_again : (bs : List ℕ) → AreBytes bs → path_at (path_text bs) ≡ Ok bs
+lettered_again : (letter : ℕ) (bs : List ℕ) → AreBytes bs → lettered_at letter (lettered letter bs) ≡ Ok bs
 unfolding name_at
-path_again bs f = name_again (length (name_text bs)) bs (omega arith) f
+lettered_again letter bs f = rw (eq-eqb letter letter refl) (name_again (length (name_text bs)) bs (omega arith) f)
 
-path_bad : (w : List ℕ) → IsBadOrOk (path_at w)
+lettered_bad : (letter : ℕ) (w : List ℕ) → IsBadOrOk (lettered_at letter w)
 unfolding name_at
-path_bad [] = refl
-path_bad (p ∷ []) = refl
-path_bad (p ∷ colon ∷ name) = either_bad (eqb p 112 && eqb colon 58) _ _ (name_bad (length name) name) refl
+lettered_bad letter [] = refl
+lettered_bad letter (c ∷ []) = refl
+lettered_bad letter (c ∷ colon ∷ name) = either_bad (eqb c letter && eqb colon 58) _ _ (name_bad (length name) name) refl
+
+lettered_kind : (letter : ℕ) → 32 < letter → IsKind (lettered_at letter) (lettered letter) AreBytes
+lettered_kind letter h = record {
+  takes = lettered_takes letter;
+  bad = lettered_bad letter;
+  again = lettered_again letter;
+  solid = λ bs f. (h, (omega arith, name_solid bs f));
+}
 
 pub path_kind : IsKind path_at path_text AreBytes
-path_kind = record { takes = path_takes; bad = path_bad; again = path_again; solid = λ bs f. (omega arith, (omega arith, name_solid bs f)) }
+path_kind = lettered_kind 112 (lit< tt)
+
+-- ---- an address
+
+abstract_kind : IsKind (lettered_at 97) (lettered 97) AreBytes
+abstract_kind = lettered_kind 97 (lit< tt)
+
+abbrev IsAddrText : List ℕ → Addr → Type 0
+IsAddrText w a = (w ≡ addr_text a) × FitsAddr a
+
+addr_chosen : (w : List ℕ) (a : Addr) (t u : Bool) → (t ≡ true → w ≡ codes "u")
+    → cond t (done Addr.Unnamed) (cond u (path_at w >>= λ name. Ok (Addr.Path name)) (lettered_at 97 w >>= λ name. Ok (Addr.Abstract name))) ≡ Ok a → IsAddrText w a
+addr_chosen w a true u d e = subst (IsAddrText w) (ok_is Addr.Unnamed a e) (d refl, tt)
+addr_chosen w a false true d e =
+    let x = bind_ok (path_at w) (λ name. Ok (Addr.Path name)) a e in
+    subst (IsAddrText w) (ok_is (Addr.Path x.0) a x.2) (path_kind.takes w x.0 x.1)
+addr_chosen w a false false d e =
+    let x = bind_ok (lettered_at 97 w) (λ name. Ok (Addr.Abstract name)) a e in
+    subst (IsAddrText w) (ok_is (Addr.Abstract x.0) a x.2) (abstract_kind.takes w x.0 x.1)
+
+addr_again : (a : Addr) → FitsAddr a → addr_at (addr_text a) ≡ Ok a
+unfolding addr_at
+addr_again Addr.Unnamed f = refl
+addr_again (Addr.Path name) f = rw (path_kind.again name f) refl
+addr_again (Addr.Abstract name) f = rw (abstract_kind.again name f) refl
+
+addr_solid : (a : Addr) → FitsAddr a → IsSolid (addr_text a)
+addr_solid Addr.Unnamed f = (lit< tt, tt)
+addr_solid (Addr.Path name) f = path_kind.solid name f
+addr_solid (Addr.Abstract name) f = abstract_kind.solid name f
+
+pub addr_kind : IsKind addr_at addr_text FitsAddr
+unfolding addr_at
+addr_kind = record {
+  takes = λ w a e. addr_chosen w a (bytes_eq w (codes "u")) (letter_at 112 w).0 (bytes_eq-Decides w (codes "u")).0 e;
+  bad = λ w. either_bad (bytes_eq w (codes "u")) (Ok Addr.Unnamed) _ tt
+      (either_bad (letter_at 112 w).0 _ _ (bind_bad (path_at w) _ (path_kind.bad w) (λ name. tt)) (bind_bad (lettered_at 97 w) _ (abstract_kind.bad w) (λ name. tt)));
+  again = addr_again;
+  solid = addr_solid;
+}
 
 -- ---- a name as a loop reads it
 
@@ -214,3 +267,15 @@ pub name_shorter : (rest : List ℕ) (x : ℕ × List ℕ) → byte_at rest ≡ 
 name_shorter rest x e =
     let p = byte_takes rest x e in
     omega (arith, ap (λ (v : List ℕ). length v) p.0, length-append (name_byte x.0) x.1, byte_long x.0 (stands x.0))
+
+-- ---- a name as a loop writes it
+
+pub text_more : (bytes : List ℕ) (i : ℕ) (text : List ℕ) → i < length bytes → name_byte (get_or bytes i 0) ≡ text → name_text (take i bytes) ++ text ≡ name_text (take (i + 1) bytes)
+text_more bytes i text lt e = rw (← e, take_more bytes i 0 lt) (flat_map_more name_byte [] (take i bytes) (get_or bytes i 0))
+
+-- a byte that stands for itself is a character
+pub plain_text : (b : ℕ) → stands b ≡ true → name_byte b ≡ encode_utf8 b
+plain_text b s = rw s (sym (encode_ascii b (omega (arith, (stands_means b s).1))))
+
+pub escaped_text : (b : ℕ) → stands b ≡ false → b < 256 → name_byte b ≡ 37 ∷ padded_integral (format_spec 32 0 4 2 (2 ^ 64 - 1)) false [] (digits 16 false b)
+escaped_text b s small = rw (s, hex_byte false b small) refl

@@ -1,5 +1,5 @@
 -- Offsets: digits, behind a minus below 0.
-use Rattle.std.proofs.Common.{◌≡◌, ℕ, zero, suc, ◌<◌, ◌≤◌, ◌^◌, ◌&&◌, Bool, true, false, eqb, leb, not, List, [], ◌∷◌, length, Result, Ok, Err, refl, ap, sym, ◌∙◌, subst, arith}
+use Rattle.std.proofs.Common.{◌≡◌, ℕ, zero, suc, ◌<◌, ◌≤◌, ◌^◌, ◌&&◌, Bool, true, false, cond, eqb, leb, not, List, [], ◌∷◌, length, Result, Ok, Err, refl, ap, sym, ◌∙◌, subst, arith}
 use Rattle.std.specs.Prelude.{decimal, ℤ, pos, negsuc, neg_ℤ, FitsSigned, MatchResult}
 use Rattle.std.specs.Int.{w64}
 use Rattle.std.specs.Fmt.{signed_decimal}
@@ -12,10 +12,10 @@ use Rattle.std.proofs.lemmas.Slice.Eq.{bytes_eq-Decides}
 use Rattle.std.proofs.lemmas.Str.{IsUtf8-from_ascii}
 use Rattle.std.proofs.lemmas.Fmt.{digits_decimal, digits_value-decimal, decimal_digit, decimal_injective, IsAscii-from_digits}
 use Rattle.ux_syntax.specs.declared.fault.Fault.TheVariants.{BadLine}
-use Rattle.ux_syntax.specs.Spelling.{IsOffset}
-use Rattle.ux_syntax.specs.Reading.{is_plain, without_minus, is_i64, offset_at}
+use Rattle.ux_syntax.specs.Spelling.{IsSigned, IsOffset, IsBacklog}
+use Rattle.ux_syntax.specs.Reading.{is_plain, without_minus, is_signed, is_i64, offset_at, backlog_at}
 use Rattle.ux_syntax.proofs.Numbers.{own}
-use Rattle.ux_syntax.proofs.Rows.{IsSolid, IsBadOrOk, IsKind, guard_ok, guard_bad, numeral_text, decimal_plain, digits_solid}
+use Rattle.ux_syntax.proofs.Rows.{IsSolid, IsBadOrOk, IsKind, done, bind_ok, bind_bad, guard_ok, guard_bad, numeral_text, decimal_plain, digits_solid}
 
 abbrev all_digits : List ℕ → Bool
 all_digits w = list_all is_ascii_digit w
@@ -93,9 +93,9 @@ offset_takes w z e =
     let r = and_parts (is_plain d) (all_digits d) q.0 in
     subst (λ (y : ℤ). (w ≡ signed_decimal y) × IsOffset y) g.1 (text_of w (r.0, r.1, not-true (bytes_eq w minus_zero) q.1) p.1)
 
-is_offset : (z : ℤ) → IsOffset z → is_i64 z ≡ true
-is_offset (pos n) h = lt-ltb n (2 ^ 63) h
-is_offset (negsuc n) h = lt-ltb n (2 ^ 63) h
+is_within : (bits : ℕ) (z : ℤ) → IsSigned bits z → is_signed bits z ≡ true
+is_within bits (pos n) h = lt-ltb n (2 ^ bits) h
+is_within bits (negsuc n) h = lt-ltb n (2 ^ bits) h
 
 offset_given : (w : List ℕ) (z : ℤ) → HasForm w → signed_digits_value 10 w ≡ z → is_i64 z ≡ true → offset_at w ≡ Ok z
 unfolding offset_at
@@ -107,14 +107,14 @@ offset_again (pos n) h =
     let digits : all_digits (decimal n) ≡ true = digits_decimal own n (omega arith) in
     let value : digits_value 10 (decimal n) ≡ n = digits_value-decimal own n (omega arith) in
     let p = no_sign (decimal n) plain digits in
-    offset_given (decimal n) (pos n) (rw p.0 plain, rw p.0 digits, p.1) (p.2 ∙ ap (λ (m : ℕ). pos m) value) (is_offset (pos n) h)
+    offset_given (decimal n) (pos n) (rw p.0 plain, rw p.0 digits, p.1) (p.2 ∙ ap (λ (m : ℕ). pos m) value) (is_within 63 (pos n) h)
 offset_again (negsuc n) h =
     let plain : is_plain (decimal (suc n)) ≡ true = decimal_plain (suc n) (omega arith) in
     let digits : all_digits (decimal (suc n)) ≡ true = digits_decimal own (suc n) (omega arith) in
     let value : digits_value 10 (decimal (suc n)) ≡ suc n = digits_value-decimal own (suc n) (omega arith) in
     let other : bytes_eq (45 ∷ decimal (suc n)) minus_zero ≡ false =
     false_from_ne_true (bytes_eq (45 ∷ decimal (suc n)) minus_zero) (λ t. not_zero n h ((bytes_eq-Decides (45 ∷ decimal (suc n)) minus_zero).0 t)) in
-    offset_given (45 ∷ decimal (suc n)) (negsuc n) (plain, digits, other) (ap (λ (m : ℕ). neg_ℤ (pos m)) value) (is_offset (negsuc n) h)
+    offset_given (45 ∷ decimal (suc n)) (negsuc n) (plain, digits, other) (ap (λ (m : ℕ). neg_ℤ (pos m)) value) (is_within 63 (negsuc n) h)
   where
     not_zero : (m : ℕ) → m < 2 ^ 63 → 45 ∷ decimal (suc m) ≡ minus_zero → ⊥
     not_zero m small e =
@@ -132,6 +132,32 @@ offset_bad w = guard_bad (is_plain (without_minus w) && all_digits (without_minu
 
 pub offset_kind : IsKind offset_at signed_decimal IsOffset
 offset_kind = record { takes = offset_takes; bad = offset_bad; again = offset_again; solid = offset_solid }
+
+-- ---- a backlog
+
+within : (bits : ℕ) (z : ℤ) → is_signed bits z ≡ true → IsSigned bits z
+within bits (pos n) h = ltb-true n (2 ^ bits) h
+within bits (negsuc n) h = ltb-true n (2 ^ bits) h
+
+backlog_takes : (w : List ℕ) (z : ℤ) → backlog_at w ≡ Ok z → (w ≡ signed_decimal z) × IsBacklog z
+unfolding backlog_at
+backlog_takes w z e =
+    let a = bind_ok (offset_at w) (λ y. cond (is_signed 31 y) (done y) (Err BadLine)) z e in
+    let g = guard_ok (is_signed 31 a.0) a.0 z a.2 in
+    subst (λ (y : ℤ). (w ≡ signed_decimal y) × IsBacklog y) g.1 ((offset_takes w a.0 a.1).0, within 31 a.0 g.0)
+
+as_offset : (z : ℤ) → IsBacklog z → IsOffset z
+as_offset (pos n) h = omega (arith, h)
+as_offset (negsuc n) h = omega (arith, h)
+
+pub backlog_kind : IsKind backlog_at signed_decimal IsBacklog
+unfolding backlog_at
+backlog_kind = record {
+  takes = backlog_takes;
+  bad = λ w. bind_bad (offset_at w) _ (offset_bad w) (λ z. guard_bad (is_signed 31 z) z);
+  again = λ z h. rw (offset_again z (as_offset z h), is_within 31 z h) refl;
+  solid = λ z h. offset_solid z (as_offset z h);
+}
 
 -- ---- what parse says of digits with one form
 

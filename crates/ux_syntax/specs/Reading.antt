@@ -4,7 +4,7 @@ use Rattle.std.specs.List.{slice_split, find, list_all}
 use Rattle.std.specs.Str.{bytes_eq}
 use Rattle.std.specs.Char.{is_ascii_digit}
 use Rattle.std.specs.Str.Parse.{digits_value, signed_digits_value}
-use Rattle.ux_model.specs.Types.{Name, OpenFlags, MsgFlags, Mode, Whence, ProcSpec, Request}
+use Rattle.ux_model.specs.Types.{Name, Addr, OpenFlags, MsgFlags, Mode, Whence, ProcSpec, Request}
 use Rattle.ux_object.specs.declared.ObjKind.{ObjKind}
 use Rattle.ux_syntax.specs.declared.fault.Fault.{Fault}
 use Rattle.ux_syntax.specs.declared.fault.Fault.TheVariants.{BadLine, UnknownProcess, TooLong}
@@ -14,8 +14,8 @@ use Rattle.ux_syntax.specs.declared.script.ObjectLine.{ObjectLine}
 use Rattle.ux_syntax.specs.declared.script.Header.{Header}
 use Rattle.ux_syntax.specs.declared.script.Line.{Line}
 use Rattle.ux_syntax.specs.declared.reading.Item.{Item}
-use Rattle.ux_syntax.specs.Trace.{dash, word_text}
-use Rattle.ux_syntax.specs.Spelling.{Plan, Control, bare, open_path, read_fd, write_fd, seek, dup_fd, dup_onto, set_flags, close, unlink_path, pair, send, recv, exit, meaning, stands, mode_text, whence_text, kind_text, is_meant}
+use Rattle.ux_syntax.specs.Trace.{dash, stands, word_text}
+use Rattle.ux_syntax.specs.Spelling.{Plan, Control, bare, open_path, read_fd, write_fd, seek, dup_fd, dup_onto, set_flags, close, unlink_path, socket, pair, bind, listen, connect, accept, sock_name, peer_name, send, recv, exit, meaning, mode_text, whence_text, kind_text, is_meant}
 use Rattle.ux_syntax.specs.Turns.{has_exited, is_known}
 
 infixl 10 ◌>>=◌
@@ -78,15 +78,23 @@ abbrev pub without_minus : List ℕ → List ℕ
 without_minus [] = []
 without_minus (c ∷ cs) = if c == 45 then cs else c ∷ cs
 
+-- a number of so many bits beside its sign
+abbrev pub is_signed : ℕ → ℤ → Bool
+is_signed bits (pos n) = nat_lt n (2 ^ bits)
+is_signed bits (negsuc n) = nat_lt n (2 ^ bits)
+
 abbrev pub is_i64 : ℤ → Bool
-is_i64 (pos n) = nat_lt n (2 ^ 63)
-is_i64 (negsuc n) = nat_lt n (2 ^ 63)
+is_i64 z = is_signed 63 z
 
 -- digits that don't begin with a 0, or one digit, behind a - below 0
 unfoldable pub offset_at : List ℕ → Result ℤ Fault
 offset_at w =
     if is_plain (without_minus w) && list_all is_ascii_digit (without_minus w) && not (bytes_eq w (45 ∷ 48 ∷ [])) && is_i64 (signed_digits_value 10 w)
     then Ok (signed_digits_value 10 w) else Err BadLine
+
+-- the same, of 32 bits with the sign
+unfoldable pub backlog_at : List ℕ → Result ℤ Fault
+backlog_at w = offset_at w >>= λ z. if is_signed 31 z then Ok z else Err BadLine
 
 abbrev pub plain_at : ℕ → Result ℕ Fault
 plain_at c = if stands c then Ok c else Err BadLine
@@ -114,10 +122,14 @@ name_upto (suc n) (c ∷ cs) = byte_at (c ∷ cs) >>= λ x. name_upto n x.1 >>= 
 unfoldable pub name_at : List ℕ → Result Name Fault
 name_at w = name_upto (length w) w
 
+-- the name behind this letter and a colon
+abbrev pub lettered_at : ℕ → List ℕ → Result Name Fault
+lettered_at letter [] = Err BadLine
+lettered_at letter (c ∷ []) = Err BadLine
+lettered_at letter (c ∷ colon ∷ name) = if c == letter && colon == 58 then name_at name else Err BadLine
+
 abbrev pub path_at : List ℕ → Result Name Fault
-path_at [] = Err BadLine
-path_at (p ∷ []) = Err BadLine
-path_at (p ∷ colon ∷ name) = if p == 112 && colon == 58 then name_at name else Err BadLine
+path_at w = lettered_at 112 w
 
 -- whether a word begins with the letter, and what follows it
 abbrev pub letter_at : ℕ → List ℕ → Bool × List ℕ
@@ -127,6 +139,13 @@ letter_at c (d ∷ ds) = if d == c then (true, ds) else (false, d ∷ ds)
 -- the same, with the bits that the letter stands for
 abbrev pub flag_at : ℕ → ℕ → List ℕ → ℕ × List ℕ
 flag_at c bits w = let l = letter_at c w in (if l.0 then bits else 0, l.1)
+
+-- no name, a path, or a name of the abstract namespace
+unfoldable pub addr_at : List ℕ → Result Addr Fault
+addr_at w =
+    if bytes_eq w (codes "u") then Ok Addr.Unnamed
+    else if (letter_at 112 w).0 then (path_at w >>= λ name. Ok (Addr.Path name))
+    else (lettered_at 97 w >>= λ name. Ok (Addr.Abstract name))
 
 unfoldable pub open_flags_at : List ℕ → Result OpenFlags Fault
 open_flags_at [] = Err BadLine
@@ -194,8 +213,29 @@ close_at ws = (number_at >> ends) ws >>= λ x. Ok (meaning (close x.0))
 unfoldable pub unlink_at : List (List ℕ) → Result Request Fault
 unlink_at ws = (path_at >> ends) ws >>= λ x. Ok (meaning (unlink_path x.0))
 
+unfoldable pub socket_at : List (List ℕ) → Result Request Fault
+socket_at ws = (exactly (codes "stream") >> open_flags_at >> ends) ws >>= λ x. Ok (meaning (socket x.1.0))
+
 unfoldable pub pair_at : List (List ℕ) → Result Request Fault
 pair_at ws = (exactly (codes "stream") >> open_flags_at >> ends) ws >>= λ x. Ok (meaning (pair x.1.0))
+
+unfoldable pub bind_at : List (List ℕ) → Result Request Fault
+bind_at ws = (number_at >> addr_at >> ends) ws >>= λ x. Ok (meaning (bind x.0 x.1.0))
+
+unfoldable pub listen_at : List (List ℕ) → Result Request Fault
+listen_at ws = (number_at >> backlog_at >> ends) ws >>= λ x. Ok (meaning (listen x.0 x.1.0))
+
+unfoldable pub connect_at : List (List ℕ) → Result Request Fault
+connect_at ws = (number_at >> addr_at >> ends) ws >>= λ x. Ok (meaning (connect x.0 x.1.0))
+
+unfoldable pub accept_at : List (List ℕ) → Result Request Fault
+accept_at ws = (number_at >> open_flags_at >> ends) ws >>= λ x. Ok (meaning (accept x.0 x.1.0))
+
+unfoldable pub sock_name_at : List (List ℕ) → Result Request Fault
+sock_name_at ws = (number_at >> ends) ws >>= λ x. Ok (meaning (sock_name x.0))
+
+unfoldable pub peer_name_at : List (List ℕ) → Result Request Fault
+peer_name_at ws = (number_at >> ends) ws >>= λ x. Ok (meaning (peer_name x.0))
 
 unfoldable pub send_at : List (List ℕ) → Result Request Fault
 send_at ws = (number_at >> dash_at >> hex_at >> control_at >> msg_flags_at >> ends) ws >>= λ x. Ok (meaning (send x.0 x.1.1.0 x.1.1.1.0 x.1.1.1.1.0))
@@ -209,7 +249,8 @@ exit_at ws = ends ws >>= λ x. Ok (meaning exit)
 -- the words of calls: `off` is none
 abbrev pub all_words : List CallWord
 all_words = CallWord.Open ∷ CallWord.Read ∷ CallWord.Write ∷ CallWord.Lseek ∷ CallWord.Dup ∷ CallWord.Dup2 ∷ CallWord.Flags ∷ CallWord.Close ∷ CallWord.Unlink
-    ∷ CallWord.Pair ∷ CallWord.Send ∷ CallWord.Recv ∷ CallWord.Exit ∷ []
+    ∷ CallWord.Socket ∷ CallWord.Pair ∷ CallWord.Bind ∷ CallWord.Listen ∷ CallWord.Connect ∷ CallWord.Accept ∷ CallWord.SockName ∷ CallWord.PeerName
+    ∷ CallWord.Send ∷ CallWord.Recv ∷ CallWord.Exit ∷ []
 
 unfoldable pub word_at : List ℕ → Result CallWord Fault
 word_at w = chosen_at word_text all_words w
@@ -224,7 +265,14 @@ args_at CallWord.Dup2 ws = dup2_at ws
 args_at CallWord.Flags ws = set_flags_at ws
 args_at CallWord.Close ws = close_at ws
 args_at CallWord.Unlink ws = unlink_at ws
+args_at CallWord.Socket ws = socket_at ws
 args_at CallWord.Pair ws = pair_at ws
+args_at CallWord.Bind ws = bind_at ws
+args_at CallWord.Listen ws = listen_at ws
+args_at CallWord.Connect ws = connect_at ws
+args_at CallWord.Accept ws = accept_at ws
+args_at CallWord.SockName ws = sock_name_at ws
+args_at CallWord.PeerName ws = peer_name_at ws
 args_at CallWord.Send ws = send_at ws
 args_at CallWord.Recv ws = recv_at ws
 args_at CallWord.Exit ws = exit_at ws

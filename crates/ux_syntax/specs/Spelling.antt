@@ -1,8 +1,8 @@
 -- Which lines spell which script.
-use Rattle.std.specs.Prelude.{◌≡◌, ◌≢◌, ℕ, ◌<◌, ◌≤◌, ◌^◌, ◌-◌, ℤ, pos, negsuc, take, Bool, true, false, List, [], ◌∷◌, ◌++◌, length, map, filter, codes, decimal, if◌then◌else◌, ◌==◌, ◌&&◌, not, nat_le, slice_index_or}
-use Rattle.std.specs.List.{AllByRecursion, flat_map, slice_split, join_with_byte}
+use Rattle.std.specs.Prelude.{◌≡◌, ◌≢◌, ℕ, ◌<◌, ◌≤◌, ◌^◌, ◌-◌, ℤ, pos, negsuc, take, Bool, true, false, List, [], ◌∷◌, ◌++◌, length, map, filter, codes, decimal, if◌then◌else◌, ◌==◌, not, slice_index_or}
+use Rattle.std.specs.List.{AllByRecursion, slice_split, join_with_byte}
 use Rattle.std.specs.Fmt.{signed_decimal}
-use Rattle.ux_model.specs.Types.{Name, OpenFlags, MsgFlags, Mode, Whence, ProcSpec, Request}
+use Rattle.ux_model.specs.Types.{Name, Addr, OpenFlags, MsgFlags, Mode, Whence, ProcSpec, Request}
 use Rattle.ux_model.specs.Flags.{has_bits}
 use Rattle.ux_model.specs.Process.{fd_of}
 pub use Rattle.ux_model.specs.History.{is_exit, is_off}
@@ -12,7 +12,7 @@ use Rattle.ux_syntax.specs.declared.script.ObjectLine.{ObjectLine}
 use Rattle.ux_syntax.specs.declared.script.Header.{Header}
 use Rattle.ux_syntax.specs.declared.script.Line.{Line}
 use Rattle.ux_syntax.specs.declared.script.Script.{Script}
-use Rattle.ux_syntax.specs.Trace.{dash, digit_pair, hex, word_text, request_word}
+use Rattle.ux_syntax.specs.Trace.{dash, hex, path_text, addr_text, word_text, request_word}
 
 -- ---- what a script says
 
@@ -53,7 +53,14 @@ pub data Written : Type 0 where
   set_flags : (fd : ℕ) → (flags : OpenFlags) → Written
   close : (fd : ℕ) → Written
   unlink_path : (path : Name) → Written
+  socket : (flags : OpenFlags) → Written
   pair : (flags : OpenFlags) → Written
+  bind : (fd : ℕ) → (addr : Addr) → Written
+  listen : (fd : ℕ) → (backlog : ℤ) → Written
+  connect : (fd : ℕ) → (addr : Addr) → Written
+  accept : (fd : ℕ) → (flags : OpenFlags) → Written
+  sock_name : (fd : ℕ) → Written
+  peer_name : (fd : ℕ) → Written
   send : (fd : ℕ) → (bytes : List ℕ) → (control : Control) → (flags : MsgFlags) → Written
   recv : (fd n space : ℕ) → (flags : MsgFlags) → Written
   exit : Written
@@ -69,7 +76,14 @@ meaning (dup_onto fd other) = Request.Dup2 (fd_of fd) (fd_of other)
 meaning (set_flags fd flags) = Request.SetFlags (fd_of fd) flags
 meaning (close fd) = Request.Close (fd_of fd)
 meaning (unlink_path path) = Request.Unlink path
+meaning (socket flags) = Request.Socket flags
 meaning (pair flags) = Request.SocketPair flags
+meaning (bind fd addr) = Request.Bind (fd_of fd) addr
+meaning (listen fd backlog) = Request.Listen (fd_of fd) backlog
+meaning (connect fd addr) = Request.Connect (fd_of fd) addr
+meaning (accept fd flags) = Request.Accept (fd_of fd) flags
+meaning (sock_name fd) = Request.GetSockName (fd_of fd)
+meaning (peer_name fd) = Request.GetPeerName (fd_of fd)
 meaning (send fd bytes control flags) = Request.SendMsg (fd_of fd) bytes flags
 meaning (recv fd n space flags) = Request.RecvMsg (fd_of fd) n space flags
 meaning exit = Request.Exit
@@ -105,21 +119,6 @@ msg_flags f = or_dash (letter (has_bits f.0 4) 100 ++ (letter (has_bits f.0 1) 1
 abbrev pub bit : Bool → List ℕ
 bit b = if b then 49 ∷ [] else 48 ∷ []
 
--- a byte from 0x21 to 0x7e, but no %
-abbrev pub stands : ℕ → Bool
-stands b = nat_le 33 b && nat_le b 126 && not (b == 37)
-
--- such a byte stands for itself in a name, each other one is % and its two digits
-abbrev pub name_byte : ℕ → List ℕ
-name_byte b = if stands b then b ∷ [] else 37 ∷ digit_pair b
-
-abbrev pub name_text : Name → List ℕ
-name_text name = flat_map name_byte name
-
--- p: and the name
-abbrev pub path_text : Name → List ℕ
-path_text name = 112 ∷ 58 ∷ name_text name
-
 abbrev pub mode_text : Mode → List ℕ
 mode_text Mode.Read = codes "r"
 mode_text Mode.Write = codes "w"
@@ -146,7 +145,14 @@ args_of (dup_onto fd other) = decimal fd ∷ decimal other ∷ []
 args_of (set_flags fd flags) = decimal fd ∷ open_flags flags ∷ []
 args_of (close fd) = decimal fd ∷ []
 args_of (unlink_path path) = path_text path ∷ []
+args_of (socket flags) = codes "stream" ∷ open_flags flags ∷ []
 args_of (pair flags) = codes "stream" ∷ open_flags flags ∷ []
+args_of (bind fd addr) = decimal fd ∷ addr_text addr ∷ []
+args_of (listen fd backlog) = decimal fd ∷ signed_decimal backlog ∷ []
+args_of (connect fd addr) = decimal fd ∷ addr_text addr ∷ []
+args_of (accept fd flags) = decimal fd ∷ open_flags flags ∷ []
+args_of (sock_name fd) = decimal fd ∷ []
+args_of (peer_name fd) = decimal fd ∷ []
 args_of (send fd bytes control flags) = decimal fd ∷ dash ∷ hex bytes ∷ control_text control ∷ msg_flags flags ∷ []
 args_of (recv fd n space flags) = decimal fd ∷ decimal n ∷ decimal space ∷ msg_flags flags ∷ []
 args_of exit = []
@@ -203,10 +209,23 @@ FitsOpenFlags f = f.0 < 8
 abbrev pub FitsMsgFlags : MsgFlags → Type 0
 FitsMsgFlags f = f.0 < 16
 
+-- a number of so many bits beside its sign
+abbrev pub IsSigned : ℕ → ℤ → Type 0
+IsSigned bits (pos n) = n < 2 ^ bits
+IsSigned bits (negsuc n) = n < 2 ^ bits
+
 -- an i64
 abbrev pub IsOffset : ℤ → Type 0
-IsOffset (pos n) = n < 2 ^ 63
-IsOffset (negsuc n) = n < 2 ^ 63
+IsOffset z = IsSigned 63 z
+
+-- an i32
+abbrev pub IsBacklog : ℤ → Type 0
+IsBacklog z = IsSigned 31 z
+
+abbrev pub FitsAddr : Addr → Type 0
+FitsAddr Addr.Unnamed = Unit {0}
+FitsAddr (Addr.Path name) = AreBytes name
+FitsAddr (Addr.Abstract name) = AreBytes name
 
 abbrev pub FitsCall : Written → Type 0
 FitsCall (open_path path mode flags) = AreBytes path × FitsOpenFlags flags
@@ -218,7 +237,14 @@ FitsCall (dup_onto fd other) = IsNumber fd × IsNumber other
 FitsCall (set_flags fd flags) = IsNumber fd × FitsOpenFlags flags
 FitsCall (close fd) = IsNumber fd
 FitsCall (unlink_path path) = AreBytes path
+FitsCall (socket flags) = FitsOpenFlags flags
 FitsCall (pair flags) = FitsOpenFlags flags
+FitsCall (bind fd addr) = IsNumber fd × FitsAddr addr
+FitsCall (listen fd backlog) = IsNumber fd × IsBacklog backlog
+FitsCall (connect fd addr) = IsNumber fd × FitsAddr addr
+FitsCall (accept fd flags) = IsNumber fd × FitsOpenFlags flags
+FitsCall (sock_name fd) = IsNumber fd
+FitsCall (peer_name fd) = IsNumber fd
 FitsCall (send fd bytes control flags) = IsNumber fd × AreBytes bytes × FitsControl control × FitsMsgFlags flags
 FitsCall (recv fd n space flags) = IsNumber fd × IsNumber n × IsNumber space × FitsMsgFlags flags
 FitsCall exit = Unit {0}

@@ -1,8 +1,8 @@
 -- The text of a history: a line for each entry.
-use Rattle.std.specs.Prelude.{ℕ, ◌+◌, ◌/◌, ◌%◌, Bool, false, List, [], ◌∷◌, ◌++◌, codes, decimal, if◌then◌else◌}
+use Rattle.std.specs.Prelude.{ℕ, ◌+◌, ◌/◌, ◌%◌, Bool, false, List, [], ◌∷◌, ◌++◌, codes, decimal, if◌then◌else◌, ◌==◌, ◌&&◌, not, nat_le}
 use Rattle.std.specs.Fmt.{digit_glyph}
 use Rattle.std.specs.List.{flat_map, join_with_byte}
-use Rattle.ux_model.specs.Types.{Errno, MsgFlags, Request, Reply, Entry}
+use Rattle.ux_model.specs.Types.{Name, Addr, Errno, MsgFlags, Request, Reply, Entry}
 use Rattle.ux_model.specs.Flags.{has_bits}
 use Rattle.ux_syntax.specs.declared.calls.CallWord.{CallWord}
 
@@ -18,6 +18,31 @@ digit_pair b = digit_glyph false (b / 16) ∷ digit_glyph false (b % 16) ∷ []
 abbrev pub hex : List ℕ → List ℕ
 hex [] = dash
 hex (b ∷ bs) = flat_map digit_pair (b ∷ bs)
+
+-- a byte from 0x21 to 0x7e, but no %
+abbrev pub stands : ℕ → Bool
+stands b = nat_le 33 b && nat_le b 126 && not (b == 37)
+
+-- such a byte stands for itself in a name, each other one is % and its two digits
+abbrev pub name_byte : ℕ → List ℕ
+name_byte b = if stands b then b ∷ [] else 37 ∷ digit_pair b
+
+abbrev pub name_text : Name → List ℕ
+name_text name = flat_map name_byte name
+
+-- a letter, a colon and the name
+abbrev pub lettered : ℕ → Name → List ℕ
+lettered letter name = letter ∷ 58 ∷ name_text name
+
+-- p: and the name
+abbrev pub path_text : Name → List ℕ
+path_text name = lettered 112 name
+
+-- u, or p: and the path, or a: and the name of the abstract namespace
+abbrev pub addr_text : Addr → List ℕ
+addr_text Addr.Unnamed = codes "u"
+addr_text (Addr.Path name) = path_text name
+addr_text (Addr.Abstract name) = lettered 97 name
 
 -- the names of those that are set
 abbrev pub set_names : List (Bool × List ℕ) → List (List ℕ)
@@ -74,6 +99,8 @@ reply_text (Reply.Count n) = codes "n " ++ decimal n
 reply_text (Reply.Bytes bytes) = codes "bytes " ++ hex bytes
 reply_text (Reply.At n) = codes "at " ++ decimal n
 reply_text (Reply.Received count bytes flags) = codes "got " ++ (decimal count ++ (codes " " ++ (hex bytes ++ (codes " " ++ (received_flags_text flags ++ codes " - -")))))
+reply_text (Reply.Accepted a name) = codes "accepted " ++ (decimal a.0 ++ (codes " " ++ addr_text name))
+reply_text (Reply.Addr name) = codes "addr " ++ addr_text name
 reply_text (Reply.Err e) = codes "err " ++ errno_text e
 
 -- the word that names a call, in a script and in a trace
@@ -87,7 +114,14 @@ word_text CallWord.Dup2 = codes "dup2"
 word_text CallWord.Flags = codes "flags"
 word_text CallWord.Close = codes "close"
 word_text CallWord.Unlink = codes "unlink"
+word_text CallWord.Socket = codes "socket"
 word_text CallWord.Pair = codes "pair"
+word_text CallWord.Bind = codes "bind"
+word_text CallWord.Listen = codes "listen"
+word_text CallWord.Connect = codes "connect"
+word_text CallWord.Accept = codes "accept"
+word_text CallWord.SockName = codes "sockname"
+word_text CallWord.PeerName = codes "peername"
 word_text CallWord.Send = codes "send"
 word_text CallWord.Recv = codes "recv"
 word_text CallWord.Exit = codes "exit"
@@ -103,7 +137,14 @@ request_word (Request.Dup2 fd to) = CallWord.Dup2
 request_word (Request.SetFlags fd flags) = CallWord.Flags
 request_word (Request.Close fd) = CallWord.Close
 request_word (Request.Unlink path) = CallWord.Unlink
+request_word (Request.Socket flags) = CallWord.Socket
 request_word (Request.SocketPair flags) = CallWord.Pair
+request_word (Request.Bind fd addr) = CallWord.Bind
+request_word (Request.Listen fd backlog) = CallWord.Listen
+request_word (Request.Connect fd addr) = CallWord.Connect
+request_word (Request.Accept fd flags) = CallWord.Accept
+request_word (Request.GetSockName fd) = CallWord.SockName
+request_word (Request.GetPeerName fd) = CallWord.PeerName
 request_word (Request.SendMsg fd bytes flags) = CallWord.Send
 request_word (Request.RecvMsg fd n space flags) = CallWord.Recv
 request_word Request.Exit = CallWord.Exit

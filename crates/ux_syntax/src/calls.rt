@@ -2,7 +2,7 @@
 
 ghost use Rattle.std.specs.Prelude.{◌≡◌, map};
 ghost use Rattle.ux_syntax.specs.Trace.{word_text, request_word};
-ghost use Rattle.ux_syntax.specs.Reading.{open_at, read_at, write_at, lseek_at, dup_at, dup2_at, set_flags_at, close_at, unlink_at, pair_at, send_at, recv_at, exit_at, word_at, args_at};
+ghost use Rattle.ux_syntax.specs.Reading.{open_at, read_at, write_at, lseek_at, dup_at, dup2_at, set_flags_at, close_at, unlink_at, socket_at, pair_at, bind_at, listen_at, connect_at, accept_at, sock_name_at, peer_name_at, send_at, recv_at, exit_at, word_at, args_at};
 ghost use Rattle.ux_syntax.specs.Results.{Gives};
 
 use crate::fault::{BAD, LineError};
@@ -22,7 +22,14 @@ pub enum CallWord {
     Flags,
     Close,
     Unlink,
+    Socket,
     Pair,
+    Bind,
+    Listen,
+    Connect,
+    Accept,
+    SockName,
+    PeerName,
     Send,
     Recv,
     Exit,
@@ -30,7 +37,7 @@ pub enum CallWord {
 }
 
 /// The words that a script may have behind a process's number.
-const CALL_WORDS: [CallWord; 13] = [
+const CALL_WORDS: [CallWord; 20] = [
     CallWord::Open,
     CallWord::Read,
     CallWord::Write,
@@ -40,7 +47,14 @@ const CALL_WORDS: [CallWord; 13] = [
     CallWord::Flags,
     CallWord::Close,
     CallWord::Unlink,
+    CallWord::Socket,
     CallWord::Pair,
+    CallWord::Bind,
+    CallWord::Listen,
+    CallWord::Connect,
+    CallWord::Accept,
+    CallWord::SockName,
+    CallWord::PeerName,
     CallWord::Send,
     CallWord::Recv,
     CallWord::Exit,
@@ -61,7 +75,14 @@ impl CallWord {
             Request::SetFlags { .. } => CallWord::Flags,
             Request::Close { .. } => CallWord::Close,
             Request::Unlink { .. } => CallWord::Unlink,
+            Request::Socket { .. } => CallWord::Socket,
             Request::SocketPair { .. } => CallWord::Pair,
+            Request::Bind { .. } => CallWord::Bind,
+            Request::Listen { .. } => CallWord::Listen,
+            Request::Connect { .. } => CallWord::Connect,
+            Request::Accept { .. } => CallWord::Accept,
+            Request::GetSockName { .. } => CallWord::SockName,
+            Request::GetPeerName { .. } => CallWord::PeerName,
             Request::SendMsg { .. } => CallWord::Send,
             Request::RecvMsg { .. } => CallWord::Recv,
             Request::Exit => CallWord::Exit,
@@ -83,7 +104,14 @@ impl CallWord {
             CallWord::Flags => "flags",
             CallWord::Close => "close",
             CallWord::Unlink => "unlink",
+            CallWord::Socket => "socket",
             CallWord::Pair => "pair",
+            CallWord::Bind => "bind",
+            CallWord::Listen => "listen",
+            CallWord::Connect => "connect",
+            CallWord::Accept => "accept",
+            CallWord::SockName => "sockname",
+            CallWord::PeerName => "peername",
             CallWord::Send => "send",
             CallWord::Recv => "recv",
             CallWord::Exit => "exit",
@@ -206,6 +234,17 @@ fn unlink_of(alloc: Global, words: &[&[u8]]) -> Result<Request, LineError>
     Ok(Request::Unlink { path })
 }
 
+/// `socket stream OFLAGS`.
+#[tactic(auto, unfolding(crate::specs::Reading::socket_at))]
+fn socket_of(alloc: Global, words: &[&[u8]]) -> Result<Request, LineError>
+    ensures { Gives (λ r. r) result (socket_at (map (λ w. w.now) words.now)) }
+{
+    let words = pass(b"stream", words)?;
+    let (flags, words) = word(alloc, words)?;
+    end(words)?;
+    Ok(Request::Socket { flags })
+}
+
 /// `pair stream OFLAGS`.
 #[tactic(auto, unfolding(crate::specs::Reading::pair_at))]
 fn pair_of(alloc: Global, words: &[&[u8]]) -> Result<Request, LineError>
@@ -215,6 +254,73 @@ fn pair_of(alloc: Global, words: &[&[u8]]) -> Result<Request, LineError>
     let (flags, words) = word(alloc, words)?;
     end(words)?;
     Ok(Request::SocketPair { flags })
+}
+
+/// `bind FD ADDR`.
+#[tactic(auto, unfolding(crate::specs::Reading::bind_at))]
+fn bind_of(alloc: Global, words: &[&[u8]]) -> Result<Request, LineError>
+    ensures { Gives (λ r. r) result (bind_at (map (λ w. w.now) words.now)) }
+{
+    let (fd, words) = word(alloc, words)?;
+    let (addr, words) = word(alloc, words)?;
+    end(words)?;
+    Ok(Request::Bind { fd: Fd(fd), addr })
+}
+
+/// `listen FD BACKLOG`.
+#[tactic(auto, unfolding(crate::specs::Reading::listen_at))]
+fn listen_of(alloc: Global, words: &[&[u8]]) -> Result<Request, LineError>
+    ensures { Gives (λ r. r) result (listen_at (map (λ w. w.now) words.now)) }
+{
+    let (fd, words) = word(alloc, words)?;
+    let (backlog, words) = word(alloc, words)?;
+    end(words)?;
+    Ok(Request::Listen {
+        fd: Fd(fd),
+        backlog,
+    })
+}
+
+/// `connect FD ADDR`.
+#[tactic(auto, unfolding(crate::specs::Reading::connect_at))]
+fn connect_of(alloc: Global, words: &[&[u8]]) -> Result<Request, LineError>
+    ensures { Gives (λ r. r) result (connect_at (map (λ w. w.now) words.now)) }
+{
+    let (fd, words) = word(alloc, words)?;
+    let (addr, words) = word(alloc, words)?;
+    end(words)?;
+    Ok(Request::Connect { fd: Fd(fd), addr })
+}
+
+/// `accept FD OFLAGS`.
+#[tactic(auto, unfolding(crate::specs::Reading::accept_at))]
+fn accept_of(alloc: Global, words: &[&[u8]]) -> Result<Request, LineError>
+    ensures { Gives (λ r. r) result (accept_at (map (λ w. w.now) words.now)) }
+{
+    let (fd, words) = word(alloc, words)?;
+    let (flags, words) = word(alloc, words)?;
+    end(words)?;
+    Ok(Request::Accept { fd: Fd(fd), flags })
+}
+
+/// `sockname FD`.
+#[tactic(auto, unfolding(crate::specs::Reading::sock_name_at))]
+fn sock_name_of(alloc: Global, words: &[&[u8]]) -> Result<Request, LineError>
+    ensures { Gives (λ r. r) result (sock_name_at (map (λ w. w.now) words.now)) }
+{
+    let (fd, words) = word(alloc, words)?;
+    end(words)?;
+    Ok(Request::GetSockName { fd: Fd(fd) })
+}
+
+/// `peername FD`.
+#[tactic(auto, unfolding(crate::specs::Reading::peer_name_at))]
+fn peer_name_of(alloc: Global, words: &[&[u8]]) -> Result<Request, LineError>
+    ensures { Gives (λ r. r) result (peer_name_at (map (λ w. w.now) words.now)) }
+{
+    let (fd, words) = word(alloc, words)?;
+    end(words)?;
+    Ok(Request::GetPeerName { fd: Fd(fd) })
 }
 
 /// `send FD - HEX CONTROL MFLAGS`.
@@ -290,7 +396,14 @@ pub(crate) fn request_of(
         CallWord::Flags => set_flags_of(alloc, args),
         CallWord::Close => close_of(alloc, args),
         CallWord::Unlink => unlink_of(alloc, args),
+        CallWord::Socket => socket_of(alloc, args),
         CallWord::Pair => pair_of(alloc, args),
+        CallWord::Bind => bind_of(alloc, args),
+        CallWord::Listen => listen_of(alloc, args),
+        CallWord::Connect => connect_of(alloc, args),
+        CallWord::Accept => accept_of(alloc, args),
+        CallWord::SockName => sock_name_of(alloc, args),
+        CallWord::PeerName => peer_name_of(alloc, args),
         CallWord::Send => send_of(alloc, args),
         CallWord::Recv => recv_of(alloc, args),
         CallWord::Exit => exit_of(args),

@@ -1,19 +1,19 @@
-//! Names and paths. A byte of a name that would be mistaken for the end of a word, or can't be printed,
-//! is written as `%` and two digits.
+//! Names, paths and addresses. A byte of a name that would be mistaken for the end of a word, or can't
+//! be printed, is written as `%` and two digits.
 
 ghost use Rattle.std.specs.Prelude.{◌≡◌};
-ghost use Rattle.ux_syntax.specs.Spelling.{stands};
-ghost use Rattle.ux_syntax.specs.Reading.{byte_at, escaped_at, name_at, path_at};
+ghost use Rattle.ux_syntax.specs.Trace.{stands};
+ghost use Rattle.ux_syntax.specs.Reading.{byte_at, escaped_at, name_at, lettered_at, path_at, addr_at};
 ghost use Rattle.ux_syntax.specs.Results.{Gives};
 
 use crate::fault::{BAD, LineError};
 use crate::words::{Word, digit_of};
 use bstr::BString;
 use std::alloc::Global;
-use ux_types::Name;
+use ux_types::{Addr, Name};
 
 /// Whether a byte stands for itself in a name.
-fn stands(byte: u8) -> bool
+pub(crate) fn stands(byte: u8) -> bool
     ensures { result ≡ stands byte }
 {
     (0x21..=0x7e).contains(&byte) && byte != b'%'
@@ -53,14 +53,37 @@ fn name_of(alloc: Global, text: &[u8]) -> Result<Name, LineError>
     Ok(Name::new(BString::new(bytes)))
 }
 
+/// The name that a word has behind this letter and a colon.
+fn lettered_of(alloc: Global, letter: u8, word: &[u8]) -> Result<Name, LineError>
+    ensures { Gives (λ name. name) result (lettered_at letter word.now) }
+{
+    match word {
+        [first, colon, name @ ..] if *first == letter && *colon == b':' => name_of(alloc, name),
+        _ => Err(BAD),
+    }
+}
+
 /// The path that a word spells: `p:` and a name. Whether a file can have it is found where it is used.
 impl Word for Name {
     ghost at = { path_at };
 
     fn of(alloc: Global, word: &[u8]) -> Result<Name, LineError> {
+        lettered_of(alloc, b'p', word)
+    }
+}
+
+/// The address that a word spells: `u` for none, a path, or `a:` and a name of the abstract namespace.
+impl Word for Addr {
+    ghost at = { addr_at };
+
+    #[tactic(auto, unfolding(crate::specs::Reading::addr_at))]
+    fn of(alloc: Global, word: &[u8]) -> Result<Addr, LineError> {
+        if word == b"u".as_slice() {
+            return Ok(Addr::Unnamed);
+        }
         match word {
-            [first, second, name @ ..] if *first == b'p' && *second == b':' => name_of(alloc, name),
-            _ => Err(BAD),
+            [first, ..] if *first == b'p' => Ok(Addr::Path(Name::of(alloc, word)?)),
+            _ => Ok(Addr::Abstract(lettered_of(alloc, b'a', word)?)),
         }
     }
 }

@@ -211,8 +211,9 @@ fn read_text(alloc: Global, text: &[u8]) -> Result<Script, ScriptFault>
 /// number the file objects from 0, and `proc UID GID PRIV LIMIT` the processes from 1. Each further line
 /// is a process's number and a call of it: `open p:NAME MODE OFLAGS`, `read FD N`, `write FD HEX`,
 /// `lseek FD OFFSET WHENCE`, `dup FD`, `dup2 FD FD`, `flags FD OFLAGS`, `close FD`, `unlink p:NAME`,
-/// `pair stream OFLAGS`, `send FD - HEX - MFLAGS`, `recv FD N SPACE MFLAGS`, `exit`. A line `off` may
-/// come last.
+/// `socket stream OFLAGS`, `pair stream OFLAGS`, `bind FD ADDR`, `listen FD BACKLOG`, `connect FD ADDR`,
+/// `accept FD OFLAGS`, `sockname FD`, `peername FD`, `send FD - HEX - MFLAGS`, `recv FD N SPACE MFLAGS`,
+/// `exit`. A line `off` may come last.
 pub fn parse_script(alloc: Global, text: &[u8]) -> Result<Script, ScriptFault>
     // What is read is spelled so.
     ensures found { IfOk result (λ script. Spells (lines_of text.now) (plan_of script)) }

@@ -1,13 +1,14 @@
 //! The text of a history.
 
 ghost use Rattle.std.specs.Prelude.{◌≡◌, IfOk, Some, map, string_bytes};
-ghost use Rattle.ux_syntax.specs.Trace.{hex, flags_text, received_flags_text, errno_text, reply_text, closed_text, entry_line};
+ghost use Rattle.ux_syntax.specs.Trace.{hex, name_text, addr_text, flags_text, received_flags_text, errno_text, reply_text, closed_text, entry_line};
 
 use crate::calls::CallWord;
+use crate::paths::stands;
 use bitflags::Flags;
 use std::alloc::{AllocError, Global};
 use std::fmt;
-use ux_types::{Entry, Errno, MsgFlags, Reply};
+use ux_types::{Addr, Entry, Errno, MsgFlags, Reply};
 
 /// Bytes as pairs of hexadecimal digits, or `-` where there is none.
 #[derive(Clone, Copy)]
@@ -25,6 +26,49 @@ impl fmt::Display for Hex<'_> {
             write!(f, "{byte:02x}")?;
         }
         Ok(())
+    }
+}
+
+/// A name as a word has it: a byte that doesn't stand for itself is `%` and two digits.
+#[derive(Clone, Copy)]
+struct NameText<'a>(&'a [u8]);
+
+impl fmt::Display for NameText<'_> {
+    ghost output = { λ name. Some (name_text name.0.now) };
+
+    fn fmt<W: fmt::Write>(&self, f: &mut fmt::Formatter<W>) -> fmt::Result {
+        for byte in self.0 {
+            let byte = *byte;
+            if stands(byte) {
+                let letter = char::from(byte);
+                write!(f, "{letter}")?;
+            } else {
+                write!(f, "%{byte:02x}")?;
+            }
+        }
+        Ok(())
+    }
+}
+
+/// An address as a word has it.
+#[derive(Clone, Copy)]
+struct AddrText<'a>(&'a Addr);
+
+impl fmt::Display for AddrText<'_> {
+    ghost output = { λ addr. Some (addr_text addr.0.now) };
+
+    fn fmt<W: fmt::Write>(&self, f: &mut fmt::Formatter<W>) -> fmt::Result {
+        match self.0 {
+            Addr::Unnamed => write!(f, "u"),
+            Addr::Path(name) => {
+                let name = NameText(name.as_bytes());
+                write!(f, "p:{name}")
+            }
+            Addr::Abstract(name) => {
+                let name = NameText(name.as_bytes());
+                write!(f, "a:{name}")
+            }
+        }
     }
 }
 
@@ -134,6 +178,12 @@ impl fmt::Display for ReplyText<'_> {
                 let flags = ReceivedFlags(*flags);
                 write!(f, "got {count} {bytes} {flags} - -")
             }
+            Reply::Accepted(fd, addr) => {
+                let fd = fd.0;
+                let addr = AddrText(addr);
+                write!(f, "accepted {fd} {addr}")
+            }
+            Reply::Addr(addr) => write!(f, "addr {}", AddrText(addr)),
             Reply::Err(errno) => {
                 let name = errno_name(*errno);
                 write!(f, "err {name}")

@@ -4,7 +4,7 @@ ghost use Rattle.std.specs.Prelude.{◌≡◌, ◌<◌, ℕ, List, Result, IfOk,
 ghost use Rattle.ux_syntax.specs.declared.fault.Fault.{Fault};
 ghost use Rattle.std.specs.List.{list_all};
 ghost use Rattle.std.specs.Char.{is_ascii_digit};
-ghost use Rattle.ux_syntax.specs.Reading.{is_plain, number_at, without_minus, offset_at, digit_at, pairs_at, hex_at, bit_at, mode_at, whence_at, kind_at, flag_at, open_flags_at, msg_flags_at};
+ghost use Rattle.ux_syntax.specs.Reading.{is_plain, number_at, without_minus, offset_at, backlog_at, digit_at, pairs_at, hex_at, bit_at, mode_at, whence_at, kind_at, flag_at, open_flags_at, msg_flags_at};
 ghost use Rattle.ux_syntax.specs.Results.{Gives};
 
 use crate::fault::{BAD, LineError};
@@ -80,6 +80,19 @@ impl Word for i64 {
         };
         match text.parse::<i64>() {
             Ok(offset) => Ok(offset),
+            Err(_) => Err(BAD),
+        }
+    }
+}
+
+/// The backlog that a word spells: as an offset is, of 32 bits.
+impl Word for i32 {
+    ghost at = { backlog_at };
+
+    #[tactic(auto, unfolding(crate::specs::Reading::backlog_at))]
+    fn of(alloc: Global, word: &[u8]) -> Result<i32, LineError> {
+        match i32::try_from(i64::of(alloc, word)?) {
+            Ok(backlog) => Ok(backlog),
             Err(_) => Err(BAD),
         }
     }

@@ -1,4 +1,4 @@
-use Rattle.std.proofs.Common.{◌≡◌, ℕ, ◌+◌, ◌*◌, ◌≤◌, rules, arith, inr, sym, ap, subst}
+use Rattle.std.proofs.Common.{◌+◌, ◌*◌, ◌≤◌, arith, inr, sym, subst}
 use Rattle.std.proofs.lemmas.List.{length-take}
 use Rattle.ux_syntax.specs.declared.progress.Progress.{Progress}
 use Rattle.ux_syntax.specs.Spelling.{plan_of}

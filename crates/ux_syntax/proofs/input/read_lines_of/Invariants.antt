@@ -1,4 +1,4 @@
-use Rattle.std.proofs.Common.{ℕ, ◌+◌, ◌*◌, ◌≤◌}
+use Rattle.std.proofs.Common.{◌+◌, ◌*◌, ◌≤◌}
 use Rattle.ux_syntax.specs.Spelling.{plan_of}
 use Rattle.ux_syntax.specs.Results.{Marks}
 use Rattle.ux_syntax.proofs.Feeding.{IsReadOn}

@@ -1,4 +1,4 @@
-use Rattle.std.proofs.Common.{rules, suc, ◌+◌, ap, sym, ◌∙◌, add-one, List, ℕ}
+use Rattle.std.proofs.Common.{rules, sym, ◌∙◌, add-one}
 use Rattle.ux_syntax.specs.Spelling.{plan_of}
 use Rattle.ux_syntax.specs.Continuing.{continued}
 use Rattle.ux_syntax.proofs.Feeding.{line_ends}
