@@ -1,21 +1,29 @@
 /* The calls of bench_calls over the machine's own AF_UNIX and files: nanoseconds, in the quickest of some
- * rounds, one line a kind of call, on standard error. */
+ * rounds, one line a kind of call, on standard error. Connections are by abstract addresses; the most names
+ * want 5,000 descriptors and a little more. */
 #define _GNU_SOURCE
 #include <fcntl.h>
+#include <stddef.h>
 #include <stdint.h>
 #include <stdio.h>
 #include <stdlib.h>
+#include <sys/resource.h>
 #include <sys/socket.h>
 #include <sys/uio.h>
+#include <sys/un.h>
 #include <time.h>
 #include <unistd.h>
 
-enum { TURNS = 16, ROUNDS = 40, GREATEST = 65536 };
+enum { TURNS = 16, ROUNDS = 40, GREATEST = 65536, BACKLOG = 4, MOST_NAMES = 10000 };
 
 static char bytes[GREATEST];
 static char path[] = "linux_unix.XXXXXX";
 static int file;
 static int pair[2];
+static int listener;
+static struct sockaddr_un listeners_address;
+static socklen_t listeners_length;
+static int held[MOST_NAMES / 2];
 
 static void must(int granted) {
     if (!granted) {
@@ -83,6 +91,79 @@ static void dup_and_close(void) {
 static void write_1(void) { must(write(file, bytes, 1) == 1); }
 static void read_1(void) { must(read(file, bytes, 1) == 1); }
 
+static int make_socket(void) {
+    int number = socket(AF_UNIX, SOCK_STREAM | SOCK_NONBLOCK, 0);
+    must(number >= 0);
+    return number;
+}
+
+/* The address of this number: an abstract name, or a path in this folder. It answers the address's length. */
+static socklen_t address_of(struct sockaddr_un *address, int abstract, int number) {
+    *address = (struct sockaddr_un){.sun_family = AF_UNIX};
+    char *text = address->sun_path + abstract;
+    int length = snprintf(text, sizeof address->sun_path - 1, "linux_unix.%d.%d", (int)getpid(), number);
+    must(length > 0);
+    return (socklen_t)(offsetof(struct sockaddr_un, sun_path) + (size_t)length + 1);
+}
+
+static void bind_to(int number_of_socket, int abstract, int number) {
+    struct sockaddr_un address;
+    socklen_t length = address_of(&address, abstract, number);
+    must(bind(number_of_socket, (struct sockaddr *)&address, length) == 0);
+}
+
+/* A socket that listens by this abstract name. */
+static int listen_by(int number) {
+    int made = make_socket();
+    bind_to(made, 1, number);
+    must(listen(made, BACKLOG) == 0);
+    return made;
+}
+
+static void bind_path(int number) {
+    int made = make_socket();
+    bind_to(made, 0, number);
+    must(close(made) == 0);
+}
+
+static void unlink_path(int number) {
+    struct sockaddr_un address;
+    address_of(&address, 0, number);
+    must(unlink(address.sun_path) == 0);
+}
+
+/* Puts so many names in use: half are paths whose sockets have gone, half abstract names of listeners. */
+static void hold_names(int names) {
+    for (int i = 0; i < names / 2; i++) {
+        bind_path(i);
+        held[i] = listen_by(i);
+    }
+}
+
+static void drop_names(int names) {
+    for (int i = 0; i < names / 2; i++) {
+        unlink_path(i);
+        must(close(held[i]) == 0);
+    }
+}
+
+static void make_listener(void) {
+    listener = listen_by(MOST_NAMES);
+    listeners_length = address_of(&listeners_address, 1, MOST_NAMES);
+}
+
+static void close_listener(void) { must(close(listener) == 0); }
+
+/* A socket that connects to the listener, the accept of its connection, and the closes of both ends. */
+static void connect_and_accept(void) {
+    int client = make_socket();
+    must(connect(client, (struct sockaddr *)&listeners_address, listeners_length) == 0);
+    struct sockaddr_un clients;
+    socklen_t length = sizeof clients;
+    int end = accept4(listener, (struct sockaddr *)&clients, &length, SOCK_NONBLOCK);
+    must(end >= 0 && close(end) == 0 && close(client) == 0);
+}
+
 struct calls {
     const char *name;
     void (*before)(void);
@@ -96,10 +177,21 @@ static const struct calls ALL[] = {
     {"send and receive, 4,096 bytes", make_pair, stream_4096, close_pair},
     {"send and receive, 65,536 bytes", make_pair, stream_65536, close_pair},
     {"pair and two closes", nothing, pair_and_closes, nothing},
+    {"socket, connect, accept, two closes", make_listener, connect_and_accept, close_listener},
     {"open and close", nothing, open_and_close, nothing},
     {"dup and close", nothing, dup_and_close, nothing},
     {"write, 1 byte", rewind_file, write_1, nothing},
     {"read, 1 byte", rewind_file, read_1, nothing},
+};
+
+/* A connection, with so many other names in use. */
+static const struct {
+    int names;
+    struct calls calls;
+} AMONG[] = {
+    {10, {"socket, connect, accept, two closes, 10 names", make_listener, connect_and_accept, close_listener}},
+    {1000, {"socket, connect, accept, two closes, 1,000 names", make_listener, connect_and_accept, close_listener}},
+    {10000, {"socket, connect, accept, two closes, 10,000 names", make_listener, connect_and_accept, close_listener}},
 };
 
 static uint64_t time_of(const struct calls *calls) {
@@ -113,16 +205,34 @@ static uint64_t time_of(const struct calls *calls) {
     return time;
 }
 
+static void print_time(const struct calls *calls) {
+    uint64_t quickest = UINT64_MAX;
+    for (int round = 0; round < ROUNDS; round++) {
+        uint64_t time = time_of(calls);
+        quickest = time < quickest ? time : quickest;
+    }
+    fprintf(stderr, "linux: %s: %llu ns\n", calls->name, (unsigned long long)(quickest / TURNS));
+}
+
+/* As many descriptors as this user may have. */
+static void raise_limit(void) {
+    struct rlimit limit;
+    must(getrlimit(RLIMIT_NOFILE, &limit) == 0);
+    limit.rlim_cur = limit.rlim_max;
+    must(setrlimit(RLIMIT_NOFILE, &limit) == 0);
+}
+
 int main(void) {
+    raise_limit();
     file = mkstemp(path);
     must(file >= 0 && write(file, bytes, 64) == 64);
     for (size_t i = 0; i < sizeof ALL / sizeof ALL[0]; i++) {
-        uint64_t quickest = UINT64_MAX;
-        for (int round = 0; round < ROUNDS; round++) {
-            uint64_t time = time_of(&ALL[i]);
-            quickest = time < quickest ? time : quickest;
-        }
-        fprintf(stderr, "linux: %s: %llu ns\n", ALL[i].name, (unsigned long long)(quickest / TURNS));
+        print_time(&ALL[i]);
+    }
+    for (size_t i = 0; i < sizeof AMONG / sizeof AMONG[0]; i++) {
+        hold_names(AMONG[i].names);
+        print_time(&AMONG[i].calls);
+        drop_names(AMONG[i].names);
     }
     must(unlink(path) == 0);
     return 0;

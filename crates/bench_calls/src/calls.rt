@@ -1,10 +1,10 @@
 //! What is measured: a few calls that leave the layer as it was.
-use crate::layers::{CALLER, Layer, must, opening};
+use crate::layers::{CALLER, Layer, SOCKET, must, named, opening};
 use anyhow::{Result, anyhow};
 use std::alloc::{AllocError, Global};
 use std::rt::Clock;
 use std::time::{Duration, Instant};
-use ux_types::{Bytes, Fd, MsgFlags, OpenFlags, Request, Whence};
+use ux_types::{Addr, Bytes, Fd, MsgFlags, OpenFlags, Request, Whence};
 
 /// How often the calls are made in one batch.
 const TURNS: u32 = 16;
@@ -62,6 +62,33 @@ fn stream(alloc: Global, name: &'static str, length: usize) -> Result<Calls, All
     })
 }
 
+/// A socket that connects to a listener, the accept of its connection, and the closes of both ends. The
+/// listener, at number 1, stays.
+fn connection(alloc: Global, name: &'static str) -> Result<Calls, AllocError> {
+    let bind = Request::Bind {
+        fd: Fd(1),
+        addr: Addr::Abstract(named(alloc, b"listener")?),
+    };
+    let listen = Request::Listen {
+        fd: Fd(1),
+        backlog: 4,
+    };
+    let connect = Request::Connect {
+        fd: Fd(2),
+        addr: Addr::Abstract(named(alloc, b"listener")?),
+    };
+    let accept = Request::Accept {
+        fd: Fd(1),
+        flags: OpenFlags(0),
+    };
+    Ok(Calls {
+        name,
+        before: vec![in alloc; SOCKET, bind, listen]?,
+        measured: vec![in alloc; SOCKET, connect, accept, close(3), close(2)]?,
+        after: vec![in alloc; close(1)]?,
+    })
+}
+
 /// Calls that need nothing before or after.
 fn alone(alloc: Global, name: &'static str, measured: Vec<Request>) -> Calls {
     Calls {
@@ -91,6 +118,7 @@ fn socket_calls(alloc: Global) -> Result<Vec<Calls>, AllocError> {
         stream(alloc, "send and receive, 4,096 bytes", 4096)?,
         stream(alloc, "send and receive, 65,536 bytes", 65_536)?,
         alone(alloc, "pair and two closes", pair),
+        connection(alloc, "socket, connect, accept, two closes")?,
     ]?)
 }
 
@@ -174,4 +202,16 @@ pub(crate) fn measure<R: Clock + Eprint, L: Layer>(
     print_times(rt, what, layer, sockets.as_slice())?;
     let files = file_calls(alloc)?;
     print_times(rt, what, layer, files.as_slice())
+}
+
+/// Prints the time of a connection alone.
+pub(crate) fn measure_connection<R: Clock + Eprint, L: Layer>(
+    rt: &R,
+    alloc: Global,
+    what: &str,
+    layer: &mut L,
+    name: &'static str,
+) -> Result<()> {
+    let calls = vec![in alloc; connection(alloc, name)?]?;
+    print_times(rt, what, layer, calls.as_slice())
 }

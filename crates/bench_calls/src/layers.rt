@@ -6,7 +6,7 @@ use ux_history::Book;
 use ux_kernel::Kernel;
 use ux_objects::MemFile;
 use ux_state::RetiredList;
-use ux_types::{Fd, Mode, Name, OpenFlags, Pid, ProcSpec, Reply, Request};
+use ux_types::{Addr, Fd, Mode, Name, OpenFlags, Pid, ProcSpec, Reply, Request};
 
 /// A user's process with the greatest table.
 const PROCESS: ProcSpec = ProcSpec {
@@ -16,14 +16,20 @@ const PROCESS: ProcSpec = ProcSpec {
     limit: 1024,
 };
 
-/// The processes. The first makes the calls that are measured, the others hold descriptors.
-const PROCESSES: [ProcSpec; 5] = [PROCESS, PROCESS, PROCESS, PROCESS, PROCESS];
+/// The processes. The first makes the calls that are measured, four hold descriptors of the file, and five
+/// hold sockets with names.
+const PROCESSES: [ProcSpec; 10] = [PROCESS; 10];
 
 /// What is in the file at first.
 const CONTENTS: [u8; 64] = [120; 64];
 
 /// The process whose calls are measured.
 pub(crate) const CALLER: Pid = Pid(1);
+
+/// A socket at the lowest free number.
+pub(crate) const SOCKET: Request = Request::Socket {
+    flags: OpenFlags(0),
+};
 
 /// Where calls are made.
 pub(crate) trait Layer {
@@ -48,7 +54,12 @@ pub(crate) struct Recorded {
 
 /// The path of the file.
 fn path(alloc: Global) -> Result<Name, AllocError> {
-    Ok(Name::new(BString::from_slice(alloc, b"file")?))
+    named(alloc, b"file")
+}
+
+/// A name of these bytes.
+pub(crate) fn named(alloc: Global, bytes: &[u8]) -> Result<Name, AllocError> {
+    Ok(Name::new(BString::from_slice(alloc, bytes)?))
 }
 
 /// A request that opens the file.
@@ -173,4 +184,39 @@ fn make_pair<L: Layer>(layer: &mut L) -> Result<()> {
     must(layer, CALLER, &pair)?;
     must(layer, CALLER, &Request::Close { fd: Fd(1) })?;
     must(layer, CALLER, &Request::Close { fd: Fd(2) })
+}
+
+/// Puts so many names in use: half of them are paths whose sockets have gone, half are abstract names of
+/// sockets that listen.
+pub(crate) fn hold_names<L: Layer>(alloc: Global, layer: &mut L, names: u32) -> Result<()> {
+    for pid in 6..=10 {
+        hold_in(alloc, layer, Pid(pid), names / 10)?;
+    }
+    Ok(())
+}
+
+/// Puts so many names of each kind in use by a process.
+fn hold_in<L: Layer>(alloc: Global, layer: &mut L, pid: Pid, names: u32) -> Result<()> {
+    for number in 0..names {
+        let text = format!(in alloc; "{}.{number}", pid.0)?;
+        bind_path(layer, pid, Fd(number), named(alloc, text.as_bytes())?)?;
+        listen_at(layer, pid, Fd(number), named(alloc, text.as_bytes())?)?;
+    }
+    Ok(())
+}
+
+/// Makes a socket at the lowest free number, which is this one, binds it to a path and closes it.
+fn bind_path<L: Layer>(layer: &mut L, pid: Pid, fd: Fd, path: Name) -> Result<()> {
+    let addr = Addr::Path(path);
+    must(layer, pid, &SOCKET)?;
+    must(layer, pid, &Request::Bind { fd, addr })?;
+    must(layer, pid, &Request::Close { fd })
+}
+
+/// Makes a socket there, which listens by this abstract name, and stays.
+fn listen_at<L: Layer>(layer: &mut L, pid: Pid, fd: Fd, name: Name) -> Result<()> {
+    let addr = Addr::Abstract(name);
+    must(layer, pid, &SOCKET)?;
+    must(layer, pid, &Request::Bind { fd, addr })?;
+    must(layer, pid, &Request::Listen { fd, backlog: 4 })
 }

@@ -13,7 +13,7 @@ use ux_syntax::{Script, parse_script};
 use ux_types::Name;
 
 /// The scripts by their names.
-const SCRIPTS: [&str; 10] = [
+const SCRIPTS: [&str; 15] = [
     "hello",
     "lost_peer",
     "peek_then_read",
@@ -24,6 +24,11 @@ const SCRIPTS: [&str; 10] = [
     "counter_and_pipe",
     "ends_of_a_file",
     "one_offset",
+    "server_by_path",
+    "server_by_abstract_name",
+    "full_backlog_and_lost_listener",
+    "accept_at_a_full_table",
+    "autobind_and_refusals",
 ];
 
 /// A file object as a kernel holds it.
