@@ -1,6 +1,7 @@
 //! Scripts and traces by examples. Each step is a function of its own, so that a test's proof stays short.
 
 mod calls;
+mod connections;
 mod readers;
 mod scripts;
 mod traces;
@@ -10,7 +11,7 @@ use std::alloc::Global;
 use std::process::Abort;
 use std::test::*;
 use ux_syntax::{ScriptFault, parse_script};
-use ux_types::{Bytes, Name};
+use ux_types::{Bytes, Name, Request};
 
 /// The text of the fault of a script, or none if it is read.
 fn fault_of(alloc: Global, text: &[u8]) -> Result<String, Fail> {
@@ -41,6 +42,32 @@ fn expect_bad_line(rt: &impl Abort, alloc: Global, lines: &str) -> Result<(), Fa
     let text = format!(in alloc; "proc 0 0 0 1\n{lines}")?;
     let fault = format!(in alloc; "line {number}: bad line")?;
     expect_fault(rt, alloc, &text, &fault)
+}
+
+/// Sees that a call is a bad line.
+fn expect_bad_call(rt: &impl Abort, alloc: Global, call: &str) -> Result<(), Fail> {
+    let line = format!(in alloc; "1 {call}")?;
+    expect_bad_line(rt, alloc, &line)
+}
+
+/// The request that a call of a script asks for.
+fn request_in(alloc: Global, call: &str) -> Result<Request, Fail> {
+    let text = format!(in alloc; "proc 0 0 0 1\n1 {call}")?;
+    let mut script = parse_script(alloc, text.as_bytes())?;
+    let line = script.lines.pop().ok_or("no call")?;
+    Ok(line.request)
+}
+
+/// Sees what a call of a script asks for.
+fn expect_request(
+    rt: &impl Abort,
+    alloc: Global,
+    call: &str,
+    request: &Request,
+) -> Result<(), Fail> {
+    let read = request_in(alloc, call)?;
+    assert_eq!(rt; read, *request, "{call}");
+    Ok(())
 }
 
 /// Sees the text of a fault.

@@ -1,36 +1,9 @@
 //! The calls of a script: what each asks for, and what is no call.
-use super::{bytes_of, expect_bad_line, name_of};
+use super::{bytes_of, expect_bad_call, expect_bad_line, expect_request, name_of};
 use std::alloc::Global;
 use std::process::Abort;
 use std::test::*;
-use ux_syntax::parse_script;
 use ux_types::{Fd, Mode, OpenFlags, Request, Whence};
-
-/// Sees that a call is a bad line.
-fn expect_bad_call(rt: &impl Abort, alloc: Global, call: &str) -> Result<(), Fail> {
-    let line = format!(in alloc; "1 {call}")?;
-    expect_bad_line(rt, alloc, &line)
-}
-
-/// The request that a call of a script asks for.
-fn request_in(alloc: Global, call: &str) -> Result<Request, Fail> {
-    let text = format!(in alloc; "proc 0 0 0 1\n1 {call}")?;
-    let mut script = parse_script(alloc, text.as_bytes())?;
-    let line = script.lines.pop().ok_or("no call")?;
-    Ok(line.request)
-}
-
-/// Sees what a call of a script asks for.
-fn expect_request(
-    rt: &impl Abort,
-    alloc: Global,
-    call: &str,
-    request: &Request,
-) -> Result<(), Fail> {
-    let read = request_in(alloc, call)?;
-    assert_eq!(rt; read, *request, "{call}");
-    Ok(())
-}
 
 /// Sees that a call opens a path.
 fn expect_open(

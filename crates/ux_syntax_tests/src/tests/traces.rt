@@ -5,7 +5,7 @@ use std::process::Abort;
 use std::test::*;
 use ux_syntax::entry_text;
 use ux_types::{
-    Entry, Errno, Fd, Mode, MsgFlags, OpenFlags, Pid, Released, Reply, Request, Whence,
+    Addr, Entry, Errno, Fd, Mode, MsgFlags, OpenFlags, Pid, Released, Reply, Request, Whence,
 };
 
 /// Sees an entry's line, in which no file object was closed.
@@ -182,6 +182,54 @@ fn entries_of_descriptors_are_printed(rt: HostRuntime) -> Result<(), Fail> {
     let flags = OpenFlags(1);
     let set = Request::SetFlags { fd, flags };
     expect_fifth(&rt, alloc, set, Reply::Ok, "5 1 7 flags = ok\n")
+}
+
+#[test]
+fn entries_of_connections_are_printed(rt: HostRuntime) -> Result<(), Fail> {
+    let alloc = rt.alloc();
+    let fd = Fd(3);
+    let flags = OpenFlags(0);
+    let socket = Request::Socket { flags };
+    expect_fifth(&rt, alloc, socket, Reply::Fd(fd), "5 1 7 socket = fd 3\n")?;
+    let addr = Addr::Unnamed;
+    let bind = Request::Bind { fd, addr };
+    expect_fifth(&rt, alloc, bind, Reply::Ok, "5 1 7 bind = ok\n")?;
+    let listen = Request::Listen { fd, backlog: -1 };
+    expect_fifth(&rt, alloc, listen, Reply::Ok, "5 1 7 listen = ok\n")?;
+    let addr = Addr::Path(name_of(alloc, b"s")?);
+    let connect = Request::Connect { fd, addr };
+    let refused = Reply::Err(Errno::ECONNREFUSED);
+    let line = "5 1 7 connect = err ECONNREFUSED\n";
+    expect_fifth(&rt, alloc, connect, refused, line)
+}
+
+/// Sees the line of an accept that gave descriptor 4, and of a call that told a peer's name.
+fn expect_name(rt: &impl Abort, alloc: Global, addr: Addr, text: &str) -> Result<(), Fail> {
+    let fd = Fd(3);
+    let flags = OpenFlags(0);
+    let accepted = Reply::Accepted(Fd(4), addr.clone()?);
+    let line = format!(in alloc; "5 1 7 accept = accepted 4 {text}\n")?;
+    let accept = Request::Accept { fd, flags };
+    expect_fifth(rt, alloc, accept, accepted, &line)?;
+    let line = format!(in alloc; "5 1 7 peername = addr {text}\n")?;
+    let peer = Request::GetPeerName { fd };
+    expect_fifth(rt, alloc, peer, Reply::Addr(addr), &line)
+}
+
+#[test]
+fn addresses_are_printed(rt: HostRuntime) -> Result<(), Fail> {
+    let alloc = rt.alloc();
+    expect_name(&rt, alloc, Addr::Unnamed, "u")?;
+    let path = Addr::Path(name_of(alloc, b"/run/a b")?);
+    expect_name(&rt, alloc, path, "p:/run/a%20b")?;
+    let bytes = [0x21, 0x7e, 0x25, 0x7f, 0, 0xff];
+    let name = Addr::Abstract(name_of(alloc, &bytes)?);
+    expect_name(&rt, alloc, name, "a:!~%25%7f%00%ff")?;
+    let empty = Addr::Abstract(name_of(alloc, b"")?);
+    expect_name(&rt, alloc, empty, "a:")?;
+    let own = Request::GetSockName { fd: Fd(3) };
+    let name = Reply::Addr(Addr::Abstract(name_of(alloc, b"00001")?));
+    expect_fifth(&rt, alloc, own, name, "5 1 7 sockname = addr a:00001\n")
 }
 
 /// Sees the line of an entry whose number is its count, in which these file objects were closed.

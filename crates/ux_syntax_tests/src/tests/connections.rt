@@ -1,0 +1,181 @@
+//! Calls of names and connections: what each asks for, and what is no call.
+use super::{expect_bad_call, expect_request, name_of};
+use std::alloc::Global;
+use std::process::Abort;
+use std::test::*;
+use ux_types::{Addr, Fd, OpenFlags, Request};
+
+#[test]
+fn calls_of_connections_are_read(rt: HostRuntime) -> Result<(), Fail> {
+    let alloc = rt.alloc();
+    let fd = Fd(3);
+    let flags = OpenFlags(6);
+    expect_request(&rt, alloc, "socket stream nx", &Request::Socket { flags })?;
+    expect_request(&rt, alloc, "accept 3 nx", &Request::Accept { fd, flags })?;
+    expect_request(&rt, alloc, "sockname 3", &Request::GetSockName { fd })?;
+    expect_request(&rt, alloc, "peername 3", &Request::GetPeerName { fd })
+}
+
+/// The address of this form, `u`, `p` or `a`, and this name.
+fn addr_of(alloc: Global, form: char, name: &[u8]) -> Result<Addr, Fail> {
+    match form {
+        'p' => Ok(Addr::Path(name_of(alloc, name)?)),
+        'a' => Ok(Addr::Abstract(name_of(alloc, name)?)),
+        _ => Ok(Addr::Unnamed),
+    }
+}
+
+/// Sees that an address is read, as a socket's own and as one to connect to.
+fn expect_addr(
+    rt: &impl Abort,
+    alloc: Global,
+    text: &str,
+    form: char,
+    name: &[u8],
+) -> Result<(), Fail> {
+    let fd = Fd(3);
+    let call = format!(in alloc; "bind 3 {text}")?;
+    let addr = addr_of(alloc, form, name)?;
+    expect_request(rt, alloc, &call, &Request::Bind { fd, addr })?;
+    let call = format!(in alloc; "connect 3 {text}")?;
+    let addr = addr_of(alloc, form, name)?;
+    expect_request(rt, alloc, &call, &Request::Connect { fd, addr })
+}
+
+/// Addresses as they are written, their form, and the bytes of their name.
+const ADDRESSES: &[(&str, char, &[u8])] = &[
+    ("u", 'u', b""),
+    ("p:s", 'p', b"s"),
+    ("p:", 'p', b""),
+    ("p:/run/a%20b", 'p', b"/run/a b"),
+    ("p:a:x", 'p', b"a:x"),
+    ("a:", 'a', b""),
+    ("a:u", 'a', b"u"),
+    ("a:00001", 'a', b"00001"),
+    ("a:%00%25%ff", 'a', &[0, b'%', 0xff]),
+    ("a:!~%7f", 'a', &[0x21, 0x7e, 0x7f]),
+];
+
+#[test]
+fn addresses_are_read(rt: HostRuntime) -> Result<(), Fail> {
+    for (text, form, name) in ADDRESSES {
+        expect_addr(&rt, rt.alloc(), text, *form, name)?;
+    }
+    Ok(())
+}
+
+/// What is no address.
+const BAD_ADDRESSES: &[&str] = &[
+    "", "-", "s", "/s", "p", "a", ":", ":s", "uu", "u:", "U", "P:s", "x:s", "p=s", "ap:s", "p:%73",
+    "a:%7e", "a:%2", "a:%", "a:%FF", "a:%zz", "a:\u{7f}", "p:\t", "a:\u{e9}",
+];
+
+#[test]
+fn bad_addresses_are_told(rt: HostRuntime) -> Result<(), Fail> {
+    let alloc = rt.alloc();
+    for text in BAD_ADDRESSES {
+        let call = format!(in alloc; "bind 3 {text}")?;
+        expect_bad_call(&rt, alloc, &call)?;
+        let call = format!(in alloc; "connect 3 {text}")?;
+        expect_bad_call(&rt, alloc, &call)?;
+    }
+    Ok(())
+}
+
+/// Backlogs as they are written.
+const BACKLOGS: &[(&str, i32)] = &[
+    ("0", 0),
+    ("1", 1),
+    ("-1", -1),
+    ("128", 128),
+    ("-2147483648", i32::MIN),
+    ("2147483647", i32::MAX),
+];
+
+#[test]
+fn backlogs_are_read(rt: HostRuntime) -> Result<(), Fail> {
+    let alloc = rt.alloc();
+    let fd = Fd(0);
+    for (text, backlog) in BACKLOGS {
+        let backlog = *backlog;
+        let call = format!(in alloc; "listen 0 {text}")?;
+        expect_request(&rt, alloc, &call, &Request::Listen { fd, backlog })?;
+    }
+    Ok(())
+}
+
+/// What is no backlog.
+const BAD_BACKLOGS: &[&str] = &[
+    "",
+    "-",
+    "-0",
+    "00",
+    "01",
+    "-01",
+    "+1",
+    "--1",
+    "1-",
+    "0x1",
+    "2147483648",
+    "-2147483649",
+    "4294967295",
+    "9223372036854775807",
+    "99999999999999999999",
+];
+
+#[test]
+fn bad_backlogs_are_told(rt: HostRuntime) -> Result<(), Fail> {
+    let alloc = rt.alloc();
+    for text in BAD_BACKLOGS {
+        let call = format!(in alloc; "listen 0 {text}")?;
+        expect_bad_call(&rt, alloc, &call)?;
+    }
+    Ok(())
+}
+
+/// Calls of names and connections that are bad lines.
+const BAD_CALLS: &[&str] = &[
+    "socket",
+    "socket -",
+    "socket stream",
+    "socket stream xa",
+    "socket stream - -",
+    "socket dgram -",
+    "socket Stream -",
+    "bind",
+    "bind 3",
+    "bind u",
+    "bind u 3",
+    "bind -1 u",
+    "bind 3 u u",
+    "listen",
+    "listen 0",
+    "listen 0 1 1",
+    "listen -1 0",
+    "connect",
+    "connect 3",
+    "connect u",
+    "connect 3 u -",
+    "accept",
+    "accept 3",
+    "accept -",
+    "accept 3 xn",
+    "accept 3 - -",
+    "accept4 3 -",
+    "sockname",
+    "sockname u",
+    "sockname 3 3",
+    "getsockname 3",
+    "peername",
+    "peername 03",
+    "peername 3 u",
+    "getpeername 3",
+];
+
+#[test]
+fn bad_calls_of_connections_are_told(rt: HostRuntime) -> Result<(), Fail> {
+    for call in BAD_CALLS {
+        expect_bad_call(&rt, rt.alloc(), call)?;
+    }
+    Ok(())
+}
