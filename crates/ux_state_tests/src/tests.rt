@@ -14,7 +14,7 @@ use ux_object::FileObject;
 use ux_objects::MemFile;
 use ux_rights::RefList;
 use ux_state::{RetiredList, State};
-use ux_types::{Cred, DescriptionId, Fd, Mode, Name, OpenFlags, Pid, ProcSpec};
+use ux_types::{Cred, DescriptionId, Errno, Fd, Mode, Name, OpenFlags, Pid, ProcSpec};
 
 /// A path with these bytes.
 fn name(alloc: Global, bytes: &[u8]) -> Result<Name, AllocError> {
@@ -122,6 +122,23 @@ fn append<O: FileObject>(
     assert!(rt; state.socket(id).is_some());
     let sent = state.send_stream(id, bytes, 1, RefList::new(alloc), user(), 1000);
     assert!(rt; sent == Ok(bytes.len()));
+}
+
+/// Sees which socket a number of process 1 leads to, by its own handle and its peer's, or why none.
+fn expect_socket<O: FileObject>(
+    rt: &impl Abort,
+    state: &State<O>,
+    fd: u32,
+    answer: Result<(u128, u128), Errno>,
+) {
+    assert!(rt; state.is_live(Pid(1)));
+    match state.find_socket(Pid(1), Fd(fd)) {
+        Ok((id, socket)) => match socket.peer() {
+            Some(peer) => assert!(rt; answer == Ok((id.number(), peer.number())), "{fd}"),
+            None => assert!(rt; false, "{fd}"),
+        },
+        Err(refusal) => assert!(rt; answer == Err(refusal), "{fd}"),
+    }
 }
 
 /// Sees what waits at a socket, and whether it is reset.

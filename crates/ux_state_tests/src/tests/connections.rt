@@ -1,5 +1,5 @@
 //! Names, listening sockets and those that connect to them.
-use super::{append, close, expect_queue, name, process, settle, start_with, user};
+use super::{append, close, expect_queue, expect_socket, name, process, settle, start_with, user};
 use hoard::Hoard;
 use std::alloc::Global;
 use std::process::Abort;
@@ -112,11 +112,40 @@ fn accept<O: FileObject>(
     listener: u128,
     answer: Result<Fd, InstallError>,
 ) {
+    accept_with(rt, state, listener, OpenFlags(2), answer);
+}
+
+/// The same with these flags.
+fn accept_with<O: FileObject>(
+    rt: &impl Abort,
+    state: &mut State<O>,
+    listener: u128,
+    flags: OpenFlags,
+    answer: Result<Fd, InstallError>,
+) {
     let listener = DescriptionId::new(listener);
     assert!(rt; state.is_live(Pid(1)));
     assert!(rt; state.first_pending(listener).is_some());
-    let accepted = state.accept(Pid(1), listener, OpenFlags(2));
+    let accepted = state.accept(Pid(1), listener, flags);
     assert!(rt; accepted == answer);
+}
+
+/// Sees whether a number of process 1 is closed on exec, and whether its description is non-blocking.
+fn expect_flags<O: FileObject>(
+    rt: &impl Abort,
+    state: &State<O>,
+    fd: u32,
+    cloexec: bool,
+    nonblock: bool,
+) {
+    assert!(rt; state.is_live(Pid(1)));
+    match state.find_description(Pid(1), Fd(fd)) {
+        Ok((entry, description)) => {
+            assert!(rt; entry.cloexec == cloexec);
+            assert!(rt; description.nonblock() == nonblock);
+        }
+        Err(_) => assert!(rt; false),
+    }
 }
 
 /// Sees which socket of a type an address leads to, or why none.
@@ -210,6 +239,27 @@ fn an_end_waits_on_where_the_table_is_full(rt: HostRuntime) -> Result<(), Fail> 
     accept(&rt, s, 0, Ok(Fd(1)));
     expect_socket(&rt, s, 1, Ok((2, 1)));
     assert!(rt; s.socket(DescriptionId::new(1)).is_none());
+    Ok(())
+}
+
+#[test]
+fn an_accepted_end_has_the_flags_of_the_call(rt: HostRuntime) -> Result<(), Fail> {
+    let alloc = rt.alloc();
+    let mut state = start_alone(&rt, alloc, 8)?;
+    let s = &mut state;
+    for fd in 0..3 {
+        open_socket(&rt, s, fd);
+    }
+    autobind(&rt, s, 0, Ok(()));
+    s.set_flags(DescriptionId::new(0), OpenFlags(2));
+    listen(&rt, s, 0, 2);
+    connect(&rt, s, 1, 0, Ok(()));
+    connect(&rt, s, 2, 0, Ok(()));
+    accept_with(&rt, s, 0, OpenFlags(4), Ok(Fd(3)));
+    accept_with(&rt, s, 0, OpenFlags(2), Ok(Fd(4)));
+    expect_flags(&rt, s, 0, false, true);
+    expect_flags(&rt, s, 3, true, false);
+    expect_flags(&rt, s, 4, false, true);
     Ok(())
 }
 

@@ -1,6 +1,7 @@
 //! Connected sockets: messages, resets, and what goes with their queues.
 use super::{
-    append, close, expect_queue, name, open, open_pair, settle, start, start_with_files, user,
+    append, close, expect_queue, expect_socket, name, open, open_pair, settle, start,
+    start_with_files, user,
 };
 use hoard::Hoard;
 use std::alloc::{AllocError, Global};
@@ -11,23 +12,6 @@ use ux_objects::Counter;
 use ux_rights::RefList;
 use ux_state::{RetiredList, State};
 use ux_types::{DescriptionId, Errno, Fd, Mode, OpenFlags, Pid};
-
-/// Sees which socket a number of process 1 leads to, by its own handle and its peer's, or why none.
-fn expect_socket<O: FileObject>(
-    rt: &impl Abort,
-    state: &State<O>,
-    fd: u32,
-    answer: Result<(u128, u128), Errno>,
-) {
-    assert!(rt; state.is_live(Pid(1)));
-    match state.find_socket(Pid(1), Fd(fd)) {
-        Ok((id, socket)) => match socket.peer() {
-            Some(peer) => assert!(rt; answer == Ok((id.number(), peer.number())), "{fd}"),
-            None => assert!(rt; false, "{fd}"),
-        },
-        Err(refusal) => assert!(rt; answer == Err(refusal), "{fd}"),
-    }
-}
 
 /// Sends a reference to a description to a socket.
 fn pass<O: FileObject>(
