@@ -13,7 +13,7 @@ use ux_syntax::{Script, parse_script};
 use ux_types::Name;
 
 /// The scripts by their names.
-const SCRIPTS: [&str; 15] = [
+const SCRIPTS: [&str; 37] = [
     "hello",
     "lost_peer",
     "peek_then_read",
@@ -29,6 +29,28 @@ const SCRIPTS: [&str; 15] = [
     "full_backlog_and_lost_listener",
     "accept_at_a_full_table",
     "autobind_and_refusals",
+    "joined_sends",
+    "two_lowest_numbers",
+    "further_descriptors",
+    "nul_in_names",
+    "longest_names",
+    "one_name_wanted_twice",
+    "bound_once",
+    "name_of_a_servers_end",
+    "path_outlives_its_socket",
+    "listener_without_its_path",
+    "abstract_name_goes_with_its_socket",
+    "refusals_of_accept",
+    "listening_again",
+    "lost_listener",
+    "server_exits",
+    "whom_a_client_reaches",
+    "calls_for_sockets_alone",
+    "socket_without_a_peer",
+    "lost_client",
+    "name_of_a_client",
+    "end_with_unread_bytes",
+    "server_by_path_and_by_name",
 ];
 
 /// A file object as a kernel holds it.

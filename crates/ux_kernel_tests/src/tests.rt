@@ -2,8 +2,6 @@
 
 mod boots;
 mod connections;
-mod listeners;
-mod names;
 mod objects;
 mod pairs;
 
@@ -46,16 +44,12 @@ fn unlink(alloc: Global, path: &[u8]) -> Result<Request, AllocError> {
     })
 }
 
-fn send_with(alloc: Global, fd: u32, bytes: &[u8], flags: u8) -> Result<Request, AllocError> {
+fn send(alloc: Global, fd: u32, bytes: &[u8], flags: u8) -> Result<Request, AllocError> {
     Ok(Request::SendMsg {
         fd: Fd(fd),
         bytes: Bytes::new(Vec::from_slice(alloc, bytes)?),
         flags: MsgFlags(flags),
     })
-}
-
-fn send(alloc: Global, fd: u32, bytes: &[u8]) -> Result<Request, AllocError> {
-    send_with(alloc, fd, bytes, 0)
 }
 
 fn recv(fd: u32, n: usize, flags: u8) -> Request {
@@ -86,11 +80,6 @@ fn refused(e: Errno) -> Reply {
 /// A path or a name of these bytes.
 fn named(alloc: Global, bytes: &[u8]) -> Result<Name, AllocError> {
     Ok(Name::new(BString::new(Vec::from_slice(alloc, bytes)?)))
-}
-
-/// One of so many bytes.
-fn long(alloc: Global, length: usize) -> Result<Name, AllocError> {
-    Ok(Name::new(BString::new(vec![in alloc; 97; length]?)))
 }
 
 /// A kernel, and a list for what its calls let go of.
@@ -147,15 +136,11 @@ enum At {
     Unnamed,
     Path(&'static [u8]),
     Abstract(&'static [u8]),
-    LongPath(usize),
-    LongAbstract(usize),
 }
 
 /// A call that a row of a test makes.
 enum Asked {
     Open(&'static [u8]),
-    Read(u32, usize),
-    Write(u32, &'static [u8]),
     Pair,
     Socket,
     Bind(u32, At),
@@ -165,11 +150,10 @@ enum Asked {
     SockName(u32),
     PeerName(u32),
     Send(u32, &'static [u8], u8),
+    /// So many bytes `x`.
+    SendMany(u32, usize),
     Recv(u32, usize, u8),
     Close(u32),
-    Dup(u32),
-    Dup2(u32, u32),
-    Flags(u32, u8),
     Unlink(&'static [u8]),
     Exit,
 }
@@ -181,6 +165,8 @@ enum Told {
     Fds(u32, u32),
     Count(usize),
     Got(&'static [u8]),
+    /// So many bytes `x`.
+    GotMany(usize),
     Accepted(u32, At),
     Addr(At),
     Err(Errno),
@@ -189,14 +175,17 @@ enum Told {
 /// A process, its call and the reply.
 type Row = (u32, Asked, Told);
 
+/// So many bytes `x`.
+fn copies(alloc: Global, count: usize) -> Result<Vec<u8>, AllocError> {
+    vec![in alloc; b'x'; count]
+}
+
 /// The address of a row.
 fn addr_of(alloc: Global, at: &At) -> Result<Addr, AllocError> {
     Ok(match at {
         At::Unnamed => Addr::Unnamed,
         At::Path(bytes) => Addr::Path(named(alloc, bytes)?),
         At::Abstract(bytes) => Addr::Abstract(named(alloc, bytes)?),
-        At::LongPath(length) => Addr::Path(long(alloc, *length)?),
-        At::LongAbstract(length) => Addr::Abstract(long(alloc, *length)?),
     })
 }
 
@@ -207,11 +196,6 @@ fn request_of(alloc: Global, asked: &Asked) -> Result<Request, AllocError> {
             path: named(alloc, path)?,
             mode: Mode::Both,
             flags: OpenFlags(0),
-        },
-        Asked::Read(fd, n) => Request::Read { fd: Fd(*fd), n: *n },
-        Asked::Write(fd, bytes) => Request::Write {
-            fd: Fd(*fd),
-            bytes: Bytes::new(Vec::from_slice(alloc, bytes)?),
         },
         Asked::Pair => pair(),
         Asked::Socket => socket(),
@@ -233,18 +217,10 @@ fn request_of(alloc: Global, asked: &Asked) -> Result<Request, AllocError> {
         },
         Asked::SockName(fd) => Request::GetSockName { fd: Fd(*fd) },
         Asked::PeerName(fd) => Request::GetPeerName { fd: Fd(*fd) },
-        Asked::Send(fd, bytes, flags) => send_with(alloc, *fd, bytes, *flags)?,
+        Asked::Send(fd, bytes, flags) => send(alloc, *fd, bytes, *flags)?,
+        Asked::SendMany(fd, count) => send(alloc, *fd, &copies(alloc, *count)?, 0)?,
         Asked::Recv(fd, n, flags) => recv(*fd, *n, *flags),
         Asked::Close(fd) => Request::Close { fd: Fd(*fd) },
-        Asked::Dup(fd) => Request::Dup { fd: Fd(*fd) },
-        Asked::Dup2(fd, to) => Request::Dup2 {
-            fd: Fd(*fd),
-            to: Fd(*to),
-        },
-        Asked::Flags(fd, flags) => Request::SetFlags {
-            fd: Fd(*fd),
-            flags: OpenFlags(*flags),
-        },
         Asked::Unlink(path) => unlink(alloc, path)?,
         Asked::Exit => Request::Exit,
     })
@@ -258,6 +234,7 @@ fn reply_of(alloc: Global, told: &Told) -> Result<Reply, AllocError> {
         Told::Fds(low, high) => fds(*low, *high),
         Told::Count(count) => Reply::Count(*count),
         Told::Got(bytes) => got(alloc, bytes)?,
+        Told::GotMany(count) => got(alloc, &copies(alloc, *count)?)?,
         Told::Accepted(fd, at) => Reply::Accepted(Fd(*fd), addr_of(alloc, at)?),
         Told::Addr(at) => Reply::Addr(addr_of(alloc, at)?),
         Told::Err(errno) => refused(*errno),
@@ -278,7 +255,21 @@ fn says_rows(
     Ok(())
 }
 
-/// The same over a kernel of one process with this descriptor limit.
+/// Makes the calls of these rows so many times.
+fn says_often(
+    rt: &impl Abort,
+    alloc: Global,
+    machine: &mut Machine,
+    times: usize,
+    rows: &[Row],
+) -> Result<(), AllocError> {
+    for _ in 0..times {
+        says_rows(rt, alloc, machine, rows)?;
+    }
+    Ok(())
+}
+
+/// Makes the calls of these rows in order, over a kernel of one process with this descriptor limit.
 fn says_alone(rt: &impl Abort, alloc: Global, limit: u32, rows: &[Row]) -> Result<(), AllocError> {
     let mut machine = bare(alloc, &[process(limit)])?;
     says_rows(rt, alloc, &mut machine, rows)

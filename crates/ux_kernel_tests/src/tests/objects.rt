@@ -1,10 +1,8 @@
 //! How file objects go.
-use super::{
-    Asked, Machine, Row, Told, answers, ask, named, says_rows, turns_off, unlink, with_counters,
-};
+use super::{Asked, Machine, Row, Told, ask, says_rows, turns_off, unlink, with_counters};
 use std::alloc::AllocError;
 use ux_object::FileObject;
-use ux_types::{Errno, Fd, Mode, OpenFlags, Reply, Request};
+use ux_types::{Errno, Request};
 
 /// Makes a call of process 1, and sees which one file object is handed out, closed.
 fn lets_go(machine: &mut Machine, request: Request, number: u32) -> bool {
@@ -43,16 +41,14 @@ fn an_object_without_a_path_is_handed_out(rt: HostRuntime) -> Result<(), AllocEr
     Ok(())
 }
 
+/// A file object that is open.
+const OPENED: &[Row] = &[(1, Asked::Open(b"b"), Told::Fd(0))];
+
 #[test]
 fn a_kernel_goes_with_its_open_objects(rt: HostRuntime) -> Result<(), AllocError> {
     let alloc = rt.alloc();
     let mut machine = with_counters(alloc, &[b"a", b"b"])?;
-    let open = Request::Open {
-        path: named(alloc, b"b")?,
-        mode: Mode::Both,
-        flags: OpenFlags(0),
-    };
-    answers(&rt, &mut machine, open, Reply::Fd(Fd(0)));
+    says_rows(&rt, alloc, &mut machine, OPENED)?;
     drop(machine);
     Ok(())
 }

@@ -1,10 +1,9 @@
 //! Pairs of sockets, what is sent through them, and their further descriptors.
 use super::{
-    Asked, Row, Told, answers, bare, fds, got, pair, process, recv, refused, says_alone,
-    says_at_last, says_rows, send, turns_off,
+    Asked, Row, Told, bare, process, says_alone, says_at_last, says_often, says_rows, turns_off,
 };
 use std::alloc::AllocError;
-use ux_types::{Errno, Pid, Reply};
+use ux_types::{Errno, Pid};
 
 /// A pair from its making to its end.
 const A_PAIR: &[Row] = &[
@@ -40,6 +39,9 @@ const MADE_AND_SENT: &[Row] = &[
     (1, Asked::Send(0, b"abc", 0), Told::Count(3)),
 ];
 
+/// A further send.
+const SENT: &[Row] = &[(1, Asked::Send(0, b"def", 0), Told::Count(3))];
+
 /// Calls that take memory to receive.
 const RECEIVED: &[Row] = &[
     (1, Asked::Recv(1, 1, 1), Told::Got(b"a")),
@@ -60,27 +62,9 @@ fn a_call_that_is_refused_memory_changes_nothing(rt: HostRuntime) -> Result<(), 
     let mut machine = bare(alloc, &[process(16)])?;
     let k = &mut machine;
     says_at_last(&rt, alloc, k, MADE_AND_SENT)?;
-    answers(&rt, k, send(alloc, 0, b"def")?, Reply::Count(3));
+    says_rows(&rt, alloc, k, SENT)?;
     says_at_last(&rt, alloc, k, RECEIVED)?;
     says_rows(&rt, alloc, k, AFTERWARDS)
-}
-
-/// Sends that receives join.
-const JOINED: &[Row] = &[
-    (1, Asked::Pair, Told::Fds(0, 1)),
-    (1, Asked::Send(0, b"abc", 0), Told::Count(3)),
-    (1, Asked::Send(0, b"def", 0), Told::Count(3)),
-    (1, Asked::Recv(1, 4, 1), Told::Got(b"abcd")),
-    (1, Asked::Recv(1, 4, 0), Told::Got(b"abcd")),
-    (1, Asked::Send(0, b"ghi", 0), Told::Count(3)),
-    (1, Asked::Recv(1, 3, 0), Told::Got(b"efg")),
-    (1, Asked::Recv(1, 9, 0), Told::Got(b"hi")),
-    (1, Asked::Recv(1, 9, 0), Told::Err(Errno::EAGAIN)),
-];
-
-#[test]
-fn one_receive_joins_sends_and_cuts_the_last(rt: HostRuntime) -> Result<(), AllocError> {
-    says_alone(&rt, rt.alloc(), 16, JOINED)
 }
 
 /// Flags that a send or a receive takes, and others.
@@ -110,74 +94,66 @@ fn flags_are_checked_behind_the_descriptor(rt: HostRuntime) -> Result<(), AllocE
 
 /// A queue with room for one byte, between a send and a receive of many.
 const ONE_BYTE: &[Row] = &[
+    (1, Asked::Pair, Told::Fds(0, 1)),
+    (1, Asked::SendMany(0, 70000), Told::Count(65536)),
     (1, Asked::Send(0, b"y", 0), Told::Err(Errno::EAGAIN)),
     (1, Asked::Send(0, b"", 0), Told::Count(0)),
     (1, Asked::Recv(1, 1, 0), Told::Got(b"x")),
     (1, Asked::Send(0, b"yz", 0), Told::Count(1)),
+    (1, Asked::Recv(1, 65535, 0), Told::GotMany(65535)),
+    (1, Asked::Recv(1, 8, 0), Told::Got(b"y")),
 ];
 
 #[test]
 fn a_full_queue_takes_what_fits(rt: HostRuntime) -> Result<(), AllocError> {
-    let alloc = rt.alloc();
-    let mut machine = bare(alloc, &[process(16)])?;
-    let k = &mut machine;
-    let many: Vec<u8> = vec![in alloc; 120; 70000]?;
-    let most: Vec<u8> = vec![in alloc; 120; 65535]?;
-    answers(&rt, k, pair(), fds(0, 1));
-    answers(&rt, k, send(alloc, 0, &many)?, Reply::Count(65536));
-    says_rows(&rt, alloc, k, ONE_BYTE)?;
-    answers(&rt, k, recv(1, 65535, 0), got(alloc, &most)?);
-    answers(&rt, k, recv(1, 8, 0), got(alloc, b"y")?);
-    Ok(())
+    says_alone(&rt, rt.alloc(), 16, ONE_BYTE)
 }
+
+const PAIR: &[Row] = &[(1, Asked::Pair, Told::Fds(0, 1))];
+
+const SEND_ONE: &[Row] = &[(1, Asked::Send(0, b"x", 0), Told::Count(1))];
+
+/// What is left of a queue that single bytes have filled.
+const FILLED: &[Row] = &[
+    (1, Asked::Send(0, b"x", 0), Told::Err(Errno::EAGAIN)),
+    (1, Asked::Recv(1, 1000000, 1), Told::GotMany(65536)),
+    (1, Asked::Recv(1, 1000000, 0), Told::GotMany(65536)),
+    (1, Asked::Recv(1, 1000000, 0), Told::Err(Errno::EAGAIN)),
+];
 
 #[test]
 fn a_queue_of_single_bytes_is_taken_at_once(rt: HostRuntime) -> Result<(), AllocError> {
     let alloc = rt.alloc();
     let mut machine = bare(alloc, &[process(16)])?;
     let k = &mut machine;
-    let many: Vec<u8> = vec![in alloc; 120; 65536]?;
-    answers(&rt, k, pair(), fds(0, 1));
-    for _ in 0..65536 {
-        answers(&rt, k, send(alloc, 0, b"x")?, Reply::Count(1));
-    }
-    answers(&rt, k, send(alloc, 0, b"x")?, refused(Errno::EAGAIN));
-    answers(&rt, k, recv(1, 1000000, 1), got(alloc, &many)?);
-    answers(&rt, k, recv(1, 1000000, 0), got(alloc, &many)?);
-    answers(&rt, k, recv(1, 1000000, 0), refused(Errno::EAGAIN));
-    Ok(())
+    says_rows(&rt, alloc, k, PAIR)?;
+    says_often(&rt, alloc, k, 65536, SEND_ONE)?;
+    says_rows(&rt, alloc, k, FILLED)
 }
+
+/// A queue that one send and one byte fill.
+const FULL: &[Row] = &[
+    (1, Asked::Pair, Told::Fds(0, 1)),
+    (1, Asked::SendMany(0, 65535), Told::Count(65535)),
+    (1, Asked::Send(0, b"y", 0), Told::Count(1)),
+];
+
+const RECEIVE_ONE: &[Row] = &[(1, Asked::Recv(1, 1, 0), Told::Got(b"x"))];
+
+/// Its last byte.
+const LAST: &[Row] = &[
+    (1, Asked::Recv(1, 1, 0), Told::Got(b"y")),
+    (1, Asked::Recv(1, 1, 0), Told::Err(Errno::EAGAIN)),
+];
 
 #[test]
 fn a_full_queue_is_taken_byte_by_byte(rt: HostRuntime) -> Result<(), AllocError> {
     let alloc = rt.alloc();
     let mut machine = bare(alloc, &[process(16)])?;
     let k = &mut machine;
-    let many: Vec<u8> = vec![in alloc; 120; 65535]?;
-    answers(&rt, k, pair(), fds(0, 1));
-    answers(&rt, k, send(alloc, 0, &many)?, Reply::Count(65535));
-    answers(&rt, k, send(alloc, 0, b"y")?, Reply::Count(1));
-    for _ in 0..65535 {
-        answers(&rt, k, recv(1, 1, 0), got(alloc, b"x")?);
-    }
-    answers(&rt, k, recv(1, 1, 0), got(alloc, b"y")?);
-    answers(&rt, k, recv(1, 1, 0), refused(Errno::EAGAIN));
-    Ok(())
-}
-
-/// Pairs of a process with three numbers.
-const LOWEST: &[Row] = &[
-    (1, Asked::Pair, Told::Fds(0, 1)),
-    (1, Asked::Pair, Told::Err(Errno::EMFILE)),
-    (1, Asked::Close(0), Told::Ok),
-    (1, Asked::Pair, Told::Fds(0, 2)),
-    (1, Asked::Pair, Told::Err(Errno::EMFILE)),
-    (1, Asked::Close(3), Told::Err(Errno::EBADF)),
-];
-
-#[test]
-fn a_pair_takes_the_two_lowest_free_numbers(rt: HostRuntime) -> Result<(), AllocError> {
-    says_alone(&rt, rt.alloc(), 3, LOWEST)
+    says_rows(&rt, alloc, k, FULL)?;
+    says_often(&rt, alloc, k, 65535, RECEIVE_ONE)?;
+    says_rows(&rt, alloc, k, LAST)
 }
 
 /// Two processes with a pair each, up to the exit of the first.
@@ -207,25 +183,4 @@ fn an_exit_leaves_the_pairs_of_others(rt: HostRuntime) -> Result<(), AllocError>
     assert!(rt; k.kernel.process_count() == 2);
     assert!(rt; turns_off(k));
     Ok(())
-}
-
-/// Further descriptors of one socket.
-const FURTHER: &[Row] = &[
-    (1, Asked::Pair, Told::Fds(0, 1)),
-    (1, Asked::Dup(0), Told::Fd(2)),
-    (1, Asked::Dup2(1, 3), Told::Fd(3)),
-    (1, Asked::Dup(0), Told::Err(Errno::EMFILE)),
-    (1, Asked::Dup2(0, 4), Told::Err(Errno::EBADF)),
-    (1, Asked::Dup2(0, 0), Told::Fd(0)),
-    (1, Asked::Close(0), Told::Ok),
-    (1, Asked::Dup2(0, 1), Told::Err(Errno::EBADF)),
-    (1, Asked::Send(2, b"a", 0), Told::Count(1)),
-    (1, Asked::Dup2(2, 1), Told::Fd(1)),
-    (1, Asked::Recv(3, 8, 0), Told::Got(b"a")),
-    (1, Asked::Flags(3, 7), Told::Ok),
-];
-
-#[test]
-fn further_descriptors_lead_to_one_socket(rt: HostRuntime) -> Result<(), AllocError> {
-    says_alone(&rt, rt.alloc(), 4, FURTHER)
 }
