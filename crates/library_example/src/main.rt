@@ -66,11 +66,10 @@ fn calls(alloc: Global) -> Result<Vec<Request>> {
     ]?)
 }
 
-/// Makes the calls, and prints the history.
-fn run(rt: &(impl Print + AllocGlobal)) -> Result<()> {
-    let mut book = start(rt.alloc())?;
-    let mut retired = RetiredList::new(rt.alloc())?;
-    for request in &calls(rt.alloc())? {
+/// Makes these calls of the process.
+fn make_calls(alloc: Global, book: &mut Book<MemFile>, requests: &[Request]) -> Result<()> {
+    let mut retired = RetiredList::new(alloc)?;
+    for request in requests {
         if !book.is_live(WRITER) {
             return Err(anyhow!("the process has exited"));
         }
@@ -81,10 +80,21 @@ fn run(rt: &(impl Print + AllocGlobal)) -> Result<()> {
             return Err(anyhow!("{fault}"));
         }
     }
+    Ok(())
+}
+
+/// Prints the history.
+fn print_history(rt: &(impl Print + AllocGlobal), book: &Book<MemFile>) -> Result<()> {
     for (number, entry) in book.entries().iter().enumerate() {
         print!(rt; "{}", entry_text(rt.alloc(), number, entry)?)?;
     }
     Ok(())
+}
+
+fn run(rt: &(impl Print + AllocGlobal)) -> Result<()> {
+    let mut book = start(rt.alloc())?;
+    make_calls(rt.alloc(), &mut book, &calls(rt.alloc())?)?;
+    print_history(rt, &book)
 }
 
 fn main(rt: HostRuntime) -> Result<()> {
