@@ -7,7 +7,7 @@ mod calls;
 mod layers;
 
 use crate::calls::{measure, measure_connection};
-use crate::layers::{Recorded, Stepped, fill, hold_names, make_before};
+use crate::layers::{Layer, Recorded, Stepped, fill, hold_names, make_before};
 use anyhow::Result;
 use std::alloc::Global;
 use std::rt::Clock;
@@ -36,20 +36,33 @@ const NAMES: [(u32, &str); 3] = [
     (10_000, "socket, connect, accept, two closes, 10,000 names"),
 ];
 
-/// Measures connections of a kernel alone and of a book, with so many names in use.
-fn measure_among<R: Clock + Eprint>(
+/// Opens a few descriptors, and puts so many names in use.
+fn crowd<L: Layer>(alloc: Global, layer: &mut L, names: u32) -> Result<()> {
+    fill(alloc, layer, 4)?;
+    hold_names(alloc, layer, names)
+}
+
+/// Measures connections of a kernel alone, with so many names in use.
+fn connect_kernel<R: Clock + Eprint>(
     rt: &R,
     alloc: Global,
     names: u32,
     name: &'static str,
 ) -> Result<()> {
     let mut layer = Stepped::new(alloc)?;
-    fill(alloc, &mut layer, 4)?;
-    hold_names(alloc, &mut layer, names)?;
-    measure_connection(rt, alloc, "step", &mut layer, name)?;
+    crowd(alloc, &mut layer, names)?;
+    measure_connection(rt, alloc, "step", &mut layer, name)
+}
+
+/// Measures those of a book likewise.
+fn connect_book<R: Clock + Eprint>(
+    rt: &R,
+    alloc: Global,
+    names: u32,
+    name: &'static str,
+) -> Result<()> {
     let mut layer = Recorded::new(alloc)?;
-    fill(alloc, &mut layer, 4)?;
-    hold_names(alloc, &mut layer, names)?;
+    crowd(alloc, &mut layer, names)?;
     measure_connection(rt, alloc, "record", &mut layer, name)
 }
 
@@ -62,7 +75,8 @@ fn main(rt: HostRuntime) -> Result<()> {
     }
     eprintln!(rt; "4 descriptors of the file open, and other names in use:")?;
     for (names, name) in NAMES {
-        measure_among(&rt, alloc, names, name)?;
+        connect_kernel(&rt, alloc, names, name)?;
+        connect_book(&rt, alloc, names, name)?;
     }
     println!(rt; "done")?;
     Ok(())
