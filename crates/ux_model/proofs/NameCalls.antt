@@ -19,7 +19,7 @@ use Rattle.ux_model.specs.Accepting.{as_accepted, accepted_with, phase_without_f
 use Rattle.ux_model.specs.Peers.{at_target, at_socket}
 use Rattle.ux_model.specs.Invariants.{pends, pends_at_all}
 use Rattle.ux_model.proofs.ChangedPlaces.{changed_here, sum_by-changed}
-use Rattle.ux_model.proofs.Sockets.{peer_left}
+use Rattle.ux_model.proofs.Sockets.{peer_left, end_count, phase_left}
 use Rattle.ux_model.proofs.Sound.{IsSound, unaccepted, target_name, name_in}
 use Rattle.ux_model.proofs.Walk.{either, maybe, found_socket, found_named, found_peer}
 use Rattle.ux_model.proofs.Reaching.{Reaches, still, description_made, connection_made, description_changed, path_bound, name_bound, KeepsPlace, KeepsTarget, KeepsSocket, kept_place, kept_socket, same_target, nothing_there, put_names, same_names, with_table_reached, with_socket_reached, some_pushed}
@@ -132,30 +132,13 @@ peer_name_obeys S p fd = found_socket (Call S) S p fd _ (refuses refl refl) (ref
 
 -- ---- accept
 
--- how often it stands first
-abbrev first_times : ℕ → List ℕ → ℕ
-first_times e ends = times e (take 1 ends)
-
-split_times : (e : ℕ) (ends : List ℕ) → times e (drop 1 ends) + first_times e ends ≡ times e ends + 0
-split_times e [] = refl
-split_times e (x ∷ xs) =
-    let all = sum_by-cons (λ n. cond {A = ℕ} (n == e) 1 0) x xs in
-    let one = sum_by-cons (λ n. cond {A = ℕ} (n == e) 1 0) x [] in
-    omega (arith, all, one)
-
-split_phase : (e : ℕ) (p : Phase) → times e (pending_ends (phase_without_first_end p)) + first_times e (pending_ends p) ≡ times e (pending_ends p) + 0
-split_phase e idle = refl
-split_phase e (listening backlog cred) = split_times e backlog.pending
-split_phase e (connected peer) = refl
-split_phase e (associated target) = refl
-
-split_place : (e : ℕ) (x : Option Description) → at_socket (pends e) (option_map (changed without_first_end) x) + at_socket (λ s. first_times e (pending_ends s.phase)) x ≡ at_socket (pends e) x + 0
+split_place : (e : ℕ) (x : Option Description) → at_socket (pends e) (option_map (changed without_first_end) x) + at_socket (λ s. end_count e (slice_get (pending_ends s.phase) 0)) x ≡ at_socket (pends e) x + 0
 split_place e None = refl
 split_place e (Some D) = by_target D.target
   where
-    by_target : (t : Target) → at_target (pends e) (changed_target without_first_end t) + at_target (λ s. first_times e (pending_ends s.phase)) t ≡ at_target (pends e) t + 0
+    by_target : (t : Target) → at_target (pends e) (changed_target without_first_end t) + at_target (λ s. end_count e (slice_get (pending_ends s.phase) 0)) t ≡ at_target (pends e) t + 0
     by_target (to_object o) = refl
-    by_target (to_socket s) = split_phase e s.phase
+    by_target (to_socket s) = let a = phase_left e s.phase in omega (arith, a)
 
 at_is : (f : Socket → ℕ) (x : Option Description) (s : Socket) → socket_in x ≡ Some s → at_socket f x ≡ f s
 at_is f None s h = absurd (cc h)
@@ -165,21 +148,13 @@ at_is f (Some D) s h = by_target D.target h
     by_target (to_object o) h = absurd (cc h)
     by_target (to_socket u) h = let same : u ≡ s = cc h in ap f same
 
-first_once : (e : ℕ) (ends : List ℕ) → slice_get ends 0 ≡ Some e → first_times e ends ≡ 1
-first_once e [] h = absurd (cc h)
-first_once e (x ∷ xs) h =
-    let is : x ≡ e = cc h in
-    let one = sum_by-cons (λ n. cond {A = ℕ} (n == e) 1 0) x [] in
-    let here : cond {A = ℕ} (x == e) 1 0 ≡ 1 = ap (λ b. cond {A = ℕ} b 1 0) (eq-eqb x e is) in
-    omega (arith, one, here)
-
 -- the oldest that waits at a listener waits no longer once it is taken off
 one_fewer : (S : State) (d e : ℕ) (s : Socket) → socket_at S d ≡ Some s → slice_get (pending_ends s.phase) 0 ≡ Some e →
     pends_at_all e (with_socket_by S d without_first_end).descriptions + 1 ≡ pends_at_all e S.descriptions
 one_fewer S d e s h first =
-    let all = sum_by-changed (at_socket (pends e)) (changed without_first_end) (λ x. 0) (at_socket (λ s. first_times e (pending_ends s.phase))) (split_place e) S.descriptions d in
-    let here : at_socket (λ s. first_times e (pending_ends s.phase)) (description_at S d) ≡ first_times e (pending_ends s.phase) = at_is (λ s. first_times e (pending_ends s.phase)) (description_at S d) s h in
-    let one = first_once e (pending_ends s.phase) first in
+    let all = sum_by-changed (at_socket (pends e)) (changed without_first_end) (λ x. 0) (at_socket (λ s. end_count e (slice_get (pending_ends s.phase) 0))) (split_place e) S.descriptions d in
+    let here : at_socket (λ s. end_count e (slice_get (pending_ends s.phase) 0)) (description_at S d) ≡ end_count e (slice_get (pending_ends s.phase) 0) = at_is (λ s. end_count e (slice_get (pending_ends s.phase) 0)) (description_at S d) s h in
+    let one : end_count e (slice_get (pending_ends s.phase) 0) ≡ 1 = ap (end_count e) first ∙ ap (λ b. cond {A = ℕ} b 1 0) (eq-eqb e e refl) in
     omega (arith, all, here, one)
 
 at_most_one : (x : Option Description) → at_socket unaccepted x ≤ 1
@@ -215,7 +190,7 @@ waits_nowhere S d e s sound h first =
     omega (arith, one, waits, most)
 
 fewer_pending : (k : ℕ) (p : Phase) → times k (pending_ends (phase_without_first_end p)) ≤ times k (pending_ends p)
-fewer_pending k p = let s = split_phase k p in omega (arith, s)
+fewer_pending k p = let s = phase_left k p in omega (arith, s)
 
 first_taken : (S : State) (d : ℕ) (s : Socket) → KeepsSocket S d s (without_first_end s)
 first_taken S d s = record {

@@ -1,9 +1,11 @@
 -- A change of one socket.
-use Rattle.std.proofs.Common.{◌≡◌, ℕ, ◌+◌, Option, Some, None, option_map, refl, arith}
-use Rattle.ux_model.specs.Socket.{Socket, Phase, idle, listening, connected, associated, peer_of, phase_with_pending}
+use Rattle.std.proofs.Common.{◌≡◌, ℕ, ◌+◌, ◌==◌, cond, List, [], ◌∷◌, drop, Option, Some, None, option_map, refl, arith}
+use Rattle.std.specs.List.{slice_get}
+use Rattle.std.proofs.lemmas.List.Sums.{sum_by-cons}
+use Rattle.ux_model.specs.Socket.{Socket, Phase, idle, listening, connected, associated, pending_ends, peer_of, phase_with_pending}
 use Rattle.ux_model.specs.Description.{Description, Target, to_object, to_socket, changed, changed_target}
 use Rattle.ux_model.specs.Accepting.{phase_without_first_end}
-use Rattle.ux_model.specs.References.{socket_refs, target_refs, description_refs, refs}
+use Rattle.ux_model.specs.References.{times, socket_refs, target_refs, description_refs, refs}
 use Rattle.ux_model.specs.Peers.{target_peer, peer_in, at_target, at_socket}
 use Rattle.ux_model.specs.Moves.{SocketCounts}
 use Rattle.ux_model.proofs.ChangedPlaces.{sum_by-changed}
@@ -45,3 +47,18 @@ peer_awaiting e idle = refl
 peer_awaiting e (listening backlog cred) = refl
 peer_awaiting e (connected peer) = refl
 peer_awaiting e (associated target) = refl
+
+-- what an end that is taken off counts
+abbrev pub end_count : ℕ → Option ℕ → ℕ
+end_count k None = 0
+end_count k (Some e) = cond (e == k) 1 0
+
+ends_left : (k : ℕ) (xs : List ℕ) → times k (drop 1 xs) + end_count k (slice_get xs 0) ≡ times k xs
+ends_left k [] = refl
+ends_left k (x ∷ xs) = let a = sum_by-cons (λ n. cond {A = ℕ} (n == k) 1 0) x xs in omega (arith, a)
+
+pub phase_left : (k : ℕ) (p : Phase) → times k (pending_ends (phase_without_first_end p)) + end_count k (slice_get (pending_ends p) 0) ≡ times k (pending_ends p)
+phase_left k idle = refl
+phase_left k (listening backlog cred) = ends_left k backlog.pending
+phase_left k (connected peer) = refl
+phase_left k (associated target) = refl

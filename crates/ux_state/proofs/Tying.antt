@@ -26,7 +26,7 @@ use Rattle.ux_model.proofs.ChangedPlaces.{place-changed, length-changed, sum_by-
 use Rattle.ux_model.proofs.Making.{place-push, paired-tied}
 use Rattle.ux_model.proofs.OneGoes.{paired-changed}
 use Rattle.ux_model.proofs.Owning.{owned_still, names_given, names_changed_socket, names_push, owned-push}
-use Rattle.ux_model.proofs.Sockets.{peer_in-changed, peer_left, peer_awaiting}
+use Rattle.ux_model.proofs.Sockets.{peer_in-changed, peer_left, peer_awaiting, end_count, phase_left}
 use Rattle.ux_slots.specs.Held.{Held, count_at, once, Adds}
 use Rattle.ux_state.specs.declared.openings.Openings.{Openings}
 use Rattle.ux_state.specs.Keeping.{state_of, IsState}
@@ -34,7 +34,7 @@ use Rattle.ux_state.specs.Moves.{IsUnnamedAt, IsUnconnectedAt, IsNoListenerAt, I
 use Rattle.ux_state.proofs.Changing.{IsAlike}
 use Rattle.ux_state.proofs.Links.{socket_linked}
 use Rattle.ux_state.proofs.Opening.{counted_push, any_socket_counted}
-use Rattle.ux_state.proofs.Queues.{one, end_popped}
+use Rattle.ux_state.proofs.Queues.{one}
 use Rattle.ux_state.proofs.SocketMoves.{there, held_by, held_by_changed, counted_changed, socket_changed, socket_kept}
 
 -- what is there
@@ -100,21 +100,6 @@ gets n (Some D) s e = by_target D.target e
     by_target (to_socket u) e = refl
 
 -- ---- ends that wait
-
--- what an end that is taken off counts
-abbrev pub end_count : ℕ → Option ℕ → ℕ
-end_count k None = 0
-end_count k (Some e) = one e k
-
-ends_left : (k : ℕ) (xs : List ℕ) → times k (drop 1 xs) + end_count k (slice_get xs 0) ≡ times k xs
-ends_left k [] = refl
-ends_left k (x ∷ xs) = end_popped k (x ∷ xs) x refl
-
-phase_left : (k : ℕ) (p : Phase) → times k (pending_ends (phase_without_first_end p)) + end_count k (slice_get (pending_ends p) 0) ≡ times k (pending_ends p)
-phase_left k idle = refl
-phase_left k (listening backlog cred) = ends_left k backlog.pending
-phase_left k (connected peer) = refl
-phase_left k (associated target) = refl
 
 abbrev pub first_of : Option Socket → Option ℕ
 first_of o = option_and_then (λ s. slice_get (pending_ends s.phase) 0) o
