@@ -1,28 +1,26 @@
 -- Of each call: that its outcome obeys what all do. One lemma a call, and one line of `each_obeys`, at the end. Those of names and connections
--- stand in NameCalls.
-use Rattle.std.proofs.Common.{◌≡◌, ℕ, suc, ◌≤◌, ◌<◌, Bool, true, false, not, ◌&&◌, ◌==◌, if◌then◌else◌, cond, List, [], ◌∷◌, ◌++◌, length, map, Option, Some, None, Result, Ok, Err, refl, ap, sym, ◌∙◌, subst, arith}
-use Rattle.std.specs.Prelude.{min, nat_le, nat_lt, ℤ, pos, negsuc, ◌+ℤ◌, is_none, is_some, count_by}
+-- stand in NameCalls, those of messages in MessageCalls.
+use Rattle.std.proofs.Common.{◌≡◌, ℕ, suc, ◌<◌, Bool, true, false, not, ◌&&◌, ◌==◌, if◌then◌else◌, cond, List, [], ◌∷◌, ◌++◌, length, map, Option, Some, None, Result, Ok, Err, refl, ap, sym, ◌∙◌, subst, arith}
+use Rattle.std.specs.Prelude.{min, nat_le, nat_lt, ℤ, pos, negsuc, ◌+ℤ◌, is_some, count_by}
 use Rattle.std.proofs.lemmas.Bool.{eqb-true, eq-eqb}
 use Rattle.std.proofs.lemmas.List.{length_push}
-use Rattle.std.proofs.lemmas.List.Sums.{sum_by-cons, sum_by_push}
-use Rattle.ux_model.specs.Types.{Errno, Fd, Name, SockType, Mode, OpenFlags, MsgFlags, Whence, Request, Reply}
+use Rattle.std.proofs.lemmas.List.Sums.{sum_by-cons}
+use Rattle.ux_model.specs.Types.{Errno, Fd, Name, SockType, Mode, OpenFlags, Whence, Request, Reply}
 use Rattle.ux_model.specs.Places.{place, filled}
 use Rattle.ux_model.specs.Limits.{read_limit, offset_limit}
-use Rattle.ux_model.specs.Flags.{are_send_flags, are_receive_flags, asks_peek, asks_cloexec, can_read, can_write, no_flags}
+use Rattle.ux_model.specs.Flags.{asks_cloexec, can_read, can_write, no_flags}
 use Rattle.ux_model.specs.Object.{Body, View, ObjectError, would_block, full, invalid, read_body, write_body, is_memory, is_pipe, with_body, after_failure}
 use Rattle.ux_model.specs.Names.{PathTarget, file, same_name, named, is_valid_path}
-use Rattle.ux_model.specs.Message.{Message}
-use Rattle.ux_model.specs.Front.{stream_front}
-use Rattle.ux_model.specs.Socket.{Socket, peer_of, stream_room, sent_part, sent, with_queue, with_reset}
+use Rattle.ux_model.specs.Socket.{Socket, peer_of}
 use Rattle.ux_model.specs.Description.{Description, to_object, to_socket, socket_of, socket_in}
 use Rattle.ux_model.specs.Process.{Process, Descriptor, own_cred, lowest_free, two_lowest_free, descriptor, copy_of, with_cloexec}
-use Rattle.ux_model.specs.State.{State, process_at, description_at, socket_at, table_of, next_description, with_object, with_description, with_socket_by, with_table, with_new}
-use Rattle.ux_model.specs.References.{times, queue_refs, path_names, orefs}
+use Rattle.ux_model.specs.State.{State, process_at, description_at, socket_at, table_of, next_description, with_object, with_description, with_table, with_new}
+use Rattle.ux_model.specs.References.{path_names, orefs}
 use Rattle.ux_model.specs.Outcome.{Outcome, Chosen, own, lacking_memory, failing, descriptor_at}
 use Rattle.ux_model.specs.Naming.{unlink}
 use Rattle.ux_model.specs.Pairing.{make_pair, with_pair}
-use Rattle.ux_model.specs.Sending.{send_msg, send_to_peer, send_connected, message_of}
-use Rattle.ux_model.specs.Receiving.{recv_msg, receive, receive_nothing, receive_bytes, bytes_alone}
+use Rattle.ux_model.specs.Sending.{message_of}
+use Rattle.ux_model.specs.Receiving.{bytes_alone}
 use Rattle.ux_model.specs.FileObjects.{holds_bytes, is_open_for}
 use Rattle.ux_model.specs.Opening.{open_file, file_description}
 use Rattle.ux_model.specs.Reading.{read, read_answer, read_error, offset_after_read, is_short_read}
@@ -34,13 +32,12 @@ use Rattle.ux_model.specs.Release.{settled, released}
 use Rattle.ux_model.specs.Step.{Step, outcome}
 use Rattle.ux_model.specs.History.{is_exit}
 use Rattle.ux_model.specs.Invariants.{LeftByRefusal}
-use Rattle.ux_model.proofs.FrontRights.{front_refs}
-use Rattle.ux_model.proofs.Sound.{IsSound}
 use Rattle.ux_model.proofs.Named.{table_in}
-use Rattle.ux_model.proofs.Walk.{either, maybe, by_target, by_path, by_queue, found, found_socket}
-use Rattle.ux_model.proofs.Reaching.{Reaches, still, description_made, peers_made, object_changed, paths_taken, turned_off, KeepsSocket, same_target, queue_changed, NamesWhatIsThere, put_names, taken_names, same_names, none_counts, with_table_reached, with_process_reached, with_description_reached, with_socket_reached, some_filled, some_more, some_pushed}
+use Rattle.ux_model.proofs.Walk.{either, maybe, by_target, by_path, found}
+use Rattle.ux_model.proofs.Reaching.{Reaches, still, description_made, peers_made, object_changed, paths_taken, turned_off, same_target, NamesWhatIsThere, put_names, taken_names, same_names, none_counts, with_table_reached, with_process_reached, with_description_reached, some_filled, some_more, some_pushed}
 use Rattle.ux_model.proofs.Obeying.{tells_choice, Obeys, Call, refuses, uses, answers, may_fail, there_of}
 use Rattle.ux_model.proofs.NameCalls.{socket_obeys, bind_obeys, listen_obeys, connect_obeys, accept_obeys, sock_name_obeys, peer_name_obeys}
+use Rattle.ux_model.proofs.MessageCalls.{connected_obeys, send_obeys, receive_obeys, recv_obeys}
 use Rattle.ux_model.proofs.HeldOpen.{IsHeldOpen, KeepsObjects, same_objects, held_changed, held_by_changed, with_process_objects, with_table_objects}
 
 -- ---- descriptors
@@ -116,79 +113,6 @@ unfolding make_pair
 pair_obeys S p kind flags = maybe (Call S) (process_at S p) _ _ (refuses refl refl)
     (λ P h. maybe (Call S) (two_lowest_free P.table) _ _ (refuses refl refl)
     (λ n low. answers refl refl refl (with_table_objects (with_pair S kind flags (own_cred p P)) p _) (with_table_reached (with_pair S kind flags (own_cred p P)) p _ (pair_made S kind p P flags) (λ sound. pair_names S p _ _ P n flags h))))
-
--- ---- sending
-
--- a message refers to what its rights do
-sent_keeps : (S : State) (n : ℕ) (m : Message) (s : Socket) → ((d : ℕ) → is_some (description_at S d) ≡ false → times d m.rights ≡ 0) → KeepsSocket S n s (sent m s)
-sent_keeps S n m s none = queue_changed S n s (s.queue ++ sent_part s m ∷ []) s.reset (λ d gone.
-    let more = sum_by_push (λ m. times d (Message.rights m)) s.queue (sent_part s m) in
-    let z : times d m.rights ≡ 0 = none d gone in
-    omega (arith, more, z))
-
-to_peer_obeys : (S : State) (d : ℕ) (m : Message) → (IsSound S → (k : ℕ) → is_some (description_at S k) ≡ false → times k m.rights ≡ 0) → Call S (send_to_peer S d m)
-to_peer_obeys S d m names = maybe (Call S) (socket_at S d) _ _ (refuses refl refl)
-    (λ other h. either (Call S) (length m.bytes == 0) _ _ (λ b. answers refl refl refl refl still)
-    (λ b. either (Call S) (stream_room other == 0) _ _ (λ b. refuses refl refl)
-    (λ b. answers refl refl refl refl (with_socket_reached S d (sent m) still (λ sound s here. sent_keeps S d m s (names sound))))))
-
-connected_obeys : (S : State) (peer : Option ℕ) (m : Message) → (IsSound S → (k : ℕ) → is_some (description_at S k) ≡ false → times k m.rights ≡ 0) → Call S (send_connected S peer m)
-connected_obeys S None m names = refuses refl refl
-connected_obeys S (Some peer) m names = to_peer_obeys S peer m names
-
-pub send_obeys : (S : State) (p tag : ℕ) (fd : Fd) (bytes : List ℕ) (flags : MsgFlags) → Call S (send_msg S p tag fd bytes flags)
-unfolding send_msg
-send_obeys S p tag fd bytes flags = maybe (Call S) (process_at S p) _ _ (refuses refl refl)
-    (λ P here. found_socket (Call S) S p fd _ (refuses refl refl) (refuses refl refl)
-    (λ d s h. either (Call S) (not (are_send_flags flags)) _ _ (λ b. refuses refl refl)
-    (λ b. connected_obeys S (peer_of s.phase) (message_of (own_cred p P) tag bytes) (λ sound k gone. refl))))
-
--- ---- receiving
-
--- the pending error that is answered
-reset_obeys : (S : State) (d : ℕ) (s : Socket) → socket_at S d ≡ Some s → s.reset ≡ true →
-    Call S (record { reply = Reply.Err Errno.ECONNRESET; next = with_socket_by S d (with_reset false); may_lack_memory = false; failure = None })
-reset_obeys S d s h pending = record {
-  own_reply = refl;
-  refused = λ e told. let same : Errno.ECONNRESET ≡ e = cc told in
-      subst (λ g. LeftByRefusal S g (with_socket_by S d (with_reset false))) same (record { description = d; socket = s; there = h; was_pending = pending; left = refl });
-  failed = λ T none. absurd (cc none);
-  reached = with_socket_reached S d (with_reset false) still (λ sound t here. queue_changed S d t t.queue false (λ k gone. omega arith));
-  objects = same_objects S (with_socket_by S d (with_reset false)) refl;
-}
-
-nothing_obeys : (S : State) (d : ℕ) (s : Socket) (peer : ℕ) → socket_at S d ≡ Some s → Call S (receive_nothing S d s peer)
-nothing_obeys S d s peer h = either (Call S) s.reset _ _ (λ b. reset_obeys S d s h b)
-    (λ b. either (Call S) (is_none (socket_at S peer)) _ _ (λ b. answers refl refl refl refl still) (λ b. refuses refl refl))
-
-bytes_obeys : (S : State) (d n : ℕ) (s : Socket) (flags : MsgFlags) (m : Message) (ms : List Message) → socket_at S d ≡ Some s → s.queue ≡ m ∷ ms →
-    Call S (receive_bytes S d flags (stream_front s.passcred n m ms))
-bytes_obeys S d n s flags m ms h q = answers refl refl refl (same (asks_peek flags)) (peeked (asks_peek flags))
-  where
-    same : (b : Bool) → (if b then S else with_socket_by S d (with_queue (stream_front s.passcred n m ms).rest)).objects ≡ S.objects
-    same true = refl
-    same false = refl
-
-    fewer : (t : Socket) → socket_at S d ≡ Some t → (k : ℕ) → queue_refs k (stream_front s.passcred n m ms).rest ≤ queue_refs k t.queue
-    fewer t here k =
-        let same : s ≡ t = cc (sym h ∙ here) in
-        let all : queue_refs k t.queue ≡ queue_refs k (m ∷ ms) = ap (λ u. queue_refs k (Socket.queue u)) (sym same) ∙ ap (queue_refs k) q in
-        let parts = front_refs k s.passcred n m ms in
-        omega (arith, all, parts)
-
-    peeked : (b : Bool) → Reaches S false (if b then S else with_socket_by S d (with_queue (stream_front s.passcred n m ms).rest))
-    peeked true = still
-    peeked false = with_socket_reached S d (with_queue (stream_front s.passcred n m ms).rest) still (λ sound t here. queue_changed S d t (stream_front s.passcred n m ms).rest t.reset (λ k gone. fewer t here k))
-
-receive_obeys : (S : State) (d : ℕ) (s : Socket) (n : ℕ) (flags : MsgFlags) → socket_at S d ≡ Some s → Call S (receive S d s n flags)
-receive_obeys S d s n flags h = maybe (Call S) (peer_of s.phase) _ _ (refuses refl refl)
-    (λ peer is. either (Call S) (n == 0) _ _ (λ b. answers refl refl refl refl still)
-    (λ b. by_queue (Call S) s.queue _ _ (nothing_obeys S d s peer h) (λ m ms q. bytes_obeys S d n s flags m ms h q)))
-
-pub recv_obeys : (S : State) (p : ℕ) (fd : Fd) (n : ℕ) (flags : MsgFlags) → Call S (recv_msg S p fd n flags)
-unfolding recv_msg
-recv_obeys S p fd n flags = found_socket (Call S) S p fd _ (refuses refl refl) (refuses refl refl)
-    (λ d s h. either (Call S) (not (are_receive_flags flags)) _ _ (λ b. refuses refl refl) (λ b. receive_obeys S d s n flags h))
 
 -- ---- open
 
@@ -267,7 +191,7 @@ still_error (Reply.Fds a b) e h = h
 still_error (Reply.Count n) e h = h
 still_error (Reply.Bytes bytes) e h = h
 still_error (Reply.At n) e h = h
-still_error (Reply.Received count bytes flags) e h = absurd (cc h)
+still_error (Reply.Received count bytes flags control from) e h = absurd (cc h)
 still_error (Reply.Accepted fd addr) e h = h
 still_error (Reply.Addr addr) e h = h
 still_error (Reply.Err f) e h = h
@@ -279,7 +203,7 @@ still_own (Reply.Fds a b) h = h
 still_own (Reply.Count n) h = h
 still_own (Reply.Bytes bytes) h = h
 still_own (Reply.At n) h = h
-still_own (Reply.Received count bytes flags) h = refl
+still_own (Reply.Received count bytes flags control from) h = refl
 still_own (Reply.Accepted fd addr) h = h
 still_own (Reply.Addr addr) h = h
 still_own (Reply.Err e) h = h
@@ -303,7 +227,7 @@ read_obeys S p fd n = found (Call S) S p fd _ (refuses refl refl) (λ e D g h. b
     (λ b. either (Call S) (is_short_read view.body (min read_limit n)) _ _ (λ b. refuses refl refl)
     (λ b. either (Call S) (holds_bytes view.body && (min read_limit n == 0)) _ _ (λ b. answers refl refl refl refl still)
     (λ b. let held : IsHeldOpen S o = held_by S p fd e D o g h t in may_fail S _ o view _ held there (read_answer_obeys S o held view (read_body view.body D.offset (min read_limit n)) there))))))
-    (λ s t. socket_read_obeys S _ (receive_obeys S e.description s (min read_limit n) no_flags (socket_at_is S e.description D s h t))))
+    (λ s t. socket_read_obeys S _ (receive_obeys S p e.description s (min read_limit n) 0 no_flags (socket_at_is S e.description D s h t))))
 
 write_answer_obeys : (S : State) (o : ℕ) (held : IsHeldOpen S o) (view : View) (r : Result (ℕ × Body) ObjectError) → place S.objects o ≡ Some view →
     Call S (write_answer S held.entry.description held.description o view r)
@@ -322,7 +246,7 @@ write_obeys S p tag fd bytes = found (Call S) S p fd _ (refuses refl refl) (λ e
     (λ b. either (Call S) (is_pipe view.body && not (is_open_for can_read S o)) _ _ (λ b. refuses refl refl)
     (λ b. let held : IsHeldOpen S o = held_by S p fd e D o g h t in may_fail S _ o view _ held there (write_answer_obeys S o held view (write_body view.body (write_place D view) bytes) there))))))
     (λ s t. maybe (Call S) (process_at S p) _ _ (refuses refl refl)
-    (λ P here. connected_obeys S (peer_of s.phase) (message_of (own_cred p P) tag bytes) (λ sound k gone. refl))))
+    (λ P here. connected_obeys S (peer_of s.phase) (message_of (own_cred p P) tag bytes []) (λ sound k gone. refl))))
 
 seek_to_obeys : (S : State) (d : ℕ) (D : Description) (to : ℤ) → description_at S d ≡ Some D → Call S (seek_to S d D to)
 seek_to_obeys S d D (pos n) h = either (Call S) (nat_lt offset_limit n) _ _ (λ b. refuses refl refl)
@@ -357,8 +281,8 @@ each_obeys S p tag (Request.Connect fd addr) = connect_obeys S p fd addr
 each_obeys S p tag (Request.Accept fd flags) = accept_obeys S p fd flags
 each_obeys S p tag (Request.GetSockName fd) = sock_name_obeys S p fd
 each_obeys S p tag (Request.GetPeerName fd) = peer_name_obeys S p fd
-each_obeys S p tag (Request.SendMsg fd bytes flags) = send_obeys S p tag fd bytes flags
-each_obeys S p tag (Request.RecvMsg fd n space flags) = recv_obeys S p fd n flags
+each_obeys S p tag (Request.SendMsg fd addr bytes control flags) = send_obeys S p tag fd addr bytes control flags
+each_obeys S p tag (Request.RecvMsg fd n space flags) = recv_obeys S p fd n space flags
 each_obeys S p tag Request.Exit = exit_obeys S p
 each_obeys S p tag Request.Off = off_obeys S
 

@@ -18,6 +18,7 @@ pub mod Reaching
 pub mod HeldOpen
 pub mod Obeying
 pub mod NameCalls
+pub mod MessageCalls
 pub mod Calls
 pub mod Replays
 pub mod Living

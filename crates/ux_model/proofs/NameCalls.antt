@@ -1,13 +1,12 @@
 -- Of the calls of names and connections: that their outcomes obey what all do. One lemma a call.
-use Rattle.std.proofs.Common.{◌≡◌, ℕ, zero, suc, ◌+◌, ◌≤◌, Bool, true, false, not, ◌||◌, ◌==◌, cond, List, [], ◌∷◌, ◌++◌, take, drop, Option, Some, None, refl, ap, sym, ◌∙◌, arith}
+use Rattle.std.proofs.Common.{◌≡◌, ℕ, zero, suc, ◌+◌, ◌≤◌, Bool, true, false, not, ◌||◌, cond, List, [], ◌∷◌, ◌++◌, Option, Some, None, refl, ap, sym, ◌∙◌, arith}
 use Rattle.std.specs.Prelude.{nat_le, length, ℤ, is_none, is_some, option_map, slice_get}
 use Rattle.std.proofs.lemmas.Bool.{eq-eqb}
-use Rattle.std.proofs.lemmas.List.Sums.{sum_by-cons}
 use Rattle.ux_model.specs.Types.{Fd, Cred, Name, Addr, SockType, OpenFlags}
 use Rattle.ux_model.specs.Places.{filled}
 use Rattle.ux_model.specs.Names.{named, is_valid_addr, is_unnamed_addr, free_name}
 use Rattle.ux_model.specs.Backlog.{backlog_of}
-use Rattle.ux_model.specs.Socket.{Socket, Phase, idle, listening, connected, associated, new_socket, pending_ends, peer_of}
+use Rattle.ux_model.specs.Socket.{Socket, Phase, new_socket, pending_ends, peer_of}
 use Rattle.ux_model.specs.Description.{Description, Target, to_object, to_socket, socket_in, changed, changed_target}
 use Rattle.ux_model.specs.Process.{Process, Descriptor, lowest_free, descriptor, own_cred}
 use Rattle.ux_model.specs.State.{State, description_at, socket_at, process_at, table_of, next_description, with_socket_by, with_process, with_table, with_new}

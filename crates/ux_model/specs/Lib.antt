@@ -9,6 +9,7 @@ pub mod Message
 pub mod Stream
 pub mod Front
 pub mod Control
+pub mod ControlReading
 pub mod Credentials
 pub mod Backlog
 pub mod Socket

@@ -47,5 +47,5 @@ read_object S d D o view n =
 unfoldable pub read : State → ℕ → Fd → ℕ → Outcome
 read S p fd n = on_descriptor S p fd (λ e D. elim D.target [
   | to_object o ↦ on_object S o (λ view. read_object S e.description D o view (min read_limit n))
-  | to_socket s ↦ read_socket S e.description s (min read_limit n)
+  | to_socket s ↦ read_socket S p e.description s (min read_limit n)
 ])

@@ -1,0 +1,223 @@
+-- Of sends and receives: that their outcomes obey what all do.
+use Rattle.std.proofs.Common.{◌≡◌, ℕ, zero, suc, ◌+◌, ◌≤◌, ◌<◌, Bool, true, false, not, ◌==◌, if◌then◌else◌, cond, List, [], ◌∷◌, ◌++◌, length, set, Option, Some, None, refl, ap, sym, ◌∙◌, subst, arith}
+use Rattle.std.specs.Prelude.{is_none, is_some}
+use Rattle.std.specs.List.{slice_get}
+use Rattle.std.proofs.lemmas.Bool.{eqb-true, eq-eqb}
+use Rattle.std.proofs.lemmas.List.Sums.{sum_by-cons, sum_by_push}
+use Rattle.ux_model.specs.Types.{Errno, Fd, Addr, MsgFlags, Reply}
+use Rattle.ux_model.specs.Places.{place}
+use Rattle.ux_model.specs.Flags.{are_send_flags, are_receive_flags, asks_peek, asks_cloexec_rights}
+use Rattle.ux_model.specs.Message.{Message}
+use Rattle.ux_model.specs.Control.{Control}
+use Rattle.ux_model.specs.ControlReading.{control_in}
+use Rattle.ux_model.specs.Front.{Front, stream_front}
+use Rattle.ux_model.specs.Delivery.{delivery, installed}
+use Rattle.ux_model.specs.Socket.{Socket, peer_of, stream_room, sent_part, sent, with_queue, with_reset}
+use Rattle.ux_model.specs.Process.{Process, Descriptor, own_cred}
+use Rattle.ux_model.specs.State.{State, process_at, description_at, socket_at, table_of, with_socket_by, with_table}
+use Rattle.ux_model.specs.References.{times, queue_refs, refs}
+use Rattle.ux_model.specs.Outcome.{Outcome}
+use Rattle.ux_model.specs.Sending.{descriptions_behind, message_of, send_to_peer, send_connected, send_stream, is_sendable_addr, is_sendable_control, send_with, send_read, reading_control, send_msg}
+use Rattle.ux_model.specs.Receiving.{recv_msg, receive, receive_nothing, receive_front, with_delivered}
+use Rattle.ux_model.specs.Invariants.{LeftByRefusal}
+use Rattle.ux_model.proofs.FrontRights.{front_refs}
+use Rattle.ux_model.proofs.Sound.{IsSound}
+use Rattle.ux_model.proofs.Named.{table_in, entry_counts, socket_counted}
+use Rattle.ux_model.proofs.Walk.{either, maybe, by_queue, found_socket}
+use Rattle.ux_model.proofs.Reaching.{Reaches, still, KeepsSocket, queue_changed, NamesWhatIsThere, put_names, same_names, with_table_reached, with_socket_reached}
+use Rattle.ux_model.proofs.Obeying.{Call, refuses, answers}
+use Rattle.ux_model.proofs.HeldOpen.{same_objects, with_table_objects}
+
+-- what isn't there is among these not once
+abbrev pub NamesNoneGone : State → List ℕ → Type 0
+NamesNoneGone S ds = (k : ℕ) → is_some (description_at S k) ≡ false → times k ds ≡ 0
+
+-- ---- sending
+
+-- what the numbers of a table lead to is there
+pub behind_there : (S : State) (p : ℕ) (ns ds : List ℕ) → IsSound S → descriptions_behind (table_of S p) ns ≡ Some ds → NamesNoneGone S ds
+behind_there S p [] ds sound h k gone = let e : [] ≡ ds = cc h in ap (times k) (sym e)
+behind_there S p (n ∷ ns) ds sound h k gone = first (λ more g. behind_there S p ns more sound g k gone) (place (table_of S p) n) refl h
+  where
+    Later : Type 0
+    Later = (more : List ℕ) → descriptions_behind (table_of S p) ns ≡ Some more → times k more ≡ 0
+
+    at_last : Later → (e : Descriptor) (r : Option (List ℕ)) → place (table_of S p) n ≡ Some e → descriptions_behind (table_of S p) ns ≡ r →
+        (elim r as (λ _. Option (List ℕ)) [ None ↦ None | Some more ↦ Some (e.description ∷ more) ]) ≡ Some ds → times k ds ≡ 0
+    at_last later e None f g t = absurd (cc t)
+    at_last later e (Some more) f g t = go (e.description == k) refl
+      where
+        same : e.description ∷ more ≡ ds
+        same = cc t
+
+        counted : times k ds ≡ cond {A = ℕ} (e.description == k) 1 0 + times k more
+        counted = ap (times k) (sym same) ∙ sum_by-cons (λ d. cond {A = ℕ} (d == k) 1 0) e.description more
+
+        go : (b : Bool) → (e.description == k) ≡ b → times k ds ≡ 0
+        go true is =
+            let here : 0 < refs S e.description = entry_counts S p n e f in
+            let one : e.description ≡ k = eqb-true e.description k is in
+            let none : refs S k ≡ 0 = sound.held.no_description_dangles k gone in
+            let some : refs S e.description ≡ refs S k = ap (refs S) one in
+            absurd (omega (arith, here, none, some))
+        go false is =
+            let none : cond {A = ℕ} (e.description == k) 1 0 ≡ 0 = ap (λ b. cond {A = ℕ} b 1 0) is in
+            let rest : times k more ≡ 0 = later more g in
+            omega (arith, counted, none, rest)
+
+    first : Later → (o : Option Descriptor) → place (table_of S p) n ≡ o →
+        (elim o as (λ _. Option (List ℕ)) [
+          | None ↦ None
+          | Some e ↦ elim (descriptions_behind (table_of S p) ns) as (λ _. Option (List ℕ)) [ None ↦ None | Some more ↦ Some (e.description ∷ more) ]
+        ]) ≡ Some ds → times k ds ≡ 0
+    first later None f t = absurd (cc t)
+    first later (Some e) f t = at_last later e (descriptions_behind (table_of S p) ns) f refl t
+
+-- a message refers to what its rights do
+sent_keeps : (S : State) (n : ℕ) (m : Message) (s : Socket) → NamesNoneGone S m.rights → KeepsSocket S n s (sent m s)
+sent_keeps S n m s none = queue_changed S n s (s.queue ++ sent_part s m ∷ []) s.reset (λ d gone.
+    let more = sum_by_push (λ m. times d (Message.rights m)) s.queue (sent_part s m) in
+    let z : times d m.rights ≡ 0 = none d gone in
+    omega (arith, more, z))
+
+to_peer_obeys : (S : State) (d : ℕ) (m : Message) → (IsSound S → NamesNoneGone S m.rights) → Call S (send_to_peer S d m)
+to_peer_obeys S d m names = maybe (Call S) (socket_at S d) _ _ (refuses refl refl)
+    (λ other h. either (Call S) (length m.bytes == 0) _ _ (λ b. answers refl refl refl refl still)
+    (λ b. either (Call S) (stream_room other == 0) _ _ (λ b. refuses refl refl)
+    (λ b. answers refl refl refl refl (with_socket_reached S d (sent m) still (λ sound s here. sent_keeps S d m s (names sound))))))
+
+pub connected_obeys : (S : State) (peer : Option ℕ) (m : Message) → (IsSound S → NamesNoneGone S m.rights) → Call S (send_connected S peer m)
+connected_obeys S None m names = refuses refl refl
+connected_obeys S (Some peer) m names = to_peer_obeys S peer m names
+
+stream_obeys : (S : State) (peer : Option ℕ) (addr : Option Addr) (m : Message) → (IsSound S → NamesNoneGone S m.rights) → Call S (send_stream S peer addr m)
+stream_obeys S peer None m names = connected_obeys S peer m names
+stream_obeys S None (Some addr) m names = refuses refl refl
+stream_obeys S (Some peer) (Some addr) m names = refuses refl refl
+
+with_obeys : (S : State) (p : ℕ) (P : Process) (tag : ℕ) (s : Socket) (addr : Option Addr) (bytes : List ℕ) (control : Control) → process_at S p ≡ Some P →
+    Call S (send_with S p P tag s addr bytes control)
+unfolding send_with
+with_obeys S p P tag s addr bytes control here = either (Call S) (not (is_sendable_control bytes control)) _ _ (λ b. refuses refl refl)
+    (λ b. maybe (Call S) (descriptions_behind P.table control.rights) _ _ (refuses refl refl)
+    (λ rights behind. either (Call S) (not (is_sendable_addr addr)) _ _ (λ b. refuses refl refl)
+    (λ b. stream_obeys S (peer_of s.phase) addr (message_of (own_cred p P) tag bytes rights)
+    (λ sound. behind_there S p control.rights rights sound (ap (λ t. descriptions_behind t control.rights) (sym (own_table here)) ∙ behind)))))
+  where
+    own_table : process_at S p ≡ Some P → P.table ≡ table_of S p
+    own_table h = sym (ap table_in h)
+
+read_obeys : (S : State) (p : ℕ) (P : Process) (tag : ℕ) (s : Socket) (addr : Option Addr) (bytes : List ℕ) (control : Option Control) → process_at S p ≡ Some P →
+    Call S (send_read S p P tag s addr bytes control)
+unfolding send_read
+read_obeys S p P tag s addr bytes None here = refuses refl refl
+read_obeys S p P tag s addr bytes (Some control) here = with_obeys S p P tag s addr bytes control here
+
+reading_obeys : (S : State) (control : List ℕ) (o : Outcome) → Call S o → Call S (reading_control control o)
+reading_obeys S control o obeys = record { own_reply = obeys.own_reply; refused = obeys.refused; failed = obeys.failed; reached = obeys.reached; objects = obeys.objects }
+
+pub send_obeys : (S : State) (p tag : ℕ) (fd : Fd) (addr : Option Addr) (bytes control : List ℕ) (flags : MsgFlags) → Call S (send_msg S p tag fd addr bytes control flags)
+unfolding send_msg
+send_obeys S p tag fd addr bytes control flags = maybe (Call S) (process_at S p) _ _ (refuses refl refl)
+    (λ P here. found_socket (Call S) S p fd _ (refuses refl refl) (refuses refl refl)
+    (λ d s h. either (Call S) (not (are_send_flags flags)) _ _ (λ b. refuses refl refl)
+    (λ b. reading_obeys S control _ (read_obeys S p P tag s addr bytes (control_in control) here))))
+
+-- ---- receiving
+
+-- the pending error that is answered
+reset_obeys : (S : State) (d : ℕ) (s : Socket) → socket_at S d ≡ Some s → s.reset ≡ true →
+    Call S (record { reply = Reply.Err Errno.ECONNRESET; next = with_socket_by S d (with_reset false); may_lack_memory = false; failure = None })
+reset_obeys S d s h pending = record {
+  own_reply = refl;
+  refused = λ e told. let same : Errno.ECONNRESET ≡ e = cc told in
+      subst (λ g. LeftByRefusal S g (with_socket_by S d (with_reset false))) same (record { description = d; socket = s; there = h; was_pending = pending; left = refl });
+  failed = λ T none. absurd (cc none);
+  reached = with_socket_reached S d (with_reset false) still (λ sound t here. queue_changed S d t t.queue false (λ k gone. omega arith));
+  objects = same_objects S (with_socket_by S d (with_reset false)) refl;
+}
+
+nothing_obeys : (S : State) (d : ℕ) (s : Socket) (peer : ℕ) → socket_at S d ≡ Some s → Call S (receive_nothing S d s peer)
+nothing_obeys S d s peer h = either (Call S) s.reset _ _ (λ b. reset_obeys S d s h b)
+    (λ b. either (Call S) (is_none (socket_at S peer)) _ _ (λ b. answers refl refl refl refl still) (λ b. refuses refl refl))
+
+-- a table changes no description
+same_descriptions : (S : State) (p : ℕ) (table : List (Option Descriptor)) → (with_table S p table).descriptions ≡ S.descriptions
+same_descriptions S zero table = refl
+same_descriptions S (suc i) table = go (slice_get S.processes i)
+  where
+    go : (o : Option Process) → State.descriptions (elim o as (λ _. State) [ Some P ↦ record S { processes = set S.processes i (record P { table = table }) } | None ↦ S ]) ≡ S.descriptions
+    go None = refl
+    go (Some P) = refl
+
+-- descriptors of what is there are installed
+installed_names : (S : State) (old table : List (Option Descriptor)) (cloexec : Bool) (ns ds : List ℕ) → NamesNoneGone S ds → NamesWhatIsThere S old table →
+    NamesWhatIsThere S old (installed cloexec ns ds table)
+installed_names S old table cloexec [] ds none names = names
+installed_names S old table cloexec (n ∷ ns) [] none names = names
+installed_names S old table cloexec (n ∷ ns) (d ∷ ds) none names =
+    installed_names S old _ cloexec ns ds (λ k gone. let both = counted k in let z : times k (d ∷ ds) ≡ 0 = none k gone in omega (arith, both, z))
+    (put_names S old table n (record { description = d; cloexec = cloexec }) (there (is_some (description_at S d)) refl) names)
+  where
+    counted : (k : ℕ) → times k (d ∷ ds) ≡ cond {A = ℕ} (d == k) 1 0 + times k ds
+    counted k = sum_by-cons (λ d. cond {A = ℕ} (d == k) 1 0) d ds
+
+    there : (b : Bool) → is_some (description_at S d) ≡ b → is_some (description_at S d) ≡ true
+    there true h = h
+    there false h =
+        let both = counted d in
+        let one : cond {A = ℕ} (d == d) 1 0 ≡ 1 = ap (λ b. cond {A = ℕ} b 1 0) (eq-eqb d d refl) in
+        let z : times d (d ∷ ds) ≡ 0 = none d h in
+        absurd (omega (arith, both, one, z))
+
+-- what comes with the bytes is there
+front_there : (S : State) (d n : ℕ) (s : Socket) (m : Message) (ms : List Message) → socket_at S d ≡ Some s → s.queue ≡ m ∷ ms → IsSound S → NamesNoneGone S (stream_front s.passcred n m ms).rights
+front_there S d n s m ms h q sound k gone =
+    let parts = front_refs k s.passcred n m ms in
+    let all : queue_refs k s.queue ≡ queue_refs k (m ∷ ms) = ap (queue_refs k) q in
+    let counted = socket_counted S d k s h in
+    let none : refs S k ≡ 0 = sound.held.no_description_dangles k gone in
+    omega (arith, parts, all, counted, none)
+
+front_obeys : (S : State) (p d n : ℕ) (s : Socket) (space : ℕ) (flags : MsgFlags) (m : Message) (ms : List Message) → socket_at S d ≡ Some s → s.queue ≡ m ∷ ms →
+    Call S (receive_front S p d s space flags (stream_front s.passcred n m ms))
+unfolding receive_front
+front_obeys S p d n s space flags m ms h q = answers refl refl refl (same (asks_peek flags)) (peeked (asks_peek flags))
+  where
+    front : Front
+    front = stream_front s.passcred n m ms
+
+    T : State
+    T = with_delivered S p flags front (delivery s.passcred front.cred front.rights space (table_of S p))
+
+    alike : T.descriptions ≡ S.descriptions
+    alike = same_descriptions S p _
+
+    same : (b : Bool) → (if b then T else with_socket_by T d (with_queue front.rest)).objects ≡ S.objects
+    same true = with_table_objects S p _
+    same false = with_table_objects S p _
+
+    delivered : Reaches S false T
+    delivered = with_table_reached S p _ still (λ sound. installed_names S (table_of S p) (table_of S p) (asks_cloexec_rights flags) _ front.rights (front_there S d n s m ms h q sound) (same_names S (table_of S p)))
+
+    fewer : (t : Socket) → socket_at T d ≡ Some t → (k : ℕ) → queue_refs k front.rest ≤ queue_refs k t.queue
+    fewer t here k =
+        let there : socket_at S d ≡ Some t = ap (λ ds. socket_at (record S { descriptions = ds }) d) (sym alike) ∙ here in
+        let same : s ≡ t = cc (sym h ∙ there) in
+        let all : queue_refs k t.queue ≡ queue_refs k (m ∷ ms) = ap (λ u. queue_refs k (Socket.queue u)) (sym same) ∙ ap (queue_refs k) q in
+        let parts = front_refs k s.passcred n m ms in
+        omega (arith, all, parts)
+
+    peeked : (b : Bool) → Reaches S false (if b then T else with_socket_by T d (with_queue front.rest))
+    peeked true = delivered
+    peeked false = with_socket_reached T d (with_queue front.rest) delivered (λ sound t here. queue_changed T d t front.rest t.reset (λ k gone. fewer t here k))
+
+pub receive_obeys : (S : State) (p d : ℕ) (s : Socket) (n space : ℕ) (flags : MsgFlags) → socket_at S d ≡ Some s → Call S (receive S p d s n space flags)
+receive_obeys S p d s n space flags h = maybe (Call S) (peer_of s.phase) _ _ (refuses refl refl)
+    (λ peer is. either (Call S) (n == 0) _ _ (λ b. answers refl refl refl refl still)
+    (λ b. by_queue (Call S) s.queue _ _ (nothing_obeys S d s peer h) (λ m ms q. front_obeys S p d n s space flags m ms h q)))
+
+pub recv_obeys : (S : State) (p : ℕ) (fd : Fd) (n space : ℕ) (flags : MsgFlags) → Call S (recv_msg S p fd n space flags)
+unfolding recv_msg
+recv_obeys S p fd n space flags = found_socket (Call S) S p fd _ (refuses refl refl) (refuses refl refl)
+    (λ d s h. either (Call S) (not (are_receive_flags flags)) _ _ (λ b. refuses refl refl) (λ b. receive_obeys S p d s n space flags h))
