@@ -164,22 +164,16 @@ impl Description {
         }
     }
 
-    /// Takes at most n bytes from the front of its socket's queue, with the rights that come with
-    /// them.
-    ///
-    /// # Errors
-    ///
-    /// Out of memory. The description stands as before.
-    pub fn take(&mut self, n: usize, wants_cred: bool) -> Result<Received, AllocError>
+    /// Takes at most n bytes off the front of its socket's queue, and gives the rights that come with
+    /// them. It takes no memory.
+    pub fn skip(&mut self, n: usize, wants_cred: bool) -> RefList
         requires some { IsSomeAnd (socket_of self.old.target) (λ s. 0 < length s.queue) }
-        ensures bytes { IfOk result (λ r. IsSomeAnd (socket_of self.old.target) (λ s. OnStreamFront wants_cred n s.queue (λ f. r.bytes.items ≡ f.bytes))) }
-        ensures rights { IfOk result (λ r. IsSomeAnd (socket_of self.old.target) (λ s. OnStreamFront wants_cred n s.queue (λ f. r.rights ≡ f.rights))) }
-        ensures rest { OnOk result (IsSomeAnd (socket_of self.old.target) (λ s. OnStreamFront wants_cred n s.queue (λ f. self.new ≡ changed (with_queue f.rest) self.old))) }
-        ensures err { OnErr result (self.new ≡ self.old) }
+        ensures rights { IsSomeAnd (socket_of self.old.target) (λ s. OnStreamFront wants_cred n s.queue (λ f. result ≡ f.rights)) }
+        ensures rest { IsSomeAnd (socket_of self.old.target) (λ s. OnStreamFront wants_cred n s.queue (λ f. self.new ≡ changed (with_queue f.rest) self.old)) }
     {
         match &mut self.target {
             Target::Object(_) => unreachable!(),
-            Target::Socket(s) => s.take(n, wants_cred),
+            Target::Socket(s) => s.skip(n, wants_cred),
         }
     }
 

@@ -161,22 +161,8 @@ impl Socket {
         self.queue.send(bytes, room, tag, rights, cred, uid)
     }
 
-    /// Takes at most n bytes from the front of its queue, with the rights that come with them.
-    ///
-    /// # Errors
-    ///
-    /// Out of memory. The socket stands as before.
-    pub fn take(&mut self, n: usize, wants_cred: bool) -> Result<Received, AllocError>
-        requires some { 0 < length self.old.queue }
-        ensures bytes { IfOk result (λ r. OnStreamFront wants_cred n self.old.queue (λ f. r.bytes.items ≡ f.bytes)) }
-        ensures rights { IfOk result (λ r. OnStreamFront wants_cred n self.old.queue (λ f. r.rights ≡ f.rights)) }
-        ensures rest { OnOk result (OnStreamFront wants_cred n self.old.queue (λ f. self.new ≡ with_queue f.rest self.old)) }
-        ensures err { OnErr result (self.new ≡ self.old) }
-    {
-        self.queue.take(n, wants_cred)
-    }
-
-    /// What `take` would give. The socket stays as it is.
+    /// The first bytes that wait, at most n, with the rights and the credentials that come with them. The
+    /// socket stays as it is.
     ///
     /// # Errors
     ///
@@ -185,8 +171,18 @@ impl Socket {
         requires some { 0 < length self.now.queue }
         ensures bytes { IfOk result (λ r. OnStreamFront wants_cred n self.now.queue (λ f. r.bytes.items ≡ f.bytes)) }
         ensures rights { IfOk result (λ r. OnStreamFront wants_cred n self.now.queue (λ f. r.rights ≡ f.rights)) }
+        ensures cred { IfOk result (λ r. OnStreamFront wants_cred n self.now.queue (λ f. r.cred ≡ f.cred)) }
     {
         self.queue.peek(n, wants_cred)
+    }
+
+    /// Takes off what `peek` shows, and gives the rights that come with it. It takes no memory.
+    pub fn skip(&mut self, n: usize, wants_cred: bool) -> RefList
+        requires some { 0 < length self.old.queue }
+        ensures rights { OnStreamFront wants_cred n self.old.queue (λ f. result ≡ f.rights) }
+        ensures rest { OnStreamFront wants_cred n self.old.queue (λ f. self.new ≡ with_queue f.rest self.old) }
+    {
+        self.queue.skip(n, wants_cred)
     }
 
     /// Takes the first message off, and gives its rights and the user who sent it. It takes no memory.

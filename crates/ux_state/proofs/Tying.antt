@@ -1,5 +1,5 @@
 -- Moves of sockets by which others connect: a name given, listening, a connection, an accept.
-use Rattle.std.proofs.Common.{◌≡◌, ℕ, zero, suc, ◌+◌, ◌<◌, ◌==◌, Bool, true, false, cond, List, [], ◌∷◌, ◌++◌, length, drop, Option, Some, None, is_some, option_map, option_and_then, refl, ap, sym, ◌∙◌, arith}
+use Rattle.std.proofs.Common.{◌≡◌, ℕ, zero, suc, ◌+◌, ◌<◌, ◌==◌, Bool, true, false, cond, List, [], ◌∷◌, ◌++◌, length, Option, Some, None, is_some, option_map, option_and_then, refl, ap, sym, ◌∙◌, arith}
 use Rattle.std.specs.Prelude.{IsSome, IsSomeAnd, is_none, slice_get, sum_by}
 use Rattle.std.proofs.lemmas.Bool.{eq-eqb, ne_eqb}
 use Rattle.std.proofs.lemmas.List.{length_push}
@@ -21,7 +21,7 @@ use Rattle.ux_model.specs.Peers.{target_peer, Paired}
 use Rattle.ux_model.specs.Owning.{target_name, name_in}
 use Rattle.ux_model.specs.Binding.{with_name}
 use Rattle.ux_model.specs.Connecting.{listener_of, with_listening, server_end, no_open_flags, tied, with_connection}
-use Rattle.ux_model.specs.Accepting.{accepted_with, as_accepted, without_first_end, phase_without_first_end}
+use Rattle.ux_model.specs.Accepting.{accepted_with, as_accepted, without_first_end}
 use Rattle.ux_model.proofs.ChangedPlaces.{place-changed, length-changed, sum_by-changed}
 use Rattle.ux_model.proofs.Making.{place-push, paired-tied}
 use Rattle.ux_model.proofs.OneGoes.{paired-changed}

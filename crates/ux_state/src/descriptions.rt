@@ -72,26 +72,14 @@ impl<O: FileObject> State<O> {
         }
     }
 
-    /// Takes at most n bytes from the front of the queue of a stream socket (recvmsg(2)). The rights that
-    /// come with them are closed.
-    ///
-    /// # Errors
-    ///
-    /// Out of memory. The state is then as before.
-    pub fn take_bytes(
-        &mut self,
-        id: DescriptionId,
-        n: usize,
-        wants_cred: bool,
-    ) -> Result<Vec<u8>, AllocError>
+    /// Takes at most n bytes off the front of the queue of a stream socket, and closes the rights that come
+    /// with them (recvmsg(2)). It takes no memory.
+    pub fn skip_front(&mut self, id: DescriptionId, n: usize, wants_cred: bool)
         requires some { IsSomeAnd (socket_at self.old id) (λ s. 0 < length s.queue) }
-        ensures bytes { IfOk result (λ v. IsSomeAnd (socket_at self.old id) (λ s. OnStreamFront wants_cred n s.queue (λ f. v.items ≡ f.bytes))) }
-        ensures rest { OnOk result (IsSomeAnd (socket_at self.old id) (λ s. OnStreamFront wants_cred n s.queue (λ f. self.new ≡ with_socket_by self.old id (with_queue f.rest)))) }
-        ensures err { OnErr result (self.new ≡ self.old) }
+        ensures rest { IsSomeAnd (socket_at self.old id) (λ s. OnStreamFront wants_cred n s.queue (λ f. self.new ≡ with_socket_by self.old id (with_queue f.rest))) }
     {
-        let received = take_stream(&mut self.slots, id, n, wants_cred)?;
-        release_all(&mut self.slots, received.rights.as_slice());
-        Ok(received.bytes)
+        let rights = skip_stream(&mut self.slots, id, n, wants_cred);
+        release_all(&mut self.slots, rights.as_slice());
     }
 
     /// ECONNRESET is pending at a socket from now on, or no longer.
@@ -149,22 +137,20 @@ fn push_stream(
     }
 }
 
-/// Takes bytes from the front of the queue of a stream socket, with the rights that come with them.
-fn take_stream(
+/// Takes bytes off the front of the queue of a stream socket, and gives the rights that come with them.
+fn skip_stream(
     slots: &mut Slots<Description>,
     id: DescriptionId,
     n: usize,
     wants_cred: bool,
-) -> Result<Received, AllocError>
+) -> RefList
     requires some { IsSomeAnd (socket_in (place slots.old.places id)) (λ s. 0 < length s.queue) }
-    ensures bytes { IfOk result (λ r. IsSomeAnd (socket_in (place slots.old.places id)) (λ s. OnStreamFront wants_cred n s.queue (λ f. r.bytes.items ≡ f.bytes))) }
-    ensures rights { IfOk result (λ r. IsSomeAnd (socket_in (place slots.old.places id)) (λ s. OnStreamFront wants_cred n s.queue (λ f. r.rights ≡ f.rights))) }
-    ensures rest { OnOk result (IsSomeAnd (socket_in (place slots.old.places id)) (λ s. OnStreamFront wants_cred n s.queue (λ f. slots.new.places ≡ changed_place slots.old.places id (changed (with_queue f.rest))))) }
+    ensures rights { IsSomeAnd (socket_in (place slots.old.places id)) (λ s. OnStreamFront wants_cred n s.queue (λ f. result ≡ f.rights)) }
+    ensures rest { IsSomeAnd (socket_in (place slots.old.places id)) (λ s. OnStreamFront wants_cred n s.queue (λ f. slots.new.places ≡ changed_place slots.old.places id (changed (with_queue f.rest)))) }
     ensures counts { slots.new.counts ≡ slots.old.counts }
-    ensures err { OnErr result (slots.new.places ≡ slots.old.places) }
 {
     match slots.get_mut(id) {
-        Some(x) => x.take(n, wants_cred),
+        Some(x) => x.skip(n, wants_cred),
         None => unreachable!(),
     }
 }

@@ -176,6 +176,17 @@ impl<A: Allocator + Copy> StreamQueue<A> {
         })
     }
 
+    /// Takes off what `take` would, and gives the rights that come with it. It takes no memory.
+    pub fn skip(&mut self, n: usize, wants_cred: bool) -> RefList
+        requires { 0 < length self.old }
+        ensures rights { OnStreamFront wants_cred n self.old (λ f. result ≡ f.rights) }
+        ensures rest { OnStreamFront wants_cred n self.old (λ f. self.new ≡ f.rest) }
+    {
+        let reach = reach_of(&self.marks, n, wants_cred);
+        self.ring.drop_front(reach.count);
+        take_bytes(&mut self.marks, reach.count).references
+    }
+
     /// What `take` would give. The queue stays as it is.
     ///
     /// # Errors

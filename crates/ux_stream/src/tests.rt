@@ -163,6 +163,16 @@ impl<A: Allocator + Copy> Both<A> {
         Ok(())
     }
 
+    fn skip(&mut self, rt: &impl Abort, n: usize, wants_cred: bool) -> Result<(), AllocError> {
+        let wanted = self.list.front(n, wants_cred)?;
+        assert_eq!(rt; self.queue.is_empty(), wanted.is_none());
+        if let Some(wanted) = wanted {
+            assert_rights(rt, &self.queue.skip(n, wants_cred), &wanted.rights);
+            self.list.drop_front(wanted.bytes.len());
+        }
+        Ok(())
+    }
+
     fn pop(&mut self, rt: &impl Abort) {
         match (self.queue.pop_message(), self.list.messages.pop_front()) {
             (Some((rights, uid)), Some(m)) => {
@@ -179,7 +189,8 @@ impl<A: Allocator + Copy> Both<A> {
         match dice.below(40) {
             0 => self.pop(rt),
             1..=8 => self.peek(rt, n, wants_cred)?,
-            9..=18 => self.take(rt, n, wants_cred)?,
+            9..=13 => self.take(rt, n, wants_cred)?,
+            14..=18 => self.skip(rt, n, wants_cred)?,
             _ => self.send(rt, dice.message(self.alloc, tag)?)?,
         }
         assert_eq!(rt; self.queue.len_bytes(), self.list.len_bytes());
