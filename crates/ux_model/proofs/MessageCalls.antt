@@ -1,8 +1,8 @@
 -- Of sends and receives: that their outcomes obey what all do.
-use Rattle.std.proofs.Common.{◌≡◌, ℕ, zero, suc, ◌+◌, ◌≤◌, ◌<◌, Bool, true, false, not, ◌==◌, if◌then◌else◌, cond, List, [], ◌∷◌, ◌++◌, length, set, Option, Some, None, refl, ap, sym, ◌∙◌, subst, arith}
+use Rattle.std.proofs.Common.{◌≡◌, ℕ, zero, suc, ◌+◌, ◌≤◌, ◌<◌, Bool, true, false, not, ◌==◌, if◌then◌else◌, cond, List, [], ◌∷◌, ◌++◌, length, set, Option, Some, None, refl, ap, sym, ◌∙◌, subst, arith, ◌⊎◌, inl, inr}
 use Rattle.std.specs.Prelude.{is_none, is_some}
 use Rattle.std.specs.List.{slice_get}
-use Rattle.std.proofs.lemmas.Bool.{eqb-true, eq-eqb}
+use Rattle.std.proofs.lemmas.Bool.{cases_lt, eqb-true, eq-eqb}
 use Rattle.std.proofs.lemmas.List.Sums.{sum_by-cons, sum_by_push}
 use Rattle.ux_model.specs.Types.{Errno, Fd, Addr, MsgFlags, Reply}
 use Rattle.ux_model.specs.Places.{place}
@@ -22,7 +22,7 @@ use Rattle.ux_model.specs.Receiving.{recv_msg, receive, receive_nothing, receive
 use Rattle.ux_model.specs.Invariants.{LeftByRefusal}
 use Rattle.ux_model.proofs.FrontRights.{front_refs}
 use Rattle.ux_model.proofs.Sound.{IsSound}
-use Rattle.ux_model.proofs.Named.{table_in, entry_counts, socket_counted}
+use Rattle.ux_model.proofs.Named.{entry_counts, socket_counted}
 use Rattle.ux_model.proofs.Walk.{either, maybe, by_queue, found_socket}
 use Rattle.ux_model.proofs.Reaching.{Reaches, still, KeepsSocket, queue_changed, NamesWhatIsThere, put_names, same_names, with_table_reached, with_socket_reached}
 use Rattle.ux_model.proofs.Obeying.{Call, refuses, answers}
@@ -34,16 +34,16 @@ NamesNoneGone S ds = (k : ℕ) → is_some (description_at S k) ≡ false → ti
 
 -- ---- sending
 
--- what the numbers of a table lead to is there
-pub behind_there : (S : State) (p : ℕ) (ns ds : List ℕ) → IsSound S → descriptions_behind (table_of S p) ns ≡ Some ds → NamesNoneGone S ds
-behind_there S p [] ds sound h k gone = let e : [] ≡ ds = cc h in ap (times k) (sym e)
-behind_there S p (n ∷ ns) ds sound h k gone = first (λ more g. behind_there S p ns more sound g k gone) (place (table_of S p) n) refl h
+-- something refers to what the numbers of a table lead to
+pub behind_counts : (S : State) (p k : ℕ) (ns ds : List ℕ) → descriptions_behind (table_of S p) ns ≡ Some ds → 0 < times k ds → 0 < refs S k
+behind_counts S p k [] ds h some = let e : [] ≡ ds = cc h in let none : times k ds ≡ 0 = ap (times k) (sym e) in absurd (omega (arith, none, some))
+behind_counts S p k (n ∷ ns) ds h some = first (λ more g. behind_counts S p k ns more g) (place (table_of S p) n) refl h
   where
     Later : Type 0
-    Later = (more : List ℕ) → descriptions_behind (table_of S p) ns ≡ Some more → times k more ≡ 0
+    Later = (more : List ℕ) → descriptions_behind (table_of S p) ns ≡ Some more → 0 < times k more → 0 < refs S k
 
     at_last : Later → (e : Descriptor) (r : Option (List ℕ)) → place (table_of S p) n ≡ Some e → descriptions_behind (table_of S p) ns ≡ r →
-        (elim r as (λ _. Option (List ℕ)) [ None ↦ None | Some more ↦ Some (e.description ∷ more) ]) ≡ Some ds → times k ds ≡ 0
+        (elim r as (λ _. Option (List ℕ)) [ None ↦ None | Some more ↦ Some (e.description ∷ more) ]) ≡ Some ds → 0 < refs S k
     at_last later e None f g t = absurd (cc t)
     at_last later e (Some more) f g t = go (e.description == k) refl
       where
@@ -53,25 +53,34 @@ behind_there S p (n ∷ ns) ds sound h k gone = first (λ more g. behind_there S
         counted : times k ds ≡ cond {A = ℕ} (e.description == k) 1 0 + times k more
         counted = ap (times k) (sym same) ∙ sum_by-cons (λ d. cond {A = ℕ} (d == k) 1 0) e.description more
 
-        go : (b : Bool) → (e.description == k) ≡ b → times k ds ≡ 0
+        go : (b : Bool) → (e.description == k) ≡ b → 0 < refs S k
         go true is =
             let here : 0 < refs S e.description = entry_counts S p n e f in
             let one : e.description ≡ k = eqb-true e.description k is in
-            let none : refs S k ≡ 0 = sound.held.no_description_dangles k gone in
-            let some : refs S e.description ≡ refs S k = ap (refs S) one in
-            absurd (omega (arith, here, none, some))
+            let same : refs S e.description ≡ refs S k = ap (refs S) one in
+            omega (arith, here, same)
         go false is =
             let none : cond {A = ℕ} (e.description == k) 1 0 ≡ 0 = ap (λ b. cond {A = ℕ} b 1 0) is in
-            let rest : times k more ≡ 0 = later more g in
-            omega (arith, counted, none, rest)
+            later more g (omega (arith, counted, none, some))
 
     first : Later → (o : Option Descriptor) → place (table_of S p) n ≡ o →
         (elim o as (λ _. Option (List ℕ)) [
           | None ↦ None
           | Some e ↦ elim (descriptions_behind (table_of S p) ns) as (λ _. Option (List ℕ)) [ None ↦ None | Some more ↦ Some (e.description ∷ more) ]
-        ]) ≡ Some ds → times k ds ≡ 0
+        ]) ≡ Some ds → 0 < refs S k
     first later None f t = absurd (cc t)
     first later (Some e) f t = at_last later e (descriptions_behind (table_of S p) ns) f refl t
+
+-- so where nothing dangles it is there
+behind_there : (S : State) (p : ℕ) (ns ds : List ℕ) → IsSound S → descriptions_behind (table_of S p) ns ≡ Some ds → NamesNoneGone S ds
+behind_there S p ns ds sound h k gone = go (cases_lt 0 (times k ds))
+  where
+    go : (0 < times k ds) ⊎ (times k ds ≤ 0) → times k ds ≡ 0
+    go (inr none) = omega (arith, none)
+    go (inl some) =
+        let counted : 0 < refs S k = behind_counts S p k ns ds h some in
+        let none : refs S k ≡ 0 = sound.held.no_description_dangles k gone in
+        absurd (omega (arith, counted, none))
 
 -- a message refers to what its rights do
 sent_keeps : (S : State) (n : ℕ) (m : Message) (s : Socket) → NamesNoneGone S m.rights → KeepsSocket S n s (sent m s)
@@ -95,23 +104,17 @@ stream_obeys S peer None m names = connected_obeys S peer m names
 stream_obeys S None (Some addr) m names = refuses refl refl
 stream_obeys S (Some peer) (Some addr) m names = refuses refl refl
 
-with_obeys : (S : State) (p : ℕ) (P : Process) (tag : ℕ) (s : Socket) (addr : Option Addr) (bytes : List ℕ) (control : Control) → process_at S p ≡ Some P →
-    Call S (send_with S p P tag s addr bytes control)
+with_obeys : (S : State) (p : ℕ) (P : Process) (tag : ℕ) (peer : Option ℕ) (addr : Option Addr) (bytes : List ℕ) (control : Control) → Call S (send_with S p P tag peer addr bytes control)
 unfolding send_with
-with_obeys S p P tag s addr bytes control here = either (Call S) (not (is_sendable_control bytes control)) _ _ (λ b. refuses refl refl)
-    (λ b. maybe (Call S) (descriptions_behind P.table control.rights) _ _ (refuses refl refl)
+with_obeys S p P tag peer addr bytes control = either (Call S) (not (is_sendable_control bytes control)) _ _ (λ b. refuses refl refl)
+    (λ b. maybe (Call S) (descriptions_behind (table_of S p) control.rights) _ _ (refuses refl refl)
     (λ rights behind. either (Call S) (not (is_sendable_addr addr)) _ _ (λ b. refuses refl refl)
-    (λ b. stream_obeys S (peer_of s.phase) addr (message_of (own_cred p P) tag bytes rights)
-    (λ sound. behind_there S p control.rights rights sound (ap (λ t. descriptions_behind t control.rights) (sym (own_table here)) ∙ behind)))))
-  where
-    own_table : process_at S p ≡ Some P → P.table ≡ table_of S p
-    own_table h = sym (ap table_in h)
+    (λ b. stream_obeys S peer addr (message_of (own_cred p P) tag bytes rights) (λ sound. behind_there S p control.rights rights sound behind))))
 
-read_obeys : (S : State) (p : ℕ) (P : Process) (tag : ℕ) (s : Socket) (addr : Option Addr) (bytes : List ℕ) (control : Option Control) → process_at S p ≡ Some P →
-    Call S (send_read S p P tag s addr bytes control)
+read_obeys : (S : State) (p : ℕ) (P : Process) (tag : ℕ) (peer : Option ℕ) (addr : Option Addr) (bytes : List ℕ) (control : Option Control) → Call S (send_read S p P tag peer addr bytes control)
 unfolding send_read
-read_obeys S p P tag s addr bytes None here = refuses refl refl
-read_obeys S p P tag s addr bytes (Some control) here = with_obeys S p P tag s addr bytes control here
+read_obeys S p P tag peer addr bytes None = refuses refl refl
+read_obeys S p P tag peer addr bytes (Some control) = with_obeys S p P tag peer addr bytes control
 
 reading_obeys : (S : State) (control : List ℕ) (o : Outcome) → Call S o → Call S (reading_control control o)
 reading_obeys S control o obeys = record { own_reply = obeys.own_reply; refused = obeys.refused; failed = obeys.failed; reached = obeys.reached; objects = obeys.objects }
@@ -121,7 +124,7 @@ unfolding send_msg
 send_obeys S p tag fd addr bytes control flags = maybe (Call S) (process_at S p) _ _ (refuses refl refl)
     (λ P here. found_socket (Call S) S p fd _ (refuses refl refl) (refuses refl refl)
     (λ d s h. either (Call S) (not (are_send_flags flags)) _ _ (λ b. refuses refl refl)
-    (λ b. reading_obeys S control _ (read_obeys S p P tag s addr bytes (control_in control) here))))
+    (λ b. reading_obeys S control _ (read_obeys S p P tag (peer_of s.phase) addr bytes (control_in control)))))
 
 -- ---- receiving
 
