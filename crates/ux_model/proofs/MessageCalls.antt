@@ -173,14 +173,20 @@ installed_names S old table cloexec (n ∷ ns) (d ∷ ds) none names =
         let z : times d (d ∷ ds) ≡ 0 = none d h in
         absurd (omega (arith, both, one, z))
 
--- what comes with the bytes is there
-front_there : (S : State) (d n : ℕ) (s : Socket) (m : Message) (ms : List Message) → socket_at S d ≡ Some s → s.queue ≡ m ∷ ms → IsSound S → NamesNoneGone S (stream_front s.passcred n m ms).rights
-front_there S d n s m ms h q sound k gone =
-    let parts = front_refs k s.passcred n m ms in
+-- something refers to what comes with the bytes
+pub front_counts : (S : State) (d n k : ℕ) (wants : Bool) (s : Socket) (m : Message) (ms : List Message) → socket_at S d ≡ Some s → s.queue ≡ m ∷ ms → times k (stream_front wants n m ms).rights ≤ refs S k
+front_counts S d n k wants s m ms h q =
+    let parts = front_refs k wants n m ms in
     let all : queue_refs k s.queue ≡ queue_refs k (m ∷ ms) = ap (queue_refs k) q in
     let counted = socket_counted S d k s h in
+    omega (arith, parts, all, counted)
+
+-- so where nothing dangles it is there
+front_there : (S : State) (d n : ℕ) (s : Socket) (m : Message) (ms : List Message) → socket_at S d ≡ Some s → s.queue ≡ m ∷ ms → IsSound S → NamesNoneGone S (stream_front s.passcred n m ms).rights
+front_there S d n s m ms h q sound k gone =
+    let counted = front_counts S d n k s.passcred s m ms h q in
     let none : refs S k ≡ 0 = sound.held.no_description_dangles k gone in
-    omega (arith, parts, all, counted, none)
+    omega (arith, counted, none)
 
 front_obeys : (S : State) (p d n : ℕ) (s : Socket) (space : ℕ) (flags : MsgFlags) (m : Message) (ms : List Message) → socket_at S d ≡ Some s → s.queue ≡ m ∷ ms →
     Call S (receive_front S p d s space flags (stream_front s.passcred n m ms))
