@@ -1,12 +1,10 @@
 -- What was read of a buffer, item by item, and what that says of the whole.
-use Rattle.std.proofs.Common.{◌≡◌, ◌≢◌, ◌↔◌, Result, Err, ℕ, ◌+◌, ◌-◌, ◌<◌, List, [], ◌∷◌, ◌++◌, length, Option, Some, None, refl, sym, ap, subst, ◌∙◌, append_assoc, arith}
+use Rattle.std.proofs.Common.{◌≡◌, ℕ, zero, suc, ◌≤◌, ◌+◌, ◌-◌, ◌<◌, List, [], ◌∷◌, ◌++◌, length, Option, Some, None, refl, sym, ap, subst, ◌∙◌, append_assoc, arith}
+use Rattle.std.specs.Prelude.{option_map}
 use Rattle.std.proofs.lemmas.List.{append-nil, length-append, length-drop}
 use Rattle.ux_model.specs.Control.{Control, Item, rights_item, cred_item, item_bytes, padding, IsList, nothing, last, further, Gives, neither, rights_alone, cred_alone, cred_first, rights_first, Spells, ReadsAs, ReadsOnce}
-use Rattle.ux_cmsg.specs.declared.reading.ControlError.{ControlError}
-use Rattle.ux_cmsg.specs.declared.reading.ControlError.TheVariants.{Invalid}
-use Rattle.ux_cmsg.specs.Items.{◌>>=◌, item_at}
-use Rattle.ux_cmsg.specs.Found.{Found, nothing_found, with_item, control_of}
-use Rattle.ux_cmsg.proofs.Numbers.{IsBytes}
+use Rattle.ux_model.specs.ControlReading.{◌>>=◌, item_at, Found, nothing_found, with_item, with_items, control_of, control_in, ReadsByGrammar}
+use Rattle.ux_cmsg.proofs.Numbers.{IsBytes, bytes_below}
 use Rattle.ux_cmsg.proofs.OneItem.{eq_some, TakesItem, item_takes, item_again}
 use Rattle.ux_cmsg.proofs.ItemLists.{BeginsWith, list_from_front, front_of_list, one_list}
 
@@ -157,18 +155,9 @@ spells_once bytes a b p q =
     same_control x.0 y.0 a b (sym x.1 ∙ ap all_of (one_list bytes p.0 q.0 p.1 q.1) ∙ y.1) x.2 y.2
 
 -- nor both something and nothing
-pub reads_both : (bytes : List ℕ) (control : Control) → ReadsAs bytes (Some control) → ReadsAs bytes None → ⊥
+reads_both : (bytes : List ℕ) (control : Control) → ReadsAs bytes (Some control) → ReadsAs bytes None → ⊥
 unfolding ReadsAs
 reads_both bytes control spelled none = none control spelled
-
-pub rights_alike : (bytes : List ℕ) (a b : Control) → ReadsAs bytes (Some a) → ReadsAs bytes (Some b) → a.rights ≡ [] → b.rights ≡ []
-unfolding ReadsAs
-rights_alike bytes a b p q none = ap (λ (c : Control). c.rights) (spells_once bytes b a q p) ∙ none
-
--- an empty buffer says nothing
-pub empty_rights : (control : Control) → ReadsAs [] (Some control) → control.rights ≡ []
-unfolding ReadsAs Spells
-empty_rights control spelled = ap (λ (c : Control). c.rights) (spells_once [] control (record { cred = None; rights = [] }) spelled ([], nothing, neither))
 
 pub reads_once : ReadsOnce
 unfolding ReadsAs
@@ -177,12 +166,42 @@ reads_once bytes None (Some b) p q = absurd (p b q)
 reads_once bytes (Some a) None p q = absurd (q a p)
 reads_once bytes (Some a) (Some b) p q = ap Some (spells_once bytes a b p q)
 
--- ---- where memory was wanting
+-- ---- from left to right
 
-pub not_invalid : {X : Type 0} (result : Result X ControlError) (bytes : List ℕ) (control : Control) → result ≢ Err Invalid → ReadsAs bytes (Some control) → (result ≡ Err Invalid) ↔ ReadsAs bytes None
-not_invalid result bytes control other reads = (λ e. absurd (other e), λ none. absurd (reads_both bytes control reads none))
+-- what the rest says, and with what was found before the whole
+rest_read : (n : ℕ) (bytes rest : List ℕ) (found : Found) → length rest ≤ n → IsReadTo bytes found rest → ReadsAs bytes (option_map control_of (with_items n found rest))
+unfolding with_items
+rest_read n bytes [] found short so_far = read_all bytes [] found so_far refl
+rest_read zero bytes (b ∷ rest) found short so_far = absurd (omega (arith, short))
+rest_read (suc n) bytes (b ∷ rest) found short so_far = first (λ more behind less t. rest_read n bytes behind more less t) (item_at (b ∷ rest)) refl
+  where
+    Later : Type 0
+    Later = (more : Found) (behind : List ℕ) → length behind ≤ n → IsReadTo bytes more behind → ReadsAs bytes (option_map control_of (with_items n more behind))
 
--- there were rights to read, so there were bytes
-pub has_bytes : (bytes : List ℕ) (control : Control) → ReadsAs bytes (Some control) → ¬ (control.rights ≡ []) → 0 < length bytes
-has_bytes [] control reads some = absurd (some (empty_rights control reads))
+    second : Later → (item : Item) (behind : List ℕ) → item_at (b ∷ rest) ≡ Some (item, behind) → (o : Option Found) → with_item found item ≡ o →
+        ReadsAs bytes (option_map control_of (o >>= λ more. with_items n more behind))
+    second later item behind here None step = read_twice bytes (b ∷ rest) behind found item so_far here step
+    second later item behind here (Some more) step =
+        let less = less_left bytes (b ∷ rest) behind found item so_far here in
+        later more behind (omega (arith, less, short)) (read_more bytes (b ∷ rest) behind found more item so_far here step)
+
+    first : Later → (o : Option (Item × List ℕ)) → item_at (b ∷ rest) ≡ o → ReadsAs bytes (option_map control_of (o >>= λ item. with_item found item.0 >>= λ more. with_items n more item.1))
+    first later None here = read_stuck bytes (b ∷ rest) found so_far (omega arith) here
+    first later (Some (item, behind)) here = second later item behind here (with_item found item) refl
+
+in_bytes : (bytes : List ℕ) → IsBytes bytes → ReadsAs bytes (control_in bytes)
+unfolding control_in
+in_bytes bytes fits = rest_read (length bytes) bytes bytes nothing_found (omega arith) (read_none bytes fits)
+
+pub reads_by_grammar : ReadsByGrammar
+reads_by_grammar bytes fits = in_bytes bytes (bytes_below bytes fits)
+
+-- so what the grammar says is what is read
+pub read_is : (bytes : List ℕ) (r : Option Control) → IsBytes bytes → ReadsAs bytes r → control_in bytes ≡ r
+read_is bytes r fits reads = reads_once bytes (control_in bytes) r (in_bytes bytes fits) reads
+
+-- where there are rights to read, there are bytes
+pub has_bytes : (bytes : List ℕ) (control : Control) → control_in bytes ≡ Some control → ¬ (control.rights ≡ []) → 0 < length bytes
+unfolding control_in with_items
+has_bytes [] control reads some = let same : record { cred = None; rights = [] } ≡ control = cc reads in absurd (some (ap (λ (c : Control). c.rights) (sym same)))
 has_bytes (b ∷ bytes) control reads some = omega arith

@@ -3,7 +3,7 @@ use Rattle.std.proofs.Common.{◌≡◌, ℕ, List, [], ◌∷◌, ◌++◌, len
 use Rattle.std.proofs.lemmas.Bool.{cases_lt}
 use Rattle.std.proofs.lemmas.List.{take-append-drop, length-take, drop_all, drop_at, append_cancel_left}
 use Rattle.ux_model.specs.Control.{Item, item_bytes, padding, IsItem, IsList, nothing, last, further}
-use Rattle.ux_cmsg.specs.Items.{item_at}
+use Rattle.ux_model.specs.ControlReading.{item_at}
 use Rattle.ux_cmsg.proofs.OneItem.{eq_some, item_again}
 
 nothing_begins : (item : Item) (behind : List ℕ) → item_bytes item ++ behind ≡ [] → ⊥

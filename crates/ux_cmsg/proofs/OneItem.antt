@@ -6,7 +6,8 @@ use Rattle.std.proofs.lemmas.Bool.{eqb-true, ltb-false, le-ltb}
 use Rattle.std.proofs.lemmas.List.{take_at, drop_at, append-nil, nil_from_length, take-append-drop, length-append, length-take}
 use Rattle.ux_model.specs.Types.{Cred}
 use Rattle.ux_model.specs.Control.{Item, rights_item, cred_item, payload, item_type, item_bytes, padding, IsItem}
-use Rattle.ux_cmsg.specs.Items.{◌>>=◌, number_at, numbers_in, cred_in, item_of, item_behind, item_at, head_bytes}
+use Rattle.ux_model.specs.ControlReading.{◌>>=◌, number_at, numbers_in, cred_in, item_of, item_behind, item_at}
+use Rattle.ux_cmsg.specs.Items.{head_bytes}
 use Rattle.ux_cmsg.proofs.Numbers.{IsBytes, IsBytes-take, IsBytes-drop, bind_some, only_if, unless, wide32, wide64, TakesNumber, number_takes, number_again, length-numbers, AreNumbers, numbers_taken, numbers_again}
 
 pub eq_some : {A : Type 0} (x y : A) → ◌≡◌ {A = Option A} (Some x) (Some y) → x ≡ y

@@ -1,7 +1,8 @@
 //! The items of a control buffer.
 ghost use Rattle.std.specs.Prelude.{◌≡◌, ◌-◌, ◌%◌, drop, option_map};
 ghost use Rattle.std.specs.Int.{w32, w64};
-ghost use Rattle.ux_cmsg.specs.Items.{number_at, cred_in, item_of, item_at, item_view};
+ghost use Rattle.ux_model.specs.ControlReading.{number_at, cred_in, item_of, item_at};
+ghost use Rattle.ux_cmsg.specs.Items.{item_view};
 
 use ux_types::{Cred, Pid};
 
@@ -46,7 +47,7 @@ fn u64_at(bytes: &[u8]) -> Option<(u64, &[u8])>
 }
 
 /// The credentials that the payload of an item spells: pid, uid and gid in four bytes each, and nothing else.
-#[tactic(auto, unfolding(crate::specs::Items::cred_in))]
+#[tactic(auto, unfolding(ux_model::specs::ControlReading::cred_in))]
 fn cred_of(payload: &[u8]) -> Option<Cred>
     ensures { result ≡ cred_in payload.now }
 {
@@ -65,7 +66,7 @@ fn cred_of(payload: &[u8]) -> Option<Cred>
 }
 
 /// The item with this type and payload, if there is one.
-#[tactic(auto, unfolding(crate::specs::Items::item_of))]
+#[tactic(auto, unfolding(ux_model::specs::ControlReading::item_of))]
 fn item_with(kind: u32, payload: &[u8]) -> Option<Item<'_>>
     ensures { option_map item_view result ≡ item_of kind payload.now }
 {
@@ -88,7 +89,7 @@ fn behind_padding(len: u64, behind: &[u8]) -> &[u8]
 }
 
 /// The item that stands at the front, if one does, and the bytes from where a next one would stand.
-#[tactic(auto, unfolding(crate::specs::Items::item_at, crate::specs::Items::item_behind))]
+#[tactic(auto, unfolding(ux_model::specs::ControlReading::item_at, ux_model::specs::ControlReading::item_behind))]
 pub(crate) fn first_item(bytes: &[u8]) -> Option<(Item<'_>, &[u8])>
     ensures { option_map (λ p. (item_view p.0, p.1.now)) result ≡ item_at bytes.now }
 {

@@ -3,6 +3,7 @@
 #![tactic(auto)]
 
 ghost use Rattle.ux_model.specs.Control.{ReadsOnce};
+ghost use Rattle.ux_model.specs.ControlReading.{ReadsByGrammar};
 
 mod control;
 mod item;
@@ -17,6 +18,12 @@ pub use writing::write_control;
 #[tactic(auto, using(crate::proofs::Collecting::reads_once))]
 pub fn control_buffer_reads_once()
     ensures { ReadsOnce }
+{}
+
+/// What is read of a control buffer from left to right is what the grammar says of it.
+#[tactic(auto, using(crate::proofs::Collecting::reads_by_grammar))]
+pub fn control_is_read_by_its_grammar()
+    ensures { ReadsByGrammar }
 {}
 
 #[cfg(test)]

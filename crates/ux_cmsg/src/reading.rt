@@ -1,9 +1,9 @@
 //! Reading a control buffer.
 ghost use Rattle.std.specs.Prelude.{◌≡◌, ◌<◌, ◌↔◌, [], length, map, None, Some, IsOk, IfOk, option_map};
 ghost use Rattle.ux_model.specs.Control as model;
-ghost use Rattle.ux_model.specs.Control.{ReadsAs};
-ghost use Rattle.ux_cmsg.specs.Items.{item_view, numbers_in};
-ghost use Rattle.ux_cmsg.specs.Found.{with_item, control_of, parts_view};
+ghost use Rattle.ux_model.specs.ControlReading.{numbers_in, with_item, control_of, control_in};
+ghost use Rattle.ux_cmsg.specs.Items.{item_view};
+ghost use Rattle.ux_cmsg.specs.Found.{parts_view};
 ghost use Rattle.ux_cmsg.specs.Refusals.{refusal_of};
 ghost use Rattle.ux_cmsg.specs.declared.reading.ControlError.TheVariants.{NoMemory};
 
@@ -69,7 +69,7 @@ fn with_item<'a>(parts: Parts<'a>, item: Item<'a>) -> Option<Parts<'a>>
 
 /// Goes over the items, if the bytes are a list of items with no type twice.
 fn read_items(bytes: &[u8]) -> Option<Parts<'_>>
-    ensures { ReadsAs bytes.now (option_map (λ parts. control_of (parts_view parts)) result) }
+    ensures { control_in bytes.now ≡ option_map (λ parts. control_of (parts_view parts)) result }
 {
     let mut parts = Parts {
         cred: None,
@@ -118,10 +118,10 @@ fn read_parts<A: Allocator>(alloc: A, parts: Parts<'_>) -> Result<Control<A>, Al
 /// `Invalid` exactly where the bytes are no such list; `NoMemory` where the descriptor numbers found no
 /// memory.
 pub fn read_control<A: Allocator>(alloc: A, bytes: &[u8]) -> Result<Control<A>, ControlError>
-    ensures read { IfOk result (λ control. ReadsAs bytes.now (Some control)) }
-    ensures invalid { (result ≡ Err ControlError.Invalid) ↔ ReadsAs bytes.now None }
+    ensures read { IfOk result (λ control. control_in bytes.now ≡ Some control) }
+    ensures invalid { (result ≡ Err ControlError.Invalid) ↔ (control_in bytes.now ≡ None) }
     // Without descriptor numbers it takes no memory.
-    ensures without_rights { (control : model.Control) → ReadsAs bytes.now (Some control) → control.rights ≡ [] → IsOk result }
+    ensures without_rights { (control : model.Control) → control_in bytes.now ≡ Some control → control.rights ≡ [] → IsOk result }
     ensures no_memory { result ≡ Err ControlError.NoMemory → 0 < length bytes.now }
 {
     let parts = read_items(bytes).ok_or(ControlError::Invalid)?;

@@ -40,14 +40,14 @@ errno_of ObjError.Invalid = Errno.EINVAL
 abbrev pub read_file : State → OpenFile → ℕ → Outcome
 read_file S f n = on_object S f.object (λ view. read_object S f.id (description_of f) f.object view n)
 
-abbrev pub read_of : State → ℕ → Description → ℕ → Outcome
-read_of S d D n = elim D.target [
+abbrev pub read_of : State → ℕ → ℕ → Description → ℕ → Outcome
+read_of S p d D n = elim D.target [
   | to_object o ↦ on_object S o (λ view. read_object S d D o view n)
-  | to_socket s ↦ read_socket S d s n
+  | to_socket s ↦ read_socket S p d s n
 ]
 
-abbrev pub read_at : State → ℕ → ℕ → Outcome
-read_at S d n = elim (description_at S d) [ None ↦ refuse S Errno.EBADF | Some D ↦ read_of S d D n ]
+abbrev pub read_at : State → ℕ → ℕ → ℕ → Outcome
+read_at S p d n = elim (description_at S d) [ None ↦ refuse S Errno.EBADF | Some D ↦ read_of S p d D n ]
 
 -- A read of n bytes will be answered by the object itself: it is there, may be read, and has something to give. So many bytes are
 -- wanted of it as are asked for, or as a memory file has behind the offset.

@@ -6,7 +6,7 @@ ghost use Rattle.ux_msg.specs.Answers.{Gives};
 ghost use Rattle.ux_state.specs.Moves.{IsUnnamedAt};
 
 use crate::kernel::Kernel;
-use crate::naming::is_valid_addr;
+use ux_names::is_valid_addr;
 use ux_object::FileObject;
 use ux_types::{Addr, DescriptionId, Errno, Fd, Pid, Refusal, Reply};
 

@@ -6,9 +6,9 @@ ghost use Rattle.ux_model.specs.Boot.{IsBootState, boot_state, are_distinct};
 ghost use Rattle.ux_kernel.specs.Faults.{fault_of};
 
 use crate::kernel::Kernel;
-use crate::naming::is_valid_path;
 use std::alloc::Global;
 use thiserror::Error;
+use ux_names::is_valid_path;
 use ux_object::FileObject;
 use ux_state::State;
 use ux_types::{Name, OBJECT_LIMIT, ProcSpec};

@@ -7,7 +7,7 @@ ghost use Rattle.ux_msg.specs.Answers.{Gives};
 ghost use Rattle.ux_state.specs.Moves.{IsUnconnectedAt, IsNoListenerAt};
 
 use crate::kernel::Kernel;
-use crate::naming::{is_unnamed, is_valid_addr};
+use ux_names::{is_unnamed, is_valid_addr};
 use ux_object::FileObject;
 use ux_types::{Addr, Cred, DescriptionId, Errno, Fd, OpenFlags, Pid, Refusal, Reply, SockType};
 

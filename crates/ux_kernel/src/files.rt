@@ -7,8 +7,7 @@ ghost use Rattle.ux_model.specs.Seeking as seeking;
 ghost use Rattle.ux_kernel.specs.FileCalls.{seek_target};
 
 use crate::kernel::Kernel;
-use crate::naming::is_valid_path;
-use ux_names::PathTarget;
+use ux_names::{PathTarget, is_valid_path};
 use ux_object::{FileObject, ObjKind};
 use ux_types::{Errno, Fd, Mode, Name, OpenFlags, Pid, Refusal, Reply, Whence};
 

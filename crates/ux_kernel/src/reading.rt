@@ -31,19 +31,20 @@ impl<O: FileObject> Kernel<O> {
             Ok(found) => found,
             Err(e) => return Err(Refusal::from(e)),
         };
-        self.read_at(entry.description, n.min(READ_LIMIT))
+        self.read_at(pid, entry.description, n.min(READ_LIMIT))
     }
 
     /// Reads by this description.
-    fn read_at(&mut self, id: DescriptionId, n: usize) -> Result<Reply, Refusal>
-        ensures { GivesOrFails self.old (read_at self.old id n) result self.new }
+    fn read_at(&mut self, pid: Pid, id: DescriptionId, n: usize) -> Result<Reply, Refusal>
+        requires { IsTrue (is_live self.old pid.0) }
+        ensures { GivesOrFails self.old (read_at self.old pid.0 id n) result self.new }
     {
         let Some(description) = self.state.description(id) else {
             return Err(Refusal::Answer(Errno::EBADF));
         };
         match OpenFile::of(id, description) {
             Some(file) => self.read_file(file, n),
-            None => read_socket(&mut self.state, self.alloc, id, n),
+            None => read_socket(&mut self.state, self.alloc, pid, id, n),
         }
     }
 

@@ -8,7 +8,7 @@ ghost use Rattle.ux_model.specs.HandingOut.{IsHandedOut};
 ghost use Rattle.ux_kernel.specs.Calling.{IsCaller};
 
 use crate::kernel::Kernel;
-use ux_msg::{recv_msg, send_msg};
+use ux_msg::{Outgoing, recv_msg, send_msg};
 use ux_object::FileObject;
 use ux_state::RetiredList;
 use ux_types::{Errno, Pid, Refusal, Reply, Request};
@@ -73,13 +73,27 @@ impl<O: FileObject> Kernel<O> {
             Request::Accept { fd, flags } => self.accept(pid, *fd, *flags),
             Request::GetSockName { fd } => self.get_sock_name(pid, *fd),
             Request::GetPeerName { fd } => self.get_peer_name(pid, *fd),
-            Request::SendMsg { fd, bytes, flags } => {
-                let bytes = bytes.as_slice();
-                send_msg(&mut self.state, self.alloc, pid, tag, *fd, bytes, *flags)
+            Request::SendMsg {
+                fd,
+                addr,
+                bytes,
+                control,
+                flags,
+            } => {
+                let message = Outgoing {
+                    addr: addr.as_ref(),
+                    bytes: bytes.as_slice(),
+                    control: control.as_slice(),
+                    flags: *flags,
+                };
+                send_msg(&mut self.state, self.alloc, pid, tag, *fd, message)
             }
-            Request::RecvMsg { fd, n, flags, .. } => {
-                recv_msg(&mut self.state, self.alloc, pid, *fd, *n, *flags)
-            }
+            Request::RecvMsg {
+                fd,
+                n,
+                space,
+                flags,
+            } => recv_msg(&mut self.state, self.alloc, pid, *fd, *n, *space, *flags),
             Request::Exit => Ok(self.exit(pid)),
             Request::Off => Ok(self.off()),
         }

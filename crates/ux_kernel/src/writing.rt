@@ -7,7 +7,7 @@ ghost use Rattle.ux_kernel.specs.FileCalls.{description_of, write_file, write_at
 
 use crate::kernel::Kernel;
 use crate::open_file::{OpenFile, errno_of};
-use ux_msg::send_connected;
+use ux_msg::write_socket;
 use ux_object::{FileObject, ObjError, ObjKind};
 use ux_types::{DescriptionId, Errno, Fd, Pid, Refusal, Reply};
 
@@ -52,7 +52,7 @@ impl<O: FileObject> Kernel<O> {
             (None, Some(socket)) => {
                 let peer = socket.peer();
                 let cred = self.state.credentials(pid);
-                send_connected(&mut self.state, self.alloc, peer, tag, cred, bytes)
+                write_socket(&mut self.state, self.alloc, peer, tag, cred, bytes)
             }
             (None, None) => unreachable!(),
         }

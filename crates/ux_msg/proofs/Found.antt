@@ -13,7 +13,7 @@ use Rattle.ux_model.specs.Description.{Description, socket_of}
 use Rattle.ux_model.specs.Process.{Process, Descriptor}
 use Rattle.ux_model.specs.State.{State, description_at, socket_at, table_of}
 use Rattle.ux_model.specs.References.{table_refs, description_refs, refs}
-use Rattle.ux_model.proofs.Moves.{one, table_emptied}
+use Rattle.ux_model.proofs.Named.{entry_counts}
 use Rattle.ux_model.specs.Outcome.{Outcome, refuse, descriptor_at, find_description, find_socket}
 use Rattle.ux_msg.specs.Answers.{Gives}
 use Rattle.ux_model.specs.Receiving.{receive, recv_msg}
@@ -52,25 +52,8 @@ open_inside S p fd e D h = go (cases_lt fd.0 (length (table_of S p)))
     go (inl inside) = inside
     go (inr past) = absurd (none-some e (sym (get_or_past (table_of S p) fd.0 None past) ∙ (found S p fd e D h).entry))
 
--- what an entry of a table leads to has a reference
-entry_refers : (S : State) (p n : ℕ) (e : Descriptor) → place (table_of S p) n ≡ Some e → 0 < refs S e.description
-unfolding refs
-entry_refers S zero n e h = absurd (cc h)
-entry_refers S (suc i) n e h = go (slice_get S.processes i) refl h
-  where
-    go : (o : Option Process) → slice_get S.processes i ≡ o → place (elim o as (λ _. List (Option Descriptor)) [ Some P ↦ P.table | None ↦ [] ]) n ≡ Some e →
-        0 < sum_by (λ P. table_refs e.description (Process.table P)) S.processes + sum_by (description_refs e.description) S.descriptions
-    go None f h = absurd (cc h)
-    go (Some P) f h =
-        let whole = get_or-le-sum_by (λ R. table_refs e.description (Process.table R)) S.processes i P (slice_get_within S.processes i P f) in
-        let own = ap (λ R. table_refs e.description (Process.table R)) (get_or_from_slice_get S.processes i P P f) in
-        let part = table_emptied e.description P.table n in
-        let here = ap (one e.description) h in
-        let itself : one e.description (Some e) ≡ 1 = ap (λ b. cond {A = ℕ} b 1 0) (eq-eqb e.description e.description refl) in
-        omega (arith, whole, own, part, here, itself)
-
 pub found_held : (S : State) (p : ℕ) (fd : Fd) (e : Descriptor) (D : Description) → find_description S p fd ≡ Ok (e, D) → 0 < refs S e.description
-found_held S p fd e D h = entry_refers S p fd.0 e (found S p fd e D h).entry
+found_held S p fd e D h = entry_counts S p fd.0 e (found S p fd e D h).entry
 
 -- the socket of its description
 pub socket_found : (S : State) (p : ℕ) (fd : Fd) (d : ℕ) (s : Socket) → find_socket S p fd ≡ Ok (d, s) → socket_at S d ≡ Some s
@@ -93,19 +76,19 @@ socket_found S p fd d s h = outer (find_description S p fd) refl h
     outer (Err e) f r = cc
     outer (Ok (e, D)) f r = inner e D (socket_of D.target) f refl r
 
-pub received_at : (S : State) (p : ℕ) (fd : Fd) (n : ℕ) (flags : MsgFlags) (d : ℕ) (s : Socket) → find_socket S p fd ≡ Ok (d, s) → are_receive_flags flags ≡ true →
-    receive_at S d n flags ≡ recv_msg S p fd n flags
+pub received_at : (S : State) (p : ℕ) (fd : Fd) (n space : ℕ) (flags : MsgFlags) (d : ℕ) (s : Socket) → find_socket S p fd ≡ Ok (d, s) → are_receive_flags flags ≡ true →
+    receive_at S p d n space flags ≡ recv_msg S p fd n space flags
 unfolding recv_msg
-received_at S p fd n flags d s h ok =
-    ap (λ o. elim o as (λ _. Outcome) [ None ↦ refuse S Errno.EBADF | Some s ↦ receive S d s n flags ]) (socket_found S p fd d s h)
-    ∙ ap (λ b. if not b then refuse S Errno.EINVAL else receive S d s n flags) (sym ok)
+received_at S p fd n space flags d s h ok =
+    ap (λ o. elim o as (λ _. Outcome) [ None ↦ refuse S Errno.EBADF | Some s ↦ receive S p d s n space flags ]) (socket_found S p fd d s h)
+    ∙ ap (λ b. if not b then refuse S Errno.EINVAL else receive S p d s n space flags) (sym ok)
     ∙ sym (ap (λ r. elim r as (λ _. Outcome) [
       | Err e ↦ refuse S e
-      | Ok found ↦ if not (are_receive_flags flags) then refuse S Errno.EINVAL else receive S found.0 found.1 n flags
+      | Ok found ↦ if not (are_receive_flags flags) then refuse S Errno.EINVAL else receive S p found.0 found.1 n space flags
     ]) h)
 
-pub received_gives : (S T : State) (p : ℕ) (fd : Fd) (n : ℕ) (flags : MsgFlags) (d k : ℕ) (s : Socket) (r : Result Reply Refusal) → find_socket S p fd ≡ Ok (d, s) → are_receive_flags flags ≡ true →
-    Gives S (receive_at S k n flags) r T → k ≡ d → Gives S (recv_msg S p fd n flags) r T
-received_gives S T p fd n flags d k s r h ok g same =
+pub received_gives : (S T : State) (p : ℕ) (fd : Fd) (n space : ℕ) (flags : MsgFlags) (d k : ℕ) (s : Socket) (r : Result Reply Refusal) → find_socket S p fd ≡ Ok (d, s) → are_receive_flags flags ≡ true →
+    Gives S (receive_at S p k n space flags) r T → k ≡ d → Gives S (recv_msg S p fd n space flags) r T
+received_gives S T p fd n space flags d k s r h ok g same =
     let P : Outcome → Type 0 = λ o. Gives S o r T in
-    subst P (ap (λ x. receive_at S x n flags) same ∙ received_at S p fd n flags d s h ok) g
+    subst P (ap (λ x. receive_at S p x n space flags) same ∙ received_at S p fd n space flags d s h ok) g

@@ -5,11 +5,11 @@ use Rattle.ux_model.specs.State.{State, socket_at}
 use Rattle.ux_model.specs.Outcome.{Outcome, refuse}
 use Rattle.ux_model.specs.Receiving.{receive, receive_nothing, read_socket}
 
-abbrev pub receive_at : State → ℕ → ℕ → MsgFlags → Outcome
-receive_at S d n flags = elim (socket_at S d) [ None ↦ refuse S Errno.EBADF | Some s ↦ receive S d s n flags ]
+abbrev pub receive_at : State → ℕ → ℕ → ℕ → ℕ → MsgFlags → Outcome
+receive_at S p d n space flags = elim (socket_at S d) [ None ↦ refuse S Errno.EBADF | Some s ↦ receive S p d s n space flags ]
 
 abbrev pub receive_nothing_at : State → ℕ → ℕ → Outcome
 receive_nothing_at S d peer = elim (socket_at S d) [ None ↦ refuse S Errno.EBADF | Some s ↦ receive_nothing S d s peer ]
 
-abbrev pub read_socket_at : State → ℕ → ℕ → Outcome
-read_socket_at S d n = elim (socket_at S d) [ None ↦ refuse S Errno.EBADF | Some s ↦ read_socket S d s n ]
+abbrev pub read_socket_at : State → ℕ → ℕ → ℕ → Outcome
+read_socket_at S p d n = elim (socket_at S d) [ None ↦ refuse S Errno.EBADF | Some s ↦ read_socket S p d s n ]

@@ -3,8 +3,9 @@
 //! definitions.
 #![tactic(auto)]
 
+mod delivering;
 mod receiving;
 mod sending;
 
 pub use receiving::{read_socket, recv_msg};
-pub use sending::{send_connected, send_msg};
+pub use sending::{Outgoing, send_msg, write_socket};

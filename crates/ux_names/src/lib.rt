@@ -4,12 +4,14 @@
 #![tactic(auto)]
 
 mod abstract_names;
+mod addresses;
 mod digits;
 mod listing;
 mod paths;
 mod refusals;
 
 pub use abstract_names::AbstractNames;
+pub use addresses::{is_unnamed, is_valid_addr, is_valid_path};
 pub use paths::{PathTarget, Paths};
 pub use refusals::{AutobindError, BindError};
 // A crate can name `Paths` and `AbstractNames` in a contract only if the types of their fields are exported.

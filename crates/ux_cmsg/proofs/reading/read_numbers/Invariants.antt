@@ -1,5 +1,5 @@
 use Rattle.std.proofs.Common.{◌≡◌, ◌≤◌, ◌+◌, ◌/◌, ◌++◌, length, map, vec_len, vec_capacity}
-use Rattle.ux_cmsg.specs.Items.{numbers_in}
+use Rattle.ux_model.specs.ControlReading.{numbers_in}
 use Rattle.ux_cmsg.proofs.reading.read_numbers.Given as goal
 
 abbrev pub invariant-loop-number : goal.invariant-loop-number

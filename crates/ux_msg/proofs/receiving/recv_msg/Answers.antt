@@ -4,4 +4,4 @@ use Rattle.ux_msg.proofs.receiving.recv_msg.Goals as goal
 
 pub returns : goal.returns
 returns g c =
-    received_gives c.args.state.now c.recv_at.new.state c.args.pid.0 c.args.fd c.args.n c.args.flags c.in-Ok.id _ c.in-Ok.field-0-1.now c.recv_at.result c.in-Ok.ensures (search rules) c.recv_at.ensures (search rules)
+    received_gives c.args.state.now c.recv_at.new.state c.args.pid.0 c.args.fd c.args.n c.args.space c.args.flags c.in-Ok.id _ c.in-Ok.field-0-1.now c.recv_at.result c.in-Ok.ensures (search rules) c.recv_at.ensures (search rules)

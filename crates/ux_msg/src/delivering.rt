@@ -1,0 +1,112 @@
+//! How rights and credentials come to a receiver (recvmsg(2), cmsg(3)).
+ghost use Rattle.std.specs.Prelude.{◌≡◌, IsTrue, IfOk, OnOk, OnErr, Some, None, if◌then◌else◌, map, take, length};
+ghost use Rattle.ux_model.specs.State.{is_live, table_of, with_table};
+ghost use Rattle.ux_model.specs.Process.{free_numbers};
+ghost use Rattle.ux_model.specs.Delivery.{delivery, installed, install_count, writes_cred, space_for_rights};
+ghost use Rattle.ux_state.specs.Moves.{AreReferenced};
+
+use std::alloc::{AllocError, Global};
+use ux_cmsg::{Control, write_control};
+use ux_object::FileObject;
+use ux_rights::plan_rights;
+use ux_state::State;
+use ux_stream::Received;
+use ux_types::{Cred, Fd, Pid};
+
+/// The bytes that credentials take in a control buffer, without and with what stands up to the next item.
+const CRED_LEN: usize = 28;
+const CRED_SPACE: usize = 32;
+
+/// What a receive tells beside the bytes.
+#[derive(Drop)]
+pub(crate) struct Delivered {
+    /// The bytes of its control buffer.
+    pub(crate) control: Vec<u8>,
+    /// Whether something was left out that came with the bytes (MSG_CTRUNC).
+    pub(crate) truncated: bool,
+}
+
+/// How a receiver wants what comes with the bytes.
+#[derive(Clone, Copy)]
+pub(crate) struct Wanted {
+    /// Whether it wants credentials (SO_PASSCRED).
+    pub(crate) cred: bool,
+    /// The bytes of its control space.
+    pub(crate) space: usize,
+    /// Whether its descriptors get close-on-exec (MSG_CMSG_CLOEXEC).
+    pub(crate) cloexec: bool,
+}
+
+/// Installs the rights for which a process has numbers and control space, and writes the control buffer. The
+/// process lives. Every growth comes before the first change.
+///
+/// # Errors
+///
+/// Out of memory. The state is then as before.
+#[tactic(auto, unfolding(ux_model::specs::Delivery::delivery))]
+pub(crate) fn deliver<O: FileObject>(
+    state: &mut State<O>,
+    alloc: Global,
+    pid: Pid,
+    received: &Received,
+    wanted: Wanted,
+) -> Result<Delivered, AllocError>
+    requires live { IsTrue (is_live state.old pid.0) }
+    requires held { AreReferenced state.old received.now.rights }
+    ensures control { IfOk result (λ r. r.control.items ≡ (delivery wanted.cred received.now.cred received.now.rights wanted.space (table_of state.old pid.0)).control) }
+    ensures truncated { IfOk result (λ r. r.truncated ≡ (delivery wanted.cred received.now.cred received.now.rights wanted.space (table_of state.old pid.0)).truncated) }
+    ensures installed { OnOk result (state.new ≡ with_table state.old pid.0 (installed wanted.cloexec
+        (delivery wanted.cred received.now.cred received.now.rights wanted.space (table_of state.old pid.0)).numbers received.now.rights (table_of state.old pid.0))) }
+    ensures err { OnErr result (state.new ≡ state.old) }
+{
+    let rights = received.rights.as_slice();
+    let told = cred_told(wanted, received.cred);
+    let numbers = find_numbers(state, alloc, pid, rights.len(), space_for_rights(wanted))?;
+    let truncated = numbers.len() < rights.len() || (wanted.cred && told.is_none());
+    let control = Control::new(told, numbers);
+    let bytes = write_control(alloc, &control)?;
+    state.install_rights(pid, control.rights(), rights, wanted.cloexec)?;
+    Ok(Delivered {
+        control: bytes,
+        truncated,
+    })
+}
+
+/// The numbers that a process gets for so many rights in this space.
+fn find_numbers<O: FileObject>(
+    state: &State<O>,
+    alloc: Global,
+    pid: Pid,
+    count: usize,
+    space: usize,
+) -> Result<Vec<Fd>, AllocError>
+    requires live { IsTrue (is_live state.now pid.0) }
+    ensures { IfOk result (λ numbers. map (λ fd. fd.0) numbers.items ≡ take
+        (install_count count space (length (free_numbers (table_of state.now pid.0)))) (free_numbers (table_of state.now pid.0))) }
+{
+    let table = state.table(pid);
+    let plan = plan_rights(count, space, table.limit() as usize);
+    table.lowest_numbers(alloc, plan.install)
+}
+
+/// The credentials, where they are wanted and the space holds them whole.
+fn cred_told(wanted: Wanted, cred: Cred) -> Option<Cred>
+    ensures { result ≡ (if writes_cred wanted.cred wanted.space then Some cred else None) }
+{
+    if wanted.cred && wanted.space >= CRED_LEN {
+        Some(cred)
+    } else {
+        None
+    }
+}
+
+/// The space that credentials leave for rights.
+fn space_for_rights(wanted: Wanted) -> usize
+    ensures { result ≡ space_for_rights wanted.cred wanted.space }
+{
+    if wanted.cred && wanted.space >= CRED_LEN {
+        wanted.space.saturating_sub(CRED_SPACE)
+    } else {
+        wanted.space
+    }
+}
