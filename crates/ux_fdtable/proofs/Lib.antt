@@ -1,3 +1,4 @@
 pub mod FreePlaces
 pub mod Places
 pub mod TwoFree
+pub mod Installing

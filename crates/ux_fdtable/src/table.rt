@@ -1,11 +1,12 @@
 //! The descriptor table of a process.
-ghost use Rattle.std.specs.Prelude.{◌≡◌, ◌+◌, ◌<◌, ◌≤◌, ◌↔◌, IfOk, OnOk, OnErr, length, map, Some, None, slice_set};
+ghost use Rattle.std.specs.Prelude.{◌≡◌, ℕ, ◌+◌, ◌<◌, ◌≤◌, ◌↔◌, [], IsOk, IfOk, OnOk, OnErr, length, map, take, Some, None, slice_set};
 ghost use Rattle.std.specs.Prelude.{option_map};
 ghost use Rattle.ux_model.specs.Limits.{table_limit};
 ghost use Rattle.ux_model.specs.Places.{place, filled, emptied};
-ghost use Rattle.ux_model.specs.Process.{lowest_free, two_lowest_free, empty_table, copy_of, kept_on_exec, with_cloexec};
+ghost use Rattle.ux_model.specs.Process.{free_numbers, lowest_free, two_lowest_free, empty_table, copy_of, kept_on_exec, with_cloexec};
 ghost use Rattle.ux_model.specs.References.{table_refs};
-ghost use Rattle.ux_fdtable.specs.Padded.{FindsFree, padded};
+ghost use Rattle.ux_model.specs.Delivery.{installed};
+ghost use Rattle.ux_fdtable.specs.Padded.{AreBelow, FindsFree, IsReaching, IsTable, padded};
 ghost use Rattle.ux_fdtable.specs.Refusals.{refusal_of_install, refusal_of_dup};
 
 use super::descriptor::Descriptor;
@@ -13,6 +14,7 @@ use std::alloc::{AllocError, Global};
 use std::marker::Model;
 use thiserror::Error;
 use ux_marks::Marks;
+use ux_rights::Reference;
 use ux_types::{DescriptionId, Errno, Fd, Refusal};
 
 /// The most descriptors that one process may have.
@@ -181,6 +183,57 @@ impl Table {
         Ok((low, high))
     }
 
+    /// The lowest numbers that aren't open, in order: this many, or all that there are.
+    ///
+    /// # Errors
+    ///
+    /// Out of memory, and never for a count of 0.
+    pub fn lowest_numbers(&self, alloc: Global, count: usize) -> Result<Vec<Fd>, AllocError>
+        ensures numbers { IfOk result (λ numbers. map (λ fd. fd.0) numbers.items ≡ take count (free_numbers self.now)) }
+        ensures none { count ≡ 0 → IsOk result }
+    {
+        let mut numbers = Vec::with_capacity(alloc, count.min(self.limit))?;
+        let mut from = 0;
+        while numbers.len() < count {
+            match self.free_from(from) {
+                Some(number) => {
+                    numbers.push_reserved(Fd(number as u32));
+                    from = number + 1;
+                }
+                None => return Ok(numbers),
+            }
+        }
+        Ok(numbers)
+    }
+
+    /// Opens these numbers for what the references refer to, the first for the first, with close-on-exec or
+    /// without (recvmsg(2)). Every growth comes before the first change.
+    ///
+    /// # Errors
+    ///
+    /// Out of memory, and never for no number. The table is then as before.
+    pub fn install_all(
+        &mut self,
+        numbers: &[Fd],
+        references: &[Reference],
+        cloexec: bool,
+    ) -> Result<(), AllocError>
+        requires { AreBelow (length self.old) (map (λ fd. fd.0) numbers.now) }
+        ensures ok { OnOk result (self.new ≡ installed cloexec (map (λ fd. fd.0) numbers.now) references.now self.old) }
+        ensures none { numbers.now ≡ [] → IsOk result }
+        ensures err { OnErr result (self.new ≡ self.old) }
+    {
+        reach_all(&mut self.places, numbers)?;
+        fill_all(
+            &mut self.places,
+            &mut self.marks,
+            numbers,
+            references,
+            cloexec,
+        );
+        Ok(())
+    }
+
     /// Puts a copy of a descriptor, without close-on-exec, at a given number, and answers what was open
     /// there (dup2(2)).
     ///
@@ -302,4 +355,49 @@ fn reach(places: &mut Vec<Option<Descriptor>>, number: usize) -> Result<(), Allo
         return Ok(());
     }
     places.resize(number + 1, None)
+}
+
+/// Makes the places of a table reach these numbers, with empty ones.
+fn reach_all(places: &mut Vec<Option<Descriptor>>, numbers: &[Fd]) -> Result<(), AllocError>
+    requires { AreBelow table_limit (map (λ fd. fd.0) numbers.now) }
+    ensures reached { OnOk result (AreBelow (length places.new.items) (map (λ fd. fd.0) numbers.now)) }
+    ensures kept { IsReaching (map (λ fd. fd.0) numbers.now) places.old.items places.new.items }
+    ensures none { numbers.now ≡ [] → IsOk result }
+{
+    let mut left = numbers;
+    while let Some((fd, behind)) = left.split_first() {
+        reach(places, fd.0 as usize)?;
+        left = behind;
+    }
+    Ok(())
+}
+
+/// Puts descriptors of these references at numbers that the places of a table reach, the first at the first.
+fn fill_all(
+    places: &mut Vec<Option<Descriptor>>,
+    marks: &mut Marks,
+    numbers: &[Fd],
+    references: &[Reference],
+    cloexec: bool,
+)
+    requires inside { AreBelow (length places.old.items) (map (λ fd. fd.0) numbers.now) }
+    requires covered { length places.old.items ≤ length marks.old }
+    ensures filled { places.new.items ≡ installed cloexec (map (λ fd. fd.0) numbers.now) references.now places.old.items }
+    ensures marked { (limit : ℕ) → IsTable places.old.items limit marks.old → IsTable places.new.items limit marks.new }
+{
+    let mut left = numbers;
+    let mut rest = references;
+    while let Some((fd, behind)) = left.split_first() {
+        let Some((reference, others)) = rest.split_first() else {
+            return;
+        };
+        let number = fd.0 as usize;
+        places[number] = Some(Descriptor {
+            description: reference.description(),
+            cloexec,
+        });
+        marks.put(number, true);
+        left = behind;
+        rest = others;
+    }
 }
