@@ -11,3 +11,4 @@ pub mod Made
 pub mod Queues
 pub mod SocketMoves
 pub mod Tying
+pub mod Installed

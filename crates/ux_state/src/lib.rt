@@ -4,6 +4,7 @@
 #![tactic(auto)]
 
 mod connecting;
+mod delivering;
 mod descriptions;
 mod entries;
 mod finding;
