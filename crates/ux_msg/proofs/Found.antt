@@ -1,18 +1,16 @@
 -- What a number of a process leads to.
-use Rattle.std.proofs.Common.{arith, cond, List, [], zero, suc, slice_get, ◌≡◌, ℕ, ◌+◌, ◌<◌, ◌≤◌, length, true, not, ◌⊎◌, inl, inr, if◌then◌else◌, Option, Some, None, Result, Ok, Err, sym, ◌∙◌, ap, subst, refl}
-use Rattle.std.specs.Prelude.{option_and_then, sum_by}
-use Rattle.std.proofs.lemmas.Option.{none-some, slice_get_within, get_or_from_slice_get}
-use Rattle.std.proofs.lemmas.List.Sums.{get_or-le-sum_by}
+use Rattle.std.proofs.Common.{◌≡◌, ℕ, ◌<◌, ◌≤◌, length, true, not, ◌⊎◌, inl, inr, if◌then◌else◌, Option, Some, None, Result, Ok, Err, sym, ◌∙◌, ap, subst, refl}
+use Rattle.std.specs.Prelude.{option_and_then}
+use Rattle.std.proofs.lemmas.Option.{none-some}
 use Rattle.std.proofs.lemmas.List.{get_or_past}
-use Rattle.std.proofs.lemmas.Bool.{cases_lt, eq-eqb}
-use Rattle.ux_model.specs.Places.{place}
+use Rattle.std.proofs.lemmas.Bool.{cases_lt}
 use Rattle.ux_model.specs.Types.{Errno, Refusal, Fd, MsgFlags, Reply}
 use Rattle.ux_model.specs.Flags.{are_receive_flags}
 use Rattle.ux_model.specs.Socket.{Socket}
 use Rattle.ux_model.specs.Description.{Description, socket_of}
-use Rattle.ux_model.specs.Process.{Process, Descriptor}
+use Rattle.ux_model.specs.Process.{Descriptor}
 use Rattle.ux_model.specs.State.{State, description_at, socket_at, table_of}
-use Rattle.ux_model.specs.References.{table_refs, description_refs, refs}
+use Rattle.ux_model.specs.References.{refs}
 use Rattle.ux_model.proofs.Named.{entry_counts}
 use Rattle.ux_model.specs.Outcome.{Outcome, refuse, descriptor_at, find_description, find_socket}
 use Rattle.ux_msg.specs.Answers.{Gives}

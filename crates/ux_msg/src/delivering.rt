@@ -15,6 +15,7 @@ use ux_types::{Cred, Fd, Pid};
 
 /// The bytes that credentials take in a control buffer, without and with what stands up to the next item.
 const CRED_LEN: usize = 28;
+
 const CRED_SPACE: usize = 32;
 
 /// What a receive tells beside the bytes.

@@ -53,7 +53,7 @@ pub fn send_msg<O: FileObject>(
 ) -> Result<Reply, Refusal>
     requires { IsTrue (is_live state.old pid.0) }
     ensures { Gives state.old
-        (model.send_msg state.old pid.0 tag fd (option_map (λ a. a.now) message.addr) message.bytes.now message.control.now message.flags) result state.new }
+        (model.send_msg state.old pid.0 tag fd (option_map (λ a. a.now) message.entry.addr) message.entry.bytes.now message.entry.control.now message.entry.flags) result state.new }
 {
     let peer = match state.find_socket(pid, fd) {
         Ok((_, socket)) => socket.peer(),
@@ -82,8 +82,8 @@ fn send_with<O: FileObject>(
 ) -> Result<Reply, Refusal>
     requires live { IsTrue (is_live state.old pid.0) }
     requires read { control_in message.control.now ≡ Some control.now }
-    ensures { Gives state.old (as_process state.old pid.0 (λ P. model.reading_control message.control.now
-        (model.send_with state.old pid.0 P tag peer (option_map (λ a. a.now) message.addr) message.bytes.now control.now))) result state.new }
+    ensures { Gives state.old (as_process state.old pid.0 (λ P. model.reading_control message.entry.control.now
+        (model.send_with state.old pid.0 P tag peer (option_map (λ a. a.now) message.entry.addr) message.entry.bytes.now control.now))) result state.new }
 {
     if !is_sendable_control(message.bytes, control) {
         return Err(Refusal::Answer(Errno::EINVAL));
@@ -149,11 +149,13 @@ fn rights_behind(table: &Table, alloc: Global, numbers: &[Fd]) -> Result<RefList
     ensures refused { IfErr result (IsRefusedBehind table.now (map (λ fd. fd.0) numbers.now)) }
 {
     let mut rights = RefList::new(alloc);
-    for fd in numbers {
+    let mut left = numbers;
+    while let Some((fd, behind)) = left.split_first() {
         let Some(entry) = table.get(*fd) else {
             return Err(Refusal::Answer(Errno::EBADF));
         };
         rights.push(entry.description)?;
+        left = behind;
     }
     Ok(rights)
 }

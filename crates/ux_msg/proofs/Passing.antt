@@ -1,0 +1,112 @@
+-- The rights that a message is to pass, and those that a receiver gets.
+use Rattle.std.proofs.Common.{◌≡◌, ℕ, ◌<◌, Bool, true, false, not, ◌==◌, List, [], ◌∷◌, ◌++◌, length, min, take, Option, Some, None, refl, ap, sym, ◌∙◌, append_assoc, arith}
+use Rattle.std.specs.Prelude.{option_map, is_some, if◌then◌else◌, IsTrue}
+use Rattle.std.proofs.Math.Dec.{eqb-suc-zero}
+use Rattle.std.proofs.lemmas.List.{append-nil, take_min}
+use Rattle.ux_model.specs.Types.{Addr, Errno, Refusal, Reply}
+use Rattle.ux_model.specs.Places.{place}
+use Rattle.ux_model.specs.Control.{Control}
+use Rattle.ux_model.specs.ControlReading.{with_items, control_in}
+use Rattle.ux_model.specs.Message.{Message}
+use Rattle.ux_model.specs.Front.{OnStreamFront}
+use Rattle.ux_model.specs.Delivery.{install_count}
+use Rattle.ux_model.specs.Socket.{Socket}
+use Rattle.ux_model.specs.Process.{Process, Descriptor, free_numbers}
+use Rattle.ux_model.specs.Outcome.{Outcome, refuse, as_process}
+use Rattle.ux_model.specs.State.{State, socket_at, process_at, table_of, is_live}
+use Rattle.ux_model.specs.References.{times}
+use Rattle.ux_model.specs.Sending.{descriptions_behind, is_sendable_addr, is_sendable_control, reading_control, send_with}
+use Rattle.ux_model.proofs.MessageCalls.{behind_counts, front_counts}
+use Rattle.ux_fdtable.proofs.Installing.{few_empty}
+use Rattle.ux_state.specs.Moves.{AreReferenced}
+use Rattle.ux_msg.specs.Answers.{GivesRefusal}
+use Rattle.ux_msg.specs.Sendings.{IsRefusedBehind, address_refusal}
+
+-- ---- sending
+
+-- one more number is open
+pub one_behind : (T : List (Option Descriptor)) (n : ℕ) (e : Descriptor) (ns rights : List ℕ) → place T n ≡ Some e →
+    option_map (λ ds. rights ++ ds) (descriptions_behind T (n ∷ ns)) ≡ option_map (λ ds. (rights ++ e.description ∷ []) ++ ds) (descriptions_behind T ns)
+one_behind T n e ns rights is_open =
+    ap (λ (o : Option Descriptor). option_map (λ ds. rights ++ ds) (elim o as (λ _. Option (List ℕ)) [
+      | None ↦ None
+      | Some e ↦ elim (descriptions_behind T ns) as (λ _. Option (List ℕ)) [ None ↦ None | Some ds ↦ Some (e.description ∷ ds) ]
+    ])) is_open ∙ go (descriptions_behind T ns)
+  where
+    go : (r : Option (List ℕ)) → option_map (λ ds. rights ++ ds) (elim r as (λ _. Option (List ℕ)) [ None ↦ None | Some ds ↦ Some (e.description ∷ ds) ]) ≡ option_map (λ ds. (rights ++ e.description ∷ []) ++ ds) r
+    go None = refl
+    go (Some ds) = ap Some (sym (append_assoc rights (e.description ∷ []) ds))
+
+-- a number isn't
+pub none_behind : (T : List (Option Descriptor)) (n : ℕ) (ns : List ℕ) → place T n ≡ None → descriptions_behind T (n ∷ ns) ≡ None
+none_behind T n ns closed =
+    ap (λ (o : Option Descriptor). elim o as (λ _. Option (List ℕ)) [
+      | None ↦ None
+      | Some e ↦ elim (descriptions_behind T ns) as (λ _. Option (List ℕ)) [ None ↦ None | Some ds ↦ Some (e.description ∷ ds) ]
+    ]) closed
+
+pub all_behind : (rights : List ℕ) → option_map (λ ds. rights ++ ds) (Some []) ≡ Some rights
+all_behind rights = ap Some (append-nil rights)
+
+-- something refers to each of them
+pub behind_referenced : (S : State) (p : ℕ) (ns ds : List ℕ) → descriptions_behind (table_of S p) ns ≡ Some ds → AreReferenced S ds
+behind_referenced S p ns ds h k some = behind_counts S p k ns ds h some
+
+-- rights come from bytes
+pub needs_bytes : (bytes : List ℕ) (control : Control) → control_in bytes ≡ Some control → 0 < length control.rights → (length bytes == 0) ≡ false
+unfolding control_in with_items
+needs_bytes [] control reads some =
+    let same : record { cred = None; rights = [] } ≡ control = cc reads in
+    let none = ap (λ (c : Control). length c.rights) same in
+    absurd (omega (arith, none, some))
+needs_bytes (b ∷ bytes) control reads some = eqb-suc-zero (length bytes)
+
+-- ---- receiving
+
+-- what comes with the bytes has references
+pub front_referenced : (S : State) (d n : ℕ) (wants : Bool) (s : Socket) (rights : List ℕ) → socket_at S d ≡ Some s → 0 < length s.queue → OnStreamFront wants n s.queue (λ f. rights ≡ f.rights) → AreReferenced S rights
+front_referenced S d n wants s rights h some front = by_queue s.queue refl some front
+  where
+    by_queue : (q : List Message) → s.queue ≡ q → 0 < length q → OnStreamFront wants n q (λ f. rights ≡ f.rights) → AreReferenced S rights
+    by_queue [] is some front = absurd (omega (arith, some))
+    by_queue (m ∷ ms) is some front = λ k counted.
+        let all = front_counts S d n k wants s m ms h is in
+        let same = ap (times k) front in
+        omega (arith, all, same, counted)
+
+-- as many numbers as rights and space ask for, and as the table has: a limit on the numbers of a table leaves out none
+pub planned : (count space limit : ℕ) (T : List (Option Descriptor)) → length T ≡ limit →
+    take (install_count count space limit) (free_numbers T) ≡ take (install_count count space (length (free_numbers T))) (free_numbers T)
+planned count space limit T long =
+    let few = few_empty 0 T in
+    let same : min (install_count count space limit) (length (free_numbers T)) ≡ install_count count space (length (free_numbers T)) = omega (arith, few, long) in
+    sym (take_min (install_count count space limit) (free_numbers T)) ∙ ap (λ n. take n (free_numbers T)) same
+
+-- ---- what a send answers, by what its code found
+
+-- of a process that lives
+pub on_live : (S : State) (p : ℕ) (rest : Process → Outcome) (Q : Outcome → Type 0) → IsTrue (is_live S p) → ((P : Process) → Q (rest P)) → Q (as_process S p rest)
+on_live S p rest Q live all = go (process_at S p) live
+  where
+    go : (o : Option Process) → IsTrue (elim o as (λ _. Bool) [ Some P ↦ not P.exited | None ↦ false ]) → Q (elim o as (λ _. Outcome) [ None ↦ refuse S Errno.ESRCH | Some P ↦ rest P ])
+    go None live = absurd (cc live)
+    go (Some P) live = all P
+
+-- a right that isn't open, or no memory for the references
+pub refused_behind : (S : State) (p : ℕ) (P : Process) (tag : ℕ) (peer : Option ℕ) (addr : Option Addr) (bytes buffer : List ℕ) (control : Control) (refusal : Refusal) → control_in buffer ≡ Some control →
+    is_sendable_control bytes control ≡ true → IsRefusedBehind (table_of S p) control.rights refusal → GivesRefusal S (reading_control buffer (send_with S p P tag peer addr bytes control)) refusal S
+unfolding send_with
+refused_behind S p P tag peer addr bytes buffer control (Refusal.Answer e) reads ok (is, none) = rw (ok, none) (ap (λ x. Reply.Err x) is, refl)
+refused_behind S p P tag peer addr bytes buffer control Refusal.NoMemory reads ok some = rw (needs_bytes buffer control reads some) (refl, refl)
+
+-- an address, when all rights are open
+pub refused_addr : (S : State) (p : ℕ) (P : Process) (tag : ℕ) (peer : Option ℕ) (addr : Addr) (bytes buffer rights : List ℕ) (control : Control) (e : Errno) → is_sendable_control bytes control ≡ true →
+    descriptions_behind (table_of S p) control.rights ≡ Some rights → e ≡ address_refusal addr (is_some peer) → GivesRefusal S (reading_control buffer (send_with S p P tag peer (Some addr) bytes control)) (Refusal.Answer e) S
+unfolding send_with
+refused_addr S p P tag peer addr bytes buffer rights control e ok behind is = rw (ok, behind, is) (by_addr (is_sendable_addr (Some addr)))
+  where
+    by_addr : (b : Bool) → (Reply.Err (if not b then Errno.EINVAL else (if is_some peer then Errno.EISCONN else Errno.EOPNOTSUPP))
+        ≡ Outcome.reply (if not b then refuse S Errno.EINVAL else refuse S (if is_some peer then Errno.EISCONN else Errno.EOPNOTSUPP)))
+        × (S ≡ Outcome.next (if not b then refuse S Errno.EINVAL else refuse S (if is_some peer then Errno.EISCONN else Errno.EOPNOTSUPP)))
+    by_addr true = (refl, refl)
+    by_addr false = (refl, refl)
