@@ -45,7 +45,9 @@ pub(crate) struct Calls {
 fn stream(alloc: Global, name: &'static str, length: usize) -> Result<Calls, AllocError> {
     let send = Request::SendMsg {
         fd: Fd(1),
+        addr: None,
         bytes: Bytes::new(vec![in alloc; 90; length]?),
+        control: Bytes::new(Vec::new(alloc)),
         flags: MsgFlags(0),
     };
     let receive = Request::RecvMsg {

@@ -43,6 +43,8 @@ fn entries_of(alloc: Global, script: Script) -> Result<Vec<Entry>, AllocError> {
                 count: 13,
                 bytes,
                 flags: MsgFlags::TRUNC,
+                control: Bytes::new(Vec::new(alloc)),
+                from: None,
             },
             released: Released::new(),
         })?;

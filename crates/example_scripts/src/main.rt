@@ -13,7 +13,7 @@ use ux_syntax::{Script, parse_script};
 use ux_types::Name;
 
 /// The scripts by their names.
-const SCRIPTS: [&str; 37] = [
+const SCRIPTS: [&str; 52] = [
     "hello",
     "lost_peer",
     "peek_then_read",
@@ -51,6 +51,21 @@ const SCRIPTS: [&str; 37] = [
     "name_of_a_client",
     "end_with_unread_bytes",
     "server_by_path_and_by_name",
+    "rights_are_a_barrier",
+    "receive_before_rights",
+    "rights_come_with_the_first_byte",
+    "passed_file_shares_its_offset",
+    "file_in_a_lost_message",
+    "excess_of_rights_is_closed",
+    "most_rights_of_a_message",
+    "peek_installs_further_descriptors",
+    "full_table_cuts_rights",
+    "sockets_in_each_others_queues",
+    "service_manager",
+    "privilege_separation",
+    "refusals_of_send",
+    "control_buffers",
+    "control_space",
 ];
 
 /// A file object as a kernel holds it.
@@ -97,7 +112,84 @@ fn has_its_trace<R: Files + AllocGlobal>(rt: &R, name: &str) -> Result<bool> {
     Ok(found.as_slice() == wanted.as_slice())
 }
 
+/// How often a chain's script puts a socket into the queue of the next.
+const TURNS: usize = 10_000;
+
+/// What one turn calls, and what is answered.
+const TURN: [(&str, &str, &str); 6] = [
+    ("pair", "stream -", "fds 1 2"),
+    ("send", "1 - 78 r:0 -", "n 1"),
+    ("close", "0", "ok"),
+    ("close", "1", "ok"),
+    ("dup2", "2 0", "fd 0"),
+    ("close", "2", "ok"),
+];
+
+/// A script in which each of many sockets lies in the queue of the next, and an open file in that of the first.
+/// The last socket is closed, or left to the process's exit.
+fn chain_script(alloc: Global, closes: bool) -> Result<Vec<u8>> {
+    let header = b"object p:f mem -\nproc 0 0 1 16\n1 open p:f r -\n1 unlink p:f\n";
+    let mut text = Vec::from_slice(alloc, header)?;
+    for _ in 0..TURNS {
+        for (word, rest, _) in TURN {
+            let line = format!(in alloc; "1 {word} {rest}\n")?;
+            text.extend_from_slice(line.as_bytes())?;
+        }
+    }
+    if closes {
+        text.extend_from_slice(b"1 close 0\n")?;
+    }
+    Ok(text)
+}
+
+/// Appends the line of a trace of one process.
+fn push_line(
+    alloc: Global,
+    trace: &mut Vec<u8>,
+    number: usize,
+    word: &str,
+    reply: &str,
+) -> Result<()> {
+    let line = format!(in alloc; "{number} 1 {number} {word} = {reply}\n")?;
+    trace.extend_from_slice(line.as_bytes())?;
+    Ok(())
+}
+
+/// Its trace: the whole chain goes with its last socket, and the file with it.
+fn chain_trace(alloc: Global, closes: bool) -> Result<Vec<u8>> {
+    let mut trace = Vec::from_slice(alloc, b"0 1 0 open = fd 0\n1 1 1 unlink = ok\n")?;
+    let mut number: usize = 2;
+    for _ in 0..TURNS {
+        for (word, _, reply) in TURN {
+            push_line(alloc, &mut trace, number, word, reply)?;
+            number = number.saturating_add(1);
+        }
+    }
+    if closes {
+        push_line(alloc, &mut trace, number, "close", "ok closed 0")?;
+        push_line(alloc, &mut trace, number.saturating_add(1), "exit", "ok")?;
+    } else {
+        push_line(alloc, &mut trace, number, "exit", "ok closed 0")?;
+    }
+    Ok(trace)
+}
+
+/// Whether a chain goes as it should.
+fn chain_goes(alloc: Global, closes: bool) -> Result<bool> {
+    let text = chain_script(alloc, closes)?;
+    let script = parse_script(alloc, &text)?;
+    let found = trace_of(alloc, &script)?;
+    let wanted = chain_trace(alloc, closes)?;
+    Ok(found.as_slice() == wanted.as_slice())
+}
+
 fn run<R: Files + Print + AllocGlobal>(rt: &R) -> Result<()> {
+    for closes in [true, false] {
+        if !chain_goes(rt.alloc(), closes)? {
+            return Err(anyhow!("a chain of passed sockets: another trace"));
+        }
+    }
+    println!(rt; "a chain of {TURNS} passed sockets: ok")?;
     for name in SCRIPTS {
         if !has_its_trace(rt, name)? {
             return Err(anyhow!("{name}: another trace"));

@@ -1,5 +1,5 @@
 -- Many numbers at once: which are the lowest, and what a table is with them open.
-use Rattle.std.proofs.Common.{◌≡◌, ℕ, suc, ◌+◌, ◌<◌, ◌≤◌, max, Bool, true, List, [], ◌∷◌, ◌++◌, length, map, take, Option, Some, None, inl, inr, ap, sym, refl, ◌∙◌, arith}
+use Rattle.std.proofs.Common.{◌≡◌, ℕ, zero, suc, ◌+◌, ◌<◌, ◌≤◌, max, Bool, true, List, [], ◌∷◌, ◌++◌, length, map, take, Option, Some, None, inl, inr, ap, sym, refl, ◌∙◌, arith}
 use Rattle.std.specs.Prelude.{is_some}
 use Rattle.std.proofs.lemmas.Bool.{cases_eq}
 use Rattle.std.proofs.lemmas.List.{append_assoc, append-nil, length-append, length-map, length-set, map-append, take_all, get_or-set_same, get_or-set_other}
@@ -38,6 +38,16 @@ all_of_them numbers count rest T so_far few none =
     let whole : ns ≡ free_numbers T = sym (append-nil ns) ∙ ap (λ more. ns ++ more) (sym none) ∙ so_far in
     let long = length-map numbers (λ fd. Fd.0 fd) in
     sym (ap (take count) (sym whole) ∙ take_all count ns (omega (arith, long, few)))
+
+-- they are those of the table
+pub free_below : (ns : List ℕ) (m : ℕ) (T : List (Option Descriptor)) → ns ≡ take m (free_numbers T) → AreBelow (length T) ns
+free_below ns m T front = rw front (front_below m 0 T (length T) (omega arith))
+  where
+    front_below : (m i : ℕ) (xs : List (Option Descriptor)) (limit : ℕ) → i + length xs ≤ limit → AreBelow limit (take m (empty_places_from i xs))
+    front_below zero i xs limit fits = tt
+    front_below (suc m) i [] limit fits = tt
+    front_below (suc m) i (None ∷ xs) limit fits = (omega (arith, fits), front_below m (suc i) xs limit (omega (arith, fits)))
+    front_below (suc m) i (Some x ∷ xs) limit fits = front_below (suc m) (suc i) xs limit (omega (arith, fits))
 
 -- ---- places that reach further
 

@@ -4,6 +4,7 @@ use hoard::Hoard;
 use std::alloc::{AllocError, Global};
 use std::process::Abort;
 use std::test::Fail;
+use ux_rights::RefList;
 use ux_types::{DescriptionId, Fd};
 
 /// A descriptor of the description with this number.
@@ -178,6 +179,72 @@ fn numbers_that_are_closed_are_found_again(rt: HostRuntime) -> Result<(), Fail> 
     table.clear();
     expect_count(&rt, &table, 7, 0);
     expect_empty(&rt, &table, 1024);
+    Ok(())
+}
+
+/// References to the descriptions 7, 8 and 9.
+fn three_references(alloc: Global) -> Result<RefList, AllocError> {
+    RefList::from_slice(alloc, &[7, 8, 9].map(DescriptionId::new))
+}
+
+/// Opens so many numbers for the first of the references.
+#[tactic(auto, using(crate::proofs::Installing::free_below))]
+fn open_all(
+    alloc: Global,
+    table: &mut Table,
+    count: usize,
+    references: &RefList,
+    cloexec: bool,
+) -> Result<(), AllocError> {
+    let numbers = table.lowest_numbers(alloc, count)?;
+    table.install_all(&numbers, references.as_slice(), cloexec)
+}
+
+/// The same, where it is refused memory.
+#[tactic(auto, using(crate::proofs::Installing::free_below))]
+fn refuse_all(
+    rt: &impl Abort,
+    alloc: Global,
+    table: &mut Table,
+    references: &RefList,
+) -> Result<(), AllocError> {
+    let numbers = table.lowest_numbers(alloc, references.len())?;
+    let hoard = Hoard::take_all(alloc)?;
+    let answer = table.install_all(&numbers, references.as_slice(), true);
+    let found = table.lowest_numbers(alloc, 1);
+    drop(hoard);
+    assert!(rt; answer.is_err() && found.is_err());
+    Ok(())
+}
+
+#[test]
+fn many_numbers_are_opened_at_once(rt: HostRuntime) -> Result<(), Fail> {
+    let alloc = rt.alloc();
+    let mut table = make_table(alloc, 5)?;
+    let references = three_references(alloc)?;
+    open(&rt, &mut table, 0, 1, false);
+    open(&rt, &mut table, 1, 2, false);
+    open(&rt, &mut table, 2, 3, false);
+    close(&rt, &mut table, 1, 2, false);
+    open_all(alloc, &mut table, 2, &references, true)?;
+    expect_open(&rt, &table, 1, 7, true);
+    expect_open(&rt, &table, 3, 8, true);
+    expect_open(&rt, &table, 2, 3, false);
+    expect_lowest(&rt, &table, 4);
+    // Only as many as there are numbers.
+    open_all(alloc, &mut table, 3, &references, false)?;
+    expect_open(&rt, &table, 4, 7, false);
+    expect_full(&rt, &mut table);
+    Ok(())
+}
+
+#[test]
+fn many_numbers_are_refused_together(rt: HostRuntime) -> Result<(), Fail> {
+    let alloc = rt.alloc();
+    let mut table = make_table(alloc, 9)?;
+    let references = three_references(alloc)?;
+    refuse_all(&rt, alloc, &mut table, &references)?;
+    expect_empty(&rt, &table, 9);
     Ok(())
 }
 

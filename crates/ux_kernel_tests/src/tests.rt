@@ -4,6 +4,7 @@ mod boots;
 mod connections;
 mod objects;
 mod pairs;
+mod rights;
 
 use bstr::BString;
 use hoard::Hoard;
@@ -47,8 +48,45 @@ fn unlink(alloc: Global, path: &[u8]) -> Result<Request, AllocError> {
 fn send(alloc: Global, fd: u32, bytes: &[u8], flags: u8) -> Result<Request, AllocError> {
     Ok(Request::SendMsg {
         fd: Fd(fd),
+        addr: None,
         bytes: Bytes::new(Vec::from_slice(alloc, bytes)?),
+        control: Bytes::new(Vec::new(alloc)),
         flags: MsgFlags(flags),
+    })
+}
+
+/// The bytes of an SCM_RIGHTS item with these numbers, or none (cmsg(3)).
+fn rights_item(alloc: Global, numbers: &[u32]) -> Result<Vec<u8>, AllocError> {
+    let mut bytes = Vec::new(alloc);
+    if numbers.is_empty() {
+        return Ok(bytes);
+    }
+    let length = numbers.len().saturating_mul(4).saturating_add(16) as u64;
+    bytes.extend_from_slice(&length.to_le_bytes())?;
+    bytes.extend_from_slice(&[1, 0, 0, 0, 1, 0, 0, 0])?;
+    for number in numbers {
+        bytes.extend_from_slice(&number.to_le_bytes())?;
+    }
+    Ok(bytes)
+}
+
+fn pass(alloc: Global, fd: u32, numbers: &[u32]) -> Result<Request, AllocError> {
+    Ok(Request::SendMsg {
+        fd: Fd(fd),
+        addr: None,
+        bytes: Bytes::new(Vec::from_slice(alloc, b"x")?),
+        control: Bytes::new(rights_item(alloc, numbers)?),
+        flags: MsgFlags(0),
+    })
+}
+
+fn taken(alloc: Global, flags: u8, numbers: &[u32]) -> Result<Reply, AllocError> {
+    Ok(Reply::Received {
+        count: 1,
+        bytes: Bytes::new(Vec::from_slice(alloc, b"x")?),
+        flags: MsgFlags(flags),
+        control: Bytes::new(rights_item(alloc, numbers)?),
+        from: None,
     })
 }
 
@@ -70,6 +108,8 @@ fn got(alloc: Global, bytes: &[u8]) -> Result<Reply, AllocError> {
         count: bytes.len(),
         bytes: Bytes::new(Vec::from_slice(alloc, bytes)?),
         flags: MsgFlags(0),
+        control: Bytes::new(Vec::new(alloc)),
+        from: None,
     })
 }
 
@@ -153,6 +193,10 @@ enum Asked {
     /// So many bytes `x`.
     SendMany(u32, usize),
     Recv(u32, usize, u8),
+    /// A send of one byte `x` with these rights.
+    Pass(u32, &'static [u32]),
+    /// A receive of one byte with this control space, by these flags.
+    Take(u32, usize, u8),
     Close(u32),
     Unlink(&'static [u8]),
     Exit,
@@ -167,6 +211,8 @@ enum Told {
     Got(&'static [u8]),
     /// So many bytes `x`.
     GotMany(usize),
+    /// One byte `x` with these flags and these rights.
+    Taken(u8, &'static [u32]),
     Accepted(u32, At),
     Addr(At),
     Err(Errno),
@@ -220,6 +266,13 @@ fn request_of(alloc: Global, asked: &Asked) -> Result<Request, AllocError> {
         Asked::Send(fd, bytes, flags) => send(alloc, *fd, bytes, *flags)?,
         Asked::SendMany(fd, count) => send(alloc, *fd, &copies(alloc, *count)?, 0)?,
         Asked::Recv(fd, n, flags) => recv(*fd, *n, *flags),
+        Asked::Pass(fd, numbers) => pass(alloc, *fd, numbers)?,
+        Asked::Take(fd, space, flags) => Request::RecvMsg {
+            fd: Fd(*fd),
+            n: 1,
+            space: *space,
+            flags: MsgFlags(*flags),
+        },
         Asked::Close(fd) => Request::Close { fd: Fd(*fd) },
         Asked::Unlink(path) => unlink(alloc, path)?,
         Asked::Exit => Request::Exit,
@@ -235,6 +288,7 @@ fn reply_of(alloc: Global, told: &Told) -> Result<Reply, AllocError> {
         Told::Count(count) => Reply::Count(*count),
         Told::Got(bytes) => got(alloc, bytes)?,
         Told::GotMany(count) => got(alloc, &copies(alloc, *count)?)?,
+        Told::Taken(flags, numbers) => taken(alloc, *flags, numbers)?,
         Told::Accepted(fd, at) => Reply::Accepted(Fd(*fd), addr_of(alloc, at)?),
         Told::Addr(at) => Reply::Addr(addr_of(alloc, at)?),
         Told::Err(errno) => refused(*errno),

@@ -55,16 +55,6 @@ pub installed_counted : (k : ℕ) (cloexec : Bool) (ns ds : List ℕ) (T : List 
     table_refs k (installed cloexec ns ds T) ≡ table_refs k T + times k (take (length ns) ds)
 installed_counted k cloexec ns ds T front enough = all_counted k cloexec ns ds (free_numbers T) T refl front enough
 
--- the numbers are those of the table
-pub free_below : (ns : List ℕ) (T : List (Option Descriptor)) → ns ≡ take (length ns) (free_numbers T) → AllByRecursion (λ n. n < length T) ns
-free_below ns T front = rw front (front_below (length ns) 0 T (length T) (omega arith))
-  where
-    front_below : (m i : ℕ) (xs : List (Option Descriptor)) (limit : ℕ) → i + length xs ≤ limit → AllByRecursion (λ n. n < limit) (take m (empty_places_from i xs))
-    front_below zero i xs limit fits = tt
-    front_below (suc m) i [] limit fits = tt
-    front_below (suc m) i (None ∷ xs) limit fits = (omega (arith, fits), front_below m (suc i) xs limit (omega (arith, fits)))
-    front_below (suc m) i (Some x ∷ xs) limit fits = front_below (suc m) (suc i) xs limit (omega (arith, fits))
-
 -- the numbers as the code has them
 pub as_front : (numbers : List Fd) (free : List ℕ) → map (λ fd. Fd.0 fd) numbers ≡ take (length numbers) free → map (λ fd. Fd.0 fd) numbers ≡ take (length (map (λ fd. Fd.0 fd) numbers)) free
 as_front numbers free h = h ∙ ap (λ n. take n free) (sym (length-map numbers (λ fd. Fd.0 fd)))

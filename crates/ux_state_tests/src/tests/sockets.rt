@@ -50,6 +50,64 @@ fn take<O: FileObject>(
     Ok(())
 }
 
+/// Delivers a description to process 1, at the lowest number.
+fn deliver<O: FileObject>(
+    rt: &impl Abort,
+    alloc: Global,
+    state: &mut State<O>,
+    passed: u128,
+    cloexec: bool,
+) -> Result<(), AllocError> {
+    let passed = DescriptionId::new(passed);
+    assert!(rt; state.is_live(Pid(1)));
+    assert!(rt; state.count(passed) > 0);
+    let rights = RefList::from_slice(alloc, &[passed])?;
+    let numbers = state.table(Pid(1)).lowest_numbers(alloc, 1)?;
+    state.install_rights(Pid(1), &numbers, rights.as_slice(), cloexec)
+}
+
+/// Sees how many references a description has.
+fn expect_count<O: FileObject>(rt: &impl Abort, state: &State<O>, id: u128, count: u64) {
+    assert!(rt; state.count(DescriptionId::new(id)) == count);
+}
+
+/// Delivers where there is no memory left, and nothing has come of it.
+fn refuse_delivery<O: FileObject>(
+    rt: &impl Abort,
+    alloc: Global,
+    state: &mut State<O>,
+    passed: u128,
+) -> Result<(), AllocError> {
+    let hoard = Hoard::take_all(alloc)?;
+    let delivered = deliver(rt, alloc, state, passed, false);
+    drop(hoard);
+    assert!(rt; delivered.is_err());
+    Ok(())
+}
+
+#[test]
+fn delivered_rights_are_counted(rt: HostRuntime) -> Result<(), Fail> {
+    let alloc = rt.alloc();
+    let mut state = start_with_files(&rt, alloc)?;
+    let s = &mut state;
+    open(&rt, s, 1, 0, Mode::Both, Ok(Fd(0)));
+    open_pair(&rt, s, 1, 2);
+    close(&rt, s, 1, 1);
+    refuse_delivery(&rt, alloc, s, 0)?;
+    expect_count(&rt, s, 0, 1);
+    expect_socket(&rt, s, 1, Err(Errno::EBADF));
+    deliver(&rt, alloc, s, 0, true)?;
+    deliver(&rt, alloc, s, 2, false)?;
+    expect_count(&rt, s, 0, 2);
+    expect_count(&rt, s, 2, 2);
+    expect_socket(&rt, s, 1, Err(Errno::ENOTSOCK));
+    expect_socket(&rt, s, 3, Ok((2, 1)));
+    close(&rt, s, 1, 0);
+    settle(&rt, s, &[]);
+    expect_count(&rt, s, 0, 1);
+    Ok(())
+}
+
 #[test]
 fn a_pair_has_messages_and_a_reset(rt: HostRuntime) -> Result<(), Fail> {
     let alloc = rt.alloc();

@@ -8,14 +8,15 @@ use Rattle.ux_state.specs.contracts.process.Process as process
 use Rattle.ux_state.proofs.Lookups.{at_view}
 use Rattle.ux_state.proofs.TableCounts.{table_kept}
 use Rattle.ux_state.proofs.Opening.{entries_put, same_places, table_is}
-use Rattle.ux_state.proofs.Installed.{installed_counted, free_below, as_front}
+use Rattle.ux_fdtable.proofs.Installing.{free_below}
+use Rattle.ux_state.proofs.Installed.{installed_counted, as_front}
 use Rattle.ux_state.proofs.state.State.install_rights.Goals as goal
 
 pub install_all-requires : goal.install_all-requires
 install_all-requires g c =
     let table = table_is _ c.args.self.now c.args.pid.0 c.index_mut-process.result.now (process.the_view c.process.inside) c.requires.live c.self.view_is c.index_mut-process.ensures.value c.process.view_is in
     let numbers = map (λ fd. fd.0) c.args.numbers.now in
-    free_below numbers c.process.inside.table (as_front c.args.numbers.now _ (c.requires.free ∙ ap (λ t. take (length c.args.numbers.now) (free_numbers t)) (sym table)))
+    free_below numbers (length c.args.numbers.now) c.process.inside.table (c.requires.free ∙ ap (λ t. take (length c.args.numbers.now) (free_numbers t)) (sym table))
 
 pub invariant_of-self-2 : goal.invariant_of-self-2
 invariant_of-self-2 g c =
