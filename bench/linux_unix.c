@@ -14,7 +14,7 @@
 #include <time.h>
 #include <unistd.h>
 
-enum { TURNS = 16, ROUNDS = 40, GREATEST = 65536, BACKLOG = 4, MOST_NAMES = 10000 };
+enum { TURNS = 16, ROUNDS = 40, GREATEST = 65536, BACKLOG = 4, MOST_NAMES = 10000, MOST_RIGHTS = 253 };
 
 static char bytes[GREATEST];
 static char path[] = "linux_unix.XXXXXX";
@@ -72,6 +72,30 @@ static void stream_1(void) { send_and_receive(1); }
 static void stream_64(void) { send_and_receive(64); }
 static void stream_4096(void) { send_and_receive(4096); }
 static void stream_65536(void) { send_and_receive(65536); }
+
+/* Passes the file so many times in one message, receives it, and closes what was received. */
+static void pass_and_receive(int count) {
+    static union {
+        char bytes[CMSG_SPACE(MOST_RIGHTS * sizeof(int))];
+        struct cmsghdr aligned;
+    } control;
+    struct iovec data = {.iov_base = bytes, .iov_len = 1};
+    struct msghdr message = {.msg_iov = &data, .msg_iovlen = 1, .msg_control = control.bytes};
+    message.msg_controllen = CMSG_SPACE(count * sizeof(int));
+    struct cmsghdr *item = CMSG_FIRSTHDR(&message);
+    item->cmsg_len = CMSG_LEN(count * sizeof(int));
+    item->cmsg_level = SOL_SOCKET;
+    item->cmsg_type = SCM_RIGHTS;
+    int *numbers = (int *)CMSG_DATA(item);
+    for (int i = 0; i < count; i++) numbers[i] = file;
+    must(sendmsg(pair[0], &message, 0) == 1);
+    message.msg_controllen = sizeof control.bytes;
+    must(recvmsg(pair[1], &message, 0) == 1 && item->cmsg_len == CMSG_LEN(count * sizeof(int)));
+    for (int i = 0; i < count; i++) must(close(numbers[i]) == 0);
+}
+
+static void rights_1(void) { pass_and_receive(1); }
+static void rights_253(void) { pass_and_receive(MOST_RIGHTS); }
 
 static void pair_and_closes(void) {
     make_pair();
@@ -176,6 +200,8 @@ static const struct calls ALL[] = {
     {"send and receive, 64 bytes", make_pair, stream_64, close_pair},
     {"send and receive, 4,096 bytes", make_pair, stream_4096, close_pair},
     {"send and receive, 65,536 bytes", make_pair, stream_65536, close_pair},
+    {"send and receive of 1 right, and its close", make_pair, rights_1, close_pair},
+    {"send and receive of 253 rights, and their closes", make_pair, rights_253, close_pair},
     {"pair and two closes", nothing, pair_and_closes, nothing},
     {"socket, connect, accept, two closes", make_listener, connect_and_accept, close_listener},
     {"open and close", nothing, open_and_close, nothing},

@@ -4,6 +4,7 @@ use anyhow::{Result, anyhow};
 use std::alloc::{AllocError, Global};
 use std::rt::Clock;
 use std::time::{Duration, Instant};
+use ux_cmsg::{Control, write_control};
 use ux_types::{Addr, Bytes, Fd, MsgFlags, OpenFlags, Request, Whence};
 
 /// How often the calls are made in one batch.
@@ -64,6 +65,35 @@ fn stream(alloc: Global, name: &'static str, length: usize) -> Result<Calls, All
     })
 }
 
+/// A message that passes the file so many times, its receive, and the closes of what was received.
+fn passing(alloc: Global, name: &'static str, count: u32) -> Result<Calls, AllocError> {
+    let files = vec![in alloc; Fd(0); count as usize]?;
+    let control = write_control(alloc, &Control::new(None, files))?;
+    let send = Request::SendMsg {
+        fd: Fd(1),
+        addr: None,
+        bytes: Bytes::new(vec![in alloc; 90; 1]?),
+        control: Bytes::new(control),
+        flags: MsgFlags(0),
+    };
+    let receive = Request::RecvMsg {
+        fd: Fd(2),
+        n: 1,
+        space: 2048,
+        flags: MsgFlags(0),
+    };
+    let mut measured = vec![in alloc; send, receive]?;
+    for number in 0..count {
+        measured.push(close(number.saturating_add(3)))?;
+    }
+    Ok(Calls {
+        name,
+        before: vec![in alloc; PAIR]?,
+        measured,
+        after: vec![in alloc; close(1), close(2)]?,
+    })
+}
+
 /// A socket that connects to a listener, the accept of its connection, and the closes of both ends. The
 /// listener, at number 1, stays.
 fn connection(alloc: Global, name: &'static str) -> Result<Calls, AllocError> {
@@ -119,6 +149,8 @@ fn socket_calls(alloc: Global) -> Result<Vec<Calls>, AllocError> {
         stream(alloc, "send and receive, 64 bytes", 64)?,
         stream(alloc, "send and receive, 4,096 bytes", 4096)?,
         stream(alloc, "send and receive, 65,536 bytes", 65_536)?,
+        passing(alloc, "send and receive of 1 right, and its close", 1)?,
+        passing(alloc, "send and receive of 253 rights, and their closes", 253)?,
         alone(alloc, "pair and two closes", pair),
         connection(alloc, "socket, connect, accept, two closes")?,
     ]?)
