@@ -1,18 +1,17 @@
 -- A send's address and its control data.
-use Rattle.std.proofs.Common.{◌≡◌, lit<, ℕ, ◌+◌, ◌<◌, ◌≤◌, ◌&&◌, map, Bool, true, false, cond, eqb, leb, List, [], ◌∷◌, ◌++◌, length, All, Result, Ok, Err, refl, ap, sym, ◌∙◌, subst, arith}
+use Rattle.std.proofs.Common.{◌≡◌, lit<, ℕ, ◌<◌, ◌≤◌, ◌&&◌, map, Bool, true, false, cond, eqb, leb, List, [], ◌∷◌, length, All, Ok, Err, refl, ap, sym, ◌∙◌, subst, arith}
 use Rattle.std.specs.Prelude.{decimal, Option, Some, None}
 use Rattle.std.specs.List.{AllByRecursion, slice_split, join_with_byte, list_all}
 use Rattle.std.specs.Char.{is_ascii_digit}
 use Rattle.std.specs.Str.{bytes_eq}
 use Rattle.std.proofs.lemmas.Bool.{and_parts, leb-true, eqb-true, ne_eqb}
-use Rattle.std.proofs.lemmas.List.{append-nil, length-map}
+use Rattle.std.proofs.lemmas.List.{length-map}
 use Rattle.std.proofs.lemmas.List.Elements.{All-from_recursion}
 use Rattle.std.proofs.lemmas.List.Splits.{slice_split_at, slice_split_none, length-slice_split, join_with_byte-slice_split}
 use Rattle.std.proofs.lemmas.Fmt.{digits_decimal}
 use Rattle.std.proofs.lemmas.Slice.Eq.{bytes_eq-Decides}
 use Rattle.ux_model.specs.Types.{Addr}
 use Rattle.ux_syntax.specs.declared.control.ControlWord.{ControlWord}
-use Rattle.ux_syntax.specs.declared.fault.Fault.{Fault}
 use Rattle.ux_syntax.specs.declared.fault.Fault.TheVariants.{BadLine}
 use Rattle.ux_syntax.specs.Trace.{dash, hex, addr_text, addr_or_dash, path_text, lettered}
 use Rattle.ux_syntax.specs.Spelling.{IsNumber, AreBytes, control_text, FitsControl, FitsAddrOrDash}
