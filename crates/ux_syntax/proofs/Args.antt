@@ -5,33 +5,19 @@ use Rattle.ux_model.specs.Types.{Request}
 use Rattle.ux_syntax.specs.declared.fault.Fault.{Fault}
 use Rattle.ux_syntax.specs.declared.fault.Fault.TheVariants.{BadLine}
 use Rattle.ux_syntax.specs.declared.calls.CallWord.{CallWord}
-use Rattle.ux_syntax.specs.Trace.{dash, word_text, request_word}
-use Rattle.ux_syntax.specs.Spelling.{Control, bare, Written, open_path, read_fd, write_fd, seek, dup_fd, dup_onto, set_flags, close, unlink_path, socket, pair, bind, listen, connect, accept, sock_name, peer_name, send, recv, exit, meaning, control_text, args_of, FitsControl, FitsCall}
-use Rattle.ux_syntax.specs.Reading.{◌>>=◌, exactly, dash_at, control_at, open_at, read_at, write_at, lseek_at, dup_at, dup2_at, set_flags_at, close_at, unlink_at, socket_at, pair_at, bind_at, listen_at, connect_at, accept_at, sock_name_at, peer_name_at, send_at, recv_at, exit_at, all_words, word_at, args_at}
-use Rattle.ux_syntax.proofs.Rows.{IsSolid, IsBadOrOk, IsKind, IsRow, bind_ok, bind_bad, solid_from, ends_row, row_then, exactly_kind, number_kind}
-use Rattle.ux_syntax.proofs.Bytes.{dash_solid, hex_kind}
+use Rattle.ux_syntax.specs.Trace.{word_text, request_word}
+use Rattle.ux_syntax.specs.Spelling.{Written, open_path, read_fd, write_fd, seek, dup_fd, dup_onto, set_flags, close, unlink_path, socket, pair, bind, listen, connect, accept, sock_name, peer_name, send, recv, exit, meaning, args_of, FitsCall}
+use Rattle.ux_syntax.specs.Reading.{◌>>=◌, exactly, open_at, read_at, write_at, lseek_at, dup_at, dup2_at, set_flags_at, close_at, unlink_at, socket_at, pair_at, bind_at, listen_at, connect_at, accept_at, sock_name_at, peer_name_at, send_at, recv_at, exit_at, all_words, word_at, args_at}
+use Rattle.ux_syntax.proofs.Rows.{IsSolid, IsBadOrOk, IsKind, IsRow, solid_from, ends_row, row_then, exactly_kind, number_kind}
+use Rattle.ux_syntax.proofs.Bytes.{hex_kind}
 use Rattle.ux_syntax.proofs.Flags.{open_flags_kind, msg_flags_kind}
 use Rattle.ux_syntax.proofs.Choices.{chosen_takes, chosen_bad, mode_kind, whence_kind}
 use Rattle.ux_syntax.proofs.Offsets.{offset_kind, backlog_kind}
 use Rattle.ux_syntax.proofs.Names.{path_kind, addr_kind}
-
-dash_kind : IsKind dash_at (λ _. dash) (λ _. Unit {0})
-dash_kind = exactly_kind dash dash_solid
+use Rattle.ux_syntax.proofs.Controls.{addr_or_dash_kind, control_kind}
 
 stream_kind : IsKind (exactly (codes "stream")) (λ _. codes "stream") (λ _. Unit {0})
 stream_kind = exactly_kind (codes "stream") (solid_from (codes "stream") refl)
-
-control_takes : (w : List ℕ) (c : Control) → control_at w ≡ Ok c → (w ≡ control_text c) × FitsControl c
-control_takes w bare e = let a = bind_ok (dash_at w) (λ x. Ok bare) bare e in dash_kind.takes w a.0 a.1
-
-control_again : (c : Control) → FitsControl c → control_at (control_text c) ≡ Ok c
-control_again bare f = rw (dash_kind.again tt tt) refl
-
-control_solid : (c : Control) → FitsControl c → IsSolid (control_text c)
-control_solid bare f = dash_solid
-
-control_kind : IsKind control_at control_text FitsControl
-control_kind = record { takes = control_takes; bad = λ w. bind_bad (dash_at w) (λ x. Ok bare) (dash_kind.bad w) (λ x. tt); again = control_again; solid = control_solid }
 
 -- the request is what some call means whose words these are
 pub record Spelled (word : CallWord) (ws : List (List ℕ)) (r : Request) : Type 0 where
@@ -80,7 +66,7 @@ args_read CallWord.Connect = made CallWord.Connect (λ x. connect x.0 x.1.0) (ro
 args_read CallWord.Accept = made CallWord.Accept (λ x. accept x.0 x.1.0) (row_then number_kind (row_then open_flags_kind ends_row)) (λ x f. (refl, refl, (f.0, f.1.0)))
 args_read CallWord.SockName = made CallWord.SockName (λ x. sock_name x.0) (row_then number_kind ends_row) (λ x f. (refl, refl, f.0))
 args_read CallWord.PeerName = made CallWord.PeerName (λ x. peer_name x.0) (row_then number_kind ends_row) (λ x f. (refl, refl, f.0))
-args_read CallWord.Send = made CallWord.Send (λ x. send x.0 x.1.1.0 x.1.1.1.0 x.1.1.1.1.0) (row_then number_kind (row_then dash_kind (row_then hex_kind (row_then control_kind (row_then msg_flags_kind ends_row))))) (λ x f. (refl, refl, (f.0, f.1.1.0, f.1.1.1.0, f.1.1.1.1.0)))
+args_read CallWord.Send = made CallWord.Send (λ x. send x.0 x.1.0 x.1.1.0 x.1.1.1.0 x.1.1.1.1.0) (row_then number_kind (row_then addr_or_dash_kind (row_then hex_kind (row_then control_kind (row_then msg_flags_kind ends_row))))) (λ x f. (refl, refl, (f.0, f.1.0, f.1.1.0, f.1.1.1.0, f.1.1.1.1.0)))
 args_read CallWord.Recv = made CallWord.Recv (λ x. recv x.0 x.1.0 x.1.1.0 x.1.1.1.0) (row_then number_kind (row_then number_kind (row_then number_kind (row_then msg_flags_kind ends_row)))) (λ x f. (refl, refl, (f.0, f.1.0, f.1.1.0, f.1.1.1.0)))
 args_read CallWord.Exit = made CallWord.Exit (λ x. exit) ends_row (λ x f. (refl, refl, tt))
 args_read CallWord.Off = λ ws. refl
@@ -104,7 +90,8 @@ args_again (connect fd addr) f = rw (number_kind.again fd f.0, addr_kind.again a
 args_again (accept fd flags) f = rw (number_kind.again fd f.0, open_flags_kind.again flags f.1) refl
 args_again (sock_name fd) f = rw (number_kind.again fd f) refl
 args_again (peer_name fd) f = rw (number_kind.again fd f) refl
-args_again (send fd bytes control flags) f = rw (number_kind.again fd f.0, hex_kind.again bytes f.1, control_kind.again control f.2, msg_flags_kind.again flags f.3) refl
+args_again (send fd addr bytes control flags) f =
+    rw (number_kind.again fd f.0, addr_or_dash_kind.again addr f.1, hex_kind.again bytes f.2, control_kind.again control f.3, msg_flags_kind.again flags f.4) refl
 args_again (recv fd n space flags) f = rw (number_kind.again fd f.0, number_kind.again n f.1, number_kind.again space f.2, msg_flags_kind.again flags f.3) refl
 args_again exit f = refl
 
@@ -126,7 +113,8 @@ args_solid (connect fd addr) f = (number_kind.solid fd f.0, (addr_kind.solid add
 args_solid (accept fd flags) f = (number_kind.solid fd f.0, (open_flags_kind.solid flags f.1, tt))
 args_solid (sock_name fd) f = (number_kind.solid fd f, tt)
 args_solid (peer_name fd) f = (number_kind.solid fd f, tt)
-args_solid (send fd bytes control flags) f = (number_kind.solid fd f.0, (dash_solid, (hex_kind.solid bytes f.1, (control_kind.solid control f.2, (msg_flags_kind.solid flags f.3, tt)))))
+args_solid (send fd addr bytes control flags) f =
+    (number_kind.solid fd f.0, (addr_or_dash_kind.solid addr f.1, (hex_kind.solid bytes f.2, (control_kind.solid control f.3, (msg_flags_kind.solid flags f.4, tt)))))
 args_solid (recv fd n space flags) f = (number_kind.solid fd f.0, (number_kind.solid n f.1, (number_kind.solid space f.2, (msg_flags_kind.solid flags f.3, tt))))
 args_solid exit f = tt
 
@@ -150,7 +138,7 @@ word_facts (connect fd addr) = (refl, refl)
 word_facts (accept fd flags) = (refl, refl)
 word_facts (sock_name fd) = (refl, refl)
 word_facts (peer_name fd) = (refl, refl)
-word_facts (send fd bytes control flags) = (refl, refl)
+word_facts (send fd addr bytes control flags) = (refl, refl)
 word_facts (recv fd n space flags) = (refl, refl)
 word_facts exit = (refl, refl)
 

@@ -64,7 +64,7 @@ unfolding hex_at
 hex_takes [] bs e = absurd cc
 hex_takes (c ∷ cs) bs e = hex_chosen (c ∷ cs) bs (bytes_eq (c ∷ cs) dash) (omega arith) (bytes_eq-Decides (c ∷ cs) dash) e
 
-no_dash : (a b : ℕ) (cs : List ℕ) (t : Bool) → Decides t (a ∷ b ∷ cs ≡ dash) → t ≡ false
+pub no_dash : (a b : ℕ) (cs : List ℕ) (t : Bool) → Decides t (a ∷ b ∷ cs ≡ dash) → t ≡ false
 no_dash a b cs true d = let e : a ∷ b ∷ cs ≡ dash = d.0 refl in absurd (omega (arith, ap (λ (x : List ℕ). length x) e))
 no_dash a b cs false d = refl
 
@@ -86,7 +86,7 @@ hex_solid (b ∷ bs) f = pairs_solid (b ∷ bs) f
 pub digit_bad : (c : ℕ) → IsBadOrOk (digit_at c)
 digit_bad c = either_bad (leb 48 c && leb c 57) (Ok (c - 48)) _ tt (guard_bad (leb 97 c && leb c 102) (c - 97 + 10))
 
-pairs_bad : (w : List ℕ) → IsBadOrOk (pairs_at w)
+pub pairs_bad : (w : List ℕ) → IsBadOrOk (pairs_at w)
 pairs_bad [] = tt
 pairs_bad (h ∷ []) = refl
 pairs_bad (h ∷ l ∷ rest) = bind_bad (digit_at h) _ (digit_bad h) (λ high. bind_bad (digit_at l) _ (digit_bad l) (λ low. bind_bad (pairs_at rest) _ (pairs_bad rest) (λ bytes. tt)))

@@ -7,6 +7,7 @@ pub mod Flags
 pub mod Choices
 pub mod Offsets
 pub mod Names
+pub mod Controls
 pub mod Args
 pub mod HeaderLines
 pub mod Items

@@ -245,7 +245,7 @@ is_no_end (connect fd addr) = refl
 is_no_end (accept fd flags) = refl
 is_no_end (sock_name fd) = refl
 is_no_end (peer_name fd) = refl
-is_no_end (send fd bytes control flags) = refl
+is_no_end (send fd addr bytes control flags) = refl
 is_no_end (recv fd n space flags) = refl
 is_no_end exit = refl
 

@@ -1,9 +1,9 @@
 -- Texts of several parts, as far as a loop has come.
 use Rattle.std.specs.Prelude.{decimal}
-use Rattle.std.proofs.Common.{◌≡◌, ℕ, ◌+◌, ◌-◌, ◌^◌, ◌<◌, get_or, take, codes, Bool, true, false, cond, List, [], ◌∷◌, ◌++◌, length, refl, ap, sym, append_assoc, arith}
+use Rattle.std.proofs.Common.{◌≡◌, ℕ, ◌+◌, ◌-◌, ◌^◌, ◌<◌, get_or, take, map, codes, Bool, true, false, cond, List, [], ◌∷◌, ◌++◌, length, refl, ap, sym, ◌∙◌, append_assoc, arith}
 use Rattle.std.specs.List.{flat_map, join_with_byte}
 use Rattle.std.specs.Fmt.{padded_integral, format_spec, digits}
-use Rattle.std.proofs.lemmas.List.{append-nil, take_more, flat_map_more}
+use Rattle.std.proofs.lemmas.List.{append-nil, map-append, take_more, map_more, flat_map_more}
 use Rattle.std.proofs.lemmas.Fmt.{hex_byte}
 use Rattle.ux_syntax.specs.Trace.{digit_pair, hex, set_names, spaced, closed_text}
 
@@ -11,14 +11,14 @@ pub hex_is : (bs : List ℕ) → 0 < length bs → flat_map digit_pair bs ≡ he
 hex_is [] h = absurd (omega arith)
 hex_is (b ∷ bs) h = refl
 
--- what stands before the next name
-abbrev pub bar : List (List ℕ) → List ℕ
-bar [] = []
-bar (name ∷ names) = 124 ∷ []
+-- what stands between these texts and a next one, where this byte joins them
+abbrev pub mark : ℕ → List (List ℕ) → List ℕ
+mark byte [] = []
+mark byte (text ∷ texts) = byte ∷ []
 
-bar_more : (names : List (List ℕ)) (name : List ℕ) → 124 ∷ [] ≡ bar (names ++ name ∷ [])
-bar_more [] name = refl
-bar_more (a ∷ names) name = refl
+mark_more : (byte : ℕ) (texts : List (List ℕ)) (text : List ℕ) → byte ∷ [] ≡ mark byte (texts ++ text ∷ [])
+mark_more byte [] text = refl
+mark_more byte (a ∷ texts) text = refl
 
 pub set_names_more : (rows : List (Bool × List ℕ)) (row : Bool × List ℕ) → set_names (rows ++ row ∷ []) ≡ set_names rows ++ set_names (row ∷ [])
 set_names_more [] row = refl
@@ -27,10 +27,10 @@ set_names_more (first ∷ rows) row = elim first.0 as (λ b. cond b (first.1 ∷
   | false ↦ set_names_more rows row
 ]
 
-pub join_more : (names : List (List ℕ)) (name : List ℕ) → join_with_byte 124 (names ++ name ∷ []) ≡ join_with_byte 124 names ++ (bar names ++ name)
-join_more [] name = refl
-join_more (a ∷ []) name = refl
-join_more (a ∷ b ∷ names) name = rw (join_more (b ∷ names) name) (sym (append_assoc a (124 ∷ join_with_byte 124 (b ∷ names)) (124 ∷ name)))
+join_more : (byte : ℕ) (texts : List (List ℕ)) (text : List ℕ) → join_with_byte byte (texts ++ text ∷ []) ≡ join_with_byte byte texts ++ (mark byte texts ++ text)
+join_more byte [] text = refl
+join_more byte (a ∷ []) text = refl
+join_more byte (a ∷ b ∷ texts) text = rw (join_more byte (b ∷ texts) text) (sym (append_assoc a (byte ∷ join_with_byte byte (b ∷ texts)) (byte ∷ text)))
 
 -- one more byte
 pub pairs_more : (bytes : List ℕ) (i : ℕ) → i < length bytes → get_or bytes i 0 < 256
@@ -47,11 +47,26 @@ closed_is (n ∷ ns) h = refl
 
 -- one more name, which is set
 pub name_more : (rows more : List (Bool × List ℕ)) (row : Bool × List ℕ) → more ≡ rows ++ row ∷ [] → row.0 ≡ true
-    → (join_with_byte 124 (set_names rows) ++ (bar (set_names rows) ++ row.1) ≡ join_with_byte 124 (set_names more)) × (124 ∷ [] ≡ bar (set_names more))
+    → (join_with_byte 124 (set_names rows) ++ (mark 124 (set_names rows) ++ row.1) ≡ join_with_byte 124 (set_names more)) × (124 ∷ [] ≡ mark 124 (set_names more))
 name_more rows more row e set =
     let step : set_names more ≡ set_names rows ++ row.1 ∷ [] = rw (e, set_names_more rows row, set) refl in
-    rw step (sym (join_more (set_names rows) row.1), bar_more (set_names rows) row.1)
+    rw step (sym (join_more 124 (set_names rows) row.1), mark_more 124 (set_names rows) row.1)
 
 -- one more name, which is not set
 pub name_skipped : (rows more : List (Bool × List ℕ)) (row : Bool × List ℕ) → more ≡ rows ++ row ∷ [] → row.0 ≡ false → set_names rows ≡ set_names more
 name_skipped rows more row e set = rw (e, set_names_more rows row, set) (sym (append-nil (set_names rows)))
+
+-- ---- descriptor numbers, joined by commas
+
+abbrev pub number_texts : {X : Type 0} → (X → ℕ) → List X → List (List ℕ)
+number_texts number xs = map decimal (map number xs)
+
+-- one more number
+pub rights_more : {X : Type 0} (number : X → ℕ) (xs : List X) (i : ℕ) (d : X) → i < length xs
+    → (join_with_byte 44 (number_texts number (take i xs)) ++ (mark 44 (number_texts number (take i xs)) ++ decimal (number (get_or xs i d)))
+    ≡ join_with_byte 44 (number_texts number (take (i + 1) xs))) × (44 ∷ [] ≡ mark 44 (number_texts number (take (i + 1) xs)))
+rights_more number xs i d lt =
+    let before = number_texts number (take i xs) in
+    let text = decimal (number (get_or xs i d)) in
+    let step : number_texts number (take (i + 1) xs) ≡ before ++ text ∷ [] = ap (map decimal) (map_more number xs i d lt) ∙ map-append decimal (map number (take i xs)) (number (get_or xs i d) ∷ []) in
+    rw step (sym (join_more 44 before text), mark_more 44 before text)

@@ -10,12 +10,13 @@ use Rattle.ux_syntax.specs.declared.fault.Fault.{Fault}
 use Rattle.ux_syntax.specs.declared.fault.Fault.TheVariants.{BadLine, UnknownProcess, TooLong}
 use Rattle.ux_syntax.specs.declared.fault.ScriptFault.{ScriptFault}
 use Rattle.ux_syntax.specs.declared.calls.CallWord.{CallWord}
+use Rattle.ux_syntax.specs.declared.control.ControlWord.{ControlWord}
 use Rattle.ux_syntax.specs.declared.script.ObjectLine.{ObjectLine}
 use Rattle.ux_syntax.specs.declared.script.Header.{Header}
 use Rattle.ux_syntax.specs.declared.script.Line.{Line}
 use Rattle.ux_syntax.specs.declared.reading.Item.{Item}
 use Rattle.ux_syntax.specs.Trace.{dash, stands, word_text}
-use Rattle.ux_syntax.specs.Spelling.{Plan, Control, bare, open_path, read_fd, write_fd, seek, dup_fd, dup_onto, set_flags, close, unlink_path, socket, pair, bind, listen, connect, accept, sock_name, peer_name, send, recv, exit, meaning, mode_text, whence_text, kind_text, is_meant}
+use Rattle.ux_syntax.specs.Spelling.{Plan, open_path, read_fd, write_fd, seek, dup_fd, dup_onto, set_flags, close, unlink_path, socket, pair, bind, listen, connect, accept, sock_name, peer_name, send, recv, exit, meaning, mode_text, whence_text, kind_text, is_meant}
 use Rattle.ux_syntax.specs.Turns.{has_exited, is_known}
 
 infixl 10 ◌>>=◌
@@ -147,6 +148,36 @@ addr_at w =
     else if (letter_at 112 w).0 then (path_at w >>= λ name. Ok (Addr.Path name))
     else (lettered_at 97 w >>= λ name. Ok (Addr.Abstract name))
 
+-- an address, or a dash for none
+unfoldable pub addr_or_dash_at : List ℕ → Result (Option Addr) Fault
+addr_or_dash_at w = if bytes_eq w dash then Ok None else (addr_at w >>= λ addr. Ok (Some addr))
+
+-- pairs of digits, one at least
+abbrev pub some_pairs_at : List ℕ → Result (List ℕ) Fault
+some_pairs_at [] = Err BadLine
+some_pairs_at (c ∷ cs) = pairs_at (c ∷ cs)
+
+-- the numbers that these words spell
+abbrev pub each_number_at : List (List ℕ) → Result (List ℕ) Fault
+each_number_at [] = Ok []
+each_number_at (w ∷ ws) = do
+  number ← number_at w
+  numbers ← each_number_at ws
+  Ok (number ∷ numbers)
+
+-- numbers joined by commas, one at least
+unfoldable pub numbers_at : List ℕ → Result (List ℕ) Fault
+numbers_at w = each_number_at (slice_split (λ b. b == 44) w)
+
+-- a dash, or bytes behind x:, or descriptor numbers behind r:
+unfoldable pub control_at : List ℕ → Result ControlWord Fault
+control_at [] = Err BadLine
+control_at (c ∷ []) = if c == 45 then Ok ControlWord.Bare else Err BadLine
+control_at (c ∷ colon ∷ rest) =
+    if c == 120 && colon == 58 then (some_pairs_at rest >>= λ bytes. Ok (ControlWord.Raw bytes))
+    else if c == 114 && colon == 58 then (numbers_at rest >>= λ numbers. Ok (ControlWord.Rights numbers))
+    else Err BadLine
+
 unfoldable pub open_flags_at : List ℕ → Result OpenFlags Fault
 open_flags_at [] = Err BadLine
 open_flags_at (c ∷ cs) =
@@ -178,13 +209,6 @@ ends (w ∷ ws) = Err BadLine
 infixr 20 ◌>>◌
 abbrev pub ◌>>◌ : {A B : Type 0} → (List ℕ → Result A Fault) → (List (List ℕ) → Result B Fault) → List (List ℕ) → Result (A × B) Fault
 (kind >> row) ws = one kind ws >>= λ x. row x.1 >>= λ y. Ok (x.0, y)
-
-abbrev pub dash_at : List ℕ → Result (Unit {0}) Fault
-dash_at w = exactly dash w
-
--- control data as it is written
-abbrev pub control_at : List ℕ → Result Control Fault
-control_at w = dash_at w >>= λ x. Ok bare
 
 unfoldable pub open_at : List (List ℕ) → Result Request Fault
 open_at ws = (path_at >> mode_at >> open_flags_at >> ends) ws >>= λ x. Ok (meaning (open_path x.0 x.1.0 x.1.1.0))
@@ -238,7 +262,7 @@ unfoldable pub peer_name_at : List (List ℕ) → Result Request Fault
 peer_name_at ws = (number_at >> ends) ws >>= λ x. Ok (meaning (peer_name x.0))
 
 unfoldable pub send_at : List (List ℕ) → Result Request Fault
-send_at ws = (number_at >> dash_at >> hex_at >> control_at >> msg_flags_at >> ends) ws >>= λ x. Ok (meaning (send x.0 x.1.1.0 x.1.1.1.0 x.1.1.1.1.0))
+send_at ws = (number_at >> addr_or_dash_at >> hex_at >> control_at >> msg_flags_at >> ends) ws >>= λ x. Ok (meaning (send x.0 x.1.0 x.1.1.0 x.1.1.1.0 x.1.1.1.1.0))
 
 unfoldable pub recv_at : List (List ℕ) → Result Request Fault
 recv_at ws = (number_at >> number_at >> number_at >> msg_flags_at >> ends) ws >>= λ x. Ok (meaning (recv x.0 x.1.0 x.1.1.0 x.1.1.1.0))

@@ -1,5 +1,5 @@
 -- Which lines spell which script.
-use Rattle.std.specs.Prelude.{◌≡◌, ◌≢◌, ℕ, ◌<◌, ◌≤◌, ◌^◌, ◌-◌, ℤ, pos, negsuc, take, Bool, true, false, List, [], ◌∷◌, ◌++◌, length, map, filter, codes, decimal, if◌then◌else◌, ◌==◌, not, slice_index_or}
+use Rattle.std.specs.Prelude.{◌≡◌, ◌≢◌, ℕ, ◌<◌, ◌≤◌, ◌^◌, ◌-◌, ℤ, pos, negsuc, take, Bool, true, false, List, [], ◌∷◌, ◌++◌, length, map, filter, codes, decimal, Option, Some, None, if◌then◌else◌, ◌==◌, not, slice_index_or}
 use Rattle.std.specs.List.{AllByRecursion, slice_split, join_with_byte}
 use Rattle.std.specs.Fmt.{signed_decimal}
 use Rattle.ux_model.specs.Types.{Name, Addr, OpenFlags, MsgFlags, Mode, Whence, ProcSpec, Request}
@@ -7,12 +7,14 @@ use Rattle.ux_model.specs.Flags.{has_bits}
 use Rattle.ux_model.specs.Process.{fd_of}
 pub use Rattle.ux_model.specs.History.{is_exit, is_off}
 use Rattle.ux_object.specs.declared.ObjKind.{ObjKind}
+use Rattle.ux_model.specs.Delivery.{rights_bytes}
+use Rattle.ux_syntax.specs.declared.control.ControlWord.{ControlWord}
 use Rattle.ux_syntax.specs.declared.fault.Fault.{Fault}
 use Rattle.ux_syntax.specs.declared.script.ObjectLine.{ObjectLine}
 use Rattle.ux_syntax.specs.declared.script.Header.{Header}
 use Rattle.ux_syntax.specs.declared.script.Line.{Line}
 use Rattle.ux_syntax.specs.declared.script.Script.{Script}
-use Rattle.ux_syntax.specs.Trace.{dash, hex, path_text, addr_text, word_text, request_word}
+use Rattle.ux_syntax.specs.Trace.{dash, hex, path_text, addr_text, addr_or_dash, raw_text, rights_text, word_text, request_word}
 
 -- ---- what a script says
 
@@ -39,9 +41,12 @@ procs_of (Header.Proc p ∷ hs) = p ∷ procs_of hs
 
 -- ---- calls as they are written
 
--- Control data as it is written. Several writings may come to stand for the same bytes.
-pub data Control : Type 0 where
-  bare : Control
+-- The bytes of a control buffer, of which several writings may stand for the same: none, those that are written out, or one item of
+-- descriptor numbers.
+abbrev pub control_buffer : ControlWord → List ℕ
+control_buffer ControlWord.Bare = []
+control_buffer (ControlWord.Raw bytes) = bytes
+control_buffer (ControlWord.Rights numbers) = rights_bytes numbers
 
 pub data Written : Type 0 where
   open_path : (path : Name) → (mode : Mode) → (flags : OpenFlags) → Written
@@ -61,7 +66,7 @@ pub data Written : Type 0 where
   accept : (fd : ℕ) → (flags : OpenFlags) → Written
   sock_name : (fd : ℕ) → Written
   peer_name : (fd : ℕ) → Written
-  send : (fd : ℕ) → (bytes : List ℕ) → (control : Control) → (flags : MsgFlags) → Written
+  send : (fd : ℕ) → (addr : Option Addr) → (bytes : List ℕ) → (control : ControlWord) → (flags : MsgFlags) → Written
   recv : (fd n space : ℕ) → (flags : MsgFlags) → Written
   exit : Written
 
@@ -84,7 +89,7 @@ meaning (connect fd addr) = Request.Connect (fd_of fd) addr
 meaning (accept fd flags) = Request.Accept (fd_of fd) flags
 meaning (sock_name fd) = Request.GetSockName (fd_of fd)
 meaning (peer_name fd) = Request.GetPeerName (fd_of fd)
-meaning (send fd bytes control flags) = Request.SendMsg (fd_of fd) bytes flags
+meaning (send fd addr bytes control flags) = Request.SendMsg (fd_of fd) addr bytes (control_buffer control) flags
 meaning (recv fd n space flags) = Request.RecvMsg (fd_of fd) n space flags
 meaning exit = Request.Exit
 
@@ -98,8 +103,10 @@ line_of t = record { pid = record { 0 = t.pid }; request = meaning t.call }
 
 -- ---- words
 
-abbrev pub control_text : Control → List ℕ
-control_text bare = dash
+abbrev pub control_text : ControlWord → List ℕ
+control_text ControlWord.Bare = dash
+control_text (ControlWord.Raw bytes) = raw_text bytes
+control_text (ControlWord.Rights numbers) = rights_text numbers
 
 abbrev pub letter : Bool → ℕ → List ℕ
 letter b c = if b then c ∷ [] else []
@@ -153,7 +160,7 @@ args_of (connect fd addr) = decimal fd ∷ addr_text addr ∷ []
 args_of (accept fd flags) = decimal fd ∷ open_flags flags ∷ []
 args_of (sock_name fd) = decimal fd ∷ []
 args_of (peer_name fd) = decimal fd ∷ []
-args_of (send fd bytes control flags) = decimal fd ∷ dash ∷ hex bytes ∷ control_text control ∷ msg_flags flags ∷ []
+args_of (send fd addr bytes control flags) = decimal fd ∷ addr_or_dash addr ∷ hex bytes ∷ control_text control ∷ msg_flags flags ∷ []
 args_of (recv fd n space flags) = decimal fd ∷ decimal n ∷ decimal space ∷ msg_flags flags ∷ []
 args_of exit = []
 
@@ -199,8 +206,11 @@ IsNumber n = n < 2 ^ 32
 abbrev pub AreBytes : List ℕ → Type 0
 AreBytes bs = AllByRecursion (λ b. b < 256) bs
 
-abbrev pub FitsControl : Control → Type 0
-FitsControl bare = Unit {0}
+-- bytes that are written out are one at least, and so are descriptor numbers
+abbrev pub FitsControl : ControlWord → Type 0
+FitsControl ControlWord.Bare = Unit {0}
+FitsControl (ControlWord.Raw bytes) = (0 < length bytes) × AreBytes bytes
+FitsControl (ControlWord.Rights numbers) = (0 < length numbers) × AllByRecursion IsNumber numbers
 
 -- the flags that have a letter
 abbrev pub FitsOpenFlags : OpenFlags → Type 0
@@ -227,6 +237,11 @@ FitsAddr Addr.Unnamed = Unit {0}
 FitsAddr (Addr.Path name) = AreBytes name
 FitsAddr (Addr.Abstract name) = AreBytes name
 
+-- an address, where there is one
+abbrev pub FitsAddrOrDash : Option Addr → Type 0
+FitsAddrOrDash None = Unit {0}
+FitsAddrOrDash (Some addr) = FitsAddr addr
+
 abbrev pub FitsCall : Written → Type 0
 FitsCall (open_path path mode flags) = AreBytes path × FitsOpenFlags flags
 FitsCall (read_fd fd n) = IsNumber fd × IsNumber n
@@ -245,7 +260,7 @@ FitsCall (connect fd addr) = IsNumber fd × FitsAddr addr
 FitsCall (accept fd flags) = IsNumber fd × FitsOpenFlags flags
 FitsCall (sock_name fd) = IsNumber fd
 FitsCall (peer_name fd) = IsNumber fd
-FitsCall (send fd bytes control flags) = IsNumber fd × AreBytes bytes × FitsControl control × FitsMsgFlags flags
+FitsCall (send fd addr bytes control flags) = IsNumber fd × FitsAddrOrDash addr × AreBytes bytes × FitsControl control × FitsMsgFlags flags
 FitsCall (recv fd n space flags) = IsNumber fd × IsNumber n × IsNumber space × FitsMsgFlags flags
 FitsCall exit = Unit {0}
 

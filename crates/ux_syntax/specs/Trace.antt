@@ -1,8 +1,10 @@
 -- The text of a history: a line for each entry.
-use Rattle.std.specs.Prelude.{ℕ, ◌+◌, ◌/◌, ◌%◌, Bool, false, List, [], ◌∷◌, ◌++◌, codes, decimal, if◌then◌else◌, ◌==◌, ◌&&◌, not, nat_le}
+use Rattle.std.specs.Prelude.{ℕ, ◌+◌, ◌/◌, ◌%◌, Bool, false, List, [], ◌∷◌, ◌++◌, map, Option, Some, None, codes, decimal, if◌then◌else◌, ◌==◌, ◌&&◌, not, nat_le}
 use Rattle.std.specs.Fmt.{digit_glyph}
 use Rattle.std.specs.List.{flat_map, join_with_byte}
-use Rattle.ux_model.specs.Types.{Name, Addr, Errno, MsgFlags, Request, Reply, Entry}
+use Rattle.ux_model.specs.Types.{Cred, Name, Addr, Errno, MsgFlags, Request, Reply, Entry}
+use Rattle.ux_model.specs.Control.{Control}
+use Rattle.ux_model.specs.ControlReading.{control_in}
 use Rattle.ux_model.specs.Flags.{has_bits}
 use Rattle.ux_syntax.specs.declared.calls.CallWord.{CallWord}
 
@@ -44,18 +46,24 @@ addr_text Addr.Unnamed = codes "u"
 addr_text (Addr.Path name) = path_text name
 addr_text (Addr.Abstract name) = lettered 97 name
 
+-- an address, or a dash for none
+abbrev pub addr_or_dash : Option Addr → List ℕ
+addr_or_dash None = dash
+addr_or_dash (Some addr) = addr_text addr
+
 -- the names of those that are set
 abbrev pub set_names : List (Bool × List ℕ) → List (List ℕ)
 set_names [] = []
 set_names (row ∷ rows) = if row.0 then row.1 ∷ set_names rows else set_names rows
 
--- names joined by a vertical bar, or a dash where there is none
-abbrev pub joined : List (List ℕ) → List ℕ
-joined [] = dash
-joined (name ∷ names) = join_with_byte 124 (name ∷ names)
+-- texts joined by this byte, or a dash where there is none
+abbrev pub joined : ℕ → List (List ℕ) → List ℕ
+joined byte [] = dash
+joined byte (text ∷ texts) = join_with_byte byte (text ∷ texts)
 
+-- names joined by a vertical bar, or a dash where there is none
 abbrev pub flags_text : List (Bool × List ℕ) → List ℕ
-flags_text rows = joined (set_names rows)
+flags_text rows = joined 124 (set_names rows)
 
 -- the flags that a receive sets, in the order of a trace
 abbrev pub received_rows : MsgFlags → List (Bool × List ℕ)
@@ -63,6 +71,44 @@ received_rows f = (has_bits f.0 2, codes "TRUNC") ∷ (has_bits f.0 16, codes "C
 
 abbrev pub received_flags_text : MsgFlags → List ℕ
 received_flags_text f = flags_text (received_rows f)
+
+-- x: and the bytes
+abbrev pub raw_text : List ℕ → List ℕ
+raw_text bytes = codes "x:" ++ hex bytes
+
+-- r: and descriptor numbers, joined by commas
+abbrev pub rights_text : List ℕ → List ℕ
+rights_text numbers = codes "r:" ++ join_with_byte 44 (map decimal numbers)
+
+-- c: and the process, the user and the group
+abbrev pub cred_text : Cred → List ℕ
+cred_text cred = codes "c:" ++ (decimal cred.pid.0 ++ (codes "," ++ (decimal cred.uid ++ (codes "," ++ decimal cred.gid))))
+
+abbrev pub cred_parts : Option Cred → List (List ℕ)
+cred_parts None = []
+cred_parts (Some cred) = cred_text cred ∷ []
+
+abbrev pub rights_parts : List ℕ → List (List ℕ)
+rights_parts [] = []
+rights_parts (n ∷ ns) = rights_text (n ∷ ns) ∷ []
+
+-- credentials and descriptor numbers as far as there are any, in this order, joined by a plus, or a dash where there is neither
+abbrev pub said_text : Control → List ℕ
+said_text control = joined 43 (cred_parts control.cred ++ rights_parts control.rights)
+
+-- what control bytes say that read as this, or the bytes themselves where they read as nothing
+abbrev pub told_text : List ℕ → Option Control → List ℕ
+told_text bytes None = raw_text bytes
+told_text bytes (Some control) = said_text control
+
+-- what control bytes spell: what they say, or the bytes themselves where they spell no items
+abbrev pub items_text : List ℕ → List ℕ
+items_text bytes = told_text bytes (control_in bytes)
+
+-- what a receive got: the count, the bytes, the flags, the items of its control bytes, and the sender's address
+abbrev pub got_text : ℕ → List ℕ → MsgFlags → List ℕ → Option Addr → List ℕ
+got_text count bytes flags items from =
+    codes "got " ++ (decimal count ++ (codes " " ++ (hex bytes ++ (codes " " ++ (received_flags_text flags ++ (codes " " ++ (items ++ (codes " " ++ addr_or_dash from))))))))
 
 -- a refusal's name, as POSIX and unix(7) have it
 abbrev pub errno_text : Errno → List ℕ
@@ -98,10 +144,15 @@ reply_text (Reply.Fds a b) = codes "fds " ++ (decimal a.0 ++ (codes " " ++ decim
 reply_text (Reply.Count n) = codes "n " ++ decimal n
 reply_text (Reply.Bytes bytes) = codes "bytes " ++ hex bytes
 reply_text (Reply.At n) = codes "at " ++ decimal n
-reply_text (Reply.Received count bytes flags) = codes "got " ++ (decimal count ++ (codes " " ++ (hex bytes ++ (codes " " ++ (received_flags_text flags ++ codes " - -")))))
+reply_text (Reply.Received count bytes flags control from) = got_text count bytes flags (items_text control) from
 reply_text (Reply.Accepted a name) = codes "accepted " ++ (decimal a.0 ++ (codes " " ++ addr_text name))
 reply_text (Reply.Addr name) = codes "addr " ++ addr_text name
 reply_text (Reply.Err e) = codes "err " ++ errno_text e
+
+-- the same where the control bytes of a receive read as this
+abbrev pub reply_telling : Option Control → Reply → List ℕ
+reply_telling read (Reply.Received count bytes flags control from) = got_text count bytes flags (told_text control read) from
+reply_telling read reply = reply_text reply
 
 -- the word that names a call, in a script and in a trace
 abbrev pub word_text : CallWord → List ℕ
@@ -145,7 +196,7 @@ request_word (Request.Connect fd addr) = CallWord.Connect
 request_word (Request.Accept fd flags) = CallWord.Accept
 request_word (Request.GetSockName fd) = CallWord.SockName
 request_word (Request.GetPeerName fd) = CallWord.PeerName
-request_word (Request.SendMsg fd bytes flags) = CallWord.Send
+request_word (Request.SendMsg fd addr bytes control flags) = CallWord.Send
 request_word (Request.RecvMsg fd n space flags) = CallWord.Recv
 request_word Request.Exit = CallWord.Exit
 request_word Request.Off = CallWord.Off

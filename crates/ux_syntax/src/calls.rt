@@ -5,8 +5,9 @@ ghost use Rattle.ux_syntax.specs.Trace.{word_text, request_word};
 ghost use Rattle.ux_syntax.specs.Reading.{open_at, read_at, write_at, lseek_at, dup_at, dup2_at, set_flags_at, close_at, unlink_at, socket_at, pair_at, bind_at, listen_at, connect_at, accept_at, sock_name_at, peer_name_at, send_at, recv_at, exit_at, word_at, args_at};
 ghost use Rattle.ux_syntax.specs.Results.{Gives};
 
+use crate::control::ControlWord;
 use crate::fault::{BAD, LineError};
-use crate::row::{control, end, pass, word};
+use crate::row::{end, pass, word};
 use std::alloc::Global;
 use ux_types::{Fd, Request};
 
@@ -323,20 +324,22 @@ fn peer_name_of(alloc: Global, words: &[&[u8]]) -> Result<Request, LineError>
     Ok(Request::GetPeerName { fd: Fd(fd) })
 }
 
-/// `send FD - HEX CONTROL MFLAGS`.
+/// `send FD ADDR HEX CONTROL MFLAGS`.
 #[tactic(auto, unfolding(crate::specs::Reading::send_at))]
 fn send_of(alloc: Global, words: &[&[u8]]) -> Result<Request, LineError>
     ensures { Gives (λ r. r) result (send_at (map (λ w. w.now) words.now)) }
 {
     let (fd, words) = word(alloc, words)?;
-    let words = pass(b"-", words)?;
+    let (addr, words) = word(alloc, words)?;
     let (bytes, words) = word(alloc, words)?;
-    let words = control(words)?;
+    let (control, words) = word::<ControlWord>(alloc, words)?;
     let (flags, words) = word(alloc, words)?;
     end(words)?;
     Ok(Request::SendMsg {
         fd: Fd(fd),
+        addr,
         bytes,
+        control: control.into_buffer(alloc)?,
         flags,
     })
 }

@@ -2,6 +2,7 @@
 #![tactic(auto)]
 
 mod calls;
+mod control;
 mod fault;
 mod headers;
 mod input;

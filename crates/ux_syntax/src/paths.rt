@@ -3,7 +3,7 @@
 
 ghost use Rattle.std.specs.Prelude.{◌≡◌};
 ghost use Rattle.ux_syntax.specs.Trace.{stands};
-ghost use Rattle.ux_syntax.specs.Reading.{byte_at, escaped_at, name_at, lettered_at, path_at, addr_at};
+ghost use Rattle.ux_syntax.specs.Reading.{byte_at, escaped_at, name_at, lettered_at, path_at, addr_at, addr_or_dash_at};
 ghost use Rattle.ux_syntax.specs.Results.{Gives};
 
 use crate::fault::{BAD, LineError};
@@ -85,5 +85,18 @@ impl Word for Addr {
             [first, ..] if *first == b'p' => Ok(Addr::Path(Name::of(alloc, word)?)),
             _ => Ok(Addr::Abstract(lettered_of(alloc, b'a', word)?)),
         }
+    }
+}
+
+/// An address, or `-` for none.
+impl Word for Option<Addr> {
+    ghost at = { addr_or_dash_at };
+
+    #[tactic(auto, unfolding(crate::specs::Reading::addr_or_dash_at))]
+    fn of(alloc: Global, word: &[u8]) -> Result<Option<Addr>, LineError> {
+        if word == b"-".as_slice() {
+            return Ok(None);
+        }
+        Ok(Some(Addr::of(alloc, word)?))
     }
 }

@@ -2,8 +2,7 @@
 //! it too.
 
 ghost use Rattle.std.specs.Prelude.{map, Ok};
-ghost use Rattle.ux_syntax.specs.Spelling.{bare};
-ghost use Rattle.ux_syntax.specs.Reading.{exactly, control_at, one, ends};
+ghost use Rattle.ux_syntax.specs.Reading.{exactly, one, ends};
 ghost use Rattle.ux_syntax.specs.Results.{Gives};
 
 use crate::fault::{BAD, LineError};
@@ -37,14 +36,6 @@ pub(crate) fn pass<'a>(text: &[u8], words: &'a [&'a [u8]]) -> Result<&'a [&'a [u
 {
     let (word, rest) = next(words)?;
     if word == text { Ok(rest) } else { Err(BAD) }
-}
-
-/// Passes control data, of which there is one writing: `-`, for none.
-#[tactic(auto, unfolding(crate::specs::Reading::exactly))]
-pub(crate) fn control<'a>(words: &'a [&'a [u8]]) -> Result<&'a [&'a [u8]], LineError>
-    ensures { Gives (λ x. (bare, map (λ w. w.now) x.now)) result (one control_at (map (λ w. w.now) words.now)) }
-{
-    pass(b"-", words)
 }
 
 pub(crate) fn end(words: &[&[u8]]) -> Result<(), LineError>

@@ -1,14 +1,15 @@
 //! The text of a history.
 
 ghost use Rattle.std.specs.Prelude.{◌≡◌, IfOk, Some, map, string_bytes};
-ghost use Rattle.ux_syntax.specs.Trace.{hex, name_text, addr_text, flags_text, received_flags_text, errno_text, reply_text, closed_text, entry_line};
+ghost use Rattle.ux_syntax.specs.Trace.{hex, name_text, addr_text, addr_or_dash, flags_text, received_flags_text, rights_text, cred_text, said_text, told_text, errno_text, reply_text, reply_telling, closed_text, entry_line};
 
 use crate::calls::CallWord;
 use crate::paths::stands;
 use bitflags::Flags;
 use std::alloc::{AllocError, Global};
 use std::fmt;
-use ux_types::{Addr, Entry, Errno, MsgFlags, Reply};
+use ux_cmsg::{Control, ControlError, read_control};
+use ux_types::{Addr, Cred, Entry, Errno, Fd, MsgFlags, Reply};
 
 /// Bytes as pairs of hexadecimal digits, or `-` where there is none.
 #[derive(Clone, Copy)]
@@ -72,6 +73,21 @@ impl fmt::Display for AddrText<'_> {
     }
 }
 
+/// An address, or `-` for none.
+#[derive(Clone, Copy)]
+struct AddrOrDash<'a>(&'a Option<Addr>);
+
+impl fmt::Display for AddrOrDash<'_> {
+    ghost output = { λ addr. Some (addr_or_dash addr.0.now) };
+
+    fn fmt<W: fmt::Write>(&self, f: &mut fmt::Formatter<W>) -> fmt::Result {
+        match self.0 {
+            Some(addr) => write!(f, "{}", AddrText(addr)),
+            None => write!(f, "-"),
+        }
+    }
+}
+
 /// The names of the flags that are set, joined by `|`, or `-` where none is.
 #[derive(Clone, Copy)]
 struct SetNames<'a>(&'a [(bool, &'a str)]);
@@ -112,6 +128,82 @@ impl fmt::Display for ReceivedFlags {
     }
 }
 
+/// Descriptor numbers, as `r:3,4`.
+#[derive(Clone, Copy)]
+struct RightsText<'a>(&'a [Fd]);
+
+impl fmt::Display for RightsText<'_> {
+    ghost output = { λ rights. Some (rights_text (map (λ fd. fd.0) rights.0.now)) };
+
+    fn fmt<W: fmt::Write>(&self, f: &mut fmt::Formatter<W>) -> fmt::Result {
+        write!(f, "r:")?;
+        let mut separator = "";
+        for fd in self.0 {
+            let number = fd.0;
+            write!(f, "{separator}{number}")?;
+            separator = ",";
+        }
+        Ok(())
+    }
+}
+
+/// Credentials, as `c:2,1000,1000`: the process, the user and the group.
+#[derive(Clone, Copy)]
+struct CredText(Cred);
+
+impl fmt::Display for CredText {
+    ghost output = { λ cred. Some (cred_text cred.0) };
+
+    fn fmt<W: fmt::Write>(&self, f: &mut fmt::Formatter<W>) -> fmt::Result {
+        let pid = self.0.pid.0;
+        let uid = self.0.uid;
+        let gid = self.0.gid;
+        write!(f, "c:{pid},{uid},{gid}")
+    }
+}
+
+/// What control bytes say: credentials and descriptor numbers joined by `+`, or `-` where there is neither.
+#[derive(Clone, Copy)]
+struct SaidText<'a>(&'a Control);
+
+impl fmt::Display for SaidText<'_> {
+    ghost output = { λ said. Some (said_text said.0.now) };
+
+    fn fmt<W: fmt::Write>(&self, f: &mut fmt::Formatter<W>) -> fmt::Result {
+        let rights = RightsText(self.0.rights());
+        match self.0.cred() {
+            Some(cred) => {
+                let cred = CredText(cred);
+                if rights.0.is_empty() {
+                    write!(f, "{cred}")
+                } else {
+                    write!(f, "{cred}+{rights}")
+                }
+            }
+            None if rights.0.is_empty() => write!(f, "-"),
+            None => write!(f, "{rights}"),
+        }
+    }
+}
+
+/// What control bytes spell that read so: what they say, or `x:` and the bytes where they read as nothing.
+#[derive(Clone, Copy)]
+struct ToldText<'a> {
+    bytes: &'a [u8],
+    read: &'a Option<Control>,
+}
+
+impl fmt::Display for ToldText<'_> {
+    ghost output = { λ told. Some (told_text told.bytes.now told.read.now) };
+
+    fn fmt<W: fmt::Write>(&self, f: &mut fmt::Formatter<W>) -> fmt::Result {
+        match self.read {
+            Some(control) => write!(f, "{}", SaidText(control)),
+            None => write!(f, "x:{}", Hex(self.bytes)),
+        }
+    }
+}
+
 /// The name of a refusal.
 fn errno_name(errno: Errno) -> &'static str
     ensures { result.now ≡ errno_text errno }
@@ -144,50 +236,57 @@ fn errno_name(errno: Errno) -> &'static str
     }
 }
 
-/// A reply as a trace has it.
+/// What the control bytes of a reply read as: nothing where they spell no items, or where it has none.
+fn control_of(alloc: Global, reply: &Reply) -> Result<Option<Control>, AllocError>
+    ensures { IfOk result (λ read. reply_telling read reply.now ≡ reply_text reply.now) }
+{
+    let Reply::Received { control, .. } = reply else {
+        return Ok(None);
+    };
+    match read_control(alloc, control.as_slice()) {
+        Ok(control) => Ok(Some(control)),
+        Err(ControlError::Invalid) => Ok(None),
+        Err(ControlError::NoMemory) => Err(AllocError),
+    }
+}
+
+/// A reply as a trace has it, and what its control bytes read as.
 #[derive(Clone, Copy)]
-struct ReplyText<'a>(&'a Reply);
+struct ReplyText<'a> {
+    reply: &'a Reply,
+    read: &'a Option<Control>,
+}
 
 impl fmt::Display for ReplyText<'_> {
-    ghost output = { λ r. Some (reply_text r.0.now) };
+    ghost output = { λ r. Some (reply_telling r.read.now r.reply.now) };
 
     fn fmt<W: fmt::Write>(&self, f: &mut fmt::Formatter<W>) -> fmt::Result {
-        match self.0 {
+        match self.reply {
             Reply::Ok => write!(f, "ok"),
-            Reply::Fd(fd) => {
-                let fd = fd.0;
-                write!(f, "fd {fd}")
-            }
-            Reply::Fds(first, second) => {
-                let first = first.0;
-                let second = second.0;
-                write!(f, "fds {first} {second}")
-            }
+            Reply::Fd(fd) => write!(f, "fd {}", fd.0),
+            Reply::Fds(first, second) => write!(f, "fds {} {}", first.0, second.0),
             Reply::Count(count) => write!(f, "n {count}"),
-            Reply::Bytes(bytes) => {
-                let bytes = Hex(bytes.as_slice());
-                write!(f, "bytes {bytes}")
-            }
+            Reply::Bytes(bytes) => write!(f, "bytes {}", Hex(bytes.as_slice())),
             Reply::At(offset) => write!(f, "at {offset}"),
             Reply::Received {
                 count,
                 bytes,
                 flags,
+                control,
+                from,
             } => {
                 let bytes = Hex(bytes.as_slice());
                 let flags = ReceivedFlags(*flags);
-                write!(f, "got {count} {bytes} {flags} - -")
+                let items = ToldText {
+                    bytes: control.as_slice(),
+                    read: self.read,
+                };
+                let from = AddrOrDash(from);
+                write!(f, "got {count} {bytes} {flags} {items} {from}")
             }
-            Reply::Accepted(fd, addr) => {
-                let fd = fd.0;
-                let addr = AddrText(addr);
-                write!(f, "accepted {fd} {addr}")
-            }
+            Reply::Accepted(fd, addr) => write!(f, "accepted {} {}", fd.0, AddrText(addr)),
             Reply::Addr(addr) => write!(f, "addr {}", AddrText(addr)),
-            Reply::Err(errno) => {
-                let name = errno_name(*errno);
-                write!(f, "err {name}")
-            }
+            Reply::Err(errno) => write!(f, "err {}", errno_name(*errno)),
         }
     }
 }
@@ -221,7 +320,11 @@ pub fn entry_text(alloc: Global, number: usize, entry: &Entry) -> Result<String,
     let pid = entry.pid.0;
     let k = entry.k;
     let word = CallWord::of(&entry.request).text();
-    let reply = ReplyText(&entry.reply);
+    let read = control_of(alloc, &entry.reply)?;
+    let reply = ReplyText {
+        reply: &entry.reply,
+        read: &read,
+    };
     let closed = Closed(entry.released.as_slice());
     format!(in alloc; "{number} {pid} {k} {word} = {reply}{closed}\n")
 }

@@ -109,7 +109,7 @@ pub(crate) fn digit_of(byte: u8) -> Result<u8, LineError>
     }
 }
 
-fn pairs_of(alloc: Global, digits: &[u8]) -> Result<Vec<u8>, LineError>
+pub(crate) fn pairs_of(alloc: Global, digits: &[u8]) -> Result<Vec<u8>, LineError>
     ensures { Gives (λ bytes. bytes.items) result (pairs_at digits.now) }
 {
     let mut bytes = Vec::new(alloc);

@@ -4,6 +4,7 @@ mod calls;
 mod connections;
 mod readers;
 mod scripts;
+mod sends;
 mod traces;
 
 use bstr::BString;
@@ -11,7 +12,7 @@ use std::alloc::Global;
 use std::process::Abort;
 use std::test::*;
 use ux_syntax::{ScriptFault, parse_script};
-use ux_types::{Bytes, Name, Request};
+use ux_types::{Addr, Bytes, Name, Request};
 
 /// The text of the fault of a script, or none if it is read.
 fn fault_of(alloc: Global, text: &[u8]) -> Result<String, Fail> {
@@ -27,6 +28,15 @@ fn name_of(alloc: Global, bytes: &[u8]) -> Result<Name, Fail> {
 
 fn bytes_of(alloc: Global, bytes: &[u8]) -> Result<Bytes, Fail> {
     Ok(Bytes::new(Vec::from_slice(alloc, bytes)?))
+}
+
+/// The address of this form, `u`, `p` or `a`, and this name.
+fn addr_of(alloc: Global, form: char, name: &[u8]) -> Result<Addr, Fail> {
+    match form {
+        'p' => Ok(Addr::Path(name_of(alloc, name)?)),
+        'a' => Ok(Addr::Abstract(name_of(alloc, name)?)),
+        _ => Ok(Addr::Unnamed),
+    }
 }
 
 /// Sees which fault a script has, if any.

@@ -59,8 +59,6 @@ const BAD_LINES: &[&str] = &[
     "1 send 1 - 6 - -",
     "1 send 1 -  - -",
     "1 send 1 - 6g - -",
-    "1 send 1 p:x 6a - -",
-    "1 send 1 - 6a x:00 -",
     "1 send 1 - 6a - -d",
     "1 send 1 - 6a -",
     "1 recv 1 1 1 xd",

@@ -1,9 +1,9 @@
 //! Calls of names and connections: what each asks for, and what is no call.
-use super::{expect_bad_call, expect_request, name_of};
+use super::{addr_of, expect_bad_call, expect_request};
 use std::alloc::Global;
 use std::process::Abort;
 use std::test::*;
-use ux_types::{Addr, Fd, OpenFlags, Request};
+use ux_types::{Fd, OpenFlags, Request};
 
 #[test]
 fn calls_of_connections_are_read(rt: HostRuntime) -> Result<(), Fail> {
@@ -14,15 +14,6 @@ fn calls_of_connections_are_read(rt: HostRuntime) -> Result<(), Fail> {
     expect_request(&rt, alloc, "accept 3 nx", &Request::Accept { fd, flags })?;
     expect_request(&rt, alloc, "sockname 3", &Request::GetSockName { fd })?;
     expect_request(&rt, alloc, "peername 3", &Request::GetPeerName { fd })
-}
-
-/// The address of this form, `u`, `p` or `a`, and this name.
-fn addr_of(alloc: Global, form: char, name: &[u8]) -> Result<Addr, Fail> {
-    match form {
-        'p' => Ok(Addr::Path(name_of(alloc, name)?)),
-        'a' => Ok(Addr::Abstract(name_of(alloc, name)?)),
-        _ => Ok(Addr::Unnamed),
-    }
 }
 
 /// Sees that an address is read, as a socket's own and as one to connect to.

@@ -50,7 +50,9 @@ fn a_script_is_read(rt: HostRuntime) -> Result<(), Fail> {
     expect_call(&rt, &script, 0, 1, &pair);
     let send = Request::SendMsg {
         fd: Fd(0),
+        addr: None,
         bytes: bytes_of(rt.alloc(), &[0x68, 0xff])?,
+        control: bytes_of(rt.alloc(), b"")?,
         flags: MsgFlags(15),
     };
     expect_call(&rt, &script, 1, 2, &send);

@@ -1,5 +1,5 @@
 //! The lines of a trace.
-use super::{bytes_of, name_of};
+use super::{addr_of, bytes_of, name_of};
 use std::alloc::Global;
 use std::process::Abort;
 use std::test::*;
@@ -45,7 +45,9 @@ fn expect_entry(
 fn send(alloc: Global) -> Result<Request, Fail> {
     Ok(Request::SendMsg {
         fd: Fd(0),
+        addr: None,
         bytes: bytes_of(alloc, b"hi")?,
+        control: bytes_of(alloc, b"")?,
         flags: MsgFlags(0),
     })
 }
@@ -77,49 +79,137 @@ fn entries_are_printed(rt: HostRuntime) -> Result<(), Fail> {
     expect_text(&rt, alloc, 14, 14, Request::Exit, Reply::Ok, line)
 }
 
-/// Sees the line of a receive that got this.
-fn expect_received(
-    rt: &impl Abort,
-    alloc: Global,
-    number: usize,
-    count: usize,
-    bytes: &[u8],
-    flags: MsgFlags,
-    line: &str,
-) -> Result<(), Fail> {
-    let bytes = bytes_of(alloc, bytes)?;
-    let reply = Reply::Received {
+/// The reply of a receive that got no control bytes and no address.
+fn received(alloc: Global, count: usize, bytes: &[u8], flags: MsgFlags) -> Result<Reply, Fail> {
+    Ok(Reply::Received {
         count,
-        bytes,
+        bytes: bytes_of(alloc, bytes)?,
         flags,
-    };
-    expect_text(rt, alloc, number, number as u64, RECEIVE, reply, line)
+        control: bytes_of(alloc, b"")?,
+        from: None,
+    })
 }
 
 #[test]
 fn receives_are_printed(rt: HostRuntime) -> Result<(), Fail> {
     let alloc = rt.alloc();
     let none = MsgFlags(0);
+    let got = received(alloc, 2, b"hi", none)?;
     let line = "2 1 2 recv = got 2 6869 - - -\n";
-    expect_received(&rt, alloc, 2, 2, b"hi", none, line)?;
+    expect_text(&rt, alloc, 2, 2, RECEIVE, got, line)?;
     let again = Reply::Err(Errno::EAGAIN);
-    expect_text(
-        &rt,
-        alloc,
-        4,
-        4,
-        RECEIVE,
-        again,
-        "4 1 4 recv = err EAGAIN\n",
-    )?;
+    let line = "4 1 4 recv = err EAGAIN\n";
+    expect_text(&rt, alloc, 4, 4, RECEIVE, again, line)?;
+    let got = received(alloc, 0, b"", none)?;
     let line = "6 1 6 recv = got 0 - - - -\n";
-    expect_received(&rt, alloc, 6, 0, b"", none, line)?;
+    expect_text(&rt, alloc, 6, 6, RECEIVE, got, line)?;
     let reset = Reply::Err(Errno::ECONNRESET);
     let line = "9 1 9 recv = err ECONNRESET\n";
     expect_text(&rt, alloc, 9, 9, RECEIVE, reset, line)?;
     let cut = MsgFlags(2 + 16 + 32 + 1);
+    let got = received(alloc, 300, &[0, 0xab], cut)?;
     let line = "15 1 15 recv = got 300 00ab TRUNC|CTRUNC|EOR - -\n";
-    expect_received(&rt, alloc, 15, 300, &[0, 0xab], cut, line)
+    expect_text(&rt, alloc, 15, 15, RECEIVE, got, line)
+}
+
+/// Sees what a trace tells of these control bytes, whose receive lost some.
+fn expect_items(rt: &impl Abort, alloc: Global, control: &[u8], items: &str) -> Result<(), Fail> {
+    let got = Reply::Received {
+        count: 2,
+        bytes: bytes_of(alloc, b"hi")?,
+        flags: MsgFlags::CTRUNC,
+        control: bytes_of(alloc, control)?,
+        from: None,
+    };
+    let line = format!(in alloc; "5 1 7 recv = got 2 6869 CTRUNC {items} -\n")?;
+    expect_text(rt, alloc, 5, 7, RECEIVE, got, &line)
+}
+
+/// Control bytes, and what they spell.
+const ITEMS: &[(&[u8], &str)] = &[
+    (b"", "-"),
+    (
+        &[20, 0, 0, 0, 0, 0, 0, 0, 1, 0, 0, 0, 1, 0, 0, 0, 3, 0, 0, 0],
+        "r:3",
+    ),
+    (
+        &[
+            24, 0, 0, 0, 0, 0, 0, 0, 1, 0, 0, 0, 1, 0, 0, 0, 3, 0, 0, 0, 4, 0, 0, 0,
+        ],
+        "r:3,4",
+    ),
+    (
+        &[
+            28, 0, 0, 0, 0, 0, 0, 0, 1, 0, 0, 0, 1, 0, 0, 0, 0xff, 0xff, 0xff, 0xff, 0, 0, 0, 0,
+            10, 0, 0, 0,
+        ],
+        "r:4294967295,0,10",
+    ),
+    (
+        &[
+            28, 0, 0, 0, 0, 0, 0, 0, 1, 0, 0, 0, 2, 0, 0, 0, 2, 0, 0, 0, 0xe8, 3, 0, 0, 0xe8, 3, 0,
+            0,
+        ],
+        "c:2,1000,1000",
+    ),
+    (
+        &[
+            28, 0, 0, 0, 0, 0, 0, 0, 1, 0, 0, 0, 2, 0, 0, 0, 2, 0, 0, 0, 0xe8, 3, 0, 0, 0xe8, 3, 0,
+            0, 0, 0, 0, 0, 20, 0, 0, 0, 0, 0, 0, 0, 1, 0, 0, 0, 1, 0, 0, 0, 3, 0, 0, 0,
+        ],
+        "c:2,1000,1000+r:3",
+    ),
+    // Rights stand first in the bytes.
+    (
+        &[
+            20, 0, 0, 0, 0, 0, 0, 0, 1, 0, 0, 0, 1, 0, 0, 0, 3, 0, 0, 0, 0, 0, 0, 0, 28, 0, 0, 0,
+            0, 0, 0, 0, 1, 0, 0, 0, 2, 0, 0, 0, 2, 0, 0, 0, 0xe8, 3, 0, 0, 0xe8, 3, 0, 0,
+        ],
+        "c:2,1000,1000+r:3",
+    ),
+    // An item of no rights.
+    (&[16, 0, 0, 0, 0, 0, 0, 0, 1, 0, 0, 0, 1, 0, 0, 0], "-"),
+    // No item of a control buffer.
+    (&[0], "x:00"),
+    (
+        &[17, 0, 0, 0, 0, 0, 0, 0, 1, 0, 0, 0, 1, 0, 0, 0, 0xab],
+        "x:11000000000000000100000001000000ab",
+    ),
+];
+
+#[test]
+fn items_are_printed(rt: HostRuntime) -> Result<(), Fail> {
+    for (control, items) in ITEMS {
+        expect_items(&rt, rt.alloc(), control, items)?;
+    }
+    Ok(())
+}
+
+/// Sees how a trace tells whom a receive is from.
+fn expect_from(rt: &impl Abort, alloc: Global, from: Addr, text: &str) -> Result<(), Fail> {
+    let got = Reply::Received {
+        count: 0,
+        bytes: bytes_of(alloc, b"")?,
+        flags: MsgFlags(0),
+        control: bytes_of(alloc, b"")?,
+        from: Some(from),
+    };
+    let line = format!(in alloc; "5 1 7 recv = got 0 - - - {text}\n")?;
+    expect_text(rt, alloc, 5, 7, RECEIVE, got, &line)
+}
+
+#[test]
+fn senders_are_printed(rt: HostRuntime) -> Result<(), Fail> {
+    let alloc = rt.alloc();
+    expect_from(&rt, alloc, addr_of(alloc, 'u', b"")?, "u")?;
+    expect_from(&rt, alloc, addr_of(alloc, 'a', b"q")?, "a:q")?;
+    expect_from(&rt, alloc, addr_of(alloc, 'a', b"")?, "a:")?;
+    expect_from(
+        &rt,
+        alloc,
+        addr_of(alloc, 'p', b"/run/a b")?,
+        "p:/run/a%20b",
+    )
 }
 
 /// Sees the line of the entry of number 5, the eighth call of its process.
