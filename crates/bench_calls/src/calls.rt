@@ -150,7 +150,11 @@ fn socket_calls(alloc: Global) -> Result<Vec<Calls>, AllocError> {
         stream(alloc, "send and receive, 4,096 bytes", 4096)?,
         stream(alloc, "send and receive, 65,536 bytes", 65_536)?,
         passing(alloc, "send and receive of 1 right, and its close", 1)?,
-        passing(alloc, "send and receive of 253 rights, and their closes", 253)?,
+        passing(
+            alloc,
+            "send and receive of 253 rights, and their closes",
+            253
+        )?,
         alone(alloc, "pair and two closes", pair),
         connection(alloc, "socket, connect, accept, two closes")?,
     ]?)
