@@ -15,7 +15,11 @@ const PAIR: &[Row] = &[(1, Asked::Pair, Told::Fds(0, 1))];
 const PASSED: &[Row] = &[
     (1, Asked::Pass(0, &[0, 1, 0, 1, 0]), Told::Count(1)),
     (1, Asked::Take(1, 64, 1), Told::Taken(0, &[2, 3, 4, 5, 6])),
-    (1, Asked::Take(1, 64, 0), Told::Taken(0, &[7, 8, 9, 10, 11])),
+    (
+        1,
+        Asked::Take(1, usize::MAX, 0),
+        Told::Taken(0, &[7, 8, 9, 10, 11]),
+    ),
 ];
 
 /// Nothing was taken twice, and nothing lost.
