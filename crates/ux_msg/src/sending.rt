@@ -1,5 +1,5 @@
 //! Sending to a socket (sendmsg(2), write(2)).
-ghost use Rattle.std.specs.Prelude.{◌≡◌, ◌<◌, [], IsTrue, Some, None, IfOk, IfErr, OnErr, length, map, is_some, option_map};
+ghost use Rattle.std.specs.Prelude.{◌≡◌, [], IsTrue, Some, IfOk, IfErr, map, option_map};
 ghost use Rattle.ux_model.specs.Flags.{are_send_flags};
 ghost use Rattle.ux_model.specs.State.{is_live};
 ghost use Rattle.ux_model.specs.Outcome.{as_process};

@@ -10,12 +10,11 @@ ghost use Rattle.ux_state.specs.Moves.{at_offset, IsSocketAt, AreReferenced};
 
 use crate::references::{have_room, release_all, retain_all};
 use crate::state::State;
-use std::alloc::AllocError;
 use ux_desc::Description;
 use ux_object::FileObject;
 use ux_rights::RefList;
 use ux_slots::Slots;
-use ux_stream::{Received, SendError};
+use ux_stream::SendError;
 use ux_types::{Cred, DescriptionId, OpenFlags};
 
 impl<O: FileObject> State<O> {
