@@ -1,6 +1,7 @@
 use crate::{Book, CallFault};
 use bstr::BString;
 use std::alloc::{AllocError, Global};
+use std::process::Abort;
 use std::test::Fail;
 use ux_kernel::Kernel;
 use ux_object::FileObject;
@@ -50,12 +51,12 @@ fn is_entry(
     shelf: &mut Shelf,
     pid: u32,
     k: u64,
-    request: &Request,
+    request: Request,
     number: usize,
     gone: usize,
 ) -> bool {
     shelf.retired.clear();
-    shelf.book.record(Pid(pid), k, request, &mut shelf.retired) == Ok(number)
+    shelf.book.record(Pid(pid), k, &request, &mut shelf.retired) == Ok(number)
         && shelf.retired.len() == gone
         && shelf
             .retired
@@ -65,9 +66,30 @@ fn is_entry(
 }
 
 /// Whether the book refuses this call as a stranger's.
-fn is_stranger(shelf: &mut Shelf, pid: u32, k: u64, request: &Request) -> bool {
+fn is_stranger(shelf: &mut Shelf, pid: u32, k: u64, request: Request) -> bool {
     shelf.retired.clear();
-    shelf.book.record(Pid(pid), k, request, &mut shelf.retired) == Err(CallFault::Stranger)
+    shelf.book.record(Pid(pid), k, &request, &mut shelf.retired) == Err(CallFault::Stranger)
+}
+
+/// Whether the layer may be ended by the call with this count.
+fn may_end(shelf: &Shelf, k: u64) -> bool {
+    shelf.book.may_call(Pid(0), k, &Request::Off)
+}
+
+/// Sees which reply an entry has.
+fn expect_reply(rt: &impl Abort, shelf: &Shelf, number: usize, reply: Reply) {
+    match shelf.book.entries().get(number) {
+        Some(entry) => assert_eq!(rt; entry.reply, reply),
+        None => assert!(rt; false),
+    }
+}
+
+/// Sees which request an entry has.
+fn expect_request(rt: &impl Abort, shelf: &Shelf, number: usize, request: Request) {
+    match shelf.book.entries().get(number) {
+        Some(entry) => assert_eq!(rt; entry.request, request),
+        None => assert!(rt; false),
+    }
 }
 
 #[test]
@@ -75,17 +97,17 @@ fn each_call_is_one_entry(rt: HostRuntime) -> Result<(), Fail> {
     let alloc = rt.alloc();
     let mut shelf = book_of(alloc, Vec::new(alloc))?;
     let b = &mut shelf;
-    assert!(rt; is_entry(b, 1, 0, &PAIR, 0, 0));
-    assert!(rt; is_entry(b, 1, 1, &Request::Close { fd: Fd(7) }, 1, 0));
+    assert!(rt; is_entry(b, 1, 0, PAIR, 0, 0));
+    assert!(rt; is_entry(b, 1, 1, Request::Close { fd: Fd(7) }, 1, 0));
     assert!(rt; b.book.is_live(Pid(1)));
     assert_eq!(rt; b.book.calls_of(Pid(1)), 2);
-    assert!(rt; is_entry(b, 1, 2, &Request::Exit, 2, 0));
+    assert!(rt; is_entry(b, 1, 2, Request::Exit, 2, 0));
     assert!(rt; !b.book.is_live(Pid(1)));
+    expect_reply(&rt, &shelf, 0, Reply::Fds(Fd(0), Fd(1)));
+    expect_reply(&rt, &shelf, 1, Reply::Err(Errno::EBADF));
+    expect_request(&rt, &shelf, 1, Request::Close { fd: Fd(7) });
     let entries = shelf.book.into_entries();
     assert_eq!(rt; entries.len(), 3);
-    assert_eq!(rt; entries[0].reply, Reply::Fds(Fd(0), Fd(1)));
-    assert_eq!(rt; entries[1].reply, Reply::Err(Errno::EBADF));
-    assert_eq!(rt; entries[1].request, Request::Close { fd: Fd(7) });
     assert_eq!(rt; entries[2].k, 2);
     Ok(())
 }
@@ -95,11 +117,11 @@ fn a_stranger_is_told_and_leaves_no_entry(rt: HostRuntime) -> Result<(), Fail> {
     let alloc = rt.alloc();
     let mut shelf = book_of(alloc, Vec::new(alloc))?;
     let b = &mut shelf;
-    assert!(rt; is_stranger(b, 0, 0, &PAIR));
-    assert!(rt; is_stranger(b, 2, 0, &PAIR));
-    assert!(rt; is_stranger(b, 1, 1, &PAIR));
-    assert!(rt; is_entry(b, 1, 0, &Request::Exit, 0, 0));
-    assert!(rt; is_stranger(b, 1, 1, &Request::Exit));
+    assert!(rt; is_stranger(b, 0, 0, PAIR));
+    assert!(rt; is_stranger(b, 2, 0, PAIR));
+    assert!(rt; is_stranger(b, 1, 1, PAIR));
+    assert!(rt; is_entry(b, 1, 0, Request::Exit, 0, 0));
+    assert!(rt; is_stranger(b, 1, 1, Request::Exit));
     assert_eq!(rt; shelf.book.entries().len(), 1);
     Ok(())
 }
@@ -111,16 +133,15 @@ fn the_end_comes_once_and_releases_all(rt: HostRuntime) -> Result<(), Fail> {
     objects.push((named(alloc, b"c")?, Counter::new()))?;
     let mut shelf = book_of(alloc, objects)?;
     let b = &mut shelf;
-    let off = Request::Off;
-    assert!(rt; !b.book.may_call(Pid(0), 0, &off));
-    assert!(rt; is_stranger(b, 0, 0, &off));
-    assert!(rt; is_stranger(b, 1, 0, &off));
-    assert!(rt; is_entry(b, 1, 0, &Request::Exit, 0, 0));
-    assert!(rt; is_stranger(b, 0, 1, &off));
-    assert!(rt; b.book.may_call(Pid(0), 0, &off));
-    assert!(rt; is_entry(b, 0, 0, &off, 1, 1));
-    assert!(rt; is_stranger(b, 0, 0, &off));
-    assert!(rt; is_stranger(b, 0, 1, &off));
+    assert!(rt; !may_end(b, 0));
+    assert!(rt; is_stranger(b, 0, 0, Request::Off));
+    assert!(rt; is_stranger(b, 1, 0, Request::Off));
+    assert!(rt; is_entry(b, 1, 0, Request::Exit, 0, 0));
+    assert!(rt; is_stranger(b, 0, 1, Request::Off));
+    assert!(rt; may_end(b, 0));
+    assert!(rt; is_entry(b, 0, 0, Request::Off, 1, 1));
+    assert!(rt; is_stranger(b, 0, 0, Request::Off));
+    assert!(rt; is_stranger(b, 0, 1, Request::Off));
     let entries = shelf.book.entries();
     assert_eq!(rt; entries.len(), 2);
     assert!(rt; entries[0].released.as_slice().is_empty());
@@ -140,15 +161,15 @@ fn an_object_goes_with_its_last_descriptor(rt: HostRuntime) -> Result<(), Fail> 
         mode: Mode::Both,
         flags: OpenFlags(0),
     };
+    assert!(rt; is_entry(b, 1, 0, open, 0, 0));
     let unlink = Request::Unlink {
         path: named(alloc, b"c")?,
     };
-    assert!(rt; is_entry(b, 1, 0, &open, 0, 0));
-    assert!(rt; is_entry(b, 1, 1, &unlink, 1, 0));
-    assert!(rt; is_entry(b, 1, 2, &Request::Close { fd: Fd(0) }, 2, 1));
+    assert!(rt; is_entry(b, 1, 1, unlink, 1, 0));
+    assert!(rt; is_entry(b, 1, 2, Request::Close { fd: Fd(0) }, 2, 1));
+    expect_reply(&rt, &shelf, 0, Reply::Fd(Fd(0)));
     let entries = shelf.book.entries();
     assert_eq!(rt; entries.len(), 3);
-    assert_eq!(rt; entries[0].reply, Reply::Fd(Fd(0)));
     assert!(rt; entries[1].released.as_slice().is_empty());
     assert_eq!(rt; entries[2].released.as_slice(), [0].as_slice());
     Ok(())
