@@ -1,12 +1,12 @@
 -- The rights that a message is to pass, and those that a receiver gets.
 use Rattle.std.proofs.Common.{◌≡◌, ℕ, ◌<◌, Bool, true, false, not, ◌==◌, List, [], ◌∷◌, ◌++◌, length, min, take, Option, Some, None, refl, ap, sym, ◌∙◌, append_assoc, arith}
 use Rattle.std.specs.Prelude.{option_map, is_some, if◌then◌else◌, IsTrue}
-use Rattle.std.proofs.Math.Dec.{eqb-suc-zero}
+use Rattle.std.proofs.lemmas.Bool.{ne_eqb}
 use Rattle.std.proofs.lemmas.List.{append-nil, take_min}
 use Rattle.ux_model.specs.Types.{Addr, Errno, Refusal, Reply}
 use Rattle.ux_model.specs.Places.{place}
 use Rattle.ux_model.specs.Control.{Control}
-use Rattle.ux_model.specs.ControlReading.{with_items, control_in}
+use Rattle.ux_model.specs.ControlReading.{control_in}
 use Rattle.ux_model.specs.Message.{Message}
 use Rattle.ux_model.specs.Front.{OnStreamFront}
 use Rattle.ux_model.specs.Delivery.{install_count}
@@ -17,6 +17,7 @@ use Rattle.ux_model.specs.State.{State, socket_at, process_at, table_of, is_live
 use Rattle.ux_model.specs.References.{times}
 use Rattle.ux_model.specs.Sending.{descriptions_behind, is_sendable_addr, is_sendable_control, reading_control, send_with}
 use Rattle.ux_model.proofs.MessageCalls.{behind_counts, front_counts}
+use Rattle.ux_cmsg.proofs.Collecting.{has_bytes}
 use Rattle.ux_fdtable.proofs.Installing.{few_empty}
 use Rattle.ux_state.specs.Moves.{AreReferenced}
 use Rattle.ux_msg.specs.Answers.{GivesRefusal}
@@ -54,12 +55,9 @@ behind_referenced S p ns ds h k some = behind_counts S p k ns ds h some
 
 -- rights come from bytes
 pub needs_bytes : (bytes : List ℕ) (control : Control) → control_in bytes ≡ Some control → 0 < length control.rights → (length bytes == 0) ≡ false
-unfolding control_in with_items
-needs_bytes [] control reads some =
-    let same : record { cred = None; rights = [] } ≡ control = cc reads in
-    let none = ap (λ (c : Control). length c.rights) same in
-    absurd (omega (arith, none, some))
-needs_bytes (b ∷ bytes) control reads some = eqb-suc-zero (length bytes)
+needs_bytes bytes control reads some =
+    let long : 0 < length bytes = has_bytes bytes control reads (λ none. let z = ap length none in absurd (omega (arith, z, some))) in
+    ne_eqb (length bytes) 0 (λ e. absurd (omega (arith, long, e)))
 
 -- ---- receiving
 

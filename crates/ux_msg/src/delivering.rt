@@ -13,9 +13,10 @@ use ux_state::State;
 use ux_stream::Received;
 use ux_types::{Cred, Fd, Pid};
 
-/// The bytes that credentials take in a control buffer, without and with what stands up to the next item.
+/// The bytes of an item of credentials in a control buffer (CMSG_LEN of cmsg(3)).
 const CRED_LEN: usize = 28;
 
+/// The same up to where the next item begins (CMSG_SPACE).
 const CRED_SPACE: usize = 32;
 
 /// What a receive tells beside the bytes.
