@@ -14,7 +14,7 @@
 #include <time.h>
 #include <unistd.h>
 
-enum { TURNS = 16, ROUNDS = 40, GREATEST = 65536, BACKLOG = 4, MOST_NAMES = 10000, MOST_RIGHTS = 253 };
+enum { TURNS = 16, ROUNDS = 40, DATAGRAM = 64, GREATEST = 65536, BACKLOG = 4, MOST_NAMES = 10000, MOST_RIGHTS = 253 };
 
 static char bytes[GREATEST];
 static char path[] = "linux_unix.XXXXXX";
@@ -39,6 +39,8 @@ static uint64_t now(void) {
 }
 
 static void make_pair(void) { must(socketpair(AF_UNIX, SOCK_STREAM | SOCK_NONBLOCK, 0, pair) == 0); }
+
+static void make_datagram_pair(void) { must(socketpair(AF_UNIX, SOCK_DGRAM | SOCK_NONBLOCK, 0, pair) == 0); }
 
 static void close_pair(void) { must(close(pair[0]) == 0 && close(pair[1]) == 0); }
 
@@ -188,6 +190,31 @@ static void connect_and_accept(void) {
     must(end >= 0 && close(end) == 0 && close(client) == 0);
 }
 
+/* Two datagram sockets, of which the second has an abstract name. */
+static struct sockaddr_un targets_address;
+static socklen_t targets_length;
+
+static void make_target(void) {
+    pair[0] = socket(AF_UNIX, SOCK_DGRAM | SOCK_NONBLOCK, 0);
+    pair[1] = socket(AF_UNIX, SOCK_DGRAM | SOCK_NONBLOCK, 0);
+    must(pair[0] >= 0 && pair[1] >= 0);
+    targets_length = address_of(&targets_address, 1, MOST_NAMES + 1);
+    must(bind(pair[1], (struct sockaddr *)&targets_address, targets_length) == 0);
+}
+
+/* A datagram to an address, or where there is none to the socket's peer, and its receive with its sender's name. */
+static void exchange_datagram(struct sockaddr_un *address, socklen_t length) {
+    struct sockaddr_un from;
+    struct iovec whole = {bytes, DATAGRAM};
+    struct msghdr message = {.msg_name = address, .msg_namelen = length, .msg_iov = &whole, .msg_iovlen = 1};
+    struct msghdr received = {.msg_name = &from, .msg_namelen = sizeof from, .msg_iov = &whole, .msg_iovlen = 1};
+    must(sendmsg(pair[0], &message, 0) == DATAGRAM);
+    must(recvmsg(pair[1], &received, 0) == DATAGRAM);
+}
+
+static void datagram_on_a_pair(void) { exchange_datagram(NULL, 0); }
+static void datagram_by_address(void) { exchange_datagram(&targets_address, targets_length); }
+
 struct calls {
     const char *name;
     void (*before)(void);
@@ -202,6 +229,8 @@ static const struct calls ALL[] = {
     {"send and receive, 65,536 bytes", make_pair, stream_65536, close_pair},
     {"send and receive of 1 right, and its close", make_pair, rights_1, close_pair},
     {"send and receive of 253 rights, and their closes", make_pair, rights_253, close_pair},
+    {"datagram of 64 bytes on a pair", make_datagram_pair, datagram_on_a_pair, close_pair},
+    {"datagram of 64 bytes by an address", make_target, datagram_by_address, close_pair},
     {"pair and two closes", nothing, pair_and_closes, nothing},
     {"socket, connect, accept, two closes", make_listener, connect_and_accept, close_listener},
     {"open and close", nothing, open_and_close, nothing},

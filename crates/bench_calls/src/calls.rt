@@ -5,7 +5,7 @@ use std::alloc::{AllocError, Global};
 use std::rt::Clock;
 use std::time::{Duration, Instant};
 use ux_cmsg::{Control, write_control};
-use ux_types::{Addr, Bytes, Fd, MsgFlags, OpenFlags, Request, Whence};
+use ux_types::{Addr, Bytes, Fd, MsgFlags, OpenFlags, Request, SockType, Whence};
 
 /// How often the calls are made in one batch.
 const TURNS: u32 = 16;
@@ -15,6 +15,19 @@ const ROUNDS: u32 = 40;
 
 /// A pair of sockets, at the numbers 1 and 2.
 const PAIR: Request = Request::SocketPair {
+    kind: SockType::Stream,
+    flags: OpenFlags(0),
+};
+
+/// Two datagram sockets, each associated with the other, at the numbers 1 and 2.
+const DATAGRAM_PAIR: Request = Request::SocketPair {
+    kind: SockType::Dgram,
+    flags: OpenFlags(0),
+};
+
+/// A datagram socket at the lowest free number.
+const DATAGRAM_SOCKET: Request = Request::Socket {
+    kind: SockType::Dgram,
     flags: OpenFlags(0),
 };
 
@@ -31,7 +44,6 @@ fn close(number: u32) -> Request {
 }
 
 /// Calls that are measured together.
-#[derive(Drop)]
 pub(crate) struct Calls {
     pub(crate) name: &'static str,
     /// Made before a batch, and not measured.
@@ -40,6 +52,21 @@ pub(crate) struct Calls {
     measured: Vec<Request>,
     /// Made after a batch, and not measured.
     after: Vec<Request>,
+}
+
+/// As of a layer: where a list of these cannot be completed, those before are dropped.
+impl Drop for Calls {
+    fn drop(self) {
+        let Calls {
+            name: _,
+            before,
+            measured,
+            after,
+        } = self;
+        drop(before);
+        drop(measured);
+        drop(after);
+    }
 }
 
 /// A send of so many bytes, and its receive.
@@ -57,10 +84,56 @@ fn stream(alloc: Global, name: &'static str, length: usize) -> Result<Calls, All
         space: 0,
         flags: MsgFlags(0),
     };
+    let measured = vec![in alloc; send, receive]?;
     Ok(Calls {
         name,
         before: vec![in alloc; PAIR]?,
-        measured: vec![in alloc; send, receive]?,
+        measured,
+        after: vec![in alloc; close(1), close(2)]?,
+    })
+}
+
+/// A datagram of 64 bytes from number 2, to an address or where that socket is associated, and its receive at
+/// number 1.
+fn exchange(alloc: Global, addr: Option<Addr>) -> Result<Vec<Request>, AllocError> {
+    let bytes = Bytes::new(vec![in alloc; 90; 64]?);
+    let send = Request::SendMsg {
+        fd: Fd(2),
+        addr,
+        bytes,
+        control: Bytes::new(Vec::new(alloc)),
+        flags: MsgFlags(0),
+    };
+    let receive = Request::RecvMsg {
+        fd: Fd(1),
+        n: 64,
+        space: 0,
+        flags: MsgFlags(0),
+    };
+    Ok(vec![in alloc; send, receive]?)
+}
+
+/// A datagram on a pair.
+fn datagram_on_a_pair(alloc: Global, name: &'static str) -> Result<Calls, AllocError> {
+    Ok(Calls {
+        name,
+        before: vec![in alloc; DATAGRAM_PAIR]?,
+        measured: exchange(alloc, None)?,
+        after: vec![in alloc; close(1), close(2)]?,
+    })
+}
+
+/// A datagram to an abstract name.
+fn datagram_by_address(alloc: Global, name: &'static str) -> Result<Calls, AllocError> {
+    let bind = Request::Bind {
+        fd: Fd(1),
+        addr: Addr::Abstract(named(alloc, b"target")?),
+    };
+    let target = Addr::Abstract(named(alloc, b"target")?);
+    Ok(Calls {
+        name,
+        before: vec![in alloc; DATAGRAM_SOCKET, bind, DATAGRAM_SOCKET]?,
+        measured: exchange(alloc, Some(target))?,
         after: vec![in alloc; close(1), close(2)]?,
     })
 }
@@ -105,6 +178,7 @@ fn connection(alloc: Global, name: &'static str) -> Result<Calls, AllocError> {
         fd: Fd(1),
         backlog: 4,
     };
+    let before = vec![in alloc; SOCKET, bind, listen]?;
     let connect = Request::Connect {
         fd: Fd(2),
         addr: Addr::Abstract(named(alloc, b"listener")?),
@@ -113,10 +187,11 @@ fn connection(alloc: Global, name: &'static str) -> Result<Calls, AllocError> {
         fd: Fd(1),
         flags: OpenFlags(0),
     };
+    let measured = vec![in alloc; SOCKET, connect, accept, close(3), close(2)]?;
     Ok(Calls {
         name,
-        before: vec![in alloc; SOCKET, bind, listen]?,
-        measured: vec![in alloc; SOCKET, connect, accept, close(3), close(2)]?,
+        before,
+        measured,
         after: vec![in alloc; close(1)]?,
     })
 }
@@ -133,10 +208,11 @@ fn alone(alloc: Global, name: &'static str, measured: Vec<Request>) -> Calls {
 
 /// A call on the file, which starts at its front.
 fn on_file(alloc: Global, name: &'static str, call: Request) -> Result<Calls, AllocError> {
+    let measured = vec![in alloc; call]?;
     Ok(Calls {
         name,
         before: vec![in alloc; REWIND]?,
-        measured: vec![in alloc; call]?,
+        measured,
         after: Vec::new(alloc),
     })
 }
@@ -157,6 +233,14 @@ fn socket_calls(alloc: Global) -> Result<Vec<Calls>, AllocError> {
         )?,
         alone(alloc, "pair and two closes", pair),
         connection(alloc, "socket, connect, accept, two closes")?,
+    ]?)
+}
+
+/// The calls on datagram sockets.
+fn datagram_calls(alloc: Global) -> Result<Vec<Calls>, AllocError> {
+    Ok(vec![in alloc;
+        datagram_on_a_pair(alloc, "datagram of 64 bytes on a pair")?,
+        datagram_by_address(alloc, "datagram of 64 bytes by an address")?,
     ]?)
 }
 
@@ -238,6 +322,8 @@ pub(crate) fn measure<R: Clock + Eprint, L: Layer>(
 ) -> Result<()> {
     let sockets = socket_calls(alloc)?;
     print_times(rt, what, layer, sockets.as_slice())?;
+    let datagrams = datagram_calls(alloc)?;
+    print_times(rt, what, layer, datagrams.as_slice())?;
     let files = file_calls(alloc)?;
     print_times(rt, what, layer, files.as_slice())
 }

@@ -6,7 +6,7 @@ use ux_history::Book;
 use ux_kernel::Kernel;
 use ux_objects::MemFile;
 use ux_state::RetiredList;
-use ux_types::{Addr, Fd, Mode, Name, OpenFlags, Pid, ProcSpec, Reply, Request};
+use ux_types::{Addr, Fd, Mode, Name, OpenFlags, Pid, ProcSpec, Reply, Request, SockType};
 
 /// A user's process with the greatest table.
 const PROCESS: ProcSpec = ProcSpec {
@@ -28,6 +28,7 @@ pub(crate) const CALLER: Pid = Pid(1);
 
 /// A socket at the lowest free number.
 pub(crate) const SOCKET: Request = Request::Socket {
+    kind: SockType::Stream,
     flags: OpenFlags(0),
 };
 
@@ -38,18 +39,38 @@ pub(crate) trait Layer {
 }
 
 /// A kernel alone.
-#[derive(Drop)]
 pub(crate) struct Stepped {
     kernel: Kernel<MemFile>,
     retired: RetiredList<MemFile>,
     tag: u64,
 }
 
+/// Written out, a drop is a call, and not each of its parts in the proof of each function that drops a layer.
+impl Drop for Stepped {
+    fn drop(self) {
+        let Stepped {
+            kernel,
+            retired,
+            tag: _,
+        } = self;
+        drop(kernel);
+        drop(retired);
+    }
+}
+
 /// A book.
-#[derive(Drop)]
 pub(crate) struct Recorded {
     book: Book<MemFile>,
     retired: RetiredList<MemFile>,
+}
+
+/// As of a kernel alone.
+impl Drop for Recorded {
+    fn drop(self) {
+        let Recorded { book, retired } = self;
+        drop(book);
+        drop(retired);
+    }
 }
 
 /// The path of the file.
@@ -71,15 +92,20 @@ pub(crate) fn opening(alloc: Global) -> Result<Request, AllocError> {
     })
 }
 
+/// The file that a kernel starts with.
+fn file(alloc: Global) -> Result<Vec<(Name, MemFile)>> {
+    let file = MemFile::new(alloc, &CONTENTS)?;
+    Ok(vec![in alloc; (path(alloc)?, file)]?)
+}
+
 impl Stepped {
     /// A kernel with one file.
     pub(crate) fn new(alloc: Global) -> Result<Stepped> {
-        let file = MemFile::new(alloc, &CONTENTS)?;
-        let objects = vec![in alloc; (path(alloc)?, file)]?;
-        match Kernel::boot(alloc, objects, &PROCESSES) {
+        let retired = RetiredList::new(alloc)?;
+        match Kernel::boot(alloc, file(alloc)?, &PROCESSES) {
             Ok(kernel) => Ok(Stepped {
                 kernel,
-                retired: RetiredList::new(alloc)?,
+                retired,
                 tag: 0,
             }),
             Err((fault, _objects)) => Err(anyhow!("{fault}")),
@@ -90,18 +116,17 @@ impl Stepped {
 impl Recorded {
     /// A book of a kernel with one file.
     pub(crate) fn new(alloc: Global) -> Result<Recorded> {
-        let file = MemFile::new(alloc, &CONTENTS)?;
-        let objects = vec![in alloc; (path(alloc)?, file)]?;
-        let kernel = match Kernel::boot(alloc, objects, &PROCESSES) {
+        let retired = RetiredList::new(alloc)?;
+        let kernel = match Kernel::boot(alloc, file(alloc)?, &PROCESSES) {
             Ok(kernel) => kernel,
             Err((fault, _objects)) => return Err(anyhow!("{fault}")),
         };
         match Book::new(alloc, kernel) {
-            Ok(book) => Ok(Recorded {
-                book,
-                retired: RetiredList::new(alloc)?,
-            }),
-            Err((_kernel, error)) => Err(anyhow!("{error}")),
+            Ok(book) => Ok(Recorded { book, retired }),
+            Err((kernel, error)) => {
+                drop(kernel);
+                Err(anyhow!("{error}"))
+            }
         }
     }
 
@@ -149,21 +174,27 @@ pub(crate) fn must<L: Layer>(layer: &mut L, pid: Pid, request: &Request) -> Resu
     Err(anyhow!("a call was refused"))
 }
 
+/// Makes a call that must be granted, and drops it.
+fn must_once<L: Layer>(layer: &mut L, pid: Pid, request: Request) -> Result<()> {
+    let made = must(layer, pid, &request);
+    drop(request);
+    made
+}
+
 /// Opens the file in each process, with so many descriptors of it in all.
 pub(crate) fn fill<L: Layer>(alloc: Global, layer: &mut L, open: u32) -> Result<()> {
-    let request = opening(alloc)?;
-    must(layer, CALLER, &request)?;
+    must_once(layer, CALLER, opening(alloc)?)?;
     for pid in 2..=5 {
-        fill_process(layer, Pid(pid), &request, open / 4)?;
+        must_once(layer, Pid(pid), opening(alloc)?)?;
+        copy_first(layer, Pid(pid), open / 4)?;
     }
     Ok(())
 }
 
-/// Opens so many descriptors of the file in a process, all but the first of them copies.
-fn fill_process<L: Layer>(layer: &mut L, pid: Pid, request: &Request, open: u32) -> Result<()> {
-    must(layer, pid, request)?;
+/// Copies the first descriptor of a process, until it has so many.
+fn copy_first<L: Layer>(layer: &mut L, pid: Pid, open: u32) -> Result<()> {
     for _ in 1..open {
-        must(layer, pid, &Request::Dup { fd: Fd(0) })?;
+        must_once(layer, pid, Request::Dup { fd: Fd(0) })?;
     }
     Ok(())
 }
@@ -179,11 +210,12 @@ pub(crate) fn make_before<L: Layer>(layer: &mut L, made: u32) -> Result<()> {
 /// Makes a pair, and closes it.
 fn make_pair<L: Layer>(layer: &mut L) -> Result<()> {
     let pair = Request::SocketPair {
+        kind: SockType::Stream,
         flags: OpenFlags(0),
     };
-    must(layer, CALLER, &pair)?;
-    must(layer, CALLER, &Request::Close { fd: Fd(1) })?;
-    must(layer, CALLER, &Request::Close { fd: Fd(2) })
+    must_once(layer, CALLER, pair)?;
+    must_once(layer, CALLER, Request::Close { fd: Fd(1) })?;
+    must_once(layer, CALLER, Request::Close { fd: Fd(2) })
 }
 
 /// Puts so many names in use: half of them are paths whose sockets have gone, half are abstract names of
@@ -207,16 +239,16 @@ fn hold_in<L: Layer>(alloc: Global, layer: &mut L, pid: Pid, names: u32) -> Resu
 
 /// Makes a socket at the lowest free number, which is this one, binds it to a path and closes it.
 fn bind_path<L: Layer>(layer: &mut L, pid: Pid, fd: Fd, path: Name) -> Result<()> {
+    must_once(layer, pid, SOCKET)?;
     let addr = Addr::Path(path);
-    must(layer, pid, &SOCKET)?;
-    must(layer, pid, &Request::Bind { fd, addr })?;
-    must(layer, pid, &Request::Close { fd })
+    must_once(layer, pid, Request::Bind { fd, addr })?;
+    must_once(layer, pid, Request::Close { fd })
 }
 
 /// Makes a socket there, which listens by this abstract name, and stays.
 fn listen_at<L: Layer>(layer: &mut L, pid: Pid, fd: Fd, name: Name) -> Result<()> {
+    must_once(layer, pid, SOCKET)?;
     let addr = Addr::Abstract(name);
-    must(layer, pid, &SOCKET)?;
-    must(layer, pid, &Request::Bind { fd, addr })?;
-    must(layer, pid, &Request::Listen { fd, backlog: 4 })
+    must_once(layer, pid, Request::Bind { fd, addr })?;
+    must_once(layer, pid, Request::Listen { fd, backlog: 4 })
 }

@@ -13,7 +13,7 @@ use ux_syntax::{Script, parse_script};
 use ux_types::Name;
 
 /// The scripts by their names.
-const SCRIPTS: [&str; 52] = [
+const SCRIPTS: [&str; 71] = [
     "hello",
     "lost_peer",
     "peek_then_read",
@@ -66,6 +66,25 @@ const SCRIPTS: [&str; 52] = [
     "refusals_of_send",
     "control_buffers",
     "control_space",
+    "datagrams_are_cut",
+    "socket_in_its_own_queue",
+    "associated_sockets",
+    "whom_a_datagram_socket_sends_to",
+    "lost_target_stays_lost",
+    "refusals_of_datagrams",
+    "records_keep_their_ends",
+    "record_server",
+    "logger",
+    "rights_without_data",
+    "reads_and_writes_of_messages",
+    "lost_record_peer",
+    "sixteen_messages_wait",
+    "real_length_of_a_stream",
+    "shut_down_for_writing",
+    "shut_down_both_ways",
+    "shut_down_records",
+    "shut_down_datagrams",
+    "whom_shutdown_refuses",
 ];
 
 /// A file object as a kernel holds it.

@@ -33,20 +33,22 @@ fn start(alloc: Global) -> Result<Book<MemFile>> {
     };
     match Book::new(alloc, kernel) {
         Ok(book) => Ok(book),
-        Err((_kernel, error)) => Err(anyhow!("{error}")),
+        // The kernel comes back with the error.
+        Err((kernel, error)) => {
+            drop(kernel);
+            Err(anyhow!("{error}"))
+        }
     }
 }
 
 /// The calls that the process makes.
 fn calls(alloc: Global) -> Result<Vec<Request>> {
+    let path = Name::new(BString::from_slice(alloc, b"notes")?);
+    let bytes = Bytes::new(Vec::from_slice(alloc, b"hello")?);
     let open = Request::Open {
-        path: Name::new(BString::from_slice(alloc, b"notes")?),
+        path,
         mode: Mode::Both,
         flags: OpenFlags(0),
-    };
-    let write = Request::Write {
-        fd: Fd(0),
-        bytes: Bytes::new(Vec::from_slice(alloc, b"hello")?),
     };
     // The dup shares the offset of its original, which is set back to the beginning.
     let rewind = Request::Lseek {
@@ -54,13 +56,12 @@ fn calls(alloc: Global) -> Result<Vec<Request>> {
         offset: 0,
         whence: Whence::Set,
     };
-    let read = Request::Read { fd: Fd(0), n: 64 };
     Ok(vec![in alloc;
         open,
-        write,
+        Request::Write { fd: Fd(0), bytes },
         Request::Dup { fd: Fd(0) },
         rewind,
-        read,
+        Request::Read { fd: Fd(0), n: 64 },
         Request::Close { fd: Fd(0) },
         Request::Exit,
     ]?)
@@ -91,10 +92,19 @@ fn print_history(rt: &(impl Print + AllocGlobal), book: &Book<MemFile>) -> Resul
     Ok(())
 }
 
+/// Fills this book, and prints its history.
+fn fill(rt: &(impl Print + AllocGlobal), book: &mut Book<MemFile>) -> Result<()> {
+    let requests = calls(rt.alloc())?;
+    make_calls(rt.alloc(), book, &requests)?;
+    print_history(rt, book)
+}
+
 fn run(rt: &(impl Print + AllocGlobal)) -> Result<()> {
     let mut book = start(rt.alloc())?;
-    make_calls(rt.alloc(), &mut book, &calls(rt.alloc())?)?;
-    print_history(rt, &book)
+    let filled = fill(rt, &mut book);
+    // One drop for all ways out of `fill` keeps the proof short.
+    drop(book);
+    filled
 }
 
 fn main(rt: HostRuntime) -> Result<()> {

@@ -2,7 +2,7 @@
 ghost use Rattle.std.specs.Prelude.{◌≡◌, ◌↔◌, ◌≤◌, length, Some, None, IfOk, IsSome, IsSomeAnd, MatchOption, OnOk, OnErr, is_some, option_map, option_and_then, slice_get};
 ghost use Rattle.ux_model.specs.Backlog.{backlog_of};
 ghost use Rattle.ux_model.specs.Names.{is_unnamed_addr};
-ghost use Rattle.ux_model.specs.Socket.{peer_of, pending_ends, awaiting};
+ghost use Rattle.ux_model.specs.Socket.{peer_of, pending_ends, awaiting, with_association, shut_down};
 ghost use Rattle.ux_model.specs.Description.{socket_of, changed};
 ghost use Rattle.ux_model.specs.Binding.{with_name};
 ghost use Rattle.ux_model.specs.Connecting.{listener_of, with_listening, server_end, tied};
@@ -14,18 +14,9 @@ use crate::phase::{Listener, Phase};
 use crate::socket::Socket;
 use std::alloc::{AllocError, Global};
 use ux_backlog::{Backlog, PushError};
-use ux_types::{Addr, Cred, DescriptionId, Name, OpenFlags, SockType};
+use ux_types::{Addr, Cred, DescriptionId, Mode, Name, OpenFlags};
 
 impl Socket {
-    /// Its type.
-    pub fn kind(&self) -> SockType
-        ensures { result ≡ self.now.kind }
-    {
-        // Each socket has a stream's queue; the proof sees so once the socket is read.
-        let _queue = &self.queue;
-        SockType::Stream
-    }
-
     /// Whether it has no name.
     pub fn is_unnamed(&self) -> bool
         ensures { result ≡ is_unnamed_addr self.now.name }
@@ -104,7 +95,7 @@ impl Socket {
     ) -> Result<Socket, AllocError>
         ensures { IfOk result (λ s. s ≡ server_end self.now client cred) }
     {
-        let mut socket = Socket::new(alloc);
+        let mut socket = Socket::new(alloc, self.kind());
         socket.phase = Phase::Connected(client);
         socket.name = self.name.clone()?;
         socket.peer_cred = Some(cred);
@@ -209,6 +200,24 @@ impl Description {
     {
         if let Target::Socket(s) = &mut self.target {
             s.tie(peer, cred);
+        }
+    }
+
+    /// Associates its datagram socket with that of another description, or with none (connect(2)).
+    pub fn set_association(&mut self, target: Option<DescriptionId>)
+        ensures { self.new ≡ changed (with_association target) self.old }
+    {
+        if let Target::Socket(s) = &mut self.target {
+            s.set_association(target);
+        }
+    }
+
+    /// Shuts its socket down for reading, for writing or for both (shutdown(2)).
+    pub fn shut_down(&mut self, how: Mode)
+        ensures { self.new ≡ changed (shut_down how) self.old }
+    {
+        if let Target::Socket(s) = &mut self.target {
+            s.shut_down(how);
         }
     }
 

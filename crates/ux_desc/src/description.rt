@@ -1,7 +1,8 @@
 //! An open file description.
-ghost use Rattle.std.specs.Prelude.{◌≡◌, ◌↔◌, ◌<◌, Some, None, MatchOption, IsSome, IsSomeAnd, IsErrAnd, IfOk, IfErr, OnOk, OnErr, length, min};
-ghost use Rattle.ux_model.specs.Socket.{stream_room, sent, with_queue, with_reset};
-ghost use Rattle.ux_model.specs.Front.{OnStreamFront};
+ghost use Rattle.std.specs.Prelude.{◌≡◌, ◌↔◌, ◌<◌, false, Some, None, MatchOption, IsTrue, IsSomeAnd, IsErrAnd, IfOk, IfErr, OnOk, OnErr, length};
+ghost use Rattle.ux_model.specs.Message.{message};
+ghost use Rattle.ux_model.specs.Socket.{is_stream, has_room, sent_part, sent, with_queue, with_reset};
+ghost use Rattle.ux_model.specs.Front.{OnFront};
 ghost use Rattle.ux_model.specs.Description.{socket_of, object_of, changed};
 ghost use Rattle.ux_model.specs.Pairing.{socket_description};
 ghost use Rattle.ux_model.specs.Opening.{file_description};
@@ -11,11 +12,10 @@ ghost use Rattle.ux_desc.specs.Targets.{target_of};
 
 use crate::socket::Socket;
 use bitflags::Flags;
-use std::alloc::AllocError;
 use std::marker::Model;
-use ux_rights::RefList;
-use ux_stream::{Received, Refused, SendError};
-use ux_types::{Cred, DescriptionId, Mode, OpenFlags};
+use ux_rights::{RefList, SendError};
+use ux_stream::Refused;
+use ux_types::{Addr, Cred, DescriptionId, Mode, OpenFlags};
 
 /// What a description leads to.
 #[derive(Drop)]
@@ -136,7 +136,8 @@ impl Description {
         self.nonblock = flags.contains(OpenFlags::NONBLOCK);
     }
 
-    /// Queues the bytes that its socket has room for, and says how many.
+    /// Queues a message at its socket, of a stream the bytes that there is room for, and says how many bytes.
+    /// A stream is sent some, and keeps no sender's name.
     ///
     /// # Errors
     ///
@@ -149,31 +150,31 @@ impl Description {
         rights: RefList,
         cred: Cred,
         uid: u32,
+        from: Option<Addr>,
     ) -> Result<usize, Refused>
-        requires socket { IsSome (socket_of self.old.target) }
-        requires some { 0 < length bytes.now }
-        ensures count { IfOk result (λ count. IsSomeAnd (socket_of self.old.target) (λ s. count ≡ min (stream_room s) (length bytes.now))) }
-        ensures ok { OnOk result (self.new ≡ changed (sent (record { tag = tag; bytes = bytes.now; rights = rights; cred = cred; uid = uid; from = None })) self.old) }
-        ensures full { IsErrAnd result (λ e. e.error ≡ SendError.Full) ↔ IsSomeAnd (socket_of self.old.target) (λ s. stream_room s ≡ 0) }
+        requires some { IsSomeAnd (socket_of self.old.target) (λ s. IsTrue (is_stream s.kind) → 0 < length bytes.now) }
+        ensures count { IfOk result (λ count. IsSomeAnd (socket_of self.old.target) (λ s. count ≡ length (sent_part s (message tag bytes.now rights cred uid from)).bytes)) }
+        ensures ok { OnOk result (self.new ≡ changed (sent (message tag bytes.now rights cred uid from)) self.old) }
+        ensures full { IsErrAnd result (λ e. e.error ≡ SendError.Full) ↔ IsSomeAnd (socket_of self.old.target) (λ s. has_room s ≡ false) }
         ensures given_back { IfErr result (λ e. e.rights ≡ rights) }
         ensures err { OnErr result (self.new ≡ self.old) }
     {
         match &mut self.target {
             Target::Object(_) => unreachable!(),
-            Target::Socket(s) => s.send(bytes, tag, rights, cred, uid),
+            Target::Socket(s) => s.send(bytes, tag, rights, cred, uid, from),
         }
     }
 
-    /// Takes at most n bytes off the front of its socket's queue, and gives the rights that come with
-    /// them. It takes no memory.
-    pub fn skip(&mut self, n: usize, wants_cred: bool) -> RefList
+    /// Takes off what a receive of at most n bytes takes at its socket, and gives the rights that come with
+    /// it. It takes no memory.
+    pub fn skip(&mut self, n: usize) -> RefList
         requires some { IsSomeAnd (socket_of self.old.target) (λ s. 0 < length s.queue) }
-        ensures rights { IsSomeAnd (socket_of self.old.target) (λ s. OnStreamFront wants_cred n s.queue (λ f. result ≡ f.rights)) }
-        ensures rest { IsSomeAnd (socket_of self.old.target) (λ s. OnStreamFront wants_cred n s.queue (λ f. self.new ≡ changed (with_queue f.rest) self.old)) }
+        ensures rights { IsSomeAnd (socket_of self.old.target) (λ s. OnFront n s (λ f. result ≡ f.rights)) }
+        ensures rest { IsSomeAnd (socket_of self.old.target) (λ s. OnFront n s (λ f. self.new ≡ changed (with_queue f.rest) self.old)) }
     {
         match &mut self.target {
             Target::Object(_) => unreachable!(),
-            Target::Socket(s) => s.skip(n, wants_cred),
+            Target::Socket(s) => s.skip(n),
         }
     }
 

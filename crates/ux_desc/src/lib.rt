@@ -5,10 +5,12 @@
 mod connecting;
 mod description;
 mod phase;
+mod queue;
 mod socket;
 
 pub use description::{Description, Target};
 pub use phase::{Listener, Phase};
+pub use queue::Queue;
 pub use socket::Socket;
 
 #[cfg(test)]

@@ -3,15 +3,17 @@
 use ux_backlog::Backlog;
 use ux_types::{Cred, DescriptionId};
 
-/// Whom a socket is tied to. A peer may be gone.
+/// Whom a socket is tied to. A peer or a target may be gone.
 #[derive(Drop)]
 pub enum Phase {
     /// Nobody.
     Idle,
     /// The ends that wait at a listener.
     Listening(Listener),
-    /// The peer.
+    /// The peer of a stream or seqpacket socket.
     Connected(DescriptionId),
+    /// Where a datagram socket sends by default.
+    Associated(DescriptionId),
 }
 
 /// What a listening socket keeps.

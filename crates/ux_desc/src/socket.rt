@@ -1,27 +1,30 @@
 //! A socket.
-ghost use Rattle.std.specs.Prelude.{◌≡◌, ◌↔◌, ◌==◌, ◌<◌, min, length, drop, Some, None, IsTrue, IsSome, IfOk, IfErr, IsErrAnd, OnOk, OnErr, option_map, slice_get};
-ghost use Rattle.ux_model.specs.Socket.{new_socket, pair_end, peer_of, pending_ends, stream_room, sent_part, queued, with_queue, with_reset};
-ghost use Rattle.ux_model.specs.Types.{SockType};
-ghost use Rattle.ux_model.specs.Front.{OnStreamFront};
+ghost use Rattle.std.specs.Prelude.{◌≡◌, ◌↔◌, ◌==◌, ◌<◌, ◌≤◌, ◌-◌, [], ◌∷◌, ◌++◌, length, drop, false, Some, None, IsTrue, IfOk, IfErr, IsErrAnd, OnOk, OnErr, option_map, slice_get};
+ghost use Rattle.ux_model.specs.Limits.{stream_limit, record_limit};
+ghost use Rattle.ux_model.specs.Message.{message, queued_bytes};
+ghost use Rattle.ux_model.specs.Socket.{is_stream, is_dgram, new_socket, pair_end, peer_of, association_of, tied_socket, takes_from, pending_ends, has_room, sent_part, sent, with_queue, with_reset, with_association, shut_down};
+ghost use Rattle.ux_model.specs.Front.{OnStreamFront, OnRecordFront, OnFront};
 ghost use Rattle.ux_model.specs.Accepting.{without_first_end};
 ghost use Rattle.ux_model.specs.Release.{resets_peer};
 
 use crate::phase::Phase;
+use crate::queue::Queue;
 use std::alloc::{AllocError, Global};
 use std::marker::Model;
-use ux_rights::RefList;
-use ux_stream::{Received, Refused, SendError, StreamQueue};
-use ux_types::{Addr, Cred, DescriptionId};
+use ux_record::{Received, RecordQueue};
+use ux_rights::{RefList, SendError};
+use ux_stream::{Refused, StreamQueue};
+use ux_types::{Addr, Cred, DescriptionId, Mode, SockType};
 
 /// The bytes that wait in one stream's queue at most.
 const STREAM_LIMIT: usize = 65536;
 
-/// A stream socket, without what its descriptors and its description say (unix(7)).
+/// A socket, without what its descriptors and its description say (unix(7)).
 #[derive(Drop)]
 pub struct Socket {
     pub(crate) phase: Phase,
-    /// What was sent to it.
-    pub(crate) queue: StreamQueue,
+    /// What was sent to it, by its type.
+    queue: Queue,
     pub(crate) name: Addr,
     /// SO_PASSCRED.
     passcred: bool,
@@ -36,16 +39,15 @@ pub struct Socket {
 }
 
 impl Model for Socket {
-    ghost use Rattle.ux_model.specs.Types.{SockType};
     ghost use Rattle.ux_model.specs.Socket as model;
-    ghost use Rattle.ux_desc.specs.Views.{phase_of};
+    ghost use Rattle.ux_desc.specs.Views.{phase_of, kind_of, messages_of};
 
     ghost Value = { model.Socket };
 
     ghost view = { λ s. record {
-      kind = SockType.Stream;
+      kind = kind_of s.queue;
       phase = phase_of s.phase;
-      queue = s.queue;
+      queue = messages_of s.queue;
       name = s.name;
       passcred = s.passcred;
       read_shut = s.read_shut;
@@ -57,13 +59,13 @@ impl Model for Socket {
 }
 
 impl Socket {
-    /// A new socket that is tied to nobody (socket(2)).
-    pub fn new(alloc: Global) -> Socket
-        ensures { result ≡ new_socket SockType.Stream }
+    /// A new socket of this type that is tied to nobody (socket(2)).
+    pub fn new(alloc: Global, kind: SockType) -> Socket
+        ensures { result ≡ new_socket kind }
     {
         Socket {
             phase: Phase::Idle,
-            queue: StreamQueue::new(alloc),
+            queue: Queue::new(alloc, kind),
             name: Addr::Unnamed,
             passcred: false,
             read_shut: false,
@@ -74,14 +76,43 @@ impl Socket {
         }
     }
 
-    /// One end of a pair that a process with these credentials makes (socketpair(2)).
-    pub fn pair_end(alloc: Global, peer: DescriptionId, cred: Cred) -> Socket
-        ensures { result ≡ pair_end SockType.Stream peer cred }
+    /// One end of a pair that a process with these credentials makes (socketpair(2)): connected to the
+    /// other, or for datagrams associated with it.
+    pub fn pair_end(alloc: Global, kind: SockType, peer: DescriptionId, cred: Cred) -> Socket
+        ensures { result ≡ pair_end kind peer cred }
     {
-        let mut socket = Socket::new(alloc);
-        socket.phase = Phase::Connected(peer);
+        let mut socket = Socket::new(alloc, kind);
+        socket.phase = match kind {
+            SockType::Dgram => Phase::Associated(peer),
+            SockType::Stream | SockType::Seq => Phase::Connected(peer),
+        };
         socket.peer_cred = Some(cred);
         socket
+    }
+
+    /// Its type.
+    pub fn kind(&self) -> SockType
+        ensures { result ≡ self.now.kind }
+    {
+        match &self.queue {
+            Queue::Stream(_) => SockType::Stream,
+            Queue::Dgram(_) => SockType::Dgram,
+            Queue::Seq(_) => SockType::Seq,
+        }
+    }
+
+    /// Whether it is a stream socket.
+    pub fn is_stream(&self) -> bool
+        ensures { result ≡ is_stream self.now.kind }
+    {
+        matches!(&self.queue, Queue::Stream(_))
+    }
+
+    /// Whether it is a datagram socket.
+    pub fn is_datagram(&self) -> bool
+        ensures { result ≡ is_dgram self.now.kind }
+    {
+        matches!(&self.queue, Queue::Dgram(_))
     }
 
     /// The description of the socket that it is connected to, which may be gone.
@@ -91,6 +122,37 @@ impl Socket {
         match &self.phase {
             Phase::Connected(peer) => Some(*peer),
             _ => None,
+        }
+    }
+
+    /// The description of the socket that it is associated with, which may be gone.
+    pub fn association(&self) -> Option<DescriptionId>
+        ensures { result ≡ association_of self.now.phase }
+    {
+        match &self.phase {
+            Phase::Associated(target) => Some(*target),
+            _ => None,
+        }
+    }
+
+    /// The description of the socket that it is connected to or associated with, which may be gone.
+    pub fn tied_socket(&self) -> Option<DescriptionId>
+        ensures { result ≡ tied_socket self.now.phase }
+    {
+        match &self.phase {
+            Phase::Connected(other) | Phase::Associated(other) => Some(*other),
+            _ => None,
+        }
+    }
+
+    /// Whether it takes datagrams from the socket of this description: an associated one does from its
+    /// target alone.
+    pub fn takes_from(&self, sender: DescriptionId) -> bool
+        ensures { result ≡ takes_from sender self.now.phase }
+    {
+        match self.association() {
+            Some(target) => target == sender,
+            None => true,
         }
     }
 
@@ -108,6 +170,20 @@ impl Socket {
         self.passcred
     }
 
+    /// Whether it is shut down for reading.
+    pub fn is_read_shut(&self) -> bool
+        ensures { result ≡ self.now.read_shut }
+    {
+        self.read_shut
+    }
+
+    /// Whether it is shut down for writing.
+    pub fn is_write_shut(&self) -> bool
+        ensures { result ≡ self.now.write_shut }
+    {
+        self.write_shut
+    }
+
     /// Whether ECONNRESET is pending.
     pub fn reset(&self) -> bool
         ensures { result ≡ self.now.reset }
@@ -119,24 +195,33 @@ impl Socket {
     pub fn is_empty(&self) -> bool
         ensures { result ≡ (length self.now.queue == 0) }
     {
-        self.queue.is_empty()
+        match &self.queue {
+            Queue::Stream(queue) => queue.is_empty(),
+            Queue::Dgram(queue) => queue.is_empty(),
+            Queue::Seq(queue) => queue.is_empty(),
+        }
     }
 
     /// Whether its loss resets its peer: it has unread messages, or was never accepted.
     pub fn resets_peer(&self) -> bool
         ensures { result ≡ resets_peer (Some self.now) }
     {
-        !self.queue.is_empty() || !self.accepted
+        !self.is_empty() || !self.accepted
     }
 
-    /// The bytes that its queue still takes.
-    pub fn room(&self) -> usize
-        ensures { result ≡ stream_room self.now }
+    /// Whether it takes one more message: a stream, a byte of it at least.
+    pub fn has_room(&self) -> bool
+        ensures { result ≡ has_room self.now }
     {
-        STREAM_LIMIT.saturating_sub(self.queue.len_bytes())
+        match &self.queue {
+            Queue::Stream(queue) => room_of(queue) != 0,
+            Queue::Dgram(queue) => !queue.is_full(),
+            Queue::Seq(queue) => !queue.is_full(),
+        }
     }
 
-    /// Queues the bytes that there is room for, and says how many.
+    /// Queues a message, of a stream the bytes that there is room for, and says how many bytes. A stream is
+    /// sent some, and keeps no sender's name.
     ///
     /// # Errors
     ///
@@ -149,40 +234,58 @@ impl Socket {
         rights: RefList,
         cred: Cred,
         uid: u32,
+        from: Option<Addr>,
     ) -> Result<usize, Refused>
-        requires some { 0 < length bytes.now }
-        ensures count { IfOk result (λ count. count ≡ min (stream_room self.old) (length bytes.now)) }
-        ensures ok { OnOk result (self.new ≡ queued (sent_part self.old (record { tag = tag; bytes = bytes.now; rights = rights; cred = cred; uid = uid; from = None })) self.old) }
-        ensures full { IsErrAnd result (λ e. e.error ≡ SendError.Full) ↔ (stream_room self.old ≡ 0) }
+        requires some { IsTrue (is_stream self.old.kind) → 0 < length bytes.now }
+        ensures count { IfOk result (λ count. count ≡ length (sent_part self.old (message tag bytes.now rights cred uid from)).bytes) }
+        ensures ok { OnOk result (self.new ≡ sent (message tag bytes.now rights cred uid from) self.old) }
+        ensures full { IsErrAnd result (λ e. e.error ≡ SendError.Full) ↔ (has_room self.old ≡ false) }
         ensures given_back { IfErr result (λ e. e.rights ≡ rights) }
         ensures err { OnErr result (self.new ≡ self.old) }
     {
-        let room = self.room();
-        self.queue.send(bytes, room, tag, rights, cred, uid)
+        match &mut self.queue {
+            Queue::Stream(queue) => {
+                let room = room_of(queue);
+                queue.send(bytes, room, tag, rights, cred, uid)
+            }
+            Queue::Dgram(queue) => send_whole(queue, bytes, tag, rights, cred, uid, from),
+            Queue::Seq(queue) => send_whole(queue, bytes, tag, rights, cred, uid, from),
+        }
     }
 
-    /// The first bytes that wait, at most n, with the rights and the credentials that come with them. The
-    /// socket stays as it is.
+    /// What a receive of at most n bytes gives: of a stream the first bytes that wait, with the rights and
+    /// the credentials that come with them, else the first message. The socket stays as it is.
     ///
     /// # Errors
     ///
     /// Out of memory.
-    pub fn peek(&self, n: usize, wants_cred: bool) -> Result<Received, AllocError>
+    pub fn peek(&self, n: usize) -> Result<Received, AllocError>
         requires some { 0 < length self.now.queue }
-        ensures bytes { IfOk result (λ r. OnStreamFront wants_cred n self.now.queue (λ f. r.bytes.items ≡ f.bytes)) }
-        ensures rights { IfOk result (λ r. OnStreamFront wants_cred n self.now.queue (λ f. r.rights ≡ f.rights)) }
-        ensures cred { IfOk result (λ r. OnStreamFront wants_cred n self.now.queue (λ f. r.cred ≡ f.cred)) }
+        ensures bytes { IfOk result (λ r. OnFront n self.now (λ f. r.bytes.items ≡ f.bytes)) }
+        ensures whole { IfOk result (λ r. OnFront n self.now (λ f. r.whole ≡ f.whole)) }
+        ensures rights { IfOk result (λ r. OnFront n self.now (λ f. r.rights ≡ f.rights)) }
+        ensures cred { IfOk result (λ r. OnFront n self.now (λ f. r.cred ≡ f.cred)) }
+        ensures from { IfOk result (λ r. OnFront n self.now (λ f. r.from ≡ f.from)) }
     {
-        self.queue.peek(n, wants_cred)
+        match &self.queue {
+            Queue::Stream(queue) => peek_stream(queue, n, self.passcred),
+            Queue::Dgram(queue) => queue.peek(n),
+            Queue::Seq(queue) => queue.peek(n),
+        }
     }
 
-    /// Takes off what `peek` shows, and gives the rights that come with it. It takes no memory.
-    pub fn skip(&mut self, n: usize, wants_cred: bool) -> RefList
+    /// Takes off what `peek` shows, and of a message what it doesn't show, and gives the rights. It takes no
+    /// memory.
+    pub fn skip(&mut self, n: usize) -> RefList
         requires some { 0 < length self.old.queue }
-        ensures rights { OnStreamFront wants_cred n self.old.queue (λ f. result ≡ f.rights) }
-        ensures rest { OnStreamFront wants_cred n self.old.queue (λ f. self.new ≡ with_queue f.rest self.old) }
+        ensures rights { OnFront n self.old (λ f. result ≡ f.rights) }
+        ensures rest { OnFront n self.old (λ f. self.new ≡ with_queue f.rest self.old) }
     {
-        self.queue.skip(n, wants_cred)
+        match &mut self.queue {
+            Queue::Stream(queue) => queue.skip(n, self.passcred),
+            Queue::Dgram(queue) => first_rights(queue),
+            Queue::Seq(queue) => first_rights(queue),
+        }
     }
 
     /// Takes the first message off, and gives its rights and the user who sent it. It takes no memory.
@@ -190,7 +293,11 @@ impl Socket {
         ensures first { result ≡ option_map (λ m. (m.rights, m.uid)) (slice_get self.old.queue 0) }
         ensures rest { self.new ≡ with_queue (drop 1 self.old.queue) self.old }
     {
-        self.queue.pop_message()
+        match &mut self.queue {
+            Queue::Stream(queue) => queue.pop_message(),
+            Queue::Dgram(queue) => queue.pop_message(),
+            Queue::Seq(queue) => queue.pop_message(),
+        }
     }
 
     /// Takes the oldest of the ends that wait for accept off. It takes no memory.
@@ -206,10 +313,96 @@ impl Socket {
         }
     }
 
+    /// Associates a datagram socket with the socket of a description, or with none (connect(2)).
+    pub fn set_association(&mut self, target: Option<DescriptionId>)
+        ensures { self.new ≡ with_association target self.old }
+    {
+        match &self.phase {
+            Phase::Idle | Phase::Associated(_) => {}
+            _ => return,
+        }
+        self.phase = match target {
+            Some(target) => Phase::Associated(target),
+            None => Phase::Idle,
+        };
+    }
+
+    /// Shuts it down for reading, for writing or for both (shutdown(2)). What was shut down stays so.
+    pub fn shut_down(&mut self, how: Mode)
+        ensures { self.new ≡ shut_down how self.old }
+    {
+        self.read_shut = self.read_shut || how.can_read();
+        self.write_shut = self.write_shut || how.can_write();
+    }
+
     /// ECONNRESET is pending from now on, or no longer.
     pub fn set_reset(&mut self, on: bool)
         ensures { self.new ≡ with_reset on self.old }
     {
         self.reset = on;
+    }
+}
+
+/// The bytes that a stream's queue still takes.
+fn room_of(queue: &StreamQueue) -> usize
+    ensures { result ≡ stream_limit - queued_bytes queue.now }
+{
+    STREAM_LIMIT.saturating_sub(queue.len_bytes())
+}
+
+/// Queues a message whole, and says how many bytes it has.
+fn send_whole(
+    queue: &mut RecordQueue,
+    bytes: &[u8],
+    tag: u64,
+    rights: RefList,
+    cred: Cred,
+    uid: u32,
+    from: Option<Addr>,
+) -> Result<usize, Refused>
+    ensures count { IfOk result (λ count. count ≡ length bytes.now) }
+    ensures ok { OnOk result (queue.new ≡ queue.old ++ message tag bytes.now rights cred uid from ∷ []) }
+    ensures full { IsErrAnd result (λ e. e.error ≡ SendError.Full) ↔ (record_limit ≤ length queue.old) }
+    ensures given_back { IfErr result (λ e. e.rights ≡ rights) }
+    ensures err { OnErr result (queue.new ≡ queue.old) }
+{
+    match queue.send(bytes, tag, rights, cred, uid, from) {
+        Ok(()) => Ok(bytes.len()),
+        Err(refused) => Err(Refused {
+            error: refused.error,
+            rights: refused.rights,
+        }),
+    }
+}
+
+/// What a receive of at most n bytes gives of a stream.
+fn peek_stream(queue: &StreamQueue, n: usize, wants_cred: bool) -> Result<Received, AllocError>
+    requires { 0 < length queue.now }
+    ensures bytes { IfOk result (λ r. OnStreamFront wants_cred n queue.now (λ f. r.bytes.items ≡ f.bytes)) }
+    ensures whole { IfOk result (λ r. OnStreamFront wants_cred n queue.now (λ f. r.whole ≡ f.whole)) }
+    ensures rights { IfOk result (λ r. OnStreamFront wants_cred n queue.now (λ f. r.rights ≡ f.rights)) }
+    ensures cred { IfOk result (λ r. OnStreamFront wants_cred n queue.now (λ f. r.cred ≡ f.cred)) }
+    ensures from { IfOk result (λ r. r.from ≡ None) }
+{
+    let front = queue.peek(n, wants_cred)?;
+    Ok(Received {
+        whole: front.bytes.len(),
+        bytes: front.bytes,
+        rights: front.rights,
+        origin: front.origin,
+        cred: front.cred,
+        from: None,
+    })
+}
+
+/// Takes the first message off a queue in which one waits, and gives its rights.
+fn first_rights(queue: &mut RecordQueue) -> RefList
+    requires { 0 < length queue.old }
+    ensures rights { OnRecordFront 0 queue.old (λ f. result ≡ f.rights) }
+    ensures rest { OnRecordFront 0 queue.old (λ f. queue.new ≡ f.rest) }
+{
+    match queue.pop_message() {
+        Some((rights, _)) => rights,
+        None => unreachable!(),
     }
 }

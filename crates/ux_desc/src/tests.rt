@@ -5,8 +5,8 @@ use bstr::BString;
 use std::alloc::{AllocError, Global};
 use std::process::Abort;
 use ux_backlog::PushError;
-use ux_rights::RefList;
-use ux_stream::{Received, SendError};
+use ux_record::Received;
+use ux_rights::{RefList, SendError};
 use ux_types::{Addr, Cred, DescriptionId, Mode, Name, OpenFlags, Pid, SockType};
 
 fn user() -> Cred {
@@ -19,7 +19,7 @@ fn user() -> Cred {
 
 /// One end of a pair, whose other end has number 4.
 fn pair_end(alloc: Global) -> Socket {
-    Socket::pair_end(alloc, DescriptionId::new(4), user())
+    Socket::pair_end(alloc, SockType::Stream, DescriptionId::new(4), user())
 }
 
 fn rights(alloc: Global, numbers: [u128; 2]) -> Result<RefList, AllocError> {
@@ -29,7 +29,7 @@ fn rights(alloc: Global, numbers: [u128; 2]) -> Result<RefList, AllocError> {
 /// Sends, of which so many bytes are taken.
 fn send(rt: &impl Abort, s: &mut Socket, bytes: &[u8], rights: RefList, count: usize) {
     assert!(rt; !bytes.is_empty());
-    match s.send(bytes, 1, rights, user(), 1000) {
+    match s.send(bytes, 1, rights, user(), 1000, None) {
         Ok(sent) => assert!(rt; sent == count),
         Err(_) => assert!(rt; false),
     }
@@ -58,8 +58,8 @@ fn take(
     numbers: &[u128],
 ) -> Result<(), AllocError> {
     assert!(rt; !s.is_empty());
-    expect(rt, &s.peek(n, false)?, bytes, numbers);
-    expect_rights(rt, &s.skip(n, false), numbers);
+    expect(rt, &s.peek(n)?, bytes, numbers);
+    expect_rights(rt, &s.skip(n), numbers);
     Ok(())
 }
 
@@ -91,13 +91,12 @@ fn a_socket_keeps_what_was_sent(rt: HostRuntime) -> Result<(), AllocError> {
     assert!(rt; s.peer() == Some(DescriptionId::new(4)));
     assert!(rt; *s.name() == Addr::Unnamed);
     assert!(rt; !s.passcred());
-    assert!(rt; s.room() == 65536);
+    assert!(rt; s.has_room());
     send(&rt, &mut s, b"abc", RefList::new(alloc), 3);
     send(&rt, &mut s, b"de", rights(alloc, [9, 7])?, 2);
-    assert!(rt; s.room() == 65531);
     take(&rt, &mut s, 2, b"ab", &[])?;
     assert!(rt; !s.is_empty());
-    expect(&rt, &s.peek(9, false)?, b"cde", &[9, 7]);
+    expect(&rt, &s.peek(9)?, b"cde", &[9, 7]);
     take(&rt, &mut s, 9, b"cde", &[9, 7])?;
     assert!(rt; s.is_empty());
     assert!(rt; s.pop_message().is_none());
@@ -111,7 +110,7 @@ fn a_full_socket_gives_rights_back(rt: HostRuntime) -> Result<(), AllocError> {
     let most = vec![in alloc; b'x'; 65535]?;
     send(&rt, &mut s, &most, rights(alloc, [5, 6])?, 65535);
     send(&rt, &mut s, b"yz", rights(alloc, [8, 8])?, 1);
-    match s.send(b"z", 3, rights(alloc, [1, 2])?, user(), 1000) {
+    match s.send(b"z", 3, rights(alloc, [1, 2])?, user(), 1000, None) {
         Ok(_) => assert!(rt; false),
         Err(refused) => {
             assert!(rt; refused.error == SendError::Full);
@@ -128,7 +127,7 @@ fn a_full_socket_gives_rights_back(rt: HostRuntime) -> Result<(), AllocError> {
         }
     }
     assert!(rt; s.is_empty());
-    assert!(rt; s.room() == 65536);
+    assert!(rt; s.has_room());
     assert!(rt; s.pop_pending().is_none());
     Ok(())
 }
@@ -139,11 +138,11 @@ fn unread_messages_reset_the_peer(rt: HostRuntime) -> Result<(), AllocError> {
     let mut d = Description::of_socket(OpenFlags(0), pair_end(alloc));
     assert!(rt; d.object().is_none());
     assert!(rt; d.lost_peer().is_none());
-    let sent = d.send(b"ab", 1, RefList::new(alloc), user(), 1000);
+    let sent = d.send(b"ab", 1, RefList::new(alloc), user(), 1000, None);
     assert!(rt; sent.is_ok_and(|count| count == 2));
     assert!(rt; d.lost_peer() == Some(DescriptionId::new(4)));
     assert!(rt; d.socket().is_some_and(|s| !s.is_empty()));
-    expect_rights(&rt, &d.skip(2, false), &[]);
+    expect_rights(&rt, &d.skip(2), &[]);
     assert!(rt; d.socket().is_some_and(|s| s.is_empty()));
     assert!(rt; d.lost_peer().is_none());
     d.set_reset(true);
@@ -167,7 +166,7 @@ fn expect_push(rt: &impl Abort, s: &mut Socket, end: u128, answer: Result<(), Pu
 #[test]
 fn a_listener_keeps_its_ends_when_it_listens_again(rt: HostRuntime) -> Result<(), AllocError> {
     let alloc = rt.alloc();
-    let mut s = Socket::new(alloc);
+    let mut s = Socket::new(alloc, SockType::Stream);
     assert!(rt; s.kind() == SockType::Stream);
     assert!(rt; s.backlog().is_none());
     assert!(rt; s.is_unnamed());
@@ -187,7 +186,7 @@ fn a_listener_keeps_its_ends_when_it_listens_again(rt: HostRuntime) -> Result<()
 #[test]
 fn a_server_end_shows_its_listeners_name(rt: HostRuntime) -> Result<(), AllocError> {
     let alloc = rt.alloc();
-    let mut listener = Socket::new(alloc);
+    let mut listener = Socket::new(alloc, SockType::Stream);
     listener.set_name(path(alloc, b"a")?);
     listener.listen(alloc, 1, user());
     let mut end = listener.server_end(alloc, DescriptionId::new(7), user())?;
@@ -197,7 +196,7 @@ fn a_server_end_shows_its_listeners_name(rt: HostRuntime) -> Result<(), AllocErr
     assert!(rt; end.resets_peer());
     end.set_accepted();
     assert!(rt; !end.resets_peer());
-    let mut client = Description::of_socket(OpenFlags(0), Socket::new(alloc));
+    let mut client = Description::of_socket(OpenFlags(0), Socket::new(alloc, SockType::Stream));
     client.tie(DescriptionId::new(3), user());
     client.set_accepted(OpenFlags(2));
     assert!(rt; client.nonblock());
@@ -208,4 +207,85 @@ fn a_server_end_shows_its_listeners_name(rt: HostRuntime) -> Result<(), AllocErr
     );
     assert!(rt; client.abstract_name().is_none());
     Ok(())
+}
+
+/// Takes one message off, of which so many bytes are asked for.
+fn take_message(
+    rt: &impl Abort,
+    s: &mut Socket,
+    n: usize,
+    bytes: &[u8],
+    whole: usize,
+    from: Option<&Addr>,
+) -> Result<(), AllocError> {
+    assert!(rt; !s.is_empty());
+    let front = s.peek(n)?;
+    expect(rt, &front, bytes, &[]);
+    assert!(rt; front.whole == whole);
+    assert!(rt; front.from.as_ref() == from);
+    expect_rights(rt, &s.skip(n), &[]);
+    Ok(())
+}
+
+#[test]
+fn a_datagram_is_taken_whole(rt: HostRuntime) -> Result<(), AllocError> {
+    let alloc = rt.alloc();
+    let mut s = Socket::new(alloc, SockType::Dgram);
+    let sent = s.send(
+        b"abc",
+        1,
+        RefList::new(alloc),
+        user(),
+        1000,
+        Some(path(alloc, b"a")?),
+    );
+    assert!(rt; sent.is_ok_and(|count| count == 3));
+    let sent = s.send(b"", 2, RefList::new(alloc), user(), 1000, None);
+    assert!(rt; sent.is_ok_and(|count| count == 0));
+    take_message(&rt, &mut s, 2, b"ab", 3, Some(&path(alloc, b"a")?))?;
+    take_message(&rt, &mut s, 2, b"", 0, None)?;
+    assert!(rt; s.is_empty());
+    assert!(rt; s.kind() == SockType::Dgram);
+    assert!(rt; !s.resets_peer());
+    Ok(())
+}
+
+#[test]
+fn sixteen_records_wait(rt: HostRuntime) -> Result<(), AllocError> {
+    let alloc = rt.alloc();
+    let mut s = Socket::new(alloc, SockType::Seq);
+    for _ in 0..16 {
+        assert!(rt; s.has_room());
+        let sent = s.send(b"x", 1, RefList::new(alloc), user(), 1000, None);
+        assert!(rt; sent.is_ok());
+    }
+    assert!(rt; !s.has_room());
+    match s.send(b"x", 1, rights(alloc, [1, 2])?, user(), 1000, None) {
+        Ok(_) => assert!(rt; false),
+        Err(refused) => {
+            assert!(rt; refused.error == SendError::Full);
+            expect_rights(&rt, &refused.rights, &[1, 2]);
+        }
+    }
+    assert!(rt; s.pop_message().is_some());
+    assert!(rt; s.has_room());
+    Ok(())
+}
+
+#[test]
+fn an_associated_socket_takes_from_its_target_alone(rt: HostRuntime) {
+    let alloc = rt.alloc();
+    let (target, other) = (DescriptionId::new(7), DescriptionId::new(8));
+    let mut s = Socket::new(alloc, SockType::Dgram);
+    assert!(rt; s.takes_from(target) && s.takes_from(other));
+    s.set_association(Some(target));
+    assert!(rt; s.takes_from(target) && !s.takes_from(other));
+    assert!(rt; s.association() == Some(target));
+    assert!(rt; s.peer().is_none());
+    assert!(rt; s.tied_socket() == Some(target));
+    s.set_association(None);
+    assert!(rt; s.association().is_none() && s.takes_from(other));
+    let mut end = pair_end(alloc);
+    end.set_association(None);
+    assert!(rt; end.peer() == Some(DescriptionId::new(4)));
 }

@@ -7,7 +7,7 @@ use ux_kernel::Kernel;
 use ux_object::FileObject;
 use ux_objects::Counter;
 use ux_state::RetiredList;
-use ux_types::{Errno, Fd, Mode, Name, OpenFlags, Pid, ProcSpec, Reply, Request};
+use ux_types::{Errno, Fd, Mode, Name, OpenFlags, Pid, ProcSpec, Reply, Request, SockType};
 
 const ONE: [ProcSpec; 1] = [ProcSpec {
     uid: 1000,
@@ -17,6 +17,7 @@ const ONE: [ProcSpec; 1] = [ProcSpec {
 }];
 
 const PAIR: Request = Request::SocketPair {
+    kind: SockType::Stream,
     flags: OpenFlags(0),
 };
 
@@ -34,14 +35,12 @@ struct Shelf {
 
 /// A book of one process and these file objects.
 fn book_of(alloc: Global, objects: Vec<(Name, Counter)>) -> Result<Shelf, Fail> {
+    let retired = RetiredList::new(alloc)?;
     let Ok(kernel) = Kernel::boot(alloc, objects, &ONE) else {
         return Err(Fail::from("no kernel"));
     };
     match Book::new(alloc, kernel) {
-        Ok(book) => Ok(Shelf {
-            book,
-            retired: RetiredList::new(alloc)?,
-        }),
+        Ok(book) => Ok(Shelf { book, retired }),
         Err(_) => Err(Fail::from("no book")),
     }
 }

@@ -70,7 +70,7 @@ write_file S f bytes = on_object S f.object (λ view. write_object S f.id (descr
 abbrev pub write_of : State → ℕ → ℕ → ℕ → Description → List ℕ → Outcome
 write_of S p tag d D bytes = elim D.target [
   | to_object o ↦ on_object S o (λ view. write_object S d D o view bytes)
-  | to_socket s ↦ as_process S p (λ P. write_socket S p P tag s bytes)
+  | to_socket s ↦ as_process S p (λ P. write_socket S p P tag d s bytes)
 ]
 
 abbrev pub write_at : State → ℕ → ℕ → ℕ → List ℕ → Outcome

@@ -10,9 +10,9 @@ use ux_object::FileObject;
 use ux_types::{Addr, DescriptionId, Errno, Fd, OpenFlags, Pid, Refusal, Reply};
 
 impl<O: FileObject> Kernel<O> {
-    /// accept4(2): the oldest end that waits, with these flags, and the name that its client has now. EINVAL
-    /// where the socket doesn't listen, EMFILE where no number is free, and the end waits on; EAGAIN where
-    /// none waits.
+    /// accept4(2): the oldest end that waits, with these flags, and the name that its client has now.
+    /// EOPNOTSUPP of a datagram socket, EINVAL where the socket doesn't listen, EMFILE where no number is free,
+    /// and the end waits on; EAGAIN where none waits.
     #[tactic(auto, using(ux_msg::proofs::Found::socket_found), unfolding(ux_model::specs::Accepting::accept))]
     pub(crate) fn accept(&mut self, pid: Pid, fd: Fd, flags: OpenFlags) -> Result<Reply, Refusal>
         requires { IsTrue (is_live self.old pid.0) }
@@ -22,6 +22,9 @@ impl<O: FileObject> Kernel<O> {
             Ok(found) => found,
             Err(e) => return Err(Refusal::from(e)),
         };
+        if socket.is_datagram() {
+            return Err(Refusal::Answer(Errno::EOPNOTSUPP));
+        }
         if !socket.is_listening() {
             return Err(Refusal::Answer(Errno::EINVAL));
         }

@@ -1,6 +1,6 @@
-//! Sockets that listen, and those that connect to them (socket(2), listen(2), connect(2), getpeername(2)).
+//! Sockets that listen, and those that connect to them or are associated (socket(2), listen(2), connect(2),
+//! shutdown(2), getpeername(2)).
 ghost use Rattle.std.specs.Prelude.{IsTrue};
-ghost use Rattle.ux_model.specs.Types.{SockType as ModelType};
 ghost use Rattle.ux_model.specs.State.{is_live};
 ghost use Rattle.ux_model.specs.Connecting as model;
 ghost use Rattle.ux_msg.specs.Answers.{Gives};
@@ -9,20 +9,28 @@ ghost use Rattle.ux_state.specs.Moves.{IsUnconnectedAt, IsNoListenerAt};
 use crate::kernel::Kernel;
 use ux_names::{is_unnamed, is_valid_addr};
 use ux_object::FileObject;
-use ux_types::{Addr, Cred, DescriptionId, Errno, Fd, OpenFlags, Pid, Refusal, Reply, SockType};
+use ux_types::{
+    Addr, Cred, DescriptionId, Errno, Fd, Mode, OpenFlags, Pid, Refusal, Reply, SockType,
+};
 
 impl<O: FileObject> Kernel<O> {
-    /// socket(2) of a stream socket. EMFILE where no number is free.
+    /// socket(2). EMFILE where no number is free.
     #[tactic(auto, unfolding(ux_model::specs::Connecting::make_socket))]
-    pub(crate) fn make_socket(&mut self, pid: Pid, flags: OpenFlags) -> Result<Reply, Refusal>
+    pub(crate) fn make_socket(
+        &mut self,
+        pid: Pid,
+        kind: SockType,
+        flags: OpenFlags,
+    ) -> Result<Reply, Refusal>
         requires { IsTrue (is_live self.old pid.0) }
-        ensures { Gives self.old (model.make_socket self.old pid.0 ModelType.Stream flags) result self.new }
+        ensures { Gives self.old (model.make_socket self.old pid.0 kind flags) result self.new }
     {
-        let fd = self.state.open_socket(pid, flags)?;
+        let fd = self.state.open_socket(pid, kind, flags)?;
         Ok(Reply::Fd(fd))
     }
 
-    /// listen(2). EINVAL where the socket is connected, else EDESTADDRREQ where it has no name.
+    /// listen(2). EOPNOTSUPP of a datagram socket, EINVAL where the socket is connected, else EDESTADDRREQ where
+    /// it has no name.
     #[tactic(auto, using(ux_msg::proofs::Found::socket_found), unfolding(ux_model::specs::Connecting::listen))]
     pub(crate) fn listen(&mut self, pid: Pid, fd: Fd, backlog: i32) -> Result<Reply, Refusal>
         requires { IsTrue (is_live self.old pid.0) }
@@ -32,6 +40,9 @@ impl<O: FileObject> Kernel<O> {
             Ok(found) => found,
             Err(e) => return Err(Refusal::from(e)),
         };
+        if socket.is_datagram() {
+            return Err(Refusal::Answer(Errno::EOPNOTSUPP));
+        }
         if socket.is_connected() {
             return Err(Refusal::Answer(Errno::EINVAL));
         }
@@ -45,7 +56,8 @@ impl<O: FileObject> Kernel<O> {
 
     /// connect(2). EINVAL for an address that can't be or names nothing, and of a socket that listens, EISCONN
     /// of one that is connected; what the address leads to answers ENOENT, ECONNREFUSED or EPROTOTYPE; then
-    /// ECONNREFUSED where that doesn't listen, EAGAIN where its backlog is full.
+    /// ECONNREFUSED where that doesn't listen, EAGAIN where its backlog is full. A datagram socket is associated
+    /// instead; the unnamed address ends its association.
     #[tactic(auto, using(ux_msg::proofs::Found::socket_found), unfolding(ux_model::specs::Connecting::connect))]
     pub(crate) fn connect(&mut self, pid: Pid, fd: Fd, addr: &Addr) -> Result<Reply, Refusal>
         requires { IsTrue (is_live self.old pid.0) }
@@ -56,14 +68,45 @@ impl<O: FileObject> Kernel<O> {
             Ok(found) => found,
             Err(e) => return Err(Refusal::from(e)),
         };
+        let kind = socket.kind();
+        if socket.is_datagram() {
+            return self.connect_datagram(id, kind, addr);
+        }
         if !is_valid_addr(addr) || is_unnamed(addr) || socket.is_listening() {
             return Err(Refusal::Answer(Errno::EINVAL));
         }
         if socket.is_connected() {
             return Err(Refusal::Answer(Errno::EISCONN));
         }
-        let kind = socket.kind();
         self.connect_by(id, kind, addr, cred)
+    }
+
+    /// Associates a datagram socket with the one of this type that an address leads to, or by the unnamed
+    /// address with none. EPERM where the target is associated with another.
+    fn connect_datagram(
+        &mut self,
+        id: DescriptionId,
+        kind: SockType,
+        addr: &Addr,
+    ) -> Result<Reply, Refusal>
+        ensures { Gives self.old (model.connect_datagram self.old id kind addr.now) result self.new }
+    {
+        if !is_valid_addr(addr) {
+            return Err(Refusal::Answer(Errno::EINVAL));
+        }
+        if is_unnamed(addr) {
+            self.state.set_association(id, None);
+            return Ok(Reply::Ok);
+        }
+        let (target, other) = match self.state.socket_named(kind, addr) {
+            Ok(found) => found,
+            Err(e) => return Err(Refusal::from(e)),
+        };
+        if !other.takes_from(id) {
+            return Err(Refusal::Answer(Errno::EPERM));
+        }
+        self.state.set_association(id, Some(target));
+        Ok(Reply::Ok)
     }
 
     /// Connects a socket to the one of this type that an address leads to.
@@ -89,7 +132,24 @@ impl<O: FileObject> Kernel<O> {
         Ok(Reply::Ok)
     }
 
-    /// getpeername(2). ENOTCONN where the socket isn't connected, or its peer is gone.
+    /// shutdown(2). ENOTCONN where the socket is neither connected nor associated.
+    #[tactic(auto, using(ux_msg::proofs::Found::socket_found), unfolding(ux_model::specs::Connecting::shutdown))]
+    pub(crate) fn shutdown(&mut self, pid: Pid, fd: Fd, how: Mode) -> Result<Reply, Refusal>
+        requires { IsTrue (is_live self.old pid.0) }
+        ensures { Gives self.old (model.shutdown self.old pid.0 fd how) result self.new }
+    {
+        let (id, socket) = match self.state.find_socket(pid, fd) {
+            Ok(found) => found,
+            Err(e) => return Err(Refusal::from(e)),
+        };
+        if socket.tied_socket().is_none() {
+            return Err(Refusal::Answer(Errno::ENOTCONN));
+        }
+        self.state.shut_down(id, how);
+        Ok(Reply::Ok)
+    }
+
+    /// getpeername(2). ENOTCONN where the socket is neither connected nor associated, or the other is gone.
     #[tactic(auto, unfolding(ux_model::specs::Connecting::get_peer_name))]
     pub(crate) fn get_peer_name(&self, pid: Pid, fd: Fd) -> Result<Reply, Refusal>
         requires { IsTrue (is_live self.now pid.0) }

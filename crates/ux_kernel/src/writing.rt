@@ -49,10 +49,9 @@ impl<O: FileObject> Kernel<O> {
         };
         match (OpenFile::of(id, description), description.socket()) {
             (Some(file), _) => self.write_file(file, bytes),
-            (None, Some(socket)) => {
-                let peer = socket.peer();
+            (None, Some(_)) => {
                 let cred = self.state.credentials(pid);
-                write_socket(&mut self.state, self.alloc, peer, tag, cred, bytes)
+                write_socket(&mut self.state, self.alloc, id, tag, cred, bytes)
             }
             (None, None) => unreachable!(),
         }

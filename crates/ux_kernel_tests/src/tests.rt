@@ -2,6 +2,7 @@
 
 mod boots;
 mod connections;
+mod datagrams;
 mod objects;
 mod pairs;
 mod rights;
@@ -15,6 +16,7 @@ use ux_objects::Counter;
 use ux_state::RetiredList;
 use ux_types::{
     Addr, Bytes, Errno, Fd, Mode, MsgFlags, Name, OpenFlags, Pid, ProcSpec, Reply, Request,
+    SockType,
 };
 
 /// A user's process with this descriptor limit.
@@ -27,14 +29,16 @@ fn process(limit: u32) -> ProcSpec {
     }
 }
 
-fn pair() -> Request {
+fn pair(kind: SockType) -> Request {
     Request::SocketPair {
+        kind,
         flags: OpenFlags(0),
     }
 }
 
-fn socket() -> Request {
+fn socket(kind: SockType) -> Request {
     Request::Socket {
+        kind,
         flags: OpenFlags(0),
     }
 }
@@ -45,10 +49,16 @@ fn unlink(alloc: Global, path: &[u8]) -> Result<Request, AllocError> {
     })
 }
 
-fn send(alloc: Global, fd: u32, bytes: &[u8], flags: u8) -> Result<Request, AllocError> {
+fn send(
+    alloc: Global,
+    fd: u32,
+    addr: Option<Addr>,
+    bytes: &[u8],
+    flags: u8,
+) -> Result<Request, AllocError> {
     Ok(Request::SendMsg {
         fd: Fd(fd),
-        addr: None,
+        addr,
         bytes: Bytes::new(Vec::from_slice(alloc, bytes)?),
         control: Bytes::new(Vec::new(alloc)),
         flags: MsgFlags(flags),
@@ -103,13 +113,13 @@ fn fds(a: u32, b: u32) -> Reply {
     Reply::Fds(Fd(a), Fd(b))
 }
 
-fn got(alloc: Global, bytes: &[u8]) -> Result<Reply, AllocError> {
+fn got(alloc: Global, bytes: &[u8], flags: u8, from: Option<Addr>) -> Result<Reply, AllocError> {
     Ok(Reply::Received {
         count: bytes.len(),
         bytes: Bytes::new(Vec::from_slice(alloc, bytes)?),
-        flags: MsgFlags(0),
+        flags: MsgFlags(flags),
         control: Bytes::new(Vec::new(alloc)),
-        from: None,
+        from,
     })
 }
 
@@ -123,10 +133,18 @@ fn named(alloc: Global, bytes: &[u8]) -> Result<Name, AllocError> {
 }
 
 /// A kernel, and a list for what its calls let go of.
-#[derive(Drop)]
 struct Machine {
     kernel: Kernel<Counter>,
     retired: RetiredList<Counter>,
+}
+
+/// Written out, a drop is a call, and not each of its parts in the proof of each test.
+impl Drop for Machine {
+    fn drop(self) {
+        let Machine { kernel, retired } = self;
+        drop(kernel);
+        drop(retired);
+    }
 }
 
 /// A kernel of these file objects and processes.
@@ -135,11 +153,9 @@ fn make_machine(
     objects: Vec<(Name, Counter)>,
     procs: &[ProcSpec],
 ) -> Result<Machine, AllocError> {
+    let retired = RetiredList::new(alloc)?;
     match Kernel::boot(alloc, objects, procs) {
-        Ok(kernel) => Ok(Machine {
-            kernel,
-            retired: RetiredList::new(alloc)?,
-        }),
+        Ok(kernel) => Ok(Machine { kernel, retired }),
         Err(_) => Err(AllocError),
     }
 }
@@ -161,17 +177,8 @@ fn ask(machine: &mut Machine, pid: u32, request: &Request) -> Option<Reply> {
     Some(reply)
 }
 
-/// Makes a call of this process, which is answered so.
-fn says(rt: &impl Abort, machine: &mut Machine, pid: u32, request: Request, reply: Reply) {
-    assert_eq!(rt; ask(machine, pid, &request), Some(reply));
-}
-
-/// Makes a call of process 1, which is answered so.
-fn answers(rt: &impl Abort, machine: &mut Machine, request: Request, reply: Reply) {
-    says(rt, machine, 1, request, reply);
-}
-
 /// An address of a row.
+#[derive(Clone, Copy)]
 enum At {
     Unnamed,
     Path(&'static [u8]),
@@ -179,10 +186,13 @@ enum At {
 }
 
 /// A call that a row of a test makes.
+#[derive(Clone, Copy)]
 enum Asked {
     Open(&'static [u8]),
     Pair,
+    PairOf(SockType),
     Socket,
+    SocketOf(SockType),
     Bind(u32, At),
     Listen(u32, i32),
     Connect(u32, At),
@@ -190,6 +200,7 @@ enum Asked {
     SockName(u32),
     PeerName(u32),
     Send(u32, &'static [u8], u8),
+    SendTo(u32, At, &'static [u8]),
     /// So many bytes `x`.
     SendMany(u32, usize),
     Recv(u32, usize, u8),
@@ -203,12 +214,15 @@ enum Asked {
 }
 
 /// What it is answered.
+#[derive(Clone, Copy)]
 enum Told {
     Ok,
     Fd(u32),
     Fds(u32, u32),
     Count(usize),
     Got(&'static [u8]),
+    /// These bytes of a datagram, with these flags, from this address.
+    From(&'static [u8], u8, At),
     /// So many bytes `x`.
     GotMany(usize),
     /// One byte `x` with these flags and these rights.
@@ -243,8 +257,10 @@ fn request_of(alloc: Global, asked: &Asked) -> Result<Request, AllocError> {
             mode: Mode::Both,
             flags: OpenFlags(0),
         },
-        Asked::Pair => pair(),
-        Asked::Socket => socket(),
+        Asked::Pair => pair(SockType::Stream),
+        Asked::PairOf(kind) => pair(*kind),
+        Asked::Socket => socket(SockType::Stream),
+        Asked::SocketOf(kind) => socket(*kind),
         Asked::Bind(fd, at) => Request::Bind {
             fd: Fd(*fd),
             addr: addr_of(alloc, at)?,
@@ -263,8 +279,9 @@ fn request_of(alloc: Global, asked: &Asked) -> Result<Request, AllocError> {
         },
         Asked::SockName(fd) => Request::GetSockName { fd: Fd(*fd) },
         Asked::PeerName(fd) => Request::GetPeerName { fd: Fd(*fd) },
-        Asked::Send(fd, bytes, flags) => send(alloc, *fd, bytes, *flags)?,
-        Asked::SendMany(fd, count) => send(alloc, *fd, &copies(alloc, *count)?, 0)?,
+        Asked::Send(fd, bytes, flags) => send(alloc, *fd, None, bytes, *flags)?,
+        Asked::SendTo(fd, at, bytes) => send(alloc, *fd, Some(addr_of(alloc, at)?), bytes, 0)?,
+        Asked::SendMany(fd, count) => send(alloc, *fd, None, &copies(alloc, *count)?, 0)?,
         Asked::Recv(fd, n, flags) => recv(*fd, *n, *flags),
         Asked::Pass(fd, numbers) => pass(alloc, *fd, numbers)?,
         Asked::Take(fd, space, flags) => Request::RecvMsg {
@@ -286,13 +303,51 @@ fn reply_of(alloc: Global, told: &Told) -> Result<Reply, AllocError> {
         Told::Fd(fd) => Reply::Fd(Fd(*fd)),
         Told::Fds(low, high) => fds(*low, *high),
         Told::Count(count) => Reply::Count(*count),
-        Told::Got(bytes) => got(alloc, bytes)?,
-        Told::GotMany(count) => got(alloc, &copies(alloc, *count)?)?,
+        Told::Got(bytes) => got(alloc, bytes, 0, None)?,
+        Told::From(bytes, flags, at) => got(alloc, bytes, *flags, Some(addr_of(alloc, at)?))?,
+        Told::GotMany(count) => got(alloc, &copies(alloc, *count)?, 0, None)?,
         Told::Taken(flags, numbers) => taken(alloc, *flags, numbers)?,
         Told::Accepted(fd, at) => Reply::Accepted(Fd(*fd), addr_of(alloc, at)?),
         Told::Addr(at) => Reply::Addr(addr_of(alloc, at)?),
         Told::Err(errno) => refused(*errno),
     })
+}
+
+/// A request, and the reply that it gets.
+struct Case {
+    request: Request,
+    reply: Reply,
+}
+
+/// As of a machine: each kind of request and of reply is a case in the proof of a drop.
+impl Drop for Case {
+    fn drop(self) {
+        let Case { request, reply } = self;
+        drop(request);
+        drop(reply);
+    }
+}
+
+/// The request and the reply of a row.
+fn case_of(alloc: Global, asked: &Asked, told: &Told) -> Result<Case, AllocError> {
+    let request = request_of(alloc, asked)?;
+    match reply_of(alloc, told) {
+        Ok(reply) => Ok(Case { request, reply }),
+        Err(error) => {
+            drop(request);
+            Err(error)
+        }
+    }
+}
+
+/// Makes a call of this process, which is answered so.
+fn says(rt: &impl Abort, machine: &mut Machine, pid: u32, case: &Case) {
+    expect(rt, ask(machine, pid, &case.request), &case.reply);
+}
+
+/// Sees that a call was made, and answered so.
+fn expect(rt: &impl Abort, answer: Option<Reply>, reply: &Reply) {
+    assert_eq!(rt; answer.as_ref(), Some(reply));
 }
 
 /// Makes the calls of these rows in order, each of which is answered as its row says.
@@ -303,8 +358,7 @@ fn says_rows(
     rows: &[Row],
 ) -> Result<(), AllocError> {
     for (pid, asked, told) in rows {
-        let request = request_of(alloc, asked)?;
-        says(rt, machine, *pid, request, reply_of(alloc, told)?);
+        says(rt, machine, *pid, &case_of(alloc, asked, told)?);
     }
     Ok(())
 }
@@ -329,6 +383,19 @@ fn says_alone(rt: &impl Abort, alloc: Global, limit: u32, rows: &[Row]) -> Resul
     says_rows(rt, alloc, &mut machine, rows)
 }
 
+/// Makes a call while every allocation is refused.
+fn ask_without_memory(
+    alloc: Global,
+    machine: &mut Machine,
+    pid: u32,
+    request: &Request,
+) -> Result<Option<Reply>, AllocError> {
+    let hoard = Hoard::take_all(alloc)?;
+    let answer = ask(machine, pid, request);
+    drop(hoard);
+    Ok(answer)
+}
+
 /// Makes each call of these rows while every allocation is refused, then again with memory.
 fn says_at_last(
     rt: &impl Abort,
@@ -337,12 +404,10 @@ fn says_at_last(
     rows: &[Row],
 ) -> Result<(), AllocError> {
     for (pid, asked, told) in rows {
-        let request = request_of(alloc, asked)?;
-        let hoard = Hoard::take_all(alloc)?;
-        let first = ask(machine, *pid, &request);
-        drop(hoard);
-        assert_eq!(rt; first, Some(refused(Errno::ENOMEM)));
-        says(rt, machine, *pid, request, reply_of(alloc, told)?);
+        let case = case_of(alloc, asked, told)?;
+        let first = ask_without_memory(alloc, machine, *pid, &case.request)?;
+        expect(rt, first, &refused(Errno::ENOMEM));
+        says(rt, machine, *pid, &case);
     }
     Ok(())
 }
@@ -367,14 +432,24 @@ fn says_without_memory(
     rows: &[Row],
 ) -> Result<(), AllocError> {
     for (pid, asked, told) in rows {
-        let request = request_of(alloc, asked)?;
-        let reply = reply_of(alloc, told)?;
-        let hoard = Hoard::take_all(alloc)?;
-        let answer = ask(machine, *pid, &request);
-        drop(hoard);
-        assert_eq!(rt; answer, Some(reply));
+        let case = case_of(alloc, asked, told)?;
+        let answer = ask_without_memory(alloc, machine, *pid, &case.request)?;
+        expect(rt, answer, &case.reply);
     }
     Ok(())
+}
+
+/// Makes the call of a row, and answers whether its process may make it.
+fn makes(
+    alloc: Global,
+    machine: &mut Machine,
+    pid: u32,
+    asked: &Asked,
+) -> Result<bool, AllocError> {
+    let request = request_of(alloc, asked)?;
+    let answer = ask(machine, pid, &request);
+    drop(request);
+    Ok(answer.is_some())
 }
 
 /// Open counters under these paths.

@@ -11,7 +11,7 @@ use Rattle.ux_model.specs.Limits.{read_limit, offset_limit}
 use Rattle.ux_model.specs.Flags.{asks_cloexec, can_read, can_write, no_flags}
 use Rattle.ux_model.specs.Object.{Body, View, ObjectError, would_block, full, invalid, read_body, write_body, is_memory, is_pipe, with_body, after_failure}
 use Rattle.ux_model.specs.Names.{PathTarget, file, same_name, named, is_valid_path}
-use Rattle.ux_model.specs.Socket.{Socket, peer_of}
+use Rattle.ux_model.specs.Socket.{Socket}
 use Rattle.ux_model.specs.Description.{Description, to_object, to_socket, socket_of, socket_in}
 use Rattle.ux_model.specs.Process.{Process, Descriptor, own_cred, lowest_free, two_lowest_free, descriptor, copy_of, with_cloexec}
 use Rattle.ux_model.specs.State.{State, process_at, description_at, socket_at, table_of, next_description, with_object, with_description, with_table, with_new}
@@ -36,8 +36,8 @@ use Rattle.ux_model.proofs.Named.{table_in}
 use Rattle.ux_model.proofs.Walk.{either, maybe, by_target, by_path, found}
 use Rattle.ux_model.proofs.Reaching.{Reaches, still, description_made, peers_made, object_changed, paths_taken, turned_off, same_target, NamesWhatIsThere, put_names, taken_names, same_names, none_counts, with_table_reached, with_process_reached, with_description_reached, some_filled, some_more, some_pushed}
 use Rattle.ux_model.proofs.Obeying.{tells_choice, Obeys, Call, refuses, uses, answers, may_fail, there_of}
-use Rattle.ux_model.proofs.NameCalls.{socket_obeys, bind_obeys, listen_obeys, connect_obeys, accept_obeys, sock_name_obeys, peer_name_obeys}
-use Rattle.ux_model.proofs.MessageCalls.{connected_obeys, send_obeys, receive_obeys, recv_obeys}
+use Rattle.ux_model.proofs.NameCalls.{socket_obeys, bind_obeys, listen_obeys, connect_obeys, accept_obeys, sock_name_obeys, peer_name_obeys, shutdown_obeys}
+use Rattle.ux_model.proofs.MessageCalls.{from_obeys, send_obeys, receive_obeys, recv_obeys}
 use Rattle.ux_model.proofs.HeldOpen.{IsHeldOpen, KeepsObjects, same_objects, held_changed, held_by_changed, with_process_objects, with_table_objects}
 
 -- ---- descriptors
@@ -246,7 +246,7 @@ write_obeys S p tag fd bytes = found (Call S) S p fd _ (refuses refl refl) (λ e
     (λ b. either (Call S) (is_pipe view.body && not (is_open_for can_read S o)) _ _ (λ b. refuses refl refl)
     (λ b. let held : IsHeldOpen S o = held_by S p fd e D o g h t in may_fail S _ o view _ held there (write_answer_obeys S o held view (write_body view.body (write_place D view) bytes) there))))))
     (λ s t. maybe (Call S) (process_at S p) _ _ (refuses refl refl)
-    (λ P here. connected_obeys S (peer_of s.phase) (message_of (own_cred p P) tag bytes []) (λ sound k gone. refl))))
+    (λ P here. from_obeys S e.description s None (message_of (own_cred p P) tag bytes []) (socket_at_is S e.description D s h t) (λ sound k gone. refl))))
 
 seek_to_obeys : (S : State) (d : ℕ) (D : Description) (to : ℤ) → description_at S d ≡ Some D → Call S (seek_to S d D to)
 seek_to_obeys S d D (pos n) h = either (Call S) (nat_lt offset_limit n) _ _ (λ b. refuses refl refl)
@@ -273,12 +273,13 @@ each_obeys S p tag (Request.Dup2 fd to) = dup2_obeys S p fd to
 each_obeys S p tag (Request.SetFlags fd flags) = flags_obeys S p fd flags
 each_obeys S p tag (Request.Close fd) = close_obeys S p fd
 each_obeys S p tag (Request.Unlink path) = unlink_obeys S path
-each_obeys S p tag (Request.Socket flags) = socket_obeys S p SockType.Stream flags
-each_obeys S p tag (Request.SocketPair flags) = pair_obeys S p SockType.Stream flags
+each_obeys S p tag (Request.Socket kind flags) = socket_obeys S p kind flags
+each_obeys S p tag (Request.SocketPair kind flags) = pair_obeys S p kind flags
 each_obeys S p tag (Request.Bind fd addr) = bind_obeys S p fd addr
 each_obeys S p tag (Request.Listen fd backlog) = listen_obeys S p fd backlog
 each_obeys S p tag (Request.Connect fd addr) = connect_obeys S p fd addr
 each_obeys S p tag (Request.Accept fd flags) = accept_obeys S p fd flags
+each_obeys S p tag (Request.Shutdown fd how) = shutdown_obeys S p fd how
 each_obeys S p tag (Request.GetSockName fd) = sock_name_obeys S p fd
 each_obeys S p tag (Request.GetPeerName fd) = peer_name_obeys S p fd
 each_obeys S p tag (Request.SendMsg fd addr bytes control flags) = send_obeys S p tag fd addr bytes control flags

@@ -1,5 +1,5 @@
 -- What a receive takes of the references that a queue holds: those that it hands out, and no others.
-use Rattle.std.proofs.Common.{◌≡◌, ℕ, zero, suc, ◌+◌, ◌-◌, ◌≤◌, ◌==◌, cond, Bool, true, false, if◌then◌else◌, List, [], ◌∷◌, ◌++◌, length, drop, min, refl, ap, sym, ◌∙◌, zero-add, arith}
+use Rattle.std.proofs.Common.{◌≡◌, ℕ, zero, suc, ◌+◌, ◌-◌, ◌≤◌, ◌==◌, cond, Bool, true, false, if◌then◌else◌, List, [], ◌∷◌, ◌++◌, length, drop, min, refl, ap, sym, ◌∙◌, append_assoc, zero-add, arith}
 use Rattle.std.specs.Prelude.{nat_le}
 use Rattle.std.proofs.lemmas.Bool.{leb-false}
 use Rattle.std.proofs.Math.Nat.{min-le_right}
@@ -7,7 +7,8 @@ use Rattle.std.proofs.lemmas.List.Sums.{sum_by-cons, sum_by-append}
 use Rattle.ux_model.specs.Types.{Cred}
 use Rattle.ux_model.specs.Message.{Message, same_cred, queued_bytes}
 use Rattle.ux_model.specs.Stream.{front_with_cred, front_to_barrier, joined_run, rights_within, without_first}
-use Rattle.ux_model.specs.Front.{stream_front}
+use Rattle.ux_model.specs.Socket.{Socket, is_stream}
+use Rattle.ux_model.specs.Front.{Front, stream_front, record_front, front_of}
 use Rattle.ux_model.specs.References.{times, queue_refs}
 
 -- the rights of the messages that lose a byte go, whichever they are
@@ -69,10 +70,6 @@ barrier_front (m ∷ ms) = go (barrier_front ms) (length m.rights == 0)
     go rest true = one_more m (front_to_barrier ms) ms rest
     go rest false = record { rest = ms; is = refl }
 
-append_assoc : (xs ys zs : List Message) → (xs ++ ys) ++ zs ≡ xs ++ (ys ++ zs)
-append_assoc [] ys zs = refl
-append_assoc (x ∷ xs) ys zs = ap (λ l. x ∷ l) (append_assoc xs ys zs)
-
 front_of_front : (a b c : List Message) → IsFront a b → IsFront b c → IsFront a c
 front_of_front a b c f g = record { rest = f.rest ++ g.rest; is = sym (append_assoc a f.rest g.rest) ∙ ap (λ xs. xs ++ g.rest) f.is ∙ g.is }
 
@@ -82,7 +79,7 @@ run_front false m ms = barrier_front (m ∷ ms)
 
 -- ---- a receive
 
-pub front_refs : (k : ℕ) (wants : Bool) (n : ℕ) (m : Message) (ms : List Message) → times k (stream_front wants n m ms).rights + queue_refs k (stream_front wants n m ms).rest ≡ queue_refs k (m ∷ ms)
+front_refs : (k : ℕ) (wants : Bool) (n : ℕ) (m : Message) (ms : List Message) → times k (stream_front wants n m ms).rights + queue_refs k (stream_front wants n m ms).rest ≡ queue_refs k (m ∷ ms)
 front_refs k wants n m ms =
     let run : List Message = joined_run wants m ms in
     let taken : ℕ = min n (queued_bytes run) in
@@ -91,3 +88,14 @@ front_refs k wants n m ms =
     let all = within_refs k taken (m ∷ ms) in
     let here = ap (times k) same in
     omega (arith, all, here)
+
+-- of any socket
+pub front_of_refs : (k n : ℕ) (s : Socket) (m : Message) (ms : List Message) → times k (front_of n s m ms).rights + queue_refs k (front_of n s m ms).rest ≡ queue_refs k (m ∷ ms)
+front_of_refs k n s m ms = go (is_stream s.kind)
+  where
+    taken : Bool → Front
+    taken b = if b then stream_front s.passcred n m ms else record_front n m ms
+
+    go : (b : Bool) → times k (taken b).rights + queue_refs k (taken b).rest ≡ queue_refs k (m ∷ ms)
+    go true = front_refs k s.passcred n m ms
+    go false = sym (sum_by-cons (λ m. times k (Message.rights m)) m ms)

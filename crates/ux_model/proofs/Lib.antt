@@ -33,6 +33,7 @@ pub mod Closed
 pub mod HandingOut
 mod Play
 mod StreamExamples
+mod DatagramExamples
 mod LimitExamples
 mod FileExamples
 mod ControlExamples

@@ -1,7 +1,6 @@
 -- Of sends and receives: that their outcomes obey what all do.
-use Rattle.std.proofs.Common.{◌≡◌, ℕ, zero, suc, ◌+◌, ◌≤◌, ◌<◌, Bool, true, false, not, ◌==◌, if◌then◌else◌, cond, List, [], ◌∷◌, ◌++◌, length, set, Option, Some, None, refl, ap, sym, ◌∙◌, subst, arith, ◌⊎◌, inl, inr}
-use Rattle.std.specs.Prelude.{is_none, is_some}
-use Rattle.std.specs.List.{slice_get}
+use Rattle.std.proofs.Common.{◌≡◌, ℕ, ◌+◌, ◌≤◌, ◌<◌, Bool, true, false, not, ◌&&◌, ◌||◌, ◌==◌, if◌then◌else◌, cond, List, [], ◌∷◌, ◌++◌, length, Option, Some, None, refl, ap, sym, ◌∙◌, subst, arith, ◌⊎◌, inl, inr}
+use Rattle.std.specs.Prelude.{nat_lt, is_some}
 use Rattle.std.proofs.lemmas.Bool.{cases_lt, eqb-true, eq-eqb}
 use Rattle.std.proofs.lemmas.List.Sums.{sum_by-cons, sum_by_push}
 use Rattle.ux_model.specs.Types.{Errno, Fd, Addr, MsgFlags, Reply}
@@ -10,20 +9,22 @@ use Rattle.ux_model.specs.Flags.{are_send_flags, are_receive_flags, asks_peek, a
 use Rattle.ux_model.specs.Message.{Message}
 use Rattle.ux_model.specs.Control.{Control}
 use Rattle.ux_model.specs.ControlReading.{control_in}
-use Rattle.ux_model.specs.Front.{Front, stream_front}
+use Rattle.ux_model.specs.Front.{Front, front_of}
 use Rattle.ux_model.specs.Delivery.{delivery, installed}
-use Rattle.ux_model.specs.Socket.{Socket, peer_of, stream_room, sent_part, sent, with_queue, with_reset}
+use Rattle.ux_model.specs.Limits.{record_bytes_limit}
+use Rattle.ux_model.specs.Socket.{Socket, is_stream, is_dgram, peer_of, association_of, takes_from, has_room, sent_part, sent, with_queue, with_reset, with_association}
 use Rattle.ux_model.specs.Process.{Process, Descriptor, own_cred}
-use Rattle.ux_model.specs.State.{State, process_at, description_at, socket_at, table_of, with_socket_by, with_table}
+use Rattle.ux_model.specs.State.{State, process_at, description_at, socket_at, table_of, with_socket_by}
 use Rattle.ux_model.specs.References.{times, queue_refs, refs}
-use Rattle.ux_model.specs.Outcome.{Outcome}
-use Rattle.ux_model.specs.Sending.{descriptions_behind, message_of, send_to_peer, send_connected, send_stream, is_sendable_addr, is_sendable_control, send_with, send_read, reading_control, send_msg}
-use Rattle.ux_model.specs.Receiving.{recv_msg, receive, receive_nothing, receive_front, with_delivered}
+use Rattle.ux_model.specs.Outcome.{Outcome, answer}
+use Rattle.ux_model.specs.Sending.{descriptions_behind, message_of, enqueue, is_too_long, send_to_peer, send_connected, send_stream, send_to_target, send_by_association, send_by, send_datagram, send_from, is_sendable_addr, is_sendable_control, send_with, send_read, reading_control, send_msg}
+use Rattle.ux_model.specs.Receiving.{recv_msg, receive, receive_from_peer, at_end, receive_nothing, receive_front, with_delivered}
 use Rattle.ux_model.specs.Invariants.{LeftByRefusal}
-use Rattle.ux_model.proofs.FrontRights.{front_refs}
+use Rattle.ux_model.proofs.FrontRights.{front_of_refs}
 use Rattle.ux_model.proofs.Sound.{IsSound}
 use Rattle.ux_model.proofs.Named.{entry_counts, socket_counted}
-use Rattle.ux_model.proofs.Walk.{either, maybe, by_queue, found_socket}
+use Rattle.ux_model.proofs.Walk.{either, maybe, by_queue, found_socket, found_named}
+use Rattle.ux_model.proofs.NameCalls.{same_descriptions, association_reached}
 use Rattle.ux_model.proofs.Reaching.{Reaches, still, KeepsSocket, queue_changed, NamesWhatIsThere, put_names, same_names, with_table_reached, with_socket_reached}
 use Rattle.ux_model.proofs.Obeying.{Call, refuses, answers}
 use Rattle.ux_model.proofs.HeldOpen.{same_objects, with_table_objects}
@@ -89,32 +90,82 @@ sent_keeps S n m s none = queue_changed S n s (s.queue ++ sent_part s m ∷ []) 
     let z : times d m.rights ≡ 0 = none d gone in
     omega (arith, more, z))
 
-to_peer_obeys : (S : State) (d : ℕ) (m : Message) → (IsSound S → NamesNoneGone S m.rights) → Call S (send_to_peer S d m)
-to_peer_obeys S d m names = maybe (Call S) (socket_at S d) _ _ (refuses refl refl)
-    (λ other h. either (Call S) (length m.bytes == 0) _ _ (λ b. answers refl refl refl refl still)
-    (λ b. either (Call S) (stream_room other == 0) _ _ (λ b. refuses refl refl)
-    (λ b. answers refl refl refl refl (with_socket_reached S d (sent m) still (λ sound s here. sent_keeps S d m s (names sound))))))
+-- the queue of a socket that is there
+enqueue_obeys : (S : State) (d : ℕ) (other : Socket) (m : Message) → (IsSound S → NamesNoneGone S m.rights) → Call S (enqueue S d other m)
+enqueue_obeys S d other m names = either (Call S) (is_stream other.kind && (length m.bytes == 0)) _ _ (λ b. answers refl refl refl refl still)
+    (λ b. either (Call S) (not (has_room other)) _ _ (λ c. refuses refl refl)
+    (λ c. answers refl refl refl refl (with_socket_reached S d (sent m) still (λ sound s here. sent_keeps S d m s (names sound)))))
 
-pub connected_obeys : (S : State) (peer : Option ℕ) (m : Message) → (IsSound S → NamesNoneGone S m.rights) → Call S (send_connected S peer m)
-connected_obeys S None m names = refuses refl refl
-connected_obeys S (Some peer) m names = to_peer_obeys S peer m names
+to_peer_obeys : (S : State) (shut : Bool) (d : ℕ) (m : Message) → (IsSound S → NamesNoneGone S m.rights) → Call S (send_to_peer S shut d m)
+to_peer_obeys S shut d m names = maybe (Call S) (socket_at S d) _ _ (refuses refl refl)
+    (λ other h. either (Call S) (shut || other.read_shut) _ _ (λ b. refuses refl refl)
+    (λ b. either (Call S) (is_too_long other m) _ _ (λ c. refuses refl refl) (λ c. enqueue_obeys S d other m names)))
 
-stream_obeys : (S : State) (peer : Option ℕ) (addr : Option Addr) (m : Message) → (IsSound S → NamesNoneGone S m.rights) → Call S (send_stream S peer addr m)
-stream_obeys S peer None m names = connected_obeys S peer m names
-stream_obeys S None (Some addr) m names = refuses refl refl
-stream_obeys S (Some peer) (Some addr) m names = refuses refl refl
+connected_obeys : (S : State) (shut : Bool) (peer : Option ℕ) (m : Message) → (IsSound S → NamesNoneGone S m.rights) → Call S (send_connected S shut peer m)
+connected_obeys S shut None m names = refuses refl refl
+connected_obeys S shut (Some peer) m names = to_peer_obeys S shut peer m names
 
-with_obeys : (S : State) (p : ℕ) (P : Process) (tag : ℕ) (peer : Option ℕ) (addr : Option Addr) (bytes : List ℕ) (control : Control) → Call S (send_with S p P tag peer addr bytes control)
+stream_obeys : (S : State) (shut : Bool) (peer : Option ℕ) (addr : Option Addr) (m : Message) → (IsSound S → NamesNoneGone S m.rights) → Call S (send_stream S shut peer addr m)
+stream_obeys S shut peer None m names = connected_obeys S shut peer m names
+stream_obeys S shut None (Some addr) m names = refuses refl refl
+stream_obeys S shut (Some peer) (Some addr) m names = refuses refl refl
+
+to_target_obeys : (S : State) (d t : ℕ) (target : Socket) (m : Message) → (IsSound S → NamesNoneGone S m.rights) → Call S (send_to_target S d t target m)
+to_target_obeys S d t target m names = either (Call S) (not (takes_from d target.phase)) _ _ (λ b. refuses refl refl)
+    (λ b. either (Call S) target.read_shut _ _ (λ c. refuses refl refl) (λ c. enqueue_obeys S t target m names))
+
+-- an association to what is gone ends
+ended_obeys : (S : State) (d t : ℕ) (s : Socket) → socket_at S d ≡ Some s → association_of s.phase ≡ Some t → socket_at S t ≡ None →
+    Call S (answer (Reply.Err Errno.ECONNREFUSED) (with_socket_by S d (with_association None)))
+ended_obeys S d t s h tied gone = record {
+  own_reply = refl;
+  refused = λ e told. let same : Errno.ECONNREFUSED ≡ e = cc told in
+      subst (λ g. LeftByRefusal S g (with_socket_by S d (with_association None))) same
+      (inr (record { description = d; target = t; socket = s; there = h; was_associated = tied; was_gone = gone; left = refl }));
+  failed = λ T none. absurd (cc none);
+  reached = association_reached S d None;
+  objects = same_objects S (with_socket_by S d (with_association None)) refl;
+}
+
+by_association_obeys : (S : State) (d : ℕ) (s : Socket) (m : Message) → socket_at S d ≡ Some s → (IsSound S → NamesNoneGone S m.rights) → Call S (send_by_association S d (association_of s.phase) m)
+by_association_obeys S d s m h names = go (association_of s.phase) refl
+  where
+    at_target : (t : ℕ) → association_of s.phase ≡ Some t → (o : Option Socket) → socket_at S t ≡ o → Call S (elim o as (λ _. Outcome) [
+      | None ↦ answer (Reply.Err Errno.ECONNREFUSED) (with_socket_by S d (with_association None))
+      | Some target ↦ send_to_target S d t target m
+    ])
+    at_target t tied None gone = ended_obeys S d t s h tied gone
+    at_target t tied (Some target) there = to_target_obeys S d t target m names
+
+    go : (o : Option ℕ) → association_of s.phase ≡ o → Call S (send_by_association S d o m)
+    go None tied = refuses refl refl
+    go (Some t) tied = at_target t tied (socket_at S t) refl
+
+datagram_obeys : (S : State) (d : ℕ) (s : Socket) (addr : Option Addr) (m : Message) → socket_at S d ≡ Some s → (IsSound S → NamesNoneGone S m.rights) → Call S (send_datagram S d s addr m)
+datagram_obeys S d s addr m h names = either (Call S) (nat_lt record_bytes_limit (length m.bytes)) _ _ (λ b. refuses refl refl)
+    (λ b. either (Call S) s.write_shut _ _ (λ c. refuses refl refl) (λ c. by_addr addr))
+  where
+    by_addr : (a : Option Addr) → Call S (send_by S d s a (record m { from = Some s.name }))
+    by_addr None = by_association_obeys S d s (record m { from = Some s.name }) h names
+    by_addr (Some a) = found_named (Call S) S s.kind a _ (refuses refl refl) (refuses refl refl) (refuses refl (inl refl)) (refuses refl refl)
+        (λ t target there. to_target_obeys S d t target (record m { from = Some s.name }) names)
+
+pub from_obeys : (S : State) (d : ℕ) (s : Socket) (addr : Option Addr) (m : Message) → socket_at S d ≡ Some s → (IsSound S → NamesNoneGone S m.rights) → Call S (send_from S d s addr m)
+from_obeys S d s addr m h names = either (Call S) (is_dgram s.kind) _ _ (λ b. datagram_obeys S d s addr m h names) (λ b. stream_obeys S s.write_shut (peer_of s.phase) addr m names)
+
+with_obeys : (S : State) (p : ℕ) (P : Process) (tag d : ℕ) (s : Socket) (addr : Option Addr) (bytes : List ℕ) (control : Control) → socket_at S d ≡ Some s →
+    Call S (send_with S p P tag d s addr bytes control)
 unfolding send_with
-with_obeys S p P tag peer addr bytes control = either (Call S) (not (is_sendable_control bytes control)) _ _ (λ b. refuses refl refl)
+with_obeys S p P tag d s addr bytes control h = either (Call S) (not (is_sendable_control s.kind bytes control)) _ _ (λ b. refuses refl refl)
     (λ b. maybe (Call S) (descriptions_behind (table_of S p) control.rights) _ _ (refuses refl refl)
     (λ rights behind. either (Call S) (not (is_sendable_addr addr)) _ _ (λ b. refuses refl refl)
-    (λ b. stream_obeys S peer addr (message_of (own_cred p P) tag bytes rights) (λ sound. behind_there S p control.rights rights sound behind))))
+    (λ b. from_obeys S d s addr (message_of (own_cred p P) tag bytes rights) h (λ sound. behind_there S p control.rights rights sound behind))))
 
-read_obeys : (S : State) (p : ℕ) (P : Process) (tag : ℕ) (peer : Option ℕ) (addr : Option Addr) (bytes : List ℕ) (control : Option Control) → Call S (send_read S p P tag peer addr bytes control)
+read_obeys : (S : State) (p : ℕ) (P : Process) (tag d : ℕ) (s : Socket) (addr : Option Addr) (bytes : List ℕ) (control : Option Control) → socket_at S d ≡ Some s →
+    Call S (send_read S p P tag d s addr bytes control)
 unfolding send_read
-read_obeys S p P tag peer addr bytes None = refuses refl refl
-read_obeys S p P tag peer addr bytes (Some control) = with_obeys S p P tag peer addr bytes control
+read_obeys S p P tag d s addr bytes None h = refuses refl refl
+read_obeys S p P tag d s addr bytes (Some control) h = with_obeys S p P tag d s addr bytes control h
 
 reading_obeys : (S : State) (control : List ℕ) (o : Outcome) → Call S o → Call S (reading_control control o)
 reading_obeys S control o obeys = record { own_reply = obeys.own_reply; refused = obeys.refused; failed = obeys.failed; reached = obeys.reached; objects = obeys.objects }
@@ -124,7 +175,7 @@ unfolding send_msg
 send_obeys S p tag fd addr bytes control flags = maybe (Call S) (process_at S p) _ _ (refuses refl refl)
     (λ P here. found_socket (Call S) S p fd _ (refuses refl refl) (refuses refl refl)
     (λ d s h. either (Call S) (not (are_send_flags flags)) _ _ (λ b. refuses refl refl)
-    (λ b. reading_obeys S control _ (read_obeys S p P tag (peer_of s.phase) addr bytes (control_in control)))))
+    (λ b. reading_obeys S control _ (read_obeys S p P tag d s addr bytes (control_in control) h))))
 
 -- ---- receiving
 
@@ -142,16 +193,7 @@ reset_obeys S d s h pending = record {
 
 nothing_obeys : (S : State) (d : ℕ) (s : Socket) (peer : ℕ) → socket_at S d ≡ Some s → Call S (receive_nothing S d s peer)
 nothing_obeys S d s peer h = either (Call S) s.reset _ _ (λ b. reset_obeys S d s h b)
-    (λ b. either (Call S) (is_none (socket_at S peer)) _ _ (λ b. answers refl refl refl refl still) (λ b. refuses refl refl))
-
--- a table changes no description
-same_descriptions : (S : State) (p : ℕ) (table : List (Option Descriptor)) → (with_table S p table).descriptions ≡ S.descriptions
-same_descriptions S zero table = refl
-same_descriptions S (suc i) table = go (slice_get S.processes i)
-  where
-    go : (o : Option Process) → State.descriptions (elim o as (λ _. State) [ Some P ↦ record S { processes = set S.processes i (record P { table = table }) } | None ↦ S ]) ≡ S.descriptions
-    go None = refl
-    go (Some P) = refl
+    (λ b. either (Call S) (at_end S s peer) _ _ (λ b. answers refl refl refl refl still) (λ b. refuses refl refl))
 
 -- descriptors of what is there are installed
 installed_names : (S : State) (old table : List (Option Descriptor)) (cloexec : Bool) (ns ds : List ℕ) → NamesNoneGone S ds → NamesWhatIsThere S old table →
@@ -174,27 +216,27 @@ installed_names S old table cloexec (n ∷ ns) (d ∷ ds) none names =
         absurd (omega (arith, both, one, z))
 
 -- something refers to what comes with the bytes
-pub front_counts : (S : State) (d n k : ℕ) (wants : Bool) (s : Socket) (m : Message) (ms : List Message) → socket_at S d ≡ Some s → s.queue ≡ m ∷ ms → times k (stream_front wants n m ms).rights ≤ refs S k
-front_counts S d n k wants s m ms h q =
-    let parts = front_refs k wants n m ms in
+pub front_counts : (S : State) (d n k : ℕ) (s : Socket) (m : Message) (ms : List Message) → socket_at S d ≡ Some s → s.queue ≡ m ∷ ms → times k (front_of n s m ms).rights ≤ refs S k
+front_counts S d n k s m ms h q =
+    let parts = front_of_refs k n s m ms in
     let all : queue_refs k s.queue ≡ queue_refs k (m ∷ ms) = ap (queue_refs k) q in
     let counted = socket_counted S d k s h in
     omega (arith, parts, all, counted)
 
 -- so where nothing dangles it is there
-front_there : (S : State) (d n : ℕ) (s : Socket) (m : Message) (ms : List Message) → socket_at S d ≡ Some s → s.queue ≡ m ∷ ms → IsSound S → NamesNoneGone S (stream_front s.passcred n m ms).rights
+front_there : (S : State) (d n : ℕ) (s : Socket) (m : Message) (ms : List Message) → socket_at S d ≡ Some s → s.queue ≡ m ∷ ms → IsSound S → NamesNoneGone S (front_of n s m ms).rights
 front_there S d n s m ms h q sound k gone =
-    let counted = front_counts S d n k s.passcred s m ms h q in
+    let counted = front_counts S d n k s m ms h q in
     let none : refs S k ≡ 0 = sound.held.no_description_dangles k gone in
     omega (arith, counted, none)
 
 front_obeys : (S : State) (p d n : ℕ) (s : Socket) (space : ℕ) (flags : MsgFlags) (m : Message) (ms : List Message) → socket_at S d ≡ Some s → s.queue ≡ m ∷ ms →
-    Call S (receive_front S p d s space flags (stream_front s.passcred n m ms))
+    Call S (receive_front S p d s space flags (front_of n s m ms))
 unfolding receive_front
 front_obeys S p d n s space flags m ms h q = answers refl refl refl (same (asks_peek flags)) (peeked (asks_peek flags))
   where
     front : Front
-    front = stream_front s.passcred n m ms
+    front = front_of n s m ms
 
     T : State
     T = with_delivered S p flags front (delivery s.passcred front.cred front.rights space (table_of S p))
@@ -214,17 +256,22 @@ front_obeys S p d n s space flags m ms h q = answers refl refl refl (same (asks_
         let there : socket_at S d ≡ Some t = ap (λ ds. socket_at (record S { descriptions = ds }) d) (sym alike) ∙ here in
         let same : s ≡ t = cc (sym h ∙ there) in
         let all : queue_refs k t.queue ≡ queue_refs k (m ∷ ms) = ap (λ u. queue_refs k (Socket.queue u)) (sym same) ∙ ap (queue_refs k) q in
-        let parts = front_refs k s.passcred n m ms in
+        let parts = front_of_refs k n s m ms in
         omega (arith, all, parts)
 
     peeked : (b : Bool) → Reaches S false (if b then T else with_socket_by T d (with_queue front.rest))
     peeked true = delivered
     peeked false = with_socket_reached T d (with_queue front.rest) delivered (λ sound t here. queue_changed T d t front.rest t.reset (λ k gone. fewer t here k))
 
-pub receive_obeys : (S : State) (p d : ℕ) (s : Socket) (n space : ℕ) (flags : MsgFlags) → socket_at S d ≡ Some s → Call S (receive S p d s n space flags)
-receive_obeys S p d s n space flags h = maybe (Call S) (peer_of s.phase) _ _ (refuses refl refl)
-    (λ peer is. either (Call S) (n == 0) _ _ (λ b. answers refl refl refl refl still)
+from_peer_obeys : (S : State) (p d : ℕ) (s : Socket) (n space : ℕ) (flags : MsgFlags) → socket_at S d ≡ Some s → Call S (receive_from_peer S p d s n space flags)
+from_peer_obeys S p d s n space flags h = maybe (Call S) (peer_of s.phase) _ _ (refuses refl refl)
+    (λ peer is. either (Call S) (is_stream s.kind && (n == 0)) _ _ (λ b. answers refl refl refl refl still)
     (λ b. by_queue (Call S) s.queue _ _ (nothing_obeys S d s peer h) (λ m ms q. front_obeys S p d n s space flags m ms h q)))
+
+pub receive_obeys : (S : State) (p d : ℕ) (s : Socket) (n space : ℕ) (flags : MsgFlags) → socket_at S d ≡ Some s → Call S (receive S p d s n space flags)
+receive_obeys S p d s n space flags h = either (Call S) (is_dgram s.kind) _ _
+    (λ b. by_queue (Call S) s.queue _ _ (either (Call S) s.read_shut _ _ (λ c. answers refl refl refl refl still) (λ c. refuses refl refl)) (λ m ms q. front_obeys S p d n s space flags m ms h q))
+    (λ b. from_peer_obeys S p d s n space flags h)
 
 pub recv_obeys : (S : State) (p : ℕ) (fd : Fd) (n space : ℕ) (flags : MsgFlags) → Call S (recv_msg S p fd n space flags)
 unfolding recv_msg

@@ -1,24 +1,24 @@
 -- Of the calls of names and connections: that their outcomes obey what all do. One lemma a call.
-use Rattle.std.proofs.Common.{◌≡◌, ℕ, zero, suc, ◌+◌, ◌≤◌, Bool, true, false, not, ◌||◌, cond, List, [], ◌∷◌, ◌++◌, Option, Some, None, refl, ap, sym, ◌∙◌, arith}
+use Rattle.std.proofs.Common.{◌≡◌, ℕ, zero, suc, ◌+◌, ◌≤◌, Bool, true, false, not, ◌||◌, inl, cond, List, [], ◌∷◌, ◌++◌, Option, Some, None, refl, ap, sym, ◌∙◌, arith}
 use Rattle.std.specs.Prelude.{nat_le, length, ℤ, is_none, is_some, option_map, slice_get}
 use Rattle.std.proofs.lemmas.Bool.{eq-eqb}
-use Rattle.ux_model.specs.Types.{Fd, Cred, Name, Addr, SockType, OpenFlags}
+use Rattle.ux_model.specs.Types.{Fd, Cred, Name, Addr, SockType, Mode, OpenFlags}
 use Rattle.ux_model.specs.Places.{filled}
 use Rattle.ux_model.specs.Names.{named, is_valid_addr, is_unnamed_addr, free_name}
 use Rattle.ux_model.specs.Backlog.{backlog_of}
-use Rattle.ux_model.specs.Socket.{Socket, Phase, new_socket, pending_ends, peer_of}
+use Rattle.ux_model.specs.Socket.{Socket, Phase, is_dgram, new_socket, pending_ends, peer_of, tied_socket, takes_from, with_association, shut_down}
 use Rattle.ux_model.specs.Description.{Description, Target, to_object, to_socket, socket_in, changed, changed_target}
 use Rattle.ux_model.specs.Process.{Process, Descriptor, lowest_free, descriptor, own_cred}
 use Rattle.ux_model.specs.State.{State, description_at, socket_at, process_at, table_of, next_description, with_socket_by, with_process, with_table, with_new}
 use Rattle.ux_model.specs.References.{times}
 use Rattle.ux_model.specs.Pairing.{socket_description}
 use Rattle.ux_model.specs.Binding.{with_name, bind_to, bind, get_sock_name}
-use Rattle.ux_model.specs.Connecting.{make_socket, listener_of, with_listening, listen, connect_to, connect, get_peer_name}
+use Rattle.ux_model.specs.Connecting.{make_socket, listener_of, with_listening, listen, connect_to, connect_stream, connect_datagram, connect, get_peer_name, shutdown}
 use Rattle.ux_model.specs.Accepting.{as_accepted, accepted_with, phase_without_first_end, without_first_end, with_accepted, accept_first, accept}
 use Rattle.ux_model.specs.Peers.{at_target, at_socket}
 use Rattle.ux_model.specs.Invariants.{pends, pends_at_all}
 use Rattle.ux_model.proofs.ChangedPlaces.{changed_here, sum_by-changed}
-use Rattle.ux_model.proofs.Sockets.{peer_left, end_count, phase_left}
+use Rattle.ux_model.proofs.Sockets.{peer_left, end_count, phase_left, peer_associated, ends_associated}
 use Rattle.ux_model.proofs.Sound.{IsSound, unaccepted, target_name, name_in}
 use Rattle.ux_model.proofs.Walk.{either, maybe, found_socket, found_named, found_peer}
 use Rattle.ux_model.proofs.Reaching.{Reaches, still, description_made, connection_made, description_changed, path_bound, name_bound, KeepsPlace, KeepsTarget, KeepsSocket, kept_place, kept_socket, same_target, nothing_there, put_names, same_names, with_table_reached, with_socket_reached, some_pushed}
@@ -101,28 +101,52 @@ pub listen_obeys : (S : State) (p : ℕ) (fd : Fd) (backlog : ℤ) → Call S (l
 unfolding listen
 listen_obeys S p fd backlog = maybe (Call S) (process_at S p) _ _ (refuses refl refl)
     (λ P here. found_socket (Call S) S p fd _ (refuses refl refl) (refuses refl refl)
-    (λ d s h. either (Call S) (is_some (peer_of s.phase)) _ _ (λ b. refuses refl refl)
+    (λ d s h. either (Call S) (is_dgram s.kind) _ _ (λ a. refuses refl refl)
+    (λ a. either (Call S) (is_some (peer_of s.phase)) _ _ (λ b. refuses refl refl)
     (λ b. either (Call S) (is_unnamed_addr s.name) _ _ (λ c. refuses refl refl)
     (λ c. answers refl refl refl refl (with_socket_reached S d (with_listening (backlog_of backlog) (own_cred p P)) still
     (λ sound t at_d. listening_keeps S d t (backlog_of backlog) (own_cred p P)
-    (ap (λ (u : Socket). peer_of u.phase) (sym (same_socket S d s t h at_d)) ∙ is_none_of (peer_of s.phase) b)))))))
+    (ap (λ (u : Socket). peer_of u.phase) (sym (same_socket S d s t h at_d)) ∙ is_none_of (peer_of s.phase) b))))))))
 
 -- ---- connect
 
 connect_to_obeys : (S : State) (d : ℕ) (s : Socket) (cred : Cred) (l : ℕ) (other : Socket) → socket_at S d ≡ Some s → peer_of s.phase ≡ None → socket_at S l ≡ Some other →
     Call S (connect_to S d cred l other)
-connect_to_obeys S d s cred l other h free there = maybe (Call S) (listener_of other.phase) _ _ (refuses refl refl)
+connect_to_obeys S d s cred l other h free there = maybe (Call S) (listener_of other.phase) _ _ (refuses refl (inl refl))
     (λ kept listens. either (Call S) (nat_le kept.0.limit (length kept.0.pending)) _ _ (λ b. refuses refl refl)
     (λ b. answers refl refl refl refl (connection_made d l cred kept.1 s other still h free there)))
+
+stream_obeys : (S : State) (d : ℕ) (s : Socket) (addr : Addr) (cred : Cred) → socket_at S d ≡ Some s → Call S (connect_stream S d s addr cred)
+stream_obeys S d s addr cred h = either (Call S) (not (is_valid_addr addr) || is_unnamed_addr addr || is_some (listener_of s.phase)) _ _ (λ b. refuses refl refl)
+    (λ b. either (Call S) (is_some (peer_of s.phase)) _ _ (λ c. refuses refl refl)
+    (λ c. found_named (Call S) S s.kind addr _ (refuses refl refl) (refuses refl refl) (refuses refl (inl refl)) (refuses refl refl)
+    (λ l other there. connect_to_obeys S d s cred l other h (is_none_of (peer_of s.phase) c) there)))
+
+-- ---- associations
+
+association_keeps : (S : State) (n : ℕ) (s : Socket) (target : Option ℕ) → KeepsSocket S n s (with_association target s)
+association_keeps S n s target = record {
+  holds = λ d gone. let same = ap (times d) (ends_associated target s.phase) in omega (arith, same);
+  peer = peer_associated target s.phase;
+  pending = λ d. let same = ap (times d) (ends_associated target s.phase) in omega (arith, same);
+  waits = λ w. omega arith;
+  named = λ a has. has;
+}
+
+pub association_reached : (S : State) (d : ℕ) (target : Option ℕ) → Reaches S false (with_socket_by S d (with_association target))
+association_reached S d target = with_socket_reached S d (with_association target) still (λ sound s here. association_keeps S d s target)
+
+datagram_obeys : (S : State) (d : ℕ) (kind : SockType) (addr : Addr) → Call S (connect_datagram S d kind addr)
+datagram_obeys S d kind addr = either (Call S) (not (is_valid_addr addr)) _ _ (λ b. refuses refl refl)
+    (λ b. either (Call S) (is_unnamed_addr addr) _ _ (λ c. answers refl refl refl refl (association_reached S d None))
+    (λ c. found_named (Call S) S kind addr _ (refuses refl refl) (refuses refl refl) (refuses refl (inl refl)) (refuses refl refl)
+    (λ t target there. either (Call S) (takes_from d target.phase) _ _ (λ e. answers refl refl refl refl (association_reached S d (Some t))) (λ e. refuses refl refl))))
 
 pub connect_obeys : (S : State) (p : ℕ) (fd : Fd) (addr : Addr) → Call S (connect S p fd addr)
 unfolding connect
 connect_obeys S p fd addr = maybe (Call S) (process_at S p) _ _ (refuses refl refl)
     (λ P here. found_socket (Call S) S p fd _ (refuses refl refl) (refuses refl refl)
-    (λ d s h. either (Call S) (not (is_valid_addr addr) || is_unnamed_addr addr || is_some (listener_of s.phase)) _ _ (λ b. refuses refl refl)
-    (λ b. either (Call S) (is_some (peer_of s.phase)) _ _ (λ c. refuses refl refl)
-    (λ c. found_named (Call S) S s.kind addr _ (refuses refl refl) (refuses refl refl) (refuses refl refl) (refuses refl refl)
-    (λ l other there. connect_to_obeys S d s (own_cred p P) l other h (is_none_of (peer_of s.phase) c) there)))))
+    (λ d s h. either (Call S) (is_dgram s.kind) _ _ (λ b. datagram_obeys S d s.kind addr) (λ b. stream_obeys S d s addr (own_cred p P) h)))
 
 pub peer_name_obeys : (S : State) (p : ℕ) (fd : Fd) → Call S (get_peer_name S p fd)
 unfolding get_peer_name
@@ -209,7 +233,8 @@ accepted_keeps S e flags (Some D) none = kept_place S e D (accepted_with flags D
     by_target (to_object o) = same_target S e (to_object o)
     by_target (to_socket s) = kept_socket S e s (as_accepted s) (record { holds = λ k gone. omega arith; peer = refl; pending = λ k. omega arith; waits = λ w. absurd (omega (arith, w, none)); named = λ a has. has })
 
-same_descriptions : (S : State) (p : ℕ) (table : List (Option Descriptor)) → (with_table S p table).descriptions ≡ S.descriptions
+-- a table changes no description
+pub same_descriptions : (S : State) (p : ℕ) (table : List (Option Descriptor)) → (with_table S p table).descriptions ≡ S.descriptions
 same_descriptions S p table = go p (process_at S p)
   where
     go : (p : ℕ) (x : Option Process) → (elim x as (λ _. State) [ Some P ↦ with_process S p (record P { table = table }) | None ↦ S ]).descriptions ≡ S.descriptions
@@ -237,6 +262,18 @@ accept_first_obeys S p n d flags s (Some e) h first = answers refl refl refl (wi
 pub accept_obeys : (S : State) (p : ℕ) (fd : Fd) (flags : OpenFlags) → Call S (accept S p fd flags)
 unfolding accept
 accept_obeys S p fd flags = found_socket (Call S) S p fd _ (refuses refl refl) (refuses refl refl)
-    (λ d s h. either (Call S) (is_none (listener_of s.phase)) _ _ (λ b. refuses refl refl)
+    (λ d s h. either (Call S) (is_dgram s.kind) _ _ (λ a. refuses refl refl)
+    (λ a. either (Call S) (is_none (listener_of s.phase)) _ _ (λ b. refuses refl refl)
     (λ b. maybe (Call S) (lowest_free (table_of S p)) _ _ (refuses refl refl)
-    (λ n low. accept_first_obeys S p n d flags s (slice_get (pending_ends s.phase) 0) h refl)))
+    (λ n low. accept_first_obeys S p n d flags s (slice_get (pending_ends s.phase) 0) h refl))))
+
+-- ---- shutdown
+
+shut_keeps : (S : State) (d : ℕ) (s : Socket) (how : Mode) → KeepsSocket S d s (shut_down how s)
+shut_keeps S d s how = record { holds = λ k gone. omega arith; peer = refl; pending = λ k. omega arith; waits = λ w. omega arith; named = λ a has. has }
+
+pub shutdown_obeys : (S : State) (p : ℕ) (fd : Fd) (how : Mode) → Call S (shutdown S p fd how)
+unfolding shutdown
+shutdown_obeys S p fd how = found_socket (Call S) S p fd _ (refuses refl refl) (refuses refl refl)
+    (λ d s h. either (Call S) (is_none (tied_socket s.phase)) _ _ (λ b. refuses refl refl)
+    (λ b. answers refl refl refl refl (with_socket_reached S d (shut_down how) still (λ sound t here. shut_keeps S d t how))))

@@ -1,19 +1,19 @@
--- A refusal changes nothing, but for a failure of a file object and a pending error.
-use Rattle.std.proofs.Common.{◌≡◌, ℕ, ◌==◌, false, ◌&&◌, [], ◌∷◌, ◌++◌, length, Option, Some, None, refl, ap, sym, subst, ◌∙◌, arith}
+-- A refusal changes nothing, but for a failure of a file object, a pending error and an association to what is gone.
+use Rattle.std.proofs.Common.{◌≡◌, ◌⊎◌, inl, inr, ℕ, ◌+◌, ◌==◌, false, ◌&&◌, [], ◌∷◌, ◌++◌, length, Option, Some, None, refl, ap, sym, subst, ◌∙◌, arith}
 use Rattle.std.specs.Prelude.{is_some, option_map}
 use Rattle.ux_model.specs.Types.{Errno}
 use Rattle.ux_model.specs.Places.{place}
 use Rattle.ux_model.specs.Object.{View, after_failure}
-use Rattle.ux_model.specs.Socket.{with_reset}
+use Rattle.ux_model.specs.Socket.{Socket, with_association, with_reset}
 use Rattle.ux_model.specs.Description.{Description, Target, to_object, to_socket, changed, changed_target}
 use Rattle.ux_model.specs.State.{State, description_at, with_object, with_socket_by}
-use Rattle.ux_model.specs.References.{leads_to, refs, orefs}
+use Rattle.ux_model.specs.References.{leads_to, times, queue_refs, socket_refs, refs, orefs}
 use Rattle.ux_model.specs.Release.{settled}
 use Rattle.ux_model.specs.Step.{Step, outcome}
 use Rattle.ux_model.specs.History.{is_exit, replay}
-use Rattle.ux_model.specs.Invariants.{OneMoreFailure, ResetCleared, LeftByRefusal, RefusalChangesNothing, RefusedEntryChangesNothing}
+use Rattle.ux_model.specs.Invariants.{OneMoreFailure, ResetCleared, AssociationEnded, LeftByRefusal, RefusalChangesNothing, RefusedEntryChangesNothing}
 use Rattle.ux_model.proofs.Moves.{same_target_counts_alike}
-use Rattle.ux_model.proofs.Sockets.{socket_counts}
+use Rattle.ux_model.proofs.Sockets.{socket_counts, ends_associated}
 use Rattle.ux_model.proofs.OnePlace.{same_at}
 use Rattle.ux_model.proofs.Settling.{HasNoneLeft, none_left, settled_where_none_left, stays_settled, releases_nothing}
 use Rattle.ux_model.proofs.Induction.{legal_before, last_may}
@@ -48,28 +48,38 @@ failure_settled S T one here = subst (λ R. settled R ≡ R) (sym one.left) (lef
     (λ o. same_orefs_objects S one.object o (after_failure one.view))
     here)
 
-reset_refs : (S : State) (n d : ℕ) → refs (with_socket_by S n (with_reset false)) d ≡ refs S d
-reset_refs S n d = let e = socket_counts S n d (with_reset false) (λ s. 0) (λ s. 0) (λ s. refl) in omega (arith, e)
+-- a socket changes, and refers to as much
+changed_leads : (change : Socket → Socket) (o : ℕ) (t : Target) → leads_to o (changed_target change t) ≡ leads_to o t
+changed_leads change o (to_object n) = refl
+changed_leads change o (to_socket s) = refl
 
-reset_leads : (o : ℕ) (t : Target) → leads_to o (changed_target (with_reset false) t) ≡ leads_to o t
-reset_leads o (to_object n) = refl
-reset_leads o (to_socket s) = refl
+mapped : (change : Socket → Socket) (x : Option Description) → is_some (option_map (changed change) x) ≡ is_some x
+mapped change None = refl
+mapped change (Some D) = refl
 
-mapped : (x : Option Description) → is_some (option_map (changed (with_reset false)) x) ≡ is_some x
-mapped None = refl
-mapped (Some D) = refl
+changed_settled : (S T : State) (n : ℕ) (change : Socket → Socket) → ((d : ℕ) (s : Socket) → socket_refs d (change s) + 0 ≡ socket_refs d s + 0) → T ≡ with_socket_by S n change → settled S ≡ S → settled T ≡ T
+changed_settled S T n change alike left here = subst (λ R. settled R ≡ R) (sym left) (left_alike S (with_socket_by S n change)
+    (λ d. same_at is_some S.descriptions n d (option_map (changed change) (description_at S n)) (mapped change (description_at S n)))
+    (λ d. let e = socket_counts S n d change (λ s. 0) (λ s. 0) (alike d) in omega (arith, e))
+    (λ o. refl)
+    (λ o. same_target_counts_alike S n o (changed change) (λ D. changed_leads change o D.target))
+    here)
 
 cleared_settled : (S T : State) → ResetCleared S T → settled S ≡ S → settled T ≡ T
-cleared_settled S T one here = subst (λ R. settled R ≡ R) (sym one.left) (left_alike S (with_socket_by S one.description (with_reset false))
-    (λ d. same_at is_some S.descriptions one.description d (option_map (changed (with_reset false)) (description_at S one.description)) (mapped (description_at S one.description)))
-    (λ d. reset_refs S one.description d)
-    (λ o. refl)
-    (λ o. same_target_counts_alike S one.description o (changed (with_reset false)) (λ D. reset_leads o D.target))
-    here)
+cleared_settled S T one here = changed_settled S T one.description (with_reset false) (λ d s. refl) one.left here
+
+-- an association is no reference
+ended_refs : (d : ℕ) (s : Socket) → socket_refs d (with_association None s) + 0 ≡ socket_refs d s + 0
+ended_refs d s = ap (λ es. queue_refs d s.queue + times d es + 0) (ends_associated None s.phase)
+
+ended_settled : (S T : State) → (T ≡ S) ⊎ AssociationEnded S T → settled S ≡ S → settled T ≡ T
+ended_settled S T (inl left) here = ap settled left ∙ here ∙ sym left
+ended_settled S T (inr one) here = changed_settled S T one.description (with_association None) ended_refs one.left here
 
 left_settled : (S T : State) (e : Errno) → LeftByRefusal S e T → settled S ≡ S → settled T ≡ T
 left_settled S T Errno.EIO left here = failure_settled S T left here
 left_settled S T Errno.ECONNRESET left here = cleared_settled S T left here
+left_settled S T Errno.ECONNREFUSED left here = ended_settled S T left here
 left_settled S T e left here = ap settled left ∙ here ∙ sym left
 
 -- ---- the laws

@@ -2,7 +2,7 @@
 use Rattle.std.proofs.Common.{◌≡◌, ℕ, ◌+◌, ◌==◌, cond, List, [], ◌∷◌, drop, Option, Some, None, option_map, refl, arith}
 use Rattle.std.specs.List.{slice_get}
 use Rattle.std.proofs.lemmas.List.Sums.{sum_by-cons}
-use Rattle.ux_model.specs.Socket.{Socket, Phase, idle, listening, connected, associated, pending_ends, peer_of, phase_with_pending}
+use Rattle.ux_model.specs.Socket.{Socket, Phase, idle, listening, connected, associated, pending_ends, peer_of, phase_with_pending, phase_with_association}
 use Rattle.ux_model.specs.Description.{Description, Target, to_object, to_socket, changed, changed_target}
 use Rattle.ux_model.specs.Accepting.{phase_without_first_end}
 use Rattle.ux_model.specs.References.{times, socket_refs, target_refs, description_refs, refs}
@@ -62,3 +62,21 @@ phase_left k idle = refl
 phase_left k (listening backlog cred) = ends_left k backlog.pending
 phase_left k (connected peer) = refl
 phase_left k (associated target) = refl
+
+-- ---- associations, which are neither peers nor references
+
+pub peer_associated : (target : Option ℕ) (p : Phase) → peer_of (phase_with_association target p) ≡ peer_of p
+peer_associated None idle = refl
+peer_associated (Some t) idle = refl
+peer_associated target (listening backlog cred) = refl
+peer_associated target (connected peer) = refl
+peer_associated None (associated old) = refl
+peer_associated (Some t) (associated old) = refl
+
+pub ends_associated : (target : Option ℕ) (p : Phase) → pending_ends (phase_with_association target p) ≡ pending_ends p
+ends_associated None idle = refl
+ends_associated (Some t) idle = refl
+ends_associated target (listening backlog cred) = refl
+ends_associated target (connected peer) = refl
+ends_associated None (associated old) = refl
+ends_associated (Some t) (associated old) = refl

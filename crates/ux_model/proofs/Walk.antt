@@ -4,7 +4,7 @@ use Rattle.std.proofs.Common.{◌≡◌, ℕ, Bool, true, false, if◌then◌els
 use Rattle.ux_model.specs.Types.{Errno, Fd, Addr, SockType}
 use Rattle.ux_model.specs.Names.{PathTarget, file, bound, named}
 use Rattle.ux_model.specs.Message.{Message}
-use Rattle.ux_model.specs.Socket.{Socket, Phase, peer_of}
+use Rattle.ux_model.specs.Socket.{Socket, Phase, tied_socket}
 use Rattle.ux_model.specs.Description.{Description, Target, to_object, to_socket, socket_of, socket_in}
 use Rattle.ux_model.specs.Process.{Descriptor}
 use Rattle.ux_model.specs.State.{State, description_at, socket_at}
@@ -124,7 +124,7 @@ abbrev on_name : State → (Addr → Outcome) → Result Addr Errno → Outcome
 on_name S rest r = elim r [ Err e ↦ refuse S e | Ok name ↦ rest name ]
 
 pub found_peer : (Q : Outcome → Type 0) (S : State) (phase : Phase) (rest : Addr → Outcome) → Q (refuse S Errno.ENOTCONN) → ((name : Addr) → Q (rest name)) → Q (on_name S rest (peer_name S phase))
-found_peer Q S phase rest none rest_of = by_peer (peer_of phase)
+found_peer Q S phase rest none rest_of = by_peer (tied_socket phase)
   where
     by_socket : (o : Option Socket) → Q (on_name S rest (elim o as (λ _. Result Addr Errno) [ None ↦ Err Errno.ENOTCONN | Some s ↦ Ok s.name ]))
     by_socket None = none

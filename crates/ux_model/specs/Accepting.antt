@@ -2,7 +2,7 @@
 use Rattle.std.specs.Prelude.{ℕ, true, drop, if◌then◌else◌, Option, Some, None, is_none, slice_get}
 use Rattle.ux_model.specs.Types.{Errno, Fd, Addr, OpenFlags, Reply}
 use Rattle.ux_model.specs.Places.{filled}
-use Rattle.ux_model.specs.Socket.{Socket, Phase, idle, listening, connected, associated, pending_ends, peer_of}
+use Rattle.ux_model.specs.Socket.{Socket, Phase, idle, listening, connected, associated, pending_ends, peer_of, is_dgram}
 use Rattle.ux_model.specs.Description.{Description, changed}
 use Rattle.ux_model.specs.Process.{lowest_free, fd_of, descriptor}
 use Rattle.ux_model.specs.State.{State, socket_at, table_of, with_description_by, with_socket_by, with_table}
@@ -60,5 +60,6 @@ accept_first S p n d flags (Some e) = growing (Reply.Accepted (fd_of n) (client_
 -- accept4(2). Where no number is free, the end waits on.
 unfoldable pub accept : State → ℕ → Fd → OpenFlags → Outcome
 accept S p fd flags = on_socket S p fd (λ d s.
+    if is_dgram s.kind then refuse S Errno.EOPNOTSUPP else
     if is_none (listener_of s.phase) then refuse S Errno.EINVAL else
     elim (lowest_free (table_of S p)) [ None ↦ refuse S Errno.EMFILE | Some n ↦ accept_first S p n d flags (slice_get (pending_ends s.phase) 0) ])

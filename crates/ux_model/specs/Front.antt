@@ -1,7 +1,8 @@
 -- What a receive takes from the front of a queue.
-use Rattle.std.specs.Prelude.{ℕ, min, Bool, List, [], ◌∷◌, length, take, Option, None}
+use Rattle.std.specs.Prelude.{ℕ, min, Bool, if◌then◌else◌, List, [], ◌∷◌, length, take, Option, None}
 use Rattle.ux_model.specs.Types.{Cred, Addr}
 use Rattle.ux_model.specs.Message.{Message, queued_bytes}
+use Rattle.ux_model.specs.Socket.{Socket, is_stream}
 use Rattle.ux_model.specs.Stream.{Origin, origin_of, joined_run, first_bytes, rights_within, origin_within, without_first}
 
 pub record Front : Type 0 where
@@ -43,6 +44,10 @@ record_front n m ms = record {
   rest = ms;
 }
 
+-- of the queue of a socket, by its type
+abbrev pub front_of : ℕ → Socket → Message → List Message → Front
+front_of n s m ms = if is_stream s.kind then stream_front s.passcred n m ms else record_front n m ms
+
 -- a fact about the front of a queue in which something waits
 abbrev pub OnStreamFront : Bool → ℕ → List Message → (Front → Type 0) → Type 0
 OnStreamFront wants_cred n [] P = Unit {0}
@@ -51,3 +56,11 @@ OnStreamFront wants_cred n (m ∷ ms) P = P (stream_front wants_cred n m ms)
 abbrev pub OnRecordFront : ℕ → List Message → (Front → Type 0) → Type 0
 OnRecordFront n [] P = Unit {0}
 OnRecordFront n (m ∷ ms) P = P (record_front n m ms)
+
+-- the same of what a receive takes at a socket
+abbrev pub OnFrontOf : ℕ → Socket → List Message → (Front → Type 0) → Type 0
+OnFrontOf n s [] P = Unit {0}
+OnFrontOf n s (m ∷ ms) P = P (front_of n s m ms)
+
+abbrev pub OnFront : ℕ → Socket → (Front → Type 0) → Type 0
+OnFront n s P = OnFrontOf n s s.queue P

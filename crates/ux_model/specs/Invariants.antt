@@ -1,11 +1,11 @@
 -- Laws: what holds in every state that a legal history leads to. Nothing here defines a call.
-use Rattle.std.specs.Prelude.{◌≡◌, ℕ, suc, ◌<◌, ◌≤◌, true, false, List, [], ◌∷◌, ◌++◌, take, Some, Option, None, is_some, nat_lt, slice_get, sum_by}
+use Rattle.std.specs.Prelude.{◌≡◌, ◌⊎◌, ℕ, suc, ◌<◌, ◌≤◌, true, false, List, [], ◌∷◌, ◌++◌, take, Some, Option, None, is_some, nat_lt, slice_get, sum_by}
 use Rattle.ux_model.specs.Types.{Errno, Name, Addr, Request, Reply, Entry}
 use Rattle.ux_model.specs.Places.{place}
 use Rattle.ux_model.specs.Object.{View, after_failure}
 use Rattle.ux_model.specs.Names.{file}
 use Rattle.ux_model.specs.Message.{Message}
-use Rattle.ux_model.specs.Socket.{Socket, pending_ends, with_reset}
+use Rattle.ux_model.specs.Socket.{Socket, pending_ends, association_of, with_association, with_reset}
 use Rattle.ux_model.specs.Description.{Description, to_object}
 use Rattle.ux_model.specs.Process.{Descriptor}
 use Rattle.ux_model.specs.State.{State, description_at, socket_at, table_of, with_object, with_socket_by}
@@ -47,10 +47,22 @@ pub record ResetCleared (S T : State) : Type 0 where
   pub was_pending : socket.reset ≡ true
   pub left : T ≡ with_socket_by S description (with_reset false)
 
--- What an error leaves of S: the very state, but for a failure of a file object and a pending error, which its answer clears.
+-- T is S where a datagram socket is no longer associated, whose target was gone, and nothing else
+pub record AssociationEnded (S T : State) : Type 0 where
+  pub description : ℕ
+  pub target : ℕ
+  pub socket : Socket
+  pub there : socket_at S description ≡ Some socket
+  pub was_associated : association_of socket.phase ≡ Some target
+  pub was_gone : socket_at S target ≡ None
+  pub left : T ≡ with_socket_by S description (with_association None)
+
+-- What an error leaves of S: the very state, but for a failure of a file object, for a pending error, which its answer clears, and for an
+-- association to what is gone, by which nothing was sent.
 abbrev pub LeftByRefusal : State → Errno → State → Type 0
 LeftByRefusal S Errno.EIO T = OneMoreFailure S T
 LeftByRefusal S Errno.ECONNRESET T = ResetCleared S T
+LeftByRefusal S Errno.ECONNREFUSED T = (T ≡ S) ⊎ AssociationEnded S T
 LeftByRefusal S _ T = T ≡ S
 
 -- of a state that has nothing left to release, as all states of legal histories are

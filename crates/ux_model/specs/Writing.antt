@@ -36,5 +36,5 @@ write_object S d D o view bytes =
 unfoldable pub write : State → ℕ → ℕ → Fd → List ℕ → Outcome
 write S p tag fd bytes = on_descriptor S p fd (λ e D. elim D.target [
   | to_object o ↦ on_object S o (λ view. write_object S e.description D o view bytes)
-  | to_socket s ↦ as_process S p (λ P. write_socket S p P tag s bytes)
+  | to_socket s ↦ as_process S p (λ P. write_socket S p P tag e.description s bytes)
 ])

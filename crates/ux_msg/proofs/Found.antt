@@ -1,21 +1,28 @@
 -- What a number of a process leads to.
-use Rattle.std.proofs.Common.{◌≡◌, ℕ, ◌<◌, ◌≤◌, length, true, not, ◌⊎◌, inl, inr, if◌then◌else◌, Option, Some, None, Result, Ok, Err, sym, ◌∙◌, ap, subst, refl}
-use Rattle.std.specs.Prelude.{option_and_then}
+use Rattle.std.proofs.Common.{◌≡◌, ℕ, ◌<◌, ◌≤◌, length, Bool, true, false, not, ◌⊎◌, inl, inr, if◌then◌else◌, List, Option, Some, None, Result, Ok, Err, sym, ◌∙◌, ap, subst, refl}
+use Rattle.std.specs.Prelude.{IsSomeAnd, option_and_then}
 use Rattle.std.proofs.lemmas.Option.{none-some}
 use Rattle.std.proofs.lemmas.List.{get_or_past}
 use Rattle.std.proofs.lemmas.Bool.{cases_lt}
-use Rattle.ux_model.specs.Types.{Errno, Refusal, Fd, MsgFlags, Reply}
-use Rattle.ux_model.specs.Flags.{are_receive_flags}
+use Rattle.ux_model.specs.Types.{Errno, Refusal, Fd, Addr, SockType, MsgFlags, Reply}
+use Rattle.ux_model.specs.Flags.{are_send_flags, are_receive_flags}
+use Rattle.ux_model.specs.Control.{Control}
+use Rattle.ux_model.specs.ControlReading.{control_in}
+use Rattle.ux_model.specs.Names.{PathTarget, file, bound, named}
+use Rattle.ux_model.specs.Message.{Message}
 use Rattle.ux_model.specs.Socket.{Socket}
+use Rattle.ux_model.specs.Binding.{same_kind, socket_of_kind, socket_of_target, look_up}
 use Rattle.ux_model.specs.Description.{Description, socket_of}
-use Rattle.ux_model.specs.Process.{Descriptor}
-use Rattle.ux_model.specs.State.{State, description_at, socket_at, table_of}
+use Rattle.ux_model.specs.Process.{Process, Descriptor}
+use Rattle.ux_model.specs.State.{State, description_at, socket_at, process_at, table_of}
 use Rattle.ux_model.specs.References.{refs}
 use Rattle.ux_model.proofs.Named.{entry_counts}
-use Rattle.ux_model.specs.Outcome.{Outcome, refuse, descriptor_at, find_description, find_socket}
+use Rattle.ux_model.specs.Outcome.{Outcome, refuse, descriptor_at, find_description, find_socket, on_socket, as_process}
 use Rattle.ux_msg.specs.Answers.{Gives}
 use Rattle.ux_model.specs.Receiving.{receive, recv_msg}
+use Rattle.ux_model.specs.Sending.{send_to_target, send_by_name, send_with, send_read, reading_control, send_msg}
 use Rattle.ux_msg.specs.Receipts.{receive_at}
+use Rattle.ux_msg.specs.Sendings.{send_with_at}
 
 -- the entry, and its description
 pub record IsFound (S : State) (p : ℕ) (fd : Fd) (e : Descriptor) (D : Description) : Type 0 where
@@ -90,3 +97,80 @@ pub received_gives : (S T : State) (p : ℕ) (fd : Fd) (n space : ℕ) (flags : 
 received_gives S T p fd n space flags d k s r h ok g same =
     let P : Outcome → Type 0 = λ o. Gives S o r T in
     subst P (ap (λ x. receive_at S p x n space flags) same ∙ received_at S p fd n space flags d s h ok) g
+
+-- ---- by its name
+
+-- the socket that an address leads to is there
+pub looked_up : (S : State) (kind : SockType) (addr : Addr) (t : ℕ) (u : Socket) → look_up S kind addr ≡ Ok (t, u) → socket_at S t ≡ Some u
+looked_up S kind addr t u h = by_addr addr h
+  where
+    typed : ℕ → Socket → Bool → Result (ℕ × Socket) Errno
+    typed d s b = if b then Ok (d, s) else Err Errno.EPROTOTYPE
+
+    by_kind : (d : ℕ) (s : Socket) → socket_at S d ≡ Some s → (b : Bool) → typed d s b ≡ Ok (t, u) → socket_at S t ≡ Some u
+    by_kind d s here false h = absurd (cc h)
+    by_kind d s here true h =
+        let same : ◌≡◌ {A = ℕ × Socket} (d, s) (t, u) = cc h in
+        ap (λ q. socket_at S q.0) (sym same) ∙ here ∙ ap (λ q. Some q.1) same
+
+    at_number : (d : ℕ) (o : Option Socket) → socket_at S d ≡ o → (elim o as (λ _. Result (ℕ × Socket) Errno) [ None ↦ Err Errno.ECONNREFUSED | Some s ↦ typed d s (same_kind kind s.kind) ]) ≡ Ok (t, u) → socket_at S t ≡ Some u
+    at_number d None here h = absurd (cc h)
+    at_number d (Some s) here h = by_kind d s here (same_kind kind s.kind) h
+
+    at_path : (o : Option PathTarget) → (elim o as (λ _. Result (ℕ × Socket) Errno) [ None ↦ Err Errno.ENOENT | Some x ↦ socket_of_target S kind x ]) ≡ Ok (t, u) → socket_at S t ≡ Some u
+    at_path None h = absurd (cc h)
+    at_path (Some (file o)) h = absurd (cc h)
+    at_path (Some (bound d)) h = at_number d (socket_at S d) refl h
+
+    at_name : (o : Option ℕ) → (elim o as (λ _. Result (ℕ × Socket) Errno) [ None ↦ Err Errno.ECONNREFUSED | Some d ↦ socket_of_kind S kind d ]) ≡ Ok (t, u) → socket_at S t ≡ Some u
+    at_name None h = absurd (cc h)
+    at_name (Some d) h = at_number d (socket_at S d) refl h
+
+    by_addr : (a : Addr) → look_up S kind a ≡ Ok (t, u) → socket_at S t ≡ Some u
+    by_addr Addr.Unnamed h = absurd (cc h)
+    by_addr (Addr.Path name) h = at_path (named name S.paths) h
+    by_addr (Addr.Abstract name) h = at_name (named name S.abstract_names) h
+
+-- a datagram to it
+pub named_gives : (S T : State) (d t k : ℕ) (s u : Socket) (addr : Addr) (m : Socket → Message) (r : Result Reply Refusal) → socket_at S d ≡ Some s → look_up S s.kind addr ≡ Ok (t, u) →
+    IsSomeAnd (socket_at S d) (λ x. IsSomeAnd (socket_at S k) (λ y. Gives S (send_to_target S d k y (m x)) r T)) → k ≡ t → IsSomeAnd (socket_at S d) (λ x. Gives S (send_by_name S d x.kind addr (m x)) r T)
+named_gives S T d t k s u addr m r here found gives same =
+    let there = looked_up S s.kind addr t u found in
+    let one : IsSomeAnd (socket_at S k) (λ y. Gives S (send_to_target S d k y (m s)) r T) = subst (λ o. IsSomeAnd o (λ x. IsSomeAnd (socket_at S k) (λ y. Gives S (send_to_target S d k y (m x)) r T))) here gives in
+    let two : IsSomeAnd (socket_at S t) (λ y. Gives S (send_to_target S d t y (m s)) r T) = subst (λ k. IsSomeAnd (socket_at S k) (λ y. Gives S (send_to_target S d k y (m s)) r T)) same one in
+    let three : Gives S (send_to_target S d t u (m s)) r T = subst (λ o. IsSomeAnd o (λ y. Gives S (send_to_target S d t y (m s)) r T)) there two in
+    let four : Gives S (send_by_name S d s.kind addr (m s)) r T =
+    subst (λ (x : Result (ℕ × Socket) Errno). Gives S (elim x as (λ _. Outcome) [ Err e ↦ refuse S e | Ok f ↦ send_to_target S d f.0 f.1 (m s) ]) r T) (sym found) three in
+    subst (λ o. IsSomeAnd o (λ x. Gives S (send_by_name S d x.kind addr (m x)) r T)) (sym here) four
+
+-- ---- sends
+
+pub sent_gives : (S T : State) (p tag : ℕ) (fd : Fd) (addr : Option Addr) (bytes buffer : List ℕ) (control : Control) (flags : MsgFlags) (d k : ℕ) (s : Socket) (r : Result Reply Refusal) → find_socket S p fd ≡ Ok (d, s) →
+    are_send_flags flags ≡ true → control_in buffer ≡ Some control → Gives S (as_process S p (λ P. reading_control buffer (send_with_at S p P tag k addr bytes control))) r T → k ≡ d →
+    Gives S (send_msg S p tag fd addr bytes buffer flags) r T
+unfolding send_msg send_read
+sent_gives S T p tag fd addr bytes buffer control flags d k s r h ok reads g same = go (process_at S p) g
+  where
+    at_socket : Process → ℕ → Option Socket → Outcome
+    at_socket P d o = reading_control buffer (elim o as (λ _. Outcome) [ None ↦ refuse S Errno.EBADF | Some s ↦ send_with S p P tag d s addr bytes control ])
+
+    allowed : Process → ℕ → Socket → Bool → Outcome
+    allowed P d s b = if not b then refuse S Errno.EINVAL else reading_control buffer (send_read S p P tag d s addr bytes (control_in buffer))
+
+    found_at : Process → Result (ℕ × Socket) Errno → Outcome
+    found_at P x = elim x [ Err e ↦ refuse S e | Ok f ↦ allowed P f.0 f.1 (are_send_flags flags) ]
+
+    here : socket_at S k ≡ Some s
+    here = ap (socket_at S) same ∙ socket_found S p fd d s h
+
+    go : (o : Option Process) → Gives S (elim o as (λ _. Outcome) [ None ↦ refuse S Errno.ESRCH | Some P ↦ at_socket P k (socket_at S k) ]) r T →
+        Gives S (elim o as (λ _. Outcome) [
+          | None ↦ refuse S Errno.ESRCH
+          | Some P ↦ on_socket S p fd (λ d s. if not (are_send_flags flags) then refuse S Errno.EINVAL else reading_control buffer (send_read S p P tag d s addr bytes (control_in buffer)))
+        ]) r T
+    go None g = g
+    go (Some P) g =
+        let at : Gives S (at_socket P d (Some s)) r T = subst (λ n. Gives S (at_socket P n (Some s)) r T) same (subst (λ o. Gives S (at_socket P k o) r T) here g) in
+        subst (λ x. Gives S (found_at P x) r T) (sym h)
+        (subst (λ b. Gives S (allowed P d s b) r T) (sym ok)
+        (subst (λ c. Gives S (reading_control buffer (send_read S p P tag d s addr bytes c)) r T) (sym reads) at))

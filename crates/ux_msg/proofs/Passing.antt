@@ -1,27 +1,27 @@
 -- The rights that a message is to pass, and those that a receiver gets.
-use Rattle.std.proofs.Common.{◌≡◌, ℕ, ◌<◌, Bool, true, false, not, ◌==◌, List, [], ◌∷◌, ◌++◌, length, min, take, Option, Some, None, refl, ap, sym, ◌∙◌, append_assoc, arith}
-use Rattle.std.specs.Prelude.{option_map, is_some, if◌then◌else◌, IsTrue}
+use Rattle.std.proofs.Common.{◌≡◌, ℕ, ◌<◌, Bool, true, false, not, ◌==◌, List, [], ◌∷◌, ◌++◌, length, min, take, Option, Some, None, Result, Ok, Err, refl, ap, sym, subst, ◌∙◌, append_assoc, arith}
+use Rattle.std.specs.Prelude.{option_map, ◌||◌, IsTrue, IsSomeAnd}
 use Rattle.std.proofs.lemmas.Bool.{ne_eqb}
 use Rattle.std.proofs.lemmas.List.{append-nil, take_min}
-use Rattle.ux_model.specs.Types.{Addr, Errno, Refusal, Reply}
+use Rattle.ux_model.specs.Types.{Addr, Cred, Errno, Refusal, Reply}
 use Rattle.ux_model.specs.Places.{place}
 use Rattle.ux_model.specs.Control.{Control}
 use Rattle.ux_model.specs.ControlReading.{control_in}
 use Rattle.ux_model.specs.Message.{Message}
-use Rattle.ux_model.specs.Front.{OnStreamFront}
+use Rattle.ux_model.specs.Front.{OnFrontOf, OnFront}
 use Rattle.ux_model.specs.Delivery.{install_count}
 use Rattle.ux_model.specs.Socket.{Socket}
-use Rattle.ux_model.specs.Process.{Process, Descriptor, free_numbers}
+use Rattle.ux_model.specs.Process.{Process, Descriptor, free_numbers, own_cred}
 use Rattle.ux_model.specs.Outcome.{Outcome, refuse, as_process}
 use Rattle.ux_model.specs.State.{State, socket_at, process_at, table_of, is_live}
 use Rattle.ux_model.specs.References.{times}
-use Rattle.ux_model.specs.Sending.{descriptions_behind, is_sendable_addr, is_sendable_control, reading_control, send_with}
+use Rattle.ux_model.specs.Sending.{descriptions_behind, message_of, is_sendable_addr, is_sendable_control, reading_control, send_from, send_with}
 use Rattle.ux_model.proofs.MessageCalls.{behind_counts, front_counts}
 use Rattle.ux_cmsg.proofs.Collecting.{has_bytes}
 use Rattle.ux_fdtable.proofs.Installing.{few_empty}
 use Rattle.ux_state.specs.Moves.{AreReferenced}
-use Rattle.ux_msg.specs.Answers.{GivesRefusal}
-use Rattle.ux_msg.specs.Sendings.{IsRefusedBehind, address_refusal}
+use Rattle.ux_msg.specs.Answers.{Gives, GivesRefusal}
+use Rattle.ux_msg.specs.Sendings.{IsRefusedBehind, send_from_at, send_with_at}
 
 -- ---- sending
 
@@ -62,13 +62,13 @@ needs_bytes bytes control reads some =
 -- ---- receiving
 
 -- what comes with the bytes has references
-pub front_referenced : (S : State) (d n : ℕ) (wants : Bool) (s : Socket) (rights : List ℕ) → socket_at S d ≡ Some s → 0 < length s.queue → OnStreamFront wants n s.queue (λ f. rights ≡ f.rights) → AreReferenced S rights
-front_referenced S d n wants s rights h some front = by_queue s.queue refl some front
+pub front_referenced : (S : State) (d n : ℕ) (s : Socket) (rights : List ℕ) → socket_at S d ≡ Some s → 0 < length s.queue → OnFront n s (λ f. rights ≡ f.rights) → AreReferenced S rights
+front_referenced S d n s rights h some front = by_queue s.queue refl some front
   where
-    by_queue : (q : List Message) → s.queue ≡ q → 0 < length q → OnStreamFront wants n q (λ f. rights ≡ f.rights) → AreReferenced S rights
+    by_queue : (q : List Message) → s.queue ≡ q → 0 < length q → OnFrontOf n s q (λ f. rights ≡ f.rights) → AreReferenced S rights
     by_queue [] is some front = absurd (omega (arith, some))
     by_queue (m ∷ ms) is some front = λ k counted.
-        let all = front_counts S d n k wants s m ms h is in
+        let all = front_counts S d n k s m ms h is in
         let same = ap (times k) front in
         omega (arith, all, same, counted)
 
@@ -91,20 +91,50 @@ on_live S p rest Q live all = go (process_at S p) live
     go (Some P) live = all P
 
 -- a right that isn't open, or no memory for the references
-pub refused_behind : (S : State) (p : ℕ) (P : Process) (tag : ℕ) (peer : Option ℕ) (addr : Option Addr) (bytes buffer : List ℕ) (control : Control) (refusal : Refusal) → control_in buffer ≡ Some control →
-    is_sendable_control bytes control ≡ true → IsRefusedBehind (table_of S p) control.rights refusal → GivesRefusal S (reading_control buffer (send_with S p P tag peer addr bytes control)) refusal S
+refused_at : (S : State) (p : ℕ) (P : Process) (tag d : ℕ) (s : Socket) (addr : Option Addr) (bytes buffer : List ℕ) (control : Control) (refusal : Refusal) → control_in buffer ≡ Some control →
+    is_sendable_control s.kind bytes control ≡ true → IsRefusedBehind (table_of S p) control.rights refusal → GivesRefusal S (reading_control buffer (send_with S p P tag d s addr bytes control)) refusal S
 unfolding send_with
-refused_behind S p P tag peer addr bytes buffer control (Refusal.Answer e) reads ok (is, none) = rw (ok, none) (ap (λ x. Reply.Err x) is, refl)
-refused_behind S p P tag peer addr bytes buffer control Refusal.NoMemory reads ok some = rw (needs_bytes buffer control reads some) (refl, refl)
+refused_at S p P tag d s addr bytes buffer control (Refusal.Answer e) reads ok (is, none) = rw (ok, none) (ap (λ x. Reply.Err x) is, refl)
+refused_at S p P tag d s addr bytes buffer control Refusal.NoMemory reads ok some = rw (needs_bytes buffer control reads some) (refl, refl)
 
--- an address, when all rights are open
-pub refused_addr : (S : State) (p : ℕ) (P : Process) (tag : ℕ) (peer : Option ℕ) (addr : Addr) (bytes buffer rights : List ℕ) (control : Control) (e : Errno) → is_sendable_control bytes control ≡ true →
-    descriptions_behind (table_of S p) control.rights ≡ Some rights → e ≡ address_refusal addr (is_some peer) → GivesRefusal S (reading_control buffer (send_with S p P tag peer (Some addr) bytes control)) (Refusal.Answer e) S
-unfolding send_with
-refused_addr S p P tag peer addr bytes buffer rights control e ok behind is = rw (ok, behind, is) (by_addr (is_sendable_addr (Some addr)))
+abbrev sending_at : State → ℕ → Process → ℕ → ℕ → Option Addr → List ℕ → List ℕ → Control → Option Socket → Outcome
+sending_at S p P tag d addr bytes buffer control o = reading_control buffer (elim o [ None ↦ refuse S Errno.EBADF | Some s ↦ send_with S p P tag d s addr bytes control ])
+
+pub refused_behind : (S : State) (p : ℕ) (P : Process) (tag d : ℕ) (s : Socket) (addr : Option Addr) (bytes buffer : List ℕ) (control : Control) (refusal : Refusal) → control_in buffer ≡ Some control → socket_at S d ≡ Some s →
+    is_sendable_control s.kind bytes control ≡ true → IsRefusedBehind (table_of S p) control.rights refusal → GivesRefusal S (reading_control buffer (send_with_at S p P tag d addr bytes control)) refusal S
+refused_behind S p P tag d s addr bytes buffer control refusal reads here ok refused =
+    subst (λ o. GivesRefusal S (sending_at S p P tag d addr bytes buffer control o) refusal S) (sym here) (refused_at S p P tag d s addr bytes buffer control refusal reads ok refused)
+
+-- reading a control buffer may want memory besides
+read_gives : (S T : State) (buffer : List ℕ) (o : Outcome) (r : Result Reply Refusal) → Gives S o r T → Gives S (reading_control buffer o) r T
+read_gives S T buffer o (Ok reply) g = g
+read_gives S T buffer o (Err (Refusal.Answer e)) g = g
+read_gives S T buffer o (Err Refusal.NoMemory) g = (wanted (not (length buffer == 0)) o.may_lack_memory g.0, g.1)
   where
-    by_addr : (b : Bool) → (Reply.Err (if not b then Errno.EINVAL else (if is_some peer then Errno.EISCONN else Errno.EOPNOTSUPP))
-        ≡ Outcome.reply (if not b then refuse S Errno.EINVAL else refuse S (if is_some peer then Errno.EISCONN else Errno.EOPNOTSUPP)))
-        × (S ≡ Outcome.next (if not b then refuse S Errno.EINVAL else refuse S (if is_some peer then Errno.EISCONN else Errno.EOPNOTSUPP)))
-    by_addr true = (refl, refl)
-    by_addr false = (refl, refl)
+    wanted : (a b : Bool) → IsTrue b → IsTrue (a || b)
+    wanted true b h = refl
+    wanted false b h = h
+
+-- what is sent, when nothing is refused before
+sent_at : (S T : State) (p : ℕ) (P : Process) (tag d : ℕ) (s : Socket) (addr : Option Addr) (bytes rights : List ℕ) (control : Control) (r : Result Reply Refusal) → is_sendable_control s.kind bytes control ≡ true →
+    descriptions_behind (table_of S p) control.rights ≡ Some rights → is_sendable_addr addr ≡ true → Gives S (send_from S d s addr (message_of (own_cred p P) tag bytes rights)) r T →
+    Gives S (send_with S p P tag d s addr bytes control) r T
+unfolding send_with
+sent_at S T p P tag d s addr bytes rights control r ok behind sendable g = rw (ok, behind, sendable) g
+
+pub sent_behind : (S T : State) (p tag d : ℕ) (s : Socket) (cred : Cred) (addr : Option Addr) (bytes buffer rights : List ℕ) (control : Control) (r : Result Reply Refusal) → socket_at S d ≡ Some s →
+    is_sendable_control s.kind bytes control ≡ true → descriptions_behind (table_of S p) control.rights ≡ Some rights → is_sendable_addr addr ≡ true → IsSomeAnd (process_at S p) (λ P. cred ≡ own_cred p P) →
+    Gives S (send_from_at S d addr (message_of cred tag bytes rights)) r T → Gives S (as_process S p (λ P. reading_control buffer (send_with_at S p P tag d addr bytes control))) r T
+sent_behind S T p tag d s cred addr bytes buffer rights control r here ok behind sendable own g = go (process_at S p) own
+  where
+    from : Option Socket → Outcome
+    from o = elim o [ None ↦ refuse S Errno.EBADF | Some s ↦ send_from S d s addr (message_of cred tag bytes rights) ]
+
+    sent : Gives S (send_from S d s addr (message_of cred tag bytes rights)) r T
+    sent = subst (λ o. Gives S (from o) r T) here g
+
+    go : (o : Option Process) → IsSomeAnd o (λ P. cred ≡ own_cred p P) → Gives S (elim o as (λ _. Outcome) [ None ↦ refuse S Errno.ESRCH | Some P ↦ sending_at S p P tag d addr bytes buffer control (socket_at S d) ]) r T
+    go None own = absurd own
+    go (Some P) own = subst (λ o. Gives S (sending_at S p P tag d addr bytes buffer control o) r T) (sym here)
+        (read_gives S T buffer (send_with S p P tag d s addr bytes control) r
+        (sent_at S T p P tag d s addr bytes rights control r ok behind sendable (subst (λ c. Gives S (send_from S d s addr (message_of c tag bytes rights)) r T) own sent)))

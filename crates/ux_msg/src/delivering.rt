@@ -8,9 +8,9 @@ ghost use Rattle.ux_state.specs.Moves.{AreReferenced};
 use std::alloc::{AllocError, Global};
 use ux_cmsg::{Control, write_control};
 use ux_object::FileObject;
+use ux_record::Received;
 use ux_rights::plan_rights;
 use ux_state::State;
-use ux_stream::Received;
 use ux_types::{Cred, Fd, Pid};
 
 /// The bytes of an item of credentials in a control buffer (CMSG_LEN of cmsg(3)).

@@ -3,6 +3,7 @@
 //! definitions.
 #![tactic(auto)]
 
+mod datagrams;
 mod delivering;
 mod receiving;
 mod sending;

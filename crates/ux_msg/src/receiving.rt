@@ -1,8 +1,10 @@
 //! Receiving at a socket (recvmsg(2), read(2)).
-ghost use Rattle.std.specs.Prelude.{◌≡◌, ◌<◌, IsTrue, IsSomeAnd, None, length};
-ghost use Rattle.ux_model.specs.Flags.{are_receive_flags, received_flags};
-ghost use Rattle.ux_model.specs.Front.{OnStreamFront};
+ghost use Rattle.std.specs.Prelude.{◌≡◌, ◌<◌, nat_lt, if◌then◌else◌, IsTrue, IsSomeAnd, length};
+ghost use Rattle.ux_model.specs.Flags.{asks_real_length, are_receive_flags, received_flags};
+ghost use Rattle.ux_model.specs.Socket.{marks_records};
+ghost use Rattle.ux_model.specs.Front.{OnFront};
 ghost use Rattle.ux_model.specs.State.{is_live, socket_at};
+ghost use Rattle.ux_state.specs.Moves.{IsSocketAt};
 ghost use Rattle.ux_msg.specs.Answers.{Gives};
 ghost use Rattle.ux_model.specs.Receiving as model;
 ghost use Rattle.ux_msg.specs.Receipts.{receive_at, receive_nothing_at, read_socket_at};
@@ -11,8 +13,9 @@ use crate::delivering::{Delivered, Wanted, deliver};
 use bitflags::Flags;
 use std::alloc::Global;
 use ux_object::FileObject;
+use ux_record::Received;
 use ux_state::State;
-use ux_types::{Bytes, DescriptionId, Errno, Fd, MsgFlags, Pid, Refusal, Reply};
+use ux_types::{Bytes, DescriptionId, Errno, Fd, MsgFlags, Pid, Refusal, Reply, SockType};
 
 /// recvmsg(2) of at most n bytes, with room for `space` bytes of control. The process lives.
 ///
@@ -82,10 +85,40 @@ fn recv_at<O: FileObject>(
     let Some(socket) = state.socket(id) else {
         return Err(Refusal::Answer(Errno::EBADF));
     };
+    if !socket.is_datagram() {
+        return recv_from_peer(state, alloc, pid, id, n, space, flags);
+    }
+    if socket.is_empty() {
+        return if socket.is_read_shut() {
+            Ok(nothing_received(alloc))
+        } else {
+            Err(Refusal::Answer(Errno::EAGAIN))
+        };
+    }
+    recv_front(state, alloc, pid, id, n, space, flags)
+}
+
+/// Receives at the stream or seqpacket socket of this description.
+fn recv_from_peer<O: FileObject>(
+    state: &mut State<O>,
+    alloc: Global,
+    pid: Pid,
+    id: DescriptionId,
+    n: usize,
+    space: usize,
+    flags: MsgFlags,
+) -> Result<Reply, Refusal>
+    requires live { IsTrue (is_live state.old pid.0) }
+    requires socket { IsSocketAt state.old id }
+    ensures { IsSomeAnd (socket_at state.old id) (λ s. Gives state.old (model.receive_from_peer state.old pid.0 id s n space flags) result state.new) }
+{
+    let Some(socket) = state.socket(id) else {
+        unreachable!();
+    };
     let Some(peer) = socket.peer() else {
         return Err(Refusal::Answer(Errno::ENOTCONN));
     };
-    if n == 0 {
+    if socket.is_stream() && n == 0 {
         return Ok(nothing_received(alloc));
     }
     if socket.is_empty() {
@@ -94,7 +127,8 @@ fn recv_at<O: FileObject>(
     recv_front(state, alloc, pid, id, n, space, flags)
 }
 
-/// Receives the first bytes that wait at the socket of this description, with what comes with them.
+/// Receives the first bytes that wait at the socket of this description, or its first message, with what comes
+/// with them.
 #[tactic(auto, unfolding(ux_model::specs::Receiving::receive_front))]
 fn recv_front<O: FileObject>(
     state: &mut State<O>,
@@ -107,7 +141,7 @@ fn recv_front<O: FileObject>(
 ) -> Result<Reply, Refusal>
     requires live { IsTrue (is_live state.old pid.0) }
     requires some { IsSomeAnd (socket_at state.old id) (λ s. 0 < length s.queue) }
-    ensures { IsSomeAnd (socket_at state.old id) (λ s. OnStreamFront s.passcred n s.queue (λ front.
+    ensures { IsSomeAnd (socket_at state.old id) (λ s. OnFront n s (λ front.
         Gives state.old (model.receive_front state.old pid.0 id s space flags front) result state.new)) }
 {
     let Some(socket) = state.socket(id) else {
@@ -118,12 +152,13 @@ fn recv_front<O: FileObject>(
         space,
         cloexec: flags.contains(MsgFlags::CMSG_CLOEXEC),
     };
-    let front = socket.peek(n, wanted.cred)?;
+    let kind = socket.kind();
+    let front = socket.peek(n)?;
     let delivered = deliver(state, alloc, pid, &front, wanted)?;
     if !flags.contains(MsgFlags::PEEK) {
-        state.skip_front(id, n, wanted.cred);
+        state.skip_front(id, n);
     }
-    Ok(received(front.bytes, delivered))
+    Ok(received(kind, flags, front, delivered))
 }
 
 /// What a receive answers where nothing waits, at a socket with this peer.
@@ -143,27 +178,60 @@ fn recv_nothing<O: FileObject>(
         return Err(Refusal::Answer(Errno::ECONNRESET));
     }
     match state.socket(peer) {
-        Some(_) => Err(Refusal::Answer(Errno::EAGAIN)),
-        None => Ok(nothing_received(alloc)),
+        Some(other) if !socket.is_read_shut() && !other.is_write_shut() => {
+            Err(Refusal::Answer(Errno::EAGAIN))
+        }
+        _ => Ok(nothing_received(alloc)),
     }
 }
 
-/// The reply that tells these bytes, and what was delivered with them.
-fn received(bytes: Vec<u8>, delivered: Delivered) -> Reply
-    ensures { result ≡ Reply.Received (length bytes.items) bytes.items (received_flags delivered.truncated) delivered.control.items None }
+/// The reply that tells what was received at a socket of this type by a call with these flags, and what was
+/// delivered with it.
+fn received(kind: SockType, flags: MsgFlags, front: Received, delivered: Delivered) -> Reply
+    ensures { result ≡ Reply.Received (if asks_real_length flags then front.whole else length front.bytes.items) front.bytes.items
+        (received_flags (nat_lt (length front.bytes.items) front.whole) delivered.truncated (marks_records kind)) delivered.control.items front.from }
 {
-    let cut = if delivered.truncated {
-        MsgFlags::CTRUNC
+    let taken = front.bytes.len();
+    let count = if flags.contains(MsgFlags::TRUNC) {
+        front.whole
     } else {
-        MsgFlags(0)
+        taken
     };
     Reply::Received {
-        count: bytes.len(),
-        bytes: Bytes::new(bytes),
-        flags: cut,
+        count,
+        flags: flags_told(
+            taken < front.whole,
+            delivered.truncated,
+            marks_records(kind),
+        ),
+        bytes: Bytes::new(front.bytes),
         control: Bytes::new(delivered.control),
-        from: None,
+        from: front.from,
     }
+}
+
+/// The flags that tell that data was cut off, that control data was left out, and that a record ends.
+fn flags_told(cut: bool, control_cut: bool, ends_record: bool) -> MsgFlags
+    ensures { result ≡ received_flags cut control_cut ends_record }
+{
+    let mut told = MsgFlags(0);
+    if cut {
+        told = told.union(MsgFlags::TRUNC);
+    }
+    if control_cut {
+        told = told.union(MsgFlags::CTRUNC);
+    }
+    if ends_record {
+        told = told.union(MsgFlags::EOR);
+    }
+    told
+}
+
+/// Whether a receive at a socket of this type tells where a record ends (MSG_EOR).
+fn marks_records(kind: SockType) -> bool
+    ensures { result ≡ marks_records kind }
+{
+    matches!(kind, SockType::Seq)
 }
 
 /// The reply that tells of nothing. It takes no memory.

@@ -1,5 +1,6 @@
 //! Sending to a socket (sendmsg(2), write(2)).
-ghost use Rattle.std.specs.Prelude.{◌≡◌, [], IsTrue, Some, IfOk, IfErr, map, option_map};
+ghost use Rattle.std.specs.Prelude.{◌≡◌, [], IsTrue, Some, None, IfOk, IfErr, if◌then◌else◌, map, option_map};
+ghost use Rattle.ux_model.specs.Types.{Errno as ModelErrno};
 ghost use Rattle.ux_model.specs.Flags.{are_send_flags};
 ghost use Rattle.ux_model.specs.State.{is_live};
 ghost use Rattle.ux_model.specs.Outcome.{as_process};
@@ -7,12 +8,14 @@ ghost use Rattle.ux_model.specs.Control.{Control};
 ghost use Rattle.ux_model.specs.ControlReading.{control_in};
 ghost use Rattle.ux_state.specs.Moves.{AreReferenced};
 ghost use Rattle.ux_msg.specs.Answers.{Gives};
-ghost use Rattle.ux_msg.specs.Sendings.{IsRefusedBehind, address_refusal};
+ghost use Rattle.ux_msg.specs.Sendings.{IsRefusedBehind, send_from_at, send_with_at};
 ghost use Rattle.ux_model.specs.Sending as model;
 
+use crate::datagrams::{RECORD_BYTES_LIMIT, send_datagram};
 use bitflags::Flags;
 use std::alloc::Global;
 use ux_cmsg::{Control, read_control};
+use ux_desc::Socket;
 use ux_fdtable::Table;
 use ux_names::{is_unnamed, is_valid_addr};
 use ux_object::FileObject;
@@ -39,9 +42,14 @@ pub struct Outgoing<'a> {
 /// # Errors
 ///
 /// EBADF or ENOTSOCK where the number leads to no socket, EINVAL for flags that a send doesn't take, for a
-/// control buffer that isn't one or sends credentials, for more than 253 rights and for rights without
-/// data, EBADF for a right that isn't open, EINVAL for a bad address, EISCONN or EOPNOTSUPP for any other,
-/// ENOTCONN, EPIPE where the peer is gone, EAGAIN where its queue is full, in this order; out of memory.
+/// control buffer that isn't one or sends credentials, for more than 253 rights and for rights on a stream
+/// without data, EBADF for a right that isn't open, EINVAL for a bad or unnamed address. Then of a datagram,
+/// EMSGSIZE above 65,536 bytes, EPIPE where the socket is shut down for writing, EDESTADDRREQ with neither
+/// address nor association, what the address leads to, ECONNREFUSED where the associated target is gone, which
+/// ends the association, EPERM where the target is associated with another, EPIPE where it is shut down for
+/// reading, EAGAIN where its queue is full. Of others, EISCONN or EOPNOTSUPP for an address, ENOTCONN, EPIPE
+/// where the socket is shut down for writing, or the peer is gone or shut down for reading, EMSGSIZE of a
+/// record above 65,536 bytes, EAGAIN where the peer's queue is full. In this order; out of memory.
 #[tactic(auto, unfolding(ux_model::specs::Sending::send_msg, ux_model::specs::Sending::send_read))]
 pub fn send_msg<O: FileObject>(
     state: &mut State<O>,
@@ -55,8 +63,8 @@ pub fn send_msg<O: FileObject>(
     ensures { Gives state.old
         (model.send_msg state.old pid.0 tag fd (option_map (λ a. a.now) message.entry.addr) message.entry.bytes.now message.entry.control.now message.entry.flags) result state.new }
 {
-    let peer = match state.find_socket(pid, fd) {
-        Ok((_, socket)) => socket.peer(),
+    let id = match state.find_socket(pid, fd) {
+        Ok((id, _)) => id,
         Err(e) => return Err(Refusal::from(e)),
     };
     if !are_send_flags(message.flags) {
@@ -66,61 +74,97 @@ pub fn send_msg<O: FileObject>(
         Ok(control) => control,
         Err(e) => return Err(Refusal::from(e)),
     };
-    send_with(state, alloc, pid, tag, peer, message, &control)
+    send_with(state, alloc, pid, tag, id, message, &control)
 }
 
-/// Sends to this peer, with a control buffer that was read.
+/// Sends from the socket of this description, with a control buffer that was read.
 #[tactic(auto, unfolding(ux_model::specs::Sending::send_with))]
 fn send_with<O: FileObject>(
     state: &mut State<O>,
     alloc: Global,
     pid: Pid,
     tag: u64,
-    peer: Option<DescriptionId>,
+    id: DescriptionId,
     message: Outgoing<'_>,
     control: &Control,
 ) -> Result<Reply, Refusal>
     requires live { IsTrue (is_live state.old pid.0) }
     requires read { control_in message.control.now ≡ Some control.now }
     ensures { Gives state.old (as_process state.old pid.0 (λ P. model.reading_control message.entry.control.now
-        (model.send_with state.old pid.0 P tag peer (option_map (λ a. a.now) message.entry.addr) message.entry.bytes.now control.now))) result state.new }
+        (send_with_at state.old pid.0 P tag id (option_map (λ a. a.now) message.entry.addr) message.entry.bytes.now control.now))) result state.new }
 {
-    if !is_sendable_control(message.bytes, control) {
+    let Some(socket) = state.socket(id) else {
+        return Err(Refusal::Answer(Errno::EBADF));
+    };
+    if !is_sendable_control(socket, message.bytes, control) {
         return Err(Refusal::Answer(Errno::EINVAL));
     }
     let rights = match rights_behind(state.table(pid), alloc, control.rights()) {
         Ok(rights) => rights,
         Err(refusal) => return Err(refusal),
     };
-    if let Some(addr) = message.addr {
-        return Err(Refusal::Answer(refusal_of_addr(addr, peer.is_some())));
+    if !is_sendable_addr(message.addr) {
+        return Err(Refusal::Answer(Errno::EINVAL));
     }
     let cred = state.credentials(pid);
-    send_connected(state, peer, tag, cred, message.bytes, rights)
+    send_from(state, id, message.addr, tag, cred, message.bytes, rights)
 }
 
-/// Sends the bytes of a process with these credentials to the peer of its socket, as the call with number
-/// `tag`: what write(2) does on a socket.
+/// Sends the bytes of a process with these credentials from the socket of this description, as the call with
+/// number `tag`: what write(2) does on a socket.
 ///
 /// # Errors
 ///
-/// ENOTCONN where it has no peer, EPIPE where that is gone, EAGAIN where its queue is full; out of memory.
+/// Those of a send without an address.
 pub fn write_socket<O: FileObject>(
     state: &mut State<O>,
     alloc: Global,
-    peer: Option<DescriptionId>,
+    id: DescriptionId,
     tag: u64,
     cred: Cred,
     bytes: &[u8],
 ) -> Result<Reply, Refusal>
-    ensures { Gives state.old (model.send_connected state.old peer (model.message_of cred tag bytes.now [])) result state.new }
+    ensures { Gives state.old (send_from_at state.old id None (model.message_of cred tag bytes.now [])) result state.new }
 {
-    send_connected(state, peer, tag, cred, bytes, RefList::new(alloc))
+    send_from(state, id, None, tag, cred, bytes, RefList::new(alloc))
 }
 
-/// Sends bytes with rights to the peer of a socket.
+/// Sends bytes with rights from the socket of this description: a datagram to the address, where one is
+/// given, else where the socket is associated; a stream or a record to the peer.
+///
+/// # Errors
+///
+/// Those of `send_msg` after a bad address.
+fn send_from<O: FileObject>(
+    state: &mut State<O>,
+    id: DescriptionId,
+    addr: Option<&Addr>,
+    tag: u64,
+    cred: Cred,
+    bytes: &[u8],
+    rights: RefList,
+) -> Result<Reply, Refusal>
+    requires { AreReferenced state.old rights }
+    ensures { Gives state.old (send_from_at state.old id (option_map (λ a. a.now) addr.entry) (model.message_of cred tag bytes.now rights)) result state.new }
+{
+    let Some(socket) = state.socket(id) else {
+        return Err(Refusal::Answer(Errno::EBADF));
+    };
+    if socket.is_datagram() {
+        return send_datagram(state, id, addr, tag, cred, bytes, rights);
+    }
+    let peer = socket.peer();
+    if addr.is_some() {
+        return Err(Refusal::Answer(refusal_of_addr(peer.is_some())));
+    }
+    let shut = socket.is_write_shut();
+    send_connected(state, shut, peer, tag, cred, bytes, rights)
+}
+
+/// Sends bytes with rights to the peer of a stream or seqpacket socket, which is shut down for writing or not.
 fn send_connected<O: FileObject>(
     state: &mut State<O>,
+    shut: bool,
     peer: Option<DescriptionId>,
     tag: u64,
     cred: Cred,
@@ -128,19 +172,37 @@ fn send_connected<O: FileObject>(
     rights: RefList,
 ) -> Result<Reply, Refusal>
     requires { AreReferenced state.old rights }
-    ensures { Gives state.old (model.send_connected state.old peer (model.message_of cred tag bytes.now rights)) result state.new }
+    ensures { Gives state.old (model.send_connected state.old shut peer (model.message_of cred tag bytes.now rights)) result state.new }
 {
     let Some(peer) = peer else {
         return Err(Refusal::Answer(Errno::ENOTCONN));
     };
-    if state.socket(peer).is_none() {
+    let Some(other) = state.socket(peer) else {
+        return Err(Refusal::Answer(Errno::EPIPE));
+    };
+    if shut || other.is_read_shut() {
         return Err(Refusal::Answer(Errno::EPIPE));
     }
-    if bytes.is_empty() {
+    if !other.is_stream() && bytes.len() > RECORD_BYTES_LIMIT {
+        return Err(Refusal::Answer(Errno::EMSGSIZE));
+    }
+    if other.is_stream() && bytes.is_empty() {
         return Ok(Reply::Count(0));
     }
-    let count = state.send_stream(peer, bytes, tag, rights, cred, cred.uid)?;
+    let count = state.send(peer, bytes, tag, rights, cred, cred.uid, None)?;
     Ok(Reply::Count(count))
+}
+
+/// Why a stream or seqpacket socket isn't sent from with an address: EISCONN where it is connected, else
+/// EOPNOTSUPP.
+fn refusal_of_addr(is_connected: bool) -> Errno
+    ensures { result ≡ (if is_connected then ModelErrno.EISCONN else ModelErrno.EOPNOTSUPP) }
+{
+    if is_connected {
+        Errno::EISCONN
+    } else {
+        Errno::EOPNOTSUPP
+    }
 }
 
 /// References to what these numbers of a table lead to. EBADF where one isn't open.
@@ -160,30 +222,25 @@ fn rights_behind(table: &Table, alloc: Global, numbers: &[Fd]) -> Result<RefList
     Ok(rights)
 }
 
-/// Why a stream isn't sent to this address: EINVAL where it is bad or unnamed, EISCONN at a socket that is
-/// connected, else EOPNOTSUPP.
-fn refusal_of_addr(addr: &Addr, is_connected: bool) -> Errno
-    ensures { result ≡ address_refusal addr.now is_connected }
+/// Whether a send takes this address, where one is given: a path or an abstract name.
+fn is_sendable_addr(addr: Option<&Addr>) -> bool
+    ensures { result ≡ model.is_sendable_addr (option_map (λ a. a.now) addr.entry) }
 {
-    if !is_valid_addr(addr) || is_unnamed(addr) {
-        return Errno::EINVAL;
-    }
-    if is_connected {
-        Errno::EISCONN
-    } else {
-        Errno::EOPNOTSUPP
+    match addr {
+        Some(addr) => is_valid_addr(addr) && !is_unnamed(addr),
+        None => true,
     }
 }
 
 /// Whether a control buffer may go with these bytes: without credentials, and with few rights or none, which
-/// have a byte to go with.
-fn is_sendable_control(bytes: &[u8], control: &Control) -> bool
-    ensures { result ≡ model.is_sendable_control bytes.now control.now }
+/// on a stream have a byte to go with.
+fn is_sendable_control(socket: &Socket, bytes: &[u8], control: &Control) -> bool
+    ensures { result ≡ model.is_sendable_control socket.now.kind bytes.now control.now }
 {
     let rights = control.rights();
     control.cred().is_none()
         && rights.len() <= RIGHTS_LIMIT
-        && (rights.is_empty() || !bytes.is_empty())
+        && !(socket.is_stream() && !rights.is_empty() && bytes.is_empty())
 }
 
 /// Whether a send takes these flags: DONTWAIT and EOR.

@@ -2,40 +2,16 @@
 ghost use Rattle.std.specs.Prelude.{◌≡◌, ◌↔◌, ◌==◌, ◌<◌, ◌≤◌, [], ◌∷◌, ◌++◌, length, drop, slice_get, option_map, IsTrue, IsSome, IfOk, IfErr, IsErrAnd, OnOk, OnErr};
 ghost use Rattle.ux_model.specs.Limits.{record_limit};
 ghost use Rattle.ux_model.specs.Front.{OnRecordFront};
-ghost use Rattle.ux_record.specs.Refusals.{refusal_of};
 
 use crate::record::{Received, Record};
 use std::alloc::{AllocError, Allocator, Global};
 use std::collections::VecDeque;
 use std::marker::Model;
-use thiserror::Error;
-use ux_rights::RefList;
-use ux_types::{Addr, Cred, Errno, Refusal};
+use ux_rights::{RefList, SendError};
+use ux_types::{Addr, Cred};
 
 /// The most messages that wait in one queue.
 const RECORD_LIMIT: usize = 16;
-
-/// Why a send was refused.
-#[derive(Clone, Copy, Debug, PartialEq, Eq, Error)]
-pub enum SendError {
-    /// As many messages wait as may (EAGAIN).
-    #[error("queue is full")]
-    Full,
-    /// There is no memory for the message (ENOMEM).
-    #[error("out of memory")]
-    NoMemory,
-}
-
-impl From<SendError> for Refusal {
-    ghost from_gives = { λ error refusal. refusal ≡ refusal_of error };
-
-    fn from(error: SendError) -> Refusal {
-        match error {
-            SendError::Full => Refusal::Answer(Errno::EAGAIN),
-            SendError::NoMemory => Refusal::NoMemory,
-        }
-    }
-}
 
 /// A send that was refused.
 #[derive(Drop)]
@@ -95,7 +71,7 @@ impl<A: Allocator + Copy> RecordQueue<A> {
 
     /// Whether as many messages wait as may.
     pub fn is_full(&self) -> bool
-        ensures { IsTrue result ↔ (length self.now ≡ record_limit) }
+        ensures { IsTrue result ↔ (record_limit ≤ length self.now) }
     {
         self.records.len() == RECORD_LIMIT
     }
@@ -116,7 +92,7 @@ impl<A: Allocator + Copy> RecordQueue<A> {
         from: Option<Addr>,
     ) -> Result<(), Refused>
         ensures ok { OnOk result (self.new ≡ self.old ++ record { tag = tag; bytes = bytes.now; rights = rights; cred = cred; uid = uid; from = from } ∷ []) }
-        ensures full { IsErrAnd result (λ e. e.error ≡ SendError.Full) ↔ (length self.old ≡ record_limit) }
+        ensures full { IsErrAnd result (λ e. e.error ≡ SendError.Full) ↔ (record_limit ≤ length self.old) }
         ensures rights_back { IfErr result (λ e. e.rights ≡ rights) }
         ensures name_back { IfErr result (λ e. e.from ≡ from) }
         ensures err { OnErr result (self.new ≡ self.old) }

@@ -1,12 +1,11 @@
-use crate::{Received, RecordQueue, SendError};
+use crate::{Received, RecordQueue};
 use bstr::BString;
 use hoard::Hoard;
 use linked_list_allocator::LocalHeap;
 use std::alloc::{AllocError, Allocator, Global};
 use std::process::Abort;
-use std::test::Fail;
-use ux_rights::{Origin, RefList};
-use ux_types::{Addr, Cred, DescriptionId, Errno, Name, Pid, Refusal};
+use ux_rights::{Origin, RefList, SendError};
+use ux_types::{Addr, Cred, DescriptionId, Name, Pid};
 
 const CRED: Cred = Cred {
     pid: Pid(4),
@@ -178,16 +177,6 @@ fn what_cannot_be_copied_moves(rt: HostRuntime) -> Result<(), AllocError> {
     assert!(rt; first_peek.is_err() && second_peek.is_err());
     assert_eq!(rt; first.rights.len(), 5);
     assert!(rt; second.from == path(alloc, b"/c")?);
-    Ok(())
-}
-
-#[test]
-fn errors_are_refusals(rt: HostRuntime) -> Result<(), Fail> {
-    let (full, no_memory) = (SendError::Full, SendError::NoMemory);
-    let text = format!(in rt.alloc(); "{full}, {no_memory}")?;
-    assert_eq!(rt; text.as_str(), "queue is full, out of memory");
-    assert_eq!(rt; Refusal::from(full), Refusal::Answer(Errno::EAGAIN));
-    assert_eq!(rt; Refusal::from(no_memory), Refusal::NoMemory);
     Ok(())
 }
 

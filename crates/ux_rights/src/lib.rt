@@ -1,14 +1,16 @@
 //! The rights of a message (SCM_RIGHTS of unix(7)): references to open file descriptions, where they come
-//! from, and how many of them a receiver gets.
+//! from, how many of them a receiver gets, and why a queue takes none.
 #![tactic(auto)]
 
 mod origin;
 mod plan;
 mod references;
+mod refusals;
 
 pub use origin::Origin;
 pub use plan::{Plan, plan_rights};
 pub use references::{INLINE, RefList, Reference};
+pub use refusals::SendError;
 
 #[cfg(test)]
 mod tests;

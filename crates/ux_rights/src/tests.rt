@@ -1,7 +1,8 @@
-use crate::{Origin, Plan, RefList, plan_rights};
+use crate::{Origin, Plan, RefList, SendError, plan_rights};
 use hoard::Hoard;
 use std::alloc::{AllocError, Global};
-use ux_types::DescriptionId;
+use std::test::Fail;
+use ux_types::{DescriptionId, Errno, Refusal};
 
 #[test]
 fn least_of_rights_space_and_numbers(rt: HostRuntime) {
@@ -82,5 +83,15 @@ fn refused_growth_changes_nothing(rt: HostRuntime) -> Result<(), AllocError> {
         [5, 7, 5, 9].as_slice()
     );
     assert_eq!(rt; numbers(alloc, &taken)?.as_slice(), [5, 7, 5, 9].as_slice());
+    Ok(())
+}
+
+#[test]
+fn errors_are_refusals(rt: HostRuntime) -> Result<(), Fail> {
+    let (full, no_memory) = (SendError::Full, SendError::NoMemory);
+    let text = format!(in rt.alloc(); "{full}, {no_memory}")?;
+    assert_eq!(rt; text.as_str(), "queue is full, out of memory");
+    assert_eq!(rt; Refusal::from(full), Refusal::Answer(Errno::EAGAIN));
+    assert_eq!(rt; Refusal::from(no_memory), Refusal::NoMemory);
     Ok(())
 }

@@ -9,14 +9,14 @@ use Rattle.ux_model.specs.Flags.{can_read, can_write}
 use Rattle.ux_model.specs.Places.{place, filled}
 use Rattle.ux_model.specs.Object.{View}
 use Rattle.ux_model.specs.Socket.{Socket, new_socket, pair_end}
-use Rattle.ux_model.specs.Description.{Description}
+use Rattle.ux_model.specs.Description.{Description, to_socket}
 use Rattle.ux_model.specs.Process.{Process, Descriptor, descriptor, lowest_free, two_lowest_free}
 use Rattle.ux_model.specs.State.{State, is_live, table_of, next_description, with_table, with_new}
 use Rattle.ux_model.specs.Pairing.{socket_description, with_pair}
 use Rattle.ux_model.specs.FileObjects.{is_opening}
 use Rattle.ux_model.specs.Opening.{file_description}
 use Rattle.ux_model.specs.References.{table_refs, target_refs, description_refs}
-use Rattle.ux_model.specs.Peers.{target_peer, HoldsNothing}
+use Rattle.ux_model.specs.Peers.{target_peer, Paired, HoldsNothing}
 use Rattle.ux_model.proofs.Moves.{one, table_filled}
 use Rattle.ux_model.proofs.Making.{paired-push, paired-pair}
 use Rattle.ux_model.proofs.Owning.{owned_still, names_push}
@@ -45,9 +45,6 @@ counted_push ds xs ys D counted more = record {
 pub any_socket_counted : (xs : List Openings) (flags : OpenFlags) (s : Socket) (D : Description) → D ≡ socket_description flags s → CountsOneMore D xs xs
 any_socket_counted xs flags s D e = rw e (record { long = refl; readers = λ o h. omega arith; writers = λ o h. omega arith })
 
-pub socket_counted : (xs : List Openings) (flags : OpenFlags) (cred : Cred) (peer : ℕ) (D : Description) → D ≡ socket_description flags (pair_end SockType.Stream peer cred) → CountsOneMore D xs xs
-socket_counted xs flags cred peer D e = any_socket_counted xs flags (pair_end SockType.Stream peer cred) D e
-
 -- one more can be counted while there are numbers
 pub room_to_count : (ds : List (Option Description)) (xs : List Openings) → Counted ds xs → length ds + 1 < 2 ^ 128 → HasRoom xs
 room_to_count ds xs counted few = record {
@@ -62,12 +59,31 @@ pub holds_nothing : (o : ℕ) (mode : Mode) (flags : OpenFlags) (D : Description
 holds_nothing o mode flags D is = record { refs = λ k. ap (λ E. target_refs k (Description.target E)) is; peer = ap (λ E. target_peer (Description.target E)) is }
 
 -- nor does a socket that is tied to nobody
-pub idle_holds : (flags : OpenFlags) (D : Description) → D ≡ socket_description flags (new_socket SockType.Stream) → HoldsNothing D
-idle_holds flags D is = record { refs = λ k. ap (λ E. target_refs k (Description.target E)) is; peer = ap (λ E. target_peer (Description.target E)) is }
+pub idle_holds : (kind : SockType) (flags : OpenFlags) (D : Description) → D ≡ socket_description flags (new_socket kind) → HoldsNothing D
+idle_holds kind flags D is = record { refs = λ k. ap (λ E. target_refs k (Description.target E)) is; peer = ap (λ E. target_peer (Description.target E)) is }
 
 -- nor does a new socket, while nothing waits at it
-pub end_holds : (peer : ℕ) (flags : OpenFlags) (cred : Cred) (D : Description) → D ≡ socket_description flags (pair_end SockType.Stream peer cred) → (k : ℕ) → target_refs k D.target ≡ 0
-end_holds peer flags cred D is k = ap (λ E. target_refs k (Description.target E)) is
+pub end_holds : (kind : SockType) (peer : ℕ) (flags : OpenFlags) (cred : Cred) (D : Description) → D ≡ socket_description flags (pair_end kind peer cred) → (k : ℕ) → target_refs k D.target ≡ 0
+end_holds kind peer flags cred D is k = ap (λ E. target_refs k (Description.target E)) is ∙ by_kind kind
+  where
+    by_kind : (kind : SockType) → target_refs k (to_socket (pair_end kind peer cred)) ≡ 0
+    by_kind SockType.Stream = refl
+    by_kind SockType.Dgram = refl
+    by_kind SockType.Seq = refl
+
+-- the two of a pair name one another as peers, or for datagrams nobody
+pub pair_paired : (kind : SockType) (ds : List (Option Description)) (flags : OpenFlags) (cred : Cred) (D E : Description) → D ≡ socket_description flags (pair_end kind (length ds + 1) cred) →
+    E ≡ socket_description flags (pair_end kind (length ds) cred) → Paired ds → Paired ((ds ++ Some D ∷ []) ++ Some E ∷ [])
+pair_paired kind ds flags cred D E first second = by_kind kind (ap peer first) (ap peer second)
+  where
+    peer : Description → Option ℕ
+    peer D = target_peer D.target
+
+    by_kind : (kind : SockType) → target_peer D.target ≡ target_peer (to_socket (pair_end kind (length ds + 1) cred)) → target_peer E.target ≡ target_peer (to_socket (pair_end kind (length ds) cred)) →
+        Paired ds → Paired ((ds ++ Some D ∷ []) ++ Some E ∷ [])
+    by_kind SockType.Stream ahead back paired = paired-pair ds D E ahead back paired
+    by_kind SockType.Seq ahead back paired = paired-pair ds D E ahead back paired
+    by_kind SockType.Dgram none nobody paired = paired-push (ds ++ Some D ∷ []) E nobody (paired-push ds D none paired)
 
 -- one more that refers to nothing
 held_push : (ds : List (Option Description)) (D : Description) → ((k : ℕ) → target_refs k D.target ≡ 0) → HoldAlike ds (ds ++ Some D ∷ [])
@@ -101,14 +117,14 @@ module _ (xs : List Openings) (ls : List ℕ) (H : Held Description) (os : List 
       let g : one k (Some e) ≡ once (length H.places) k = ap (λ m. once m k) last in
       omega (arith, a, b, c, f, g))
 
-  -- two sockets' descriptions more, which name one another
+  -- two sockets' descriptions more, which are tied to one another
   pub pair_opened : (J K : Held Description) (Q : Process) (n m : ℕ) (e f : Descriptor) (D E : Description) → Q ≡ record P { table = filled (filled P.table n e) m f } → two_lowest_free P.table ≡ Some (n, m) →
-      e.description ≡ length H.places → f.description ≡ length H.places + 1 → Adds D H J → Adds E J K → target_peer D.target ≡ Some (length H.places + 1) → target_peer E.target ≡ Some (length H.places) →
+      e.description ≡ length H.places → f.description ≡ length H.places + 1 → Adds D H J → Adds E J K → Paired ((H.places ++ Some D ∷ []) ++ Some E ∷ []) →
       ((k : ℕ) → target_refs k D.target ≡ 0) → ((k : ℕ) → target_refs k E.target ≡ 0) → CountsOneMore D xs xs → CountsOneMore E xs xs → IsState xs ls K (state_of os K (set ps (p - 1) Q) paths names)
-  pair_opened J K Q n m e f D E new lowest first second adds adds' ahead back d_holds e_holds d_more e_more =
+  pair_opened J K Q n m e f D E new lowest first second adds adds' ties d_holds e_holds d_more e_more =
       let two : K.places ≡ (H.places ++ Some D ∷ []) ++ Some E ∷ [] = adds'.places ∙ ap (λ ds. ds ++ Some E ∷ []) adds.places in
       process_kept xs ls H os ps paths names state p P live at xs K Q refl (rw two (λ k. held_push (H.places ++ Some D ∷ []) E e_holds k ∙ held_push H.places D d_holds k))
-      (rw two (counted_push _ xs xs E (counted_push H.places xs xs D state.opened d_more) e_more)) (rw two (paired-pair H.places D E ahead back state.paired))
+      (rw two (counted_push _ xs xs E (counted_push H.places xs xs D state.opened d_more) e_more)) (rw two ties)
       (rw two (owned_still _ _ names (names_push (H.places ++ Some D ∷ []) E) (owned_still H.places _ names (names_push H.places D) state.owned)))
       (λ k.
       let low = first_free P.table n m lowest in
@@ -149,14 +165,14 @@ table_is V S p P R live same here r =
 pub new_one : (V S : State) (D : Description) (ds : List (Option Description)) → V ≡ S → ds ≡ V.descriptions ++ Some D ∷ [] → record V { descriptions = ds } ≡ with_new S D
 new_one V S D ds same e = (λ j. record V { descriptions = e j }) ∙ ap (λ U. with_new U D) same
 
-pub new_two : (V S : State) (flags : OpenFlags) (cred : Cred) (ds : List (Option Description)) → V ≡ S →
-    ds ≡ V.descriptions ++ Some (socket_description flags (pair_end SockType.Stream (length V.descriptions + 1) cred)) ∷ [] ++ Some (socket_description flags (pair_end SockType.Stream (length V.descriptions) cred)) ∷ [] →
-    record V { descriptions = ds } ≡ with_pair S SockType.Stream flags cred
-new_two V S flags cred ds same e =
+pub new_two : (V S : State) (kind : SockType) (flags : OpenFlags) (cred : Cred) (ds : List (Option Description)) → V ≡ S →
+    ds ≡ V.descriptions ++ Some (socket_description flags (pair_end kind (length V.descriptions + 1) cred)) ∷ [] ++ Some (socket_description flags (pair_end kind (length V.descriptions) cred)) ∷ [] →
+    record V { descriptions = ds } ≡ with_pair S kind flags cred
+new_two V S kind flags cred ds same e =
     let next : length V.descriptions + 1 ≡ suc (length V.descriptions) = omega arith in
     (λ j. record V { descriptions = e j })
-    ∙ (λ j. record V { descriptions = V.descriptions ++ Some (socket_description flags (pair_end SockType.Stream (next j) cred)) ∷ [] ++ Some (socket_description flags (pair_end SockType.Stream (length V.descriptions) cred)) ∷ [] })
-    ∙ ap (λ U. with_pair U SockType.Stream flags cred) same
+    ∙ (λ j. record V { descriptions = V.descriptions ++ Some (socket_description flags (pair_end kind (next j) cred)) ∷ [] ++ Some (socket_description flags (pair_end kind (length V.descriptions) cred)) ∷ [] })
+    ∙ ap (λ U. with_pair U kind flags cred) same
 
 -- the entries that lead to them
 pub entry_is : (V S : State) (flags : OpenFlags) (d : ℕ) (place : ℕ → ℕ) (e : Descriptor) → V ≡ S → d ≡ length V.descriptions → e ≡ descriptor flags (place d) → e ≡ descriptor flags (place (next_description S))

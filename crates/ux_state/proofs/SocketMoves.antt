@@ -12,14 +12,14 @@ use Rattle.ux_model.specs.Socket.{Socket, peer_of, sent, sent_part, with_queue}
 use Rattle.ux_model.specs.Description.{Description, Target, to_object, to_socket, socket_in, socket_of, changed, changed_target}
 use Rattle.ux_model.specs.Process.{Process}
 use Rattle.ux_model.specs.FileObjects.{is_opening}
-use Rattle.ux_model.specs.Front.{stream_front, OnStreamFront}
+use Rattle.ux_model.specs.Front.{front_of, OnFrontOf, OnFront}
 use Rattle.ux_model.specs.References.{leads_to, times, queue_refs, socket_refs, target_refs, description_refs, refs}
 use Rattle.ux_model.proofs.ChangedPlaces.{place_within, sum_by-changed}
 use Rattle.ux_model.specs.Peers.{target_peer, peer_in}
 use Rattle.ux_model.specs.Owning.{AreOwned}
 use Rattle.ux_model.proofs.OneGoes.{paired-here}
 use Rattle.ux_model.proofs.Owning.{owned_still, names_changed_socket}
-use Rattle.ux_model.proofs.FrontRights.{front_refs}
+use Rattle.ux_model.proofs.FrontRights.{front_of_refs}
 use Rattle.ux_slots.specs.Held.{Held, count_at, HasMore}
 use Rattle.ux_state.specs.declared.openings.Openings.{Openings}
 use Rattle.ux_state.specs.Counting.{one_if, Counted}
@@ -158,16 +158,16 @@ module _ (xs : List Openings) (ls : List ℕ) (H : Held Description) (os : List 
       omega (arith, a, b, c, d))
 
   -- what a receive hands out was counted
-  pub rights_counted : (P : Held Description) (n : ℕ) (wants : Bool) (c : ℕ) (rights : List ℕ) → P.counts ≡ H.counts →
-      IsSomeAnd (socket_in (place H.places n)) (λ s. 0 < length s.queue) → IsSomeAnd (socket_in (place H.places n)) (λ s. OnStreamFront wants c s.queue (λ f. rights ≡ f.rights)) →
+  pub rights_counted : (P : Held Description) (n c : ℕ) (rights : List ℕ) → P.counts ≡ H.counts →
+      IsSomeAnd (socket_in (place H.places n)) (λ s. 0 < length s.queue) → IsSomeAnd (socket_in (place H.places n)) (λ s. OnFront c s (λ f. rights ≡ f.rights)) →
       (k : ℕ) → times k rights ≤ count_at P k
   unfolding refs
-  rights_counted P n wants c rights same some gives k = go (socket_in (place H.places n)) refl some gives
+  rights_counted P n c rights same some gives k = go (socket_in (place H.places n)) refl some gives
     where
-      by_queue : (s : Socket) (q : List Message) → s.queue ≡ q → socket_in (place H.places n) ≡ Some s → 0 < length q → OnStreamFront wants c q (λ f. rights ≡ f.rights) → times k rights ≤ count_at P k
+      by_queue : (s : Socket) (q : List Message) → s.queue ≡ q → socket_in (place H.places n) ≡ Some s → 0 < length q → OnFrontOf c s q (λ f. rights ≡ f.rights) → times k rights ≤ count_at P k
       by_queue s [] e here some gives = absurd (omega (arith, some))
       by_queue s (m ∷ ms) e here some gives =
-          let a = front_refs k wants c m ms in
+          let a = front_of_refs k c s m ms in
           let b = ap (times k) gives in
           let d = ap (queue_refs k) e in
           let f = held_by k (place H.places n) s here in
@@ -176,22 +176,22 @@ module _ (xs : List Openings) (ls : List ℕ) (H : Held Description) (os : List 
           let i = ap (λ cs. count_at (record H { counts = cs }) k) same in
           omega (arith, a, b, d, f, g, h, i)
 
-      go : (o : Option Socket) → socket_in (place H.places n) ≡ o → IsSomeAnd o (λ s. 0 < length s.queue) → IsSomeAnd o (λ s. OnStreamFront wants c s.queue (λ f. rights ≡ f.rights)) → times k rights ≤ count_at P k
+      go : (o : Option Socket) → socket_in (place H.places n) ≡ o → IsSomeAnd o (λ s. 0 < length s.queue) → IsSomeAnd o (λ s. OnFront c s (λ f. rights ≡ f.rights)) → times k rights ≤ count_at P k
       go None here some gives = absurd some
       go (Some s) here some gives = by_queue s s.queue refl here some gives
 
-  -- bytes are taken, and the rights that came with them no longer count
-  pub bytes_taken : (P K : Held Description) (n : ℕ) (wants : Bool) (c : ℕ) (rights given : List ℕ) → given ≡ rights → P.counts ≡ H.counts →
-      IsSomeAnd (socket_in (place H.places n)) (λ s. 0 < length s.queue) → IsSomeAnd (socket_in (place H.places n)) (λ s. OnStreamFront wants c s.queue (λ f. rights ≡ f.rights)) →
-      IsSomeAnd (socket_in (place H.places n)) (λ s. OnStreamFront wants c s.queue (λ f. P.places ≡ changed_place H.places n (changed (with_queue f.rest)))) →
+  -- messages are taken, and the rights that came with them no longer count
+  pub bytes_taken : (P K : Held Description) (n c : ℕ) (rights given : List ℕ) → given ≡ rights → P.counts ≡ H.counts →
+      IsSomeAnd (socket_in (place H.places n)) (λ s. 0 < length s.queue) → IsSomeAnd (socket_in (place H.places n)) (λ s. OnFront c s (λ f. rights ≡ f.rights)) →
+      IsSomeAnd (socket_in (place H.places n)) (λ s. OnFront c s (λ f. P.places ≡ changed_place H.places n (changed (with_queue f.rest)))) →
       HasMore (λ k. times k given) K P → IsState xs ls K (state_of os K ps paths names)
-  bytes_taken P K n wants c rights given handed same some gives leaves less = go (socket_in (place H.places n)) refl some gives leaves
+  bytes_taken P K n c rights given handed same some gives leaves less = go (socket_in (place H.places n)) refl some gives leaves
     where
-      by_queue : (s : Socket) (q : List Message) → s.queue ≡ q → socket_in (place H.places n) ≡ Some s → 0 < length q → OnStreamFront wants c q (λ f. rights ≡ f.rights) →
-          OnStreamFront wants c q (λ f. P.places ≡ changed_place H.places n (changed (with_queue f.rest))) → IsState xs ls K (state_of os K ps paths names)
+      by_queue : (s : Socket) (q : List Message) → s.queue ≡ q → socket_in (place H.places n) ≡ Some s → 0 < length q → OnFrontOf c s q (λ f. rights ≡ f.rights) →
+          OnFrontOf c s q (λ f. P.places ≡ changed_place H.places n (changed (with_queue f.rest))) → IsState xs ls K (state_of os K ps paths names)
       by_queue s [] e here some gives leaves = absurd (omega (arith, some))
-      by_queue s (m ∷ ms) e here some gives leaves = socket_kept K n (with_queue (stream_front wants c m ms).rest) s here (sym less.places ∙ leaves) refl (λ t. refl) (λ k.
-          let a = front_refs k wants c m ms in
+      by_queue s (m ∷ ms) e here some gives leaves = socket_kept K n (with_queue (front_of c s m ms).rest) s here (sym less.places ∙ leaves) refl (λ t. refl) (λ k.
+          let a = front_of_refs k c s m ms in
           let b = ap (times k) gives in
           let d = ap (queue_refs k) e in
           let f = less.counts k in
@@ -199,7 +199,7 @@ module _ (xs : List Openings) (ls : List ℕ) (H : Held Description) (os : List 
           let i = ap (λ cs. count_at (record H { counts = cs }) k) same in
           omega (arith, a, b, d, f, i, j))
 
-      go : (o : Option Socket) → socket_in (place H.places n) ≡ o → IsSomeAnd o (λ s. 0 < length s.queue) → IsSomeAnd o (λ s. OnStreamFront wants c s.queue (λ f. rights ≡ f.rights)) →
-          IsSomeAnd o (λ s. OnStreamFront wants c s.queue (λ f. P.places ≡ changed_place H.places n (changed (with_queue f.rest)))) → IsState xs ls K (state_of os K ps paths names)
+      go : (o : Option Socket) → socket_in (place H.places n) ≡ o → IsSomeAnd o (λ s. 0 < length s.queue) → IsSomeAnd o (λ s. OnFront c s (λ f. rights ≡ f.rights)) →
+          IsSomeAnd o (λ s. OnFront c s (λ f. P.places ≡ changed_place H.places n (changed (with_queue f.rest)))) → IsState xs ls K (state_of os K ps paths names)
       go None here some gives leaves = absurd some
       go (Some s) here some gives leaves = by_queue s s.queue refl here some gives leaves

@@ -1,7 +1,7 @@
 //! Sockets that listen, and those that are connected to them.
 ghost use Rattle.std.specs.Prelude.{◌≡◌, ◌↔◌, ◌<◌, ◌≤◌, length, Some, None, Ok, Err, MatchOption, MatchResult, IsTrue, IsSome, IsSomeAnd, IfOk, OnOk, OnErr, option_and_then, slice_get};
 ghost use Rattle.ux_model.specs.Backlog.{backlog_of};
-ghost use Rattle.ux_model.specs.Places.{place, changed_place, filled};
+ghost use Rattle.ux_model.specs.Places.{place, changed_place};
 ghost use Rattle.ux_model.specs.Socket.{pending_ends, awaiting};
 ghost use Rattle.ux_model.specs.Description.{socket_in, changed};
 ghost use Rattle.ux_model.specs.Process.{lowest_free};
@@ -123,18 +123,18 @@ impl<O: FileObject> State<O> {
         }
     }
 
-    /// The name of the peer of a socket (getpeername(2)).
+    /// The name of the socket that one is connected to or associated with (getpeername(2)).
     ///
     /// # Errors
     ///
-    /// ENOTCONN where it isn't connected, or its peer is gone.
+    /// ENOTCONN where it is neither, or the other is gone.
     pub fn peer_name(&self, socket: &Socket) -> Result<&Addr, Errno>
         ensures { MatchResult result (λ name. peer_name self.now socket.now.phase ≡ Ok name.now) (λ e. peer_name self.now socket.now.phase ≡ Err e) }
     {
-        let Some(peer) = socket.peer() else {
+        let Some(other) = socket.tied_socket() else {
             return Err(Errno::ENOTCONN);
         };
-        match self.socket(peer) {
+        match self.socket(other) {
             Some(other) => Ok(other.name()),
             None => Err(Errno::ENOTCONN),
         }

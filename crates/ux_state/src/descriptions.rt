@@ -1,9 +1,10 @@
 //! Changes of one description: its flags and offset, and its socket.
-ghost use Rattle.std.specs.Prelude.{◌≡◌, ◌↔◌, ◌<◌, min, Err, None, IfOk, IfErr, OnOk, OnErr, IsSomeAnd, length};
+ghost use Rattle.std.specs.Prelude.{◌≡◌, ◌↔◌, ◌<◌, true, false, Err, IfOk, IfErr, OnOk, OnErr, IsTrue, IsSomeAnd, length};
 ghost use Rattle.ux_model.specs.Places.{place, changed_place};
 ghost use Rattle.ux_model.specs.Description.{socket_in, changed};
-ghost use Rattle.ux_model.specs.Socket.{stream_room, sent, with_queue, with_reset};
-ghost use Rattle.ux_model.specs.Front.{OnStreamFront};
+ghost use Rattle.ux_model.specs.Message.{message};
+ghost use Rattle.ux_model.specs.Socket.{is_stream, has_room, sent_part, sent, with_queue, with_reset, with_association, shut_down};
+ghost use Rattle.ux_model.specs.Front.{OnFront};
 ghost use Rattle.ux_model.specs.State.{socket_at, with_socket_by, with_description_by};
 ghost use Rattle.ux_model.specs.Descriptors.{with_flags};
 ghost use Rattle.ux_state.specs.Moves.{at_offset, IsSocketAt, AreReferenced};
@@ -12,20 +13,19 @@ use crate::references::{have_room, release_all, retain_all};
 use crate::state::State;
 use ux_desc::Description;
 use ux_object::FileObject;
-use ux_rights::RefList;
+use ux_rights::{RefList, SendError};
 use ux_slots::Slots;
-use ux_stream::SendError;
-use ux_types::{Cred, DescriptionId, OpenFlags};
+use ux_types::{Addr, Cred, DescriptionId, Mode, OpenFlags};
 
 impl<O: FileObject> State<O> {
-    /// Queues a message at a stream socket, with as many of the bytes as there is room for, and says how
-    /// many (sendmsg(2)).
+    /// Queues a message at a socket, of a stream the bytes that there is room for, and says how many bytes
+    /// (sendmsg(2)). A stream is sent some, and keeps no sender's name.
     ///
     /// # Errors
     ///
     /// `Full` exactly where there is no room, else `NoMemory`, also where no more references can be counted.
     /// The state is then as before.
-    pub fn send_stream(
+    pub fn send(
         &mut self,
         id: DescriptionId,
         bytes: &[u8],
@@ -33,23 +33,24 @@ impl<O: FileObject> State<O> {
         rights: RefList,
         cred: Cred,
         uid: u32,
+        from: Option<Addr>,
     ) -> Result<usize, SendError>
         requires socket { IsSocketAt self.old id }
-        requires some { 0 < length bytes.now }
+        requires some { IsSomeAnd (socket_at self.old id) (λ s. IsTrue (is_stream s.kind) → 0 < length bytes.now) }
         requires held { AreReferenced self.old rights }
-        ensures count { IfOk result (λ count. IsSomeAnd (socket_at self.old id) (λ s. count ≡ min (stream_room s) (length bytes.now))) }
-        ensures ok { OnOk result (self.new ≡ with_socket_by self.old id (sent (record { tag = tag; bytes = bytes.now; rights = rights; cred = cred; uid = uid; from = None }))) }
-        ensures full { (result ≡ Err SendError.Full) ↔ IsSomeAnd (socket_at self.old id) (λ s. stream_room s ≡ 0) }
+        ensures count { IfOk result (λ count. IsSomeAnd (socket_at self.old id) (λ s. count ≡ length (sent_part s (message tag bytes.now rights cred uid from)).bytes)) }
+        ensures ok { OnOk result (self.new ≡ with_socket_by self.old id (sent (message tag bytes.now rights cred uid from))) }
+        ensures full { (result ≡ Err SendError.Full) ↔ IsSomeAnd (socket_at self.old id) (λ s. has_room s ≡ false) }
         ensures err { OnErr result (self.new ≡ self.old) }
     {
-        if self.stream_room(id) == 0 {
+        if !self.has_room(id) {
             return Err(SendError::Full);
         }
         if !have_room(&self.slots, rights.as_slice()) {
             return Err(SendError::NoMemory);
         }
         retain_all(&mut self.slots, rights.as_slice());
-        match push_stream(&mut self.slots, id, bytes, tag, rights, cred, uid) {
+        match push_message(&mut self.slots, id, bytes, tag, rights, cred, uid, from) {
             Ok(count) => Ok(count),
             Err(rights) => {
                 release_all(&mut self.slots, rights.as_slice());
@@ -57,28 +58,44 @@ impl<O: FileObject> State<O> {
             }
         }
     }
-}
 
-impl<O: FileObject> State<O> {
-    /// The bytes that the queue of a stream socket still takes.
-    pub fn stream_room(&self, id: DescriptionId) -> usize
+    /// Whether the queue of a socket takes one more message: a stream's, a byte of it at least.
+    fn has_room(&self, id: DescriptionId) -> bool
         requires { IsSocketAt self.now id }
-        ensures { IsSomeAnd (socket_at self.now id) (λ s. result ≡ stream_room s) }
+        ensures { IsSomeAnd (socket_at self.now id) (λ s. result ≡ has_room s) }
     {
         match self.socket(id) {
-            Some(socket) => socket.room(),
+            Some(socket) => socket.has_room(),
             None => unreachable!(),
         }
     }
 
-    /// Takes at most n bytes off the front of the queue of a stream socket, and closes the rights that come
-    /// with them (recvmsg(2)). It takes no memory.
-    pub fn skip_front(&mut self, id: DescriptionId, n: usize, wants_cred: bool)
+    /// Takes off what a receive of at most n bytes takes at a socket, and closes the rights that come with
+    /// it (recvmsg(2)). It takes no memory.
+    pub fn skip_front(&mut self, id: DescriptionId, n: usize)
         requires some { IsSomeAnd (socket_at self.old id) (λ s. 0 < length s.queue) }
-        ensures rest { IsSomeAnd (socket_at self.old id) (λ s. OnStreamFront wants_cred n s.queue (λ f. self.new ≡ with_socket_by self.old id (with_queue f.rest))) }
+        ensures rest { IsSomeAnd (socket_at self.old id) (λ s. OnFront n s (λ f. self.new ≡ with_socket_by self.old id (with_queue f.rest))) }
     {
-        let rights = skip_stream(&mut self.slots, id, n, wants_cred);
+        let rights = skip_message(&mut self.slots, id, n);
         release_all(&mut self.slots, rights.as_slice());
+    }
+
+    /// Associates a datagram socket with another, or with none (connect(2)).
+    pub fn set_association(&mut self, id: DescriptionId, target: Option<DescriptionId>)
+        ensures { self.new ≡ with_socket_by self.old id (with_association target) }
+    {
+        if let Some(x) = self.slots.get_mut(id) {
+            x.set_association(target);
+        }
+    }
+
+    /// Shuts a socket down for reading, for writing or for both (shutdown(2)).
+    pub fn shut_down(&mut self, id: DescriptionId, how: Mode)
+        ensures { self.new ≡ with_socket_by self.old id (shut_down how) }
+    {
+        if let Some(x) = self.slots.get_mut(id) {
+            x.shut_down(how);
+        }
     }
 
     /// ECONNRESET is pending at a socket from now on, or no longer.
@@ -109,8 +126,8 @@ impl<O: FileObject> State<O> {
     }
 }
 
-/// Queues a message at a stream socket, or gives its rights back where memory is wanting.
-fn push_stream(
+/// Queues a message at a socket, or gives its rights back where memory is wanting.
+fn push_message(
     slots: &mut Slots<Description>,
     id: DescriptionId,
     bytes: &[u8],
@@ -118,17 +135,18 @@ fn push_stream(
     rights: RefList,
     cred: Cred,
     uid: u32,
+    from: Option<Addr>,
 ) -> Result<usize, RefList>
-    requires some { 0 < length bytes.now }
-    requires room { IsSomeAnd (socket_in (place slots.old.places id)) (λ s. 0 < stream_room s) }
-    ensures count { IfOk result (λ count. IsSomeAnd (socket_in (place slots.old.places id)) (λ s. count ≡ min (stream_room s) (length bytes.now))) }
-    ensures places { OnOk result (slots.new.places ≡ changed_place slots.old.places id (changed (sent (record { tag = tag; bytes = bytes.now; rights = rights; cred = cred; uid = uid; from = None })))) }
+    requires some { IsSomeAnd (socket_in (place slots.old.places id)) (λ s. IsTrue (is_stream s.kind) → 0 < length bytes.now) }
+    requires room { IsSomeAnd (socket_in (place slots.old.places id)) (λ s. has_room s ≡ true) }
+    ensures count { IfOk result (λ count. IsSomeAnd (socket_in (place slots.old.places id)) (λ s. count ≡ length (sent_part s (message tag bytes.now rights cred uid from)).bytes)) }
+    ensures places { OnOk result (slots.new.places ≡ changed_place slots.old.places id (changed (sent (message tag bytes.now rights cred uid from)))) }
     ensures counts { slots.new.counts ≡ slots.old.counts }
     ensures back { IfErr result (λ back. back ≡ rights) }
     ensures err { OnErr result (slots.new.places ≡ slots.old.places) }
 {
     match slots.get_mut(id) {
-        Some(x) => match x.send(bytes, tag, rights, cred, uid) {
+        Some(x) => match x.send(bytes, tag, rights, cred, uid, from) {
             Ok(count) => Ok(count),
             Err(refused) => Err(refused.rights),
         },
@@ -136,20 +154,15 @@ fn push_stream(
     }
 }
 
-/// Takes bytes off the front of the queue of a stream socket, and gives the rights that come with them.
-fn skip_stream(
-    slots: &mut Slots<Description>,
-    id: DescriptionId,
-    n: usize,
-    wants_cred: bool,
-) -> RefList
+/// Takes off what a receive of at most n bytes takes at a socket, and gives the rights that come with it.
+fn skip_message(slots: &mut Slots<Description>, id: DescriptionId, n: usize) -> RefList
     requires some { IsSomeAnd (socket_in (place slots.old.places id)) (λ s. 0 < length s.queue) }
-    ensures rights { IsSomeAnd (socket_in (place slots.old.places id)) (λ s. OnStreamFront wants_cred n s.queue (λ f. result ≡ f.rights)) }
-    ensures rest { IsSomeAnd (socket_in (place slots.old.places id)) (λ s. OnStreamFront wants_cred n s.queue (λ f. slots.new.places ≡ changed_place slots.old.places id (changed (with_queue f.rest)))) }
+    ensures rights { IsSomeAnd (socket_in (place slots.old.places id)) (λ s. OnFront n s (λ f. result ≡ f.rights)) }
+    ensures rest { IsSomeAnd (socket_in (place slots.old.places id)) (λ s. OnFront n s (λ f. slots.new.places ≡ changed_place slots.old.places id (changed (with_queue f.rest)))) }
     ensures counts { slots.new.counts ≡ slots.old.counts }
 {
     match slots.get_mut(id) {
-        Some(x) => x.skip(n, wants_cred),
+        Some(x) => x.skip(n),
         None => unreachable!(),
     }
 }

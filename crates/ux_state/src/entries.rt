@@ -4,7 +4,6 @@ ghost use Rattle.ux_model.specs.Places.{place, filled, emptied};
 ghost use Rattle.ux_model.specs.Process.{lowest_free, two_lowest_free, descriptor, copy_of, with_cloexec};
 ghost use Rattle.ux_model.specs.State.{is_live, table_of, with_table, with_new, next_description};
 ghost use Rattle.ux_model.specs.References.{refs};
-ghost use Rattle.ux_model.specs.Types.{SockType};
 ghost use Rattle.ux_model.specs.Socket.{new_socket, pair_end};
 ghost use Rattle.ux_model.specs.Pairing.{socket_description, with_pair};
 ghost use Rattle.ux_model.specs.Opening.{file_description};
@@ -19,7 +18,7 @@ use std::alloc::Global;
 use ux_desc::{Description, Socket};
 use ux_fdtable::{Descriptor, DupError, InstallError};
 use ux_object::FileObject;
-use ux_types::{Cred, DescriptionId, Fd, Mode, OpenFlags, Pid};
+use ux_types::{Cred, DescriptionId, Fd, Mode, OpenFlags, Pid, SockType};
 
 impl<O: FileObject> State<O> {
     /// Makes a description of a file object, and opens the lowest free number of a process for it (open(2)).
@@ -44,16 +43,21 @@ impl<O: FileObject> State<O> {
         self.open_description(pid, flags, Description::of_object(object, mode, flags))
     }
 
-    /// Makes a description of a stream socket, which is tied to nobody, and opens the lowest free number of
-    /// a process for it (socket(2)).
+    /// Makes a description of a socket of this type, which is tied to nobody, and opens the lowest free
+    /// number of a process for it (socket(2)).
     ///
     /// # Errors
     ///
     /// `Full` where no number is free, else `NoMemory`. The state is then as before.
-    pub fn open_socket(&mut self, pid: Pid, flags: OpenFlags) -> Result<Fd, InstallError>
+    pub fn open_socket(
+        &mut self,
+        pid: Pid,
+        kind: SockType,
+        flags: OpenFlags,
+    ) -> Result<Fd, InstallError>
         requires { IsTrue (is_live self.old pid.0) }
         ensures lowest { IfOk result (λ fd. lowest_free (table_of self.old pid.0) ≡ Some fd.0) }
-        ensures opened { IfOk result (λ fd. self.new ≡ with_table (with_new self.old (socket_description flags (new_socket SockType.Stream))) pid.0
+        ensures opened { IfOk result (λ fd. self.new ≡ with_table (with_new self.old (socket_description flags (new_socket kind))) pid.0
             (filled (table_of self.old pid.0) fd.0 (descriptor flags (next_description self.old)))) }
         ensures full { (result ≡ Err InstallError.Full) ↔ (lowest_free (table_of self.old pid.0) ≡ None) }
         ensures err { OnErr result (self.new ≡ self.old) }
@@ -62,7 +66,7 @@ impl<O: FileObject> State<O> {
         self.open_description(
             pid,
             flags,
-            Description::of_socket(flags, Socket::new(alloc)),
+            Description::of_socket(flags, Socket::new(alloc, kind)),
         )
     }
 
@@ -98,8 +102,8 @@ impl<O: FileObject> State<O> {
         Ok(fd)
     }
 
-    /// Makes the descriptions of two sockets that are connected to one another, and opens the two lowest
-    /// free numbers of a process for them (socketpair(2)).
+    /// Makes the descriptions of two sockets of this type that are tied to one another, and opens the two
+    /// lowest free numbers of a process for them (socketpair(2)).
     ///
     /// # Errors
     ///
@@ -107,12 +111,13 @@ impl<O: FileObject> State<O> {
     pub fn open_pair(
         &mut self,
         pid: Pid,
+        kind: SockType,
         flags: OpenFlags,
         cred: Cred,
     ) -> Result<(Fd, Fd), InstallError>
         requires { IsTrue (is_live self.old pid.0) }
         ensures lowest { IfOk result (λ two. two_lowest_free (table_of self.old pid.0) ≡ Some (two.0.0, two.1.0)) }
-        ensures opened { IfOk result (λ two. self.new ≡ with_table (with_pair self.old SockType.Stream flags cred) pid.0
+        ensures opened { IfOk result (λ two. self.new ≡ with_table (with_pair self.old kind flags cred) pid.0
             (filled (filled (table_of self.old pid.0) two.0.0 (descriptor flags (next_description self.old)))
             two.1.0 (descriptor flags (next_description self.old + 1)))) }
         ensures full { (result ≡ Err InstallError.Full) ↔ (two_lowest_free (table_of self.old pid.0) ≡ None) }
@@ -134,10 +139,10 @@ impl<O: FileObject> State<O> {
         };
         let _first = self
             .slots
-            .insert_reserved(pair_end(alloc, flags, second, cred));
+            .insert_reserved(pair_end(alloc, kind, flags, second, cred));
         let _second = self
             .slots
-            .insert_reserved(pair_end(alloc, flags, first, cred));
+            .insert_reserved(pair_end(alloc, kind, flags, first, cred));
         Ok(two)
     }
 
@@ -230,10 +235,16 @@ impl<O: FileObject> State<O> {
 }
 
 /// The description of one end of a pair, which is tied to the other.
-fn pair_end(alloc: Global, flags: OpenFlags, peer: DescriptionId, cred: Cred) -> Description
-    ensures { result ≡ socket_description flags (pair_end SockType.Stream peer cred) }
+fn pair_end(
+    alloc: Global,
+    kind: SockType,
+    flags: OpenFlags,
+    peer: DescriptionId,
+    cred: Cred,
+) -> Description
+    ensures { result ≡ socket_description flags (pair_end kind peer cred) }
 {
-    Description::of_socket(flags, Socket::pair_end(alloc, peer, cred))
+    Description::of_socket(flags, Socket::pair_end(alloc, kind, peer, cred))
 }
 
 /// An entry that leads to this description, as the flags of the call want it.

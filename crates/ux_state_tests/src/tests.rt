@@ -14,7 +14,7 @@ use ux_object::FileObject;
 use ux_objects::MemFile;
 use ux_rights::RefList;
 use ux_state::{RetiredList, State};
-use ux_types::{Cred, DescriptionId, Errno, Fd, Mode, Name, OpenFlags, Pid, ProcSpec};
+use ux_types::{Cred, DescriptionId, Errno, Fd, Mode, Name, OpenFlags, Pid, ProcSpec, SockType};
 
 /// A path with these bytes.
 fn name(alloc: Global, bytes: &[u8]) -> Result<Name, AllocError> {
@@ -40,9 +40,22 @@ fn user() -> Cred {
     }
 }
 
+/// A state of a test.
+struct Held<O: FileObject> {
+    state: State<O>,
+}
+
+/// Written out, a drop is a call, and not each part of the state in the proof of each test.
+impl<O: FileObject> Drop for Held<O> {
+    fn drop(self) {
+        let Held { state } = self;
+        drop(state);
+    }
+}
+
 /// The first state with these two file objects under the paths `a` and `b`, and with two processes,
 /// which may have four descriptors and one.
-fn start<O: FileObject>(rt: &impl Abort, alloc: Global, a: O, b: O) -> Result<State<O>, Fail> {
+fn start<O: FileObject>(rt: &impl Abort, alloc: Global, a: O, b: O) -> Result<Held<O>, Fail> {
     start_with(rt, alloc, a, b, &[process(4), process(1)])
 }
 
@@ -53,7 +66,7 @@ fn start_with<O: FileObject>(
     a: O,
     b: O,
     procs: &[ProcSpec],
-) -> Result<State<O>, Fail> {
+) -> Result<Held<O>, Fail> {
     assert!(rt; procs.len() <= 64);
     assert!(rt; a.is_open());
     assert!(rt; b.is_open());
@@ -63,13 +76,13 @@ fn start_with<O: FileObject>(
     objects.push((first, a))?;
     objects.push((second, b))?;
     match State::new(alloc, objects, procs) {
-        Ok(state) => Ok(state),
+        Ok(state) => Ok(Held { state }),
         Err(_) => Err(AllocError)?,
     }
 }
 
 /// The same with two memory files.
-fn start_with_files(rt: &impl Abort, alloc: Global) -> Result<State<MemFile>, Fail> {
+fn start_with_files(rt: &impl Abort, alloc: Global) -> Result<Held<MemFile>, Fail> {
     let a = MemFile::new(alloc, b"abc")?;
     let b = MemFile::new(alloc, b"xy")?;
     start(rt, alloc, a, b)
@@ -92,7 +105,7 @@ fn open<O: FileObject>(
 /// Opens two sockets of process 1 that are connected to one another, at these numbers.
 fn open_pair<O: FileObject>(rt: &impl Abort, state: &mut State<O>, low: u32, high: u32) {
     assert!(rt; state.is_live(Pid(1)));
-    let opened = state.open_pair(Pid(1), OpenFlags(0), user());
+    let opened = state.open_pair(Pid(1), SockType::Stream, OpenFlags(0), user());
     assert!(rt; opened == Ok((Fd(low), Fd(high))));
 }
 
@@ -120,7 +133,7 @@ fn append<O: FileObject>(
     let id = DescriptionId::new(id);
     assert!(rt; !bytes.is_empty());
     assert!(rt; state.socket(id).is_some());
-    let sent = state.send_stream(id, bytes, 1, RefList::new(alloc), user(), 1000);
+    let sent = state.send(id, bytes, 1, RefList::new(alloc), user(), 1000, None);
     assert!(rt; sent == Ok(bytes.len()));
 }
 

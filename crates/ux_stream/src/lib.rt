@@ -7,7 +7,7 @@ mod mark;
 mod marks;
 mod queue;
 
-pub use queue::{Received, Refused, SendError, StreamQueue};
+pub use queue::{Received, Refused, StreamQueue};
 // A crate can name `StreamQueue` in a contract only if the types of its fields are exported.
 #[doc(hidden)]
 pub use byte_ring::ByteRing;

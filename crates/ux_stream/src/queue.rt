@@ -3,7 +3,6 @@ ghost use Rattle.std.specs.Prelude.{◌≡◌, ◌↔◌, ◌==◌, ◌<◌, [],
 ghost use Rattle.std.specs.List.{AllByRecursion};
 ghost use Rattle.ux_model.specs.Message.{queued_bytes};
 ghost use Rattle.ux_model.specs.Front.{OnStreamFront};
-ghost use Rattle.ux_stream.specs.Refusals.{refusal_of};
 
 use crate::byte_ring::ByteRing;
 use crate::mark::Mark;
@@ -11,31 +10,8 @@ use crate::marks::{copy_rights, reach_of, take_bytes};
 use std::alloc::{AllocError, Allocator, Global};
 use std::collections::VecDeque;
 use std::marker::Model;
-use thiserror::Error;
-use ux_rights::{Origin, RefList};
-use ux_types::{Cred, Errno, Refusal};
-
-/// Why a send was refused.
-#[derive(Clone, Copy, Debug, PartialEq, Eq, Error)]
-pub enum SendError {
-    /// There is no room (EAGAIN).
-    #[error("queue is full")]
-    Full,
-    /// The queue was to grow, and found no memory (ENOMEM).
-    #[error("out of memory")]
-    NoMemory,
-}
-
-impl From<SendError> for Refusal {
-    ghost from_gives = { λ error refusal. refusal ≡ refusal_of error };
-
-    fn from(error: SendError) -> Refusal {
-        match error {
-            SendError::Full => Refusal::Answer(Errno::EAGAIN),
-            SendError::NoMemory => Refusal::NoMemory,
-        }
-    }
-}
+use ux_rights::{Origin, RefList, SendError};
+use ux_types::Cred;
 
 /// A send that was refused.
 #[derive(Drop)]

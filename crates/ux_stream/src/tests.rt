@@ -3,15 +3,14 @@ ghost use Rattle.std.specs.Prelude.{◌<◌};
 
 mod list_queue;
 
-use crate::{Received, SendError, StreamQueue};
+use crate::{Received, StreamQueue};
 use hoard::Hoard;
 use linked_list_allocator::LocalHeap;
 use list_queue::{ListFront, ListMessage, ListQueue};
 use std::alloc::{AllocError, Allocator, Global};
 use std::process::Abort;
-use std::test::Fail;
-use ux_rights::{Origin, RefList};
-use ux_types::{Cred, DescriptionId, Errno, Pid, Refusal};
+use ux_rights::{Origin, RefList, SendError};
+use ux_types::{Cred, DescriptionId, Pid};
 
 /// Pseudo-random numbers, by a linear congruence (Knuth's MMIX).
 #[derive(Drop)]
@@ -266,16 +265,6 @@ fn rights_move_where_they_cannot_be_copied(rt: HostRuntime) -> Result<(), AllocE
     assert_eq!(rt; received.bytes.as_slice(), b"ab".as_slice());
     assert_rights(&rt, &received.rights, &numbers);
     assert_eq!(rt; queue.len_bytes(), 1);
-    Ok(())
-}
-
-#[test]
-fn errors_are_refusals(rt: HostRuntime) -> Result<(), Fail> {
-    let (full, no_memory) = (SendError::Full, SendError::NoMemory);
-    let text = format!(in rt.alloc(); "{full}, {no_memory}")?;
-    assert_eq!(rt; text.as_str(), "queue is full, out of memory");
-    assert_eq!(rt; Refusal::from(full), Refusal::Answer(Errno::EAGAIN));
-    assert_eq!(rt; Refusal::from(no_memory), Refusal::NoMemory);
     Ok(())
 }
 

@@ -4,10 +4,10 @@ use Rattle.std.specs.Prelude.{Option, Some, None}
 use Rattle.std.specs.List.{find, list_all}
 use Rattle.std.specs.Str.{bytes_eq}
 use Rattle.std.proofs.lemmas.Slice.Eq.{bytes_eq-Decides}
-use Rattle.ux_model.specs.Types.{Mode, Whence}
+use Rattle.ux_model.specs.Types.{SockType, Mode, Whence}
 use Rattle.ux_object.specs.declared.ObjKind.{ObjKind}
-use Rattle.ux_syntax.specs.Spelling.{mode_text, whence_text, kind_text}
-use Rattle.ux_syntax.specs.Reading.{or_bad, chosen_at, mode_at, whence_at, kind_at}
+use Rattle.ux_syntax.specs.Spelling.{mode_text, type_text, whence_text, kind_text}
+use Rattle.ux_syntax.specs.Reading.{or_bad, chosen_at, mode_at, type_at, whence_at, kind_at}
 use Rattle.ux_syntax.proofs.Rows.{IsBadOrOk, IsKind, ok_is, solid_from}
 
 head_or_tail : {X : Type 0} (p : X → Bool) (y : X) (ys : List X) (x : X) (b : Bool) → p y ≡ b → (or_bad (find p ys) ≡ Ok x → p x ≡ true) → or_bad (cond b (Some y) (find p ys)) ≡ Ok x → p x ≡ true
@@ -48,6 +48,15 @@ each_mode Mode.Both = (refl, refl)
 pub mode_kind : IsKind mode_at mode_text (λ _. Unit {0})
 unfolding mode_at
 mode_kind = chosen_kind mode_text (Mode.Read ∷ Mode.Write ∷ Mode.Both ∷ []) each_mode
+
+each_type : (t : SockType) → IsChosen type_text (SockType.Stream ∷ SockType.Dgram ∷ SockType.Seq ∷ []) t
+each_type SockType.Stream = (refl, refl)
+each_type SockType.Dgram = (refl, refl)
+each_type SockType.Seq = (refl, refl)
+
+pub type_kind : IsKind type_at type_text (λ _. Unit {0})
+unfolding type_at
+type_kind = chosen_kind type_text (SockType.Stream ∷ SockType.Dgram ∷ SockType.Seq ∷ []) each_type
 
 each_whence : (w : Whence) → IsChosen whence_text (Whence.Set ∷ Whence.Cur ∷ Whence.End ∷ []) w
 each_whence Whence.Set = (refl, refl)

@@ -1,18 +1,16 @@
 -- A word or a row of words that is read is the spelling of what was read, and each spelling is read again.
-use Rattle.std.proofs.Common.{◌≡◌, ℕ, zero, suc, not, ◌<◌, ◌^◌, Bool, true, false, cond, ◌&&◌, ltb, eqb, List, [], ◌∷◌, length, get_or, Result, Ok, Err, refl, ap, sym, ◌∙◌, subst, arith, Decides}
+use Rattle.std.proofs.Common.{◌≡◌, ℕ, zero, suc, not, ◌<◌, ◌^◌, Bool, true, false, cond, ◌&&◌, ltb, eqb, List, [], ◌∷◌, length, get_or, Result, Ok, Err, refl, ap, sym, ◌∙◌, subst, arith}
 use Rattle.std.specs.Prelude.{decimal}
 use Rattle.std.specs.List.{list_all, AllByRecursion}
 use Rattle.std.specs.Char.{is_ascii_digit}
-use Rattle.std.specs.Str.{bytes_eq}
 use Rattle.std.specs.Str.Parse.{digits_value}
 use Rattle.std.proofs.lemmas.Bool.{lt-ltb, ltb-true, ne_eqb, and_parts, not_from_false}
 use Rattle.std.proofs.lemmas.Bool.Decides.{nat_tests}
-use Rattle.std.proofs.lemmas.Slice.Eq.{bytes_eq-Decides}
 use Rattle.std.proofs.lemmas.Fmt.{digits_decimal, digits_value-decimal, decimal-digits_value, first_decimal, decimal_nonempty, decimal_digit}
 use Rattle.ux_syntax.specs.declared.fault.Fault.{Fault}
 use Rattle.ux_syntax.specs.declared.fault.Fault.TheVariants.{BadLine}
 use Rattle.ux_syntax.specs.Spelling.{IsNumber}
-use Rattle.ux_syntax.specs.Reading.{◌>>=◌, is_plain, number_at, exactly, one, ends, ◌>>◌}
+use Rattle.ux_syntax.specs.Reading.{◌>>=◌, is_plain, number_at, one, ends, ◌>>◌}
 use Rattle.ux_syntax.proofs.Numbers.{own}
 
 -- no byte of the word ends it
@@ -105,21 +103,6 @@ row_then {k = k} {text = text} {F = F} {r = r} {words = words} {G = G} kind row 
   bad = λ ws. bind_bad (one k ws) (λ x. r x.1 >>= λ y. Ok (x.0, y)) (one_bad k kind.bad ws) (λ x. bind_bad (r x.1) (λ y. Ok (x.0, y)) (row.bad x.1) (λ y. tt));
   again = λ x f. rw (kind.again x.0 f.0, row.again x.1 f.1) refl;
   solid = λ x f. (kind.solid x.0 f.0, row.solid x.1 f.1);
-}
-
--- ---- words that are given
-
-same_word : (text w : List ℕ) (b : Bool) → Decides b (w ≡ text) → cond b (done {A = Unit {0}} tt) (Err BadLine) ≡ done {A = Unit {0}} tt → w ≡ text
-same_word text w true d e = d.0 refl
-same_word text w false d e = absurd cc
-
-pub exactly_kind : (text : List ℕ) → IsSolid text → IsKind (exactly text) (λ _. text) (λ _. Unit {0})
-unfolding exactly
-exactly_kind text solid = record {
-  takes = λ w x e. (same_word text w (bytes_eq w text) (bytes_eq-Decides w text) e, tt);
-  bad = λ w. guard_bad (bytes_eq w text) tt;
-  again = λ x f. rw ((bytes_eq-Decides text text).1 refl) refl;
-  solid = λ x f. solid;
 }
 
 -- ---- numbers

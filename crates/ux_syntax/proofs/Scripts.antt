@@ -14,7 +14,7 @@ use Rattle.ux_syntax.specs.declared.script.Header.{Header}
 use Rattle.ux_syntax.specs.declared.script.Line.{Line}
 use Rattle.ux_syntax.specs.declared.script.Script.{Script}
 use Rattle.ux_syntax.specs.declared.reading.Item.{Item}
-use Rattle.ux_syntax.specs.Spelling.{Written, open_path, read_fd, write_fd, seek, dup_fd, dup_onto, set_flags, close, unlink_path, socket, pair, bind, listen, connect, accept, sock_name, peer_name, send, recv, exit, meaning, Turn, line_of, Plan, plan_of, objects_of, procs_of, header_line, turn_line, off_lines, is_meant, FitsHeader, FitsTurn, IsOfProcess, IsCallOfStranger, IsFaultOf, is_exit, is_off, NoneAfterExit, IsCall, IsOrderly, Spells, IsFirstFault}
+use Rattle.ux_syntax.specs.Spelling.{Written, open_path, read_fd, write_fd, seek, dup_fd, dup_onto, set_flags, close, unlink_path, socket, pair, bind, listen, connect, accept, shut, sock_name, peer_name, send, recv, exit, meaning, Turn, line_of, Plan, plan_of, objects_of, procs_of, header_line, turn_line, off_lines, is_meant, FitsHeader, FitsTurn, IsOfProcess, IsCallOfStranger, IsFaultOf, is_exit, is_off, NoneAfterExit, IsCall, IsOrderly, Spells, IsFirstFault}
 use Rattle.ux_syntax.specs.Turns.{has_exited, is_known}
 use Rattle.ux_syntax.specs.Reading.{◌>>=◌, line_fault, words_at, item_at, with_header, with_line, with_off, joined_by, is_skipped, added, line_at, on_line, lines_at, no_lines}
 use Rattle.ux_syntax.specs.Results.{FailsAt, Refuses, GivesScript}
@@ -237,12 +237,13 @@ is_no_end (dup_onto fd other) = refl
 is_no_end (set_flags fd flags) = refl
 is_no_end (close fd) = refl
 is_no_end (unlink_path path) = refl
-is_no_end (socket flags) = refl
-is_no_end (pair flags) = refl
+is_no_end (socket kind flags) = refl
+is_no_end (pair kind flags) = refl
 is_no_end (bind fd addr) = refl
 is_no_end (listen fd backlog) = refl
 is_no_end (connect fd addr) = refl
 is_no_end (accept fd flags) = refl
+is_no_end (shut fd how) = refl
 is_no_end (sock_name fd) = refl
 is_no_end (peer_name fd) = refl
 is_no_end (send fd addr bytes control flags) = refl

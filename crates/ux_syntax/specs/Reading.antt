@@ -4,7 +4,7 @@ use Rattle.std.specs.List.{slice_split, find, list_all}
 use Rattle.std.specs.Str.{bytes_eq}
 use Rattle.std.specs.Char.{is_ascii_digit}
 use Rattle.std.specs.Str.Parse.{digits_value, signed_digits_value}
-use Rattle.ux_model.specs.Types.{Name, Addr, OpenFlags, MsgFlags, Mode, Whence, ProcSpec, Request}
+use Rattle.ux_model.specs.Types.{Name, Addr, OpenFlags, MsgFlags, SockType, Mode, Whence, ProcSpec, Request}
 use Rattle.ux_object.specs.declared.ObjKind.{ObjKind}
 use Rattle.ux_syntax.specs.declared.fault.Fault.{Fault}
 use Rattle.ux_syntax.specs.declared.fault.Fault.TheVariants.{BadLine, UnknownProcess, TooLong}
@@ -16,7 +16,7 @@ use Rattle.ux_syntax.specs.declared.script.Header.{Header}
 use Rattle.ux_syntax.specs.declared.script.Line.{Line}
 use Rattle.ux_syntax.specs.declared.reading.Item.{Item}
 use Rattle.ux_syntax.specs.Trace.{dash, stands, word_text}
-use Rattle.ux_syntax.specs.Spelling.{Plan, open_path, read_fd, write_fd, seek, dup_fd, dup_onto, set_flags, close, unlink_path, socket, pair, bind, listen, connect, accept, sock_name, peer_name, send, recv, exit, meaning, mode_text, whence_text, kind_text, is_meant}
+use Rattle.ux_syntax.specs.Spelling.{Plan, open_path, read_fd, write_fd, seek, dup_fd, dup_onto, set_flags, close, unlink_path, socket, pair, bind, listen, connect, accept, shut, sock_name, peer_name, send, recv, exit, meaning, mode_text, type_text, whence_text, kind_text, is_meant}
 use Rattle.ux_syntax.specs.Turns.{has_exited, is_known}
 
 infixl 10 ◌>>=◌
@@ -51,9 +51,6 @@ unfoldable pub hex_at : List ℕ → Result (List ℕ) Fault
 hex_at [] = Err BadLine
 hex_at (c ∷ cs) = if bytes_eq (c ∷ cs) dash then Ok [] else pairs_at (c ∷ cs)
 
-unfoldable pub exactly : List ℕ → List ℕ → Result (Unit {0}) Fault
-exactly text w = if bytes_eq w text then Ok tt else Err BadLine
-
 abbrev pub bit_at : List ℕ → Result Bool Fault
 bit_at w = if bytes_eq w (48 ∷ []) then Ok false else if bytes_eq w (49 ∷ []) then Ok true else Err BadLine
 
@@ -64,6 +61,9 @@ or_bad (Some x) = Ok x
 -- the one of these values whose text the word is
 abbrev pub chosen_at : {A : Type 0} → (A → List ℕ) → List A → List ℕ → Result A Fault
 chosen_at text all w = or_bad (find (λ x. bytes_eq w (text x)) all)
+
+unfoldable pub type_at : List ℕ → Result SockType Fault
+type_at w = chosen_at type_text (SockType.Stream ∷ SockType.Dgram ∷ SockType.Seq ∷ []) w
 
 unfoldable pub mode_at : List ℕ → Result Mode Fault
 mode_at w = chosen_at mode_text (Mode.Read ∷ Mode.Write ∷ Mode.Both ∷ []) w
@@ -238,10 +238,10 @@ unfoldable pub unlink_at : List (List ℕ) → Result Request Fault
 unlink_at ws = (path_at >> ends) ws >>= λ x. Ok (meaning (unlink_path x.0))
 
 unfoldable pub socket_at : List (List ℕ) → Result Request Fault
-socket_at ws = (exactly (codes "stream") >> open_flags_at >> ends) ws >>= λ x. Ok (meaning (socket x.1.0))
+socket_at ws = (type_at >> open_flags_at >> ends) ws >>= λ x. Ok (meaning (socket x.0 x.1.0))
 
 unfoldable pub pair_at : List (List ℕ) → Result Request Fault
-pair_at ws = (exactly (codes "stream") >> open_flags_at >> ends) ws >>= λ x. Ok (meaning (pair x.1.0))
+pair_at ws = (type_at >> open_flags_at >> ends) ws >>= λ x. Ok (meaning (pair x.0 x.1.0))
 
 unfoldable pub bind_at : List (List ℕ) → Result Request Fault
 bind_at ws = (number_at >> addr_at >> ends) ws >>= λ x. Ok (meaning (bind x.0 x.1.0))
@@ -254,6 +254,9 @@ connect_at ws = (number_at >> addr_at >> ends) ws >>= λ x. Ok (meaning (connect
 
 unfoldable pub accept_at : List (List ℕ) → Result Request Fault
 accept_at ws = (number_at >> open_flags_at >> ends) ws >>= λ x. Ok (meaning (accept x.0 x.1.0))
+
+unfoldable pub shut_at : List (List ℕ) → Result Request Fault
+shut_at ws = (number_at >> mode_at >> ends) ws >>= λ x. Ok (meaning (shut x.0 x.1.0))
 
 unfoldable pub sock_name_at : List (List ℕ) → Result Request Fault
 sock_name_at ws = (number_at >> ends) ws >>= λ x. Ok (meaning (sock_name x.0))
@@ -273,7 +276,7 @@ exit_at ws = ends ws >>= λ x. Ok (meaning exit)
 -- the words of calls: `off` is none
 abbrev pub all_words : List CallWord
 all_words = CallWord.Open ∷ CallWord.Read ∷ CallWord.Write ∷ CallWord.Lseek ∷ CallWord.Dup ∷ CallWord.Dup2 ∷ CallWord.Flags ∷ CallWord.Close ∷ CallWord.Unlink
-    ∷ CallWord.Socket ∷ CallWord.Pair ∷ CallWord.Bind ∷ CallWord.Listen ∷ CallWord.Connect ∷ CallWord.Accept ∷ CallWord.SockName ∷ CallWord.PeerName
+    ∷ CallWord.Socket ∷ CallWord.Pair ∷ CallWord.Bind ∷ CallWord.Listen ∷ CallWord.Connect ∷ CallWord.Accept ∷ CallWord.Shut ∷ CallWord.SockName ∷ CallWord.PeerName
     ∷ CallWord.Send ∷ CallWord.Recv ∷ CallWord.Exit ∷ []
 
 unfoldable pub word_at : List ℕ → Result CallWord Fault
@@ -295,6 +298,7 @@ args_at CallWord.Bind ws = bind_at ws
 args_at CallWord.Listen ws = listen_at ws
 args_at CallWord.Connect ws = connect_at ws
 args_at CallWord.Accept ws = accept_at ws
+args_at CallWord.Shut ws = shut_at ws
 args_at CallWord.SockName ws = sock_name_at ws
 args_at CallWord.PeerName ws = peer_name_at ws
 args_at CallWord.Send ws = send_at ws

@@ -2,7 +2,7 @@
 use Rattle.std.specs.Prelude.{◌≡◌, ◌≢◌, ℕ, ◌<◌, ◌≤◌, ◌^◌, ◌-◌, ℤ, pos, negsuc, take, Bool, true, false, List, [], ◌∷◌, ◌++◌, length, map, filter, codes, decimal, Option, Some, None, if◌then◌else◌, ◌==◌, not, slice_index_or}
 use Rattle.std.specs.List.{AllByRecursion, slice_split, join_with_byte}
 use Rattle.std.specs.Fmt.{signed_decimal}
-use Rattle.ux_model.specs.Types.{Name, Addr, OpenFlags, MsgFlags, Mode, Whence, ProcSpec, Request}
+use Rattle.ux_model.specs.Types.{Name, Addr, OpenFlags, MsgFlags, SockType, Mode, Whence, ProcSpec, Request}
 use Rattle.ux_model.specs.Flags.{has_bits}
 use Rattle.ux_model.specs.Process.{fd_of}
 pub use Rattle.ux_model.specs.History.{is_exit, is_off}
@@ -58,12 +58,13 @@ pub data Written : Type 0 where
   set_flags : (fd : ℕ) → (flags : OpenFlags) → Written
   close : (fd : ℕ) → Written
   unlink_path : (path : Name) → Written
-  socket : (flags : OpenFlags) → Written
-  pair : (flags : OpenFlags) → Written
+  socket : (kind : SockType) → (flags : OpenFlags) → Written
+  pair : (kind : SockType) → (flags : OpenFlags) → Written
   bind : (fd : ℕ) → (addr : Addr) → Written
   listen : (fd : ℕ) → (backlog : ℤ) → Written
   connect : (fd : ℕ) → (addr : Addr) → Written
   accept : (fd : ℕ) → (flags : OpenFlags) → Written
+  shut : (fd : ℕ) → (how : Mode) → Written
   sock_name : (fd : ℕ) → Written
   peer_name : (fd : ℕ) → Written
   send : (fd : ℕ) → (addr : Option Addr) → (bytes : List ℕ) → (control : ControlWord) → (flags : MsgFlags) → Written
@@ -81,12 +82,13 @@ meaning (dup_onto fd other) = Request.Dup2 (fd_of fd) (fd_of other)
 meaning (set_flags fd flags) = Request.SetFlags (fd_of fd) flags
 meaning (close fd) = Request.Close (fd_of fd)
 meaning (unlink_path path) = Request.Unlink path
-meaning (socket flags) = Request.Socket flags
-meaning (pair flags) = Request.SocketPair flags
+meaning (socket kind flags) = Request.Socket kind flags
+meaning (pair kind flags) = Request.SocketPair kind flags
 meaning (bind fd addr) = Request.Bind (fd_of fd) addr
 meaning (listen fd backlog) = Request.Listen (fd_of fd) backlog
 meaning (connect fd addr) = Request.Connect (fd_of fd) addr
 meaning (accept fd flags) = Request.Accept (fd_of fd) flags
+meaning (shut fd how) = Request.Shutdown (fd_of fd) how
 meaning (sock_name fd) = Request.GetSockName (fd_of fd)
 meaning (peer_name fd) = Request.GetPeerName (fd_of fd)
 meaning (send fd addr bytes control flags) = Request.SendMsg (fd_of fd) addr bytes (control_buffer control) flags
@@ -126,6 +128,11 @@ msg_flags f = or_dash (letter (has_bits f.0 4) 100 ++ (letter (has_bits f.0 1) 1
 abbrev pub bit : Bool → List ℕ
 bit b = if b then 49 ∷ [] else 48 ∷ []
 
+abbrev pub type_text : SockType → List ℕ
+type_text SockType.Stream = codes "stream"
+type_text SockType.Dgram = codes "dgram"
+type_text SockType.Seq = codes "seq"
+
 abbrev pub mode_text : Mode → List ℕ
 mode_text Mode.Read = codes "r"
 mode_text Mode.Write = codes "w"
@@ -152,12 +159,13 @@ args_of (dup_onto fd other) = decimal fd ∷ decimal other ∷ []
 args_of (set_flags fd flags) = decimal fd ∷ open_flags flags ∷ []
 args_of (close fd) = decimal fd ∷ []
 args_of (unlink_path path) = path_text path ∷ []
-args_of (socket flags) = codes "stream" ∷ open_flags flags ∷ []
-args_of (pair flags) = codes "stream" ∷ open_flags flags ∷ []
+args_of (socket kind flags) = type_text kind ∷ open_flags flags ∷ []
+args_of (pair kind flags) = type_text kind ∷ open_flags flags ∷ []
 args_of (bind fd addr) = decimal fd ∷ addr_text addr ∷ []
 args_of (listen fd backlog) = decimal fd ∷ signed_decimal backlog ∷ []
 args_of (connect fd addr) = decimal fd ∷ addr_text addr ∷ []
 args_of (accept fd flags) = decimal fd ∷ open_flags flags ∷ []
+args_of (shut fd how) = decimal fd ∷ mode_text how ∷ []
 args_of (sock_name fd) = decimal fd ∷ []
 args_of (peer_name fd) = decimal fd ∷ []
 args_of (send fd addr bytes control flags) = decimal fd ∷ addr_or_dash addr ∷ hex bytes ∷ control_text control ∷ msg_flags flags ∷ []
@@ -252,12 +260,13 @@ FitsCall (dup_onto fd other) = IsNumber fd × IsNumber other
 FitsCall (set_flags fd flags) = IsNumber fd × FitsOpenFlags flags
 FitsCall (close fd) = IsNumber fd
 FitsCall (unlink_path path) = AreBytes path
-FitsCall (socket flags) = FitsOpenFlags flags
-FitsCall (pair flags) = FitsOpenFlags flags
+FitsCall (socket kind flags) = FitsOpenFlags flags
+FitsCall (pair kind flags) = FitsOpenFlags flags
 FitsCall (bind fd addr) = IsNumber fd × FitsAddr addr
 FitsCall (listen fd backlog) = IsNumber fd × IsBacklog backlog
 FitsCall (connect fd addr) = IsNumber fd × FitsAddr addr
 FitsCall (accept fd flags) = IsNumber fd × FitsOpenFlags flags
+FitsCall (shut fd how) = IsNumber fd
 FitsCall (sock_name fd) = IsNumber fd
 FitsCall (peer_name fd) = IsNumber fd
 FitsCall (send fd addr bytes control flags) = IsNumber fd × FitsAddrOrDash addr × AreBytes bytes × FitsControl control × FitsMsgFlags flags

@@ -2,12 +2,12 @@
 
 ghost use Rattle.std.specs.Prelude.{◌≡◌, map};
 ghost use Rattle.ux_syntax.specs.Trace.{word_text, request_word};
-ghost use Rattle.ux_syntax.specs.Reading.{open_at, read_at, write_at, lseek_at, dup_at, dup2_at, set_flags_at, close_at, unlink_at, socket_at, pair_at, bind_at, listen_at, connect_at, accept_at, sock_name_at, peer_name_at, send_at, recv_at, exit_at, word_at, args_at};
+ghost use Rattle.ux_syntax.specs.Reading.{open_at, read_at, write_at, lseek_at, dup_at, dup2_at, set_flags_at, close_at, unlink_at, socket_at, pair_at, bind_at, listen_at, connect_at, accept_at, shut_at, sock_name_at, peer_name_at, send_at, recv_at, exit_at, word_at, args_at};
 ghost use Rattle.ux_syntax.specs.Results.{Gives};
 
 use crate::control::ControlWord;
 use crate::fault::{BAD, LineError};
-use crate::row::{end, pass, word};
+use crate::row::{end, word};
 use std::alloc::Global;
 use ux_types::{Fd, Request};
 
@@ -29,6 +29,7 @@ pub enum CallWord {
     Listen,
     Connect,
     Accept,
+    Shut,
     SockName,
     PeerName,
     Send,
@@ -38,7 +39,7 @@ pub enum CallWord {
 }
 
 /// The words that a script may have behind a process's number.
-const CALL_WORDS: [CallWord; 20] = [
+const CALL_WORDS: [CallWord; 21] = [
     CallWord::Open,
     CallWord::Read,
     CallWord::Write,
@@ -54,6 +55,7 @@ const CALL_WORDS: [CallWord; 20] = [
     CallWord::Listen,
     CallWord::Connect,
     CallWord::Accept,
+    CallWord::Shut,
     CallWord::SockName,
     CallWord::PeerName,
     CallWord::Send,
@@ -82,6 +84,7 @@ impl CallWord {
             Request::Listen { .. } => CallWord::Listen,
             Request::Connect { .. } => CallWord::Connect,
             Request::Accept { .. } => CallWord::Accept,
+            Request::Shutdown { .. } => CallWord::Shut,
             Request::GetSockName { .. } => CallWord::SockName,
             Request::GetPeerName { .. } => CallWord::PeerName,
             Request::SendMsg { .. } => CallWord::Send,
@@ -111,6 +114,7 @@ impl CallWord {
             CallWord::Listen => "listen",
             CallWord::Connect => "connect",
             CallWord::Accept => "accept",
+            CallWord::Shut => "shut",
             CallWord::SockName => "sockname",
             CallWord::PeerName => "peername",
             CallWord::Send => "send",
@@ -235,26 +239,26 @@ fn unlink_of(alloc: Global, words: &[&[u8]]) -> Result<Request, LineError>
     Ok(Request::Unlink { path })
 }
 
-/// `socket stream OFLAGS`.
+/// `socket TYPE OFLAGS`.
 #[tactic(auto, unfolding(crate::specs::Reading::socket_at))]
 fn socket_of(alloc: Global, words: &[&[u8]]) -> Result<Request, LineError>
     ensures { Gives (λ r. r) result (socket_at (map (λ w. w.now) words.now)) }
 {
-    let words = pass(b"stream", words)?;
+    let (kind, words) = word(alloc, words)?;
     let (flags, words) = word(alloc, words)?;
     end(words)?;
-    Ok(Request::Socket { flags })
+    Ok(Request::Socket { kind, flags })
 }
 
-/// `pair stream OFLAGS`.
+/// `pair TYPE OFLAGS`.
 #[tactic(auto, unfolding(crate::specs::Reading::pair_at))]
 fn pair_of(alloc: Global, words: &[&[u8]]) -> Result<Request, LineError>
     ensures { Gives (λ r. r) result (pair_at (map (λ w. w.now) words.now)) }
 {
-    let words = pass(b"stream", words)?;
+    let (kind, words) = word(alloc, words)?;
     let (flags, words) = word(alloc, words)?;
     end(words)?;
-    Ok(Request::SocketPair { flags })
+    Ok(Request::SocketPair { kind, flags })
 }
 
 /// `bind FD ADDR`.
@@ -302,6 +306,17 @@ fn accept_of(alloc: Global, words: &[&[u8]]) -> Result<Request, LineError>
     let (flags, words) = word(alloc, words)?;
     end(words)?;
     Ok(Request::Accept { fd: Fd(fd), flags })
+}
+
+/// `shut FD MODE`.
+#[tactic(auto, unfolding(crate::specs::Reading::shut_at))]
+fn shut_of(alloc: Global, words: &[&[u8]]) -> Result<Request, LineError>
+    ensures { Gives (λ r. r) result (shut_at (map (λ w. w.now) words.now)) }
+{
+    let (fd, words) = word(alloc, words)?;
+    let (how, words) = word(alloc, words)?;
+    end(words)?;
+    Ok(Request::Shutdown { fd: Fd(fd), how })
 }
 
 /// `sockname FD`.
@@ -405,6 +420,7 @@ pub(crate) fn request_of(
         CallWord::Listen => listen_of(alloc, args),
         CallWord::Connect => connect_of(alloc, args),
         CallWord::Accept => accept_of(alloc, args),
+        CallWord::Shut => shut_of(alloc, args),
         CallWord::SockName => sock_name_of(alloc, args),
         CallWord::PeerName => peer_name_of(alloc, args),
         CallWord::Send => send_of(alloc, args),

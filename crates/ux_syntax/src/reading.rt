@@ -211,8 +211,8 @@ fn read_text(alloc: Global, text: &[u8]) -> Result<Script, ScriptFault>
 /// number the file objects from 0, and `proc UID GID PRIV LIMIT` the processes from 1. Each further line
 /// is a process's number and a call of it: `open p:NAME MODE OFLAGS`, `read FD N`, `write FD HEX`,
 /// `lseek FD OFFSET WHENCE`, `dup FD`, `dup2 FD FD`, `flags FD OFLAGS`, `close FD`, `unlink p:NAME`,
-/// `socket stream OFLAGS`, `pair stream OFLAGS`, `bind FD ADDR`, `listen FD BACKLOG`, `connect FD ADDR`,
-/// `accept FD OFLAGS`, `sockname FD`, `peername FD`, `send FD ADDR HEX CONTROL MFLAGS`,
+/// `socket TYPE OFLAGS`, `pair TYPE OFLAGS`, `bind FD ADDR`, `listen FD BACKLOG`, `connect FD ADDR`,
+/// `accept FD OFLAGS`, `shut FD MODE`, `sockname FD`, `peername FD`, `send FD ADDR HEX CONTROL MFLAGS`,
 /// `recv FD N SPACE MFLAGS`, `exit`. A line `off` may come last. A send's ADDR may be `-` for none; its
 /// CONTROL is `-` for no bytes, `x:HEX` for these, or `r:N,N,..` for one item of descriptor numbers.
 pub fn parse_script(alloc: Global, text: &[u8]) -> Result<Script, ScriptFault>

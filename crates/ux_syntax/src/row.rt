@@ -2,7 +2,7 @@
 //! it too.
 
 ghost use Rattle.std.specs.Prelude.{map, Ok};
-ghost use Rattle.ux_syntax.specs.Reading.{exactly, one, ends};
+ghost use Rattle.ux_syntax.specs.Reading.{one, ends};
 ghost use Rattle.ux_syntax.specs.Results.{Gives};
 
 use crate::fault::{BAD, LineError};
@@ -27,15 +27,6 @@ pub(crate) fn word<'a, T: Word>(
 {
     let (first, rest) = next(words)?;
     Ok((T::of(alloc, first)?, rest))
-}
-
-/// Passes a word that has to be this one.
-#[tactic(auto, unfolding(crate::specs::Reading::exactly))]
-pub(crate) fn pass<'a>(text: &[u8], words: &'a [&'a [u8]]) -> Result<&'a [&'a [u8]], LineError>
-    ensures { Gives (λ x. (tt, map (λ w. w.now) x.now)) result (one (exactly text.now) (map (λ w. w.now) words.now)) }
-{
-    let (word, rest) = next(words)?;
-    if word == text { Ok(rest) } else { Err(BAD) }
 }
 
 pub(crate) fn end(words: &[&[u8]]) -> Result<(), LineError>

@@ -4,14 +4,14 @@ ghost use Rattle.std.specs.Prelude.{◌≡◌, ◌<◌, ℕ, List, Result, IfOk,
 ghost use Rattle.ux_syntax.specs.declared.fault.Fault.{Fault};
 ghost use Rattle.std.specs.List.{list_all};
 ghost use Rattle.std.specs.Char.{is_ascii_digit};
-ghost use Rattle.ux_syntax.specs.Reading.{is_plain, number_at, without_minus, offset_at, backlog_at, digit_at, pairs_at, hex_at, bit_at, mode_at, whence_at, kind_at, flag_at, open_flags_at, msg_flags_at};
+ghost use Rattle.ux_syntax.specs.Reading.{is_plain, number_at, without_minus, offset_at, backlog_at, digit_at, pairs_at, hex_at, bit_at, mode_at, type_at, whence_at, kind_at, flag_at, open_flags_at, msg_flags_at};
 ghost use Rattle.ux_syntax.specs.Results.{Gives};
 
 use crate::fault::{BAD, LineError};
 use std::alloc::Global;
 use std::str;
 use ux_object::ObjKind;
-use ux_types::{Bytes, Mode, MsgFlags, OpenFlags, Whence};
+use ux_types::{Bytes, Mode, MsgFlags, OpenFlags, SockType, Whence};
 
 /// A value that one word spells.
 pub(crate) trait Word: Sized {
@@ -165,6 +165,24 @@ impl Word for Mode {
             Ok(Mode::Write)
         } else if word == b"rw".as_slice() {
             Ok(Mode::Both)
+        } else {
+            Err(BAD)
+        }
+    }
+}
+
+/// The type of a socket.
+impl Word for SockType {
+    ghost at = { type_at };
+
+    #[tactic(auto, unfolding(crate::specs::Reading::type_at))]
+    fn of(_alloc: Global, word: &[u8]) -> Result<SockType, LineError> {
+        if word == b"stream".as_slice() {
+            Ok(SockType::Stream)
+        } else if word == b"dgram".as_slice() {
+            Ok(SockType::Dgram)
+        } else if word == b"seq".as_slice() {
+            Ok(SockType::Seq)
         } else {
             Err(BAD)
         }

@@ -1,5 +1,5 @@
 //! Kernels that can be booted, and those that can't.
-use super::{bare, counters, fds, named, pair, process, refused, says};
+use super::{Asked, Row, Told, bare, counters, make_machine, named, process, says_rows};
 use hoard::Hoard;
 use std::alloc::{AllocError, Global};
 use std::process::Abort;
@@ -14,6 +14,13 @@ fn one_closed(alloc: Global) -> Result<Vec<(Name, Counter)>, AllocError> {
     let mut closed = Counter::new();
     closed.close();
     objects.push((named(alloc, b"b")?, closed))?;
+    Ok(objects)
+}
+
+/// The same, and another under the path of the first.
+fn closed_and_twice(alloc: Global) -> Result<Vec<(Name, Counter)>, AllocError> {
+    let mut objects = one_closed(alloc)?;
+    objects.push((named(alloc, b"a")?, Counter::new()))?;
     Ok(objects)
 }
 
@@ -101,7 +108,7 @@ fn a_path_that_cannot_be_stops_a_boot(rt: HostRuntime) -> Result<(), AllocError>
     faults_at(&rt, alloc, &[b"a", b"b\0"], &one, BootFault::BadPath)?;
     faults_at(&rt, alloc, &[&long], &one, BootFault::BadPath)?;
     let longest = counters(alloc, &[&long[1..]])?;
-    assert!(rt; Kernel::boot(alloc, longest, &one).is_ok());
+    assert!(rt; make_machine(alloc, longest, &one).is_ok());
     Ok(())
 }
 
@@ -132,11 +139,8 @@ fn of_two_faults_one_is_told(rt: HostRuntime) -> Result<(), AllocError> {
     faults_at(&rt, alloc, &crowd, &many, BootFault::TooManyObjects)?;
     faults_at(&rt, alloc, &[b""], &many, BootFault::TooManyProcesses)?;
     faults_at(&rt, alloc, &[b"", b""], &one, BootFault::BadPath)?;
-    let mut twice = one_closed(alloc)?;
-    twice.push((named(alloc, b"a")?, Counter::new()))?;
-    let mut same = one_closed(alloc)?;
-    same.push((named(alloc, b"a")?, Counter::new()))?;
-    faults(&rt, alloc, (twice, same), &one, BootFault::NameTwice);
+    let objects = (closed_and_twice(alloc)?, closed_and_twice(alloc)?);
+    faults(&rt, alloc, objects, &one, BootFault::NameTwice);
     Ok(())
 }
 
@@ -154,15 +158,18 @@ fn boot_faults_have_their_numbers(rt: HostRuntime) {
     }
 }
 
+/// A pair of each of three processes, with the limits 0, 1 and 2.
+const LIMITS: &[Row] = &[
+    (1, Asked::Pair, Told::Err(Errno::EMFILE)),
+    (2, Asked::Pair, Told::Err(Errno::EMFILE)),
+    (3, Asked::Pair, Told::Fds(0, 1)),
+];
+
 #[test]
 fn a_limit_of_0_counts_as_1(rt: HostRuntime) -> Result<(), AllocError> {
     let alloc = rt.alloc();
     let mut machine = bare(alloc, &[process(0), process(1), process(2)])?;
-    let k = &mut machine;
-    says(&rt, k, 1, pair(), refused(Errno::EMFILE));
-    says(&rt, k, 2, pair(), refused(Errno::EMFILE));
-    says(&rt, k, 3, pair(), fds(0, 1));
-    Ok(())
+    says_rows(&rt, alloc, &mut machine, LIMITS)
 }
 
 #[test]
@@ -172,7 +179,7 @@ fn a_kernel_has_64_processes_at_most(rt: HostRuntime) -> Result<(), AllocError> 
     let mut machine = bare(alloc, &specs[..64])?;
     let k = &mut machine;
     for pid in 1..65 {
-        says(&rt, k, pid, pair(), fds(0, 1));
+        says_rows(&rt, alloc, k, &[(pid, Asked::Pair, Told::Fds(0, 1))])?;
     }
     assert!(rt; !k.kernel.is_live(Pid(0)));
     assert!(rt; !k.kernel.is_live(Pid(65)));

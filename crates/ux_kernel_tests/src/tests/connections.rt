@@ -1,12 +1,11 @@
 //! Connections: how many ends wait, and what a refused allocation leaves. What is answered to whom stands in
 //! the scripts of `examples/`.
 use super::{
-    Asked, At, Machine, Row, Told, answers, bare, named, process, says_at_last, says_rows,
-    says_without_memory, socket,
+    Asked, At, Machine, Row, Told, bare, process, says_at_last, says_rows, says_without_memory,
 };
 use std::alloc::{AllocError, Global};
 use std::process::Abort;
-use ux_types::{Addr, Errno, Fd, Reply, Request};
+use ux_types::Errno;
 
 /// A listener whose backlog is as long as it can be.
 const LONGEST: &[Row] = &[
@@ -34,13 +33,11 @@ fn connects(
     machine: &mut Machine,
     fd: u32,
 ) -> Result<(), AllocError> {
-    let connect = Request::Connect {
-        fd: Fd(fd),
-        addr: Addr::Abstract(named(alloc, b"l")?),
-    };
-    answers(rt, machine, socket(), Reply::Fd(Fd(fd)));
-    answers(rt, machine, connect, Reply::Ok);
-    Ok(())
+    let rows = [
+        (1, Asked::Socket, Told::Fd(fd)),
+        (1, Asked::Connect(fd, At::Abstract(b"l")), Told::Ok),
+    ];
+    says_rows(rt, alloc, machine, &rows)
 }
 
 #[test]

@@ -1,14 +1,12 @@
 //! How file objects go.
-use super::{Asked, Machine, Row, Told, ask, says_rows, turns_off, unlink, with_counters};
+use super::{Asked, Machine, Row, Told, makes, says_rows, turns_off, with_counters};
 use std::alloc::AllocError;
 use ux_object::FileObject;
-use ux_types::{Errno, Request};
+use ux_types::Errno;
 
-/// Makes a call of process 1, and sees which one file object is handed out, closed.
-fn lets_go(machine: &mut Machine, request: Request, number: u32) -> bool {
-    let answered = ask(machine, 1, &request).is_some();
-    answered
-        && machine.retired.len() == 1
+/// Whether this one file object was handed out, closed.
+fn is_gone(machine: &Machine, number: u32) -> bool {
+    machine.retired.len() == 1
         && machine
             .retired
             .as_slice()
@@ -34,7 +32,8 @@ fn an_object_without_a_path_is_handed_out(rt: HostRuntime) -> Result<(), AllocEr
     let mut machine = with_counters(alloc, &[b"a", b"b"])?;
     let k = &mut machine;
     says_rows(&rt, alloc, k, NO_PATHS)?;
-    assert!(rt; lets_go(k, unlink(alloc, b"b")?, 1));
+    assert!(rt; makes(alloc, k, 1, &Asked::Unlink(b"b"))?);
+    assert!(rt; is_gone(k, 1));
     says_rows(&rt, alloc, k, GONE)?;
     assert!(rt; turns_off(k));
     assert!(rt; k.retired.len() == 1);

@@ -1,6 +1,6 @@
 //! Rights that messages pass: what is refused memory, and what is handed out.
 use super::{
-    Asked, Machine, Row, Told, ask, bare, process, request_of, says_alone, says_at_last, says_rows,
+    Asked, Machine, Row, Told, bare, makes, process, says_alone, says_at_last, says_rows,
     says_without_memory, turns_off, with_counters,
 };
 use std::alloc::{AllocError, Global};
@@ -77,8 +77,7 @@ fn count_gone(
 ) -> Result<usize, AllocError> {
     let mut gone: usize = 0;
     for (pid, asked, _) in rows {
-        let answer = ask(machine, *pid, &request_of(alloc, asked)?);
-        assert!(rt; answer.is_some());
+        assert!(rt; makes(alloc, machine, *pid, asked)?);
         gone = gone.saturating_add(machine.retired.len());
     }
     Ok(gone)

@@ -1,6 +1,6 @@
 //! What no script shows of names and connections: the flags of an accepted end, and sockets of another type. The
 //! rest of them stands in the scripts of `examples/`, and in the kernel's tests.
-use super::{name, process, start_with, user};
+use super::{Held, name, process, start_with, user};
 use std::alloc::Global;
 use std::process::Abort;
 use std::test::Fail;
@@ -13,14 +13,14 @@ use ux_state::State;
 use ux_types::{Addr, DescriptionId, Errno, Fd, Name, OpenFlags, Pid, SockType};
 
 /// The first state with one process, which may have so many descriptors.
-fn start_alone(rt: &impl Abort, alloc: Global, limit: u32) -> Result<State<Counter>, Fail> {
+fn start_alone(rt: &impl Abort, alloc: Global, limit: u32) -> Result<Held<Counter>, Fail> {
     start_with(rt, alloc, Counter::new(), Counter::new(), &[process(limit)])
 }
 
 /// Makes a socket of process 1, which gets this number.
 fn open_socket<O: FileObject>(rt: &impl Abort, state: &mut State<O>, fd: u32) {
     assert!(rt; state.is_live(Pid(1)));
-    let opened = state.open_socket(Pid(1), OpenFlags(0));
+    let opened = state.open_socket(Pid(1), SockType::Stream, OpenFlags(0));
     assert!(rt; opened == Ok(Fd(fd)));
 }
 
@@ -141,8 +141,8 @@ fn expect_named<O: FileObject>(
 #[test]
 fn an_accepted_end_has_the_flags_of_the_call(rt: HostRuntime) -> Result<(), Fail> {
     let alloc = rt.alloc();
-    let mut state = start_alone(&rt, alloc, 8)?;
-    let s = &mut state;
+    let mut held = start_alone(&rt, alloc, 8)?;
+    let s = &mut held.state;
     for fd in 0..3 {
         open_socket(&rt, s, fd);
     }
@@ -162,8 +162,8 @@ fn an_accepted_end_has_the_flags_of_the_call(rt: HostRuntime) -> Result<(), Fail
 #[test]
 fn a_name_leads_to_sockets_of_one_type(rt: HostRuntime) -> Result<(), Fail> {
     let alloc = rt.alloc();
-    let mut state = start_alone(&rt, alloc, 8)?;
-    let s = &mut state;
+    let mut held = start_alone(&rt, alloc, 8)?;
+    let s = &mut held.state;
     open_socket(&rt, s, 0);
     bind_path(&rt, s, 0, &name(alloc, b"p")?, Ok(()));
     let addr = Addr::Path(name(alloc, b"p")?);

@@ -2,6 +2,7 @@
 use super::{
     append, close, end, name, open, open_pair, process, settle, start, start_with, start_with_files,
 };
+use std::alloc::{AllocError, Global};
 use std::process::Abort;
 use std::test::Fail;
 use ux_fdtable::{Descriptor, DupError, InstallError};
@@ -92,34 +93,46 @@ fn read<O: FileObject>(rt: &impl Abort, state: &mut State<O>, object: u32, at: u
     assert!(rt; &buf[..bytes.len()] == bytes);
 }
 
+/// Sees what a path leads to.
+fn expect_path<O: FileObject>(
+    rt: &impl Abort,
+    alloc: Global,
+    state: &State<O>,
+    path: &[u8],
+    answer: Option<PathTarget>,
+) -> Result<(), AllocError> {
+    let path = name(alloc, path)?;
+    assert!(rt; state.path(&path) == answer);
+    Ok(())
+}
+
 #[test]
 fn a_state_starts_as_it_is_wanted(rt: HostRuntime) -> Result<(), Fail> {
     let alloc = rt.alloc();
-    let mut state = start_with_files(&rt, alloc)?;
-    assert!(rt; state.process_count() == 2);
-    assert!(rt; state.has_live());
+    let mut held = start_with_files(&rt, alloc)?;
+    let s = &mut held.state;
+    assert!(rt; s.process_count() == 2);
+    assert!(rt; s.has_live());
     for (pid, live) in [(0, false), (1, true), (2, true), (3, false)] {
-        assert!(rt; state.is_live(Pid(pid)) == live, "{pid}");
+        assert!(rt; s.is_live(Pid(pid)) == live, "{pid}");
     }
-    let a = name(alloc, b"a")?;
-    let b = name(alloc, b"b")?;
-    assert!(rt; state.path(&a) == Some(PathTarget::File(0)));
-    assert!(rt; state.path(&b) == Some(PathTarget::File(1)));
-    state.unlink(&a);
-    assert!(rt; state.path(&a).is_none());
-    assert!(rt; state.path(&b) == Some(PathTarget::File(1)));
-    match state.object(1) {
+    expect_path(&rt, alloc, s, b"a", Some(PathTarget::File(0)))?;
+    expect_path(&rt, alloc, s, b"b", Some(PathTarget::File(1)))?;
+    s.unlink(&name(alloc, b"a")?);
+    expect_path(&rt, alloc, s, b"a", None)?;
+    expect_path(&rt, alloc, s, b"b", Some(PathTarget::File(1)))?;
+    match s.object(1) {
         Some(object) => assert!(rt; object.size() == 2),
         None => assert!(rt; false),
     }
-    assert!(rt; state.object(2).is_none());
+    assert!(rt; s.object(2).is_none());
     Ok(())
 }
 
 #[test]
 fn a_file_is_opened_twice(rt: HostRuntime) -> Result<(), Fail> {
-    let mut state = start_with_files(&rt, rt.alloc())?;
-    let s = &mut state;
+    let mut held = start_with_files(&rt, rt.alloc())?;
+    let s = &mut held.state;
     expect_openings(&rt, s, 0, false, false);
     open(&rt, s, 1, 0, Mode::Read, Ok(Fd(0)));
     expect_openings(&rt, s, 0, true, false);
@@ -139,14 +152,15 @@ fn a_file_is_opened_twice(rt: HostRuntime) -> Result<(), Fail> {
 
 #[test]
 fn a_description_is_changed(rt: HostRuntime) -> Result<(), Fail> {
-    let mut state = start_with_files(&rt, rt.alloc())?;
-    open(&rt, &mut state, 1, 1, Mode::Write, Ok(Fd(0)));
+    let mut held = start_with_files(&rt, rt.alloc())?;
+    let s = &mut held.state;
+    open(&rt, s, 1, 1, Mode::Write, Ok(Fd(0)));
     let id = DescriptionId::new(0);
-    state.set_offset(id, 7);
-    state.set_flags(id, OpenFlags(2));
-    state.set_offset(DescriptionId::new(1), 8);
-    state.set_flags(DescriptionId::new(u128::MAX), OpenFlags(1));
-    match state.description(id) {
+    s.set_offset(id, 7);
+    s.set_flags(id, OpenFlags(2));
+    s.set_offset(DescriptionId::new(1), 8);
+    s.set_flags(DescriptionId::new(u128::MAX), OpenFlags(1));
+    match s.description(id) {
         Some(description) => {
             assert!(rt; description.object() == Some(1));
             assert!(rt; description.mode() == Mode::Write);
@@ -156,14 +170,14 @@ fn a_description_is_changed(rt: HostRuntime) -> Result<(), Fail> {
         }
         None => assert!(rt; false),
     }
-    assert!(rt; state.description(DescriptionId::new(1)).is_none());
+    assert!(rt; s.description(DescriptionId::new(1)).is_none());
     Ok(())
 }
 
 #[test]
 fn entries_are_put_and_taken(rt: HostRuntime) -> Result<(), Fail> {
-    let mut state = start_with_files(&rt, rt.alloc())?;
-    let s = &mut state;
+    let mut held = start_with_files(&rt, rt.alloc())?;
+    let s = &mut held.state;
     open(&rt, s, 1, 0, Mode::Both, Ok(Fd(0)));
     open(&rt, s, 1, 1, Mode::Both, Ok(Fd(1)));
     put_lowest(&rt, s, descriptor(1, true), 2);
@@ -188,8 +202,8 @@ fn entries_are_put_and_taken(rt: HostRuntime) -> Result<(), Fail> {
 #[test]
 fn a_file_goes_with_its_last_descriptor(rt: HostRuntime) -> Result<(), Fail> {
     let alloc = rt.alloc();
-    let mut state = start(&rt, alloc, Counter::new(), Counter::new())?;
-    let s = &mut state;
+    let mut held = start(&rt, alloc, Counter::new(), Counter::new())?;
+    let s = &mut held.state;
     open(&rt, s, 1, 1, Mode::Read, Ok(Fd(0)));
     open(&rt, s, 2, 1, Mode::Write, Ok(Fd(0)));
     settle(&rt, s, &[]);
@@ -208,8 +222,8 @@ fn a_file_goes_with_its_last_descriptor(rt: HostRuntime) -> Result<(), Fail> {
 #[test]
 fn a_file_goes_with_its_last_path(rt: HostRuntime) -> Result<(), Fail> {
     let alloc = rt.alloc();
-    let mut state = start(&rt, alloc, Counter::new(), Counter::new())?;
-    let s = &mut state;
+    let mut held = start(&rt, alloc, Counter::new(), Counter::new())?;
+    let s = &mut held.state;
     open(&rt, s, 1, 0, Mode::Both, Ok(Fd(0)));
     close(&rt, s, 1, 0);
     settle(&rt, s, &[]);
@@ -224,8 +238,8 @@ fn all_goes_at_the_end(rt: HostRuntime) -> Result<(), Fail> {
     let alloc = rt.alloc();
     let a = Pipe::new(alloc)?;
     let b = Pipe::new(alloc)?;
-    let mut state = start(&rt, alloc, a, b)?;
-    let s = &mut state;
+    let mut held = start(&rt, alloc, a, b)?;
+    let s = &mut held.state;
     open(&rt, s, 1, 0, Mode::Both, Ok(Fd(0)));
     open_pair(&rt, s, 1, 2);
     append(&rt, alloc, s, 1, b"abc");
@@ -237,7 +251,7 @@ fn all_goes_at_the_end(rt: HostRuntime) -> Result<(), Fail> {
     settle(&rt, s, &[0, 1]);
     settle(&rt, s, &[]);
     assert!(rt; s.process_count() == 2);
-    assert!(rt; s.path(&name(alloc, b"a")?).is_none());
+    expect_path(&rt, alloc, s, b"a", None)?;
     Ok(())
 }
 
@@ -245,8 +259,8 @@ fn all_goes_at_the_end(rt: HostRuntime) -> Result<(), Fail> {
 fn a_process_of_64_opens_1024_descriptors_and_exits(rt: HostRuntime) -> Result<(), Fail> {
     let alloc = rt.alloc();
     let procs = vec![in alloc; process(1024); 64]?;
-    let mut state = start_with(&rt, alloc, Counter::new(), Counter::new(), &procs)?;
-    let s = &mut state;
+    let mut held = start_with(&rt, alloc, Counter::new(), Counter::new(), &procs)?;
+    let s = &mut held.state;
     for fd in 0..1024 {
         open(&rt, s, 64, 0, Mode::Read, Ok(Fd(fd)));
     }

@@ -11,7 +11,7 @@ use ux_object::FileObject;
 use ux_objects::Counter;
 use ux_rights::RefList;
 use ux_state::{RetiredList, State};
-use ux_types::{DescriptionId, Errno, Fd, Mode, OpenFlags, Pid};
+use ux_types::{DescriptionId, Errno, Fd, Mode, OpenFlags, Pid, SockType};
 
 /// Sends a reference to a description to a socket.
 fn pass<O: FileObject>(
@@ -26,7 +26,7 @@ fn pass<O: FileObject>(
     assert!(rt; state.socket(id).is_some());
     assert!(rt; state.count(passed) > 0);
     let rights = RefList::from_slice(alloc, &[passed])?;
-    let sent = state.send_stream(id, b"x", 1, rights, user(), 1000);
+    let sent = state.send(id, b"x", 1, rights, user(), 1000, None);
     assert!(rt; sent == Ok(1));
     Ok(())
 }
@@ -46,7 +46,7 @@ fn take<O: FileObject>(
     };
     let shown = socket.peek(bytes.len(), false)?;
     assert!(rt; shown.bytes.as_slice() == bytes);
-    state.skip_front(id, bytes.len(), false);
+    state.skip_front(id, bytes.len());
     Ok(())
 }
 
@@ -88,8 +88,8 @@ fn refuse_delivery<O: FileObject>(
 #[test]
 fn delivered_rights_are_counted(rt: HostRuntime) -> Result<(), Fail> {
     let alloc = rt.alloc();
-    let mut state = start_with_files(&rt, alloc)?;
-    let s = &mut state;
+    let mut held = start_with_files(&rt, alloc)?;
+    let s = &mut held.state;
     open(&rt, s, 1, 0, Mode::Both, Ok(Fd(0)));
     open_pair(&rt, s, 1, 2);
     close(&rt, s, 1, 1);
@@ -111,8 +111,8 @@ fn delivered_rights_are_counted(rt: HostRuntime) -> Result<(), Fail> {
 #[test]
 fn a_pair_has_messages_and_a_reset(rt: HostRuntime) -> Result<(), Fail> {
     let alloc = rt.alloc();
-    let mut state = start_with_files(&rt, alloc)?;
-    let s = &mut state;
+    let mut held = start_with_files(&rt, alloc)?;
+    let s = &mut held.state;
     open(&rt, s, 1, 0, Mode::Both, Ok(Fd(0)));
     open_pair(&rt, s, 1, 2);
     expect_socket(&rt, s, 0, Err(Errno::ENOTSOCK));
@@ -135,14 +135,17 @@ fn a_pair_has_messages_and_a_reset(rt: HostRuntime) -> Result<(), Fail> {
 
 /// Makes two connected sockets of process 1, if there is memory.
 fn opens_pair<O: FileObject>(state: &mut State<O>) -> bool {
-    state.is_live(Pid(1)) && state.open_pair(Pid(1), OpenFlags(0), user()).is_ok()
+    state.is_live(Pid(1))
+        && state
+            .open_pair(Pid(1), SockType::Stream, OpenFlags(0), user())
+            .is_ok()
 }
 
 #[test]
 fn pairs_with_unread_bytes_leave_no_slot_taken(rt: HostRuntime) -> Result<(), Fail> {
     let alloc = rt.alloc();
-    let mut state = start_with_files(&rt, alloc)?;
-    let s = &mut state;
+    let mut held = start_with_files(&rt, alloc)?;
+    let s = &mut held.state;
     for pair in 0..10_000u32 {
         open_pair(&rt, s, 0, 1);
         append(&rt, alloc, s, 2 * pair as u128 + 1, b"x");
@@ -161,8 +164,8 @@ fn pairs_with_unread_bytes_leave_no_slot_taken(rt: HostRuntime) -> Result<(), Fa
 #[test]
 fn a_chain_of_passed_sockets_goes_at_once(rt: HostRuntime) -> Result<(), Fail> {
     let alloc = rt.alloc();
-    let mut state = start_with_files(&rt, alloc)?;
-    let s = &mut state;
+    let mut held = start_with_files(&rt, alloc)?;
+    let s = &mut held.state;
     open_pair(&rt, s, 0, 1);
     close(&rt, s, 1, 1);
     // The last socket is open at the one of the numbers 0 and 1, the next at the other.
@@ -186,23 +189,33 @@ fn a_chain_of_passed_sockets_goes_at_once(rt: HostRuntime) -> Result<(), Fail> {
     Ok(())
 }
 
+/// Ends a call and opens a pair where there is no memory left: how many file objects come out, and whether
+/// there is a pair.
+fn settle_without_memory<O: FileObject>(
+    alloc: Global,
+    state: &mut State<O>,
+) -> Result<(usize, bool), AllocError> {
+    let mut retired = RetiredList::new(alloc)?;
+    let hoard = Hoard::take_all(alloc)?;
+    state.settle(&mut retired);
+    let opened = opens_pair(state);
+    drop(hoard);
+    Ok((retired.len(), opened))
+}
+
 #[test]
 fn a_state_settles_under_refused_memory(rt: HostRuntime) -> Result<(), Fail> {
     let alloc = rt.alloc();
-    let mut state = start(&rt, alloc, Counter::new(), Counter::new())?;
-    let s = &mut state;
+    let mut held = start(&rt, alloc, Counter::new(), Counter::new())?;
+    let s = &mut held.state;
     open(&rt, s, 1, 0, Mode::Both, Ok(Fd(0)));
     open_pair(&rt, s, 1, 2);
     append(&rt, alloc, s, 2, b"abc");
     s.unlink(&name(alloc, b"a")?);
     close(&rt, s, 1, 0);
     close(&rt, s, 1, 2);
-    let mut retired = RetiredList::new(alloc)?;
-    let hoard = Hoard::take_all(alloc)?;
-    s.settle(&mut retired);
-    let opened = opens_pair(s);
-    drop(hoard);
-    assert!(rt; retired.len() == 1);
+    let (gone, opened) = settle_without_memory(alloc, s)?;
+    assert!(rt; gone == 1);
     assert!(rt; s.object(0).is_none());
     assert!(rt; s.socket(DescriptionId::new(2)).is_none());
     expect_queue(&rt, s, 1, b"", true)?;

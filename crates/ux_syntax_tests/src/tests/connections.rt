@@ -3,17 +3,52 @@ use super::{addr_of, expect_bad_call, expect_request};
 use std::alloc::Global;
 use std::process::Abort;
 use std::test::*;
-use ux_types::{Fd, OpenFlags, Request};
+use ux_types::{Fd, Mode, OpenFlags, Request, SockType};
 
 #[test]
 fn calls_of_connections_are_read(rt: HostRuntime) -> Result<(), Fail> {
     let alloc = rt.alloc();
     let fd = Fd(3);
     let flags = OpenFlags(6);
-    expect_request(&rt, alloc, "socket stream nx", &Request::Socket { flags })?;
     expect_request(&rt, alloc, "accept 3 nx", &Request::Accept { fd, flags })?;
     expect_request(&rt, alloc, "sockname 3", &Request::GetSockName { fd })?;
     expect_request(&rt, alloc, "peername 3", &Request::GetPeerName { fd })
+}
+
+/// Each type of socket as it is written.
+const TYPES: &[(&str, SockType)] = &[
+    ("stream", SockType::Stream),
+    ("dgram", SockType::Dgram),
+    ("seq", SockType::Seq),
+];
+
+#[test]
+fn types_of_sockets_are_read(rt: HostRuntime) -> Result<(), Fail> {
+    let alloc = rt.alloc();
+    let flags = OpenFlags(6);
+    for (text, kind) in TYPES {
+        let kind = *kind;
+        let call = format!(in alloc; "socket {text} nx")?;
+        expect_request(&rt, alloc, &call, &Request::Socket { kind, flags })?;
+        let call = format!(in alloc; "pair {text} nx")?;
+        expect_request(&rt, alloc, &call, &Request::SocketPair { kind, flags })?;
+    }
+    Ok(())
+}
+
+/// Each way in which a socket is shut down, as it is written.
+const WAYS: &[(&str, Mode)] = &[("r", Mode::Read), ("w", Mode::Write), ("rw", Mode::Both)];
+
+#[test]
+fn shutdowns_are_read(rt: HostRuntime) -> Result<(), Fail> {
+    let alloc = rt.alloc();
+    let fd = Fd(3);
+    for (text, how) in WAYS {
+        let how = *how;
+        let call = format!(in alloc; "shut 3 {text}")?;
+        expect_request(&rt, alloc, &call, &Request::Shutdown { fd, how })?;
+    }
+    Ok(())
 }
 
 /// Sees that an address is read, as a socket's own and as one to connect to.
@@ -131,7 +166,13 @@ const BAD_CALLS: &[&str] = &[
     "socket stream",
     "socket stream xa",
     "socket stream - -",
-    "socket dgram -",
+    "socket raw -",
+    "socket seqpacket -",
+    "shut 3",
+    "shut 3 wr",
+    "shut 3 -",
+    "shut r 3",
+    "shut 3 r w",
     "socket Stream -",
     "bind",
     "bind 3",

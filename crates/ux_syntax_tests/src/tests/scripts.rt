@@ -5,7 +5,7 @@ use std::process::Abort;
 use std::test::*;
 use ux_object::ObjKind;
 use ux_syntax::{Script, parse_script};
-use ux_types::{Fd, MsgFlags, OpenFlags, Pid, ProcSpec, Request};
+use ux_types::{Fd, MsgFlags, OpenFlags, Pid, ProcSpec, Request, SockType};
 
 /// Sees whose a script's call is, and what it asks for.
 fn expect_call(rt: &impl Abort, script: &Script, index: usize, pid: u32, request: &Request) {
@@ -45,6 +45,7 @@ fn a_script_is_read(rt: HostRuntime) -> Result<(), Fail> {
     ];
     expect_processes(&rt, &script, &procs, 5);
     let pair = Request::SocketPair {
+        kind: SockType::Stream,
         flags: OpenFlags(7),
     };
     expect_call(&rt, &script, 0, 1, &pair);

@@ -5,7 +5,8 @@ use std::process::Abort;
 use std::test::*;
 use ux_syntax::entry_text;
 use ux_types::{
-    Addr, Entry, Errno, Fd, Mode, MsgFlags, OpenFlags, Pid, Released, Reply, Request, Whence,
+    Addr, Entry, Errno, Fd, Mode, MsgFlags, OpenFlags, Pid, Released, Reply, Request, SockType,
+    Whence,
 };
 
 /// Sees an entry's line, in which no file object was closed.
@@ -64,6 +65,7 @@ const RECEIVE: Request = Request::RecvMsg {
 fn entries_are_printed(rt: HostRuntime) -> Result<(), Fail> {
     let alloc = rt.alloc();
     let pair = Request::SocketPair {
+        kind: SockType::Stream,
         flags: OpenFlags(0),
     };
     let fds = Reply::Fds(Fd(0), Fd(1));
@@ -279,11 +281,15 @@ fn entries_of_connections_are_printed(rt: HostRuntime) -> Result<(), Fail> {
     let alloc = rt.alloc();
     let fd = Fd(3);
     let flags = OpenFlags(0);
-    let socket = Request::Socket { flags };
+    let kind = SockType::Seq;
+    let socket = Request::Socket { kind, flags };
     expect_fifth(&rt, alloc, socket, Reply::Fd(fd), "5 1 7 socket = fd 3\n")?;
     let addr = Addr::Unnamed;
     let bind = Request::Bind { fd, addr };
     expect_fifth(&rt, alloc, bind, Reply::Ok, "5 1 7 bind = ok\n")?;
+    let how = Mode::Both;
+    let shut = Request::Shutdown { fd, how };
+    expect_fifth(&rt, alloc, shut, Reply::Ok, "5 1 7 shut = ok\n")?;
     let listen = Request::Listen { fd, backlog: -1 };
     expect_fifth(&rt, alloc, listen, Reply::Ok, "5 1 7 listen = ok\n")?;
     let addr = Addr::Path(name_of(alloc, b"s")?);

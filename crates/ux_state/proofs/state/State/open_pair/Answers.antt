@@ -1,18 +1,15 @@
 use Rattle.std.proofs.Common.{◌-◌, ◌≡◌, ◌+◌, [], ◌∷◌, ◌++◌, length, Some, ap, sym, ◌∙◌, arith}
-use Rattle.ux_model.specs.Types.{SockType}
 use Rattle.ux_model.specs.Places.{filled}
 use Rattle.ux_model.specs.Socket.{pair_end}
-use Rattle.ux_model.specs.Description.{Description}
 use Rattle.ux_model.specs.Process.{Descriptor, descriptor, two_lowest_free}
 use Rattle.ux_model.specs.State.{is_live}
 use Rattle.ux_model.specs.References.{table_refs}
 use Rattle.ux_model.specs.Pairing.{socket_description}
-use Rattle.ux_model.specs.Peers.{target_peer}
 use Rattle.ux_slots.specs.Held.{count_at}
 use Rattle.ux_state.specs.contracts.process.Process as process
 use Rattle.ux_state.proofs.Lookups.{at_view}
 use Rattle.ux_state.proofs.TableCounts.{table_kept}
-use Rattle.ux_state.proofs.Opening.{pair_opened, end_holds, socket_counted, adds_from, entries_put, table_is, new_two, entry_is}
+use Rattle.ux_state.proofs.Opening.{pair_opened, pair_paired, end_holds, any_socket_counted, adds_from, entries_put, table_is, new_two, entry_is}
 use Rattle.ux_state.proofs.state.State.open_pair.Goals as goal
 
 pub invariant_of-self-in_default : goal.invariant_of-self-in_default
@@ -35,10 +32,11 @@ invariant_of-self-2 g c =
     (ap (λ t. record (process.the_view c.process.inside) { table = t }) c.in-Ok.ensures.opened) c.in-Ok.ensures.lowest
     (ap (λ e. Descriptor.description e) c.new_entry.ensures ∙ first) (ap (λ e. Descriptor.description e) c.new_entry-2.ensures ∙ second)
     (adds_from _ c.reserve.new.self _ _ c.reserve.ensures.places c.reserve.ensures.counts c.insert_reserved-first.ensures.added) c.insert_reserved-second.ensures.added
-    (ap (λ D. target_peer (Description.target D)) c.pair_end.ensures ∙ ap (λ n. Some n) second)
-    (ap (λ D. target_peer (Description.target D)) c.pair_end-2.ensures ∙ ap (λ n. Some n) first)
-    (end_holds _ _ _ c.pair_end.result c.pair_end.ensures) (end_holds _ _ _ c.pair_end-2.result c.pair_end-2.ensures)
-    (socket_counted _ c.args.flags c.args.cred _ _ c.pair_end.ensures) (socket_counted _ c.args.flags c.args.cred _ _ c.pair_end-2.ensures)
+    (pair_paired c.args.kind c.self.inside.slots.places c.args.flags c.args.cred c.pair_end.result c.pair_end-2.result
+    (c.pair_end.ensures ∙ ap (λ n. socket_description c.args.flags (pair_end c.args.kind n c.args.cred)) second)
+    (c.pair_end-2.ensures ∙ ap (λ n. socket_description c.args.flags (pair_end c.args.kind n c.args.cred)) first) c.self.invariant.paired)
+    (end_holds _ _ _ _ c.pair_end.result c.pair_end.ensures) (end_holds _ _ _ _ c.pair_end-2.result c.pair_end-2.ensures)
+    (any_socket_counted _ c.args.flags _ _ c.pair_end.ensures) (any_socket_counted _ c.args.flags _ _ c.pair_end-2.ensures)
 
 pub returns-clause-lowest : goal.returns-clause-lowest
 returns-clause-lowest g c =
@@ -49,13 +47,13 @@ pub returns-clause-opened : goal.returns-clause-opened
 returns-clause-opened g c =
     let first : c.next_id-first.result ≡ length c.self.inside.slots.places = c.next_id-first.ensures ∙ ap length c.reserve.ensures.places in
     let second : c.new-second.result ≡ c.next_id-first.result + 1 = c.new-second.ensures ∙ ap (λ n. n + 1) c.number.ensures in
-    let ahead = c.pair_end.ensures ∙ (λ j. socket_description c.args.flags (pair_end SockType.Stream ((second ∙ ap (λ n. n + 1) first) j) c.args.cred)) in
-    let back = c.pair_end-2.ensures ∙ (λ j. socket_description c.args.flags (pair_end SockType.Stream (first j) c.args.cred)) in
+    let ahead = c.pair_end.ensures ∙ (λ j. socket_description c.args.flags (pair_end c.args.kind ((second ∙ ap (λ n. n + 1) first) j) c.args.cred)) in
+    let back = c.pair_end-2.ensures ∙ (λ j. socket_description c.args.flags (pair_end c.args.kind (first j) c.args.cred)) in
     let added = c.insert_reserved-second.ensures.added.places
     ∙ (λ j. (c.insert_reserved-first.ensures.added.places ∙ (λ i. c.reserve.ensures.places i ++ Some (ahead i) ∷ [])) j ++ Some (back j) ∷ []) in
     let table = table_is _ c.args.self.now c.args.pid.0 c.index_mut-process.result.now (process.the_view c.process.inside) c.requires c.self.view_is c.index_mut-process.ensures.value c.process.view_is in
     let low = entry_is _ c.args.self.now c.args.flags c.next_id-first.result (λ n. n) c.new_entry.result c.self.view_is first c.new_entry.ensures in
     let high = entry_is _ c.args.self.now c.args.flags c.next_id-first.result (λ n. n + 1) c.new_entry-2.result c.self.view_is first (c.new_entry-2.ensures ∙ ap (descriptor c.args.flags) second) in
     entries_put _ c.args.self.now _ c.args.pid.0 c.index_mut-process.result.now (process.the_view c.process.inside) _ _ _ c.requires c.self.view_is c.index_mut-process.ensures.value c.process.view_is
-    (new_two _ c.args.self.now c.args.flags c.args.cred _ c.self.view_is added)
+    (new_two _ c.args.self.now c.args.kind c.args.flags c.args.cred _ c.self.view_is added)
     (c.in-Ok.ensures.opened ∙ λ j. filled (filled (table j) c.in-Ok.two.0.0 (low j)) c.in-Ok.two.1.0 (high j))

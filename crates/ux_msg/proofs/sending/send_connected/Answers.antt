@@ -1,5 +1,0 @@
-use Rattle.std.proofs.Common.{rules}
-use Rattle.ux_msg.proofs.sending.send_connected.Goals as goal
-
-pub returns-then-is_none : goal.returns-then-is_none
-returns-then-is_none g c = search rules

@@ -1,0 +1,137 @@
+//! Sending datagrams (sendmsg(2), unix(7)).
+ghost use Rattle.std.specs.Prelude.{IsSomeAnd, option_map};
+ghost use Rattle.ux_model.specs.Socket.{association_of};
+ghost use Rattle.ux_model.specs.State.{socket_at};
+ghost use Rattle.ux_state.specs.Moves.{IsSocketAt, AreReferenced};
+ghost use Rattle.ux_msg.specs.Answers.{Gives};
+ghost use Rattle.ux_msg.specs.Sendings.{named_message};
+ghost use Rattle.ux_model.specs.Sending as model;
+
+use ux_object::FileObject;
+use ux_rights::RefList;
+use ux_state::State;
+use ux_types::{Addr, Cred, DescriptionId, Errno, Refusal, Reply};
+
+/// The bytes of one datagram or record at most.
+pub(crate) const RECORD_BYTES_LIMIT: usize = 65536;
+
+/// Sends a datagram from the socket of this description to an address, or where it is associated. It tells the
+/// name that the socket has now.
+pub(crate) fn send_datagram<O: FileObject>(
+    state: &mut State<O>,
+    id: DescriptionId,
+    addr: Option<&Addr>,
+    tag: u64,
+    cred: Cred,
+    bytes: &[u8],
+    rights: RefList,
+) -> Result<Reply, Refusal>
+    requires socket { IsSocketAt state.old id }
+    requires held { AreReferenced state.old rights }
+    ensures { IsSomeAnd (socket_at state.old id) (λ s. Gives state.old
+        (model.send_datagram state.old id s (option_map (λ a. a.now) addr.entry) (model.message_of cred tag bytes.now rights)) result state.new) }
+{
+    if bytes.len() > RECORD_BYTES_LIMIT {
+        return Err(Refusal::Answer(Errno::EMSGSIZE));
+    }
+    let Some(socket) = state.socket(id) else {
+        unreachable!();
+    };
+    if socket.is_write_shut() {
+        return Err(Refusal::Answer(Errno::EPIPE));
+    }
+    match addr {
+        Some(addr) => send_by_name(state, id, addr, tag, cred, bytes, rights),
+        None => send_by_association(state, id, tag, cred, bytes, rights),
+    }
+}
+
+/// Sends a datagram to what an address leads to.
+fn send_by_name<O: FileObject>(
+    state: &mut State<O>,
+    id: DescriptionId,
+    addr: &Addr,
+    tag: u64,
+    cred: Cred,
+    bytes: &[u8],
+    rights: RefList,
+) -> Result<Reply, Refusal>
+    requires socket { IsSocketAt state.old id }
+    requires held { AreReferenced state.old rights }
+    ensures { IsSomeAnd (socket_at state.old id) (λ s. Gives state.old
+        (model.send_by_name state.old id s.kind addr.now (named_message s cred tag bytes.now rights)) result state.new) }
+{
+    let Some(socket) = state.socket(id) else {
+        unreachable!();
+    };
+    let target = match state.socket_named(socket.kind(), addr) {
+        Ok((target, _)) => target,
+        Err(e) => return Err(Refusal::from(e)),
+    };
+    send_to_target(state, id, target, tag, cred, bytes, rights)
+}
+
+/// Sends a datagram where its socket is associated. A target that is gone ends the association.
+fn send_by_association<O: FileObject>(
+    state: &mut State<O>,
+    id: DescriptionId,
+    tag: u64,
+    cred: Cred,
+    bytes: &[u8],
+    rights: RefList,
+) -> Result<Reply, Refusal>
+    requires socket { IsSocketAt state.old id }
+    requires held { AreReferenced state.old rights }
+    ensures { IsSomeAnd (socket_at state.old id) (λ s. Gives state.old
+        (model.send_by_association state.old id (association_of s.phase) (named_message s cred tag bytes.now rights)) result state.new) }
+{
+    let Some(socket) = state.socket(id) else {
+        unreachable!();
+    };
+    let Some(target) = socket.association() else {
+        return Err(Refusal::Answer(Errno::EDESTADDRREQ));
+    };
+    if state.socket(target).is_none() {
+        state.set_association(id, None);
+        return Err(Refusal::Answer(Errno::ECONNREFUSED));
+    }
+    send_to_target(state, id, target, tag, cred, bytes, rights)
+}
+
+/// Queues a datagram at its target, if that takes datagrams from the sender.
+fn send_to_target<O: FileObject>(
+    state: &mut State<O>,
+    id: DescriptionId,
+    target: DescriptionId,
+    tag: u64,
+    cred: Cred,
+    bytes: &[u8],
+    rights: RefList,
+) -> Result<Reply, Refusal>
+    requires sender { IsSocketAt state.old id }
+    requires target { IsSocketAt state.old target }
+    requires held { AreReferenced state.old rights }
+    ensures { IsSomeAnd (socket_at state.old id) (λ s. IsSomeAnd (socket_at state.old target) (λ t. Gives state.old
+        (model.send_to_target state.old id target t (named_message s cred tag bytes.now rights)) result state.new)) }
+{
+    let (Some(sender), Some(other)) = (state.socket(id), state.socket(target)) else {
+        unreachable!();
+    };
+    if !other.takes_from(id) {
+        return Err(Refusal::Answer(Errno::EPERM));
+    }
+    if other.is_read_shut() {
+        return Err(Refusal::Answer(Errno::EPIPE));
+    }
+    // No call makes a stream the target of a datagram; the definitions speak of any socket.
+    if other.is_stream() && bytes.is_empty() {
+        return Ok(Reply::Count(0));
+    }
+    // A full queue comes before want of memory.
+    if !other.has_room() {
+        return Err(Refusal::Answer(Errno::EAGAIN));
+    }
+    let name = sender.name().clone()?;
+    let count = state.send(target, bytes, tag, rights, cred, cred.uid, Some(name))?;
+    Ok(Reply::Count(count))
+}
