@@ -167,7 +167,7 @@ fn expect_queue<O: FileObject>(
             assert!(rt; socket.reset() == reset);
             assert!(rt; socket.is_empty() == bytes.is_empty());
             if !socket.is_empty() {
-                let front = socket.peek(100, false)?;
+                let front = socket.peek(100)?;
                 assert!(rt; front.bytes.as_slice() == bytes);
             }
         }

@@ -44,7 +44,7 @@ fn take<O: FileObject>(
         assert!(rt; false);
         return Ok(());
     };
-    let shown = socket.peek(bytes.len(), false)?;
+    let shown = socket.peek(bytes.len())?;
     assert!(rt; shown.bytes.as_slice() == bytes);
     state.skip_front(id, bytes.len());
     Ok(())
