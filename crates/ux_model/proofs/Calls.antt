@@ -3,7 +3,7 @@
 use Rattle.std.proofs.Common.{◌≡◌, ℕ, suc, ◌<◌, Bool, true, false, not, ◌&&◌, ◌==◌, if◌then◌else◌, cond, List, [], ◌∷◌, ◌++◌, length, map, Option, Some, None, Result, Ok, Err, refl, ap, sym, ◌∙◌, subst, arith}
 use Rattle.std.specs.Prelude.{min, nat_le, nat_lt, ℤ, pos, negsuc, ◌+ℤ◌, is_some, count_by}
 use Rattle.std.proofs.lemmas.Bool.{eqb-true, eq-eqb}
-use Rattle.std.proofs.lemmas.List.{length_push}
+use Rattle.std.proofs.lemmas.List.{length_push, length-map}
 use Rattle.std.proofs.lemmas.List.Sums.{sum_by-cons}
 use Rattle.ux_model.specs.Types.{Errno, Fd, Name, SockType, Mode, OpenFlags, Whence, Request, Reply}
 use Rattle.ux_model.specs.Places.{place, filled}
@@ -19,7 +19,7 @@ use Rattle.ux_model.specs.References.{path_names, orefs}
 use Rattle.ux_model.specs.Outcome.{Outcome, Chosen, own, lacking_memory, failing, descriptor_at}
 use Rattle.ux_model.specs.Naming.{unlink}
 use Rattle.ux_model.specs.Pairing.{make_pair, with_pair}
-use Rattle.ux_model.specs.Sending.{message_of}
+use Rattle.ux_model.specs.Sending.{message_of, flight_limit}
 use Rattle.ux_model.specs.Receiving.{bytes_alone}
 use Rattle.ux_model.specs.FileObjects.{holds_bytes, is_open_for}
 use Rattle.ux_model.specs.Opening.{open_file, file_description}
@@ -37,7 +37,8 @@ use Rattle.ux_model.proofs.Walk.{either, maybe, by_target, by_path, found}
 use Rattle.ux_model.proofs.Reaching.{Reaches, still, description_made, peers_made, object_changed, paths_taken, turned_off, same_target, NamesWhatIsThere, put_names, taken_names, same_names, none_counts, with_table_reached, with_process_reached, with_description_reached, some_filled, some_more, some_pushed}
 use Rattle.ux_model.proofs.Obeying.{tells_choice, Obeys, Call, refuses, uses, answers, may_fail, there_of}
 use Rattle.ux_model.proofs.NameCalls.{socket_obeys, bind_obeys, listen_obeys, connect_obeys, accept_obeys, sock_name_obeys, peer_name_obeys, shutdown_obeys}
-use Rattle.ux_model.proofs.MessageCalls.{from_obeys, send_obeys, receive_obeys, recv_obeys}
+use Rattle.ux_model.proofs.OptionCalls.{get_opt_obeys, set_opt_obeys, poll_obeys}
+use Rattle.ux_model.proofs.MessageCalls.{flight_limit_is, from_obeys, send_obeys, receive_obeys, recv_obeys}
 use Rattle.ux_model.proofs.HeldOpen.{IsHeldOpen, KeepsObjects, same_objects, held_changed, held_by_changed, with_process_objects, with_table_objects}
 
 -- ---- descriptors
@@ -73,7 +74,7 @@ close_obeys S p fd = found (Call S) S p fd _ (refuses refl refl) (λ e D g h.
 pub exit_obeys : (S : State) (p : ℕ) → Obeys S true (exit S p)
 unfolding exit
 exit_obeys S p = maybe (Obeys S true) (process_at S p) _ _ (refuses refl refl)
-    (λ P h. answers refl refl refl (with_process_objects S p _) (with_process_reached S p P (record P { exited = true; table = map (λ e. None) P.table }) still h (λ d. none_counts d P.table)))
+    (λ P h. answers refl refl refl (with_process_objects S p _) (with_process_reached S p P (record P { exited = true; table = map (λ e. None) P.table }) still h (λ d. none_counts d P.table) (length-map P.table _) (record { user = refl; privileged = refl })))
 
 pub off_obeys : (S : State) → Call S (off S)
 unfolding off
@@ -194,6 +195,9 @@ still_error (Reply.At n) e h = h
 still_error (Reply.Received count bytes flags control from) e h = absurd (cc h)
 still_error (Reply.Accepted fd addr) e h = h
 still_error (Reply.Addr addr) e h = h
+still_error (Reply.Opt value) e h = h
+still_error (Reply.Cred cred) e h = h
+still_error (Reply.Poll flags) e h = h
 still_error (Reply.Err f) e h = h
 
 still_own : (r : Reply) → tells_choice r ≡ false → tells_choice (bytes_alone r) ≡ false
@@ -206,6 +210,9 @@ still_own (Reply.At n) h = h
 still_own (Reply.Received count bytes flags control from) h = refl
 still_own (Reply.Accepted fd addr) h = h
 still_own (Reply.Addr addr) h = h
+still_own (Reply.Opt value) h = h
+still_own (Reply.Cred cred) h = h
+still_own (Reply.Poll flags) h = h
 still_own (Reply.Err e) h = h
 
 socket_read_obeys : (S : State) (o : Outcome) → Call S o → Call S (record o { reply = bytes_alone o.reply })
@@ -246,7 +253,7 @@ write_obeys S p tag fd bytes = found (Call S) S p fd _ (refuses refl refl) (λ e
     (λ b. either (Call S) (is_pipe view.body && not (is_open_for can_read S o)) _ _ (λ b. refuses refl refl)
     (λ b. let held : IsHeldOpen S o = held_by S p fd e D o g h t in may_fail S _ o view _ held there (write_answer_obeys S o held view (write_body view.body (write_place D view) bytes) there))))))
     (λ s t. maybe (Call S) (process_at S p) _ _ (refuses refl refl)
-    (λ P here. from_obeys S e.description s None (message_of (own_cred p P) tag bytes []) (socket_at_is S e.description D s h t) (λ sound k gone. refl))))
+    (λ P here. from_obeys S (flight_limit P) e.description s None (message_of P tag (own_cred p P) bytes []) (socket_at_is S e.description D s h t) (λ sound k gone. refl, flight_limit_is S p P here))))
 
 seek_to_obeys : (S : State) (d : ℕ) (D : Description) (to : ℤ) → description_at S d ≡ Some D → Call S (seek_to S d D to)
 seek_to_obeys S d D (pos n) h = either (Call S) (nat_lt offset_limit n) _ _ (λ b. refuses refl refl)
@@ -280,10 +287,13 @@ each_obeys S p tag (Request.Listen fd backlog) = listen_obeys S p fd backlog
 each_obeys S p tag (Request.Connect fd addr) = connect_obeys S p fd addr
 each_obeys S p tag (Request.Accept fd flags) = accept_obeys S p fd flags
 each_obeys S p tag (Request.Shutdown fd how) = shutdown_obeys S p fd how
+each_obeys S p tag (Request.GetOpt fd opt) = get_opt_obeys S p fd opt
+each_obeys S p tag (Request.SetOpt fd opt value) = set_opt_obeys S p fd opt value
 each_obeys S p tag (Request.GetSockName fd) = sock_name_obeys S p fd
 each_obeys S p tag (Request.GetPeerName fd) = peer_name_obeys S p fd
 each_obeys S p tag (Request.SendMsg fd addr bytes control flags) = send_obeys S p tag fd addr bytes control flags
 each_obeys S p tag (Request.RecvMsg fd n space flags) = recv_obeys S p fd n space flags
+each_obeys S p tag (Request.Poll fd) = poll_obeys S p fd
 each_obeys S p tag Request.Exit = exit_obeys S p
 each_obeys S p tag Request.Off = off_obeys S
 

@@ -105,7 +105,7 @@ step_sound es e S T sound step allowed =
     let r = step_reached S T e.pid.0 (length es) e.request e.reply e.released step in
     subst IsSound (sym r.3) (settled_sound r.0 (reached_sound S (is_exit e.request) r.0 sound r.1))
 
-keeps_sound : (boot : State) → IsKept boot HasSound
+pub keeps_sound : (boot : State) → IsKept boot HasSound
 keeps_sound boot = record { at_boot = boot_sound boot; by_entry = step_sound }
 
 pub stays_sound : (boot : State) (es : List Entry) → IsLegal boot es → IsSound (replay boot es)

@@ -73,7 +73,7 @@ barrier_front (m ∷ ms) = go (barrier_front ms) (length m.rights == 0)
 front_of_front : (a b c : List Message) → IsFront a b → IsFront b c → IsFront a c
 front_of_front a b c f g = record { rest = f.rest ++ g.rest; is = sym (append_assoc a f.rest g.rest) ∙ ap (λ xs. xs ++ g.rest) f.is ∙ g.is }
 
-run_front : (wants : Bool) (m : Message) (ms : List Message) → IsFront (joined_run wants m ms) (m ∷ ms)
+pub run_front : (wants : Bool) (m : Message) (ms : List Message) → IsFront (joined_run wants m ms) (m ∷ ms)
 run_front true m ms = front_of_front _ _ _ (barrier_front (front_with_cred m.cred (m ∷ ms))) (cred_front m.cred (m ∷ ms))
 run_front false m ms = barrier_front (m ∷ ms)
 

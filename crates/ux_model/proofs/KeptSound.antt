@@ -41,7 +41,7 @@ pub process_held : (S : State) (i : ℕ) (P Q : Process) → IsHeld S → slice_
 process_held S i P Q held h names = record {
   no_description_dangles = λ d gone.
       let moved = process_counts S (suc i) d P Q h in
-      let less : table_refs d Q.table ≤ table_refs d P.table = names d gone in
+      let less : table_refs d Q.table ≤ table_refs d P.table = names.counts d gone in
       let none : refs S d ≡ 0 = held.no_description_dangles d gone in
       omega (arith, moved, less, none);
   no_object_dangles = λ o gone. same_orefs_processes S (set S.processes i Q) o ∙ held.no_object_dangles o gone;

@@ -11,6 +11,7 @@ pub mod Sockets
 pub mod Making
 pub mod Owning
 pub mod FrontRights
+pub mod Flying
 pub mod Sound
 pub mod Named
 pub mod Walk
@@ -18,7 +19,9 @@ pub mod Reaching
 pub mod HeldOpen
 pub mod Obeying
 pub mod NameCalls
+pub mod OptionCalls
 pub mod MessageCalls
+pub mod ReadyCalls
 pub mod Calls
 pub mod Replays
 pub mod Living
@@ -29,11 +32,13 @@ pub mod ConnectedSound
 pub mod ReachedSound
 pub mod ReleasedSound
 pub mod Dangling
+pub mod FlightLaws
 pub mod Closed
 pub mod HandingOut
 mod Play
 mod StreamExamples
 mod DatagramExamples
+mod OptionExamples
 mod LimitExamples
 mod FileExamples
 mod ControlExamples

@@ -35,7 +35,7 @@ live_is S (suc i) = go S.processes i
 
 -- ---- what leaves all as they are
 
-settled_keeps : (n : ℕ) (S : State) → (drop_rounds n S).processes ≡ S.processes
+pub settled_keeps : (n : ℕ) (S : State) → (drop_rounds n S).processes ≡ S.processes
 unfolding drop_rounds without
 settled_keeps zero S = refl
 settled_keeps (suc n) S = go (has_unreferenced S) (settled_keeps n (drop_all S))
@@ -63,7 +63,7 @@ exits_turned (P ∷ Ps) = ap (λ l. P.exited ∷ l) (exits_turned Ps)
 -- every call but an exit
 exits_kept : (S T : State) → Reaches S false T → exits T ≡ exits S
 exits_kept S T still = refl
-exits_kept S T (process_changed {T = U} i P Q r h names kept) =
+exits_kept S T (process_changed {T = U} i P Q r h names kept same) =
     exits_set U.processes i Q ∙ ap (set (exits U) i) (kept refl) ∙ set_same U.processes i P h ∙ exits_kept S U r
 exits_kept S T (description_made {T = U} D r leads nothing) = exits_kept S U r
 exits_kept S T (peers_made {T = U} D E r peers) = exits_kept S U r

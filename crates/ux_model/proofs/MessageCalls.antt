@@ -1,12 +1,12 @@
 -- Of sends and receives: that their outcomes obey what all do.
-use Rattle.std.proofs.Common.{◌≡◌, ℕ, ◌+◌, ◌≤◌, ◌<◌, Bool, true, false, not, ◌&&◌, ◌||◌, ◌==◌, if◌then◌else◌, cond, List, [], ◌∷◌, ◌++◌, length, Option, Some, None, refl, ap, sym, ◌∙◌, subst, arith, ◌⊎◌, inl, inr}
+use Rattle.std.proofs.Common.{◌≡◌, ℕ, ◌+◌, ◌≤◌, ◌<◌, Bool, true, false, not, ◌&&◌, ◌||◌, ◌==◌, if◌then◌else◌, cond, List, [], ◌∷◌, length, Option, Some, None, refl, ap, sym, ◌∙◌, subst, arith, ◌⊎◌, inl, inr}
 use Rattle.std.specs.Prelude.{nat_lt, is_some}
-use Rattle.std.proofs.lemmas.Bool.{cases_lt, eqb-true, eq-eqb}
+use Rattle.std.proofs.lemmas.Bool.{and_cases, cases_lt, ltb-false, eqb-true, eq-eqb}
 use Rattle.std.proofs.lemmas.List.Sums.{sum_by-cons, sum_by_push}
-use Rattle.ux_model.specs.Types.{Errno, Fd, Addr, MsgFlags, Reply}
+use Rattle.ux_model.specs.Types.{Errno, Fd, Cred, Addr, MsgFlags, Reply}
 use Rattle.ux_model.specs.Places.{place}
 use Rattle.ux_model.specs.Flags.{are_send_flags, are_receive_flags, asks_peek, asks_cloexec_rights}
-use Rattle.ux_model.specs.Message.{Message}
+use Rattle.ux_model.specs.Message.{Message, same_cred}
 use Rattle.ux_model.specs.Control.{Control}
 use Rattle.ux_model.specs.ControlReading.{control_in}
 use Rattle.ux_model.specs.Front.{Front, front_of}
@@ -14,18 +14,21 @@ use Rattle.ux_model.specs.Delivery.{delivery, installed}
 use Rattle.ux_model.specs.Limits.{record_bytes_limit}
 use Rattle.ux_model.specs.Socket.{Socket, is_stream, is_dgram, peer_of, association_of, takes_from, has_room, sent_part, sent, with_queue, with_reset, with_association}
 use Rattle.ux_model.specs.Process.{Process, Descriptor, own_cred}
-use Rattle.ux_model.specs.State.{State, process_at, description_at, socket_at, table_of, with_socket_by}
+use Rattle.ux_model.specs.State.{State, is_live, process_at, description_at, socket_at, table_of, with_socket_by}
 use Rattle.ux_model.specs.References.{times, queue_refs, refs}
-use Rattle.ux_model.specs.Outcome.{Outcome, answer}
-use Rattle.ux_model.specs.Sending.{descriptions_behind, message_of, enqueue, is_too_long, send_to_peer, send_connected, send_stream, send_to_target, send_by_association, send_by, send_datagram, send_from, is_sendable_addr, is_sendable_control, send_with, send_read, reading_control, send_msg}
+use Rattle.ux_model.specs.Outcome.{Outcome, refuse, answer}
+use Rattle.ux_model.specs.Sending.{descriptions_behind, message_of, flight_limit, is_over_limit, enqueue, is_too_long, send_to_peer, send_connected, send_stream, send_to_target, send_by_association, send_by, send_datagram, send_from, is_sendable_addr, is_sendable_control, given_refusal, sent_cred, send_given, send_with, send_read, reading_control, send_msg}
 use Rattle.ux_model.specs.Receiving.{recv_msg, receive, receive_from_peer, at_end, receive_nothing, receive_front, with_delivered}
+use Rattle.ux_model.specs.Flight.{of_user, rights_sent_by, in_flight}
+use Rattle.ux_model.specs.FlightLaws.{AreLimited}
 use Rattle.ux_model.specs.Invariants.{LeftByRefusal}
 use Rattle.ux_model.proofs.FrontRights.{front_of_refs}
+use Rattle.ux_model.proofs.Flying.{front_of_flying}
 use Rattle.ux_model.proofs.Sound.{IsSound}
 use Rattle.ux_model.proofs.Named.{entry_counts, socket_counted}
 use Rattle.ux_model.proofs.Walk.{either, maybe, by_queue, found_socket, found_named}
 use Rattle.ux_model.proofs.NameCalls.{same_descriptions, association_reached}
-use Rattle.ux_model.proofs.Reaching.{Reaches, still, KeepsSocket, queue_changed, NamesWhatIsThere, put_names, same_names, with_table_reached, with_socket_reached}
+use Rattle.ux_model.proofs.Reaching.{Reaches, still, KeepsSocket, queue_changed, pending_changed, NamesWhatIsThere, put_names, same_names, with_table_reached, with_socket_reached}
 use Rattle.ux_model.proofs.Obeying.{Call, refuses, answers}
 use Rattle.ux_model.proofs.HeldOpen.{same_objects, with_table_objects}
 
@@ -83,36 +86,90 @@ behind_there S p ns ds sound h k gone = go (cases_lt 0 (times k ds))
         let none : refs S k ≡ 0 = sound.held.no_description_dangles k gone in
         absurd (omega (arith, counted, none))
 
+-- ---- the limit of rights in flight
+
+-- where the processes of a user are limited, so is this one, which is theirs
+abbrev IsLimitOf : State → Option ℕ → ℕ → Type 0
+IsLimitOf S limit uid = (most : ℕ) → AreLimited S uid most → (k : ℕ) × (limit ≡ Some k) × (k ≤ most)
+
+pub flight_limit_is : (S : State) (p : ℕ) (P : Process) → process_at S p ≡ Some P → IsLimitOf S (flight_limit P) P.uid
+flight_limit_is S p P here most are =
+    let own = are p P here refl in
+    (length P.table, ap (λ b. if◌then◌else◌ {A = Option ℕ} b None (Some (length P.table))) own.0, own.1)
+
+-- what is not over a limit has no rights, or keeps to it
+keeps_to : (n k a : ℕ) → (nat_lt 0 n && nat_lt k a) ≡ false → (n ≤ 0) ⊎ (a ≤ k)
+keeps_to n k a h = go (and_cases (nat_lt 0 n) (nat_lt k a) h)
+  where
+    go : (nat_lt 0 n ≡ false) ⊎ (nat_lt k a ≡ false) → (n ≤ 0) ⊎ (a ≤ k)
+    go (inl none) = inl (ltb-false 0 n none)
+    go (inr below) = inr (ltb-false k a below)
+
+-- so the rights of a message that is taken fit in with those of its user
+sent_fits : (S : State) (limit : Option ℕ) (m : Message) (u most : ℕ) → IsLimitOf S limit m.uid → is_over_limit S limit m ≡ false → AreLimited S u most → in_flight S u ≤ most →
+    in_flight S u + of_user u m.uid (length m.rights) ≤ most
+sent_fits S limit m u most is over are within = go (m.uid == u) refl
+  where
+    fits : (k : ℕ) → m.uid ≡ u → k ≤ most → (length m.rights ≤ 0) ⊎ (in_flight S m.uid + length m.rights ≤ k) → in_flight S u + length m.rights ≤ most
+    fits k e low (inl none) = omega (arith, within, none)
+    fits k e low (inr below) = let same : in_flight S m.uid ≡ in_flight S u = ap (in_flight S) e in omega (arith, low, below, same)
+
+    go : (b : Bool) → (m.uid == u) ≡ b → in_flight S u + (if b then length m.rights else 0) ≤ most
+    go true h =
+        let e : m.uid ≡ u = eqb-true m.uid u h in
+        let own = is most (subst (λ v. AreLimited S v most) (sym e) are) in
+        let below : is_over_limit S (Some own.0) m ≡ false = subst (λ l. is_over_limit S l m ≡ false) own.1 over in
+        fits own.0 e own.2 (keeps_to (length m.rights) own.0 (in_flight S m.uid + length m.rights) below)
+    go false h = omega (arith, within)
+
+-- what a message asks for to be sent: its rights name what is there, and the limit is one of its user
+abbrev pub MaySend : State → Option ℕ → Message → Type 0
+MaySend S limit m = (IsSound S → NamesNoneGone S m.rights) × IsLimitOf S limit m.uid
+
+-- ---- into a queue
+
 -- a message refers to what its rights do
-sent_keeps : (S : State) (n : ℕ) (m : Message) (s : Socket) → NamesNoneGone S m.rights → KeepsSocket S n s (sent m s)
-sent_keeps S n m s none = queue_changed S n s (s.queue ++ sent_part s m ∷ []) s.reset (λ d gone.
-    let more = sum_by_push (λ m. times d (Message.rights m)) s.queue (sent_part s m) in
-    let z : times d m.rights ≡ 0 = none d gone in
-    omega (arith, more, z))
+sent_keeps : (S : State) (limit : Option ℕ) (n : ℕ) (m : Message) (s : Socket) → NamesNoneGone S m.rights → IsLimitOf S limit m.uid → is_over_limit S limit m ≡ false →
+    KeepsSocket S n s (sent m s)
+sent_keeps S limit n m s none of_user_is over = record {
+  holds = λ d gone.
+      let more = sum_by_push (λ m. times d (Message.rights m)) s.queue (sent_part s m) in
+      let z : times d m.rights ≡ 0 = none d gone in
+      omega (arith, more, z);
+  peer = refl;
+  pending = λ d. omega arith;
+  waits = λ h. omega arith;
+  flies = λ u most are within.
+      let more = sum_by_push (λ (m : Message). of_user u m.uid (length m.rights)) s.queue (sent_part s m) in
+      let fits : in_flight S u + of_user u m.uid (length m.rights) ≤ most = sent_fits S limit m u most of_user_is over are within in
+      omega (arith, more, fits);
+  named = λ name h. h;
+}
 
 -- the queue of a socket that is there
-enqueue_obeys : (S : State) (d : ℕ) (other : Socket) (m : Message) → (IsSound S → NamesNoneGone S m.rights) → Call S (enqueue S d other m)
-enqueue_obeys S d other m names = either (Call S) (is_stream other.kind && (length m.bytes == 0)) _ _ (λ b. answers refl refl refl refl still)
-    (λ b. either (Call S) (not (has_room other)) _ _ (λ c. refuses refl refl)
-    (λ c. answers refl refl refl refl (with_socket_reached S d (sent m) still (λ sound s here. sent_keeps S d m s (names sound)))))
+enqueue_obeys : (S : State) (limit : Option ℕ) (d : ℕ) (other : Socket) (m : Message) → MaySend S limit m → Call S (enqueue S limit d other m)
+enqueue_obeys S limit d other m may = either (Call S) (is_stream other.kind && (length m.bytes == 0)) _ _ (λ b. answers refl refl refl refl still)
+    (λ b. either (Call S) (is_over_limit S limit m) _ _ (λ c. refuses refl refl)
+    (λ c. either (Call S) (not (has_room other)) _ _ (λ e. refuses refl refl)
+    (λ e. answers refl refl refl refl (with_socket_reached S d (sent m) still (λ sound s here. sent_keeps S limit d m s (may.0 sound) may.1 c)))))
 
-to_peer_obeys : (S : State) (shut : Bool) (d : ℕ) (m : Message) → (IsSound S → NamesNoneGone S m.rights) → Call S (send_to_peer S shut d m)
-to_peer_obeys S shut d m names = maybe (Call S) (socket_at S d) _ _ (refuses refl refl)
+to_peer_obeys : (S : State) (limit : Option ℕ) (shut : Bool) (d : ℕ) (m : Message) → MaySend S limit m → Call S (send_to_peer S limit shut d m)
+to_peer_obeys S limit shut d m may = maybe (Call S) (socket_at S d) _ _ (refuses refl refl)
     (λ other h. either (Call S) (shut || other.read_shut) _ _ (λ b. refuses refl refl)
-    (λ b. either (Call S) (is_too_long other m) _ _ (λ c. refuses refl refl) (λ c. enqueue_obeys S d other m names)))
+    (λ b. either (Call S) (is_too_long other m) _ _ (λ c. refuses refl refl) (λ c. enqueue_obeys S limit d other m may)))
 
-connected_obeys : (S : State) (shut : Bool) (peer : Option ℕ) (m : Message) → (IsSound S → NamesNoneGone S m.rights) → Call S (send_connected S shut peer m)
-connected_obeys S shut None m names = refuses refl refl
-connected_obeys S shut (Some peer) m names = to_peer_obeys S shut peer m names
+connected_obeys : (S : State) (limit : Option ℕ) (shut : Bool) (peer : Option ℕ) (m : Message) → MaySend S limit m → Call S (send_connected S limit shut peer m)
+connected_obeys S limit shut None m may = refuses refl refl
+connected_obeys S limit shut (Some peer) m may = to_peer_obeys S limit shut peer m may
 
-stream_obeys : (S : State) (shut : Bool) (peer : Option ℕ) (addr : Option Addr) (m : Message) → (IsSound S → NamesNoneGone S m.rights) → Call S (send_stream S shut peer addr m)
-stream_obeys S shut peer None m names = connected_obeys S shut peer m names
-stream_obeys S shut None (Some addr) m names = refuses refl refl
-stream_obeys S shut (Some peer) (Some addr) m names = refuses refl refl
+stream_obeys : (S : State) (limit : Option ℕ) (shut : Bool) (peer : Option ℕ) (addr : Option Addr) (m : Message) → MaySend S limit m → Call S (send_stream S limit shut peer addr m)
+stream_obeys S limit shut peer None m may = connected_obeys S limit shut peer m may
+stream_obeys S limit shut None (Some addr) m may = refuses refl refl
+stream_obeys S limit shut (Some peer) (Some addr) m may = refuses refl refl
 
-to_target_obeys : (S : State) (d t : ℕ) (target : Socket) (m : Message) → (IsSound S → NamesNoneGone S m.rights) → Call S (send_to_target S d t target m)
-to_target_obeys S d t target m names = either (Call S) (not (takes_from d target.phase)) _ _ (λ b. refuses refl refl)
-    (λ b. either (Call S) target.read_shut _ _ (λ c. refuses refl refl) (λ c. enqueue_obeys S t target m names))
+to_target_obeys : (S : State) (limit : Option ℕ) (d t : ℕ) (target : Socket) (m : Message) → MaySend S limit m → Call S (send_to_target S limit d t target m)
+to_target_obeys S limit d t target m may = either (Call S) (not (takes_from d target.phase)) _ _ (λ b. refuses refl refl)
+    (λ b. either (Call S) target.read_shut _ _ (λ c. refuses refl refl) (λ c. enqueue_obeys S limit t target m may))
 
 -- an association to what is gone ends
 ended_obeys : (S : State) (d t : ℕ) (s : Socket) → socket_at S d ≡ Some s → association_of s.phase ≡ Some t → socket_at S t ≡ None →
@@ -127,45 +184,72 @@ ended_obeys S d t s h tied gone = record {
   objects = same_objects S (with_socket_by S d (with_association None)) refl;
 }
 
-by_association_obeys : (S : State) (d : ℕ) (s : Socket) (m : Message) → socket_at S d ≡ Some s → (IsSound S → NamesNoneGone S m.rights) → Call S (send_by_association S d (association_of s.phase) m)
-by_association_obeys S d s m h names = go (association_of s.phase) refl
+by_association_obeys : (S : State) (limit : Option ℕ) (d : ℕ) (s : Socket) (m : Message) → socket_at S d ≡ Some s → MaySend S limit m → Call S (send_by_association S limit d (association_of s.phase) m)
+by_association_obeys S limit d s m h may = go (association_of s.phase) refl
   where
     at_target : (t : ℕ) → association_of s.phase ≡ Some t → (o : Option Socket) → socket_at S t ≡ o → Call S (elim o as (λ _. Outcome) [
       | None ↦ answer (Reply.Err Errno.ECONNREFUSED) (with_socket_by S d (with_association None))
-      | Some target ↦ send_to_target S d t target m
+      | Some target ↦ send_to_target S limit d t target m
     ])
     at_target t tied None gone = ended_obeys S d t s h tied gone
-    at_target t tied (Some target) there = to_target_obeys S d t target m names
+    at_target t tied (Some target) there = to_target_obeys S limit d t target m may
 
-    go : (o : Option ℕ) → association_of s.phase ≡ o → Call S (send_by_association S d o m)
+    go : (o : Option ℕ) → association_of s.phase ≡ o → Call S (send_by_association S limit d o m)
     go None tied = refuses refl refl
     go (Some t) tied = at_target t tied (socket_at S t) refl
 
-datagram_obeys : (S : State) (d : ℕ) (s : Socket) (addr : Option Addr) (m : Message) → socket_at S d ≡ Some s → (IsSound S → NamesNoneGone S m.rights) → Call S (send_datagram S d s addr m)
-datagram_obeys S d s addr m h names = either (Call S) (nat_lt record_bytes_limit (length m.bytes)) _ _ (λ b. refuses refl refl)
+datagram_obeys : (S : State) (limit : Option ℕ) (d : ℕ) (s : Socket) (addr : Option Addr) (m : Message) → socket_at S d ≡ Some s → MaySend S limit m → Call S (send_datagram S limit d s addr m)
+datagram_obeys S limit d s addr m h may = either (Call S) (nat_lt record_bytes_limit (length m.bytes)) _ _ (λ b. refuses refl refl)
     (λ b. either (Call S) s.write_shut _ _ (λ c. refuses refl refl) (λ c. by_addr addr))
   where
-    by_addr : (a : Option Addr) → Call S (send_by S d s a (record m { from = Some s.name }))
-    by_addr None = by_association_obeys S d s (record m { from = Some s.name }) h names
+    by_addr : (a : Option Addr) → Call S (send_by S limit d s a (record m { from = Some s.name }))
+    by_addr None = by_association_obeys S limit d s (record m { from = Some s.name }) h may
     by_addr (Some a) = found_named (Call S) S s.kind a _ (refuses refl refl) (refuses refl refl) (refuses refl (inl refl)) (refuses refl refl)
-        (λ t target there. to_target_obeys S d t target (record m { from = Some s.name }) names)
+        (λ t target there. to_target_obeys S limit d t target (record m { from = Some s.name }) may)
 
-pub from_obeys : (S : State) (d : ℕ) (s : Socket) (addr : Option Addr) (m : Message) → socket_at S d ≡ Some s → (IsSound S → NamesNoneGone S m.rights) → Call S (send_from S d s addr m)
-from_obeys S d s addr m h names = either (Call S) (is_dgram s.kind) _ _ (λ b. datagram_obeys S d s addr m h names) (λ b. stream_obeys S s.write_shut (peer_of s.phase) addr m names)
+pub from_obeys : (S : State) (limit : Option ℕ) (d : ℕ) (s : Socket) (addr : Option Addr) (m : Message) → socket_at S d ≡ Some s → MaySend S limit m → Call S (send_from S limit d s addr m)
+from_obeys S limit d s addr m h may = either (Call S) (is_dgram s.kind) _ _ (λ b. datagram_obeys S limit d s addr m h may) (λ b. stream_obeys S limit s.write_shut (peer_of s.phase) addr m may)
 
-with_obeys : (S : State) (p : ℕ) (P : Process) (tag d : ℕ) (s : Socket) (addr : Option Addr) (bytes : List ℕ) (control : Control) → socket_at S d ≡ Some s →
+-- credentials that may not be given are EPERM or ESRCH
+tells_refusal : (S : State) (p : ℕ) (P : Process) (given : Option Cred) (e : Errno) → given_refusal S p P given ≡ Some e → (e ≡ Errno.EPERM) ⊎ (e ≡ Errno.ESRCH)
+tells_refusal S p P None e h = absurd (cc h)
+tells_refusal S p P (Some cred) e h = go P.privileged (is_live S cred.pid.0) (same_cred cred (own_cred p P)) h
+  where
+    go : (privileged lives own : Bool) → (if privileged then (if lives then None else Some Errno.ESRCH) else if own then None else Some Errno.EPERM) ≡ Some e →
+        (e ≡ Errno.EPERM) ⊎ (e ≡ Errno.ESRCH)
+    go true true own h = absurd (cc h)
+    go true false own h = inr (let same : Errno.ESRCH ≡ e = cc h in sym same)
+    go false lives true h = absurd (cc h)
+    go false lives false h = inl (let same : Errno.EPERM ≡ e = cc h in sym same)
+
+of_cred : (S : State) (e : Errno) → (e ≡ Errno.EPERM) ⊎ (e ≡ Errno.ESRCH) → Call S (refuse S e)
+of_cred S e (inl is) = subst (λ f. Call S (refuse S f)) (sym is) (refuses refl refl)
+of_cred S e (inr is) = subst (λ f. Call S (refuse S f)) (sym is) (refuses refl refl)
+
+given_obeys : (S : State) (p : ℕ) (P : Process) (tag d : ℕ) (s : Socket) (addr : Option Addr) (bytes : List ℕ) (given : Option Cred) (rights : List ℕ) → process_at S p ≡ Some P → socket_at S d ≡ Some s →
+    (IsSound S → NamesNoneGone S rights) → Call S (send_given S p P tag d s addr bytes given rights)
+given_obeys S p P tag d s addr bytes given rights here h names = by_refusal (given_refusal S p P given) (tells_refusal S p P given)
+  where
+    by_refusal : (o : Option Errno) → ((e : Errno) → o ≡ Some e → (e ≡ Errno.EPERM) ⊎ (e ≡ Errno.ESRCH)) → Call S (elim o as (λ _. Outcome) [
+      | Some e ↦ refuse S e
+      | None ↦ if not (is_sendable_addr addr) then refuse S Errno.EINVAL else send_from S (flight_limit P) d s addr (message_of P tag (sent_cred p P given) bytes rights)
+    ])
+    by_refusal (Some e) told = of_cred S e (told e refl)
+    by_refusal None told = either (Call S) (not (is_sendable_addr addr)) _ _ (λ b. refuses refl refl)
+        (λ b. from_obeys S (flight_limit P) d s addr (message_of P tag (sent_cred p P given) bytes rights) h (names, flight_limit_is S p P here))
+
+with_obeys : (S : State) (p : ℕ) (P : Process) (tag d : ℕ) (s : Socket) (addr : Option Addr) (bytes : List ℕ) (control : Control) → process_at S p ≡ Some P → socket_at S d ≡ Some s →
     Call S (send_with S p P tag d s addr bytes control)
 unfolding send_with
-with_obeys S p P tag d s addr bytes control h = either (Call S) (not (is_sendable_control s.kind bytes control)) _ _ (λ b. refuses refl refl)
+with_obeys S p P tag d s addr bytes control here h = either (Call S) (not (is_sendable_control s.kind bytes control)) _ _ (λ b. refuses refl refl)
     (λ b. maybe (Call S) (descriptions_behind (table_of S p) control.rights) _ _ (refuses refl refl)
-    (λ rights behind. either (Call S) (not (is_sendable_addr addr)) _ _ (λ b. refuses refl refl)
-    (λ b. from_obeys S d s addr (message_of (own_cred p P) tag bytes rights) h (λ sound. behind_there S p control.rights rights sound behind))))
+    (λ rights behind. given_obeys S p P tag d s addr bytes control.cred rights here h (λ sound. behind_there S p control.rights rights sound behind)))
 
-read_obeys : (S : State) (p : ℕ) (P : Process) (tag d : ℕ) (s : Socket) (addr : Option Addr) (bytes : List ℕ) (control : Option Control) → socket_at S d ≡ Some s →
+read_obeys : (S : State) (p : ℕ) (P : Process) (tag d : ℕ) (s : Socket) (addr : Option Addr) (bytes : List ℕ) (control : Option Control) → process_at S p ≡ Some P → socket_at S d ≡ Some s →
     Call S (send_read S p P tag d s addr bytes control)
 unfolding send_read
-read_obeys S p P tag d s addr bytes None h = refuses refl refl
-read_obeys S p P tag d s addr bytes (Some control) h = with_obeys S p P tag d s addr bytes control h
+read_obeys S p P tag d s addr bytes None here h = refuses refl refl
+read_obeys S p P tag d s addr bytes (Some control) here h = with_obeys S p P tag d s addr bytes control here h
 
 reading_obeys : (S : State) (control : List ℕ) (o : Outcome) → Call S o → Call S (reading_control control o)
 reading_obeys S control o obeys = record { own_reply = obeys.own_reply; refused = obeys.refused; failed = obeys.failed; reached = obeys.reached; objects = obeys.objects }
@@ -175,7 +259,7 @@ unfolding send_msg
 send_obeys S p tag fd addr bytes control flags = maybe (Call S) (process_at S p) _ _ (refuses refl refl)
     (λ P here. found_socket (Call S) S p fd _ (refuses refl refl) (refuses refl refl)
     (λ d s h. either (Call S) (not (are_send_flags flags)) _ _ (λ b. refuses refl refl)
-    (λ b. reading_obeys S control _ (read_obeys S p P tag d s addr bytes (control_in control) h))))
+    (λ b. reading_obeys S control _ (read_obeys S p P tag d s addr bytes (control_in control) here h))))
 
 -- ---- receiving
 
@@ -187,7 +271,7 @@ reset_obeys S d s h pending = record {
   refused = λ e told. let same : Errno.ECONNRESET ≡ e = cc told in
       subst (λ g. LeftByRefusal S g (with_socket_by S d (with_reset false))) same (record { description = d; socket = s; there = h; was_pending = pending; left = refl });
   failed = λ T none. absurd (cc none);
-  reached = with_socket_reached S d (with_reset false) still (λ sound t here. queue_changed S d t t.queue false (λ k gone. omega arith));
+  reached = with_socket_reached S d (with_reset false) still (λ sound t here. pending_changed S d t false);
   objects = same_objects S (with_socket_by S d (with_reset false)) refl;
 }
 
@@ -251,17 +335,26 @@ front_obeys S p d n s space flags m ms h q = answers refl refl refl (same (asks_
     delivered : Reaches S false T
     delivered = with_table_reached S p _ still (λ sound. installed_names S (table_of S p) (table_of S p) (asks_cloexec_rights flags) _ front.rights (front_there S d n s m ms h q sound) (same_names S (table_of S p)))
 
+    same_as : (t : Socket) → socket_at T d ≡ Some t → s ≡ t
+    same_as t here =
+        let there : socket_at S d ≡ Some t = ap (λ ds. socket_at (record S { descriptions = ds }) d) (sym alike) ∙ here in
+        cc (sym h ∙ there)
+
     fewer : (t : Socket) → socket_at T d ≡ Some t → (k : ℕ) → queue_refs k front.rest ≤ queue_refs k t.queue
     fewer t here k =
-        let there : socket_at S d ≡ Some t = ap (λ ds. socket_at (record S { descriptions = ds }) d) (sym alike) ∙ here in
-        let same : s ≡ t = cc (sym h ∙ there) in
-        let all : queue_refs k t.queue ≡ queue_refs k (m ∷ ms) = ap (λ u. queue_refs k (Socket.queue u)) (sym same) ∙ ap (queue_refs k) q in
+        let all : queue_refs k t.queue ≡ queue_refs k (m ∷ ms) = ap (λ u. queue_refs k (Socket.queue u)) (sym (same_as t here)) ∙ ap (queue_refs k) q in
         let parts = front_of_refs k n s m ms in
+        omega (arith, all, parts)
+
+    fewer_flying : (t : Socket) → socket_at T d ≡ Some t → (u : ℕ) → rights_sent_by u front.rest ≤ rights_sent_by u t.queue
+    fewer_flying t here u =
+        let parts = front_of_flying u n s m ms in
+        let all : rights_sent_by u t.queue ≡ rights_sent_by u (m ∷ ms) = ap (λ w. rights_sent_by u (Socket.queue w)) (sym (same_as t here)) ∙ ap (rights_sent_by u) q in
         omega (arith, all, parts)
 
     peeked : (b : Bool) → Reaches S false (if b then T else with_socket_by T d (with_queue front.rest))
     peeked true = delivered
-    peeked false = with_socket_reached T d (with_queue front.rest) delivered (λ sound t here. queue_changed T d t front.rest t.reset (λ k gone. fewer t here k))
+    peeked false = with_socket_reached T d (with_queue front.rest) delivered (λ sound t here. queue_changed T d t front.rest t.reset (λ k gone. fewer t here k) (fewer_flying t here))
 
 from_peer_obeys : (S : State) (p d : ℕ) (s : Socket) (n space : ℕ) (flags : MsgFlags) → socket_at S d ≡ Some s → Call S (receive_from_peer S p d s n space flags)
 from_peer_obeys S p d s n space flags h = maybe (Call S) (peer_of s.phase) _ _ (refuses refl refl)

@@ -47,6 +47,7 @@ name_given S d s name h unnamed = with_socket_reached S d (with_name name) still
   peer = refl;
   pending = λ k. omega arith;
   waits = λ w. omega arith;
+  flies = λ u limit are within. omega (arith, within);
   named = λ a has.
       let none : is_unnamed_addr t.name ≡ true = ap (λ (u : Socket). is_unnamed_addr u.name) (sym (same_socket S d s t h here)) ∙ unnamed in
       let one : is_unnamed_addr t.name ≡ false = ap is_unnamed_addr has in
@@ -62,7 +63,7 @@ shows name (Some D) s h = by_target D.target h
     by_target (to_object o) h = absurd (cc h)
     by_target (to_socket u) h = refl
 
-abstract_given : (S : State) (d : ℕ) (s : Socket) (name : Name) → socket_at S d ≡ Some s → is_unnamed_addr s.name ≡ true →
+pub abstract_given : (S : State) (d : ℕ) (s : Socket) (name : Name) → socket_at S d ≡ Some s → is_unnamed_addr s.name ≡ true →
     Reaches S false (record (with_socket_by S d (with_name (Addr.Abstract name))) { abstract_names = S.abstract_names ++ (name, d) ∷ [] })
 abstract_given S d s name h unnamed = name_bound name d (name_given S d s (Addr.Abstract name) h unnamed)
     (ap name_in (changed_here S.descriptions d (changed (with_name (Addr.Abstract name)))) ∙ shows (Addr.Abstract name) (description_at S d) s h)
@@ -74,7 +75,7 @@ bind_to_obeys S d s (Addr.Path name) h unnamed = either (Call S) (is_some (named
 bind_to_obeys S d s (Addr.Abstract name) h unnamed = either (Call S) (is_some (named name S.abstract_names)) _ _ (λ b. refuses refl refl)
     (λ b. answers refl refl refl refl (abstract_given S d s name h unnamed))
 
-first_holds : (a b : Bool) → (not a || b) ≡ false → a ≡ true
+pub first_holds : (a b : Bool) → (not a || b) ≡ false → a ≡ true
 first_holds true b h = refl
 first_holds false b h = absurd (cc h)
 
@@ -95,7 +96,7 @@ is_none_of None h = refl
 is_none_of (Some x) h = absurd (cc h)
 
 listening_keeps : (S : State) (d : ℕ) (s : Socket) (limit : ℕ) (cred : Cred) → peer_of s.phase ≡ None → KeepsSocket S d s (with_listening limit cred s)
-listening_keeps S d s limit cred free = record { holds = λ k gone. omega arith; peer = sym free; pending = λ k. omega arith; waits = λ w. omega arith; named = λ a has. has }
+listening_keeps S d s limit cred free = record { holds = λ k gone. omega arith; peer = sym free; pending = λ k. omega arith; waits = λ w. omega arith; flies = λ u limit are within. omega (arith, within); named = λ a has. has }
 
 pub listen_obeys : (S : State) (p : ℕ) (fd : Fd) (backlog : ℤ) → Call S (listen S p fd backlog)
 unfolding listen
@@ -130,6 +131,7 @@ association_keeps S n s target = record {
   peer = peer_associated target s.phase;
   pending = λ d. let same = ap (times d) (ends_associated target s.phase) in omega (arith, same);
   waits = λ w. omega arith;
+  flies = λ u limit are within. omega (arith, within);
   named = λ a has. has;
 }
 
@@ -221,6 +223,7 @@ first_taken S d s = record {
   peer = peer_left s.phase;
   pending = λ k. fewer_pending k s.phase;
   waits = λ w. omega arith;
+  flies = λ u limit are within. omega (arith, within);
   named = λ a has. has;
 }
 
@@ -231,7 +234,7 @@ accepted_keeps S e flags (Some D) none = kept_place S e D (accepted_with flags D
   where
     by_target : (t : Target) → KeepsTarget S e t (changed_target as_accepted t)
     by_target (to_object o) = same_target S e (to_object o)
-    by_target (to_socket s) = kept_socket S e s (as_accepted s) (record { holds = λ k gone. omega arith; peer = refl; pending = λ k. omega arith; waits = λ w. absurd (omega (arith, w, none)); named = λ a has. has })
+    by_target (to_socket s) = kept_socket S e s (as_accepted s) (record { holds = λ k gone. omega arith; peer = refl; pending = λ k. omega arith; waits = λ w. absurd (omega (arith, w, none)); flies = λ u limit are within. omega (arith, within); named = λ a has. has })
 
 -- a table changes no description
 pub same_descriptions : (S : State) (p : ℕ) (table : List (Option Descriptor)) → (with_table S p table).descriptions ≡ S.descriptions
@@ -270,7 +273,7 @@ accept_obeys S p fd flags = found_socket (Call S) S p fd _ (refuses refl refl) (
 -- ---- shutdown
 
 shut_keeps : (S : State) (d : ℕ) (s : Socket) (how : Mode) → KeepsSocket S d s (shut_down how s)
-shut_keeps S d s how = record { holds = λ k gone. omega arith; peer = refl; pending = λ k. omega arith; waits = λ w. omega arith; named = λ a has. has }
+shut_keeps S d s how = record { holds = λ k gone. omega arith; peer = refl; pending = λ k. omega arith; waits = λ w. omega arith; flies = λ u limit are within. omega (arith, within); named = λ a has. has }
 
 pub shutdown_obeys : (S : State) (p : ℕ) (fd : Fd) (how : Mode) → Call S (shutdown S p fd how)
 unfolding shutdown

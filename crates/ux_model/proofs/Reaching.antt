@@ -1,10 +1,11 @@
 -- What a call may do to a state, part by part: each call's next state comes of its first by such changes. What each of these changes
 -- keeps, every call keeps. A call that changes what none of these do brings a further one, which owes a line of `exits_kept` (Living), of
--- `reached_sound` (ReachedSound) and of `reached_there` (Closed).
+-- `reached_sound` (ReachedSound), of `reached_there` (Closed) and of `reached_within` (FlightLaws).
 use Rattle.std.proofs.Common.{◌≡◌, ℕ, zero, suc, ◌+◌, ◌≤◌, ◌<◌, ◌==◌, Bool, true, false, cond, List, [], ◌∷◌, ◌++◌, length, map, set, Option, Some, None, refl, ap, sym, subst, ◌∙◌, arith}
 use Rattle.std.specs.Prelude.{is_some, filter, option_map}
 use Rattle.std.specs.List.{slice_get}
 use Rattle.std.proofs.lemmas.Bool.{eqb-true}
+use Rattle.std.proofs.lemmas.List.{length-set}
 use Rattle.std.proofs.lemmas.List.Sums.{sum_by-cons}
 use Rattle.ux_model.specs.Types.{Cred, Name, Addr}
 use Rattle.ux_model.specs.Places.{place, filled, emptied}
@@ -17,15 +18,27 @@ use Rattle.ux_model.specs.Process.{Process, Descriptor}
 use Rattle.ux_model.specs.State.{State, description_at, socket_at, process_at, table_of, with_object, with_description, with_socket_by, with_process, with_table, with_new}
 use Rattle.ux_model.specs.References.{names_description, table_refs, queue_refs, socket_refs, target_refs, description_refs, leads_to, is_open_of, orefs}
 use Rattle.ux_model.specs.Peers.{target_peer, peer_in, at_target, at_socket, HoldsNothing}
+use Rattle.ux_model.specs.Flight.{rights_sent_by, flying_at, flying_in, in_flight}
+use Rattle.ux_model.specs.FlightLaws.{AreLimited}
 use Rattle.ux_model.specs.Connecting.{with_connection}
 use Rattle.ux_model.specs.Closing.{with_nothing_open}
 use Rattle.ux_model.specs.Invariants.{pends, pends_at_all}
 use Rattle.ux_model.proofs.Named.{table_in}
 use Rattle.ux_model.proofs.Sound.{IsSound, unaccepted, target_name, name_in}
 
--- the new table has no more entries than the old one for a description that isn't there
-abbrev pub NamesWhatIsThere : State → List (Option Descriptor) → List (Option Descriptor) → Type 0
-NamesWhatIsThere S old new = (d : ℕ) → is_some (description_at S d) ≡ false → table_refs d new ≤ table_refs d old
+-- the new table has no more places than the old one, and no more entries for a description that isn't there
+pub record NamesWhatIsThere (S : State) (old new : List (Option Descriptor)) : Type 0 where
+  pub counts : (d : ℕ) → is_some (description_at S d) ≡ false → table_refs d new ≤ table_refs d old
+  pub long : length new ≤ length old
+
+-- a process stays one of the same user, privileged as before
+pub record IsOfSameUser (P Q : Process) : Type 0 where
+  pub user : Q.uid ≡ P.uid
+  pub privileged : Q.privileged ≡ P.privileged
+
+-- Of one place: from so many rights in flight to so many others, by user, so that all together stay within each limit of the processes.
+abbrev pub StaysWithin : State → (ℕ → ℕ) → (ℕ → ℕ) → Type 0
+StaysWithin S old new = (u limit : ℕ) → AreLimited S u limit → in_flight S u ≤ limit → in_flight S u + new u ≤ limit + old u
 
 -- Of what stands at a place before and after: it leads where it led, keeps an abstract name that it has, and refers to what is there.
 pub record KeepsReferences (S : State) (old new : Option Description) : Type 0 where
@@ -34,12 +47,14 @@ pub record KeepsReferences (S : State) (old new : Option Description) : Type 0 w
   pub holds : (d : ℕ) → is_some (description_at S d) ≡ false → description_refs d new ≤ description_refs d old
   pub named : (name : Name) → name_in old ≡ Some (Addr.Abstract name) → name_in new ≡ Some (Addr.Abstract name)
 
--- And of place n: it has the same peer, and no more ends wait at it; and while it waits for accept itself, none has taken it.
+-- And of place n: it has the same peer, no more ends wait at it, and no more rights than may be; and while it waits for accept itself, none
+-- has taken it.
 pub record KeepsPlace (S : State) (n : ℕ) (old new : Option Description) : Type 0 where
   pub references : KeepsReferences S old new
   pub peer : peer_in new ≡ peer_in old
   pub pending : (d : ℕ) → at_socket (pends d) new ≤ at_socket (pends d) old
   pub waits : 0 < pends_at_all n S.descriptions → at_socket unaccepted old ≤ at_socket unaccepted new
+  pub flies : StaysWithin S (λ u. flying_in u old) (λ u. flying_in u new)
 
 -- two new descriptions of sockets that are connected to one another, where the first gets number d
 pub record ArePeers (d : ℕ) (D E : Description) : Type 0 where
@@ -53,7 +68,7 @@ pub data Reaches (S : State) (ends : Bool) : State → Type 0 where
   still : Reaches S ends S
   -- a process changes, and its table names what is there
   process_changed : {T : State} (i : ℕ) (P Q : Process) → Reaches S ends T → slice_get T.processes i ≡ Some P → (IsSound S → NamesWhatIsThere T P.table Q.table) →
-      (ends ≡ false → Q.exited ≡ P.exited) → Reaches S ends (record T { processes = set T.processes i Q })
+      (ends ≡ false → Q.exited ≡ P.exited) → IsOfSameUser P Q → Reaches S ends (record T { processes = set T.processes i Q })
   -- a new description refers to nothing, and leads to a file object that something leads to already, or to a socket without a peer
   description_made : {T : State} (D : Description) → Reaches S ends T → (IsSound S → (o : ℕ) → leads_to o D.target ≡ true → 0 < orefs T o) → HoldsNothing D →
       Reaches S ends (with_new T D)
@@ -115,8 +130,9 @@ none_counts d (x ∷ xs) = none_counts d xs
 abbrev IsThere : State → Descriptor → Type 0
 IsThere S e = is_some (description_at S e.description) ≡ true
 
-pub put_names : (S : State) (old table : List (Option Descriptor)) (n : ℕ) (e : Descriptor) → IsThere S e → NamesWhatIsThere S old table → NamesWhatIsThere S old (filled table n e)
-put_names S old table n e there names d gone = go (e.description == d) refl
+put_counts : (S : State) (old table : List (Option Descriptor)) (n : ℕ) (e : Descriptor) → IsThere S e → NamesWhatIsThere S old table → (d : ℕ) → is_some (description_at S d) ≡ false →
+    table_refs d (filled table n e) ≤ table_refs d old
+put_counts S old table n e there names d gone = go (e.description == d) refl
   where
     go : (b : Bool) → (e.description == d) ≡ b → table_refs d (filled table n e) ≤ table_refs d old
     go true h =
@@ -126,14 +142,20 @@ put_names S old table n e there names d gone = go (e.description == d) refl
     go false h =
         let none : one d (Some e) ≡ 0 = ap (λ b. cond {A = ℕ} b 1 0) h in
         let put = filled_counts d table n e in
-        let rest : table_refs d table ≤ table_refs d old = names d gone in
+        let rest : table_refs d table ≤ table_refs d old = names.counts d gone in
         omega (arith, none, put, rest)
 
+pub put_names : (S : State) (old table : List (Option Descriptor)) (n : ℕ) (e : Descriptor) → IsThere S e → NamesWhatIsThere S old table → NamesWhatIsThere S old (filled table n e)
+put_names S old table n e there names = record {
+  counts = put_counts S old table n e there names;
+  long = let same = length-set table n (Some e) in let before = names.long in omega (arith, same, before);
+}
+
 pub taken_names : (S : State) (table : List (Option Descriptor)) (n : ℕ) → NamesWhatIsThere S table (emptied table n)
-taken_names S table n d gone = emptied_counts d table n
+taken_names S table n = record { counts = λ d gone. emptied_counts d table n; long = let same = length-set table n None in omega (arith, same) }
 
 pub same_names : (S : State) (table : List (Option Descriptor)) → NamesWhatIsThere S table table
-same_names S table d gone = omega arith
+same_names S table = record { counts = λ d gone. omega arith; long = omega arith }
 
 -- ---- one description
 
@@ -144,13 +166,14 @@ pub record KeepsTarget (S : State) (n : ℕ) (old new : Target) : Type 0 where
   pub peer : target_peer new ≡ target_peer old
   pub pending : (d : ℕ) → at_target (pends d) new ≤ at_target (pends d) old
   pub waits : 0 < pends_at_all n S.descriptions → at_target unaccepted old ≤ at_target unaccepted new
+  pub flies : StaysWithin S (λ u. flying_at u old) (λ u. flying_at u new)
   pub named : (name : Name) → target_name old ≡ Some (Addr.Abstract name) → target_name new ≡ Some (Addr.Abstract name)
 
 pub same_target : (S : State) (n : ℕ) (t : Target) → KeepsTarget S n t t
-same_target S n t = record { leads = λ o. refl; holds = λ d gone. omega arith; peer = refl; pending = λ d. omega arith; waits = λ h. omega arith; named = λ name h. h }
+same_target S n t = record { leads = λ o. refl; holds = λ d gone. omega arith; peer = refl; pending = λ d. omega arith; waits = λ h. omega arith; flies = λ u limit are within. omega (arith, within); named = λ name h. h }
 
 pub kept_place : (S : State) (n : ℕ) (D E : Description) → KeepsTarget S n D.target E.target → KeepsPlace S n (Some D) (Some E)
-kept_place S n D E k = record { references = record { held = refl; leads = k.leads; holds = k.holds; named = k.named }; peer = k.peer; pending = k.pending; waits = k.waits }
+kept_place S n D E k = record { references = record { held = refl; leads = k.leads; holds = k.holds; named = k.named }; peer = k.peer; pending = k.pending; waits = k.waits; flies = k.flies }
 
 -- the same of a socket
 pub record KeepsSocket (S : State) (n : ℕ) (s t : Socket) : Type 0 where
@@ -158,6 +181,7 @@ pub record KeepsSocket (S : State) (n : ℕ) (s t : Socket) : Type 0 where
   pub peer : peer_of t.phase ≡ peer_of s.phase
   pub pending : (d : ℕ) → pends d t ≤ pends d s
   pub waits : 0 < pends_at_all n S.descriptions → unaccepted s ≤ unaccepted t
+  pub flies : StaysWithin S (λ u. rights_sent_by u s.queue) (λ u. rights_sent_by u t.queue)
   pub named : (name : Name) → s.name ≡ Addr.Abstract name → t.name ≡ Addr.Abstract name
 
 pub kept_socket : (S : State) (n : ℕ) (s t : Socket) → KeepsSocket S n s t → KeepsTarget S n (to_socket s) (to_socket t)
@@ -167,19 +191,26 @@ kept_socket S n s t k = record {
   peer = k.peer;
   pending = k.pending;
   waits = k.waits;
+  flies = k.flies;
   named = λ name h. ap Some (k.named name (let e : s.name ≡ Addr.Abstract name = cc h in e));
 }
 
--- where only the queue and what is pending change
+-- where only the queue and what is pending change, and the queue has no more rights
 pub queue_changed : (S : State) (n : ℕ) (s : Socket) (queue : List Message) (reset : Bool) →
-    ((d : ℕ) → is_some (description_at S d) ≡ false → queue_refs d queue ≤ queue_refs d s.queue) → KeepsSocket S n s (record s { queue = queue; reset = reset })
-queue_changed S n s queue reset holds = record {
+    ((d : ℕ) → is_some (description_at S d) ≡ false → queue_refs d queue ≤ queue_refs d s.queue) → ((u : ℕ) → rights_sent_by u queue ≤ rights_sent_by u s.queue) →
+    KeepsSocket S n s (record s { queue = queue; reset = reset })
+queue_changed S n s queue reset holds fewer = record {
   holds = λ d gone. let h : queue_refs d queue ≤ queue_refs d s.queue = holds d gone in omega (arith, h);
   peer = refl;
   pending = λ d. omega arith;
   waits = λ h. omega arith;
+  flies = λ u limit are within. let less : rights_sent_by u queue ≤ rights_sent_by u s.queue = fewer u in omega (arith, within, less);
   named = λ name h. h;
 }
+
+-- where what is pending changes alone
+pub pending_changed : (S : State) (n : ℕ) (s : Socket) (reset : Bool) → KeepsSocket S n s (record s { reset = reset })
+pending_changed S n s reset = queue_changed S n s s.queue reset (λ d gone. omega arith) (λ u. omega arith)
 
 -- ---- the changes as calls make them
 
@@ -191,18 +222,20 @@ with_table_reached {S} {ends} T (suc i) table r names = go (slice_get T.processe
     go : (o : Option Process) → slice_get T.processes i ≡ o → (IsSound S → NamesWhatIsThere T (table_in o) table) →
         Reaches S ends (elim o as (λ _. State) [ Some P ↦ record T { processes = set T.processes i (record P { table = table }) } | None ↦ T ])
     go None h names = r
-    go (Some P) h names = process_changed i P (record P { table = table }) r h names (λ k. refl)
+    go (Some P) h names = process_changed i P (record P { table = table }) r h names (λ k. refl) (record { user = refl; privileged = refl })
 
-pub with_process_reached : {S : State} (T : State) (p : ℕ) (P Q : Process) → Reaches S true T → process_at T p ≡ Some P → ((d : ℕ) → table_refs d Q.table ≡ 0) → Reaches S true (with_process T p Q)
-with_process_reached T zero P Q r h none = absurd (cc h)
-with_process_reached T (suc i) P Q r h none = process_changed i P Q r h (λ sound d gone. let z = none d in omega (arith, z)) (λ e. absurd (cc e))
+pub with_process_reached : {S : State} (T : State) (p : ℕ) (P Q : Process) → Reaches S true T → process_at T p ≡ Some P → ((d : ℕ) → table_refs d Q.table ≡ 0) → length Q.table ≡ length P.table →
+    IsOfSameUser P Q → Reaches S true (with_process T p Q)
+with_process_reached T zero P Q r h none long same = absurd (cc h)
+with_process_reached T (suc i) P Q r h none long same =
+    process_changed i P Q r h (λ sound. record { counts = λ d gone. let z = none d in omega (arith, z); long = omega (arith, long) }) (λ e. absurd (cc e)) same
 
 pub with_description_reached : {S : State} {ends : Bool} (T : State) (d : ℕ) (D E : Description) → Reaches S ends T → description_at T d ≡ Some D → (IsSound S → KeepsTarget T d D.target E.target) →
     Reaches S ends (with_description T d E)
 with_description_reached T d D E r h keeps = description_changed d (Some E) r (λ sound. subst (λ x. KeepsPlace T d x (Some E)) (sym h) (kept_place T d D E (keeps sound)))
 
 pub nothing_there : (S : State) (n : ℕ) → KeepsPlace S n None None
-nothing_there S n = record { references = record { held = refl; leads = λ o. refl; holds = λ d gone. omega arith; named = λ name h. h }; peer = refl; pending = λ d. omega arith; waits = λ h. omega arith }
+nothing_there S n = record { references = record { held = refl; leads = λ o. refl; holds = λ d gone. omega arith; named = λ name h. h }; peer = refl; pending = λ d. omega arith; waits = λ h. omega arith; flies = λ u limit are within. omega (arith, within) }
 
 pub with_socket_reached : {S : State} {ends : Bool} (T : State) (d : ℕ) (change : Socket → Socket) → Reaches S ends T →
     (IsSound S → (s : Socket) → socket_at T d ≡ Some s → KeepsSocket T d s (change s)) → Reaches S ends (with_socket_by T d change)

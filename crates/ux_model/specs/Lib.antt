@@ -33,12 +33,17 @@ pub mod Writing
 pub mod Seeking
 pub mod Descriptors
 pub mod Accepting
+pub mod Options
+pub mod Readiness
 pub mod Closing
 pub mod Step
 pub mod HandingOut
 pub mod Peers
+pub mod Flight
 pub mod Moves
 pub mod Boot
 pub mod Owning
 pub mod History
 pub mod Invariants
+pub mod ReadyCalls
+pub mod FlightLaws

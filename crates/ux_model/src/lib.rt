@@ -8,6 +8,8 @@ ghost use Rattle.ux_model.specs.HandingOut.{HandsOutWhatWasHeld};
 ghost use Rattle.ux_model.specs.History.{LeadsToOne, FrontIsLegal, ExitAloneEnds, StepKeepsProcesses, LivesUntilExit};
 ghost use Rattle.ux_model.specs.Peers.{OneGoes};
 ghost use Rattle.ux_model.specs.Invariants.{NoneLeftUnreferenced, SettlesAtOnce, StaysSettled, RefusalChangesNothing, RefusedEntryChangesNothing, NothingDangles, ClosedOnce};
+ghost use Rattle.ux_model.specs.ReadyCalls.{TellsInput, TellsRoom};
+ghost use Rattle.ux_model.specs.FlightLaws.{FlightIsLimited};
 ghost use Rattle.ux_model.specs.Owning.{NameGoes};
 ghost use Rattle.ux_model.specs.Moves.{ProcessCounts, SocketCounts, NewCounts, NewCountsAtObject, SameTargetCountsAlike, TakenPathCountsNot};
 
@@ -145,4 +147,24 @@ pub fn what_a_step_hands_out()
 #[tactic(auto, using(crate::proofs::Owning::name_goes))]
 pub fn one_name_goes()
     ensures { NameGoes }
+{}
+
+/// On a socket to and from which messages go, poll(2) tells no input exactly where a receive of one byte would
+/// wait.
+#[tactic(auto, using(crate::proofs::ReadyCalls::tells_input))]
+pub fn poll_tells_of_input()
+    ensures { TellsInput }
+{}
+
+/// And no room exactly where a send of one byte would wait.
+#[tactic(auto, using(crate::proofs::ReadyCalls::tells_room))]
+pub fn poll_tells_of_room()
+    ensures { TellsRoom }
+{}
+
+/// Where no process of a user is privileged, the user never has more rights in flight than the most
+/// descriptors that one of them may have.
+#[tactic(auto, using(crate::proofs::FlightLaws::flight_is_limited))]
+pub fn rights_in_flight_are_limited()
+    ensures { FlightIsLimited }
 {}
