@@ -1,5 +1,5 @@
 //! An open file description.
-ghost use Rattle.std.specs.Prelude.{◌≡◌, ◌↔◌, ◌<◌, false, Some, None, MatchOption, IsTrue, IsSomeAnd, IsErrAnd, IfOk, IfErr, OnOk, OnErr, length};
+ghost use Rattle.std.specs.Prelude.{◌≡◌, ◌↔◌, ◌<◌, false, Some, None, MatchOption, IsTrue, IsSomeAnd, IsErrAnd, IfOk, IfErr, OnOk, OnErr, length, option_map};
 ghost use Rattle.ux_model.specs.Message.{message};
 ghost use Rattle.ux_model.specs.Socket.{is_stream, has_room, sent_part, sent, with_queue, with_reset};
 ghost use Rattle.ux_model.specs.Front.{OnFront};
@@ -166,10 +166,11 @@ impl Description {
     }
 
     /// Takes off what a receive of at most n bytes takes at its socket, and gives the rights that come with
-    /// it. It takes no memory.
-    pub fn skip(&mut self, n: usize) -> RefList
+    /// it, and the user who sent them where there are any. It takes no memory.
+    pub fn skip(&mut self, n: usize) -> (RefList, Option<u32>)
         requires some { IsSomeAnd (socket_of self.old.target) (λ s. 0 < length s.queue) }
-        ensures rights { IsSomeAnd (socket_of self.old.target) (λ s. OnFront n s (λ f. result ≡ f.rights)) }
+        ensures rights { IsSomeAnd (socket_of self.old.target) (λ s. OnFront n s (λ f. result.0 ≡ f.rights)) }
+        ensures sender { IsSomeAnd (socket_of self.old.target) (λ s. OnFront n s (λ f. result.1 ≡ option_map (λ o. o.uid) f.origin)) }
         ensures rest { IsSomeAnd (socket_of self.old.target) (λ s. OnFront n s (λ f. self.new ≡ changed (with_queue f.rest) self.old)) }
     {
         match &mut self.target {

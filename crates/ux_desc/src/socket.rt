@@ -2,7 +2,7 @@
 ghost use Rattle.std.specs.Prelude.{◌≡◌, ◌↔◌, ◌==◌, ◌<◌, ◌≤◌, ◌-◌, [], ◌∷◌, ◌++◌, length, drop, false, Some, None, IsTrue, IfOk, IfErr, IsErrAnd, OnOk, OnErr, option_map, slice_get};
 ghost use Rattle.ux_model.specs.Limits.{stream_limit, record_limit};
 ghost use Rattle.ux_model.specs.Message.{message, queued_bytes};
-ghost use Rattle.ux_model.specs.Socket.{is_stream, is_dgram, new_socket, pair_end, peer_of, association_of, tied_socket, takes_from, pending_ends, has_room, sent_part, sent, with_queue, with_reset, with_association, shut_down};
+ghost use Rattle.ux_model.specs.Socket.{is_stream, is_dgram, new_socket, pair_end, peer_of, association_of, tied_socket, takes_from, pending_ends, has_room, sent_part, sent, with_queue, with_reset, with_passcred, with_association, shut_down};
 ghost use Rattle.ux_model.specs.Front.{OnStreamFront, OnRecordFront, OnFront};
 ghost use Rattle.ux_model.specs.Accepting.{without_first_end};
 ghost use Rattle.ux_model.specs.Release.{resets_peer};
@@ -170,6 +170,13 @@ impl Socket {
         self.passcred
     }
 
+    /// The credentials that were recorded of its peer (SO_PEERCRED).
+    pub fn peer_cred(&self) -> Option<Cred>
+        ensures { result ≡ self.now.peer_cred }
+    {
+        self.peer_cred
+    }
+
     /// Whether it is shut down for reading.
     pub fn is_read_shut(&self) -> bool
         ensures { result ≡ self.now.read_shut }
@@ -274,15 +281,16 @@ impl Socket {
         }
     }
 
-    /// Takes off what `peek` shows, and of a message what it doesn't show, and gives the rights. It takes no
-    /// memory.
-    pub fn skip(&mut self, n: usize) -> RefList
+    /// Takes off what `peek` shows, and of a message what it doesn't show, and gives the rights, and the user
+    /// who sent them where there are any. It takes no memory.
+    pub fn skip(&mut self, n: usize) -> (RefList, Option<u32>)
         requires some { 0 < length self.old.queue }
-        ensures rights { OnFront n self.old (λ f. result ≡ f.rights) }
+        ensures rights { OnFront n self.old (λ f. result.0 ≡ f.rights) }
+        ensures sender { OnFront n self.old (λ f. result.1 ≡ option_map (λ o. o.uid) f.origin) }
         ensures rest { OnFront n self.old (λ f. self.new ≡ with_queue f.rest self.old) }
     {
         match &mut self.queue {
-            Queue::Stream(queue) => queue.skip(n, self.passcred),
+            Queue::Stream(queue) => skip_stream(queue, n, self.passcred),
             Queue::Dgram(queue) => first_rights(queue),
             Queue::Seq(queue) => first_rights(queue),
         }
@@ -333,6 +341,13 @@ impl Socket {
     {
         self.read_shut = self.read_shut || how.can_read();
         self.write_shut = self.write_shut || how.can_write();
+    }
+
+    /// A receive gets credentials from now on, or no longer (SO_PASSCRED).
+    pub fn set_passcred(&mut self, on: bool)
+        ensures { self.new ≡ with_passcred on self.old }
+    {
+        self.passcred = on;
     }
 
     /// ECONNRESET is pending from now on, or no longer.
@@ -395,14 +410,30 @@ fn peek_stream(queue: &StreamQueue, n: usize, wants_cred: bool) -> Result<Receiv
     })
 }
 
-/// Takes the first message off a queue in which one waits, and gives its rights.
-fn first_rights(queue: &mut RecordQueue) -> RefList
+/// Takes off what a receive of at most n bytes takes of a stream, and gives the rights and who sent them.
+fn skip_stream(queue: &mut StreamQueue, n: usize, wants_cred: bool) -> (RefList, Option<u32>)
     requires { 0 < length queue.old }
-    ensures rights { OnRecordFront 0 queue.old (λ f. result ≡ f.rights) }
+    ensures rights { OnStreamFront wants_cred n queue.old (λ f. result.0 ≡ f.rights) }
+    ensures sender { OnStreamFront wants_cred n queue.old (λ f. result.1 ≡ option_map (λ o. o.uid) f.origin) }
+    ensures rest { OnStreamFront wants_cred n queue.old (λ f. queue.new ≡ f.rest) }
+{
+    let (rights, origin) = queue.skip(n, wants_cred);
+    match origin {
+        Some(origin) => (rights, Some(origin.uid)),
+        None => (rights, None),
+    }
+}
+
+/// Takes the first message off a queue in which one waits, and gives its rights and who sent them.
+fn first_rights(queue: &mut RecordQueue) -> (RefList, Option<u32>)
+    requires { 0 < length queue.old }
+    ensures rights { OnRecordFront 0 queue.old (λ f. result.0 ≡ f.rights) }
+    ensures sender { OnRecordFront 0 queue.old (λ f. result.1 ≡ option_map (λ o. o.uid) f.origin) }
     ensures rest { OnRecordFront 0 queue.old (λ f. queue.new ≡ f.rest) }
 {
     match queue.pop_message() {
-        Some((rights, _)) => rights,
+        Some((rights, _)) if rights.is_empty() => (rights, None),
+        Some((rights, uid)) => (rights, Some(uid)),
         None => unreachable!(),
     }
 }

@@ -43,6 +43,13 @@ fn expect_rights(rt: &impl Abort, rights: &RefList, numbers: &[u128]) {
     }
 }
 
+/// Sees that these references were taken off, of which the user sent all.
+fn expect_skip(rt: &impl Abort, skipped: (RefList, Option<u32>), numbers: &[u128]) {
+    let (rights, sender) = skipped;
+    expect_rights(rt, &rights, numbers);
+    assert!(rt; sender == if numbers.is_empty() { None } else { Some(1000) });
+}
+
 /// Sees what a receive gave.
 fn expect(rt: &impl Abort, received: &Received, bytes: &[u8], numbers: &[u128]) {
     assert!(rt; received.bytes.as_slice() == bytes);
@@ -59,7 +66,7 @@ fn take(
 ) -> Result<(), AllocError> {
     assert!(rt; !s.is_empty());
     expect(rt, &s.peek(n)?, bytes, numbers);
-    expect_rights(rt, &s.skip(n), numbers);
+    expect_skip(rt, s.skip(n), numbers);
     Ok(())
 }
 
@@ -142,7 +149,7 @@ fn unread_messages_reset_the_peer(rt: HostRuntime) -> Result<(), AllocError> {
     assert!(rt; sent.is_ok_and(|count| count == 2));
     assert!(rt; d.lost_peer() == Some(DescriptionId::new(4)));
     assert!(rt; d.socket().is_some_and(|s| !s.is_empty()));
-    expect_rights(&rt, &d.skip(2), &[]);
+    expect_skip(&rt, d.skip(2), &[]);
     assert!(rt; d.socket().is_some_and(|s| s.is_empty()));
     assert!(rt; d.lost_peer().is_none());
     d.set_reset(true);
@@ -223,7 +230,7 @@ fn take_message(
     expect(rt, &front, bytes, &[]);
     assert!(rt; front.whole == whole);
     assert!(rt; front.from.as_ref() == from);
-    expect_rights(rt, &s.skip(n), &[]);
+    expect_skip(rt, s.skip(n), &[]);
     Ok(())
 }
 

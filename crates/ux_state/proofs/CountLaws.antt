@@ -14,6 +14,7 @@ use Rattle.ux_model.specs.FileObjects.{is_opening}
 use Rattle.ux_model.specs.References.{table_refs, description_refs, refs}
 use Rattle.ux_model.specs.Closing.{with_nothing_open}
 use Rattle.ux_model.specs.Peers.{peer_in, Paired}
+use Rattle.ux_model.specs.Flight.{flying_in, in_flight}
 use Rattle.ux_slots.specs.Held.{Held, count_at}
 use Rattle.ux_state.specs.declared.openings.Openings.{Openings}
 use Rattle.ux_state.specs.Counting.{one_if, counts_of, Counted}
@@ -50,6 +51,10 @@ held_by_none : (k : ℕ) (ds : List (Option Description)) → ◌≡◌ {A = ℕ
 held_by_none k [] = refl
 held_by_none k (D ∷ ds) = sum_by-cons (description_refs k) None (map (λ _. None) ds) ∙ ap (λ n. 0 + n) (held_by_none k ds)
 
+none_flying : (u : ℕ) (ds : List (Option Description)) → ◌≡◌ {A = ℕ} (sum_by (flying_in u) (map (λ _. None) ds)) 0
+none_flying u [] = refl
+none_flying u (D ∷ ds) = sum_by-cons (flying_in u) None (map (λ _. None) ds) ∙ ap (λ n. 0 + n) (none_flying u ds)
+
 nothing_open : (k : ℕ) (ps : List Process) → sum_by (λ P. table_refs k (Process.table P)) (map with_nothing_open ps) ≡ 0
 nothing_open k [] = refl
 nothing_open k (P ∷ ps) =
@@ -64,11 +69,11 @@ links_none (l ∷ ls) zero = refl
 links_none (l ∷ ls) (suc o) = links_none ls o
 
 -- all descriptors, all descriptions and all names went
-pub forgotten_kept : (xs ys : List Openings) (ls ms : List ℕ) (H K : Held Description) (os : List (Option View)) (ps qs : List Process) (old new : List (Name × PathTarget)) (names left : List (Name × ℕ)) →
-    IsState xs ls H (state_of os H ps old names) → qs ≡ map with_nothing_open ps → K.places ≡ map (λ _. None) H.places → ((k : ℕ) → count_at K k ≡ 0) → ys ≡ map (λ _. counts.none_open) xs →
-    ms ≡ map (λ _. 0) ls → new ≡ [] → left ≡ [] → IsState ys ms K (state_of os K qs new left)
-unfolding refs
-forgotten_kept xs ys ls ms H K os ps qs old new names left state cleared places counts counted unlinked no_paths no_names = record {
+pub forgotten_kept : {fs gs : ℕ → ℕ} (xs ys : List Openings) (ls ms : List ℕ) (H K : Held Description) (os : List (Option View)) (ps qs : List Process) (old new : List (Name × PathTarget)) (names left : List (Name × ℕ)) →
+    IsState xs ls H fs (state_of os H ps old names) → qs ≡ map with_nothing_open ps → K.places ≡ map (λ _. None) H.places → ((k : ℕ) → count_at K k ≡ 0) → ys ≡ map (λ _. counts.none_open) xs →
+    ms ≡ map (λ _. 0) ls → new ≡ [] → left ≡ [] → ((u : ℕ) → gs u ≡ 0) → IsState ys ms K gs (state_of os K qs new left)
+unfolding refs in_flight
+forgotten_kept xs ys ls ms H K os ps qs old new names left state cleared places counts counted unlinked no_paths no_names flights = record {
   few_objects = state.few_objects;
   few_processes = let e = ap length cleared ∙ length-map ps with_nothing_open in let few = state.few_processes in omega (arith, e, few);
   one_each = rw (counted, length-map) state.one_each;
@@ -80,6 +85,7 @@ forgotten_kept xs ys ls ms H K os ps qs old new names left state cleared places 
       let b : sum_by (description_refs k) K.places ≡ 0 = ap (sum_by (description_refs k)) places ∙ held_by_none k H.places in
       let c : sum_by (λ P. table_refs k (Process.table P)) qs ≡ 0 = ap (sum_by (λ P. table_refs k (Process.table P))) cleared ∙ nothing_open k ps in
       omega (arith, a, b, c);
+  flying = λ u. flights u ∙ sym (ap (sum_by (flying_in u)) places ∙ none_flying u H.places);
   paired = rw places (nobody H.places);
   owned = rw no_names (owned_none K.places);
 }

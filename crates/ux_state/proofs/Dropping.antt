@@ -14,9 +14,11 @@ use Rattle.ux_model.specs.References.{leads_to, target_refs}
 use Rattle.ux_model.specs.Release.{without, is_unreferenced, has_unreferenced}
 use Rattle.ux_model.specs.FileObjects.{is_opening}
 use Rattle.ux_model.specs.Peers.{lost_peer, told}
+use Rattle.ux_model.specs.Flight.{flying_at, flying_in, in_flight}
 use Rattle.ux_model.specs.Owning.{target_name, name_in, without_shown}
 use Rattle.ux_model.proofs.AnyOrder.{live_in}
 use Rattle.ux_model.proofs.ChangedPlaces.{place_within}
+use Rattle.ux_model.proofs.Flying.{flying_left}
 use Rattle.ux_model.proofs.OneGoes.{one_goes, left_refs, held_refs, paired-emptied, paired-told, none_unreferenced, unreferenced}
 use Rattle.ux_model.proofs.Owning.{name_goes, owned_without}
 use Rattle.ux_slots.specs.Held.{Held, count_at, IsNoneDead}
@@ -75,7 +77,7 @@ counted_left ds xs ys d D here counted more = record {
 
 -- ---- the state
 
-module _ (xs : List Openings) (ls : List ℕ) (H : Held Description) (os : List (Option View)) (ps : List Process) (paths : List (Name × PathTarget)) (names : List (Name × ℕ)) (state : IsState xs ls H (state_of os H ps paths names)) where
+module _ {fs : ℕ → ℕ} (xs : List Openings) (ls : List ℕ) (H : Held Description) (os : List (Option View)) (ps : List Process) (paths : List (Name × PathTarget)) (names : List (Name × ℕ)) (state : IsState xs ls H fs (state_of os H ps paths names)) where
   -- what the lost one held is counted
   pub all_counted : (T : Held Description) (d k : ℕ) (D : Description) → place H.places d ≡ Some D → T.counts ≡ H.counts → target_refs k D.target ≤ count_at T k
   all_counted T d k D here same =
@@ -84,13 +86,20 @@ module _ (xs : List Openings) (ls : List ℕ) (H : Held Description) (os : List 
       let e : count_at T k ≡ count_at H k = ap (λ cs. count_at (record H { counts = cs }) k) same in
       omega (arith, a, b, e)
 
+  -- and so are its rights in flight
+  pub all_flying : (d u : ℕ) (D : Description) → place H.places d ≡ Some D → flying_at u D.target ≤ fs u
+  unfolding in_flight
+  all_flying d u D here = let a = flying_left u d D H.places here in let b = state.flying u in omega (arith, a, b)
+
   -- the names that are left
   left_names : (d : ℕ) (D : Description) (left : List (Name × ℕ)) → place H.places d ≡ Some D → left ≡ without_shown (target_name D.target) d names → left ≡ filter (λ e. not (e.1 == d)) names
   left_names d D left here shown = shown ∙ ap (λ x. without_shown (name_in x) d names) (sym here) ∙ name_goes (state_of os H ps paths names) d state.owned
 
-  pub left_kept : (ys : List Openings) (T K : Held Description) (left : List (Name × ℕ)) (d : ℕ) (D : Description) → place H.places d ≡ Some D → K.places ≡ told (lost_peer D) (emptied H.places d) → T.counts ≡ H.counts →
-      ((k : ℕ) → count_at T k ≡ count_at K k + target_refs k D.target) → CountsOneMore D ys xs → left ≡ without_shown (target_name D.target) d names → IsState ys ls K (state_of os K ps paths left)
-  left_kept ys T K left d D here places same counts more shown = record {
+  pub left_kept : {gs : ℕ → ℕ} (ys : List Openings) (T K : Held Description) (left : List (Name × ℕ)) (d : ℕ) (D : Description) → place H.places d ≡ Some D → K.places ≡ told (lost_peer D) (emptied H.places d) → T.counts ≡ H.counts →
+      ((k : ℕ) → count_at T k ≡ count_at K k + target_refs k D.target) → ((u : ℕ) → fs u ≡ gs u + flying_at u D.target) → CountsOneMore D ys xs → left ≡ without_shown (target_name D.target) d names →
+      IsState ys ls K gs (state_of os K ps paths left)
+  unfolding in_flight
+  left_kept ys T K left d D here places same counts flights more shown = record {
     few_objects = state.few_objects;
     few_processes = state.few_processes;
     one_each = sym more.long ∙ state.one_each;
@@ -102,6 +111,12 @@ module _ (xs : List Openings) (ls : List ℕ) (H : Held Description) (os : List 
         let b = state.counted k in
         let e : count_at T k ≡ count_at H k = ap (λ cs. count_at (record H { counts = cs }) k) same in
         let f = counts k in
+        omega (arith, a, b, e, f);
+    flying = λ u.
+        let a = flying_left u d D H.places here in
+        let b = ap (sum_by (flying_in u)) places in
+        let e = flights u in
+        let f = state.flying u in
         omega (arith, a, b, e, f);
     paired = rw places (paired-told (lost_peer D) (emptied H.places d) (paired-emptied H.places d (place_within H.places d D here) state.paired));
     owned = rw (places, left_names d D left here shown) (owned_without H.places d (lost_peer D) names state.owned);

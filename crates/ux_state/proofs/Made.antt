@@ -12,6 +12,7 @@ use Rattle.ux_model.specs.Description.{Description}
 use Rattle.ux_model.specs.Process.{Process}
 use Rattle.ux_model.specs.State.{State}
 use Rattle.ux_model.specs.References.{table_refs, description_refs, refs}
+use Rattle.ux_model.specs.Flight.{flying_in, in_flight}
 use Rattle.ux_model.specs.Boot.{boot_state, are_distinct, new_process}
 use Rattle.ux_slots.specs.Held.{Held, count_at}
 use Rattle.ux_state.specs.declared.openings.Openings.{Openings}
@@ -72,11 +73,11 @@ ones zero o inside = absurd (omega (arith, inside))
 ones (suc n) zero inside = refl
 ones (suc n) (suc o) inside = ones n o (omega (arith, inside))
 
-pub made_kept : {X : Type 0} (view : X → View) (objects : List (Name × X)) (n : ℕ) (xs : List Openings) (ls : List ℕ) (H : Held Description) (os : List (Option View)) (ps : List Process) (paths : List (Name × PathTarget)) (names : List (Name × ℕ)) (specs : List ProcSpec) →
+pub made_kept : {X : Type 0} {fs : ℕ → ℕ} (view : X → View) (objects : List (Name × X)) (n : ℕ) (xs : List Openings) (ls : List ℕ) (H : Held Description) (os : List (Option View)) (ps : List Process) (paths : List (Name × PathTarget)) (names : List (Name × ℕ)) (specs : List ProcSpec) →
     os ≡ map (λ o. Some (view o.1)) objects → H.places ≡ [] → H.counts ≡ [] → ps ≡ map new_process specs → xs ≡ replicate n none_open → ls ≡ replicate n 1 → paths ≡ file_paths 0 objects → are_distinct (map (λ o. o.0) objects) ≡ true → names ≡ [] →
-    n ≡ length objects → length objects ≤ object_limit → length specs ≤ process_limit → IsState xs ls H (state_of os H ps paths names)
-unfolding refs
-made_kept view objects n xs ls H os ps paths names specs objects_are places counts processes openings links found once none_bound one_each few_objects few_processes = record {
+    n ≡ length objects → length objects ≤ object_limit → length specs ≤ process_limit → ((u : ℕ) → fs u ≡ 0) → IsState xs ls H fs (state_of os H ps paths names)
+unfolding refs in_flight
+made_kept view objects n xs ls H os ps paths names specs objects_are places counts processes openings links found once none_bound one_each few_objects few_processes flights = record {
   few_objects = let a = ap length objects_are in let b = length-map objects (λ o. Some (view o.1)) in omega (arith, a, b, few_objects);
   few_processes = let a = ap length processes in let b = length-map specs new_process in omega (arith, a, b, few_processes);
   one_each =
@@ -102,6 +103,7 @@ made_kept view objects n xs ls H os ps paths names specs objects_are places coun
       let tables = ap (sum_by (λ P. table_refs k (Process.table P))) processes ∙ new_tables k specs in
       let held : sum_by (description_refs k) H.places ≡ 0 = ap (sum_by (description_refs k)) places in
       omega (arith, none, tables, held);
+  flying = λ u. flights u ∙ sym (ap (sum_by (flying_in u)) places);
   paired = rw places (nobody []);
   owned = rw none_bound (owned_none H.places);
 }

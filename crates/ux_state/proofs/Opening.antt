@@ -17,7 +17,9 @@ use Rattle.ux_model.specs.FileObjects.{is_opening}
 use Rattle.ux_model.specs.Opening.{file_description}
 use Rattle.ux_model.specs.References.{table_refs, target_refs, description_refs}
 use Rattle.ux_model.specs.Peers.{target_peer, Paired, HoldsNothing}
+use Rattle.ux_model.specs.Flight.{flying_in}
 use Rattle.ux_model.proofs.Moves.{one, table_filled}
+use Rattle.ux_model.proofs.Flying.{nothing_flying}
 use Rattle.ux_model.proofs.Making.{paired-push, paired-pair}
 use Rattle.ux_model.proofs.Owning.{owned_still, names_push}
 use Rattle.ux_fdtable.proofs.TwoFree.{free_at, first_free, second_free}
@@ -87,7 +89,17 @@ pair_paired kind ds flags cred D E first second = by_kind kind (ap peer first) (
 
 -- one more that refers to nothing
 held_push : (ds : List (Option Description)) (D : Description) → ((k : ℕ) → target_refs k D.target ≡ 0) → HoldAlike ds (ds ++ Some D ∷ [])
-held_push ds D none k = let a = sum_by_push (description_refs k) ds (Some D) in let b = none k in omega (arith, a, b)
+held_push ds D none = record {
+  holds = λ k. let a = sum_by_push (description_refs k) ds (Some D) in let b = none k in omega (arith, a, b);
+  flies = λ u. let a = sum_by_push (flying_in u) ds (Some D) in let b = nothing_flying u D.target none in omega (arith, a, b);
+}
+
+-- and another
+held_push_two : (ds : List (Option Description)) (D E : Description) → ((k : ℕ) → target_refs k D.target ≡ 0) → ((k : ℕ) → target_refs k E.target ≡ 0) → HoldAlike ds ((ds ++ Some D ∷ []) ++ Some E ∷ [])
+held_push_two ds D E none nothing =
+    let first = held_push ds D none in
+    let second = held_push (ds ++ Some D ∷ []) E nothing in
+    record { holds = λ k. second.holds k ∙ first.holds k; flies = λ u. second.flies u ∙ first.flies u }
 
 pub adds_from : (H J K : Held Description) (D : Description) → J.places ≡ H.places → J.counts ≡ H.counts → Adds D J K → Adds D H K
 adds_from H J K D places counts adds = record {
@@ -99,11 +111,11 @@ adds_from H J K D places counts adds = record {
       omega (arith, a, b, c);
 }
 
-module _ (xs : List Openings) (ls : List ℕ) (H : Held Description) (os : List (Option View)) (ps : List Process) (paths : List (Name × PathTarget)) (names : List (Name × ℕ)) (state : IsState xs ls H (state_of os H ps paths names))
+module _ {fs : ℕ → ℕ} (xs : List Openings) (ls : List ℕ) (H : Held Description) (os : List (Option View)) (ps : List Process) (paths : List (Name × PathTarget)) (names : List (Name × ℕ)) (state : IsState xs ls H fs (state_of os H ps paths names))
     (p : ℕ) (P : Process) (live : is_live (state_of os H ps paths names) p ≡ true) (at : P ≡ get_or ps (p - 1) P) where
   -- a file's description more, to which the lowest free number leads
   pub object_opened : (ys : List Openings) (K : Held Description) (Q : Process) (n : ℕ) (e : Descriptor) (D : Description) → Q ≡ record P { table = filled P.table n e } → lowest_free P.table ≡ Some n →
-      e.description ≡ length H.places → Adds D H K → HoldsNothing D → CountsOneMore D xs ys → IsState ys ls K (state_of os K (set ps (p - 1) Q) paths names)
+      e.description ≡ length H.places → Adds D H K → HoldsNothing D → CountsOneMore D xs ys → IsState ys ls K fs (state_of os K (set ps (p - 1) Q) paths names)
   object_opened ys K Q n e D new lowest last adds none more =
       process_kept xs ls H os ps paths names state p P live at ys K Q more.long (rw adds.places (held_push H.places D none.refs))
       (rw adds.places (counted_push H.places xs ys D state.opened more)) (rw adds.places (paired-push H.places D none.peer state.paired))
@@ -120,10 +132,10 @@ module _ (xs : List Openings) (ls : List ℕ) (H : Held Description) (os : List 
   -- two sockets' descriptions more, which are tied to one another
   pub pair_opened : (J K : Held Description) (Q : Process) (n m : ℕ) (e f : Descriptor) (D E : Description) → Q ≡ record P { table = filled (filled P.table n e) m f } → two_lowest_free P.table ≡ Some (n, m) →
       e.description ≡ length H.places → f.description ≡ length H.places + 1 → Adds D H J → Adds E J K → Paired ((H.places ++ Some D ∷ []) ++ Some E ∷ []) →
-      ((k : ℕ) → target_refs k D.target ≡ 0) → ((k : ℕ) → target_refs k E.target ≡ 0) → CountsOneMore D xs xs → CountsOneMore E xs xs → IsState xs ls K (state_of os K (set ps (p - 1) Q) paths names)
+      ((k : ℕ) → target_refs k D.target ≡ 0) → ((k : ℕ) → target_refs k E.target ≡ 0) → CountsOneMore D xs xs → CountsOneMore E xs xs → IsState xs ls K fs (state_of os K (set ps (p - 1) Q) paths names)
   pair_opened J K Q n m e f D E new lowest first second adds adds' ties d_holds e_holds d_more e_more =
       let two : K.places ≡ (H.places ++ Some D ∷ []) ++ Some E ∷ [] = adds'.places ∙ ap (λ ds. ds ++ Some E ∷ []) adds.places in
-      process_kept xs ls H os ps paths names state p P live at xs K Q refl (rw two (λ k. held_push (H.places ++ Some D ∷ []) E e_holds k ∙ held_push H.places D d_holds k))
+      process_kept xs ls H os ps paths names state p P live at xs K Q refl (rw two (held_push_two H.places D E d_holds e_holds))
       (rw two (counted_push _ xs xs E (counted_push H.places xs xs D state.opened d_more) e_more)) (rw two ties)
       (rw two (owned_still _ _ names (names_push (H.places ++ Some D ∷ []) E) (owned_still H.places _ names (names_push H.places D) state.owned)))
       (λ k.

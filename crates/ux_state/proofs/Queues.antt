@@ -5,6 +5,7 @@ use Rattle.std.proofs.lemmas.Bool.{eq-eqb}
 use Rattle.std.proofs.lemmas.List.Sums.{sum_by_more, sum_by-take-le, sum_by-cons}
 use Rattle.ux_model.specs.Message.{Message}
 use Rattle.ux_model.specs.References.{times, queue_refs}
+use Rattle.ux_model.specs.Flight.{of_user, rights_sent_by}
 
 abbrev pub one : ℕ → ℕ → ℕ
 one r k = cond (r == k) 1 0
@@ -30,6 +31,24 @@ queue_popped k (m ∷ ms) rights uid e =
     let pair : ◌≡◌ {A = List ℕ × ℕ} (rights, uid) (Message.rights m, Message.uid m) = cc e in
     let b = ap (λ (p : List ℕ × ℕ). times k p.0) pair in
     omega (arith, a, b)
+
+-- and so for its rights in flight
+pub flying_popped : (u : ℕ) (q : List Message) (rights : List ℕ) (uid : ℕ) → ◌≡◌ {A = Option (List ℕ × ℕ)} (Some (rights, uid)) (option_map (λ m. (Message.rights m, Message.uid m)) (slice_get q 0)) →
+    rights_sent_by u (drop 1 q) + of_user u uid (length rights) ≡ rights_sent_by u q
+flying_popped u [] rights uid e = absurd (cc e)
+flying_popped u (m ∷ ms) rights uid e =
+    let a = sum_by-cons (λ m. of_user u (Message.uid m) (length (Message.rights m))) m ms in
+    let pair : ◌≡◌ {A = List ℕ × ℕ} (rights, uid) (Message.rights m, Message.uid m) = cc e in
+    let b = ap (λ (p : List ℕ × ℕ). of_user u p.1 (length p.0)) pair in
+    omega (arith, a, b)
+
+-- of its own user they are all
+pub of_itself : (u count : ℕ) → of_user u u count ≡ count
+of_itself u count = ap (λ b. cond {A = ℕ} b count 0) (eq-eqb u u refl)
+
+pub no_flying : (u : ℕ) (q : List Message) → ◌≡◌ {A = Option (List ℕ × ℕ)} None (option_map (λ m. (Message.rights m, Message.uid m)) (slice_get q 0)) → rights_sent_by u q ≡ 0
+no_flying u [] e = refl
+no_flying u (m ∷ ms) e = absurd (cc e)
 
 pub fewer_messages : (q : List Message) (r : List ℕ × ℕ) → ◌≡◌ {A = Option (List ℕ × ℕ)} (Some r) (option_map (λ m. (Message.rights m, Message.uid m)) (slice_get q 0)) → length (drop 1 q) < length q
 fewer_messages [] r e = absurd (cc e)

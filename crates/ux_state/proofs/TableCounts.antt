@@ -13,6 +13,7 @@ use Rattle.ux_model.specs.Process.{Process, Descriptor, with_cloexec}
 use Rattle.ux_model.specs.State.{State, is_live, with_process}
 use Rattle.ux_model.specs.References.{table_refs, description_refs, refs}
 use Rattle.ux_model.specs.Peers.{Paired}
+use Rattle.ux_model.specs.Flight.{flying_in, in_flight}
 use Rattle.ux_model.specs.Owning.{AreOwned}
 use Rattle.ux_model.proofs.Moves.{table_emptied, process_counts}
 use Rattle.ux_slots.specs.Held.{Held, count_at}
@@ -24,26 +25,33 @@ use Rattle.ux_state.proofs.Lookups.{live_at, live_positive, found_process, with_
 
 -- ---- any change of one process
 
--- what descriptions hold is the same
-abbrev pub HoldAlike : List (Option Description) → List (Option Description) → Type 0
-HoldAlike old new = (k : ℕ) → sum_by (description_refs k) new ≡ sum_by (description_refs k) old
+-- what descriptions hold is the same, and so are the rights in flight
+pub record HoldAlike (old new : List (Option Description)) : Type 0 where
+  pub holds : (k : ℕ) → sum_by (description_refs k) new ≡ sum_by (description_refs k) old
+  pub flies : (u : ℕ) → sum_by (flying_in u) new ≡ sum_by (flying_in u) old
 
 pub same_refs : (os : List (Option View)) (H K : Held Description) (ps : List Process) (paths : List (Name × PathTarget)) (names : List (Name × ℕ)) (k : ℕ) → HoldAlike H.places K.places →
     refs (state_of os K ps paths names) k ≡ refs (state_of os H ps paths names) k
 unfolding refs
-same_refs os H K ps paths names k alike = ap (λ n. sum_by (λ P. table_refs k (Process.table P)) ps + n) (alike k)
+same_refs os H K ps paths names k alike = ap (λ n. sum_by (λ P. table_refs k (Process.table P)) ps + n) (alike.holds k)
 
 pub held_same : (ds es : List (Option Description)) → es ≡ ds → HoldAlike ds es
-held_same ds es same k = ap (sum_by (description_refs k)) same
+held_same ds es same = record { holds = λ k. ap (sum_by (description_refs k)) same; flies = λ u. ap (sum_by (flying_in u)) same }
 
-module _ (xs : List Openings) (ls : List ℕ) (H : Held Description) (os : List (Option View)) (ps : List Process) (paths : List (Name × PathTarget)) (names : List (Name × ℕ)) (state : IsState xs ls H (state_of os H ps paths names)) where
+-- each user's count stays
+pub same_flight : {fs : ℕ → ℕ} (os : List (Option View)) (H K : Held Description) (ps qs : List Process) (paths more : List (Name × PathTarget)) (names shown : List (Name × ℕ)) → HoldAlike H.places K.places →
+    ((u : ℕ) → fs u ≡ in_flight (state_of os H ps paths names) u) → (u : ℕ) → fs u ≡ in_flight (state_of os K qs more shown) u
+unfolding in_flight
+same_flight os H K ps qs paths more names shown alike counted u = counted u ∙ sym (alike.flies u)
+
+module _ {fs : ℕ → ℕ} (xs : List Openings) (ls : List ℕ) (H : Held Description) (os : List (Option View)) (ps : List Process) (paths : List (Name × PathTarget)) (names : List (Name × ℕ)) (state : IsState xs ls H fs (state_of os H ps paths names)) where
   module _ (p : ℕ) (P : Process) (live : is_live (state_of os H ps paths names) p ≡ true) (at : P ≡ get_or ps (p - 1) P) where
     abbrev S : State
     S = state_of os H ps paths names
 
     -- another process stands in its place, and the counts follow
     pub process_kept : (ys : List Openings) (K : Held Description) (Q : Process) → length ys ≡ length xs → HoldAlike H.places K.places → Counted K.places ys → Paired K.places → AreOwned K.places names →
-        ((k : ℕ) → count_at K k + table_refs k P.table ≡ count_at H k + table_refs k Q.table) → IsState ys ls K (state_of os K (set ps (p - 1) Q) paths names)
+        ((k : ℕ) → count_at K k + table_refs k P.table ≡ count_at H k + table_refs k Q.table) → IsState ys ls K fs (state_of os K (set ps (p - 1) Q) paths names)
     process_kept ys K Q long alike opened paired owned counts = record {
       few_objects = state.few_objects;
       few_processes = let e = length-set ps (p - 1) Q in let few = state.few_processes in omega (arith, e, few);
@@ -58,13 +66,14 @@ module _ (xs : List Openings) (ls : List ℕ) (H : Held Description) (os : List 
           let c = counts k in
           let e = state.counted k in
           omega (arith, a, b, c, e);
+      flying = same_flight os H K ps _ paths paths names names alike state.flying;
       paired = paired;
       owned = owned;
     }
 
     -- it has another table, with the same descriptions
     pub table_kept : (K : Held Description) (Q : Process) → K.places ≡ H.places →
-        ((k : ℕ) → count_at K k + table_refs k P.table ≡ count_at H k + table_refs k Q.table) → IsState xs ls K (state_of os K (set ps (p - 1) Q) paths names)
+        ((k : ℕ) → count_at K k + table_refs k P.table ≡ count_at H k + table_refs k Q.table) → IsState xs ls K fs (state_of os K (set ps (p - 1) Q) paths names)
     table_kept K Q same counts =
         process_kept xs K Q refl (held_same H.places K.places same) (rw same state.opened) (rw same state.paired) (rw same state.owned) counts
 
@@ -78,8 +87,8 @@ module _ (xs : List Openings) (ls : List ℕ) (H : Held Description) (os : List 
         omega (arith, a, b, c)
 
   -- other objects, as many, refer to nothing
-  pub objects_kept : (os' : List (Option View)) → length os' ≡ length os → IsState xs ls H (state_of os' H ps paths names)
-  unfolding refs
+  pub objects_kept : (os' : List (Option View)) → length os' ≡ length os → IsState xs ls H fs (state_of os' H ps paths names)
+  unfolding refs in_flight
   objects_kept os' long = record {
     few_objects = let few = state.few_objects in omega (arith, few, long);
     few_processes = state.few_processes;
@@ -88,13 +97,14 @@ module _ (xs : List Openings) (ls : List ℕ) (H : Held Description) (os : List 
     opened = state.opened;
     linked = state.linked;
     counted = state.counted;
+    flying = state.flying;
     paired = state.paired;
     owned = state.owned;
   }
 
   -- nor do other paths
-  pub paths_kept : (left : List (Name × PathTarget)) (ms : List ℕ) → length ms ≡ length ls → AreLinked left ms → IsState xs ms H (state_of os H ps left names)
-  unfolding refs
+  pub paths_kept : (left : List (Name × PathTarget)) (ms : List ℕ) → length ms ≡ length ls → AreLinked left ms → IsState xs ms H fs (state_of os H ps left names)
+  unfolding refs in_flight
   paths_kept left ms long linked = record {
     few_objects = state.few_objects;
     few_processes = state.few_processes;
@@ -103,6 +113,7 @@ module _ (xs : List Openings) (ls : List ℕ) (H : Held Description) (os : List 
     opened = state.opened;
     linked = linked;
     counted = state.counted;
+    flying = state.flying;
     paired = state.paired;
     owned = state.owned;
   }

@@ -18,11 +18,13 @@ use Rattle.ux_model.specs.Pairing.{socket_description}
 use Rattle.ux_model.specs.FileObjects.{is_opening}
 use Rattle.ux_model.specs.References.{times, queue_refs, socket_refs, target_refs, description_refs, refs}
 use Rattle.ux_model.specs.Peers.{target_peer, Paired}
+use Rattle.ux_model.specs.Flight.{flying_at, flying_in, in_flight}
 use Rattle.ux_model.specs.Owning.{target_name, name_in}
 use Rattle.ux_model.specs.Binding.{with_name}
 use Rattle.ux_model.specs.Connecting.{listener_of, with_listening, server_end, no_open_flags, tied, with_connection}
 use Rattle.ux_model.specs.Accepting.{accepted_with, as_accepted, without_first_end}
 use Rattle.ux_model.proofs.ChangedPlaces.{place-changed, length-changed, sum_by-changed}
+use Rattle.ux_model.proofs.Flying.{flying_at-changed, flying_changed}
 use Rattle.ux_model.proofs.Making.{place-push, paired-tied}
 use Rattle.ux_model.proofs.OneGoes.{paired-changed}
 use Rattle.ux_model.proofs.Owning.{owned_still, names_given, names_changed_socket, names_push, owned-push}
@@ -137,6 +139,7 @@ accepted_alike flags x y e = record {
   opens = λ allows o. ap (λ D. is_opening allows o (Some D)) e ∙ opens allows o x.target;
   peer = ap (λ D. target_peer (Description.target D)) e ∙ peer x.target;
   name = ap (λ D. target_name (Description.target D)) e ∙ name x.target;
+  flies = λ u. ap (λ D. flying_at u (Description.target D)) e ∙ flying_at-changed u as_accepted (λ s. refl) x.target;
 }
   where
     opens : (allows : Mode → Bool) (o : ℕ) (t : Target) → is_opening allows o (Some (record x { target = changed_target as_accepted t })) ≡ is_opening allows o (Some (record x { target = t }))
@@ -199,7 +202,7 @@ on_both T l P Q R both = go (socket_at T l)
     go None p q = absurd p
     go (Some s) p q = at s (listener_of s.phase) p q
 
-module _ (xs : List Openings) (ls : List ℕ) (H : Held Description) (os : List (Option View)) (ps : List Process) (paths : List (Name × PathTarget)) (names : List (Name × ℕ)) (state : IsState xs ls H (state_of os H ps paths names)) where
+module _ {fs : ℕ → ℕ} (xs : List Openings) (ls : List ℕ) (H : Held Description) (os : List (Option View)) (ps : List Process) (paths : List (Name × PathTarget)) (names : List (Name × ℕ)) (state : IsState xs ls H fs (state_of os H ps paths names)) where
   abbrev S : State
   S = state_of os H ps paths names
 
@@ -208,31 +211,31 @@ module _ (xs : List Openings) (ls : List ℕ) (H : Held Description) (os : List 
 
   -- a path more, of a socket that had no name
   pub path_given : (K : Held Description) (more : List (Name × PathTarget)) (d : ℕ) (name other : Name) → IsUnnamedAt S d → named name paths ≡ None → more ≡ paths ++ (name, bound d) ∷ [] →
-      K.places ≡ changed_place H.places d (changed (with_name (Addr.Path other))) → K.counts ≡ H.counts → IsState xs ls K (state_of os K ps more names)
+      K.places ≡ changed_place H.places d (changed (with_name (Addr.Path other))) → K.counts ≡ H.counts → IsState xs ls K fs (state_of os K ps more names)
   path_given K more d name other free none is places counts =
       let f = that (λ s. is_unnamed_addr (Socket.name s) ≡ true) (socket_at S d) free in
-      socket_changed xs ls H os ps paths names state K more names d (with_name (Addr.Path other)) f.0 f.1 places refl (λ k. let a = same_counts K counts k in omega (arith, a))
+      socket_changed xs ls H os ps paths names state K more names d (with_name (Addr.Path other)) f.0 f.1 places refl (λ k. let a = same_counts K counts k in omega (arith, a)) (λ u. refl)
       (rw is (socket_linked name d paths ls none state.linked))
       (owned_still H.places _ names (names_given H.places d _ (unnamed (place H.places d) f.0 f.1 f.2)) state.owned)
 
   -- a name of the abstract namespace more
   pub abstract_given : (K : Held Description) (shown : List (Name × ℕ)) (d : ℕ) (name other : Name) → other ≡ name → IsUnnamedAt S d → named name names ≡ None → shown ≡ names ++ (name, d) ∷ [] →
-      K.places ≡ changed_place H.places d (changed (with_name (Addr.Abstract other))) → K.counts ≡ H.counts → IsState xs ls K (state_of os K ps paths shown)
+      K.places ≡ changed_place H.places d (changed (with_name (Addr.Abstract other))) → K.counts ≡ H.counts → IsState xs ls K fs (state_of os K ps paths shown)
   abstract_given K shown d name other same free none is places counts =
       let f = that (λ s. is_unnamed_addr (Socket.name s) ≡ true) (socket_at S d) free in
       let change : Description → Description = changed (with_name (Addr.Abstract other)) in
       let here : place (changed_place H.places d change) d ≡ option_map change (place H.places d) =
       place-changed H.places d d change ∙ ap (λ b. cond b (option_map change (place H.places d)) (place H.places d)) (eq-eqb d d refl) in
-      socket_changed xs ls H os ps paths names state K paths shown d (with_name (Addr.Abstract other)) f.0 f.1 places refl (λ k. let a = same_counts K counts k in omega (arith, a)) state.linked
+      socket_changed xs ls H os ps paths names state K paths shown d (with_name (Addr.Abstract other)) f.0 f.1 places refl (λ k. let a = same_counts K counts k in omega (arith, a)) (λ u. refl) state.linked
       (rw is (owned-push _ name d names none (ap name_in here ∙ gets other (place H.places d) f.0 f.1 ∙ ap (λ n. Some n) same)
       (owned_still H.places _ names (names_given H.places d _ (unnamed (place H.places d) f.0 f.1 f.2)) state.owned)))
 
   -- one that listens from now on
   pub listened : (K : Held Description) (d limit : ℕ) (cred : Cred) → IsUnconnectedAt S d → K.places ≡ changed_place H.places d (changed (with_listening limit cred)) → K.counts ≡ H.counts →
-      IsState xs ls K (state_of os K ps paths names)
+      IsState xs ls K fs (state_of os K ps paths names)
   listened K d limit cred free places counts =
       let f = that (λ s. is_some (peer_of (Socket.phase s)) ≡ false) (socket_at S d) free in
-      socket_kept xs ls H os ps paths names state K d (with_listening limit cred) f.0 f.1 places (sym (nothing (peer_of (Socket.phase f.0)) f.2)) (λ t. refl) (λ k. let a = same_counts K counts k in omega (arith, a))
+      socket_kept xs ls H os ps paths names state K d (with_listening limit cred) f.0 f.1 places (sym (nothing (peer_of (Socket.phase f.0)) f.2)) (λ t. refl) (λ k. let a = same_counts K counts k in omega (arith, a)) (λ u. refl)
 
   -- an end that is taken off was counted
   pub end_counted : (P : Held Description) (n e : ℕ) → first_of (socket_in (place H.places n)) ≡ Some e → P.counts ≡ H.counts → 0 < count_at P e
@@ -244,8 +247,8 @@ module _ (xs : List Openings) (ls : List ℕ) (H : Held Description) (os : List 
 
   -- and is no longer
   pub end_gone : (P K : Held Description) (n : ℕ) (o : Option ℕ) → o ≡ first_of (socket_in (place H.places n)) → P.places ≡ changed_place H.places n (changed without_first_end) → P.counts ≡ H.counts →
-      K.places ≡ P.places → ((k : ℕ) → count_at P k ≡ count_at K k + end_count k o) → IsState xs ls K (state_of os K ps paths names)
-  unfolding refs
+      K.places ≡ P.places → ((k : ℕ) → count_at P k ≡ count_at K k + end_count k o) → IsState xs ls K fs (state_of os K ps paths names)
+  unfolding refs in_flight
   end_gone P K n o first leaves counts places less =
       let all : K.places ≡ changed_place H.places n (changed without_first_end) = places ∙ leaves in
       record {
@@ -263,6 +266,7 @@ module _ (xs : List Openings) (ls : List ℕ) (H : Held Description) (os : List 
             let e = same_counts P counts k in
             let f = state.counted k in
             omega (arith, a, b, c, d, e, f);
+        flying = λ u. state.flying u ∙ sym (ap (sum_by (flying_in u)) all ∙ flying_changed u without_first_end (λ s. refl) H.places n);
         paired = rw all (paired-changed H.places n (changed without_first_end) (peer_in-changed without_first_end (λ s. peer_left s.phase)) state.paired);
         owned = rw all (owned_still H.places _ names (names_changed_socket H.places n without_first_end (λ s. refl)) state.owned);
       }
@@ -315,6 +319,14 @@ module _ (xs : List Openings) (ls : List ℕ) (H : Held Description) (os : List 
         let c4 = none_waits k s.phase no_listener in
         omega (arith, a1, a2, a3, a4, b, c1, c2, c3, c4)
 
+    -- nothing is sent
+    flown : (u : ℕ) → sum_by (flying_in u) all ≡ sum_by (flying_in u) H.places
+    flown u =
+        let a = flying_changed u (awaiting e) (λ s. refl) H.places l in
+        let b = sum_by_push (flying_in u) awaited (Some E) in
+        let d = flying_changed u (tied e lcred) (λ s. refl) (awaited ++ Some E ∷ []) c in
+        omega (arith, a, b, d)
+
     paired : Paired all
     paired =
         let f = ties_peer e lcred (place H.places c) s client no_peer in
@@ -322,8 +334,8 @@ module _ (xs : List Openings) (ls : List ℕ) (H : Held Description) (os : List 
         (paired-changed H.places l (changed (awaiting e)) (peer_in-changed (awaiting e) (λ u. peer_awaiting e u.phase)) state.paired)
         (at_c ∙ f.1) f.2 refl refl (f.3 ∙ ap (λ n. Some n) (sym long))
 
-    pub connected_kept : (M : Held Description) → M.places ≡ all → ((k : ℕ) → count_at M k ≡ count_at H k + once e k) → IsState xs ls M (state_of os M ps paths names)
-    unfolding refs
+    pub connected_kept : (M : Held Description) → M.places ≡ all → ((k : ℕ) → count_at M k ≡ count_at H k + once e k) → IsState xs ls M fs (state_of os M ps paths names)
+    unfolding refs in_flight
     connected_kept M places counts = record {
       few_objects = state.few_objects;
       few_processes = state.few_processes;
@@ -333,6 +345,7 @@ module _ (xs : List Openings) (ls : List ℕ) (H : Held Description) (os : List 
           (counted_push awaited xs xs E (counted_changed (awaiting e) H.places l xs state.opened) (any_socket_counted xs no_open_flags (server_end t c cred) E refl)));
       linked = state.linked;
       counted = λ k. let a = held k in let b = ap (sum_by (description_refs k)) places in let d = counts k in let f = state.counted k in omega (arith, a, b, d, f);
+      flying = λ u. let a = flown u in let b = ap (sum_by (flying_in u)) places in let c = state.flying u in omega (arith, a, b, c);
       paired = rw places paired;
       owned = rw places (owned_still _ _ names (names_changed_socket (awaited ++ Some E ∷ []) c (tied e lcred) (λ u. refl))
           (owned_still _ _ names (names_push awaited E) (owned_still H.places _ names (names_changed_socket H.places l (awaiting e) (λ u. refl)) state.owned)));
@@ -342,7 +355,7 @@ module _ (xs : List Openings) (ls : List ℕ) (H : Held Description) (os : List 
   pub connection_kept : (R P K M : Held Description) (c l i : ℕ) (cred lcred : Cred) (E : Description) → IsUnconnectedAt S c → IsNoListenerAt S c → IsListenerAt S l →
       OnListener S l (λ t kept. E ≡ socket_description no_open_flags (server_end t c cred)) → R.places ≡ H.places → R.counts ≡ H.counts → i ≡ length R.places →
       P.places ≡ changed_place R.places l (changed (awaiting i)) → P.counts ≡ R.counts → Adds E P K → M.places ≡ changed_place K.places c (changed (tied i lcred)) → M.counts ≡ K.counts →
-      IsState xs ls M (state_of os M ps paths names)
+      IsState xs ls M fs (state_of os M ps paths names)
   connection_kept R P K M c l i cred lcred E free deaf listens end r_places r_counts last p_places p_counts adds m_places m_counts =
       let f = that (λ s. is_some (peer_of (Socket.phase s)) ≡ false) (socket_at S c) free in
       let g = that (λ s. is_some (listener_of (Socket.phase s)) ≡ false) (socket_at S c) deaf in

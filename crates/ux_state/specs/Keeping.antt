@@ -9,6 +9,7 @@ use Rattle.ux_model.specs.Process.{Process}
 use Rattle.ux_model.specs.State.{State}
 use Rattle.ux_model.specs.References.{path_names, refs}
 use Rattle.ux_model.specs.Peers.{Paired}
+use Rattle.ux_model.specs.Flight.{in_flight}
 use Rattle.ux_model.specs.Boot.{are_distinct}
 use Rattle.ux_model.specs.Owning.{AreOwned}
 use Rattle.ux_slots.specs.Held.{Held, count_at}
@@ -39,7 +40,7 @@ pub record AreLinked (paths : List (Name × PathTarget)) (links : List ℕ) : Ty
   -- and those of each file object are counted
   pub counted : (o : ℕ) → o < length links → links_of links o ≡ count_by (λ e. path_names o e.1) paths
 
-pub record IsState (openings : List Openings) (links : List ℕ) (held : Held Description) (S : State) : Type 0 where
+pub record IsState (openings : List Openings) (links : List ℕ) (held : Held Description) (flights : ℕ → ℕ) (S : State) : Type 0 where
   pub few_objects : length S.objects ≤ object_limit
   pub few_processes : length S.processes ≤ process_limit
   pub one_each : length openings ≡ length S.objects
@@ -48,6 +49,8 @@ pub record IsState (openings : List Openings) (links : List ℕ) (held : Held De
   pub linked : AreLinked S.paths links
   -- Each kept count is the number of references. Of a number that no description has, it is 0.
   pub counted : (d : ℕ) → count_at held d ≡ refs S d
+  -- Each user's is the number of its rights in flight.
+  pub flying : (uid : ℕ) → flights uid ≡ in_flight S uid
   -- connected sockets name one another
   pub paired : Paired S.descriptions
   -- and whoever an abstract name leads to shows it

@@ -1,5 +1,6 @@
 pub mod ObjectCalls
 pub mod Counting
+pub mod Flights
 pub mod Keeping
 pub mod Moves
 pub mod EntryCounts

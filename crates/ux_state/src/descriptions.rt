@@ -1,9 +1,9 @@
 //! Changes of one description: its flags and offset, and its socket.
-ghost use Rattle.std.specs.Prelude.{◌≡◌, ◌↔◌, ◌<◌, true, false, Err, IfOk, IfErr, OnOk, OnErr, IsTrue, IsSomeAnd, length};
+ghost use Rattle.std.specs.Prelude.{◌≡◌, ◌↔◌, ◌<◌, true, false, Err, IfOk, IfErr, OnOk, OnErr, IsTrue, IsSomeAnd, length, option_map};
 ghost use Rattle.ux_model.specs.Places.{place, changed_place};
 ghost use Rattle.ux_model.specs.Description.{socket_in, changed};
 ghost use Rattle.ux_model.specs.Message.{message};
-ghost use Rattle.ux_model.specs.Socket.{is_stream, has_room, sent_part, sent, with_queue, with_reset, with_association, shut_down};
+ghost use Rattle.ux_model.specs.Socket.{is_stream, has_room, sent_part, sent, with_queue, with_reset, with_passcred, with_association, shut_down};
 ghost use Rattle.ux_model.specs.Front.{OnFront};
 ghost use Rattle.ux_model.specs.State.{socket_at, with_socket_by, with_description_by};
 ghost use Rattle.ux_model.specs.Descriptors.{with_flags};
@@ -49,11 +49,15 @@ impl<O: FileObject> State<O> {
         if !have_room(&self.slots, rights.as_slice()) {
             return Err(SendError::NoMemory);
         }
+        if self.flights.count_in(uid, rights.len()).is_err() {
+            return Err(SendError::NoMemory);
+        }
         retain_all(&mut self.slots, rights.as_slice());
         match push_message(&mut self.slots, id, bytes, tag, rights, cred, uid, from) {
             Ok(count) => Ok(count),
             Err(rights) => {
                 release_all(&mut self.slots, rights.as_slice());
+                self.flights.count_out(uid, rights.len());
                 Err(SendError::NoMemory)
             }
         }
@@ -76,8 +80,9 @@ impl<O: FileObject> State<O> {
         requires some { IsSomeAnd (socket_at self.old id) (λ s. 0 < length s.queue) }
         ensures rest { IsSomeAnd (socket_at self.old id) (λ s. OnFront n s (λ f. self.new ≡ with_socket_by self.old id (with_queue f.rest))) }
     {
-        let rights = skip_message(&mut self.slots, id, n);
+        let (rights, sender) = skip_message(&mut self.slots, id, n);
         release_all(&mut self.slots, rights.as_slice());
+        self.flights.count_out_sent(sender, rights.len());
     }
 
     /// Associates a datagram socket with another, or with none (connect(2)).
@@ -95,6 +100,15 @@ impl<O: FileObject> State<O> {
     {
         if let Some(x) = self.slots.get_mut(id) {
             x.shut_down(how);
+        }
+    }
+
+    /// A receive at a socket gets credentials from now on, or no longer (SO_PASSCRED).
+    pub fn set_passcred(&mut self, id: DescriptionId, on: bool)
+        ensures { self.new ≡ with_socket_by self.old id (with_passcred on) }
+    {
+        if let Some(x) = self.slots.get_mut(id) {
+            x.set_passcred(on);
         }
     }
 
@@ -154,10 +168,16 @@ fn push_message(
     }
 }
 
-/// Takes off what a receive of at most n bytes takes at a socket, and gives the rights that come with it.
-fn skip_message(slots: &mut Slots<Description>, id: DescriptionId, n: usize) -> RefList
+/// Takes off what a receive of at most n bytes takes at a socket, and gives the rights that come with it,
+/// and who sent them.
+fn skip_message(
+    slots: &mut Slots<Description>,
+    id: DescriptionId,
+    n: usize,
+) -> (RefList, Option<u32>)
     requires some { IsSomeAnd (socket_in (place slots.old.places id)) (λ s. 0 < length s.queue) }
-    ensures rights { IsSomeAnd (socket_in (place slots.old.places id)) (λ s. OnFront n s (λ f. result ≡ f.rights)) }
+    ensures rights { IsSomeAnd (socket_in (place slots.old.places id)) (λ s. OnFront n s (λ f. result.0 ≡ f.rights)) }
+    ensures sender { IsSomeAnd (socket_in (place slots.old.places id)) (λ s. OnFront n s (λ f. result.1 ≡ option_map (λ o. o.uid) f.origin)) }
     ensures rest { IsSomeAnd (socket_in (place slots.old.places id)) (λ s. OnFront n s (λ f. slots.new.places ≡ changed_place slots.old.places id (changed (with_queue f.rest)))) }
     ensures counts { slots.new.counts ≡ slots.old.counts }
 {

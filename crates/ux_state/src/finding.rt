@@ -6,6 +6,7 @@ ghost use Rattle.ux_model.specs.Places.{place};
 ghost use Rattle.ux_model.specs.Process.{own_cred};
 ghost use Rattle.ux_model.specs.State.{description_at, socket_at, process_at, table_of, is_live};
 ghost use Rattle.ux_model.specs.References.{refs};
+ghost use Rattle.ux_model.specs.Flight.{in_flight};
 ghost use Rattle.ux_model.specs.Outcome.{find_description, find_socket};
 ghost use Rattle.ux_model.specs.FileObjects.{is_open_for};
 ghost use Rattle.ux_model.specs.History.{has_live};
@@ -70,6 +71,16 @@ impl<O: FileObject> State<O> {
         }
     }
 
+    /// Whether a process has the privileges of the superuser.
+    #[tactic(auto, using(crate::proofs::Lookups::live_inside, crate::proofs::Lookups::live_positive, crate::proofs::Lookups::found_process))]
+    pub fn is_privileged(&self, pid: Pid) -> bool
+        requires { IsTrue (is_live self.now pid.0) }
+        ensures { IsSomeAnd (process_at self.now pid.0) (λ P. result ≡ P.privileged) }
+    {
+        let process = &self.processes[pid.0 as usize - 1];
+        process.privileged
+    }
+
     /// The description that a handle names, while it is there.
     pub fn description(&self, id: DescriptionId) -> Option<&Description>
         ensures { MatchOption result (description_at self.now id ≡ None) (λ x. description_at self.now id ≡ Some x.now) }
@@ -83,6 +94,13 @@ impl<O: FileObject> State<O> {
         ensures { result ≡ refs self.now id }
     {
         self.slots.count(id)
+    }
+
+    /// How many rights of this user are in messages that nobody has received.
+    pub fn rights_in_flight(&self, uid: u32) -> u64
+        ensures { result ≡ in_flight self.now uid }
+    {
+        self.flights.count(uid)
     }
 
     /// The descriptor with a number, and its description.

@@ -8,6 +8,7 @@ mod delivering;
 mod descriptions;
 mod entries;
 mod finding;
+mod flights;
 mod making;
 mod naming;
 mod objects;

@@ -6,6 +6,7 @@ ghost use Rattle.ux_model.specs.Names.{file, named};
 ghost use Rattle.ux_model.specs.Boot.{are_distinct, boot_state, new_process};
 ghost use Rattle.ux_state.specs.Counting.{none_open};
 
+use crate::flights::Flights;
 use crate::openings::Openings;
 use crate::process::Process;
 use crate::slot::Slot;
@@ -63,6 +64,7 @@ impl<O: FileObject> State<O> {
             paths: files.paths,
             links,
             abstract_names,
+            flights: Flights::new(alloc),
         })
     }
 }

@@ -2,9 +2,12 @@
 ghost use Rattle.std.specs.Prelude.{◌≡◌, ◌+◌, ◌<◌, ◌≤◌, ◌^◌, ℕ, IsTrue};
 ghost use Rattle.ux_model.specs.References.{times, queue_refs, socket_refs, target_refs, table_refs};
 ghost use Rattle.ux_model.specs.Socket.{pending_ends};
+ghost use Rattle.ux_model.specs.Flight.{rights_sent_by, flying_at};
 ghost use Rattle.ux_slots.specs.Held.{count_at, once, HasMore};
+ghost use Rattle.ux_state.specs.Flights.{flights_of};
 ghost use Rattle.ux_state.specs.EntryCounts.{entry_refs, AreHeld, HaveRoom};
 
+use crate::flights::Flights;
 use ux_desc::{Description, Socket, Target};
 use ux_fdtable::{Descriptor, Table};
 use ux_rights::Reference;
@@ -75,14 +78,18 @@ pub(crate) fn release_all(slots: &mut Slots<Description>, references: &[Referenc
     }
 }
 
-/// Counts the references less that a socket's messages hold, one message after another.
-fn release_queue(slots: &mut Slots<Description>, socket: &mut Socket)
-    requires { (k : ℕ) → queue_refs k socket.old.queue ≤ count_at slots.old k }
+/// Counts the references less that a socket's messages hold, and its rights in flight, one message after
+/// another.
+fn release_queue(slots: &mut Slots<Description>, flights: &mut Flights, socket: &mut Socket)
+    requires counted { (k : ℕ) → queue_refs k socket.old.queue ≤ count_at slots.old k }
+    requires flying { (u : ℕ) → rights_sent_by u socket.old.queue ≤ flights_of flights.old u }
     ensures counted { HasMore (λ k. queue_refs k socket.old.queue) slots.new slots.old }
+    ensures flying { (u : ℕ) → flights_of flights.old u ≡ flights_of flights.new u + rights_sent_by u socket.old.queue }
     ensures phase { socket.new.phase ≡ socket.old.phase }
 {
-    while let Some((rights, _)) = socket.pop_message() {
+    while let Some((rights, uid)) = socket.pop_message() {
         release_all(slots, rights.as_slice());
+        flights.count_out(uid, rights.len());
     }
 }
 
@@ -96,13 +103,15 @@ fn release_pending(slots: &mut Slots<Description>, socket: &mut Socket)
     }
 }
 
-/// Counts the references less that a description holds, which has gone.
-pub(crate) fn release_held(slots: &mut Slots<Description>, gone: Description)
-    requires { (k : ℕ) → target_refs k gone.target ≤ count_at slots.old k }
-    ensures { HasMore (λ k. target_refs k gone.target) slots.new slots.old }
+/// Counts the references less that a description holds, which has gone, and its rights in flight.
+pub(crate) fn release_held(slots: &mut Slots<Description>, flights: &mut Flights, gone: Description)
+    requires counted { (k : ℕ) → target_refs k gone.target ≤ count_at slots.old k }
+    requires flying { (u : ℕ) → flying_at u gone.target ≤ flights_of flights.old u }
+    ensures counted { HasMore (λ k. target_refs k gone.target) slots.new slots.old }
+    ensures flying { (u : ℕ) → flights_of flights.old u ≡ flights_of flights.new u + flying_at u gone.target }
 {
     if let Target::Socket(mut socket) = gone.into_target() {
-        release_queue(slots, &mut socket);
+        release_queue(slots, flights, &mut socket);
         release_pending(slots, &mut socket);
     }
 }

@@ -49,6 +49,7 @@ impl<O: FileObject> State<O> {
         clear_tables(&mut self.processes);
         forget(&mut self.slots);
         uncount_all(&mut self.openings);
+        self.flights.clear();
     }
 
     /// Drops each description that nothing refers to, again until none is left. It looks at none but
@@ -71,7 +72,7 @@ impl<O: FileObject> State<O> {
         tell(&mut self.slots, gone.1.lost_peer());
         count_out(&mut self.openings, &gone.1);
         drop_name(&mut self.abstract_names, &gone.1, gone.0);
-        release_held(&mut self.slots, gone.1);
+        release_held(&mut self.slots, &mut self.flights, gone.1);
         Some(gone.0)
     }
 

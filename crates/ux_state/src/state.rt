@@ -1,4 +1,5 @@
 //! The whole state as one value.
+use crate::flights::Flights;
 use crate::openings::Openings;
 use crate::process::Process;
 use crate::slot::Slot;
@@ -9,7 +10,7 @@ use ux_object::FileObject;
 use ux_slots::Slots;
 
 /// All file objects, open file descriptions, processes and names. Contracts see it as the state that the
-/// definitions speak of; the counts of references are in its invariant alone.
+/// definitions speak of; the counts of references and of rights in flight are in its invariant alone.
 #[derive(Drop)]
 pub struct State<O: FileObject> {
     /// By number.
@@ -25,15 +26,18 @@ pub struct State<O: FileObject> {
     pub(crate) links: Vec<usize>,
     /// With the descriptions whose sockets they lead to.
     pub(crate) abstract_names: AbstractNames,
+    /// How many rights of each user are in messages that nobody has received.
+    pub(crate) flights: Flights,
 }
 
 impl<O: FileObject> Model for State<O> {
     ghost use Rattle.ux_model.specs.State as model;
+    ghost use Rattle.ux_state.specs.Flights.{flights_of};
     ghost use Rattle.ux_state.specs.Keeping.{state_of, IsState};
 
     ghost Value = { model.State };
 
     ghost view = { λ s. state_of s.objects.items s.slots s.processes.items s.paths.names s.abstract_names };
 
-    ghost invariant = { λ s. IsState s.openings.items s.links.items s.slots (state_of s.objects.items s.slots s.processes.items s.paths.names s.abstract_names) };
+    ghost invariant = { λ s. IsState s.openings.items s.links.items s.slots (flights_of s.flights) (state_of s.objects.items s.slots s.processes.items s.paths.names s.abstract_names) };
 }

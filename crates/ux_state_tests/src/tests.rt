@@ -3,6 +3,7 @@
 
 mod connections;
 mod files;
+mod flights;
 mod sockets;
 
 use bstr::BString;

@@ -152,15 +152,18 @@ impl<A: Allocator + Copy> StreamQueue<A> {
         })
     }
 
-    /// Takes off what `take` would, and gives the rights that come with it. It takes no memory.
-    pub fn skip(&mut self, n: usize, wants_cred: bool) -> RefList
+    /// Takes off what `take` would, and gives the rights that come with it, and the send that they come
+    /// from. It takes no memory.
+    pub fn skip(&mut self, n: usize, wants_cred: bool) -> (RefList, Option<Origin>)
         requires { 0 < length self.old }
-        ensures rights { OnStreamFront wants_cred n self.old (λ f. result ≡ f.rights) }
+        ensures rights { OnStreamFront wants_cred n self.old (λ f. result.0 ≡ f.rights) }
+        ensures origin { OnStreamFront wants_cred n self.old (λ f. result.1 ≡ f.origin) }
         ensures rest { OnStreamFront wants_cred n self.old (λ f. self.new ≡ f.rest) }
     {
         let reach = reach_of(&self.marks, n, wants_cred);
         self.ring.drop_front(reach.count);
-        take_bytes(&mut self.marks, reach.count).references
+        let rights = take_bytes(&mut self.marks, reach.count);
+        (rights.references, rights.origin)
     }
 
     /// What `take` would give. The queue stays as it is.

@@ -166,7 +166,9 @@ impl<A: Allocator + Copy> Both<A> {
         let wanted = self.list.front(n, wants_cred)?;
         assert_eq!(rt; self.queue.is_empty(), wanted.is_none());
         if let Some(wanted) = wanted {
-            assert_rights(rt, &self.queue.skip(n, wants_cred), &wanted.rights);
+            let (rights, origin) = self.queue.skip(n, wants_cred);
+            assert_rights(rt, &rights, &wanted.rights);
+            assert_eq!(rt; origin, wanted.origin);
             self.list.drop_front(wanted.bytes.len());
         }
         Ok(())

@@ -10,6 +10,6 @@ use Rattle.ux_state.proofs.state.State.set_association.Goals.{in-Some, in_defaul
 pub invariant_of-self : goal.invariant_of-self
 invariant_of-self g c = elim c.match-get_mut.branch [
   | in-Some w ↦ rw w.self-inside-is (changed_kept _ _ _ _ _ _ _ _ _ w.in-Some.x.now w.set_association.new.self c.self.invariant (sym c.get_mut.ensures.value ∙ ap option_copied_mut w.in-Some.is) refl refl
-      (changed_alike (with_association c.args.target) _ _ (λ s. peer_associated c.args.target s.phase) (λ s. refl) (λ k s. ap (λ es. queue_refs k s.queue + times k es) (ends_associated c.args.target s.phase)) w.set_association.ensures))
+      (changed_alike (with_association c.args.target) _ _ (λ s. peer_associated c.args.target s.phase) (λ s. refl) (λ s. refl) (λ k s. ap (λ es. queue_refs k s.queue + times k es) (ends_associated c.args.target s.phase)) w.set_association.ensures))
   | in_default w ↦ rw w.self-inside-is c.self.invariant
 ]
