@@ -1,0 +1,70 @@
+//! Conditions, one by one.
+ghost use Rattle.std.specs.Prelude.{◌≡◌};
+ghost use Rattle.ux_model.specs.Readiness as model;
+
+use bitflags::Flags;
+use std::marker::Model;
+use ux_types::PollFlags;
+
+/// The conditions of poll(2) that hold.
+#[derive(Clone, Copy)]
+pub(crate) struct Conditions {
+    /// POLLIN: a read has something to tell at once.
+    pub(crate) readable: bool,
+    /// POLLOUT: so has a write.
+    pub(crate) writable: bool,
+    /// POLLRDHUP: no more will come.
+    pub(crate) read_hung: bool,
+    /// POLLHUP: and no more can be sent.
+    pub(crate) hung: bool,
+    /// POLLERR.
+    pub(crate) failed: bool,
+}
+
+impl Model for Conditions {
+    ghost use Rattle.ux_model.specs.Readiness as model;
+
+    ghost Value = { model.Conditions };
+
+    ghost view = { λ c. record { readable = c.readable; writable = c.writable; read_hung = c.read_hung; hung = c.hung; failed = c.failed } };
+
+    ghost inverse = { λ c. record { readable = c.readable; writable = c.writable; read_hung = c.read_hung; hung = c.hung; failed = c.failed } };
+}
+
+impl Conditions {
+    /// None.
+    pub(crate) fn none() -> Conditions
+        ensures { result ≡ model.no_conditions }
+    {
+        Conditions {
+            readable: false,
+            writable: false,
+            read_hung: false,
+            hung: false,
+            failed: false,
+        }
+    }
+
+    /// The flags that tell them.
+    pub(crate) fn flags(self) -> PollFlags
+        ensures { result ≡ model.poll_flags self }
+    {
+        let mut told = PollFlags(0);
+        if self.readable {
+            told = told.union(PollFlags::IN);
+        }
+        if self.writable {
+            told = told.union(PollFlags::OUT);
+        }
+        if self.read_hung {
+            told = told.union(PollFlags::RDHUP);
+        }
+        if self.hung {
+            told = told.union(PollFlags::HUP);
+        }
+        if self.failed {
+            told = told.union(PollFlags::ERR);
+        }
+        told
+    }
+}

@@ -1,0 +1,10 @@
+//! What poll(2) tells of an open file description: all conditions that hold now, by the table of readiness in
+//! `docs/calls.md`. It takes no memory.
+#![tactic(auto)]
+
+mod conditions;
+mod descriptions;
+mod files;
+mod sockets;
+
+pub use descriptions::readiness;
