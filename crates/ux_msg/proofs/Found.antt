@@ -132,16 +132,16 @@ looked_up S kind addr t u h = by_addr addr h
     by_addr (Addr.Abstract name) h = at_name (named name S.abstract_names) h
 
 -- a datagram to it
-pub named_gives : (S T : State) (d t k : ℕ) (s u : Socket) (addr : Addr) (m : Socket → Message) (r : Result Reply Refusal) → socket_at S d ≡ Some s → look_up S s.kind addr ≡ Ok (t, u) →
-    IsSomeAnd (socket_at S d) (λ x. IsSomeAnd (socket_at S k) (λ y. Gives S (send_to_target S d k y (m x)) r T)) → k ≡ t → IsSomeAnd (socket_at S d) (λ x. Gives S (send_by_name S d x.kind addr (m x)) r T)
-named_gives S T d t k s u addr m r here found gives same =
+pub named_gives : (S T : State) (limit : Option ℕ) (d t k : ℕ) (s u : Socket) (addr : Addr) (m : Socket → Message) (r : Result Reply Refusal) → socket_at S d ≡ Some s → look_up S s.kind addr ≡ Ok (t, u) →
+    IsSomeAnd (socket_at S d) (λ x. IsSomeAnd (socket_at S k) (λ y. Gives S (send_to_target S limit d k y (m x)) r T)) → k ≡ t → IsSomeAnd (socket_at S d) (λ x. Gives S (send_by_name S limit d x.kind addr (m x)) r T)
+named_gives S T limit d t k s u addr m r here found gives same =
     let there = looked_up S s.kind addr t u found in
-    let one : IsSomeAnd (socket_at S k) (λ y. Gives S (send_to_target S d k y (m s)) r T) = subst (λ o. IsSomeAnd o (λ x. IsSomeAnd (socket_at S k) (λ y. Gives S (send_to_target S d k y (m x)) r T))) here gives in
-    let two : IsSomeAnd (socket_at S t) (λ y. Gives S (send_to_target S d t y (m s)) r T) = subst (λ k. IsSomeAnd (socket_at S k) (λ y. Gives S (send_to_target S d k y (m s)) r T)) same one in
-    let three : Gives S (send_to_target S d t u (m s)) r T = subst (λ o. IsSomeAnd o (λ y. Gives S (send_to_target S d t y (m s)) r T)) there two in
-    let four : Gives S (send_by_name S d s.kind addr (m s)) r T =
-    subst (λ (x : Result (ℕ × Socket) Errno). Gives S (elim x as (λ _. Outcome) [ Err e ↦ refuse S e | Ok f ↦ send_to_target S d f.0 f.1 (m s) ]) r T) (sym found) three in
-    subst (λ o. IsSomeAnd o (λ x. Gives S (send_by_name S d x.kind addr (m x)) r T)) (sym here) four
+    let one : IsSomeAnd (socket_at S k) (λ y. Gives S (send_to_target S limit d k y (m s)) r T) = subst (λ o. IsSomeAnd o (λ x. IsSomeAnd (socket_at S k) (λ y. Gives S (send_to_target S limit d k y (m x)) r T))) here gives in
+    let two : IsSomeAnd (socket_at S t) (λ y. Gives S (send_to_target S limit d t y (m s)) r T) = subst (λ k. IsSomeAnd (socket_at S k) (λ y. Gives S (send_to_target S limit d k y (m s)) r T)) same one in
+    let three : Gives S (send_to_target S limit d t u (m s)) r T = subst (λ o. IsSomeAnd o (λ y. Gives S (send_to_target S limit d t y (m s)) r T)) there two in
+    let four : Gives S (send_by_name S limit d s.kind addr (m s)) r T =
+    subst (λ (x : Result (ℕ × Socket) Errno). Gives S (elim x as (λ _. Outcome) [ Err e ↦ refuse S e | Ok f ↦ send_to_target S limit d f.0 f.1 (m s) ]) r T) (sym found) three in
+    subst (λ o. IsSomeAnd o (λ x. Gives S (send_by_name S limit d x.kind addr (m x)) r T)) (sym here) four
 
 -- ---- sends
 

@@ -1,5 +1,5 @@
 -- The rights that a message is to pass, and those that a receiver gets.
-use Rattle.std.proofs.Common.{◌≡◌, ℕ, ◌<◌, Bool, true, false, not, ◌==◌, List, [], ◌∷◌, ◌++◌, length, min, take, Option, Some, None, Result, Ok, Err, refl, ap, sym, subst, ◌∙◌, append_assoc, arith}
+use Rattle.std.proofs.Common.{◌≡◌, ℕ, ◌<◌, Bool, true, false, not, ◌==◌, if◌then◌else◌, List, [], ◌∷◌, ◌++◌, length, min, take, Option, Some, None, Result, Ok, Err, refl, ap, sym, subst, ◌∙◌, append_assoc, arith}
 use Rattle.std.specs.Prelude.{option_map, ◌||◌, IsTrue, IsSomeAnd}
 use Rattle.std.proofs.lemmas.Bool.{ne_eqb}
 use Rattle.std.proofs.lemmas.List.{append-nil, take_min}
@@ -7,7 +7,7 @@ use Rattle.ux_model.specs.Types.{Addr, Cred, Errno, Refusal, Reply}
 use Rattle.ux_model.specs.Places.{place}
 use Rattle.ux_model.specs.Control.{Control}
 use Rattle.ux_model.specs.ControlReading.{control_in}
-use Rattle.ux_model.specs.Message.{Message}
+use Rattle.ux_model.specs.Message.{Message, message}
 use Rattle.ux_model.specs.Front.{OnFrontOf, OnFront}
 use Rattle.ux_model.specs.Delivery.{install_count}
 use Rattle.ux_model.specs.Socket.{Socket}
@@ -15,13 +15,13 @@ use Rattle.ux_model.specs.Process.{Process, Descriptor, free_numbers, own_cred}
 use Rattle.ux_model.specs.Outcome.{Outcome, refuse, as_process}
 use Rattle.ux_model.specs.State.{State, socket_at, process_at, table_of, is_live}
 use Rattle.ux_model.specs.References.{times}
-use Rattle.ux_model.specs.Sending.{descriptions_behind, message_of, is_sendable_addr, is_sendable_control, reading_control, send_from, send_with}
+use Rattle.ux_model.specs.Sending.{descriptions_behind, message_of, flight_limit, is_sendable_addr, is_sendable_control, given_refusal, sent_cred, reading_control, send_from, send_with}
 use Rattle.ux_model.proofs.MessageCalls.{behind_counts, front_counts}
 use Rattle.ux_cmsg.proofs.Collecting.{has_bytes}
 use Rattle.ux_fdtable.proofs.Installing.{few_empty}
 use Rattle.ux_state.specs.Moves.{AreReferenced}
 use Rattle.ux_msg.specs.Answers.{Gives, GivesRefusal}
-use Rattle.ux_msg.specs.Sendings.{IsRefusedBehind, send_from_at, send_with_at}
+use Rattle.ux_msg.specs.Sendings.{IsRefusedBehind, send_from_at, send_with_at, write_socket_at}
 
 -- ---- sending
 
@@ -115,26 +115,61 @@ read_gives S T buffer o (Err Refusal.NoMemory) g = (wanted (not (length buffer =
     wanted true b h = refl
     wanted false b h = h
 
+-- the credentials and the user that a message of process p tells, where these may be given, and the limit of rights in flight
+abbrev pub AreTold : State → ℕ → Option Cred → Cred → ℕ → Option ℕ → Process → Type 0
+AreTold S p given cred uid limit P = (given_refusal S p P given ≡ None) × (cred ≡ sent_cred p P given) × (uid ≡ P.uid) × (limit ≡ flight_limit P)
+
+-- by what the code found of them
+pub told : (S : State) (p : ℕ) (given : Option Cred) (cred own : Cred) (limit : Option ℕ) → IsSomeAnd (process_at S p) (λ P. (given_refusal S p P given ≡ None) × (cred ≡ sent_cred p P given)) →
+    IsSomeAnd (process_at S p) (λ P. own ≡ own_cred p P) → IsSomeAnd (process_at S p) (λ P. limit ≡ flight_limit P) → IsSomeAnd (process_at S p) (AreTold S p given cred own.uid limit)
+told S p given cred own limit may by most = go (process_at S p) may by most
+  where
+    go : (o : Option Process) → IsSomeAnd o (λ P. (given_refusal S p P given ≡ None) × (cred ≡ sent_cred p P given)) → IsSomeAnd o (λ P. own ≡ own_cred p P) → IsSomeAnd o (λ P. limit ≡ flight_limit P) →
+        IsSomeAnd o (AreTold S p given cred own.uid limit)
+    go None may by most = absurd may
+    go (Some P) (may, is) by most = (may, is, ap Cred.uid by, most)
+
 -- what is sent, when nothing is refused before
 sent_at : (S T : State) (p : ℕ) (P : Process) (tag d : ℕ) (s : Socket) (addr : Option Addr) (bytes rights : List ℕ) (control : Control) (r : Result Reply Refusal) → is_sendable_control s.kind bytes control ≡ true →
-    descriptions_behind (table_of S p) control.rights ≡ Some rights → is_sendable_addr addr ≡ true → Gives S (send_from S d s addr (message_of (own_cred p P) tag bytes rights)) r T →
-    Gives S (send_with S p P tag d s addr bytes control) r T
+    descriptions_behind (table_of S p) control.rights ≡ Some rights → given_refusal S p P control.cred ≡ None → is_sendable_addr addr ≡ true →
+    Gives S (send_from S (flight_limit P) d s addr (message_of P tag (sent_cred p P control.cred) bytes rights)) r T → Gives S (send_with S p P tag d s addr bytes control) r T
 unfolding send_with
-sent_at S T p P tag d s addr bytes rights control r ok behind sendable g = rw (ok, behind, sendable) g
+sent_at S T p P tag d s addr bytes rights control r ok behind given sendable g = rw (ok, behind)
+    (subst (λ (o : Option Errno). Gives S (elim o as (λ _. Outcome) [
+      | Some e ↦ refuse S e
+      | None ↦ if not (is_sendable_addr addr) then refuse S Errno.EINVAL else send_from S (flight_limit P) d s addr (message_of P tag (sent_cred p P control.cred) bytes rights)
+    ]) r T) (sym given) (rw sendable g))
 
-pub sent_behind : (S T : State) (p tag d : ℕ) (s : Socket) (cred : Cred) (addr : Option Addr) (bytes buffer rights : List ℕ) (control : Control) (r : Result Reply Refusal) → socket_at S d ≡ Some s →
-    is_sendable_control s.kind bytes control ≡ true → descriptions_behind (table_of S p) control.rights ≡ Some rights → is_sendable_addr addr ≡ true → IsSomeAnd (process_at S p) (λ P. cred ≡ own_cred p P) →
-    Gives S (send_from_at S d addr (message_of cred tag bytes rights)) r T → Gives S (as_process S p (λ P. reading_control buffer (send_with_at S p P tag d addr bytes control))) r T
-sent_behind S T p tag d s cred addr bytes buffer rights control r here ok behind sendable own g = go (process_at S p) own
+pub sent_behind : (S T : State) (p tag d : ℕ) (s : Socket) (cred : Cred) (uid : ℕ) (limit : Option ℕ) (addr : Option Addr) (bytes buffer rights : List ℕ) (control : Control) (r : Result Reply Refusal) → socket_at S d ≡ Some s →
+    is_sendable_control s.kind bytes control ≡ true → descriptions_behind (table_of S p) control.rights ≡ Some rights → is_sendable_addr addr ≡ true → IsSomeAnd (process_at S p) (AreTold S p control.cred cred uid limit) →
+    Gives S (send_from_at S limit d addr (message tag bytes rights cred uid None)) r T → Gives S (as_process S p (λ P. reading_control buffer (send_with_at S p P tag d addr bytes control))) r T
+sent_behind S T p tag d s cred uid limit addr bytes buffer rights control r here ok behind sendable told g = go (process_at S p) told
   where
-    from : Option Socket → Outcome
-    from o = elim o [ None ↦ refuse S Errno.EBADF | Some s ↦ send_from S d s addr (message_of cred tag bytes rights) ]
+    sent : Gives S (send_from S limit d s addr (message tag bytes rights cred uid None)) r T
+    sent = subst (λ o. Gives S (elim o as (λ _. Outcome) [ None ↦ refuse S Errno.EBADF | Some s ↦ send_from S limit d s addr (message tag bytes rights cred uid None) ]) r T) here g
 
-    sent : Gives S (send_from S d s addr (message_of cred tag bytes rights)) r T
-    sent = subst (λ o. Gives S (from o) r T) here g
-
-    go : (o : Option Process) → IsSomeAnd o (λ P. cred ≡ own_cred p P) → Gives S (elim o as (λ _. Outcome) [ None ↦ refuse S Errno.ESRCH | Some P ↦ sending_at S p P tag d addr bytes buffer control (socket_at S d) ]) r T
-    go None own = absurd own
-    go (Some P) own = subst (λ o. Gives S (sending_at S p P tag d addr bytes buffer control o) r T) (sym here)
+    go : (o : Option Process) → IsSomeAnd o (AreTold S p control.cred cred uid limit) →
+        Gives S (elim o as (λ _. Outcome) [ None ↦ refuse S Errno.ESRCH | Some P ↦ sending_at S p P tag d addr bytes buffer control (socket_at S d) ]) r T
+    go None told = absurd told
+    go (Some P) (may, is, by, most) = subst (λ o. Gives S (sending_at S p P tag d addr bytes buffer control o) r T) (sym here)
         (read_gives S T buffer (send_with S p P tag d s addr bytes control) r
-        (sent_at S T p P tag d s addr bytes rights control r ok behind sendable (subst (λ c. Gives S (send_from S d s addr (message_of c tag bytes rights)) r T) own sent)))
+        (sent_at S T p P tag d s addr bytes rights control r ok behind may sendable
+        (subst (λ (x : Cred × ℕ × Option ℕ). Gives S (send_from S x.2 d s addr (message tag bytes rights x.0 x.1 None)) r T) (λ j. (is j, by j, most j)) sent)))
+
+-- write(2) on a socket
+pub written : (S T : State) (p tag d : ℕ) (cred : Cred) (limit : Option ℕ) (bytes rights : List ℕ) (r : Result Reply Refusal) → rights ≡ [] → IsSomeAnd (process_at S p) (λ P. cred ≡ own_cred p P) →
+    IsSomeAnd (process_at S p) (λ P. limit ≡ flight_limit P) → Gives S (send_from_at S limit d None (message tag bytes rights cred cred.uid None)) r T → Gives S (write_socket_at S p tag d bytes) r T
+written S T p tag d cred limit bytes rights r none own most g = at_socket (socket_at S d) (subst (λ rs. Gives S (send_from_at S limit d None (message tag bytes rs cred cred.uid None)) r T) none g)
+  where
+    sends : Option ℕ → Cred → Socket → Outcome
+    sends limit cred s = send_from S limit d s None (message tag bytes [] cred cred.uid None)
+
+    by_process : (s : Socket) (o : Option Process) → IsSomeAnd o (λ P. cred ≡ own_cred p P) → IsSomeAnd o (λ P. limit ≡ flight_limit P) → Gives S (sends limit cred s) r T →
+        Gives S (elim o as (λ _. Outcome) [ None ↦ refuse S Errno.ESRCH | Some P ↦ sends (flight_limit P) (own_cred p P) s ]) r T
+    by_process s None own most g = absurd own
+    by_process s (Some P) own most g = subst (λ (x : Option ℕ × Cred). Gives S (sends x.0 x.1 s) r T) (λ j. (most j, own j)) g
+
+    at_socket : (o : Option Socket) → Gives S (elim o as (λ _. Outcome) [ None ↦ refuse S Errno.EBADF | Some s ↦ sends limit cred s ]) r T →
+        Gives S (elim o as (λ _. Outcome) [ None ↦ refuse S Errno.EBADF | Some s ↦ as_process S p (λ P. sends (flight_limit P) (own_cred p P) s) ]) r T
+    at_socket None g = g
+    at_socket (Some s) g = by_process s (process_at S p) own most g

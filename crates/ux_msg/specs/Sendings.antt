@@ -6,20 +6,23 @@ use Rattle.ux_model.specs.Socket.{Socket}
 use Rattle.ux_model.specs.Control.{Control}
 use Rattle.ux_model.specs.Process.{Process, Descriptor}
 use Rattle.ux_model.specs.State.{State, socket_at}
-use Rattle.ux_model.specs.Outcome.{Outcome, refuse}
-use Rattle.ux_model.specs.Sending.{descriptions_behind, send_from, send_with}
+use Rattle.ux_model.specs.Outcome.{Outcome, refuse, as_process}
+use Rattle.ux_model.specs.Sending.{descriptions_behind, send_from, send_with, write_socket}
 
 -- a number isn't open, or there was no memory for as many references as numbers
 abbrev pub IsRefusedBehind : List (Option Descriptor) → List ℕ → Refusal → Type 0
 IsRefusedBehind table numbers (Refusal.Answer e) = (e ≡ Errno.EBADF) × (descriptions_behind table numbers ≡ None)
 IsRefusedBehind table numbers Refusal.NoMemory = 0 < length numbers
 
-abbrev pub send_from_at : State → ℕ → Option Addr → Message → Outcome
-send_from_at S d addr m = elim (socket_at S d) [ None ↦ refuse S Errno.EBADF | Some s ↦ send_from S d s addr m ]
+abbrev pub send_from_at : State → Option ℕ → ℕ → Option Addr → Message → Outcome
+send_from_at S limit d addr m = elim (socket_at S d) [ None ↦ refuse S Errno.EBADF | Some s ↦ send_from S limit d s addr m ]
 
 abbrev pub send_with_at : State → ℕ → Process → ℕ → ℕ → Option Addr → List ℕ → Control → Outcome
 send_with_at S p P tag d addr bytes control = elim (socket_at S d) [ None ↦ refuse S Errno.EBADF | Some s ↦ send_with S p P tag d s addr bytes control ]
 
+abbrev pub write_socket_at : State → ℕ → ℕ → ℕ → List ℕ → Outcome
+write_socket_at S p tag d bytes = elim (socket_at S d) [ None ↦ refuse S Errno.EBADF | Some s ↦ as_process S p (λ P. write_socket S p P tag d s bytes) ]
+
 -- a datagram of this socket, which tells its name
-abbrev pub named_message : Socket → Cred → ℕ → List ℕ → List ℕ → Message
-named_message s cred tag bytes rights = message tag bytes rights cred cred.uid (Some s.name)
+abbrev pub named_message : Socket → ℕ → List ℕ → List ℕ → Cred → ℕ → Message
+named_message s tag bytes rights cred uid = message tag bytes rights cred uid (Some s.name)

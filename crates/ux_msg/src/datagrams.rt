@@ -1,5 +1,6 @@
 //! Sending datagrams (sendmsg(2), unix(7)).
-ghost use Rattle.std.specs.Prelude.{IsSomeAnd, option_map};
+ghost use Rattle.std.specs.Prelude.{IsSomeAnd, None, option_map};
+ghost use Rattle.ux_model.specs.Message.{message};
 ghost use Rattle.ux_model.specs.Socket.{association_of};
 ghost use Rattle.ux_model.specs.State.{socket_at};
 ghost use Rattle.ux_state.specs.Moves.{IsSocketAt, AreReferenced};
@@ -7,10 +8,11 @@ ghost use Rattle.ux_msg.specs.Answers.{Gives};
 ghost use Rattle.ux_msg.specs.Sendings.{named_message};
 ghost use Rattle.ux_model.specs.Sending as model;
 
+use crate::draft::{Draft, is_over_limit};
 use ux_object::FileObject;
 use ux_rights::RefList;
 use ux_state::State;
-use ux_types::{Addr, Cred, DescriptionId, Errno, Refusal, Reply};
+use ux_types::{Addr, DescriptionId, Errno, Refusal, Reply};
 
 /// The bytes of one datagram or record at most.
 pub(crate) const RECORD_BYTES_LIMIT: usize = 65536;
@@ -21,17 +23,15 @@ pub(crate) fn send_datagram<O: FileObject>(
     state: &mut State<O>,
     id: DescriptionId,
     addr: Option<&Addr>,
-    tag: u64,
-    cred: Cred,
-    bytes: &[u8],
+    draft: Draft<'_>,
     rights: RefList,
 ) -> Result<Reply, Refusal>
     requires socket { IsSocketAt state.old id }
     requires held { AreReferenced state.old rights }
     ensures { IsSomeAnd (socket_at state.old id) (λ s. Gives state.old
-        (model.send_datagram state.old id s (option_map (λ a. a.now) addr.entry) (model.message_of cred tag bytes.now rights)) result state.new) }
+        (model.send_datagram state.old draft.entry.limit id s (option_map (λ a. a.now) addr.entry) (message draft.entry.tag draft.entry.bytes.now rights draft.entry.cred draft.entry.uid None)) result state.new) }
 {
-    if bytes.len() > RECORD_BYTES_LIMIT {
+    if draft.bytes.len() > RECORD_BYTES_LIMIT {
         return Err(Refusal::Answer(Errno::EMSGSIZE));
     }
     let Some(socket) = state.socket(id) else {
@@ -41,8 +41,8 @@ pub(crate) fn send_datagram<O: FileObject>(
         return Err(Refusal::Answer(Errno::EPIPE));
     }
     match addr {
-        Some(addr) => send_by_name(state, id, addr, tag, cred, bytes, rights),
-        None => send_by_association(state, id, tag, cred, bytes, rights),
+        Some(addr) => send_by_name(state, id, addr, draft, rights),
+        None => send_by_association(state, id, draft, rights),
     }
 }
 
@@ -51,15 +51,13 @@ fn send_by_name<O: FileObject>(
     state: &mut State<O>,
     id: DescriptionId,
     addr: &Addr,
-    tag: u64,
-    cred: Cred,
-    bytes: &[u8],
+    draft: Draft<'_>,
     rights: RefList,
 ) -> Result<Reply, Refusal>
     requires socket { IsSocketAt state.old id }
     requires held { AreReferenced state.old rights }
     ensures { IsSomeAnd (socket_at state.old id) (λ s. Gives state.old
-        (model.send_by_name state.old id s.kind addr.now (named_message s cred tag bytes.now rights)) result state.new) }
+        (model.send_by_name state.old draft.entry.limit id s.kind addr.now (named_message s draft.entry.tag draft.entry.bytes.now rights draft.entry.cred draft.entry.uid)) result state.new) }
 {
     let Some(socket) = state.socket(id) else {
         unreachable!();
@@ -68,22 +66,20 @@ fn send_by_name<O: FileObject>(
         Ok((target, _)) => target,
         Err(e) => return Err(Refusal::from(e)),
     };
-    send_to_target(state, id, target, tag, cred, bytes, rights)
+    send_to_target(state, id, target, draft, rights)
 }
 
 /// Sends a datagram where its socket is associated. A target that is gone ends the association.
 fn send_by_association<O: FileObject>(
     state: &mut State<O>,
     id: DescriptionId,
-    tag: u64,
-    cred: Cred,
-    bytes: &[u8],
+    draft: Draft<'_>,
     rights: RefList,
 ) -> Result<Reply, Refusal>
     requires socket { IsSocketAt state.old id }
     requires held { AreReferenced state.old rights }
     ensures { IsSomeAnd (socket_at state.old id) (λ s. Gives state.old
-        (model.send_by_association state.old id (association_of s.phase) (named_message s cred tag bytes.now rights)) result state.new) }
+        (model.send_by_association state.old draft.entry.limit id (association_of s.phase) (named_message s draft.entry.tag draft.entry.bytes.now rights draft.entry.cred draft.entry.uid)) result state.new) }
 {
     let Some(socket) = state.socket(id) else {
         unreachable!();
@@ -95,7 +91,7 @@ fn send_by_association<O: FileObject>(
         state.set_association(id, None);
         return Err(Refusal::Answer(Errno::ECONNREFUSED));
     }
-    send_to_target(state, id, target, tag, cred, bytes, rights)
+    send_to_target(state, id, target, draft, rights)
 }
 
 /// Queues a datagram at its target, if that takes datagrams from the sender.
@@ -103,16 +99,14 @@ fn send_to_target<O: FileObject>(
     state: &mut State<O>,
     id: DescriptionId,
     target: DescriptionId,
-    tag: u64,
-    cred: Cred,
-    bytes: &[u8],
+    draft: Draft<'_>,
     rights: RefList,
 ) -> Result<Reply, Refusal>
     requires sender { IsSocketAt state.old id }
     requires target { IsSocketAt state.old target }
     requires held { AreReferenced state.old rights }
     ensures { IsSomeAnd (socket_at state.old id) (λ s. IsSomeAnd (socket_at state.old target) (λ t. Gives state.old
-        (model.send_to_target state.old id target t (named_message s cred tag bytes.now rights)) result state.new)) }
+        (model.send_to_target state.old draft.entry.limit id target t (named_message s draft.entry.tag draft.entry.bytes.now rights draft.entry.cred draft.entry.uid)) result state.new)) }
 {
     let (Some(sender), Some(other)) = (state.socket(id), state.socket(target)) else {
         unreachable!();
@@ -124,14 +118,25 @@ fn send_to_target<O: FileObject>(
         return Err(Refusal::Answer(Errno::EPIPE));
     }
     // No call makes a stream the target of a datagram; the definitions speak of any socket.
-    if other.is_stream() && bytes.is_empty() {
+    if other.is_stream() && draft.bytes.is_empty() {
         return Ok(Reply::Count(0));
+    }
+    if is_over_limit(state, draft, &rights) {
+        return Err(Refusal::Answer(Errno::ETOOMANYREFS));
     }
     // A full queue comes before want of memory.
     if !other.has_room() {
         return Err(Refusal::Answer(Errno::EAGAIN));
     }
     let name = sender.name().clone()?;
-    let count = state.send(target, bytes, tag, rights, cred, cred.uid, Some(name))?;
+    let count = state.send(
+        target,
+        draft.bytes,
+        draft.tag,
+        rights,
+        draft.cred,
+        draft.uid,
+        Some(name),
+    )?;
     Ok(Reply::Count(count))
 }

@@ -5,6 +5,7 @@
 
 mod datagrams;
 mod delivering;
+mod draft;
 mod receiving;
 mod sending;
 

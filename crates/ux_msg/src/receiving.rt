@@ -63,10 +63,18 @@ pub fn read_socket<O: FileObject>(
     requires { IsTrue (is_live state.old pid.0) }
     ensures { Gives state.old (read_socket_at state.old pid.0 id n) result state.new }
 {
-    Ok(match recv_at(state, alloc, pid, id, n, 0, MsgFlags(0))? {
+    let reply = recv_at(state, alloc, pid, id, n, 0, MsgFlags(0))?;
+    Ok(bytes_alone(reply))
+}
+
+/// What read(2) tells of a reply to recvmsg(2).
+fn bytes_alone(reply: Reply) -> Reply
+    ensures { result ≡ model.bytes_alone reply }
+{
+    match reply {
         Reply::Received { bytes, .. } => Reply::Bytes(bytes),
         reply => reply,
-    })
+    }
 }
 
 /// Receives at the socket of this description.

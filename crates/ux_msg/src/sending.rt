@@ -1,20 +1,23 @@
 //! Sending to a socket (sendmsg(2), write(2)).
-ghost use Rattle.std.specs.Prelude.{◌≡◌, [], IsTrue, Some, None, IfOk, IfErr, if◌then◌else◌, map, option_map};
+ghost use Rattle.std.specs.Prelude.{◌≡◌, [], IsTrue, Some, None, IfOk, IfErr, IsSomeAnd, MatchResult, if◌then◌else◌, map, option_map};
 ghost use Rattle.ux_model.specs.Types.{Errno as ModelErrno};
 ghost use Rattle.ux_model.specs.Flags.{are_send_flags};
-ghost use Rattle.ux_model.specs.State.{is_live};
+ghost use Rattle.ux_model.specs.Message.{message};
+ghost use Rattle.ux_model.specs.State.{is_live, process_at};
 ghost use Rattle.ux_model.specs.Outcome.{as_process};
 ghost use Rattle.ux_model.specs.Control.{Control};
 ghost use Rattle.ux_model.specs.ControlReading.{control_in};
 ghost use Rattle.ux_state.specs.Moves.{AreReferenced};
 ghost use Rattle.ux_msg.specs.Answers.{Gives};
-ghost use Rattle.ux_msg.specs.Sendings.{IsRefusedBehind, send_from_at, send_with_at};
+ghost use Rattle.ux_msg.specs.Sendings.{IsRefusedBehind, send_from_at, send_with_at, write_socket_at};
 ghost use Rattle.ux_model.specs.Sending as model;
 
 use crate::datagrams::{RECORD_BYTES_LIMIT, send_datagram};
+use crate::draft::{Draft, is_over_limit};
 use bitflags::Flags;
 use std::alloc::Global;
 use ux_cmsg::{Control, read_control};
+use ux_cred::check_cred;
 use ux_desc::Socket;
 use ux_fdtable::Table;
 use ux_names::{is_unnamed, is_valid_addr};
@@ -42,14 +45,16 @@ pub struct Outgoing<'a> {
 /// # Errors
 ///
 /// EBADF or ENOTSOCK where the number leads to no socket, EINVAL for flags that a send doesn't take, for a
-/// control buffer that isn't one or sends credentials, for more than 253 rights and for rights on a stream
-/// without data, EBADF for a right that isn't open, EINVAL for a bad or unnamed address. Then of a datagram,
-/// EMSGSIZE above 65,536 bytes, EPIPE where the socket is shut down for writing, EDESTADDRREQ with neither
+/// control buffer that isn't one, for more than 253 rights and for rights on a stream without data, EBADF for a
+/// right that isn't open, EPERM for credentials that aren't the own of an unprivileged process, ESRCH for those
+/// of no process that lives, EINVAL for a bad or unnamed address. Then of a datagram, EMSGSIZE above 65,536 bytes, EPIPE where the socket is shut down for writing, EDESTADDRREQ with neither
 /// address nor association, what the address leads to, ECONNREFUSED where the associated target is gone, which
 /// ends the association, EPERM where the target is associated with another, EPIPE where it is shut down for
-/// reading, EAGAIN where its queue is full. Of others, EISCONN or EOPNOTSUPP for an address, ENOTCONN, EPIPE
+/// reading, ETOOMANYREFS where the user of an unprivileged process would have more rights in flight than the
+/// process may have descriptors, EAGAIN where its queue is full. Of others, EISCONN or EOPNOTSUPP for an address, ENOTCONN, EPIPE
 /// where the socket is shut down for writing, or the peer is gone or shut down for reading, EMSGSIZE of a
-/// record above 65,536 bytes, EAGAIN where the peer's queue is full. In this order; out of memory.
+/// record above 65,536 bytes, ETOOMANYREFS likewise, EAGAIN where the peer's queue is full. In this order; out of
+/// memory.
 #[tactic(auto, unfolding(ux_model::specs::Sending::send_msg, ux_model::specs::Sending::send_read))]
 pub fn send_msg<O: FileObject>(
     state: &mut State<O>,
@@ -103,30 +108,49 @@ fn send_with<O: FileObject>(
         Ok(rights) => rights,
         Err(refusal) => return Err(refusal),
     };
+    let cred = match sent_cred(state, pid, control.cred()) {
+        Ok(cred) => cred,
+        Err(e) => return Err(Refusal::from(e)),
+    };
     if !is_sendable_addr(message.addr) {
         return Err(Refusal::Answer(Errno::EINVAL));
     }
-    let cred = state.credentials(pid);
-    send_from(state, id, message.addr, tag, cred, message.bytes, rights)
+    let draft = Draft {
+        tag,
+        bytes: message.bytes,
+        cred,
+        uid: state.credentials(pid).uid,
+        limit: flight_limit(state, pid),
+    };
+    send_from(state, id, message.addr, draft, rights)
 }
 
-/// Sends the bytes of a process with these credentials from the socket of this description, as the call with
-/// number `tag`: what write(2) does on a socket.
+/// Sends the bytes of a process that lives from the socket of this description, as the call with number `tag`:
+/// what write(2) does on a socket.
 ///
 /// # Errors
 ///
-/// Those of a send without an address.
+/// Those of a send without an address and without rights; EBADF where the description leads to no socket.
 pub fn write_socket<O: FileObject>(
     state: &mut State<O>,
     alloc: Global,
+    pid: Pid,
     id: DescriptionId,
     tag: u64,
-    cred: Cred,
     bytes: &[u8],
 ) -> Result<Reply, Refusal>
-    ensures { Gives state.old (send_from_at state.old id None (model.message_of cred tag bytes.now [])) result state.new }
+    requires { IsTrue (is_live state.old pid.0) }
+    ensures { Gives state.old (write_socket_at state.old pid.0 tag id bytes.now) result state.new }
 {
-    send_from(state, id, None, tag, cred, bytes, RefList::new(alloc))
+    let cred = state.credentials(pid);
+    let draft = Draft {
+        tag,
+        bytes,
+        cred,
+        uid: cred.uid,
+        limit: flight_limit(state, pid),
+    };
+    send_from(state, id, None, draft, RefList::new(alloc))
 }
 
 /// Sends bytes with rights from the socket of this description: a datagram to the address, where one is
@@ -139,26 +163,24 @@ fn send_from<O: FileObject>(
     state: &mut State<O>,
     id: DescriptionId,
     addr: Option<&Addr>,
-    tag: u64,
-    cred: Cred,
-    bytes: &[u8],
+    draft: Draft<'_>,
     rights: RefList,
 ) -> Result<Reply, Refusal>
     requires { AreReferenced state.old rights }
-    ensures { Gives state.old (send_from_at state.old id (option_map (λ a. a.now) addr.entry) (model.message_of cred tag bytes.now rights)) result state.new }
+    ensures { Gives state.old (send_from_at state.old draft.entry.limit id (option_map (λ a. a.now) addr.entry) (message draft.entry.tag draft.entry.bytes.now rights draft.entry.cred draft.entry.uid None)) result state.new }
 {
     let Some(socket) = state.socket(id) else {
         return Err(Refusal::Answer(Errno::EBADF));
     };
     if socket.is_datagram() {
-        return send_datagram(state, id, addr, tag, cred, bytes, rights);
+        return send_datagram(state, id, addr, draft, rights);
     }
     let peer = socket.peer();
     if addr.is_some() {
         return Err(Refusal::Answer(refusal_of_addr(peer.is_some())));
     }
     let shut = socket.is_write_shut();
-    send_connected(state, shut, peer, tag, cred, bytes, rights)
+    send_connected(state, shut, peer, draft, rights)
 }
 
 /// Sends bytes with rights to the peer of a stream or seqpacket socket, which is shut down for writing or not.
@@ -166,13 +188,11 @@ fn send_connected<O: FileObject>(
     state: &mut State<O>,
     shut: bool,
     peer: Option<DescriptionId>,
-    tag: u64,
-    cred: Cred,
-    bytes: &[u8],
+    draft: Draft<'_>,
     rights: RefList,
 ) -> Result<Reply, Refusal>
     requires { AreReferenced state.old rights }
-    ensures { Gives state.old (model.send_connected state.old shut peer (model.message_of cred tag bytes.now rights)) result state.new }
+    ensures { Gives state.old (model.send_connected state.old draft.entry.limit shut peer (message draft.entry.tag draft.entry.bytes.now rights draft.entry.cred draft.entry.uid None)) result state.new }
 {
     let Some(peer) = peer else {
         return Err(Refusal::Answer(Errno::ENOTCONN));
@@ -183,13 +203,24 @@ fn send_connected<O: FileObject>(
     if shut || other.is_read_shut() {
         return Err(Refusal::Answer(Errno::EPIPE));
     }
-    if !other.is_stream() && bytes.len() > RECORD_BYTES_LIMIT {
+    if !other.is_stream() && draft.bytes.len() > RECORD_BYTES_LIMIT {
         return Err(Refusal::Answer(Errno::EMSGSIZE));
     }
-    if other.is_stream() && bytes.is_empty() {
+    if other.is_stream() && draft.bytes.is_empty() {
         return Ok(Reply::Count(0));
     }
-    let count = state.send(peer, bytes, tag, rights, cred, cred.uid, None)?;
+    if is_over_limit(state, draft, &rights) {
+        return Err(Refusal::Answer(Errno::ETOOMANYREFS));
+    }
+    let count = state.send(
+        peer,
+        draft.bytes,
+        draft.tag,
+        rights,
+        draft.cred,
+        draft.uid,
+        None,
+    )?;
     Ok(Reply::Count(count))
 }
 
@@ -232,15 +263,48 @@ fn is_sendable_addr(addr: Option<&Addr>) -> bool
     }
 }
 
-/// Whether a control buffer may go with these bytes: without credentials, and with few rights or none, which
-/// on a stream have a byte to go with.
+/// The credentials that a message of a process tells: those that it gives, else its own. The process lives.
+///
+/// # Errors
+///
+/// EPERM where an unprivileged process gives others than its own, ESRCH where a privileged one gives those of a
+/// process that doesn't live.
+fn sent_cred<O: FileObject>(state: &State<O>, pid: Pid, given: Option<Cred>) -> Result<Cred, Errno>
+    requires { IsTrue (is_live state.now pid.0) }
+    ensures { IsSomeAnd (process_at state.now pid.0) (λ P. MatchResult result
+        (λ cred. (model.given_refusal state.now pid.0 P given ≡ None) × (cred ≡ model.sent_cred pid.0 P given))
+        (λ e. model.given_refusal state.now pid.0 P given ≡ Some e)) }
+{
+    let own = state.credentials(pid);
+    let Some(given) = given else {
+        return Ok(own);
+    };
+    let privileged = state.is_privileged(pid);
+    let lives = state.is_live(given.pid);
+    check_cred(own, privileged, given, lives)?;
+    Ok(given)
+}
+
+/// How many rights the user of a process may have in flight for the process to pass more, if that is limited. The
+/// process lives.
+fn flight_limit<O: FileObject>(state: &State<O>, pid: Pid) -> Option<u32>
+    requires { IsTrue (is_live state.now pid.0) }
+    ensures { IsSomeAnd (process_at state.now pid.0) (λ P. result ≡ model.flight_limit P) }
+{
+    if state.is_privileged(pid) {
+        None
+    } else {
+        Some(state.table(pid).limit())
+    }
+}
+
+/// Whether a control buffer may go with these bytes: with few rights or none, which on a stream have a byte to
+/// go with.
 fn is_sendable_control(socket: &Socket, bytes: &[u8], control: &Control) -> bool
     ensures { result ≡ model.is_sendable_control socket.now.kind bytes.now control.now }
 {
     let rights = control.rights();
-    control.cred().is_none()
-        && rights.len() <= RIGHTS_LIMIT
-        && !(socket.is_stream() && !rights.is_empty() && bytes.is_empty())
+    rights.len() <= RIGHTS_LIMIT && !(socket.is_stream() && !rights.is_empty() && bytes.is_empty())
 }
 
 /// Whether a send takes these flags: DONTWAIT and EOR.

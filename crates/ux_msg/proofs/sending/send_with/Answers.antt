@@ -1,10 +1,11 @@
 use Rattle.std.proofs.Common.{◌≡◌, true, Some, sym, ◌∙◌, subst, rules}
-use Rattle.ux_model.specs.State.{table_of}
+use Rattle.std.specs.Prelude.{IsSomeAnd}
+use Rattle.ux_model.specs.State.{process_at, table_of}
 use Rattle.ux_model.specs.Outcome.{Outcome}
 use Rattle.ux_model.specs.Sending.{descriptions_behind, is_sendable_control}
 use Rattle.ux_msg.specs.Answers.{GivesRefusal}
 use Rattle.ux_msg.specs.Sendings.{IsRefusedBehind}
-use Rattle.ux_msg.proofs.Passing.{on_live, refused_behind, behind_referenced, sent_behind}
+use Rattle.ux_msg.proofs.Passing.{AreTold, on_live, refused_behind, behind_referenced, told, sent_behind}
 use Rattle.ux_msg.proofs.sending.send_with.Goals as goal
 
 pub returns-in-Err : goal.returns-in-Err
@@ -25,5 +26,8 @@ returns g c =
     let sendable : is_sendable_control c.in-Some.socket.now.kind c.args.message.bytes.now c.args.control.now ≡ true = search rules in
     let behind : descriptions_behind (table_of c.args.state.now c.args.pid.0) c.args.control.now.rights ≡ Some c.in-Ok.rights =
     sym (λ j. descriptions_behind (c.table.ensures j) (c.rights.ensures j)) ∙ c.in-Ok.ensures.rights in
-    sent_behind c.args.state.now c.send_from.new.state c.args.pid.0 c.args.tag c.args.id c.in-Some.socket.now c.credentials-cred.result _ c.args.message.bytes.now c.args.message.control.now c.in-Ok.rights c.args.control.now c.send_from.result
-    (search rules) sendable behind (search rules) c.credentials-cred.ensures c.send_from.ensures
+    let told_there : IsSomeAnd (process_at c.args.state.now c.args.pid.0) (AreTold c.args.state.now c.args.pid.0 c.args.control.now.cred c.in-Ok-sent_cred.cred c.credentials.result.uid c.flight_limit.result) =
+    subst (λ given. IsSomeAnd (process_at c.args.state.now c.args.pid.0) (AreTold c.args.state.now c.args.pid.0 given c.in-Ok-sent_cred.cred c.credentials.result.uid c.flight_limit.result)) c.cred.ensures
+    (told c.args.state.now c.args.pid.0 c.cred.result c.in-Ok-sent_cred.cred c.credentials.result c.flight_limit.result c.in-Ok-sent_cred.ensures c.credentials.ensures c.flight_limit.ensures) in
+    sent_behind c.args.state.now c.send_from.new.state c.args.pid.0 c.args.tag c.args.id c.in-Some.socket.now c.in-Ok-sent_cred.cred c.credentials.result.uid c.flight_limit.result _ c.args.message.bytes.now c.args.message.control.now c.in-Ok.rights c.args.control.now c.send_from.result
+    (search rules) sendable behind (search rules) told_there c.send_from.ensures
