@@ -72,6 +72,8 @@ impl<O: FileObject> Kernel<O> {
             Request::Connect { fd, addr } => self.connect(pid, *fd, addr),
             Request::Accept { fd, flags } => self.accept(pid, *fd, *flags),
             Request::Shutdown { fd, how } => self.shutdown(pid, *fd, *how),
+            Request::GetOpt { fd, opt } => self.get_opt(pid, *fd, *opt),
+            Request::SetOpt { fd, opt, value } => self.set_opt(pid, *fd, *opt, *value),
             Request::GetSockName { fd } => self.get_sock_name(pid, *fd),
             Request::GetPeerName { fd } => self.get_peer_name(pid, *fd),
             Request::SendMsg {
@@ -95,6 +97,7 @@ impl<O: FileObject> Kernel<O> {
                 space,
                 flags,
             } => recv_msg(&mut self.state, self.alloc, pid, *fd, *n, *space, *flags),
+            Request::Poll { fd } => self.poll(pid, *fd),
             Request::Exit => Ok(self.exit(pid)),
             Request::Off => Ok(self.off()),
         }

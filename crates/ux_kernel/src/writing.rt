@@ -49,10 +49,7 @@ impl<O: FileObject> Kernel<O> {
         };
         match (OpenFile::of(id, description), description.socket()) {
             (Some(file), _) => self.write_file(file, bytes),
-            (None, Some(_)) => {
-                let cred = self.state.credentials(pid);
-                write_socket(&mut self.state, self.alloc, id, tag, cred, bytes)
-            }
+            (None, Some(_)) => write_socket(&mut self.state, self.alloc, pid, id, tag, bytes),
             (None, None) => unreachable!(),
         }
     }

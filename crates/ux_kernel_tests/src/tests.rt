@@ -4,6 +4,7 @@ mod boots;
 mod connections;
 mod datagrams;
 mod objects;
+mod options;
 mod pairs;
 mod rights;
 
@@ -15,8 +16,8 @@ use ux_kernel::Kernel;
 use ux_objects::Counter;
 use ux_state::RetiredList;
 use ux_types::{
-    Addr, Bytes, Errno, Fd, Mode, MsgFlags, Name, OpenFlags, Pid, ProcSpec, Reply, Request,
-    SockType,
+    Addr, Bytes, Cred, Errno, Fd, Mode, MsgFlags, Name, OpenFlags, Pid, PollFlags, ProcSpec, Reply,
+    Request, SockOpt, SockType,
 };
 
 /// A user's process with this descriptor limit.
@@ -199,6 +200,9 @@ enum Asked {
     Accept(u32, u8),
     SockName(u32),
     PeerName(u32),
+    GetOpt(u32, SockOpt),
+    SetOpt(u32, SockOpt, u64),
+    Poll(u32),
     Send(u32, &'static [u8], u8),
     SendTo(u32, At, &'static [u8]),
     /// So many bytes `x`.
@@ -229,6 +233,9 @@ enum Told {
     Taken(u8, &'static [u32]),
     Accepted(u32, At),
     Addr(At),
+    Opt(u64),
+    Cred(u32, u32, u32),
+    Poll(u8),
     Err(Errno),
 }
 
@@ -279,6 +286,16 @@ fn request_of(alloc: Global, asked: &Asked) -> Result<Request, AllocError> {
         },
         Asked::SockName(fd) => Request::GetSockName { fd: Fd(*fd) },
         Asked::PeerName(fd) => Request::GetPeerName { fd: Fd(*fd) },
+        Asked::GetOpt(fd, opt) => Request::GetOpt {
+            fd: Fd(*fd),
+            opt: *opt,
+        },
+        Asked::SetOpt(fd, opt, value) => Request::SetOpt {
+            fd: Fd(*fd),
+            opt: *opt,
+            value: *value,
+        },
+        Asked::Poll(fd) => Request::Poll { fd: Fd(*fd) },
         Asked::Send(fd, bytes, flags) => send(alloc, *fd, None, bytes, *flags)?,
         Asked::SendTo(fd, at, bytes) => send(alloc, *fd, Some(addr_of(alloc, at)?), bytes, 0)?,
         Asked::SendMany(fd, count) => send(alloc, *fd, None, &copies(alloc, *count)?, 0)?,
@@ -309,6 +326,13 @@ fn reply_of(alloc: Global, told: &Told) -> Result<Reply, AllocError> {
         Told::Taken(flags, numbers) => taken(alloc, *flags, numbers)?,
         Told::Accepted(fd, at) => Reply::Accepted(Fd(*fd), addr_of(alloc, at)?),
         Told::Addr(at) => Reply::Addr(addr_of(alloc, at)?),
+        Told::Opt(value) => Reply::Opt(*value),
+        Told::Cred(pid, uid, gid) => Reply::Cred(Cred {
+            pid: Pid(*pid),
+            uid: *uid,
+            gid: *gid,
+        }),
+        Told::Poll(flags) => Reply::Poll(PollFlags(*flags)),
         Told::Err(errno) => refused(*errno),
     })
 }
