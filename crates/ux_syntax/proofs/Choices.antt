@@ -4,10 +4,10 @@ use Rattle.std.specs.Prelude.{Option, Some, None}
 use Rattle.std.specs.List.{find, list_all}
 use Rattle.std.specs.Str.{bytes_eq}
 use Rattle.std.proofs.lemmas.Slice.Eq.{bytes_eq-Decides}
-use Rattle.ux_model.specs.Types.{SockType, Mode, Whence}
+use Rattle.ux_model.specs.Types.{SockType, SockOpt, Mode, Whence}
 use Rattle.ux_object.specs.declared.ObjKind.{ObjKind}
-use Rattle.ux_syntax.specs.Spelling.{mode_text, type_text, whence_text, kind_text}
-use Rattle.ux_syntax.specs.Reading.{or_bad, chosen_at, mode_at, type_at, whence_at, kind_at}
+use Rattle.ux_syntax.specs.Spelling.{mode_text, type_text, option_text, whence_text, kind_text}
+use Rattle.ux_syntax.specs.Reading.{or_bad, chosen_at, mode_at, type_at, option_at, whence_at, kind_at}
 use Rattle.ux_syntax.proofs.Rows.{IsBadOrOk, IsKind, ok_is, solid_from}
 
 head_or_tail : {X : Type 0} (p : X → Bool) (y : X) (ys : List X) (x : X) (b : Bool) → p y ≡ b → (or_bad (find p ys) ≡ Ok x → p x ≡ true) → or_bad (cond b (Some y) (find p ys)) ≡ Ok x → p x ≡ true
@@ -57,6 +57,17 @@ each_type SockType.Seq = (refl, refl)
 pub type_kind : IsKind type_at type_text (λ _. Unit {0})
 unfolding type_at
 type_kind = chosen_kind type_text (SockType.Stream ∷ SockType.Dgram ∷ SockType.Seq ∷ []) each_type
+
+each_option : (o : SockOpt) → IsChosen option_text (SockOpt.Kind ∷ SockOpt.Error ∷ SockOpt.PassCred ∷ SockOpt.PeerCred ∷ SockOpt.AcceptConn ∷ []) o
+each_option SockOpt.Kind = (refl, refl)
+each_option SockOpt.Error = (refl, refl)
+each_option SockOpt.PassCred = (refl, refl)
+each_option SockOpt.PeerCred = (refl, refl)
+each_option SockOpt.AcceptConn = (refl, refl)
+
+pub option_kind : IsKind option_at option_text (λ _. Unit {0})
+unfolding option_at
+option_kind = chosen_kind option_text (SockOpt.Kind ∷ SockOpt.Error ∷ SockOpt.PassCred ∷ SockOpt.PeerCred ∷ SockOpt.AcceptConn ∷ []) each_option
 
 each_whence : (w : Whence) → IsChosen whence_text (Whence.Set ∷ Whence.Cur ∷ Whence.End ∷ []) w
 each_whence Whence.Set = (refl, refl)

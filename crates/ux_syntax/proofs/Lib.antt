@@ -7,7 +7,9 @@ pub mod Flags
 pub mod Choices
 pub mod Offsets
 pub mod Names
+pub mod ControlItems
 pub mod Controls
+pub mod Laid
 pub mod Args
 pub mod HeaderLines
 pub mod Items

@@ -14,7 +14,7 @@ use Rattle.ux_syntax.specs.declared.script.Header.{Header}
 use Rattle.ux_syntax.specs.declared.script.Line.{Line}
 use Rattle.ux_syntax.specs.declared.script.Script.{Script}
 use Rattle.ux_syntax.specs.declared.reading.Item.{Item}
-use Rattle.ux_syntax.specs.Spelling.{Written, open_path, read_fd, write_fd, seek, dup_fd, dup_onto, set_flags, close, unlink_path, socket, pair, bind, listen, connect, accept, shut, sock_name, peer_name, send, recv, exit, meaning, Turn, line_of, Plan, plan_of, objects_of, procs_of, header_line, turn_line, off_lines, is_meant, FitsHeader, FitsTurn, IsOfProcess, IsCallOfStranger, IsFaultOf, is_exit, is_off, NoneAfterExit, IsCall, IsOrderly, Spells, IsFirstFault}
+use Rattle.ux_syntax.specs.Spelling.{Written, open_path, read_fd, write_fd, seek, dup_fd, dup_onto, set_flags, close, unlink_path, socket, pair, bind, listen, connect, accept, shut, get_opt, set_opt, sock_name, peer_name, send, recv, poll, exit, meaning, Turn, line_of, Plan, plan_of, objects_of, procs_of, header_line, turn_line, off_lines, is_meant, FitsHeader, FitsTurn, IsOfProcess, IsCallOfStranger, IsFaultOf, is_exit, is_off, NoneAfterExit, IsCall, IsOrderly, Spells, IsFirstFault}
 use Rattle.ux_syntax.specs.Turns.{has_exited, is_known}
 use Rattle.ux_syntax.specs.Reading.{◌>>=◌, line_fault, words_at, item_at, with_header, with_line, with_off, joined_by, is_skipped, added, line_at, on_line, lines_at, no_lines}
 use Rattle.ux_syntax.specs.Results.{FailsAt, Refuses, GivesScript}
@@ -244,10 +244,13 @@ is_no_end (listen fd backlog) = refl
 is_no_end (connect fd addr) = refl
 is_no_end (accept fd flags) = refl
 is_no_end (shut fd how) = refl
+is_no_end (get_opt fd opt) = refl
+is_no_end (set_opt fd opt value) = refl
 is_no_end (sock_name fd) = refl
 is_no_end (peer_name fd) = refl
 is_no_end (send fd addr bytes control flags) = refl
 is_no_end (recv fd n space flags) = refl
+is_no_end (poll fd) = refl
 is_no_end exit = refl
 
 call_takes : (ls : List (List ℕ)) (s : Plan) (l : List ℕ) (line : Line) → (h : Spells ls s) → s.off ≡ false → is_known s.procs line.pid.0 ≡ true → has_exited s.lines line.pid.0 ≡ false → is_short l → Says (Item.Call line) l → Spells (ls ++ l ∷ []) (with_line s line)

@@ -4,19 +4,20 @@ use Rattle.std.specs.List.{slice_split, find, list_all}
 use Rattle.std.specs.Str.{bytes_eq}
 use Rattle.std.specs.Char.{is_ascii_digit}
 use Rattle.std.specs.Str.Parse.{digits_value, signed_digits_value}
-use Rattle.ux_model.specs.Types.{Name, Addr, OpenFlags, MsgFlags, SockType, Mode, Whence, ProcSpec, Request}
+use Rattle.ux_model.specs.Types.{Cred, Name, Addr, OpenFlags, MsgFlags, SockType, SockOpt, Mode, Whence, ProcSpec, Request}
 use Rattle.ux_object.specs.declared.ObjKind.{ObjKind}
 use Rattle.ux_syntax.specs.declared.fault.Fault.{Fault}
 use Rattle.ux_syntax.specs.declared.fault.Fault.TheVariants.{BadLine, UnknownProcess, TooLong}
 use Rattle.ux_syntax.specs.declared.fault.ScriptFault.{ScriptFault}
 use Rattle.ux_syntax.specs.declared.calls.CallWord.{CallWord}
+use Rattle.ux_syntax.specs.declared.control.ControlItem.{ControlItem}
 use Rattle.ux_syntax.specs.declared.control.ControlWord.{ControlWord}
 use Rattle.ux_syntax.specs.declared.script.ObjectLine.{ObjectLine}
 use Rattle.ux_syntax.specs.declared.script.Header.{Header}
 use Rattle.ux_syntax.specs.declared.script.Line.{Line}
 use Rattle.ux_syntax.specs.declared.reading.Item.{Item}
 use Rattle.ux_syntax.specs.Trace.{dash, stands, word_text}
-use Rattle.ux_syntax.specs.Spelling.{Plan, open_path, read_fd, write_fd, seek, dup_fd, dup_onto, set_flags, close, unlink_path, socket, pair, bind, listen, connect, accept, shut, sock_name, peer_name, send, recv, exit, meaning, mode_text, type_text, whence_text, kind_text, is_meant}
+use Rattle.ux_syntax.specs.Spelling.{Plan, open_path, read_fd, write_fd, seek, dup_fd, dup_onto, set_flags, close, unlink_path, socket, pair, bind, listen, connect, accept, shut, get_opt, set_opt, sock_name, peer_name, send, recv, poll, exit, meaning, mode_text, type_text, option_text, whence_text, kind_text, is_meant}
 use Rattle.ux_syntax.specs.Turns.{has_exited, is_known}
 
 infixl 10 ◌>>=◌
@@ -64,6 +65,9 @@ chosen_at text all w = or_bad (find (λ x. bytes_eq w (text x)) all)
 
 unfoldable pub type_at : List ℕ → Result SockType Fault
 type_at w = chosen_at type_text (SockType.Stream ∷ SockType.Dgram ∷ SockType.Seq ∷ []) w
+
+unfoldable pub option_at : List ℕ → Result SockOpt Fault
+option_at w = chosen_at option_text (SockOpt.Kind ∷ SockOpt.Error ∷ SockOpt.PassCred ∷ SockOpt.PeerCred ∷ SockOpt.AcceptConn ∷ []) w
 
 unfoldable pub mode_at : List ℕ → Result Mode Fault
 mode_at w = chosen_at mode_text (Mode.Read ∷ Mode.Write ∷ Mode.Both ∷ []) w
@@ -169,15 +173,6 @@ each_number_at (w ∷ ws) = do
 unfoldable pub numbers_at : List ℕ → Result (List ℕ) Fault
 numbers_at w = each_number_at (slice_split (λ b. b == 44) w)
 
--- a dash, or bytes behind x:, or descriptor numbers behind r:
-unfoldable pub control_at : List ℕ → Result ControlWord Fault
-control_at [] = Err BadLine
-control_at (c ∷ []) = if c == 45 then Ok ControlWord.Bare else Err BadLine
-control_at (c ∷ colon ∷ rest) =
-    if c == 120 && colon == 58 then (some_pairs_at rest >>= λ bytes. Ok (ControlWord.Raw bytes))
-    else if c == 114 && colon == 58 then (numbers_at rest >>= λ numbers. Ok (ControlWord.Rights numbers))
-    else Err BadLine
-
 unfoldable pub open_flags_at : List ℕ → Result OpenFlags Fault
 open_flags_at [] = Err BadLine
 open_flags_at (c ∷ cs) =
@@ -209,6 +204,50 @@ ends (w ∷ ws) = Err BadLine
 infixr 20 ◌>>◌
 abbrev pub ◌>>◌ : {A B : Type 0} → (List ℕ → Result A Fault) → (List (List ℕ) → Result B Fault) → List (List ℕ) → Result (A × B) Fault
 (kind >> row) ws = one kind ws >>= λ x. row x.1 >>= λ y. Ok (x.0, y)
+
+-- a process, a user and a group, joined by commas
+unfoldable pub cred_at : List ℕ → Result Cred Fault
+cred_at w = (number_at >> number_at >> number_at >> ends) (slice_split (λ b. b == 44) w) >>= λ x. Ok (record { pid = record { 0 = x.0 }; uid = x.1.0; gid = x.1.1.0 })
+
+-- descriptor numbers behind r:, or credentials behind c:
+unfoldable pub control_item_at : List ℕ → Result ControlItem Fault
+control_item_at [] = Err BadLine
+control_item_at (c ∷ []) = Err BadLine
+control_item_at (c ∷ colon ∷ rest) =
+    if c == 114 && colon == 58 then (numbers_at rest >>= λ numbers. Ok (ControlItem.Rights numbers))
+    else if c == 99 && colon == 58 then (cred_at rest >>= λ cred. Ok (ControlItem.Credentials cred))
+    else Err BadLine
+
+abbrev pub alone : ControlItem → ControlWord
+alone (ControlItem.Rights numbers) = ControlWord.Rights numbers
+alone (ControlItem.Credentials cred) = ControlWord.Credentials cred
+
+-- one item of each kind
+abbrev pub paired : ControlItem → ControlItem → Result ControlWord Fault
+paired (ControlItem.Rights numbers) (ControlItem.Credentials cred) = Ok (ControlWord.RightsFirst numbers cred)
+paired (ControlItem.Credentials cred) (ControlItem.Rights numbers) = Ok (ControlWord.CredentialsFirst cred numbers)
+paired (ControlItem.Rights numbers) (ControlItem.Rights others) = Err BadLine
+paired (ControlItem.Credentials cred) (ControlItem.Credentials other) = Err BadLine
+
+-- one item, or two
+abbrev pub each_item_at : List (List ℕ) → Result ControlWord Fault
+each_item_at [] = Err BadLine
+each_item_at (w ∷ []) = control_item_at w >>= λ item. Ok (alone item)
+each_item_at (v ∷ w ∷ []) = control_item_at v >>= λ first. control_item_at w >>= λ second. paired first second
+each_item_at (u ∷ v ∷ w ∷ ws) = Err BadLine
+
+-- items joined by a plus
+unfoldable pub control_items_at : List ℕ → Result ControlWord Fault
+control_items_at w = each_item_at (slice_split (λ b. b == 43) w)
+
+-- a dash, or bytes behind x:, or items
+unfoldable pub control_at : List ℕ → Result ControlWord Fault
+control_at [] = control_items_at []
+control_at (c ∷ []) = if c == 45 then Ok ControlWord.Bare else control_items_at (c ∷ [])
+control_at (c ∷ colon ∷ rest) =
+    if c == 120 && colon == 58 then (some_pairs_at rest >>= λ bytes. Ok (ControlWord.Raw bytes)) else control_items_at (c ∷ colon ∷ rest)
+
+-- ---- calls
 
 unfoldable pub open_at : List (List ℕ) → Result Request Fault
 open_at ws = (path_at >> mode_at >> open_flags_at >> ends) ws >>= λ x. Ok (meaning (open_path x.0 x.1.0 x.1.1.0))
@@ -258,6 +297,12 @@ accept_at ws = (number_at >> open_flags_at >> ends) ws >>= λ x. Ok (meaning (ac
 unfoldable pub shut_at : List (List ℕ) → Result Request Fault
 shut_at ws = (number_at >> mode_at >> ends) ws >>= λ x. Ok (meaning (shut x.0 x.1.0))
 
+unfoldable pub get_opt_at : List (List ℕ) → Result Request Fault
+get_opt_at ws = (number_at >> option_at >> ends) ws >>= λ x. Ok (meaning (get_opt x.0 x.1.0))
+
+unfoldable pub set_opt_at : List (List ℕ) → Result Request Fault
+set_opt_at ws = (number_at >> option_at >> number_at >> ends) ws >>= λ x. Ok (meaning (set_opt x.0 x.1.0 x.1.1.0))
+
 unfoldable pub sock_name_at : List (List ℕ) → Result Request Fault
 sock_name_at ws = (number_at >> ends) ws >>= λ x. Ok (meaning (sock_name x.0))
 
@@ -270,14 +315,17 @@ send_at ws = (number_at >> addr_or_dash_at >> hex_at >> control_at >> msg_flags_
 unfoldable pub recv_at : List (List ℕ) → Result Request Fault
 recv_at ws = (number_at >> number_at >> number_at >> msg_flags_at >> ends) ws >>= λ x. Ok (meaning (recv x.0 x.1.0 x.1.1.0 x.1.1.1.0))
 
+unfoldable pub poll_at : List (List ℕ) → Result Request Fault
+poll_at ws = (number_at >> ends) ws >>= λ x. Ok (meaning (poll x.0))
+
 unfoldable pub exit_at : List (List ℕ) → Result Request Fault
 exit_at ws = ends ws >>= λ x. Ok (meaning exit)
 
 -- the words of calls: `off` is none
 abbrev pub all_words : List CallWord
 all_words = CallWord.Open ∷ CallWord.Read ∷ CallWord.Write ∷ CallWord.Lseek ∷ CallWord.Dup ∷ CallWord.Dup2 ∷ CallWord.Flags ∷ CallWord.Close ∷ CallWord.Unlink
-    ∷ CallWord.Socket ∷ CallWord.Pair ∷ CallWord.Bind ∷ CallWord.Listen ∷ CallWord.Connect ∷ CallWord.Accept ∷ CallWord.Shut ∷ CallWord.SockName ∷ CallWord.PeerName
-    ∷ CallWord.Send ∷ CallWord.Recv ∷ CallWord.Exit ∷ []
+    ∷ CallWord.Socket ∷ CallWord.Pair ∷ CallWord.Bind ∷ CallWord.Listen ∷ CallWord.Connect ∷ CallWord.Accept ∷ CallWord.Shut ∷ CallWord.GetOpt ∷ CallWord.SetOpt
+    ∷ CallWord.SockName ∷ CallWord.PeerName ∷ CallWord.Send ∷ CallWord.Recv ∷ CallWord.Poll ∷ CallWord.Exit ∷ []
 
 unfoldable pub word_at : List ℕ → Result CallWord Fault
 word_at w = chosen_at word_text all_words w
@@ -299,10 +347,13 @@ args_at CallWord.Listen ws = listen_at ws
 args_at CallWord.Connect ws = connect_at ws
 args_at CallWord.Accept ws = accept_at ws
 args_at CallWord.Shut ws = shut_at ws
+args_at CallWord.GetOpt ws = get_opt_at ws
+args_at CallWord.SetOpt ws = set_opt_at ws
 args_at CallWord.SockName ws = sock_name_at ws
 args_at CallWord.PeerName ws = peer_name_at ws
 args_at CallWord.Send ws = send_at ws
 args_at CallWord.Recv ws = recv_at ws
+args_at CallWord.Poll ws = poll_at ws
 args_at CallWord.Exit ws = exit_at ws
 args_at CallWord.Off ws = Err BadLine
 

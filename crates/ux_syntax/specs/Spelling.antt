@@ -1,20 +1,21 @@
 -- Which lines spell which script.
-use Rattle.std.specs.Prelude.{◌≡◌, ◌≢◌, ℕ, ◌<◌, ◌≤◌, ◌^◌, ◌-◌, ℤ, pos, negsuc, take, Bool, true, false, List, [], ◌∷◌, ◌++◌, length, map, filter, codes, decimal, Option, Some, None, if◌then◌else◌, ◌==◌, not, slice_index_or}
+use Rattle.std.specs.Prelude.{◌≡◌, ◌≢◌, ℕ, ◌<◌, ◌≤◌, ◌^◌, ◌-◌, ◌%◌, ℤ, pos, negsuc, take, Bool, true, false, List, [], ◌∷◌, ◌++◌, length, replicate, map, filter, codes, decimal, Option, Some, None, IfSome, if◌then◌else◌, ◌==◌, not, slice_index_or}
 use Rattle.std.specs.List.{AllByRecursion, slice_split, join_with_byte}
 use Rattle.std.specs.Fmt.{signed_decimal}
-use Rattle.ux_model.specs.Types.{Name, Addr, OpenFlags, MsgFlags, SockType, Mode, Whence, ProcSpec, Request}
+use Rattle.ux_model.specs.Types.{Cred, Name, Addr, OpenFlags, MsgFlags, SockType, SockOpt, Mode, Whence, ProcSpec, Request}
 use Rattle.ux_model.specs.Flags.{has_bits}
 use Rattle.ux_model.specs.Process.{fd_of}
 pub use Rattle.ux_model.specs.History.{is_exit, is_off}
 use Rattle.ux_object.specs.declared.ObjKind.{ObjKind}
-use Rattle.ux_model.specs.Delivery.{rights_bytes}
+use Rattle.ux_model.specs.Control as model
+use Rattle.ux_model.specs.Delivery.{control_bytes}
 use Rattle.ux_syntax.specs.declared.control.ControlWord.{ControlWord}
 use Rattle.ux_syntax.specs.declared.fault.Fault.{Fault}
 use Rattle.ux_syntax.specs.declared.script.ObjectLine.{ObjectLine}
 use Rattle.ux_syntax.specs.declared.script.Header.{Header}
 use Rattle.ux_syntax.specs.declared.script.Line.{Line}
 use Rattle.ux_syntax.specs.declared.script.Script.{Script}
-use Rattle.ux_syntax.specs.Trace.{dash, hex, path_text, addr_text, addr_or_dash, raw_text, rights_text, word_text, request_word}
+use Rattle.ux_syntax.specs.Trace.{dash, hex, path_text, addr_text, addr_or_dash, raw_text, rights_text, cred_text, word_text, request_word}
 
 -- ---- what a script says
 
@@ -41,12 +42,19 @@ procs_of (Header.Proc p ∷ hs) = p ∷ procs_of hs
 
 -- ---- calls as they are written
 
--- The bytes of a control buffer, of which several writings may stand for the same: none, those that are written out, or one item of
--- descriptor numbers.
+-- bytes, and zeros behind them up to the next multiple of 8
+abbrev pub padded : List ℕ → List ℕ
+padded bytes = bytes ++ replicate ((8 - length bytes % 8) % 8) 0
+
+-- The bytes of a control buffer, of which several writings may stand for the same: none, those that are written out, or the items of
+-- descriptor numbers and credentials in their order, each on a multiple of 8, with nothing behind the last.
 abbrev pub control_buffer : ControlWord → List ℕ
 control_buffer ControlWord.Bare = []
 control_buffer (ControlWord.Raw bytes) = bytes
-control_buffer (ControlWord.Rights numbers) = rights_bytes numbers
+control_buffer (ControlWord.Rights numbers) = control_bytes None numbers
+control_buffer (ControlWord.Credentials cred) = control_bytes (Some cred) []
+control_buffer (ControlWord.CredentialsFirst cred numbers) = control_bytes (Some cred) numbers
+control_buffer (ControlWord.RightsFirst numbers cred) = padded (control_bytes None numbers) ++ control_bytes (Some cred) []
 
 pub data Written : Type 0 where
   open_path : (path : Name) → (mode : Mode) → (flags : OpenFlags) → Written
@@ -65,10 +73,13 @@ pub data Written : Type 0 where
   connect : (fd : ℕ) → (addr : Addr) → Written
   accept : (fd : ℕ) → (flags : OpenFlags) → Written
   shut : (fd : ℕ) → (how : Mode) → Written
+  get_opt : (fd : ℕ) → (opt : SockOpt) → Written
+  set_opt : (fd : ℕ) → (opt : SockOpt) → (value : ℕ) → Written
   sock_name : (fd : ℕ) → Written
   peer_name : (fd : ℕ) → Written
   send : (fd : ℕ) → (addr : Option Addr) → (bytes : List ℕ) → (control : ControlWord) → (flags : MsgFlags) → Written
   recv : (fd n space : ℕ) → (flags : MsgFlags) → Written
+  poll : (fd : ℕ) → Written
   exit : Written
 
 -- the call that is meant
@@ -89,10 +100,13 @@ meaning (listen fd backlog) = Request.Listen (fd_of fd) backlog
 meaning (connect fd addr) = Request.Connect (fd_of fd) addr
 meaning (accept fd flags) = Request.Accept (fd_of fd) flags
 meaning (shut fd how) = Request.Shutdown (fd_of fd) how
+meaning (get_opt fd opt) = Request.GetOpt (fd_of fd) opt
+meaning (set_opt fd opt value) = Request.SetOpt (fd_of fd) opt value
 meaning (sock_name fd) = Request.GetSockName (fd_of fd)
 meaning (peer_name fd) = Request.GetPeerName (fd_of fd)
 meaning (send fd addr bytes control flags) = Request.SendMsg (fd_of fd) addr bytes (control_buffer control) flags
 meaning (recv fd n space flags) = Request.RecvMsg (fd_of fd) n space flags
+meaning (poll fd) = Request.Poll (fd_of fd)
 meaning exit = Request.Exit
 
 -- a process's number, and a call of it as it is written
@@ -109,6 +123,9 @@ abbrev pub control_text : ControlWord → List ℕ
 control_text ControlWord.Bare = dash
 control_text (ControlWord.Raw bytes) = raw_text bytes
 control_text (ControlWord.Rights numbers) = rights_text numbers
+control_text (ControlWord.Credentials cred) = cred_text cred
+control_text (ControlWord.CredentialsFirst cred numbers) = join_with_byte 43 (cred_text cred ∷ rights_text numbers ∷ [])
+control_text (ControlWord.RightsFirst numbers cred) = join_with_byte 43 (rights_text numbers ∷ cred_text cred ∷ [])
 
 abbrev pub letter : Bool → ℕ → List ℕ
 letter b c = if b then c ∷ [] else []
@@ -132,6 +149,13 @@ abbrev pub type_text : SockType → List ℕ
 type_text SockType.Stream = codes "stream"
 type_text SockType.Dgram = codes "dgram"
 type_text SockType.Seq = codes "seq"
+
+abbrev pub option_text : SockOpt → List ℕ
+option_text SockOpt.Kind = codes "type"
+option_text SockOpt.Error = codes "error"
+option_text SockOpt.PassCred = codes "passcred"
+option_text SockOpt.PeerCred = codes "peercred"
+option_text SockOpt.AcceptConn = codes "accept"
 
 abbrev pub mode_text : Mode → List ℕ
 mode_text Mode.Read = codes "r"
@@ -166,10 +190,13 @@ args_of (listen fd backlog) = decimal fd ∷ signed_decimal backlog ∷ []
 args_of (connect fd addr) = decimal fd ∷ addr_text addr ∷ []
 args_of (accept fd flags) = decimal fd ∷ open_flags flags ∷ []
 args_of (shut fd how) = decimal fd ∷ mode_text how ∷ []
+args_of (get_opt fd opt) = decimal fd ∷ option_text opt ∷ []
+args_of (set_opt fd opt value) = decimal fd ∷ option_text opt ∷ decimal value ∷ []
 args_of (sock_name fd) = decimal fd ∷ []
 args_of (peer_name fd) = decimal fd ∷ []
 args_of (send fd addr bytes control flags) = decimal fd ∷ addr_or_dash addr ∷ hex bytes ∷ control_text control ∷ msg_flags flags ∷ []
 args_of (recv fd n space flags) = decimal fd ∷ decimal n ∷ decimal space ∷ msg_flags flags ∷ []
+args_of (poll fd) = decimal fd ∷ []
 args_of exit = []
 
 -- ---- lines
@@ -214,11 +241,21 @@ IsNumber n = n < 2 ^ 32
 abbrev pub AreBytes : List ℕ → Type 0
 AreBytes bs = AllByRecursion (λ b. b < 256) bs
 
--- bytes that are written out are one at least, and so are descriptor numbers
+-- descriptor numbers are one at least
+abbrev pub FitsRights : List ℕ → Type 0
+FitsRights numbers = (0 < length numbers) × AllByRecursion IsNumber numbers
+
+abbrev pub FitsCred : Cred → Type 0
+FitsCred cred = IsNumber cred.pid.0 × IsNumber cred.uid × IsNumber cred.gid
+
+-- bytes that are written out are one at least
 abbrev pub FitsControl : ControlWord → Type 0
 FitsControl ControlWord.Bare = Unit {0}
 FitsControl (ControlWord.Raw bytes) = (0 < length bytes) × AreBytes bytes
-FitsControl (ControlWord.Rights numbers) = (0 < length numbers) × AllByRecursion IsNumber numbers
+FitsControl (ControlWord.Rights numbers) = FitsRights numbers
+FitsControl (ControlWord.Credentials cred) = FitsCred cred
+FitsControl (ControlWord.CredentialsFirst cred numbers) = FitsCred cred × FitsRights numbers
+FitsControl (ControlWord.RightsFirst numbers cred) = FitsRights numbers × FitsCred cred
 
 -- the flags that have a letter
 abbrev pub FitsOpenFlags : OpenFlags → Type 0
@@ -267,10 +304,13 @@ FitsCall (listen fd backlog) = IsNumber fd × IsBacklog backlog
 FitsCall (connect fd addr) = IsNumber fd × FitsAddr addr
 FitsCall (accept fd flags) = IsNumber fd × FitsOpenFlags flags
 FitsCall (shut fd how) = IsNumber fd
+FitsCall (get_opt fd opt) = IsNumber fd
+FitsCall (set_opt fd opt value) = IsNumber fd × IsNumber value
 FitsCall (sock_name fd) = IsNumber fd
 FitsCall (peer_name fd) = IsNumber fd
 FitsCall (send fd addr bytes control flags) = IsNumber fd × FitsAddrOrDash addr × AreBytes bytes × FitsControl control × FitsMsgFlags flags
 FitsCall (recv fd n space flags) = IsNumber fd × IsNumber n × IsNumber space × FitsMsgFlags flags
+FitsCall (poll fd) = IsNumber fd
 FitsCall exit = Unit {0}
 
 abbrev pub FitsTurn : Turn → Type 0
@@ -348,6 +388,19 @@ pub record IsFirstFault (texts : List (List ℕ)) (n : ℕ) (fault : Fault) : Ty
   pub why : IsFaultOf fault script (slice_index_or texts (n - 1) [])
 
 -- ---- laws
+
+-- what the items of control data say together; bytes that are written out may say anything
+abbrev pub said_by : ControlWord → Option model.Control
+said_by ControlWord.Bare = Some (record { cred = None; rights = [] })
+said_by (ControlWord.Raw bytes) = None
+said_by (ControlWord.Rights numbers) = Some (record { cred = None; rights = numbers })
+said_by (ControlWord.Credentials cred) = Some (record { cred = Some cred; rights = [] })
+said_by (ControlWord.CredentialsFirst cred numbers) = Some (record { cred = Some cred; rights = numbers })
+said_by (ControlWord.RightsFirst numbers cred) = Some (record { cred = Some cred; rights = numbers })
+
+-- a control buffer that is written in items spells what they say, where 8 bytes can count it
+abbrev pub ItemsAreSpelled : Type 0
+ItemsAreSpelled = (word : ControlWord) → FitsControl word → length (control_buffer word) < 2 ^ 64 → IfSome (said_by word) (λ said. model.Spells (control_buffer word) said)
 
 -- a text spells one script at most
 abbrev pub OneScript : Type 0

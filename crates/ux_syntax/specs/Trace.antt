@@ -2,7 +2,7 @@
 use Rattle.std.specs.Prelude.{ℕ, ◌+◌, ◌/◌, ◌%◌, Bool, false, List, [], ◌∷◌, ◌++◌, map, Option, Some, None, codes, decimal, if◌then◌else◌, ◌==◌, ◌&&◌, not, nat_le}
 use Rattle.std.specs.Fmt.{digit_glyph}
 use Rattle.std.specs.List.{flat_map, join_with_byte}
-use Rattle.ux_model.specs.Types.{Cred, Name, Addr, Errno, MsgFlags, Request, Reply, Entry}
+use Rattle.ux_model.specs.Types.{Cred, Name, Addr, Errno, MsgFlags, PollFlags, Request, Reply, Entry}
 use Rattle.ux_model.specs.Control.{Control}
 use Rattle.ux_model.specs.ControlReading.{control_in}
 use Rattle.ux_model.specs.Flags.{has_bits}
@@ -71,6 +71,14 @@ received_rows f = (has_bits f.0 2, codes "TRUNC") ∷ (has_bits f.0 16, codes "C
 
 abbrev pub received_flags_text : MsgFlags → List ℕ
 received_flags_text f = flags_text (received_rows f)
+
+-- the conditions that a poll finds, in the order of a trace
+abbrev pub poll_rows : PollFlags → List (Bool × List ℕ)
+poll_rows f = (has_bits f.0 1, codes "IN") ∷ (has_bits f.0 2, codes "OUT") ∷ (has_bits f.0 4, codes "RDHUP")
+    ∷ (has_bits f.0 8, codes "HUP") ∷ (has_bits f.0 16, codes "ERR") ∷ (has_bits f.0 32, codes "NVAL") ∷ []
+
+abbrev pub poll_flags_text : PollFlags → List ℕ
+poll_flags_text f = flags_text (poll_rows f)
 
 -- x: and the bytes
 abbrev pub raw_text : List ℕ → List ℕ
@@ -147,6 +155,9 @@ reply_text (Reply.At n) = codes "at " ++ decimal n
 reply_text (Reply.Received count bytes flags control from) = got_text count bytes flags (items_text control) from
 reply_text (Reply.Accepted a name) = codes "accepted " ++ (decimal a.0 ++ (codes " " ++ addr_text name))
 reply_text (Reply.Addr name) = codes "addr " ++ addr_text name
+reply_text (Reply.Opt n) = codes "opt " ++ decimal n
+reply_text (Reply.Cred cred) = codes "cred " ++ (decimal cred.pid.0 ++ (codes " " ++ (decimal cred.uid ++ (codes " " ++ decimal cred.gid))))
+reply_text (Reply.Poll flags) = codes "poll " ++ poll_flags_text flags
 reply_text (Reply.Err e) = codes "err " ++ errno_text e
 
 -- the same where the control bytes of a receive read as this
@@ -172,10 +183,13 @@ word_text CallWord.Listen = codes "listen"
 word_text CallWord.Connect = codes "connect"
 word_text CallWord.Accept = codes "accept"
 word_text CallWord.Shut = codes "shut"
+word_text CallWord.GetOpt = codes "getopt"
+word_text CallWord.SetOpt = codes "setopt"
 word_text CallWord.SockName = codes "sockname"
 word_text CallWord.PeerName = codes "peername"
 word_text CallWord.Send = codes "send"
 word_text CallWord.Recv = codes "recv"
+word_text CallWord.Poll = codes "poll"
 word_text CallWord.Exit = codes "exit"
 word_text CallWord.Off = codes "off"
 
@@ -196,10 +210,13 @@ request_word (Request.Listen fd backlog) = CallWord.Listen
 request_word (Request.Connect fd addr) = CallWord.Connect
 request_word (Request.Accept fd flags) = CallWord.Accept
 request_word (Request.Shutdown fd how) = CallWord.Shut
+request_word (Request.GetOpt fd opt) = CallWord.GetOpt
+request_word (Request.SetOpt fd opt value) = CallWord.SetOpt
 request_word (Request.GetSockName fd) = CallWord.SockName
 request_word (Request.GetPeerName fd) = CallWord.PeerName
 request_word (Request.SendMsg fd addr bytes control flags) = CallWord.Send
 request_word (Request.RecvMsg fd n space flags) = CallWord.Recv
+request_word (Request.Poll fd) = CallWord.Poll
 request_word Request.Exit = CallWord.Exit
 request_word Request.Off = CallWord.Off
 

@@ -2,7 +2,7 @@
 
 ghost use Rattle.std.specs.Prelude.{◌≡◌, map};
 ghost use Rattle.ux_syntax.specs.Trace.{word_text, request_word};
-ghost use Rattle.ux_syntax.specs.Reading.{open_at, read_at, write_at, lseek_at, dup_at, dup2_at, set_flags_at, close_at, unlink_at, socket_at, pair_at, bind_at, listen_at, connect_at, accept_at, shut_at, sock_name_at, peer_name_at, send_at, recv_at, exit_at, word_at, args_at};
+ghost use Rattle.ux_syntax.specs.Reading.{open_at, read_at, write_at, lseek_at, dup_at, dup2_at, set_flags_at, close_at, unlink_at, socket_at, pair_at, bind_at, listen_at, connect_at, accept_at, shut_at, get_opt_at, set_opt_at, sock_name_at, peer_name_at, send_at, recv_at, poll_at, exit_at, word_at, args_at};
 ghost use Rattle.ux_syntax.specs.Results.{Gives};
 
 use crate::control::ControlWord;
@@ -30,16 +30,19 @@ pub enum CallWord {
     Connect,
     Accept,
     Shut,
+    GetOpt,
+    SetOpt,
     SockName,
     PeerName,
     Send,
     Recv,
+    Poll,
     Exit,
     Off,
 }
 
 /// The words that a script may have behind a process's number.
-const CALL_WORDS: [CallWord; 21] = [
+const CALL_WORDS: [CallWord; 24] = [
     CallWord::Open,
     CallWord::Read,
     CallWord::Write,
@@ -56,10 +59,13 @@ const CALL_WORDS: [CallWord; 21] = [
     CallWord::Connect,
     CallWord::Accept,
     CallWord::Shut,
+    CallWord::GetOpt,
+    CallWord::SetOpt,
     CallWord::SockName,
     CallWord::PeerName,
     CallWord::Send,
     CallWord::Recv,
+    CallWord::Poll,
     CallWord::Exit,
 ];
 
@@ -85,10 +91,13 @@ impl CallWord {
             Request::Connect { .. } => CallWord::Connect,
             Request::Accept { .. } => CallWord::Accept,
             Request::Shutdown { .. } => CallWord::Shut,
+            Request::GetOpt { .. } => CallWord::GetOpt,
+            Request::SetOpt { .. } => CallWord::SetOpt,
             Request::GetSockName { .. } => CallWord::SockName,
             Request::GetPeerName { .. } => CallWord::PeerName,
             Request::SendMsg { .. } => CallWord::Send,
             Request::RecvMsg { .. } => CallWord::Recv,
+            Request::Poll { .. } => CallWord::Poll,
             Request::Exit => CallWord::Exit,
             Request::Off => CallWord::Off,
         }
@@ -115,10 +124,13 @@ impl CallWord {
             CallWord::Connect => "connect",
             CallWord::Accept => "accept",
             CallWord::Shut => "shut",
+            CallWord::GetOpt => "getopt",
+            CallWord::SetOpt => "setopt",
             CallWord::SockName => "sockname",
             CallWord::PeerName => "peername",
             CallWord::Send => "send",
             CallWord::Recv => "recv",
+            CallWord::Poll => "poll",
             CallWord::Exit => "exit",
             CallWord::Off => "off",
         }
@@ -319,6 +331,33 @@ fn shut_of(alloc: Global, words: &[&[u8]]) -> Result<Request, LineError>
     Ok(Request::Shutdown { fd: Fd(fd), how })
 }
 
+/// `getopt FD OPT`.
+#[tactic(auto, unfolding(crate::specs::Reading::get_opt_at))]
+fn get_opt_of(alloc: Global, words: &[&[u8]]) -> Result<Request, LineError>
+    ensures { Gives (λ r. r) result (get_opt_at (map (λ w. w.now) words.now)) }
+{
+    let (fd, words) = word(alloc, words)?;
+    let (opt, words) = word(alloc, words)?;
+    end(words)?;
+    Ok(Request::GetOpt { fd: Fd(fd), opt })
+}
+
+/// `setopt FD OPT VALUE`.
+#[tactic(auto, unfolding(crate::specs::Reading::set_opt_at))]
+fn set_opt_of(alloc: Global, words: &[&[u8]]) -> Result<Request, LineError>
+    ensures { Gives (λ r. r) result (set_opt_at (map (λ w. w.now) words.now)) }
+{
+    let (fd, words) = word(alloc, words)?;
+    let (opt, words) = word(alloc, words)?;
+    let (value, words) = word::<u32>(alloc, words)?;
+    end(words)?;
+    Ok(Request::SetOpt {
+        fd: Fd(fd),
+        opt,
+        value: u64::from(value),
+    })
+}
+
 /// `sockname FD`.
 #[tactic(auto, unfolding(crate::specs::Reading::sock_name_at))]
 fn sock_name_of(alloc: Global, words: &[&[u8]]) -> Result<Request, LineError>
@@ -377,6 +416,16 @@ fn recv_of(alloc: Global, words: &[&[u8]]) -> Result<Request, LineError>
     })
 }
 
+/// `poll FD`.
+#[tactic(auto, unfolding(crate::specs::Reading::poll_at))]
+fn poll_of(alloc: Global, words: &[&[u8]]) -> Result<Request, LineError>
+    ensures { Gives (λ r. r) result (poll_at (map (λ w. w.now) words.now)) }
+{
+    let (fd, words) = word(alloc, words)?;
+    end(words)?;
+    Ok(Request::Poll { fd: Fd(fd) })
+}
+
 /// `close FD`.
 #[tactic(auto, unfolding(crate::specs::Reading::close_at))]
 fn close_of(alloc: Global, words: &[&[u8]]) -> Result<Request, LineError>
@@ -421,10 +470,13 @@ pub(crate) fn request_of(
         CallWord::Connect => connect_of(alloc, args),
         CallWord::Accept => accept_of(alloc, args),
         CallWord::Shut => shut_of(alloc, args),
+        CallWord::GetOpt => get_opt_of(alloc, args),
+        CallWord::SetOpt => set_opt_of(alloc, args),
         CallWord::SockName => sock_name_of(alloc, args),
         CallWord::PeerName => peer_name_of(alloc, args),
         CallWord::Send => send_of(alloc, args),
         CallWord::Recv => recv_of(alloc, args),
+        CallWord::Poll => poll_of(alloc, args),
         CallWord::Exit => exit_of(args),
         CallWord::Off => Err(BAD),
     }

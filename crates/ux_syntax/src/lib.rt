@@ -15,6 +15,7 @@ mod trace;
 mod words;
 
 pub use calls::CallWord;
+pub use control::items_are_spelled;
 pub use fault::{Fault, ScriptFault};
 pub use input::read_script;
 pub use reading::{one_script, parse_script};

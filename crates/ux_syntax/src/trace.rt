@@ -1,7 +1,7 @@
 //! The text of a history.
 
 ghost use Rattle.std.specs.Prelude.{◌≡◌, IfOk, Some, map, string_bytes};
-ghost use Rattle.ux_syntax.specs.Trace.{hex, name_text, addr_text, addr_or_dash, flags_text, received_flags_text, rights_text, cred_text, said_text, told_text, errno_text, reply_text, reply_telling, closed_text, entry_line};
+ghost use Rattle.ux_syntax.specs.Trace.{hex, name_text, addr_text, addr_or_dash, flags_text, received_flags_text, poll_flags_text, rights_text, cred_text, said_text, told_text, errno_text, reply_text, reply_telling, closed_text, entry_line};
 
 use crate::calls::CallWord;
 use crate::paths::stands;
@@ -9,7 +9,7 @@ use bitflags::Flags;
 use std::alloc::{AllocError, Global};
 use std::fmt;
 use ux_cmsg::{Control, ControlError, read_control};
-use ux_types::{Addr, Cred, Entry, Errno, Fd, MsgFlags, Reply};
+use ux_types::{Addr, Cred, Entry, Errno, Fd, MsgFlags, PollFlags, Reply};
 
 /// Bytes as pairs of hexadecimal digits, or `-` where there is none.
 #[derive(Clone, Copy)]
@@ -122,6 +122,27 @@ impl fmt::Display for ReceivedFlags {
             (self.0.contains(MsgFlags::TRUNC), "TRUNC"),
             (self.0.contains(MsgFlags::CTRUNC), "CTRUNC"),
             (self.0.contains(MsgFlags::EOR), "EOR"),
+        ];
+        let names = SetNames(&rows);
+        write!(f, "{names}")
+    }
+}
+
+/// The conditions that a poll found.
+#[derive(Clone, Copy)]
+struct Conditions(PollFlags);
+
+impl fmt::Display for Conditions {
+    ghost output = { λ flags. Some (poll_flags_text flags.0) };
+
+    fn fmt<W: fmt::Write>(&self, f: &mut fmt::Formatter<W>) -> fmt::Result {
+        let rows = [
+            (self.0.contains(PollFlags::IN), "IN"),
+            (self.0.contains(PollFlags::OUT), "OUT"),
+            (self.0.contains(PollFlags::RDHUP), "RDHUP"),
+            (self.0.contains(PollFlags::HUP), "HUP"),
+            (self.0.contains(PollFlags::ERR), "ERR"),
+            (self.0.contains(PollFlags::NVAL), "NVAL"),
         ];
         let names = SetNames(&rows);
         write!(f, "{names}")
@@ -286,6 +307,9 @@ impl fmt::Display for ReplyText<'_> {
             }
             Reply::Accepted(fd, addr) => write!(f, "accepted {} {}", fd.0, AddrText(addr)),
             Reply::Addr(addr) => write!(f, "addr {}", AddrText(addr)),
+            Reply::Opt(value) => write!(f, "opt {value}"),
+            Reply::Cred(cred) => write!(f, "cred {} {} {}", cred.pid.0, cred.uid, cred.gid),
+            Reply::Poll(flags) => write!(f, "poll {}", Conditions(*flags)),
             Reply::Err(errno) => write!(f, "err {}", errno_name(*errno)),
         }
     }

@@ -4,14 +4,14 @@ ghost use Rattle.std.specs.Prelude.{◌≡◌, ◌<◌, ℕ, List, Result, IfOk,
 ghost use Rattle.ux_syntax.specs.declared.fault.Fault.{Fault};
 ghost use Rattle.std.specs.List.{list_all};
 ghost use Rattle.std.specs.Char.{is_ascii_digit};
-ghost use Rattle.ux_syntax.specs.Reading.{is_plain, number_at, without_minus, offset_at, backlog_at, digit_at, pairs_at, hex_at, bit_at, mode_at, type_at, whence_at, kind_at, flag_at, open_flags_at, msg_flags_at};
+ghost use Rattle.ux_syntax.specs.Reading.{is_plain, number_at, without_minus, offset_at, backlog_at, digit_at, pairs_at, hex_at, bit_at, mode_at, type_at, option_at, whence_at, kind_at, flag_at, open_flags_at, msg_flags_at};
 ghost use Rattle.ux_syntax.specs.Results.{Gives};
 
 use crate::fault::{BAD, LineError};
 use std::alloc::Global;
 use std::str;
 use ux_object::ObjKind;
-use ux_types::{Bytes, Mode, MsgFlags, OpenFlags, SockType, Whence};
+use ux_types::{Bytes, Mode, MsgFlags, OpenFlags, SockOpt, SockType, Whence};
 
 /// A value that one word spells.
 pub(crate) trait Word: Sized {
@@ -183,6 +183,28 @@ impl Word for SockType {
             Ok(SockType::Dgram)
         } else if word == b"seq".as_slice() {
             Ok(SockType::Seq)
+        } else {
+            Err(BAD)
+        }
+    }
+}
+
+/// An option of a socket.
+impl Word for SockOpt {
+    ghost at = { option_at };
+
+    #[tactic(auto, unfolding(crate::specs::Reading::option_at))]
+    fn of(_alloc: Global, word: &[u8]) -> Result<SockOpt, LineError> {
+        if word == b"type".as_slice() {
+            Ok(SockOpt::Kind)
+        } else if word == b"error".as_slice() {
+            Ok(SockOpt::Error)
+        } else if word == b"passcred".as_slice() {
+            Ok(SockOpt::PassCred)
+        } else if word == b"peercred".as_slice() {
+            Ok(SockOpt::PeerCred)
+        } else if word == b"accept".as_slice() {
+            Ok(SockOpt::AcceptConn)
         } else {
             Err(BAD)
         }

@@ -107,6 +107,61 @@ fn control_data_is_read(rt: HostRuntime) -> Result<(), Fail> {
     Ok(())
 }
 
+/// Items with credentials as they are written, and the digits of their bytes.
+const ITEMS: &[(&str, &str)] = &[
+    (
+        "c:2,1000,1000",
+        "1c00000000000000010000000200000002000000e8030000e8030000",
+    ),
+    (
+        "c:0,4294967295,1",
+        "1c00000000000000010000000200000000000000ffffffff01000000",
+    ),
+    (
+        "c:2,1000,1000+r:3",
+        "1c00000000000000010000000200000002000000e8030000e803000000000000\
+         1400000000000000010000000100000003000000",
+    ),
+    (
+        "c:2,1000,1000+r:3,4",
+        "1c00000000000000010000000200000002000000e8030000e803000000000000\
+         180000000000000001000000010000000300000004000000",
+    ),
+    (
+        "r:3+c:2,1000,1000",
+        "140000000000000001000000010000000300000000000000\
+         1c00000000000000010000000200000002000000e8030000e8030000",
+    ),
+    // Two numbers end on a multiple of 8.
+    (
+        "r:3,4+c:2,1000,1000",
+        "180000000000000001000000010000000300000004000000\
+         1c00000000000000010000000200000002000000e8030000e8030000",
+    ),
+    (
+        "r:3,4,5+c:2,1000,1000",
+        "1c0000000000000001000000010000000300000004000000\
+         0500000000000000\
+         1c00000000000000010000000200000002000000e8030000e8030000",
+    ),
+];
+
+/// Sees that control data stands for the bytes with these digits.
+fn expect_layout(rt: &impl Abort, alloc: Global, text: &str, digits: &str) -> Result<(), Fail> {
+    let call = format!(in alloc; "send 0 - 6869 x:{digits} p")?;
+    let written = request_in(alloc, &call)?;
+    let call = format!(in alloc; "send 0 - 6869 {text} p")?;
+    expect_request(rt, alloc, &call, &written)
+}
+
+#[test]
+fn items_are_laid_out(rt: HostRuntime) -> Result<(), Fail> {
+    for (text, digits) in ITEMS {
+        expect_layout(&rt, rt.alloc(), text, digits)?;
+    }
+    Ok(())
+}
+
 /// What is no control data.
 const BAD_CONTROLS: &[&str] = &[
     "",
@@ -143,14 +198,60 @@ const BAD_CONTROLS: &[&str] = &[
     "r:4294967296",
     "r:1,4294967296",
     "R:1",
-    "c:1,2,3",
-    "c:1,2,3+r:1",
+];
+
+/// What is no item of control data, and no row of items.
+const BAD_ITEMS: &[&str] = &[
+    "c",
+    "c:",
+    "c:1",
+    "c:1,2",
+    "c:1,2,3,4",
+    "c:1,2,3,",
+    "c:,2,3",
+    "c:1,,3",
+    "c:01,2,3",
+    "c:1,-2,3",
+    "c:1,2,4294967296",
+    "c:1;2;3",
+    "c:-",
+    "c1,2,3",
+    "C:1,2,3",
+    "1,2,3",
+    "+",
+    "+r:1",
+    "r:1+",
+    "r:+c:1,2,3",
+    "c:1,2+r:3",
+    "c:1,2,3+",
+    "c:1,2,3+r:",
+    "c:1,2,3+c:1,2,3",
+    "r:0+r:1",
+    "c:1,2,3++r:1",
+    "c:1,2,3+r:1+",
+    "c:1,2,3+r:1+r:2",
+    "r:1+c:1,2,3+r:1",
+    "c:1,2,3,r:1",
+    "c:1,2,3+-",
+    "-+r:1",
+    "x:00+c:1,2,3",
+    "c:1,2,3+x:00",
 ];
 
 #[test]
 fn bad_control_data_is_told(rt: HostRuntime) -> Result<(), Fail> {
     let alloc = rt.alloc();
     for text in BAD_CONTROLS {
+        let call = format!(in alloc; "send 0 - 6869 {text} p")?;
+        expect_bad_call(&rt, alloc, &call)?;
+    }
+    Ok(())
+}
+
+#[test]
+fn bad_items_are_told(rt: HostRuntime) -> Result<(), Fail> {
+    let alloc = rt.alloc();
+    for text in BAD_ITEMS {
         let call = format!(in alloc; "send 0 - 6869 {text} p")?;
         expect_bad_call(&rt, alloc, &call)?;
     }

@@ -215,7 +215,7 @@ fn senders_are_printed(rt: HostRuntime) -> Result<(), Fail> {
 }
 
 /// Sees the line of the entry of number 5, the eighth call of its process.
-fn expect_fifth(
+pub(super) fn expect_fifth(
     rt: &impl Abort,
     alloc: Global,
     request: Request,
