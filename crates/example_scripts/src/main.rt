@@ -13,7 +13,7 @@ use ux_syntax::{Script, parse_script};
 use ux_types::Name;
 
 /// The scripts by their names.
-const SCRIPTS: [&str; 71] = [
+const SCRIPTS: [&str; 86] = [
     "hello",
     "lost_peer",
     "peek_then_read",
@@ -85,6 +85,21 @@ const SCRIPTS: [&str; 71] = [
     "shut_down_records",
     "shut_down_datagrams",
     "whom_shutdown_refuses",
+    "credentials_of_a_sender",
+    "different_credentials_are_not_joined",
+    "whose_credentials_may_be_given",
+    "credentials_and_control_space",
+    "credentials_of_a_listener",
+    "limit_of_rights_in_flight",
+    "whose_rights_are_in_flight",
+    "passcred_names_a_socket",
+    "options_of_each_type",
+    "options_and_readiness",
+    "readiness_of_files",
+    "readiness_of_datagram_sockets",
+    "readiness_of_connections",
+    "display_server",
+    "poll_of_a_half_closed_connection",
 ];
 
 /// A file object as a kernel holds it.
