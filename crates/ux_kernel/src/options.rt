@@ -7,7 +7,7 @@ ghost use Rattle.ux_msg.specs.Answers.{Gives};
 use crate::kernel::Kernel;
 use ux_desc::Socket;
 use ux_object::FileObject;
-use ux_types::{DescriptionId, Errno, Fd, Pid, Refusal, Reply, SockOpt, SockType};
+use ux_types::{Errno, Fd, Pid, Refusal, Reply, SockOpt, SockType};
 
 impl<O: FileObject> Kernel<O> {
     /// getsockopt(2). SO_ERROR clears the pending error that it tells. ENOTCONN of SO_PEERCRED where no peer's

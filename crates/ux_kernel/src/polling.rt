@@ -1,5 +1,5 @@
 //! What is ready (poll(2)).
-ghost use Rattle.std.specs.Prelude.{◌≡◌, IsTrue};
+ghost use Rattle.std.specs.Prelude.{IsTrue};
 ghost use Rattle.ux_model.specs.State.{is_live};
 ghost use Rattle.ux_model.specs.Readiness as model;
 ghost use Rattle.ux_msg.specs.Answers.{Gives};

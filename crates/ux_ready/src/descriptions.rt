@@ -1,6 +1,5 @@
 //! The readiness of a description.
-ghost use Rattle.std.specs.Prelude.{◌≡◌, Some};
-ghost use Rattle.ux_model.specs.State.{description_at};
+ghost use Rattle.std.specs.Prelude.{◌≡◌};
 ghost use Rattle.ux_model.specs.Readiness as model;
 
 use crate::conditions::Conditions;

@@ -1,5 +1,5 @@
 //! The readiness of sockets.
-ghost use Rattle.std.specs.Prelude.{◌≡◌, option_map};
+ghost use Rattle.std.specs.Prelude.{◌≡◌};
 ghost use Rattle.ux_model.specs.Connecting.{listener_of};
 ghost use Rattle.ux_model.specs.Readiness as model;
 
