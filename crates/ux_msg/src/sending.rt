@@ -1,5 +1,5 @@
 //! Sending to a socket (sendmsg(2), write(2)).
-ghost use Rattle.std.specs.Prelude.{◌≡◌, [], IsTrue, Some, None, IfOk, IfErr, IsSomeAnd, MatchResult, if◌then◌else◌, map, option_map};
+ghost use Rattle.std.specs.Prelude.{◌≡◌, IsTrue, Some, None, IfOk, IfErr, IsSomeAnd, MatchResult, if◌then◌else◌, map, option_map};
 ghost use Rattle.ux_model.specs.Types.{Errno as ModelErrno};
 ghost use Rattle.ux_model.specs.Flags.{are_send_flags};
 ghost use Rattle.ux_model.specs.Message.{message};
