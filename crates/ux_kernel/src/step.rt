@@ -16,9 +16,10 @@ use ux_types::{Errno, Pid, Refusal, Reply, Request};
 impl<O: FileObject> Kernel<O> {
     /// Makes one call of a process that hasn't exited, or the end of the layer once none is left, and
     /// releases what nothing refers to any more: the file objects that went with the call are put into an
-    /// empty list by rising number, closed and otherwise as they were. `tag` is the number of the call, which a message that it sends
-    /// keeps. A refusal is the reply. One with ENOMEM leaves the kernel as it was; close(2) and _exit(2)
-    /// never give it.
+    /// empty list by rising number, closed and otherwise as they were. `tag` is the number of the call, which
+    /// a message that it sends keeps. A refusal is the reply. One with ENOMEM leaves the kernel as it was, and
+    /// close(2), unlink(2), lseek(2), the flags of fcntl(2), listen(2), shutdown(2), getsockopt(2), poll(2),
+    /// _exit(2) and the end of the layer never give it.
     #[tactic(auto, unfolding(ux_model::specs::Step::Step))]
     pub fn step(
         &mut self,
