@@ -33,7 +33,7 @@ all_written out written rights n all e =
 alone : (item : Item) → IsItem item → IsList (item_bytes item) (item ∷ [])
 alone item fits = subst (λ (b : List ℕ). IsList b (item ∷ [])) (append-nil (item_bytes item)) (last item [] fits (omega arith))
 
-some_rights : (n : ℕ) (ns : List ℕ) → rights_bytes (n ∷ ns) ≡ item_bytes (rights_item (n ∷ ns))
+pub some_rights : (n : ℕ) (ns : List ℕ) → rights_bytes (n ∷ ns) ≡ item_bytes (rights_item (n ∷ ns))
 some_rights n ns = rw (eqb-suc-zero (length ns)) refl
 
 cred_alone_bytes : (c : Cred) → control_bytes (Some c) [] ≡ item_bytes (cred_item c)

@@ -33,7 +33,6 @@ pub(crate) fn is_over_limit<O: FileObject>(
     let Some(limit) = draft.limit else {
         return false;
     };
-    let flying = state.rights_in_flight(draft.uid) as u128;
     let count = rights.len() as u128;
-    0 < count && (limit as u128) < flying + count
+    0 < count && (limit as u128) < state.rights_in_flight(draft.uid) as u128 + count
 }

@@ -138,6 +138,25 @@ fn append<O: FileObject>(
     assert!(rt; sent == Ok(bytes.len()));
 }
 
+/// Sends a reference to a description to a socket, for a process of a user.
+fn pass<O: FileObject>(
+    rt: &impl Abort,
+    alloc: Global,
+    state: &mut State<O>,
+    id: u128,
+    passed: u128,
+    uid: u32,
+) -> Result<(), AllocError> {
+    let id = DescriptionId::new(id);
+    let passed = DescriptionId::new(passed);
+    assert!(rt; state.socket(id).is_some());
+    assert!(rt; state.count(passed) > 0);
+    let rights = RefList::from_slice(alloc, &[passed])?;
+    let sent = state.send(id, b"x", 1, rights, user(), uid, None);
+    assert!(rt; sent == Ok(1));
+    Ok(())
+}
+
 /// Sees which socket a number of process 1 leads to, by its own handle and its peer's, or why none.
 fn expect_socket<O: FileObject>(
     rt: &impl Abort,

@@ -8,15 +8,12 @@ use Rattle.ux_model.specs.Control.{Item, rights_item, cred_item, payload, item_b
 use Rattle.ux_model.specs.Delivery.{rights_bytes, control_bytes}
 use Rattle.ux_cmsg.specs.Items.{head_bytes}
 use Rattle.ux_cmsg.proofs.Numbers.{length-numbers}
-use Rattle.ux_cmsg.proofs.Written.{control_spelled}
+use Rattle.ux_cmsg.proofs.Written.{some_rights, control_spelled}
 use Rattle.ux_syntax.specs.declared.control.ControlWord.{ControlWord}
 use Rattle.ux_syntax.specs.Spelling.{padded, control_buffer, FitsControl, said_by}
 
 length-rights : (ns : List ℕ) → length (item_bytes (rights_item ns)) ≡ 16 + 4 * length ns
 length-rights ns = omega (arith, length-append (head_bytes (16 + length (payload (rights_item ns))) 1) (payload (rights_item ns)), length-numbers ns)
-
-some_rights : (n : ℕ) (ns : List ℕ) → rights_bytes (n ∷ ns) ≡ item_bytes (rights_item (n ∷ ns))
-some_rights n ns = rw (eqb-suc-zero (length ns)) refl
 
 length-some : (n : ℕ) (ns : List ℕ) → length (rights_bytes (n ∷ ns)) ≡ 16 + 4 * length (n ∷ ns)
 length-some n ns = ap (λ (b : List ℕ). length b) (some_rights n ns) ∙ length-rights (n ∷ ns)

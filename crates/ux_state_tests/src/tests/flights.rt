@@ -1,5 +1,7 @@
 //! How many rights of each user are in messages that nobody has received.
-use super::{append, close, end, expect_queue, open, open_pair, settle, start_with_files, user};
+use super::{
+    append, close, end, expect_queue, open, open_pair, pass, settle, start_with_files, user,
+};
 use hoard::Hoard;
 use std::alloc::{AllocError, Global};
 use std::process::Abort;
@@ -9,26 +11,7 @@ use ux_rights::RefList;
 use ux_state::State;
 use ux_types::{DescriptionId, Fd, Mode};
 
-/// Sends a description to a socket, for a process of a user.
-fn pass<O: FileObject>(
-    rt: &impl Abort,
-    alloc: Global,
-    state: &mut State<O>,
-    id: u128,
-    passed: u128,
-    uid: u32,
-) -> Result<(), AllocError> {
-    let id = DescriptionId::new(id);
-    let passed = DescriptionId::new(passed);
-    assert!(rt; state.socket(id).is_some());
-    assert!(rt; state.count(passed) > 0);
-    let rights = RefList::from_slice(alloc, &[passed])?;
-    let sent = state.send(id, b"x", 1, rights, user(), uid, None);
-    assert!(rt; sent == Ok(1));
-    Ok(())
-}
-
-/// Sends it twice in one message.
+/// Sends a reference to a description twice in one message to a socket, for a process of a user.
 fn pass_twice<O: FileObject>(
     rt: &impl Abort,
     alloc: Global,

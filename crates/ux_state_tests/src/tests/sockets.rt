@@ -1,6 +1,6 @@
 //! Connected sockets: messages, resets, and what goes with their queues.
 use super::{
-    append, close, expect_queue, expect_socket, name, open, open_pair, settle, start,
+    append, close, expect_queue, expect_socket, name, open, open_pair, pass, settle, start,
     start_with_files, user,
 };
 use hoard::Hoard;
@@ -12,24 +12,6 @@ use ux_objects::Counter;
 use ux_rights::RefList;
 use ux_state::{RetiredList, State};
 use ux_types::{DescriptionId, Errno, Fd, Mode, OpenFlags, Pid, SockType};
-
-/// Sends a reference to a description to a socket.
-fn pass<O: FileObject>(
-    rt: &impl Abort,
-    alloc: Global,
-    state: &mut State<O>,
-    id: u128,
-    passed: u128,
-) -> Result<(), AllocError> {
-    let id = DescriptionId::new(id);
-    let passed = DescriptionId::new(passed);
-    assert!(rt; state.socket(id).is_some());
-    assert!(rt; state.count(passed) > 0);
-    let rights = RefList::from_slice(alloc, &[passed])?;
-    let sent = state.send(id, b"x", 1, rights, user(), 1000, None);
-    assert!(rt; sent == Ok(1));
-    Ok(())
-}
 
 /// Takes these bytes from a socket.
 fn take<O: FileObject>(
@@ -173,7 +155,7 @@ fn a_chain_of_passed_sockets_goes_at_once(rt: HostRuntime) -> Result<(), Fail> {
         let at = last % 2;
         let (last, next) = (2 * last as u128, 2 * last as u128 + 2);
         open_pair(&rt, s, 1 - at, 2);
-        pass(&rt, alloc, s, next, last)?;
+        pass(&rt, alloc, s, next, last, 1000)?;
         close(&rt, s, 1, at);
         close(&rt, s, 1, 2);
         settle(&rt, s, &[]);
