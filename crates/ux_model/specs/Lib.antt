@@ -37,6 +37,8 @@ pub mod Options
 pub mod Readiness
 pub mod Closing
 pub mod Step
+pub mod Waiting
+pub mod Rooms
 pub mod HandingOut
 pub mod Peers
 pub mod Flight
@@ -47,3 +49,4 @@ pub mod History
 pub mod Invariants
 pub mod ReadyCalls
 pub mod FlightLaws
+pub mod RoomLaws
