@@ -1,0 +1,146 @@
+//! Copies while every allocation is refused.
+ghost use Rattle.std.specs.Prelude.{◌≡◌, IfOk};
+ghost use Rattle.ux_model.specs.Limits.{name_limit};
+ghost use Rattle.ux_model.specs.Rooms.{sender_bytes, size_of, room_for, Fits};
+
+use super::*;
+use bstr::BString;
+use hoard::Hoard;
+use std::alloc::{AllocError, Global};
+use std::process::Abort;
+use std::test::Fail;
+use ux_types::{
+    Addr, Bytes, Cred, Errno, Fd, MsgFlags, Name, OpenFlags, Pid, PollFlags, Reply, Request,
+};
+
+/// These bytes.
+fn bytes(alloc: Global, items: &[u8]) -> Result<Bytes, AllocError>
+    ensures { IfOk result (λ b. b ≡ items.now) }
+{
+    Ok(Bytes::new(Vec::from_slice(alloc, items)?))
+}
+
+/// The name with these bytes.
+fn name(alloc: Global, items: &[u8]) -> Result<Name, AllocError>
+    ensures { IfOk result (λ n. n ≡ items.now) }
+{
+    Ok(Name::new(BString::from_slice(alloc, items)?))
+}
+
+/// Makes room for the reply to a request, and copies a reply while every allocation is refused.
+#[tactic(auto, using(crate::proofs::Fitting::fits_trans))]
+fn copy_without_memory(alloc: Global, request: &Request, reply: &Reply) -> Result<Reply, AllocError>
+    requires { Fits (size_of reply.now) (room_for request.now) }
+{
+    let room = ReplyRoom::for_request(alloc, request)?;
+    let hoard = Hoard::take_all(alloc)?;
+    let copy = room.copy(reply);
+    drop(hoard);
+    Ok(copy)
+}
+
+/// Sees that a reply to a request is copied.
+fn expect(rt: &impl Abort, alloc: Global, request: Request, reply: Reply) -> Result<(), AllocError>
+    requires { Fits (size_of reply) (room_for request) }
+{
+    let copy = copy_without_memory(alloc, &request, &reply)?;
+    assert_eq!(rt; copy, reply);
+    Ok(())
+}
+
+#[test]
+#[tactic(auto, unfolding(ux_model::specs::Rooms::size_of, ux_model::specs::Rooms::room_for))]
+fn replies_without_bytes_are_copied(rt: HostRuntime) -> Result<(), Fail> {
+    let alloc = rt.alloc();
+    let cred = Cred {
+        pid: Pid(2),
+        uid: 1000,
+        gid: 100,
+    };
+    expect(&rt, alloc, Request::Exit, Reply::Ok)?;
+    expect(&rt, alloc, Request::Exit, Reply::Fd(Fd(3)))?;
+    expect(&rt, alloc, Request::Exit, Reply::Fds(Fd(3), Fd(4)))?;
+    expect(&rt, alloc, Request::Exit, Reply::Count(5))?;
+    expect(&rt, alloc, Request::Exit, Reply::At(6))?;
+    expect(&rt, alloc, Request::Exit, Reply::Opt(1))?;
+    expect(&rt, alloc, Request::Exit, Reply::Cred(cred))?;
+    expect(&rt, alloc, Request::Exit, Reply::Poll(PollFlags::IN))?;
+    expect(&rt, alloc, Request::Exit, Reply::Err(Errno::EBADF))?;
+    Ok(())
+}
+
+#[test]
+#[tactic(auto, unfolding(ux_model::specs::Rooms::size_of, ux_model::specs::Rooms::room_for))]
+fn bytes_that_were_read_are_copied(rt: HostRuntime) -> Result<(), Fail> {
+    let alloc = rt.alloc();
+    let request = Request::Read { fd: Fd(0), n: 4 };
+    expect(&rt, alloc, request, Reply::Bytes(bytes(alloc, b"ping")?))?;
+    Ok(())
+}
+
+#[test]
+#[tactic(auto, unfolding(ux_model::specs::Rooms::size_of, ux_model::specs::Rooms::room_for))]
+fn addresses_are_copied(rt: HostRuntime) -> Result<(), Fail> {
+    let alloc = rt.alloc();
+    let fd = Fd(0);
+    let path = Addr::Path(name(alloc, b"/a")?);
+    expect(&rt, alloc, Request::GetSockName { fd }, Reply::Addr(path))?;
+    let taken = Addr::Abstract(name(alloc, b"00000")?);
+    expect(&rt, alloc, Request::GetPeerName { fd }, Reply::Addr(taken))?;
+    let flags = OpenFlags(0);
+    let accepted = Reply::Accepted(Fd(1), Addr::Unnamed);
+    expect(&rt, alloc, Request::Accept { fd, flags }, accepted)?;
+    let accepted = Reply::Accepted(Fd(1), Addr::Path(name(alloc, b"/b")?));
+    expect(&rt, alloc, Request::Accept { fd, flags }, accepted)?;
+    Ok(())
+}
+
+/// A receive of at most 4 bytes, with room for 2 of control.
+#[tactic(auto, unfolding(ux_model::specs::Rooms::room_for))]
+fn receive() -> Request
+    ensures { room_for result ≡ record { data_bytes = 4; control = 2; name = name_limit } }
+{
+    Request::RecvMsg {
+        fd: Fd(0),
+        n: 4,
+        space: 2,
+        flags: MsgFlags(0),
+    }
+}
+
+/// A message of a sender.
+#[tactic(auto, unfolding(ux_model::specs::Rooms::size_of))]
+fn message(alloc: Global, from: Option<Addr>) -> Result<Reply, AllocError>
+    ensures { IfOk result (λ r. size_of r ≡ record { data_bytes = 4; control = 2; name = sender_bytes from }) }
+{
+    Ok(Reply::Received {
+        count: 5,
+        bytes: bytes(alloc, b"ping")?,
+        flags: MsgFlags::TRUNC,
+        control: bytes(alloc, &[7, 8])?,
+        from,
+    })
+}
+
+#[test]
+fn messages_are_copied(rt: HostRuntime) -> Result<(), Fail> {
+    let alloc = rt.alloc();
+    expect(&rt, alloc, receive(), message(alloc, None)?)?;
+    let sender = Addr::Abstract(name(alloc, b"sender")?);
+    expect(&rt, alloc, receive(), message(alloc, Some(sender))?)?;
+    Ok(())
+}
+
+#[test]
+fn room_is_refused_without_memory(rt: HostRuntime) -> Result<(), Fail> {
+    let alloc = rt.alloc();
+    let fd = Fd(0);
+    let hoard = Hoard::take_all(alloc)?;
+    let read = ReplyRoom::for_request(alloc, &Request::Read { fd, n: 1 }).is_err();
+    let named = ReplyRoom::for_request(alloc, &Request::GetSockName { fd }).is_err();
+    let plain = ReplyRoom::for_request(alloc, &Request::Close { fd }).is_ok();
+    drop(hoard);
+    assert!(rt; read && named, "nothing was refused");
+    assert!(rt; plain, "a reply without bytes takes memory");
+    Ok(())
+}
