@@ -1,8 +1,9 @@
--- Which processes live after a call.
-use Rattle.std.proofs.Common.{◌≡◌, ℕ, zero, suc, Bool, true, false, not, ◌&&◌, ◌||◌, ◌==◌, List, [], ◌∷◌, ◌++◌, length, get_or, set, map, Option, Some, None, refl, ap, sym, subst, ◌∙◌, arith}
-use Rattle.std.specs.List.{slice_get}
-use Rattle.std.proofs.lemmas.Bool.{eqb-true, eqb-false, eq-eqb, ne_eqb}
+-- Which processes live after a call, and how many.
+use Rattle.std.proofs.Common.{◌≡◌, ℕ, zero, suc, Bool, true, false, not, ◌&&◌, ◌||◌, ◌==◌, List, [], ◌∷◌, ◌++◌, length, get_or, set, map, sum_by, count_by, cond, if◌then◌else◌, ◌+◌, ◌<◌, Option, Some, None, refl, ap, sym, subst, ◌∙◌, arith}
+use Rattle.std.specs.List.{slice_get, list_any}
+use Rattle.std.proofs.lemmas.Bool.{eqb-true, eqb-false, eq-eqb, ne_eqb, or_parts}
 use Rattle.std.proofs.lemmas.List.{get_or-set_other, length-set, length-map}
+use Rattle.std.proofs.lemmas.List.Sums.{sum_by-cons}
 use mathlib.Core.Bool.{and-true, or-true, or-false, or_assoc}
 use Rattle.ux_model.specs.Types.{Errno, Request, Reply, Entry}
 use Rattle.ux_model.specs.Process.{Process}
@@ -11,7 +12,7 @@ use Rattle.ux_model.specs.Release.{without, drop_rounds, drop_all, drop_unrefere
 use Rattle.ux_model.specs.Outcome.{Outcome, Chosen, own, lacking_memory, failing, refuse, answer}
 use Rattle.ux_model.specs.Closing.{exit, with_nothing_open}
 use Rattle.ux_model.specs.Step.{Step, outcome, lacks_memory, fails}
-use Rattle.ux_model.specs.History.{is_exit, has_exited, ExitAloneEnds, StepKeepsProcesses, LivesUntilExit}
+use Rattle.ux_model.specs.History.{has_live, live_count, is_exit, has_exited, ExitAloneEnds, ExitLeavesOneFewer, StepKeepsProcesses, LivesUntilExit}
 use Rattle.ux_model.proofs.Induction.{IsKept, kept_throughout}
 use Rattle.ux_model.proofs.Reaching.{Reaches, still, process_changed, description_made, peers_made, connection_made, description_changed, object_changed, paths_taken, path_bound, name_bound, turned_off}
 use Rattle.ux_model.proofs.Calls.{each_obeys, chosen_reached}
@@ -149,18 +150,48 @@ unfolding exit
 exit_long S zero = refl
 exit_long S (suc i) = ap length (exit_ends S i) ∙ length-set (exits S) i true
 
--- of the processes after a call: who lives, and how many there are
+-- ---- how many live
+
+abbrev one_if : Bool → ℕ
+one_if b = if b then 1 else 0
+
+-- of one that is set to have exited, there is one fewer if it hadn't
+fewer_set : (xs : List Bool) (i : ℕ) → count_by not (set xs i true) + one_if (not (get_or xs i true)) ≡ count_by not xs
+fewer_set [] i = refl
+fewer_set (x ∷ xs) zero =
+    let new = sum_by-cons (λ b. cond {A = ℕ} (not b) 1 0) true xs in
+    let old = sum_by-cons (λ b. cond {A = ℕ} (not b) 1 0) x xs in
+    omega (arith, new, old)
+fewer_set (x ∷ xs) (suc i) =
+    let new = sum_by-cons (λ b. cond {A = ℕ} (not b) 1 0) x (set xs i true) in
+    let old = sum_by-cons (λ b. cond {A = ℕ} (not b) 1 0) x xs in
+    let rest = fewer_set xs i in
+    omega (arith, new, old, rest)
+
+exit_fewer : (S : State) (p : ℕ) → count_by not (exits (exit S p).next) + one_if (lives (exits S) p) ≡ count_by not (exits S)
+unfolding exit
+exit_fewer S zero = omega arith
+exit_fewer S (suc i) = ap (λ xs. count_by not xs + one_if (lives (exits S) (suc i))) (exit_ends S i) ∙ fewer_set (exits S) i
+
+-- ---- a call
+
+-- of the processes after a call: who lives, how many there are, and how many live
 abbrev After : State → ℕ → Request → List Bool → Type 0
-After S p request xs = ((q : ℕ) → lives xs q ≡ (lives (exits S) q && not (is_exit request && (p == q)))) × (length xs ≡ length (exits S))
+After S p request xs =
+    ((q : ℕ) → lives xs q ≡ (lives (exits S) q && not (is_exit request && (p == q)))) × (length xs ≡ length (exits S)) × (count_by not xs + one_if (is_exit request && lives (exits S) p) ≡ count_by not (exits S))
 
 kept_after : (S : State) (p : ℕ) (request : Request) (xs : List Bool) → is_exit request ≡ false → xs ≡ exits S → After S p request xs
-kept_after S p request xs other e = (
-  λ q. ap (λ ys. lives ys q) e ∙ sym (and-true (lives (exits S) q)) ∙ ap (λ b. lives (exits S) q && not (b && (p == q))) (sym other),
-  ap length e,
-)
+kept_after S p request xs other e =
+    let as_many : count_by not xs ≡ count_by not (exits S) = ap (count_by not) e in
+    let none : one_if (is_exit request && lives (exits S) p) ≡ 0 = ap (λ b. one_if (b && lives (exits S) p)) other in
+    (
+      λ q. ap (λ ys. lives ys q) e ∙ sym (and-true (lives (exits S) q)) ∙ ap (λ b. lives (exits S) q && not (b && (p == q))) (sym other),
+      ap length e,
+      omega (arith, as_many, none),
+    )
 
 exit_after : (S : State) (p : ℕ) (T : State) (reply : Reply) → Chosen S (exit S p) reply T → After S p Request.Exit (exits T)
-exit_after S p T reply (own e f) = subst (λ (U : State). After S p Request.Exit (exits U)) (sym f) (exit_lives S p, exit_long S p)
+exit_after S p T reply (own e f) = subst (λ (U : State). After S p Request.Exit (exits U)) (sym f) (exit_lives S p, exit_long S p, exit_fewer S p)
 exit_after S p T reply (lacking_memory e may f) = absurd (cc (may, (exit_own S p).may))
 exit_after S p T reply (failing e f) = absurd (cc (f, (exit_own S p).failure))
 
@@ -184,6 +215,71 @@ exit_alone_ends S T p tag q request reply gone s =
 pub step_keeps_processes : StepKeepsProcesses
 step_keeps_processes S T p tag request reply gone s =
     sym (length-map T.processes (λ P. Process.exited P)) ∙ (step_keeps S T p tag request reply gone s).1 ∙ length-map S.processes (λ P. Process.exited P)
+
+-- the count says it of the processes themselves
+counted : (Ps : List Process) → count_by not (map (λ P. Process.exited P) Ps) ≡ count_by (λ P. not (Process.exited P)) Ps
+counted [] = refl
+counted (P ∷ Ps) =
+    let there = sum_by-cons (λ b. cond {A = ℕ} (not b) 1 0) P.exited (map (λ P. Process.exited P) Ps) in
+    let here = sum_by-cons (λ P. cond {A = ℕ} (not (Process.exited P)) 1 0) P Ps in
+    let rest = counted Ps in
+    omega (arith, there, here, rest)
+
+pub exit_leaves_one_fewer : ExitLeavesOneFewer
+exit_leaves_one_fewer S T p tag request reply gone s =
+    let new = counted T.processes in
+    let old = counted S.processes in
+    let one : one_if (is_exit request && is_live S p) ≡ one_if (is_exit request && lives (exits S) p) = ap (λ b. one_if (is_exit request && b)) (live_is S p) in
+    let all = (step_keeps S T p tag request reply gone s).2 in
+    omega (arith, new, old, one, all)
+
+-- ---- none, and some
+
+-- of some processes, where no other counts
+none_of : (Ps : List Process) → list_any (λ P. not (Process.exited P)) Ps ≡ false → count_by (λ P. not (Process.exited P)) Ps ≡ 0
+none_of [] h = refl
+none_of (P ∷ Ps) h =
+    let parts = or_parts (not P.exited) (list_any (λ P. not (Process.exited P)) Ps) h in
+    let s = sum_by-cons (λ P. cond {A = ℕ} (not (Process.exited P)) 1 0) P Ps in
+    let first : cond {A = ℕ} (not P.exited) 1 0 ≡ 0 = ap (λ b. cond {A = ℕ} b 1 0) parts.0 in
+    let rest = none_of Ps parts.1 in
+    omega (arith, s, first, rest)
+
+any_of : (Ps : List Process) → count_by (λ P. not (Process.exited P)) Ps ≡ 0 → list_any (λ P. not (Process.exited P)) Ps ≡ false
+any_of [] h = refl
+any_of (P ∷ Ps) h = go (not P.exited) refl (λ none. any_of Ps none)
+  where
+    all : count_by (λ P. not (Process.exited P)) (P ∷ Ps) ≡ cond {A = ℕ} (not P.exited) 1 0 + count_by (λ P. not (Process.exited P)) Ps
+    all = sum_by-cons (λ P. cond {A = ℕ} (not (Process.exited P)) 1 0) P Ps
+
+    go : (b : Bool) → not P.exited ≡ b → (count_by (λ P. not (Process.exited P)) Ps ≡ 0 → list_any (λ P. not (Process.exited P)) Ps ≡ false) →
+        b || list_any (λ P. not (Process.exited P)) Ps ≡ false
+    go true is later = let one : cond {A = ℕ} (not P.exited) 1 0 ≡ 1 = ap (λ b. cond {A = ℕ} b 1 0) is in absurd (omega (arith, all, one, h))
+    go false is later =
+        let one : cond {A = ℕ} (not P.exited) 1 0 ≡ 0 = ap (λ b. cond {A = ℕ} b 1 0) is in
+        later (omega (arith, all, one, h))
+
+pub none_live : (S : State) → has_live S ≡ false → live_count S ≡ 0
+none_live S h = none_of S.processes h
+
+pub counts_none : (S : State) → live_count S ≡ 0 → has_live S ≡ false
+counts_none S h = any_of S.processes h
+
+-- one that lives is counted
+pub live_counts : (S : State) (p : ℕ) → is_live S p ≡ true → 0 < live_count S
+live_counts S zero h = absurd (cc h)
+live_counts S (suc i) h = go S.processes i h
+  where
+    go : (Ps : List Process) (i : ℕ) → (elim (slice_get Ps i) as (λ _. Bool) [ Some P ↦ not P.exited | None ↦ false ]) ≡ true → 0 < count_by (λ P. not (Process.exited P)) Ps
+    go [] i h = absurd (cc h)
+    go (P ∷ Ps) zero h =
+        let s = sum_by-cons (λ P. cond {A = ℕ} (not (Process.exited P)) 1 0) P Ps in
+        let one : cond {A = ℕ} (not P.exited) 1 0 ≡ 1 = ap (λ b. cond {A = ℕ} b 1 0) h in
+        omega (arith, s, one)
+    go (P ∷ Ps) (suc i) h =
+        let s = sum_by-cons (λ P. cond {A = ℕ} (not (Process.exited P)) 1 0) P Ps in
+        let rest = go Ps i h in
+        omega (arith, s, rest)
 
 -- ---- over a history
 

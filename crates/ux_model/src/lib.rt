@@ -5,7 +5,7 @@
 
 ghost use Rattle.ux_model.specs.Release.{EndsAlike};
 ghost use Rattle.ux_model.specs.HandingOut.{HandsOutWhatWasHeld};
-ghost use Rattle.ux_model.specs.History.{LeadsToOne, FrontIsLegal, ExitAloneEnds, StepKeepsProcesses, LivesUntilExit};
+ghost use Rattle.ux_model.specs.History.{LeadsToOne, FrontIsLegal, ExitAloneEnds, ExitLeavesOneFewer, StepKeepsProcesses, LivesUntilExit};
 ghost use Rattle.ux_model.specs.Peers.{OneGoes};
 ghost use Rattle.ux_model.specs.Invariants.{NoneLeftUnreferenced, SettlesAtOnce, StaysSettled, RefusalChangesNothing, RefusedEntryChangesNothing, NothingDangles, ClosedOnce};
 ghost use Rattle.ux_model.specs.ReadyCalls.{TellsInput, TellsRoom};
@@ -36,6 +36,12 @@ pub fn front_of_a_legal_history()
 #[tactic(auto, using(crate::proofs::Living::exit_alone_ends))]
 pub fn exit_alone_ends_a_process()
     ensures { ExitAloneEnds }
+{}
+
+/// The exit of a live process leaves one fewer, and any other call as many.
+#[tactic(auto, using(crate::proofs::Living::exit_leaves_one_fewer))]
+pub fn an_exit_leaves_one_fewer()
+    ensures { ExitLeavesOneFewer }
 {}
 
 /// No step makes or forgets a process.
