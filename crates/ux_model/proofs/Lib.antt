@@ -15,6 +15,7 @@ pub mod Flying
 pub mod Sound
 pub mod Named
 pub mod Walk
+pub mod Bounds
 pub mod Reaching
 pub mod HeldOpen
 pub mod Obeying

@@ -66,7 +66,7 @@ exits_kept : (S T : State) → Reaches S false T → exits T ≡ exits S
 exits_kept S T still = refl
 exits_kept S T (process_changed {T = U} i P Q r h names kept same) =
     exits_set U.processes i Q ∙ ap (set (exits U) i) (kept refl) ∙ set_same U.processes i P h ∙ exits_kept S U r
-exits_kept S T (description_made {T = U} D r leads nothing) = exits_kept S U r
+exits_kept S T (description_made {T = U} D r leads nothing bounds) = exits_kept S U r
 exits_kept S T (peers_made {T = U} D E r peers) = exits_kept S U r
 exits_kept S T (connection_made {T = U} d l cred listener_cred s listener r client free there) = exits_kept S U r
 exits_kept S T (description_changed {T = U} d x r keeps) = exits_kept S U r
