@@ -34,6 +34,9 @@ pub mod ReachedSound
 pub mod ReleasedSound
 pub mod Dangling
 pub mod FlightLaws
+pub mod StaysBounded
+pub mod ReceivedSizes
+pub mod ReplySizes
 pub mod Closed
 pub mod HandingOut
 mod Play

@@ -172,7 +172,7 @@ connect_obeys S p fd addr = maybe (Call S) (process_at S p) _ _ (refuses refl re
 pub peer_name_obeys : (S : State) (p : ℕ) (fd : Fd) → Call S (get_peer_name S p fd)
 unfolding get_peer_name
 peer_name_obeys S p fd = found_socket (Call S) S p fd _ (refuses refl refl) (refuses refl refl)
-    (λ d s h. found_peer (Call S) S s.phase _ (refuses refl refl) (λ name. answers refl refl refl refl still))
+    (λ d s h. found_peer (Call S) S s.phase _ (refuses refl refl) (λ peer other there. answers refl refl refl refl still))
 
 -- ---- accept
 
