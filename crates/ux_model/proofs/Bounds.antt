@@ -1,5 +1,5 @@
 -- That names, messages and queues keep to their limits: what is said of one socket, and what of all of a state.
-use Rattle.std.proofs.Common.{◌≡◌, ℕ, zero, suc, ◌+◌, ◌-◌, ◌*◌, ◌≤◌, Bool, true, false, if◌then◌else◌, List, [], ◌∷◌, ◌++◌, length, take, drop, min, Option, Some, None, refl, ap, sym, subst, ◌∙◌, arith}
+use Rattle.std.proofs.Common.{◌≡◌, ℕ, zero, suc, ◌+◌, ◌-◌, ◌≤◌, Bool, true, false, if◌then◌else◌, List, [], ◌∷◌, ◌++◌, length, take, drop, Option, Some, None, refl, subst, arith}
 use Rattle.std.specs.Prelude.{nat_le, is_none}
 use Rattle.std.specs.List.{AllByRecursion}
 use Rattle.std.proofs.lemmas.List.{length-take, length-drop}
@@ -8,7 +8,7 @@ use Rattle.ux_model.specs.Types.{Name, Addr, SockType}
 use Rattle.ux_model.specs.Limits.{name_limit, record_bytes_limit, rights_limit, stream_limit, autobind_names}
 use Rattle.ux_model.specs.Names.{free_name, autobind_name, lowest_from, named}
 use Rattle.ux_model.specs.Message.{Message, queued_bytes}
-use Rattle.ux_model.specs.Socket.{Socket, is_stream, stream_room, sent_part, sent}
+use Rattle.ux_model.specs.Socket.{Socket, is_stream, stream_room, sent}
 use Rattle.ux_model.specs.Stream.{without_first}
 use Rattle.ux_model.specs.Front.{Front, front_of, stream_front, record_front}
 use Rattle.ux_model.specs.Description.{Description, Target, to_object, to_socket, socket_of, socket_in}

@@ -1,16 +1,15 @@
 -- How large what a receive takes is: the bytes and rights from the front of a queue that keeps to its limits, and the control bytes for them.
-use Rattle.std.proofs.Common.{◌≡◌, ℕ, zero, suc, ◌+◌, ◌-◌, ◌*◌, ◌/◌, ◌≤◌, ◌<◌, ◌==◌, Bool, true, false, if◌then◌else◌, List, [], ◌∷◌, ◌++◌, length, take, min, Option, Some, None, refl, ap, sym, subst, ◌∙◌, arith, ◌⊎◌, inl, inr}
-use Rattle.std.specs.Prelude.{nat_lt, nat_le, flat_map, ◌&&◌}
+use Rattle.std.proofs.Common.{◌≡◌, ℕ, zero, suc, ◌+◌, ◌-◌, ◌*◌, ◌/◌, ◌≤◌, ◌<◌, ◌==◌, Bool, true, false, if◌then◌else◌, List, [], ◌∷◌, ◌++◌, length, take, min, Option, Some, None, refl, ap, arith}
+use Rattle.std.specs.Prelude.{nat_lt, nat_le, flat_map}
 use Rattle.std.specs.Int.{w32, to_le_bytes}
 use Rattle.std.proofs.lemmas.Bool.{eqb-true, ltb-false, leb-true, ne_eqb, and_parts}
 use Rattle.std.proofs.lemmas.List.{length-take, length-append}
 use Rattle.std.proofs.lemmas.List.Sums.{sum_by-append}
-use Rattle.std.proofs.Math.Nat.{min-le_right}
-use Rattle.ux_model.specs.Types.{Cred, Addr, SockType}
+use Rattle.ux_model.specs.Types.{Cred}
 use Rattle.ux_model.specs.Limits.{name_limit, rights_limit, stream_limit}
 use Rattle.ux_model.specs.Message.{Message, same_cred, queued_bytes, all_bytes}
 use Rattle.ux_model.specs.Socket.{Socket, is_stream}
-use Rattle.ux_model.specs.Stream.{front_with_cred, front_to_barrier, joined_run, first_bytes, rights_within}
+use Rattle.ux_model.specs.Stream.{front_with_cred, front_to_barrier, joined_run, rights_within}
 use Rattle.ux_model.specs.Front.{Front, stream_front, record_front, front_of}
 use Rattle.ux_model.specs.Process.{Descriptor, free_numbers}
 use Rattle.ux_model.specs.Delivery.{rights_fit, install_count, writes_cred, space_for_rights, rights_bytes, control_bytes, delivery}

@@ -1,10 +1,10 @@
 -- Each reply fits the room of its request. One lemma a call, and one line of `each_within`, at the end.
-use Rattle.std.proofs.Common.{◌≡◌, ℕ, suc, ◌≤◌, ◌<◌, Bool, true, false, not, ◌&&◌, ◌||◌, ◌==◌, if◌then◌else◌, List, [], ◌∷◌, length, min, Option, Some, None, Result, Ok, Err, refl, ap, sym, subst, ◌∙◌, arith}
+use Rattle.std.proofs.Common.{◌≡◌, ℕ, ◌≤◌, Bool, true, false, not, ◌&&◌, ◌||◌, ◌==◌, if◌then◌else◌, List, [], ◌∷◌, length, min, Option, Some, None, Result, Ok, Err, refl, ap, sym, subst, ◌∙◌, arith}
 use Rattle.std.specs.Prelude.{nat_le, nat_lt, take, drop, ℤ, pos, negsuc, ◌+ℤ◌, is_none, is_some, slice_get}
 use Rattle.std.specs.Int.{w64, to_le_bytes}
 use Rattle.std.proofs.lemmas.Bool.{ltb-false}
 use Rattle.std.proofs.lemmas.List.{length-take}
-use Rattle.ux_model.specs.Types.{Errno, Fd, Cred, Name, Addr, SockType, SockOpt, Mode, OpenFlags, MsgFlags, Whence, Request, Reply, Entry}
+use Rattle.ux_model.specs.Types.{Errno, Fd, Cred, Name, Addr, SockType, SockOpt, Mode, OpenFlags, MsgFlags, Whence, Request, Reply}
 use Rattle.ux_model.specs.Places.{place}
 use Rattle.ux_model.specs.Limits.{name_limit, read_limit, stream_limit, offset_limit, record_bytes_limit}
 use Rattle.ux_model.specs.Flags.{can_read, can_write, are_send_flags, are_receive_flags, no_flags}
@@ -13,29 +13,28 @@ use Rattle.ux_model.specs.Names.{named, is_valid_path, is_valid_addr, is_unnamed
 use Rattle.ux_model.specs.Message.{Message}
 use Rattle.ux_model.specs.Control.{Control}
 use Rattle.ux_model.specs.ControlReading.{control_in}
-use Rattle.ux_model.specs.Front.{Front, front_of}
-use Rattle.ux_model.specs.Socket.{Socket, Phase, is_stream, is_dgram, peer_of, pending_ends, association_of, tied_socket, takes_from, has_room}
-use Rattle.ux_model.specs.Description.{Description, to_object, to_socket, socket_of, socket_in}
+use Rattle.ux_model.specs.Front.{front_of}
+use Rattle.ux_model.specs.Socket.{Socket, is_stream, is_dgram, peer_of, pending_ends, association_of, tied_socket, takes_from, has_room}
+use Rattle.ux_model.specs.Description.{Description, to_socket, socket_of, socket_in}
 use Rattle.ux_model.specs.Process.{Process, own_cred, lowest_free, two_lowest_free}
 use Rattle.ux_model.specs.State.{State, process_at, description_at, socket_at, table_of}
 use Rattle.ux_model.specs.Outcome.{Outcome, Chosen, own, lacking_memory, failing, refuse, descriptor_at}
 use Rattle.ux_model.specs.Naming.{unlink}
 use Rattle.ux_model.specs.Pairing.{make_pair}
 use Rattle.ux_model.specs.Binding.{bind_to, bind, get_sock_name}
-use Rattle.ux_model.specs.Connecting.{make_socket, listener_of, listen, connect_to, connect_stream, connect_datagram, connect, get_peer_name, shutdown}
+use Rattle.ux_model.specs.Connecting.{make_socket, listener_of, listen, connect_stream, connect_datagram, connect, get_peer_name, shutdown}
 use Rattle.ux_model.specs.Accepting.{client_name, name_of_peer, present_name, accept_first, accept}
-use Rattle.ux_model.specs.Sending.{descriptions_behind, message_of, flight_limit, is_over_limit, enqueue, is_too_long, send_to_peer, send_connected, send_stream, send_to_target, send_by_default, send_by_association, send_by, send_datagram, send_from, is_sendable_addr, is_sendable_control, given_refusal, sent_cred, send_given, send_with, send_read, reading_control, send_msg}
-use Rattle.ux_model.specs.Receiving.{at_end, receive_nothing, receive_front, receive_from_peer, receive, recv_msg, bytes_alone}
+use Rattle.ux_model.specs.Sending.{descriptions_behind, message_of, flight_limit, is_over_limit, enqueue, is_too_long, send_to_peer, send_stream, send_to_target, send_by_association, send_by, send_from, is_sendable_addr, is_sendable_control, given_refusal, sent_cred, send_given, send_with, send_read, reading_control, send_msg}
+use Rattle.ux_model.specs.Receiving.{at_end, receive_nothing, receive_front, receive, recv_msg, bytes_alone}
 use Rattle.ux_model.specs.FileObjects.{holds_bytes, is_open_for, or_failing}
 use Rattle.ux_model.specs.Opening.{open_file}
 use Rattle.ux_model.specs.Reading.{is_short_read, read_error, read_answer, read}
 use Rattle.ux_model.specs.Writing.{write_place, write_answer, write}
 use Rattle.ux_model.specs.Seeking.{seek_base, seek_to, lseek}
 use Rattle.ux_model.specs.Descriptors.{dup, dup2, set_flags}
-use Rattle.ux_model.specs.Options.{tell_cred, tell_option, get_opt, pass_cred_named, pass_cred_on, change_option, set_opt}
+use Rattle.ux_model.specs.Options.{tell_cred, tell_option, get_opt, pass_cred_on, change_option, set_opt}
 use Rattle.ux_model.specs.Readiness.{poll}
 use Rattle.ux_model.specs.Closing.{close, exit, off}
-use Rattle.ux_model.specs.Delivery.{delivery}
 use Rattle.ux_model.specs.Step.{Step, outcome}
 use Rattle.ux_model.specs.Rooms.{name_bytes, sender_bytes, Size, no_bytes, size_of, control_limit, room_for, Fits}
 use Rattle.ux_model.specs.RoomLaws.{RepliesFit}
@@ -43,7 +42,7 @@ use Rattle.ux_model.specs.History.{replay}
 use Rattle.ux_model.proofs.Walk.{either, maybe, by_target, by_path, by_queue, found, found_socket, found_named, found_peer}
 use Rattle.ux_model.proofs.Bounds.{HasBounds, AreBounded, socket_bounded}
 use Rattle.ux_model.proofs.StaysBounded.{stays_bounded}
-use Rattle.ux_model.proofs.ReceivedSizes.{IsSmallFront, front_small, control_small}
+use Rattle.ux_model.proofs.ReceivedSizes.{front_small, control_small}
 
 -- ---- replies without bytes
 

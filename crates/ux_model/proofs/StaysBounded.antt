@@ -1,5 +1,5 @@
 -- In the states of legal histories names, messages and queues keep to their limits: through the changes of calls and the releases.
-use Rattle.std.proofs.Common.{◌≡◌, ℕ, zero, suc, ◌≤◌, Bool, true, false, if◌then◌else◌, List, [], ◌∷◌, ◌++◌, length, map, set, Option, Some, None, refl, sym, subst, arith}
+use Rattle.std.proofs.Common.{◌≡◌, ℕ, zero, suc, Bool, true, false, if◌then◌else◌, List, [], ◌∷◌, ◌++◌, length, map, set, Option, Some, None, sym, subst, arith}
 use Rattle.std.specs.Prelude.{option_map}
 use Rattle.ux_model.specs.Types.{Cred, Entry}
 use Rattle.ux_model.specs.Places.{place}
@@ -10,8 +10,7 @@ use Rattle.ux_model.specs.Pairing.{socket_description}
 use Rattle.ux_model.specs.Connecting.{server_end, no_open_flags, tied, with_connection}
 use Rattle.ux_model.specs.Release.{target_after_loss, description_after_loss, without, is_unreferenced, has_unreferenced, drop_all, drop_rounds, drop_unreferenced, settled}
 use Rattle.ux_model.specs.Step.{Step}
-use Rattle.ux_model.specs.Boot.{IsBootState}
-use Rattle.ux_model.specs.History.{is_exit, replay, is_allowed, IsLegal}
+use Rattle.ux_model.specs.History.{is_exit, replay, IsLegal}
 use Rattle.ux_model.proofs.ReleaseLaws.{description_at-without}
 use Rattle.ux_model.proofs.OnePlace.{at_each}
 use Rattle.ux_model.proofs.Induction.{IsKept, kept_throughout}
