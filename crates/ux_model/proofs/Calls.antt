@@ -34,6 +34,7 @@ use Rattle.ux_model.specs.History.{is_exit}
 use Rattle.ux_model.specs.Invariants.{LeftByRefusal}
 use Rattle.ux_model.proofs.Named.{table_in}
 use Rattle.ux_model.proofs.Walk.{either, maybe, by_target, by_path, found}
+use Rattle.ux_model.proofs.Bounds.{new_bounded}
 use Rattle.ux_model.proofs.Reaching.{Reaches, still, description_made, peers_made, object_changed, paths_taken, turned_off, same_target, NamesWhatIsThere, put_names, taken_names, same_names, none_counts, with_table_reached, with_process_reached, with_description_reached, some_filled, some_more, some_pushed}
 use Rattle.ux_model.proofs.Obeying.{tells_choice, Obeys, Call, refuses, uses, answers, may_fail, there_of}
 use Rattle.ux_model.proofs.NameCalls.{socket_obeys, bind_obeys, listen_obeys, connect_obeys, accept_obeys, sock_name_obeys, peer_name_obeys, shutdown_obeys}
@@ -91,9 +92,9 @@ unlink_obeys S path = either (Call S) (not (is_valid_path path)) _ _ (λ b. refu
 
 -- the two sockets
 pair_made : (S : State) (kind : SockType) (p : ℕ) (P : Process) (flags : OpenFlags) → Reaches S false (with_pair S kind flags (own_cred p P))
-pair_made S SockType.Stream p P flags = peers_made _ _ still (record { first_refs = λ n. refl; second_refs = λ n. refl; first_peer = ap Some (omega arith); second_peer = refl })
-pair_made S SockType.Dgram p P flags = description_made _ (description_made _ still (λ sound o h. absurd (cc h)) (record { refs = λ d. refl; peer = refl })) (λ sound o h. absurd (cc h)) (record { refs = λ d. refl; peer = refl })
-pair_made S SockType.Seq p P flags = peers_made _ _ still (record { first_refs = λ n. refl; second_refs = λ n. refl; first_peer = ap Some (omega arith); second_peer = refl })
+pair_made S SockType.Stream p P flags = peers_made _ _ still (record { first_refs = λ n. refl; second_refs = λ n. refl; first_peer = ap Some (omega arith); second_peer = refl; first_bounds = new_bounded SockType.Stream; second_bounds = new_bounded SockType.Stream })
+pair_made S SockType.Dgram p P flags = description_made _ (description_made _ still (λ sound o h. absurd (cc h)) (record { refs = λ d. refl; peer = refl }) (new_bounded SockType.Dgram)) (λ sound o h. absurd (cc h)) (record { refs = λ d. refl; peer = refl }) (new_bounded SockType.Dgram)
+pair_made S SockType.Seq p P flags = peers_made _ _ still (record { first_refs = λ n. refl; second_refs = λ n. refl; first_peer = ap Some (omega arith); second_peer = refl; first_bounds = new_bounded SockType.Seq; second_bounds = new_bounded SockType.Seq })
 
 -- and two entries for them
 pair_names : (S : State) (p : ℕ) (A B : Description) (P : Process) (n : ℕ × ℕ) (flags : OpenFlags) → process_at S p ≡ Some P →
@@ -144,7 +145,7 @@ opened : (S : State) (p : ℕ) (path : Name) (mode : Mode) (flags : OpenFlags) (
 opened S p path mode flags o n is =
     let D : Description = file_description o mode flags in
     let T : State = with_new S D in
-    let made : Reaches S false T = description_made D still (λ sound k h. subst (λ m. 0 < orefs S m) (eqb-true o k h) (name_counts S path o is)) (record { refs = λ d. refl; peer = refl }) in
+    let made : Reaches S false T = description_made D still (λ sound k h. subst (λ m. 0 < orefs S m) (eqb-true o k h) (name_counts S path o is)) (record { refs = λ d. refl; peer = refl }) tt in
     with_table_reached T p _ made (λ sound. put_names T (table_of T p) (table_of T p) n (descriptor flags (next_description S)) (some_pushed S.descriptions D) (same_names T (table_of T p)))
 
 pub open_obeys : (S : State) (p : ℕ) (path : Name) (mode : Mode) (flags : OpenFlags) → Call S (open_file S p path mode flags)
@@ -253,7 +254,7 @@ write_obeys S p tag fd bytes = found (Call S) S p fd _ (refuses refl refl) (λ e
     (λ b. either (Call S) (is_pipe view.body && not (is_open_for can_read S o)) _ _ (λ b. refuses refl refl)
     (λ b. let held : IsHeldOpen S o = held_by S p fd e D o g h t in may_fail S _ o view _ held there (write_answer_obeys S o held view (write_body view.body (write_place D view) bytes) there))))))
     (λ s t. maybe (Call S) (process_at S p) _ _ (refuses refl refl)
-    (λ P here. from_obeys S (flight_limit P) e.description s None (message_of P tag (own_cred p P) bytes []) (socket_at_is S e.description D s h t) (λ sound k gone. refl, flight_limit_is S p P here))))
+    (λ P here. from_obeys S (flight_limit P) e.description s None (message_of P tag (own_cred p P) bytes []) (socket_at_is S e.description D s h t) (λ sound k gone. refl, flight_limit_is S p P here, omega arith, λ bounded. omega arith))))
 
 seek_to_obeys : (S : State) (d : ℕ) (D : Description) (to : ℤ) → description_at S d ≡ Some D → Call S (seek_to S d D to)
 seek_to_obeys S d D (pos n) h = either (Call S) (nat_lt offset_limit n) _ _ (λ b. refuses refl refl)

@@ -33,7 +33,7 @@ SameThere S T = (o : ℕ) → is_some (place T.objects o) ≡ is_some (place S.o
 reached_there : (S : State) (ends : Bool) (T : State) → Reaches S ends T → SameThere S T
 reached_there S ends T still o = refl
 reached_there S ends T (process_changed {T = U} i P Q r h names kept same) o = reached_there S ends U r o
-reached_there S ends T (description_made {T = U} D r leads nothing) o = reached_there S ends U r o
+reached_there S ends T (description_made {T = U} D r leads nothing bounds) o = reached_there S ends U r o
 reached_there S ends T (peers_made {T = U} D E r peers) o = reached_there S ends U r o
 reached_there S ends T (connection_made {T = U} d l cred listener_cred s listener r client free there) o = reached_there S ends U r o
 reached_there S ends T (description_changed {T = U} d x r keeps) o = reached_there S ends U r o

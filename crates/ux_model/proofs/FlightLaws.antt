@@ -143,7 +143,7 @@ reached_within : (u limit : ℕ) (S : State) (ends : Bool) (T : State) → IsSou
 reached_within u limit S ends T sound w still = w
 reached_within u limit S ends T sound w (process_changed {T = U} i P Q r h names kept same) =
     process_within u limit U i P Q h (names sound).long same (reached_within u limit S ends U sound w r)
-reached_within u limit S ends T sound w (description_made {T = U} D r leads nothing) =
+reached_within u limit S ends T sound w (description_made {T = U} D r leads nothing bounds) =
     made_within u limit U D (nothing_flying u D.target nothing.refs) (reached_within u limit S ends U sound w r)
 reached_within u limit S ends T sound w (peers_made {T = U} D E r peers) =
     made_within u limit _ E (nothing_flying u E.target peers.second_refs) (made_within u limit U D (nothing_flying u D.target peers.first_refs) (reached_within u limit S ends U sound w r))

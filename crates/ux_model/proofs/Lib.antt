@@ -15,6 +15,7 @@ pub mod Flying
 pub mod Sound
 pub mod Named
 pub mod Walk
+pub mod Bounds
 pub mod Reaching
 pub mod HeldOpen
 pub mod Obeying
@@ -33,6 +34,9 @@ pub mod ReachedSound
 pub mod ReleasedSound
 pub mod Dangling
 pub mod FlightLaws
+pub mod StaysBounded
+pub mod ReceivedSizes
+pub mod ReplySizes
 pub mod Closed
 pub mod HandingOut
 mod Play

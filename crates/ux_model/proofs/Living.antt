@@ -1,5 +1,5 @@
 -- Which processes live after a call, and how many.
-use Rattle.std.proofs.Common.{◌≡◌, ℕ, zero, suc, Bool, true, false, not, ◌&&◌, ◌||◌, ◌==◌, List, [], ◌∷◌, ◌++◌, length, get_or, set, map, sum_by, count_by, cond, if◌then◌else◌, ◌+◌, ◌<◌, Option, Some, None, refl, ap, sym, subst, ◌∙◌, arith}
+use Rattle.std.proofs.Common.{◌≡◌, ℕ, zero, suc, Bool, true, false, not, ◌&&◌, ◌||◌, ◌==◌, List, [], ◌∷◌, ◌++◌, length, get_or, set, map, count_by, cond, if◌then◌else◌, ◌+◌, ◌<◌, Option, Some, None, refl, ap, sym, subst, ◌∙◌, arith}
 use Rattle.std.specs.List.{slice_get, list_any}
 use Rattle.std.proofs.lemmas.Bool.{eqb-true, eqb-false, eq-eqb, ne_eqb, or_parts}
 use Rattle.std.proofs.lemmas.List.{get_or-set_other, length-set, length-map}
@@ -66,7 +66,7 @@ exits_kept : (S T : State) → Reaches S false T → exits T ≡ exits S
 exits_kept S T still = refl
 exits_kept S T (process_changed {T = U} i P Q r h names kept same) =
     exits_set U.processes i Q ∙ ap (set (exits U) i) (kept refl) ∙ set_same U.processes i P h ∙ exits_kept S U r
-exits_kept S T (description_made {T = U} D r leads nothing) = exits_kept S U r
+exits_kept S T (description_made {T = U} D r leads nothing bounds) = exits_kept S U r
 exits_kept S T (peers_made {T = U} D E r peers) = exits_kept S U r
 exits_kept S T (connection_made {T = U} d l cred listener_cred s listener r client free there) = exits_kept S U r
 exits_kept S T (description_changed {T = U} d x r keeps) = exits_kept S U r
@@ -183,8 +183,7 @@ After S p request xs =
 kept_after : (S : State) (p : ℕ) (request : Request) (xs : List Bool) → is_exit request ≡ false → xs ≡ exits S → After S p request xs
 kept_after S p request xs other e =
     let as_many : count_by not xs ≡ count_by not (exits S) = ap (count_by not) e in
-    let none : one_if (is_exit request && lives (exits S) p) ≡ 0 = ap (λ b. one_if (b && lives (exits S) p)) other in
-    (
+    let none : one_if (is_exit request && lives (exits S) p) ≡ 0 = ap (λ b. one_if (b && lives (exits S) p)) other in (
       λ q. ap (λ ys. lives ys q) e ∙ sym (and-true (lives (exits S) q)) ∙ ap (λ b. lives (exits S) q && not (b && (p == q))) (sym other),
       ap length e,
       omega (arith, as_many, none),

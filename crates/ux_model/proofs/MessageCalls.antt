@@ -1,9 +1,9 @@
 -- Of sends and receives: that their outcomes obey what all do.
-use Rattle.std.proofs.Common.{◌≡◌, ℕ, ◌+◌, ◌≤◌, ◌<◌, Bool, true, false, not, ◌&&◌, ◌||◌, ◌==◌, if◌then◌else◌, cond, List, [], ◌∷◌, length, Option, Some, None, refl, ap, sym, ◌∙◌, subst, arith, ◌⊎◌, inl, inr}
+use Rattle.std.proofs.Common.{◌≡◌, ℕ, suc, ◌+◌, ◌≤◌, ◌<◌, Bool, true, false, not, ◌&&◌, ◌||◌, ◌==◌, if◌then◌else◌, cond, List, [], ◌∷◌, length, Option, Some, None, refl, ap, sym, ◌∙◌, subst, arith, ◌⊎◌, inl, inr}
 use Rattle.std.specs.Prelude.{nat_lt, is_some}
 use Rattle.std.proofs.lemmas.Bool.{and_cases, cases_lt, ltb-false, eqb-true, eq-eqb}
 use Rattle.std.proofs.lemmas.List.Sums.{sum_by-cons, sum_by_push}
-use Rattle.ux_model.specs.Types.{Errno, Fd, Cred, Addr, MsgFlags, Reply}
+use Rattle.ux_model.specs.Types.{Errno, Fd, Cred, Addr, SockType, MsgFlags, Reply}
 use Rattle.ux_model.specs.Places.{place}
 use Rattle.ux_model.specs.Flags.{are_send_flags, are_receive_flags, asks_peek, asks_cloexec_rights}
 use Rattle.ux_model.specs.Message.{Message, same_cred}
@@ -11,7 +11,8 @@ use Rattle.ux_model.specs.Control.{Control}
 use Rattle.ux_model.specs.ControlReading.{control_in}
 use Rattle.ux_model.specs.Front.{Front, front_of}
 use Rattle.ux_model.specs.Delivery.{delivery, installed}
-use Rattle.ux_model.specs.Limits.{record_bytes_limit}
+use Rattle.ux_model.specs.Limits.{name_limit, record_bytes_limit, rights_limit}
+use Rattle.ux_model.specs.Rooms.{sender_bytes}
 use Rattle.ux_model.specs.Socket.{Socket, is_stream, is_dgram, peer_of, association_of, takes_from, has_room, sent_part, sent, with_queue, with_reset, with_association}
 use Rattle.ux_model.specs.Process.{Process, Descriptor, own_cred}
 use Rattle.ux_model.specs.State.{State, is_live, process_at, description_at, socket_at, table_of, with_socket_by}
@@ -25,6 +26,7 @@ use Rattle.ux_model.specs.Invariants.{LeftByRefusal}
 use Rattle.ux_model.proofs.FrontRights.{front_of_refs}
 use Rattle.ux_model.proofs.Flying.{front_of_flying}
 use Rattle.ux_model.proofs.Sound.{IsSound}
+use Rattle.ux_model.proofs.Bounds.{HasBounds, IsBounded, AreBounded, socket_bounded, sent_bounded, rest_bounded}
 use Rattle.ux_model.proofs.Named.{entry_counts, socket_counted}
 use Rattle.ux_model.proofs.Walk.{either, maybe, by_queue, found_socket, found_named}
 use Rattle.ux_model.proofs.NameCalls.{same_descriptions, association_reached}
@@ -122,41 +124,53 @@ sent_fits S limit m u most is over are within = go (m.uid == u) refl
         fits own.0 e own.2 (keeps_to (length m.rights) own.0 (in_flight S m.uid + length m.rights) below)
     go false h = omega (arith, within)
 
--- what a message asks for to be sent: its rights name what is there, and the limit is one of its user
+-- what a message asks for to be sent: its rights name what is there, and are few; the limit is one of its user; and its sender's name is short
 abbrev pub MaySend : State → Option ℕ → Message → Type 0
-MaySend S limit m = (IsSound S → NamesNoneGone S m.rights) × IsLimitOf S limit m.uid
+MaySend S limit m = (IsSound S → NamesNoneGone S m.rights) × IsLimitOf S limit m.uid × (length m.rights ≤ rights_limit) × (AreBounded S → sender_bytes m.from ≤ name_limit)
+
+-- and of the socket that it goes to: it is a stream, or the message isn't too long
+abbrev MayTake : State → ℕ → Message → Type 0
+MayTake S d m = (s : Socket) → socket_at S d ≡ Some s → is_stream s.kind ≡ false → length m.bytes ≤ record_bytes_limit
 
 -- ---- into a queue
 
 -- a message refers to what its rights do
-sent_keeps : (S : State) (limit : Option ℕ) (n : ℕ) (m : Message) (s : Socket) → NamesNoneGone S m.rights → IsLimitOf S limit m.uid → is_over_limit S limit m ≡ false →
-    KeepsSocket S n s (sent m s)
-sent_keeps S limit n m s none of_user_is over = record {
+sent_keeps : (S : State) (limit : Option ℕ) (n : ℕ) (m : Message) (s : Socket) → IsSound S → MaySend S limit m → is_over_limit S limit m ≡ false →
+    (is_stream s.kind ≡ false → length m.bytes ≤ record_bytes_limit) → KeepsSocket S n s (sent m s)
+sent_keeps S limit n m s sound may over fits = record {
   holds = λ d gone.
       let more = sum_by_push (λ m. times d (Message.rights m)) s.queue (sent_part s m) in
-      let z : times d m.rights ≡ 0 = none d gone in
+      let z : times d m.rights ≡ 0 = may.0 sound d gone in
       omega (arith, more, z);
   peer = refl;
   pending = λ d. omega arith;
   waits = λ h. omega arith;
   flies = λ u most are within.
       let more = sum_by_push (λ (m : Message). of_user u m.uid (length m.rights)) s.queue (sent_part s m) in
-      let fits : in_flight S u + of_user u m.uid (length m.rights) ≤ most = sent_fits S limit m u most of_user_is over are within in
+      let fits : in_flight S u + of_user u m.uid (length m.rights) ≤ most = sent_fits S limit m u most may.1 over are within in
       omega (arith, more, fits);
+  bounds = λ all own. sent_bounded s m may.2 (may.3 all) fits own;
   named = λ name h. h;
 }
 
 -- the queue of a socket that is there
-enqueue_obeys : (S : State) (limit : Option ℕ) (d : ℕ) (other : Socket) (m : Message) → MaySend S limit m → Call S (enqueue S limit d other m)
-enqueue_obeys S limit d other m may = either (Call S) (is_stream other.kind && (length m.bytes == 0)) _ _ (λ b. answers refl refl refl refl still)
+enqueue_obeys : (S : State) (limit : Option ℕ) (d : ℕ) (other : Socket) (m : Message) → MaySend S limit m → MayTake S d m → Call S (enqueue S limit d other m)
+enqueue_obeys S limit d other m may take = either (Call S) (is_stream other.kind && (length m.bytes == 0)) _ _ (λ b. answers refl refl refl refl still)
     (λ b. either (Call S) (is_over_limit S limit m) _ _ (λ c. refuses refl refl)
     (λ c. either (Call S) (not (has_room other)) _ _ (λ e. refuses refl refl)
-    (λ e. answers refl refl refl refl (with_socket_reached S d (sent m) still (λ sound s here. sent_keeps S limit d m s (may.0 sound) may.1 c)))))
+    (λ e. answers refl refl refl refl (with_socket_reached S d (sent m) still (λ sound s here. sent_keeps S limit d m s sound may c (take s here))))))
 
 to_peer_obeys : (S : State) (limit : Option ℕ) (shut : Bool) (d : ℕ) (m : Message) → MaySend S limit m → Call S (send_to_peer S limit shut d m)
 to_peer_obeys S limit shut d m may = maybe (Call S) (socket_at S d) _ _ (refuses refl refl)
     (λ other h. either (Call S) (shut || other.read_shut) _ _ (λ b. refuses refl refl)
-    (λ b. either (Call S) (is_too_long other m) _ _ (λ c. refuses refl refl) (λ c. enqueue_obeys S limit d other m may)))
+    (λ b. either (Call S) (is_too_long other m) _ _ (λ c. refuses refl refl) (λ c. enqueue_obeys S limit d other m may (λ s here other_kind. go other s h here other_kind c))))
+  where
+    go : (other s : Socket) → socket_at S d ≡ Some other → socket_at S d ≡ Some s → is_stream s.kind ≡ false → is_too_long other m ≡ false → length m.bytes ≤ record_bytes_limit
+    go other s h here apart fits =
+        let same : other ≡ s = cc (sym h ∙ here) in
+        let short : (not (is_stream s.kind) && nat_lt record_bytes_limit (length m.bytes)) ≡ false = ap (λ u. is_too_long u m) (sym same) ∙ fits in
+        let long : nat_lt record_bytes_limit (length m.bytes) ≡ false = ap (λ b. not b && nat_lt record_bytes_limit (length m.bytes)) (sym apart) ∙ short in
+        ltb-false record_bytes_limit (length m.bytes) long
 
 connected_obeys : (S : State) (limit : Option ℕ) (shut : Bool) (peer : Option ℕ) (m : Message) → MaySend S limit m → Call S (send_connected S limit shut peer m)
 connected_obeys S limit shut None m may = refuses refl refl
@@ -167,9 +181,9 @@ stream_obeys S limit shut peer None m may = connected_obeys S limit shut peer m 
 stream_obeys S limit shut None (Some addr) m may = refuses refl refl
 stream_obeys S limit shut (Some peer) (Some addr) m may = refuses refl refl
 
-to_target_obeys : (S : State) (limit : Option ℕ) (d t : ℕ) (target : Socket) (m : Message) → MaySend S limit m → Call S (send_to_target S limit d t target m)
-to_target_obeys S limit d t target m may = either (Call S) (not (takes_from d target.phase)) _ _ (λ b. refuses refl refl)
-    (λ b. either (Call S) target.read_shut _ _ (λ c. refuses refl refl) (λ c. enqueue_obeys S limit t target m may))
+to_target_obeys : (S : State) (limit : Option ℕ) (d t : ℕ) (target : Socket) (m : Message) → MaySend S limit m → length m.bytes ≤ record_bytes_limit → Call S (send_to_target S limit d t target m)
+to_target_obeys S limit d t target m may fits = either (Call S) (not (takes_from d target.phase)) _ _ (λ b. refuses refl refl)
+    (λ b. either (Call S) target.read_shut _ _ (λ c. refuses refl refl) (λ c. enqueue_obeys S limit t target m may (λ s here apart. fits)))
 
 -- an association to what is gone ends
 ended_obeys : (S : State) (d t : ℕ) (s : Socket) → socket_at S d ≡ Some s → association_of s.phase ≡ Some t → socket_at S t ≡ None →
@@ -184,15 +198,16 @@ ended_obeys S d t s h tied gone = record {
   objects = same_objects S (with_socket_by S d (with_association None)) refl;
 }
 
-by_association_obeys : (S : State) (limit : Option ℕ) (d : ℕ) (s : Socket) (m : Message) → socket_at S d ≡ Some s → MaySend S limit m → Call S (send_by_association S limit d (association_of s.phase) m)
-by_association_obeys S limit d s m h may = go (association_of s.phase) refl
+by_association_obeys : (S : State) (limit : Option ℕ) (d : ℕ) (s : Socket) (m : Message) → socket_at S d ≡ Some s → MaySend S limit m → length m.bytes ≤ record_bytes_limit →
+    Call S (send_by_association S limit d (association_of s.phase) m)
+by_association_obeys S limit d s m h may fits = go (association_of s.phase) refl
   where
     at_target : (t : ℕ) → association_of s.phase ≡ Some t → (o : Option Socket) → socket_at S t ≡ o → Call S (elim o as (λ _. Outcome) [
       | None ↦ answer (Reply.Err Errno.ECONNREFUSED) (with_socket_by S d (with_association None))
       | Some target ↦ send_to_target S limit d t target m
     ])
     at_target t tied None gone = ended_obeys S d t s h tied gone
-    at_target t tied (Some target) there = to_target_obeys S limit d t target m may
+    at_target t tied (Some target) there = to_target_obeys S limit d t target m may fits
 
     go : (o : Option ℕ) → association_of s.phase ≡ o → Call S (send_by_association S limit d o m)
     go None tied = refuses refl refl
@@ -200,12 +215,18 @@ by_association_obeys S limit d s m h may = go (association_of s.phase) refl
 
 datagram_obeys : (S : State) (limit : Option ℕ) (d : ℕ) (s : Socket) (addr : Option Addr) (m : Message) → socket_at S d ≡ Some s → MaySend S limit m → Call S (send_datagram S limit d s addr m)
 datagram_obeys S limit d s addr m h may = either (Call S) (nat_lt record_bytes_limit (length m.bytes)) _ _ (λ b. refuses refl refl)
-    (λ b. either (Call S) s.write_shut _ _ (λ c. refuses refl refl) (λ c. by_addr addr))
+    (λ b. either (Call S) s.write_shut _ _ (λ c. refuses refl refl) (λ c. by_addr addr (ltb-false record_bytes_limit (length m.bytes) b)))
   where
-    by_addr : (a : Option Addr) → Call S (send_by S limit d s a (record m { from = Some s.name }))
-    by_addr None = by_association_obeys S limit d s (record m { from = Some s.name }) h may
-    by_addr (Some a) = found_named (Call S) S s.kind a _ (refuses refl refl) (refuses refl refl) (refuses refl (inl refl)) (refuses refl refl)
-        (λ t target there. to_target_obeys S limit d t target (record m { from = Some s.name }) may)
+    told : Message
+    told = record m { from = Some s.name }
+
+    may_tell : MaySend S limit told
+    may_tell = (may.0, may.1, may.2, λ bounded. (socket_bounded S d s bounded h).short)
+
+    by_addr : (a : Option Addr) → length m.bytes ≤ record_bytes_limit → Call S (send_by S limit d s a told)
+    by_addr None fits = by_association_obeys S limit d s told h may_tell fits
+    by_addr (Some a) fits = found_named (Call S) S s.kind a _ (refuses refl refl) (refuses refl refl) (refuses refl (inl refl)) (refuses refl refl)
+        (λ t target there. to_target_obeys S limit d t target told may_tell fits)
 
 pub from_obeys : (S : State) (limit : Option ℕ) (d : ℕ) (s : Socket) (addr : Option Addr) (m : Message) → socket_at S d ≡ Some s → MaySend S limit m → Call S (send_from S limit d s addr m)
 from_obeys S limit d s addr m h may = either (Call S) (is_dgram s.kind) _ _ (λ b. datagram_obeys S limit d s addr m h may) (λ b. stream_obeys S limit s.write_shut (peer_of s.phase) addr m may)
@@ -227,8 +248,8 @@ of_cred S e (inl is) = subst (λ f. Call S (refuse S f)) (sym is) (refuses refl 
 of_cred S e (inr is) = subst (λ f. Call S (refuse S f)) (sym is) (refuses refl refl)
 
 given_obeys : (S : State) (p : ℕ) (P : Process) (tag d : ℕ) (s : Socket) (addr : Option Addr) (bytes : List ℕ) (given : Option Cred) (rights : List ℕ) → process_at S p ≡ Some P → socket_at S d ≡ Some s →
-    (IsSound S → NamesNoneGone S rights) → Call S (send_given S p P tag d s addr bytes given rights)
-given_obeys S p P tag d s addr bytes given rights here h names = by_refusal (given_refusal S p P given) (tells_refusal S p P given)
+    (IsSound S → NamesNoneGone S rights) → length rights ≤ rights_limit → Call S (send_given S p P tag d s addr bytes given rights)
+given_obeys S p P tag d s addr bytes given rights here h names few = by_refusal (given_refusal S p P given) (tells_refusal S p P given)
   where
     by_refusal : (o : Option Errno) → ((e : Errno) → o ≡ Some e → (e ≡ Errno.EPERM) ⊎ (e ≡ Errno.ESRCH)) → Call S (elim o as (λ _. Outcome) [
       | Some e ↦ refuse S e
@@ -236,14 +257,43 @@ given_obeys S p P tag d s addr bytes given rights here h names = by_refusal (giv
     ])
     by_refusal (Some e) told = of_cred S e (told e refl)
     by_refusal None told = either (Call S) (not (is_sendable_addr addr)) _ _ (λ b. refuses refl refl)
-        (λ b. from_obeys S (flight_limit P) d s addr (message_of P tag (sent_cred p P given) bytes rights) h (names, flight_limit_is S p P here))
+        (λ b. from_obeys S (flight_limit P) d s addr (message_of P tag (sent_cred p P given) bytes rights) h (names, flight_limit_is S p P here, few, λ bounded. omega arith))
+
+-- as many as the numbers that were given
+behind_long : (table : List (Option Descriptor)) (ns ds : List ℕ) → descriptions_behind table ns ≡ Some ds → length ds ≡ length ns
+behind_long table [] ds h = let e : [] ≡ ds = cc h in ap length (sym e)
+behind_long table (n ∷ ns) ds h = first (λ more g. behind_long table ns more g) (place table n) h
+  where
+    Later : Type 0
+    Later = (more : List ℕ) → descriptions_behind table ns ≡ Some more → length more ≡ length ns
+
+    at_last : Later → (e : Descriptor) (r : Option (List ℕ)) → descriptions_behind table ns ≡ r → (elim r as (λ _. Option (List ℕ)) [ None ↦ None | Some more ↦ Some (e.description ∷ more) ]) ≡ Some ds → length ds ≡ suc (length ns)
+    at_last later e None g t = absurd (cc t)
+    at_last later e (Some more) g t = let same : e.description ∷ more ≡ ds = cc t in ap length (sym same) ∙ ap suc (later more g)
+
+    first : Later → (o : Option Descriptor) →
+        (elim o as (λ _. Option (List ℕ)) [
+          | None ↦ None
+          | Some e ↦ elim (descriptions_behind table ns) as (λ _. Option (List ℕ)) [ None ↦ None | Some more ↦ Some (e.description ∷ more) ]
+        ]) ≡ Some ds → length ds ≡ suc (length ns)
+    first later None t = absurd (cc t)
+    first later (Some e) t = at_last later e (descriptions_behind table ns) refl t
+
+-- and those are few
+sendable_few : (kind : SockType) (bytes : List ℕ) (control : Control) (rights : List ℕ) → not (is_sendable_control kind bytes control) ≡ false → length rights ≡ length control.rights → length rights ≤ rights_limit
+sendable_few kind bytes control rights h same = go (nat_lt rights_limit (length control.rights)) refl h
+  where
+    go : (b : Bool) → nat_lt rights_limit (length control.rights) ≡ b → not (not b && not (is_stream kind && (nat_lt 0 (length control.rights) && (length bytes == 0)))) ≡ false → length rights ≤ rights_limit
+    go true is h = absurd (cc h)
+    go false is h = let few = ltb-false rights_limit (length control.rights) is in omega (arith, few, same)
 
 with_obeys : (S : State) (p : ℕ) (P : Process) (tag d : ℕ) (s : Socket) (addr : Option Addr) (bytes : List ℕ) (control : Control) → process_at S p ≡ Some P → socket_at S d ≡ Some s →
     Call S (send_with S p P tag d s addr bytes control)
 unfolding send_with
 with_obeys S p P tag d s addr bytes control here h = either (Call S) (not (is_sendable_control s.kind bytes control)) _ _ (λ b. refuses refl refl)
     (λ b. maybe (Call S) (descriptions_behind (table_of S p) control.rights) _ _ (refuses refl refl)
-    (λ rights behind. given_obeys S p P tag d s addr bytes control.cred rights here h (λ sound. behind_there S p control.rights rights sound behind)))
+    (λ rights behind. given_obeys S p P tag d s addr bytes control.cred rights here h (λ sound. behind_there S p control.rights rights sound behind)
+    (sendable_few s.kind bytes control rights b (behind_long (table_of S p) control.rights rights behind))))
 
 read_obeys : (S : State) (p : ℕ) (P : Process) (tag d : ℕ) (s : Socket) (addr : Option Addr) (bytes : List ℕ) (control : Option Control) → process_at S p ≡ Some P → socket_at S d ≡ Some s →
     Call S (send_read S p P tag d s addr bytes control)
@@ -352,9 +402,15 @@ front_obeys S p d n s space flags m ms h q = answers refl refl refl (same (asks_
         let all : rights_sent_by u t.queue ≡ rights_sent_by u (m ∷ ms) = ap (λ w. rights_sent_by u (Socket.queue w)) (sym (same_as t here)) ∙ ap (rights_sent_by u) q in
         omega (arith, all, parts)
 
+    still_bounded : (t : Socket) → socket_at T d ≡ Some t → IsBounded t → HasBounds t.kind t.name front.rest
+    still_bounded t here own =
+        let same : s ≡ t = same_as t here in
+        let before : HasBounds s.kind s.name (m ∷ ms) = subst (λ (l : List Message). HasBounds s.kind s.name l) q (subst IsBounded (sym same) own) in
+        subst (λ (u : Socket). HasBounds u.kind u.name front.rest) same (rest_bounded n s m ms before)
+
     peeked : (b : Bool) → Reaches S false (if b then T else with_socket_by T d (with_queue front.rest))
     peeked true = delivered
-    peeked false = with_socket_reached T d (with_queue front.rest) delivered (λ sound t here. queue_changed T d t front.rest t.reset (λ k gone. fewer t here k) (fewer_flying t here))
+    peeked false = with_socket_reached T d (with_queue front.rest) delivered (λ sound t here. queue_changed T d t front.rest t.reset (λ k gone. fewer t here k) (fewer_flying t here) (still_bounded t here))
 
 from_peer_obeys : (S : State) (p d : ℕ) (s : Socket) (n space : ℕ) (flags : MsgFlags) → socket_at S d ≡ Some s → Call S (receive_from_peer S p d s n space flags)
 from_peer_obeys S p d s n space flags h = maybe (Call S) (peer_of s.phase) _ _ (refuses refl refl)

@@ -1,9 +1,11 @@
 -- Of the calls of names and connections: that their outcomes obey what all do. One lemma a call.
-use Rattle.std.proofs.Common.{◌≡◌, ℕ, zero, suc, ◌+◌, ◌≤◌, Bool, true, false, not, ◌||◌, inl, cond, List, [], ◌∷◌, ◌++◌, Option, Some, None, refl, ap, sym, ◌∙◌, arith}
-use Rattle.std.specs.Prelude.{nat_le, length, ℤ, is_none, is_some, option_map, slice_get}
-use Rattle.std.proofs.lemmas.Bool.{eq-eqb}
+use Rattle.std.proofs.Common.{◌≡◌, ℕ, zero, suc, ◌+◌, ◌≤◌, Bool, true, false, not, ◌&&◌, ◌||◌, inl, cond, List, [], ◌∷◌, ◌++◌, Option, Some, None, refl, ap, sym, ◌∙◌, arith}
+use Rattle.std.specs.Prelude.{nat_lt, nat_le, length, ℤ, is_none, is_some, option_map, slice_get}
+use Rattle.std.proofs.lemmas.Bool.{eq-eqb, leb-true, and_parts}
 use Rattle.ux_model.specs.Types.{Fd, Cred, Name, Addr, SockType, Mode, OpenFlags}
 use Rattle.ux_model.specs.Places.{filled}
+use Rattle.ux_model.specs.Limits.{name_limit}
+use Rattle.ux_model.specs.Rooms.{name_bytes}
 use Rattle.ux_model.specs.Names.{named, is_valid_addr, is_unnamed_addr, free_name}
 use Rattle.ux_model.specs.Backlog.{backlog_of}
 use Rattle.ux_model.specs.Socket.{Socket, Phase, is_dgram, new_socket, pending_ends, peer_of, tied_socket, takes_from, with_association, shut_down}
@@ -19,6 +21,7 @@ use Rattle.ux_model.specs.Peers.{at_target, at_socket}
 use Rattle.ux_model.specs.Invariants.{pends, pends_at_all}
 use Rattle.ux_model.proofs.ChangedPlaces.{changed_here, sum_by-changed}
 use Rattle.ux_model.proofs.Sockets.{peer_left, end_count, phase_left, peer_associated, ends_associated}
+use Rattle.ux_model.proofs.Bounds.{new_bounded, free_short}
 use Rattle.ux_model.proofs.Sound.{IsSound, unaccepted, target_name, name_in}
 use Rattle.ux_model.proofs.Walk.{either, maybe, found_socket, found_named, found_peer}
 use Rattle.ux_model.proofs.Reaching.{Reaches, still, description_made, connection_made, description_changed, path_bound, name_bound, KeepsPlace, KeepsTarget, KeepsSocket, kept_place, kept_socket, same_target, nothing_there, put_names, same_names, with_table_reached, with_socket_reached, some_pushed}
@@ -32,7 +35,7 @@ unfolding make_socket
 socket_obeys S p kind flags = maybe (Call S) (lowest_free (table_of S p)) _ _ (refuses refl refl) (λ n low.
     let D : Description = socket_description flags (new_socket kind) in
     let T : State = with_new S D in
-    answers refl refl refl (with_table_objects T p _) (with_table_reached T p _ (description_made D still (λ sound o h. absurd (cc h)) (record { refs = λ d. refl; peer = refl }))
+    answers refl refl refl (with_table_objects T p _) (with_table_reached T p _ (description_made D still (λ sound o h. absurd (cc h)) (record { refs = λ d. refl; peer = refl }) (new_bounded kind))
     (λ sound. put_names T (table_of T p) (table_of T p) n (descriptor flags (next_description S)) (some_pushed S.descriptions D) (same_names T (table_of T p)))))
 
 -- ---- bind
@@ -41,13 +44,15 @@ same_socket : (S : State) (d : ℕ) (s t : Socket) → socket_at S d ≡ Some s 
 same_socket S d s t h here = let same : Some s ≡ Some t = sym h ∙ here in cc same
 
 -- a socket without a name gets one
-name_given : (S : State) (d : ℕ) (s : Socket) (name : Addr) → socket_at S d ≡ Some s → is_unnamed_addr s.name ≡ true → Reaches S false (with_socket_by S d (with_name name))
-name_given S d s name h unnamed = with_socket_reached S d (with_name name) still (λ sound t here. record {
+name_given : (S : State) (d : ℕ) (s : Socket) (name : Addr) → socket_at S d ≡ Some s → is_unnamed_addr s.name ≡ true → name_bytes name ≤ name_limit →
+    Reaches S false (with_socket_by S d (with_name name))
+name_given S d s name h unnamed short = with_socket_reached S d (with_name name) still (λ sound t here. record {
   holds = λ k gone. omega arith;
   peer = refl;
   pending = λ k. omega arith;
   waits = λ w. omega arith;
   flies = λ u limit are within. omega (arith, within);
+  bounds = λ all own. record { short = short; each = own.each; all = own.all };
   named = λ a has.
       let none : is_unnamed_addr t.name ≡ true = ap (λ (u : Socket). is_unnamed_addr u.name) (sym (same_socket S d s t h here)) ∙ unnamed in
       let one : is_unnamed_addr t.name ≡ false = ap is_unnamed_addr has in
@@ -63,27 +68,40 @@ shows name (Some D) s h = by_target D.target h
     by_target (to_object o) h = absurd (cc h)
     by_target (to_socket u) h = refl
 
-pub abstract_given : (S : State) (d : ℕ) (s : Socket) (name : Name) → socket_at S d ≡ Some s → is_unnamed_addr s.name ≡ true →
+pub abstract_given : (S : State) (d : ℕ) (s : Socket) (name : Name) → socket_at S d ≡ Some s → is_unnamed_addr s.name ≡ true → length name ≤ name_limit →
     Reaches S false (record (with_socket_by S d (with_name (Addr.Abstract name))) { abstract_names = S.abstract_names ++ (name, d) ∷ [] })
-abstract_given S d s name h unnamed = name_bound name d (name_given S d s (Addr.Abstract name) h unnamed)
+abstract_given S d s name h unnamed short = name_bound name d (name_given S d s (Addr.Abstract name) h unnamed short)
     (ap name_in (changed_here S.descriptions d (changed (with_name (Addr.Abstract name)))) ∙ shows (Addr.Abstract name) (description_at S d) s h)
 
-bind_to_obeys : (S : State) (d : ℕ) (s : Socket) (addr : Addr) → socket_at S d ≡ Some s → is_unnamed_addr s.name ≡ true → Call S (bind_to S d addr)
-bind_to_obeys S d s Addr.Unnamed h unnamed = maybe (Call S) (free_name S.abstract_names) _ _ (refuses refl refl) (λ name free. answers refl refl refl refl (abstract_given S d s name h unnamed))
-bind_to_obeys S d s (Addr.Path name) h unnamed = either (Call S) (is_some (named name S.paths)) _ _ (λ b. refuses refl refl)
-    (λ b. answers refl refl refl refl (path_bound name d (name_given S d s (Addr.Path name) h unnamed)))
-bind_to_obeys S d s (Addr.Abstract name) h unnamed = either (Call S) (is_some (named name S.abstract_names)) _ _ (λ b. refuses refl refl)
-    (λ b. answers refl refl refl refl (abstract_given S d s name h unnamed))
+bind_to_obeys : (S : State) (d : ℕ) (s : Socket) (addr : Addr) → socket_at S d ≡ Some s → is_unnamed_addr s.name ≡ true → name_bytes addr ≤ name_limit → Call S (bind_to S d addr)
+bind_to_obeys S d s Addr.Unnamed h unnamed short = maybe (Call S) (free_name S.abstract_names) _ _ (refuses refl refl)
+    (λ name free. answers refl refl refl refl (abstract_given S d s name h unnamed (free_short S.abstract_names name free)))
+bind_to_obeys S d s (Addr.Path name) h unnamed short = either (Call S) (is_some (named name S.paths)) _ _ (λ b. refuses refl refl)
+    (λ b. answers refl refl refl refl (path_bound name d (name_given S d s (Addr.Path name) h unnamed short)))
+bind_to_obeys S d s (Addr.Abstract name) h unnamed short = either (Call S) (is_some (named name S.abstract_names)) _ _ (λ b. refuses refl refl)
+    (λ b. answers refl refl refl refl (abstract_given S d s name h unnamed short))
 
 pub first_holds : (a b : Bool) → (not a || b) ≡ false → a ≡ true
 first_holds true b h = refl
 first_holds false b h = absurd (cc h)
 
+second_holds : (a b : Bool) → (not a || not b) ≡ false → b ≡ true
+second_holds true true h = refl
+second_holds true false h = absurd (cc h)
+second_holds false b h = absurd (cc h)
+
+-- a valid address is no longer than a name may be
+valid_short : (addr : Addr) → is_valid_addr addr ≡ true → name_bytes addr ≤ name_limit
+valid_short Addr.Unnamed h = omega arith
+valid_short (Addr.Path name) h = leb-true (length name) name_limit (and_parts (nat_lt 0 (length name)) _ (and_parts (nat_lt 0 (length name) && nat_le (length name) name_limit) _ h).0).1
+valid_short (Addr.Abstract name) h = leb-true (length name) name_limit h
+
 pub bind_obeys : (S : State) (p : ℕ) (fd : Fd) (addr : Addr) → Call S (bind S p fd addr)
 unfolding bind
 bind_obeys S p fd addr = found_socket (Call S) S p fd _ (refuses refl refl) (refuses refl refl)
     (λ d s h. either (Call S) (not (is_unnamed_addr s.name) || not (is_valid_addr addr)) _ _ (λ b. refuses refl refl)
-    (λ b. bind_to_obeys S d s addr h (first_holds (is_unnamed_addr s.name) (not (is_valid_addr addr)) b)))
+    (λ b. bind_to_obeys S d s addr h (first_holds (is_unnamed_addr s.name) (not (is_valid_addr addr)) b)
+    (valid_short addr (second_holds (is_unnamed_addr s.name) (is_valid_addr addr) b))))
 
 pub sock_name_obeys : (S : State) (p : ℕ) (fd : Fd) → Call S (get_sock_name S p fd)
 unfolding get_sock_name
@@ -96,7 +114,7 @@ is_none_of None h = refl
 is_none_of (Some x) h = absurd (cc h)
 
 listening_keeps : (S : State) (d : ℕ) (s : Socket) (limit : ℕ) (cred : Cred) → peer_of s.phase ≡ None → KeepsSocket S d s (with_listening limit cred s)
-listening_keeps S d s limit cred free = record { holds = λ k gone. omega arith; peer = sym free; pending = λ k. omega arith; waits = λ w. omega arith; flies = λ u limit are within. omega (arith, within); named = λ a has. has }
+listening_keeps S d s limit cred free = record { holds = λ k gone. omega arith; peer = sym free; pending = λ k. omega arith; waits = λ w. omega arith; flies = λ u limit are within. omega (arith, within); bounds = λ all own. own; named = λ a has. has }
 
 pub listen_obeys : (S : State) (p : ℕ) (fd : Fd) (backlog : ℤ) → Call S (listen S p fd backlog)
 unfolding listen
@@ -132,6 +150,7 @@ association_keeps S n s target = record {
   pending = λ d. let same = ap (times d) (ends_associated target s.phase) in omega (arith, same);
   waits = λ w. omega arith;
   flies = λ u limit are within. omega (arith, within);
+  bounds = λ all own. own;
   named = λ a has. has;
 }
 
@@ -153,7 +172,7 @@ connect_obeys S p fd addr = maybe (Call S) (process_at S p) _ _ (refuses refl re
 pub peer_name_obeys : (S : State) (p : ℕ) (fd : Fd) → Call S (get_peer_name S p fd)
 unfolding get_peer_name
 peer_name_obeys S p fd = found_socket (Call S) S p fd _ (refuses refl refl) (refuses refl refl)
-    (λ d s h. found_peer (Call S) S s.phase _ (refuses refl refl) (λ name. answers refl refl refl refl still))
+    (λ d s h. found_peer (Call S) S s.phase _ (refuses refl refl) (λ peer other there. answers refl refl refl refl still))
 
 -- ---- accept
 
@@ -224,6 +243,7 @@ first_taken S d s = record {
   pending = λ k. fewer_pending k s.phase;
   waits = λ w. omega arith;
   flies = λ u limit are within. omega (arith, within);
+  bounds = λ all own. own;
   named = λ a has. has;
 }
 
@@ -234,7 +254,7 @@ accepted_keeps S e flags (Some D) none = kept_place S e D (accepted_with flags D
   where
     by_target : (t : Target) → KeepsTarget S e t (changed_target as_accepted t)
     by_target (to_object o) = same_target S e (to_object o)
-    by_target (to_socket s) = kept_socket S e s (as_accepted s) (record { holds = λ k gone. omega arith; peer = refl; pending = λ k. omega arith; waits = λ w. absurd (omega (arith, w, none)); flies = λ u limit are within. omega (arith, within); named = λ a has. has })
+    by_target (to_socket s) = kept_socket S e s (as_accepted s) (record { holds = λ k gone. omega arith; peer = refl; pending = λ k. omega arith; waits = λ w. absurd (omega (arith, w, none)); flies = λ u limit are within. omega (arith, within); bounds = λ all own. own; named = λ a has. has })
 
 -- a table changes no description
 pub same_descriptions : (S : State) (p : ℕ) (table : List (Option Descriptor)) → (with_table S p table).descriptions ≡ S.descriptions
@@ -273,7 +293,7 @@ accept_obeys S p fd flags = found_socket (Call S) S p fd _ (refuses refl refl) (
 -- ---- shutdown
 
 shut_keeps : (S : State) (d : ℕ) (s : Socket) (how : Mode) → KeepsSocket S d s (shut_down how s)
-shut_keeps S d s how = record { holds = λ k gone. omega arith; peer = refl; pending = λ k. omega arith; waits = λ w. omega arith; flies = λ u limit are within. omega (arith, within); named = λ a has. has }
+shut_keeps S d s how = record { holds = λ k gone. omega arith; peer = refl; pending = λ k. omega arith; waits = λ w. omega arith; flies = λ u limit are within. omega (arith, within); bounds = λ all own. own; named = λ a has. has }
 
 pub shutdown_obeys : (S : State) (p : ℕ) (fd : Fd) (how : Mode) → Call S (shutdown S p fd how)
 unfolding shutdown

@@ -9,6 +9,7 @@ use Rattle.ux_model.specs.Outcome.{descriptor_at}
 use Rattle.ux_model.specs.Options.{tell_cred, tell_option, get_opt, pass_cred_named, pass_cred_on, change_option, set_opt}
 use Rattle.ux_model.specs.Readiness.{poll}
 use Rattle.ux_model.proofs.Walk.{either, maybe, found_socket}
+use Rattle.ux_model.proofs.Bounds.{free_short}
 use Rattle.ux_model.proofs.NameCalls.{first_holds, abstract_given}
 use Rattle.ux_model.proofs.Reaching.{Reaches, still, KeepsSocket, pending_changed, with_socket_reached}
 use Rattle.ux_model.proofs.Obeying.{Call, refuses, answers}
@@ -33,14 +34,14 @@ get_opt_obeys S p fd opt = found_socket (Call S) S p fd _ (refuses refl refl) (r
 -- ---- setsockopt
 
 passcred_keeps : (S : State) (d : ℕ) (s : Socket) (on : Bool) → KeepsSocket S d s (with_passcred on s)
-passcred_keeps S d s on = record { holds = λ k gone. omega arith; peer = refl; pending = λ k. omega arith; waits = λ w. omega arith; flies = λ u limit are within. omega (arith, within); named = λ a has. has }
+passcred_keeps S d s on = record { holds = λ k gone. omega arith; peer = refl; pending = λ k. omega arith; waits = λ w. omega arith; flies = λ u limit are within. omega (arith, within); bounds = λ all own. own; named = λ a has. has }
 
 passcred_set : {S : State} {T : State} (d : ℕ) (on : Bool) → Reaches S false T → Reaches S false (with_socket_by T d (with_passcred on))
 passcred_set {S} {T} d on before = with_socket_reached T d (with_passcred on) before (λ sound t here. passcred_keeps T d t on)
 
 named_obeys : (S : State) (d : ℕ) (s : Socket) → socket_at S d ≡ Some s → is_unnamed_addr s.name ≡ true → Call S (pass_cred_named S d)
 named_obeys S d s h unnamed = maybe (Call S) (free_name S.abstract_names) _ _ (refuses refl refl)
-    (λ name free. answers refl refl refl refl (passcred_set d true (abstract_given S d s name h unnamed)))
+    (λ name free. answers refl refl refl refl (passcred_set d true (abstract_given S d s name h unnamed (free_short S.abstract_names name free))))
 
 on_obeys : (S : State) (d : ℕ) (s : Socket) → socket_at S d ≡ Some s → Call S (pass_cred_on S d s)
 on_obeys S d s h = either (Call S) (not (is_unnamed_addr s.name) || is_some (tied_socket s.phase)) _ _ (λ b. answers refl refl refl refl (passcred_set d true still))

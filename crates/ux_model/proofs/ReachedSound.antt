@@ -15,7 +15,7 @@ pub reached_sound : (S : State) (ends : Bool) (T : State) → IsSound S → Reac
 reached_sound S ends T sound still = sound
 reached_sound S ends T sound (process_changed {T = U} i P Q r h names kept same) =
     let before = reached_sound S ends U sound r in same_peers U _ before (process_held U i P Q before.held h (names sound)) refl
-reached_sound S ends T sound (description_made {T = U} D r leads nothing) = made_sound U D (reached_sound S ends U sound r) (leads sound) nothing
+reached_sound S ends T sound (description_made {T = U} D r leads nothing bounds) = made_sound U D (reached_sound S ends U sound r) (leads sound) nothing
 reached_sound S ends T sound (peers_made {T = U} D E r peers) = peers_sound U D E (reached_sound S ends U sound r) peers
 reached_sound S ends T sound (connection_made {T = U} d l cred listener_cred s listener r client free there) =
     connection_sound U d l cred listener_cred s listener (reached_sound S ends U sound r) client free there

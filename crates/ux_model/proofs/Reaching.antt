@@ -1,6 +1,6 @@
 -- What a call may do to a state, part by part: each call's next state comes of its first by such changes. What each of these changes
 -- keeps, every call keeps. A call that changes what none of these do brings a further one, which owes a line of `exits_kept` (Living), of
--- `reached_sound` (ReachedSound), of `reached_there` (Closed) and of `reached_within` (FlightLaws).
+-- `reached_sound` (ReachedSound), of `reached_there` (Closed), of `reached_within` (FlightLaws) and of `reached_bounded` (StaysBounded).
 use Rattle.std.proofs.Common.{◌≡◌, ℕ, zero, suc, ◌+◌, ◌≤◌, ◌<◌, ◌==◌, Bool, true, false, cond, List, [], ◌∷◌, ◌++◌, length, map, set, Option, Some, None, refl, ap, sym, subst, ◌∙◌, arith}
 use Rattle.std.specs.Prelude.{is_some, filter, option_map}
 use Rattle.std.specs.List.{slice_get}
@@ -25,6 +25,7 @@ use Rattle.ux_model.specs.Closing.{with_nothing_open}
 use Rattle.ux_model.specs.Invariants.{pends, pends_at_all}
 use Rattle.ux_model.proofs.Named.{table_in}
 use Rattle.ux_model.proofs.Sound.{IsSound, unaccepted, target_name, name_in}
+use Rattle.ux_model.proofs.Bounds.{HasBounds, IsBounded, IsBoundedTarget, IsBoundedPlace, AreBounded}
 
 -- the new table has no more places than the old one, and no more entries for a description that isn't there
 pub record NamesWhatIsThere (S : State) (old new : List (Option Descriptor)) : Type 0 where
@@ -47,14 +48,15 @@ pub record KeepsReferences (S : State) (old new : Option Description) : Type 0 w
   pub holds : (d : ℕ) → is_some (description_at S d) ≡ false → description_refs d new ≤ description_refs d old
   pub named : (name : Name) → name_in old ≡ Some (Addr.Abstract name) → name_in new ≡ Some (Addr.Abstract name)
 
--- And of place n: it has the same peer, no more ends wait at it, and no more rights than may be; and while it waits for accept itself, none
--- has taken it.
+-- And of place n: it has the same peer, no more ends wait at it, and no more rights than may be; while it waits for accept itself, none has
+-- taken it; and it keeps to the limits of its name and of what waits in its queue.
 pub record KeepsPlace (S : State) (n : ℕ) (old new : Option Description) : Type 0 where
   pub references : KeepsReferences S old new
   pub peer : peer_in new ≡ peer_in old
   pub pending : (d : ℕ) → at_socket (pends d) new ≤ at_socket (pends d) old
   pub waits : 0 < pends_at_all n S.descriptions → at_socket unaccepted old ≤ at_socket unaccepted new
   pub flies : StaysWithin S (λ u. flying_in u old) (λ u. flying_in u new)
+  pub bounds : AreBounded S → IsBoundedPlace old → IsBoundedPlace new
 
 -- two new descriptions of sockets that are connected to one another, where the first gets number d
 pub record ArePeers (d : ℕ) (D E : Description) : Type 0 where
@@ -62,6 +64,8 @@ pub record ArePeers (d : ℕ) (D E : Description) : Type 0 where
   pub second_refs : (n : ℕ) → ◌≡◌ {A = ℕ} (target_refs n E.target) 0
   pub first_peer : target_peer D.target ≡ Some (d + 1)
   pub second_peer : target_peer E.target ≡ Some d
+  pub first_bounds : IsBoundedTarget D.target
+  pub second_bounds : IsBoundedTarget E.target
 
 -- T comes of S by changes of one part each. A condition may use that nothing dangles in S. `ends` says whether it may end a process.
 pub data Reaches (S : State) (ends : Bool) : State → Type 0 where
@@ -70,7 +74,7 @@ pub data Reaches (S : State) (ends : Bool) : State → Type 0 where
   process_changed : {T : State} (i : ℕ) (P Q : Process) → Reaches S ends T → slice_get T.processes i ≡ Some P → (IsSound S → NamesWhatIsThere T P.table Q.table) →
       (ends ≡ false → Q.exited ≡ P.exited) → IsOfSameUser P Q → Reaches S ends (record T { processes = set T.processes i Q })
   -- a new description refers to nothing, and leads to a file object that something leads to already, or to a socket without a peer
-  description_made : {T : State} (D : Description) → Reaches S ends T → (IsSound S → (o : ℕ) → leads_to o D.target ≡ true → 0 < orefs T o) → HoldsNothing D →
+  description_made : {T : State} (D : Description) → Reaches S ends T → (IsSound S → (o : ℕ) → leads_to o D.target ≡ true → 0 < orefs T o) → HoldsNothing D → IsBoundedTarget D.target →
       Reaches S ends (with_new T D)
   -- two sockets that are connected to one another
   peers_made : {T : State} (D E : Description) → Reaches S ends T → ArePeers (length T.descriptions) D E → Reaches S ends (with_new (with_new T D) E)
@@ -167,13 +171,14 @@ pub record KeepsTarget (S : State) (n : ℕ) (old new : Target) : Type 0 where
   pub pending : (d : ℕ) → at_target (pends d) new ≤ at_target (pends d) old
   pub waits : 0 < pends_at_all n S.descriptions → at_target unaccepted old ≤ at_target unaccepted new
   pub flies : StaysWithin S (λ u. flying_at u old) (λ u. flying_at u new)
+  pub bounds : AreBounded S → IsBoundedTarget old → IsBoundedTarget new
   pub named : (name : Name) → target_name old ≡ Some (Addr.Abstract name) → target_name new ≡ Some (Addr.Abstract name)
 
 pub same_target : (S : State) (n : ℕ) (t : Target) → KeepsTarget S n t t
-same_target S n t = record { leads = λ o. refl; holds = λ d gone. omega arith; peer = refl; pending = λ d. omega arith; waits = λ h. omega arith; flies = λ u limit are within. omega (arith, within); named = λ name h. h }
+same_target S n t = record { leads = λ o. refl; holds = λ d gone. omega arith; peer = refl; pending = λ d. omega arith; waits = λ h. omega arith; flies = λ u limit are within. omega (arith, within); bounds = λ all own. own; named = λ name h. h }
 
 pub kept_place : (S : State) (n : ℕ) (D E : Description) → KeepsTarget S n D.target E.target → KeepsPlace S n (Some D) (Some E)
-kept_place S n D E k = record { references = record { held = refl; leads = k.leads; holds = k.holds; named = k.named }; peer = k.peer; pending = k.pending; waits = k.waits; flies = k.flies }
+kept_place S n D E k = record { references = record { held = refl; leads = k.leads; holds = k.holds; named = k.named }; peer = k.peer; pending = k.pending; waits = k.waits; flies = k.flies; bounds = k.bounds }
 
 -- the same of a socket
 pub record KeepsSocket (S : State) (n : ℕ) (s t : Socket) : Type 0 where
@@ -182,6 +187,7 @@ pub record KeepsSocket (S : State) (n : ℕ) (s t : Socket) : Type 0 where
   pub pending : (d : ℕ) → pends d t ≤ pends d s
   pub waits : 0 < pends_at_all n S.descriptions → unaccepted s ≤ unaccepted t
   pub flies : StaysWithin S (λ u. rights_sent_by u s.queue) (λ u. rights_sent_by u t.queue)
+  pub bounds : AreBounded S → IsBounded s → IsBounded t
   pub named : (name : Name) → s.name ≡ Addr.Abstract name → t.name ≡ Addr.Abstract name
 
 pub kept_socket : (S : State) (n : ℕ) (s t : Socket) → KeepsSocket S n s t → KeepsTarget S n (to_socket s) (to_socket t)
@@ -192,25 +198,27 @@ kept_socket S n s t k = record {
   pending = k.pending;
   waits = k.waits;
   flies = k.flies;
+  bounds = k.bounds;
   named = λ name h. ap Some (k.named name (let e : s.name ≡ Addr.Abstract name = cc h in e));
 }
 
--- where only the queue and what is pending change, and the queue has no more rights
+-- where only the queue and what is pending change, and the queue has no more rights and keeps to its limits
 pub queue_changed : (S : State) (n : ℕ) (s : Socket) (queue : List Message) (reset : Bool) →
     ((d : ℕ) → is_some (description_at S d) ≡ false → queue_refs d queue ≤ queue_refs d s.queue) → ((u : ℕ) → rights_sent_by u queue ≤ rights_sent_by u s.queue) →
-    KeepsSocket S n s (record s { queue = queue; reset = reset })
-queue_changed S n s queue reset holds fewer = record {
+    (IsBounded s → HasBounds s.kind s.name queue) → KeepsSocket S n s (record s { queue = queue; reset = reset })
+queue_changed S n s queue reset holds fewer bounds = record {
   holds = λ d gone. let h : queue_refs d queue ≤ queue_refs d s.queue = holds d gone in omega (arith, h);
   peer = refl;
   pending = λ d. omega arith;
   waits = λ h. omega arith;
   flies = λ u limit are within. let less : rights_sent_by u queue ≤ rights_sent_by u s.queue = fewer u in omega (arith, within, less);
+  bounds = λ all own. bounds own;
   named = λ name h. h;
 }
 
 -- where what is pending changes alone
 pub pending_changed : (S : State) (n : ℕ) (s : Socket) (reset : Bool) → KeepsSocket S n s (record s { reset = reset })
-pending_changed S n s reset = queue_changed S n s s.queue reset (λ d gone. omega arith) (λ u. omega arith)
+pending_changed S n s reset = queue_changed S n s s.queue reset (λ d gone. omega arith) (λ u. omega arith) (λ own. own)
 
 -- ---- the changes as calls make them
 
@@ -235,7 +243,7 @@ pub with_description_reached : {S : State} {ends : Bool} (T : State) (d : ℕ) (
 with_description_reached T d D E r h keeps = description_changed d (Some E) r (λ sound. subst (λ x. KeepsPlace T d x (Some E)) (sym h) (kept_place T d D E (keeps sound)))
 
 pub nothing_there : (S : State) (n : ℕ) → KeepsPlace S n None None
-nothing_there S n = record { references = record { held = refl; leads = λ o. refl; holds = λ d gone. omega arith; named = λ name h. h }; peer = refl; pending = λ d. omega arith; waits = λ h. omega arith; flies = λ u limit are within. omega (arith, within) }
+nothing_there S n = record { references = record { held = refl; leads = λ o. refl; holds = λ d gone. omega arith; named = λ name h. h }; peer = refl; pending = λ d. omega arith; waits = λ h. omega arith; flies = λ u limit are within. omega (arith, within); bounds = λ all own. own }
 
 pub with_socket_reached : {S : State} {ends : Bool} (T : State) (d : ℕ) (change : Socket → Socket) → Reaches S ends T →
     (IsSound S → (s : Socket) → socket_at T d ≡ Some s → KeepsSocket T d s (change s)) → Reaches S ends (with_socket_by T d change)

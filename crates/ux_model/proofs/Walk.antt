@@ -123,13 +123,14 @@ found_named Q S kind addr rest bad none nobody other rest_of = by_addr addr
 abbrev on_name : State → (Addr → Outcome) → Result Addr Errno → Outcome
 on_name S rest r = elim r [ Err e ↦ refuse S e | Ok name ↦ rest name ]
 
-pub found_peer : (Q : Outcome → Type 0) (S : State) (phase : Phase) (rest : Addr → Outcome) → Q (refuse S Errno.ENOTCONN) → ((name : Addr) → Q (rest name)) → Q (on_name S rest (peer_name S phase))
+pub found_peer : (Q : Outcome → Type 0) (S : State) (phase : Phase) (rest : Addr → Outcome) → Q (refuse S Errno.ENOTCONN) →
+    ((d : ℕ) (s : Socket) → socket_at S d ≡ Some s → Q (rest s.name)) → Q (on_name S rest (peer_name S phase))
 found_peer Q S phase rest none rest_of = by_peer (tied_socket phase)
   where
-    by_socket : (o : Option Socket) → Q (on_name S rest (elim o as (λ _. Result Addr Errno) [ None ↦ Err Errno.ENOTCONN | Some s ↦ Ok s.name ]))
-    by_socket None = none
-    by_socket (Some s) = rest_of s.name
+    by_socket : (d : ℕ) (o : Option Socket) → socket_at S d ≡ o → Q (on_name S rest (elim o as (λ _. Result Addr Errno) [ None ↦ Err Errno.ENOTCONN | Some s ↦ Ok s.name ]))
+    by_socket d None h = none
+    by_socket d (Some s) h = rest_of d s h
 
     by_peer : (o : Option ℕ) → Q (on_name S rest (elim o as (λ _. Result Addr Errno) [ None ↦ Err Errno.ENOTCONN | Some peer ↦ elim (socket_at S peer) as (λ _. Result Addr Errno) [ None ↦ Err Errno.ENOTCONN | Some s ↦ Ok s.name ] ]))
     by_peer None = none
-    by_peer (Some peer) = by_socket (socket_at S peer)
+    by_peer (Some peer) = by_socket peer (socket_at S peer) refl

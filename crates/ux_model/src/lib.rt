@@ -10,6 +10,7 @@ ghost use Rattle.ux_model.specs.Peers.{OneGoes};
 ghost use Rattle.ux_model.specs.Invariants.{NoneLeftUnreferenced, SettlesAtOnce, StaysSettled, RefusalChangesNothing, RefusedEntryChangesNothing, NothingDangles, ClosedOnce};
 ghost use Rattle.ux_model.specs.ReadyCalls.{TellsInput, TellsRoom};
 ghost use Rattle.ux_model.specs.FlightLaws.{FlightIsLimited};
+ghost use Rattle.ux_model.specs.RoomLaws.{RepliesFit};
 ghost use Rattle.ux_model.specs.Owning.{NameGoes};
 ghost use Rattle.ux_model.specs.Moves.{ProcessCounts, SocketCounts, NewCounts, NewCountsAtObject, SameTargetCountsAlike, TakenPathCountsNot};
 
@@ -173,4 +174,10 @@ pub fn poll_tells_of_room()
 #[tactic(auto, using(crate::proofs::FlightLaws::flight_is_limited))]
 pub fn rights_in_flight_are_limited()
     ensures { FlightIsLimited }
+{}
+
+/// Each reply is as large as its request and the limits allow.
+#[tactic(auto, using(crate::proofs::ReplySizes::replies_fit))]
+pub fn replies_fit_their_room()
+    ensures { RepliesFit }
 {}
