@@ -1,6 +1,6 @@
 //! Room for a copy of one reply.
 ghost use Rattle.std.specs.Prelude.{◌≡◌, IfOk};
-ghost use Rattle.ux_model.specs.Rooms.{Size, size_of, room_for, Fits};
+ghost use Rattle.ux_model.specs.Rooms.{size_of, room_for, Fits};
 
 use crate::copying::{addr_copy, bytes_copy, sender_copy};
 use std::alloc::{AllocError, Global};
