@@ -17,6 +17,7 @@ mod pairing;
 mod polling;
 mod reading;
 mod step;
+mod waiting;
 mod writing;
 
 pub use boot::BootFault;
