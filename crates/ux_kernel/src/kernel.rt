@@ -12,11 +12,18 @@ use ux_types::Pid;
 
 /// All file objects, open file descriptions, processes and paths. Contracts see it as the state that
 /// the definitions speak of.
-#[derive(Drop)]
 pub struct Kernel<O: FileObject> {
     /// Where the bytes of messages and of replies get their memory.
     pub(crate) alloc: Global,
     pub(crate) state: State<O>,
+}
+
+// Written out, so that it is proved here and not in each function that drops a kernel.
+impl<O: FileObject> Drop for Kernel<O> {
+    fn drop(self) {
+        let Self { alloc: _, state } = self;
+        drop(state)
+    }
 }
 
 impl<O: FileObject> Model for Kernel<O> {
