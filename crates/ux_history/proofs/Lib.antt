@@ -1,1 +1,4 @@
 pub mod Legal
+pub mod Slips
+pub mod Accounts
+pub mod SameRequests

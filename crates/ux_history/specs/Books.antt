@@ -1,8 +1,10 @@
--- What a book is, and what it keeps true.
-use Rattle.std.specs.Prelude.{◌≡◌, ℕ, ◌+◌, ◌<◌, Bool, ◌==◌, ◌&&◌, List, [], ◌∷◌, ◌++◌, length, slice_index}
-use Rattle.ux_model.specs.Types.{Pid, Request, Reply, Entry}
+-- What a book is, and how it grows.
+use Rattle.std.specs.Prelude.{◌≡◌, ℕ, Bool, true, false, ◌==◌, ◌&&◌, ◌||◌, List, [], ◌∷◌, ◌++◌, length, count_by}
+use Rattle.ux_model.specs.Types.{Pid, Request, Reply, Entry, Errno}
 use Rattle.ux_model.specs.State.{State}
-use Rattle.ux_model.specs.History.{calls_of, replay, is_allowed, MayFollow, IsLegal}
+use Rattle.ux_model.specs.Step.{Step}
+use Rattle.ux_model.specs.Waiting.{may_wait, is_again}
+use Rattle.ux_model.specs.History.{calls_of, is_exit, is_off, replay, is_allowed, MayFollow}
 
 -- a book: where its history began, and its entries
 pub record Held : Type 0 where
@@ -17,15 +19,31 @@ state_of book = replay book.boot book.entries
 abbrev pub may_call : Held → Pid → ℕ → Request → Bool
 may_call book pid k request = is_allowed (state_of book) pid.0 k request && (calls_of pid.0 book.entries == k)
 
--- the book has one more entry, which may follow, with this process, count and request, and which released these file objects
+-- how often the layer was ended
+abbrev pub ends_of : List Entry → ℕ
+ends_of entries = count_by (λ e. is_off e.request) entries
+
+-- the last call of a process, or of the layer
+abbrev pub is_last : Request → Bool
+is_last request = is_exit request || is_off request
+
+-- the book has this entry more, which may follow
+pub record Adds (old new : Held) (e : Entry) : Type 0 where
+  pub next : MayFollow old.boot old.entries e
+  pub appended : new ≡ record old { entries = old.entries ++ e ∷ [] }
+
+-- the book has one more entry, with this process, count and request, and which released these file objects
 pub record Appends (old new : Held) (pid : Pid) (k : ℕ) (request : Request) (released : List ℕ) : Type 0 where
   pub reply : Reply
-  pub next : MayFollow old.boot old.entries (record { pid = pid; k = k; request = request; reply = reply; released = released })
-  pub appended : new ≡ record old { entries = old.entries ++ record { pid = pid; k = k; request = request; reply = reply; released = released } ∷ [] }
+  pub adds : Adds old new (record { pid = pid; k = k; request = request; reply = reply; released = released })
 
--- the entries are a legal history that leads to the kernel's state, and the entries of each process are counted, and those of none
-pub record IsBook (boot : State) (entries : List Entry) (kernel : State) (calls : List ℕ) : Type 0 where
-  pub legal : IsLegal boot entries
-  pub at_replay : kernel ≡ replay boot entries
-  pub slots : length calls ≡ length kernel.processes + 1
-  pub counted : (p : ℕ) → p < length calls → slice_index calls p ≡ calls_of p entries
+-- so, and where the call was to wait the answer isn't that it couldn't be done yet
+pub record Makes (old new : Held) (pid : Pid) (k : ℕ) (request : Request) (waits : Bool) (released : List ℕ) : Type 0 where
+  pub reply : Reply
+  pub adds : Adds old new (record { pid = pid; k = k; request = request; reply = reply; released = released })
+  pub done : waits ≡ true → is_again reply ≡ false
+
+-- the call may wait, and would have to: it can be answered EAGAIN, which changes nothing
+pub record MustWait (book : Held) (pid : Pid) (request : Request) : Type 0 where
+  pub waits : may_wait (state_of book) pid.0 request ≡ true
+  pub again : Step (state_of book) pid.0 (length book.entries) request (Reply.Err Errno.EAGAIN) [] (state_of book)

@@ -1,221 +1,412 @@
-//! A kernel with all that was called since it started.
-ghost use Rattle.std.specs.Prelude.{◌≡◌, ◌+◌, ◌<◌, ◌≤◌, ◌↔◌, ◌++◌, ◌∷◌, [], true, false, Err, length, map, replicate, slice_index, slice_set, vec_len, vec_capacity, IfOk, IfErr, OnOk, OnErr};
-ghost use Rattle.std.specs.List.{AllByRecursion};
-ghost use Rattle.ux_model.specs.Limits.{object_limit};
+//! The book: a kernel with all that was called since it started, and the right to call as shares.
+ghost use Rattle.std.specs.Prelude.{◌≡◌, ◌+◌, ◌<◌, ◌≤◌, ◌&&◌, ◌↔◌, [], true, false, not, length, map, sum_by, Some, IfOk, IfErr, OnOk, OnErr, IfSome, IfNone, OnSome, IsTrue, if◌then◌else◌};
+ghost use Rattle.std.specs.List.{slice_get, AllByRecursion};
+ghost use Rattle.ux_model.specs.Limits.{process_limit};
 ghost use Rattle.ux_model.specs.Boot.{IsBootState};
 ghost use Rattle.ux_model.specs.State.{is_live};
-ghost use Rattle.ux_model.specs.History.{calls_of, is_off, replay, IsLegal};
+ghost use Rattle.ux_model.specs.Waiting.{should_wait};
+ghost use Rattle.ux_model.specs.History.{calls_of, has_live, IsLegal};
 ghost use Rattle.ux_model.specs.HandingOut.{IsHandedOut};
-ghost use Rattle.ux_history.specs.Books.{state_of, may_call, Appends};
+ghost use Rattle.ux_history.specs.Books.{state_of, ends_of, is_last, Adds, Appends, MustWait};
+ghost use Rattle.ux_history.specs.Shares.{knows, once_more, fresh, call_by, processes, once_each};
+ghost use Rattle.ux_history.specs.Logs.{last_entries};
+ghost use Rattle.ux_history.specs.Receipts.{call_of, next_slip};
+ghost use Rattle.ux_history.specs.Faults.{is_stranger, is_alive};
 
-use crate::fault::{CallFault, NoMemory};
+use crate::account::Account;
+use crate::fault::{CallFault, NoMemory, OffFault};
+use crate::log::Log;
+use crate::naming::BookName;
+use crate::receipts::{Receipt, Recorded};
+use crate::shares::{Share, Spent};
+use crate::spare::{Spare, copy_of};
 use std::alloc::{AllocError, Global};
-use std::marker::Model;
-use std::snapshot::Snapshot;
+use std::marker::{Model, PhantomData};
+use std::sync::ledger;
+use std::sync::ledger::Blank;
 use ux_kernel::Kernel;
 use ux_object::FileObject;
-use ux_state::{Retired, RetiredList};
-use ux_types::{Entry, Pid, Released, Reply, Request};
+use ux_state::RetiredList;
+use ux_types::{Entry, Pid, Request};
 
-/// A kernel with all that was called since its boot state. Contracts see that state and the entries;
-/// the kernel is at the end of them.
+/// Into how many parts a book's ledger is cut: one for each process that is ever made.
+pub const PARTS: u64 = 1024;
+
+/// A kernel with all that was called since its boot state. Contracts see that state and the entries, which
+/// are a legal history; the kernel is at the end of them. `W` names the one book of its ledger.
 #[derive(Drop)]
-pub struct Book<O: FileObject> {
-    boot: Snapshot<Kernel<O>>,
-    entries: Vec<Entry>,
-    kernel: Kernel<O>,
-    /// How many entries there are with each process's number, those of no process first.
-    calls: Vec<u64>,
+pub struct Book<W: BookName, O: FileObject> {
+    log: Log<W, O>,
+    /// How many entries there are but for the end of the layer, which the shares count.
+    ledger: ledger::Book<W>,
+    /// The parts that no process has.
+    rest: ledger::Share<W>,
 }
 
-impl<O: FileObject> Model for Book<O> {
-    ghost use Rattle.ux_history.specs.Books.{Held, IsBook};
+impl<W: BookName, O: FileObject> Model for Book<W, O> {
+    ghost use Rattle.ux_history.specs.Books.{Held};
+    ghost use Rattle.ux_history.specs.Shares.{IsBook};
 
     ghost Value = { Held };
 
-    ghost view = { λ b. record { boot = b.boot.value; entries = b.entries.items } };
+    ghost view = { λ b. b.log.book };
 
-    ghost invariant = { λ b. IsBook b.boot.value b.entries.items b.kernel b.calls.items };
+    ghost invariant = { λ b. IsBook b.log.book W.parts b.ledger.total b.rest.parts b.rest.amount };
 }
 
-impl<O: FileObject> Book<O> {
-    /// A book at the start of this kernel, which it gives back where memory is wanting.
-    pub fn new(alloc: Global, kernel: Kernel<O>) -> Result<Book<O>, (Kernel<O>, NoMemory)>
-        requires { IsBootState kernel }
-        ensures book { IfOk result (λ b. b ≡ record { boot = kernel; entries = [] }) }
+impl<W: BookName, O: FileObject> Book<W, O> {
+    /// A book at the start of this kernel, and a share for each of its processes.
+    ///
+    /// # Errors
+    ///
+    /// The kernel, where an allocation is refused. The blank ledger is spent.
+    pub fn new(
+        alloc: Global,
+        blank: Blank,
+        kernel: Kernel<O>,
+    ) -> Result<(Book<W, O>, Vec<Share<W>>), (Kernel<O>, NoMemory)>
+        requires name { blank.name ≡ W.name }
+        requires parts { (blank.parts ≡ W.parts) × (blank.parts ≡ 1024) }
+        requires boots { IsBootState kernel }
+        requires named { kernel ≡ W.boot }
+        ensures book { IfOk result (λ r. r.0 ≡ record { boot = kernel; entries = [] }) }
+        ensures shares { IfOk result (λ r. r.1.items ≡ fresh (length kernel.processes)) }
         ensures back { IfErr result (λ f. f.0 ≡ kernel) }
     {
-        match zeros(alloc, kernel.process_count() + 1) {
-            Ok(calls) => Ok(Book {
-                boot: Snapshot::of(&kernel),
-                entries: Vec::new(alloc),
-                kernel,
-                calls,
-            }),
-            Err(_) => Err((kernel, NoMemory)),
+        let log = match Log::new(alloc, kernel) {
+            Ok(log) => log,
+            Err(kernel) => return Err((kernel, NoMemory)),
+        };
+        let (ledger, mut rest) = blank.open::<W>();
+        match cut(alloc, &mut rest, log.process_count()) {
+            Ok(shares) => Ok((Book { log, ledger, rest }, shares)),
+            Err(_) => Err((log.into_kernel(), NoMemory)),
         }
     }
 
     /// The entries, which are a legal history.
     pub fn entries(&self) -> &[Entry]
         ensures entries { result.now ≡ self.now.entries }
+        ensures boot { self.now.boot ≡ W.boot }
         ensures legal { IsLegal self.now.boot self.now.entries }
     {
-        // A borrow of the kernel opens the book, whose invariant is what `legal` says.
-        let _ = &self.kernel;
-        self.entries.as_slice()
+        self.log.entries()
     }
 
     /// The entries, and nothing else of it.
     pub fn into_entries(self) -> Vec<Entry>
         ensures entries { result.items ≡ self.entries }
+        ensures boot { self.boot ≡ W.boot }
         ensures legal { IsLegal self.boot self.entries }
     {
         let Book {
-            boot: _,
-            entries,
-            kernel: _,
-            calls: _,
+            log,
+            ledger: _,
+            rest: _,
         } = self;
-        entries
+        log.into_entries()
+    }
+
+    /// The kernel, at the end of the history.
+    pub fn into_kernel(self) -> Kernel<O>
+        ensures { result ≡ state_of self }
+    {
+        let Book {
+            log,
+            ledger: _,
+            rest: _,
+        } = self;
+        log.into_kernel()
+    }
+
+    /// How many processes were made.
+    pub fn process_count(&self) -> usize
+        ensures count { result ≡ processes self.now }
+        ensures most { result ≤ process_limit }
+    {
+        self.log.process_count()
     }
 
     /// Whether a process with this number was made, and hasn't exited.
     pub fn is_live(&self, pid: Pid) -> bool
         ensures { result ≡ is_live (state_of self.now) pid.0 }
     {
-        let kernel = &self.kernel;
-        kernel.is_live(pid)
+        self.log.is_live(pid)
     }
 
-    /// How many entries a live process has.
+    /// How many entries there are with this process's number; the end of the layer has the number 0.
     pub fn calls_of(&self, pid: Pid) -> u64
-        requires { is_live (state_of self.now) pid.0 ≡ true }
         ensures { result ≡ calls_of pid.0 self.now.entries }
     {
-        self.calls[pid.0 as usize]
+        self.log.calls_of(pid)
     }
 
-    /// Whether this may be the next call: of a process that hasn't exited and made `k` calls before, or
-    /// the end of the layer, which is made by none, once, when no process is left.
-    pub fn may_call(&self, pid: Pid, k: u64, request: &Request) -> bool
-        ensures { result ≡ may_call self.now pid k request.now }
+    /// Whether the share is that of a live process which has made so many calls.
+    pub fn knows(&self, share: &Share<W>) -> bool
+        ensures { result ≡ knows self.now share.now }
     {
-        if is_off(request) {
-            let kernel = &self.kernel;
-            pid.0 == 0 && k == 0 && !kernel.has_live() && self.calls[0] == k
-        } else {
-            self.is_live(pid) && self.calls_of(pid) == k
+        self.log.is_live(share.pid()) && self.log.calls_of(share.pid()) == share.calls()
+    }
+
+    /// Whether the receipt's call stands at its number.
+    pub fn holds(&self, receipt: &Receipt<W>) -> bool
+        ensures { IsTrue result ↔ (slice_get (map call_of self.now.entries) receipt.now.number ≡ Some receipt.now.call) }
+    {
+        match self.log.entries().get(receipt.number()) {
+            Some(entry) => receipt.call().is_of(entry),
+            None => false,
         }
     }
 
-    /// Makes a call of this process, the one before which it made `k` calls, or the end of the layer, and
-    /// keeps it as one more entry, whose number it gives. The file objects that went with the call are put
-    /// into an empty list by rising number, closed and otherwise as they were. All growths come before the
-    /// call is made.
+    /// Makes a call of the share's process, and keeps it as one more entry. The file objects that went with
+    /// the call are put into an empty list by rising number, closed and otherwise as they were. All
+    /// allocations come before the call.
     ///
     /// # Errors
     ///
-    /// `Stranger` where this may not be the next call, else `NoMemory`. The book is then as before.
+    /// `Stranger` exactly where the share isn't that of a live process which has made so many calls, else
+    /// `NoMemory`. Book and share are then as before.
     pub fn record(
         &mut self,
-        pid: Pid,
-        k: u64,
+        share: &mut Share<W>,
         request: &Request,
         retired: &mut RetiredList<O>,
-    ) -> Result<usize, CallFault>
+    ) -> Result<Recorded<W>, CallFault>
+        requires call { is_last request.now ≡ false }
         requires empty { retired.old ≡ [] }
-        ensures known { OnOk result (may_call self.old pid k request.now ≡ true) }
-        ensures stranger { (result ≡ Err CallFault.Stranger) ↔ (may_call self.old pid k request.now ≡ false) }
-        ensures entry { OnOk result (Appends self.old self.new pid k request.now (map (λ r. r.0) retired.new)) }
-        ensures number { IfOk result (λ n. n ≡ length self.old.entries) }
+        ensures known { OnOk result (knows self.old share.old ≡ true) }
+        ensures stranger { IfErr result (λ f. is_stranger f ≡ not (knows self.old share.old)) }
+        ensures entry { IfOk result (λ r. Adds self.old self.new (call_by share.old request.now r.reply (map (λ o. o.0) retired.new))) }
+        ensures receipt { IfOk result (λ r. r.receipt ≡ next_slip self.old share.old request.now r.reply false) }
+        ensures share { OnOk result (share.new ≡ once_more share.old) }
         ensures handed_out { OnOk result (AllByRecursion (IsHandedOut (state_of self.old)) retired.new) }
         ensures same { OnErr result (self.new ≡ self.old) }
+        ensures kept { OnErr result (share.new ≡ share.old) }
         ensures none { OnErr result (retired.new ≡ []) }
     {
-        if !self.may_call(pid, k, request) {
+        match self.make(share, request, false, retired) {
+            Ok(Some(recorded)) => Ok(recorded),
+            Ok(None) => unreachable!(),
+            Err(fault) => Err(fault),
+        }
+    }
+
+    /// As `record`; but where the call may wait, and would have to, the answer is `None`, and book and share
+    /// are as before.
+    ///
+    /// # Errors
+    ///
+    /// Those of `record`.
+    pub fn try_record(
+        &mut self,
+        share: &mut Share<W>,
+        request: &Request,
+        retired: &mut RetiredList<O>,
+    ) -> Result<Option<Recorded<W>>, CallFault>
+        requires call { is_last request.now ≡ false }
+        requires empty { retired.old ≡ [] }
+        ensures known { OnOk result (knows self.old share.old ≡ true) }
+        ensures stranger { IfErr result (λ f. is_stranger f ≡ not (knows self.old share.old)) }
+        ensures entry { IfOk result (λ o. IfSome o (λ r. Adds self.old self.new (call_by share.old request.now r.reply (map (λ o. o.0) retired.new)))) }
+        ensures done { IfOk result (λ o. IfSome o (λ r. should_wait (state_of self.old) share.old.pid.0 request.now r.reply ≡ false)) }
+        ensures receipt { IfOk result (λ o. IfSome o (λ r. r.receipt ≡ next_slip self.old share.old request.now r.reply true)) }
+        ensures share { IfOk result (λ o. OnSome o (share.new ≡ once_more share.old)) }
+        ensures handed_out { IfOk result (λ o. OnSome o (AllByRecursion (IsHandedOut (state_of self.old)) retired.new)) }
+        ensures waits { IfOk result (λ o. IfNone o (MustWait self.old share.old.pid request.now)) }
+        ensures unchanged { IfOk result (λ o. IfNone o (self.new ≡ self.old)) }
+        ensures unspent { IfOk result (λ o. IfNone o (share.new ≡ share.old)) }
+        ensures nothing { IfOk result (λ o. IfNone o (retired.new ≡ [])) }
+        ensures same { OnErr result (self.new ≡ self.old) }
+        ensures kept { OnErr result (share.new ≡ share.old) }
+        ensures none { OnErr result (retired.new ≡ []) }
+    {
+        self.make(share, request, true, retired)
+    }
+
+    /// Makes a call of the share's process; where it is `tried`, only if it needn't wait.
+    fn make(
+        &mut self,
+        share: &mut Share<W>,
+        request: &Request,
+        tried: bool,
+        retired: &mut RetiredList<O>,
+    ) -> Result<Option<Recorded<W>>, CallFault>
+        requires call { is_last request.now ≡ false }
+        requires empty { retired.old ≡ [] }
+        ensures known { OnOk result (knows self.old share.old ≡ true) }
+        ensures stranger { IfErr result (λ f. is_stranger f ≡ not (knows self.old share.old)) }
+        ensures entry { IfOk result (λ o. IfSome o (λ r. Adds self.old self.new (call_by share.old request.now r.reply (map (λ o. o.0) retired.new)))) }
+        ensures done { IfOk result (λ o. IfSome o (λ r. tried ≡ true → should_wait (state_of self.old) share.old.pid.0 request.now r.reply ≡ false)) }
+        ensures receipt { IfOk result (λ o. IfSome o (λ r. r.receipt ≡ next_slip self.old share.old request.now r.reply tried)) }
+        ensures share { IfOk result (λ o. OnSome o (share.new ≡ once_more share.old)) }
+        ensures handed_out { IfOk result (λ o. OnSome o (AllByRecursion (IsHandedOut (state_of self.old)) retired.new)) }
+        ensures tried { IfOk result (λ o. IfNone o (tried ≡ true)) }
+        ensures waits { IfOk result (λ o. IfNone o (MustWait self.old share.old.pid request.now)) }
+        ensures unchanged { IfOk result (λ o. IfNone o (self.new ≡ self.old)) }
+        ensures unspent { IfOk result (λ o. IfNone o (share.new ≡ share.old)) }
+        ensures nothing { IfOk result (λ o. IfNone o (retired.new ≡ [])) }
+        ensures same { OnErr result (self.new ≡ self.old) }
+        ensures kept { OnErr result (share.new ≡ share.old) }
+        ensures none { OnErr result (retired.new ≡ []) }
+    {
+        if !self.knows(share) {
             return Err(CallFault::Stranger);
         }
-        match self.append(pid, k, request, retired) {
-            Ok(number) => Ok(number),
-            Err(AllocError) => Err(CallFault::NoMemory),
-        }
+        let Ok((copy, spare)) = set_aside(&mut self.log, request) else {
+            return Err(CallFault::NoMemory);
+        };
+        let waits = tried && self.log.waits(share.pid, request);
+        let Some(number) = self.log.append(share.pid, share.k, copy, waits, retired) else {
+            drop(spare);
+            return Ok(None);
+        };
+        let (reply, call) = self.log.answer(number, spare);
+        self.ledger.add(&mut share.part, 1);
+        share.k += 1;
+        let of = PhantomData;
+        let receipt = Receipt {
+            number,
+            call,
+            tried,
+            of,
+        };
+        Ok(Some(Recorded { reply, receipt }))
     }
 
-    /// Makes the next call, and keeps it as one more entry.
-    fn append(
+    /// Ends the share's process, in room that was set aside when the book was made: it takes no memory. The
+    /// file objects that went with it are put into an empty list.
+    ///
+    /// # Errors
+    ///
+    /// The share, exactly where it isn't that of a live process which has made so many calls.
+    pub fn exit(
         &mut self,
-        pid: Pid,
-        k: u64,
-        request: &Request,
+        share: Share<W>,
         retired: &mut RetiredList<O>,
-    ) -> Result<usize, AllocError>
-        requires call { may_call self.old pid k request.now ≡ true }
+    ) -> Result<Spent<W>, Share<W>>
         requires empty { retired.old ≡ [] }
-        ensures entry { OnOk result (Appends self.old self.new pid k request.now (map (λ r. r.0) retired.new)) }
-        ensures number { IfOk result (λ n. n ≡ length self.old.entries) }
+        ensures known { OnOk result (knows self.old share ≡ true) }
+        ensures stranger { OnErr result (knows self.old share ≡ false) }
+        ensures entry { OnOk result (Appends self.old self.new share.pid share.k Request.Exit (map (λ o. o.0) retired.new)) }
+        ensures spent { IfOk result (λ s. s ≡ once_more share) }
+        ensures handed_out { OnOk result (AllByRecursion (IsHandedOut (state_of self.old)) retired.new) }
+        ensures same { OnErr result (self.new ≡ self.old) }
+        ensures back { IfErr result (λ s. s ≡ share) }
+        ensures none { OnErr result (retired.new ≡ []) }
+    {
+        if !self.knows(&share) {
+            return Err(share);
+        }
+        let Share { pid, k, mut part } = share;
+        self.log.append_last(pid, k, Request::Exit, retired);
+        self.ledger.add(&mut part, 1);
+        let k = k + 1;
+        Ok(Spent {
+            share: Share { pid, k, part },
+        })
+    }
+
+    /// Ends the layer once every process has exited, in room that was set aside when the book was made: it
+    /// takes no memory. The file objects that were still open are put into an empty list.
+    ///
+    /// # Errors
+    ///
+    /// `Alive` exactly where a process hasn't exited, else `Given` exactly where this was done before.
+    pub fn off(&mut self, retired: &mut RetiredList<O>) -> Result<(), OffFault>
+        requires empty { retired.old ≡ [] }
+        ensures gone { OnOk result (has_live (state_of self.old) ≡ false) }
+        ensures first { OnOk result (ends_of self.old.entries ≡ 0) }
+        ensures alive { IfErr result (λ f. is_alive f ≡ has_live (state_of self.old)) }
+        ensures given { IfErr result (λ f. is_alive f ≡ false → ends_of self.old.entries ≡ 1) }
+        ensures entry { OnOk result (Appends self.old self.new (record { 0 = 0 }) 0 Request.Off (map (λ o. o.0) retired.new)) }
         ensures handed_out { OnOk result (AllByRecursion (IsHandedOut (state_of self.old)) retired.new) }
         ensures same { OnErr result (self.new ≡ self.old) }
         ensures none { OnErr result (retired.new ≡ []) }
     {
-        let copy = copy_of(request)?;
-        self.entries.reserve(1)?;
-        let number = self.entries.len();
-        let reply = self.kernel.step(pid, number as u64, request, retired);
-        let entry = Entry {
-            pid,
-            k,
-            request: copy,
-            reply,
-            released: numbers_of(retired.as_slice()),
-        };
-        note(&mut self.entries, &mut self.calls, entry);
-        Ok(number)
+        if self.log.has_live() {
+            return Err(OffFault::Alive);
+        }
+        if self.log.has_ended() {
+            return Err(OffFault::Given);
+        }
+        self.log.append_last(Pid(0), 0, Request::Off, retired);
+        Ok(())
+    }
+
+    /// Merges the shares of all processes, which have then counted all entries but the end of the layer.
+    pub(crate) fn audit(&mut self, spents: Vec<Spent<W>>) -> Account
+        requires { once_each (processes self.old) spents.items ≡ true }
+        ensures book { self.new ≡ self.old }
+        ensures sum { result.entries ≡ sum_by (λ c. c.k) spents.items + (if result.ended then 1 else 0) }
+        ensures entries { result.entries ≡ length self.old.entries }
+        ensures ended { (if result.ended then 1 else 0) ≡ ends_of self.old.entries }
+    {
+        let kept = PARTS - self.log.process_count() as u64;
+        let mut all = self.rest.empty();
+        self.rest.give(&mut all, kept, 0);
+        merge_all(&mut all, spents);
+        self.ledger.audit(&mut all);
+        all.give(&mut self.rest, kept, 0);
+        Account {
+            entries: self.log.entries().len(),
+            ended: self.log.has_ended(),
+        }
     }
 }
 
-/// Appends an entry, for which there is room, and counts it.
-fn note(entries: &mut Vec<Entry>, calls: &mut Vec<u64>, entry: Entry)
-    requires counted { entry.pid.0 < vec_len calls.old }
-    requires room { vec_len entries.old < vec_capacity entries.old }
-    requires fits { slice_index calls.old.items entry.pid.0 ≡ entry.k }
-    requires few { entry.k ≤ vec_len entries.old }
-    ensures entries { entries.new.items ≡ entries.old.items ++ entry ∷ [] }
-    ensures calls { calls.new.items ≡ slice_set calls.old.items entry.pid.0 (entry.k + 1) }
+/// Whether it is the last call of a process or of the layer, which is no call of `Book::record`.
+pub fn is_last(request: &Request) -> bool
+    ensures { result ≡ is_last request.now }
 {
-    calls[entry.pid.0 as usize] = entry.k + 1;
-    entries.push_reserved(entry);
+    matches!(request, Request::Exit | Request::Off)
 }
 
-/// A copy of a request.
-fn copy_of(request: &Request) -> Result<Request, AllocError>
-    ensures { IfOk result (λ copy. copy ≡ request.now) }
+/// Room for one more entry, a copy of the request for it, and what the caller gets.
+fn set_aside<W: BookName, O: FileObject>(
+    log: &mut Log<W, O>,
+    request: &Request,
+) -> Result<(Request, Spare), AllocError>
+    ensures book { log.new.book ≡ log.old.book }
+    ensures room { OnOk result (length log.old.book.entries + last_entries (state_of log.old.book) log.old.book.entries + 1 ≤ log.new.room) }
+    ensures copy { IfOk result (λ r. r.0 ≡ request.now) }
+    ensures spare { IfOk result (λ r. r.1 ≡ request.now) }
 {
-    request.clone()
+    log.reserve()?;
+    let spare = Spare::for_call(log.allocator(), request)?;
+    Ok((copy_of(request)?, spare))
 }
 
-/// Whether it is the end of the layer.
-fn is_off(request: &Request) -> bool
-    ensures { result ≡ is_off request.now }
+/// A share of one part for each of so many processes.
+#[tactic(auto, using(crate::proofs::Accounts::fresh_more))]
+fn cut<W: BookName>(
+    alloc: Global,
+    rest: &mut ledger::Share<W>,
+    count: usize,
+) -> Result<Vec<Share<W>>, AllocError>
+    requires few { count ≤ process_limit }
+    requires parts { rest.old.parts ≡ 1024 }
+    requires amount { rest.old.amount ≡ 0 }
+    ensures shares { IfOk result (λ v. v.items ≡ fresh count) }
+    ensures parts { OnOk result (rest.new.parts + count ≡ 1024) }
+    ensures amount { OnOk result (rest.new.amount ≡ 0) }
 {
-    matches!(request, Request::Off)
-}
-
-/// The numbers of file objects.
-fn numbers_of<O: FileObject>(retired: &[Retired<O>]) -> Released
-    requires { length retired.now ≤ object_limit }
-    ensures { result ≡ map (λ r. r.0) retired.now }
-{
-    let mut numbers = Released::new();
-    for object in retired {
-        numbers.push(object.number());
+    let mut shares = Vec::new(alloc);
+    for pid in 1..count as u32 + 1 {
+        let part = rest.split_off(1, 0);
+        let pid = Pid(pid);
+        shares.push(Share { pid, k: 0, part })?;
     }
-    numbers
+    Ok(shares)
 }
 
-/// One 0 for each of so many.
-fn zeros(alloc: Global, count: usize) -> Result<Vec<u64>, AllocError>
-    ensures { IfOk result (λ v. v.items ≡ replicate count 0) }
+/// Merges the parts of spent shares into one.
+fn merge_all<W: BookName>(all: &mut ledger::Share<W>, mut spents: Vec<Spent<W>>)
+    ensures parts { all.new.parts ≡ all.old.parts + length spents.items }
+    ensures amount { all.new.amount ≡ all.old.amount + sum_by (λ c. c.k) spents.items }
 {
-    Ok(vec![in alloc; 0u64; count]?)
+    while let Some(spent) = spents.pop() {
+        let Spent { share } = spent;
+        let Share { pid: _, k: _, part } = share;
+        all.merge(part);
+    }
 }

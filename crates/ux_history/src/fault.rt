@@ -1,4 +1,4 @@
-//! Why a call was no entry.
+//! Why something was refused.
 use thiserror::Error;
 
 /// An allocation was refused.
@@ -9,10 +9,32 @@ pub struct NoMemory;
 /// Why a call was no entry.
 #[derive(Clone, Copy, Debug, PartialEq, Eq, Error)]
 pub enum CallFault {
-    /// The process isn't a live one that has made so many calls.
+    /// The share isn't that of a live process which has made so many calls.
     #[error("not the next call of a live process")]
     Stranger,
     /// An allocation was refused.
     #[error("out of memory")]
     NoMemory,
+}
+
+/// Why the layer can't be ended.
+#[derive(Clone, Copy, Debug, PartialEq, Eq, Error)]
+pub enum OffFault {
+    /// A process hasn't exited.
+    #[error("a process hasn't exited")]
+    Alive,
+    /// It was ended before.
+    #[error("ended before")]
+    Given,
+}
+
+/// Why accounts don't settle.
+#[derive(Clone, Copy, Debug, PartialEq, Eq, Error)]
+pub enum SettleFault {
+    /// A process has no spent share among them, or several.
+    #[error("a process's share is missing or doubled")]
+    Missing,
+    /// A count isn't the number of its process's entries.
+    #[error("a share has counted other than the entries")]
+    Miscounted,
 }

@@ -1,13 +1,22 @@
-use crate::{Book, CallFault};
+ghost use Rattle.std.specs.Prelude.{◌≡◌, [], false, length};
+ghost use Rattle.ux_model.specs.Boot.{IsBootState};
+ghost use Rattle.ux_history.specs.Books.{is_last};
+
+use crate::{
+    Account, Book, BookName, CallFault, OffFault, PARTS, Recorded, SettleFault, Share, Spent,
+    settle_accounts,
+};
 use bstr::BString;
+use hoard::Hoard;
 use std::alloc::{AllocError, Global};
+use std::marker::Brand;
 use std::process::Abort;
+use std::sync::ledger::Blank;
 use std::test::Fail;
 use ux_kernel::Kernel;
-use ux_object::FileObject;
 use ux_objects::Counter;
 use ux_state::RetiredList;
-use ux_types::{Errno, Fd, Mode, Name, OpenFlags, Pid, ProcSpec, Reply, Request, SockType};
+use ux_types::{Errno, Fd, MsgFlags, Name, OpenFlags, Pid, ProcSpec, Reply, Request, SockType};
 
 const ONE: [ProcSpec; 1] = [ProcSpec {
     uid: 1000,
@@ -21,155 +30,309 @@ const PAIR: Request = Request::SocketPair {
     flags: OpenFlags(0),
 };
 
-/// A path of these bytes.
-fn named(alloc: Global, path: &[u8]) -> Result<Name, AllocError> {
-    Ok(Name::new(BString::new(Vec::from_slice(alloc, path)?)))
+/// A receive of one byte by the number 0.
+const fn receive(flags: MsgFlags) -> Request
+    ensures { is_last result ≡ false }
+{
+    Request::RecvMsg {
+        fd: Fd(0),
+        n: 1,
+        space: 0,
+        flags,
+    }
 }
 
-/// A book, and a list for what its calls let go of.
+/// A book, whose drop is proved once.
+struct Kept<W: BookName> {
+    book: Book<W, Counter>,
+}
+
+impl<W: BookName> Drop for Kept<W> {
+    fn drop(self) {
+        let Self { book } = self;
+        drop(book)
+    }
+}
+
+/// A book of one process and its share, and a list for the file objects that go.
 #[derive(Drop)]
-struct Shelf {
-    book: Book<Counter>,
+struct Shelf<W: BookName> {
+    kept: Kept<W>,
+    share: Share<W>,
     retired: RetiredList<Counter>,
 }
 
-/// A book of one process and these file objects.
-fn book_of(alloc: Global, objects: Vec<(Name, Counter)>) -> Result<Shelf, Fail> {
+/// A shelf at the start of a kernel.
+fn make_shelf<W: BookName>(
+    alloc: Global,
+    blank: Blank,
+    kernel: Kernel<Counter>,
+) -> Result<Shelf<W>, AllocError>
+    requires name { blank.name ≡ W.name }
+    requires parts { (blank.parts ≡ W.parts) × (blank.parts ≡ 1024) }
+    requires boots { IsBootState kernel }
+    requires named { kernel ≡ W.boot }
+{
     let retired = RetiredList::new(alloc)?;
-    let Ok(kernel) = Kernel::boot(alloc, objects, &ONE) else {
-        return Err(Fail::from("no kernel"));
+    let Ok((book, mut shares)) = Book::new(alloc, blank, kernel) else {
+        return Err(AllocError);
     };
-    match Book::new(alloc, kernel) {
-        Ok(book) => Ok(Shelf { book, retired }),
-        Err(_) => Err(Fail::from("no book")),
+    let kept = Kept { book };
+    match shares.pop() {
+        Some(share) => Ok(Shelf {
+            kept,
+            share,
+            retired,
+        }),
+        None => Err(AllocError),
     }
 }
 
-/// Whether this call makes entry `number`, and so many file objects go with it, all closed.
-fn is_entry(
-    shelf: &mut Shelf,
-    pid: u32,
-    k: u64,
+/// What is answered to a call, which makes the entry with this number.
+fn answer_of<W: BookName>(
+    rt: &impl Abort,
+    shelf: &mut Shelf<W>,
     request: Request,
     number: usize,
-    gone: usize,
-) -> bool {
+) -> Reply
+    requires { is_last request ≡ false }
+{
     shelf.retired.clear();
-    shelf.book.record(Pid(pid), k, &request, &mut shelf.retired) == Ok(number)
-        && shelf.retired.len() == gone
-        && shelf
-            .retired
-            .as_slice()
-            .iter()
-            .all(|o| !o.object().is_open())
+    let made = shelf
+        .kept
+        .book
+        .record(&mut shelf.share, &request, &mut shelf.retired);
+    drop(request);
+    let Ok(Recorded { reply, receipt }) = made else {
+        panic!(rt; "no entry");
+    };
+    let stands = receipt.number() == number && shelf.kept.book.holds(&receipt);
+    drop(receipt);
+    assert!(rt; stands);
+    reply
 }
 
-/// Whether the book refuses this call as a stranger's.
-fn is_stranger(shelf: &mut Shelf, pid: u32, k: u64, request: Request) -> bool {
+/// Whether a call is tried and would have to wait.
+fn would_wait<W: BookName>(shelf: &mut Shelf<W>, request: Request) -> bool
+    requires { is_last request ≡ false }
+{
     shelf.retired.clear();
-    shelf.book.record(Pid(pid), k, &request, &mut shelf.retired) == Err(CallFault::Stranger)
-}
-
-/// Whether the layer may be ended by the call with this count.
-fn may_end(shelf: &Shelf, k: u64) -> bool {
-    shelf.book.may_call(Pid(0), k, &Request::Off)
-}
-
-/// Sees which reply an entry has.
-fn expect_reply(rt: &impl Abort, shelf: &Shelf, number: usize, reply: Reply) {
-    match shelf.book.entries().get(number) {
-        Some(entry) => assert_eq!(rt; entry.reply, reply),
-        None => assert!(rt; false),
+    let tried = shelf
+        .kept
+        .book
+        .try_record(&mut shelf.share, &request, &mut shelf.retired);
+    drop(request);
+    match tried {
+        Ok(Some(recorded)) => {
+            drop(recorded);
+            false
+        }
+        Ok(None) => true,
+        Err(_) => false,
     }
 }
 
-/// Sees which request an entry has.
-fn expect_request(rt: &impl Abort, shelf: &Shelf, number: usize, request: Request) {
-    match shelf.book.entries().get(number) {
-        Some(entry) => assert_eq!(rt; entry.request, request),
-        None => assert!(rt; false),
+/// Whether a call lacks memory.
+fn lacks_memory<W: BookName>(shelf: &mut Shelf<W>, request: Request) -> bool
+    requires { is_last request ≡ false }
+{
+    shelf.retired.clear();
+    let made = shelf
+        .kept
+        .book
+        .record(&mut shelf.share, &request, &mut shelf.retired);
+    drop(request);
+    match made {
+        Ok(recorded) => {
+            drop(recorded);
+            false
+        }
+        Err(fault) => fault == CallFault::NoMemory,
     }
 }
 
 #[test]
 fn each_call_is_one_entry(rt: HostRuntime) -> Result<(), Fail> {
     let alloc = rt.alloc();
-    let mut shelf = book_of(alloc, Vec::new(alloc))?;
-    let b = &mut shelf;
-    assert!(rt; is_entry(b, 1, 0, PAIR, 0, 0));
-    assert!(rt; is_entry(b, 1, 1, Request::Close { fd: Fd(7) }, 1, 0));
-    assert!(rt; b.book.is_live(Pid(1)));
-    assert_eq!(rt; b.book.calls_of(Pid(1)), 2);
-    assert!(rt; is_entry(b, 1, 2, Request::Exit, 2, 0));
-    assert!(rt; !b.book.is_live(Pid(1)));
-    expect_reply(&rt, &shelf, 0, Reply::Fds(Fd(0), Fd(1)));
-    expect_reply(&rt, &shelf, 1, Reply::Err(Errno::EBADF));
-    expect_request(&rt, &shelf, 1, Request::Close { fd: Fd(7) });
-    let entries = shelf.book.into_entries();
-    assert_eq!(rt; entries.len(), 3);
-    assert_eq!(rt; entries[2].k, 2);
+    let Ok(kernel) = Kernel::boot(alloc, Vec::new(alloc), &ONE) else {
+        return Err(Fail::from("no kernel"));
+    };
+    make_calls::<Brand>(&rt, alloc, Blank::new(PARTS), kernel)?;
+    Ok(())
+}
+
+fn make_calls<W: BookName>(
+    rt: &impl Abort,
+    alloc: Global,
+    blank: Blank,
+    kernel: Kernel<Counter>,
+) -> Result<(), AllocError>
+    requires name { blank.name ≡ W.name }
+    requires parts { (blank.parts ≡ W.parts) × (blank.parts ≡ 1024) }
+    requires boots { IsBootState kernel }
+    requires named { kernel ≡ W.boot }
+{
+    let mut shelf = make_shelf::<W>(alloc, blank, kernel)?;
+    let s = &mut shelf;
+    let reply = answer_of(rt, s, PAIR, 0);
+    assert_eq!(rt; reply, Reply::Fds(Fd(0), Fd(1)));
+    drop(reply);
+    let reply = answer_of(rt, s, Request::Close { fd: Fd(7) }, 1);
+    assert_eq!(rt; reply, Reply::Err(Errno::EBADF));
+    drop(reply);
+    assert_eq!(rt; s.share.pid(), Pid(1));
+    assert_eq!(rt; s.share.calls(), 2);
+    assert_eq!(rt; s.kept.book.calls_of(Pid(1)), 2);
+    assert_eq!(rt; s.kept.book.entries().len(), 2);
     Ok(())
 }
 
 #[test]
-fn a_stranger_is_told_and_leaves_no_entry(rt: HostRuntime) -> Result<(), Fail> {
+fn a_call_that_would_wait_leaves_no_entry(rt: HostRuntime) -> Result<(), Fail> {
     let alloc = rt.alloc();
-    let mut shelf = book_of(alloc, Vec::new(alloc))?;
-    let b = &mut shelf;
-    assert!(rt; is_stranger(b, 0, 0, PAIR));
-    assert!(rt; is_stranger(b, 2, 0, PAIR));
-    assert!(rt; is_stranger(b, 1, 1, PAIR));
-    assert!(rt; is_entry(b, 1, 0, Request::Exit, 0, 0));
-    assert!(rt; is_stranger(b, 1, 1, Request::Exit));
-    assert_eq!(rt; shelf.book.entries().len(), 1);
+    let Ok(kernel) = Kernel::boot(alloc, Vec::new(alloc), &ONE) else {
+        return Err(Fail::from("no kernel"));
+    };
+    try_calls::<Brand>(&rt, alloc, Blank::new(PARTS), kernel)?;
+    Ok(())
+}
+
+fn try_calls<W: BookName>(
+    rt: &impl Abort,
+    alloc: Global,
+    blank: Blank,
+    kernel: Kernel<Counter>,
+) -> Result<(), AllocError>
+    requires name { blank.name ≡ W.name }
+    requires parts { (blank.parts ≡ W.parts) × (blank.parts ≡ 1024) }
+    requires boots { IsBootState kernel }
+    requires named { kernel ≡ W.boot }
+{
+    let mut shelf = make_shelf::<W>(alloc, blank, kernel)?;
+    let s = &mut shelf;
+    let reply = answer_of(rt, s, PAIR, 0);
+    assert_eq!(rt; reply, Reply::Fds(Fd(0), Fd(1)));
+    drop(reply);
+    assert!(rt; would_wait(s, receive(MsgFlags(0))));
+    assert_eq!(rt; s.share.calls(), 1);
+    assert_eq!(rt; s.kept.book.entries().len(), 1);
+    assert!(rt; !would_wait(s, receive(MsgFlags::DONTWAIT)));
+    assert_eq!(rt; s.kept.book.entries().len(), 2);
+    let reply = answer_of(rt, s, receive(MsgFlags(0)), 2);
+    assert_eq!(rt; reply, Reply::Err(Errno::EAGAIN));
+    drop(reply);
     Ok(())
 }
 
 #[test]
-fn the_end_comes_once_and_releases_all(rt: HostRuntime) -> Result<(), Fail> {
+fn the_end_comes_once_and_accounts_settle(rt: HostRuntime) -> Result<(), Fail> {
     let alloc = rt.alloc();
     let mut objects = Vec::new(alloc);
-    objects.push((named(alloc, b"c")?, Counter::new()))?;
-    let mut shelf = book_of(alloc, objects)?;
-    let b = &mut shelf;
-    assert!(rt; !may_end(b, 0));
-    assert!(rt; is_stranger(b, 0, 0, Request::Off));
-    assert!(rt; is_stranger(b, 1, 0, Request::Off));
-    assert!(rt; is_entry(b, 1, 0, Request::Exit, 0, 0));
-    assert!(rt; is_stranger(b, 0, 1, Request::Off));
-    assert!(rt; may_end(b, 0));
-    assert!(rt; is_entry(b, 0, 0, Request::Off, 1, 1));
-    assert!(rt; is_stranger(b, 0, 0, Request::Off));
-    assert!(rt; is_stranger(b, 0, 1, Request::Off));
-    let entries = shelf.book.entries();
-    assert_eq!(rt; entries.len(), 2);
-    assert!(rt; entries[0].released.as_slice().is_empty());
-    assert_eq!(rt; entries[1].released.as_slice(), [0].as_slice());
+    let path = Name::new(BString::new(Vec::from_slice(alloc, b"c")?));
+    objects.push((path, Counter::new()))?;
+    let Ok(kernel) = Kernel::boot(alloc, objects, &ONE) else {
+        return Err(Fail::from("no kernel"));
+    };
+    settle::<Brand>(&rt, alloc, Blank::new(PARTS), kernel)?;
+    Ok(())
+}
+
+fn settle<W: BookName>(
+    rt: &impl Abort,
+    alloc: Global,
+    blank: Blank,
+    kernel: Kernel<Counter>,
+) -> Result<(), AllocError>
+    requires name { blank.name ≡ W.name }
+    requires parts { (blank.parts ≡ W.parts) × (blank.parts ≡ 1024) }
+    requires boots { IsBootState kernel }
+    requires named { kernel ≡ W.boot }
+{
+    let Shelf {
+        mut kept,
+        share,
+        mut retired,
+    } = make_shelf::<W>(alloc, blank, kernel)?;
+    let spent = end_book(rt, &mut kept.book, share, &mut retired, 1)?;
+    drop(retired);
+    settle_book(rt, alloc, &mut kept.book, spent)
+}
+
+/// Ends the one process and then the layer, neither too early nor twice, which closes so many file objects.
+fn end_book<W: BookName>(
+    rt: &impl Abort,
+    book: &mut Book<W, Counter>,
+    share: Share<W>,
+    retired: &mut RetiredList<Counter>,
+    objects: usize,
+) -> Result<Spent<W>, AllocError> {
+    retired.clear();
+    assert_eq!(rt; book.off(retired), Err(OffFault::Alive));
+    let Ok(spent) = book.exit(share, retired) else {
+        return Err(AllocError);
+    };
+    assert_eq!(rt; spent.calls(), 1);
+    retired.clear();
+    assert_eq!(rt; book.off(retired), Ok(()));
+    assert_eq!(rt; retired.len(), objects);
+    retired.clear();
+    assert_eq!(rt; book.off(retired), Err(OffFault::Given));
+    Ok(spent)
+}
+
+/// Settles accounts, without a share and with it.
+fn settle_book<W: BookName>(
+    rt: &impl Abort,
+    alloc: Global,
+    book: &mut Book<W, Counter>,
+    spent: Spent<W>,
+) -> Result<(), AllocError> {
+    let Err((SettleFault::Missing, mut spents)) = settle_accounts(book, Vec::new(alloc)) else {
+        return Err(AllocError);
+    };
+    spents.push(spent)?;
+    let Ok(account) = settle_accounts(book, spents) else {
+        return Err(AllocError);
+    };
+    let entries = 2;
+    let ended = true;
+    assert_eq!(rt; account, Account { entries, ended });
     Ok(())
 }
 
 #[test]
-fn an_object_goes_with_its_last_descriptor(rt: HostRuntime) -> Result<(), Fail> {
+fn an_exit_and_the_end_need_no_memory(rt: HostRuntime) -> Result<(), Fail> {
     let alloc = rt.alloc();
-    let mut objects = Vec::new(alloc);
-    objects.push((named(alloc, b"c")?, Counter::new()))?;
-    let mut shelf = book_of(alloc, objects)?;
-    let b = &mut shelf;
-    let open = Request::Open {
-        path: named(alloc, b"c")?,
-        mode: Mode::Both,
-        flags: OpenFlags(0),
+    let Ok(kernel) = Kernel::boot(alloc, Vec::new(alloc), &ONE) else {
+        return Err(Fail::from("no kernel"));
     };
-    assert!(rt; is_entry(b, 1, 0, open, 0, 0));
-    let unlink = Request::Unlink {
-        path: named(alloc, b"c")?,
-    };
-    assert!(rt; is_entry(b, 1, 1, unlink, 1, 0));
-    assert!(rt; is_entry(b, 1, 2, Request::Close { fd: Fd(0) }, 2, 1));
-    expect_reply(&rt, &shelf, 0, Reply::Fd(Fd(0)));
-    let entries = shelf.book.entries();
-    assert_eq!(rt; entries.len(), 3);
-    assert!(rt; entries[1].released.as_slice().is_empty());
-    assert_eq!(rt; entries[2].released.as_slice(), [0].as_slice());
+    end_without_memory::<Brand>(&rt, alloc, Blank::new(PARTS), kernel)?;
+    Ok(())
+}
+
+fn end_without_memory<W: BookName>(
+    rt: &impl Abort,
+    alloc: Global,
+    blank: Blank,
+    kernel: Kernel<Counter>,
+) -> Result<(), AllocError>
+    requires name { blank.name ≡ W.name }
+    requires parts { (blank.parts ≡ W.parts) × (blank.parts ≡ 1024) }
+    requires boots { IsBootState kernel }
+    requires named { kernel ≡ W.boot }
+{
+    let mut shelf = make_shelf::<W>(alloc, blank, kernel)?;
+    let hoard = Hoard::take_all(alloc)?;
+    assert!(rt; lacks_memory(&mut shelf, receive(MsgFlags(0))));
+    let Shelf {
+        mut kept,
+        share,
+        mut retired,
+    } = shelf;
+    assert_eq!(rt; kept.book.entries().len(), 0);
+    let spent = end_book(rt, &mut kept.book, share, &mut retired, 0)?;
+    drop(spent);
+    drop(hoard);
+    assert_eq!(rt; kept.book.entries().len(), 2);
     Ok(())
 }

@@ -1,5 +1,5 @@
 use Rattle.std.proofs.Common.{◌≡◌, ℕ, map, take}
-use Rattle.ux_history.proofs.book.numbers_of.Given as goal
+use Rattle.ux_history.proofs.log.numbers_of.Given as goal
 
 -- the numbers of those before
 abbrev pub invariant-loop-object : goal.invariant-loop-object

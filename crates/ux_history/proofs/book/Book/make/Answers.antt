@@ -1,0 +1,35 @@
+use Rattle.std.proofs.Common.{◌≡◌, true, map, ap, sym, ◌∙◌}
+use Rattle.std.proofs.lemmas.Bool.{false≢true}
+use Rattle.ux_model.specs.Waiting.{may_wait}
+use Rattle.ux_history.specs.Books.{state_of}
+use Rattle.ux_history.specs.Shares.{Caller}
+use Rattle.ux_history.proofs.Slips.{Answered, answered}
+use Rattle.ux_history.proofs.book.Book.make.Given.{Over}
+use Rattle.ux_history.proofs.book.Book.make.Goals as goal
+use Rattle.ux_history.proofs.book.Book.make.Goals.{then-tried, else-tried}
+
+made_here : (g : Over) (c : goal.After-share-1 g) → Answered g.W.BookName.boot c.args.self.now c.append.new.self.book c.args.share.now c.args.request.now c.args.tried c.in-Some.number c.answer-reply.result.0 c.answer-reply.result.1 (map (λ o. o.0) c.append.new.retired)
+made_here g c =
+    let log = c.set_aside.new.log.book in
+    let waits : c.args.tried ≡ true → c.if-tried.waits ≡ may_wait (state_of log) c.share.inside.pid.0 c.args.request.now = elim c.if-tried.branch [
+      | then-tried w ↦ λ t. w.waits-is ∙ w.waits-waits.ensures
+      | else-tried w ↦ λ t. absurd (false≢true (sym w.if-tried.false ∙ t))
+    ] in
+    answered g.W.BookName.boot log c.args.self.now c.append.new.self.book c.args.share.now c.share.inside.pid c.share.inside.k c.in-Ok.copy c.args.request.now c.if-tried.waits c.args.tried c.in-Some.number
+    c.answer-reply.result.0 c.answer-reply.result.1 (map (λ o. o.0) c.append.new.retired)
+    (c.in-Ok.ensures.book ∙ c.self.view_is)
+    (ap Caller.pid c.share.view_is)
+    (c.share.invariant.0 ∙ ap Caller.k c.share.view_is)
+    c.in-Ok.ensures.copy c.in-Some.ensures.entry c.in-Some.ensures.number c.answer-reply.ensures.answer waits c.answer-reply.ensures.boot c.answer-reply.ensures.legal
+
+pub invariant_of-receipt : goal.invariant_of-receipt
+invariant_of-receipt g c = (made_here g c).slip
+
+pub returns-clause-entry : goal.returns-clause-entry
+returns-clause-entry g c = (made_here g c).adds
+
+pub returns-clause-done : goal.returns-clause-done
+returns-clause-done g c = (made_here g c).done
+
+pub returns-clause-receipt : goal.returns-clause-receipt
+returns-clause-receipt g c = (made_here g c).receipt

@@ -1,0 +1,80 @@
+//! What the shares of all processes counted, against the entries.
+ghost use Rattle.std.specs.Prelude.{◌≡◌, ◌+◌, ◌-◌, ◌<◌, ◌≤◌, true, false, not, length, sum_by, IfOk, IfErr, if◌then◌else◌};
+ghost use Rattle.ux_model.specs.Limits.{process_limit};
+ghost use Rattle.ux_history.specs.Books.{ends_of};
+ghost use Rattle.ux_history.specs.Shares.{processes, times, once_each, all_counted};
+ghost use Rattle.ux_history.specs.Faults.{is_missing};
+
+use crate::book::Book;
+use crate::fault::SettleFault;
+use crate::naming::BookName;
+use crate::shares::Spent;
+use ux_object::FileObject;
+use ux_types::Pid;
+
+/// A book whose processes have all exited, with as many calls as their shares counted.
+#[derive(Clone, Copy, Debug, PartialEq, Eq)]
+pub struct Account {
+    /// How many entries it has.
+    pub entries: usize,
+    /// Whether the layer was ended.
+    pub ended: bool,
+}
+
+/// Compares the shares of all processes, which have exited, with the entries: there are then as many as the
+/// shares counted, and one for the end of the layer where that was made.
+///
+/// # Errors
+///
+/// `Missing` where not each process of the book has exactly one share among them, else `Miscounted` where
+/// a share's count isn't the number of its process's entries. The shares come back.
+pub fn settle_accounts<W: BookName, O: FileObject>(
+    book: &mut Book<W, O>,
+    spents: Vec<Spent<W>>,
+) -> Result<Account, (SettleFault, Vec<Spent<W>>)>
+    ensures book { book.new ≡ book.old }
+    ensures once { IfOk result (λ a. once_each (processes book.old) spents.items ≡ true) }
+    ensures missing { IfErr result (λ f. is_missing f.0 ≡ not (once_each (processes book.old) spents.items)) }
+    ensures counted { IfOk result (λ a. all_counted book.old.entries spents.items ≡ true) }
+    ensures miscounted { IfErr result (λ f. is_missing f.0 ≡ false → all_counted book.old.entries spents.items ≡ false) }
+    ensures sum { IfOk result (λ a. a.entries ≡ sum_by (λ c. c.k) spents.items + (if a.ended then 1 else 0)) }
+    ensures entries { IfOk result (λ a. a.entries ≡ length book.old.entries) }
+    ensures ended { IfOk result (λ a. (if a.ended then 1 else 0) ≡ ends_of book.old.entries) }
+    ensures back { IfErr result (λ f. f.1.items ≡ spents.items) }
+{
+    if !is_each_once(spents.as_slice(), book.process_count()) {
+        return Err((SettleFault::Missing, spents));
+    }
+    if !are_counted(book, spents.as_slice()) {
+        return Err((SettleFault::Miscounted, spents));
+    }
+    Ok(book.audit(spents))
+}
+
+/// Whether each of the processes 1 to `count` is among them once.
+fn is_each_once<W: BookName>(spents: &[Spent<W>], count: usize) -> bool
+    requires { count ≤ process_limit }
+    ensures { result ≡ once_each count spents.now }
+{
+    let mut once = true;
+    for pid in 1..count as u32 + 1 {
+        once = once && count_of(spents, Pid(pid)) == 1;
+    }
+    once
+}
+
+/// How many of them are this process's.
+fn count_of<W: BookName>(spents: &[Spent<W>], pid: Pid) -> usize
+    ensures { result ≡ times pid.0 spents.now }
+{
+    spents.iter().filter(|spent| spent.pid() == pid).count()
+}
+
+/// Whether each of them has counted its process's entries.
+fn are_counted<W: BookName, O: FileObject>(book: &Book<W, O>, spents: &[Spent<W>]) -> bool
+    ensures { result ≡ all_counted book.now.entries spents.now }
+{
+    spents
+        .iter()
+        .all(|spent| book.calls_of(spent.pid()) == spent.calls())
+}

@@ -1,0 +1,113 @@
+//! What a caller keeps of its call.
+ghost use Rattle.std.specs.Prelude.{◌≡◌, ◌↔◌, IsTrue};
+ghost use Rattle.ux_history.specs.Receipts.{call_of};
+
+use crate::naming::BookName;
+use std::marker::{Model, PhantomData};
+use ux_types::{Entry, Pid, Reply, Request};
+
+/// A call and its answer.
+#[derive(Debug)]
+pub struct Call {
+    /// The process that called.
+    pub pid: Pid,
+    /// Which of its calls this is, counted from 0.
+    pub k: u64,
+    /// What it asked for.
+    pub request: Request,
+    /// What it was answered.
+    pub reply: Reply,
+}
+
+impl Drop for Call {
+    fn drop(self) {
+        let Self {
+            pid: _,
+            k: _,
+            request,
+            reply,
+        } = self;
+        drop(request);
+        drop(reply)
+    }
+}
+
+impl Call {
+    /// Whether this is the call of an entry.
+    pub fn is_of(&self, entry: &Entry) -> bool
+        ensures { IsTrue result ↔ (call_of entry.now ≡ self.now) }
+    {
+        entry.pid == self.pid
+            && entry.k == self.k
+            && is_same_request(&entry.request, &self.request)
+            && is_same_reply(&entry.reply, &self.reply)
+    }
+}
+
+/// Whether they are the same.
+#[tactic(auto, using(crate::proofs::SameRequests::same_request))]
+fn is_same_request(one: &Request, other: &Request) -> bool
+    ensures { IsTrue result ↔ (one.now ≡ other.now) }
+{
+    one == other
+}
+
+/// Whether they are the same.
+fn is_same_reply(one: &Reply, other: &Reply) -> bool
+    ensures { IsTrue result ↔ (one.now ≡ other.now) }
+{
+    one == other
+}
+
+/// What a call left in a history. Its type says that some legal history from the book's boot state has the
+/// call at this number, and where `try_record` gave it, that it isn't one that should have waited. Contracts
+/// see the number, the call, and whether `try_record` gave it.
+#[derive(Drop)]
+pub struct Receipt<W: BookName> {
+    pub(crate) number: usize,
+    pub(crate) call: Call,
+    pub(crate) tried: bool,
+    pub(crate) of: PhantomData<W>,
+}
+
+impl<W: BookName> Model for Receipt<W> {
+    ghost use Rattle.ux_history.specs.Receipts.{Slip, IsSlip};
+
+    ghost Value = { Slip };
+
+    ghost view = { λ r. record { number = r.number; call = r.call; tried = r.tried } };
+
+    ghost invariant = { λ r. IsSlip W.boot (record { number = r.number; call = r.call; tried = r.tried }) };
+}
+
+impl<W: BookName> Receipt<W> {
+    /// The number of the entry.
+    pub fn number(&self) -> usize
+        ensures { result ≡ self.now.number }
+    {
+        self.number
+    }
+
+    /// The call.
+    pub fn call(&self) -> &Call
+        ensures { result.now ≡ self.now.call }
+    {
+        &self.call
+    }
+
+    /// Whether `try_record` gave it.
+    pub fn is_tried(&self) -> bool
+        ensures { result ≡ self.now.tried }
+    {
+        self.tried
+    }
+}
+
+/// A call that was made: its answer, and its receipt.
+#[derive(Drop)]
+pub struct Recorded<W: BookName> {
+    /// The answer.
+    pub reply: Reply,
+    /// What it left in the history.
+    pub receipt: Receipt<W>,
+}
