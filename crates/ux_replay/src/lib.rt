@@ -1,0 +1,9 @@
+//! Makes the calls of a history once more, and tells where the answers differ.
+#![tactic(auto)]
+
+mod check;
+
+pub use check::check_history;
+
+#[cfg(test)]
+mod tests;

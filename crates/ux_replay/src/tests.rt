@@ -1,0 +1,106 @@
+//! A short history that is made once more, as it was, otherwise, and on another kernel.
+use super::*;
+use std::alloc::{AllocError, Global};
+use std::test::Fail;
+use ux_kernel::Kernel;
+use ux_objects::Counter;
+use ux_types::{
+    Bytes, Entry, Errno, Fd, MsgFlags, OpenFlags, Pid, ProcSpec, Released, Reply, Request, SockType,
+};
+
+/// What one process asks for: a pair, one send, and its exit.
+fn history(alloc: Global) -> Result<Vec<Entry>, AllocError> {
+    let pair = Request::SocketPair {
+        kind: SockType::Stream,
+        flags: OpenFlags(0),
+    };
+    let send = Request::SendMsg {
+        fd: Fd(0),
+        addr: None,
+        bytes: Bytes::new(Vec::from_slice(alloc, b"hi")?),
+        control: Bytes::new(Vec::new(alloc)),
+        flags: MsgFlags(0),
+    };
+    let mut entries = Vec::new(alloc);
+    entries.push(entry(0, pair, Reply::Fds(Fd(0), Fd(1))))?;
+    entries.push(entry(1, send, Reply::Count(2)))?;
+    entries.push(entry(2, Request::Exit, Reply::Ok))?;
+    Ok(entries)
+}
+
+/// An entry of the one process, which releases nothing.
+fn entry(k: u64, request: Request, reply: Reply) -> Entry {
+    Entry {
+        pid: Pid(1),
+        k,
+        request,
+        reply,
+        released: Released::new(),
+    }
+}
+
+/// What is found on a kernel of one process that may have so many descriptors.
+fn found(alloc: Global, entries: &[Entry], limit: u32) -> Result<Result<u64, u64>, Fail> {
+    let user = ProcSpec {
+        uid: 1000,
+        gid: 1000,
+        privileged: false,
+        limit,
+    };
+    match Kernel::<Counter>::boot(alloc, Vec::new(alloc), &[user]) {
+        Ok(kernel) => Ok(check_history(alloc, entries, kernel)),
+        Err(_) => Err(Fail::from("no kernel")),
+    }
+}
+
+#[test]
+fn a_history_is_made_once_more(rt: HostRuntime) -> Result<(), Fail> {
+    let entries = history(rt.alloc())?;
+    assert_eq!(rt; found(rt.alloc(), &entries, 16)?, Ok(3));
+    Ok(())
+}
+
+#[test]
+fn a_kernel_with_a_lower_limit_differs_at_the_pair(rt: HostRuntime) -> Result<(), Fail> {
+    let entries = history(rt.alloc())?;
+    assert_eq!(rt; found(rt.alloc(), &entries, 1)?, Err(0));
+    Ok(())
+}
+
+#[test]
+fn another_reply_differs(rt: HostRuntime) -> Result<(), Fail> {
+    let mut entries = history(rt.alloc())?;
+    let send = entries.get_mut(1).ok_or("no send")?;
+    send.reply = Reply::Count(1);
+    assert_eq!(rt; found(rt.alloc(), &entries, 16)?, Err(1));
+    Ok(())
+}
+
+#[test]
+fn other_released_objects_differ(rt: HostRuntime) -> Result<(), Fail> {
+    let mut entries = history(rt.alloc())?;
+    let exit = entries.get_mut(2).ok_or("no exit")?;
+    exit.released = Released::new();
+    exit.released.push(0);
+    assert_eq!(rt; found(rt.alloc(), &entries, 16)?, Err(2));
+    Ok(())
+}
+
+#[test]
+fn a_call_after_the_exit_differs(rt: HostRuntime) -> Result<(), Fail> {
+    let mut entries = history(rt.alloc())?;
+    entries.push(entry(3, Request::Exit, Reply::Ok))?;
+    assert_eq!(rt; found(rt.alloc(), &entries, 16)?, Err(3));
+    Ok(())
+}
+
+#[test]
+fn a_refusal_for_lack_of_memory_is_left_out(rt: HostRuntime) -> Result<(), Fail> {
+    let mut entries = history(rt.alloc())?;
+    let dup = Request::Dup { fd: Fd(0) };
+    let exit = entries.pop().ok_or("no exit")?;
+    entries.push(entry(2, dup, Reply::Err(Errno::ENOMEM)))?;
+    entries.push(exit)?;
+    assert_eq!(rt; found(rt.alloc(), &entries, 16)?, Ok(4));
+    Ok(())
+}
