@@ -5,7 +5,7 @@
 use anyhow::anyhow;
 use std::alloc::{AllocError, Global};
 use std::time::{Duration, Instant};
-use ux_syntax::{Script, entry_text, parse_script};
+use ux_syntax::{Act, Line, Script, entry_text, parse_script};
 use ux_types::{Bytes, Entry, MsgFlags, Released, Reply};
 
 const PROCESSES: usize = 64;
@@ -34,11 +34,15 @@ fn script_text(alloc: Global, calls: usize) -> Result<String, AllocError> {
 fn entries_of(alloc: Global, script: Script) -> Result<Vec<Entry>, AllocError> {
     let mut entries = Vec::new(alloc);
     for (number, line) in script.lines.into_iter().enumerate() {
+        let Line { pid, act } = line;
+        let Act::Call(request) = act else {
+            continue;
+        };
         let bytes = Bytes::new(Vec::from_slice(alloc, b"Hello, world!")?);
         entries.push(Entry {
-            pid: line.pid,
+            pid,
             k: number as u64,
-            request: line.request,
+            request,
             reply: Reply::Received {
                 count: 13,
                 bytes,

@@ -1,5 +1,5 @@
 -- A line that is read is the spelling of what was read, and each spelling is read again.
-use Rattle.std.proofs.Common.{◌≡◌, ℕ, ◌<◌, ◌≤◌, Bool, true, false, cond, ltb, eqb, List, [], ◌∷◌, length, All, Result, Ok, Err, refl, ap, sym, ◌∙◌, subst, arith, Decides, codes}
+use Rattle.std.proofs.Common.{◌≡◌, ℕ, ◌<◌, ◌≤◌, Bool, true, false, cond, ltb, eqb, List, [], ◌∷◌, length, All, Result, Ok, Err, refl, ap, sym, ◌∙◌, subst, arith, codes}
 use Rattle.std.specs.Prelude.{decimal}
 use Rattle.std.specs.List.{AllByRecursion, slice_split, join_with_byte}
 use Rattle.std.specs.Str.{bytes_eq}
@@ -9,16 +9,14 @@ use Rattle.std.proofs.lemmas.List.Splits.{slice_split_at, slice_split_none, join
 use Rattle.std.proofs.lemmas.Slice.Eq.{bytes_eq-Decides}
 use Rattle.ux_syntax.specs.declared.fault.Fault.{Fault}
 use Rattle.ux_syntax.specs.declared.fault.Fault.TheVariants.{BadLine, TooLong}
-use Rattle.ux_model.specs.Types.{Request}
-use Rattle.ux_syntax.specs.declared.calls.CallWord.{CallWord}
+use Rattle.ux_syntax.specs.declared.script.Act.{Act}
 use Rattle.ux_syntax.specs.declared.script.Header.{Header}
 use Rattle.ux_syntax.specs.declared.reading.Item.{Item}
-use Rattle.ux_syntax.specs.Trace.{word_text, request_word}
-use Rattle.ux_syntax.specs.Spelling.{Turn, meaning, line_of, header_words, header_line, turn_words, turn_line, is_meant, IsNumber, FitsTurn, FitsHeader}
-use Rattle.ux_syntax.specs.Reading.{◌>>=◌, number_at, one, ends, proc_at, object_at, word_at, args_at, turn_at, words_at, item_at}
-use Rattle.ux_syntax.proofs.Rows.{IsSolid, solid_from, IsBadOrOk, one_bad, either_bad, bind_bad, bind_ok, done, ok_is, number_kind, ends_row}
+use Rattle.ux_syntax.specs.Spelling.{Turn, line_of, header_words, header_line, turn_words, turn_line, is_meant, IsNumber, FitsTurn, FitsHeader}
+use Rattle.ux_syntax.specs.Reading.{◌>>=◌, number_at, ends, proc_at, object_at, act_at, turn_at, words_at, item_at}
+use Rattle.ux_syntax.proofs.Rows.{IsSolid, solid_from, IsBadOrOk, either_bad, bind_bad, bind_ok, ok_is, number_kind, ends_row}
 use Rattle.ux_syntax.proofs.Numbers.{number_refused}
-use Rattle.ux_syntax.proofs.Args.{args_takes, args_bad, word_bad, args_again, args_solid, word_takes, word_again, word_solid}
+use Rattle.ux_syntax.proofs.Asking.{other_than, act_takes, act_bad, act_again, asked_solid}
 use Rattle.ux_syntax.proofs.HeaderLines.{header_args, proc_takes, proc_bad, proc_again, object_takes, object_bad, object_again, header_solid}
 
 -- ---- words and the line that they make
@@ -51,24 +49,17 @@ off_words = codes "off" ∷ []
 abbrev AreWords : List (List ℕ) → Item → Type 0
 AreWords ws Item.Skipped = ⊥
 AreWords ws (Item.Header h) = (ws ≡ header_words h) × FitsHeader h
-AreWords ws (Item.Call line) = (t : Turn) × (line_of t ≡ line) × (ws ≡ turn_words t) × FitsTurn t
+AreWords ws (Item.Line line) = (t : Turn) × (line_of t ≡ line) × (ws ≡ turn_words t) × FitsTurn t
 AreWords ws Item.Off = ws ≡ off_words
 
 turn_takes : (pid : ℕ) (ws : List (List ℕ)) (item : Item) → IsNumber pid → turn_at pid ws ≡ Ok item → AreWords (decimal pid ∷ ws) item
-turn_takes pid [] item h e = absurd cc
-turn_takes pid (w ∷ args) item h e =
-    let a = bind_ok (one word_at (w ∷ args)) (λ word. args_at word.0 word.1 >>= λ r. Ok (Item.Call (record { pid = record { 0 = pid }; request = r }))) item e in
-    let b = bind_ok (word_at w) (λ word. Ok (word, args)) a.0 a.1 in
-    let c = bind_ok (args_at a.0.0 a.0.1) (λ r. Ok (Item.Call (record { pid = record { 0 = pid }; request = r }))) item a.2 in
-    let same : (b.0, args) ≡ a.0 = ok_is (b.0, args) a.0 b.2 in
-    let word : b.0 ≡ a.0.0 = ap (λ (x : CallWord × List (List ℕ)). x.0) same in
-    let rest : args ≡ a.0.1 = ap (λ (x : CallWord × List (List ℕ)). x.1) same in
-    let p = args_takes a.0.0 a.0.1 c.0 c.1 in
-    let t : Turn = record { pid = pid; call = p.call } in
-    let first : w ≡ word_text (request_word (meaning p.call)) = word_takes w b.0 b.1 ∙ ap word_text (word ∙ sym p.names) in
-    let line : line_of t ≡ record { pid = record { 0 = pid }; request = c.0 } = ap (λ (r : Request). record { pid = record { 0 = pid }; request = r }) p.means in
-    subst (λ (y : Item). AreWords (decimal pid ∷ w ∷ args) y) (ok_is (Item.Call (record { pid = record { 0 = pid }; request = c.0 })) item c.2)
-    (t, line, ap (λ (x : List ℕ). decimal pid ∷ x ∷ args) first ∙ ap (λ (xs : List (List ℕ)). decimal pid ∷ word_text (request_word (meaning p.call)) ∷ xs) (rest ∙ p.args), (h, p.fits))
+turn_takes pid ws item h e =
+    let a = bind_ok (act_at ws) (λ act. Ok (Item.Line (record { pid = record { 0 = pid }; act = act }))) item e in
+    let p = act_takes ws a.0 a.1 in
+    let t : Turn = record { pid = pid; asked = p.0 } in
+    let line : line_of t ≡ record { pid = record { 0 = pid }; act = a.0 } = ap (λ (act : Act). record { pid = record { 0 = pid }; act = act }) p.1 in
+    subst (λ (y : Item). AreWords (decimal pid ∷ ws) y) (ok_is (Item.Line (record { pid = record { 0 = pid }; act = a.0 })) item a.2)
+    (t, line, ap (λ (xs : List (List ℕ)). decimal pid ∷ xs) p.2, (h, p.3))
 
 -- ---- a first word that names the kind of line
 
@@ -81,8 +72,8 @@ object_item ws = object_at ws >>= λ o. Ok (Item.Header (Header.Object o))
 abbrev off_item : List (List ℕ) → Result Item Fault
 off_item ws = ends ws >>= λ x. Ok Item.Off
 
-abbrev call_item : List ℕ → List (List ℕ) → Result Item Fault
-call_item w ws = number_at w >>= λ pid. turn_at pid ws
+abbrev turn_item : List ℕ → List (List ℕ) → Result Item Fault
+turn_item w ws = number_at w >>= λ pid. turn_at pid ws
 
 proc_item_takes : (w : List ℕ) (ws : List (List ℕ)) (item : Item) → w ≡ codes "proc" → proc_item ws ≡ Ok item → AreWords (w ∷ ws) item
 proc_item_takes w ws item d e =
@@ -105,18 +96,18 @@ off_item_takes w ws item d e =
     subst (λ (y : Item). AreWords (w ∷ ws) y) (ok_is Item.Off item a.2)
     (ap (λ (x : List ℕ). x ∷ ws) d ∙ ap (λ (xs : List (List ℕ)). codes "off" ∷ xs) p.0)
 
-call_item_takes : (w : List ℕ) (ws : List (List ℕ)) (item : Item) → call_item w ws ≡ Ok item → AreWords (w ∷ ws) item
-call_item_takes w ws item e =
+turn_item_takes : (w : List ℕ) (ws : List (List ℕ)) (item : Item) → turn_item w ws ≡ Ok item → AreWords (w ∷ ws) item
+turn_item_takes w ws item e =
     let a = bind_ok (number_at w) (λ pid. turn_at pid ws) item e in
     let n = number_kind.takes w a.0 a.1 in
     subst (λ (x : List ℕ). AreWords (x ∷ ws) item) (sym n.0) (turn_takes a.0 ws item n.1 a.2)
 
 words_chosen : (w : List ℕ) (ws : List (List ℕ)) (item : Item) (t u v : Bool) → (t ≡ true → w ≡ codes "proc") → (u ≡ true → w ≡ codes "object") → (v ≡ true → w ≡ codes "off")
-    → cond t (proc_item ws) (cond u (object_item ws) (cond v (off_item ws) (call_item w ws))) ≡ Ok item → AreWords (w ∷ ws) item
+    → cond t (proc_item ws) (cond u (object_item ws) (cond v (off_item ws) (turn_item w ws))) ≡ Ok item → AreWords (w ∷ ws) item
 words_chosen w ws item true u v d f g e = proc_item_takes w ws item (d refl) e
 words_chosen w ws item false true v d f g e = object_item_takes w ws item (f refl) e
 words_chosen w ws item false false true d f g e = off_item_takes w ws item (g refl) e
-words_chosen w ws item false false false d f g e = call_item_takes w ws item e
+words_chosen w ws item false false false d f g e = turn_item_takes w ws item e
 
 words_takes : (ws : List (List ℕ)) (item : Item) → words_at ws ≡ Ok item → AreWords ws item
 unfolding words_at
@@ -125,24 +116,14 @@ words_takes (w ∷ ws) item e = words_chosen w ws item (bytes_eq w (codes "proc"
     (bytes_eq-Decides w (codes "proc")).0 (bytes_eq-Decides w (codes "object")).0 (bytes_eq-Decides w (codes "off")).0 e
 
 turn_bad : (pid : ℕ) (ws : List (List ℕ)) → IsBadOrOk (turn_at pid ws)
-turn_bad pid ws = bind_bad (one word_at ws) _ (one_bad word_at word_bad ws) (λ word. bind_bad (args_at word.0 word.1) _ (args_bad word.0 word.1) (λ r. tt))
+turn_bad pid ws = bind_bad (act_at ws) _ (act_bad ws) (λ act. tt)
 
 pub words_bad : (ws : List (List ℕ)) → IsBadOrOk (words_at ws)
 unfolding words_at
 words_bad [] = refl
 words_bad (w ∷ ws) = either_bad (bytes_eq w (codes "proc")) (proc_item ws) _ (bind_bad (proc_at ws) _ (proc_bad ws) (λ p. tt))
     (either_bad (bytes_eq w (codes "object")) (object_item ws) _ (bind_bad (object_at ws) _ (object_bad ws) (λ o. tt))
-    (either_bad (bytes_eq w (codes "off")) (off_item ws) (call_item w ws) (bind_bad (ends ws) _ (ends_row.bad ws) (λ x. tt)) (bind_bad (number_at w) _ (number_kind.bad w) (λ pid. turn_bad pid ws))))
-
-err_ok : (n : ℕ) → Err BadLine ≡ done n → ⊥
-err_ok n e = cc
-
--- a number is no other word
-no_number : (w : List ℕ) (n : ℕ) (t : Bool) → number_at w ≡ Err BadLine → IsNumber n → Decides t (decimal n ≡ w) → t ≡ false
-no_number w n true r h d =
-    let read : number_at w ≡ Ok n = rw (← d.0 refl) (number_kind.again n h) in
-    absurd (err_ok n (sym r ∙ read))
-no_number w n false r h d = refl
+    (either_bad (bytes_eq w (codes "off")) (off_item ws) (turn_item w ws) (bind_bad (ends ws) _ (ends_row.bad ws) (λ x. tt)) (bind_bad (number_at w) _ (number_kind.bad w) (λ pid. turn_bad pid ws))))
 
 header_words_again : (h : Header) → FitsHeader h → words_at (header_words h) ≡ Ok (Item.Header h)
 unfolding words_at
@@ -153,16 +134,17 @@ off_words_again : words_at off_words ≡ Ok Item.Off
 unfolding words_at
 off_words_again = refl
 
+-- a number is no other word
 other_word : (n : ℕ) (w : List ℕ) → number_at w ≡ Err BadLine → IsNumber n → bytes_eq (decimal n) w ≡ false
-other_word n w r h = no_number w n (bytes_eq (decimal n) w) r h (bytes_eq-Decides (decimal n) w)
+other_word n w r h = other_than number_at (decimal n) w n (number_kind.again n h) r
 
-turn_words_again : (t : Turn) → FitsTurn t → words_at (turn_words t) ≡ Ok (Item.Call (line_of t))
+turn_words_again : (t : Turn) → FitsTurn t → words_at (turn_words t) ≡ Ok (Item.Line (line_of t))
 unfolding words_at
 turn_words_again t f =
     let no_proc = other_word t.pid (codes "proc") (number_refused (codes "proc") refl) f.0 in
     let no_object = other_word t.pid (codes "object") (number_refused (codes "object") refl) f.0 in
     let no_off = other_word t.pid (codes "off") (number_refused (codes "off") refl) f.0 in
-    rw (no_proc, no_object, no_off, number_kind.again t.pid f.0, word_again t.call, args_again t.call f.1) refl
+    rw (no_proc, no_object, no_off, number_kind.again t.pid f.0, act_again t.asked f.1) refl
 
 -- ---- what a line says
 
@@ -170,13 +152,13 @@ turn_words_again t f =
 abbrev pub Says : Item → List ℕ → Type 0
 Says Item.Skipped text = is_meant text ≡ false
 Says (Item.Header h) text = (is_meant text ≡ true) × (text ≡ header_line h) × FitsHeader h
-Says (Item.Call line) text = (is_meant text ≡ true) × ((t : Turn) × (line_of t ≡ line) × (text ≡ turn_line t) × FitsTurn t)
+Says (Item.Line line) text = (is_meant text ≡ true) × ((t : Turn) × (line_of t ≡ line) × (text ≡ turn_line t) × FitsTurn t)
 Says Item.Off text = (is_meant text ≡ true) × (text ≡ codes "off")
 
 said : (item : Item) (text : List ℕ) → is_meant text ≡ true → AreWords (slice_split is_blank text) item → Says item text
 said Item.Skipped text m e = absurd e
 said (Item.Header h) text m e = (m, sym (join_with_byte-slice_split 32 text) ∙ ap (join_with_byte 32) e.0, e.1)
-said (Item.Call line) text m e = (m, (e.0, e.1, sym (join_with_byte-slice_split 32 text) ∙ ap (join_with_byte 32) e.2, e.3))
+said (Item.Line line) text m e = (m, (e.0, e.1, sym (join_with_byte-slice_split 32 text) ∙ ap (join_with_byte 32) e.2, e.3))
 said Item.Off text m e = (m, sym (join_with_byte-slice_split 32 text) ∙ ap (join_with_byte 32) e)
 
 item_chosen : (text : List ℕ) (item : Item) (t u : Bool) → is_meant text ≡ u → (t ≡ false → length text ≤ 4096) → cond t (Err TooLong) (cond u (words_at (slice_split is_blank text)) (Ok Item.Skipped)) ≡ Ok item → (length text ≤ 4096) × Says item text
@@ -193,7 +175,7 @@ split_header (Header.Object o) f = split_join (codes "object") (header_args (Hea
 split_header (Header.Proc p) f = split_join (codes "proc") (header_args (Header.Proc p)) (solid_from (codes "proc") refl) (header_solid (Header.Proc p) f)
 
 split_turn : (t : Turn) → FitsTurn t → slice_split is_blank (turn_line t) ≡ turn_words t
-split_turn t f = split_join (decimal t.pid) _ (number_kind.solid t.pid f.0) (word_solid t.call, args_solid t.call f.1)
+split_turn t f = split_join (decimal t.pid) _ (number_kind.solid t.pid f.0) (asked_solid t.asked f.1)
 
 spelled_again : (item : Item) (text spelling : List ℕ) (ws : List (List ℕ)) → length text ≤ 4096 → is_meant text ≡ true → text ≡ spelling → slice_split is_blank spelling ≡ ws → words_at ws ≡ Ok item → item_at text ≡ Ok item
 unfolding item_at
@@ -211,5 +193,5 @@ header_again_line h text short m e f = spelled_again (Item.Header h) text (heade
 pub off_again_line : (text : List ℕ) → length text ≤ 4096 → is_meant text ≡ true → text ≡ codes "off" → item_at text ≡ Ok Item.Off
 off_again_line text short m e = spelled_again Item.Off text (codes "off") off_words short m e refl off_words_again
 
-pub turn_again_line : (t : Turn) (text : List ℕ) → length text ≤ 4096 → is_meant text ≡ true → text ≡ turn_line t → FitsTurn t → item_at text ≡ Ok (Item.Call (line_of t))
-turn_again_line t text short m e f = spelled_again (Item.Call (line_of t)) text (turn_line t) (turn_words t) short m e (split_turn t f) (turn_words_again t f)
+pub turn_again_line : (t : Turn) (text : List ℕ) → length text ≤ 4096 → is_meant text ≡ true → text ≡ turn_line t → FitsTurn t → item_at text ≡ Ok (Item.Line (line_of t))
+turn_again_line t text short m e f = spelled_again (Item.Line (line_of t)) text (turn_line t) (turn_words t) short m e (split_turn t f) (turn_words_again t f)

@@ -11,6 +11,7 @@ pub mod ControlItems
 pub mod Controls
 pub mod Laid
 pub mod Args
+pub mod Asking
 pub mod HeaderLines
 pub mod Items
 pub mod Scripts

@@ -11,11 +11,12 @@ use Rattle.ux_syntax.specs.declared.fault.Fault.TheVariants.{BadLine, UnknownPro
 use Rattle.ux_syntax.specs.declared.fault.ScriptFault.{ScriptFault}
 use Rattle.ux_syntax.specs.declared.script.ObjectLine.{ObjectLine}
 use Rattle.ux_syntax.specs.declared.script.Header.{Header}
+use Rattle.ux_syntax.specs.declared.script.Act.{Act}
 use Rattle.ux_syntax.specs.declared.script.Line.{Line}
 use Rattle.ux_syntax.specs.declared.script.Script.{Script}
 use Rattle.ux_syntax.specs.declared.reading.Item.{Item}
-use Rattle.ux_syntax.specs.Spelling.{Written, open_path, read_fd, write_fd, seek, dup_fd, dup_onto, set_flags, close, unlink_path, socket, pair, bind, listen, connect, accept, shut, get_opt, set_opt, sock_name, peer_name, send, recv, poll, exit, meaning, Turn, line_of, Plan, plan_of, objects_of, procs_of, header_line, turn_line, off_lines, is_meant, FitsHeader, FitsTurn, IsOfProcess, IsCallOfStranger, IsFaultOf, is_exit, is_off, NoneAfterExit, IsCall, IsOrderly, Spells, IsFirstFault}
-use Rattle.ux_syntax.specs.Turns.{has_exited, is_known}
+use Rattle.ux_syntax.specs.Spelling.{Written, open_path, read_fd, write_fd, seek, dup_fd, dup_onto, set_flags, close, unlink_path, socket, pair, bind, listen, connect, accept, shut, get_opt, set_opt, sock_name, peer_name, send, recv, poll, exit, meaning, Asked, call, wait, act_of, Turn, line_of, Plan, plan_of, objects_of, procs_of, header_line, turn_line, off_lines, is_meant, FitsHeader, FitsTurn, IsProcess, AwaitsProcess, NamesProcesses, IsCallOfStranger, IsFaultOf, is_off, asks_exit, asks_off, NoneAfterExit, IsCall, IsOrderly, Spells, IsFirstFault}
+use Rattle.ux_syntax.specs.Turns.{has_exited, is_known, awaits_known}
 use Rattle.ux_syntax.specs.Reading.{◌>>=◌, line_fault, words_at, item_at, with_header, with_line, with_off, joined_by, is_skipped, added, line_at, on_line, lines_at, no_lines}
 use Rattle.ux_syntax.specs.Results.{FailsAt, Refuses, GivesScript}
 use Rattle.ux_syntax.proofs.Rows.{IsBadOrOk, bind_ok, ok_is, guard_ok}
@@ -100,15 +101,39 @@ left_false a b e h = false_from_ne_true a (λ t. both_ways (a && b) e (and_from 
 exits_more : (ls : List Line) (l : Line) → NoneAfterExit ls → has_exited ls l.pid.0 ≡ false → NoneAfterExit (ls ++ l ∷ [])
 exits_more [] l n h = (λ e. tt, tt)
 exits_more (u ∷ us) l n h =
-    let p = or_parts (eqb u.pid.0 l.pid.0 && is_exit u.request) (has_exited us l.pid.0) h in
-    (λ e. each_more (λ v. v.pid.0 ≢ u.pid.0) us l (n.0 e) (differ u.pid.0 l.pid.0 (left_false (eqb u.pid.0 l.pid.0) (is_exit u.request) p.0 e)), exits_more us l n.1 p.1)
+    let p = or_parts (eqb u.pid.0 l.pid.0 && asks_exit u.act) (has_exited us l.pid.0) h in
+    (λ e. each_more (λ v. v.pid.0 ≢ u.pid.0) us l (n.0 e) (differ u.pid.0 l.pid.0 (left_false (eqb u.pid.0 l.pid.0) (asks_exit u.act) p.0 e)), exits_more us l n.1 p.1)
 
 exits_less : (ls : List Line) (l : Line) → NoneAfterExit (ls ++ l ∷ []) → NoneAfterExit ls × (has_exited ls l.pid.0 ≡ false)
 exits_less [] l n = (tt, refl)
 exits_less (u ∷ us) l n =
     let p = exits_less us l n.1 in
-    let here : (eqb u.pid.0 l.pid.0 && is_exit u.request) ≡ false = quiet_and u.pid.0 l.pid.0 (is_exit u.request) (λ e. (each_less (λ v. v.pid.0 ≢ u.pid.0) us l (n.0 e)).1) in
+    let here : (eqb u.pid.0 l.pid.0 && asks_exit u.act) ≡ false = quiet_and u.pid.0 l.pid.0 (asks_exit u.act) (λ e. (each_less (λ v. v.pid.0 ≢ u.pid.0) us l (n.0 e)).1) in
     ((λ e. (each_less (λ v. v.pid.0 ≢ u.pid.0) us l (n.0 e)).0, p.0), rw (here, p.1) refl)
+
+-- ---- processes that are there
+
+known_from : (count pid : ℕ) → (ltb 0 pid && leb pid count) ≡ true → IsProcess count pid
+known_from count pid e = let p = and_parts (ltb 0 pid) (leb pid count) e in (ltb-true 0 pid p.0, leb-true pid count p.1)
+
+known_to : (count pid : ℕ) → IsProcess count pid → (ltb 0 pid && leb pid count) ≡ true
+known_to count pid o = and_from (ltb 0 pid) (leb pid count) (lt-ltb 0 pid o.0) (le-leb pid count o.1)
+
+awaits_from : (procs : List ProcSpec) (act : Act) → awaits_known procs act ≡ true → AwaitsProcess (length procs) act
+awaits_from procs (Act.Call request) e = tt
+awaits_from procs (Act.Wait pid calls) e = known_from (length procs) pid.0 e
+
+awaits_to : (procs : List ProcSpec) (act : Act) → AwaitsProcess (length procs) act → awaits_known procs act ≡ true
+awaits_to procs (Act.Call request) o = refl
+awaits_to procs (Act.Wait pid calls) o = known_to (length procs) pid.0 o
+
+-- a process that isn't there has no lines
+unknown_quiet : (count : ℕ) (ls : List Line) (p : ℕ) → AllByRecursion (NamesProcesses count) ls → (ltb 0 p && leb p count) ≡ false → has_exited ls p ≡ false
+unknown_quiet count [] p all unknown = refl
+unknown_quiet count (u ∷ us) p all unknown =
+    let other : eqb u.pid.0 p ≡ false = false_from_ne_true (eqb u.pid.0 p)
+    (λ e. both_ways (ltb 0 p && leb p count) unknown (subst (λ (q : ℕ). (ltb 0 q && leb q count) ≡ true) (eqb-true u.pid.0 p e) (known_to count u.pid.0 all.0.0))) in
+    rw (and_left (eqb u.pid.0 p) (asks_exit u.act) other, unknown_quiet count us p all.1 unknown) refl
 
 -- ---- one line
 
@@ -181,10 +206,12 @@ plan_is s hs o p l f = rw (o, p, ← l, ← f) refl
 
 -- ---- a line that is read
 
-known_ok : {X : Type 0} (b exited : Bool) (x y : X) → cond b (cond exited (Err BadLine) (Ok x)) (Err UnknownProcess) ≡ Ok y → (b ≡ true) × (exited ≡ false) × (x ≡ y)
-known_ok true true x y e = absurd cc
-known_ok true false x y e = (refl, refl, ok_is x y e)
-known_ok false exited x y e = absurd cc
+known_ok : {X : Type 0} (known exited awaited : Bool) (x y : X) → cond known (cond exited (Err BadLine) (cond awaited (Ok x) (Err UnknownProcess))) (Err UnknownProcess) ≡ Ok y
+    → (known ≡ true) × (exited ≡ false) × (awaited ≡ true) × (x ≡ y)
+known_ok true true awaited x y e = absurd cc
+known_ok true false true x y e = (refl, refl, refl, ok_is x y e)
+known_ok true false false x y e = absurd cc
+known_ok false exited awaited x y e = absurd cc
 
 -- the lines with one more that says something
 meant_spelling : (ls : List (List ℕ)) (l line : List ℕ) (before after : List (List ℕ)) → is_meant l ≡ true → filter is_meant ls ≡ before → l ≡ line → after ≡ before ++ line ∷ [] → filter is_meant (ls ++ l ∷ []) ≡ after
@@ -253,10 +280,13 @@ is_no_end (recv fd n space flags) = refl
 is_no_end (poll fd) = refl
 is_no_end exit = refl
 
-call_takes : (ls : List (List ℕ)) (s : Plan) (l : List ℕ) (line : Line) → (h : Spells ls s) → s.off ≡ false → is_known s.procs line.pid.0 ≡ true → has_exited s.lines line.pid.0 ≡ false → is_short l → Says (Item.Call line) l → Spells (ls ++ l ∷ []) (with_line s line)
-call_takes ls s l line h no_off known quiet short says =
+asked_no_end : (a : Asked) → asks_off (act_of a) ≡ false
+asked_no_end (call c) = is_no_end c
+asked_no_end (wait pid calls) = refl
+
+turn_takes : (ls : List (List ℕ)) (s : Plan) (l : List ℕ) (line : Line) → (h : Spells ls s) → s.off ≡ false → is_known s.procs line.pid.0 ≡ true → has_exited s.lines line.pid.0 ≡ false → awaits_known s.procs line.act ≡ true → is_short l → Says (Item.Line line) l → Spells (ls ++ l ∷ []) (with_line s line)
+turn_takes ls s l line h no_off known quiet awaited short says =
     let w = says.1 in
-    let p = and_parts (ltb 0 line.pid.0) (leb line.pid.0 (length s.procs)) known in
     let before : filter is_meant ls ≡ texts_of h.headers h.turns false = h.spelled ∙ ap (λ (b : Bool). texts_of h.headers h.turns b) no_off in
     record {
       headers = h.headers;
@@ -270,9 +300,9 @@ call_takes ls s l line h no_off known quiet short says =
       fit_headers = h.fit_headers;
       fit_turns = each_more FitsTurn h.turns w.0 h.fit_turns w.3;
       orderly = record {
-        processes = each_more (IsOfProcess (length s.procs)) s.lines line h.orderly.processes (ltb-true 0 line.pid.0 p.0, leb-true line.pid.0 (length s.procs) p.1);
+        processes = each_more (NamesProcesses (length s.procs)) s.lines line h.orderly.processes (known_from (length s.procs) line.pid.0 known, awaits_from s.procs line.act awaited);
         exits = exits_more s.lines line h.orderly.exits quiet;
-        calls = each_more IsCall s.lines line h.orderly.calls (ap (λ (x : Line). is_off x.request) (sym w.1) ∙ is_no_end w.0.call);
+        calls = each_more IsCall s.lines line h.orderly.calls (ap (λ (x : Line). asks_off x.act) (sym w.1) ∙ asked_no_end w.0.asked);
       };
     }
 
@@ -297,21 +327,21 @@ joined_takes (Item.Header x) ls s l t h no_off short says e =
     let g = guard_ok (eqb (length s.lines) 0) (with_header s x) t e in
     let none : s.lines ≡ [] = nil_from_length s.lines (eqb-true (length s.lines) 0 g.0) in
     subst (λ (y : Plan). Spells (ls ++ l ∷ []) y) g.1 (header_takes ls s l x h none no_off short says)
-joined_takes (Item.Call line) ls s l t h no_off short says e =
-    let g = known_ok (is_known s.procs line.pid.0) (has_exited s.lines line.pid.0) (with_line s line) t e in
-    subst (λ (y : Plan). Spells (ls ++ l ∷ []) y) g.2 (call_takes ls s l line h no_off g.0 g.1 short says)
+joined_takes (Item.Line line) ls s l t h no_off short says e =
+    let g = known_ok (is_known s.procs line.pid.0) (has_exited s.lines line.pid.0) (awaits_known s.procs line.act) (with_line s line) t e in
+    subst (λ (y : Plan). Spells (ls ++ l ∷ []) y) g.3 (turn_takes ls s l line h no_off g.0 g.1 g.2 short says)
 joined_takes Item.Off ls s l t h no_off short says e = subst (λ (y : Plan). Spells (ls ++ l ∷ []) y) (ok_is (with_off s) t e) (off_takes ls s l h no_off short says)
 
 is_skip : (item : Item) (l : List ℕ) → is_skipped item ≡ true → Says item l → is_meant l ≡ false
 is_skip Item.Skipped l k says = says
 is_skip (Item.Header x) l k says = absurd cc
-is_skip (Item.Call line) l k says = absurd cc
+is_skip (Item.Line line) l k says = absurd cc
 is_skip Item.Off l k says = absurd cc
 
 skip_joins : (s : Plan) (item : Item) → is_skipped item ≡ true → joined_by s item ≡ Ok s
 skip_joins s Item.Skipped k = refl
 skip_joins s (Item.Header x) k = absurd cc
-skip_joins s (Item.Call line) k = absurd cc
+skip_joins s (Item.Line line) k = absurd cc
 skip_joins s Item.Off k = absurd cc
 
 added_by : (item : Item) (ls : List (List ℕ)) (s : Plan) (l : List ℕ) (t : Plan) (off skipped : Bool) → s.off ≡ off → is_skipped item ≡ skipped → Spells ls s → is_short l → Says item l
@@ -357,17 +387,18 @@ step_turn ls l t ts u m h no_off same =
     (sym (meant_more ls l m) ∙ h.spelled ∙ ap (λ (vs : List Turn). texts_of h.headers vs t.off) same ∙ ap (λ (b : Bool). texts_of h.headers (ts ++ u ∷ []) b) no_off ∙ turn_spelling h.headers ts u) in
     let short = each_less is_short ls l h.short in
     let fits = each_less FitsTurn ts u (subst (λ (vs : List Turn). AllByRecursion FitsTurn vs) same h.fit_turns) in
-    let processes = each_less (IsOfProcess (length t.procs)) (map line_of ts) (line_of u) (subst (λ (vs : List Line). AllByRecursion (IsOfProcess (length t.procs)) vs) lines h.orderly.processes) in
+    let processes = each_less (NamesProcesses (length t.procs)) (map line_of ts) (line_of u) (subst (λ (vs : List Line). AllByRecursion (NamesProcesses (length t.procs)) vs) lines h.orderly.processes) in
     let exits = exits_less (map line_of ts) (line_of u) (subst NoneAfterExit lines h.orderly.exits) in
     let calls = each_less IsCall (map line_of ts) (line_of u) (subst (λ (vs : List Line). AllByRecursion IsCall vs) lines h.orderly.calls) in
-    let first : ltb 0 u.pid ≡ true = lt-ltb 0 u.pid processes.1.0 in
-    let last : leb u.pid (length t.procs) ≡ true = le-leb u.pid (length t.procs) processes.1.1 in
+    let first : ltb 0 u.pid ≡ true = lt-ltb 0 u.pid processes.1.0.0 in
+    let last : leb u.pid (length t.procs) ≡ true = le-leb u.pid (length t.procs) processes.1.0.1 in
+    let awaited : awaits_known t.procs (act_of u.asked) ≡ true = awaits_to t.procs (act_of u.asked) processes.1.1 in
     let before : Plan = with_lines t (map line_of ts) in
-    let adds : joined_by before (Item.Call (line_of u)) ≡ Ok (with_lines t (map line_of ts ++ line_of u ∷ [])) = rw (first, last, exits.1) refl in
+    let adds : joined_by before (Item.Line (line_of u)) ≡ Ok (with_lines t (map line_of ts ++ line_of u ∷ [])) = rw (first, last, exits.1, awaited) refl in
     let whole : with_lines t (map line_of ts ++ line_of u ∷ []) ≡ t = ap (λ (vs : List Line). with_lines t vs) (sym lines) ∙ rw (← no_off) refl in (
       before,
       record { headers = h.headers; turns = ts; short = short.0; spelled = ends.0; objects = h.objects; procs = h.procs; meant = refl; fit_headers = h.fit_headers; fit_turns = fits.0; orderly = record { processes = processes.0; exits = exits.0; calls = calls.0 } },
-      line_from before l (Item.Call (line_of u)) t (turn_again_line u l short.1 m ends.1 fits.1) (adds ∙ ap (λ (y : Plan). Ok y) whole),
+      line_from before l (Item.Line (line_of u)) t (turn_again_line u l short.1 m ends.1 fits.1) (adds ∙ ap (λ (y : Plan). Ok y) whole),
     )
 
 step_header : (ls : List (List ℕ)) (l : List ℕ) (t : Plan) (hs : List Header) (x : Header) → is_meant l ≡ true → (h : Spells (ls ++ l ∷ []) t) → t.off ≡ false → h.turns ≡ [] → h.headers ≡ hs ++ x ∷ [] → CanStep ls l t
@@ -471,18 +502,18 @@ err_is f g e = cc
 ok_no_fault : {X : Type 0} (x : X) (f : Fault) → Ok x ≡ failed f → ⊥
 ok_no_fault x f e = cc
 
-same_call : (a b : Line) → said (Item.Call a) ≡ said (Item.Call b) → a ≡ b
-same_call a b e = cc
+same_line : (a b : Line) → said (Item.Line a) ≡ said (Item.Line b) → a ≡ b
+same_line a b e = cc
 
-call_no_header : (a : Line) (x : Header) → said (Item.Call a) ≡ said (Item.Header x) → ⊥
-call_no_header a x e = cc
+line_no_header : (a : Line) (x : Header) → said (Item.Line a) ≡ said (Item.Header x) → ⊥
+line_no_header a x e = cc
 
--- the line as a call of a stranger is read as that call
-stranger_reads : (s : Plan) (l : List ℕ) (w : IsCallOfStranger s l) → length l ≤ 4096 → is_meant l ≡ true → item_at l ≡ Ok (Item.Call (line_of w.0))
+-- the line of a stranger is read as that line
+stranger_reads : (s : Plan) (l : List ℕ) (w : IsCallOfStranger s l) → length l ≤ 4096 → is_meant l ≡ true → item_at l ≡ Ok (Item.Line (line_of w.0))
 stranger_reads s l w short m = turn_again_line w.0 l short m w.1 w.2
 
 no_stranger : (s : Plan) (l : List ℕ) (m : Bool) → is_meant l ≡ m → length l ≤ 4096 → item_at l ≡ Err BadLine → IsCallOfStranger s l → ⊥
-no_stranger s l true m short e w = ok_no_fault (Item.Call (line_of w.0)) BadLine (sym (stranger_reads s l w short m) ∙ e)
+no_stranger s l true m short e w = ok_no_fault (Item.Line (line_of w.0)) BadLine (sym (stranger_reads s l w short m) ∙ e)
 no_stranger s l false m short e w = ok_no_fault Item.Skipped BadLine (sym (skip_again l short m) ∙ e)
 
 -- a line whose words aren't read
@@ -510,48 +541,52 @@ unread_why s l UnknownProcess p e = absurd p
 header_why : (s : Plan) (l : List ℕ) (x : Header) (f : Fault) (y : Plan) (b : Bool) → length l ≤ 4096 → is_meant l ≡ true → item_at l ≡ Ok (Item.Header x) → cond b (Ok y) (Err BadLine) ≡ Err f → IsFaultOf f s l
 header_why s l x f y true short m k e = absurd (ok_no_fault y f e)
 header_why s l x f y false short m k e =
-    subst (λ g. IsFaultOf g s l) (err_is {X = Plan} BadLine f e) (short, λ w. call_no_header (line_of w.0) x (sym (stranger_reads s l w short m) ∙ k))
+    subst (λ g. IsFaultOf g s l) (err_is {X = Plan} BadLine f e) (short, λ w. line_no_header (line_of w.0) x (sym (stranger_reads s l w short m) ∙ k))
 
-known_from : (count : ℕ) (line : Line) → (ltb 0 line.pid.0 && leb line.pid.0 count) ≡ true → IsOfProcess count line
-known_from count line e = let p = and_parts (ltb 0 line.pid.0) (leb line.pid.0 count) e in (ltb-true 0 line.pid.0 p.0, leb-true line.pid.0 count p.1)
+-- the line may follow the script's, but for the processes that it names
+may_stand : (s : Plan) (line : Line) (t : Turn) → IsOrderly s → line_of t ≡ line → has_exited s.lines line.pid.0 ≡ false → NoneAfterExit (s.lines ++ line_of t ∷ [])
+may_stand s line t orderly same quiet = exits_more s.lines (line_of t) orderly.exits (ap (λ (y : Line). has_exited s.lines y.pid.0) same ∙ quiet)
 
-known_to : (count : ℕ) (line : Line) → IsOfProcess count line → (ltb 0 line.pid.0 && leb line.pid.0 count) ≡ true
-known_to count line o = and_from (ltb 0 line.pid.0) (leb line.pid.0 count) (lt-ltb 0 line.pid.0 o.0) (le-leb line.pid.0 count o.1)
-
-call_why : (s : Plan) (l : List ℕ) (line : Line) (f : Fault) (x : Plan) (b exited : Bool) → s.off ≡ false → is_known s.procs line.pid.0 ≡ b → length l ≤ 4096 → Says (Item.Call line) l → item_at l ≡ Ok (Item.Call line)
-    → cond b (cond exited (Err BadLine) (Ok x)) (Err UnknownProcess) ≡ Err f → IsFaultOf f s l
-call_why s l line f x true true no_off known short says k e =
+turn_why : (s : Plan) (l : List ℕ) (line : Line) (f : Fault) (x : Plan) (known exited awaited : Bool) → IsOrderly s → s.off ≡ false → is_known s.procs line.pid.0 ≡ known → has_exited s.lines line.pid.0 ≡ exited → awaits_known s.procs line.act ≡ awaited
+    → length l ≤ 4096 → Says (Item.Line line) l → item_at l ≡ Ok (Item.Line line)
+    → cond known (cond exited (Err BadLine) (cond awaited (Ok x) (Err UnknownProcess))) (Err UnknownProcess) ≡ Err f → IsFaultOf f s l
+turn_why s l line f x true true awaited orderly no_off known exited there short says k e =
     subst (λ g. IsFaultOf g s l) (err_is {X = Plan} BadLine f e) (
       short,
       λ w.
-          let same : line ≡ line_of w.0 = same_call line (line_of w.0) (sym k ∙ stranger_reads s l w short says.0) in
-          w.4 (subst (IsOfProcess (length s.procs)) same (known_from (length s.procs) line known)),
+          let same : line ≡ line_of w.0 = same_line line (line_of w.0) (sym k ∙ stranger_reads s l w short says.0) in
+          both_ways (has_exited s.lines line.pid.0) (ap (λ (y : Line). has_exited s.lines y.pid.0) same ∙ (exits_less s.lines (line_of w.0) w.4).1) exited,
     )
-call_why s l line f x true false no_off known short says k e = absurd (ok_no_fault x f e)
-call_why s l line f x false exited no_off known short says k e =
+turn_why s l line f x true false true orderly no_off known exited there short says k e = absurd (ok_no_fault x f e)
+turn_why s l line f x true false false orderly no_off known exited there short says k e =
     let w = says.1 in
     subst (λ g. IsFaultOf g s l) (err_is {X = Plan} UnknownProcess f e)
-    (short, (w.0, w.2, w.3, no_off, λ o. both_ways (is_known s.procs line.pid.0) known (known_to (length s.procs) line (subst (IsOfProcess (length s.procs)) w.1 o))))
+    (short, (w.0, w.2, w.3, no_off, may_stand s line w.0 orderly w.1 exited, λ o. both_ways (awaits_known s.procs line.act) there (awaits_to s.procs line.act (subst (NamesProcesses (length s.procs)) w.1 o).1)))
+turn_why s l line f x false exited awaited orderly no_off known gone there short says k e =
+    let w = says.1 in
+    let quiet = unknown_quiet (length s.procs) s.lines line.pid.0 orderly.processes known in
+    subst (λ g. IsFaultOf g s l) (err_is {X = Plan} UnknownProcess f e)
+    (short, (w.0, w.2, w.3, no_off, may_stand s line w.0 orderly w.1 quiet, λ o. both_ways (is_known s.procs line.pid.0) known (known_to (length s.procs) line.pid.0 (subst (NamesProcesses (length s.procs)) w.1 o).0)))
 
-joined_why : (s : Plan) (l : List ℕ) (item : Item) (f : Fault) → s.off ≡ false → length l ≤ 4096 → Says item l → item_at l ≡ Ok item → joined_by s item ≡ Err f → IsFaultOf f s l
-joined_why s l Item.Skipped f no_off short says k e = absurd (ok_no_fault s f e)
-joined_why s l (Item.Header x) f no_off short says k e = header_why s l x f _ (eqb (length s.lines) 0) short says.0 k e
-joined_why s l (Item.Call line) f no_off short says k e = call_why s l line f _ (is_known s.procs line.pid.0) (has_exited s.lines line.pid.0) no_off refl short says k e
-joined_why s l Item.Off f no_off short says k e = absurd (ok_no_fault (with_off s) f e)
+joined_why : (s : Plan) (l : List ℕ) (item : Item) (f : Fault) → IsOrderly s → s.off ≡ false → length l ≤ 4096 → Says item l → item_at l ≡ Ok item → joined_by s item ≡ Err f → IsFaultOf f s l
+joined_why s l Item.Skipped f orderly no_off short says k e = absurd (ok_no_fault s f e)
+joined_why s l (Item.Header x) f orderly no_off short says k e = header_why s l x f _ (eqb (length s.lines) 0) short says.0 k e
+joined_why s l (Item.Line line) f orderly no_off short says k e = turn_why s l line f _ (is_known s.procs line.pid.0) (has_exited s.lines line.pid.0) (awaits_known s.procs line.act) orderly no_off refl refl refl short says k e
+joined_why s l Item.Off f orderly no_off short says k e = absurd (ok_no_fault (with_off s) f e)
 
-added_why : (s : Plan) (l : List ℕ) (item : Item) (f : Fault) (off skipped : Bool) → s.off ≡ off → is_skipped item ≡ skipped → length l ≤ 4096 → Says item l → item_at l ≡ Ok item
+added_why : (s : Plan) (l : List ℕ) (item : Item) (f : Fault) (off skipped : Bool) → IsOrderly s → s.off ≡ off → is_skipped item ≡ skipped → length l ≤ 4096 → Says item l → item_at l ≡ Ok item
     → cond (off && not skipped) (Err BadLine) (joined_by s item) ≡ Err f → IsFaultOf f s l
-added_why s l item f false skipped o n short says k e = joined_why s l item f o short says k e
-added_why s l item f true true o n short says k e = absurd (ok_no_fault s f (sym (skip_joins s item n) ∙ e))
-added_why s l item f true false o n short says k e = subst (λ g. IsFaultOf g s l) (err_is {X = Plan} BadLine f e) (short, λ w. both_ways s.off w.3 o)
+added_why s l item f false skipped orderly o n short says k e = joined_why s l item f orderly o short says k e
+added_why s l item f true true orderly o n short says k e = absurd (ok_no_fault s f (sym (skip_joins s item n) ∙ e))
+added_why s l item f true false orderly o n short says k e = subst (λ g. IsFaultOf g s l) (err_is {X = Plan} BadLine f e) (short, λ w. both_ways s.off w.3 o)
 
-why_of : (s : Plan) (l : List ℕ) (f : Fault) (r : Result Item Fault) → item_at l ≡ r → (r >>= λ item. added s item) ≡ Err f → IsFaultOf f s l
-why_of s l f (Ok item) k e = let p = item_takes l item k in added_why s l item f s.off (is_skipped item) refl refl p.0 p.1 k e
-why_of s l f (Err g) k e = subst (λ x. IsFaultOf x s l) (err_is {X = Plan} g f e) (unread_why s l g (unread l g k) k)
+why_of : (s : Plan) (l : List ℕ) (f : Fault) (r : Result Item Fault) → IsOrderly s → item_at l ≡ r → (r >>= λ item. added s item) ≡ Err f → IsFaultOf f s l
+why_of s l f (Ok item) orderly k e = let p = item_takes l item k in added_why s l item f s.off (is_skipped item) orderly refl refl p.0 p.1 k e
+why_of s l f (Err g) orderly k e = subst (λ x. IsFaultOf x s l) (err_is {X = Plan} g f e) (unread_why s l g (unread l g k) k)
 
-fault_is : (s : Plan) (l : List ℕ) (f : Fault) → line_at s l ≡ Err f → IsFaultOf f s l
+fault_is : (s : Plan) (l : List ℕ) (f : Fault) → IsOrderly s → line_at s l ≡ Err f → IsFaultOf f s l
 unfolding line_at
-fault_is s l f e = why_of s l f (item_at l) refl e
+fault_is s l f orderly e = why_of s l f (item_at l) orderly refl e
 
 -- ---- the first line at fault
 
@@ -574,7 +609,7 @@ first_fault front s l ls f h e =
           let p = line_again front l t (subst (λ (xs : List (List ℕ)). Spells xs t) with k) in
           let same : p.0 ≡ s = script_unique front p.0 s p.1 h in
           not_both (line_at s l) f t e (subst (λ (y : Plan). line_at y l ≡ Ok t) same p.2);
-      why = rw (back, this) (fault_is s l f e);
+      why = rw (back, this) (fault_is s l f h.orderly e);
     }
 
 named : (lines : List (List ℕ)) (n : ℕ) (f : Fault) → IsFirstFault lines n f → Refuses lines (line_fault n f)

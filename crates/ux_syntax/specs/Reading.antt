@@ -14,11 +14,12 @@ use Rattle.ux_syntax.specs.declared.control.ControlItem.{ControlItem}
 use Rattle.ux_syntax.specs.declared.control.ControlWord.{ControlWord}
 use Rattle.ux_syntax.specs.declared.script.ObjectLine.{ObjectLine}
 use Rattle.ux_syntax.specs.declared.script.Header.{Header}
+use Rattle.ux_syntax.specs.declared.script.Act.{Act}
 use Rattle.ux_syntax.specs.declared.script.Line.{Line}
 use Rattle.ux_syntax.specs.declared.reading.Item.{Item}
 use Rattle.ux_syntax.specs.Trace.{dash, stands, word_text}
 use Rattle.ux_syntax.specs.Spelling.{Plan, open_path, read_fd, write_fd, seek, dup_fd, dup_onto, set_flags, close, unlink_path, socket, pair, bind, listen, connect, accept, shut, get_opt, set_opt, sock_name, peer_name, send, recv, poll, exit, meaning, mode_text, type_text, option_text, whence_text, kind_text, is_meant}
-use Rattle.ux_syntax.specs.Turns.{has_exited, is_known}
+use Rattle.ux_syntax.specs.Turns.{has_exited, is_known, awaits_known}
 
 infixl 10 ◌>>=◌
 abbrev pub ◌>>=◌ : {A B : Type 0} → Result A Fault → (A → Result B Fault) → Result B Fault
@@ -376,11 +377,22 @@ proc_at ws = (number_at >> number_at >> bit_at >> number_at >> ends) ws >>= λ x
 
 -- ---- lines
 
+unfoldable pub wait_at : List (List ℕ) → Result Act Fault
+wait_at ws = (number_at >> number_at >> ends) ws >>= λ x. Ok (Act.Wait (record { 0 = x.0 }) x.1.0)
+
+abbrev pub call_at : List ℕ → List (List ℕ) → Result Act Fault
+call_at w ws = do
+  word ← word_at w
+  request ← args_at word ws
+  Ok (Act.Call request)
+
+-- what the words behind a process's number ask for
+unfoldable pub act_at : List (List ℕ) → Result Act Fault
+act_at [] = Err BadLine
+act_at (w ∷ ws) = if bytes_eq w (codes "wait") then wait_at ws else call_at w ws
+
 abbrev pub turn_at : ℕ → List (List ℕ) → Result Item Fault
-turn_at pid ws = do
-  word ← one word_at ws
-  request ← args_at word.0 word.1
-  Ok (Item.Call (record { pid = record { 0 = pid }; request = request }))
+turn_at pid ws = act_at ws >>= λ act. Ok (Item.Line (record { pid = record { 0 = pid }; act = act }))
 
 unfoldable pub words_at : List (List ℕ) → Result Item Fault
 words_at [] = Err BadLine
@@ -403,17 +415,21 @@ with_line s line = record { objects = s.objects; procs = s.procs; lines = s.line
 abbrev pub with_off : Plan → Plan
 with_off s = record { objects = s.objects; procs = s.procs; lines = s.lines; off = true }
 
+-- the script with one line more, of a process that is there
+abbrev pub joined_by_line : Plan → Line → Result Plan Fault
+joined_by_line s line = if has_exited s.lines line.pid.0 then Err BadLine else if awaits_known s.procs line.act then Ok (with_line s line) else Err UnknownProcess
+
 -- The script with one item more where `off` was not said. A process that isn't there has no lines, so it has made no exit.
 abbrev pub joined_by : Plan → Item → Result Plan Fault
 joined_by s Item.Skipped = Ok s
 joined_by s (Item.Header h) = if length s.lines == 0 then Ok (with_header s h) else Err BadLine
-joined_by s (Item.Call line) = if is_known s.procs line.pid.0 then (if has_exited s.lines line.pid.0 then Err BadLine else Ok (with_line s line)) else Err UnknownProcess
+joined_by s (Item.Line line) = if is_known s.procs line.pid.0 then joined_by_line s line else Err UnknownProcess
 joined_by s Item.Off = Ok (with_off s)
 
 abbrev pub is_skipped : Item → Bool
 is_skipped Item.Skipped = true
 is_skipped (Item.Header h) = false
-is_skipped (Item.Call line) = false
+is_skipped (Item.Line line) = false
 is_skipped Item.Off = false
 
 -- the script with one item more: nothing is said after `off`

@@ -13,13 +13,14 @@ use Rattle.ux_syntax.specs.declared.control.ControlWord.{ControlWord}
 use Rattle.ux_syntax.specs.declared.fault.Fault.{Fault}
 use Rattle.ux_syntax.specs.declared.script.ObjectLine.{ObjectLine}
 use Rattle.ux_syntax.specs.declared.script.Header.{Header}
+use Rattle.ux_syntax.specs.declared.script.Act.{Act}
 use Rattle.ux_syntax.specs.declared.script.Line.{Line}
 use Rattle.ux_syntax.specs.declared.script.Script.{Script}
 use Rattle.ux_syntax.specs.Trace.{dash, hex, path_text, addr_text, addr_or_dash, raw_text, rights_text, cred_text, word_text, request_word}
 
 -- ---- what a script says
 
--- its file objects, its processes and its calls, and whether the layer is ended at last, without where they lie in memory
+-- its file objects, its processes and their lines, and whether the layer is ended at last, without where they lie in memory
 pub record Plan : Type 0 where
   pub objects : List ObjectLine
   pub procs : List ProcSpec
@@ -109,13 +110,22 @@ meaning (recv fd n space flags) = Request.RecvMsg (fd_of fd) n space flags
 meaning (poll fd) = Request.Poll (fd_of fd)
 meaning exit = Request.Exit
 
--- a process's number, and a call of it as it is written
+-- what a line asks for as it is written: a call, or to wait until a process has so many entries
+pub data Asked : Type 0 where
+  call : (written : Written) → Asked
+  wait : (pid calls : ℕ) → Asked
+
+abbrev pub act_of : Asked → Act
+act_of (call written) = Act.Call (meaning written)
+act_of (wait pid calls) = Act.Wait (record { 0 = pid }) calls
+
+-- a process's number, and what is asked of it
 pub record Turn : Type 0 where
   pub pid : ℕ
-  pub call : Written
+  pub asked : Asked
 
 abbrev pub line_of : Turn → Line
-line_of t = record { pid = record { 0 = t.pid }; request = meaning t.call }
+line_of t = record { pid = record { 0 = t.pid }; act = act_of t.asked }
 
 -- ---- words
 
@@ -214,8 +224,12 @@ header_words (Header.Proc p) = codes "proc" ∷ decimal p.uid ∷ decimal p.gid 
 abbrev pub header_line : Header → List ℕ
 header_line h = join_with_byte 32 (header_words h)
 
+abbrev pub asked_words : Asked → List (List ℕ)
+asked_words (call written) = word_text (request_word (meaning written)) ∷ args_of written
+asked_words (wait pid calls) = codes "wait" ∷ decimal pid ∷ decimal calls ∷ []
+
 abbrev pub turn_words : Turn → List (List ℕ)
-turn_words t = decimal t.pid ∷ word_text (request_word (meaning t.call)) ∷ args_of t.call
+turn_words t = decimal t.pid ∷ asked_words t.asked
 
 abbrev pub turn_line : Turn → List ℕ
 turn_line t = join_with_byte 32 (turn_words t)
@@ -313,8 +327,12 @@ FitsCall (recv fd n space flags) = IsNumber fd × IsNumber n × IsNumber space �
 FitsCall (poll fd) = IsNumber fd
 FitsCall exit = Unit {0}
 
+abbrev pub FitsAsked : Asked → Type 0
+FitsAsked (call written) = FitsCall written
+FitsAsked (wait pid calls) = IsNumber pid × IsNumber calls
+
 abbrev pub FitsTurn : Turn → Type 0
-FitsTurn t = IsNumber t.pid × FitsCall t.call
+FitsTurn t = IsNumber t.pid × FitsAsked t.asked
 
 -- a memory file alone starts with bytes
 abbrev pub FitsBody : ObjKind → List ℕ → Type 0
@@ -328,32 +346,51 @@ FitsHeader (Header.Proc p) = IsNumber p.uid × IsNumber p.gid × IsNumber p.limi
 
 -- ---- which lines a script may have
 
--- the line is of one of this many processes, which are numbered from 1
-abbrev pub IsOfProcess : ℕ → Line → Type 0
-IsOfProcess count line = (1 ≤ line.pid.0) × (line.pid.0 ≤ count)
+-- one of this many processes, which are numbered from 1
+abbrev pub IsProcess : ℕ → ℕ → Type 0
+IsProcess count pid = (1 ≤ pid) × (pid ≤ count)
+
+-- a process that is waited for is one of this many
+abbrev pub AwaitsProcess : ℕ → Act → Type 0
+AwaitsProcess count (Act.Call request) = Unit {0}
+AwaitsProcess count (Act.Wait pid calls) = IsProcess count pid.0
+
+-- the line is of one of this many processes, and so is one that it waits for
+abbrev pub NamesProcesses : ℕ → Line → Type 0
+NamesProcesses count line = IsProcess count line.pid.0 × AwaitsProcess count line.act
+
+-- what is asked for is the process's exit
+abbrev pub asks_exit : Act → Bool
+asks_exit (Act.Call request) = is_exit request
+asks_exit (Act.Wait pid calls) = false
+
+-- what is asked for is the end of the whole layer
+abbrev pub asks_off : Act → Bool
+asks_off (Act.Call request) = is_off request
+asks_off (Act.Wait pid calls) = false
 
 -- none of the lines is of the process
 abbrev pub IsQuiet : ℕ → List Line → Type 0
 IsQuiet pid lines = AllByRecursion (λ line. line.pid.0 ≢ pid) lines
 
--- a process makes no call after its exit
+-- a process has no line after its exit
 abbrev pub NoneAfterExit : List Line → Type 0
 NoneAfterExit [] = Unit {0}
-NoneAfterExit (line ∷ lines) = (is_exit line.request ≡ true → IsQuiet line.pid.0 lines) × NoneAfterExit lines
+NoneAfterExit (line ∷ lines) = (asks_exit line.act ≡ true → IsQuiet line.pid.0 lines) × NoneAfterExit lines
 
--- the line is a call, and not the end of the whole layer
+-- the line is a process's own, and not the end of the whole layer
 abbrev pub IsCall : Line → Type 0
-IsCall line = is_off line.request ≡ false
+IsCall line = asks_off line.act ≡ false
 
--- each line is a call of a process that is there and hasn't made its exit
+-- each line is of a process that is there and hasn't made its exit, and each process that is waited for is there
 pub record IsOrderly (s : Plan) : Type 0 where
-  pub processes : AllByRecursion (IsOfProcess (length s.procs)) s.lines
+  pub processes : AllByRecursion (NamesProcesses (length s.procs)) s.lines
   pub exits : NoneAfterExit s.lines
   pub calls : AllByRecursion IsCall s.lines
 
 -- ---- which lines spell which script
 
--- The lines spell the script: short ones, of which those that say something are the header's, then the calls' as they are written, and `off` at last where the script has it.
+-- The lines spell the script: short ones, of which those that say something are the header's, then the processes' as they are written, and `off` at last where the script has it.
 pub record Spells (texts : List (List ℕ)) (s : Plan) : Type 0 where
   pub headers : List Header
   pub turns : List Turn
@@ -368,9 +405,9 @@ pub record Spells (texts : List (List ℕ)) (s : Plan) : Type 0 where
 
 -- ---- why a line is at fault
 
--- the line is a call, rightly written, of a process that isn't there, and `off` was not said
+-- the line, rightly written, names a process that isn't there: its own or the one that it waits for; and `off` was not said, nor its process's exit
 abbrev pub IsCallOfStranger : Plan → List ℕ → Type 0
-IsCallOfStranger s text = (t : Turn) × (text ≡ turn_line t) × FitsTurn t × (s.off ≡ false) × (IsOfProcess (length s.procs) (line_of t) → ⊥)
+IsCallOfStranger s text = (t : Turn) × (text ≡ turn_line t) × FitsTurn t × (s.off ≡ false) × NoneAfterExit (s.lines ++ line_of t ∷ []) × (NamesProcesses (length s.procs) (line_of t) → ⊥)
 
 -- Why a line that comes after those of the script is at fault, if it is: too long before bad, and bad before unknown.
 abbrev pub IsFaultOf : Fault → Plan → List ℕ → Type 0

@@ -12,7 +12,7 @@ use thiserror::Error;
 pub enum Fault {
     /// It is none of the lines that a script may have there.
     BadLine,
-    /// It is a call of a process that the header doesn't have.
+    /// It names a process that the header doesn't have.
     UnknownProcess,
     /// It has more than 4,096 bytes.
     TooLong,
@@ -33,7 +33,7 @@ pub enum ScriptFault {
     /// A line that a script may not have there.
     #[error("line {0}: bad line")]
     BadLine(usize),
-    /// A call of a process that the header doesn't have.
+    /// A line that names a process that the header doesn't have.
     #[error("line {0}: unknown process")]
     UnknownProcess(usize),
     /// A line of more than 4,096 bytes.

@@ -23,7 +23,7 @@ const TURNS: u64 = u64::MAX / 8192;
 pub fn read_script<R: Read>(alloc: Global, reader: &mut R) -> Result<Script, ScriptFault>
     // What is read is spelled so by the bytes that the reader had.
     ensures found { IfOk result (λ script. IfSome (R.remaining reader.old) (λ text. Spells (lines_of text) (plan_of script))) }
-    // Each line is of a process that is there and hasn't made its exit.
+    // Each line is of a process that is there and hasn't made its exit, and waits for none that isn't there.
     ensures orderly { IfOk result (λ script. IsOrderly (plan_of script)) }
     // What is spelled so is read, unless memory runs out or the read failed.
     ensures only { IfSome (R.remaining reader.old) (λ text. (s : Plan) → Spells (lines_of text) s → (result ≡ Err ScriptFault.Reading) ⊎ GivesScript result (Ok s)) }

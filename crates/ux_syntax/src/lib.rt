@@ -1,6 +1,7 @@
 //! Scripts of calls, which are read, and traces of histories, which are written.
 #![tactic(auto)]
 
+mod acts;
 mod calls;
 mod control;
 mod fault;
@@ -19,5 +20,5 @@ pub use control::items_are_spelled;
 pub use fault::{Fault, ScriptFault};
 pub use input::read_script;
 pub use reading::{one_script, parse_script};
-pub use script::{Line, ObjectLine, Script};
+pub use script::{Act, Line, ObjectLine, Script};
 pub use trace::entry_text;

@@ -3,15 +3,15 @@
 ghost use Rattle.std.specs.Prelude.{◌≡◌, ◌==◌, not, map, IfOk, IfErr, OnOk, Ok};
 ghost use Rattle.std.specs.List.{slice_split};
 ghost use Rattle.ux_syntax.specs.Spelling.{Plan, plan_of, Spells, IsOrderly, OneScript, lines_of, is_meant};
-ghost use Rattle.ux_syntax.specs.Turns.{is_known};
+ghost use Rattle.ux_syntax.specs.Turns.{is_known, awaits_known};
 ghost use Rattle.ux_syntax.specs.Reading.{words_at, item_at, joined_by, line_at, no_lines, script_at};
 ghost use Rattle.ux_syntax.specs.Results.{Gives, Leaves, GivesScript, Refuses, Marks};
 
-use crate::calls::{request_of, word_of};
+use crate::acts::act_of;
 use crate::fault::{BAD, Fault, LineError, ScriptFault};
 use crate::headers::{object_of, proc_of};
 use crate::row::{end, next};
-use crate::script::{Header, Line, Script, is_exit};
+use crate::script::{Act, Header, Line, Script, asks_exit};
 use crate::words::Word;
 use std::alloc::{AllocError, Global};
 use ux_types::Pid;
@@ -26,8 +26,8 @@ enum Item {
     Skipped,
     /// A line of the header.
     Header(Header),
-    /// A call.
-    Call(Line),
+    /// A line of a process.
+    Line(Line),
     /// The end of the layer.
     Off,
 }
@@ -48,9 +48,8 @@ fn words_of(alloc: Global, words: &[&[u8]]) -> Result<Item, LineError>
         return Ok(Item::Off);
     }
     let pid = Pid(u32::of(alloc, first)?);
-    let (word, args) = next(rest)?;
-    let request = request_of(alloc, word_of(word)?, args)?;
-    Ok(Item::Call(Line { pid, request }))
+    let act = act_of(alloc, rest)?;
+    Ok(Item::Line(Line { pid, act }))
 }
 
 fn says_nothing(text: &[u8]) -> bool
@@ -119,6 +118,16 @@ impl Reader {
         0 < pid.0 && pid.0 as usize <= self.script.procs.len()
     }
 
+    /// Whether a process that is waited for is there.
+    fn knows_awaited(&self, act: &Act) -> bool
+        ensures { result ≡ awaits_known self.now.script.procs.items act.now }
+    {
+        match act {
+            Act::Call(_) => true,
+            Act::Wait(pid, _) => self.knows(*pid),
+        }
+    }
+
     fn add_header(&mut self, header: Header) -> Result<(), LineError>
         requires { Marks (plan_of self.old.script) self.old.exited.items }
         ensures reads { Leaves (plan_of self.new.script) result (joined_by (plan_of self.old.script) (Item.Header header)) }
@@ -139,7 +148,7 @@ impl Reader {
 
     fn add_line(&mut self, line: Line) -> Result<(), LineError>
         requires { Marks (plan_of self.old.script) self.old.exited.items }
-        ensures reads { Leaves (plan_of self.new.script) result (joined_by (plan_of self.old.script) (Item.Call line)) }
+        ensures reads { Leaves (plan_of self.new.script) result (joined_by (plan_of self.old.script) (Item.Line line)) }
         ensures marks { OnOk result (Marks (plan_of self.new.script) self.new.exited.items) }
     {
         if !self.knows(line.pid) {
@@ -149,7 +158,10 @@ impl Reader {
         if self.exited[place] {
             return Err(BAD);
         }
-        if is_exit(&line.request) {
+        if !self.knows_awaited(&line.act) {
+            return Err(LineError::Fault(Fault::UnknownProcess));
+        }
+        if asks_exit(&line.act) {
             self.exited[place] = true;
         }
         self.script.lines.push(line)?;
@@ -170,7 +182,7 @@ impl Reader {
         match item {
             Item::Skipped => Ok(()),
             Item::Header(header) => self.add_header(header),
-            Item::Call(line) => self.add_line(line),
+            Item::Line(line) => self.add_line(line),
             Item::Off => {
                 self.script.off = true;
                 Ok(())
@@ -209,16 +221,18 @@ fn read_text(alloc: Global, text: &[u8]) -> Result<Script, ScriptFault>
 /// with `#` are skipped, and counted. The words of a line stand one blank apart. The header comes first,
 /// its lines in any order: `object p:NAME mem HEX`, `object p:NAME counter` and `object p:NAME pipe`
 /// number the file objects from 0, and `proc UID GID PRIV LIMIT` the processes from 1. Each further line
-/// is a process's number and a call of it: `open p:NAME MODE OFLAGS`, `read FD N`, `write FD HEX`,
+/// is a process's number and what it asks for: `open p:NAME MODE OFLAGS`, `read FD N`, `write FD HEX`,
 /// `lseek FD OFFSET WHENCE`, `dup FD`, `dup2 FD FD`, `flags FD OFLAGS`, `close FD`, `unlink p:NAME`,
 /// `socket TYPE OFLAGS`, `pair TYPE OFLAGS`, `bind FD ADDR`, `listen FD BACKLOG`, `connect FD ADDR`,
 /// `accept FD OFLAGS`, `shut FD MODE`, `sockname FD`, `peername FD`, `send FD ADDR HEX CONTROL MFLAGS`,
-/// `recv FD N SPACE MFLAGS`, `exit`. A line `off` may come last. A send's ADDR may be `-` for none; its
-/// CONTROL is `-` for no bytes, `x:HEX` for these, or `r:N,N,..` for one item of descriptor numbers.
+/// `recv FD N SPACE MFLAGS`, `exit`, or `wait PID N`, which isn't a call: where processes are threads, the
+/// process goes on when that one has N entries or more, or has exited. A line `off` may come last. A send's
+/// ADDR may be `-` for none; its CONTROL is `-` for no bytes, `x:HEX` for these, or `r:N,N,..` for one item
+/// of descriptor numbers.
 pub fn parse_script(alloc: Global, text: &[u8]) -> Result<Script, ScriptFault>
     // What is read is spelled so.
     ensures found { IfOk result (λ script. Spells (lines_of text.now) (plan_of script)) }
-    // Each line is of a process that is there and hasn't made its exit.
+    // Each line is of a process that is there and hasn't made its exit, and waits for none that isn't there.
     ensures orderly { IfOk result (λ script. IsOrderly (plan_of script)) }
     // What is spelled so is read, unless memory runs out.
     ensures only { (s : Plan) → Spells (lines_of text.now) s → GivesScript result (Ok s) }

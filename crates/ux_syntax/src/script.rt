@@ -1,7 +1,7 @@
-//! Scripts: file objects, processes, and the calls that they make.
+//! Scripts: file objects, processes, and what their lines ask for.
 
 ghost use Rattle.std.specs.Prelude.{◌≡◌};
-ghost use Rattle.ux_syntax.specs.Spelling.{is_exit};
+ghost use Rattle.ux_syntax.specs.Spelling.{asks_exit};
 
 use ux_object::ObjKind;
 use ux_types::{Bytes, Name, Pid, ProcSpec, Request};
@@ -15,15 +15,24 @@ pub struct ObjectLine {
     pub body: Bytes,
 }
 
-/// One call of a script, and the process that makes it.
+/// What a line asks for.
+#[derive(Debug, Drop)]
+pub enum Act {
+    /// A call.
+    Call(Request),
+    /// To go on when a process has so many entries or more, or has exited.
+    Wait(Pid, u32),
+}
+
+/// One line of a process: its number, and what it asks for.
 #[derive(Debug, Drop)]
 pub struct Line {
     pub pid: Pid,
-    pub request: Request,
+    pub act: Act,
 }
 
 /// The file objects of a script, of which the first has number 0, its processes, of which the first
-/// has number 1, and their calls in order.
+/// has number 1, and their lines in order.
 #[derive(Debug, Drop)]
 pub struct Script {
     pub objects: Vec<ObjectLine>,
@@ -40,8 +49,8 @@ pub(crate) enum Header {
     Proc(ProcSpec),
 }
 
-pub(crate) fn is_exit(request: &Request) -> bool
-    ensures { result ≡ is_exit request.now }
+pub(crate) fn asks_exit(act: &Act) -> bool
+    ensures { result ≡ asks_exit act.now }
 {
-    matches!(request, Request::Exit)
+    matches!(act, Act::Call(Request::Exit))
 }

@@ -7,12 +7,13 @@ mod readers;
 mod scripts;
 mod sends;
 mod traces;
+mod waits;
 
 use bstr::BString;
 use std::alloc::Global;
 use std::process::Abort;
 use std::test::*;
-use ux_syntax::{ScriptFault, parse_script};
+use ux_syntax::{Act, ScriptFault, parse_script};
 use ux_types::{Addr, Bytes, Name, Request};
 
 /// The text of the fault of a script, or none if it is read.
@@ -65,8 +66,11 @@ fn expect_bad_call(rt: &impl Abort, alloc: Global, call: &str) -> Result<(), Fai
 fn request_in(alloc: Global, call: &str) -> Result<Request, Fail> {
     let text = format!(in alloc; "proc 0 0 0 1\n1 {call}")?;
     let mut script = parse_script(alloc, text.as_bytes())?;
-    let line = script.lines.pop().ok_or("no call")?;
-    Ok(line.request)
+    let line = script.lines.pop().ok_or("no line")?;
+    match line.act {
+        Act::Call(request) => Ok(request),
+        Act::Wait(..) => Err(Fail::from("no call")),
+    }
 }
 
 /// Sees what a call of a script asks for.

@@ -65,7 +65,7 @@ const BAD_LINES: &[&str] = &[
     "1 recv 1 1 1 xd",
     "1 recv 1 1 1 e",
     "1 recv 1 1 1",
-    "1 wait 1 1",
+    "1 sleep 1 1",
     "1 off",
     "off x",
     "off ",

@@ -4,7 +4,7 @@ use std::alloc::Global;
 use std::process::Abort;
 use std::test::*;
 use ux_object::ObjKind;
-use ux_syntax::{Script, parse_script};
+use ux_syntax::{Act, Script, parse_script};
 use ux_types::{Fd, MsgFlags, OpenFlags, Pid, ProcSpec, Request, SockType};
 
 /// Sees whose a script's call is, and what it asks for.
@@ -12,7 +12,10 @@ fn expect_call(rt: &impl Abort, script: &Script, index: usize, pid: u32, request
     match script.lines.get(index) {
         Some(line) => {
             assert_eq!(rt; line.pid, Pid(pid), "at {index}");
-            assert_eq!(rt; line.request, *request, "at {index}");
+            match &line.act {
+                Act::Call(call) => assert_eq!(rt; *call, *request, "at {index}"),
+                Act::Wait(..) => assert!(rt; false, "at {index}"),
+            }
         }
         None => assert!(rt; false, "at {index}"),
     }
