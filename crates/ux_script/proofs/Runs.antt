@@ -1,7 +1,7 @@
 -- A run of a script as far as it has come.
-use mathlib.Core.Bool.{and_comm, and-true, or_assoc, or-true, or-false}
+use mathlib.Core.Bool.{and_comm, or_assoc, or-true, or-false}
 use Rattle.std.proofs.Common.{◌≡◌, ◌≢◌, ℕ, zero, suc, ◌+◌, ◌<◌, ◌≤◌, Bool, true, false, cond, not, ◌&&◌, ◌||◌, ◌==◌, ◌⊎◌, inl, inr, List, [], ◌∷◌, ◌++◌, length, get_or, take, map, filter, Some, None, refl, ap, sym, subst, ◌∙◌, append_assoc, add-one, arith}
-use Rattle.std.specs.Prelude.{if◌then◌else◌, Result, Ok, Err, OnOk, IfErr}
+use Rattle.std.specs.Prelude.{if◌then◌else◌, Result, Ok, Err, OnOk, OnErr, IfErr}
 use Rattle.std.specs.List.{AllByRecursion, range_with_len, slice_get, list_any}
 use Rattle.std.proofs.lemmas.Bool.{and_left, and_right, ne_eqb, eq-eqb, cases_lt}
 use Rattle.std.proofs.lemmas.List.{append-nil, map-append, take_more}
@@ -15,12 +15,13 @@ use Rattle.ux_model.specs.History as history
 use Rattle.ux_model.specs.History.{IsLegal, replay, is_off, has_live}
 use Rattle.ux_model.proofs.Living.{lives_until_exit}
 use Rattle.ux_model.proofs.Appending.{legal_empty, legal_push}
-use Rattle.ux_history.specs.Books.{Held, state_of, may_call}
+use Rattle.ux_history.specs.Books.{Held, state_of, ends_of}
 use Rattle.ux_history.specs.declared.fault.CallFault.{CallFault}
+use Rattle.ux_syntax.specs.declared.script.Act.{Act}
 use Rattle.ux_syntax.specs.declared.script.Line.{Line}
 use Rattle.ux_syntax.specs.declared.script.Script.{Script}
-use Rattle.ux_syntax.specs.Spelling.{plan_of, is_exit, IsOfProcess, IsQuiet, NoneAfterExit, IsCall, IsOrderly}
-use Rattle.ux_syntax.specs.Turns.{has_exited, exit_line, off_line, all_turns}
+use Rattle.ux_syntax.specs.Spelling.{plan_of, is_exit, asks_exit, asks_off, NamesProcesses, IsQuiet, NoneAfterExit, IsCall, IsOrderly}
+use Rattle.ux_syntax.specs.Turns.{has_exited, exit_line, off_line, is_call, call_lines, all_turns}
 use Rattle.ux_script.specs.Runs.{line_of_entry, exits_of, Makes, MakesOne}
 
 -- ---- who lives
@@ -56,6 +57,15 @@ lives_by_lines boot procs es lines p same legal made first last =
     ∙ (λ j. boot_live boot procs p same first last j && not (exited_lines es p j))
     ∙ ap (λ ls. not (has_exited ls p)) made
 
+-- an exit is a call
+first_exit : (xs : List Line) (p : ℕ) (pid : Pid) (act : Act) → has_exited (call_lines xs) p ≡ has_exited xs p → has_exited (call_lines (record { pid = pid; act = act } ∷ xs)) p ≡ has_exited (record { pid = pid; act = act } ∷ xs) p
+first_exit xs p pid (Act.Call request) h = ap (λ b. ((pid.0 == p) && is_exit request) || b) h
+first_exit xs p pid (Act.Wait other calls) h = h ∙ ap (λ b. b || has_exited xs p) (sym (and_right (pid.0 == p) false refl))
+
+exited_calls : (lines : List Line) (p : ℕ) → has_exited (call_lines lines) p ≡ has_exited lines p
+exited_calls [] p = refl
+exited_calls (x ∷ xs) p = first_exit xs p x.pid x.act (exited_calls xs p)
+
 -- ---- the script's own calls
 
 all_at : (P : Line → Type 0) (i : ℕ) (lines : List Line) (line : Line) → AllByRecursion P lines → i < length lines → line ≡ get_or lines i line → P line
@@ -73,24 +83,40 @@ not_exited : (i : ℕ) (lines : List Line) (line : Line) → NoneAfterExit lines
 not_exited i [] line none inside item = absurd (omega (arith, inside))
 not_exited zero (x ∷ xs) line none inside item = refl
 not_exited (suc i) (x ∷ xs) line none inside item =
-    (λ j. first (is_exit x.request) refl j || has_exited (take i xs) line.pid.0) ∙ not_exited i xs line none.1 (omega (arith, inside)) item
+    (λ j. first (asks_exit x.act) refl j || has_exited (take i xs) line.pid.0) ∙ not_exited i xs line none.1 (omega (arith, inside)) item
   where
-    first : (b : Bool) → is_exit x.request ≡ b → ((x.pid.0 == line.pid.0) && is_exit x.request) ≡ false
+    first : (b : Bool) → asks_exit x.act ≡ b → ((x.pid.0 == line.pid.0) && asks_exit x.act) ≡ false
     first true h =
         let other = quiet_at x.pid.0 i xs line (none.0 h) (omega (arith, inside)) item in
         and_left _ _ (ne_eqb x.pid.0 line.pid.0 (λ g. other (sym g)))
     first false h = and_right _ _ h
 
 -- the process of a line lives when the lines before it were made
-pub line_lives : (boot : State) (procs : List ProcSpec) (lines : List Line) (es : List Entry) (i : ℕ) (line : Line) → boot.processes ≡ map new_process procs → IsLegal boot es → map line_of_entry es ≡ take i lines →
-    AllByRecursion (IsOfProcess (length procs)) lines → NoneAfterExit lines → i < length lines → line ≡ get_or lines i line →
+pub line_lives : (boot : State) (procs : List ProcSpec) (lines : List Line) (es : List Entry) (i : ℕ) (line : Line) → boot.processes ≡ map new_process procs → IsLegal boot es → map line_of_entry es ≡ call_lines (take i lines) →
+    AllByRecursion (NamesProcesses (length procs)) lines → NoneAfterExit lines → i < length lines → line ≡ get_or lines i line →
     is_live (replay boot es) line.pid.0 ≡ true
 line_lives boot procs lines es i line same legal made all none inside item =
-    let here = all_at (IsOfProcess (length procs)) i lines line all inside item in
-    lives_by_lines boot procs es (take i lines) line.pid.0 same legal made here.0 here.1 ∙ ap not (not_exited i lines line none inside item)
+    let here = all_at (NamesProcesses (length procs)) i lines line all inside item in
+    lives_by_lines boot procs es (call_lines (take i lines)) line.pid.0 same legal made here.0.0 here.0.1
+    ∙ ap not (exited_calls (take i lines) line.pid.0 ∙ not_exited i lines line none inside item)
 
-pub line_made : (lines made : List Line) (i : ℕ) (line : Line) → i < length lines → line ≡ get_or lines i line → made ≡ take i lines → made ++ line ∷ [] ≡ take (i + 1) lines
-line_made lines made i line inside item so_far = ap (λ l. l ++ line ∷ []) so_far ∙ ap (λ x. take i lines ++ x ∷ []) item ∙ sym (take_more lines i line inside)
+-- with one line more there may be one call more
+calls_more : (lines : List Line) (i : ℕ) (line : Line) → i < length lines → line ≡ get_or lines i line → call_lines (take i lines) ++ call_lines (line ∷ []) ≡ call_lines (take (i + 1) lines)
+calls_more lines i line inside item =
+    sym (filter-append (λ (x : Line). is_call x.act) (take i lines) (line ∷ []))
+    ∙ ap (λ x. call_lines (take i lines ++ x ∷ [])) item
+    ∙ ap call_lines (sym (take_more lines i line inside))
+
+-- where the line is a call
+pub call_made : (lines : List Line) (i : ℕ) (line : Line) (request : Request) → i < length lines → line ≡ get_or lines i line → line.act ≡ Act.Call request → call_lines (take i lines) ++ record { pid = line.pid; act = Act.Call request } ∷ [] ≡ call_lines (take (i + 1) lines)
+call_made lines i line request inside item asks = ap (λ (a : Act). call_lines (take i lines) ++ call_lines (record { pid = line.pid; act = a } ∷ [])) (sym asks) ∙ calls_more lines i line inside item
+
+-- and where it isn't
+pub wait_passed : (lines : List Line) (i : ℕ) (line : Line) (pid : Pid) (calls : ℕ) → i < length lines → line ≡ get_or lines i line → line.act ≡ Act.Wait pid calls → call_lines (take i lines) ≡ call_lines (take (i + 1) lines)
+wait_passed lines i line pid calls inside item asks =
+    sym (append-nil (call_lines (take i lines)))
+    ∙ ap (λ (a : Act). call_lines (take i lines) ++ call_lines (record { pid = line.pid; act = a } ∷ [])) (sym asks)
+    ∙ calls_more lines i line inside item
 
 -- ---- the missing exits
 
@@ -106,15 +132,15 @@ exits_more lines n =
     ∙ ap (λ (ks : List ℕ). map exit_line ks) (filter-append p (range_with_len 1 n) ((n + 1) ∷ []))
     ∙ map-append exit_line (filter p (range_with_len 1 n)) (filter p ((n + 1) ∷ []))
 
-pub exit_made : (lines made : List Line) (n : ℕ) → has_exited lines (n + 1) ≡ false → made ≡ lines ++ exits_of lines n → made ++ exit_line (n + 1) ∷ [] ≡ lines ++ exits_of lines (n + 1)
-exit_made lines made n live so_far = rw (exits_more lines n, live, so_far) (append_assoc lines (exits_of lines n) (exit_line (n + 1) ∷ []))
+pub exit_made : (lines made : List Line) (n : ℕ) → has_exited lines (n + 1) ≡ false → made ≡ call_lines lines ++ exits_of lines n → made ++ exit_line (n + 1) ∷ [] ≡ call_lines lines ++ exits_of lines (n + 1)
+exit_made lines made n live so_far = rw (exits_more lines n, live, so_far) (append_assoc (call_lines lines) (exits_of lines n) (exit_line (n + 1) ∷ []))
 
-pub exit_there : (lines made : List Line) (n : ℕ) → has_exited lines (n + 1) ≡ true → made ≡ lines ++ exits_of lines n → made ≡ lines ++ exits_of lines (n + 1)
+pub exit_there : (lines made : List Line) (n : ℕ) → has_exited lines (n + 1) ≡ true → made ≡ call_lines lines ++ exits_of lines n → made ≡ call_lines lines ++ exits_of lines (n + 1)
 exit_there lines made n gone so_far = rw (exits_more lines n, gone, append-nil (exits_of lines n)) so_far
 
 exited-append : (xs ys : List Line) (p : ℕ) → has_exited (xs ++ ys) p ≡ has_exited xs p || has_exited ys p
 exited-append [] ys p = refl
-exited-append (x ∷ xs) ys p = ap (λ b. ((x.pid.0 == p) && is_exit x.request) || b) (exited-append xs ys p) ∙ sym (or_assoc ((x.pid.0 == p) && is_exit x.request) (has_exited xs p) (has_exited ys p))
+exited-append (x ∷ xs) ys p = ap (λ b. ((x.pid.0 == p) && asks_exit x.act) || b) (exited-append xs ys p) ∙ sym (or_assoc ((x.pid.0 == p) && asks_exit x.act) (has_exited xs p) (has_exited ys p))
 
 -- the exits so far are of other processes
 others_exits : (lines : List Line) (n p : ℕ) → n < p → has_exited (exits_of lines n) p ≡ false
@@ -131,11 +157,11 @@ others_exits lines (suc n) p below =
     last false = ap (λ b. (b && true) || false) (ne_eqb (n + 1) p (λ h. omega (arith, h, below)))
 
 -- whether the next process has made its exit, after the script's calls and some of the missing exits
-pub exit_known : (boot : State) (procs : List ProcSpec) (lines : List Line) (es : List Entry) (n : ℕ) → boot.processes ≡ map new_process procs → IsLegal boot es → map line_of_entry es ≡ lines ++ exits_of lines n → n < length procs →
+pub exit_known : (boot : State) (procs : List ProcSpec) (lines : List Line) (es : List Entry) (n : ℕ) → boot.processes ≡ map new_process procs → IsLegal boot es → map line_of_entry es ≡ call_lines lines ++ exits_of lines n → n < length procs →
     is_live (replay boot es) (n + 1) ≡ not (has_exited lines (n + 1))
 exit_known boot procs lines es n same legal made inside =
-    lives_by_lines boot procs es (lines ++ exits_of lines n) (n + 1) same legal made (omega arith) (omega (arith, inside))
-    ∙ ap not (exited-append lines (exits_of lines n) (n + 1) ∙ ap (λ b. has_exited lines (n + 1) || b) (others_exits lines n (n + 1) (omega arith)) ∙ or-false (has_exited lines (n + 1)))
+    lives_by_lines boot procs es (call_lines lines ++ exits_of lines n) (n + 1) same legal made (omega arith) (omega (arith, inside))
+    ∙ ap not (exited-append (call_lines lines) (exits_of lines n) (n + 1) ∙ (λ j. exited_calls lines (n + 1) j || others_exits lines n (n + 1) (omega arith) j) ∙ or-false (has_exited lines (n + 1)))
 
 -- ---- the end
 
@@ -159,8 +185,8 @@ missing_exits lines (suc n) p none first last =
         ∙ or-true (has_exited (exits_of lines n) p)
     go (inr within) before = ap (λ b. b || has_exited (map exit_line (if not (has_exited lines (n + 1)) then (n + 1) ∷ [] else [])) p) (before within)
 
-exited_all : (lines : List Line) (n p : ℕ) → 1 ≤ p → p ≤ n → has_exited (lines ++ exits_of lines n) p ≡ true
-exited_all lines n p first last = exited-append lines (exits_of lines n) p ∙ go (has_exited lines p) refl
+exited_all : (lines : List Line) (n p : ℕ) → 1 ≤ p → p ≤ n → has_exited (call_lines lines ++ exits_of lines n) p ≡ true
+exited_all lines n p first last = exited-append (call_lines lines) (exits_of lines n) p ∙ ap (λ b. b || has_exited (exits_of lines n) p) (exited_calls lines p) ∙ go (has_exited lines p) refl
   where
     go : (b : Bool) → has_exited lines p ≡ b → (b || has_exited (exits_of lines n) p) ≡ true
     go true h = refl
@@ -173,117 +199,107 @@ nobody S gone = go S.processes gone
     go [] g = refl
     go (P ∷ Ps) g = λ j. g 0 j || go Ps (λ i. g (suc i)) j
 
-all_gone : (boot : State) (procs : List ProcSpec) (lines : List Line) (es : List Entry) → boot.processes ≡ map new_process procs → IsLegal boot es → map line_of_entry es ≡ lines ++ exits_of lines (length procs) →
+all_gone : (boot : State) (procs : List ProcSpec) (lines : List Line) (es : List Entry) → boot.processes ≡ map new_process procs → IsLegal boot es → map line_of_entry es ≡ call_lines lines ++ exits_of lines (length procs) →
     has_live (replay boot es) ≡ false
 all_gone boot procs lines es same legal made = nobody (replay boot es) (λ i. go i (cases_lt i (length procs)))
   where
     go : (i : ℕ) → (i < length procs) ⊎ (length procs ≤ i) → is_live (replay boot es) (suc i) ≡ false
     go i (inl inside) =
-        lives_by_lines boot procs es (lines ++ exits_of lines (length procs)) (suc i) same legal made (omega arith) (omega (arith, inside))
+        lives_by_lines boot procs es (call_lines lines ++ exits_of lines (length procs)) (suc i) same legal made (omega arith) (omega (arith, inside))
         ∙ ap not (exited_all lines (length procs) (suc i) (omega arith) (omega (arith, inside)))
     go i (inr past) = lives_until_exit boot es (suc i) legal ∙ ap (λ b. b && not (history.has_exited (suc i) es)) (boot_past boot procs i same past)
 
--- no line is of nobody
-abbrev IsOfSomebody : Line → Type 0
-IsOfSomebody line = 1 ≤ line.pid.0
+both_calls : (xs ys : List Line) → AllByRecursion IsCall xs → AllByRecursion IsCall ys → AllByRecursion IsCall (xs ++ ys)
+both_calls [] ys a b = b
+both_calls (x ∷ xs) ys a b = (a.0, both_calls xs ys a.1 b)
 
-both_of : (xs ys : List Line) → AllByRecursion IsOfSomebody xs → AllByRecursion IsOfSomebody ys → AllByRecursion IsOfSomebody (xs ++ ys)
-both_of [] ys a b = b
-both_of (x ∷ xs) ys a b = (a.0, both_of xs ys a.1 b)
-
-known_of : (count : ℕ) (lines : List Line) → AllByRecursion (IsOfProcess count) lines → AllByRecursion IsOfSomebody lines
-known_of count [] all = tt
-known_of count (x ∷ xs) all = (all.0.0, known_of count xs all.1)
-
-exits_known : (lines : List Line) (n : ℕ) → AllByRecursion IsOfSomebody (exits_of lines n)
-exits_known lines zero = tt
-exits_known lines (suc n) =
-    let one : suc n ≡ n + 1 = omega arith in
-    subst (AllByRecursion IsOfSomebody) (sym (ap (exits_of lines) one ∙ exits_more lines n)) (both_of _ _ (exits_known lines n) (last (has_exited lines (n + 1))))
+all_calls : (xs : List Line) → AllByRecursion IsCall xs → AllByRecursion IsCall (call_lines xs)
+all_calls [] a = tt
+all_calls (x ∷ xs) a = go (is_call x.act) (all_calls xs a.1)
   where
-    last : (b : Bool) → AllByRecursion IsOfSomebody (map exit_line (if not b then (n + 1) ∷ [] else []))
+    go : (b : Bool) → AllByRecursion IsCall (call_lines xs) → AllByRecursion IsCall (cond b (x ∷ call_lines xs) (call_lines xs))
+    go true rest = (a.0, rest)
+    go false rest = rest
+
+-- no exit is the end of the layer
+exits_are_calls : (lines : List Line) (n : ℕ) → AllByRecursion IsCall (exits_of lines n)
+exits_are_calls lines zero = tt
+exits_are_calls lines (suc n) =
+    let one : suc n ≡ n + 1 = omega arith in
+    subst (AllByRecursion IsCall) (sym (ap (exits_of lines) one ∙ exits_more lines n)) (both_calls _ _ (exits_are_calls lines n) (last (has_exited lines (n + 1))))
+  where
+    last : (b : Bool) → AllByRecursion IsCall (map exit_line (if not b then (n + 1) ∷ [] else []))
     last true = tt
-    last false = (omega arith, tt)
+    last false = (refl, tt)
 
-none_of_nobody : (es : List Entry) → AllByRecursion IsOfSomebody (map line_of_entry es) → history.calls_of 0 es ≡ 0
-none_of_nobody [] all = refl
-none_of_nobody (e ∷ es) all =
-    sum_by-cons (λ (x : Entry). cond {A = ℕ} (x.pid.0 == 0) 1 0) e es
-    ∙ (λ j. cond {A = ℕ} (ne_eqb e.pid.0 0 (λ h. omega (arith, h, all.0)) j) 1 0 + none_of_nobody es all.1 j)
-
--- after all exits the layer may be ended
-pub end_allowed : (boot : State) (procs : List ProcSpec) (lines : List Line) (es : List Entry) → boot.processes ≡ map new_process procs → IsLegal boot es →
-    map line_of_entry es ≡ lines ++ exits_of lines (length procs) → AllByRecursion (IsOfProcess (length procs)) lines →
-    may_call (record { boot = boot; entries = es }) (record { 0 = 0 }) 0 Request.Off ≡ true
-end_allowed boot procs lines es same legal made all =
-    let somebody = subst (AllByRecursion IsOfSomebody) (sym made) (both_of _ _ (known_of (length procs) lines all) (exits_known lines (length procs))) in
-    (λ j. not (all_gone boot procs lines es same legal made j) && (none_of_nobody es somebody j == 0))
-
--- a call of a live process, which isn't the end of the layer
-pub call_known : (book : Held) (pid : Pid) (k : ℕ) (request : Request) → is_off request ≡ false → k ≡ history.calls_of pid.0 book.entries → may_call book pid k request ≡ is_live (state_of book) pid.0
-call_known book pid k request call count =
-    (λ j. (if call j then (pid.0 == 0) && ((k == 0) && not (has_live (state_of book))) else is_live (state_of book) pid.0) && (sym count j == k))
-    ∙ ap (λ b. is_live (state_of book) pid.0 && b) (eq-eqb k k refl)
-    ∙ and-true (is_live (state_of book) pid.0)
+-- where all lines are calls, the layer wasn't ended
+not_ended : (es : List Entry) → AllByRecursion IsCall (map line_of_entry es) → ends_of es ≡ 0
+not_ended [] all = refl
+not_ended (e ∷ es) all =
+    sum_by-cons (λ (x : Entry). cond {A = ℕ} (is_off x.request) 1 0) e es
+    ∙ (λ j. cond {A = ℕ} (all.0 j) 1 0 + not_ended es all.1 j)
 
 -- ---- a run as far as it has come
 
 -- one more entry of a process
 pub makes_more : (old new : Held) (script : Script) (pid : Pid) (request : Request) (made : List Line) → MakesOne old new pid request → Makes old script made →
-    Makes new script (made ++ record { pid = pid; request = request } ∷ [])
+    Makes new script (made ++ record { pid = pid; act = Act.Call request } ∷ [])
 makes_more old new script pid request made one so_far =
-    let now = one.appended.appended in
+    let now = one.appended.adds.appended in
     record {
       processes = ap (λ (h : Held). State.processes h.boot) now ∙ so_far.processes;
-      legal = subst (λ (h : Held). IsLegal h.boot h.entries) (sym now) (legal_push old.boot old.entries _ so_far.legal one.appended.next);
+      legal = subst (λ (h : Held). IsLegal h.boot h.entries) (sym now) (legal_push old.boot old.entries _ so_far.legal one.appended.adds.next);
       calls = ap (λ (h : Held). map line_of_entry h.entries) now
           ∙ map-append line_of_entry old.entries (_ ∷ [])
-          ∙ ap (λ ls. ls ++ record { pid = pid; request = request } ∷ []) so_far.calls;
+          ∙ ap (λ ls. ls ++ record { pid = pid; act = Act.Call request } ∷ []) so_far.calls;
     }
 
 pub makes_same : (book : Held) (script : Script) (made more : List Line) → made ≡ more → Makes book script made → Makes book script more
 makes_same book script made more e so_far = record { processes = so_far.processes; legal = so_far.legal; calls = so_far.calls ∙ e }
 
 pub boot_kept : (old new : Held) (pid : Pid) (request : Request) → MakesOne old new pid request → new.boot ≡ old.boot
-boot_kept old new pid request one = ap Held.boot one.appended.appended
+boot_kept old new pid request one = ap Held.boot one.appended.adds.appended
 
--- a line of an orderly script is no stranger's
-pub no_stranger : (book : Held) (script : Script) (i : ℕ) (line : Line) → IsOrderly (plan_of script) → Makes book script (take i script.lines.items) → i < length script.lines.items → line ≡ get_or script.lines.items i line →
-    (is_off line.request ≡ false) × (is_live (state_of book) line.pid.0 ≡ true)
-no_stranger book script i line orderly so_far inside item = (
-  all_at IsCall i script.lines.items line orderly.calls inside item,
+-- a call of an orderly script is no stranger's
+pub no_stranger : (book : Held) (script : Script) (i : ℕ) (line : Line) (request : Request) → IsOrderly (plan_of script) → Makes book script (call_lines (take i script.lines.items)) → i < length script.lines.items → line ≡ get_or script.lines.items i line → line.act ≡ Act.Call request →
+    (is_off request ≡ false) × (is_live (state_of book) line.pid.0 ≡ true)
+no_stranger book script i line request orderly so_far inside item asks = (
+  ap asks_off (sym asks) ∙ all_at IsCall i script.lines.items line orderly.calls inside item,
   line_lives book.boot script.procs.items script.lines.items book.entries i line so_far.processes so_far.legal so_far.calls orderly.processes orderly.exits inside item,
 )
 
--- nor is the end of the layer behind all exits
-pub no_stranger_ends : (book : Held) (script : Script) (n : ℕ) → IsOrderly (plan_of script) → n ≡ length script.procs.items → Makes book script (script.lines.items ++ exits_of script.lines.items n) →
-    may_call book (record { 0 = 0 }) 0 Request.Off ≡ true
-no_stranger_ends book script n orderly count so_far =
-    end_allowed book.boot script.procs.items script.lines.items book.entries so_far.processes so_far.legal
-    (so_far.calls ∙ ap (λ m. script.lines.items ++ exits_of script.lines.items m) count) orderly.processes
+-- nor is the end of the layer behind all exits refused
+pub no_stranger_ends : (book : Held) (script : Script) (n : ℕ) → IsOrderly (plan_of script) → n ≡ length script.procs.items → Makes book script (call_lines script.lines.items ++ exits_of script.lines.items n) →
+    (has_live (state_of book) ≡ false → ends_of book.entries ≡ 1) → ⊥
+no_stranger_ends book script n orderly count so_far refused =
+    let lines = script.lines.items in
+    let made = so_far.calls ∙ ap (λ m. call_lines lines ++ exits_of lines m) count in
+    let none = not_ended book.entries (subst (AllByRecursion IsCall) (sym so_far.calls) (both_calls _ _ (all_calls lines orderly.calls) (exits_are_calls lines n))) in
+    let once = refused (all_gone book.boot script.procs.items lines book.entries so_far.processes so_far.legal made) in
+    omega (arith, none, once)
 
 -- all calls of a run without an end, and with one
-pub without_end : (script : Script) (n : ℕ) → n ≡ length script.procs.items → script.off ≡ false → script.lines.items ++ exits_of script.lines.items n ≡ all_turns (plan_of script)
+pub without_end : (script : Script) (n : ℕ) → n ≡ length script.procs.items → script.off ≡ false → call_lines script.lines.items ++ exits_of script.lines.items n ≡ all_turns (plan_of script)
 without_end script n count no_end =
-    ap (λ m. script.lines.items ++ exits_of script.lines.items m) count
-    ∙ ap (λ ls. script.lines.items ++ ls) (sym (append-nil (exits_of script.lines.items (length script.procs.items))))
-    ∙ ap (λ b. script.lines.items ++ (exits_of script.lines.items (length script.procs.items) ++ (if b then off_line ∷ [] else []))) (sym no_end)
+    ap (λ m. call_lines script.lines.items ++ exits_of script.lines.items m) count
+    ∙ ap (λ ls. call_lines script.lines.items ++ ls) (sym (append-nil (exits_of script.lines.items (length script.procs.items))))
+    ∙ ap (λ b. call_lines script.lines.items ++ (exits_of script.lines.items (length script.procs.items) ++ (if b then off_line ∷ [] else []))) (sym no_end)
 
-pub with_end : (script : Script) (n : ℕ) → n ≡ length script.procs.items → script.off ≡ true → (script.lines.items ++ exits_of script.lines.items n) ++ off_line ∷ [] ≡ all_turns (plan_of script)
+pub with_end : (script : Script) (n : ℕ) → n ≡ length script.procs.items → script.off ≡ true → (call_lines script.lines.items ++ exits_of script.lines.items n) ++ off_line ∷ [] ≡ all_turns (plan_of script)
 with_end script n count end =
-    ap (λ m. (script.lines.items ++ exits_of script.lines.items m) ++ off_line ∷ []) count
-    ∙ append_assoc script.lines.items (exits_of script.lines.items (length script.procs.items)) (off_line ∷ [])
-    ∙ ap (λ b. script.lines.items ++ (exits_of script.lines.items (length script.procs.items) ++ (if b then off_line ∷ [] else []))) (sym end)
+    ap (λ m. (call_lines script.lines.items ++ exits_of script.lines.items m) ++ off_line ∷ []) count
+    ∙ append_assoc (call_lines script.lines.items) (exits_of script.lines.items (length script.procs.items)) (off_line ∷ [])
+    ∙ ap (λ b. call_lines script.lines.items ++ (exits_of script.lines.items (length script.procs.items) ++ (if b then off_line ∷ [] else []))) (sym end)
 
 -- a book that was just opened
 pub makes_none : (book : Held) (script : Script) (boot : State) → book ≡ record { boot = boot; entries = [] } → IsBootState boot → boot.processes ≡ map new_process script.procs.items → Makes book script []
 makes_none book script boot new boots same = subst (λ (h : Held). Makes h script []) (sym new) (record { processes = same; legal = legal_empty boot boots; calls = refl })
 
--- what follows from a success, and from a fault
+-- what follows from a success, and from a refusal
 pub ok_then : {P Q : Type 0} (r : Result (Unit {0}) CallFault) → (P → Q) → OnOk r P → OnOk r Q
 ok_then (Ok u) f p = f p
 ok_then (Err e) f p = tt
 
-pub err_then : {P Q : CallFault → Type 0} (r : Result (Unit {0}) CallFault) → ((f : CallFault) → P f → Q f) → IfErr r P → IfErr r Q
+pub err_then : {P : Type 0} {Q : CallFault → Type 0} (r : Result (Unit {0}) CallFault) → (P → (f : CallFault) → Q f) → OnErr r P → IfErr r Q
 err_then (Ok u) f p = tt
-err_then (Err e) f p = f e p
+err_then (Err e) f p = f p e

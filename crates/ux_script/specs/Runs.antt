@@ -8,6 +8,7 @@ use Rattle.ux_model.specs.Boot.{new_process}
 use Rattle.ux_history.specs.Books.{Held, Appends}
 use Rattle.ux_model.specs.History.{IsLegal}
 use Rattle.ux_syntax.specs.declared.fault.ScriptFault.{ScriptFault}
+use Rattle.ux_syntax.specs.declared.script.Act.{Act}
 use Rattle.ux_syntax.specs.declared.script.Line.{Line}
 use Rattle.ux_syntax.specs.declared.script.Script.{Script}
 use Rattle.ux_syntax.specs.Spelling.{Plan}
@@ -17,7 +18,7 @@ use Rattle.ux_script.specs.Writes.{AppendsBeginning}
 
 -- the line of a script that asks for an entry's call
 abbrev pub line_of_entry : Entry → Line
-line_of_entry e = record { pid = e.pid; request = e.request }
+line_of_entry e = record { pid = e.pid; act = Act.Call e.request }
 
 -- nothing was written, or a beginning of the trace of a legal history from this state, which makes the script's calls in order, then the missing exits, and the end of the layer where the script has it
 abbrev pub WritesBeginning : State → Plan → Option (List ℕ) → Option (List ℕ) → Type 0

@@ -2,9 +2,10 @@
 #![tactic(auto)]
 
 mod run;
+mod serial;
 mod write;
 
-pub use run::run_serial;
+pub use run::{run_serial, tell};
 pub use write::write_trace;
 
 #[cfg(test)]

@@ -9,7 +9,7 @@ use std::process::Abort;
 use std::test::Fail;
 use ux_kernel::Kernel;
 use ux_objects::Counter;
-use ux_syntax::{Line, Script, ScriptFault, parse_script};
+use ux_syntax::{Act, Line, Script, ScriptFault, parse_script};
 use ux_types::{Entry, Name, Pid, Request};
 
 const SEND_AND_RECEIVE: (&str, &str) = (
@@ -68,6 +68,18 @@ proc 1000 1000 0 16
 3 1 1 exit = ok
 ",
 );
+
+/// The same with waits, one of which is never over.
+const TWO_PROCESSES_THAT_WAIT: &str = "proc 0 0 1 16
+proc 1000 1000 0 16
+1 wait 2 2
+2 wait 2 0
+2 pair stream n
+2 wait 1 99
+2 exit
+1 pair stream x
+1 wait 2 0
+";
 
 /// The end of the layer is an entry of process 0, behind the exits that a script leaves out.
 const ENDED_LAYER: (&str, &str) = (
@@ -173,6 +185,13 @@ fn scripts_have_their_traces(rt: HostRuntime) -> Result<(), Fail> {
         check_trace(&rt, rt.alloc(), *row)?;
     }
     Ok(())
+}
+
+#[test]
+fn a_script_with_waits_has_the_trace_of_the_script_without_them(
+    rt: HostRuntime,
+) -> Result<(), Fail> {
+    check_trace(&rt, rt.alloc(), (TWO_PROCESSES_THAT_WAIT, TWO_PROCESSES.1))
 }
 
 /// Sees that a script has this fault, and that nothing of it is written.
@@ -282,7 +301,7 @@ fn a_call_of_nobody_is_a_stranger(rt: HostRuntime) -> Result<(), Fail> {
     };
     script.lines.push(Line {
         pid: Pid(1),
-        request: Request::Exit,
+        act: Act::Call(Request::Exit),
     })?;
     let mut written: Vec<u8> = Vec::new(alloc);
     let told = run_over(alloc, &script, &mut written);

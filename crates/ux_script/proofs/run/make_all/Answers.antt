@@ -1,7 +1,7 @@
-use Rattle.std.proofs.Common.{◌++◌, ◌∙◌, sym}
-use Rattle.std.proofs.lemmas.Bool.{false≢true}
+use Rattle.std.proofs.Common.{◌++◌, ◌∙◌}
 use Rattle.std.proofs.lemmas.Result.{err_from_is_err_and}
 use Rattle.ux_model.specs.Types.{Request}
+use Rattle.ux_syntax.specs.Turns.{call_lines}
 use Rattle.ux_script.specs.Runs.{exits_of}
 use Rattle.ux_script.proofs.Runs.{makes_more, makes_same, boot_kept, without_end, with_end, no_stranger_ends, ok_then, err_then}
 use Rattle.ux_script.proofs.run.make_all.Goals as goal
@@ -19,24 +19,24 @@ returns-in_err-make_exits-clause-stranger g c =
 pub returns-then-not-script-clause-made : goal.returns-then-not-script-clause-made
 returns-then-not-script-clause-made g c =
     let script = c.args.script.now in
-    makes_same c.make_exits.new.book script _ _ (without_end script c.args.count c.requires.count c.if-not-script.true) c.in_ok-make_exits.ensures.made
+    makes_same c.make_exits.new.serial script _ _ (without_end script c.args.count c.requires.count c.if-not-script.true) c.in_ok-make_exits.ensures.made
 
 pub returns-clause-made : goal.returns-clause-made
 returns-clause-made g c =
     let script = c.args.script.now in
-    ok_then c.make_end.result
-    (λ one. makes_same c.make_end.new.book script _ _ (with_end script c.args.count c.requires.count c.if-not-script.false)
-    (makes_more c.make_exits.new.book c.make_end.new.book script (record { 0 = 0 }) Request.Off (script.lines.items ++ exits_of script.lines.items c.args.count) one c.in_ok-make_exits.ensures.made))
-    c.make_end.ensures.entry
+    ok_then c.end.result
+    (λ one. makes_same c.end.new.self script _ _ (with_end script c.args.count c.requires.count c.if-not-script.false)
+    (makes_more c.make_exits.new.serial c.end.new.self script (record { 0 = 0 }) Request.Off (call_lines script.lines.items ++ exits_of script.lines.items c.args.count) one c.in_ok-make_exits.ensures.made))
+    c.end.ensures.entry
 
 pub returns-clause-boot : goal.returns-clause-boot
 returns-clause-boot g c =
-    ok_then c.make_end.result
-    (λ one. boot_kept c.make_exits.new.book c.make_end.new.book (record { 0 = 0 }) Request.Off one ∙ c.in_ok-make_exits.ensures.boot ∙ c.in_ok-make_calls.ensures.boot)
-    c.make_end.ensures.entry
+    ok_then c.end.result
+    (λ one. boot_kept c.make_exits.new.serial c.end.new.self (record { 0 = 0 }) Request.Off one ∙ c.in_ok-make_exits.ensures.boot ∙ c.in_ok-make_calls.ensures.boot)
+    c.end.ensures.entry
 
 pub returns-clause-stranger : goal.returns-clause-stranger
 returns-clause-stranger g c =
-    err_then c.make_end.result
-    (λ f told stranger orderly. false≢true (sym (told stranger) ∙ no_stranger_ends c.make_exits.new.book c.args.script.now c.args.count orderly c.requires.count c.in_ok-make_exits.ensures.made))
-    c.make_end.ensures.stranger
+    err_then c.end.result
+    (λ refused f stranger orderly. no_stranger_ends c.make_exits.new.serial c.args.script.now c.args.count orderly c.requires.count c.in_ok-make_exits.ensures.made refused)
+    c.end.ensures.stranger

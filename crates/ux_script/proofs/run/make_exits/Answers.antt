@@ -2,6 +2,7 @@ use Rattle.std.proofs.Common.{◌≡◌, ◌<◌, ◌+◌, ◌++◌, length, ref
 use Rattle.std.proofs.lemmas.Bool.{not-true, not-false}
 use Rattle.ux_model.specs.Types.{Request}
 use Rattle.ux_history.specs.Books.{Held}
+use Rattle.ux_syntax.specs.Turns.{call_lines}
 use Rattle.ux_script.specs.Runs.{exits_of, Makes}
 use Rattle.ux_script.proofs.Runs.{makes_more, makes_same, boot_kept, exit_known, exit_made, exit_there}
 use Rattle.ux_script.proofs.run.make_exits.Goals as goal
@@ -12,25 +13,25 @@ loop-index-preserved g c =
     let script = c.args.script.now in
     let lines = script.lines.items in
     let n = c.loop-index.index in
-    let old = c.loop-index.book in
+    let old = c.loop-index.serial in
     let so_far = c.loop-index.invariant.so_far in
-    let made = lines ++ exits_of lines n in
+    let made = call_lines lines ++ exits_of lines n in
     let inside : n < length script.procs.items = omega (arith, c.loop-index-test.true, c.requires.count) in
     let known = c.is_live.ensures ∙ exit_known old.boot script.procs.items lines old.entries n so_far.processes so_far.legal so_far.calls inside in
     elim c.if-is_live.branch [
       | then-is_live+in_ok-call w ↦
           let one = w.in_ok-call.ensures.entry in
           record {
-            so_far = subst (λ (h : Held). Makes h script (lines ++ exits_of lines (n + 1))) (sym w.book-is)
+            so_far = subst (λ (h : Held). Makes h script (call_lines lines ++ exits_of lines (n + 1))) (sym w.serial-is)
                 (makes_same _ script _ _ (exit_made lines made n (not-true _ (sym known ∙ w.if-is_live.true)) refl)
-                (makes_more old w.call.new.book script (record { 0 = n + 1 }) Request.Exit made one so_far));
-            same_boot = subst (λ (h : Held). h.boot ≡ c.args.book.now.boot) (sym w.book-is)
-                (boot_kept old w.call.new.book (record { 0 = n + 1 }) Request.Exit one ∙ c.loop-index.invariant.same_boot);
+                (makes_more old w.call.new.self script (record { 0 = n + 1 }) Request.Exit made one so_far));
+            same_boot = subst (λ (h : Held). h.boot ≡ c.args.serial.now.boot) (sym w.serial-is)
+                (boot_kept old w.call.new.self (record { 0 = n + 1 }) Request.Exit one ∙ c.loop-index.invariant.same_boot);
           }
       | else-is_live w ↦ record {
-        so_far = subst (λ (h : Held). Makes h script (lines ++ exits_of lines (n + 1))) (sym w.book-is)
+        so_far = subst (λ (h : Held). Makes h script (call_lines lines ++ exits_of lines (n + 1))) (sym w.serial-is)
             (makes_same old script made _ (exit_there lines made n (not-false _ (sym known ∙ w.if-is_live.false)) refl) so_far);
-        same_boot = subst (λ (h : Held). h.boot ≡ c.args.book.now.boot) (sym w.book-is) c.loop-index.invariant.same_boot;
+        same_boot = subst (λ (h : Held). h.boot ≡ c.args.serial.now.boot) (sym w.serial-is) c.loop-index.invariant.same_boot;
       }
     ]
 
@@ -38,4 +39,4 @@ pub returns-clause-made : goal.returns-clause-made
 returns-clause-made g c =
     let script = c.args.script.now in
     let over : c.loop-index.index ≡ c.args.count = omega arith in
-    makes_same c.loop-index.book script _ _ (ap (λ m. script.lines.items ++ exits_of script.lines.items m) over) c.loop-index.invariant.so_far
+    makes_same c.loop-index.serial script _ _ (ap (λ m. call_lines script.lines.items ++ exits_of script.lines.items m) over) c.loop-index.invariant.so_far

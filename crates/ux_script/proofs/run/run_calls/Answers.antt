@@ -7,7 +7,7 @@ use Rattle.ux_script.proofs.run.run_calls.Goals as goal
 
 pub make_all-requires : goal.make_all-requires
 make_all-requires g c = record {
-  begun = makes_none c.in-Ok.book c.args.script.now c.args.kernel c.in-Ok.ensures.book c.requires.boots c.requires.processes;
+  begun = makes_none c.in-Ok.serial c.args.script.now c.args.kernel c.in-Ok.ensures c.requires.boots c.requires.processes;
   count = c.process_count-count.ensures.count ∙ ap length c.requires.processes ∙ length-map c.args.script.now.procs.items new_process;
   few = c.process_count-count.ensures.most;
 }
