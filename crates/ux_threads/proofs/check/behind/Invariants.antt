@@ -1,0 +1,12 @@
+use Rattle.std.proofs.Common.{◌≡◌, List, ◌++◌, length}
+use Rattle.ux_model.specs.Types.{Request}
+use Rattle.ux_threads.specs.Runs.{asked, requests_of}
+use Rattle.ux_threads.proofs.check.behind.Given as goal
+
+-- what follows the calls that are left follows all of them
+abbrev pub invariant-loop-line : goal.invariant-loop-line
+invariant-loop-line l =
+    (more : List Request) → asked l.pid l.left ++ more ≡ requests_of l.pid l.rest → asked l.pid l.lines ++ more ≡ requests_of l.pid l.entries
+
+abbrev pub decreases-loop-line : goal.decreases-loop-line
+decreases-loop-line l = length l.left

@@ -1,0 +1,142 @@
+//! Whether a history is that of a script.
+ghost use Rattle.std.specs.Prelude.{◌≡◌, ◌++◌, ◌∷◌, ◌≤◌, ◌↔◌, [], true, ℕ, length, map, filter, IsTrue, IfSome, IfNone};
+ghost use Rattle.ux_model.specs.Limits.{process_limit};
+ghost use Rattle.ux_syntax.specs.Spelling.{plan_of, asks_exit};
+ghost use Rattle.ux_syntax.specs.Turns.{has_exited};
+ghost use Rattle.ux_threads.specs.Runs.{requests_of, asked, ending, turns};
+
+use ux_syntax::{Act, Line, Script};
+use ux_types::{Entry, Request};
+
+/// Whether each of so many processes made the script's calls, and no others, and the layer was ended where the
+/// script has it.
+pub(crate) fn is_of(script: &Script, entries: &[Entry], count: usize) -> bool
+    requires count { count ≡ length script.now.procs.items }
+    requires few { count ≤ process_limit }
+    ensures { result ≡ true → (p : ℕ) → p ≤ length script.now.procs.items → requests_of p entries.now ≡ turns (plan_of script.now) p }
+{
+    for pid in 0..count as u32 + 1 {
+        if !follows(script, entries, pid) {
+            return false;
+        }
+    }
+    true
+}
+
+/// Whether this process made the script's calls, and no others.
+fn follows(script: &Script, entries: &[Entry], pid: u32) -> bool
+    ensures { result ≡ true → requests_of pid entries.now ≡ turns (plan_of script.now) pid }
+{
+    match behind(&script.lines, entries, pid) {
+        Some(rest) => ends(script, rest, pid),
+        None => false,
+    }
+}
+
+/// Whether the process's calls are those that follow its lines.
+fn ends(script: &Script, entries: &[Entry], pid: u32) -> bool
+    ensures { result ≡ true → requests_of pid entries.now ≡ ending (plan_of script.now) pid }
+{
+    if pid == 0 {
+        if script.off {
+            return is_off_alone(entries, pid);
+        }
+        return next_of(entries, pid).is_none();
+    }
+    if exits(&script.lines, pid) {
+        return next_of(entries, pid).is_none();
+    }
+    is_exit_alone(entries, pid)
+}
+
+/// Whether the process's one entry is an exit.
+fn is_exit_alone(entries: &[Entry], pid: u32) -> bool
+    ensures { result ≡ true → requests_of pid entries.now ≡ Request.Exit ∷ [] }
+{
+    match next_of(entries, pid) {
+        Some((entry, rest)) => {
+            matches!(entry.request, Request::Exit) && next_of(rest, pid).is_none()
+        }
+        None => false,
+    }
+}
+
+/// Whether the process's one entry is the end of the layer.
+fn is_off_alone(entries: &[Entry], pid: u32) -> bool
+    ensures { result ≡ true → requests_of pid entries.now ≡ Request.Off ∷ [] }
+{
+    match next_of(entries, pid) {
+        Some((entry, rest)) => {
+            matches!(entry.request, Request::Off) && next_of(rest, pid).is_none()
+        }
+        None => false,
+    }
+}
+
+/// Whether the process has a line for its exit.
+fn exits(lines: &[Line], pid: u32) -> bool
+    ensures { result ≡ has_exited lines.now pid }
+{
+    let mut left = lines;
+    while let Some((line, more)) = left.split_first() {
+        if line.pid.0 == pid && asks_exit(&line.act) {
+            return true;
+        }
+        left = more;
+    }
+    false
+}
+
+/// What is left of the entries after the process's calls of these lines, where it made them.
+fn behind<'a>(lines: &[Line], entries: &'a [Entry], pid: u32) -> Option<&'a [Entry]>
+    ensures { IfSome result (λ rest. asked pid lines.now ++ requests_of pid rest.now ≡ requests_of pid entries.now) }
+{
+    let mut left = lines;
+    let mut rest = entries;
+    while let Some((line, more)) = left.split_first() {
+        left = more;
+        if line.pid.0 != pid {
+            continue;
+        }
+        let Act::Call(request) = &line.act else {
+            continue;
+        };
+        let Some((entry, after)) = next_of(rest, pid) else {
+            return None;
+        };
+        if !is_same(&entry.request, request) {
+            return None;
+        }
+        rest = after;
+    }
+    Some(rest)
+}
+
+/// The process's next entry, and those after it.
+fn next_of(entries: &[Entry], pid: u32) -> Option<(&Entry, &[Entry])>
+    ensures some { IfSome result (λ r. requests_of pid entries.now ≡ r.0.now.request ∷ requests_of pid r.1.now) }
+    ensures none { IfNone result (requests_of pid entries.now ≡ []) }
+{
+    let mut rest = entries;
+    while let Some((entry, more)) = rest.split_first() {
+        if entry.pid.0 == pid {
+            return Some((entry, more));
+        }
+        rest = more;
+    }
+    None
+}
+
+fn asks_exit(act: &Act) -> bool
+    ensures { result ≡ asks_exit act.now }
+{
+    matches!(act, Act::Call(Request::Exit))
+}
+
+/// Whether they are the same.
+#[tactic(auto, using(ux_history::proofs::SameRequests::same_request))]
+fn is_same(one: &Request, other: &Request) -> bool
+    ensures { IsTrue result ↔ (one.now ≡ other.now) }
+{
+    one == other
+}

@@ -1,0 +1,13 @@
+//! Runs a script with a thread for each process, and writes the trace of its history.
+#![tactic(auto)]
+
+mod check;
+mod gate;
+mod run;
+mod work;
+
+pub use gate::{Gate, NoGate};
+pub use run::run_threads;
+
+#[cfg(test)]
+mod tests;

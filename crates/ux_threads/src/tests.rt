@@ -1,0 +1,179 @@
+//! Scripts that threads run: two that wait for one another, and eight that make calls of all kinds.
+ghost use Rattle.std.specs.Prelude.{◌≡◌, map, IfOk};
+ghost use Rattle.ux_model.specs.Boot.{IsBootState, new_process};
+
+use super::*;
+use std::alloc::Global;
+use std::process::Abort;
+use std::sync::Wait;
+use std::sync::atomic::{AtomicU64, Ordering};
+use std::test::Fail;
+use std::thread;
+use std::thread::Threads;
+use ux_kernel::Kernel;
+use ux_objects::Counter;
+use ux_replay::check_history;
+use ux_syntax::{Script, parse_script};
+use ux_types::{Entry, Name, Pid};
+
+mod stress;
+
+/// How often a thread looks for what another is to do, before it gives up.
+const PATIENCE: u32 = 1_000_000;
+
+/// A kernel of a script's processes, with a counter for each of its objects.
+fn kernel_of(alloc: Global, script: &Script) -> Result<Kernel<Counter>, Fail>
+    ensures boots { IfOk result (λ kernel. IsBootState kernel) }
+    ensures processes { IfOk result (λ kernel. kernel.processes ≡ map new_process script.now.procs.items) }
+{
+    let mut objects: Vec<(Name, Counter)> = Vec::new(alloc);
+    for line in &script.objects {
+        objects.push((line.name.clone()?, Counter::new()))?;
+    }
+    match Kernel::boot(alloc, objects, &script.procs) {
+        Ok(kernel) => Ok(kernel),
+        Err(_) => Err(Fail::from("no kernel")),
+    }
+}
+
+/// The history of a script that threads ran, and its trace.
+fn history_of<R: Threads + Wait + Sync, G: Gate>(
+    rt: &R,
+    alloc: Global,
+    script: &Script,
+    trace: &mut Vec<u8>,
+    gate: &G,
+) -> Result<Vec<Entry>, Fail> {
+    let kernel = kernel_of(alloc, script)?;
+    match run_threads(rt, alloc, script, trace, kernel, gate) {
+        Ok(entries) => Ok(entries),
+        Err(_) => Err(Fail::from("a fault")),
+    }
+}
+
+/// Sees that a history can be made once more, and how long it is.
+fn repeat(
+    rt: &impl Abort,
+    alloc: Global,
+    script: &Script,
+    entries: &[Entry],
+    count: u64,
+) -> Result<(), Fail> {
+    let kernel = kernel_of(alloc, script)?;
+    assert_eq!(rt; check_history(alloc, entries, kernel), Ok(count));
+    Ok(())
+}
+
+/// Each process waits for what the other writes to a counter.
+const SEMAPHORES: &str = "object p:a counter
+object p:b counter
+proc 1000 1000 0 16
+proc 1000 1000 0 16
+1 open p:a rw -
+2 open p:a rw -
+1 open p:b rw -
+2 open p:b rw -
+1 read 0 8
+2 write 0 0500000000000000
+2 read 1 8
+1 write 1 0700000000000000
+off
+";
+
+#[test]
+fn two_threads_wait_for_one_another(rt: HostRuntime) -> Result<(), Fail> {
+    let alloc = rt.alloc();
+    let script = parse_script(alloc, SEMAPHORES.as_bytes())?;
+    let mut trace = Vec::new(alloc);
+    let entries = history_of(&rt, alloc, &script, &mut trace, &NoGate)?;
+    repeat(&rt, alloc, &script, &entries, 11)
+}
+
+/// A server and its client, which wait for one another so that there is one order.
+const SERVER: &str = "proc 1000 1000 0 16
+proc 1000 1000 0 16
+2 socket stream -
+2 bind 0 a:s
+2 listen 0 4
+1 wait 2 3
+1 socket stream -
+1 connect 0 a:s
+1 recv 0 8 0 -
+2 wait 1 2
+2 accept 0 -
+2 send 1 - 6869 - -
+2 wait 1 3
+1 wait 2 6
+";
+
+const TRACE_OF_THE_SERVER: &str = "0 2 0 socket = fd 0
+1 2 1 bind = ok
+2 2 2 listen = ok
+3 1 0 socket = fd 0
+4 1 1 connect = ok
+5 2 3 accept = accepted 1 u
+6 2 4 send = n 2
+7 1 2 recv = got 2 6869 - - -
+8 2 5 exit = ok
+9 1 3 exit = ok
+";
+
+#[test]
+fn lines_that_wait_leave_one_order(rt: HostRuntime) -> Result<(), Fail> {
+    let alloc = rt.alloc();
+    let script = parse_script(alloc, SERVER.as_bytes())?;
+    for _turn in 0..1000 {
+        let mut trace = Vec::new(alloc);
+        let entries = history_of(&rt, alloc, &script, &mut trace, &NoGate)?;
+        assert!(rt; trace.as_slice() == TRACE_OF_THE_SERVER.as_bytes());
+        repeat(&rt, alloc, &script, &entries, 10)?;
+    }
+    Ok(())
+}
+
+/// Lets process 1 into its first call when process 2 is about to make its own.
+#[derive(Drop)]
+struct Meeting {
+    met: AtomicU64,
+    came: AtomicU64,
+}
+
+impl Gate for Meeting {
+    fn before(&self, pid: Pid, k: u64) {
+        if k > 0 {
+            return;
+        }
+        self.came.fetch_add(1, Ordering::SeqCst);
+        if pid.0 == 1 && comes_to(&self.came, 2) {
+            self.met.store(1, Ordering::SeqCst);
+        }
+    }
+
+    fn after(&self, _pid: Pid, _k: u64) {}
+}
+
+/// Whether a count comes so far.
+fn comes_to(count: &AtomicU64, number: u64) -> bool {
+    for _n in 0..PATIENCE {
+        if count.load(Ordering::SeqCst) >= number {
+            return true;
+        }
+        thread::yield_now();
+    }
+    false
+}
+
+#[test]
+fn both_threads_are_there_at_once(rt: HostRuntime) -> Result<(), Fail> {
+    let alloc = rt.alloc();
+    let script = parse_script(alloc, SEMAPHORES.as_bytes())?;
+    let gate = Meeting {
+        met: AtomicU64::new(0),
+        came: AtomicU64::new(0),
+    };
+    let mut trace = Vec::new(alloc);
+    let entries = history_of(&rt, alloc, &script, &mut trace, &gate)?;
+    drop(entries);
+    assert_eq!(rt; gate.met.load(Ordering::SeqCst), 1);
+    Ok(())
+}
