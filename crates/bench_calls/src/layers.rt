@@ -1,8 +1,12 @@
 //! A kernel alone, and a book that keeps what was called.
+ghost use Rattle.std.specs.Prelude.{◌≡◌, IfOk};
+ghost use Rattle.ux_model.specs.Boot.{IsBootState};
+
 use anyhow::{Result, anyhow};
 use bstr::BString;
 use std::alloc::{AllocError, Global};
-use ux_history::Book;
+use std::sync::ledger::Blank;
+use ux_history::{Book, BookName, Share, is_last};
 use ux_kernel::Kernel;
 use ux_objects::MemFile;
 use ux_state::RetiredList;
@@ -58,17 +62,23 @@ impl Drop for Stepped {
     }
 }
 
-/// A book.
-pub(crate) struct Recorded {
-    book: Book<MemFile>,
+/// A book, and the shares of its processes by rising number.
+pub(crate) struct Recorded<W: BookName> {
+    book: Book<W, MemFile>,
+    shares: Vec<Share<W>>,
     retired: RetiredList<MemFile>,
 }
 
 /// As of a kernel alone.
-impl Drop for Recorded {
+impl<W: BookName> Drop for Recorded<W> {
     fn drop(self) {
-        let Recorded { book, retired } = self;
+        let Recorded {
+            book,
+            shares,
+            retired,
+        } = self;
         drop(book);
+        drop(shares);
         drop(retired);
     }
 }
@@ -98,45 +108,54 @@ fn file(alloc: Global) -> Result<Vec<(Name, MemFile)>> {
     Ok(vec![in alloc; (path(alloc)?, file)]?)
 }
 
+/// A kernel with one file.
+pub(crate) fn boot(alloc: Global) -> Result<Kernel<MemFile>>
+    ensures { IfOk result (λ kernel. IsBootState kernel) }
+{
+    match Kernel::boot(alloc, file(alloc)?, &PROCESSES) {
+        Ok(kernel) => Ok(kernel),
+        Err((fault, _objects)) => Err(anyhow!("{fault}")),
+    }
+}
+
 impl Stepped {
     /// A kernel with one file.
     pub(crate) fn new(alloc: Global) -> Result<Stepped> {
         let retired = RetiredList::new(alloc)?;
-        match Kernel::boot(alloc, file(alloc)?, &PROCESSES) {
-            Ok(kernel) => Ok(Stepped {
-                kernel,
-                retired,
-                tag: 0,
-            }),
-            Err((fault, _objects)) => Err(anyhow!("{fault}")),
-        }
+        Ok(Stepped {
+            kernel: boot(alloc)?,
+            retired,
+            tag: 0,
+        })
     }
 }
 
-impl Recorded {
-    /// A book of a kernel with one file.
-    pub(crate) fn new(alloc: Global) -> Result<Recorded> {
+impl<W: BookName> Recorded<W> {
+    /// A book of this kernel.
+    pub(crate) fn new(alloc: Global, blank: Blank, kernel: Kernel<MemFile>) -> Result<Recorded<W>>
+        requires name { blank.name ≡ W.name }
+        requires parts { (blank.parts ≡ W.parts) × (blank.parts ≡ 1024) }
+        requires boots { IsBootState kernel }
+        requires named { kernel ≡ W.boot }
+    {
         let retired = RetiredList::new(alloc)?;
-        let kernel = match Kernel::boot(alloc, file(alloc)?, &PROCESSES) {
-            Ok(kernel) => kernel,
-            Err((fault, _objects)) => return Err(anyhow!("{fault}")),
-        };
-        match Book::new(alloc, kernel) {
-            Ok(book) => Ok(Recorded { book, retired }),
+        match Book::new(alloc, blank, kernel) {
+            Ok((book, shares)) => Ok(Recorded {
+                book,
+                shares,
+                retired,
+            }),
             Err((kernel, error)) => {
                 drop(kernel);
                 Err(anyhow!("{error}"))
             }
         }
     }
+}
 
-    /// Whether the entry with this number tells no refusal.
-    fn is_granted(&self, number: usize) -> bool {
-        match self.book.entries().get(number) {
-            Some(entry) => !matches!(entry.reply, Reply::Err(_)),
-            None => false,
-        }
-    }
+/// Whether a reply tells no refusal.
+fn is_granted(reply: &Reply) -> bool {
+    !matches!(reply, Reply::Err(_))
 }
 
 impl Layer for Stepped {
@@ -147,20 +166,25 @@ impl Layer for Stepped {
         let tag = self.tag;
         self.tag = tag.wrapping_add(1);
         self.retired.clear();
-        let reply = self.kernel.step(pid, tag, request, &mut self.retired);
-        !matches!(reply, Reply::Err(_))
+        is_granted(&self.kernel.step(pid, tag, request, &mut self.retired))
     }
 }
 
-impl Layer for Recorded {
+impl<W: BookName> Layer for Recorded<W> {
     fn ask(&mut self, pid: Pid, request: &Request) -> bool {
-        if !self.book.is_live(pid) {
+        if is_last(request) || pid.0 == 0 {
             return false;
         }
-        let k = self.book.calls_of(pid);
+        let Some(share) = self.shares.get_mut(pid.0 as usize - 1) else {
+            return false;
+        };
         self.retired.clear();
-        match self.book.record(pid, k, request, &mut self.retired) {
-            Ok(number) => self.is_granted(number),
+        match self.book.record(share, request, &mut self.retired) {
+            Ok(recorded) => {
+                let granted = is_granted(&recorded.reply);
+                drop(recorded);
+                granted
+            }
             Err(_) => false,
         }
     }

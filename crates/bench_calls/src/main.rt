@@ -6,11 +6,19 @@
 mod calls;
 mod layers;
 
+ghost use Rattle.std.specs.Prelude.{◌≡◌};
+ghost use Rattle.ux_model.specs.Boot.{IsBootState};
+
 use crate::calls::{measure, measure_connection};
-use crate::layers::{Layer, Recorded, Stepped, fill, hold_names, make_before};
+use crate::layers::{Layer, Recorded, Stepped, boot, fill, hold_names, make_before};
 use anyhow::Result;
 use std::alloc::Global;
+use std::marker::Brand;
 use std::rt::Clock;
+use std::sync::ledger::Blank;
+use ux_history::{BookName, PARTS};
+use ux_kernel::Kernel;
+use ux_objects::MemFile;
 
 /// Measures a kernel alone, with so many descriptors open, after so many descriptions of sockets were
 /// made and closed.
@@ -23,18 +31,57 @@ fn measure_kernel<R: Clock + Eprint>(rt: &R, alloc: Global, open: u32, made: u32
 
 /// Measures a book likewise. It has half as many more entries as descriptions were made.
 fn measure_book<R: Clock + Eprint>(rt: &R, alloc: Global, open: u32, made: u32) -> Result<()> {
-    let mut layer = Recorded::new(alloc)?;
+    measure_named::<Brand, R>(rt, alloc, Blank::new(PARTS), boot(alloc)?, open, made)
+}
+
+/// So, under a name that lives in here.
+fn measure_named<W: BookName, R: Clock + Eprint>(
+    rt: &R,
+    alloc: Global,
+    blank: Blank,
+    kernel: Kernel<MemFile>,
+    open: u32,
+    made: u32,
+) -> Result<()>
+    requires name { blank.name ≡ W.name }
+    requires parts { (blank.parts ≡ W.parts) × (blank.parts ≡ 1024) }
+    requires boots { IsBootState kernel }
+    requires named { kernel ≡ W.boot }
+{
+    let mut layer = Recorded::<W>::new(alloc, blank, kernel)?;
     fill(alloc, &mut layer, open)?;
     make_before(&mut layer, made)?;
     measure(rt, alloc, "record", &mut layer)
 }
 
-/// How many names are in use, and what the calls are then called.
-const NAMES: [(u32, &str); 3] = [
-    (10, "socket, connect, accept, two closes, 10 names"),
-    (1000, "socket, connect, accept, two closes, 1,000 names"),
-    (10_000, "socket, connect, accept, two closes, 10,000 names"),
-];
+/// How many names are in use.
+#[derive(Clone, Copy, Drop)]
+enum Names {
+    Ten,
+    Thousand,
+    TenThousand,
+}
+
+const ALL_NAMES: [Names; 3] = [Names::Ten, Names::Thousand, Names::TenThousand];
+
+impl Names {
+    fn count(self) -> u32 {
+        match self {
+            Names::Ten => 10,
+            Names::Thousand => 1000,
+            Names::TenThousand => 10_000,
+        }
+    }
+
+    /// What the calls are then called.
+    fn title(self) -> &'static str {
+        match self {
+            Names::Ten => "socket, connect, accept, two closes, 10 names",
+            Names::Thousand => "socket, connect, accept, two closes, 1,000 names",
+            Names::TenThousand => "socket, connect, accept, two closes, 10,000 names",
+        }
+    }
+}
 
 /// Opens a few descriptors, and puts so many names in use.
 fn crowd<L: Layer>(alloc: Global, layer: &mut L, names: u32) -> Result<()> {
@@ -43,27 +90,33 @@ fn crowd<L: Layer>(alloc: Global, layer: &mut L, names: u32) -> Result<()> {
 }
 
 /// Measures connections of a kernel alone, with so many names in use.
-fn connect_kernel<R: Clock + Eprint>(
-    rt: &R,
-    alloc: Global,
-    names: u32,
-    name: &'static str,
-) -> Result<()> {
+fn connect_kernel<R: Clock + Eprint>(rt: &R, alloc: Global, names: Names) -> Result<()> {
     let mut layer = Stepped::new(alloc)?;
-    crowd(alloc, &mut layer, names)?;
-    measure_connection(rt, alloc, "step", &mut layer, name)
+    crowd(alloc, &mut layer, names.count())?;
+    measure_connection(rt, alloc, "step", &mut layer, names.title())
 }
 
 /// Measures those of a book likewise.
-fn connect_book<R: Clock + Eprint>(
+fn connect_book<R: Clock + Eprint>(rt: &R, alloc: Global, names: Names) -> Result<()> {
+    connect_named::<Brand, R>(rt, alloc, Blank::new(PARTS), boot(alloc)?, names)
+}
+
+/// So, under a name that lives in here.
+fn connect_named<W: BookName, R: Clock + Eprint>(
     rt: &R,
     alloc: Global,
-    names: u32,
-    name: &'static str,
-) -> Result<()> {
-    let mut layer = Recorded::new(alloc)?;
-    crowd(alloc, &mut layer, names)?;
-    measure_connection(rt, alloc, "record", &mut layer, name)
+    blank: Blank,
+    kernel: Kernel<MemFile>,
+    names: Names,
+) -> Result<()>
+    requires name { blank.name ≡ W.name }
+    requires parts { (blank.parts ≡ W.parts) × (blank.parts ≡ 1024) }
+    requires boots { IsBootState kernel }
+    requires named { kernel ≡ W.boot }
+{
+    let mut layer = Recorded::<W>::new(alloc, blank, kernel)?;
+    crowd(alloc, &mut layer, names.count())?;
+    measure_connection(rt, alloc, "record", &mut layer, names.title())
 }
 
 fn main(rt: HostRuntime) -> Result<()> {
@@ -74,9 +127,9 @@ fn main(rt: HostRuntime) -> Result<()> {
         measure_book(&rt, alloc, open, made)?;
     }
     eprintln!(rt; "4 descriptors of the file open, and other names in use:")?;
-    for (names, name) in NAMES {
-        connect_kernel(&rt, alloc, names, name)?;
-        connect_book(&rt, alloc, names, name)?;
+    for names in ALL_NAMES {
+        connect_kernel(&rt, alloc, names)?;
+        connect_book(&rt, alloc, names)?;
     }
     println!(rt; "done")?;
     Ok(())

@@ -1,16 +1,28 @@
-//! Runs each script of `data/`, and compares its trace with the one that lies beside it.
+//! Runs each script of `data/`, compares its trace with the one that lies beside it, makes its calls once more, and
+//! makes them by seats.
 #![tactic(auto)]
 
+ghost use Rattle.std.specs.Prelude.{◌≡◌, map, IfOk};
+ghost use Rattle.ux_model.specs.Boot.{IsBootState, new_process};
+
+mod seats;
+
 use anyhow::{Result, anyhow};
+use seats::goes_by_seats;
 use std::alloc::Global;
 use std::fs;
+use std::marker::Brand;
 use std::rt::Files;
+use std::sync::Wait;
+use std::sync::ledger::Blank;
+use ux_history::PARTS;
 use ux_kernel::Kernel;
 use ux_object::{FileObject, ObjKind};
 use ux_objects::{Counter, MemFile, Pipe};
+use ux_replay::check_history;
 use ux_script::run_serial;
 use ux_syntax::{Script, parse_script};
-use ux_types::Name;
+use ux_types::{Entry, Name};
 
 /// The scripts by their names.
 const SCRIPTS: [&str; 86] = [
@@ -105,8 +117,8 @@ const SCRIPTS: [&str; 86] = [
 /// A file object as a kernel holds it.
 type Boxed = Box<dyn FileObject + Send>;
 
-/// The trace of a script.
-fn trace_of(alloc: Global, script: &Script) -> Result<Vec<u8>> {
+/// The file objects of a script.
+fn objects_of(alloc: Global, script: &Script) -> Result<Vec<(Name, Boxed)>> {
     let mut objects: Vec<(Name, Boxed)> = Vec::new(alloc);
     for line in &script.objects {
         let object: Boxed = match line.kind {
@@ -116,34 +128,76 @@ fn trace_of(alloc: Global, script: &Script) -> Result<Vec<u8>> {
         };
         objects.push((line.name.clone()?, object))?;
     }
-    run_over(alloc, script, objects)
+    Ok(objects)
 }
 
-/// The trace of a script over these file objects.
+/// A kernel of a script's processes and these file objects.
+fn kernel_of<O: FileObject>(
+    alloc: Global,
+    script: &Script,
+    objects: Vec<(Name, O)>,
+) -> Result<Kernel<O>>
+    ensures boots { IfOk result (λ kernel. IsBootState kernel) }
+    ensures processes { IfOk result (λ kernel. kernel.processes ≡ map new_process script.now.procs.items) }
+{
+    match Kernel::boot(alloc, objects, &script.procs) {
+        Ok(kernel) => Ok(kernel),
+        Err((fault, _objects)) => Err(anyhow!("{fault}")),
+    }
+}
+
+/// The trace of a script over these file objects, and its history.
 fn run_over<O: FileObject>(
     alloc: Global,
     script: &Script,
     objects: Vec<(Name, O)>,
-) -> Result<Vec<u8>> {
-    let kernel = match Kernel::boot(alloc, objects, &script.procs) {
-        Ok(kernel) => kernel,
-        Err((fault, _objects)) => return Err(anyhow!("{fault}")),
-    };
+) -> Result<(Vec<u8>, Vec<Entry>)> {
+    let kernel = kernel_of(alloc, script, objects)?;
     let mut trace: Vec<u8> = Vec::new(alloc);
-    run_serial(alloc, script, &mut trace, kernel)?;
-    Ok(trace)
+    let history = run_serial(alloc, script, &mut trace, kernel)?;
+    Ok((trace, history))
+}
+
+/// Whether the calls of a history are answered alike on a second kernel.
+fn is_repeated<O: FileObject>(
+    alloc: Global,
+    script: &Script,
+    history: &[Entry],
+    objects: Vec<(Name, O)>,
+) -> Result<bool> {
+    let kernel = kernel_of(alloc, script, objects)?;
+    Ok(check_history(alloc, history, kernel) == Ok(history.len() as u64))
+}
+
+/// Whether a script has this trace when its calls are made by seats.
+fn is_seated<O: FileObject, R: Wait + AllocGlobal>(
+    rt: &R,
+    script: &Script,
+    wanted: &[u8],
+    objects: Vec<(Name, O)>,
+) -> Result<bool> {
+    let kernel = kernel_of(rt.alloc(), script, objects)?;
+    goes_by_seats::<Brand, O, R>(rt, Blank::new(PARTS), kernel, script, wanted)
+}
+
+/// Whether a script has this trace, can be made once more, and goes by seats.
+fn has_trace<R: Wait + AllocGlobal>(rt: &R, text: &[u8], wanted: &[u8]) -> Result<bool> {
+    let alloc = rt.alloc();
+    let script = parse_script(alloc, text)?;
+    let (found, history) = run_over(alloc, &script, objects_of(alloc, &script)?)?;
+    let repeated = is_repeated(alloc, &script, &history, objects_of(alloc, &script)?)?;
+    let seated = is_seated(rt, &script, wanted, objects_of(alloc, &script)?)?;
+    Ok(repeated && seated && found.as_slice() == wanted)
 }
 
 /// Whether a script has the trace that lies beside it.
-fn has_its_trace<R: Files + AllocGlobal>(rt: &R, name: &str) -> Result<bool> {
+fn has_its_trace<R: Files + Wait + AllocGlobal>(rt: &R, name: &str) -> Result<bool> {
     let alloc: Global = rt.alloc();
     let script = format!(in alloc; "{name}.ux")?;
     let trace = format!(in alloc; "{name}.trace")?;
     let text = fs::read(rt, script.as_str())?;
     let wanted = fs::read(rt, trace.as_str())?;
-    let script = parse_script(alloc, &text)?;
-    let found = trace_of(alloc, &script)?;
-    Ok(found.as_slice() == wanted.as_slice())
+    has_trace(rt, &text, &wanted)
 }
 
 /// How often a chain's script puts a socket into the queue of the next.
@@ -209,17 +263,16 @@ fn chain_trace(alloc: Global, closes: bool) -> Result<Vec<u8>> {
 }
 
 /// Whether a chain goes as it should.
-fn chain_goes(alloc: Global, closes: bool) -> Result<bool> {
+fn chain_goes<R: Wait + AllocGlobal>(rt: &R, closes: bool) -> Result<bool> {
+    let alloc = rt.alloc();
     let text = chain_script(alloc, closes)?;
-    let script = parse_script(alloc, &text)?;
-    let found = trace_of(alloc, &script)?;
     let wanted = chain_trace(alloc, closes)?;
-    Ok(found.as_slice() == wanted.as_slice())
+    has_trace(rt, &text, &wanted)
 }
 
-fn run<R: Files + Print + AllocGlobal>(rt: &R) -> Result<()> {
+fn run<R: Files + Wait + Print + AllocGlobal>(rt: &R) -> Result<()> {
     for closes in [true, false] {
-        if !chain_goes(rt.alloc(), closes)? {
+        if !chain_goes(rt, closes)? {
             return Err(anyhow!("a chain of passed sockets: another trace"));
         }
     }

@@ -1,22 +1,27 @@
 //! The layer as a library: one process writes a file, reads it by a second descriptor, and closes both.
-//! The calls go through a book, which keeps them as a history that is proved legal.
+//! The calls go through a book, which keeps them as a history that is proved legal; at the end the history is
+//! compared with what the process counted.
 #![tactic(auto)]
+
+ghost use Rattle.std.specs.Prelude.{◌≡◌, IfOk};
+ghost use Rattle.ux_model.specs.Boot.{IsBootState};
 
 use anyhow::{Result, anyhow};
 use bstr::BString;
 use std::alloc::Global;
-use ux_history::Book;
+use std::marker::Brand;
+use std::sync::ledger::Blank;
+use ux_history::{Account, Book, BookName, PARTS, Share, is_last, settle_accounts};
 use ux_kernel::Kernel;
 use ux_objects::MemFile;
 use ux_state::RetiredList;
 use ux_syntax::entry_text;
-use ux_types::{Bytes, Fd, Mode, Name, OpenFlags, Pid, ProcSpec, Request, Whence};
-
-/// The one process. It is numbered from 1.
-const WRITER: Pid = Pid(1);
+use ux_types::{Bytes, Fd, Mode, Name, OpenFlags, ProcSpec, Request, Whence};
 
 /// A kernel with one memory file, at the path `notes`, and one process.
-fn start(alloc: Global) -> Result<Book<MemFile>> {
+fn start(alloc: Global) -> Result<Kernel<MemFile>>
+    ensures { IfOk result (λ kernel. IsBootState kernel) }
+{
     let path = Name::new(BString::from_slice(alloc, b"notes")?);
     let file = MemFile::new(alloc, b"")?;
     let writer = ProcSpec {
@@ -26,22 +31,14 @@ fn start(alloc: Global) -> Result<Book<MemFile>> {
         limit: 16,
     };
     let objects = vec![in alloc; (path, file)]?;
-    let kernel = match Kernel::boot(alloc, objects, &[writer]) {
-        Ok(kernel) => kernel,
+    match Kernel::boot(alloc, objects, &[writer]) {
+        Ok(kernel) => Ok(kernel),
         // The file comes back with the fault.
-        Err((fault, _objects)) => return Err(anyhow!("{fault}")),
-    };
-    match Book::new(alloc, kernel) {
-        Ok(book) => Ok(book),
-        // The kernel comes back with the error.
-        Err((kernel, error)) => {
-            drop(kernel);
-            Err(anyhow!("{error}"))
-        }
+        Err((fault, _objects)) => Err(anyhow!("{fault}")),
     }
 }
 
-/// The calls that the process makes.
+/// The calls that the process makes before it exits.
 fn calls(alloc: Global) -> Result<Vec<Request>> {
     let path = Name::new(BString::from_slice(alloc, b"notes")?);
     let bytes = Bytes::new(Vec::from_slice(alloc, b"hello")?);
@@ -63,48 +60,107 @@ fn calls(alloc: Global) -> Result<Vec<Request>> {
         rewind,
         Request::Read { fd: Fd(0), n: 64 },
         Request::Close { fd: Fd(0) },
-        Request::Exit,
     ]?)
 }
 
-/// Makes these calls of the process.
-fn make_calls(alloc: Global, book: &mut Book<MemFile>, requests: &[Request]) -> Result<()> {
-    let mut retired = RetiredList::new(alloc)?;
+/// Makes these calls of the share's process.
+fn make_calls<W: BookName>(
+    book: &mut Book<W, MemFile>,
+    share: &mut Share<W>,
+    retired: &mut RetiredList<MemFile>,
+    requests: &[Request],
+) -> Result<()> {
     for request in requests {
-        if !book.is_live(WRITER) {
-            return Err(anyhow!("the process has exited"));
+        // The last call of a process is an exit of its share.
+        if is_last(request) {
+            return Err(anyhow!("an exit isn't recorded"));
         }
-        let k = book.calls_of(WRITER);
         // The file objects that went with the call before, closed, are dropped here.
         retired.clear();
-        if let Err(fault) = book.record(WRITER, k, request, &mut retired) {
-            return Err(anyhow!("{fault}"));
+        match book.record(share, request, retired) {
+            Ok(recorded) => drop(recorded),
+            Err(fault) => return Err(anyhow!("{fault}")),
         }
     }
     Ok(())
 }
 
+/// Ends the process, and compares what its share counted with the history.
+fn end<W: BookName>(
+    alloc: Global,
+    book: &mut Book<W, MemFile>,
+    share: Share<W>,
+    retired: &mut RetiredList<MemFile>,
+) -> Result<Account> {
+    retired.clear();
+    let spents = match book.exit(share, retired) {
+        Ok(spent) => vec![in alloc; spent]?,
+        Err(_share) => return Err(anyhow!("the process isn't known")),
+    };
+    match settle_accounts(book, spents) {
+        Ok(account) => Ok(account),
+        Err((fault, _spents)) => Err(anyhow!("{fault}")),
+    }
+}
+
 /// Prints the history.
-fn print_history(rt: &(impl Print + AllocGlobal), book: &Book<MemFile>) -> Result<()> {
+fn print_history<W: BookName>(
+    rt: &(impl Print + AllocGlobal),
+    book: &Book<W, MemFile>,
+) -> Result<()> {
     for (number, entry) in book.entries().iter().enumerate() {
         print!(rt; "{}", entry_text(rt.alloc(), number, entry)?)?;
     }
     Ok(())
 }
 
-/// Fills this book, and prints its history.
-fn fill(rt: &(impl Print + AllocGlobal), book: &mut Book<MemFile>) -> Result<()> {
+/// Fills this book with the calls of its one process, and prints its history.
+fn fill<W: BookName>(
+    rt: &(impl Print + AllocGlobal),
+    book: &mut Book<W, MemFile>,
+    mut shares: Vec<Share<W>>,
+) -> Result<()> {
     let requests = calls(rt.alloc())?;
-    make_calls(rt.alloc(), book, &requests)?;
-    print_history(rt, book)
+    let mut retired = RetiredList::new(rt.alloc())?;
+    let Some(mut share) = shares.pop() else {
+        return Err(anyhow!("no process"));
+    };
+    make_calls(book, &mut share, &mut retired, &requests)?;
+    let account = end(rt.alloc(), book, share, &mut retired)?;
+    print_history(rt, book)?;
+    print!(rt; "{} entries settle\n", account.entries)?;
+    Ok(())
+}
+
+/// Opens a book at this kernel, under a name that lives in here, and fills it.
+fn keep_book<W: BookName>(
+    rt: &(impl Print + AllocGlobal),
+    blank: Blank,
+    kernel: Kernel<MemFile>,
+) -> Result<()>
+    requires name { blank.name ≡ W.name }
+    requires parts { (blank.parts ≡ W.parts) × (blank.parts ≡ 1024) }
+    requires boots { IsBootState kernel }
+    requires named { kernel ≡ W.boot }
+{
+    match Book::<W, MemFile>::new(rt.alloc(), blank, kernel) {
+        Ok((mut book, shares)) => {
+            let filled = fill(rt, &mut book, shares);
+            // One drop for all ways out of `fill` keeps the proof short.
+            drop(book);
+            filled
+        }
+        // The kernel comes back with the error.
+        Err((kernel, error)) => {
+            drop(kernel);
+            Err(anyhow!("{error}"))
+        }
+    }
 }
 
 fn run(rt: &(impl Print + AllocGlobal)) -> Result<()> {
-    let mut book = start(rt.alloc())?;
-    let filled = fill(rt, &mut book);
-    // One drop for all ways out of `fill` keeps the proof short.
-    drop(book);
-    filled
+    let kernel = start(rt.alloc())?;
+    keep_book::<Brand>(rt, Blank::new(PARTS), kernel)
 }
 
 fn main(rt: HostRuntime) -> Result<()> {

@@ -15,6 +15,9 @@ pub enum Fault {
     /// No kernel could be made for the script's file objects and processes, for the reason of this number.
     #[error("boot fault {0}")]
     Boot(u8),
+    /// A call that was made once more, with this number in the trace, wasn't answered as the first time.
+    #[error("check differs at {0}")]
+    Differs(u64),
 }
 
 impl From<ScriptFault> for Fault {

@@ -5,14 +5,16 @@ mod args;
 mod fault;
 mod objects;
 
-use args::read_args;
+use args::{Args, read_args};
 use clap::Error;
 use clap::error::ErrorKind;
 use fault::Fault;
-use objects::run_script;
+use objects::{check_script, run_script};
 use std::alloc::Global;
 use std::process::ExitCode;
 use std::rt::Files;
+use std::sync::Wait;
+use std::thread::Threads;
 use std::{env, fs, io};
 use ux_syntax::{Script, ScriptFault, read_script};
 
@@ -32,10 +34,19 @@ fn script_of<R: Files + Input + AllocGlobal>(rt: &R, name: &str) -> Result<Scrip
     }
 }
 
-/// Runs the script that was named, and prints its trace to standard output.
-fn run<R: Files + Input + Print + AllocGlobal>(rt: &R, name: &str) -> Result<(), Fault> {
-    let script = script_of(rt, name)?;
-    run_script(rt, &script)
+/// Runs the script that was named, and prints its trace to standard output; where it is asked for, makes the
+/// calls once more, and tells how many entries there are.
+fn run<R: Files + Input + Threads + Wait + Print + AllocGlobal + Sync>(
+    rt: &R,
+    args: &Args<'_>,
+) -> Result<(), Fault> {
+    let script = script_of(rt, args.script)?;
+    let history = run_script(rt, &script, args.threads)?;
+    if args.check {
+        let count = check_script(rt.alloc(), &script, &history)?;
+        println!(rt; "check ok {count}").map_err(|_| ScriptFault::Writing)?;
+    }
+    Ok(())
 }
 
 /// Tells why no whole trace was printed.
@@ -75,7 +86,7 @@ fn main(rt: HostRuntime) -> ExitCode {
         Err(error) if error.kind() == ErrorKind::OutOfMemory => return failed(&rt, &no_memory),
         Err(error) => return told(&rt, &error),
     };
-    match run(&rt, args.script) {
+    match run(&rt, &args) {
         Ok(()) => ExitCode::SUCCESS,
         Err(fault) => failed(&rt, &fault),
     }

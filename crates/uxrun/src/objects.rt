@@ -1,23 +1,44 @@
-//! The file objects of a script, and a run over them.
+//! The file objects of a script, and runs over them.
+
+ghost use Rattle.std.specs.Prelude.{◌≡◌, map, IfOk};
+ghost use Rattle.ux_model.specs.Boot.{IsBootState, new_process};
 
 use crate::fault::Fault;
 use std::alloc::{AllocError, Global};
 use std::io;
 use std::io::BufWriter;
+use std::sync::Wait;
+use std::thread::Threads;
 use ux_kernel::{BootFault, Kernel};
 use ux_object::{FileObject, ObjKind};
 use ux_objects::{Counter, MemFile, Pipe};
+use ux_replay::check_history;
 use ux_script::run_serial;
 use ux_syntax::Script;
-use ux_types::{Name, OBJECT_LIMIT};
+use ux_threads::{NoGate, run_threads};
+use ux_types::{Entry, Name, OBJECT_LIMIT};
 
 /// A file object as a kernel holds it.
 type Boxed = Box<dyn FileObject + Send>;
 
-/// Makes the script's file objects, runs the script over them, and prints its trace to standard output.
-/// More objects than a kernel may have are counted before any is made.
-pub fn run_script<R: Print + AllocGlobal>(rt: &R, script: &Script) -> Result<(), Fault> {
-    let alloc: Global = rt.alloc();
+/// Makes the script's file objects, runs the script over them, and prints its trace to standard output. With
+/// `threads` each process is a thread.
+pub fn run_script<R: Threads + Wait + Print + AllocGlobal + Sync>(
+    rt: &R,
+    script: &Script,
+    threads: bool,
+) -> Result<Vec<Entry>, Fault> {
+    run_over(rt, script, threads, objects_of(rt.alloc(), script)?)
+}
+
+/// Makes the calls of the script's history once more, over file objects that are as they were at first, and
+/// gives how many entries there are.
+pub fn check_script(alloc: Global, script: &Script, history: &[Entry]) -> Result<u64, Fault> {
+    check_over(alloc, script, history, objects_of(alloc, script)?)
+}
+
+/// The script's file objects. More than a kernel may have are counted before any is made.
+fn objects_of(alloc: Global, script: &Script) -> Result<Vec<(Name, Boxed)>, Fault> {
     if script.objects.len() > OBJECT_LIMIT {
         return Err(Fault::from(BootFault::TooManyObjects));
     }
@@ -30,21 +51,52 @@ pub fn run_script<R: Print + AllocGlobal>(rt: &R, script: &Script) -> Result<(),
         };
         objects.push((line.name.clone()?, object))?;
     }
-    run_over(rt, script, objects)
+    Ok(objects)
+}
+
+/// A kernel of the script's processes and these file objects.
+fn kernel_of<O: FileObject>(
+    alloc: Global,
+    script: &Script,
+    objects: Vec<(Name, O)>,
+) -> Result<Kernel<O>, Fault>
+    ensures boots { IfOk result (λ kernel. IsBootState kernel) }
+    ensures processes { IfOk result (λ kernel. kernel.processes ≡ map new_process script.now.procs.items) }
+{
+    match Kernel::boot(alloc, objects, &script.procs) {
+        Ok(kernel) => Ok(kernel),
+        Err((fault, _objects)) => Err(Fault::from(fault)),
+    }
 }
 
 /// Runs the script over these file objects, and prints its trace to standard output.
-fn run_over<O: FileObject, R: Print + AllocGlobal>(
+fn run_over<O: FileObject + Send, R: Threads + Wait + Print + AllocGlobal + Sync>(
     rt: &R,
     script: &Script,
+    threads: bool,
     objects: Vec<(Name, O)>,
-) -> Result<(), Fault> {
+) -> Result<Vec<Entry>, Fault> {
     let alloc: Global = rt.alloc();
-    let kernel = match Kernel::boot(alloc, objects, &script.procs) {
-        Ok(kernel) => kernel,
-        Err((fault, _objects)) => return Err(Fault::from(fault)),
-    };
+    let kernel = kernel_of(alloc, script, objects)?;
     let mut writer = BufWriter::new(alloc, io::writer(rt)).map_err(|_| AllocError)?;
-    run_serial(alloc, script, &mut writer, kernel)?;
-    Ok(())
+    let history = if threads {
+        run_threads(rt, alloc, script, &mut writer, kernel, &NoGate)?
+    } else {
+        run_serial(alloc, script, &mut writer, kernel)?
+    };
+    Ok(history)
+}
+
+/// Makes the calls of a history once more over these file objects.
+fn check_over<O: FileObject>(
+    alloc: Global,
+    script: &Script,
+    history: &[Entry],
+    objects: Vec<(Name, O)>,
+) -> Result<u64, Fault> {
+    let kernel = kernel_of(alloc, script, objects)?;
+    match check_history(alloc, history, kernel) {
+        Ok(count) => Ok(count),
+        Err(number) => Err(Fault::Differs(number)),
+    }
 }

@@ -22,7 +22,30 @@ fn a_script_is_named(rt: HostRuntime) -> Result<(), Fail> {
             return Err(Fail::from("not understood"));
         };
         assert_eq!(rt; args.script, name);
+        assert!(rt; !args.check && !args.threads);
     }
+    Ok(())
+}
+
+#[test]
+fn a_check_is_asked_for(rt: HostRuntime) -> Result<(), Fail> {
+    let words = texts(rt.alloc(), &["uxrun", "--check", "a.ux"])?;
+    let Ok(args) = read_args(rt.alloc(), words.as_slice()) else {
+        return Err(Fail::from("not understood"));
+    };
+    assert!(rt; args.check);
+    assert_eq!(rt; args.script, "a.ux");
+    Ok(())
+}
+
+#[test]
+fn threads_are_asked_for(rt: HostRuntime) -> Result<(), Fail> {
+    let words = texts(rt.alloc(), &["uxrun", "--threads", "--check", "a.ux"])?;
+    let Ok(args) = read_args(rt.alloc(), words.as_slice()) else {
+        return Err(Fail::from("not understood"));
+    };
+    assert!(rt; args.threads && args.check);
+    assert_eq!(rt; args.script, "a.ux");
     Ok(())
 }
 
@@ -30,8 +53,8 @@ fn a_script_is_named(rt: HostRuntime) -> Result<(), Fail> {
 fn other_command_lines_are_refused(rt: HostRuntime) -> Result<(), Fail> {
     let none = ["uxrun"];
     let two = ["uxrun", "a", "b"];
-    let later = ["uxrun", "--threads", "a"];
-    for words in [none.as_slice(), two.as_slice(), later.as_slice()] {
+    let unknown = ["uxrun", "--thread", "a"];
+    for words in [none.as_slice(), two.as_slice(), unknown.as_slice()] {
         let words = texts(rt.alloc(), words)?;
         let told = read_args(rt.alloc(), words.as_slice())
             .err()
@@ -58,6 +81,7 @@ fn faults_have_their_texts(rt: HostRuntime) -> Result<(), Fail> {
         (Fault::from(ScriptFault::Reading), "reading failed"),
         (Fault::from(AllocError), "out of memory"),
         (Fault::from(ObjError::NoMemory), "out of memory"),
+        (Fault::Differs(7), "check differs at 7"),
     ];
     for (fault, text) in rows {
         assert_eq!(rt; fault.to_string(rt.alloc())?.as_str(), text);

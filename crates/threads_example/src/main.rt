@@ -1,0 +1,272 @@
+//! The layer with threads as its processes: a monitor opens a file and passes it over a connection to a worker in
+//! another thread, which reads it after the monitor has exited, and takes its last reference. At the end the
+//! history is compared with what the processes counted, with their receipts, and with a second run of its calls.
+#![tactic(auto)]
+
+ghost use Rattle.std.specs.Prelude.{◌≡◌, false, IfOk};
+ghost use Rattle.ux_model.specs.Boot.{IsBootState};
+ghost use Rattle.ux_history.specs.Books.{is_last};
+
+use anyhow::{Result, anyhow};
+use bstr::BString;
+use std::alloc::Global;
+use std::marker::Brand;
+use std::sync::Wait;
+use std::sync::ledger::Blank;
+use std::thread;
+use std::thread::Threads;
+use ux_cmsg::{Control, write_control};
+use ux_history::{Book, BookName, PARTS, Receipt, Spent};
+use ux_kernel::Kernel;
+use ux_layer::{Layer, Seat, start};
+use ux_objects::MemFile;
+use ux_replay::check_history;
+use ux_syntax::entry_text;
+use ux_types::{
+    Addr, Bytes, Fd, Mode, MsgFlags, Name, OpenFlags, Pid, ProcSpec, Request, SockType,
+};
+
+const MONITOR: Pid = Pid(1);
+
+const WORKER: Pid = Pid(2);
+
+const SOCKET: Request = Request::Socket {
+    kind: SockType::Stream,
+    flags: OpenFlags(0),
+};
+
+/// A process that made its calls and exited.
+#[derive(Drop)]
+struct Done<W: BookName> {
+    spent: Spent<W>,
+    receipts: Vec<Receipt<W>>,
+}
+
+/// The path of the file.
+fn notes(alloc: Global) -> Result<Name> {
+    Ok(Name::new(BString::from_slice(alloc, b"notes")?))
+}
+
+/// Where the monitor listens.
+fn address(alloc: Global) -> Result<Addr> {
+    Ok(Addr::Abstract(Name::new(BString::from_slice(alloc, b"monitor")?)))
+}
+
+/// A kernel with one memory file and two processes.
+fn boot(alloc: Global) -> Result<Kernel<MemFile>>
+    ensures { IfOk result (λ kernel. IsBootState kernel) }
+{
+    let file = MemFile::new(alloc, b"hello")?;
+    let user = ProcSpec {
+        uid: 1000,
+        gid: 1000,
+        privileged: false,
+        limit: 16,
+    };
+    let objects = vec![in alloc; (notes(alloc)?, file)]?;
+    match Kernel::boot(alloc, objects, &[user, user]) {
+        Ok(kernel) => Ok(kernel),
+        Err((fault, _objects)) => Err(anyhow!("{fault}")),
+    }
+}
+
+/// A message of one byte that passes the descriptor 0 over the descriptor 2.
+fn pass(alloc: Global) -> Result<Request> {
+    let files = vec![in alloc; Fd(0)]?;
+    let control = write_control(alloc, &Control::new(None, files))?;
+    Ok(Request::SendMsg {
+        fd: Fd(2),
+        addr: None,
+        bytes: Bytes::new(Vec::from_slice(alloc, b"x")?),
+        control: Bytes::new(control),
+        flags: MsgFlags(0),
+    })
+}
+
+/// What the monitor asks for: it opens the file, waits for a connection, and passes the file.
+fn monitor_calls(alloc: Global) -> Result<Vec<Request>> {
+    let flags = OpenFlags(0);
+    let path = notes(alloc)?;
+    let mode = Mode::Read;
+    let addr = address(alloc)?;
+    Ok(vec![in alloc;
+        Request::Open { path, mode, flags },
+        SOCKET,
+        Request::Bind { fd: Fd(1), addr },
+        Request::Listen {
+            fd: Fd(1),
+            backlog: 1
+        },
+        Request::Accept { fd: Fd(1), flags },
+        pass(alloc)?,
+    ]?)
+}
+
+/// What the worker asks for first: it connects, is passed the file, and reads it.
+fn worker_calls(alloc: Global) -> Result<Vec<Request>> {
+    let addr = address(alloc)?;
+    // A control buffer of 24 bytes has room for one descriptor.
+    let receive = Request::RecvMsg {
+        fd: Fd(0),
+        n: 8,
+        space: 24,
+        flags: MsgFlags(0),
+    };
+    Ok(vec![in alloc;
+        SOCKET,
+        Request::Connect { fd: Fd(0), addr },
+        receive,
+        Request::Read { fd: Fd(1), n: 64 },
+    ]?)
+}
+
+/// What the worker asks for after the monitor's exit: with the close the file has no reference left.
+fn last_calls(alloc: Global) -> Result<Vec<Request>> {
+    let path = notes(alloc)?;
+    Ok(vec![in alloc; Request::Unlink { path }, Request::Close { fd: Fd(1) }]?)
+}
+
+/// Makes these calls, each of which waits until it can be done, and keeps their receipts.
+fn make_calls<W: BookName, R: Wait>(
+    rt: &R,
+    seat: &mut Seat<W, MemFile>,
+    receipts: &mut Vec<Receipt<W>>,
+    requests: &[Request],
+) -> Result<()> {
+    for request in requests {
+        // A process exits by its seat.
+        if ux_history::is_last(request) {
+            return Err(anyhow!("an exit isn't a call"));
+        }
+        match seat.call_blocking(rt, request) {
+            Ok((reply, receipt)) => {
+                drop(reply);
+                receipts.push(receipt)?;
+            }
+            Err(fault) => return Err(anyhow!("{fault}")),
+        }
+    }
+    Ok(())
+}
+
+/// Ends the process.
+fn exit<W: BookName, R: Wait>(
+    rt: &R,
+    seat: Seat<W, MemFile>,
+    receipts: Vec<Receipt<W>>,
+) -> Result<Done<W>> {
+    match seat.exit(rt) {
+        Ok(spent) => Ok(Done { spent, receipts }),
+        Err((fault, _seat)) => Err(anyhow!("{fault}")),
+    }
+}
+
+/// The monitor's thread.
+fn monitor<W: BookName, R: Wait>(
+    rt: &R,
+    alloc: Global,
+    layer: &Layer<W, MemFile>,
+    mut seat: Seat<W, MemFile>,
+) -> Result<Done<W>> {
+    let mut receipts = Vec::new(alloc);
+    make_calls(rt, &mut seat, &mut receipts, &monitor_calls(alloc)?)?;
+    // The worker has read the file.
+    layer.wait_for(rt, WORKER, 4);
+    exit(rt, seat, receipts)
+}
+
+/// The worker's thread.
+fn worker<W: BookName, R: Wait>(
+    rt: &R,
+    alloc: Global,
+    layer: &Layer<W, MemFile>,
+    mut seat: Seat<W, MemFile>,
+) -> Result<Done<W>> {
+    let mut receipts = Vec::new(alloc);
+    // The monitor listens.
+    layer.wait_for(rt, MONITOR, 4);
+    make_calls(rt, &mut seat, &mut receipts, &worker_calls(alloc)?)?;
+    // The monitor has exited.
+    layer.wait_for(rt, MONITOR, 7);
+    make_calls(rt, &mut seat, &mut receipts, &last_calls(alloc)?)?;
+    exit(rt, seat, receipts)
+}
+
+/// Prints the history.
+fn print_history<W: BookName>(
+    rt: &(impl Print + AllocGlobal),
+    book: &Book<W, MemFile>,
+) -> Result<()> {
+    for (number, entry) in book.entries().iter().enumerate() {
+        print!(rt; "{}", entry_text(rt.alloc(), number, entry)?)?;
+    }
+    Ok(())
+}
+
+/// Whether each of these receipts stands in the book.
+fn holds_all<W: BookName>(book: &Book<W, MemFile>, receipts: &[Receipt<W>]) -> bool {
+    receipts.iter().all(|receipt| book.holds(receipt))
+}
+
+/// Compares the history with what the processes have of it.
+fn settle<W: BookName, R: Wait + Print + AllocGlobal>(
+    rt: &R,
+    layer: &Layer<W, MemFile>,
+    monitor: Done<W>,
+    worker: Done<W>,
+) -> Result<()> {
+    let spents = vec![in rt.alloc(); monitor.spent, worker.spent]?;
+    let account = match layer.settle(rt, spents) {
+        Ok(account) => account,
+        Err((fault, _spents)) => return Err(anyhow!("{fault}")),
+    };
+    let guard = layer.book(rt);
+    print_history(rt, guard.book())?;
+    println!(rt; "{} entries settle", account.entries)?;
+    if !holds_all(guard.book(), &monitor.receipts) || !holds_all(guard.book(), &worker.receipts) {
+        return Err(anyhow!("a receipt doesn't stand"));
+    }
+    println!(rt; "each receipt stands")?;
+    let again = boot(rt.alloc())?;
+    match check_history(rt.alloc(), guard.book().entries(), again) {
+        Ok(count) => println!(rt; "check ok {count}")?,
+        Err(number) => return Err(anyhow!("check differs at {number}")),
+    }
+    Ok(())
+}
+
+/// Runs the two processes as threads of a layer, under a name that lives in here.
+fn run_threads<W: BookName + Send + Sync, R: Threads + Wait + Print + AllocGlobal + Sync>(
+    rt: &R,
+    blank: Blank,
+    kernel: Kernel<MemFile>,
+) -> Result<()>
+    requires name { blank.name ≡ W.name }
+    requires parts { (blank.parts ≡ W.parts) × (blank.parts ≡ 1024) }
+    requires boots { IsBootState kernel }
+    requires named { kernel ≡ W.boot }
+{
+    let alloc = rt.alloc();
+    let Ok((layer, mut seats)) = start::<W, MemFile, R>(rt, alloc, blank, kernel) else {
+        return Err(anyhow!("out of memory"));
+    };
+    let (Some(second), Some(first)) = (seats.pop(), seats.pop()) else {
+        return Err(anyhow!("a process is missing"));
+    };
+    let shared = &layer;
+    let (monitored, worked) = thread::join(
+        rt,
+        move || monitor(rt, alloc, shared, first),
+        move || worker(rt, alloc, shared, second),
+    );
+    settle(rt, &layer, monitored?, worked?)
+}
+
+fn run<R: Threads + Wait + Print + AllocGlobal + Sync>(rt: &R) -> Result<()> {
+    let kernel = boot(rt.alloc())?;
+    run_threads::<Brand, R>(rt, Blank::new(PARTS), kernel)
+}
+
+fn main(rt: HostRuntime) -> Result<()> {
+    run(&rt)
+}
