@@ -117,20 +117,6 @@ const SCRIPTS: [&str; 86] = [
 /// A file object as a kernel holds it.
 type Boxed = Box<dyn FileObject + Send>;
 
-/// The file objects of a script.
-fn objects_of(alloc: Global, script: &Script) -> Result<Vec<(Name, Boxed)>> {
-    let mut objects: Vec<(Name, Boxed)> = Vec::new(alloc);
-    for line in &script.objects {
-        let object: Boxed = match line.kind {
-            ObjKind::Memory => Box::new(alloc, MemFile::new(alloc, line.body.as_slice())?)?,
-            ObjKind::Counter => Box::new(alloc, Counter::new())?,
-            ObjKind::Pipe => Box::new(alloc, Pipe::new(alloc)?)?,
-        };
-        objects.push((line.name.clone()?, object))?;
-    }
-    Ok(objects)
-}
-
 /// A kernel of a script's processes and these file objects.
 fn kernel_of<O: FileObject>(
     alloc: Global,
@@ -146,58 +132,106 @@ fn kernel_of<O: FileObject>(
     }
 }
 
-/// The trace of a script over these file objects, and its history.
+/// A way in which the calls of a script are made.
+#[derive(Clone, Copy, Drop)]
+enum Pass {
+    /// One after the other.
+    Serial,
+    /// Once more, as the history has them.
+    Again,
+    /// By the seats of the processes.
+    Seats,
+}
+
+/// Runs a script over these file objects, and gives its history. It must have this trace.
 fn run_over<O: FileObject>(
     alloc: Global,
     script: &Script,
+    wanted: &[u8],
     objects: Vec<(Name, O)>,
-) -> Result<(Vec<u8>, Vec<Entry>)> {
+) -> Result<Vec<Entry>> {
     let kernel = kernel_of(alloc, script, objects)?;
     let mut trace: Vec<u8> = Vec::new(alloc);
     let history = run_serial(alloc, script, &mut trace, kernel)?;
-    Ok((trace, history))
+    if trace.as_slice() == wanted {
+        return Ok(history);
+    }
+    Err(anyhow!("another trace"))
 }
 
-/// Whether the calls of a history are answered alike on a second kernel.
-fn is_repeated<O: FileObject>(
+/// Makes the calls of a history on a second kernel, where they must be answered alike.
+fn repeat<O: FileObject>(
     alloc: Global,
     script: &Script,
     history: &[Entry],
     objects: Vec<(Name, O)>,
-) -> Result<bool> {
+) -> Result<()> {
     let kernel = kernel_of(alloc, script, objects)?;
-    Ok(check_history(alloc, history, kernel) == Ok(history.len() as u64))
+    match check_history(alloc, history, kernel) {
+        Ok(_count) => Ok(()),
+        Err(number) => Err(anyhow!("entry {number} is another the second time")),
+    }
 }
 
-/// Whether a script has this trace when its calls are made by seats.
-fn is_seated<O: FileObject, R: Wait + AllocGlobal>(
+/// Makes a script's calls by seats. It must have this trace.
+fn seat<O: FileObject, R: Wait + AllocGlobal>(
     rt: &R,
     script: &Script,
     wanted: &[u8],
     objects: Vec<(Name, O)>,
-) -> Result<bool> {
+) -> Result<()> {
     let kernel = kernel_of(rt.alloc(), script, objects)?;
-    goes_by_seats::<Brand, O, R>(rt, Blank::new(PARTS), kernel, script, wanted)
+    if goes_by_seats::<Brand, O, R>(rt, Blank::new(PARTS), kernel, script, wanted)? {
+        return Ok(());
+    }
+    Err(anyhow!("another trace by seats"))
 }
 
-/// Whether a script has this trace, can be made once more, and goes by seats.
-fn has_trace<R: Wait + AllocGlobal>(rt: &R, text: &[u8], wanted: &[u8]) -> Result<bool> {
+/// Makes a script's file objects and its calls, and gives its history. The boxes are made and used here, since
+/// the gate lets no function hand out a `dyn` value that it made.
+fn perform<R: Wait + AllocGlobal>(
+    rt: &R,
+    script: &Script,
+    wanted: &[u8],
+    pass: Pass,
+    history: Vec<Entry>,
+) -> Result<Vec<Entry>> {
     let alloc = rt.alloc();
-    let script = parse_script(alloc, text)?;
-    let (found, history) = run_over(alloc, &script, objects_of(alloc, &script)?)?;
-    let repeated = is_repeated(alloc, &script, &history, objects_of(alloc, &script)?)?;
-    let seated = is_seated(rt, &script, wanted, objects_of(alloc, &script)?)?;
-    Ok(repeated && seated && found.as_slice() == wanted)
+    let mut objects: Vec<(Name, Boxed)> = Vec::new(alloc);
+    for line in &script.objects {
+        let object: Boxed = match line.kind {
+            ObjKind::Memory => Box::new(alloc, MemFile::new(alloc, line.body.as_slice())?)?,
+            ObjKind::Counter => Box::new(alloc, Counter::new())?,
+            ObjKind::Pipe => Box::new(alloc, Pipe::new(alloc)?)?,
+        };
+        objects.push((line.name.clone()?, object))?;
+    }
+    match pass {
+        Pass::Serial => return run_over(alloc, script, wanted, objects),
+        Pass::Again => repeat(alloc, script, &history, objects)?,
+        Pass::Seats => seat(rt, script, wanted, objects)?,
+    }
+    Ok(history)
 }
 
-/// Whether a script has the trace that lies beside it.
-fn has_its_trace<R: Files + Wait + AllocGlobal>(rt: &R, name: &str) -> Result<bool> {
+/// Runs a script, makes its calls once more, and makes them by seats. It must have this trace.
+fn must_have_trace<R: Wait + AllocGlobal>(rt: &R, text: &[u8], wanted: &[u8]) -> Result<()> {
+    let script = parse_script(rt.alloc(), text)?;
+    let mut history = Vec::new(rt.alloc());
+    for pass in [Pass::Serial, Pass::Again, Pass::Seats] {
+        history = perform(rt, &script, wanted, pass, history)?;
+    }
+    Ok(())
+}
+
+/// Runs a script, which must have the trace that lies beside it.
+fn must_have_its_trace<R: Files + Wait + AllocGlobal>(rt: &R, name: &str) -> Result<()> {
     let alloc: Global = rt.alloc();
     let script = format!(in alloc; "{name}.ux")?;
     let trace = format!(in alloc; "{name}.trace")?;
     let text = fs::read(rt, script.as_str())?;
     let wanted = fs::read(rt, trace.as_str())?;
-    has_trace(rt, &text, &wanted)
+    must_have_trace(rt, &text, &wanted)
 }
 
 /// How often a chain's script puts a socket into the queue of the next.
@@ -262,24 +296,24 @@ fn chain_trace(alloc: Global, closes: bool) -> Result<Vec<u8>> {
     Ok(trace)
 }
 
-/// Whether a chain goes as it should.
-fn chain_goes<R: Wait + AllocGlobal>(rt: &R, closes: bool) -> Result<bool> {
+/// Runs a chain, which must go as it should.
+fn must_go<R: Wait + AllocGlobal>(rt: &R, closes: bool) -> Result<()> {
     let alloc = rt.alloc();
     let text = chain_script(alloc, closes)?;
     let wanted = chain_trace(alloc, closes)?;
-    has_trace(rt, &text, &wanted)
+    must_have_trace(rt, &text, &wanted)
 }
 
 fn run<R: Files + Wait + Print + AllocGlobal>(rt: &R) -> Result<()> {
     for closes in [true, false] {
-        if !chain_goes(rt, closes)? {
-            return Err(anyhow!("a chain of passed sockets: another trace"));
+        if let Err(error) = must_go(rt, closes) {
+            return Err(anyhow!("a chain of passed sockets: {error}"));
         }
     }
     println!(rt; "a chain of {TURNS} passed sockets: ok")?;
     for name in SCRIPTS {
-        if !has_its_trace(rt, name)? {
-            return Err(anyhow!("{name}: another trace"));
+        if let Err(error) = must_have_its_trace(rt, name) {
+            return Err(anyhow!("{name}: {error}"));
         }
         println!(rt; "{name}: ok")?;
     }

@@ -43,8 +43,8 @@ fn run<R: Files + Input + Threads + Wait + Print + AllocGlobal + Sync>(
     let script = script_of(rt, args.script)?;
     let history = run_script(rt, &script, args.threads)?;
     if args.check {
-        let count = check_script(rt.alloc(), &script, &history)?;
-        println!(rt; "check ok {count}").map_err(|_| ScriptFault::Writing)?;
+        let checked = check_script(rt, &script, history)?;
+        println!(rt; "check ok {}", checked.len()).map_err(|_| ScriptFault::Writing)?;
     }
     Ok(())
 }

@@ -21,24 +21,43 @@ use ux_types::{Entry, Name, OBJECT_LIMIT};
 /// A file object as a kernel holds it.
 type Boxed = Box<dyn FileObject + Send>;
 
-/// Makes the script's file objects, runs the script over them, and prints its trace to standard output. With
-/// `threads` each process is a thread.
+/// What is done with the file objects of a script.
+#[derive(Drop)]
+enum Task {
+    /// The script is run, with a thread for each process or by one thread.
+    Run { threads: bool },
+    /// The calls of this history are made once more.
+    Check { history: Vec<Entry> },
+}
+
+/// Runs the script over its file objects, and prints its trace to standard output. With `threads` each process
+/// is a thread.
 pub fn run_script<R: Threads + Wait + Print + AllocGlobal + Sync>(
     rt: &R,
     script: &Script,
     threads: bool,
 ) -> Result<Vec<Entry>, Fault> {
-    run_over(rt, script, threads, objects_of(rt.alloc(), script)?)
+    perform(rt, script, Task::Run { threads })
 }
 
-/// Makes the calls of the script's history once more, over file objects that are as they were at first, and
-/// gives how many entries there are.
-pub fn check_script(alloc: Global, script: &Script, history: &[Entry]) -> Result<u64, Fault> {
-    check_over(alloc, script, history, objects_of(alloc, script)?)
+/// Makes the calls of the script's history once more, over file objects that are as they were at first, and gives
+/// the history back.
+pub fn check_script<R: Threads + Wait + Print + AllocGlobal + Sync>(
+    rt: &R,
+    script: &Script,
+    history: Vec<Entry>,
+) -> Result<Vec<Entry>, Fault> {
+    perform(rt, script, Task::Check { history })
 }
 
-/// The script's file objects. More than a kernel may have are counted before any is made.
-fn objects_of(alloc: Global, script: &Script) -> Result<Vec<(Name, Boxed)>, Fault> {
+/// Makes the script's file objects, and does this with them. More than a kernel may have are counted before any
+/// is made. The boxes are made and used here, since the gate lets no function hand out a `dyn` value that it made.
+fn perform<R: Threads + Wait + Print + AllocGlobal + Sync>(
+    rt: &R,
+    script: &Script,
+    task: Task,
+) -> Result<Vec<Entry>, Fault> {
+    let alloc: Global = rt.alloc();
     if script.objects.len() > OBJECT_LIMIT {
         return Err(Fault::from(BootFault::TooManyObjects));
     }
@@ -51,7 +70,10 @@ fn objects_of(alloc: Global, script: &Script) -> Result<Vec<(Name, Boxed)>, Faul
         };
         objects.push((line.name.clone()?, object))?;
     }
-    Ok(objects)
+    match task {
+        Task::Run { threads } => run_over(rt, script, threads, objects),
+        Task::Check { history } => check_over(alloc, script, history, objects),
+    }
 }
 
 /// A kernel of the script's processes and these file objects.
@@ -91,12 +113,12 @@ fn run_over<O: FileObject + Send, R: Threads + Wait + Print + AllocGlobal + Sync
 fn check_over<O: FileObject>(
     alloc: Global,
     script: &Script,
-    history: &[Entry],
+    history: Vec<Entry>,
     objects: Vec<(Name, O)>,
-) -> Result<u64, Fault> {
+) -> Result<Vec<Entry>, Fault> {
     let kernel = kernel_of(alloc, script, objects)?;
-    match check_history(alloc, history, kernel) {
-        Ok(count) => Ok(count),
+    match check_history(alloc, &history, kernel) {
+        Ok(_count) => Ok(history),
         Err(number) => Err(Fault::Differs(number)),
     }
 }

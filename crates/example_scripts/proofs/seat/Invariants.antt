@@ -1,4 +1,4 @@
-use Rattle.example_scripts.proofs.is_seated.Given as goal
+use Rattle.example_scripts.proofs.seat.Given as goal
 
 -- the ledger that was just opened
 abbrev pub ghosts-goes_by_seats-W-Ledger : goal.ghosts-goes_by_seats-W-Ledger
