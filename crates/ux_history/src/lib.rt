@@ -17,6 +17,3 @@ pub use naming::BookName;
 pub use receipts::{Call, Receipt, Recorded};
 pub use shares::{Share, Spent};
 pub use ux_types::Entry;
-
-#[cfg(test)]
-mod tests;

@@ -2,10 +2,6 @@ ghost use Rattle.std.specs.Prelude.{◌≡◌, [], false, length};
 ghost use Rattle.ux_model.specs.Boot.{IsBootState};
 ghost use Rattle.ux_history.specs.Books.{is_last};
 
-use crate::{
-    Account, Book, BookName, CallFault, OffFault, PARTS, Recorded, SettleFault, Share, Spent,
-    settle_accounts,
-};
 use bstr::BString;
 use hoard::Hoard;
 use std::alloc::{AllocError, Global};
@@ -13,6 +9,10 @@ use std::marker::Brand;
 use std::process::Abort;
 use std::sync::ledger::Blank;
 use std::test::Fail;
+use ux_history::{
+    Account, Book, BookName, CallFault, OffFault, PARTS, Recorded, SettleFault, Share, Spent,
+    settle_accounts,
+};
 use ux_kernel::Kernel;
 use ux_objects::Counter;
 use ux_state::RetiredList;

@@ -7,6 +7,3 @@ mod seat;
 
 pub use layer::{BookGuard, Layer, start};
 pub use seat::Seat;
-
-#[cfg(test)]
-mod tests;

@@ -2,7 +2,6 @@ ghost use Rattle.std.specs.Prelude.{◌≡◌, false, IfOk};
 ghost use Rattle.ux_model.specs.Boot.{IsBootState};
 ghost use Rattle.ux_history.specs.Books.{is_last};
 
-use crate::{Layer, Seat, start};
 use bstr::BString;
 use std::alloc::{AllocError, Global};
 use std::marker::Brand;
@@ -14,6 +13,7 @@ use std::thread;
 use std::thread::Threads;
 use ux_history::{BookName, CallFault, OffFault, PARTS, Receipt, SettleFault, Spent};
 use ux_kernel::Kernel;
+use ux_layer::{Layer, Seat, start};
 use ux_object::FileObject;
 use ux_objects::Counter;
 use ux_types::{

@@ -4,6 +4,3 @@
 mod check;
 
 pub use check::check_history;
-
-#[cfg(test)]
-mod tests;

@@ -1,9 +1,9 @@
 //! A short history that is made once more, as it was, otherwise, and on another kernel.
-use super::*;
 use std::alloc::{AllocError, Global};
 use std::test::Fail;
 use ux_kernel::Kernel;
 use ux_objects::Counter;
+use ux_replay::check_history;
 use ux_types::{
     Bytes, Entry, Errno, Fd, MsgFlags, OpenFlags, Pid, ProcSpec, Released, Reply, Request, SockType,
 };

@@ -7,6 +7,3 @@ mod write;
 
 pub use run::{run_serial, tell};
 pub use write::write_trace;
-
-#[cfg(test)]
-mod tests;

@@ -1,7 +1,6 @@
 //! Runs by examples, and with writers that fail. Scripts with file objects have their traces in `examples/`.
 ghost use Rattle.std.specs.Prelude.{Some};
 
-use super::*;
 use std::alloc::Global;
 use std::io;
 use std::io::Write;
@@ -9,6 +8,7 @@ use std::process::Abort;
 use std::test::Fail;
 use ux_kernel::Kernel;
 use ux_objects::Counter;
+use ux_script::run_serial;
 use ux_syntax::{Act, Line, Script, ScriptFault, parse_script};
 use ux_types::{Entry, Name, Pid, Request};
 

@@ -8,6 +8,3 @@ mod work;
 
 pub use gate::{Gate, NoGate};
 pub use run::run_threads;
-
-#[cfg(test)]
-mod tests;

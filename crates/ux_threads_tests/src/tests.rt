@@ -2,7 +2,6 @@
 ghost use Rattle.std.specs.Prelude.{◌≡◌, map, IfOk};
 ghost use Rattle.ux_model.specs.Boot.{IsBootState, new_process};
 
-use super::*;
 use std::alloc::Global;
 use std::process::Abort;
 use std::sync::Wait;
@@ -14,6 +13,7 @@ use ux_kernel::Kernel;
 use ux_objects::Counter;
 use ux_replay::check_history;
 use ux_syntax::{Script, parse_script};
+use ux_threads::{Gate, NoGate, run_threads};
 use ux_types::{Entry, Name, Pid};
 
 mod stress;

@@ -5,7 +5,6 @@ ghost use Rattle.ux_history.specs.Books.{is_last};
 ghost use Rattle.ux_objects.specs.Faultless.{counter_view};
 
 use super::{Done, Trouble, USER, Worker, is_answered};
-use crate::{Layer, Seat, start};
 use bstr::BString;
 use std::alloc::{AllocError, Global};
 use std::marker::Brand;
@@ -18,6 +17,7 @@ use std::thread;
 use std::thread::Threads;
 use ux_history::{BookName, PARTS};
 use ux_kernel::Kernel;
+use ux_layer::{Layer, Seat, start};
 use ux_object::{FileObject, ObjError, ObjKind};
 use ux_objects::Counter;
 use ux_types::{Bytes, Fd, Mode, Name, OpenFlags, ProcSpec, Reply, Request};

@@ -1,10 +1,10 @@
 //! Eight threads that make calls of all kinds on shared names.
 
 use super::{history_of, repeat};
-use crate::NoGate;
 use std::alloc::{AllocError, Global};
 use std::test::Fail;
 use ux_syntax::parse_script;
+use ux_threads::NoGate;
 
 /// How many processes there are.
 const PROCESSES: u32 = 8;

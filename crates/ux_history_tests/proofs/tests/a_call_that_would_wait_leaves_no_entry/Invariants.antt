@@ -1,4 +1,4 @@
-use Rattle.ux_history.proofs.tests.a_call_that_would_wait_leaves_no_entry.Given as goal
+use Rattle.ux_history_tests.proofs.tests.a_call_that_would_wait_leaves_no_entry.Given as goal
 
 -- the ledger that was just opened
 abbrev pub ghosts-try_calls-W-Ledger : goal.ghosts-try_calls-W-Ledger

@@ -1,4 +1,4 @@
-use Rattle.ux_history.proofs.tests.an_exit_and_the_end_need_no_memory.Given as goal
+use Rattle.ux_history_tests.proofs.tests.an_exit_and_the_end_need_no_memory.Given as goal
 
 -- the ledger that was just opened
 abbrev pub ghosts-end_without_memory-W-Ledger : goal.ghosts-end_without_memory-W-Ledger

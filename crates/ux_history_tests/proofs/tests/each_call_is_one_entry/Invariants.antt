@@ -1,4 +1,4 @@
-use Rattle.ux_history.proofs.tests.each_call_is_one_entry.Given as goal
+use Rattle.ux_history_tests.proofs.tests.each_call_is_one_entry.Given as goal
 
 -- the ledger that was just opened
 abbrev pub ghosts-make_calls-W-Ledger : goal.ghosts-make_calls-W-Ledger

@@ -1,4 +1,4 @@
-use Rattle.ux_history.proofs.tests.the_end_comes_once_and_accounts_settle.Given as goal
+use Rattle.ux_history_tests.proofs.tests.the_end_comes_once_and_accounts_settle.Given as goal
 
 -- the ledger that was just opened
 abbrev pub ghosts-settle-W-Ledger : goal.ghosts-settle-W-Ledger

@@ -1,4 +1,4 @@
-use Rattle.ux_layer.proofs.tests.a_call_that_needn_t_wait_is_answered.Given as goal
+use Rattle.ux_layer_tests.proofs.tests.a_call_that_needn_t_wait_is_answered.Given as goal
 
 -- the ledger that was just opened
 abbrev pub ghosts-call_once-W-Ledger : goal.ghosts-call_once-W-Ledger

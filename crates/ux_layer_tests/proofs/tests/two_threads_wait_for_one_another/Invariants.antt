@@ -1,4 +1,4 @@
-use Rattle.ux_layer.proofs.tests.two_threads_wait_for_one_another.Given as goal
+use Rattle.ux_layer_tests.proofs.tests.two_threads_wait_for_one_another.Given as goal
 
 -- the ledger that was just opened
 abbrev pub ghosts-exchange-W-Ledger : goal.ghosts-exchange-W-Ledger

@@ -1,4 +1,4 @@
-use Rattle.ux_layer.proofs.tests.watched.a_write_wakes_a_read.Given as goal
+use Rattle.ux_layer_tests.proofs.tests.watched.a_write_wakes_a_read.Given as goal
 
 -- the ledger that was just opened
 abbrev pub ghosts-wake-W-Ledger : goal.ghosts-wake-W-Ledger

@@ -1,4 +1,4 @@
-use Rattle.ux_layer.proofs.tests.watched.objects_are_dropped_outside_the_lock.Given as goal
+use Rattle.ux_layer_tests.proofs.tests.watched.objects_are_dropped_outside_the_lock.Given as goal
 
 -- the ledger that was just opened
 abbrev pub ghosts-drop_objects-W-Ledger : goal.ghosts-drop_objects-W-Ledger
