@@ -131,21 +131,39 @@ fn lines_that_wait_leave_one_order(rt: HostRuntime) -> Result<(), Fail> {
     Ok(())
 }
 
-/// Lets process 1 into its first call when process 2 is about to make its own.
+/// Two calls of each process, none of which waits.
+const SOCKETS: &str = "proc 1000 1000 0 16
+proc 1000 1000 0 16
+1 socket dgram -
+1 socket dgram -
+2 socket dgram -
+2 socket dgram -
+";
+
+/// Lets a process into each of its first two calls when the other is about to make its own.
 #[derive(Drop)]
 struct Meeting {
-    met: AtomicU64,
-    came: AtomicU64,
+    first: AtomicU64,
+    second: AtomicU64,
+    missed: AtomicU64,
+}
+
+impl Meeting {
+    /// Tells that a process came here, and waits for the other.
+    fn meet(&self, came: &AtomicU64) {
+        came.fetch_add(1, Ordering::SeqCst);
+        if !comes_to(came, 2) {
+            self.missed.fetch_add(1, Ordering::SeqCst);
+        }
+    }
 }
 
 impl Gate for Meeting {
-    fn before(&self, pid: Pid, k: u64) {
-        if k > 0 {
-            return;
-        }
-        self.came.fetch_add(1, Ordering::SeqCst);
-        if pid.0 == 1 && comes_to(&self.came, 2) {
-            self.met.store(1, Ordering::SeqCst);
+    fn before(&self, _pid: Pid, k: u64) {
+        match k {
+            0 => self.meet(&self.first),
+            1 => self.meet(&self.second),
+            _ => {}
         }
     }
 
@@ -166,14 +184,17 @@ fn comes_to(count: &AtomicU64, number: u64) -> bool {
 #[test]
 fn both_threads_are_there_at_once(rt: HostRuntime) -> Result<(), Fail> {
     let alloc = rt.alloc();
-    let script = parse_script(alloc, SEMAPHORES.as_bytes())?;
+    let script = parse_script(alloc, SOCKETS.as_bytes())?;
     let gate = Meeting {
-        met: AtomicU64::new(0),
-        came: AtomicU64::new(0),
+        first: AtomicU64::new(0),
+        second: AtomicU64::new(0),
+        missed: AtomicU64::new(0),
     };
     let mut trace = Vec::new(alloc);
     let entries = history_of(&rt, alloc, &script, &mut trace, &gate)?;
     drop(entries);
-    assert_eq!(rt; gate.met.load(Ordering::SeqCst), 1);
+    assert_eq!(rt; gate.first.load(Ordering::SeqCst), 2);
+    assert_eq!(rt; gate.second.load(Ordering::SeqCst), 2);
+    assert_eq!(rt; gate.missed.load(Ordering::SeqCst), 0);
     Ok(())
 }
