@@ -5,6 +5,3 @@
 mod backlog;
 
 pub use backlog::{Backlog, PushError};
-
-#[cfg(test)]
-mod tests;

@@ -25,6 +25,3 @@ pub fn control_buffer_reads_once()
 pub fn control_is_read_by_its_grammar()
     ensures { ReadsByGrammar }
 {}
-
-#[cfg(test)]
-mod tests;

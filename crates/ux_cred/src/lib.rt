@@ -4,6 +4,3 @@
 mod check;
 
 pub use check::{CredError, check_cred};
-
-#[cfg(test)]
-mod tests;

@@ -12,6 +12,3 @@ pub use description::{Description, Target};
 pub use phase::{Listener, Phase};
 pub use queue::Queue;
 pub use socket::Socket;
-
-#[cfg(test)]
-mod tests;

@@ -7,6 +7,3 @@ mod table;
 
 pub use descriptor::Descriptor;
 pub use table::{DupError, InstallError, Table};
-
-#[cfg(test)]
-mod tests;

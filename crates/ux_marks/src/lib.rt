@@ -11,6 +11,3 @@ mod marks;
 pub use bit_words::BitWords;
 pub use groups::GroupedMarks;
 pub use marks::Marks;
-
-#[cfg(test)]
-mod tests;

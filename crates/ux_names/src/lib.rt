@@ -19,6 +19,3 @@ pub use refusals::{AutobindError, BindError};
 pub use listing::Listing;
 #[doc(hidden)]
 pub use paths::Target;
-
-#[cfg(test)]
-mod tests;

@@ -9,6 +9,3 @@ mod pipe;
 pub use counter::Counter;
 pub use mem_file::MemFile;
 pub use pipe::Pipe;
-
-#[cfg(test)]
-mod tests;

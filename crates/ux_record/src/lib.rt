@@ -9,6 +9,3 @@ pub use record::Received;
 // A crate can name `RecordQueue` in a contract only if the types of its fields are exported.
 #[doc(hidden)]
 pub use record::Record;
-
-#[cfg(test)]
-mod tests;

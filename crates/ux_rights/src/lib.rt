@@ -11,6 +11,3 @@ pub use origin::Origin;
 pub use plan::{Plan, plan_rights};
 pub use references::{INLINE, RefList, Reference};
 pub use refusals::SendError;
-
-#[cfg(test)]
-mod tests;

@@ -5,6 +5,3 @@ mod copying;
 mod room;
 
 pub use room::ReplyRoom;
-
-#[cfg(test)]
-mod tests;

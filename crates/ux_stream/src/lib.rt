@@ -13,6 +13,3 @@ pub use queue::{Received, Refused, StreamQueue};
 pub use byte_ring::ByteRing;
 #[doc(hidden)]
 pub use mark::Mark;
-
-#[cfg(test)]
-mod tests;

@@ -1,9 +1,9 @@
-use crate::{Received, RecordQueue};
 use bstr::BString;
 use hoard::Hoard;
 use linked_list_allocator::LocalHeap;
 use std::alloc::{AllocError, Allocator, Global};
 use std::process::Abort;
+use ux_record::{Received, RecordQueue};
 use ux_rights::{Origin, RefList, SendError};
 use ux_types::{Addr, Cred, DescriptionId, Name, Pid};
 

@@ -1,10 +1,10 @@
 //! A description of each kind, and what a socket does with what is sent to it. The helpers promise
 //! nothing, so that the proofs needn't follow a socket through a test.
-use crate::{Description, Socket, Target};
 use bstr::BString;
 use std::alloc::{AllocError, Global};
 use std::process::Abort;
 use ux_backlog::PushError;
+use ux_desc::{Description, Socket, Target};
 use ux_record::Received;
 use ux_rights::{RefList, SendError};
 use ux_types::{Addr, Cred, DescriptionId, Mode, Name, OpenFlags, Pid, SockType};

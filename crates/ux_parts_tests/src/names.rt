@@ -1,10 +1,10 @@
 //! Names at their limits. Each step is a function of its own, so that a test's proof stays short.
-use super::*;
 use bstr::BString;
 use hoard::Hoard;
 use std::alloc::{AllocError, Global};
 use std::process::Abort;
 use std::test::Fail;
+use ux_names::{AbstractNames, AutobindError, BindError, PathTarget, Paths};
 use ux_types::{DescriptionId, Errno, Name, Refusal};
 
 /// How many names autobind chooses from.

@@ -1,9 +1,9 @@
 //! Tables at their limits. Each step is a function of its own, so that a test's proof stays short.
-use super::*;
 use hoard::Hoard;
 use std::alloc::{AllocError, Global};
 use std::process::Abort;
 use std::test::Fail;
+use ux_fdtable::{Descriptor, DupError, InstallError, Table};
 use ux_rights::RefList;
 use ux_types::{DescriptionId, Fd};
 
@@ -188,7 +188,7 @@ fn three_references(alloc: Global) -> Result<RefList, AllocError> {
 }
 
 /// Opens so many numbers for the first of the references.
-#[tactic(auto, using(crate::proofs::Installing::free_below))]
+#[tactic(auto, using(ux_fdtable::proofs::Installing::free_below))]
 fn open_all(
     alloc: Global,
     table: &mut Table,
@@ -201,7 +201,7 @@ fn open_all(
 }
 
 /// The same, where it is refused memory.
-#[tactic(auto, using(crate::proofs::Installing::free_below))]
+#[tactic(auto, using(ux_fdtable::proofs::Installing::free_below))]
 fn refuse_all(
     rt: &impl Abort,
     alloc: Global,

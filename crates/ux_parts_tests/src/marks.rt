@@ -1,8 +1,8 @@
 //! Marks up to their limits. Each step is a function of its own, so that a test's proof stays short.
-use super::*;
 use hoard::Hoard;
 use std::process::Abort;
 use std::test::Fail;
+use ux_marks::{GroupedMarks, Marks};
 
 /// Marks so many numbers, each of which is the first that isn't marked.
 fn fill(rt: &impl Abort, marks: &mut Marks, numbers: usize) {

@@ -3,13 +3,13 @@ ghost use Rattle.std.specs.Prelude.{◌<◌};
 
 mod list_queue;
 
-use crate::{Received, StreamQueue};
 use hoard::Hoard;
 use linked_list_allocator::LocalHeap;
 use list_queue::{ListFront, ListMessage, ListQueue};
 use std::alloc::{AllocError, Allocator, Global};
 use std::process::Abort;
 use ux_rights::{Origin, RefList, SendError};
+use ux_stream::{Received, StreamQueue};
 use ux_types::{Cred, DescriptionId, Pid};
 
 /// Pseudo-random numbers, by a linear congruence (Knuth's MMIX).

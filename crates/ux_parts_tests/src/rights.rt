@@ -1,7 +1,7 @@
-use crate::{Origin, Plan, RefList, SendError, plan_rights};
 use hoard::Hoard;
 use std::alloc::{AllocError, Global};
 use std::test::Fail;
+use ux_rights::{Origin, Plan, RefList, SendError, plan_rights};
 use ux_types::{DescriptionId, Errno, Refusal};
 
 #[test]

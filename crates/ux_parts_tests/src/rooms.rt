@@ -3,12 +3,12 @@ ghost use Rattle.std.specs.Prelude.{◌≡◌, IfOk};
 ghost use Rattle.ux_model.specs.Limits.{name_limit};
 ghost use Rattle.ux_model.specs.Rooms.{sender_bytes, size_of, room_for, Fits};
 
-use super::*;
 use bstr::BString;
 use hoard::Hoard;
 use std::alloc::{AllocError, Global};
 use std::process::Abort;
 use std::test::Fail;
+use ux_room::ReplyRoom;
 use ux_types::{
     Addr, Bytes, Cred, Errno, Fd, MsgFlags, Name, OpenFlags, Pid, PollFlags, Reply, Request,
 };
@@ -28,7 +28,7 @@ fn name(alloc: Global, items: &[u8]) -> Result<Name, AllocError>
 }
 
 /// Makes room for the reply to a request, and copies a reply while every allocation is refused.
-#[tactic(auto, using(crate::proofs::Fitting::fits_trans))]
+#[tactic(auto, using(ux_room::proofs::Fitting::fits_trans))]
 fn copy_without_memory(alloc: Global, request: &Request, reply: &Reply) -> Result<Reply, AllocError>
     requires { Fits (size_of reply.now) (room_for request.now) }
 {

@@ -1,12 +1,12 @@
 //! The kinds at their limits, each through the interface.
 ghost use Rattle.std.specs.Prelude.{◌≡◌, IfOk, vec_len};
 
-use super::*;
 use hoard::Hoard;
 use std::alloc::{AllocError, Global};
 use std::process::Abort;
 use std::test::Fail;
 use ux_object::{FileObject, ObjError, ObjKind};
+use ux_objects::{Counter, MemFile, Pipe};
 
 /// The greatest length of a memory file.
 const FILE_LIMIT: usize = 1048576;

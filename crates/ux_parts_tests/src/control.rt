@@ -1,9 +1,9 @@
 //! Control buffers byte by byte.
-use super::*;
 use linked_list_allocator::LocalHeap;
 use std::alloc::{AllocError, Allocator, Global};
 use std::process::Abort;
 use std::test::Fail;
+use ux_cmsg::{Control, ControlError, read_control, write_control};
 use ux_types::{Cred, Errno, Fd, Pid, Refusal};
 
 /// Rights 3 and 4.

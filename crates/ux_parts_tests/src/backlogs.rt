@@ -1,9 +1,9 @@
 //! Backlogs at their limits, and with little memory.
-use super::*;
 use linked_list_allocator::LocalHeap;
 use std::alloc::{Allocator, Global};
 use std::process::Abort;
 use std::test::Fail;
+use ux_backlog::{Backlog, PushError};
 use ux_types::{DescriptionId, Errno, Refusal};
 
 /// The handle of the description with this number.
