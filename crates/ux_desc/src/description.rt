@@ -27,7 +27,6 @@ pub enum Target {
 }
 
 /// What all descriptors of one open file share (POSIX.1-2017, Base Definitions 3.258).
-#[derive(Drop)]
 pub struct Description {
     /// Where a memory file is read and written next.
     offset: u64,
@@ -35,6 +34,20 @@ pub struct Description {
     append: bool,
     nonblock: bool,
     pub(crate) target: Target,
+}
+
+// Written out, so that it is proved here and not in each function that drops one.
+impl Drop for Description {
+    fn drop(self) {
+        let Description {
+            offset: _,
+            mode: _,
+            append: _,
+            nonblock: _,
+            target,
+        } = self;
+        drop(target);
+    }
 }
 
 impl Model for Description {
@@ -202,6 +215,13 @@ impl Description {
     pub fn into_target(self) -> Target
         ensures { target_of result ≡ self.target }
     {
-        self.target
+        let Description {
+            offset: _,
+            mode: _,
+            append: _,
+            nonblock: _,
+            target,
+        } = self;
+        target
     }
 }

@@ -20,7 +20,6 @@ use ux_types::{Addr, Cred, DescriptionId, Mode, SockType};
 const STREAM_LIMIT: usize = 65536;
 
 /// A socket, without what its descriptors and its description say (unix(7)).
-#[derive(Drop)]
 pub struct Socket {
     pub(crate) phase: Phase,
     /// What was sent to it, by its type.
@@ -36,6 +35,26 @@ pub struct Socket {
     reset: bool,
     /// False of a server's end that no accept has taken.
     pub(crate) accepted: bool,
+}
+
+// Written out, so that it is proved here and not in each function that drops one.
+impl Drop for Socket {
+    fn drop(self) {
+        let Socket {
+            phase,
+            queue,
+            name,
+            passcred: _,
+            read_shut: _,
+            write_shut: _,
+            peer_cred: _,
+            reset: _,
+            accepted: _,
+        } = self;
+        drop(phase);
+        drop(queue);
+        drop(name);
+    }
 }
 
 impl Model for Socket {

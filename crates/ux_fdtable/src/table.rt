@@ -66,13 +66,25 @@ impl From<DupError> for Refusal {
 
 /// The descriptors of a process by number. Contracts see a list with a place for each number below the
 /// limit (RLIMIT_NOFILE of getrlimit(2)).
-#[derive(Drop)]
 pub struct Table {
     /// The places up to the greatest number that was ever open.
     places: Vec<Option<Descriptor>>,
     limit: usize,
     /// The numbers that are open.
     marks: Marks,
+}
+
+// Written out, so that it is proved here and not in each function that drops one.
+impl Drop for Table {
+    fn drop(self) {
+        let Table {
+            places,
+            limit: _,
+            marks,
+        } = self;
+        drop(places);
+        drop(marks);
+    }
 }
 
 impl Model for Table {

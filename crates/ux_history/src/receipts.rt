@@ -62,12 +62,24 @@ fn is_same_reply(one: &Reply, other: &Reply) -> bool
 /// What a call left in a history. Its type says that some legal history from the book's boot state has the
 /// call at this number, and where `try_record` gave it, that it isn't one that should have waited. Contracts
 /// see the number, the call, and whether `try_record` gave it.
-#[derive(Drop)]
 pub struct Receipt<W: BookName> {
     pub(crate) number: usize,
     pub(crate) call: Call,
     pub(crate) tried: bool,
     pub(crate) of: PhantomData<W>,
+}
+
+// Written out, so that it is proved here and not in each function that drops one.
+impl<W: BookName> Drop for Receipt<W> {
+    fn drop(self) {
+        let Receipt {
+            number: _,
+            call,
+            tried: _,
+            of: _,
+        } = self;
+        drop(call);
+    }
 }
 
 impl<W: BookName> Model for Receipt<W> {

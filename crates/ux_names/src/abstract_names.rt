@@ -17,11 +17,19 @@ const GROUPS: usize = 256;
 
 /// Names of the abstract namespace in order of binding. Contracts see the list of the names, each with
 /// the description whose socket it leads to.
-#[derive(Drop)]
 pub struct AbstractNames {
     listing: Listing<DescriptionId>,
     /// The numbers below 2^20 whose names are in use, whoever bound them.
     numbers: GroupedMarks,
+}
+
+// Written out, so that it is proved here and not in each function that drops one.
+impl Drop for AbstractNames {
+    fn drop(self) {
+        let AbstractNames { listing, numbers } = self;
+        drop(listing);
+        drop(numbers);
+    }
 }
 
 impl Model for AbstractNames {

@@ -9,9 +9,16 @@ use ux_types::Name;
 
 /// Names, each once, in order of binding, with what they name. Contracts see the list of the pairs, and
 /// how many more names there is room for.
-#[derive(Drop)]
 pub struct Listing<X> {
     bound: IndexMap<Name, X>,
+}
+
+// Written out, so that it is proved here and not in each function that drops one.
+impl<X: Drop> Drop for Listing<X> {
+    fn drop(self) {
+        let Listing { bound } = self;
+        drop(bound);
+    }
 }
 
 impl<X> Model for Listing<X> {

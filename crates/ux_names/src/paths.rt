@@ -51,9 +51,16 @@ impl Target {
 
 /// Paths in order of binding. Contracts see the list of the paths, each with what it names, and how many
 /// more can be bound without memory.
-#[derive(Drop)]
 pub struct Paths {
     listing: Listing<Target>,
+}
+
+// Written out, so that it is proved here and not in each function that drops one.
+impl Drop for Paths {
+    fn drop(self) {
+        let Paths { listing } = self;
+        drop(listing);
+    }
 }
 
 impl Model for Paths {

@@ -25,10 +25,17 @@ pub struct Refused {
 
 /// What was sent to a datagram or seqpacket socket and not yet received, the oldest first. Contracts see
 /// the list of its messages.
-#[derive(Drop)]
 pub struct RecordQueue<A: Allocator + Copy = Global> {
     records: VecDeque<Record<A>, A>,
     alloc: A,
+}
+
+// Written out, so that it is proved here and not in each function that drops one.
+impl<A: Allocator + Copy> Drop for RecordQueue<A> {
+    fn drop(self) {
+        let RecordQueue { records, alloc: _ } = self;
+        drop(records);
+    }
 }
 
 impl<A: Allocator + Copy> Model for RecordQueue<A> {

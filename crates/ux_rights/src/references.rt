@@ -51,9 +51,16 @@ impl Default for Reference {
 }
 
 /// References to open file descriptions, in order, one as often as it was sent.
-#[derive(Drop)]
 pub struct RefList {
     references: SmallVec<Reference, INLINE>,
+}
+
+// Written out, so that it is proved here and not in each function that drops one.
+impl Drop for RefList {
+    fn drop(self) {
+        let RefList { references } = self;
+        drop(references);
+    }
 }
 
 impl Model for RefList {

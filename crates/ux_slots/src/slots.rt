@@ -17,7 +17,6 @@ use ux_types::DescriptionId;
 /// Values, each with a number that is never given again, and a count of the references to it. Contracts
 /// see the values in the order in which they were put in, where a place stays empty once its value was
 /// taken out; the counts by the same numbers; and how many more values there is room for.
-#[derive(Drop)]
 pub struct Slots<T> {
     /// The values that are there, under keys that are used again.
     slots: Slab<Slot<T>>,
@@ -27,6 +26,20 @@ pub struct Slots<T> {
     next: u128,
     /// The first slot of the release list, on which each slot of count 0 stands once.
     head: Option<usize>,
+}
+
+// Written out, so that it is proved here and not in each function that drops one.
+impl<T: Drop> Drop for Slots<T> {
+    fn drop(self) {
+        let Slots {
+            slots,
+            index,
+            next: _,
+            head: _,
+        } = self;
+        drop(slots);
+        drop(index);
+    }
 }
 
 impl<T> Model for Slots<T> {

@@ -54,9 +54,16 @@ impl<O: FileObject> Retired<O> {
 
 /// The file objects that one call let go of, by rising number. Their room is made before, so a call that
 /// lets go of them takes no memory. Contracts see them as a list.
-#[derive(Drop)]
 pub struct RetiredList<O: FileObject> {
     objects: Vec<Retired<O>>,
+}
+
+// Written out, so that it is proved here and not in each function that drops one.
+impl<O: FileObject> Drop for RetiredList<O> {
+    fn drop(self) {
+        let RetiredList { objects } = self;
+        drop(objects);
+    }
 }
 
 impl<O: FileObject> Model for RetiredList<O> {

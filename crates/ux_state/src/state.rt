@@ -11,7 +11,6 @@ use ux_slots::Slots;
 
 /// All file objects, open file descriptions, processes and names. Contracts see it as the state that the
 /// definitions speak of; the counts of references and of rights in flight are in its invariant alone.
-#[derive(Drop)]
 pub struct State<O: FileObject> {
     /// By number.
     pub(crate) objects: Vec<Slot<O>>,
@@ -28,6 +27,30 @@ pub struct State<O: FileObject> {
     pub(crate) abstract_names: AbstractNames,
     /// How many rights of each user are in messages that nobody has received.
     pub(crate) flights: Flights,
+}
+
+// Written out, so that it is proved here and not in each function that drops one.
+impl<O: FileObject> Drop for State<O> {
+    fn drop(self) {
+        let State {
+            objects,
+            openings,
+            slots,
+            processes,
+            paths,
+            links,
+            abstract_names,
+            flights,
+        } = self;
+        drop(objects);
+        drop(openings);
+        drop(slots);
+        drop(processes);
+        drop(paths);
+        drop(links);
+        drop(abstract_names);
+        drop(flights);
+    }
 }
 
 impl<O: FileObject> Model for State<O> {

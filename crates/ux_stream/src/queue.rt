@@ -34,12 +34,24 @@ pub struct Received<A: Allocator + Copy = Global> {
 
 /// What was sent to a stream socket and not yet received, the oldest first. Contracts see the list of
 /// its messages.
-#[derive(Drop)]
 pub struct StreamQueue<A: Allocator + Copy = Global> {
     /// The bytes of all messages, in order.
     ring: ByteRing<A>,
     marks: VecDeque<Mark, A>,
     alloc: A,
+}
+
+// Written out, so that it is proved here and not in each function that drops one.
+impl<A: Allocator + Copy> Drop for StreamQueue<A> {
+    fn drop(self) {
+        let StreamQueue {
+            ring,
+            marks,
+            alloc: _,
+        } = self;
+        drop(ring);
+        drop(marks);
+    }
 }
 
 impl<A: Allocator + Copy> Model for StreamQueue<A> {

@@ -2,12 +2,6 @@ use Rattle.std.proofs.Common.{refl}
 use Rattle.ux_state.proofs.Dropping.{fewer_left, still_alike, none_counted, none_left}
 use Rattle.ux_state.proofs.release.forget.Goals as goal
 
-pub loop-gone-smaller-in-Some : goal.loop-gone-smaller-in-Some
-loop-gone-smaller-in-Some c = fewer_left c.loop-gone.slots c.next_dead.new.self c.in-Some.gone.0 c.in-Some.gone.1 c.in-Some.ensures.dead c.in-Some.ensures.taken
-
-pub loop-gone-preserved-in-Some : goal.loop-gone-preserved-in-Some
-loop-gone-preserved-in-Some c = (still_alike c.args.slots.now.places c.loop-gone.slots c.next_dead.new.self c.in-Some.gone.0 c.in-Some.ensures.taken c.loop-gone.invariant.0, none_counted c.loop-gone.slots c.next_dead.new.self c.in-Some.ensures.counts c.loop-gone.invariant.1)
-
 pub loop-gone-smaller : goal.loop-gone-smaller
 loop-gone-smaller c = fewer_left c.loop-gone.slots c.next_dead.new.self c.in-Some.gone.0 c.in-Some.gone.1 c.in-Some.ensures.dead c.in-Some.ensures.taken
 
@@ -16,15 +10,3 @@ loop-gone-preserved c = (still_alike c.args.slots.now.places c.loop-gone.slots c
 
 pub returns-clause-places : goal.returns-clause-places
 returns-clause-places c = none_left c.args.slots.now.places c.loop-gone.slots c.next_dead.new.self c.in_default.ensures.unchanged (c.in_default.ensures.none.0 refl) c.loop-gone.invariant.1 c.loop-gone.invariant.0
-
-pub loop-gone-smaller-in-Some-2 : goal.loop-gone-smaller-in-Some-2
-loop-gone-smaller-in-Some-2 c = fewer_left c.loop-gone.slots c.next_dead.new.self c.in-Some.gone.0 c.in-Some.gone.1 c.in-Some.ensures.dead c.in-Some.ensures.taken
-
-pub loop-gone-preserved-in-Some-2 : goal.loop-gone-preserved-in-Some-2
-loop-gone-preserved-in-Some-2 c = (still_alike c.args.slots.now.places c.loop-gone.slots c.next_dead.new.self c.in-Some.gone.0 c.in-Some.ensures.taken c.loop-gone.invariant.0, none_counted c.loop-gone.slots c.next_dead.new.self c.in-Some.ensures.counts c.loop-gone.invariant.1)
-
-pub loop-gone-smaller-in-Some-3 : goal.loop-gone-smaller-in-Some-3
-loop-gone-smaller-in-Some-3 c = fewer_left c.loop-gone.slots c.next_dead.new.self c.in-Some.gone.0 c.in-Some.gone.1 c.in-Some.ensures.dead c.in-Some.ensures.taken
-
-pub loop-gone-preserved-in-Some-3 : goal.loop-gone-preserved-in-Some-3
-loop-gone-preserved-in-Some-3 c = (still_alike c.args.slots.now.places c.loop-gone.slots c.next_dead.new.self c.in-Some.gone.0 c.in-Some.ensures.taken c.loop-gone.invariant.0, none_counted c.loop-gone.slots c.next_dead.new.self c.in-Some.ensures.counts c.loop-gone.invariant.1)

@@ -25,13 +25,3 @@ invariant_of-self-in-Err g c =
     let more = on_ok c.count_in.result c.count_in.ensures.ok c.if-is_err.ensures.negation u in
     let same = ap (of_user u c.args.uid) (c.len-in-Err.ensures ∙ ap length c.in-Err.ensures.back ∙ sym c.len.ensures) in
     omega (arith, less, more, same))
-
-pub invariant_of-self-in-Err-2 : goal.invariant_of-self-in-Err-2
-invariant_of-self-in-Err-2 g c =
-    message_back _ _ _ _ _ _ _ c.self.invariant c.retain_all.new.slots c.push_message.new.slots c.release_all.new.slots _ _
-    (c.as_slice-in-Err.ensures ∙ c.in-Err.ensures.back ∙ sym c.as_slice-2.ensures) c.retain_all.ensures c.in-Err.ensures.err c.in-Err.ensures.counts c.release_all.ensures
-    (λ u.
-    let less = c.count_out.ensures u in
-    let more = on_ok c.count_in.result c.count_in.ensures.ok c.if-is_err.ensures.negation u in
-    let same = ap (of_user u c.args.uid) (c.len-in-Err.ensures ∙ ap length c.in-Err.ensures.back ∙ sym c.len.ensures) in
-    omega (arith, less, more, same))
