@@ -1,4 +1,4 @@
-use Rattle.std.proofs.Common.{◌+◌, ◌*◌, ◌≤◌, arith, inr, sym, subst}
+use Rattle.std.proofs.Common.{◌+◌, ◌*◌, ◌≤◌, arith, inl, inr, refl, sym, subst}
 use Rattle.std.proofs.lemmas.List.{length-take}
 use Rattle.ux_syntax.specs.declared.progress.Progress.{Progress}
 use Rattle.ux_syntax.specs.Spelling.{plan_of}
@@ -28,6 +28,9 @@ returns-in_err-take_bytes-in-Ok-clause-found g c =
 
 pub returns-in-Err-2-clause-found : goal.returns-in-Err-2-clause-found
 returns-in-Err-2-clause-found g c = inr (no_memory_found (g.R.Read.remaining c.args.reader.now) _ _ _ _ c.loop-turn.invariant.2)
+
+pub returns-in-Err-3-clause-found : goal.returns-in-Err-3-clause-found
+returns-in-Err-3-clause-found g c = inl refl
 
 pub loop-turn-preserved : goal.loop-turn-preserved
 loop-turn-preserved g c =
