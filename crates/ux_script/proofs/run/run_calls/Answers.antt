@@ -1,4 +1,4 @@
-use Rattle.std.proofs.Common.{ap, ◌∙◌, length}
+use Rattle.std.proofs.Common.{ap, ◌∙◌, length, rules}
 use Rattle.std.proofs.lemmas.List.{length-map}
 use Rattle.std.proofs.lemmas.Result.{err_from_is_err_and}
 use Rattle.ux_model.specs.Boot.{new_process}
@@ -16,3 +16,6 @@ pub returns-in_err-make_all-clause-stranger : goal.returns-in_err-make_all-claus
 returns-in_err-make_all-clause-stranger g c =
     let p = err_from_is_err_and c.from_residual.result c.from_residual.ensures.1 in
     rw (p.1, p.2) c.in_err-make_all.ensures.stranger
+
+pub returns-clause-calls : goal.returns-clause-calls
+returns-clause-calls g c = search rules

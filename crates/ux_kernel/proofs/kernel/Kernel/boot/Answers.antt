@@ -7,3 +7,6 @@ new-requires-clause-open g c = open_of g.O.FileObject.view c.args.objects.items 
 
 pub new-requires-clause-own_paths : goal.new-requires-clause-own_paths
 new-requires-clause-own_paths g c = distinct_of g.O.FileObject.view c.args.objects.items c.args.procs.now (rw (← c.deref.ensures.value) (sym c.find_fault.ensures ∙ (search rules)))
+
+pub returns-in-Some-clause-back : goal.returns-in-Some-clause-back
+returns-in-Some-clause-back g c = search rules
