@@ -1,4 +1,4 @@
-/* The calls of bench_threads over the machine's own AF_UNIX: nanoseconds, one line a kind of call, on standard
+/* The calls by seats of bench_calls over the machine's own AF_UNIX: nanoseconds, one line a kind of call, on standard
  * error. Each thread sends itself one byte over a pair of its own, and then two threads pass one to and fro. */
 #define _GNU_SOURCE
 #include <pthread.h>

@@ -13,8 +13,8 @@ const TURNS: u32 = 16;
 /// How often a batch is measured.
 const ROUNDS: u32 = 40;
 
-/// A pair of sockets, at the numbers 1 and 2.
-const PAIR: Request = Request::SocketPair {
+/// A pair of sockets, at the two lowest free numbers.
+pub(crate) const PAIR: Request = Request::SocketPair {
     kind: SockType::Stream,
     flags: OpenFlags(0),
 };
@@ -69,22 +69,30 @@ impl Drop for Calls {
     }
 }
 
-/// A send of so many bytes, and its receive.
-fn stream(alloc: Global, name: &'static str, length: usize) -> Result<Calls, AllocError> {
-    let send = Request::SendMsg {
-        fd: Fd(1),
+/// A send of so many bytes by this number.
+pub(crate) fn send(alloc: Global, number: u32, length: usize) -> Result<Request, AllocError> {
+    Ok(Request::SendMsg {
+        fd: Fd(number),
         addr: None,
         bytes: Bytes::new(vec![in alloc; 90; length]?),
         control: Bytes::new(Vec::new(alloc)),
         flags: MsgFlags(0),
-    };
-    let receive = Request::RecvMsg {
-        fd: Fd(2),
+    })
+}
+
+/// A receive of at most so many bytes by this number.
+pub(crate) fn receive(number: u32, length: usize) -> Request {
+    Request::RecvMsg {
+        fd: Fd(number),
         n: length,
         space: 0,
         flags: MsgFlags(0),
-    };
-    let measured = vec![in alloc; send, receive]?;
+    }
+}
+
+/// A send of so many bytes, and its receive.
+fn stream(alloc: Global, name: &'static str, length: usize) -> Result<Calls, AllocError> {
+    let measured = vec![in alloc; send(alloc, 1, length)?, receive(2, length)]?;
     Ok(Calls {
         name,
         before: vec![in alloc; PAIR]?,
@@ -104,13 +112,7 @@ fn exchange(alloc: Global, addr: Option<Addr>) -> Result<Vec<Request>, AllocErro
         control: Bytes::new(Vec::new(alloc)),
         flags: MsgFlags(0),
     };
-    let receive = Request::RecvMsg {
-        fd: Fd(1),
-        n: 64,
-        space: 0,
-        flags: MsgFlags(0),
-    };
-    Ok(vec![in alloc; send, receive]?)
+    Ok(vec![in alloc; send, receive(1, 64)]?)
 }
 
 /// A datagram on a pair.
@@ -217,48 +219,72 @@ fn on_file(alloc: Global, name: &'static str, call: Request) -> Result<Calls, Al
     })
 }
 
-/// The calls on sockets.
-fn socket_calls(alloc: Global) -> Result<Vec<Calls>, AllocError> {
+/// Sends of so many bytes.
+const STREAMS: [(&str, usize); 4] = [
+    ("send and receive, 1 byte", 1),
+    ("send and receive, 64 bytes", 64),
+    ("send and receive, 4,096 bytes", 4096),
+    ("send and receive, 65,536 bytes", 65_536),
+];
+
+/// Messages that pass so many files.
+const RIGHTS: [(&str, u32); 2] = [
+    ("send and receive of 1 right, and its close", 1),
+    ("send and receive of 253 rights, and their closes", 253),
+];
+
+/// The calls on pairs of stream sockets.
+fn stream_calls(alloc: Global) -> Result<Vec<Calls>, AllocError> {
+    let mut calls = Vec::new(alloc);
+    for (name, length) in STREAMS {
+        calls.push(stream(alloc, name, length)?)?;
+    }
+    Ok(calls)
+}
+
+/// The calls that pass a file.
+fn passing_calls(alloc: Global) -> Result<Vec<Calls>, AllocError> {
+    let mut calls = Vec::new(alloc);
+    for (name, count) in RIGHTS {
+        calls.push(passing(alloc, name, count)?)?;
+    }
+    Ok(calls)
+}
+
+/// The calls that make sockets.
+fn making_calls(alloc: Global) -> Result<Vec<Calls>, AllocError> {
+    let mut calls = Vec::new(alloc);
     let pair = vec![in alloc; PAIR, close(1), close(2)]?;
-    Ok(vec![in alloc;
-        stream(alloc, "send and receive, 1 byte", 1)?,
-        stream(alloc, "send and receive, 64 bytes", 64)?,
-        stream(alloc, "send and receive, 4,096 bytes", 4096)?,
-        stream(alloc, "send and receive, 65,536 bytes", 65_536)?,
-        passing(alloc, "send and receive of 1 right, and its close", 1)?,
-        passing(
-            alloc,
-            "send and receive of 253 rights, and their closes",
-            253
-        )?,
-        alone(alloc, "pair and two closes", pair),
-        connection(alloc, "socket, connect, accept, two closes")?,
-    ]?)
+    calls.push(alone(alloc, "pair and two closes", pair))?;
+    calls.push(connection(alloc, "socket, connect, accept, two closes")?)?;
+    Ok(calls)
 }
 
 /// The calls on datagram sockets.
 fn datagram_calls(alloc: Global) -> Result<Vec<Calls>, AllocError> {
-    Ok(vec![in alloc;
-        datagram_on_a_pair(alloc, "datagram of 64 bytes on a pair")?,
-        datagram_by_address(alloc, "datagram of 64 bytes by an address")?,
-    ]?)
+    let mut calls = Vec::new(alloc);
+    calls.push(datagram_on_a_pair(alloc, "datagram of 64 bytes on a pair")?)?;
+    calls.push(datagram_by_address(alloc, "datagram of 64 bytes by an address")?)?;
+    Ok(calls)
 }
 
 /// The calls on files.
 fn file_calls(alloc: Global) -> Result<Vec<Calls>, AllocError> {
+    let mut calls = Vec::new(alloc);
     let open = vec![in alloc; opening(alloc)?, close(1)]?;
+    calls.push(alone(alloc, "open and close", open))?;
     let dup = vec![in alloc; Request::Dup { fd: Fd(0) }, close(1)]?;
+    calls.push(alone(alloc, "dup and close", dup))?;
     let bytes = Bytes::new(vec![in alloc; 90; 1]?);
-    Ok(vec![in alloc;
-        alone(alloc, "open and close", open),
-        alone(alloc, "dup and close", dup),
-        on_file(alloc, "write, 1 byte", Request::Write { fd: Fd(0), bytes })?,
-        on_file(alloc, "read, 1 byte", Request::Read { fd: Fd(0), n: 1 })?,
-    ]?)
+    let write = Request::Write { fd: Fd(0), bytes };
+    calls.push(on_file(alloc, "write, 1 byte", write)?)?;
+    let read = Request::Read { fd: Fd(0), n: 1 };
+    calls.push(on_file(alloc, "read, 1 byte", read)?)?;
+    Ok(calls)
 }
 
 /// Makes these calls, each of which must be granted.
-fn make<L: Layer>(layer: &mut L, requests: &[Request]) -> Result<()> {
+pub(crate) fn make<L: Layer>(layer: &mut L, requests: &[Request]) -> Result<()> {
     for request in requests {
         must(layer, CALLER, request)?;
     }
@@ -303,9 +329,9 @@ fn print_times<R: Clock + Eprint, L: Layer>(
     rt: &R,
     what: &str,
     layer: &mut L,
-    all: &[Calls],
+    all: Vec<Calls>,
 ) -> Result<()> {
-    for calls in all {
+    for calls in &all {
         let time = nanos(rt, layer, calls)?;
         let name = calls.name;
         eprintln!(rt; "{what}: {name}: {time} ns")?;
@@ -320,12 +346,11 @@ pub(crate) fn measure<R: Clock + Eprint, L: Layer>(
     what: &str,
     layer: &mut L,
 ) -> Result<()> {
-    let sockets = socket_calls(alloc)?;
-    print_times(rt, what, layer, sockets.as_slice())?;
-    let datagrams = datagram_calls(alloc)?;
-    print_times(rt, what, layer, datagrams.as_slice())?;
-    let files = file_calls(alloc)?;
-    print_times(rt, what, layer, files.as_slice())
+    print_times(rt, what, layer, stream_calls(alloc)?)?;
+    print_times(rt, what, layer, passing_calls(alloc)?)?;
+    print_times(rt, what, layer, making_calls(alloc)?)?;
+    print_times(rt, what, layer, datagram_calls(alloc)?)?;
+    print_times(rt, what, layer, file_calls(alloc)?)
 }
 
 /// Prints the time of a connection alone.
@@ -337,5 +362,5 @@ pub(crate) fn measure_connection<R: Clock + Eprint, L: Layer>(
     name: &'static str,
 ) -> Result<()> {
     let calls = vec![in alloc; connection(alloc, name)?]?;
-    print_times(rt, what, layer, calls.as_slice())
+    print_times(rt, what, layer, calls)
 }

@@ -20,9 +20,9 @@ const PROCESS: ProcSpec = ProcSpec {
     limit: 1024,
 };
 
-/// The processes. The first makes the calls that are measured, four hold descriptors of the file, and five
-/// hold sockets with names.
-const PROCESSES: [ProcSpec; 10] = [PROCESS; 10];
+/// How many processes a layer has that isn't shared. The first makes the calls that are measured, four hold
+/// descriptors of the file, and five hold sockets with names.
+pub(crate) const PROCESSES: usize = 10;
 
 /// What is in the file at first.
 const CONTENTS: [u8; 64] = [120; 64];
@@ -108,11 +108,12 @@ fn file(alloc: Global) -> Result<Vec<(Name, MemFile)>> {
     Ok(vec![in alloc; (path(alloc)?, file)]?)
 }
 
-/// A kernel with one file.
-pub(crate) fn boot(alloc: Global) -> Result<Kernel<MemFile>>
+/// A kernel with one file and so many processes.
+pub(crate) fn boot(alloc: Global, processes: usize) -> Result<Kernel<MemFile>>
     ensures { IfOk result (λ kernel. IsBootState kernel) }
 {
-    match Kernel::boot(alloc, file(alloc)?, &PROCESSES) {
+    let processes = vec![in alloc; PROCESS; processes]?;
+    match Kernel::boot(alloc, file(alloc)?, &processes) {
         Ok(kernel) => Ok(kernel),
         Err((fault, _objects)) => Err(anyhow!("{fault}")),
     }
@@ -123,7 +124,7 @@ impl Stepped {
     pub(crate) fn new(alloc: Global) -> Result<Stepped> {
         let retired = RetiredList::new(alloc)?;
         Ok(Stepped {
-            kernel: boot(alloc)?,
+            kernel: boot(alloc, PROCESSES)?,
             retired,
             tag: 0,
         })
@@ -154,7 +155,7 @@ impl<W: BookName> Recorded<W> {
 }
 
 /// Whether a reply tells no refusal.
-fn is_granted(reply: &Reply) -> bool {
+pub(crate) fn is_granted(reply: &Reply) -> bool {
     !matches!(reply, Reply::Err(_))
 }
 

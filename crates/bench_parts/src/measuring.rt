@@ -36,3 +36,8 @@ pub(crate) fn nanos<R: Clock, B: Batch>(rt: &R, rounds: u32, batch: &mut B) -> R
     }
     Ok(quickest.as_nanos() / u128::from(batch.calls().max(1)))
 }
+
+/// The mean time of one of so many calls, in nanoseconds.
+pub(crate) fn mean(time: Duration, calls: usize) -> u128 {
+    time.as_nanos() / (calls as u128).max(1)
+}

@@ -17,11 +17,24 @@ use ux_syntax::{Act, Script};
 use ux_types::{Pid, Request};
 
 /// The seats of the processes 1, 2 and so on, as long as they haven't exited, and what their calls left.
-#[derive(Drop)]
 struct Hall<W: BookName, O: FileObject> {
     seats: Vec<Option<Seat<W, O>>>,
     receipts: Vec<Receipt<W>>,
     spents: Vec<Spent<W>>,
+}
+
+/// Written out, a drop is a call, and not each of its parts in the proof of each function that drops one.
+impl<W: BookName, O: FileObject> Drop for Hall<W, O> {
+    fn drop(self) {
+        let Hall {
+            seats,
+            receipts,
+            spents,
+        } = self;
+        drop(seats);
+        drop(receipts);
+        drop(spents);
+    }
 }
 
 impl<W: BookName, O: FileObject> Hall<W, O> {
@@ -37,6 +50,17 @@ impl<W: BookName, O: FileObject> Hall<W, O> {
             receipts: Vec::new(alloc),
             spents: Vec::new(alloc),
         })
+    }
+
+    /// What its calls left.
+    fn into_parts(self) -> (Vec<Receipt<W>>, Vec<Spent<W>>) {
+        let Hall {
+            seats,
+            receipts,
+            spents,
+        } = self;
+        drop(seats);
+        (receipts, spents)
     }
 
     /// The place of a process's seat.
@@ -113,12 +137,7 @@ fn is_right<W: BookName, O: FileObject, R: Wait + AllocGlobal>(
     hall: Hall<W, O>,
     wanted: &[u8],
 ) -> Result<bool> {
-    let Hall {
-        seats,
-        receipts,
-        spents,
-    } = hall;
-    drop(seats);
+    let (receipts, spents) = hall.into_parts();
     let account = match layer.settle(rt, spents) {
         Ok(account) => account,
         Err((fault, _spents)) => return Err(anyhow!("{fault}")),

@@ -1,5 +1,7 @@
-//! Tests of `ux_layer`. Beside it they would have it proved once more.
+//! Tests of `ux_history` and `ux_layer`. Beside them they would have each proved once more.
 #![tactic(auto)]
 
 #[cfg(test)]
-mod tests;
+mod history;
+#[cfg(test)]
+mod layer;

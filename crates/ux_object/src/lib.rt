@@ -104,6 +104,3 @@ pub trait FileObject: Drop {
         requires { IsTrue (view self.old).opened }
         ensures { view self.new ≡ closed (view self.old) };
 }
-
-#[cfg(test)]
-mod tests;

@@ -5,6 +5,8 @@
 #[cfg(test)]
 mod backlogs;
 #[cfg(test)]
+mod broken_object;
+#[cfg(test)]
 mod control;
 #[cfg(test)]
 mod credentials;

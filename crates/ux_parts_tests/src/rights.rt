@@ -1,3 +1,4 @@
+//! Which of the passed descriptors a receiver gets, and references in order, with memory and without.
 use hoard::Hoard;
 use std::alloc::{AllocError, Global};
 use std::test::Fail;

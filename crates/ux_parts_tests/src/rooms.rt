@@ -73,8 +73,8 @@ fn replies_without_bytes_are_copied(rt: HostRuntime) -> Result<(), Fail> {
 #[tactic(auto, unfolding(ux_model::specs::Rooms::size_of, ux_model::specs::Rooms::room_for))]
 fn bytes_that_were_read_are_copied(rt: HostRuntime) -> Result<(), Fail> {
     let alloc = rt.alloc();
-    let request = Request::Read { fd: Fd(0), n: 4 };
-    expect(&rt, alloc, request, Reply::Bytes(bytes(alloc, b"ping")?))?;
+    let read = Reply::Bytes(bytes(alloc, b"ping")?);
+    expect(&rt, alloc, Request::Read { fd: Fd(0), n: 4 }, read)?;
     Ok(())
 }
 
@@ -125,9 +125,11 @@ fn message(alloc: Global, from: Option<Addr>) -> Result<Reply, AllocError>
 #[test]
 fn messages_are_copied(rt: HostRuntime) -> Result<(), Fail> {
     let alloc = rt.alloc();
-    expect(&rt, alloc, receive(), message(alloc, None)?)?;
+    let unnamed = message(alloc, None)?;
+    expect(&rt, alloc, receive(), unnamed)?;
     let sender = Addr::Abstract(name(alloc, b"sender")?);
-    expect(&rt, alloc, receive(), message(alloc, Some(sender))?)?;
+    let named = message(alloc, Some(sender))?;
+    expect(&rt, alloc, receive(), named)?;
     Ok(())
 }
 

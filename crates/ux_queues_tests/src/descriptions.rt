@@ -50,8 +50,19 @@ fn expect_skip(rt: &impl Abort, skipped: (RefList, Option<u32>), numbers: &[u128
     assert!(rt; sender == if numbers.is_empty() { None } else { Some(1000) });
 }
 
+/// Sends where there is no room, which gives these references back.
+fn expect_full(rt: &impl Abort, s: &mut Socket, rights: RefList, numbers: &[u128]) {
+    match s.send(b"z", 3, rights, user(), 1000, None) {
+        Ok(_) => assert!(rt; false),
+        Err(refused) => {
+            assert!(rt; refused.error == SendError::Full);
+            expect_rights(rt, &refused.rights, numbers);
+        }
+    }
+}
+
 /// Sees what a receive gave.
-fn expect(rt: &impl Abort, received: &Received, bytes: &[u8], numbers: &[u128]) {
+fn expect(rt: &impl Abort, received: Received, bytes: &[u8], numbers: &[u128]) {
     assert!(rt; received.bytes.as_slice() == bytes);
     expect_rights(rt, &received.rights, numbers);
 }
@@ -65,7 +76,7 @@ fn take(
     numbers: &[u128],
 ) -> Result<(), AllocError> {
     assert!(rt; !s.is_empty());
-    expect(rt, &s.peek(n)?, bytes, numbers);
+    expect(rt, s.peek(n)?, bytes, numbers);
     expect_skip(rt, s.skip(n), numbers);
     Ok(())
 }
@@ -103,7 +114,7 @@ fn a_socket_keeps_what_was_sent(rt: HostRuntime) -> Result<(), AllocError> {
     send(&rt, &mut s, b"de", rights(alloc, [9, 7])?, 2);
     take(&rt, &mut s, 2, b"ab", &[])?;
     assert!(rt; !s.is_empty());
-    expect(&rt, &s.peek(9)?, b"cde", &[9, 7]);
+    expect(&rt, s.peek(9)?, b"cde", &[9, 7]);
     take(&rt, &mut s, 9, b"cde", &[9, 7])?;
     assert!(rt; s.is_empty());
     assert!(rt; s.pop_message().is_none());
@@ -117,13 +128,7 @@ fn a_full_socket_gives_rights_back(rt: HostRuntime) -> Result<(), AllocError> {
     let most = vec![in alloc; b'x'; 65535]?;
     send(&rt, &mut s, &most, rights(alloc, [5, 6])?, 65535);
     send(&rt, &mut s, b"yz", rights(alloc, [8, 8])?, 1);
-    match s.send(b"z", 3, rights(alloc, [1, 2])?, user(), 1000, None) {
-        Ok(_) => assert!(rt; false),
-        Err(refused) => {
-            assert!(rt; refused.error == SendError::Full);
-            expect_rights(&rt, &refused.rights, &[1, 2]);
-        }
-    }
+    expect_full(&rt, &mut s, rights(alloc, [1, 2])?, &[1, 2]);
     for numbers in [[5, 6], [8, 8]] {
         match s.pop_message() {
             Some((rights, uid)) => {
@@ -227,9 +232,9 @@ fn take_message(
 ) -> Result<(), AllocError> {
     assert!(rt; !s.is_empty());
     let front = s.peek(n)?;
-    expect(rt, &front, bytes, &[]);
     assert!(rt; front.whole == whole);
     assert!(rt; front.from.as_ref() == from);
+    expect(rt, front, bytes, &[]);
     expect_skip(rt, s.skip(n), &[]);
     Ok(())
 }
@@ -238,14 +243,8 @@ fn take_message(
 fn a_datagram_is_taken_whole(rt: HostRuntime) -> Result<(), AllocError> {
     let alloc = rt.alloc();
     let mut s = Socket::new(alloc, SockType::Dgram);
-    let sent = s.send(
-        b"abc",
-        1,
-        RefList::new(alloc),
-        user(),
-        1000,
-        Some(path(alloc, b"a")?),
-    );
+    let from = Some(path(alloc, b"a")?);
+    let sent = s.send(b"abc", 1, RefList::new(alloc), user(), 1000, from);
     assert!(rt; sent.is_ok_and(|count| count == 3));
     let sent = s.send(b"", 2, RefList::new(alloc), user(), 1000, None);
     assert!(rt; sent.is_ok_and(|count| count == 0));
@@ -267,13 +266,7 @@ fn sixteen_records_wait(rt: HostRuntime) -> Result<(), AllocError> {
         assert!(rt; sent.is_ok());
     }
     assert!(rt; !s.has_room());
-    match s.send(b"x", 1, rights(alloc, [1, 2])?, user(), 1000, None) {
-        Ok(_) => assert!(rt; false),
-        Err(refused) => {
-            assert!(rt; refused.error == SendError::Full);
-            expect_rights(&rt, &refused.rights, &[1, 2]);
-        }
-    }
+    expect_full(&rt, &mut s, rights(alloc, [1, 2])?, &[1, 2]);
     assert!(rt; s.pop_message().is_some());
     assert!(rt; s.has_room());
     Ok(())

@@ -1,3 +1,4 @@
+//! A queue of whole messages: taken, peeked at, cut, and with little memory.
 use bstr::BString;
 use hoard::Hoard;
 use linked_list_allocator::LocalHeap;
@@ -30,13 +31,20 @@ fn assert_rights(rt: &impl Abort, rights: &RefList) {
 }
 
 /// The message of call 9, of which two bytes were asked for.
-fn assert_cut<A: Allocator + Copy>(rt: &impl Abort, received: &Received<A>, from: &Option<Addr>) {
+fn assert_cut<A: Allocator + Copy>(rt: &impl Abort, received: Received<A>, from: &Option<Addr>) {
     assert_eq!(rt; received.bytes.as_slice(), b"ab".as_slice());
     assert_eq!(rt; received.whole, 3);
     assert_rights(rt, &received.rights);
     assert_eq!(rt; received.origin, Some(Origin { tag: 9, uid: 1000 }));
     assert_eq!(rt; received.cred, CRED);
     assert!(rt; received.from == *from);
+}
+
+/// A message without bytes, rights and a sender's name.
+fn assert_nothing<A: Allocator + Copy>(rt: &impl Abort, received: Received<A>) {
+    assert_eq!(rt; (received.bytes.len(), received.whole), (0, 0));
+    assert_eq!(rt; received.origin, None);
+    assert!(rt; received.from.is_none());
 }
 
 #[test]
@@ -52,13 +60,10 @@ fn whole_messages_in_order(rt: HostRuntime) -> Result<(), AllocError> {
     }
     assert_eq!(rt; queue.len(), 3);
     assert!(rt; !queue.is_empty());
-    assert_cut(&rt, &queue.peek(2)?, &from);
-    assert_cut(&rt, &queue.take(2), &from);
+    assert_cut(&rt, queue.peek(2)?, &from);
+    assert_cut(&rt, queue.take(2), &from);
     assert!(rt; !queue.is_empty());
-    let received = queue.take(8);
-    assert_eq!(rt; (received.bytes.len(), received.whole), (0, 0));
-    assert_eq!(rt; received.origin, None);
-    assert!(rt; received.from.is_none());
+    assert_nothing(&rt, queue.take(8));
     match queue.pop_message() {
         Some((rights, uid)) => assert_eq!(rt; (rights.len(), uid), (0, 1000)),
         None => assert!(rt; false),
@@ -98,7 +103,58 @@ struct Refusals {
     peeks: u64,
 }
 
-/// Sends twelve messages with 20 bytes each, and takes those that were queued.
+/// Sends a message with 20 bytes, and tells whether it was queued.
+fn is_queued<A: Allocator + Copy>(
+    rt: &impl Abort,
+    alloc: Global,
+    queue: &mut RecordQueue<A>,
+    tag: u8,
+    from: &Option<Addr>,
+) -> Result<bool, AllocError> {
+    let name = from.clone()?;
+    let rights = rights(alloc)?;
+    match queue.send(&[tag; 20], tag as u64, rights, CRED, 5, name) {
+        Ok(()) => Ok(true),
+        Err(refused) => {
+            assert_eq!(rt; refused.error, SendError::NoMemory);
+            assert_rights(rt, &refused.rights);
+            assert!(rt; refused.from == *from);
+            Ok(false)
+        }
+    }
+}
+
+/// Peeks at a message with 20 bytes, and tells whether memory was wanting.
+fn peek_lacks_memory<A: Allocator + Copy>(
+    rt: &impl Abort,
+    queue: &RecordQueue<A>,
+    tag: u8,
+) -> bool {
+    assert!(rt; !queue.is_empty());
+    match queue.peek(20) {
+        Ok(received) => {
+            assert_eq!(rt; received.bytes.as_slice(), [tag; 20].as_slice());
+            false
+        }
+        Err(AllocError) => true,
+    }
+}
+
+/// Takes a message with 20 bytes.
+fn take<A: Allocator + Copy>(
+    rt: &impl Abort,
+    queue: &mut RecordQueue<A>,
+    tag: u8,
+    from: &Option<Addr>,
+) {
+    assert!(rt; !queue.is_empty());
+    let received = queue.take(20);
+    assert_eq!(rt; received.bytes.as_slice(), [tag; 20].as_slice());
+    assert_rights(rt, &received.rights);
+    assert!(rt; received.from == *from);
+}
+
+/// Sends twelve messages, and takes those that were queued.
 fn pass<A: Allocator + Copy>(
     rt: &impl Abort,
     alloc: Global,
@@ -108,29 +164,18 @@ fn pass<A: Allocator + Copy>(
     let from = path(alloc, b"/c")?;
     let mut queued = Vec::new(alloc);
     for tag in 0..12_u8 {
-        let bytes = [tag; 20];
-        match queue.send(&bytes, tag as u64, rights(alloc)?, CRED, 5, from.clone()?) {
-            Ok(()) => queued.push(tag)?,
-            Err(refused) => {
-                refusals.sends = refusals.sends.saturating_add(1);
-                assert_eq!(rt; refused.error, SendError::NoMemory);
-                assert_rights(rt, &refused.rights);
-                assert!(rt; refused.from == from);
-            }
+        if is_queued(rt, alloc, queue, tag, &from)? {
+            queued.push(tag)?;
+        } else {
+            refusals.sends = refusals.sends.saturating_add(1);
         }
         assert_eq!(rt; queue.len(), queued.len());
     }
-    for tag in queued {
-        assert!(rt; !queue.is_empty());
-        match queue.peek(20) {
-            Ok(received) => assert_eq!(rt; received.bytes.as_slice(), [tag; 20].as_slice()),
-            Err(AllocError) => refusals.peeks = refusals.peeks.saturating_add(1),
+    for tag in &queued {
+        if peek_lacks_memory(rt, queue, *tag) {
+            refusals.peeks = refusals.peeks.saturating_add(1);
         }
-        assert!(rt; !queue.is_empty());
-        let received = queue.take(20);
-        assert_eq!(rt; received.bytes.as_slice(), [tag; 20].as_slice());
-        assert_rights(rt, &received.rights);
-        assert!(rt; received.from == from);
+        take(rt, queue, *tag, &from);
     }
     assert!(rt; queue.is_empty());
     Ok(refusals)

@@ -72,7 +72,7 @@ fn assert_rights(rt: &impl Abort, rights: &RefList, wanted: &[u128]) {
     }
 }
 
-fn assert_front<A: Allocator + Copy>(rt: &impl Abort, received: &Received<A>, wanted: &ListFront) {
+fn assert_front<A: Allocator + Copy>(rt: &impl Abort, received: Received<A>, wanted: &ListFront) {
     assert_eq!(rt; received.bytes.as_slice(), wanted.bytes.as_slice());
     assert_rights(rt, &received.rights, &wanted.rights);
     assert_eq!(rt; received.origin, wanted.origin);
@@ -80,7 +80,6 @@ fn assert_front<A: Allocator + Copy>(rt: &impl Abort, received: &Received<A>, wa
 }
 
 /// Two queues that were treated alike.
-#[derive(Drop)]
 struct Both<A: Allocator + Copy> {
     queue: StreamQueue<A>,
     list: ListQueue,
@@ -90,6 +89,22 @@ struct Both<A: Allocator + Copy> {
     /// How many sends and receives were refused for want of memory.
     refused_sends: u64,
     refused_receives: u64,
+}
+
+/// As of the messages of a list.
+impl<A: Allocator + Copy> Drop for Both<A> {
+    fn drop(self) {
+        let Both {
+            queue,
+            list,
+            alloc: _,
+            sent: _,
+            refused_sends: _,
+            refused_receives: _,
+        } = self;
+        drop(queue);
+        drop(list);
+    }
 }
 
 const ROOM: usize = 300;
@@ -136,7 +151,7 @@ impl<A: Allocator + Copy> Both<A> {
         assert_eq!(rt; self.queue.is_empty(), wanted.is_none());
         if let Some(wanted) = wanted {
             match self.queue.peek(n, wants_cred) {
-                Ok(received) => assert_front(rt, &received, &wanted),
+                Ok(received) => assert_front(rt, received, &wanted),
                 Err(AllocError) => {
                     self.refused_receives = self.refused_receives.saturating_add(1);
                 }
@@ -151,7 +166,7 @@ impl<A: Allocator + Copy> Both<A> {
         if let Some(wanted) = wanted {
             match self.queue.take(n, wants_cred) {
                 Ok(received) => {
-                    assert_front(rt, &received, &wanted);
+                    assert_front(rt, received, &wanted);
                     self.list.drop_front(wanted.bytes.len());
                 }
                 Err(AllocError) => {

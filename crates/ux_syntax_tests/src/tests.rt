@@ -48,6 +48,20 @@ fn expect_fault(rt: &impl Abort, alloc: Global, text: &str, fault: &str) -> Resu
     Ok(())
 }
 
+/// Sees which fault each of these texts has behind this front, if any.
+fn expect_faults(
+    rt: &impl Abort,
+    alloc: Global,
+    front: &str,
+    rows: &[(&str, &str)],
+) -> Result<(), Fail> {
+    for (text, fault) in rows {
+        let text = format!(in alloc; "{front}{text}")?;
+        expect_fault(rt, alloc, &text, fault)?;
+    }
+    Ok(())
+}
+
 /// Sees that the last line behind a process, which may be its second, is a bad one.
 fn expect_bad_line(rt: &impl Abort, alloc: Global, lines: &str) -> Result<(), Fail> {
     let number = if lines.contains('\n') { 3 } else { 2 };
@@ -56,10 +70,19 @@ fn expect_bad_line(rt: &impl Abort, alloc: Global, lines: &str) -> Result<(), Fa
     expect_fault(rt, alloc, &text, &fault)
 }
 
-/// Sees that a call is a bad line.
-fn expect_bad_call(rt: &impl Abort, alloc: Global, call: &str) -> Result<(), Fail> {
-    let line = format!(in alloc; "1 {call}")?;
-    expect_bad_line(rt, alloc, &line)
+/// Sees so of each of these texts, between this front and this end.
+fn expect_bad_lines(
+    rt: &impl Abort,
+    alloc: Global,
+    front: &str,
+    texts: &[&str],
+    end: &str,
+) -> Result<(), Fail> {
+    for text in texts {
+        let lines = format!(in alloc; "{front}{text}{end}")?;
+        expect_bad_line(rt, alloc, &lines)?;
+    }
+    Ok(())
 }
 
 /// The request that a call of a script asks for.
@@ -78,10 +101,10 @@ fn expect_request(
     rt: &impl Abort,
     alloc: Global,
     call: &str,
-    request: &Request,
+    request: Request,
 ) -> Result<(), Fail> {
     let read = request_in(alloc, call)?;
-    assert_eq!(rt; read, *request, "{call}");
+    assert_eq!(rt; read, request, "{call}");
     Ok(())
 }
 

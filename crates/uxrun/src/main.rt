@@ -1,14 +1,10 @@
 //! Runs a script of socket calls, and prints the trace.
 #![tactic(auto)]
 
-mod args;
-mod fault;
 mod objects;
 
-use args::{Args, read_args};
 use clap::Error;
 use clap::error::ErrorKind;
-use fault::Fault;
 use objects::{check_script, run_script};
 use std::alloc::Global;
 use std::process::ExitCode;
@@ -16,6 +12,7 @@ use std::rt::Files;
 use std::sync::Wait;
 use std::thread::Threads;
 use std::{env, fs, io};
+use ux_command::{Args, Fault, read_args};
 use ux_syntax::{Script, ScriptFault, read_script};
 
 /// The exit status where the command line wasn't understood, as clap has it.
@@ -91,6 +88,3 @@ fn main(rt: HostRuntime) -> ExitCode {
         Err(fault) => failed(&rt, &fault),
     }
 }
-
-#[cfg(test)]
-mod tests;

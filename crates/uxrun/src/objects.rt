@@ -3,12 +3,12 @@
 ghost use Rattle.std.specs.Prelude.{◌≡◌, map, IfOk};
 ghost use Rattle.ux_model.specs.Boot.{IsBootState, new_process};
 
-use crate::fault::Fault;
 use std::alloc::{AllocError, Global};
 use std::io;
 use std::io::BufWriter;
 use std::sync::Wait;
 use std::thread::Threads;
+use ux_command::Fault;
 use ux_kernel::{BootFault, Kernel};
 use ux_object::{FileObject, ObjKind};
 use ux_objects::{Counter, MemFile, Pipe};

@@ -6,7 +6,6 @@ use ux_rights::Origin;
 use ux_types::Cred;
 
 /// A message with all that goes along.
-#[derive(Drop)]
 pub struct ListMessage {
     pub bytes: Vec<u8>,
     pub rights: Vec<u128>,
@@ -14,8 +13,21 @@ pub struct ListMessage {
     pub cred: Cred,
 }
 
+/// Written out, a drop is a call, and not each of its parts in the proof of each function that drops one.
+impl Drop for ListMessage {
+    fn drop(self) {
+        let ListMessage {
+            bytes,
+            rights,
+            origin: _,
+            cred: _,
+        } = self;
+        drop(bytes);
+        drop(rights);
+    }
+}
+
 /// What a receive gives.
-#[derive(Drop)]
 pub struct ListFront {
     pub bytes: Vec<u8>,
     pub rights: Vec<u128>,
@@ -23,10 +35,32 @@ pub struct ListFront {
     pub cred: Cred,
 }
 
-#[derive(Drop)]
+/// As of a message.
+impl Drop for ListFront {
+    fn drop(self) {
+        let ListFront {
+            bytes,
+            rights,
+            origin: _,
+            cred: _,
+        } = self;
+        drop(bytes);
+        drop(rights);
+    }
+}
+
+/// The messages, the oldest first.
 pub struct ListQueue {
     pub messages: VecDeque<ListMessage>,
     alloc: Global,
+}
+
+/// As of a message.
+impl Drop for ListQueue {
+    fn drop(self) {
+        let ListQueue { messages, alloc: _ } = self;
+        drop(messages);
+    }
 }
 
 impl ListQueue {

@@ -1,5 +1,5 @@
 //! The calls of a script: what each asks for, and what is no call.
-use super::{bytes_of, expect_bad_call, expect_bad_line, expect_request, name_of};
+use super::{bytes_of, expect_bad_lines, expect_request, name_of};
 use std::alloc::Global;
 use std::process::Abort;
 use std::test::*;
@@ -15,7 +15,7 @@ fn expect_open(
     flags: OpenFlags,
 ) -> Result<(), Fail> {
     let path = name_of(alloc, path)?;
-    expect_request(rt, alloc, call, &Request::Open { path, mode, flags })
+    expect_request(rt, alloc, call, Request::Open { path, mode, flags })
 }
 
 /// Sees that a call writes bytes to a descriptor.
@@ -27,13 +27,13 @@ fn expect_write(
     bytes: &[u8],
 ) -> Result<(), Fail> {
     let bytes = bytes_of(alloc, bytes)?;
-    expect_request(rt, alloc, call, &Request::Write { fd, bytes })
+    expect_request(rt, alloc, call, Request::Write { fd, bytes })
 }
 
 /// Sees that a call unlinks a path.
 fn expect_unlink(rt: &impl Abort, alloc: Global, call: &str, path: &[u8]) -> Result<(), Fail> {
     let path = name_of(alloc, path)?;
-    expect_request(rt, alloc, call, &Request::Unlink { path })
+    expect_request(rt, alloc, call, Request::Unlink { path })
 }
 
 /// Lines of which the last is a bad one.
@@ -79,10 +79,7 @@ const BAD_LINES: &[&str] = &[
 
 #[test]
 fn bad_calls_are_told(rt: HostRuntime) -> Result<(), Fail> {
-    for lines in BAD_LINES {
-        expect_bad_line(&rt, rt.alloc(), lines)?;
-    }
-    Ok(())
+    expect_bad_lines(&rt, rt.alloc(), "", BAD_LINES, "")
 }
 
 /// Calls on files that are bad lines.
@@ -133,10 +130,7 @@ const BAD_CALLS: &[&str] = &[
 
 #[test]
 fn bad_calls_on_files_are_told(rt: HostRuntime) -> Result<(), Fail> {
-    for call in BAD_CALLS {
-        expect_bad_call(&rt, rt.alloc(), call)?;
-    }
-    Ok(())
+    expect_bad_lines(&rt, rt.alloc(), "1 ", BAD_CALLS, "")
 }
 
 #[test]
@@ -155,14 +149,14 @@ fn calls_on_descriptors_are_read(rt: HostRuntime) -> Result<(), Fail> {
     let alloc = rt.alloc();
     let fd = Fd(3);
     let read = Request::Read { fd, n: 4294967295 };
-    expect_request(&rt, alloc, "read 3 4294967295", &read)?;
+    expect_request(&rt, alloc, "read 3 4294967295", read)?;
     expect_write(&rt, alloc, "write 3 00ff", fd, &[0, 0xff])?;
     expect_write(&rt, alloc, "write 3 -", fd, b"")?;
-    expect_request(&rt, alloc, "dup 3", &Request::Dup { fd })?;
+    expect_request(&rt, alloc, "dup 3", Request::Dup { fd })?;
     let to = Fd(9);
-    expect_request(&rt, alloc, "dup2 3 9", &Request::Dup2 { fd, to })?;
+    expect_request(&rt, alloc, "dup2 3 9", Request::Dup2 { fd, to })?;
     let flags = OpenFlags(6);
-    expect_request(&rt, alloc, "flags 3 nx", &Request::SetFlags { fd, flags })
+    expect_request(&rt, alloc, "flags 3 nx", Request::SetFlags { fd, flags })
 }
 
 /// Names as they are written, and their bytes.
@@ -196,7 +190,7 @@ fn expect_offset(rt: &impl Abort, alloc: Global, text: &str, offset: i64) -> Res
         ("end", Whence::End),
     ] {
         let call = format!(in alloc; "lseek 0 {text} {word}")?;
-        expect_request(rt, alloc, &call, &Request::Lseek { fd, offset, whence })?;
+        expect_request(rt, alloc, &call, Request::Lseek { fd, offset, whence })?;
     }
     Ok(())
 }
@@ -236,10 +230,5 @@ fn offsets_are_read(rt: HostRuntime) -> Result<(), Fail> {
 
 #[test]
 fn bad_offsets_are_told(rt: HostRuntime) -> Result<(), Fail> {
-    let alloc = rt.alloc();
-    for text in BAD_OFFSETS {
-        let call = format!(in alloc; "lseek 0 {text} set")?;
-        expect_bad_call(&rt, alloc, &call)?;
-    }
-    Ok(())
+    expect_bad_lines(&rt, rt.alloc(), "1 lseek 0 ", BAD_OFFSETS, " set")
 }

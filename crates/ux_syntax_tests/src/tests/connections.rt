@@ -1,5 +1,5 @@
 //! Calls of names and connections: what each asks for, and what is no call.
-use super::{addr_of, expect_bad_call, expect_request};
+use super::{addr_of, expect_bad_lines, expect_request};
 use std::alloc::Global;
 use std::process::Abort;
 use std::test::*;
@@ -10,9 +10,9 @@ fn calls_of_connections_are_read(rt: HostRuntime) -> Result<(), Fail> {
     let alloc = rt.alloc();
     let fd = Fd(3);
     let flags = OpenFlags(6);
-    expect_request(&rt, alloc, "accept 3 nx", &Request::Accept { fd, flags })?;
-    expect_request(&rt, alloc, "sockname 3", &Request::GetSockName { fd })?;
-    expect_request(&rt, alloc, "peername 3", &Request::GetPeerName { fd })
+    expect_request(&rt, alloc, "accept 3 nx", Request::Accept { fd, flags })?;
+    expect_request(&rt, alloc, "sockname 3", Request::GetSockName { fd })?;
+    expect_request(&rt, alloc, "peername 3", Request::GetPeerName { fd })
 }
 
 /// Each type of socket as it is written.
@@ -29,9 +29,9 @@ fn types_of_sockets_are_read(rt: HostRuntime) -> Result<(), Fail> {
     for (text, kind) in TYPES {
         let kind = *kind;
         let call = format!(in alloc; "socket {text} nx")?;
-        expect_request(&rt, alloc, &call, &Request::Socket { kind, flags })?;
+        expect_request(&rt, alloc, &call, Request::Socket { kind, flags })?;
         let call = format!(in alloc; "pair {text} nx")?;
-        expect_request(&rt, alloc, &call, &Request::SocketPair { kind, flags })?;
+        expect_request(&rt, alloc, &call, Request::SocketPair { kind, flags })?;
     }
     Ok(())
 }
@@ -46,7 +46,7 @@ fn shutdowns_are_read(rt: HostRuntime) -> Result<(), Fail> {
     for (text, how) in WAYS {
         let how = *how;
         let call = format!(in alloc; "shut 3 {text}")?;
-        expect_request(&rt, alloc, &call, &Request::Shutdown { fd, how })?;
+        expect_request(&rt, alloc, &call, Request::Shutdown { fd, how })?;
     }
     Ok(())
 }
@@ -62,10 +62,10 @@ fn expect_addr(
     let fd = Fd(3);
     let call = format!(in alloc; "bind 3 {text}")?;
     let addr = addr_of(alloc, form, name)?;
-    expect_request(rt, alloc, &call, &Request::Bind { fd, addr })?;
+    expect_request(rt, alloc, &call, Request::Bind { fd, addr })?;
     let call = format!(in alloc; "connect 3 {text}")?;
     let addr = addr_of(alloc, form, name)?;
-    expect_request(rt, alloc, &call, &Request::Connect { fd, addr })
+    expect_request(rt, alloc, &call, Request::Connect { fd, addr })
 }
 
 /// Addresses as they are written, their form, and the bytes of their name.
@@ -98,14 +98,8 @@ const BAD_ADDRESSES: &[&str] = &[
 
 #[test]
 fn bad_addresses_are_told(rt: HostRuntime) -> Result<(), Fail> {
-    let alloc = rt.alloc();
-    for text in BAD_ADDRESSES {
-        let call = format!(in alloc; "bind 3 {text}")?;
-        expect_bad_call(&rt, alloc, &call)?;
-        let call = format!(in alloc; "connect 3 {text}")?;
-        expect_bad_call(&rt, alloc, &call)?;
-    }
-    Ok(())
+    expect_bad_lines(&rt, rt.alloc(), "1 bind 3 ", BAD_ADDRESSES, "")?;
+    expect_bad_lines(&rt, rt.alloc(), "1 connect 3 ", BAD_ADDRESSES, "")
 }
 
 /// Backlogs as they are written.
@@ -125,7 +119,7 @@ fn backlogs_are_read(rt: HostRuntime) -> Result<(), Fail> {
     for (text, backlog) in BACKLOGS {
         let backlog = *backlog;
         let call = format!(in alloc; "listen 0 {text}")?;
-        expect_request(&rt, alloc, &call, &Request::Listen { fd, backlog })?;
+        expect_request(&rt, alloc, &call, Request::Listen { fd, backlog })?;
     }
     Ok(())
 }
@@ -151,12 +145,7 @@ const BAD_BACKLOGS: &[&str] = &[
 
 #[test]
 fn bad_backlogs_are_told(rt: HostRuntime) -> Result<(), Fail> {
-    let alloc = rt.alloc();
-    for text in BAD_BACKLOGS {
-        let call = format!(in alloc; "listen 0 {text}")?;
-        expect_bad_call(&rt, alloc, &call)?;
-    }
-    Ok(())
+    expect_bad_lines(&rt, rt.alloc(), "1 listen 0 ", BAD_BACKLOGS, "")
 }
 
 /// Calls of names and connections that are bad lines.
@@ -206,8 +195,5 @@ const BAD_CALLS: &[&str] = &[
 
 #[test]
 fn bad_calls_of_connections_are_told(rt: HostRuntime) -> Result<(), Fail> {
-    for call in BAD_CALLS {
-        expect_bad_call(&rt, rt.alloc(), call)?;
-    }
-    Ok(())
+    expect_bad_lines(&rt, rt.alloc(), "1 ", BAD_CALLS, "")
 }

@@ -1,8 +1,6 @@
 //! Options and poll: what their calls ask for, what is no such call, and how a trace has their replies.
-use super::traces::expect_fifth;
-use super::{expect_bad_call, expect_request};
-use std::alloc::Global;
-use std::process::Abort;
+use super::traces::{Row, expect_fifth, expect_rows};
+use super::{expect_bad_lines, expect_request};
 use std::test::*;
 use ux_types::{Cred, Fd, Pid, PollFlags, Reply, Request, SockOpt};
 
@@ -23,9 +21,9 @@ fn options_are_read(rt: HostRuntime) -> Result<(), Fail> {
     for (text, opt) in OPTIONS {
         let opt = *opt;
         let call = format!(in alloc; "getopt 3 {text}")?;
-        expect_request(&rt, alloc, &call, &Request::GetOpt { fd, opt })?;
+        expect_request(&rt, alloc, &call, Request::GetOpt { fd, opt })?;
         let call = format!(in alloc; "setopt 3 {text} 1")?;
-        expect_request(&rt, alloc, &call, &Request::SetOpt { fd, opt, value })?;
+        expect_request(&rt, alloc, &call, Request::SetOpt { fd, opt, value })?;
     }
     Ok(())
 }
@@ -41,7 +39,7 @@ fn values_of_options_are_read(rt: HostRuntime) -> Result<(), Fail> {
     for (text, value) in VALUES {
         let value = *value;
         let call = format!(in alloc; "setopt 0 passcred {text}")?;
-        expect_request(&rt, alloc, &call, &Request::SetOpt { fd, opt, value })?;
+        expect_request(&rt, alloc, &call, Request::SetOpt { fd, opt, value })?;
     }
     Ok(())
 }
@@ -50,9 +48,9 @@ fn values_of_options_are_read(rt: HostRuntime) -> Result<(), Fail> {
 fn polls_are_read(rt: HostRuntime) -> Result<(), Fail> {
     let alloc = rt.alloc();
     let poll = Request::Poll { fd: Fd(3) };
-    expect_request(&rt, alloc, "poll 3", &poll)?;
+    expect_request(&rt, alloc, "poll 3", poll)?;
     let poll = Request::Poll { fd: Fd(4294967295) };
-    expect_request(&rt, alloc, "poll 4294967295", &poll)
+    expect_request(&rt, alloc, "poll 4294967295", poll)
 }
 
 /// Calls of options and of poll that are bad lines.
@@ -93,51 +91,59 @@ const BAD_CALLS: &[&str] = &[
 
 #[test]
 fn bad_calls_of_options_are_told(rt: HostRuntime) -> Result<(), Fail> {
-    for call in BAD_CALLS {
-        expect_bad_call(&rt, rt.alloc(), call)?;
-    }
-    Ok(())
-}
-
-/// Sees how a trace has what an option was told to be.
-fn expect_option(rt: &impl Abort, alloc: Global, reply: Reply, text: &str) -> Result<(), Fail> {
-    let fd = Fd(3);
-    let opt = SockOpt::PeerCred;
-    let line = format!(in alloc; "5 1 7 getopt = {text}\n")?;
-    expect_fifth(rt, alloc, Request::GetOpt { fd, opt }, reply, &line)
+    expect_bad_lines(&rt, rt.alloc(), "1 ", BAD_CALLS, "")
 }
 
 #[test]
-fn options_are_printed(rt: HostRuntime) -> Result<(), Fail> {
-    let alloc = rt.alloc();
-    expect_option(&rt, alloc, Reply::Opt(0), "opt 0")?;
-    expect_option(&rt, alloc, Reply::Opt(5), "opt 5")?;
-    let most = Reply::Opt(18446744073709551615);
-    expect_option(&rt, alloc, most, "opt 18446744073709551615")
-}
-
-#[test]
-fn credentials_are_printed(rt: HostRuntime) -> Result<(), Fail> {
-    let alloc = rt.alloc();
-    let pid = Pid(2);
-    let uid = 1000;
-    let gid = 100;
-    let user = Reply::Cred(Cred { pid, uid, gid });
-    expect_option(&rt, alloc, user, "cred 2 1000 100")?;
-    let uid = 0;
-    let gid = 4294967295;
-    let root = Reply::Cred(Cred { pid, uid, gid });
-    expect_option(&rt, alloc, root, "cred 2 0 4294967295")
-}
-
-#[test]
-fn an_option_that_was_set_is_printed(rt: HostRuntime) -> Result<(), Fail> {
-    let set = Request::SetOpt {
-        fd: Fd(3),
-        opt: SockOpt::PassCred,
-        value: 1,
-    };
-    expect_fifth(&rt, rt.alloc(), set, Reply::Ok, "5 1 7 setopt = ok\n")
+fn entries_of_options_are_printed(rt: HostRuntime) -> Result<(), Fail> {
+    // Entries of the calls on options.
+    let rows = vec![in rt.alloc();
+        (
+            (5, 7),
+            "getopt 3 error",
+            Reply::Opt(0),
+            "5 1 7 getopt = opt 0\n",
+        ),
+        (
+            (5, 7),
+            "getopt 3 type",
+            Reply::Opt(5),
+            "5 1 7 getopt = opt 5\n",
+        ),
+        (
+            (5, 7),
+            "getopt 3 error",
+            Reply::Opt(18446744073709551615),
+            "5 1 7 getopt = opt 18446744073709551615\n",
+        ),
+        (
+            (5, 7),
+            "getopt 3 peercred",
+            Reply::Cred(Cred {
+                pid: Pid(2),
+                uid: 1000,
+                gid: 100,
+            }),
+            "5 1 7 getopt = cred 2 1000 100\n",
+        ),
+        (
+            (5, 7),
+            "getopt 3 peercred",
+            Reply::Cred(Cred {
+                pid: Pid(2),
+                uid: 0,
+                gid: 4294967295,
+            }),
+            "5 1 7 getopt = cred 2 0 4294967295\n",
+        ),
+        (
+            (5, 7),
+            "setopt 3 passcred 1",
+            Reply::Ok,
+            "5 1 7 setopt = ok\n",
+        ),
+    ]?;
+    expect_rows(&rt, rt.alloc(), rows)
 }
 
 /// Bits of conditions, and their names. The last two bits have none.
@@ -161,7 +167,7 @@ fn conditions_are_printed(rt: HostRuntime) -> Result<(), Fail> {
     for (bits, names) in CONDITIONS {
         let found = Reply::Poll(PollFlags(*bits));
         let line = format!(in alloc; "5 1 7 poll = poll {names}\n")?;
-        expect_fifth(&rt, alloc, Request::Poll { fd: Fd(3) }, found, &line)?;
+        expect_fifth(&rt, alloc, "poll 3", found, &line)?;
     }
     Ok(())
 }

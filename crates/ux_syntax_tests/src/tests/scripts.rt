@@ -1,24 +1,26 @@
 //! Whole scripts: what their text gives, and which line is at fault.
-use super::{bytes_of, expect_bad_line, expect_fault};
+use super::{bytes_of, expect_bad_lines, expect_fault, expect_faults};
 use std::alloc::Global;
 use std::process::Abort;
 use std::test::*;
 use ux_object::ObjKind;
-use ux_syntax::{Act, Script, parse_script};
+use ux_syntax::{Act, Line, ObjectLine, Script, parse_script};
 use ux_types::{Fd, MsgFlags, OpenFlags, Pid, ProcSpec, Request, SockType};
+
+/// Whether a line is a call of this process that asks for this.
+fn is_call(line: &Line, pid: u32, request: &Request) -> bool {
+    match &line.act {
+        Act::Call(call) => line.pid == Pid(pid) && *call == *request,
+        Act::Wait(..) => false,
+    }
+}
 
 /// Sees whose a script's call is, and what it asks for.
 fn expect_call(rt: &impl Abort, script: &Script, index: usize, pid: u32, request: &Request) {
-    match script.lines.get(index) {
-        Some(line) => {
-            assert_eq!(rt; line.pid, Pid(pid), "at {index}");
-            match &line.act {
-                Act::Call(call) => assert_eq!(rt; *call, *request, "at {index}"),
-                Act::Wait(..) => assert!(rt; false, "at {index}"),
-            }
-        }
-        None => assert!(rt; false, "at {index}"),
-    }
+    let Some(line) = script.lines.get(index) else {
+        panic!(rt; "no line at {index}");
+    };
+    assert!(rt; is_call(line, pid, request), "at {index}");
 }
 
 /// Sees a script's processes, and how many calls it has.
@@ -101,10 +103,12 @@ const LINES: &[(&str, &str)] = &[
 
 #[test]
 fn bad_lines_are_told(rt: HostRuntime) -> Result<(), Fail> {
-    for (text, fault) in LINES {
-        expect_fault(&rt, rt.alloc(), text, fault)?;
-    }
-    Ok(())
+    expect_faults(&rt, rt.alloc(), "", LINES)
+}
+
+/// Whether a file object is of this kind, and has this path and this body.
+fn is_object(object: &ObjectLine, name: &[u8], kind: ObjKind, body: &[u8]) -> bool {
+    object.name.as_bytes() == name && object.kind == kind && object.body.as_slice() == body
 }
 
 /// Sees a script's file object.
@@ -116,14 +120,10 @@ fn expect_object(
     kind: ObjKind,
     body: &[u8],
 ) {
-    match script.objects.get(index) {
-        Some(object) => {
-            assert_eq!(rt; object.name.as_bytes(), name, "at {index}");
-            assert_eq!(rt; object.kind, kind, "at {index}");
-            assert_eq!(rt; object.body.as_slice(), body, "at {index}");
-        }
-        None => assert!(rt; false, "at {index}"),
-    }
+    let Some(object) = script.objects.get(index) else {
+        panic!(rt; "no object at {index}");
+    };
+    assert!(rt; is_object(object, name, kind, body), "at {index}");
 }
 
 #[test]
@@ -177,10 +177,7 @@ const BAD_HEADERS: &[&str] = &[
 
 #[test]
 fn bad_headers_are_told(rt: HostRuntime) -> Result<(), Fail> {
-    for lines in BAD_HEADERS {
-        expect_bad_line(&rt, rt.alloc(), lines)?;
-    }
-    Ok(())
+    expect_bad_lines(&rt, rt.alloc(), "", BAD_HEADERS, "")
 }
 
 /// Scripts, and whether they end the layer.
@@ -202,6 +199,15 @@ fn off_comes_last(rt: HostRuntime) -> Result<(), Fail> {
     Ok(())
 }
 
+/// This front, filled up to so many bytes.
+fn filled(alloc: Global, front: &str, filler: char, count: usize) -> Result<String, Fail> {
+    let mut text = String::from_str(alloc, front)?;
+    for _ in front.len()..count {
+        text.push(filler)?;
+    }
+    Ok(text)
+}
+
 /// Sees the fault of a script whose second line begins so, is filled up to so many bytes, and ends so.
 fn expect_fault_of_length(
     rt: &impl Abort,
@@ -212,12 +218,8 @@ fn expect_fault_of_length(
     end: &str,
     fault: &str,
 ) -> Result<(), Fail> {
-    let mut text = String::from_str(alloc, "proc 0 0 0 1\n")?;
-    text.push_str(front)?;
-    for _ in front.len()..count {
-        text.push(filler)?;
-    }
-    text.push_str(end)?;
+    let line = filled(alloc, front, filler, count)?;
+    let text = format!(in alloc; "proc 0 0 0 1\n{line}{end}")?;
     expect_fault(rt, alloc, &text, fault)
 }
 

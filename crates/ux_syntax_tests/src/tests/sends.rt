@@ -1,5 +1,5 @@
 //! Sends of a script: to which address, and with which control data.
-use super::{addr_of, bytes_of, expect_bad_call, expect_request, fault_of, request_in};
+use super::{addr_of, bytes_of, expect_bad_lines, expect_request, fault_of, request_in};
 use std::alloc::Global;
 use std::process::Abort;
 use std::test::*;
@@ -20,7 +20,7 @@ fn expect_send(
         control: bytes_of(alloc, control)?,
         flags: MsgFlags(1),
     };
-    expect_request(rt, alloc, call, &send)
+    expect_request(rt, alloc, call, send)
 }
 
 /// Addresses as they are written, their form, and the bytes of their name.
@@ -53,12 +53,7 @@ const BAD_ADDRESSES: &[&str] = &[
 
 #[test]
 fn bad_addresses_of_sends_are_told(rt: HostRuntime) -> Result<(), Fail> {
-    let alloc = rt.alloc();
-    for text in BAD_ADDRESSES {
-        let call = format!(in alloc; "send 0 {text} 6869 - p")?;
-        expect_bad_call(&rt, alloc, &call)?;
-    }
-    Ok(())
+    expect_bad_lines(&rt, rt.alloc(), "1 send 0 ", BAD_ADDRESSES, " 6869 - p")
 }
 
 /// Control data as it is written, and its bytes. The last two stand for the same.
@@ -151,7 +146,7 @@ fn expect_layout(rt: &impl Abort, alloc: Global, text: &str, digits: &str) -> Re
     let call = format!(in alloc; "send 0 - 6869 x:{digits} p")?;
     let written = request_in(alloc, &call)?;
     let call = format!(in alloc; "send 0 - 6869 {text} p")?;
-    expect_request(rt, alloc, &call, &written)
+    expect_request(rt, alloc, &call, written)
 }
 
 #[test]
@@ -240,22 +235,12 @@ const BAD_ITEMS: &[&str] = &[
 
 #[test]
 fn bad_control_data_is_told(rt: HostRuntime) -> Result<(), Fail> {
-    let alloc = rt.alloc();
-    for text in BAD_CONTROLS {
-        let call = format!(in alloc; "send 0 - 6869 {text} p")?;
-        expect_bad_call(&rt, alloc, &call)?;
-    }
-    Ok(())
+    expect_bad_lines(&rt, rt.alloc(), "1 send 0 - 6869 ", BAD_CONTROLS, " p")
 }
 
 #[test]
 fn bad_items_are_told(rt: HostRuntime) -> Result<(), Fail> {
-    let alloc = rt.alloc();
-    for text in BAD_ITEMS {
-        let call = format!(in alloc; "send 0 - 6869 {text} p")?;
-        expect_bad_call(&rt, alloc, &call)?;
-    }
-    Ok(())
+    expect_bad_lines(&rt, rt.alloc(), "1 send 0 - 6869 ", BAD_ITEMS, " p")
 }
 
 /// A send of this many descriptor numbers.

@@ -1,33 +1,13 @@
 //! The lines of a trace.
-use super::{addr_of, bytes_of, name_of};
+use super::{addr_of, bytes_of, name_of, request_in};
 use std::alloc::Global;
 use std::process::Abort;
 use std::test::*;
 use ux_syntax::entry_text;
-use ux_types::{
-    Addr, Entry, Errno, Fd, Mode, MsgFlags, OpenFlags, Pid, Released, Reply, Request, SockType,
-    Whence,
-};
+use ux_types::{Addr, Bytes, Entry, Errno, Fd, MsgFlags, Pid, Released, Reply, Request};
 
-/// Sees an entry's line, in which no file object was closed.
-fn expect_text(
-    rt: &impl Abort,
-    alloc: Global,
-    number: usize,
-    k: u64,
-    request: Request,
-    reply: Reply,
-    line: &str,
-) -> Result<(), Fail> {
-    let entry = Entry {
-        pid: Pid(1),
-        k,
-        request,
-        reply,
-        released: Released::new(),
-    };
-    expect_entry(rt, alloc, number, &entry, line)
-}
+/// An entry's number in the history, and its number among its process's calls.
+type Numbers = (usize, u64);
 
 /// Sees an entry's line.
 fn expect_entry(
@@ -42,76 +22,123 @@ fn expect_entry(
     Ok(())
 }
 
-/// A send.
-fn send(alloc: Global) -> Result<Request, Fail> {
-    Ok(Request::SendMsg {
-        fd: Fd(0),
-        addr: None,
-        bytes: bytes_of(alloc, b"hi")?,
-        control: bytes_of(alloc, b"")?,
-        flags: MsgFlags(0),
-    })
+/// Sees the line of an entry of the first process, with this call as a script has it, in which no file object was
+/// closed.
+fn expect_text(
+    rt: &impl Abort,
+    alloc: Global,
+    numbers: Numbers,
+    call: &str,
+    reply: Reply,
+    line: &str,
+) -> Result<(), Fail> {
+    let (number, k) = numbers;
+    let request = request_in(alloc, call)?;
+    let entry = Entry {
+        pid: Pid(1),
+        k,
+        request,
+        reply,
+        released: Released::new(),
+    };
+    expect_entry(rt, alloc, number, &entry, line)
 }
 
-/// A receive.
-const RECEIVE: Request = Request::RecvMsg {
-    fd: Fd(1),
-    n: 8,
-    space: 0,
-    flags: MsgFlags(0),
-};
+/// Sees the line of the entry of number 5, the eighth call of its process.
+pub(super) fn expect_fifth(
+    rt: &impl Abort,
+    alloc: Global,
+    call: &str,
+    reply: Reply,
+    line: &str,
+) -> Result<(), Fail> {
+    expect_text(rt, alloc, (5, 7), call, reply, line)
+}
+
+/// The numbers of an entry, its call as a script has it, its reply, and its line.
+pub(super) type Row = (Numbers, &'static str, Reply, &'static str);
+
+/// Sees the lines of these entries.
+pub(super) fn expect_rows(rt: &impl Abort, alloc: Global, rows: Vec<Row>) -> Result<(), Fail> {
+    for (numbers, call, reply, line) in rows {
+        expect_text(rt, alloc, numbers, call, reply, line)?;
+    }
+    Ok(())
+}
 
 #[test]
 fn entries_are_printed(rt: HostRuntime) -> Result<(), Fail> {
-    let alloc = rt.alloc();
-    let pair = Request::SocketPair {
-        kind: SockType::Stream,
-        flags: OpenFlags(0),
-    };
-    let fds = Reply::Fds(Fd(0), Fd(1));
-    expect_text(&rt, alloc, 0, 0, pair, fds, "0 1 0 pair = fds 0 1\n")?;
-    let count = Reply::Count(2);
-    expect_text(&rt, alloc, 1, 1, send(alloc)?, count, "1 1 1 send = n 2\n")?;
-    let broken = Reply::Err(Errno::EPIPE);
-    let line = "11 1 11 send = err EPIPE\n";
-    expect_text(&rt, alloc, 11, 11, send(alloc)?, broken, line)?;
-    let close = Request::Close { fd: Fd(0) };
-    expect_text(&rt, alloc, 12, 12, close, Reply::Ok, "12 1 12 close = ok\n")?;
-    let line = "14 1 14 exit = ok\n";
-    expect_text(&rt, alloc, 14, 14, Request::Exit, Reply::Ok, line)
+    // Entries whose replies have neither bytes nor an address.
+    let rows = vec![in rt.alloc();
+        (
+            (0, 0),
+            "pair stream -",
+            Reply::Fds(Fd(0), Fd(1)),
+            "0 1 0 pair = fds 0 1\n",
+        ),
+        (
+            (1, 1),
+            "send 0 - 6869 - -",
+            Reply::Count(2),
+            "1 1 1 send = n 2\n",
+        ),
+        (
+            (4, 4),
+            "recv 1 8 0 -",
+            Reply::Err(Errno::EAGAIN),
+            "4 1 4 recv = err EAGAIN\n",
+        ),
+        (
+            (9, 9),
+            "recv 1 8 0 -",
+            Reply::Err(Errno::ECONNRESET),
+            "9 1 9 recv = err ECONNRESET\n",
+        ),
+        (
+            (11, 11),
+            "send 0 - 6869 - -",
+            Reply::Err(Errno::EPIPE),
+            "11 1 11 send = err EPIPE\n",
+        ),
+        ((12, 12), "close 0", Reply::Ok, "12 1 12 close = ok\n"),
+        ((14, 14), "exit", Reply::Ok, "14 1 14 exit = ok\n"),
+    ]?;
+    expect_rows(&rt, rt.alloc(), rows)
 }
 
-/// The reply of a receive that got no control bytes and no address.
-fn received(alloc: Global, count: usize, bytes: &[u8], flags: MsgFlags) -> Result<Reply, Fail> {
-    Ok(Reply::Received {
-        count,
-        bytes: bytes_of(alloc, bytes)?,
-        flags,
-        control: bytes_of(alloc, b"")?,
-        from: None,
-    })
-}
+/// Receives: the numbers of an entry, how many bytes there were, those that came, flags, and the line.
+const RECEIVES: &[(Numbers, usize, &[u8], MsgFlags, &str)] = &[
+    (
+        (2, 2),
+        2,
+        b"hi",
+        MsgFlags(0),
+        "2 1 2 recv = got 2 6869 - - -\n",
+    ),
+    ((6, 6), 0, b"", MsgFlags(0), "6 1 6 recv = got 0 - - - -\n"),
+    (
+        (15, 15),
+        300,
+        &[0, 0xab],
+        MsgFlags(2 + 16 + 32 + 1),
+        "15 1 15 recv = got 300 00ab TRUNC|CTRUNC|EOR - -\n",
+    ),
+];
 
 #[test]
 fn receives_are_printed(rt: HostRuntime) -> Result<(), Fail> {
     let alloc = rt.alloc();
-    let none = MsgFlags(0);
-    let got = received(alloc, 2, b"hi", none)?;
-    let line = "2 1 2 recv = got 2 6869 - - -\n";
-    expect_text(&rt, alloc, 2, 2, RECEIVE, got, line)?;
-    let again = Reply::Err(Errno::EAGAIN);
-    let line = "4 1 4 recv = err EAGAIN\n";
-    expect_text(&rt, alloc, 4, 4, RECEIVE, again, line)?;
-    let got = received(alloc, 0, b"", none)?;
-    let line = "6 1 6 recv = got 0 - - - -\n";
-    expect_text(&rt, alloc, 6, 6, RECEIVE, got, line)?;
-    let reset = Reply::Err(Errno::ECONNRESET);
-    let line = "9 1 9 recv = err ECONNRESET\n";
-    expect_text(&rt, alloc, 9, 9, RECEIVE, reset, line)?;
-    let cut = MsgFlags(2 + 16 + 32 + 1);
-    let got = received(alloc, 300, &[0, 0xab], cut)?;
-    let line = "15 1 15 recv = got 300 00ab TRUNC|CTRUNC|EOR - -\n";
-    expect_text(&rt, alloc, 15, 15, RECEIVE, got, line)
+    for (numbers, count, bytes, flags, line) in RECEIVES {
+        let got = Reply::Received {
+            count: *count,
+            bytes: bytes_of(alloc, bytes)?,
+            flags: *flags,
+            control: Bytes::new(Vec::new(alloc)),
+            from: None,
+        };
+        expect_text(&rt, alloc, *numbers, "recv 1 8 0 -", got, line)?;
+    }
+    Ok(())
 }
 
 /// Sees what a trace tells of these control bytes, whose receive lost some.
@@ -124,7 +151,7 @@ fn expect_items(rt: &impl Abort, alloc: Global, control: &[u8], items: &str) -> 
         from: None,
     };
     let line = format!(in alloc; "5 1 7 recv = got 2 6869 CTRUNC {items} -\n")?;
-    expect_text(rt, alloc, 5, 7, RECEIVE, got, &line)
+    expect_fifth(rt, alloc, "recv 1 8 0 -", got, &line)
 }
 
 /// Control bytes, and what they spell.
@@ -191,141 +218,135 @@ fn items_are_printed(rt: HostRuntime) -> Result<(), Fail> {
 fn expect_from(rt: &impl Abort, alloc: Global, from: Addr, text: &str) -> Result<(), Fail> {
     let got = Reply::Received {
         count: 0,
-        bytes: bytes_of(alloc, b"")?,
+        bytes: Bytes::new(Vec::new(alloc)),
         flags: MsgFlags(0),
-        control: bytes_of(alloc, b"")?,
+        control: Bytes::new(Vec::new(alloc)),
         from: Some(from),
     };
     let line = format!(in alloc; "5 1 7 recv = got 0 - - - {text}\n")?;
-    expect_text(rt, alloc, 5, 7, RECEIVE, got, &line)
+    expect_fifth(rt, alloc, "recv 1 8 0 -", got, &line)
 }
+
+/// Senders by the form of their address and the bytes of their name, as a trace has them.
+const SENDERS: &[(char, &[u8], &str)] = &[
+    ('u', b"", "u"),
+    ('a', b"q", "a:q"),
+    ('a', b"", "a:"),
+    ('p', b"/run/a b", "p:/run/a%20b"),
+];
 
 #[test]
 fn senders_are_printed(rt: HostRuntime) -> Result<(), Fail> {
     let alloc = rt.alloc();
-    expect_from(&rt, alloc, addr_of(alloc, 'u', b"")?, "u")?;
-    expect_from(&rt, alloc, addr_of(alloc, 'a', b"q")?, "a:q")?;
-    expect_from(&rt, alloc, addr_of(alloc, 'a', b"")?, "a:")?;
-    expect_from(
-        &rt,
-        alloc,
-        addr_of(alloc, 'p', b"/run/a b")?,
-        "p:/run/a%20b",
-    )
-}
-
-/// Sees the line of the entry of number 5, the eighth call of its process.
-pub(super) fn expect_fifth(
-    rt: &impl Abort,
-    alloc: Global,
-    request: Request,
-    reply: Reply,
-    line: &str,
-) -> Result<(), Fail> {
-    expect_text(rt, alloc, 5, 7, request, reply, line)
+    for (form, name, text) in SENDERS {
+        expect_from(&rt, alloc, addr_of(alloc, *form, name)?, text)?;
+    }
+    Ok(())
 }
 
 #[test]
 fn entries_of_files_are_printed(rt: HostRuntime) -> Result<(), Fail> {
-    let alloc = rt.alloc();
-    let fd = Fd(3);
-    let open = Request::Open {
-        path: name_of(alloc, b"f")?,
-        mode: Mode::Both,
-        flags: OpenFlags(0),
-    };
-    expect_fifth(&rt, alloc, open, Reply::Fd(fd), "5 1 7 open = fd 3\n")?;
-    let bytes = Reply::Bytes(bytes_of(alloc, b"hi")?);
-    let read = Request::Read { fd, n: 8 };
-    expect_fifth(&rt, alloc, read, bytes, "5 1 7 read = bytes 6869\n")?;
-    let bytes = Reply::Bytes(bytes_of(alloc, b"")?);
-    let read = Request::Read { fd, n: 8 };
-    expect_fifth(&rt, alloc, read, bytes, "5 1 7 read = bytes -\n")?;
-    let bytes = bytes_of(alloc, b"hi")?;
-    let write = Request::Write { fd, bytes };
-    expect_fifth(&rt, alloc, write, Reply::Count(2), "5 1 7 write = n 2\n")?;
-    let path = name_of(alloc, b"f")?;
-    let absent = Reply::Err(Errno::ENOENT);
-    let line = "5 1 7 unlink = err ENOENT\n";
-    expect_fifth(&rt, alloc, Request::Unlink { path }, absent, line)
+    // Entries of the calls on files and descriptors.
+    let rows = vec![in rt.alloc();
+        (
+            (5, 7),
+            "open p:f rw -",
+            Reply::Fd(Fd(3)),
+            "5 1 7 open = fd 3\n",
+        ),
+        (
+            (5, 7),
+            "write 3 6869",
+            Reply::Count(2),
+            "5 1 7 write = n 2\n",
+        ),
+        (
+            (5, 7),
+            "unlink p:f",
+            Reply::Err(Errno::ENOENT),
+            "5 1 7 unlink = err ENOENT\n",
+        ),
+        (
+            (5, 7),
+            "lseek 3 -1 end",
+            Reply::At(9223372036854775807),
+            "5 1 7 lseek = at 9223372036854775807\n",
+        ),
+        (
+            (5, 7),
+            "dup 3",
+            Reply::Fd(Fd(1023)),
+            "5 1 7 dup = fd 1023\n",
+        ),
+        ((5, 7), "dup2 3 9", Reply::Fd(Fd(9)), "5 1 7 dup2 = fd 9\n"),
+        ((5, 7), "flags 3 x", Reply::Ok, "5 1 7 flags = ok\n"),
+    ]?;
+    expect_rows(&rt, rt.alloc(), rows)
 }
 
 #[test]
-fn entries_of_descriptors_are_printed(rt: HostRuntime) -> Result<(), Fail> {
+fn reads_are_printed(rt: HostRuntime) -> Result<(), Fail> {
     let alloc = rt.alloc();
-    let fd = Fd(3);
-    let seek = Request::Lseek {
-        fd,
-        offset: -1,
-        whence: Whence::End,
-    };
-    let line = "5 1 7 lseek = at 9223372036854775807\n";
-    expect_fifth(&rt, alloc, seek, Reply::At(9223372036854775807), line)?;
-    let dup = Request::Dup { fd };
-    expect_fifth(
-        &rt,
-        alloc,
-        dup,
-        Reply::Fd(Fd(1023)),
-        "5 1 7 dup = fd 1023\n",
-    )?;
-    let dup2 = Request::Dup2 { fd, to: Fd(9) };
-    expect_fifth(&rt, alloc, dup2, Reply::Fd(Fd(9)), "5 1 7 dup2 = fd 9\n")?;
-    let flags = OpenFlags(1);
-    let set = Request::SetFlags { fd, flags };
-    expect_fifth(&rt, alloc, set, Reply::Ok, "5 1 7 flags = ok\n")
+    let bytes = Reply::Bytes(bytes_of(alloc, b"hi")?);
+    expect_fifth(&rt, alloc, "read 3 8", bytes, "5 1 7 read = bytes 6869\n")?;
+    let none = Reply::Bytes(bytes_of(alloc, b"")?);
+    expect_fifth(&rt, alloc, "read 3 8", none, "5 1 7 read = bytes -\n")
 }
 
 #[test]
 fn entries_of_connections_are_printed(rt: HostRuntime) -> Result<(), Fail> {
-    let alloc = rt.alloc();
-    let fd = Fd(3);
-    let flags = OpenFlags(0);
-    let kind = SockType::Seq;
-    let socket = Request::Socket { kind, flags };
-    expect_fifth(&rt, alloc, socket, Reply::Fd(fd), "5 1 7 socket = fd 3\n")?;
-    let addr = Addr::Unnamed;
-    let bind = Request::Bind { fd, addr };
-    expect_fifth(&rt, alloc, bind, Reply::Ok, "5 1 7 bind = ok\n")?;
-    let how = Mode::Both;
-    let shut = Request::Shutdown { fd, how };
-    expect_fifth(&rt, alloc, shut, Reply::Ok, "5 1 7 shut = ok\n")?;
-    let listen = Request::Listen { fd, backlog: -1 };
-    expect_fifth(&rt, alloc, listen, Reply::Ok, "5 1 7 listen = ok\n")?;
-    let addr = Addr::Path(name_of(alloc, b"s")?);
-    let connect = Request::Connect { fd, addr };
-    let refused = Reply::Err(Errno::ECONNREFUSED);
-    let line = "5 1 7 connect = err ECONNREFUSED\n";
-    expect_fifth(&rt, alloc, connect, refused, line)
+    // Entries of the calls that make connections.
+    let rows = vec![in rt.alloc();
+        (
+            (5, 7),
+            "socket seq -",
+            Reply::Fd(Fd(3)),
+            "5 1 7 socket = fd 3\n",
+        ),
+        ((5, 7), "bind 3 u", Reply::Ok, "5 1 7 bind = ok\n"),
+        ((5, 7), "shut 3 rw", Reply::Ok, "5 1 7 shut = ok\n"),
+        ((5, 7), "listen 3 -1", Reply::Ok, "5 1 7 listen = ok\n"),
+        (
+            (5, 7),
+            "connect 3 p:s",
+            Reply::Err(Errno::ECONNREFUSED),
+            "5 1 7 connect = err ECONNREFUSED\n",
+        ),
+    ]?;
+    expect_rows(&rt, rt.alloc(), rows)
 }
 
 /// Sees the line of an accept that gave descriptor 4, and of a call that told a peer's name.
 fn expect_name(rt: &impl Abort, alloc: Global, addr: Addr, text: &str) -> Result<(), Fail> {
-    let fd = Fd(3);
-    let flags = OpenFlags(0);
     let accepted = Reply::Accepted(Fd(4), addr.clone()?);
     let line = format!(in alloc; "5 1 7 accept = accepted 4 {text}\n")?;
-    let accept = Request::Accept { fd, flags };
-    expect_fifth(rt, alloc, accept, accepted, &line)?;
+    expect_fifth(rt, alloc, "accept 3 -", accepted, &line)?;
     let line = format!(in alloc; "5 1 7 peername = addr {text}\n")?;
-    let peer = Request::GetPeerName { fd };
-    expect_fifth(rt, alloc, peer, Reply::Addr(addr), &line)
+    expect_fifth(rt, alloc, "peername 3", Reply::Addr(addr), &line)
 }
+
+/// Addresses by their form and the bytes of their name, as a trace has them.
+const ADDRESSES: &[(char, &[u8], &str)] = &[
+    ('u', b"", "u"),
+    ('p', b"/run/a b", "p:/run/a%20b"),
+    ('a', &[0x21, 0x7e, 0x25, 0x7f, 0, 0xff], "a:!~%25%7f%00%ff"),
+    ('a', b"", "a:"),
+];
 
 #[test]
 fn addresses_are_printed(rt: HostRuntime) -> Result<(), Fail> {
     let alloc = rt.alloc();
-    expect_name(&rt, alloc, Addr::Unnamed, "u")?;
-    let path = Addr::Path(name_of(alloc, b"/run/a b")?);
-    expect_name(&rt, alloc, path, "p:/run/a%20b")?;
-    let bytes = [0x21, 0x7e, 0x25, 0x7f, 0, 0xff];
-    let name = Addr::Abstract(name_of(alloc, &bytes)?);
-    expect_name(&rt, alloc, name, "a:!~%25%7f%00%ff")?;
-    let empty = Addr::Abstract(name_of(alloc, b"")?);
-    expect_name(&rt, alloc, empty, "a:")?;
-    let own = Request::GetSockName { fd: Fd(3) };
+    for (form, name, text) in ADDRESSES {
+        expect_name(&rt, alloc, addr_of(alloc, *form, name)?, text)?;
+    }
     let name = Reply::Addr(Addr::Abstract(name_of(alloc, b"00001")?));
-    expect_fifth(&rt, alloc, own, name, "5 1 7 sockname = addr a:00001\n")
+    expect_fifth(
+        &rt,
+        alloc,
+        "sockname 3",
+        name,
+        "5 1 7 sockname = addr a:00001\n",
+    )
 }
 
 /// Sees the line of an entry whose number is its count, in which these file objects were closed.

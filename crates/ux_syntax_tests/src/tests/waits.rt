@@ -1,23 +1,24 @@
 //! Lines that wait for a process: what each asks for, and which are at fault.
-use super::{expect_bad_call, expect_fault};
-use std::alloc::Global;
+use super::{expect_bad_lines, expect_faults};
 use std::process::Abort;
 use std::test::*;
-use ux_syntax::{Act, Script, parse_script};
+use ux_syntax::{Act, Line, Script, parse_script};
 use ux_types::Pid;
+
+/// Whether a line is of this process, and waits for this one and so many entries.
+fn is_wait(line: &Line, pid: u32, wanted: (Pid, u32)) -> bool {
+    match &line.act {
+        Act::Wait(other, calls) => line.pid == Pid(pid) && (*other, *calls) == wanted,
+        Act::Call(_) => false,
+    }
+}
 
 /// Sees whose a line of a script is, for whom it waits, and for how many entries.
 fn expect_wait(rt: &impl Abort, script: &Script, index: usize, pid: u32, wanted: (Pid, u32)) {
-    match script.lines.get(index) {
-        Some(line) => {
-            assert_eq!(rt; line.pid, Pid(pid), "at {index}");
-            match &line.act {
-                Act::Wait(other, calls) => assert_eq!(rt; (*other, *calls), wanted, "at {index}"),
-                Act::Call(_) => assert!(rt; false, "at {index}"),
-            }
-        }
-        None => assert!(rt; false, "at {index}"),
-    }
+    let Some(line) = script.lines.get(index) else {
+        panic!(rt; "no line at {index}");
+    };
+    assert!(rt; is_wait(line, pid, wanted), "at {index}");
 }
 
 /// Three waits beside a call: for another process, for itself and no entry, and for the greatest number.
@@ -34,17 +35,6 @@ fn a_wait_is_read(rt: HostRuntime) -> Result<(), Fail> {
     Ok(())
 }
 
-/// Sees the fault of a line behind one process.
-fn expect_fault_behind(
-    rt: &impl Abort,
-    alloc: Global,
-    lines: &str,
-    fault: &str,
-) -> Result<(), Fail> {
-    let text = format!(in alloc; "proc 0 0 0 1\n{lines}")?;
-    expect_fault(rt, alloc, &text, fault)
-}
-
 /// Lines behind one process, of which the last waits for a process that isn't there, or is of one.
 const WAITS_OF_STRANGERS: &[(&str, &str)] = &[
     ("1 wait 2 0", "line 2: unknown process"),
@@ -57,10 +47,7 @@ const WAITS_OF_STRANGERS: &[(&str, &str)] = &[
 
 #[test]
 fn a_wait_for_a_process_that_is_not_there_is_told(rt: HostRuntime) -> Result<(), Fail> {
-    for (lines, fault) in WAITS_OF_STRANGERS {
-        expect_fault_behind(&rt, rt.alloc(), lines, fault)?;
-    }
-    Ok(())
+    expect_faults(&rt, rt.alloc(), "proc 0 0 0 1\n", WAITS_OF_STRANGERS)
 }
 
 /// Lines behind one process, of which the last waits behind the exit of a process.
@@ -76,38 +63,35 @@ const WAITS_BEHIND_EXITS: &[(&str, &str)] = &[
 
 #[test]
 fn a_wait_after_the_exit_of_its_process_is_a_bad_line(rt: HostRuntime) -> Result<(), Fail> {
-    for (lines, fault) in WAITS_BEHIND_EXITS {
-        expect_fault_behind(&rt, rt.alloc(), lines, fault)?;
-    }
-    Ok(())
+    expect_faults(&rt, rt.alloc(), "proc 0 0 0 1\n", WAITS_BEHIND_EXITS)
 }
+
+/// Waits without two numbers.
+const INCOMPLETE: &[&str] = &[
+    "wait",
+    "wait 1",
+    "wait 1 ",
+    "wait 1 0 0",
+    "wait  1 0",
+    "wait 1 -",
+    "Wait 1 0",
+];
 
 #[test]
 fn a_wait_has_two_numbers(rt: HostRuntime) -> Result<(), Fail> {
-    for call in [
-        "wait",
-        "wait 1",
-        "wait 1 ",
-        "wait 1 0 0",
-        "wait  1 0",
-        "wait 1 -",
-        "Wait 1 0",
-    ] {
-        expect_bad_call(&rt, rt.alloc(), call)?;
-    }
-    Ok(())
+    expect_bad_lines(&rt, rt.alloc(), "1 ", INCOMPLETE, "")
 }
+
+/// Waits whose numbers aren't written as numbers are, or are too great.
+const BAD_NUMBERS: &[&str] = &[
+    "wait 01 0",
+    "wait 1 00",
+    "wait 1 01",
+    "wait 4294967296 0",
+    "wait 1 4294967296",
+];
 
 #[test]
 fn a_wait_with_a_leading_zero_is_a_bad_line(rt: HostRuntime) -> Result<(), Fail> {
-    for call in [
-        "wait 01 0",
-        "wait 1 00",
-        "wait 1 01",
-        "wait 4294967296 0",
-        "wait 1 4294967296",
-    ] {
-        expect_bad_call(&rt, rt.alloc(), call)?;
-    }
-    Ok(())
+    expect_bad_lines(&rt, rt.alloc(), "1 ", BAD_NUMBERS, "")
 }

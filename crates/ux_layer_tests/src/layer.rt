@@ -1,0 +1,366 @@
+ghost use Rattle.std.specs.Prelude.{◌≡◌, false, IfOk};
+ghost use Rattle.ux_model.specs.Boot.{IsBootState};
+ghost use Rattle.ux_history.specs.Books.{is_last};
+
+use bstr::BString;
+use std::alloc::{AllocError, Global};
+use std::marker::Brand;
+use std::process::Abort;
+use std::sync::Wait;
+use std::sync::ledger::Blank;
+use std::test::Fail;
+use std::thread;
+use std::thread::Threads;
+use ux_history::{BookName, CallFault, OffFault, PARTS, Receipt, SettleFault, Spent};
+use ux_kernel::Kernel;
+use ux_layer::{Layer, Seat, start};
+use ux_object::FileObject;
+use ux_objects::Counter;
+use ux_types::{
+    Addr, Bytes, Errno, Fd, MsgFlags, Name, OpenFlags, Pid, ProcSpec, Reply, Request, SockType,
+};
+
+mod watched;
+
+const USER: ProcSpec = ProcSpec {
+    uid: 1000,
+    gid: 1000,
+    privileged: false,
+    limit: 16,
+};
+
+const SOCKET: Request = Request::Socket {
+    kind: SockType::Stream,
+    flags: OpenFlags(0),
+};
+
+/// Why a worker gave up.
+#[derive(Debug, Drop)]
+enum Trouble {
+    Fault(CallFault),
+    Memory,
+    Wrong,
+}
+
+impl From<CallFault> for Trouble {
+    fn from(fault: CallFault) -> Trouble {
+        Trouble::Fault(fault)
+    }
+}
+
+impl From<AllocError> for Trouble {
+    fn from(_error: AllocError) -> Trouble {
+        Trouble::Memory
+    }
+}
+
+/// What one thread brings back.
+struct Done<W: BookName> {
+    spent: Spent<W>,
+    receipts: Vec<Receipt<W>>,
+}
+
+/// Written out, a drop is a call, and not each of its parts in the proof of each function that drops one.
+impl<W: BookName> Drop for Done<W> {
+    fn drop(self) {
+        let Done { spent, receipts } = self;
+        drop(spent);
+        drop(receipts);
+    }
+}
+
+impl<W: BookName> Done<W> {
+    /// Its share and its receipts.
+    fn into_parts(self) -> (Spent<W>, Vec<Receipt<W>>) {
+        let Done { spent, receipts } = self;
+        (spent, receipts)
+    }
+}
+
+/// A seat, and the receipts of its calls.
+struct Worker<W: BookName, O: FileObject> {
+    seat: Seat<W, O>,
+    receipts: Vec<Receipt<W>>,
+}
+
+/// As of what a thread brings back.
+impl<W: BookName, O: FileObject> Drop for Worker<W, O> {
+    fn drop(self) {
+        let Worker { seat, receipts } = self;
+        drop(seat);
+        drop(receipts);
+    }
+}
+
+impl<W: BookName, O: FileObject> Worker<W, O> {
+    /// A seat, and no receipt yet.
+    fn new(alloc: Global, seat: Seat<W, O>) -> Worker<W, O> {
+        let receipts = Vec::new(alloc);
+        Worker { seat, receipts }
+    }
+
+    /// Makes a call that must be answered so, and keeps its receipt.
+    fn must<R: Wait>(&mut self, rt: &R, request: Request, answer: Reply) -> Result<(), Trouble>
+        requires { is_last request ≡ false }
+    {
+        let (reply, receipt) = self.seat.call_blocking(rt, &request)?;
+        let right = reply == answer;
+        drop(reply);
+        drop(answer);
+        if self.receipts.push(receipt).is_err() {
+            return Err(Trouble::Memory);
+        }
+        if right { Ok(()) } else { Err(Trouble::Wrong) }
+    }
+
+    /// Exits.
+    fn done<R: Wait>(self, rt: &R) -> Result<Done<W>, Trouble> {
+        let Worker { seat, receipts } = self;
+        match seat.exit(rt) {
+            Ok(spent) => Ok(Done { spent, receipts }),
+            Err((fault, seat)) => {
+                drop(seat);
+                Err(Trouble::Fault(fault))
+            }
+        }
+    }
+}
+
+/// The address of the server.
+fn server(alloc: Global) -> Result<Addr, AllocError> {
+    Ok(Addr::Abstract(Name::new(BString::from_slice(alloc, b"s")?)))
+}
+
+/// A receive of at most 8 bytes by this number.
+fn receive(fd: u32) -> Request
+    ensures { is_last result ≡ false }
+{
+    Request::RecvMsg {
+        fd: Fd(fd),
+        n: 8,
+        space: 0,
+        flags: MsgFlags(0),
+    }
+}
+
+/// A send of these bytes by this number.
+fn send(alloc: Global, fd: u32, bytes: &[u8]) -> Result<Request, AllocError>
+    ensures { IfOk result (λ r. is_last r ≡ false) }
+{
+    Ok(Request::SendMsg {
+        fd: Fd(fd),
+        addr: None,
+        bytes: Bytes::new(Vec::from_slice(alloc, bytes)?),
+        control: Bytes::new(Vec::new(alloc)),
+        flags: MsgFlags(0),
+    })
+}
+
+/// Listens, takes one connection, and sends two bytes.
+fn serve<W: BookName, R: Wait>(
+    rt: &R,
+    alloc: Global,
+    seat: Seat<W, Counter>,
+) -> Result<Done<W>, Trouble> {
+    let mut worker = Worker::new(alloc, seat);
+    let w = &mut worker;
+    w.must(rt, SOCKET, Reply::Fd(Fd(0)))?;
+    let addr = server(alloc)?;
+    w.must(rt, Request::Bind { fd: Fd(0), addr }, Reply::Ok)?;
+    let backlog = 4;
+    w.must(rt, Request::Listen { fd: Fd(0), backlog }, Reply::Ok)?;
+    let flags = OpenFlags(0);
+    let accepted = Reply::Accepted(Fd(1), Addr::Unnamed);
+    w.must(rt, Request::Accept { fd: Fd(0), flags }, accepted)?;
+    w.must(rt, send(alloc, 1, b"hi")?, Reply::Count(2))?;
+    worker.done(rt)
+}
+
+/// Connects once the server listens, and receives what it sends.
+fn ask<W: BookName, R: Wait>(
+    rt: &R,
+    alloc: Global,
+    layer: &Layer<W, Counter>,
+    seat: Seat<W, Counter>,
+) -> Result<Done<W>, Trouble> {
+    let mut worker = Worker::new(alloc, seat);
+    let w = &mut worker;
+    layer.wait_for(rt, Pid(1), 3);
+    w.must(rt, SOCKET, Reply::Fd(Fd(0)))?;
+    let addr = server(alloc)?;
+    w.must(rt, Request::Connect { fd: Fd(0), addr }, Reply::Ok)?;
+    let got = Reply::Received {
+        count: 2,
+        bytes: Bytes::new(Vec::from_slice(alloc, b"hi")?),
+        flags: MsgFlags(0),
+        control: Bytes::new(Vec::new(alloc)),
+        from: None,
+    };
+    w.must(rt, receive(0), got)?;
+    worker.done(rt)
+}
+
+/// A kernel of two processes.
+fn two_processes(alloc: Global) -> Result<Kernel<Counter>, Fail>
+    ensures { IfOk result (λ kernel. IsBootState kernel) }
+{
+    match Kernel::boot(alloc, Vec::new(alloc), &[USER, USER]) {
+        Ok(kernel) => Ok(kernel),
+        Err(_) => Err(Fail::from("no kernel")),
+    }
+}
+
+#[test]
+fn two_threads_wait_for_one_another(rt: HostRuntime) -> Result<(), Fail> {
+    let kernel = two_processes(rt.alloc())?;
+    exchange::<Brand, _>(&rt, rt.alloc(), Blank::new(PARTS), kernel)
+}
+
+fn exchange<W: BookName + Send + Sync, R: Threads + Wait + Abort + Sync>(
+    rt: &R,
+    alloc: Global,
+    blank: Blank,
+    kernel: Kernel<Counter>,
+) -> Result<(), Fail>
+    requires name { blank.name ≡ W.name }
+    requires parts { (blank.parts ≡ W.parts) × (blank.parts ≡ 1024) }
+    requires boots { IsBootState kernel }
+    requires named { kernel ≡ W.boot }
+{
+    let Ok((layer, mut seats)) = start::<W, Counter, R>(rt, alloc, blank, kernel) else {
+        return Err(Fail::from("no layer"));
+    };
+    let client = seats.pop().ok_or("no seat")?;
+    let server = seats.pop().ok_or("no seat")?;
+    let there = &layer;
+    let (served, asked) = thread::join(
+        rt,
+        move || serve(rt, alloc, server),
+        move || ask(rt, alloc, there, client),
+    );
+    let (Ok(served), Ok(asked)) = (served, asked) else {
+        return Err(Fail::from("a call went wrong"));
+    };
+    settle(rt, alloc, &layer, served, asked)
+}
+
+/// Sees that accounts settle with both shares and not with one, that the layer is ended once, and that the
+/// book holds each receipt.
+fn settle<W: BookName, R: Wait + Abort>(
+    rt: &R,
+    alloc: Global,
+    layer: &Layer<W, Counter>,
+    served: Done<W>,
+    asked: Done<W>,
+) -> Result<(), Fail> {
+    let (spent, receipts) = served.into_parts();
+    let (other, others) = asked.into_parts();
+    let entries = settle_both(rt, alloc, layer, spent, other);
+    let ends = (layer.off(rt), layer.off(rt));
+    let held = holds_all(rt, layer, &receipts) && holds_all(rt, layer, &others);
+    drop(receipts);
+    drop(others);
+    assert!(rt; held);
+    assert_eq!(rt; entries?, 10);
+    assert_eq!(rt; ends, (Ok(()), Err(OffFault::Given)));
+    assert_eq!(rt; layer.book(rt).book().entries().len(), 11);
+    Ok(())
+}
+
+/// How many entries the accounts settle with, which they do with both shares and not with one.
+fn settle_both<W: BookName, R: Wait>(
+    rt: &R,
+    alloc: Global,
+    layer: &Layer<W, Counter>,
+    spent: Spent<W>,
+    other: Spent<W>,
+) -> Result<usize, Fail> {
+    let mut spents = Vec::new(alloc);
+    spents.push(spent)?;
+    let Err((SettleFault::Missing, mut spents)) = layer.settle(rt, spents) else {
+        return Err(Fail::from("settled too soon"));
+    };
+    spents.push(other)?;
+    match layer.settle(rt, spents) {
+        Ok(account) => Ok(account.entries),
+        Err(_) => Err(Fail::from("accounts don't settle")),
+    }
+}
+
+/// Whether the book holds each of these receipts.
+fn holds_all<W: BookName, O: FileObject, R: Wait>(
+    rt: &R,
+    layer: &Layer<W, O>,
+    receipts: &[Receipt<W>],
+) -> bool {
+    let guard = layer.book(rt);
+    receipts.iter().all(|receipt| guard.book().holds(receipt))
+}
+
+#[test]
+fn a_call_that_needn_t_wait_is_answered(rt: HostRuntime) -> Result<(), Fail> {
+    let kernel = two_processes(rt.alloc())?;
+    call_once::<Brand, _>(&rt, rt.alloc(), Blank::new(PARTS), kernel)
+}
+
+fn call_once<W: BookName, R: Wait + Abort>(
+    rt: &R,
+    alloc: Global,
+    blank: Blank,
+    kernel: Kernel<Counter>,
+) -> Result<(), Fail>
+    requires name { blank.name ≡ W.name }
+    requires parts { (blank.parts ≡ W.parts) × (blank.parts ≡ 1024) }
+    requires boots { IsBootState kernel }
+    requires named { kernel ≡ W.boot }
+{
+    let Ok((layer, mut seats)) = start::<W, Counter, R>(rt, alloc, blank, kernel) else {
+        return Err(Fail::from("no layer"));
+    };
+    assert_eq!(rt; layer.off(rt), Err(OffFault::Alive));
+    let seat = seats.pop().ok_or("no seat")?;
+    let other = seats.pop().ok_or("no seat")?;
+    assert!(rt; has_exited(rt, other));
+    assert_eq!(rt; layer.off(rt), Err(OffFault::Alive));
+    assert!(rt; calls_and_exits(rt, seat));
+    assert_eq!(rt; layer.off(rt), Ok(()));
+    assert_eq!(rt; layer.off(rt), Err(OffFault::Given));
+    Ok(())
+}
+
+/// Whether a seat exits with no call before.
+fn has_exited<W: BookName, R: Wait>(rt: &R, seat: Seat<W, Counter>) -> bool {
+    match seat.exit(rt) {
+        Ok(spent) => spent.calls() == 1,
+        Err(_) => false,
+    }
+}
+
+/// Whether calls that needn't wait are answered, and the seat exits.
+fn calls_and_exits<W: BookName, R: Wait>(rt: &R, mut seat: Seat<W, Counter>) -> bool {
+    let made = is_answered(rt, &mut seat, SOCKET, Reply::Fd(Fd(0)))
+        && is_answered(rt, &mut seat, receive(0), Reply::Err(Errno::ENOTCONN));
+    let calls = seat.calls();
+    match seat.exit(rt) {
+        Ok(spent) => made && calls == 2 && spent.calls() == 3,
+        Err(_) => false,
+    }
+}
+
+/// Whether a call that doesn't wait is answered so.
+fn is_answered<W: BookName, O: FileObject, R: Wait>(
+    rt: &R,
+    seat: &mut Seat<W, O>,
+    request: Request,
+    answer: Reply,
+) -> bool
+    requires { is_last request ≡ false }
+{
+    match seat.call(rt, &request) {
+        Ok((reply, receipt)) => {
+            drop(receipt);
+            reply == answer
+        }
+        Err(_) => false,
+    }
+}

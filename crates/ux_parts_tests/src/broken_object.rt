@@ -1,0 +1,140 @@
+//! An object whose every call fails, as a broken disk does, used through a box.
+ghost use Rattle.std.specs.Prelude.{List, [], IsTrue, IfOk};
+ghost use Rattle.ux_model.specs.Object.{View, memory};
+
+use std::process::Abort;
+use std::test::Fail;
+use ux_object::{FileObject, ObjError, ObjKind};
+
+/// The greatest length of a memory file.
+const LIMIT: u64 = 1048576;
+
+/// An empty file on a disk that never works.
+#[derive(Drop)]
+struct BrokenFile {
+    opened: bool,
+    faults: u64,
+}
+
+impl FileObject for BrokenFile {
+    ghost view = { λ f. record { opened = f.opened; body = memory []; faults = f.faults } };
+
+    fn kind(&self) -> ObjKind {
+        ObjKind::Memory
+    }
+
+    fn read(&mut self, _at: u64, _buf: &mut [u8]) -> Result<usize, ObjError> {
+        if self.faults < u64::MAX {
+            self.faults += 1;
+            return Err(ObjError::Io);
+        }
+        Ok(0)
+    }
+
+    fn write(&mut self, at: u64, bytes: &[u8]) -> Result<usize, ObjError> {
+        if self.faults < u64::MAX {
+            self.faults += 1;
+            return Err(ObjError::Io);
+        }
+        if bytes.is_empty() {
+            return Ok(0);
+        }
+        if at >= LIMIT {
+            return Err(ObjError::Full);
+        }
+        Err(ObjError::NoMemory)
+    }
+
+    fn size(&self) -> u64 {
+        0
+    }
+
+    fn ready(&self) -> (bool, bool) {
+        (true, true)
+    }
+
+    fn faults(&self) -> u64 {
+        self.faults
+    }
+
+    fn is_open(&self) -> bool {
+        self.opened
+    }
+
+    fn close(&mut self) {
+        self.opened = false;
+    }
+}
+
+/// Reads and writes a broken file as any object, and closes it.
+fn use_broken<O: FileObject>(rt: &impl Abort, mut object: O) {
+    let mut buf = [7; 4];
+    assert_eq!(rt; object.kind(), ObjKind::Memory);
+    assert_eq!(rt; object.size(), 0);
+    assert_eq!(rt; object.ready(), (true, true));
+    assert_eq!(rt; object.faults(), 0);
+    assert!(rt; object.is_open());
+    assert_eq!(rt; object.read(0, &mut buf), Err(ObjError::Io));
+    assert_eq!(rt; object.faults(), 1);
+    assert!(rt; object.is_open());
+    assert_eq!(rt; object.write(0, &buf), Err(ObjError::Io));
+    assert_eq!(rt; object.faults(), 2);
+    assert!(rt; object.is_open());
+    object.close();
+    assert!(rt; !object.is_open());
+    assert_eq!(rt; object.faults(), 2);
+}
+
+/// At the greatest count it fails no more, and answers what it can.
+fn use_worn_out<O: FileObject>(rt: &impl Abort, mut object: O) {
+    let mut buf = [7; 4];
+    assert!(rt; object.is_open());
+    assert_eq!(rt; object.faults(), u64::MAX);
+    assert_eq!(rt; object.read(0, &mut buf), Ok(0));
+    assert!(rt; object.is_open());
+    assert_eq!(rt; object.write(0, &[]), Ok(0));
+    assert!(rt; object.is_open());
+    assert_eq!(rt; object.write(LIMIT, &buf), Err(ObjError::Full));
+    assert!(rt; object.is_open());
+    assert_eq!(rt; object.write(0, &buf), Err(ObjError::NoMemory));
+    assert_eq!(rt; object.faults(), u64::MAX);
+}
+
+#[test]
+fn a_box_fails_as_what_is_in_it(rt: HostRuntime) -> Result<(), Fail> {
+    let alloc = rt.alloc();
+    let fresh: Box<dyn FileObject + Send> = Box::new(
+        alloc,
+        BrokenFile {
+            opened: true,
+            faults: 0,
+        },
+    )?;
+    use_broken(&rt, fresh);
+    let worn: Box<dyn FileObject + Send> = Box::new(
+        alloc,
+        BrokenFile {
+            opened: true,
+            faults: u64::MAX,
+        },
+    )?;
+    use_worn_out(&rt, worn);
+    Ok(())
+}
+
+#[test]
+fn errors_are_told_in_words(rt: HostRuntime) -> Result<(), Fail> {
+    let alloc = rt.alloc();
+    let rows = [
+        (ObjError::WouldBlock, "nothing to read, or no room to write"),
+        (ObjError::Io, "input or output failed"),
+        (ObjError::Full, "the file is too large"),
+        (ObjError::NoMemory, "out of memory"),
+        (ObjError::Invalid, "invalid argument"),
+    ];
+    for (error, words) in rows {
+        let text = format!(in alloc; "{error}")?;
+        assert_eq!(rt; text.as_str(), words);
+    }
+    Ok(())
+}

@@ -1,0 +1,106 @@
+//! Command lines, and the texts of faults.
+use std::alloc::{AllocError, Global};
+use std::test::Fail;
+use ux_command::{Fault, read_args};
+use ux_kernel::BootFault;
+use ux_object::ObjError;
+use ux_syntax::ScriptFault;
+
+fn texts(alloc: Global, words: &[&str]) -> Result<Vec<String>, AllocError> {
+    let mut texts = Vec::new(alloc);
+    for word in words {
+        texts.push(String::from_str(alloc, word)?)?;
+    }
+    Ok(texts)
+}
+
+#[test]
+fn a_script_is_named(rt: HostRuntime) -> Result<(), Fail> {
+    for name in ["-", "a", "a/b.ux"] {
+        let words = texts(rt.alloc(), &["uxrun", name])?;
+        let Ok(args) = read_args(rt.alloc(), words.as_slice()) else {
+            return Err(Fail::from("not understood"));
+        };
+        assert_eq!(rt; args.script, name);
+        assert!(rt; !args.check && !args.threads);
+    }
+    Ok(())
+}
+
+#[test]
+fn a_check_is_asked_for(rt: HostRuntime) -> Result<(), Fail> {
+    let words = texts(rt.alloc(), &["uxrun", "--check", "a.ux"])?;
+    let Ok(args) = read_args(rt.alloc(), words.as_slice()) else {
+        return Err(Fail::from("not understood"));
+    };
+    assert!(rt; args.check);
+    assert_eq!(rt; args.script, "a.ux");
+    Ok(())
+}
+
+#[test]
+fn threads_are_asked_for(rt: HostRuntime) -> Result<(), Fail> {
+    let words = texts(rt.alloc(), &["uxrun", "--threads", "--check", "a.ux"])?;
+    let Ok(args) = read_args(rt.alloc(), words.as_slice()) else {
+        return Err(Fail::from("not understood"));
+    };
+    assert!(rt; args.threads && args.check);
+    assert_eq!(rt; args.script, "a.ux");
+    Ok(())
+}
+
+#[test]
+fn other_command_lines_are_refused(rt: HostRuntime) -> Result<(), Fail> {
+    let none = ["uxrun"];
+    let two = ["uxrun", "a", "b"];
+    let unknown = ["uxrun", "--thread", "a"];
+    for words in [none.as_slice(), two.as_slice(), unknown.as_slice()] {
+        let words = texts(rt.alloc(), words)?;
+        let told = read_args(rt.alloc(), words.as_slice())
+            .err()
+            .ok_or("understood")?;
+        assert_eq!(rt; told.exit_code(), 2);
+    }
+    Ok(())
+}
+
+#[test]
+fn help_is_no_fault(rt: HostRuntime) -> Result<(), Fail> {
+    let words = texts(rt.alloc(), &["uxrun", "--help"])?;
+    let told = read_args(rt.alloc(), words.as_slice())
+        .err()
+        .ok_or("no help")?;
+    assert_eq!(rt; told.exit_code(), 0);
+    Ok(())
+}
+
+#[test]
+fn faults_have_their_texts(rt: HostRuntime) -> Result<(), Fail> {
+    let rows = [
+        (Fault::from(ScriptFault::BadLine(3)), "line 3: bad line"),
+        (Fault::from(ScriptFault::Reading), "reading failed"),
+        (Fault::from(AllocError), "out of memory"),
+        (Fault::from(ObjError::NoMemory), "out of memory"),
+        (Fault::Differs(7), "check differs at 7"),
+    ];
+    for (fault, text) in rows {
+        assert_eq!(rt; fault.to_string(rt.alloc())?.as_str(), text);
+    }
+    Ok(())
+}
+
+#[test]
+fn boot_faults_are_told_by_their_numbers(rt: HostRuntime) -> Result<(), Fail> {
+    let rows = [
+        (BootFault::TooManyObjects, "boot fault 1"),
+        (BootFault::TooManyProcesses, "boot fault 2"),
+        (BootFault::NameTwice, "boot fault 3"),
+        (BootFault::ObjectClosed, "boot fault 4"),
+        (BootFault::NoMemory, "boot fault 5"),
+        (BootFault::BadPath, "boot fault 6"),
+    ];
+    for (fault, text) in rows {
+        assert_eq!(rt; Fault::from(fault).to_string(rt.alloc())?.as_str(), text);
+    }
+    Ok(())
+}

@@ -1,0 +1,12 @@
+//! Tests of the runs of scripts and of histories, and of the command line that asks for them. Beside their crates
+//! they would have each proved once more.
+#![tactic(auto)]
+
+#[cfg(test)]
+mod again;
+#[cfg(test)]
+mod command;
+#[cfg(test)]
+mod serial;
+#[cfg(test)]
+mod threads;
