@@ -25,7 +25,7 @@ use ux_syntax::{Script, parse_script};
 use ux_types::{Entry, Name};
 
 /// The scripts by their names.
-const SCRIPTS: [&str; 86] = [
+const SCRIPTS: &[&str] = &[
     "hello",
     "lost_peer",
     "peek_then_read",
@@ -238,7 +238,7 @@ fn must_have_its_trace<R: Files + Wait + AllocGlobal>(rt: &R, name: &str) -> Res
 const TURNS: usize = 10_000;
 
 /// What one turn calls, and what is answered.
-const TURN: [(&str, &str, &str); 6] = [
+const TURN: &[(&str, &str, &str)] = &[
     ("pair", "stream -", "fds 1 2"),
     ("send", "1 - 78 r:0 -", "n 1"),
     ("close", "0", "ok"),
