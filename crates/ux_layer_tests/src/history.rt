@@ -1,3 +1,4 @@
+//! What stays of a call in the history: shares, entries, receipts, and the accounts settled.
 ghost use Rattle.std.specs.Prelude.{◌≡◌, [], false, length};
 ghost use Rattle.ux_model.specs.Boot.{IsBootState};
 ghost use Rattle.ux_history.specs.Books.{is_last};

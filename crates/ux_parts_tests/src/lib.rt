@@ -21,6 +21,8 @@ mod rights;
 #[cfg(test)]
 mod rooms;
 #[cfg(test)]
+mod slots;
+#[cfg(test)]
 mod tables;
 #[cfg(test)]
 mod types;

@@ -291,6 +291,3 @@ fn release_slot<T>(slots: &mut Slab<Slot<T>>, key: usize, head: Option<usize>) -
     slot.next = head;
     Some(key)
 }
-
-#[cfg(test)]
-mod tests;

@@ -42,7 +42,7 @@ pub enum CallWord {
 }
 
 /// The words that a script may have behind a process's number.
-const CALL_WORDS: [CallWord; 24] = [
+const CALL_WORDS: &[CallWord] = &[
     CallWord::Open,
     CallWord::Read,
     CallWord::Write,

@@ -1,8 +1,11 @@
 //! What no clause says: that calls succeed where there is memory, and that slots are used again.
-use super::*;
 use hoard::Hoard;
+use std::alloc::{AllocError, Global};
+use std::marker::Model;
 use std::process::Abort;
 use std::test::Fail;
+use ux_slots::Slots;
+use ux_types::DescriptionId;
 
 /// A value as a layer above has it: a struct that contracts see as a number.
 #[derive(Debug, PartialEq, Eq, Drop)]
@@ -126,10 +129,12 @@ fn all_values_are_released_at_once(rt: HostRuntime) -> Result<(), Fail> {
 
 #[test]
 fn slots_are_used_again_and_numbers_are_not(rt: HostRuntime) -> Result<(), Fail> {
-    let mut slots = Slots::new(rt.alloc());
+    let alloc = rt.alloc();
+    let mut slots = Slots::new(alloc);
+    slots.reserve(100)?;
     let kept = open(&rt, &mut slots, 7)?;
     let mut last = open(&rt, &mut slots, 0)?;
-    let capacity = slots.slots.capacity();
+    let hoard = Hoard::take_all(alloc)?;
     for inode in 1..10_000 {
         release(&rt, &mut slots, last);
         assert_eq!(&rt; take(&rt, &mut slots), Some(inode - 1));
@@ -137,8 +142,8 @@ fn slots_are_used_again_and_numbers_are_not(rt: HostRuntime) -> Result<(), Fail>
         assert!(&rt; id != last && id != kept);
         last = id;
     }
+    drop(hoard);
     assert_eq!(&rt; last.number(), 10_000);
-    assert_eq!(&rt; slots.slots.capacity(), capacity);
     expect(&rt, &slots, kept, 7, 1);
     Ok(())
 }
@@ -189,12 +194,15 @@ fn end(slots: &mut Slots<File>) -> u32 {
     10_000
 }
 
-/// With no memory left puts in files until one is refused, and takes them all out.
-fn pass_without_memory(
+/// With so many bytes of memory left puts in files until one is refused, and takes them all out.
+fn pass_with_memory(
     alloc: Global,
     slots: &mut Slots<File>,
+    bytes: usize,
 ) -> Result<(Option<u32>, u32), AllocError> {
+    let left: Vec<u8> = Vec::with_capacity(alloc, bytes)?;
     let hoard = Hoard::take_all(alloc)?;
+    drop(left);
     let refused = fill_up(slots);
     let taken = end(slots);
     drop(hoard);
@@ -205,12 +213,42 @@ fn pass_without_memory(
 fn a_growth_is_refused_and_changes_nothing(rt: HostRuntime) -> Result<(), Fail> {
     let alloc = rt.alloc();
     let mut slots = Slots::new(alloc);
-    assert_eq!(&rt; pass_without_memory(alloc, &mut slots)?, (Some(0), 0));
-    slots.slots.reserve(100)?;
-    assert_eq!(&rt; pass_without_memory(alloc, &mut slots)?, (Some(0), 0));
-    slots.reserve(100)?;
-    let (refused, taken) = pass_without_memory(alloc, &mut slots)?;
+    assert_eq!(&rt; pass_with_memory(alloc, &mut slots, 0)?, (Some(0), 0));
+    let (refused, taken) = pass_with_memory(alloc, &mut slots, 80_000)?;
     assert!(&rt; refused == Some(taken) && taken >= 100, "{taken}");
-    assert_eq!(&rt; slots.next_id().number(), taken as u128);
+    slots.reserve(2_000)?;
+    let (refused, more) = pass_with_memory(alloc, &mut slots, 0)?;
+    assert!(&rt; refused == Some(more) && more >= 2_000, "{more}");
+    assert_eq!(&rt; slots.next_id().number(), (taken + more) as u128);
+    Ok(())
+}
+
+/// With so many bytes of memory left asks for room for so many values, which is refused.
+fn ask_with_memory(
+    rt: &impl Abort,
+    alloc: Global,
+    slots: &mut Slots<File>,
+    values: usize,
+    bytes: usize,
+) -> Result<(), AllocError> {
+    let left: Vec<u8> = Vec::with_capacity(alloc, bytes)?;
+    let hoard = Hoard::take_all(alloc)?;
+    drop(left);
+    let refused = slots.reserve(values).is_err();
+    drop(hoard);
+    assert!(rt; refused);
+    Ok(())
+}
+
+#[test]
+fn room_is_refused_with_memory_for_the_slots_alone(rt: HostRuntime) -> Result<(), Fail> {
+    let alloc = rt.alloc();
+    let mut slots = Slots::new(alloc);
+    let a = open(&rt, &mut slots, 1)?;
+    ask_with_memory(&rt, alloc, &mut slots, 1_000, 100_000)?;
+    expect(&rt, &slots, a, 1, 1);
+    let b = open(&rt, &mut slots, 2)?;
+    assert_eq!(&rt; b.number(), 1);
+    assert_eq!(&rt; pass_with_memory(alloc, &mut slots, 0)?.0, Some(0));
     Ok(())
 }
