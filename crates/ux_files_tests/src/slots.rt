@@ -219,7 +219,10 @@ fn a_growth_is_refused_and_changes_nothing(rt: HostRuntime) -> Result<(), Fail> 
     slots.reserve(2_000)?;
     let (refused, more) = pass_with_memory(alloc, &mut slots, 0)?;
     assert!(&rt; refused == Some(more) && more >= 2_000, "{more}");
-    assert_eq!(&rt; slots.next_id().number(), (taken + more) as u128);
+    assert_eq!(&rt;
+        slots.next_id().number(),
+        u128::from(taken) + u128::from(more)
+    );
     Ok(())
 }
 
