@@ -252,6 +252,8 @@ fn room_is_refused_with_memory_for_the_slots_alone(rt: HostRuntime) -> Result<()
     expect(&rt, &slots, a, 1, 1);
     let b = open(&rt, &mut slots, 2)?;
     assert_eq!(&rt; b.number(), 1);
-    assert_eq!(&rt; pass_with_memory(alloc, &mut slots, 0)?.0, Some(0));
+    let (refused, taken) = pass_with_memory(alloc, &mut slots, 0)?;
+    assert_eq!(&rt; refused, taken.checked_sub(2));
+    assert!(&rt; taken < 1_000, "{taken}");
     Ok(())
 }
