@@ -1,7 +1,5 @@
-//! Tests of `ux_state` and `ux_kernel`. Beside them they would have each proved once more.
+//! Tests of `ux_kernel`. Beside it they would have it proved once more.
 #![tactic(auto)]
 
 #[cfg(test)]
 mod kernel;
-#[cfg(test)]
-mod state;

@@ -104,10 +104,10 @@ impl<W: BookName, O: FileObject> Worker<W, O> {
     fn must<R: Wait>(&mut self, rt: &R, request: Request, answer: Reply) -> Result<(), Trouble>
         requires { is_last request ≡ false }
     {
-        let (reply, receipt) = self.seat.call_blocking(rt, &request)?;
-        let right = reply == answer;
-        drop(reply);
-        drop(answer);
+        let called = self.seat.call_blocking(rt, &request);
+        drop(request);
+        let (reply, receipt) = called?;
+        let right = is(reply, answer);
         if self.receipts.push(receipt).is_err() {
             return Err(Trouble::Memory);
         }
@@ -125,6 +125,11 @@ impl<W: BookName, O: FileObject> Worker<W, O> {
             }
         }
     }
+}
+
+/// Whether a reply is this one.
+fn is(reply: Reply, answer: Reply) -> bool {
+    reply == answer
 }
 
 /// The address of the server.
@@ -276,15 +281,23 @@ fn settle_both<W: BookName, R: Wait>(
     spent: Spent<W>,
     other: Spent<W>,
 ) -> Result<usize, Fail> {
-    let mut spents = Vec::new(alloc);
-    spents.push(spent)?;
-    let Err((SettleFault::Missing, mut spents)) = layer.settle(rt, spents) else {
-        return Err(Fail::from("settled too soon"));
-    };
+    let mut spents = ask_for_more(rt, layer, vec![in alloc; spent]?)?;
     spents.push(other)?;
     match layer.settle(rt, spents) {
         Ok(account) => Ok(account.entries),
         Err(_) => Err(Fail::from("accounts don't settle")),
+    }
+}
+
+/// Sees that accounts don't settle with these shares alone, and gives them back.
+fn ask_for_more<W: BookName, R: Wait>(
+    rt: &R,
+    layer: &Layer<W, Counter>,
+    spents: Vec<Spent<W>>,
+) -> Result<Vec<Spent<W>>, Fail> {
+    match layer.settle(rt, spents) {
+        Err((SettleFault::Missing, spents)) => Ok(spents),
+        _ => Err(Fail::from("settled too soon")),
     }
 }
 
@@ -357,10 +370,12 @@ fn is_answered<W: BookName, O: FileObject, R: Wait>(
 ) -> bool
     requires { is_last request ≡ false }
 {
-    match seat.call(rt, &request) {
+    let called = seat.call(rt, &request);
+    drop(request);
+    match called {
         Ok((reply, receipt)) => {
             drop(receipt);
-            reply == answer
+            is(reply, answer)
         }
         Err(_) => false,
     }
