@@ -1,12 +1,11 @@
 //! The layer with threads as its processes: a monitor opens a file and passes it over a connection to a worker in
 //! another thread, which reads it after the monitor has exited, and takes its last reference. At the end the
 //! history is compared with what the processes counted, with their receipts, and with a second run of its calls.
-#![tactic(auto)]
-
 ghost use Rattle.std.specs.Prelude.{◌≡◌, false, IfOk};
 ghost use Rattle.ux_model.specs.Boot.{IsBootState};
 ghost use Rattle.ux_history.specs.Books.{is_last};
 
+use crate::print_history;
 use anyhow::{Result, anyhow};
 use bstr::BString;
 use std::alloc::Global;
@@ -21,7 +20,6 @@ use ux_kernel::Kernel;
 use ux_layer::{Layer, Seat, start};
 use ux_objects::MemFile;
 use ux_replay::check_history;
-use ux_syntax::entry_text;
 use ux_types::{
     Addr, Bytes, Fd, Mode, MsgFlags, Name, OpenFlags, Pid, ProcSpec, Request, SockType,
 };
@@ -209,17 +207,6 @@ fn worker<W: BookName, R: Wait>(
     exit(rt, seat, receipts)
 }
 
-/// Prints the history.
-fn print_history<W: BookName>(
-    rt: &(impl Print + AllocGlobal),
-    book: &Book<W, MemFile>,
-) -> Result<()> {
-    for (number, entry) in book.entries().iter().enumerate() {
-        print!(rt; "{}", entry_text(rt.alloc(), number, entry)?)?;
-    }
-    Ok(())
-}
-
 /// Whether each of these receipts stands in the book.
 fn holds_all<W: BookName>(book: &Book<W, MemFile>, receipts: &[Receipt<W>]) -> bool {
     receipts.iter().all(|receipt| book.holds(receipt))
@@ -299,11 +286,8 @@ fn run_threads<W: BookName + Send + Sync, R: Threads + Wait + Print + AllocGloba
     settle(rt, &layer, monitored?, worked?)
 }
 
-fn run<R: Threads + Wait + Print + AllocGlobal + Sync>(rt: &R) -> Result<()> {
+/// Runs the example.
+pub(crate) fn run<R: Threads + Wait + Print + AllocGlobal + Sync>(rt: &R) -> Result<()> {
     let kernel = boot(rt.alloc())?;
     run_threads::<Brand, R>(rt, Blank::new(PARTS), kernel)
-}
-
-fn main(rt: HostRuntime) -> Result<()> {
-    run(&rt)
 }

@@ -1,4 +1,4 @@
-use Rattle.threads_example.proofs.run.Given as goal
+use Rattle.library_examples.proofs.two_threads.run.Given as goal
 
 -- the ledger that was just opened
 abbrev pub ghosts-run_threads-W-Ledger : goal.ghosts-run_threads-W-Ledger

@@ -1,4 +1,4 @@
-use Rattle.library_example.proofs.run.Given as goal
+use Rattle.library_examples.proofs.one_process.run.Given as goal
 
 -- the ledger that was just opened
 abbrev pub ghosts-keep_book-W-Ledger : goal.ghosts-keep_book-W-Ledger

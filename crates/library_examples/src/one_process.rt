@@ -1,11 +1,10 @@
 //! The layer as a library: one process writes a file, reads it by a second descriptor, and closes both.
 //! The calls go through a book, which keeps them as a history that is proved legal; at the end the history is
 //! compared with what the process counted.
-#![tactic(auto)]
-
 ghost use Rattle.std.specs.Prelude.{◌≡◌, IfOk};
 ghost use Rattle.ux_model.specs.Boot.{IsBootState};
 
+use crate::print_history;
 use anyhow::{Result, anyhow};
 use bstr::BString;
 use std::alloc::Global;
@@ -15,7 +14,6 @@ use ux_history::{Account, Book, BookName, PARTS, Share, is_last, settle_accounts
 use ux_kernel::Kernel;
 use ux_objects::MemFile;
 use ux_state::RetiredList;
-use ux_syntax::entry_text;
 use ux_types::{Bytes, Fd, Mode, Name, OpenFlags, ProcSpec, Request, Whence};
 
 /// A kernel with one memory file, at the path `notes`, and one process.
@@ -103,17 +101,6 @@ fn end<W: BookName>(
     }
 }
 
-/// Prints the history.
-fn print_history<W: BookName>(
-    rt: &(impl Print + AllocGlobal),
-    book: &Book<W, MemFile>,
-) -> Result<()> {
-    for (number, entry) in book.entries().iter().enumerate() {
-        print!(rt; "{}", entry_text(rt.alloc(), number, entry)?)?;
-    }
-    Ok(())
-}
-
 /// Fills this book with the calls of its one process, and prints its history.
 fn fill<W: BookName>(
     rt: &(impl Print + AllocGlobal),
@@ -158,11 +145,8 @@ fn keep_book<W: BookName>(
     }
 }
 
-fn run(rt: &(impl Print + AllocGlobal)) -> Result<()> {
+/// Runs the example.
+pub(crate) fn run(rt: &(impl Print + AllocGlobal)) -> Result<()> {
     let kernel = start(rt.alloc())?;
     keep_book::<Brand>(rt, Blank::new(PARTS), kernel)
-}
-
-fn main(rt: HostRuntime) -> Result<()> {
-    run(&rt)
 }

@@ -1,0 +1,26 @@
+//! The layer as a library: one process without threads, then two threads as processes.
+#![tactic(auto)]
+
+mod one_process;
+mod two_threads;
+
+use anyhow::Result;
+use ux_history::{Book, BookName};
+use ux_objects::MemFile;
+use ux_syntax::entry_text;
+
+/// Prints the history.
+fn print_history<W: BookName>(
+    rt: &(impl Print + AllocGlobal),
+    book: &Book<W, MemFile>,
+) -> Result<()> {
+    for (number, entry) in book.entries().iter().enumerate() {
+        print!(rt; "{}", entry_text(rt.alloc(), number, entry)?)?;
+    }
+    Ok(())
+}
+
+fn main(rt: HostRuntime) -> Result<()> {
+    one_process::run(&rt)?;
+    two_threads::run(&rt)
+}
