@@ -1,7 +1,7 @@
 //! The items of a control buffer.
 ghost use Rattle.std.specs.Prelude.{◌≡◌, ◌-◌, ◌%◌, drop, option_map};
 ghost use Rattle.std.specs.Int.{w32, w64};
-ghost use Rattle.ux_model.specs.ControlReading.{number_at, cred_in, item_of, item_at};
+ghost use Rattle.ux_model.specs.ControlReading.{number_at, cred_in, item_of, item_behind, item_at};
 ghost use Rattle.ux_cmsg.specs.Items.{item_view};
 
 use ux_types::{Cred, Pid};
@@ -88,14 +88,12 @@ fn behind_padding(len: u64, behind: &[u8]) -> &[u8]
     }
 }
 
-/// The item that stands at the front, if one does, and the bytes from where a next one would stand.
-#[tactic(auto, unfolding(ux_model::specs::ControlReading::item_at, ux_model::specs::ControlReading::item_behind))]
-pub(crate) fn first_item(bytes: &[u8]) -> Option<(Item<'_>, &[u8])>
-    ensures { option_map (λ p. (item_view p.0, p.1.now)) result ≡ item_at bytes.now }
+/// The item whose head has this length, level and type, and whose data stands at the front, if there is one, and
+/// the bytes from where a next one would stand.
+#[tactic(auto, unfolding(ux_model::specs::ControlReading::item_behind))]
+fn item_behind(len: u64, level: u32, kind: u32, rest: &[u8]) -> Option<(Item<'_>, &[u8])>
+    ensures { option_map (λ p. (item_view p.0, p.1.now)) result ≡ item_behind len level kind rest.now }
 {
-    let (len, rest) = u64_at(bytes)?;
-    let (level, rest) = u32_at(rest)?;
-    let (kind, rest) = u32_at(rest)?;
     if level != LEVEL {
         return None;
     }
@@ -103,4 +101,15 @@ pub(crate) fn first_item(bytes: &[u8]) -> Option<(Item<'_>, &[u8])>
     let (payload, behind) = rest.split_at_checked(payload_len as usize)?;
     let item = item_with(kind, payload)?;
     Some((item, behind_padding(len, behind)))
+}
+
+/// The item that stands at the front, if one does, and the bytes from where a next one would stand.
+#[tactic(auto, unfolding(ux_model::specs::ControlReading::item_at))]
+pub(crate) fn first_item(bytes: &[u8]) -> Option<(Item<'_>, &[u8])>
+    ensures { option_map (λ p. (item_view p.0, p.1.now)) result ≡ item_at bytes.now }
+{
+    let (len, rest) = u64_at(bytes)?;
+    let (level, rest) = u32_at(rest)?;
+    let (kind, rest) = u32_at(rest)?;
+    item_behind(len, level, kind, rest)
 }

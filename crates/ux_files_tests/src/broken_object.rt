@@ -66,38 +66,59 @@ impl FileObject for BrokenFile {
     }
 }
 
-/// Reads and writes a broken file as any object, and closes it.
-fn use_broken<O: FileObject>(rt: &impl Abort, mut object: O) {
+/// Reads from the front of an open object.
+fn expect_read<O: FileObject>(rt: &impl Abort, object: &mut O, answer: Result<usize, ObjError>) {
     let mut buf = [7; 4];
+    assert!(rt; object.is_open());
+    assert_eq!(rt; object.read(0, &mut buf), answer);
+}
+
+/// Writes to an open object.
+fn expect_write<O: FileObject>(
+    rt: &impl Abort,
+    object: &mut O,
+    at: u64,
+    bytes: &[u8],
+    answer: Result<usize, ObjError>,
+) {
+    assert!(rt; object.is_open());
+    assert_eq!(rt; object.write(at, bytes), answer);
+}
+
+/// Looks at an empty file after so many failures.
+fn expect_faults<O: FileObject>(rt: &impl Abort, object: &O, faults: u64) {
     assert_eq!(rt; object.kind(), ObjKind::Memory);
     assert_eq!(rt; object.size(), 0);
     assert_eq!(rt; object.ready(), (true, true));
-    assert_eq!(rt; object.faults(), 0);
-    assert!(rt; object.is_open());
-    assert_eq!(rt; object.read(0, &mut buf), Err(ObjError::Io));
-    assert_eq!(rt; object.faults(), 1);
-    assert!(rt; object.is_open());
-    assert_eq!(rt; object.write(0, &buf), Err(ObjError::Io));
-    assert_eq!(rt; object.faults(), 2);
+    assert_eq!(rt; object.faults(), faults);
+}
+
+/// Closes an open object.
+fn expect_close<O: FileObject>(rt: &impl Abort, object: &mut O) {
     assert!(rt; object.is_open());
     object.close();
     assert!(rt; !object.is_open());
-    assert_eq!(rt; object.faults(), 2);
+}
+
+/// Reads and writes a broken file as any object, and closes it.
+fn use_broken<O: FileObject>(rt: &impl Abort, mut object: O) {
+    expect_faults(rt, &object, 0);
+    expect_read(rt, &mut object, Err(ObjError::Io));
+    expect_faults(rt, &object, 1);
+    expect_write(rt, &mut object, 0, &[7; 4], Err(ObjError::Io));
+    expect_faults(rt, &object, 2);
+    expect_close(rt, &mut object);
+    expect_faults(rt, &object, 2);
 }
 
 /// At the greatest count it fails no more, and answers what it can.
 fn use_worn_out<O: FileObject>(rt: &impl Abort, mut object: O) {
-    let mut buf = [7; 4];
-    assert!(rt; object.is_open());
-    assert_eq!(rt; object.faults(), u64::MAX);
-    assert_eq!(rt; object.read(0, &mut buf), Ok(0));
-    assert!(rt; object.is_open());
-    assert_eq!(rt; object.write(0, &[]), Ok(0));
-    assert!(rt; object.is_open());
-    assert_eq!(rt; object.write(LIMIT, &buf), Err(ObjError::Full));
-    assert!(rt; object.is_open());
-    assert_eq!(rt; object.write(0, &buf), Err(ObjError::NoMemory));
-    assert_eq!(rt; object.faults(), u64::MAX);
+    expect_faults(rt, &object, u64::MAX);
+    expect_read(rt, &mut object, Ok(0));
+    expect_write(rt, &mut object, 0, &[], Ok(0));
+    expect_write(rt, &mut object, LIMIT, &[7; 4], Err(ObjError::Full));
+    expect_write(rt, &mut object, 0, &[7; 4], Err(ObjError::NoMemory));
+    expect_faults(rt, &object, u64::MAX);
 }
 
 #[test]
@@ -122,19 +143,20 @@ fn a_box_fails_as_what_is_in_it(rt: HostRuntime) -> Result<(), Fail> {
     Ok(())
 }
 
+/// The errors, and what they are in words.
+const WORDS: &[(ObjError, &str)] = &[
+    (ObjError::WouldBlock, "nothing to read, or no room to write"),
+    (ObjError::Io, "input or output failed"),
+    (ObjError::Full, "the file is too large"),
+    (ObjError::NoMemory, "out of memory"),
+    (ObjError::Invalid, "invalid argument"),
+];
+
 #[test]
 fn errors_are_told_in_words(rt: HostRuntime) -> Result<(), Fail> {
-    let alloc = rt.alloc();
-    let rows = [
-        (ObjError::WouldBlock, "nothing to read, or no room to write"),
-        (ObjError::Io, "input or output failed"),
-        (ObjError::Full, "the file is too large"),
-        (ObjError::NoMemory, "out of memory"),
-        (ObjError::Invalid, "invalid argument"),
-    ];
-    for (error, words) in rows {
-        let text = format!(in alloc; "{error}")?;
-        assert_eq!(rt; text.as_str(), words);
+    for (error, words) in WORDS {
+        let text = format!(in rt.alloc(); "{error}")?;
+        assert_eq!(rt; text.as_str(), *words);
     }
     Ok(())
 }

@@ -49,34 +49,60 @@ fn fill_groups(
     Ok(())
 }
 
+/// How many numbers there are: none, some, and as many as words hold, or one less or more.
+const COUNTS: &[usize] = &[0, 1, 63, 64, 65, 100, 4095, 4096];
+
 #[test]
 fn the_first_clear_number_is_found(rt: HostRuntime) -> Result<(), Fail> {
-    for numbers in [0, 1, 63, 64, 65, 100, 4095, 4096] {
-        let mut marks = Marks::new(rt.alloc(), numbers)?;
-        assert_eq!(rt; marks.numbers(), numbers);
-        fill(&rt, &mut marks, numbers);
+    for numbers in COUNTS {
+        let mut marks = Marks::new(rt.alloc(), *numbers)?;
+        assert_eq!(rt; marks.numbers(), *numbers);
+        fill(&rt, &mut marks, *numbers);
         marks.clear();
-        fill(&rt, &mut marks, numbers);
+        fill(&rt, &mut marks, *numbers);
     }
     Ok(())
 }
+
+/// Where a search begins, and what it finds where 3, 64 and 199 are clear.
+const SEARCHES: &[(usize, Option<usize>)] = &[
+    (0, Some(3)),
+    (3, Some(3)),
+    (4, Some(64)),
+    (65, Some(199)),
+    (200, None),
+];
 
 #[test]
 fn a_search_begins_where_it_is_asked_to(rt: HostRuntime) -> Result<(), Fail> {
     let mut marks = Marks::new(rt.alloc(), 200)?;
     fill(&rt, &mut marks, 200);
-    for number in [3, 64, 199] {
-        put(&rt, &mut marks, number, false);
+    put(&rt, &mut marks, 3, false);
+    put(&rt, &mut marks, 64, false);
+    put(&rt, &mut marks, 199, false);
+    for (from, number) in SEARCHES {
+        assert_eq!(rt; marks.first_clear(*from), *number, "{from}");
     }
-    let rows = [
-        (0, Some(3)),
-        (3, Some(3)),
-        (4, Some(64)),
-        (65, Some(199)),
-        (200, None),
-    ];
-    for (from, number) in rows {
-        assert_eq!(rt; marks.first_clear(from), number, "{from}");
+    Ok(())
+}
+
+/// Marks one number, and then all others of three groups in their order.
+fn fill_around(rt: &impl Abort, marks: &mut GroupedMarks, number: usize) -> Result<(), Fail> {
+    put_in_groups(rt, marks, number, true)?;
+    fill_groups(rt, marks, 0, number)?;
+    fill_groups(rt, marks, number.saturating_add(1), 12288)?;
+    assert_eq!(rt; marks.first_clear(), None);
+    Ok(())
+}
+
+/// Numbers of the last group and on both sides of the end of the first.
+const DOWNWARDS: &[usize] = &[12287, 4096, 4095];
+
+/// Takes marks away, each below the one before.
+fn unmark_downwards(rt: &impl Abort, marks: &mut GroupedMarks) -> Result<(), Fail> {
+    for number in DOWNWARDS {
+        put_in_groups(rt, marks, *number, false)?;
+        assert_eq!(rt; marks.first_clear(), Some(*number));
     }
     Ok(())
 }
@@ -85,15 +111,9 @@ fn a_search_begins_where_it_is_asked_to(rt: HostRuntime) -> Result<(), Fail> {
 fn groups_are_filled_in_turn(rt: HostRuntime) -> Result<(), Fail> {
     let mut marks = GroupedMarks::new(rt.alloc(), 3)?;
     assert_eq!(rt; marks.numbers(), 12288);
-    put_in_groups(&rt, &mut marks, 10000, true)?;
     put_in_groups(&rt, &mut marks, 12287, false)?;
-    fill_groups(&rt, &mut marks, 0, 10000)?;
-    fill_groups(&rt, &mut marks, 10001, 12288)?;
-    assert_eq!(rt; marks.first_clear(), None);
-    for number in [12287, 4096, 4095] {
-        put_in_groups(&rt, &mut marks, number, false)?;
-        assert_eq!(rt; marks.first_clear(), Some(number));
-    }
+    fill_around(&rt, &mut marks, 10000)?;
+    unmark_downwards(&rt, &mut marks)?;
     marks.clear();
     fill_groups(&rt, &mut marks, 0, 12288)?;
     Ok(())

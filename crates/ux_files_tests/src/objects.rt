@@ -155,25 +155,29 @@ fn a_counter_is_read_whole_and_cleared(rt: HostRuntime) {
     close(&rt, counter);
 }
 
+/// The answer of an object from which nothing can be read, or which has no room.
+const BLOCKS: Result<usize, ObjError> = Err(ObjError::WouldBlock);
+
+/// What a counter holds, what is added, the answer, and whether it can be read and added to then.
+const SUMS: &[(u64, u64, Result<usize, ObjError>, (bool, bool))] = &[
+    (0, u64::MAX - 1, Ok(8), (true, false)),
+    (1, u64::MAX - 2, Ok(8), (true, false)),
+    (1, u64::MAX - 3, Ok(8), (true, true)),
+    (1, u64::MAX - 1, BLOCKS, (true, true)),
+    (u64::MAX - 1, 1, BLOCKS, (true, false)),
+    (u64::MAX - 1, 0, Ok(8), (true, false)),
+    (u64::MAX - 2, 1, Ok(8), (true, false)),
+    (u64::MAX - 2, 2, BLOCKS, (true, true)),
+    (0, u64::MAX, Err(ObjError::Invalid), (false, true)),
+];
+
 #[test]
 fn a_counter_reaches_its_greatest_value(rt: HostRuntime) {
-    let blocks = Err(ObjError::WouldBlock);
-    let rows = [
-        (0, u64::MAX - 1, Ok(8), (true, false)),
-        (1, u64::MAX - 2, Ok(8), (true, false)),
-        (1, u64::MAX - 3, Ok(8), (true, true)),
-        (1, u64::MAX - 1, blocks, (true, true)),
-        (u64::MAX - 1, 1, blocks, (true, false)),
-        (u64::MAX - 1, 0, Ok(8), (true, false)),
-        (u64::MAX - 2, 1, Ok(8), (true, false)),
-        (u64::MAX - 2, 2, blocks, (true, true)),
-        (0, u64::MAX, Err(ObjError::Invalid), (false, true)),
-    ];
-    for (first, addend, answer, ready) in rows {
+    for (first, addend, answer, ready) in SUMS {
         let mut counter = Counter::new();
         write(&rt, &mut counter, 0, &first.to_le_bytes(), Ok(8));
-        write(&rt, &mut counter, 0, &addend.to_le_bytes(), answer);
-        assert_eq!(rt; counter.ready(), ready, "{first} and {addend}");
+        write(&rt, &mut counter, 0, &addend.to_le_bytes(), *answer);
+        assert_eq!(rt; counter.ready(), *ready, "{first} and {addend}");
     }
 }
 
@@ -218,28 +222,27 @@ fn write_behind(
     Ok(())
 }
 
+/// How much waits in a pipe, how much is written, the answer, and whether room for a small write is left.
+const SMALL_WRITES: &[(usize, usize, Result<usize, ObjError>, bool)] = &[
+    (0, 65536, Ok(65536), false),
+    (0, 65537, Ok(65536), false),
+    (57344, 4096, Ok(4096), true),
+    (61440, 4096, Ok(4096), false),
+    (61441, 4096, BLOCKS, false),
+    (61441, 4097, Ok(4095), false),
+    (61440, 0, Ok(0), true),
+    (65535, 1, Ok(1), false),
+    (65535, 2, BLOCKS, false),
+    (65535, 4097, Ok(1), false),
+    (65536, 1, BLOCKS, false),
+    (65536, 4097, BLOCKS, false),
+    (65536, 0, Ok(0), false),
+];
+
 #[test]
 fn a_small_write_goes_whole_or_not_at_all(rt: HostRuntime) -> Result<(), Fail> {
-    let alloc = rt.alloc();
-    let blocks = Err(ObjError::WouldBlock);
-    // how much waits, how much is written, the answer, and whether room for a small write is left
-    let rows = [
-        (0, 65536, Ok(65536), false),
-        (0, 65537, Ok(65536), false),
-        (57344, 4096, Ok(4096), true),
-        (61440, 4096, Ok(4096), false),
-        (61441, 4096, blocks, false),
-        (61441, 4097, Ok(4095), false),
-        (61440, 0, Ok(0), true),
-        (65535, 1, Ok(1), false),
-        (65535, 2, blocks, false),
-        (65535, 4097, Ok(1), false),
-        (65536, 1, blocks, false),
-        (65536, 4097, blocks, false),
-        (65536, 0, Ok(0), false),
-    ];
-    for (waiting, length, answer, has_room) in rows {
-        write_behind(&rt, alloc, waiting, length, answer, has_room)?;
+    for (waiting, length, answer, has_room) in SMALL_WRITES {
+        write_behind(&rt, rt.alloc(), *waiting, *length, *answer, *has_room)?;
     }
     Ok(())
 }

@@ -5,28 +5,29 @@ use std::test::Fail;
 use ux_rights::{Origin, Plan, RefList, SendError, plan_rights};
 use ux_types::{DescriptionId, Errno, Refusal};
 
+/// Rights, control space and free numbers, and then how many are installed and left out. An item's head has 16
+/// bytes and a number 4 (cmsg(3) on a machine with 64 bits).
+const PLANS: &[(usize, usize, usize, usize, usize)] = &[
+    (0, 64, 9, 0, 0),
+    (1, 19, 9, 0, 1),
+    (1, 20, 9, 1, 0),
+    (3, 27, 9, 2, 1),
+    (3, 28, 9, 3, 0),
+    (3, 64, 2, 2, 1),
+    (253, 1028, 1024, 253, 0),
+    (5, usize::MAX, usize::MAX, 5, 0),
+];
+
 #[test]
 fn least_of_rights_space_and_numbers(rt: HostRuntime) {
-    // Rights, control space and free numbers, and then how many are installed and left out. An item's
-    // head has 16 bytes and a number 4 (cmsg(3) on a machine with 64 bits).
-    let cases = [
-        (0, 64, 9, 0, 0),
-        (1, 19, 9, 0, 1),
-        (1, 20, 9, 1, 0),
-        (3, 27, 9, 2, 1),
-        (3, 28, 9, 3, 0),
-        (3, 64, 2, 2, 1),
-        (253, 1028, 1024, 253, 0),
-        (5, usize::MAX, usize::MAX, 5, 0),
-    ];
-    for (count, space, free, install, dropped) in cases {
+    for (count, space, free, install, dropped) in PLANS {
         let wanted = Plan {
-            install,
-            dropped,
-            truncated: dropped > 0,
+            install: *install,
+            dropped: *dropped,
+            truncated: *dropped > 0,
         };
         assert_eq!(rt;
-            plan_rights(count, space, free),
+            plan_rights(*count, *space, *free),
             wanted,
             "{count} {space} {free}"
         );

@@ -102,9 +102,9 @@ fn each_value_without_references_is_taken_out_once(rt: HostRuntime) -> Result<()
     let b = open(&rt, &mut slots, 2)?;
     let c = open(&rt, &mut slots, 4)?;
     let d = open(&rt, &mut slots, 8)?;
-    for id in [c, a, d] {
-        release(&rt, &mut slots, id);
-    }
+    release(&rt, &mut slots, c);
+    release(&rt, &mut slots, a);
+    release(&rt, &mut slots, d);
     assert_eq!(&rt; take_bits(&rt, &mut slots, 3), 13);
     expect(&rt, &slots, b, 2, 1);
     Ok(())

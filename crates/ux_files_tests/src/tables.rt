@@ -135,46 +135,56 @@ fn fill_up(rt: &impl Abort, alloc: Global, limit: u32) -> Result<(), Fail> {
     Ok(())
 }
 
+/// Limits that are asked for, and what they count as.
+const LIMITS: &[(u32, u32)] = &[
+    (0, 1),
+    (1, 1),
+    (2, 2),
+    (1023, 1023),
+    (1024, 1024),
+    (1025, 1024),
+    (u32::MAX, 1024),
+];
+
 #[test]
 fn a_limit_is_between_1_and_1024(rt: HostRuntime) -> Result<(), Fail> {
-    let rows = [
-        (0, 1),
-        (1, 1),
-        (2, 2),
-        (1023, 1023),
-        (1024, 1024),
-        (1025, 1024),
-        (u32::MAX, 1024),
-    ];
-    for (asked, limit) in rows {
-        let table = make_table(rt.alloc(), asked)?;
-        expect_empty(&rt, &table, limit);
+    for (asked, limit) in LIMITS {
+        let table = make_table(rt.alloc(), *asked)?;
+        expect_empty(&rt, &table, *limit);
     }
     Ok(())
 }
 
+/// Limits of tables that are filled: the least, the greatest, and those about a word's end.
+const FILLED: &[u32] = &[1, 2, 63, 64, 65, 128, 1024];
+
 #[test]
 fn the_lowest_free_number_is_taken(rt: HostRuntime) -> Result<(), Fail> {
-    for limit in [1, 2, 63, 64, 65, 128, 1024] {
-        fill_up(&rt, rt.alloc(), limit)?;
+    for limit in FILLED {
+        fill_up(&rt, rt.alloc(), *limit)?;
     }
     Ok(())
 }
+
+/// Numbers that are closed, in this order, and that are open again behind them by rising number.
+const CLOSED: &[u32] = &[900, 64, 63, 999, 130];
+
+const OPENED: &[u32] = &[63, 64, 130, 900, 999, 1000];
 
 #[test]
 fn numbers_that_are_closed_are_found_again(rt: HostRuntime) -> Result<(), Fail> {
     let mut table = make_table(rt.alloc(), 1024)?;
     expect_two(&rt, &table, 0, 1);
     fill(&rt, &mut table, 0, 1000);
-    for number in [900, 64, 63, 999, 130] {
-        close(&rt, &mut table, number, 7, false);
-        close_nothing(&rt, &mut table, number);
+    for number in CLOSED {
+        close(&rt, &mut table, *number, 7, false);
+        close_nothing(&rt, &mut table, *number);
     }
     expect_two(&rt, &table, 63, 64);
     close_nothing(&rt, &mut table, 1001);
     close_nothing(&rt, &mut table, u32::MAX);
-    for number in [63, 64, 130, 900, 999, 1000] {
-        open(&rt, &mut table, number, 7, false);
+    for number in OPENED {
+        open(&rt, &mut table, *number, 7, false);
     }
     table.clear();
     expect_count(&rt, &table, 7, 0);

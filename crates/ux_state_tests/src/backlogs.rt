@@ -55,24 +55,26 @@ fn fill_up<A: Allocator>(rt: &impl Abort, backlog: &mut Backlog<A>) -> u32 {
     1000
 }
 
+/// Limits that are asked for, and what they count as.
+const LIMITS: &[(i32, usize)] = &[
+    (i32::MIN, 1),
+    (-1, 1),
+    (0, 1),
+    (1, 1),
+    (2, 2),
+    (127, 127),
+    (128, 128),
+    (129, 128),
+    (i32::MAX, 128),
+];
+
 #[test]
 fn a_limit_is_between_1_and_128(rt: HostRuntime) {
-    let rows = [
-        (i32::MIN, 1),
-        (-1, 1),
-        (0, 1),
-        (1, 1),
-        (2, 2),
-        (127, 127),
-        (128, 128),
-        (129, 128),
-        (i32::MAX, 128),
-    ];
-    for (asked, limit) in rows {
-        let mut backlog = make_backlog(rt.alloc(), asked);
-        assert_eq!(rt; backlog.limit(), limit, "{asked}");
+    for (asked, limit) in LIMITS {
+        let mut backlog = make_backlog(rt.alloc(), *asked);
+        assert_eq!(rt; backlog.limit(), *limit, "{asked}");
         expect_pending(&rt, &backlog, 0, 0);
-        assert_eq!(rt; fill_up(&rt, &mut backlog) as usize, limit, "{asked}");
+        assert_eq!(rt; fill_up(&rt, &mut backlog) as usize, *limit, "{asked}");
     }
 }
 

@@ -112,6 +112,19 @@ fn a_buffer_is_cut_behind_an_item(rt: HostRuntime) {
     expect_cuts(&rt, rt.alloc(), &RIGHTS_AND_CRED, &[0, 20, 21, 22, 23, 24]);
 }
 
+/// Bytes of an item's length: 0, ones that aren't those of numbers, one past the end, and one that all but wraps.
+const WRONG_LENGTHS: &[(usize, u8)] = &[(0, 0), (0, 21), (0, 22), (0, 23), (0, 28), (7, 0x80)];
+
+/// Bytes of another level, and of types that are none or want other data.
+const WRONG_KINDS: &[(usize, u8)] = &[(8, 0), (8, 2), (11, 1), (12, 0), (12, 2), (12, 3), (15, 1)];
+
+/// Sees that the rights 3 and 4 with each of these bytes at its place are no list of items.
+fn expect_wrong(rt: &impl Abort, alloc: Global, bytes: &[(usize, u8)]) {
+    for (at, byte) in bytes {
+        expect_invalid(rt, alloc, &rights_with(*at, *byte));
+    }
+}
+
 #[test]
 fn what_is_no_list_of_items_is_refused(rt: HostRuntime) {
     let alloc = rt.alloc();
@@ -119,14 +132,8 @@ fn what_is_no_list_of_items_is_refused(rt: HostRuntime) {
     expect_invalid(&rt, alloc, &length_15);
     let cut_short = [20, 0, 0, 0, 0, 0, 0, 0, 1, 0, 0, 0, 1, 0, 0, 0, 3, 0, 0];
     expect_invalid(&rt, alloc, &cut_short);
-    // A length of 0, ones that aren't those of numbers, one past the end, and one that all but wraps.
-    for (at, byte) in [(0, 0), (0, 21), (0, 22), (0, 23), (0, 28), (7, 0x80)] {
-        expect_invalid(&rt, alloc, &rights_with(at, byte));
-    }
-    // Another level, and types that are none or want other data.
-    for (at, byte) in [(8, 0), (8, 2), (11, 1), (12, 0), (12, 2), (12, 3), (15, 1)] {
-        expect_invalid(&rt, alloc, &rights_with(at, byte));
-    }
+    expect_wrong(&rt, alloc, WRONG_LENGTHS);
+    expect_wrong(&rt, alloc, WRONG_KINDS);
     let mut greatest = RIGHTS;
     for at in 0..8 {
         greatest[at] = 0xff;

@@ -144,17 +144,20 @@ fn of_two_faults_one_is_told(rt: HostRuntime) -> Result<(), AllocError> {
     Ok(())
 }
 
+/// The faults of a start, and their numbers.
+const FAULTS: &[(BootFault, u8)] = &[
+    (BootFault::TooManyObjects, 1),
+    (BootFault::TooManyProcesses, 2),
+    (BootFault::NameTwice, 3),
+    (BootFault::ObjectClosed, 4),
+    (BootFault::NoMemory, 5),
+    (BootFault::BadPath, 6),
+];
+
 #[test]
 fn boot_faults_have_their_numbers(rt: HostRuntime) {
-    for (fault, number) in [
-        (BootFault::TooManyObjects, 1),
-        (BootFault::TooManyProcesses, 2),
-        (BootFault::NameTwice, 3),
-        (BootFault::ObjectClosed, 4),
-        (BootFault::NoMemory, 5),
-        (BootFault::BadPath, 6),
-    ] {
-        assert!(rt; fault as u8 == number);
+    for (fault, number) in FAULTS {
+        assert!(rt; *fault as u8 == *number);
     }
 }
 

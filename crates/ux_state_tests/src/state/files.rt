@@ -106,6 +106,9 @@ fn expect_path<O: FileObject>(
     Ok(())
 }
 
+/// Numbers, and whether they are those of processes that live at the start.
+const LIVING: &[(u32, bool)] = &[(0, false), (1, true), (2, true), (3, false)];
+
 #[test]
 fn a_state_starts_as_it_is_wanted(rt: HostRuntime) -> Result<(), Fail> {
     let alloc = rt.alloc();
@@ -113,8 +116,8 @@ fn a_state_starts_as_it_is_wanted(rt: HostRuntime) -> Result<(), Fail> {
     let s = &mut held.state;
     assert!(rt; s.process_count() == 2);
     assert!(rt; s.has_live());
-    for (pid, live) in [(0, false), (1, true), (2, true), (3, false)] {
-        assert!(rt; s.is_live(Pid(pid)) == live, "{pid}");
+    for (pid, live) in LIVING {
+        assert!(rt; s.is_live(Pid(*pid)) == *live, "{pid}");
     }
     expect_path(&rt, alloc, s, b"a", Some(PathTarget::File(0)))?;
     expect_path(&rt, alloc, s, b"b", Some(PathTarget::File(1)))?;
