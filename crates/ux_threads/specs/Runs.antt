@@ -1,44 +1,13 @@
--- Which histories are runs of a script by threads.
-use Rattle.std.specs.Prelude.{◌≡◌, ◌≤◌, ◌⊎◌, ℕ, zero, suc, ◌==◌, List, [], ◌∷◌, ◌++◌, length, map, filter, Option, if◌then◌else◌}
+-- What a run of a script by threads may have written where it failed.
+use Rattle.std.specs.Prelude.{◌⊎◌, ℕ, List, Option}
 use Rattle.std.specs.Io.KnownBytes.{Keeps}
-use Rattle.ux_model.specs.Types.{Request, Entry}
+use Rattle.ux_model.specs.Types.{Entry}
 use Rattle.ux_model.specs.State.{State}
-use Rattle.ux_model.specs.History.{IsLegal}
-use Rattle.ux_syntax.specs.declared.script.Act.{Act}
-use Rattle.ux_syntax.specs.declared.script.Line.{Line}
 use Rattle.ux_syntax.specs.Spelling.{Plan}
-use Rattle.ux_syntax.specs.Turns.{has_exited}
 use Rattle.ux_syntax.specs.Trace.{trace}
 use Rattle.ux_script.specs.Writes.{AppendsBeginning}
+use Rattle.ux_compare.specs.Runs.{Runs}
 
--- what a process asked for, in order
-abbrev pub requests_of : ℕ → List Entry → List Request
-requests_of p entries = map (λ e. e.request) (filter (λ e. e.pid.0 == p) entries)
-
--- what a line asks for, before these calls; a wait is none
-abbrev pub called : Act → List Request → List Request
-called (Act.Call request) more = request ∷ more
-called (Act.Wait pid calls) more = more
-
--- the calls of a process's lines, in order
-abbrev pub asked : ℕ → List Line → List Request
-asked p [] = []
-asked p (l ∷ ls) = if l.pid.0 == p then called l.act (asked p ls) else asked p ls
-
--- what follows them: the exit of a process that has no line for it, and of nobody the end of the layer, where the script has it
-abbrev pub ending : Plan → ℕ → List Request
-ending s zero = if s.off then Request.Off ∷ [] else []
-ending s (suc p) = if has_exited s.lines (suc p) then [] else Request.Exit ∷ []
-
--- the calls of a process, in order
-abbrev pub turns : Plan → ℕ → List Request
-turns s p = asked p s.lines ++ ending s p
-
--- a legal history from this state, in which each process makes the script's calls for it, in order and no others
-pub record Runs (boot : State) (s : Plan) (entries : List Entry) : Type 0 where
-  pub legal : IsLegal boot entries
-  pub calls : (p : ℕ) → p ≤ length s.procs → requests_of p entries ≡ turns s p
-
--- nothing was written, or a beginning of the trace of such a history
+-- nothing was written, or a beginning of the trace of a history that is such a run
 abbrev pub WritesBeginning : State → Plan → Option (List ℕ) → Option (List ℕ) → Type 0
 WritesBeginning boot s old new = Keeps old new ⊎ ((entries : List Entry) × Runs boot s entries × AppendsBeginning old new (trace entries))

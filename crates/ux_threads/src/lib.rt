@@ -1,7 +1,6 @@
 //! Runs a script with a thread for each process, and writes the trace of its history.
 #![tactic(auto)]
 
-mod check;
 mod gate;
 mod run;
 mod work;

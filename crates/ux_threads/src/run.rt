@@ -1,30 +1,30 @@
 //! A run of a script by threads, from its kernel to its trace.
-ghost use Rattle.std.specs.Prelude.{◌≡◌, ◌≤◌, ◌⊎◌, ℕ, true, length, map, IfOk, IfErr, OnErr};
+ghost use Rattle.std.specs.Prelude.{◌≡◌, ◌≤◌, ◌⊎◌, ℕ, length, map, IfOk, IfErr, OnErr};
 ghost use Rattle.std.specs.Io.KnownBytes.{Appends};
 ghost use Rattle.ux_model.specs.Boot.{IsBootState, new_process};
 ghost use Rattle.ux_model.specs.History.{IsLegal};
-ghost use Rattle.ux_model.specs.Limits.{process_limit};
 ghost use Rattle.ux_syntax.specs.Spelling.{plan_of};
 ghost use Rattle.ux_syntax.specs.Trace.{trace};
 ghost use Rattle.ux_script.specs.Runs.{IsRunFault};
-ghost use Rattle.ux_threads.specs.Runs.{requests_of, turns, Runs, WritesBeginning};
+ghost use Rattle.ux_compare.specs.Runs.{requests_of, turns, Runs};
+ghost use Rattle.ux_threads.specs.Runs.{WritesBeginning};
 
-use crate::check::is_of;
 use crate::gate::Gate;
 use crate::work::{Done, work_all};
-use std::alloc::{AllocError, Global};
+use std::alloc::Global;
 use std::io::Write;
 use std::marker::Brand;
 use std::sync::Wait;
 use std::sync::ledger::Blank;
 use std::thread::Threads;
-use ux_history::{Book, BookName, CallFault, PARTS, Receipt, Spent};
+use ux_compare::compare;
+use ux_history::{BookName, CallFault, PARTS, Receipt, Spent};
 use ux_kernel::Kernel;
-use ux_layer::{Layer, start};
+use ux_layer::start;
 use ux_object::FileObject;
 use ux_script::tell;
 use ux_syntax::{Script, ScriptFault};
-use ux_types::{Entry, Reply, Request};
+use ux_types::Entry;
 
 /// Runs the script on a kernel that has just started with its processes, one thread for each, and writes the
 /// trace. Each process makes its lines in their order, by calls that wait where they have to, and exits; then
@@ -121,88 +121,4 @@ fn gather<W: BookName>(
         }
     }
     Ok((spents, receipts))
-}
-
-/// The history, where it has each receipt and is the script's.
-fn compare<W: BookName, O: FileObject, R: Wait>(
-    rt: &R,
-    alloc: Global,
-    script: &Script,
-    layer: &Layer<W, O>,
-    receipts: &[Vec<Receipt<W>>],
-    count: usize,
-) -> Result<Vec<Entry>, ScriptFault>
-    requires count { count ≡ length script.now.procs.items }
-    requires few { count ≤ process_limit }
-    ensures runs { IfOk result (λ entries. Runs W.boot (plan_of script.now) entries.items) }
-    ensures fault { IfErr result (λ f. (f ≡ ScriptFault.NoMemory) ⊎ (f ≡ ScriptFault.Stranger)) }
-{
-    let guard = layer.book(rt);
-    let book = guard.book();
-    if !all_held(book, receipts) || !is_run(book, script, count) {
-        return Err(ScriptFault::Stranger);
-    }
-    match copy_all(alloc, book.entries()) {
-        Ok(entries) => Ok(entries),
-        Err(_) => Err(ScriptFault::NoMemory),
-    }
-}
-
-/// A copy of a history.
-fn copy_all(alloc: Global, entries: &[Entry]) -> Result<Vec<Entry>, AllocError>
-    ensures { IfOk result (λ copy. copy.items ≡ entries.now) }
-{
-    let mut copy = Vec::with_capacity(alloc, entries.len())?;
-    let mut left = entries;
-    while let Some((entry, more)) = left.split_first() {
-        copy.push(copy_of(entry)?)?;
-        left = more;
-    }
-    Ok(copy)
-}
-
-/// A copy of an entry.
-fn copy_of(entry: &Entry) -> Result<Entry, AllocError>
-    ensures { IfOk result (λ copy. copy ≡ entry.now) }
-{
-    let request = copy_request(&entry.request)?;
-    let reply = copy_reply(&entry.reply)?;
-    let released = entry.released.clone()?;
-    Ok(Entry {
-        pid: entry.pid,
-        k: entry.k,
-        request,
-        reply,
-        released,
-    })
-}
-
-/// A copy of a request.
-fn copy_request(request: &Request) -> Result<Request, AllocError>
-    ensures { IfOk result (λ copy. copy ≡ request.now) }
-{
-    request.clone()
-}
-
-/// A copy of a reply.
-fn copy_reply(reply: &Reply) -> Result<Reply, AllocError>
-    ensures { IfOk result (λ copy. copy ≡ reply.now) }
-{
-    reply.clone()
-}
-
-/// Whether the history is the script's.
-fn is_run<W: BookName, O: FileObject>(book: &Book<W, O>, script: &Script, count: usize) -> bool
-    requires count { count ≡ length script.now.procs.items }
-    requires few { count ≤ process_limit }
-    ensures { result ≡ true → Runs W.boot (plan_of script.now) book.now.entries }
-{
-    is_of(script, book.entries(), count)
-}
-
-/// Whether the book has each receipt's entry at its number.
-fn all_held<W: BookName, O: FileObject>(book: &Book<W, O>, receipts: &[Vec<Receipt<W>>]) -> bool {
-    receipts
-        .iter()
-        .all(|theirs| theirs.iter().all(|receipt| book.holds(receipt)))
 }

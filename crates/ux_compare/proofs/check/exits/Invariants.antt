@@ -1,6 +1,6 @@
 use Rattle.std.proofs.Common.{◌≡◌, length}
 use Rattle.ux_syntax.specs.Turns.{has_exited}
-use Rattle.ux_threads.proofs.check.exits.Given as goal
+use Rattle.ux_compare.proofs.check.exits.Given as goal
 
 abbrev pub invariant-loop-line : goal.invariant-loop-line
 invariant-loop-line l = has_exited l.lines l.pid ≡ has_exited l.left l.pid

@@ -3,7 +3,7 @@ ghost use Rattle.std.specs.Prelude.{◌≡◌, ◌++◌, ◌∷◌, ◌≤◌, �
 ghost use Rattle.ux_model.specs.Limits.{process_limit};
 ghost use Rattle.ux_syntax.specs.Spelling.{plan_of, asks_exit};
 ghost use Rattle.ux_syntax.specs.Turns.{has_exited};
-ghost use Rattle.ux_threads.specs.Runs.{requests_of, asked, ending, turns};
+ghost use Rattle.ux_compare.specs.Runs.{requests_of, asked, ending, turns};
 
 use ux_syntax::{Act, Line, Script};
 use ux_types::{Entry, Request};
