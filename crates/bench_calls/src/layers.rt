@@ -2,15 +2,15 @@
 ghost use Rattle.std.specs.Prelude.{◌≡◌, IfOk};
 ghost use Rattle.ux_model.specs.Boot.{IsBootState};
 
+use crate::rows::{FILE, PAIR_AND_CLOSES, Requests, Row, named};
 use anyhow::{Result, anyhow};
-use bstr::BString;
-use std::alloc::{AllocError, Global};
+use std::alloc::Global;
 use std::sync::ledger::Blank;
 use ux_history::{Book, BookName, Share, is_last};
 use ux_kernel::Kernel;
 use ux_objects::MemFile;
 use ux_state::RetiredList;
-use ux_types::{Addr, Fd, Mode, Name, OpenFlags, Pid, ProcSpec, Reply, Request, SockType};
+use ux_types::{Name, Pid, ProcSpec, Reply, Request, SockType};
 
 /// A user's process with the greatest table.
 const PROCESS: ProcSpec = ProcSpec {
@@ -29,12 +29,6 @@ const CONTENTS: [u8; 64] = [120; 64];
 
 /// The process whose calls are measured.
 pub(crate) const CALLER: Pid = Pid(1);
-
-/// A socket at the lowest free number.
-pub(crate) const SOCKET: Request = Request::Socket {
-    kind: SockType::Stream,
-    flags: OpenFlags(0),
-};
 
 /// Where calls are made.
 pub(crate) trait Layer {
@@ -83,29 +77,10 @@ impl<W: BookName> Drop for Recorded<W> {
     }
 }
 
-/// The path of the file.
-fn path(alloc: Global) -> Result<Name, AllocError> {
-    named(alloc, b"file")
-}
-
-/// A name of these bytes.
-pub(crate) fn named(alloc: Global, bytes: &[u8]) -> Result<Name, AllocError> {
-    Ok(Name::new(BString::from_slice(alloc, bytes)?))
-}
-
-/// A request that opens the file.
-pub(crate) fn opening(alloc: Global) -> Result<Request, AllocError> {
-    Ok(Request::Open {
-        path: path(alloc)?,
-        mode: Mode::Both,
-        flags: OpenFlags(0),
-    })
-}
-
 /// The file that a kernel starts with.
 fn file(alloc: Global) -> Result<Vec<(Name, MemFile)>> {
     let file = MemFile::new(alloc, &CONTENTS)?;
-    Ok(vec![in alloc; (path(alloc)?, file)]?)
+    Ok(vec![in alloc; (named(alloc, FILE)?, file)]?)
 }
 
 /// A kernel with one file and so many processes.
@@ -154,9 +129,11 @@ impl<W: BookName> Recorded<W> {
     }
 }
 
-/// Whether a reply tells no refusal.
-pub(crate) fn is_granted(reply: &Reply) -> bool {
-    !matches!(reply, Reply::Err(_))
+/// Drops a reply, and answers whether it tells no refusal.
+pub(crate) fn is_granted(reply: Reply) -> bool {
+    let refused = matches!(&reply, Reply::Err(_));
+    drop(reply);
+    !refused
 }
 
 impl Layer for Stepped {
@@ -167,7 +144,7 @@ impl Layer for Stepped {
         let tag = self.tag;
         self.tag = tag.wrapping_add(1);
         self.retired.clear();
-        is_granted(&self.kernel.step(pid, tag, request, &mut self.retired))
+        is_granted(self.kernel.step(pid, tag, request, &mut self.retired))
     }
 }
 
@@ -182,65 +159,54 @@ impl<W: BookName> Layer for Recorded<W> {
         self.retired.clear();
         match self.book.record(share, request, &mut self.retired) {
             Ok(recorded) => {
-                let granted = is_granted(&recorded.reply);
-                drop(recorded);
-                granted
+                drop(recorded.receipt);
+                is_granted(recorded.reply)
             }
             Err(_) => false,
         }
     }
 }
 
-/// Makes a call that must be granted.
-pub(crate) fn must<L: Layer>(layer: &mut L, pid: Pid, request: &Request) -> Result<()> {
-    if layer.ask(pid, request) {
-        return Ok(());
+/// Makes these calls, each of which must be granted.
+pub(crate) fn must_all<L: Layer>(layer: &mut L, pid: Pid, requests: &[Request]) -> Result<()> {
+    for request in requests {
+        if !layer.ask(pid, request) {
+            return Err(anyhow!("a call was refused"));
+        }
     }
-    Err(anyhow!("a call was refused"))
+    Ok(())
 }
 
-/// Makes a call that must be granted, and drops it.
-fn must_once<L: Layer>(layer: &mut L, pid: Pid, request: Request) -> Result<()> {
-    let made = must(layer, pid, &request);
-    drop(request);
-    made
+/// Makes the calls of these rows, each of which must be granted.
+pub(crate) fn must<L: Layer>(alloc: Global, layer: &mut L, pid: Pid, rows: &[Row]) -> Result<()> {
+    let calls = Requests::of(alloc, rows)?;
+    must_all(layer, pid, calls.as_slice())
 }
 
 /// Opens the file in each process, with so many descriptors of it in all.
 pub(crate) fn fill<L: Layer>(alloc: Global, layer: &mut L, open: u32) -> Result<()> {
-    must_once(layer, CALLER, opening(alloc)?)?;
+    must(alloc, layer, CALLER, &[Row::Open])?;
     for pid in 2..=5 {
-        must_once(layer, Pid(pid), opening(alloc)?)?;
-        copy_first(layer, Pid(pid), open / 4)?;
+        must(alloc, layer, Pid(pid), &[Row::Open])?;
+        copy_first(alloc, layer, Pid(pid), open / 4)?;
     }
     Ok(())
 }
 
 /// Copies the first descriptor of a process, until it has so many.
-fn copy_first<L: Layer>(layer: &mut L, pid: Pid, open: u32) -> Result<()> {
+fn copy_first<L: Layer>(alloc: Global, layer: &mut L, pid: Pid, open: u32) -> Result<()> {
     for _ in 1..open {
-        must_once(layer, pid, Request::Dup { fd: Fd(0) })?;
+        must(alloc, layer, pid, &[Row::Dup(0)])?;
     }
     Ok(())
 }
 
 /// Makes so many descriptions of sockets, and closes them.
-pub(crate) fn make_before<L: Layer>(layer: &mut L, made: u32) -> Result<()> {
+pub(crate) fn make_before<L: Layer>(alloc: Global, layer: &mut L, made: u32) -> Result<()> {
     for _ in 0..made / 2 {
-        make_pair(layer)?;
+        must(alloc, layer, CALLER, PAIR_AND_CLOSES)?;
     }
     Ok(())
-}
-
-/// Makes a pair, and closes it.
-fn make_pair<L: Layer>(layer: &mut L) -> Result<()> {
-    let pair = Request::SocketPair {
-        kind: SockType::Stream,
-        flags: OpenFlags(0),
-    };
-    must_once(layer, CALLER, pair)?;
-    must_once(layer, CALLER, Request::Close { fd: Fd(1) })?;
-    must_once(layer, CALLER, Request::Close { fd: Fd(2) })
 }
 
 /// Puts so many names in use: half of them are paths whose sockets have gone, half are abstract names of
@@ -255,25 +221,22 @@ pub(crate) fn hold_names<L: Layer>(alloc: Global, layer: &mut L, names: u32) -> 
 /// Puts so many names of each kind in use by a process.
 fn hold_in<L: Layer>(alloc: Global, layer: &mut L, pid: Pid, names: u32) -> Result<()> {
     for number in 0..names {
-        let text = format!(in alloc; "{}.{number}", pid.0)?;
-        bind_path(layer, pid, Fd(number), named(alloc, text.as_bytes())?)?;
-        listen_at(layer, pid, Fd(number), named(alloc, text.as_bytes())?)?;
+        let name = format!(in alloc; "{}.{number}", pid.0)?;
+        hold(alloc, layer, pid, number, name.as_bytes())?;
     }
     Ok(())
 }
 
-/// Makes a socket at the lowest free number, which is this one, binds it to a path and closes it.
-fn bind_path<L: Layer>(layer: &mut L, pid: Pid, fd: Fd, path: Name) -> Result<()> {
-    must_once(layer, pid, SOCKET)?;
-    let addr = Addr::Path(path);
-    must_once(layer, pid, Request::Bind { fd, addr })?;
-    must_once(layer, pid, Request::Close { fd })
-}
-
-/// Makes a socket there, which listens by this abstract name, and stays.
-fn listen_at<L: Layer>(layer: &mut L, pid: Pid, fd: Fd, name: Name) -> Result<()> {
-    must_once(layer, pid, SOCKET)?;
-    let addr = Addr::Abstract(name);
-    must_once(layer, pid, Request::Bind { fd, addr })?;
-    must_once(layer, pid, Request::Listen { fd, backlog: 4 })
+/// Makes a socket at the lowest free number, which is this one, binds it to this path and closes it; then one
+/// there that listens by this abstract name, and stays.
+fn hold<L: Layer>(alloc: Global, layer: &mut L, pid: Pid, number: u32, name: &[u8]) -> Result<()> {
+    let rows = [
+        Row::Socket(SockType::Stream),
+        Row::BindPath(number, name),
+        Row::Close(number),
+        Row::Socket(SockType::Stream),
+        Row::Bind(number, name),
+        Row::Listen(number, 4),
+    ];
+    must(alloc, layer, pid, &rows)
 }

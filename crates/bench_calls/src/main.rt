@@ -6,135 +6,92 @@
 mod alone;
 mod calls;
 mod layers;
+mod rows;
 mod seats;
 mod together;
 
 ghost use Rattle.std.specs.Prelude.{◌≡◌};
 ghost use Rattle.ux_model.specs.Boot.{IsBootState};
 
-use crate::alone::{measure_alone, measure_seats};
+use crate::alone::{measure_alone, time_apart};
 use crate::calls::{measure, measure_connection};
 use crate::layers::{Layer, PROCESSES, Recorded, Stepped, boot, fill, hold_names, make_before};
-use crate::together::measure_turns;
-use anyhow::Result;
+use crate::seats::{TURNS, each};
+use crate::together::time_in_turns;
+use anyhow::{Result, anyhow};
 use std::alloc::Global;
 use std::marker::Brand;
 use std::rt::Clock;
 use std::sync::Wait;
 use std::sync::ledger::Blank;
 use std::thread::Threads;
+use std::time::Duration;
 use ux_history::{BookName, PARTS};
 use ux_kernel::Kernel;
+use ux_layer::start;
 use ux_objects::MemFile;
 
-/// Measures a kernel alone, with so many descriptors open, after so many descriptions of sockets were
-/// made and closed.
-fn measure_kernel<R: Clock + Eprint>(rt: &R, alloc: Global, open: u32, made: u32) -> Result<()> {
-    let mut layer = Stepped::new(alloc)?;
-    fill(alloc, &mut layer, open)?;
-    make_before(&mut layer, made)?;
-    measure(rt, alloc, "step", &mut layer)
+/// What is measured on a layer that isn't shared.
+#[derive(Clone, Copy)]
+enum Measured {
+    /// Each kind of call, with so many descriptors open, after so many descriptions of sockets were made and
+    /// closed.
+    Calls { open: u32, made: u32 },
+    /// Connections by this title, with so many names in use.
+    Connections { names: u32, title: &'static str },
+    /// An exchange of one byte.
+    Exchange,
 }
 
-/// Measures a book likewise. It has half as many more entries as descriptions were made.
-fn measure_book<R: Clock + Eprint>(rt: &R, alloc: Global, open: u32, made: u32) -> Result<()> {
-    let kernel = boot(alloc, PROCESSES)?;
-    measure_named::<Brand, R>(rt, alloc, Blank::new(PARTS), kernel, open, made)
-}
+/// Connections with few and with many names in use.
+const CONNECTIONS: [Measured; 3] = [
+    Measured::Connections {
+        names: 10,
+        title: "socket, connect, accept, two closes, 10 names",
+    },
+    Measured::Connections {
+        names: 1000,
+        title: "socket, connect, accept, two closes, 1,000 names",
+    },
+    Measured::Connections {
+        names: 10_000,
+        title: "socket, connect, accept, two closes, 10,000 names",
+    },
+];
 
-/// So, under a name that lives in here.
-fn measure_named<W: BookName, R: Clock + Eprint>(
+/// Brings a layer to where this is measured, and measures it.
+fn measure_on<R: Clock + Eprint, L: Layer>(
     rt: &R,
     alloc: Global,
-    blank: Blank,
-    kernel: Kernel<MemFile>,
-    open: u32,
-    made: u32,
-) -> Result<()>
-    requires name { blank.name ≡ W.name }
-    requires parts { (blank.parts ≡ W.parts) × (blank.parts ≡ 1024) }
-    requires boots { IsBootState kernel }
-    requires named { kernel ≡ W.boot }
-{
-    let mut layer = Recorded::<W>::new(alloc, blank, kernel)?;
-    fill(alloc, &mut layer, open)?;
-    make_before(&mut layer, made)?;
-    measure(rt, alloc, "record", &mut layer)
-}
-
-/// How many names are in use.
-#[derive(Clone, Copy, Drop)]
-enum Names {
-    Ten,
-    Thousand,
-    TenThousand,
-}
-
-const ALL_NAMES: [Names; 3] = [Names::Ten, Names::Thousand, Names::TenThousand];
-
-impl Names {
-    fn count(self) -> u32 {
-        match self {
-            Names::Ten => 10,
-            Names::Thousand => 1000,
-            Names::TenThousand => 10_000,
+    what: &str,
+    layer: &mut L,
+    measured: Measured,
+) -> Result<()> {
+    match measured {
+        Measured::Calls { open, made } => {
+            fill(alloc, layer, open)?;
+            make_before(alloc, layer, made)?;
+            measure(rt, alloc, what, layer)
         }
-    }
-
-    /// What the calls are then called.
-    fn title(self) -> &'static str {
-        match self {
-            Names::Ten => "socket, connect, accept, two closes, 10 names",
-            Names::Thousand => "socket, connect, accept, two closes, 1,000 names",
-            Names::TenThousand => "socket, connect, accept, two closes, 10,000 names",
+        Measured::Connections { names, title } => {
+            fill(alloc, layer, 4)?;
+            hold_names(alloc, layer, names)?;
+            measure_connection(rt, alloc, what, layer, title)
         }
+        Measured::Exchange => measure_alone(rt, alloc, what, layer),
     }
 }
 
-/// Opens a few descriptors, and puts so many names in use.
-fn crowd<L: Layer>(alloc: Global, layer: &mut L, names: u32) -> Result<()> {
-    fill(alloc, layer, 4)?;
-    hold_names(alloc, layer, names)
-}
-
-/// Measures connections of a kernel alone, with so many names in use.
-fn connect_kernel<R: Clock + Eprint>(rt: &R, alloc: Global, names: Names) -> Result<()> {
+/// Measures a kernel alone.
+fn by_step<R: Clock + Eprint>(rt: &R, alloc: Global, measured: Measured) -> Result<()> {
     let mut layer = Stepped::new(alloc)?;
-    crowd(alloc, &mut layer, names.count())?;
-    measure_connection(rt, alloc, "step", &mut layer, names.title())
+    measure_on(rt, alloc, "step", &mut layer, measured)
 }
 
-/// Measures those of a book likewise.
-fn connect_book<R: Clock + Eprint>(rt: &R, alloc: Global, names: Names) -> Result<()> {
+/// Measures a book, which has half as many more entries as descriptions were made.
+fn by_record<R: Clock + Eprint>(rt: &R, alloc: Global, measured: Measured) -> Result<()> {
     let kernel = boot(alloc, PROCESSES)?;
-    connect_named::<Brand, R>(rt, alloc, Blank::new(PARTS), kernel, names)
-}
-
-/// So, under a name that lives in here.
-fn connect_named<W: BookName, R: Clock + Eprint>(
-    rt: &R,
-    alloc: Global,
-    blank: Blank,
-    kernel: Kernel<MemFile>,
-    names: Names,
-) -> Result<()>
-    requires name { blank.name ≡ W.name }
-    requires parts { (blank.parts ≡ W.parts) × (blank.parts ≡ 1024) }
-    requires boots { IsBootState kernel }
-    requires named { kernel ≡ W.boot }
-{
-    let mut layer = Recorded::<W>::new(alloc, blank, kernel)?;
-    crowd(alloc, &mut layer, names.count())?;
-    measure_connection(rt, alloc, "record", &mut layer, names.title())
-}
-
-/// How many threads make calls at once.
-const THREADS: [usize; 4] = [1, 2, 4, 8];
-
-/// Measures an exchange of one byte by a book alone.
-fn by_record<R: Clock + Eprint>(rt: &R, alloc: Global) -> Result<()> {
-    let kernel = boot(alloc, PROCESSES)?;
-    record_named::<Brand, R>(rt, alloc, Blank::new(PARTS), kernel)
+    record_named::<Brand, R>(rt, alloc, Blank::new(PARTS), kernel, measured)
 }
 
 /// So, under a name that lives in here.
@@ -143,6 +100,7 @@ fn record_named<W: BookName, R: Clock + Eprint>(
     alloc: Global,
     blank: Blank,
     kernel: Kernel<MemFile>,
+    measured: Measured,
 ) -> Result<()>
     requires name { blank.name ≡ W.name }
     requires parts { (blank.parts ≡ W.parts) × (blank.parts ≡ 1024) }
@@ -150,45 +108,80 @@ fn record_named<W: BookName, R: Clock + Eprint>(
     requires named { kernel ≡ W.boot }
 {
     let mut layer = Recorded::<W>::new(alloc, blank, kernel)?;
-    measure_alone(rt, alloc, "record", &mut layer)
+    measure_on(rt, alloc, "record", &mut layer, measured)
 }
 
-/// Measures it by the seats of so many threads.
-fn by_seats<R: Threads + Wait + Clock + Eprint + AllocGlobal + Sync>(
+/// What threads do.
+#[derive(Clone, Copy)]
+enum Work {
+    /// Each makes exchanges of its own.
+    Apart,
+    /// Two pass one byte to and fro.
+    InTurns,
+}
+
+/// How long the work takes by the seats of so many threads.
+fn by_seats<R: Threads + Wait + Clock + AllocGlobal + Sync>(
     rt: &R,
     threads: usize,
-) -> Result<()> {
+    work: Work,
+) -> Result<Duration> {
     let kernel = boot(rt.alloc(), threads)?;
-    measure_seats::<Brand, R>(rt, Blank::new(PARTS), kernel, threads)
+    seats_named::<Brand, R>(rt, Blank::new(PARTS), kernel, work)
 }
 
-/// Measures one between two threads that wait for one another.
-fn in_turns<R: Threads + Wait + Clock + Eprint + AllocGlobal + Sync>(rt: &R) -> Result<()> {
-    let kernel = boot(rt.alloc(), 2)?;
-    measure_turns::<Brand, R>(rt, Blank::new(PARTS), kernel)
+/// So, under a name that lives in here.
+fn seats_named<W: BookName + Send + Sync, R: Threads + Wait + Clock + AllocGlobal + Sync>(
+    rt: &R,
+    blank: Blank,
+    kernel: Kernel<MemFile>,
+    work: Work,
+) -> Result<Duration>
+    requires name { blank.name ≡ W.name }
+    requires parts { (blank.parts ≡ W.parts) × (blank.parts ≡ 1024) }
+    requires boots { IsBootState kernel }
+    requires named { kernel ≡ W.boot }
+{
+    let Ok((layer, seats)) = start::<W, MemFile, R>(rt, rt.alloc(), blank, kernel) else {
+        return Err(anyhow!("out of memory"));
+    };
+    let time = match work {
+        Work::Apart => time_apart(rt, rt.alloc(), seats),
+        Work::InTurns => time_in_turns(rt, rt.alloc(), &layer, seats),
+    };
+    drop(layer);
+    time
 }
+
+/// How many threads make calls at once.
+const THREADS: [usize; 4] = [1, 2, 4, 8];
 
 /// Measures calls by seats, and the same calls by a book alone.
 fn measure_threads<R: Threads + Wait + Clock + Eprint + AllocGlobal + Sync>(rt: &R) -> Result<()> {
     eprintln!(rt; "threads:")?;
-    by_record(rt, rt.alloc())?;
+    by_record(rt, rt.alloc(), Measured::Exchange)?;
     for threads in THREADS {
-        by_seats(rt, threads)?;
+        let time = by_seats(rt, threads, Work::Apart)?;
+        let time = each(time, (TURNS as usize).saturating_mul(threads));
+        let s = if threads == 1 { "" } else { "s" };
+        eprintln!(rt; "seat: send and receive, 1 byte, {threads} thread{s}: {time} ns")?;
     }
-    in_turns(rt)
+    let time = each(by_seats(rt, 2, Work::InTurns)?, TURNS as usize);
+    eprintln!(rt; "seat: a byte to and fro between two threads: {time} ns")?;
+    Ok(())
 }
 
 /// Measures calls of a kernel and of a book.
 fn measure_layers<R: Clock + Eprint>(rt: &R, alloc: Global) -> Result<()> {
     for (open, made) in [(4, 10), (400, 10), (4000, 10), (4, 1_000_000)] {
         eprintln!(rt; "{open} descriptors open, {made} descriptions made before:")?;
-        measure_kernel(rt, alloc, open, made)?;
-        measure_book(rt, alloc, open, made)?;
+        by_step(rt, alloc, Measured::Calls { open, made })?;
+        by_record(rt, alloc, Measured::Calls { open, made })?;
     }
     eprintln!(rt; "4 descriptors of the file open, and other names in use:")?;
-    for names in ALL_NAMES {
-        connect_kernel(rt, alloc, names)?;
-        connect_book(rt, alloc, names)?;
+    for connections in CONNECTIONS {
+        by_step(rt, alloc, connections)?;
+        by_record(rt, alloc, connections)?;
     }
     Ok(())
 }

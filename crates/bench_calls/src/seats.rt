@@ -1,12 +1,14 @@
 //! Calls by seats, each of which must be granted.
 use crate::layers::is_granted;
+use crate::rows::{Requests, Row};
 use anyhow::{Result, anyhow};
+use std::alloc::Global;
 use std::sync::Wait;
 use std::time::Duration;
 use ux_history::{BookName, is_last};
 use ux_layer::Seat;
 use ux_objects::MemFile;
-use ux_types::{Reply, Request};
+use ux_types::Request;
 
 /// How often each thread makes its calls.
 pub(crate) const TURNS: u32 = 20_000;
@@ -20,63 +22,66 @@ pub(crate) enum Way {
     Blocking,
 }
 
-/// Makes a call.
-pub(crate) fn call<W: BookName, R: Wait>(
-    rt: &R,
-    seat: &mut Seat<W, MemFile>,
+/// A seat, and how it makes calls.
+pub(crate) struct Worker<W: BookName> {
+    seat: Seat<W, MemFile>,
     way: Way,
-    request: &Request,
-) -> Result<()> {
-    if is_last(request) {
-        return Err(anyhow!("an exit isn't measured"));
+}
+
+/// As of a layer that isn't shared.
+impl<W: BookName> Drop for Worker<W> {
+    fn drop(self) {
+        let Worker { seat, way: _ } = self;
+        drop(seat);
     }
-    let made = match way {
-        Way::Call => seat.call(rt, request),
-        Way::Blocking => seat.call_blocking(rt, request),
-    };
-    match made {
-        Ok((reply, receipt)) => {
-            drop(receipt);
-            granted(reply)
+}
+
+impl<W: BookName> Worker<W> {
+    pub(crate) fn new(seat: Seat<W, MemFile>, way: Way) -> Worker<W> {
+        Worker { seat, way }
+    }
+
+    /// Makes a call, and answers whether it was granted.
+    fn call<R: Wait>(&mut self, rt: &R, request: &Request) -> Result<bool> {
+        if is_last(request) {
+            return Ok(false);
         }
-        Err(fault) => Err(anyhow!("{fault}")),
+        let made = match self.way {
+            Way::Call => self.seat.call(rt, request),
+            Way::Blocking => self.seat.call_blocking(rt, request),
+        };
+        match made {
+            Ok((reply, receipt)) => {
+                drop(receipt);
+                Ok(is_granted(reply))
+            }
+            Err(fault) => Err(anyhow!("{fault}")),
+        }
     }
-}
 
-/// Makes these calls.
-pub(crate) fn call_all<W: BookName, R: Wait>(
-    rt: &R,
-    seat: &mut Seat<W, MemFile>,
-    way: Way,
-    requests: &[Request],
-) -> Result<()> {
-    for request in requests {
-        call(rt, seat, way, request)?;
+    /// Makes these calls, each of which must be granted.
+    fn call_all<R: Wait>(&mut self, rt: &R, calls: &[Request]) -> Result<()> {
+        for request in calls {
+            if !self.call(rt, request)? {
+                return Err(anyhow!("a call was refused"));
+            }
+        }
+        Ok(())
     }
-    Ok(())
-}
 
-/// Makes these calls in turn.
-pub(crate) fn repeat<W: BookName, R: Wait>(
-    rt: &R,
-    seat: &mut Seat<W, MemFile>,
-    way: Way,
-    requests: &[Request],
-) -> Result<()> {
-    for _ in 0..TURNS {
-        call_all(rt, seat, way, requests)?;
+    /// Makes the calls of these rows.
+    pub(crate) fn call_rows<R: Wait>(&mut self, rt: &R, alloc: Global, rows: &[Row]) -> Result<()> {
+        let calls = Requests::of(alloc, rows)?;
+        self.call_all(rt, calls.as_slice())
     }
-    Ok(())
-}
 
-/// Drops a reply, which must tell no refusal.
-fn granted(reply: Reply) -> Result<()> {
-    let granted = is_granted(&reply);
-    drop(reply);
-    if granted {
-        return Ok(());
+    /// Makes these calls in turn.
+    pub(crate) fn repeat<R: Wait>(&mut self, rt: &R, calls: &Requests) -> Result<()> {
+        for _ in 0..TURNS {
+            self.call_all(rt, calls.as_slice())?;
+        }
+        Ok(())
     }
-    Err(anyhow!("a call was refused"))
 }
 
 /// What one of so many turns took, in nanoseconds.
