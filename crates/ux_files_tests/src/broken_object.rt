@@ -87,10 +87,8 @@ fn expect_write<O: FileObject>(
 
 /// Looks at an empty file after so many failures.
 fn expect_faults<O: FileObject>(rt: &impl Abort, object: &O, faults: u64) {
-    assert_eq!(rt; object.kind(), ObjKind::Memory);
-    assert_eq!(rt; object.size(), 0);
-    assert_eq!(rt; object.ready(), (true, true));
-    assert_eq!(rt; object.faults(), faults);
+    assert_eq!(rt; (object.kind(), object.size()), (ObjKind::Memory, 0));
+    assert_eq!(rt; (object.ready(), object.faults()), ((true, true), faults));
 }
 
 /// Closes an open object.

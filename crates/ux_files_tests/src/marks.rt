@@ -1,5 +1,6 @@
 //! Marks up to their limits. Each step is a function of its own, so that a test's proof stays short.
 use hoard::Hoard;
+use std::alloc::AllocError;
 use std::process::Abort;
 use std::test::Fail;
 use ux_marks::{GroupedMarks, Marks};
@@ -86,9 +87,10 @@ fn a_search_begins_where_it_is_asked_to(rt: HostRuntime) -> Result<(), Fail> {
     Ok(())
 }
 
-/// Marks one number, and then all others of three groups in their order.
+/// Marks one number of three groups, takes away a mark that the last doesn't have, and marks all others in order.
 fn fill_around(rt: &impl Abort, marks: &mut GroupedMarks, number: usize) -> Result<(), Fail> {
     put_in_groups(rt, marks, number, true)?;
+    put_in_groups(rt, marks, 12287, false)?;
     fill_groups(rt, marks, 0, number)?;
     fill_groups(rt, marks, number.saturating_add(1), 12288)?;
     assert_eq!(rt; marks.first_clear(), None);
@@ -111,12 +113,16 @@ fn unmark_downwards(rt: &impl Abort, marks: &mut GroupedMarks) -> Result<(), Fai
 fn groups_are_filled_in_turn(rt: HostRuntime) -> Result<(), Fail> {
     let mut marks = GroupedMarks::new(rt.alloc(), 3)?;
     assert_eq!(rt; marks.numbers(), 12288);
-    put_in_groups(&rt, &mut marks, 12287, false)?;
     fill_around(&rt, &mut marks, 10000)?;
     unmark_downwards(&rt, &mut marks)?;
     marks.clear();
     fill_groups(&rt, &mut marks, 0, 12288)?;
     Ok(())
+}
+
+/// Whether nothing was made. Of a value of any type its drop is a call, and not each of its parts.
+fn is_refused<T: Drop>(made: Result<T, AllocError>) -> bool {
+    made.is_err()
 }
 
 #[test]
@@ -126,7 +132,7 @@ fn a_refused_group_changes_nothing(rt: HostRuntime) -> Result<(), Fail> {
     assert_eq!(rt; marks.numbers(), 8192);
     let hoard = Hoard::take_all(alloc)?;
     let refused = marks.mark(5000).is_err();
-    let none_is_made = Marks::new(alloc, 1).is_err() && GroupedMarks::new(alloc, 1).is_err();
+    let none_is_made = is_refused(Marks::new(alloc, 1)) && is_refused(GroupedMarks::new(alloc, 1));
     drop(hoard);
     assert!(rt; refused && none_is_made);
     fill_groups(&rt, &mut marks, 0, 8192)?;

@@ -1,6 +1,7 @@
 //! Which of the passed descriptors a receiver gets, and references in order, with memory and without.
 use hoard::Hoard;
 use std::alloc::{AllocError, Global};
+use std::process::Abort;
 use std::test::Fail;
 use ux_rights::{Origin, Plan, RefList, SendError, plan_rights};
 use ux_types::{DescriptionId, Errno, Refusal};
@@ -42,6 +43,18 @@ fn numbers(alloc: Global, list: &RefList) -> Result<Vec<u128>, AllocError> {
     Ok(numbers)
 }
 
+/// Sees that a list has these references.
+fn expect_list(
+    rt: &impl Abort,
+    alloc: Global,
+    list: &RefList,
+    wanted: &[u128],
+) -> Result<(), AllocError> {
+    let found = numbers(alloc, list)?;
+    assert_eq!(rt; found.as_slice(), wanted);
+    Ok(())
+}
+
 #[test]
 fn references_in_order(rt: HostRuntime) -> Result<(), AllocError> {
     let alloc = rt.alloc();
@@ -58,9 +71,9 @@ fn references_in_order(rt: HostRuntime) -> Result<(), AllocError> {
     assert_eq!(rt; list.len(), 0);
     assert_eq!(rt; taken.len(), 6);
     assert!(rt; taken.empty_like().is_empty());
-    for other in [&copy, &taken, &whole] {
-        assert_eq!(rt; numbers(alloc, other)?.as_slice(), sent.as_slice());
-    }
+    expect_list(&rt, alloc, &copy, &sent)?;
+    expect_list(&rt, alloc, &taken, &sent)?;
+    expect_list(&rt, alloc, &whole, &sent)?;
     let origin = Origin { tag: 3, uid: 1000 };
     assert_eq!(rt; (origin.tag, origin.uid), (3, 1000));
     Ok(())
@@ -80,12 +93,8 @@ fn refused_growth_changes_nothing(rt: HostRuntime) -> Result<(), AllocError> {
     let taken = short.take();
     drop(hoard);
     assert!(rt; pushed.is_err() && copied.is_err() && made.is_err());
-    assert_eq!(rt;
-        numbers(alloc, &copied_short?)?.as_slice(),
-        [5, 7, 5, 9].as_slice()
-    );
-    assert_eq!(rt; numbers(alloc, &taken)?.as_slice(), [5, 7, 5, 9].as_slice());
-    Ok(())
+    expect_list(&rt, alloc, &copied_short?, &[5, 7, 5, 9])?;
+    expect_list(&rt, alloc, &taken, &[5, 7, 5, 9])
 }
 
 #[test]

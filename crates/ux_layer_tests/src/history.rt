@@ -181,10 +181,9 @@ fn make_calls<W: BookName>(
     let reply = answer_of(rt, s, Request::Close { fd: Fd(7) }, 1);
     assert_eq!(rt; reply, Reply::Err(Errno::EBADF));
     drop(reply);
-    assert_eq!(rt; s.share.pid(), Pid(1));
-    assert_eq!(rt; s.share.calls(), 2);
-    assert_eq!(rt; s.kept.book.calls_of(Pid(1)), 2);
-    assert_eq!(rt; s.kept.book.entries().len(), 2);
+    assert_eq!(rt; (s.share.pid(), s.share.calls()), (Pid(1), 2));
+    let book = &s.kept.book;
+    assert_eq!(rt; (book.calls_of(Pid(1)), book.entries().len()), (2, 2));
     Ok(())
 }
 
@@ -215,8 +214,7 @@ fn try_calls<W: BookName>(
     assert_eq!(rt; reply, Reply::Fds(Fd(0), Fd(1)));
     drop(reply);
     assert!(rt; would_wait(s, receive(MsgFlags(0))));
-    assert_eq!(rt; s.share.calls(), 1);
-    assert_eq!(rt; s.kept.book.entries().len(), 1);
+    assert_eq!(rt; (s.share.calls(), s.kept.book.entries().len()), (1, 1));
     assert!(rt; !would_wait(s, receive(MsgFlags::DONTWAIT)));
     assert_eq!(rt; s.kept.book.entries().len(), 2);
     let reply = answer_of(rt, s, receive(MsgFlags(0)), 2);

@@ -106,12 +106,11 @@ impl<W: BookName, O: FileObject> Worker<W, O> {
     {
         let called = self.seat.call_blocking(rt, &request);
         drop(request);
-        let (reply, receipt) = called?;
-        let right = is(reply, answer);
-        if self.receipts.push(receipt).is_err() {
-            return Err(Trouble::Memory);
+        let receipt = answered(called, answer)?;
+        match self.receipts.push(receipt) {
+            Ok(()) => Ok(()),
+            Err(_) => Err(Trouble::Memory),
         }
-        if right { Ok(()) } else { Err(Trouble::Wrong) }
     }
 
     /// Exits.
@@ -127,9 +126,17 @@ impl<W: BookName, O: FileObject> Worker<W, O> {
     }
 }
 
-/// Whether a reply is this one.
-fn is(reply: Reply, answer: Reply) -> bool {
-    reply == answer
+/// The receipt of a call that was answered so. Of values of any type a drop is a call, and not each of their kinds.
+fn answered<A: PartialEq + Drop, R: Drop>(
+    called: Result<(A, R), CallFault>,
+    answer: A,
+) -> Result<R, Trouble> {
+    let (reply, receipt) = called?;
+    if reply == answer {
+        Ok(receipt)
+    } else {
+        Err(Trouble::Wrong)
+    }
 }
 
 /// The address of the server.
@@ -372,11 +379,5 @@ fn is_answered<W: BookName, O: FileObject, R: Wait>(
 {
     let called = seat.call(rt, &request);
     drop(request);
-    match called {
-        Ok((reply, receipt)) => {
-            drop(receipt);
-            is(reply, answer)
-        }
-        Err(_) => false,
-    }
+    answered(called, answer).is_ok()
 }

@@ -1,13 +1,13 @@
 //! A description of each kind, and what a socket does with what is sent to it. The helpers promise
 //! nothing, so that the proofs needn't follow a socket through a test.
-use bstr::BString;
+use crate::values::{expect_references, path, references};
 use std::alloc::{AllocError, Global};
 use std::process::Abort;
 use ux_backlog::PushError;
 use ux_desc::{Description, Socket, Target};
 use ux_record::Received;
 use ux_rights::{RefList, SendError};
-use ux_types::{Addr, Cred, DescriptionId, Mode, Name, OpenFlags, Pid, SockType};
+use ux_types::{Addr, Cred, DescriptionId, Mode, OpenFlags, Pid, SockType};
 
 fn user() -> Cred {
     Cred {
@@ -22,10 +22,6 @@ fn pair_end(alloc: Global) -> Socket {
     Socket::pair_end(alloc, SockType::Stream, DescriptionId::new(4), user())
 }
 
-fn rights(alloc: Global, numbers: [u128; 2]) -> Result<RefList, AllocError> {
-    RefList::from_slice(alloc, &numbers.map(DescriptionId::new))
-}
-
 /// Sends, of which so many bytes are taken.
 fn send(rt: &impl Abort, s: &mut Socket, bytes: &[u8], rights: RefList, count: usize) {
     assert!(rt; !bytes.is_empty());
@@ -35,18 +31,10 @@ fn send(rt: &impl Abort, s: &mut Socket, bytes: &[u8], rights: RefList, count: u
     }
 }
 
-/// Sees that these references are there.
-fn expect_rights(rt: &impl Abort, rights: &RefList, numbers: &[u128]) {
-    assert!(rt; rights.len() == numbers.len());
-    for (reference, number) in rights.as_slice().iter().zip(numbers) {
-        assert!(rt; reference.description().number() == *number);
-    }
-}
-
 /// Sees that these references were taken off, of which the user sent all.
 fn expect_skip(rt: &impl Abort, skipped: (RefList, Option<u32>), numbers: &[u128]) {
     let (rights, sender) = skipped;
-    expect_rights(rt, &rights, numbers);
+    expect_references(rt, &rights, numbers);
     assert!(rt; sender == if numbers.is_empty() { None } else { Some(1000) });
 }
 
@@ -56,7 +44,7 @@ fn expect_full(rt: &impl Abort, s: &mut Socket, rights: RefList, numbers: &[u128
         Ok(_) => assert!(rt; false),
         Err(refused) => {
             assert!(rt; refused.error == SendError::Full);
-            expect_rights(rt, &refused.rights, numbers);
+            expect_references(rt, &refused.rights, numbers);
         }
     }
 }
@@ -64,7 +52,7 @@ fn expect_full(rt: &impl Abort, s: &mut Socket, rights: RefList, numbers: &[u128
 /// Sees what a receive gave.
 fn expect(rt: &impl Abort, received: Received, bytes: &[u8], numbers: &[u128]) {
     assert!(rt; received.bytes.as_slice() == bytes);
-    expect_rights(rt, &received.rights, numbers);
+    expect_references(rt, &received.rights, numbers);
 }
 
 /// Takes these bytes with these rights off.
@@ -86,16 +74,11 @@ fn a_file_has_no_socket(rt: HostRuntime) {
     let mut d = Description::of_object(3, Mode::Write, OpenFlags(1));
     d.set_offset(7);
     d.set_reset(true);
-    assert!(rt; d.object() == Some(3));
-    assert!(rt; d.socket().is_none());
-    assert!(rt; d.lost_peer().is_none());
-    assert!(rt; d.offset() == 7);
-    assert!(rt; d.mode() == Mode::Write);
-    assert!(rt; d.append());
-    assert!(rt; !d.nonblock());
+    assert!(rt; d.object() == Some(3) && d.socket().is_none() && d.lost_peer().is_none());
+    assert!(rt; d.offset() == 7 && d.mode() == Mode::Write);
+    assert!(rt; d.append() && !d.nonblock());
     d.set_flags(OpenFlags(2));
-    assert!(rt; !d.append());
-    assert!(rt; d.nonblock());
+    assert!(rt; !d.append() && d.nonblock());
     match d.into_target() {
         Target::Object(o) => assert!(rt; o == 3),
         Target::Socket(_) => assert!(rt; false),
@@ -106,18 +89,15 @@ fn a_file_has_no_socket(rt: HostRuntime) {
 fn a_socket_keeps_what_was_sent(rt: HostRuntime) -> Result<(), AllocError> {
     let alloc = rt.alloc();
     let mut s = pair_end(alloc);
-    assert!(rt; s.peer() == Some(DescriptionId::new(4)));
-    assert!(rt; *s.name() == Addr::Unnamed);
-    assert!(rt; !s.passcred());
-    assert!(rt; s.has_room());
+    assert!(rt; s.peer() == Some(DescriptionId::new(4)) && *s.name() == Addr::Unnamed);
+    assert!(rt; !s.passcred() && s.has_room());
     send(&rt, &mut s, b"abc", RefList::new(alloc), 3);
-    send(&rt, &mut s, b"de", rights(alloc, [9, 7])?, 2);
+    send(&rt, &mut s, b"de", references(alloc, &[9, 7])?, 2);
     take(&rt, &mut s, 2, b"ab", &[])?;
     assert!(rt; !s.is_empty());
     expect(&rt, s.peek(9)?, b"cde", &[9, 7]);
     take(&rt, &mut s, 9, b"cde", &[9, 7])?;
-    assert!(rt; s.is_empty());
-    assert!(rt; s.pop_message().is_none());
+    assert!(rt; s.is_empty() && s.pop_message().is_none());
     Ok(())
 }
 
@@ -126,21 +106,19 @@ fn a_full_socket_gives_rights_back(rt: HostRuntime) -> Result<(), AllocError> {
     let alloc = rt.alloc();
     let mut s = pair_end(alloc);
     let most = vec![in alloc; b'x'; 65535]?;
-    send(&rt, &mut s, &most, rights(alloc, [5, 6])?, 65535);
-    send(&rt, &mut s, b"yz", rights(alloc, [8, 8])?, 1);
-    expect_full(&rt, &mut s, rights(alloc, [1, 2])?, &[1, 2]);
+    send(&rt, &mut s, &most, references(alloc, &[5, 6])?, 65535);
+    send(&rt, &mut s, b"yz", references(alloc, &[8, 8])?, 1);
+    expect_full(&rt, &mut s, references(alloc, &[1, 2])?, &[1, 2]);
     for numbers in [[5, 6], [8, 8]] {
         match s.pop_message() {
             Some((rights, uid)) => {
-                expect_rights(&rt, &rights, &numbers);
+                expect_references(&rt, &rights, &numbers);
                 assert!(rt; uid == 1000);
             }
             None => assert!(rt; false),
         }
     }
-    assert!(rt; s.is_empty());
-    assert!(rt; s.has_room());
-    assert!(rt; s.pop_pending().is_none());
+    assert!(rt; s.is_empty() && s.has_room() && s.pop_pending().is_none());
     Ok(())
 }
 
@@ -148,25 +126,18 @@ fn a_full_socket_gives_rights_back(rt: HostRuntime) -> Result<(), AllocError> {
 fn unread_messages_reset_the_peer(rt: HostRuntime) -> Result<(), AllocError> {
     let alloc = rt.alloc();
     let mut d = Description::of_socket(OpenFlags(0), pair_end(alloc));
-    assert!(rt; d.object().is_none());
-    assert!(rt; d.lost_peer().is_none());
+    assert!(rt; d.object().is_none() && d.lost_peer().is_none());
     let sent = d.send(b"ab", 1, RefList::new(alloc), user(), 1000, None);
     assert!(rt; sent.is_ok_and(|count| count == 2));
     assert!(rt; d.lost_peer() == Some(DescriptionId::new(4)));
     assert!(rt; d.socket().is_some_and(|s| !s.is_empty()));
     expect_skip(&rt, d.skip(2), &[]);
-    assert!(rt; d.socket().is_some_and(|s| s.is_empty()));
-    assert!(rt; d.lost_peer().is_none());
+    assert!(rt; d.socket().is_some_and(|s| s.is_empty()) && d.lost_peer().is_none());
     d.set_reset(true);
     assert!(rt; d.socket().is_some_and(|s| s.reset()));
     d.set_reset(false);
     assert!(rt; d.socket().is_some_and(|s| !s.reset()));
     Ok(())
-}
-
-/// A path with these bytes, as an address.
-fn path(alloc: Global, bytes: &[u8]) -> Result<Addr, AllocError> {
-    Ok(Addr::Path(Name::new(BString::from_slice(alloc, bytes)?)))
 }
 
 /// One more end waits, or the backlog is full.
@@ -179,9 +150,7 @@ fn expect_push(rt: &impl Abort, s: &mut Socket, end: u128, answer: Result<(), Pu
 fn a_listener_keeps_its_ends_when_it_listens_again(rt: HostRuntime) -> Result<(), AllocError> {
     let alloc = rt.alloc();
     let mut s = Socket::new(alloc, SockType::Stream);
-    assert!(rt; s.kind() == SockType::Stream);
-    assert!(rt; s.backlog().is_none());
-    assert!(rt; s.is_unnamed());
+    assert!(rt; s.kind() == SockType::Stream && s.backlog().is_none() && s.is_unnamed());
     s.set_name(path(alloc, b"a")?);
     s.listen(alloc, 2, user());
     expect_push(&rt, &mut s, 8, Ok(()));
@@ -204,8 +173,7 @@ fn a_server_end_shows_its_listeners_name(rt: HostRuntime) -> Result<(), AllocErr
     let mut end = listener.server_end(alloc, DescriptionId::new(7), user())?;
     assert!(rt; *end.name() == path(alloc, b"a")?);
     assert!(rt; end.peer() == Some(DescriptionId::new(7)));
-    assert!(rt; end.is_connected());
-    assert!(rt; end.resets_peer());
+    assert!(rt; end.is_connected() && end.resets_peer());
     end.set_accepted();
     assert!(rt; !end.resets_peer());
     let mut client = Description::of_socket(OpenFlags(0), Socket::new(alloc, SockType::Stream));
@@ -266,7 +234,7 @@ fn sixteen_records_wait(rt: HostRuntime) -> Result<(), AllocError> {
         assert!(rt; sent.is_ok());
     }
     assert!(rt; !s.has_room());
-    expect_full(&rt, &mut s, rights(alloc, [1, 2])?, &[1, 2]);
+    expect_full(&rt, &mut s, references(alloc, &[1, 2])?, &[1, 2]);
     assert!(rt; s.pop_message().is_some());
     assert!(rt; s.has_room());
     Ok(())

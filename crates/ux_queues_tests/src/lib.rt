@@ -7,3 +7,5 @@ mod descriptions;
 mod records;
 #[cfg(test)]
 mod streams;
+#[cfg(test)]
+mod values;

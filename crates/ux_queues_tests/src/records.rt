@@ -1,12 +1,12 @@
 //! A queue of whole messages: taken, peeked at, cut, and with little memory.
-use bstr::BString;
+use crate::values::{expect_references, is_refused, path, references};
 use hoard::Hoard;
 use linked_list_allocator::LocalHeap;
 use std::alloc::{AllocError, Allocator, Global};
 use std::process::Abort;
 use ux_record::{Received, RecordQueue};
 use ux_rights::{Origin, RefList, SendError};
-use ux_types::{Addr, Cred, DescriptionId, Name, Pid};
+use ux_types::{Addr, Cred, Pid};
 
 const CRED: Cred = Cred {
     pid: Pid(4),
@@ -14,62 +14,98 @@ const CRED: Cred = Cred {
     gid: 6,
 };
 
-fn path(alloc: Global, bytes: &[u8]) -> Result<Option<Addr>, AllocError> {
-    let name = Name::new(BString::from_slice(alloc, bytes)?);
-    Ok(Some(Addr::Path(name)))
-}
-
-fn rights(alloc: Global) -> Result<RefList, AllocError> {
-    RefList::from_slice(alloc, &[7, 8, 7].map(DescriptionId::new))
-}
-
-fn assert_rights(rt: &impl Abort, rights: &RefList) {
-    assert_eq!(rt; rights.len(), 3);
-    for (reference, number) in rights.as_slice().iter().zip([7, 8, 7]) {
-        assert_eq!(rt; reference.description().number(), number);
-    }
-}
+/// The numbers of the references that a message has.
+const RIGHTS: &[u128] = &[7, 8, 7];
 
 /// The message of call 9, of which two bytes were asked for.
 fn assert_cut<A: Allocator + Copy>(rt: &impl Abort, received: Received<A>, from: &Option<Addr>) {
     assert_eq!(rt; received.bytes.as_slice(), b"ab".as_slice());
-    assert_eq!(rt; received.whole, 3);
-    assert_rights(rt, &received.rights);
-    assert_eq!(rt; received.origin, Some(Origin { tag: 9, uid: 1000 }));
-    assert_eq!(rt; received.cred, CRED);
+    expect_references(rt, &received.rights, RIGHTS);
+    let origin = Some(Origin { tag: 9, uid: 1000 });
+    assert_eq!(rt;
+        (received.whole, received.origin, received.cred),
+        (3, origin, CRED)
+    );
     assert!(rt; received.from == *from);
 }
 
 /// A message without bytes, rights and a sender's name.
 fn assert_nothing<A: Allocator + Copy>(rt: &impl Abort, received: Received<A>) {
-    assert_eq!(rt; (received.bytes.len(), received.whole), (0, 0));
-    assert_eq!(rt; received.origin, None);
+    assert_eq!(rt;
+        (received.bytes.len(), received.whole, received.origin),
+        (0, 0, None)
+    );
     assert!(rt; received.from.is_none());
+}
+
+/// Sends a message, which is queued.
+fn send<A: Allocator + Copy>(
+    rt: &impl Abort,
+    queue: &mut RecordQueue<A>,
+    bytes: &[u8],
+    tag: u64,
+    rights: RefList,
+    from: Option<Addr>,
+) {
+    let sent = queue.send(bytes, tag, rights, CRED, 1000, from);
+    assert!(rt; sent.is_ok());
+}
+
+/// Peeks at the message of call 9, and takes it.
+fn take_cut<A: Allocator + Copy>(
+    rt: &impl Abort,
+    queue: &mut RecordQueue<A>,
+    from: &Option<Addr>,
+) -> Result<(), AllocError> {
+    assert!(rt; !queue.is_empty());
+    assert_cut(rt, queue.peek(2)?, from);
+    assert_cut(rt, queue.take(2), from);
+    Ok(())
+}
+
+/// Takes two messages without bytes, the second without a look at it.
+fn take_both<A: Allocator + Copy>(rt: &impl Abort, queue: &mut RecordQueue<A>) {
+    assert!(rt; !queue.is_empty());
+    assert_nothing(rt, queue.take(8));
+    match queue.pop_message() {
+        Some((rights, uid)) => assert_eq!(rt; (rights.len(), uid), (0, 1000)),
+        None => assert!(rt; false),
+    }
 }
 
 #[test]
 fn whole_messages_in_order(rt: HostRuntime) -> Result<(), AllocError> {
     let alloc = rt.alloc();
-    let from = path(alloc, b"/a")?;
+    let from = Some(path(alloc, b"/a")?);
     let mut queue = RecordQueue::new(alloc);
-    let sent = queue.send(b"abc", 9, rights(alloc)?, CRED, 1000, from.clone()?);
-    assert!(rt; sent.is_ok());
-    for tag in 10..12_u64 {
-        let sent = queue.send(b"", tag, RefList::new(alloc), CRED, 1000, None);
-        assert!(rt; sent.is_ok());
-    }
+    let rights = references(alloc, RIGHTS)?;
+    send(&rt, &mut queue, b"abc", 9, rights, from.clone()?);
+    send(&rt, &mut queue, b"", 10, RefList::new(alloc), None);
+    send(&rt, &mut queue, b"", 11, RefList::new(alloc), None);
     assert_eq!(rt; queue.len(), 3);
-    assert!(rt; !queue.is_empty());
-    assert_cut(&rt, queue.peek(2)?, &from);
-    assert_cut(&rt, queue.take(2), &from);
-    assert!(rt; !queue.is_empty());
-    assert_nothing(&rt, queue.take(8));
-    match queue.pop_message() {
-        Some((rights, uid)) => assert_eq!(rt; (rights.len(), uid), (0, 1000)),
-        None => assert!(rt; false),
-    }
+    take_cut(&rt, &mut queue, &from)?;
+    take_both(&rt, &mut queue);
     assert!(rt; queue.is_empty());
     assert!(rt; queue.pop_message().is_none());
+    Ok(())
+}
+
+/// Sends a message where the queue is full, which gives it back.
+fn expect_full(
+    rt: &impl Abort,
+    alloc: Global,
+    queue: &mut RecordQueue,
+    from: &Option<Addr>,
+) -> Result<(), AllocError> {
+    let rights = references(alloc, RIGHTS)?;
+    match queue.send(b"y", 16, rights, CRED, 5, from.clone()?) {
+        Ok(()) => assert!(rt; false),
+        Err(refused) => {
+            assert_eq!(rt; refused.error, SendError::Full);
+            expect_references(rt, &refused.rights, RIGHTS);
+            assert!(rt; refused.from == *from);
+        }
+    }
     Ok(())
 }
 
@@ -79,19 +115,11 @@ fn the_seventeenth_is_refused(rt: HostRuntime) -> Result<(), AllocError> {
     let mut queue = RecordQueue::new(alloc);
     for tag in 0..16_u64 {
         assert!(rt; !queue.is_full());
-        let sent = queue.send(b"x", tag, RefList::new(alloc), CRED, 5, None);
-        assert!(rt; sent.is_ok());
+        send(&rt, &mut queue, b"x", tag, RefList::new(alloc), None);
     }
     assert!(rt; queue.is_full());
-    let from = path(alloc, b"/b")?;
-    match queue.send(b"y", 16, rights(alloc)?, CRED, 5, from.clone()?) {
-        Ok(()) => assert!(rt; false),
-        Err(refused) => {
-            assert_eq!(rt; refused.error, SendError::Full);
-            assert_rights(&rt, &refused.rights);
-            assert!(rt; refused.from == from);
-        }
-    }
+    let from = Some(path(alloc, b"/b")?);
+    expect_full(&rt, alloc, &mut queue, &from)?;
     assert_eq!(rt; queue.len(), 16);
     Ok(())
 }
@@ -112,12 +140,12 @@ fn is_queued<A: Allocator + Copy>(
     from: &Option<Addr>,
 ) -> Result<bool, AllocError> {
     let name = from.clone()?;
-    let rights = rights(alloc)?;
+    let rights = references(alloc, RIGHTS)?;
     match queue.send(&[tag; 20], tag as u64, rights, CRED, 5, name) {
         Ok(()) => Ok(true),
         Err(refused) => {
             assert_eq!(rt; refused.error, SendError::NoMemory);
-            assert_rights(rt, &refused.rights);
+            expect_references(rt, &refused.rights, RIGHTS);
             assert!(rt; refused.from == *from);
             Ok(false)
         }
@@ -150,7 +178,7 @@ fn take<A: Allocator + Copy>(
     assert!(rt; !queue.is_empty());
     let received = queue.take(20);
     assert_eq!(rt; received.bytes.as_slice(), [tag; 20].as_slice());
-    assert_rights(rt, &received.rights);
+    expect_references(rt, &received.rights, RIGHTS);
     assert!(rt; received.from == *from);
 }
 
@@ -161,7 +189,7 @@ fn pass<A: Allocator + Copy>(
     queue: &mut RecordQueue<A>,
 ) -> Result<Refusals, AllocError> {
     let mut refusals = Refusals { sends: 0, peeks: 0 };
-    let from = path(alloc, b"/c")?;
+    let from = Some(path(alloc, b"/c")?);
     let mut queued = Vec::new(alloc);
     for tag in 0..12_u8 {
         if is_queued(rt, alloc, queue, tag, &from)? {
@@ -202,26 +230,41 @@ fn refused_allocations_change_nothing(rt: HostRuntime) -> Result<(), AllocError>
     Ok(())
 }
 
+/// Takes a message of one byte, where a copy of it is refused.
+fn take_alone<A: Allocator + Copy>(rt: &impl Abort, queue: &mut RecordQueue<A>) -> Received<A> {
+    assert!(rt; !queue.is_empty());
+    assert!(rt; is_refused(queue.peek(1)));
+    queue.take(1)
+}
+
+/// Sees how many references a message has, and who sent it.
+fn expect_moved<A: Allocator + Copy>(
+    rt: &impl Abort,
+    received: Received<A>,
+    rights: usize,
+    from: &Option<Addr>,
+) {
+    assert_eq!(rt; received.rights.len(), rights);
+    assert!(rt; received.from == *from);
+}
+
 /// The bytes come from a heap of their own, so only the copies of the rights and of the name are refused.
 #[test]
 fn what_cannot_be_copied_moves(rt: HostRuntime) -> Result<(), AllocError> {
     let alloc = rt.alloc();
     let heap = LocalHeap::new(alloc, 4096)?;
     let mut queue = RecordQueue::new(&heap);
-    let long = RefList::from_slice(alloc, &[1, 2, 3, 4, 5].map(DescriptionId::new))?;
-    let first = queue.send(b"a", 1, long, CRED, 5, None);
-    let second = queue.send(b"b", 2, RefList::new(alloc), CRED, 5, path(alloc, b"/c")?);
-    assert!(rt; first.is_ok() && second.is_ok());
+    let from = Some(path(alloc, b"/c")?);
+    let rights = references(alloc, &[1, 2, 3, 4, 5])?;
+    send(&rt, &mut queue, b"a", 1, rights, None);
+    send(&rt, &mut queue, b"b", 2, RefList::new(alloc), from.clone()?);
     assert_eq!(rt; queue.len(), 2);
     let hoard = Hoard::take_all(alloc)?;
-    let first_peek = queue.peek(1);
-    let first = queue.take(1);
-    let second_peek = queue.peek(1);
-    let second = queue.take(1);
+    let first = take_alone(&rt, &mut queue);
+    let second = take_alone(&rt, &mut queue);
     drop(hoard);
-    assert!(rt; first_peek.is_err() && second_peek.is_err());
-    assert_eq!(rt; first.rights.len(), 5);
-    assert!(rt; second.from == path(alloc, b"/c")?);
+    expect_moved(&rt, first, 5, &None);
+    expect_moved(&rt, second, 0, &from);
     Ok(())
 }
 

@@ -3,14 +3,15 @@ ghost use Rattle.std.specs.Prelude.{◌<◌};
 
 mod list_queue;
 
+use crate::values::{expect_references, is_refused, references};
 use hoard::Hoard;
 use linked_list_allocator::LocalHeap;
 use list_queue::{ListFront, ListMessage, ListQueue};
 use std::alloc::{AllocError, Allocator, Global};
 use std::process::Abort;
-use ux_rights::{Origin, RefList, SendError};
+use ux_rights::{Origin, SendError};
 use ux_stream::{Received, StreamQueue};
-use ux_types::{Cred, DescriptionId, Pid};
+use ux_types::{Cred, Pid};
 
 /// Pseudo-random numbers, by a linear congruence (Knuth's MMIX).
 #[derive(Drop)]
@@ -57,26 +58,24 @@ impl Dice {
     }
 }
 
-fn ref_list(alloc: Global, numbers: &[u128]) -> Result<RefList, AllocError> {
-    let mut list = RefList::new(alloc);
-    for number in numbers {
-        list.push(DescriptionId::new(*number))?;
-    }
-    Ok(list)
-}
-
-fn assert_rights(rt: &impl Abort, rights: &RefList, wanted: &[u128]) {
-    assert_eq!(rt; rights.len(), wanted.len());
-    for (reference, number) in rights.as_slice().iter().zip(wanted) {
-        assert_eq!(rt; reference.description().number(), *number);
-    }
-}
-
 fn assert_front<A: Allocator + Copy>(rt: &impl Abort, received: Received<A>, wanted: &ListFront) {
     assert_eq!(rt; received.bytes.as_slice(), wanted.bytes.as_slice());
-    assert_rights(rt, &received.rights, &wanted.rights);
-    assert_eq!(rt; received.origin, wanted.origin);
-    assert_eq!(rt; received.cred, wanted.cred);
+    expect_references(rt, &received.rights, &wanted.rights);
+    assert_eq!(rt;
+        (received.origin, received.cred),
+        (wanted.origin, wanted.cred)
+    );
+}
+
+/// Sees which bytes and references a receive gives.
+fn expect_bytes<A: Allocator + Copy>(
+    rt: &impl Abort,
+    received: Received<A>,
+    bytes: &[u8],
+    numbers: &[u128],
+) {
+    assert_eq!(rt; received.bytes.as_slice(), bytes);
+    expect_references(rt, &received.rights, numbers);
 }
 
 /// Two queues that were treated alike.
@@ -126,7 +125,7 @@ impl<A: Allocator + Copy> Both<A> {
         if m.bytes.is_empty() {
             return Ok(());
         }
-        let rights = ref_list(self.alloc, &m.rights)?;
+        let rights = references(self.alloc, &m.rights)?;
         let Origin { tag, uid } = m.origin;
         match self.queue.send(&m.bytes, room, tag, rights, m.cred, uid) {
             Ok(count) => {
@@ -136,7 +135,7 @@ impl<A: Allocator + Copy> Both<A> {
                 self.list.messages.push_back(m)?;
             }
             Err(refused) => {
-                assert_rights(rt, &refused.rights, &m.rights);
+                expect_references(rt, &refused.rights, &m.rights);
                 assert_eq!(rt; refused.error == SendError::Full, room == 0);
                 if room > 0 {
                     self.refused_sends = self.refused_sends.saturating_add(1);
@@ -148,7 +147,7 @@ impl<A: Allocator + Copy> Both<A> {
 
     fn peek(&mut self, rt: &impl Abort, n: usize, wants_cred: bool) -> Result<(), AllocError> {
         let wanted = self.list.front(n, wants_cred)?;
-        assert_eq!(rt; self.queue.is_empty(), wanted.is_none());
+        assert!(rt; self.queue.is_empty() == wanted.is_none());
         if let Some(wanted) = wanted {
             match self.queue.peek(n, wants_cred) {
                 Ok(received) => assert_front(rt, received, &wanted),
@@ -162,7 +161,7 @@ impl<A: Allocator + Copy> Both<A> {
 
     fn take(&mut self, rt: &impl Abort, n: usize, wants_cred: bool) -> Result<(), AllocError> {
         let wanted = self.list.front(n, wants_cred)?;
-        assert_eq!(rt; self.queue.is_empty(), wanted.is_none());
+        assert!(rt; self.queue.is_empty() == wanted.is_none());
         if let Some(wanted) = wanted {
             match self.queue.take(n, wants_cred) {
                 Ok(received) => {
@@ -179,10 +178,10 @@ impl<A: Allocator + Copy> Both<A> {
 
     fn skip(&mut self, rt: &impl Abort, n: usize, wants_cred: bool) -> Result<(), AllocError> {
         let wanted = self.list.front(n, wants_cred)?;
-        assert_eq!(rt; self.queue.is_empty(), wanted.is_none());
+        assert!(rt; self.queue.is_empty() == wanted.is_none());
         if let Some(wanted) = wanted {
             let (rights, origin) = self.queue.skip(n, wants_cred);
-            assert_rights(rt, &rights, &wanted.rights);
+            expect_references(rt, &rights, &wanted.rights);
             assert_eq!(rt; origin, wanted.origin);
             self.list.drop_front(wanted.bytes.len());
         }
@@ -192,7 +191,7 @@ impl<A: Allocator + Copy> Both<A> {
     fn pop(&mut self, rt: &impl Abort) {
         match (self.queue.pop_message(), self.list.messages.pop_front()) {
             (Some((rights, uid)), Some(m)) => {
-                assert_rights(rt, &rights, &m.rights);
+                expect_references(rt, &rights, &m.rights);
                 assert_eq!(rt; uid, m.origin.uid);
             }
             (popped, m) => assert_eq!(rt; popped.is_none(), m.is_none()),
@@ -209,8 +208,10 @@ impl<A: Allocator + Copy> Both<A> {
             14..=18 => self.skip(rt, n, wants_cred)?,
             _ => self.send(rt, dice.message(self.alloc, tag)?)?,
         }
-        assert_eq!(rt; self.queue.len_bytes(), self.list.len_bytes());
-        assert_eq!(rt; self.queue.is_empty(), self.list.messages.is_empty());
+        assert_eq!(rt;
+            (self.queue.len_bytes(), self.queue.is_empty()),
+            (self.list.len_bytes(), self.list.messages.is_empty())
+        );
         Ok(())
     }
 }
@@ -258,6 +259,16 @@ fn refused_allocations_change_nothing(rt: HostRuntime) -> Result<(), AllocError>
     Ok(())
 }
 
+/// Takes two bytes of a queue, where a copy of the first message is refused.
+fn take_alone<A: Allocator + Copy>(
+    rt: &impl Abort,
+    queue: &mut StreamQueue<A>,
+) -> Result<Received<A>, AllocError> {
+    assert!(rt; !queue.is_empty());
+    assert!(rt; is_refused(queue.peek(2, true)));
+    queue.take(2, true)
+}
+
 /// The bytes come from a heap of their own, so only the copy of the rights is refused.
 #[test]
 fn rights_move_where_they_cannot_be_copied(rt: HostRuntime) -> Result<(), AllocError> {
@@ -270,17 +281,12 @@ fn rights_move_where_they_cannot_be_copied(rt: HostRuntime) -> Result<(), AllocE
         uid: 2,
         gid: 3,
     };
-    let sent = queue.send(b"abc", 9, 7, ref_list(alloc, &numbers)?, cred, 2);
+    let sent = queue.send(b"abc", 9, 7, references(alloc, &numbers)?, cred, 2);
     assert!(rt; sent.is_ok());
-    assert!(rt; !queue.is_empty());
     let hoard = Hoard::take_all(alloc)?;
-    let peeked = queue.peek(2, true);
-    let taken = queue.take(2, true);
+    let taken = take_alone(&rt, &mut queue);
     drop(hoard);
-    assert!(rt; peeked.is_err());
-    let received = taken?;
-    assert_eq!(rt; received.bytes.as_slice(), b"ab".as_slice());
-    assert_rights(&rt, &received.rights, &numbers);
+    expect_bytes(&rt, taken?, b"ab", &numbers);
     assert_eq!(rt; queue.len_bytes(), 1);
     Ok(())
 }

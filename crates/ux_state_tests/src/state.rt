@@ -73,9 +73,9 @@ fn start_with<O: FileObject>(
     assert!(rt; b.is_open());
     let (first, second) = (name(alloc, b"a")?, name(alloc, b"b")?);
     assert!(rt; second != first);
-    let mut objects = Vec::new(alloc);
-    objects.push((first, a))?;
-    objects.push((second, b))?;
+    let mut objects = Vec::with_capacity(alloc, 2)?;
+    objects.push_reserved((first, a));
+    objects.push_reserved((second, b));
     match State::new(alloc, objects, procs) {
         Ok(state) => Ok(Held { state }),
         Err(_) => Err(AllocError)?,

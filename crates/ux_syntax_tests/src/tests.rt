@@ -96,6 +96,12 @@ fn request_in(alloc: Global, call: &str) -> Result<Request, Fail> {
     }
 }
 
+/// What was read, with a value that goes along. It is of any type, so that its drop where nothing was read is a
+/// call, and not each of its kinds.
+fn beside<T, V: Drop>(read: Result<T, Fail>, value: V) -> Result<(T, V), Fail> {
+    Ok((read?, value))
+}
+
 /// Sees what a call of a script asks for.
 fn expect_request(
     rt: &impl Abort,
@@ -103,7 +109,7 @@ fn expect_request(
     call: &str,
     request: Request,
 ) -> Result<(), Fail> {
-    let read = request_in(alloc, call)?;
+    let (read, request) = beside(request_in(alloc, call), request)?;
     assert_eq!(rt; read, request, "{call}");
     Ok(())
 }

@@ -165,11 +165,9 @@ fn a_description_is_changed(rt: HostRuntime) -> Result<(), Fail> {
     s.set_flags(DescriptionId::new(u128::MAX), OpenFlags(1));
     match s.description(id) {
         Some(description) => {
-            assert!(rt; description.object() == Some(1));
-            assert!(rt; description.mode() == Mode::Write);
+            assert!(rt; description.object() == Some(1) && description.mode() == Mode::Write);
             assert!(rt; description.offset() == 7);
-            assert!(rt; description.nonblock());
-            assert!(rt; !description.append());
+            assert!(rt; description.nonblock() && !description.append());
         }
         None => assert!(rt; false),
     }

@@ -16,11 +16,11 @@ fn is_call(line: &Line, pid: u32, request: &Request) -> bool {
 }
 
 /// Sees whose a script's call is, and what it asks for.
-fn expect_call(rt: &impl Abort, script: &Script, index: usize, pid: u32, request: &Request) {
-    let Some(line) = script.lines.get(index) else {
-        panic!(rt; "no line at {index}");
-    };
-    assert!(rt; is_call(line, pid, request), "at {index}");
+fn expect_call(rt: &impl Abort, script: &Script, index: usize, pid: u32, request: Request) {
+    let line = script.lines.get(index);
+    let found = line.is_some_and(|line| is_call(line, pid, &request));
+    drop(request);
+    assert!(rt; found, "at {index}");
 }
 
 /// Sees a script's processes, and how many calls it has.
@@ -53,7 +53,7 @@ fn a_script_is_read(rt: HostRuntime) -> Result<(), Fail> {
         kind: SockType::Stream,
         flags: OpenFlags(7),
     };
-    expect_call(&rt, &script, 0, 1, &pair);
+    expect_call(&rt, &script, 0, 1, pair);
     let send = Request::SendMsg {
         fd: Fd(0),
         addr: None,
@@ -61,16 +61,16 @@ fn a_script_is_read(rt: HostRuntime) -> Result<(), Fail> {
         control: bytes_of(rt.alloc(), b"")?,
         flags: MsgFlags(15),
     };
-    expect_call(&rt, &script, 1, 2, &send);
+    expect_call(&rt, &script, 1, 2, send);
     let receive = Request::RecvMsg {
         fd: Fd(1),
         n: 8,
         space: 24,
         flags: MsgFlags(9),
     };
-    expect_call(&rt, &script, 2, 1, &receive);
-    expect_call(&rt, &script, 3, 1, &Request::Close { fd: Fd(7) });
-    expect_call(&rt, &script, 4, 1, &Request::Exit);
+    expect_call(&rt, &script, 2, 1, receive);
+    expect_call(&rt, &script, 3, 1, Request::Close { fd: Fd(7) });
+    expect_call(&rt, &script, 4, 1, Request::Exit);
     Ok(())
 }
 
@@ -120,10 +120,9 @@ fn expect_object(
     kind: ObjKind,
     body: &[u8],
 ) {
-    let Some(object) = script.objects.get(index) else {
-        panic!(rt; "no object at {index}");
-    };
-    assert!(rt; is_object(object, name, kind, body), "at {index}");
+    let object = script.objects.get(index);
+    let found = object.is_some_and(|object| is_object(object, name, kind, body));
+    assert!(rt; found, "at {index}");
 }
 
 #[test]

@@ -143,10 +143,10 @@ const ITEMS: &[(&str, &str)] = &[
 
 /// Sees that control data stands for the bytes with these digits.
 fn expect_layout(rt: &impl Abort, alloc: Global, text: &str, digits: &str) -> Result<(), Fail> {
-    let call = format!(in alloc; "send 0 - 6869 x:{digits} p")?;
-    let written = request_in(alloc, &call)?;
-    let call = format!(in alloc; "send 0 - 6869 {text} p")?;
-    expect_request(rt, alloc, &call, written)
+    let of_digits = format!(in alloc; "send 0 - 6869 x:{digits} p")?;
+    let of_text = format!(in alloc; "send 0 - 6869 {text} p")?;
+    let written = request_in(alloc, &of_digits)?;
+    expect_request(rt, alloc, &of_text, written)
 }
 
 #[test]

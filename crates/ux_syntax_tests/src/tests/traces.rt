@@ -1,5 +1,5 @@
 //! The lines of a trace.
-use super::{addr_of, bytes_of, name_of, request_in};
+use super::{addr_of, beside, bytes_of, name_of, request_in};
 use std::alloc::Global;
 use std::process::Abort;
 use std::test::*;
@@ -33,7 +33,7 @@ fn expect_text(
     line: &str,
 ) -> Result<(), Fail> {
     let (number, k) = numbers;
-    let request = request_in(alloc, call)?;
+    let (request, reply) = beside(request_in(alloc, call), reply)?;
     let entry = Entry {
         pid: Pid(1),
         k,
@@ -143,6 +143,7 @@ fn receives_are_printed(rt: HostRuntime) -> Result<(), Fail> {
 
 /// Sees what a trace tells of these control bytes, whose receive lost some.
 fn expect_items(rt: &impl Abort, alloc: Global, control: &[u8], items: &str) -> Result<(), Fail> {
+    let line = format!(in alloc; "5 1 7 recv = got 2 6869 CTRUNC {items} -\n")?;
     let got = Reply::Received {
         count: 2,
         bytes: bytes_of(alloc, b"hi")?,
@@ -150,7 +151,6 @@ fn expect_items(rt: &impl Abort, alloc: Global, control: &[u8], items: &str) -> 
         control: bytes_of(alloc, control)?,
         from: None,
     };
-    let line = format!(in alloc; "5 1 7 recv = got 2 6869 CTRUNC {items} -\n")?;
     expect_fifth(rt, alloc, "recv 1 8 0 -", got, &line)
 }
 
@@ -216,6 +216,7 @@ fn items_are_printed(rt: HostRuntime) -> Result<(), Fail> {
 
 /// Sees how a trace tells whom a receive is from.
 fn expect_from(rt: &impl Abort, alloc: Global, from: Addr, text: &str) -> Result<(), Fail> {
+    let line = format!(in alloc; "5 1 7 recv = got 0 - - - {text}\n")?;
     let got = Reply::Received {
         count: 0,
         bytes: Bytes::new(Vec::new(alloc)),
@@ -223,7 +224,6 @@ fn expect_from(rt: &impl Abort, alloc: Global, from: Addr, text: &str) -> Result
         control: Bytes::new(Vec::new(alloc)),
         from: Some(from),
     };
-    let line = format!(in alloc; "5 1 7 recv = got 0 - - - {text}\n")?;
     expect_fifth(rt, alloc, "recv 1 8 0 -", got, &line)
 }
 
@@ -318,11 +318,11 @@ fn entries_of_connections_are_printed(rt: HostRuntime) -> Result<(), Fail> {
 
 /// Sees the line of an accept that gave descriptor 4, and of a call that told a peer's name.
 fn expect_name(rt: &impl Abort, alloc: Global, addr: Addr, text: &str) -> Result<(), Fail> {
+    let of_accept = format!(in alloc; "5 1 7 accept = accepted 4 {text}\n")?;
+    let of_peer = format!(in alloc; "5 1 7 peername = addr {text}\n")?;
     let accepted = Reply::Accepted(Fd(4), addr.clone()?);
-    let line = format!(in alloc; "5 1 7 accept = accepted 4 {text}\n")?;
-    expect_fifth(rt, alloc, "accept 3 -", accepted, &line)?;
-    let line = format!(in alloc; "5 1 7 peername = addr {text}\n")?;
-    expect_fifth(rt, alloc, "peername 3", Reply::Addr(addr), &line)
+    expect_fifth(rt, alloc, "accept 3 -", accepted, &of_accept)?;
+    expect_fifth(rt, alloc, "peername 3", Reply::Addr(addr), &of_peer)
 }
 
 /// Addresses by their form and the bytes of their name, as a trace has them.
