@@ -53,17 +53,15 @@ impl<A: Allocator + Copy> ByteRing<A> {
         let Some(needed) = self.len().checked_add(additional) else {
             return Err(AllocError);
         };
+        let places = places(needed)?;
         match &mut self.ring {
-            Some(ring) => {
-                if ring.capacity() < needed {
-                    ring.resize(places(needed)?)?;
-                }
-            }
+            Some(ring) if ring.capacity() < needed => ring.resize(places),
+            Some(_) => Ok(()),
             None => {
-                self.ring = Some(HeapCircularBuffer::with_capacity(alloc, places(needed)?)?);
+                self.ring = Some(HeapCircularBuffer::with_capacity(alloc, places)?);
+                Ok(())
             }
         }
-        Ok(())
     }
 
     /// Appends bytes for which there is room.

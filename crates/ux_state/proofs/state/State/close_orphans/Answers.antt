@@ -1,4 +1,5 @@
 use Rattle.std.proofs.Common.{◌<◌, option_map, length, arith, ap, sym, ◌∙◌}
+use Rattle.std.proofs.lemmas.Grind.{common_steps}
 use Rattle.ux_model.specs.State.{State}
 use Rattle.ux_state.proofs.Orphans.{inside_then, Passed-kept, Passed-gone}
 use Rattle.ux_state.proofs.state.State.close_orphans.Goals as goal
@@ -23,3 +24,9 @@ loop-o-preserved g c =
           (sym c.is_orphan.ensures ∙ w.if-is_orphan.true) w.retire-object.ensures.object (w.self-is ∙ w.retire-object.ensures.state) (rw w.retired-is w.hand_out.ensures)
       | else-is_orphan w ↦ rw (w.self-is, w.retired-is) (Passed-kept c.args.self.now c.loop-o.self c.loop-o.o c.loop-o.retired c.loop-o.invariant inside (sym c.is_orphan.ensures ∙ w.if-is_orphan.false))
     ]
+
+pub returns-clause-retired : goal.returns-clause-retired
+returns-clause-retired g c = grind (arith, common_steps)
+
+pub returns-clause-state : goal.returns-clause-state
+returns-clause-state g c = grind (arith, common_steps)

@@ -1,4 +1,5 @@
-use Rattle.std.proofs.Common.{◌≡◌, sym, subst}
+use Rattle.std.proofs.Common.{◌≡◌, sym, subst, arith}
+use Rattle.std.proofs.lemmas.Grind.{common_steps}
 use Rattle.ux_model.specs.State.{State}
 use Rattle.ux_model.specs.Pairing.{socket_description}
 use Rattle.ux_model.specs.Connecting.{server_end, no_open_flags}
@@ -20,3 +21,9 @@ pub returns-clause-ok : goal.returns-clause-ok
 returns-clause-ok g c =
     connection_made _ c.args.self.now c.reserve.new.self c.push_pending.new.slots c.insert_reserved-id.new.self c.tie.new.slots c.args.client c.args.listener c.next_id-id.result c.args.cred c.in_ok-end.listener_cred _ c.self.view_is
     c.in_ok-end.ensures.end c.in_ok-end.ensures.cred c.reserve.ensures.places c.next_id-id.ensures c.in_ok-push_pending.ensures.places c.insert_reserved-id.ensures.added c.tie.ensures.places
+
+pub invariant_of-self : goal.invariant_of-self
+invariant_of-self g c = grind (arith, common_steps)
+
+pub invariant_of-self-in_err-push_pending : goal.invariant_of-self-in_err-push_pending
+invariant_of-self-in_err-push_pending g c = grind (arith, common_steps)
