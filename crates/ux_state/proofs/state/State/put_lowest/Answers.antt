@@ -37,14 +37,8 @@ returns-clause-opened g c =
     (same_places _ c.args.self.now _ c.self.view_is c.retain.ensures.places)
     (c.in_ok-fd.ensures.opened ∙ ap (λ t. filled t c.in_ok-fd.fd.0 c.args.entry) (table_is _ c.args.self.now c.args.pid.0 c.index_mut-process.result.now (process.the_view c.process.inside) c.requires.live c.self.view_is c.index_mut-process.ensures.value c.process.view_is))
 
-pub index_mut-process-requires : goal.index_mut-process-requires
-index_mut-process-requires g c = grind (arith, common_steps)
-
 pub invariant_of-self : goal.invariant_of-self
 invariant_of-self g c = grind (arith, common_steps)
-
-pub returns-in_err-fd-clause-full : goal.returns-in_err-fd-clause-full
-returns-in_err-fd-clause-full g c = grind (arith, common_steps)
 
 pub returns-in_err-fd-clause-err : goal.returns-in_err-fd-clause-err
 returns-in_err-fd-clause-err g c = grind (arith, common_steps)
