@@ -11,7 +11,7 @@ use ux_history::{Book, BookName, Receipt};
 use ux_layer::Layer;
 use ux_object::FileObject;
 use ux_syntax::{Script, ScriptFault};
-use ux_types::{Entry, Reply, Request};
+use ux_types::Entry;
 
 /// Compares the history of a layer with the script and with the receipts of its calls. Answers a copy of it, where
 /// each receipt's entry is in it, and each of so many processes made the script's calls in it, and no others.
@@ -51,40 +51,10 @@ fn copy_all(alloc: Global, entries: &[Entry]) -> Result<Vec<Entry>, AllocError>
     let mut copy = Vec::with_capacity(alloc, entries.len())?;
     let mut left = entries;
     while let Some((entry, more)) = left.split_first() {
-        copy.push(copy_of(entry)?)?;
+        copy.push(entry.clone()?)?;
         left = more;
     }
     Ok(copy)
-}
-
-/// A copy of an entry.
-fn copy_of(entry: &Entry) -> Result<Entry, AllocError>
-    ensures { IfOk result (λ copy. copy ≡ entry.now) }
-{
-    let request = copy_request(&entry.request)?;
-    let reply = copy_reply(&entry.reply)?;
-    let released = entry.released.clone()?;
-    Ok(Entry {
-        pid: entry.pid,
-        k: entry.k,
-        request,
-        reply,
-        released,
-    })
-}
-
-/// A copy of a request.
-fn copy_request(request: &Request) -> Result<Request, AllocError>
-    ensures { IfOk result (λ copy. copy ≡ request.now) }
-{
-    request.clone()
-}
-
-/// A copy of a reply.
-fn copy_reply(reply: &Reply) -> Result<Reply, AllocError>
-    ensures { IfOk result (λ copy. copy ≡ reply.now) }
-{
-    reply.clone()
 }
 
 /// Whether the history is the script's.

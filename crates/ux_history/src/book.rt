@@ -19,7 +19,7 @@ use crate::log::Log;
 use crate::naming::BookName;
 use crate::receipts::{Receipt, Recorded};
 use crate::shares::{Share, Spent};
-use crate::spare::{Spare, copy_of};
+use crate::spare::Spare;
 use std::alloc::{AllocError, Global};
 use std::marker::{Model, PhantomData};
 use std::sync::ledger;
@@ -373,7 +373,7 @@ fn set_aside<W: BookName, O: FileObject>(
 {
     log.reserve()?;
     let spare = Spare::for_call(log.allocator(), request)?;
-    Ok((copy_of(request)?, spare))
+    Ok((request.clone()?, spare))
 }
 
 /// A share of one part for each of so many processes.

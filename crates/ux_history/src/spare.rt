@@ -36,7 +36,7 @@ impl Spare {
         let answer = ReplyRoom::for_request(alloc, request)?;
         let receipt = ReplyRoom::for_request(alloc, request)?;
         Ok(Spare {
-            request: copy_of(request)?,
+            request: request.clone()?,
             answer,
             receipt,
         })
@@ -62,11 +62,4 @@ impl Spare {
         };
         (answer.copy(reply), call)
     }
-}
-
-/// A copy of a request.
-pub(crate) fn copy_of(request: &Request) -> Result<Request, AllocError>
-    ensures { IfOk result (λ copy. copy ≡ request.now) }
-{
-    request.clone()
 }
