@@ -290,6 +290,7 @@ impl Socket {
         ensures bytes { IfOk result (λ r. OnFront n self.now (λ f. r.bytes.items ≡ f.bytes)) }
         ensures whole { IfOk result (λ r. OnFront n self.now (λ f. r.whole ≡ f.whole)) }
         ensures rights { IfOk result (λ r. OnFront n self.now (λ f. r.rights ≡ f.rights)) }
+        ensures origin { IfOk result (λ r. OnFront n self.now (λ f. r.origin ≡ f.origin)) }
         ensures cred { IfOk result (λ r. OnFront n self.now (λ f. r.cred ≡ f.cred)) }
         ensures from { IfOk result (λ r. OnFront n self.now (λ f. r.from ≡ f.from)) }
     {
@@ -415,6 +416,7 @@ fn peek_stream(queue: &StreamQueue, n: usize, wants_cred: bool) -> Result<Receiv
     ensures bytes { IfOk result (λ r. OnStreamFront wants_cred n queue.now (λ f. r.bytes.items ≡ f.bytes)) }
     ensures whole { IfOk result (λ r. OnStreamFront wants_cred n queue.now (λ f. r.whole ≡ f.whole)) }
     ensures rights { IfOk result (λ r. OnStreamFront wants_cred n queue.now (λ f. r.rights ≡ f.rights)) }
+    ensures origin { IfOk result (λ r. OnStreamFront wants_cred n queue.now (λ f. r.origin ≡ f.origin)) }
     ensures cred { IfOk result (λ r. OnStreamFront wants_cred n queue.now (λ f. r.cred ≡ f.cred)) }
     ensures from { IfOk result (λ r. r.from ≡ None) }
 {
