@@ -1,5 +1,5 @@
 //! The descriptor table of a process.
-ghost use Rattle.std.specs.Prelude.{◌≡◌, ℕ, ◌+◌, ◌<◌, ◌≤◌, ◌↔◌, [], IsOk, IfOk, OnOk, OnErr, length, map, take, Some, None, slice_set};
+ghost use Rattle.std.specs.Prelude.{◌≡◌, ℕ, ◌+◌, ◌<◌, ◌≤◌, ◌↔◌, [], IsSome, IsOk, IfOk, OnOk, OnErr, length, map, take, Some, None, slice_set};
 ghost use Rattle.std.specs.Prelude.{option_map};
 ghost use Rattle.ux_model.specs.Limits.{table_limit};
 ghost use Rattle.ux_model.specs.Places.{place, filled, emptied};
@@ -251,12 +251,13 @@ impl Table {
     ///
     /// # Errors
     ///
-    /// `BadNumber` exactly where the number isn't below the limit, else `NoMemory`. The table is then as
-    /// before.
+    /// `BadNumber` exactly where the number isn't below the limit, else `NoMemory`, which doesn't come where
+    /// the number is open. The table is then as before.
     pub fn dup_at(&mut self, fd: Fd, descriptor: Descriptor) -> Result<Option<Descriptor>, DupError>
         ensures replaced { IfOk result (λ replaced. replaced ≡ place self.old fd.0) }
         ensures opened { OnOk result (self.new ≡ filled self.old fd.0 (copy_of descriptor)) }
         ensures bad_number { (result ≡ Err DupError.BadNumber) ↔ (length self.old ≤ fd.0) }
+        ensures taken { IsSome (place self.old fd.0) → IsOk result }
         ensures err { OnErr result (self.new ≡ self.old) }
     {
         if fd.0 >= self.limit() {
@@ -347,6 +348,7 @@ impl Table {
     fn put(&mut self, number: usize, descriptor: Descriptor) -> Result<(), AllocError>
         requires { number < length self.old }
         ensures ok { OnOk result (self.new ≡ filled self.old number descriptor) }
+        ensures taken { IsSome (place self.old number) → IsOk result }
         ensures err { OnErr result (self.new ≡ self.old) }
     {
         reach(&mut self.places, number)?;
@@ -361,6 +363,7 @@ fn reach(places: &mut Vec<Option<Descriptor>>, number: usize) -> Result<(), Allo
     requires { number < table_limit }
     ensures reached { OnOk result (number < length places.new.items) }
     ensures ok { OnOk result (places.new.items ≡ padded places.old.items (number + 1)) }
+    ensures within { number < length places.old.items → IsOk result }
     ensures err { OnErr result (places.new.items ≡ places.old.items) }
 {
     if number < places.len() {
