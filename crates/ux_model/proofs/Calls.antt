@@ -35,8 +35,9 @@ use Rattle.ux_model.specs.Invariants.{LeftByRefusal}
 use Rattle.ux_model.proofs.Named.{table_in}
 use Rattle.ux_model.proofs.Walk.{either, maybe, by_target, by_path, found}
 use Rattle.ux_model.proofs.Bounds.{new_bounded}
+use Rattle.ux_model.proofs.OnePlace.{same_at}
 use Rattle.ux_model.proofs.Reaching.{Reaches, still, description_made, peers_made, object_changed, paths_taken, turned_off, same_target, NamesWhatIsThere, put_names, taken_names, same_names, none_counts, with_table_reached, with_process_reached, with_description_reached, some_filled, some_more, some_pushed}
-use Rattle.ux_model.proofs.Obeying.{tells_choice, Obeys, Call, refuses, uses, answers, may_fail, there_of}
+use Rattle.ux_model.proofs.Obeying.{failures, FailAlike, tells_choice, Obeys, Call, refuses, uses, answers, may_fail, there_of}
 use Rattle.ux_model.proofs.NameCalls.{socket_obeys, bind_obeys, listen_obeys, connect_obeys, accept_obeys, sock_name_obeys, peer_name_obeys, shutdown_obeys}
 use Rattle.ux_model.proofs.OptionCalls.{get_opt_obeys, set_opt_obeys, poll_obeys}
 use Rattle.ux_model.proofs.MessageCalls.{flight_limit_is, from_obeys, send_obeys, receive_obeys, recv_obeys}
@@ -169,6 +170,10 @@ both_changed S o n held old new there opened =
 both_kept : (S : State) (o n : ℕ) (held : IsHeldOpen S o) (new : View) → KeepsObjects S (with_object (with_description S held.entry.description (record held.description { offset = n })) o new)
 both_kept S o n held new = held_changed S (with_description S held.entry.description (record held.description { offset = n })) o new refl (held_by_changed S o held (record held.description { offset = n }) held.leads)
 
+-- and has failed as often
+body_alike : (S : State) (o : ℕ) (view : View) (body : Body) → place S.objects o ≡ Some view → FailAlike S (with_object S o (with_body view body))
+body_alike S o view body there n = same_at failures S.objects o n (Some (with_body view body)) (sym (ap failures there))
+
 -- by the descriptor that the call was given
 abbrev held_by : (S : State) (p : ℕ) (fd : Fd) (e : Descriptor) (D : Description) (o : ℕ) → descriptor_at S p fd ≡ Some e → description_at S e.description ≡ Some D → D.target ≡ to_object o → IsHeldOpen S o
 held_by S p fd e D o g h t = record { process = p; number = fd.0; entry = e; description = D; named = g; there = h; leads = t }
@@ -182,7 +187,7 @@ read_answer_obeys : (S : State) (o : ℕ) (held : IsHeldOpen S o) (view : View) 
     Call S (read_answer S held.entry.description held.description o view r)
 read_answer_obeys S o held view (Ok found) there =
     let n : ℕ = offset_after_read held.description view found.0 in
-    uses refl refl refl (both_kept S o n held (with_body view found.1)) (both_changed S o n held view (with_body view found.1) there refl)
+    uses refl refl refl (both_kept S o n held (with_body view found.1)) (body_alike S o view found.1 there) (both_changed S o n held view (with_body view found.1) there refl)
 read_answer_obeys S o held view (Err e) there = read_error_obeys S o view e
 
 -- read(2) of a socket answers the bytes alone
@@ -223,6 +228,7 @@ socket_read_obeys S o obeys = record {
   failed = obeys.failed;
   reached = obeys.reached;
   objects = obeys.objects;
+  alike = obeys.alike;
 }
 
 socket_at_is : (S : State) (d : ℕ) (D : Description) (s : Socket) → description_at S d ≡ Some D → D.target ≡ to_socket s → socket_at S d ≡ Some s
@@ -241,7 +247,7 @@ write_answer_obeys : (S : State) (o : ℕ) (held : IsHeldOpen S o) (view : View)
     Call S (write_answer S held.entry.description held.description o view r)
 write_answer_obeys S o held view (Ok made) there =
     let n : ℕ = offset_after_write held.description view made.0 in
-    uses refl refl refl (both_kept S o n held (with_body view made.1)) (both_changed S o n held view (with_body view made.1) there refl)
+    uses refl refl refl (both_kept S o n held (with_body view made.1)) (body_alike S o view made.1 there) (both_changed S o n held view (with_body view made.1) there refl)
 write_answer_obeys S o held view (Err would_block) there = refuses refl refl
 write_answer_obeys S o held view (Err full) there = refuses refl refl
 write_answer_obeys S o held view (Err invalid) there = refuses refl refl

@@ -1,10 +1,10 @@
--- Nothing dangles in the states of legal histories.
+-- Nothing dangles, whatever calls were made, so not in the states of legal histories.
 use Rattle.std.proofs.Common.{◌≡◌, ℕ, zero, suc, ◌+◌, ◌==◌, true, false, cond, List, [], ◌∷◌, length, map, sum_by, count_by, Option, Some, None, refl, ap, sym, ◌∙◌, subst, arith}
 use Rattle.std.specs.Prelude.{is_some, replicate}
 use Rattle.std.specs.List.{slice_get, list_all}
 use Rattle.std.proofs.lemmas.Bool.{ne_eqb, and_parts}
 use Rattle.std.proofs.lemmas.List.Sums.{sum_by-cons}
-use Rattle.ux_model.specs.Types.{Name, Addr, Entry}
+use Rattle.ux_model.specs.Types.{Name, Addr, Request, Reply, Entry}
 use Rattle.ux_model.specs.Places.{place}
 use Rattle.ux_model.specs.Object.{View}
 use Rattle.ux_model.specs.Description.{Description}
@@ -15,9 +15,9 @@ use Rattle.ux_model.specs.Release.{settled}
 use Rattle.ux_model.specs.Step.{Step}
 use Rattle.ux_model.specs.Boot.{is_open, IsBootState}
 use Rattle.ux_model.specs.Peers.{Paired}
-use Rattle.ux_model.specs.History.{is_exit, replay, is_allowed, IsLegal}
-use Rattle.ux_model.specs.Invariants.{pends_at_all, IsWhole, NothingDangles}
-use Rattle.ux_model.proofs.Settling.{numbers_from, paths_count, none_left, stays_settled}
+use Rattle.ux_model.specs.History.{is_exit, replay, Chain, no_call, another_call, IsLegal}
+use Rattle.ux_model.specs.Invariants.{pends_at_all, IsWhole, WholeAfterAnyCalls, NothingDangles}
+use Rattle.ux_model.proofs.Settling.{numbers_from, paths_count, none_left, chain_settled}
 use Rattle.ux_model.proofs.Induction.{IsKept, kept_throughout}
 use Rattle.ux_model.proofs.Sound.{IsSound, name_in}
 use Rattle.ux_model.proofs.Named.{entry_counts, right_counts, opening_counts, path_counts, exactly, named_open, described, pending_listed, at_most_one, waiting_socket, named_socket}
@@ -95,23 +95,33 @@ boot_sound boot boots = record {
   paired = subst Paired (sym boots.no_descriptions) no_peers;
 }
 
+-- ---- over a chain of calls
+
+step_sound : (S T : State) (p tag : ℕ) (request : Request) (reply : Reply) (gone : List ℕ) → IsSound S → Step S p tag request reply gone T → IsSound T
+step_sound S T p tag request reply gone sound step =
+    let r = step_reached S T p tag request reply gone step in
+    subst IsSound (sym r.3) (settled_sound r.0 (reached_sound S (is_exit request) r.0 sound r.1))
+
+chain_sound : (boot T : State) → IsBootState boot → Chain boot T → IsSound T
+chain_sound boot T boots no_call = boot_sound boot boots
+chain_sound boot T boots (another_call {S = S} p tag request reply gone U before step) = step_sound S U p tag request reply gone (chain_sound boot S boots before) step
+
 -- ---- over a history
 
 abbrev HasSound : List Entry → State → Type 0
 HasSound es S = IsSound S
 
-step_sound : (es : List Entry) (e : Entry) (S T : State) → IsSound S → Step S e.pid.0 (length es) e.request e.reply e.released T → is_allowed S e.pid.0 e.k e.request ≡ true → IsSound T
-step_sound es e S T sound step allowed =
-    let r = step_reached S T e.pid.0 (length es) e.request e.reply e.released step in
-    subst IsSound (sym r.3) (settled_sound r.0 (reached_sound S (is_exit e.request) r.0 sound r.1))
-
 pub keeps_sound : (boot : State) → IsKept boot HasSound
-keeps_sound boot = record { at_boot = boot_sound boot; by_entry = step_sound }
+keeps_sound boot = record { at_boot = boot_sound boot; by_entry = λ es e S T sound step allowed. step_sound S T e.pid.0 (length es) e.request e.reply e.released sound step }
 
-pub stays_sound : (boot : State) (es : List Entry) → IsLegal boot es → IsSound (replay boot es)
-stays_sound boot es legal = kept_throughout boot HasSound (keeps_sound boot) es legal
+-- the entries are a chain of calls
+legal_chain : (boot : State) (es : List Entry) → IsLegal boot es → Chain boot (replay boot es)
+legal_chain boot es legal = kept_throughout boot (λ so_far S. Chain boot S) (record {
+  at_boot = λ boots. no_call;
+  by_entry = λ so_far e S T before step allowed. another_call e.pid.0 (length so_far) e.request e.reply e.released T before step;
+}) es legal
 
--- ---- the law
+-- ---- the laws
 
 sound_whole : (S : State) → IsSound S → settled S ≡ S → IsWhole S
 sound_whole S sound here = record {
@@ -134,5 +144,8 @@ sound_whole S sound here = record {
   abstract_names_lead = λ i e h. named_socket (description_at S e.1) (Addr.Abstract e.0) (sound.held.names_owned i e h);
 }
 
+pub whole_after_any_calls : WholeAfterAnyCalls
+whole_after_any_calls boot T boots calls = sound_whole T (chain_sound boot T boots calls) (chain_settled boot T boots calls)
+
 pub nothing_dangles : NothingDangles
-nothing_dangles boot es legal = sound_whole (replay boot es) (stays_sound boot es legal) (stays_settled boot es legal)
+nothing_dangles boot es legal = whole_after_any_calls boot (replay boot es) legal.boots (legal_chain boot es legal)

@@ -54,7 +54,7 @@ held_rounds (suc n) S o held = go (has_unreferenced S) (held_rounds n (drop_all 
     go false h = held
 
 -- so something leads to the object
-held_led : (S : State) (o : ℕ) → IsHeldOpen S o → 0 < orefs (drop_unreferenced S) o
+pub held_led : (S : State) (o : ℕ) → IsHeldOpen S o → 0 < orefs (drop_unreferenced S) o
 unfolding drop_unreferenced
 held_led S o held = let h = held_rounds (length S.descriptions) S o held in opening_counts (drop_unreferenced S) h.entry.description o h.description h.there h.leads
 

@@ -39,6 +39,7 @@ pub mod ReceivedSizes
 pub mod ReplySizes
 pub mod Closed
 pub mod HandingOut
+pub mod FreeChoices
 mod Play
 mod StreamExamples
 mod DatagramExamples

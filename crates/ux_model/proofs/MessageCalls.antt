@@ -196,6 +196,7 @@ ended_obeys S d t s h tied gone = record {
   failed = λ T none. absurd (cc none);
   reached = association_reached S d None;
   objects = same_objects S (with_socket_by S d (with_association None)) refl;
+  alike = λ n. refl;
 }
 
 by_association_obeys : (S : State) (limit : Option ℕ) (d : ℕ) (s : Socket) (m : Message) → socket_at S d ≡ Some s → MaySend S limit m → length m.bytes ≤ record_bytes_limit →
@@ -302,7 +303,7 @@ read_obeys S p P tag d s addr bytes None here h = refuses refl refl
 read_obeys S p P tag d s addr bytes (Some control) here h = with_obeys S p P tag d s addr bytes control here h
 
 reading_obeys : (S : State) (control : List ℕ) (o : Outcome) → Call S o → Call S (reading_control control o)
-reading_obeys S control o obeys = record { own_reply = obeys.own_reply; refused = obeys.refused; failed = obeys.failed; reached = obeys.reached; objects = obeys.objects }
+reading_obeys S control o obeys = record { own_reply = obeys.own_reply; refused = obeys.refused; failed = obeys.failed; reached = obeys.reached; objects = obeys.objects; alike = obeys.alike }
 
 pub send_obeys : (S : State) (p tag : ℕ) (fd : Fd) (addr : Option Addr) (bytes control : List ℕ) (flags : MsgFlags) → Call S (send_msg S p tag fd addr bytes control flags)
 unfolding send_msg
@@ -323,6 +324,7 @@ reset_obeys S d s h pending = record {
   failed = λ T none. absurd (cc none);
   reached = with_socket_reached S d (with_reset false) still (λ sound t here. pending_changed S d t false);
   objects = same_objects S (with_socket_by S d (with_reset false)) refl;
+  alike = λ n. refl;
 }
 
 nothing_obeys : (S : State) (d : ℕ) (s : Socket) (peer : ℕ) → socket_at S d ≡ Some s → Call S (receive_nothing S d s peer)

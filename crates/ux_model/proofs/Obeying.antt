@@ -1,7 +1,7 @@
 -- What each call's outcome obeys: what a refusal leaves, and that what else it leaves comes of the state by the changes of Reaching, where
--- a file object is as before or held open.
+-- a file object is as before or held open, and has failed as often.
 use Rattle.std.proofs.Common.{◌≡◌, ℕ, Bool, true, false, ◌||◌, if◌then◌else◌, Some, None, refl, ap, sym, subst}
-use Rattle.std.specs.Prelude.{is_some}
+use Rattle.std.specs.Prelude.{List, Option, is_some, option_map}
 use Rattle.ux_model.specs.Types.{Errno, Reply}
 use Rattle.ux_model.specs.Places.{place}
 use Rattle.ux_model.specs.Object.{View, can_fail, after_failure}
@@ -13,6 +13,14 @@ use Rattle.ux_model.specs.Step.{lacks_memory, fails}
 use Rattle.ux_model.specs.Invariants.{OneMoreFailure, LeftByRefusal}
 use Rattle.ux_model.proofs.Reaching.{Reaches, still}
 use Rattle.ux_model.proofs.HeldOpen.{IsHeldOpen, KeepsObjects, same_objects, held_changed}
+
+-- how often a file object that is there has failed
+abbrev pub failures : Option View → Option ℕ
+failures x = option_map (λ view. View.faults view) x
+
+-- each has failed as often
+abbrev pub FailAlike : State → State → Type 0
+FailAlike S T = (o : ℕ) → failures (place T.objects o) ≡ failures (place S.objects o)
 
 -- a reply that tells which of the two free choices was made
 abbrev pub tells_choice : Reply → Bool
@@ -29,6 +37,7 @@ pub record Obeys (S : State) (ends : Bool) (o : Outcome) : Type 0 where
   pub failed : (T : State) → o.failure ≡ Some T → OneMoreFailure S T × KeepsObjects S T
   pub reached : Reaches S ends o.next
   pub objects : KeepsObjects S o.next
+  pub alike : FailAlike S o.next
 
 -- ---- by what an outcome is made of
 
@@ -39,25 +48,27 @@ refuses {S} {ends} {e} own_one left = record {
   failed = λ T h. absurd (cc h);
   reached = still;
   objects = same_objects S S refl;
+  alike = λ n. refl;
 }
 
 -- an answer that may leave a file object changed, if that is held open then
-pub uses : {S : State} {ends : Bool} {o : Outcome} → tells_choice o.reply ≡ false → is_error o.reply ≡ false → o.failure ≡ None → KeepsObjects S o.next → Reaches S ends o.next → Obeys S ends o
-uses {S} {ends} {o} own_one told n kept r = record {
+pub uses : {S : State} {ends : Bool} {o : Outcome} → tells_choice o.reply ≡ false → is_error o.reply ≡ false → o.failure ≡ None → KeepsObjects S o.next → FailAlike S o.next → Reaches S ends o.next → Obeys S ends o
+uses {S} {ends} {o} own_one told n kept alike r = record {
   own_reply = own_one;
   refused = λ e h. let one : is_error o.reply ≡ true = ap is_error h in absurd (cc (one, told));
   failed = λ T h. absurd (cc (h, n));
   reached = r;
   objects = kept;
+  alike = alike;
 }
 
 -- and one that leaves all file objects as they were
 pub answers : {S : State} {ends : Bool} {o : Outcome} → tells_choice o.reply ≡ false → is_error o.reply ≡ false → o.failure ≡ None → o.next.objects ≡ S.objects → Reaches S ends o.next → Obeys S ends o
-answers {S} {ends} {o} own_one told n same r = uses own_one told n (same_objects S o.next same) r
+answers {S} {ends} {o} own_one told n same r = uses own_one told n (same_objects S o.next same) (λ k. ap (λ (os : List (Option View)). failures (place os k)) same) r
 
 -- a call of a file object may leave what a failure does
 pub may_fail : (S : State) (ends : Bool) (o : ℕ) (view : View) (x : Outcome) → IsHeldOpen S o → place S.objects o ≡ Some view → Obeys S ends x → Obeys S ends (or_failing S o view x)
-may_fail S ends o view x held there obeys = record { own_reply = obeys.own_reply; refused = obeys.refused; failed = at_failure (can_fail view); reached = obeys.reached; objects = obeys.objects }
+may_fail S ends o view x held there obeys = record { own_reply = obeys.own_reply; refused = obeys.refused; failed = at_failure (can_fail view); reached = obeys.reached; objects = obeys.objects; alike = obeys.alike }
   where
     at_failure : (b : Bool) (T : State) → (if b then Some (with_object S o (after_failure view)) else None) ≡ Some T → OneMoreFailure S T × KeepsObjects S T
     at_failure true T h =

@@ -4,7 +4,7 @@ use Rattle.std.specs.Prelude.{is_some, filter, option_map}
 use Rattle.std.specs.List.{enumerate_from, list_any}
 use Rattle.std.proofs.lemmas.Bool.{ne_eqb, eq-eqb, and_right, and_left}
 use Rattle.std.proofs.lemmas.List.Sums.{sum_by-cons}
-use Rattle.ux_model.specs.Types.{Name, Entry}
+use Rattle.ux_model.specs.Types.{Name, Entry, Request, Reply}
 use Rattle.ux_model.specs.Places.{place}
 use Rattle.ux_model.specs.Object.{View, closed}
 use Rattle.ux_model.specs.Names.{PathTarget, file}
@@ -13,6 +13,7 @@ use Rattle.ux_model.specs.References.{path_names, refs, orefs}
 use Rattle.ux_model.specs.Release.{is_unreferenced, has_unreferenced, drop_all, drop_rounds, drop_unreferenced, is_orphan, without_orphans, settled, released, retired, orphans}
 use Rattle.ux_model.specs.Boot.{IsBootState}
 use Rattle.ux_model.specs.Step.{Step}
+use Rattle.ux_model.specs.History.{Chain, no_call, another_call}
 use Rattle.ux_model.specs.Invariants.{NoneLeftUnreferenced, SettlesAtOnce, StaysSettled}
 use Rattle.ux_model.proofs.ReleaseLaws.{map_twice, place-map}
 use Rattle.ux_model.proofs.AnyOrder.{End, unreferenced_end, settled_of_none}
@@ -171,12 +172,17 @@ boot_settled boot boots = settled_where_none_left boot (record {
 abbrev HasSettled : List Entry → State → Type 0
 HasSettled es S = settled S ≡ S
 
-step_settles : (es : List Entry) (e : Entry) (S T : State) → Step S e.pid.0 (length es) e.request e.reply e.released T → settled T ≡ T
+step_settles : (S T : State) (p tag : ℕ) (request : Request) (reply : Reply) (gone : List ℕ) → Step S p tag request reply gone T → settled T ≡ T
 unfolding Step
-step_settles es e S T s = ap settled s.3 ∙ settles_at_once s.0 ∙ sym s.3
+step_settles S T p tag request reply gone s = ap settled s.3 ∙ settles_at_once s.0 ∙ sym s.3
+
+-- whatever calls were made
+pub chain_settled : (boot T : State) → IsBootState boot → Chain boot T → settled T ≡ T
+chain_settled boot T boots no_call = boot_settled boot boots
+chain_settled boot T boots (another_call {S = S} p tag request reply gone U before step) = step_settles S U p tag request reply gone step
 
 keeps_settled : (boot : State) → IsKept boot HasSettled
-keeps_settled boot = record { at_boot = boot_settled boot; by_entry = λ es e S T before step allowed. step_settles es e S T step }
+keeps_settled boot = record { at_boot = boot_settled boot; by_entry = λ es e S T before step allowed. step_settles S T e.pid.0 (length es) e.request e.reply e.released step }
 
 pub stays_settled : StaysSettled
 stays_settled boot es legal = kept_throughout boot HasSettled (keeps_settled boot) es legal

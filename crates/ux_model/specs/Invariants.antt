@@ -1,4 +1,4 @@
--- Laws: what holds in every state that a legal history leads to. Nothing here defines a call.
+-- Laws: what holds in every state that a legal history leads to, or any chain of calls. Nothing here defines a call.
 use Rattle.std.specs.Prelude.{◌≡◌, ◌⊎◌, ℕ, suc, ◌<◌, ◌≤◌, true, false, List, [], ◌∷◌, ◌++◌, take, Some, Option, None, is_some, nat_lt, slice_get, sum_by}
 use Rattle.ux_model.specs.Types.{Errno, Name, Addr, Request, Reply, Entry}
 use Rattle.ux_model.specs.Places.{place}
@@ -10,11 +10,11 @@ use Rattle.ux_model.specs.Description.{Description, to_object}
 use Rattle.ux_model.specs.Process.{Descriptor}
 use Rattle.ux_model.specs.State.{State, description_at, socket_at, table_of, with_object, with_socket_by}
 use Rattle.ux_model.specs.References.{times, refs, orefs}
-use Rattle.ux_model.specs.Boot.{is_open}
+use Rattle.ux_model.specs.Boot.{is_open, IsBootState}
 use Rattle.ux_model.specs.Peers.{Paired, at_socket}
 use Rattle.ux_model.specs.Release.{has_unreferenced, drop_unreferenced, settled}
 use Rattle.ux_model.specs.Step.{Step}
-use Rattle.ux_model.specs.History.{replay, IsLegal}
+use Rattle.ux_model.specs.History.{replay, Chain, IsLegal}
 
 -- ---- nothing is left over
 
@@ -105,6 +105,11 @@ pub record IsWhole (S : State) : Type 0 where
   pub connections_mutual : Paired S.descriptions
   pub abstract_names_lead : (i : ℕ) (e : Name × ℕ) → slice_get S.abstract_names i ≡ Some e → (s : Socket) × (socket_at S e.1 ≡ Some s) × (s.name ≡ Addr.Abstract e.0)
 
+-- whatever calls were made from a boot state on
+abbrev pub WholeAfterAnyCalls : Type 0
+WholeAfterAnyCalls = (boot T : State) → IsBootState boot → Chain boot T → IsWhole T
+
+-- so in each state of a legal history
 abbrev pub NothingDangles : Type 0
 NothingDangles = (boot : State) (entries : List Entry) → IsLegal boot entries → IsWhole (replay boot entries)
 

@@ -40,6 +40,7 @@ pub mod Step
 pub mod Waiting
 pub mod Rooms
 pub mod HandingOut
+pub mod FreeChoices
 pub mod Peers
 pub mod Flight
 pub mod Moves

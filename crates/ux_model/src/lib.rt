@@ -5,9 +5,10 @@
 
 ghost use Rattle.ux_model.specs.Release.{EndsAlike};
 ghost use Rattle.ux_model.specs.HandingOut.{HandsOutWhatWasHeld};
+ghost use Rattle.ux_model.specs.FreeChoices.{NeverLacksMemory, FailsWhereAnObjectFailed};
 ghost use Rattle.ux_model.specs.History.{LeadsToOne, FrontIsLegal, ExitAloneEnds, ExitLeavesOneFewer, StepKeepsProcesses, LivesUntilExit};
 ghost use Rattle.ux_model.specs.Peers.{OneGoes};
-ghost use Rattle.ux_model.specs.Invariants.{NoneLeftUnreferenced, SettlesAtOnce, StaysSettled, RefusalChangesNothing, RefusedEntryChangesNothing, NothingDangles, ClosedOnce};
+ghost use Rattle.ux_model.specs.Invariants.{NoneLeftUnreferenced, SettlesAtOnce, StaysSettled, RefusalChangesNothing, RefusedEntryChangesNothing, WholeAfterAnyCalls, NothingDangles, ClosedOnce};
 ghost use Rattle.ux_model.specs.ReadyCalls.{TellsInput, TellsRoom};
 ghost use Rattle.ux_model.specs.FlightLaws.{FlightIsLimited};
 ghost use Rattle.ux_model.specs.RoomLaws.{RepliesFit};
@@ -119,8 +120,9 @@ pub fn legal_history_stays_settled()
 {}
 
 /// An error leaves the very state, of which nothing was left to release, and releases nothing. But EIO
-/// leaves one more failure of one file object, and a pending ECONNRESET is cleared by its answer;
-/// besides, nothing changes there either.
+/// leaves one more failure of one file object, a pending ECONNRESET is cleared by its answer, and by
+/// ECONNREFUSED a datagram socket whose associated target is gone may lose the association; besides,
+/// nothing changes there either.
 #[tactic(auto, using(crate::proofs::Refusals::refusal_changes_nothing))]
 pub fn refusal_changes_nothing()
     ensures { RefusalChangesNothing }
@@ -129,6 +131,14 @@ pub fn refusal_changes_nothing()
 /// So of each entry of a legal history that tells of an error.
 pub fn refused_entry_changes_nothing()
     ensures { RefusedEntryChangesNothing }
+{}
+
+/// Whatever calls were made from a boot state on, of whatever processes and with whatever tags: what is
+/// there is what is referenced, whatever is named is there, and all else that is said of the states of
+/// legal histories (`nothing_dangles`).
+#[tactic(auto, using(crate::proofs::Dangling::whole_after_any_calls))]
+pub fn any_calls_leave_a_whole_state()
+    ensures { WholeAfterAnyCalls }
 {}
 
 /// In each state of a legal history what is there is what is referenced, whatever is named is there, and
@@ -148,6 +158,20 @@ pub fn objects_are_closed_once()
 /// open or not as it was, now closed and otherwise the same. That holds of every state.
 pub fn what_a_step_hands_out()
     ensures { HandsOutWhatWasHeld }
+{}
+
+/// In no state do close, unlink, lseek, shutdown, listen, poll, getsockopt, fcntl, and the ends of a
+/// process and of the layer, answer ENOMEM.
+#[tactic(auto, using(crate::proofs::FreeChoices::never_lacks_memory))]
+pub fn some_calls_never_lack_memory()
+    ensures { NeverLacksMemory }
+{}
+
+/// A step answers EIO exactly where a file object, which is there still, has failed once more. It is one
+/// alone, and each other that stays has failed as often as before. That holds of every state.
+#[tactic(auto, using(crate::proofs::FreeChoices::fails_where_an_object_failed))]
+pub fn failure_is_told()
+    ensures { FailsWhereAnObjectFailed }
 {}
 
 /// Where whoever an abstract name leads to shows it, one name at most goes with a description.
