@@ -1,6 +1,6 @@
 -- What was read of a buffer, item by item, and what that says of the whole.
 use Rattle.std.proofs.Common.{◌≡◌, ℕ, zero, suc, ◌≤◌, ◌+◌, ◌-◌, ◌<◌, List, [], ◌∷◌, ◌++◌, length, Option, Some, None, refl, sym, ap, subst, ◌∙◌, append_assoc, arith}
-use Rattle.std.specs.Prelude.{option_map}
+use Rattle.std.specs.Prelude.{◌↔◌, option_map}
 use Rattle.std.proofs.lemmas.List.{append-nil, length-append, length-drop}
 use Rattle.ux_model.specs.Control.{Control, Item, rights_item, cred_item, item_bytes, padding, IsList, nothing, last, further, Gives, neither, rights_alone, cred_alone, cred_first, rights_first, Spells, ReadsAs, ReadsOnce}
 use Rattle.ux_model.specs.ControlReading.{◌>>=◌, item_at, Found, nothing_found, with_item, with_items, control_of, control_in, ReadsByGrammar}
@@ -199,6 +199,20 @@ reads_by_grammar bytes fits = in_bytes bytes (bytes_below bytes fits)
 -- so what the grammar says is what is read
 pub read_is : (bytes : List ℕ) (r : Option Control) → IsBytes bytes → ReadsAs bytes r → control_in bytes ≡ r
 read_is bytes r fits reads = reads_once bytes (control_in bytes) r (in_bytes bytes fits) reads
+
+-- what is read is spelled
+pub read_spells : (bytes : List ℕ) (control : Control) → IsBytes bytes → control_in bytes ≡ Some control → Spells bytes control
+unfolding ReadsAs
+read_spells bytes control fits reads = subst (ReadsAs bytes) reads (in_bytes bytes fits)
+
+-- So an answer is the error exactly where nothing is spelled: where nothing is read it is, and where something is it isn't.
+pub where_none : {R : Type 0} {result error : R} (bytes : List ℕ) → IsBytes bytes → control_in bytes ≡ None → result ≡ error → (result ≡ error) ↔ ((control : Control) → ¬ (Spells bytes control))
+unfolding ReadsAs
+where_none bytes fits reads is = (λ e. subst (ReadsAs bytes) reads (in_bytes bytes fits), λ none. is)
+
+pub where_some : {R : Type 0} {result error : R} (bytes : List ℕ) (control : Control) → IsBytes bytes → control_in bytes ≡ Some control → (result ≡ error → ⊥) →
+    (result ≡ error) ↔ ((other : Control) → ¬ (Spells bytes other))
+where_some bytes control fits reads differs = (λ e. absurd (differs e), λ none. absurd (none control (read_spells bytes control fits reads)))
 
 -- where there are rights to read, there are bytes
 pub has_bytes : (bytes : List ℕ) (control : Control) → control_in bytes ≡ Some control → ¬ (control.rights ≡ []) → 0 < length bytes

@@ -1,6 +1,7 @@
 //! Reading a control buffer.
 ghost use Rattle.std.specs.Prelude.{◌≡◌, ◌<◌, ◌↔◌, [], length, map, None, Some, IsOk, IfOk, option_map};
 ghost use Rattle.ux_model.specs.Control as model;
+ghost use Rattle.ux_model.specs.Control.{Spells};
 ghost use Rattle.ux_model.specs.ControlReading.{numbers_in, with_item, control_of, control_in};
 ghost use Rattle.ux_cmsg.specs.Items.{item_view};
 ghost use Rattle.ux_cmsg.specs.Found.{parts_view};
@@ -119,7 +120,9 @@ fn read_parts<A: Allocator>(alloc: A, parts: Parts<'_>) -> Result<Control<A>, Al
 /// memory.
 pub fn read_control<A: Allocator>(alloc: A, bytes: &[u8]) -> Result<Control<A>, ControlError>
     ensures read { IfOk result (λ control. control_in bytes.now ≡ Some control) }
+    ensures spelled { IfOk result (λ control. Spells bytes.now control) }
     ensures invalid { (result ≡ Err ControlError.Invalid) ↔ (control_in bytes.now ≡ None) }
+    ensures spells_none { (result ≡ Err ControlError.Invalid) ↔ ((control : model.Control) → ¬ (Spells bytes.now control)) }
     // Without descriptor numbers it takes no memory.
     ensures without_rights { (control : model.Control) → control_in bytes.now ≡ Some control → control.rights ≡ [] → IsOk result }
     ensures no_memory { result ≡ Err ControlError.NoMemory → 0 < length bytes.now }
