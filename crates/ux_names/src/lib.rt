@@ -1,6 +1,6 @@
 //! The names of a layer (unix(7)): paths, and names of the abstract namespace, each kind a list in order
-//! of binding. A name is found by a hash of its bytes, and the lowest name that autobind may give without
-//! a search through those that are in use.
+//! of binding, which `len` and `get_index` tell place by place. A name is found by a hash of its bytes, and
+//! the lowest name that autobind may give without a search through those that are in use.
 #![tactic(auto)]
 
 mod abstract_names;
