@@ -34,7 +34,7 @@ fn script_text(alloc: Global, calls: usize) -> Result<String, AllocError> {
 fn entries_of(alloc: Global, script: Script) -> Result<Vec<Entry>, AllocError> {
     let mut entries = Vec::new(alloc);
     for (number, line) in script.lines.into_iter().enumerate() {
-        let Line { pid, act } = line;
+        let Line { pid, act, .. } = line;
         let Act::Call(request) = act else {
             continue;
         };

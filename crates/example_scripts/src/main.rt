@@ -17,11 +17,11 @@ use std::sync::Wait;
 use std::sync::ledger::Blank;
 use ux_history::PARTS;
 use ux_kernel::Kernel;
-use ux_object::{FileObject, ObjKind};
-use ux_objects::{Counter, MemFile, Pipe};
+use ux_object::FileObject;
+use ux_objects::{FailAt, Plain};
 use ux_replay::check_history;
 use ux_script::run_serial;
-use ux_syntax::{Script, parse_script};
+use ux_syntax::{ObjectLine, Script, parse_script};
 use ux_types::{Entry, Name};
 
 /// The scripts by their names.
@@ -112,6 +112,8 @@ const SCRIPTS: &[&str] = &[
     "readiness_of_connections",
     "display_server",
     "poll_of_a_half_closed_connection",
+    "failed_read",
+    "which_calls_fail",
 ];
 
 /// A file object as a kernel holds it.
@@ -141,6 +143,16 @@ enum Pass {
     Again,
     /// By the seats of the processes.
     Seats,
+}
+
+impl Pass {
+    /// Which read or write of an object is to fail: none where the calls are made again, without those that failed.
+    fn failing_call(self, line: &ObjectLine) -> Option<u32> {
+        match self {
+            Pass::Serial | Pass::Seats => line.fail,
+            Pass::Again => None,
+        }
+    }
 }
 
 /// Runs a script over these file objects, and gives its history. It must have this trace.
@@ -199,10 +211,10 @@ fn perform<R: Wait + AllocGlobal>(
     let alloc = rt.alloc();
     let mut objects: Vec<(Name, Boxed)> = Vec::new(alloc);
     for line in &script.objects {
-        let object: Boxed = match line.kind {
-            ObjKind::Memory => Box::new(alloc, MemFile::new(alloc, line.body.as_slice())?)?,
-            ObjKind::Counter => Box::new(alloc, Counter::new())?,
-            ObjKind::Pipe => Box::new(alloc, Pipe::new(alloc)?)?,
+        let plain = Plain::new(alloc, line.kind, line.body.as_slice())?;
+        let object: Boxed = match pass.failing_call(line) {
+            Some(number) => Box::new(alloc, FailAt::new(plain, number))?,
+            None => Box::new(alloc, plain)?,
         };
         objects.push((line.name.clone()?, object))?;
     }

@@ -1,6 +1,11 @@
-//! For tests: takes all memory that there is, so that the next allocation is refused.
+//! For tests: takes all memory that there is, so that the next allocation is refused, or all but so many bytes.
 #![tactic(auto)]
 
+ghost use Rattle.std.specs.Prelude.{◌≤◌};
+
+mod purse;
+
+pub use purse::Purse;
 use std::alloc::{AllocError, Global};
 
 /// The largest block that is asked for: 2^46 bytes, a good part of the address space.
@@ -24,10 +29,17 @@ impl Hoard {
     /// There was no memory for the list of blocks.
     pub fn take_all(alloc: Global) -> Result<Hoard, AllocError> {
         let mut blocks = Vec::with_capacity(alloc, BLOCKS)?;
-        for smaller in 0..LARGEST {
-            take_blocks(alloc, &mut blocks, 1 << (LARGEST - smaller));
-        }
+        take_halving(alloc, &mut blocks, LARGEST);
         Ok(Hoard { _blocks: blocks })
+    }
+}
+
+/// Takes blocks of each power of two up to this one, the largest first.
+fn take_halving(alloc: Global, blocks: &mut Vec<Vec<u8>>, largest: u32)
+    requires { largest ≤ 46 }
+{
+    for smaller in 0..largest {
+        take_blocks(alloc, blocks, 1 << (largest - smaller));
     }
 }
 
@@ -59,6 +71,38 @@ mod tests {
         assert!(rt; refused);
         let again: Result<Vec<u8>, AllocError> = Vec::with_capacity(alloc, 4096);
         assert!(rt; again.is_ok());
+        Ok(())
+    }
+
+    /// Whether a block of this size is given.
+    fn is_given(alloc: Global, size: usize) -> bool {
+        let block: Result<Vec<u8>, AllocError> = Vec::with_capacity(alloc, size);
+        block.is_ok()
+    }
+
+    /// What a purse leaves, a block that it gives then, and one that it doesn't.
+    const LEFT: &[(usize, usize, usize)] = &[
+        (64, 40, 128),
+        (256, 200, 512),
+        (4096, 4000, 4200),
+        (32768, 32000, 33000),
+    ];
+
+    #[test]
+    fn so_many_bytes_are_left(rt: HostRuntime) -> Result<(), Fail> {
+        let alloc = rt.alloc();
+        let mut purse = Purse::new(alloc)?;
+        let mut right = true;
+        for (left, given, refused) in LEFT {
+            purse.leave(alloc, *left);
+            right = right && !is_given(alloc, *refused) && is_given(alloc, *given);
+            purse.refill(alloc);
+            right = right && !is_given(alloc, 1);
+            purse.open();
+            right = right && is_given(alloc, 1 << 20);
+        }
+        drop(purse);
+        assert!(rt; right);
         Ok(())
     }
 }

@@ -4,7 +4,7 @@ use Rattle.ux_model.specs.Types.{Request, Entry}
 use Rattle.ux_model.specs.State.{State}
 use Rattle.ux_model.specs.History.{IsLegal}
 use Rattle.ux_syntax.specs.declared.script.Act.{Act}
-use Rattle.ux_syntax.specs.declared.script.Line.{Line}
+use Rattle.ux_syntax.specs.Lines.{Line}
 use Rattle.ux_syntax.specs.Spelling.{Plan}
 use Rattle.ux_syntax.specs.Turns.{has_exited}
 

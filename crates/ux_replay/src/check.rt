@@ -1,5 +1,6 @@
 //! A history against a kernel that has just started.
-ghost use Rattle.std.specs.Prelude.{◌≡◌, ◌≤◌, [], length, IfOk, IfErr, IsTrue};
+ghost use Rattle.std.specs.Prelude.{◌≡◌, ◌≤◌, ℕ, length, IfOk, IfErr, IsTrue};
+ghost use Rattle.ux_replay.specs.Faults.{entry_at};
 ghost use Rattle.ux_kernel.specs.Calling.{IsCaller};
 
 use std::alloc::Global;
@@ -8,45 +9,99 @@ use ux_object::FileObject;
 use ux_state::{Retired, RetiredList};
 use ux_types::{Entry, Errno, Reply, Request};
 
+/// Why a history wasn't made again to its end.
+#[derive(Clone, Copy, Debug, PartialEq, Eq)]
+pub enum ReplayFault {
+    /// The call of the entry of this number may not be made, is answered otherwise, or releases other file
+    /// objects.
+    Differs(u64),
+    /// No memory was left at the entry of this number, which had it the first time.
+    NoMemory(u64),
+}
+
+impl ReplayFault {
+    /// The number of the first entry that wasn't made again.
+    pub fn entry(self) -> u64
+        ensures { result ≡ entry_at self }
+    {
+        match self {
+            ReplayFault::Differs(number) | ReplayFault::NoMemory(number) => number,
+        }
+    }
+}
+
 /// Makes the calls of a history on this kernel, in order, and gives how many entries it has. Calls that were
 /// answered EIO or ENOMEM are left out: what an object or the allocator refused once, it needn't refuse again.
 ///
 /// # Errors
 ///
 /// The number of the first entry whose call may not be made, is answered otherwise, or releases other file
-/// objects; 0 where an allocation of the replay's own is refused.
+/// objects, or at which no memory is left.
 pub fn check_history<O: FileObject>(
     alloc: Global,
     history: &[Entry],
-    mut kernel: Kernel<O>,
+    kernel: Kernel<O>,
 ) -> Result<u64, u64>
     ensures all { IfOk result (λ n. n ≡ length history.now) }
     ensures first { IfErr result (λ n. n ≤ length history.now) }
 {
+    match replay(alloc, history, kernel) {
+        Ok(count) => Ok(count),
+        Err(fault) => Err(fault.entry()),
+    }
+}
+
+/// Makes the calls of a history as `check_history` does, and tells want of memory from a difference.
+///
+/// # Errors
+///
+/// `Differs` or `NoMemory` at the first entry that isn't made again as it was.
+pub fn replay<O: FileObject>(
+    alloc: Global,
+    history: &[Entry],
+    mut kernel: Kernel<O>,
+) -> Result<u64, ReplayFault>
+    ensures all { IfOk result (λ n. n ≡ length history.now) }
+    ensures first { IfErr result (λ f. entry_at f ≤ length history.now) }
+{
     let found = match RetiredList::new(alloc) {
         Ok(mut retired) => make_again(&mut kernel, history, &mut retired),
-        Err(_) => Err(0),
+        Err(_) => Err(ReplayFault::NoMemory(0)),
     };
     drop(kernel);
     found
 }
 
-/// Makes the calls, up to the first that differs.
+/// Makes the calls, up to the first that isn't as it was.
 fn make_again<O: FileObject>(
     kernel: &mut Kernel<O>,
     history: &[Entry],
     retired: &mut RetiredList<O>,
-) -> Result<u64, u64>
+) -> Result<u64, ReplayFault>
     ensures all { IfOk result (λ n. n ≡ length history.now) }
-    ensures first { IfErr result (λ n. n ≤ length history.now) }
+    ensures first { IfErr result (λ f. entry_at f ≤ length history.now) }
 {
     for number in 0..history.len() {
         let entry = &history[number];
-        if !is_left_out(&entry.reply) && !repeats(kernel, number as u64, entry, retired) {
-            return Err(number as u64);
+        if is_left_out(&entry.reply) {
+            continue;
+        }
+        match repeat(kernel, number as u64, entry, retired) {
+            Repeated::Same => {}
+            Repeated::Otherwise => return Err(ReplayFault::Differs(number as u64)),
+            Repeated::NoMemory => return Err(ReplayFault::NoMemory(number as u64)),
         }
     }
     Ok(history.len() as u64)
+}
+
+/// How a call goes that is made again.
+#[derive(Clone, Copy)]
+enum Repeated {
+    Same,
+    Otherwise,
+    /// It is refused for lack of memory, which it wasn't the first time.
+    NoMemory,
 }
 
 /// Whether the call was refused by an object or for lack of memory.
@@ -55,20 +110,25 @@ fn is_left_out(reply: &Reply) -> bool {
 }
 
 /// Makes an entry's call, and tells whether it is answered as then, and releases the same file objects.
-fn repeats<O: FileObject>(
+fn repeat<O: FileObject>(
     kernel: &mut Kernel<O>,
     number: u64,
     entry: &Entry,
     retired: &mut RetiredList<O>,
-) -> bool {
+) -> Repeated {
     if !may_call(kernel, entry) {
-        return false;
+        return Repeated::Otherwise;
     }
     retired.clear();
     let reply = kernel.step(entry.pid, number, &entry.request, retired);
-    let same = is_same(&reply, &entry.reply);
+    let compared = compare(&reply, &entry.reply);
     drop(reply);
-    same && are_these(retired.as_slice(), entry.released.as_slice())
+    if matches!(compared, Repeated::Same)
+        && !are_these(retired.as_slice(), entry.released.as_slice())
+    {
+        return Repeated::Otherwise;
+    }
+    compared
 }
 
 /// Whether the entry's process may make its call now.
@@ -81,8 +141,15 @@ fn may_call<O: FileObject>(kernel: &Kernel<O>, entry: &Entry) -> bool
     kernel.is_live(entry.pid)
 }
 
-fn is_same(one: &Reply, other: &Reply) -> bool {
-    one == other
+/// An answer beside that of the first time.
+fn compare(again: &Reply, first: &Reply) -> Repeated {
+    if again == first {
+        Repeated::Same
+    } else if matches!(again, Reply::Err(Errno::ENOMEM)) {
+        Repeated::NoMemory
+    } else {
+        Repeated::Otherwise
+    }
 }
 
 /// Whether these are the file objects with these numbers.

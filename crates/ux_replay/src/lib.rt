@@ -3,4 +3,4 @@
 
 mod check;
 
-pub use check::check_history;
+pub use check::{ReplayFault, check_history, replay};

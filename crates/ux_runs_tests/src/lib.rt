@@ -7,6 +7,8 @@ mod again;
 #[cfg(test)]
 mod command;
 #[cfg(test)]
+mod malformed;
+#[cfg(test)]
 mod serial;
 #[cfg(test)]
 mod threads;

@@ -302,6 +302,7 @@ fn a_call_of_nobody_is_a_stranger(rt: HostRuntime) -> Result<(), Fail> {
     script.lines.push(Line {
         pid: Pid(1),
         act: Act::Call(Request::Exit),
+        number: 1,
     })?;
     let mut written: Vec<u8> = Vec::new(alloc);
     let told = run_over(alloc, &script, &mut written);

@@ -18,7 +18,7 @@ use Rattle.ux_model.proofs.Appending.{legal_empty, legal_push}
 use Rattle.ux_history.specs.Books.{Held, state_of, ends_of}
 use Rattle.ux_history.specs.declared.fault.CallFault.{CallFault}
 use Rattle.ux_syntax.specs.declared.script.Act.{Act}
-use Rattle.ux_syntax.specs.declared.script.Line.{Line}
+use Rattle.ux_syntax.specs.Lines.{Line}
 use Rattle.ux_syntax.specs.declared.script.Script.{Script}
 use Rattle.ux_syntax.specs.Spelling.{plan_of, is_exit, asks_exit, asks_off, NamesProcesses, IsQuiet, NoneAfterExit, IsCall, IsOrderly}
 use Rattle.ux_syntax.specs.Turns.{has_exited, exit_line, off_line, is_call, call_lines, all_turns}

@@ -75,8 +75,12 @@ fn expect_invalid(rt: &impl Abort, alloc: Global, bytes: &[u8]) {
 /// Sees at which of its lengths a buffer may be cut.
 fn expect_cuts(rt: &impl Abort, alloc: Global, bytes: &[u8], accepted: &[usize]) {
     for len in 0..bytes.len() {
-        let is_read = read(alloc, &bytes[..len]).is_ok();
-        assert_eq!(rt; is_read, accepted.contains(&len), "{len}");
+        let refused = if accepted.contains(&len) {
+            None
+        } else {
+            Some(ControlError::Invalid)
+        };
+        assert_eq!(rt; read(alloc, &bytes[..len]).err(), refused, "{len}");
     }
     assert!(rt; read(alloc, bytes).is_ok());
 }

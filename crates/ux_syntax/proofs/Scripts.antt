@@ -12,7 +12,7 @@ use Rattle.ux_syntax.specs.declared.fault.ScriptFault.{ScriptFault}
 use Rattle.ux_syntax.specs.declared.script.ObjectLine.{ObjectLine}
 use Rattle.ux_syntax.specs.declared.script.Header.{Header}
 use Rattle.ux_syntax.specs.declared.script.Act.{Act}
-use Rattle.ux_syntax.specs.declared.script.Line.{Line}
+use Rattle.ux_syntax.specs.Lines.{Line}
 use Rattle.ux_syntax.specs.declared.script.Script.{Script}
 use Rattle.ux_syntax.specs.declared.reading.Item.{Item}
 use Rattle.ux_syntax.specs.Spelling.{Written, open_path, read_fd, write_fd, seek, dup_fd, dup_onto, set_flags, close, unlink_path, socket, pair, bind, listen, connect, accept, shut, get_opt, set_opt, sock_name, peer_name, send, recv, poll, exit, meaning, Asked, call, wait, act_of, Turn, line_of, Plan, plan_of, objects_of, procs_of, header_line, turn_line, off_lines, is_meant, FitsHeader, FitsTurn, IsProcess, AwaitsProcess, NamesProcesses, IsCallOfStranger, IsFaultOf, is_off, asks_exit, asks_off, NoneAfterExit, IsCall, IsOrderly, Spells, IsFirstFault}
@@ -655,6 +655,7 @@ fails_named ScriptFault.Reading lines h = h
 fails_named ScriptFault.Writing lines h = h
 fails_named ScriptFault.NoMemory lines h = tt
 fails_named ScriptFault.Stranger lines h = elim h [ ]
+fails_named (ScriptFault.Deadlock waiting) lines h = elim h [ ]
 
 pub gives_fault : (r : Result Script ScriptFault) (lines : List (List ℕ)) → GivesScript r (lines_at 1 no_lines lines) → IfErr r (λ f. Refuses lines f)
 gives_fault (Ok s) lines h = tt

@@ -5,7 +5,8 @@ use Rattle.std.specs.List.{flat_map, join_with_byte}
 use Rattle.std.specs.Fmt.{padded_integral, format_spec, digits}
 use Rattle.std.proofs.lemmas.List.{append-nil, map-append, take_more, map_more, flat_map_more}
 use Rattle.std.proofs.lemmas.Fmt.{hex_byte}
-use Rattle.ux_syntax.specs.Trace.{digit_pair, hex, set_names, spaced, closed_text}
+use Rattle.ux_model.specs.Types.{Pid}
+use Rattle.ux_syntax.specs.Trace.{digit_pair, hex, set_names, spaced, closed_text, place_text, further_places}
 
 pub hex_is : (bs : List ℕ) → 0 < length bs → flat_map digit_pair bs ≡ hex bs
 hex_is [] h = absurd (omega arith)
@@ -40,6 +41,14 @@ pairs_more bytes i lt small = rw (hex_byte false (get_or bytes i 0) small, take_
 -- one more number
 pub spaced_more : (numbers : List ℕ) (i : ℕ) → i < length numbers → spaced (take i numbers) ++ (32 ∷ decimal (get_or numbers i 0)) ≡ spaced (take (i + 1) numbers)
 spaced_more numbers i lt = rw (take_more numbers i 0 lt) (flat_map_more (λ n. 32 ∷ decimal n) [] (take i numbers) (get_or numbers i 0))
+
+abbrev no_place : Pid × ℕ
+no_place = (record { 0 = 0 }, 0)
+
+-- one more process that waits
+pub place_more : (places : List (Pid × ℕ)) (i : ℕ) → i < length places
+    → further_places (take i places) ++ (codes ", " ++ place_text (get_or places i no_place)) ≡ further_places (take (i + 1) places)
+place_more places i lt = rw (take_more places i no_place lt) (flat_map_more (λ p. codes ", " ++ place_text p) [] (take i places) (get_or places i no_place))
 
 pub closed_is : (numbers : List ℕ) → 0 < length numbers → codes " closed" ++ spaced numbers ≡ closed_text numbers
 closed_is [] h = absurd (omega arith)

@@ -1,5 +1,6 @@
 -- In the order in which they are read.
 pub mod Trace
+pub mod Lines
 pub mod Spelling
 pub mod Turns
 pub mod Reading

@@ -15,7 +15,7 @@ use Rattle.ux_syntax.specs.declared.control.ControlWord.{ControlWord}
 use Rattle.ux_syntax.specs.declared.script.ObjectLine.{ObjectLine}
 use Rattle.ux_syntax.specs.declared.script.Header.{Header}
 use Rattle.ux_syntax.specs.declared.script.Act.{Act}
-use Rattle.ux_syntax.specs.declared.script.Line.{Line}
+use Rattle.ux_syntax.specs.Lines.{Line}
 use Rattle.ux_syntax.specs.declared.reading.Item.{Item}
 use Rattle.ux_syntax.specs.Trace.{dash, stands, word_text}
 use Rattle.ux_syntax.specs.Spelling.{Plan, open_path, read_fd, write_fd, seek, dup_fd, dup_onto, set_flags, close, unlink_path, socket, pair, bind, listen, connect, accept, shut, get_opt, set_opt, sock_name, peer_name, send, recv, poll, exit, meaning, mode_text, type_text, option_text, whence_text, kind_text, is_meant}
@@ -360,6 +360,11 @@ args_at CallWord.Off ws = Err BadLine
 
 -- ---- the header
 
+-- which read or write fails, from 1, where the words begin with it, and the words after it
+abbrev pub fail_at : List (List ℕ) → Result (Option ℕ × List (List ℕ)) Fault
+fail_at [] = Ok (None, [])
+fail_at (w ∷ ws) = if bytes_eq w (codes "fail") then (one number_at ws >>= λ x. if x.0 == 0 then Err BadLine else Ok (Some x.0, x.1)) else Ok (None, w ∷ ws)
+
 -- what an object of this kind starts with
 abbrev pub body_at : ObjKind → List (List ℕ) → Result (List ℕ) Fault
 body_at ObjKind.Memory ws = (hex_at >> ends) ws >>= λ x. Ok x.0
@@ -369,8 +374,12 @@ body_at ObjKind.Pipe ws = ends ws >>= λ x. Ok []
 abbrev pub contents_at : List (List ℕ) → Result (ObjKind × List ℕ) Fault
 contents_at ws = one kind_at ws >>= λ x. body_at x.0 x.1 >>= λ body. Ok (x.0, body)
 
+-- an object behind its name
+abbrev pub described_at : List (List ℕ) → Result (Option ℕ × (ObjKind × List ℕ)) Fault
+described_at ws = fail_at ws >>= λ f. contents_at f.1 >>= λ x. Ok (f.0, x)
+
 unfoldable pub object_at : List (List ℕ) → Result ObjectLine Fault
-object_at ws = (path_at >> contents_at) ws >>= λ x. Ok (record { name = x.0; kind = x.1.0; body = x.1.1 })
+object_at ws = (path_at >> described_at) ws >>= λ x. Ok (record { name = x.0; fail = x.1.0; kind = x.1.1.0; body = x.1.1.1 })
 
 unfoldable pub proc_at : List (List ℕ) → Result ProcSpec Fault
 proc_at ws = (number_at >> number_at >> bit_at >> number_at >> ends) ws >>= λ x. Ok (record { uid = x.0; gid = x.1.0; privileged = x.1.1.0; limit = x.1.1.1.0 })

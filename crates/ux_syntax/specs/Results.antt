@@ -35,6 +35,7 @@ FailsAt ScriptFault.Reading read = ⊥
 FailsAt ScriptFault.Writing read = ⊥
 FailsAt ScriptFault.NoMemory read = Unit {0}
 FailsAt ScriptFault.Stranger read = ⊥
+FailsAt (ScriptFault.Deadlock waiting) read = ⊥
 
 abbrev pub GivesScript : Result Script ScriptFault → Result Plan ScriptFault → Type 0
 GivesScript (Ok s) read = read ≡ Ok (plan_of s)
@@ -49,6 +50,7 @@ Refuses texts ScriptFault.Reading = ⊥
 Refuses texts ScriptFault.Writing = ⊥
 Refuses texts ScriptFault.NoMemory = Unit {0}
 Refuses texts ScriptFault.Stranger = ⊥
+Refuses texts (ScriptFault.Deadlock waiting) = ⊥
 
 -- one mark for each process, which says whether the process has made its exit
 pub record Marks (s : Plan) (exited : List Bool) : Type 0 where

@@ -14,7 +14,7 @@ use Rattle.ux_syntax.specs.declared.fault.Fault.{Fault}
 use Rattle.ux_syntax.specs.declared.script.ObjectLine.{ObjectLine}
 use Rattle.ux_syntax.specs.declared.script.Header.{Header}
 use Rattle.ux_syntax.specs.declared.script.Act.{Act}
-use Rattle.ux_syntax.specs.declared.script.Line.{Line}
+use Rattle.ux_syntax.specs.Lines.{Line}
 use Rattle.ux_syntax.specs.declared.script.Script.{Script}
 use Rattle.ux_syntax.specs.Trace.{dash, hex, path_text, addr_text, addr_or_dash, raw_text, rights_text, cred_text, word_text, request_word}
 
@@ -217,8 +217,13 @@ body_words ObjKind.Memory body = hex body ∷ []
 body_words ObjKind.Counter body = []
 body_words ObjKind.Pipe body = []
 
+-- which of its reads and writes fails, where one does
+abbrev pub fail_words : Option ℕ → List (List ℕ)
+fail_words None = []
+fail_words (Some n) = codes "fail" ∷ decimal n ∷ []
+
 abbrev pub header_words : Header → List (List ℕ)
-header_words (Header.Object o) = codes "object" ∷ path_text o.name ∷ kind_text o.kind ∷ body_words o.kind o.body
+header_words (Header.Object o) = codes "object" ∷ path_text o.name ∷ (fail_words o.fail ++ (kind_text o.kind ∷ body_words o.kind o.body))
 header_words (Header.Proc p) = codes "proc" ∷ decimal p.uid ∷ decimal p.gid ∷ bit p.privileged ∷ decimal p.limit ∷ []
 
 abbrev pub header_line : Header → List ℕ
@@ -340,8 +345,13 @@ FitsBody ObjKind.Memory body = AreBytes body
 FitsBody ObjKind.Counter body = body ≡ []
 FitsBody ObjKind.Pipe body = body ≡ []
 
+-- reads and writes are counted from 1
+abbrev pub FitsFail : Option ℕ → Type 0
+FitsFail None = Unit {0}
+FitsFail (Some n) = (0 < n) × IsNumber n
+
 abbrev pub FitsHeader : Header → Type 0
-FitsHeader (Header.Object o) = AreBytes o.name × FitsBody o.kind o.body
+FitsHeader (Header.Object o) = AreBytes o.name × FitsFail o.fail × FitsBody o.kind o.body
 FitsHeader (Header.Proc p) = IsNumber p.uid × IsNumber p.gid × IsNumber p.limit
 
 -- ---- which lines a script may have

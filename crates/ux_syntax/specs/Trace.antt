@@ -2,7 +2,7 @@
 use Rattle.std.specs.Prelude.{ℕ, ◌+◌, ◌/◌, ◌%◌, Bool, false, List, [], ◌∷◌, ◌++◌, map, Option, Some, None, codes, decimal, if◌then◌else◌, ◌==◌, ◌&&◌, not, nat_le}
 use Rattle.std.specs.Fmt.{digit_glyph}
 use Rattle.std.specs.List.{flat_map, join_with_byte}
-use Rattle.ux_model.specs.Types.{Cred, Name, Addr, Errno, MsgFlags, PollFlags, Request, Reply, Entry}
+use Rattle.ux_model.specs.Types.{Pid, Cred, Name, Addr, Errno, MsgFlags, PollFlags, Request, Reply, Entry}
 use Rattle.ux_model.specs.Control.{Control}
 use Rattle.ux_model.specs.ControlReading.{control_in}
 use Rattle.ux_model.specs.Flags.{has_bits}
@@ -241,3 +241,16 @@ trace_from n (e ∷ es) = entry_line n e ++ trace_from (n + 1) es
 -- the text of a whole history
 abbrev pub trace : List Entry → List ℕ
 trace es = trace_from 0 es
+
+-- ---- where processes wait
+
+abbrev pub place_text : Pid × ℕ → List ℕ
+place_text p = codes "process " ++ (decimal p.0.0 ++ (codes " waits in line " ++ decimal p.1))
+
+abbrev pub further_places : List (Pid × ℕ) → List ℕ
+further_places places = flat_map (λ p. codes ", " ++ place_text p) places
+
+-- processes and the lines that they wait in, joined by a comma and a blank
+abbrev pub waiting_text : List (Pid × ℕ) → List ℕ
+waiting_text [] = []
+waiting_text (p ∷ ps) = place_text p ++ further_places ps

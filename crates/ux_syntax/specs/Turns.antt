@@ -3,7 +3,7 @@ use Rattle.std.specs.Prelude.{ℕ, Bool, true, false, List, [], ◌∷◌, lengt
 use Rattle.std.specs.List.{list_any, range_with_len}
 use Rattle.ux_model.specs.Types.{ProcSpec, Request}
 use Rattle.ux_syntax.specs.declared.script.Act.{Act}
-use Rattle.ux_syntax.specs.declared.script.Line.{Line}
+use Rattle.ux_syntax.specs.Lines.{Line}
 use Rattle.ux_syntax.specs.Spelling.{Plan, asks_exit}
 
 -- one of the lines is the process's exit

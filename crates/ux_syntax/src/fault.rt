@@ -4,6 +4,7 @@ ghost use Rattle.std.specs.Prelude.{◌≡◌};
 ghost use Rattle.ux_syntax.specs.declared.fault.LineError.TheVariants.{Memory};
 ghost use Rattle.ux_syntax.specs.Results.{fault_at};
 
+use crate::waiting::Waiting;
 use std::alloc::{AllocError, AllocFailed};
 use thiserror::Error;
 
@@ -51,6 +52,9 @@ pub enum ScriptFault {
     /// A line is of no process, or of one that has exited. No text spells such a script.
     #[error("stranger")]
     Stranger,
+    /// Each process that has not exited waits, and nobody is left to wake one.
+    #[error("deadlock: {0}")]
+    Deadlock(Waiting),
 }
 
 impl From<AllocError> for LineError {

@@ -13,6 +13,7 @@ mod reading;
 mod row;
 mod script;
 mod trace;
+mod waiting;
 mod words;
 
 pub use calls::CallWord;
@@ -22,3 +23,4 @@ pub use input::read_script;
 pub use reading::{one_script, parse_script};
 pub use script::{Act, Line, ObjectLine, Script};
 pub use trace::entry_text;
+pub use waiting::Waiting;

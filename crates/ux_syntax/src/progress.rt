@@ -89,7 +89,7 @@ impl Progress {
         ensures number { OnOk result (self.new.number ≤ self.old.number + 1) }
         ensures fault { IfErr result (λ f. (rest : List ℕ) → FailsAt f (continued (plan_of self.old.reader.script) self.old.number self.old.line.items (10 ∷ rest))) }
     {
-        if let Err(error) = self.reader.read_line(alloc, &self.line) {
+        if let Err(error) = self.reader.read_line(alloc, self.number, &self.line) {
             return Err(error.at(self.number));
         }
         self.line.clear();
@@ -108,7 +108,7 @@ impl Progress {
             number,
             line,
         } = self;
-        match reader.read_line(alloc, &line) {
+        match reader.read_line(alloc, number, &line) {
             Ok(()) => Ok(reader.script),
             Err(error) => Err(error.at(number)),
         }

@@ -33,7 +33,7 @@ enum Item {
 }
 
 #[tactic(auto, unfolding(crate::specs::Reading::words_at))]
-fn words_of(alloc: Global, words: &[&[u8]]) -> Result<Item, LineError>
+fn words_of(alloc: Global, number: usize, words: &[&[u8]]) -> Result<Item, LineError>
     ensures { Gives (λ item. item) result (words_at (map (λ w. w.now) words.now)) }
 {
     let (first, rest) = next(words)?;
@@ -49,7 +49,7 @@ fn words_of(alloc: Global, words: &[&[u8]]) -> Result<Item, LineError>
     }
     let pid = Pid(u32::of(alloc, first)?);
     let act = act_of(alloc, rest)?;
-    Ok(Item::Line(Line { pid, act }))
+    Ok(Item::Line(Line { pid, act, number }))
 }
 
 fn says_nothing(text: &[u8]) -> bool
@@ -73,9 +73,9 @@ fn split_lines<'a>(alloc: Global, text: &'a [u8]) -> Result<Vec<&'a [u8]>, Alloc
     text.split(|b| *b == b'\n').collect(alloc)
 }
 
-/// What one line says.
+/// What the line of this number says.
 #[tactic(auto, unfolding(crate::specs::Reading::item_at))]
-fn item_of(alloc: Global, text: &[u8]) -> Result<Item, LineError>
+fn item_of(alloc: Global, number: usize, text: &[u8]) -> Result<Item, LineError>
     ensures { Gives (λ item. item) result (item_at text.now) }
 {
     if text.len() > LINE_LIMIT {
@@ -85,7 +85,7 @@ fn item_of(alloc: Global, text: &[u8]) -> Result<Item, LineError>
         return Ok(Item::Skipped);
     }
     let words = split_words(alloc, text)?;
-    words_of(alloc, &words)
+    words_of(alloc, number, &words)
 }
 
 /// A script as far as it was read, with a mark for each process that has made its exit.
@@ -168,14 +168,19 @@ impl Reader {
         Ok(())
     }
 
-    /// Reads a line and adds what it says.
+    /// Reads the line of this number and adds what it says.
     #[tactic(auto, unfolding(crate::specs::Reading::line_at))]
-    pub(crate) fn read_line(&mut self, alloc: Global, text: &[u8]) -> Result<(), LineError>
+    pub(crate) fn read_line(
+        &mut self,
+        alloc: Global,
+        number: usize,
+        text: &[u8],
+    ) -> Result<(), LineError>
         requires { Marks (plan_of self.old.script) self.old.exited.items }
         ensures reads { Leaves (plan_of self.new.script) result (line_at (plan_of self.old.script) text.now) }
         ensures marks { OnOk result (Marks (plan_of self.new.script) self.new.exited.items) }
     {
-        let item = item_of(alloc, text)?;
+        let item = item_of(alloc, number, text)?;
         if self.script.off && !matches!(item, Item::Skipped) {
             return Err(BAD);
         }
@@ -197,9 +202,10 @@ fn read_lines(alloc: Global, texts: &[&[u8]]) -> Result<Script, ScriptFault>
 {
     let mut reader = Reader::new(alloc);
     for (index, text) in texts.iter().enumerate() {
-        match reader.read_line(alloc, text) {
+        let number = index + 1;
+        match reader.read_line(alloc, number, text) {
             Ok(()) => {}
-            Err(error) => return Err(error.at(index + 1)),
+            Err(error) => return Err(error.at(number)),
         }
     }
     Ok(reader.script)
@@ -219,8 +225,9 @@ fn read_text(alloc: Global, text: &[u8]) -> Result<Script, ScriptFault>
 ///
 /// A script is lines that end at line feeds; the last may have none. Empty lines and those that begin
 /// with `#` are skipped, and counted. The words of a line stand one blank apart. The header comes first,
-/// its lines in any order: `object p:NAME mem HEX`, `object p:NAME counter` and `object p:NAME pipe`
-/// number the file objects from 0, and `proc UID GID PRIV LIMIT` the processes from 1. Each further line
+/// its lines in any order: `object p:NAME mem HEX`, `object p:NAME counter` and `object p:NAME pipe`,
+/// with `fail N` in front of the kind where the object's Nth read or write fails, number the file objects
+/// from 0, and `proc UID GID PRIV LIMIT` the processes from 1. Each further line
 /// is a process's number and what it asks for: `open p:NAME MODE OFLAGS`, `read FD N`, `write FD HEX`,
 /// `lseek FD OFFSET WHENCE`, `dup FD`, `dup2 FD FD`, `flags FD OFLAGS`, `close FD`, `unlink p:NAME`,
 /// `socket TYPE OFLAGS`, `pair TYPE OFLAGS`, `bind FD ADDR`, `listen FD BACKLOG`, `connect FD ADDR`,

@@ -3,6 +3,7 @@
 ghost use Rattle.std.specs.Prelude.{◌≡◌};
 ghost use Rattle.ux_syntax.specs.Spelling.{asks_exit};
 
+use std::marker::Model;
 use ux_object::ObjKind;
 use ux_types::{Bytes, Name, Pid, ProcSpec, Request};
 
@@ -10,6 +11,8 @@ use ux_types::{Bytes, Name, Pid, ProcSpec, Request};
 #[derive(Debug, Drop)]
 pub struct ObjectLine {
     pub name: Name,
+    /// Which of its reads and writes together fails, counted from 1; none does where there is none.
+    pub fail: Option<u32>,
     pub kind: ObjKind,
     /// Empty for a counter and a pipe.
     pub body: Bytes,
@@ -24,11 +27,22 @@ pub enum Act {
     Wait(Pid, u32),
 }
 
-/// One line of a process: its number, and what it asks for.
+/// One line of a process: the process's number, and what it asks for.
 #[derive(Debug, Drop)]
 pub struct Line {
     pub pid: Pid,
     pub act: Act,
+    /// The number of the text's line, counted from 1.
+    pub number: usize,
+}
+
+/// What a script says doesn't depend on where its lines stand, so the line's number is not seen.
+impl Model for Line {
+    ghost use Rattle.ux_syntax.specs.Lines as seen;
+
+    ghost Value = { seen.Line };
+
+    ghost view = { λ line. record { pid = line.pid; act = line.act } };
 }
 
 /// The file objects of a script, of which the first has number 0, its processes, of which the first

@@ -10,11 +10,11 @@ use std::sync::Wait;
 use std::thread::Threads;
 use ux_command::Fault;
 use ux_kernel::{BootFault, Kernel};
-use ux_object::{FileObject, ObjKind};
-use ux_objects::{Counter, MemFile, Pipe};
-use ux_replay::check_history;
+use ux_object::FileObject;
+use ux_objects::{FailAt, Plain};
+use ux_replay::{ReplayFault, replay};
 use ux_script::run_serial;
-use ux_syntax::Script;
+use ux_syntax::{ObjectLine, Script, ScriptFault};
 use ux_threads::{NoGate, run_threads};
 use ux_types::{Entry, Name, OBJECT_LIMIT};
 
@@ -50,6 +50,17 @@ pub fn check_script<R: Threads + Wait + Print + AllocGlobal + Sync>(
     perform(rt, script, Task::Check { history })
 }
 
+impl Task {
+    /// Which read or write of an object is to fail. What failed once is left out when the calls are made once
+    /// more, so nothing fails then.
+    fn failing_call(&self, line: &ObjectLine) -> Option<u32> {
+        match self {
+            Task::Run { .. } => line.fail,
+            Task::Check { .. } => None,
+        }
+    }
+}
+
 /// Makes the script's file objects, and does this with them. More than a kernel may have are counted before any
 /// is made. The boxes are made and used here, since the gate lets no function hand out a `dyn` value that it made.
 fn perform<R: Threads + Wait + Print + AllocGlobal + Sync>(
@@ -63,10 +74,10 @@ fn perform<R: Threads + Wait + Print + AllocGlobal + Sync>(
     }
     let mut objects: Vec<(Name, Boxed)> = Vec::new(alloc);
     for line in &script.objects {
-        let object: Boxed = match line.kind {
-            ObjKind::Memory => Box::new(alloc, MemFile::new(alloc, line.body.as_slice())?)?,
-            ObjKind::Counter => Box::new(alloc, Counter::new())?,
-            ObjKind::Pipe => Box::new(alloc, Pipe::new(alloc)?)?,
+        let plain = Plain::new(alloc, line.kind, line.body.as_slice())?;
+        let object: Boxed = match task.failing_call(line) {
+            Some(number) => Box::new(alloc, FailAt::new(plain, number))?,
+            None => Box::new(alloc, plain)?,
         };
         objects.push((line.name.clone()?, object))?;
     }
@@ -117,8 +128,9 @@ fn check_over<O: FileObject>(
     objects: Vec<(Name, O)>,
 ) -> Result<Vec<Entry>, Fault> {
     let kernel = kernel_of(alloc, script, objects)?;
-    match check_history(alloc, &history, kernel) {
+    match replay(alloc, &history, kernel) {
         Ok(_count) => Ok(history),
-        Err(number) => Err(Fault::Differs(number)),
+        Err(ReplayFault::Differs(number)) => Err(Fault::Differs(number)),
+        Err(ReplayFault::NoMemory(_)) => Err(Fault::Script(ScriptFault::NoMemory)),
     }
 }

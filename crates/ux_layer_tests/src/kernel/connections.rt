@@ -1,17 +1,18 @@
 //! Connections: how many ends wait, and what a refused allocation leaves. What is answered to whom stands in
 //! the scripts of `examples/`.
 use super::{
-    Asked, At, Machine, Row, Told, bare, process, says_at_last, says_rows, says_without_memory,
+    Asked, At, Machine, Row, Told, bare, process, says_alone, says_at_last, says_rows,
+    says_without_memory,
 };
 use std::alloc::{AllocError, Global};
 use std::process::Abort;
 use ux_types::Errno;
 
-/// A listener whose backlog is as long as it can be.
+/// A listener that asks for a longer backlog than there is.
 const LONGEST: &[Row] = &[
     (1, Asked::Socket, Told::Fd(0)),
     (1, Asked::Bind(0, At::Abstract(b"l")), Told::Ok),
-    (1, Asked::Listen(0, i32::MAX), Told::Ok),
+    (1, Asked::Listen(0, 500), Told::Ok),
 ];
 
 /// One more than may wait at it.
@@ -50,6 +51,33 @@ fn at_most_128_ends_wait(rt: HostRuntime) -> Result<(), AllocError> {
         connects(&rt, alloc, k, fd)?;
     }
     says_rows(&rt, alloc, k, ONE_MORE)
+}
+
+const OF_107: &[u8] =
+    b"aaaaaaaaaaaaaaaaaaaaaaaaaaaaaaaaaaaaaaaaaaaaaaaaaaaaaaaaaaaaaaaaaaaaaaaaaaaaaaaaaaaaaaaaaaaaaaaaaaaaaaaaaaa";
+
+const OF_108: &[u8] =
+    b"aaaaaaaaaaaaaaaaaaaaaaaaaaaaaaaaaaaaaaaaaaaaaaaaaaaaaaaaaaaaaaaaaaaaaaaaaaaaaaaaaaaaaaaaaaaaaaaaaaaaaaaaaaaa";
+
+/// Names at their limits (unix(7)).
+const NAMES: &[Row] = &[
+    (1, Asked::Socket, Told::Fd(0)),
+    (1, Asked::Bind(0, At::Path(b"")), Told::Err(Errno::EINVAL)),
+    (1, Asked::Bind(0, At::Path(OF_108)), Told::Err(Errno::EINVAL)),
+    (1, Asked::Bind(0, At::Abstract(OF_108)), Told::Err(Errno::EINVAL)),
+    (1, Asked::Bind(0, At::Path(OF_107)), Told::Ok),
+    (1, Asked::SockName(0), Told::Addr(At::Path(OF_107))),
+    (1, Asked::Socket, Told::Fd(1)),
+    (1, Asked::Bind(1, At::Abstract(OF_107)), Told::Ok),
+    (1, Asked::SockName(1), Told::Addr(At::Abstract(OF_107))),
+    (1, Asked::Socket, Told::Fd(2)),
+    (1, Asked::Bind(2, At::Abstract(b"")), Told::Ok),
+    (1, Asked::SockName(2), Told::Addr(At::Abstract(b""))),
+];
+
+#[test]
+fn a_name_has_107_bytes_at_most(rt: HostRuntime) -> Result<(), AllocError> {
+    says_alone(&rt, rt.alloc(), 16, NAMES)
 }
 
 /// The first socket, and its path.

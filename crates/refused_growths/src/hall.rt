@@ -1,0 +1,313 @@
+//! A script whose calls are made by the seats of its processes, with little memory or with none.
+
+ghost use Rattle.std.specs.Prelude.{◌≡◌, false};
+ghost use Rattle.ux_model.specs.Boot.{IsBootState};
+ghost use Rattle.ux_history.specs.Books.{is_last};
+
+use crate::scarcity::{STEPS, Supply, bytes_at};
+use anyhow::{Result, anyhow};
+use hoard::Purse;
+use std::alloc::{AllocError, Global};
+use std::sync::Wait;
+use std::sync::ledger::Blank;
+use ux_history::{Book, BookName, CallFault, Receipt, Spent, is_last};
+use ux_kernel::Kernel;
+use ux_layer::{Layer, Seat, start};
+use ux_objects::Plain;
+use ux_syntax::{Act, Script};
+use ux_types::{Entry, Errno, Pid, Reply, Request};
+
+/// A layer, the seats of its processes as long as they haven't exited, and what their calls left.
+struct Hall<W: BookName> {
+    layer: Layer<W, Plain>,
+    seats: Vec<Option<Seat<W, Plain>>>,
+    receipts: Vec<Receipt<W>>,
+    spents: Vec<Spent<W>>,
+    /// How many calls were refused memory.
+    refusals: usize,
+}
+
+/// Written out, a drop is a call, and not each of its parts in the proof of each function that drops one.
+impl<W: BookName> Drop for Hall<W> {
+    fn drop(self) {
+        let Hall {
+            layer,
+            seats,
+            receipts,
+            spents,
+            refusals: _,
+        } = self;
+        drop(seats);
+        drop(receipts);
+        drop(spents);
+        drop(layer);
+    }
+}
+
+/// How a call went.
+#[derive(Clone, Copy, PartialEq, Eq)]
+enum Made {
+    Answered,
+    /// It was refused memory: by the book, which made no entry, or by the kernel, which made one.
+    Refused,
+}
+
+impl<W: BookName> Hall<W> {
+    /// Room for what so many calls leave is taken here.
+    fn new(
+        alloc: Global,
+        layer: Layer<W, Plain>,
+        seats: Vec<Seat<W, Plain>>,
+        calls: usize,
+    ) -> Result<Hall<W>> {
+        let mut places = Vec::with_capacity(alloc, seats.len())?;
+        let spents = Vec::with_capacity(alloc, seats.len())?;
+        for seat in seats {
+            if places.push(Some(seat)).is_err() {
+                return Err(anyhow!("out of memory"));
+            }
+        }
+        Ok(Hall {
+            layer,
+            seats: places,
+            receipts: Vec::with_capacity(alloc, calls)?,
+            spents,
+            refusals: 0,
+        })
+    }
+
+    /// How many entries the history has.
+    fn entries<R: Wait>(&self, rt: &R) -> usize {
+        self.layer.book(rt).book().entries().len()
+    }
+
+    /// The seat of a process that hasn't exited.
+    fn seat(&mut self, pid: Pid) -> Option<&mut Seat<W, Plain>> {
+        match self.seats.get_mut((pid.0 as usize).wrapping_sub(1)) {
+            Some(Some(seat)) => Some(seat),
+            _ => None,
+        }
+    }
+
+    /// Makes a call, and sees that it counts where an entry was made, and not where none was. Where so many bytes
+    /// are named, no more is left for it.
+    fn call<R: Wait + AllocGlobal>(
+        &mut self,
+        rt: &R,
+        purse: &mut Purse,
+        bytes: Option<usize>,
+        pid: Pid,
+        request: &Request,
+    ) -> Result<Made>
+        requires { is_last request.now ≡ false }
+    {
+        let before = self.entries(rt);
+        let Some(seat) = self.seat(pid) else {
+            return Err(anyhow!("a call after the exit"));
+        };
+        let calls = seat.calls();
+        if let Some(bytes) = bytes {
+            purse.leave(rt.alloc(), bytes);
+        }
+        let answer = seat.call(rt, request);
+        if bytes.is_some() {
+            purse.open();
+        }
+        let counted = seat.calls().wrapping_sub(calls);
+        let entered = self.entries(rt).wrapping_sub(before);
+        match answer {
+            Ok((reply, receipt)) => {
+                let refused = matches!(reply, Reply::Err(Errno::ENOMEM));
+                drop(reply);
+                self.receipts.push(receipt)?;
+                if (counted, entered) != (1, 1) {
+                    return Err(anyhow!("an answer without an entry"));
+                }
+                Ok(if refused {
+                    Made::Refused
+                } else {
+                    Made::Answered
+                })
+            }
+            Err(CallFault::NoMemory) if (counted, entered) == (0, 0) => Ok(Made::Refused),
+            Err(fault) => Err(anyhow!("{fault}")),
+        }
+    }
+
+    /// Makes a call with no memory, and with more while it is refused.
+    fn call_at_last<R: Wait + AllocGlobal>(
+        &mut self,
+        rt: &R,
+        purse: &mut Purse,
+        pid: Pid,
+        request: &Request,
+    ) -> Result<()>
+        requires { is_last request.now ≡ false }
+    {
+        for step in 0..STEPS {
+            if self.call(rt, purse, Some(bytes_at(step)), pid, request)? == Made::Answered {
+                return Ok(());
+            }
+            self.refusals = self.refusals.saturating_add(1);
+        }
+        // It wants more than a purse leaves.
+        if self.call(rt, purse, None, pid, request)? == Made::Refused {
+            return Err(anyhow!("refused with ample memory"));
+        }
+        Ok(())
+    }
+
+    /// Ends a process, if it hasn't exited.
+    fn exit<R: Wait>(&mut self, rt: &R, pid: Pid) -> Result<()> {
+        let Some(place) = self.seats.get_mut((pid.0 as usize).wrapping_sub(1)) else {
+            return Ok(());
+        };
+        let Some(seat) = place.take() else {
+            return Ok(());
+        };
+        match seat.exit(rt) {
+            Ok(spent) => {
+                self.spents.push(spent)?;
+                Ok(())
+            }
+            Err((fault, _seat)) => Err(anyhow!("{fault}")),
+        }
+    }
+
+    /// Makes a line's call, which is the script's call of this number.
+    fn make<R: Wait + AllocGlobal>(
+        &mut self,
+        rt: &R,
+        purse: &mut Purse,
+        supply: Supply,
+        number: usize,
+        pid: Pid,
+        request: &Request,
+    ) -> Result<()> {
+        if matches!(supply, Supply::NoneAfter(calls) if calls == number) {
+            purse.refill(rt.alloc());
+        }
+        if is_last(request) {
+            return self.exit(rt, pid);
+        }
+        match supply {
+            Supply::Scarce(_) => self.call_at_last(rt, purse, pid, request),
+            Supply::NoneAfter(calls) if calls <= number => {
+                self.call(rt, purse, None, pid, request)?;
+                Ok(())
+            }
+            Supply::Ample | Supply::NoneAfter(_) => {
+                if self.call(rt, purse, None, pid, request)? == Made::Refused {
+                    return Err(anyhow!("refused with ample memory"));
+                }
+                Ok(())
+            }
+        }
+    }
+
+    /// Makes the calls of the script's lines.
+    fn make_calls<R: Wait + AllocGlobal>(
+        &mut self,
+        rt: &R,
+        purse: &mut Purse,
+        supply: Supply,
+        script: &Script,
+    ) -> Result<()> {
+        for (number, line) in script.lines.iter().enumerate() {
+            if let Act::Call(request) = &line.act {
+                self.make(rt, purse, supply, number, line.pid, request)?;
+            }
+        }
+        Ok(())
+    }
+
+    /// Ends each process that is left, and the layer.
+    fn make_ends<R: Wait>(&mut self, rt: &R) -> Result<()> {
+        let mut pid = Pid(0);
+        for _ in 0..self.seats.len() {
+            pid = Pid(pid.0.wrapping_add(1));
+            self.exit(rt, pid)?;
+        }
+        match self.layer.off(rt) {
+            Ok(()) => Ok(()),
+            Err(fault) => Err(anyhow!("{fault}")),
+        }
+    }
+
+    /// Settles the layer, which has ended, and looks for each receipt, with the memory that there is; then gives all
+    /// memory, and the history.
+    fn finish<R: Wait + AllocGlobal>(self, rt: &R, purse: &mut Purse) -> Result<Vec<Entry>> {
+        let Hall {
+            layer,
+            seats,
+            receipts,
+            spents,
+            refusals: _,
+        } = self;
+        drop(seats);
+        let settled = layer.settle(rt, spents);
+        let guard = layer.book(rt);
+        let held = holds_all(guard.book(), &receipts);
+        purse.open();
+        let entries = guard.book().entries();
+        match settled {
+            Ok(account) if held && account.entries == entries.len() => {
+                Ok(copies(rt.alloc(), entries)?)
+            }
+            Ok(_account) => Err(anyhow!("a receipt or an entry is lost")),
+            Err((fault, _spents)) => Err(anyhow!("{fault}")),
+        }
+    }
+}
+
+/// Whether each of these receipts stands in the book.
+fn holds_all<W: BookName>(book: &Book<W, Plain>, receipts: &[Receipt<W>]) -> bool {
+    receipts.iter().all(|receipt| book.holds(receipt))
+}
+
+/// Copies of a history's entries.
+pub fn copies(alloc: Global, entries: &[Entry]) -> Result<Vec<Entry>, AllocError> {
+    let mut copied = Vec::with_capacity(alloc, entries.len())?;
+    for entry in entries {
+        copied.push(entry.clone()?)?;
+    }
+    Ok(copied)
+}
+
+/// Makes a script's calls by seats with so much memory, ends the layer, and gives its history; none where it
+/// didn't start for lack of memory, and the kernel came back with its processes.
+pub fn run_by_seats<W: BookName, R: Wait + AllocGlobal>(
+    rt: &R,
+    blank: Blank,
+    kernel: Kernel<Plain>,
+    purse: &mut Purse,
+    script: &Script,
+    supply: Supply,
+) -> Result<Option<Vec<Entry>>>
+    requires name { blank.name ≡ W.name }
+    requires parts { (blank.parts ≡ W.parts) × (blank.parts ≡ 1024) }
+    requires boots { IsBootState kernel }
+    requires named { kernel ≡ W.boot }
+{
+    let alloc = rt.alloc();
+    if let Supply::Scarce(bytes) = supply {
+        purse.leave(alloc, bytes);
+    }
+    let started = start::<W, Plain, R>(rt, alloc, blank, kernel);
+    purse.open();
+    let (layer, seats) = match started {
+        Ok(made) => made,
+        Err((kernel, _)) if kernel.has_live() => return Ok(None),
+        Err(_) => return Err(anyhow!("another kernel comes back")),
+    };
+    let mut hall = Hall::new(alloc, layer, seats, script.lines.len())?;
+    hall.make_calls(rt, purse, supply, script)?;
+    if matches!(supply, Supply::Scarce(_)) {
+        if hall.refusals == 0 {
+            return Err(anyhow!("no call is refused"));
+        }
+        purse.refill(alloc);
+    }
+    hall.make_ends(rt)?;
+    Ok(Some(hall.finish(rt, purse)?))
+}
