@@ -2,3 +2,6 @@ pub mod Legal
 pub mod Slips
 pub mod Accounts
 pub mod SameRequests
+pub mod Trails
+pub mod Running
+pub mod Stands

@@ -1,18 +1,20 @@
 //! What the shares of all processes counted, against the entries.
-ghost use Rattle.std.specs.Prelude.{◌≡◌, ◌+◌, ◌-◌, ◌<◌, ◌≤◌, true, false, not, length, sum_by, IfOk, IfErr, if◌then◌else◌};
+ghost use Rattle.std.specs.Prelude.{◌≡◌, ◌+◌, ◌-◌, ◌<◌, ◌≤◌, ◌==◌, true, false, not, length, sum_by, IfOk, IfErr, if◌then◌else◌};
 ghost use Rattle.ux_model.specs.Limits.{process_limit};
+ghost use Rattle.ux_model.specs.History.{calls_of};
 ghost use Rattle.ux_history.specs.Books.{ends_of};
 ghost use Rattle.ux_history.specs.Shares.{processes, times, once_each, all_counted};
-ghost use Rattle.ux_history.specs.Faults.{is_missing};
+ghost use Rattle.ux_history.specs.Settling.{IsSettled};
+ghost use Rattle.ux_history.specs.Faults.{is_missing, is_unknown};
 
-use crate::book::Book;
+use crate::call_book::CallBook;
 use crate::fault::SettleFault;
 use crate::naming::BookName;
 use crate::shares::Spent;
 use ux_object::FileObject;
 use ux_types::Pid;
 
-/// A book whose processes have all exited, with as many calls as their shares counted.
+/// What a book comes to whose shares were compared with its entries.
 #[derive(Clone, Copy, Debug, PartialEq, Eq)]
 pub struct Account {
     /// How many entries it has.
@@ -21,25 +23,28 @@ pub struct Account {
     pub ended: bool,
 }
 
-/// Compares the shares of all processes, which have exited, with the entries: there are then as many as the
-/// shares counted, and one for the end of the layer where that was made.
+/// Compares spent shares with the entries: there are then as many as the shares counted, of each process as
+/// many as its own did, and one for the end of the layer where that was made.
 ///
 /// # Errors
 ///
 /// `Missing` where not each process of the book has exactly one share among them, else `Miscounted` where
 /// a share's count isn't the number of its process's entries. The shares come back.
-pub fn settle_accounts<W: BookName, O: FileObject>(
-    book: &mut Book<W, O>,
-    spents: Vec<Spent<W>>,
+pub fn settle_accounts<W: BookName, O: FileObject, B: CallBook<W, O>>(
+    book: &mut B,
+    mut spents: Vec<Spent<W>>,
 ) -> Result<Account, (SettleFault, Vec<Spent<W>>)>
-    ensures book { book.new ≡ book.old }
-    ensures once { IfOk result (λ a. once_each (processes book.old) spents.items ≡ true) }
-    ensures missing { IfErr result (λ f. is_missing f.0 ≡ not (once_each (processes book.old) spents.items)) }
-    ensures counted { IfOk result (λ a. all_counted book.old.entries spents.items ≡ true) }
-    ensures miscounted { IfErr result (λ f. is_missing f.0 ≡ false → all_counted book.old.entries spents.items ≡ false) }
+    ensures book { B.held book.new ≡ B.held book.old }
+    ensures once { IfOk result (λ a. once_each (processes (B.held book.old)) spents.items ≡ true) }
+    ensures missing { IfErr result (λ f. is_missing f.0 ≡ not (once_each (processes (B.held book.old)) spents.items)) }
+    ensures boot { (B.held book.old).boot ≡ W.boot }
+    ensures counted { IfOk result (λ a. all_counted (B.held book.old).entries spents.items ≡ true) }
+    ensures miscounted { IfErr result (λ f. is_missing f.0 ≡ false → all_counted (B.held book.old).entries spents.items ≡ false) }
     ensures sum { IfOk result (λ a. a.entries ≡ sum_by (λ c. c.k) spents.items + (if a.ended then 1 else 0)) }
-    ensures entries { IfOk result (λ a. a.entries ≡ length book.old.entries) }
-    ensures ended { IfOk result (λ a. (if a.ended then 1 else 0) ≡ ends_of book.old.entries) }
+    ensures entries { IfOk result (λ a. a.entries ≡ length (B.held book.old).entries) }
+    ensures ended { IfOk result (λ a. (if a.ended then 1 else 0) ≡ ends_of (B.held book.old).entries) }
+    ensures settled { IfOk result (λ a. IsSettled W.boot spents.items a.entries a.ended) }
+    ensures known { IfErr result (λ f. is_unknown f.0 ≡ false) }
     ensures back { IfErr result (λ f. f.1.items ≡ spents.items) }
 {
     if !is_each_once(spents.as_slice(), book.process_count()) {
@@ -48,7 +53,7 @@ pub fn settle_accounts<W: BookName, O: FileObject>(
     if !are_counted(book, spents.as_slice()) {
         return Err((SettleFault::Miscounted, spents));
     }
-    Ok(book.audit(spents))
+    Ok(book.audit(&mut spents))
 }
 
 /// Whether each of the processes 1 to `count` is among them once.
@@ -71,10 +76,20 @@ fn count_of<W: BookName>(spents: &[Spent<W>], pid: Pid) -> usize
 }
 
 /// Whether each of them has counted its process's entries.
-fn are_counted<W: BookName, O: FileObject>(book: &Book<W, O>, spents: &[Spent<W>]) -> bool
-    ensures { result ≡ all_counted book.now.entries spents.now }
+fn are_counted<W: BookName, O: FileObject, B: CallBook<W, O>>(book: &B, spents: &[Spent<W>]) -> bool
+    ensures { result ≡ all_counted (B.held book.now).entries spents.now }
 {
-    spents
-        .iter()
-        .all(|spent| book.calls_of(spent.pid()) == spent.calls())
+    for spent in spents {
+        if !is_counted(book, spent) {
+            return false;
+        }
+    }
+    true
+}
+
+/// Whether it has counted its process's entries.
+fn is_counted<W: BookName, O: FileObject, B: CallBook<W, O>>(book: &B, spent: &Spent<W>) -> bool
+    ensures { result ≡ (calls_of spent.now.pid.0 (B.held book.now).entries == spent.now.k) }
+{
+    book.calls_of(spent.pid()) == spent.calls()
 }

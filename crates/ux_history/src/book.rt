@@ -176,6 +176,7 @@ impl<W: BookName, O: FileObject> Book<W, O> {
         requires empty { retired.old ≡ [] }
         ensures known { OnOk result (knows self.old share.old ≡ true) }
         ensures stranger { IfErr result (λ f. is_stranger f ≡ not (knows self.old share.old)) }
+        ensures memory { IfErr result (λ f. is_stranger f ≡ false → f ≡ CallFault.NoMemory) }
         ensures entry { IfOk result (λ r. Adds self.old self.new (call_by share.old request.now r.reply (map (λ o. o.0) retired.new))) }
         ensures receipt { IfOk result (λ r. r.receipt ≡ next_slip self.old share.old request.now r.reply false) }
         ensures share { OnOk result (share.new ≡ once_more share.old) }
@@ -207,6 +208,7 @@ impl<W: BookName, O: FileObject> Book<W, O> {
         requires empty { retired.old ≡ [] }
         ensures known { OnOk result (knows self.old share.old ≡ true) }
         ensures stranger { IfErr result (λ f. is_stranger f ≡ not (knows self.old share.old)) }
+        ensures memory { IfErr result (λ f. is_stranger f ≡ false → f ≡ CallFault.NoMemory) }
         ensures entry { IfOk result (λ o. IfSome o (λ r. Adds self.old self.new (call_by share.old request.now r.reply (map (λ o. o.0) retired.new)))) }
         ensures done { IfOk result (λ o. IfSome o (λ r. should_wait (state_of self.old) share.old.pid.0 request.now r.reply ≡ false)) }
         ensures receipt { IfOk result (λ o. IfSome o (λ r. r.receipt ≡ next_slip self.old share.old request.now r.reply true)) }
@@ -235,6 +237,7 @@ impl<W: BookName, O: FileObject> Book<W, O> {
         requires empty { retired.old ≡ [] }
         ensures known { OnOk result (knows self.old share.old ≡ true) }
         ensures stranger { IfErr result (λ f. is_stranger f ≡ not (knows self.old share.old)) }
+        ensures memory { IfErr result (λ f. is_stranger f ≡ false → f ≡ CallFault.NoMemory) }
         ensures entry { IfOk result (λ o. IfSome o (λ r. Adds self.old self.new (call_by share.old request.now r.reply (map (λ o. o.0) retired.new)))) }
         ensures done { IfOk result (λ o. IfSome o (λ r. tried ≡ true → should_wait (state_of self.old) share.old.pid.0 request.now r.reply ≡ false)) }
         ensures receipt { IfOk result (λ o. IfSome o (λ r. r.receipt ≡ next_slip self.old share.old request.now r.reply tried)) }
@@ -281,7 +284,7 @@ impl<W: BookName, O: FileObject> Book<W, O> {
     /// The share, exactly where it isn't that of a live process which has made so many calls.
     pub fn exit(
         &mut self,
-        share: Share<W>,
+        mut share: Share<W>,
         retired: &mut RetiredList<O>,
     ) -> Result<Spent<W>, Share<W>>
         requires empty { retired.old ≡ [] }
@@ -294,16 +297,32 @@ impl<W: BookName, O: FileObject> Book<W, O> {
         ensures back { IfErr result (λ s. s ≡ share) }
         ensures none { OnErr result (retired.new ≡ []) }
     {
-        if !self.knows(&share) {
+        if !self.end(&mut share, retired) {
             return Err(share);
         }
-        let Share { pid, k, mut part } = share;
-        self.log.append_last(pid, k, Request::Exit, retired);
-        self.ledger.add(&mut part, 1);
-        let k = k + 1;
-        Ok(Spent {
-            share: Share { pid, k, part },
-        })
+        Ok(Spent { share })
+    }
+
+    /// Ends the share's process where it is a live one which has made so many calls, and tells whether it was,
+    /// as `exit` does; the share is then spent. It takes no memory.
+    pub(crate) fn end(&mut self, share: &mut Share<W>, retired: &mut RetiredList<O>) -> bool
+        requires empty { retired.old ≡ [] }
+        ensures known { result ≡ knows self.old share.old }
+        ensures entry { IsTrue result → Appends self.old self.new share.old.pid share.old.k Request.Exit (map (λ o. o.0) retired.new) }
+        ensures spent { IsTrue result → share.new ≡ once_more share.old }
+        ensures handed_out { IsTrue result → AllByRecursion (IsHandedOut (state_of self.old)) retired.new }
+        ensures same { result ≡ false → self.new ≡ self.old }
+        ensures kept { result ≡ false → share.new ≡ share.old }
+        ensures none { result ≡ false → retired.new ≡ [] }
+    {
+        if !self.knows(share) {
+            return false;
+        }
+        self.log
+            .append_last(share.pid, share.k, Request::Exit, retired);
+        self.ledger.add(&mut share.part, 1);
+        share.k += 1;
+        true
     }
 
     /// Ends the layer once every process has exited, in room that was set aside when the book was made: it
@@ -334,10 +353,10 @@ impl<W: BookName, O: FileObject> Book<W, O> {
     }
 
     /// Merges the shares of all processes, which have then counted all entries but the end of the layer.
-    pub(crate) fn audit(&mut self, spents: Vec<Spent<W>>) -> Account
-        requires { once_each (processes self.old) spents.items ≡ true }
+    pub(crate) fn audit(&mut self, spents: &mut Vec<Spent<W>>) -> Account
+        requires { once_each (processes self.old) spents.old.items ≡ true }
         ensures book { self.new ≡ self.old }
-        ensures sum { result.entries ≡ sum_by (λ c. c.k) spents.items + (if result.ended then 1 else 0) }
+        ensures sum { result.entries ≡ sum_by (λ c. c.k) spents.old.items + (if result.ended then 1 else 0) }
         ensures entries { result.entries ≡ length self.old.entries }
         ensures ended { (if result.ended then 1 else 0) ≡ ends_of self.old.entries }
     {
@@ -378,7 +397,7 @@ fn set_aside<W: BookName, O: FileObject>(
 
 /// A share of one part for each of so many processes.
 #[tactic(auto, using(crate::proofs::Accounts::fresh_more))]
-fn cut<W: BookName>(
+pub(crate) fn cut<W: BookName>(
     alloc: Global,
     rest: &mut ledger::Share<W>,
     count: usize,
@@ -400,9 +419,9 @@ fn cut<W: BookName>(
 }
 
 /// Merges the parts of spent shares into one.
-fn merge_all<W: BookName>(all: &mut ledger::Share<W>, mut spents: Vec<Spent<W>>)
-    ensures parts { all.new.parts ≡ all.old.parts + length spents.items }
-    ensures amount { all.new.amount ≡ all.old.amount + sum_by (λ c. c.k) spents.items }
+pub(crate) fn merge_all<W: BookName>(all: &mut ledger::Share<W>, spents: &mut Vec<Spent<W>>)
+    ensures parts { all.new.parts ≡ all.old.parts + length spents.old.items }
+    ensures amount { all.new.amount ≡ all.old.amount + sum_by (λ c. c.k) spents.old.items }
 {
     while let Some(spent) = spents.pop() {
         let Spent { share } = spent;

@@ -15,6 +15,12 @@ pub enum CallFault {
     /// An allocation was refused.
     #[error("out of memory")]
     NoMemory,
+    /// There are so many entries that no more can be counted, but for the last ones.
+    #[error("too many calls")]
+    Full,
+    /// Every process that hasn't exited waits, so nobody is left to wake one.
+    #[error("deadlock")]
+    Deadlock,
 }
 
 /// Why the layer can't be ended.
@@ -37,4 +43,7 @@ pub enum SettleFault {
     /// A count isn't the number of its process's entries.
     #[error("a share has counted other than the entries")]
     Miscounted,
+    /// The book doesn't hold a receipt.
+    #[error("a receipt isn't of the book")]
+    Unknown,
 }

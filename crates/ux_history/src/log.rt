@@ -251,7 +251,7 @@ impl<W: BookName, O: FileObject> Log<W, O> {
 }
 
 /// Whether the call couldn't be done yet.
-fn is_again(reply: &Reply) -> bool
+pub(crate) fn is_again(reply: &Reply) -> bool
     ensures { result ≡ is_again reply.now }
 {
     matches!(reply, Reply::Err(Errno::EAGAIN))
@@ -272,7 +272,7 @@ fn note(entries: &mut Vec<Entry>, calls: &mut Vec<u64>, entry: Entry)
 }
 
 /// The numbers of file objects.
-fn numbers_of<O: FileObject>(retired: &[Retired<O>]) -> Released
+pub(crate) fn numbers_of<O: FileObject>(retired: &[Retired<O>]) -> Released
     requires { length retired.now ≤ object_limit }
     ensures { result ≡ map (λ r. r.0) retired.now }
 {
@@ -284,7 +284,7 @@ fn numbers_of<O: FileObject>(retired: &[Retired<O>]) -> Released
 }
 
 /// One 0 for each of so many.
-fn zeros(alloc: Global, count: usize) -> Result<Vec<u64>, AllocError>
+pub(crate) fn zeros(alloc: Global, count: usize) -> Result<Vec<u64>, AllocError>
     ensures { IfOk result (λ v. v.items ≡ replicate count 0) }
 {
     Ok(vec![in alloc; 0u64; count]?)

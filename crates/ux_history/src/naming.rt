@@ -16,3 +16,16 @@ impl BookName for Brand {
 
     ghost boot = { boot_state [] [] };
 }
+
+/// Names a book of which no entry is kept, and the trail that its calls stand on.
+pub trait Trailing: BookName {
+    ghost use Rattle.atomic_table.specs.Seated.{TableId};
+
+    ghost trail: { TableId };
+}
+
+impl Trailing for Brand {
+    ghost use Rattle.ux_history.specs.Trails.{no_trail};
+
+    ghost trail = { no_trail };
+}

@@ -1,6 +1,6 @@
 //! What a caller keeps of its call.
 ghost use Rattle.std.specs.Prelude.{◌≡◌, ◌↔◌, IsTrue};
-ghost use Rattle.ux_history.specs.Receipts.{call_of};
+ghost use Rattle.ux_history.specs.Receipts.{call_of, IsSlip};
 
 use crate::naming::BookName;
 use std::marker::{Model, PhantomData};
@@ -112,6 +112,16 @@ impl<W: BookName> Receipt<W> {
         ensures { result ≡ self.now.tried }
     {
         self.tried
+    }
+
+    /// Does nothing when it runs. Its contract is what the receipt's type says: some legal history from the
+    /// book's boot state has the call at this number, and where `try_record` gave it, it isn't one that should
+    /// have waited.
+    pub fn shows(&self)
+        ensures { IsSlip W.boot self.now }
+    {
+        // A borrow of a field opens the receipt, whose invariant this is.
+        let _ = &self.call;
     }
 }
 

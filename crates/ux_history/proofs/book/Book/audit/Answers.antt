@@ -8,8 +8,8 @@ pub returns-clause-sum : goal.returns-clause-sum
 returns-clause-sum g c =
     let book = c.self.invariant in
     let log = c.self.inside.log in
-    let once = ap (λ (h : Held). once_each (processes h) c.args.spents.items) c.self.view_is ∙ c.requires in
-    let many = once_most (processes log.book) c.args.spents.items once in
+    let once = ap (λ (h : Held). once_each (processes h) c.args.spents.now.items) c.self.view_is ∙ c.requires in
+    let many = once_most (processes log.book) c.args.spents.now.items once in
     let count = c.process_count.ensures.count in
     let total = c.audit.ensures.whole (omega (arith, book.whole, book.rest, many, count)) in
     omega (arith, total, book.counted, ap length c.entries.ensures.entries, c.has_ended.ensures.ended)

@@ -1,0 +1,44 @@
+use Rattle.std.proofs.Common.{◌≡◌, Bool, true, length, map, ap, sym, subst, ◌∙◌}
+use Rattle.std.proofs.lemmas.Bool.{false≢true}
+use Rattle.std.proofs.lemmas.List.{length-map}
+use Rattle.ux_model.specs.Waiting.{may_wait}
+use Rattle.ux_history.specs.Books.{state_of}
+use Rattle.ux_history.specs.Shares.{Caller}
+use Rattle.ux_history.specs.Receipts.{call_of, IsSlip}
+use Rattle.ux_history.specs.Trails.{Trailed, Marked}
+use Rattle.ux_history.proofs.Slips.{Answered}
+use Rattle.ux_history.proofs.Running.{answered_next}
+use Rattle.ux_history.proofs.running_book.RunningBook.make.Given.{Over}
+use Rattle.ux_history.proofs.running_book.RunningBook.make.Goals as goal
+use Rattle.ux_history.proofs.running_book.RunningBook.make.Goals.{then-tried, else-tried}
+
+made_here : (g : Over) (c : goal.After-share-1 g) → Answered g.W.BookName.boot c.args.self.now c.append.new.self c.args.share.now c.args.request.now c.args.tried c.entry_count-number.result c.in-Some.reply c.push-mark.result.call (map (λ o. o.0) c.append.new.retired)
+made_here g c =
+    let log = c.self.inside.log in
+    let waits : c.args.tried ≡ true → c.if-tried.waits ≡ may_wait (state_of log) c.share.inside.pid.0 c.args.request.now = elim c.if-tried.branch [
+      | then-tried w ↦ λ t. w.waits-is ∙ w.waits-waits.ensures
+      | else-tried w ↦ λ t. absurd (false≢true (sym w.if-tried.false ∙ t))
+    ] in
+    answered_next g.W.BookName.boot log c.args.self.now c.append.new.self c.args.share.now c.share.inside.pid c.share.inside.k c.args.request.now c.if-tried.waits c.args.tried c.entry_count-number.result
+    c.in-Some.reply c.push-mark.result.call (map (λ o. o.0) c.append.new.retired)
+    c.self.view_is
+    (ap Caller.pid c.share.view_is)
+    (c.share.invariant.0 ∙ ap Caller.k c.share.view_is)
+    c.in-Some.ensures.entry c.in-Some.ensures.done c.entry_count-number.ensures.count
+    (ap (λ (m : Marked). m.call) c.push-mark.ensures.mark) waits c.entry_count-number.ensures.boot c.entry_count-number.ensures.legal
+
+pub invariant_of-witness : goal.invariant_of-witness
+invariant_of-witness g c = (
+  subst (λ (t : Bool). IsSlip g.W.BookName.boot (record { number = c.entry_count-number.result; call = c.push-mark.result.call; tried = t })) (sym c.of-tried.ensures) (made_here g c).slip,
+  ap (λ (m : Marked). m.id) c.push-mark.ensures.mark ∙ ap (λ (t : Trailed). t.id) c.self.invariant.1,
+  ap (λ (m : Marked). m.number) c.push-mark.ensures.mark ∙ ap (λ (t : Trailed). length t.calls) c.self.invariant.1 ∙ length-map c.self.inside.log.entries call_of ∙ sym c.entry_count-number.ensures.count,
+)
+
+pub returns-clause-entry : goal.returns-clause-entry
+returns-clause-entry g c = (made_here g c).adds
+
+pub returns-clause-done : goal.returns-clause-done
+returns-clause-done g c = (made_here g c).done
+
+pub returns-clause-witness : goal.returns-clause-witness
+returns-clause-witness g c = (λ j. record { number = c.entry_count-number.result; call = c.push-mark.result.call; tried = c.of-tried.ensures j }) ∙ (made_here g c).receipt

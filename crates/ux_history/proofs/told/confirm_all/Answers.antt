@@ -1,0 +1,22 @@
+use Rattle.std.proofs.Common.{◌≡◌, ◌≤◌, List, length, map, get_or, set, Some, sym, ap, ◌∙◌, subst}
+use Rattle.std.specs.List.{slice_get}
+use Rattle.std.proofs.lemmas.List.{set-get_or}
+use Rattle.ux_history.specs.Books.{Held}
+use Rattle.ux_history.specs.Receipts.{Slip, call_of}
+use Rattle.ux_history.proofs.Stands.{stands_more, stands_within}
+use Rattle.ux_history.proofs.told.confirm_all.Goals as goal
+
+pub loop-i-preserved : goal.loop-i-preserved
+loop-i-preserved g c =
+    let i = c.loop-i.invariant in
+    let w = c.index-witnesses-i.result in
+    let slips = c.args.witnesses.now in (
+      c.confirm.ensures.book ∙ i.0,
+      ap (λ (x : Slip). set c.loop-i.witnesses c.loop-i.i x) c.confirm.ensures.witness ∙ (set-get_or c.loop-i.witnesses c.loop-i.i w ∙ i.1),
+      stands_more (map call_of c.args.book.now.entries) slips c.loop-i.i w (subst (λ (l : List Slip). w ≡ get_or l c.loop-i.i w) i.1 c.index-witnesses-i.is) (subst (λ (h : Held). slice_get (map call_of h.entries) w.number ≡ Some w.call) i.0 (subst (λ (x : Slip). slice_get (map call_of c.loop-i.book.entries) x.number ≡ Some x.call) (sym c.index-witnesses-i.is) c.confirm.ensures.stands)) i.2,
+    )
+
+pub returns-clause-stand : goal.returns-clause-stand
+returns-clause-stand g c = λ k s at.
+    let end : length c.args.witnesses.now ≤ c.loop-i.i = c.loop-i-test.false in
+    c.loop-i.invariant.2 k s (stands_within c.args.witnesses.now k c.loop-i.i s at end) at

@@ -1,0 +1,255 @@
+//! What seats ask of a book, whether it keeps its entries or not.
+ghost use Rattle.std.specs.Prelude.{◌≡◌, ◌+◌, ◌≤◌, [], true, false, not, length, map, sum_by, IfOk, IfErr, OnOk, OnErr, IfSome, IfNone, OnSome, IsTrue, if◌then◌else◌};
+ghost use Rattle.std.specs.List.{AllByRecursion};
+ghost use Rattle.ux_model.specs.Limits.{process_limit};
+ghost use Rattle.ux_model.specs.State.{is_live};
+ghost use Rattle.ux_model.specs.Waiting.{should_wait};
+ghost use Rattle.ux_model.specs.History.{calls_of, has_live, IsLegal};
+ghost use Rattle.ux_model.specs.HandingOut.{IsHandedOut};
+ghost use Rattle.ux_history.specs.Books.{state_of, ends_of, is_last, Adds, Appends, MustWait};
+ghost use Rattle.ux_history.specs.Shares.{knows, once_more, call_by, processes, once_each};
+ghost use Rattle.ux_history.specs.Receipts.{next_slip, IsSlip};
+ghost use Rattle.ux_history.specs.Faults.{is_stranger, is_alive, is_deadlock};
+
+use crate::account::Account;
+use crate::book::Book;
+use crate::fault::{CallFault, OffFault};
+use crate::naming::BookName;
+use crate::receipts::Receipt;
+use crate::shares::{Share, Spent};
+use ux_kernel::Kernel;
+use ux_object::FileObject;
+use ux_state::RetiredList;
+use ux_types::{Pid, Reply, Request};
+
+/// What a caller keeps of a call: it shows that some legal history from the book's boot state has the call at
+/// its number.
+pub trait Shows<W: BookName>: Drop {
+    ghost use Rattle.ux_history.specs.Receipts.{Slip};
+
+    /// The number, the call, and whether a call that could wait gave it.
+    ghost slip: { Self → Slip };
+
+    /// Does nothing when it runs. Its contract is what it shows.
+    fn show(&self)
+        ensures { IsSlip W.boot (slip self.now) };
+}
+
+/// A book of a kernel's calls. `held` is its history: the kernel is at the end of it.
+pub trait CallBook<W: BookName, O: FileObject>: Drop {
+    /// What a call gives its caller beside the answer.
+    type Slip: Shows<W>;
+
+    ghost use Rattle.ux_history.specs.Books.{Held};
+
+    /// Where the history began, and its entries.
+    ghost held: { Self → Held };
+
+    /// The kernel, at the end of the history.
+    fn into_kernel(self) -> Kernel<O>
+        ensures { result ≡ state_of (held self) };
+
+    /// Makes a call of the share's process, which is one more entry. The file objects that went with it are
+    /// put into an empty list by rising number, closed and otherwise as they were.
+    ///
+    /// # Errors
+    ///
+    /// `Stranger` exactly where the share isn't that of a live process which has made so many calls, else the
+    /// book's own. Book and share are then as before.
+    fn record(
+        &mut self,
+        share: &mut Share<W>,
+        request: &Request,
+        retired: &mut RetiredList<O>,
+    ) -> Result<(Reply, Self::Slip), CallFault>
+        requires call { is_last request.now ≡ false }
+        requires empty { retired.old ≡ [] }
+        ensures known { OnOk result (knows (held self.old) share.old ≡ true) }
+        ensures stranger { IfErr result (λ f. is_stranger f ≡ not (knows (held self.old) share.old)) }
+        ensures goes_on { IfErr result (λ f. is_deadlock f ≡ false) }
+        ensures entry { IfOk result (λ r. Adds (held self.old) (held self.new) (call_by share.old request.now r.0 (map (λ o. o.0) retired.new))) }
+        ensures slip { IfOk result (λ r. Self.Slip.slip r.1 ≡ next_slip (held self.old) share.old request.now r.0 false) }
+        ensures share { OnOk result (share.new ≡ once_more share.old) }
+        ensures handed_out { OnOk result (AllByRecursion (IsHandedOut (state_of (held self.old))) retired.new) }
+        ensures same { OnErr result (held self.new ≡ held self.old) }
+        ensures kept { OnErr result (share.new ≡ share.old) }
+        ensures none { OnErr result (retired.new ≡ []) };
+
+    /// As `record`; but where the call may wait, and would have to, the answer is `None`, and book and share
+    /// are as before.
+    ///
+    /// # Errors
+    ///
+    /// Those of `record`.
+    fn try_record(
+        &mut self,
+        share: &mut Share<W>,
+        request: &Request,
+        retired: &mut RetiredList<O>,
+    ) -> Result<Option<(Reply, Self::Slip)>, CallFault>
+        requires call { is_last request.now ≡ false }
+        requires empty { retired.old ≡ [] }
+        ensures known { OnOk result (knows (held self.old) share.old ≡ true) }
+        ensures stranger { IfErr result (λ f. is_stranger f ≡ not (knows (held self.old) share.old)) }
+        ensures goes_on { IfErr result (λ f. is_deadlock f ≡ false) }
+        ensures entry { IfOk result (λ o. IfSome o (λ r. Adds (held self.old) (held self.new) (call_by share.old request.now r.0 (map (λ o. o.0) retired.new)))) }
+        ensures done { IfOk result (λ o. IfSome o (λ r. should_wait (state_of (held self.old)) share.old.pid.0 request.now r.0 ≡ false)) }
+        ensures slip { IfOk result (λ o. IfSome o (λ r. Self.Slip.slip r.1 ≡ next_slip (held self.old) share.old request.now r.0 true)) }
+        ensures share { IfOk result (λ o. OnSome o (share.new ≡ once_more share.old)) }
+        ensures handed_out { IfOk result (λ o. OnSome o (AllByRecursion (IsHandedOut (state_of (held self.old))) retired.new)) }
+        ensures waits { IfOk result (λ o. IfNone o (MustWait (held self.old) share.old.pid request.now)) }
+        ensures unchanged { IfOk result (λ o. IfNone o (held self.new ≡ held self.old)) }
+        ensures unspent { IfOk result (λ o. IfNone o (share.new ≡ share.old)) }
+        ensures nothing { IfOk result (λ o. IfNone o (retired.new ≡ [])) }
+        ensures same { OnErr result (held self.new ≡ held self.old) }
+        ensures kept { OnErr result (share.new ≡ share.old) }
+        ensures none { OnErr result (retired.new ≡ []) };
+
+    /// Ends the share's process where it is a live one which has made so many calls, and tells whether it was;
+    /// the share is then spent. It takes no memory.
+    fn end(&mut self, share: &mut Share<W>, retired: &mut RetiredList<O>) -> bool
+        requires empty { retired.old ≡ [] }
+        ensures known { result ≡ knows (held self.old) share.old }
+        ensures entry { IsTrue result → Appends (held self.old) (held self.new) share.old.pid share.old.k Request.Exit (map (λ o. o.0) retired.new) }
+        ensures spent { IsTrue result → share.new ≡ once_more share.old }
+        ensures handed_out { IsTrue result → AllByRecursion (IsHandedOut (state_of (held self.old))) retired.new }
+        ensures same { result ≡ false → held self.new ≡ held self.old }
+        ensures kept { result ≡ false → share.new ≡ share.old }
+        ensures none { result ≡ false → retired.new ≡ [] };
+
+    /// Ends the layer once every process has exited. The file objects that were still open are put into an
+    /// empty list. It takes no memory.
+    ///
+    /// # Errors
+    ///
+    /// `Alive` exactly where a process hasn't exited, else `Given` exactly where this was done before.
+    fn off(&mut self, retired: &mut RetiredList<O>) -> Result<(), OffFault>
+        requires empty { retired.old ≡ [] }
+        ensures gone { OnOk result (has_live (state_of (held self.old)) ≡ false) }
+        ensures first { OnOk result (ends_of (held self.old).entries ≡ 0) }
+        ensures alive { IfErr result (λ f. is_alive f ≡ has_live (state_of (held self.old))) }
+        ensures given { IfErr result (λ f. is_alive f ≡ false → ends_of (held self.old).entries ≡ 1) }
+        ensures entry { OnOk result (Appends (held self.old) (held self.new) (record { 0 = 0 }) 0 Request.Off (map (λ o. o.0) retired.new)) }
+        ensures handed_out { OnOk result (AllByRecursion (IsHandedOut (state_of (held self.old))) retired.new) }
+        ensures same { OnErr result (held self.new ≡ held self.old) }
+        ensures none { OnErr result (retired.new ≡ []) };
+
+    /// How many processes were made. The entries are a legal history.
+    fn process_count(&self) -> usize
+        ensures count { result ≡ processes (held self.now) }
+        ensures most { result ≤ process_limit }
+        ensures boot { (held self.now).boot ≡ W.boot }
+        ensures legal { IsLegal W.boot (held self.now).entries };
+
+    /// How many entries there are with this process's number; the end of the layer has the number 0.
+    fn calls_of(&self, pid: Pid) -> u64
+        ensures { result ≡ calls_of pid.0 (held self.now).entries };
+
+    /// Whether a process with this number was made, and hasn't exited.
+    fn is_live(&self, pid: Pid) -> bool
+        ensures { result ≡ is_live (state_of (held self.now)) pid.0 };
+
+    /// Merges the shares of all processes, which have then counted all entries but the end of the layer.
+    fn audit(&mut self, spents: &mut Vec<Spent<W>>) -> Account
+        requires { once_each (processes (held self.old)) spents.old.items ≡ true }
+        ensures book { held self.new ≡ held self.old }
+        ensures sum { result.entries ≡ sum_by (λ c. c.k) spents.old.items + (if result.ended then 1 else 0) }
+        ensures entries { result.entries ≡ length (held self.old).entries }
+        ensures ended { (if result.ended then 1 else 0) ≡ ends_of (held self.old).entries };
+}
+
+impl<W: BookName> Shows<W> for Receipt<W> {
+    ghost slip = { λ r. r };
+
+    fn show(&self) {
+        self.shows()
+    }
+}
+
+/// Every call is kept, with its request and its reply.
+impl<W: BookName, O: FileObject> CallBook<W, O> for Book<W, O> {
+    type Slip = Receipt<W>;
+
+    ghost held = { λ b. b };
+
+    fn into_kernel(self) -> Kernel<O> {
+        Book::into_kernel(self)
+    }
+
+    fn record(
+        &mut self,
+        share: &mut Share<W>,
+        request: &Request,
+        retired: &mut RetiredList<O>,
+    ) -> Result<(Reply, Receipt<W>), CallFault> {
+        match Book::record(self, share, request, retired) {
+            Ok(recorded) => Ok((recorded.reply, recorded.receipt)),
+            Err(fault) => Err(fault),
+        }
+    }
+
+    fn try_record(
+        &mut self,
+        share: &mut Share<W>,
+        request: &Request,
+        retired: &mut RetiredList<O>,
+    ) -> Result<Option<(Reply, Receipt<W>)>, CallFault> {
+        match Book::try_record(self, share, request, retired) {
+            Ok(Some(recorded)) => Ok(Some((recorded.reply, recorded.receipt))),
+            Ok(None) => Ok(None),
+            Err(fault) => Err(fault),
+        }
+    }
+
+    fn end(&mut self, share: &mut Share<W>, retired: &mut RetiredList<O>) -> bool {
+        Book::end(self, share, retired)
+    }
+
+    fn off(&mut self, retired: &mut RetiredList<O>) -> Result<(), OffFault> {
+        Book::off(self, retired)
+    }
+
+    fn process_count(&self) -> usize {
+        // What this says of the entries is what `boot` and `legal` say.
+        let _entries = Book::entries(self);
+        Book::process_count(self)
+    }
+
+    fn calls_of(&self, pid: Pid) -> u64 {
+        Book::calls_of(self, pid)
+    }
+
+    fn is_live(&self, pid: Pid) -> bool {
+        Book::is_live(self, pid)
+    }
+
+    fn audit(&mut self, spents: &mut Vec<Spent<W>>) -> Account {
+        Book::audit(self, spents)
+    }
+}
+
+/// Ends the share's process, which spends the share, or gives the share back.
+///
+/// # Errors
+///
+/// The share, exactly where it isn't that of a live process which has made so many calls.
+pub fn exit_share<W: BookName, O: FileObject, B: CallBook<W, O>>(
+    book: &mut B,
+    mut share: Share<W>,
+    retired: &mut RetiredList<O>,
+) -> Result<Spent<W>, Share<W>>
+    requires empty { retired.old ≡ [] }
+    ensures known { OnOk result (knows (B.held book.old) share ≡ true) }
+    ensures stranger { OnErr result (knows (B.held book.old) share ≡ false) }
+    ensures entry { OnOk result (Appends (B.held book.old) (B.held book.new) share.pid share.k Request.Exit (map (λ o. o.0) retired.new)) }
+    ensures spent { IfOk result (λ s. s ≡ once_more share) }
+    ensures handed_out { OnOk result (AllByRecursion (IsHandedOut (state_of (B.held book.old))) retired.new) }
+    ensures same { OnErr result (B.held book.new ≡ B.held book.old) }
+    ensures back { IfErr result (λ s. s ≡ share) }
+    ensures none { OnErr result (retired.new ≡ []) }
+{
+    if !book.end(&mut share, retired) {
+        return Err(share);
+    }
+    Ok(Spent { share })
+}

@@ -1,0 +1,54 @@
+//! Accounts that settle with the receipts of a book's calls.
+ghost use Rattle.std.specs.Prelude.{◌≡◌, ◌↔◌, ℕ, true, false, not, sum_by, ◌+◌, map, Some, IsTrue, IfOk, IfErr, if◌then◌else◌};
+ghost use Rattle.std.specs.List.{slice_get};
+ghost use Rattle.ux_history.specs.Shares.{processes, once_each};
+ghost use Rattle.ux_history.specs.Receipts.{call_of, Slip};
+ghost use Rattle.ux_history.specs.Telling.{IsTold, AllStand};
+ghost use Rattle.ux_history.specs.Faults.{is_missing, is_unknown};
+
+use crate::account::{Account, settle_accounts};
+use crate::book::Book;
+use crate::fault::SettleFault;
+use crate::naming::BookName;
+use crate::receipts::Receipt;
+use crate::shares::Spent;
+use ux_object::FileObject;
+
+/// As `settle_accounts`, and sees that each of these receipts is of the book: one and the same legal history from
+/// the book's boot state then has as many entries of each process as its share counted, no others but the layer's
+/// end, and each receipt's call at its number.
+///
+/// # Errors
+///
+/// `Unknown` exactly where the book doesn't hold a receipt, else those of `settle_accounts`. The shares come back.
+pub fn settle_held<W: BookName, O: FileObject>(
+    book: &mut Book<W, O>,
+    spents: Vec<Spent<W>>,
+    receipts: &[Receipt<W>],
+) -> Result<Account, (SettleFault, Vec<Spent<W>>)>
+    ensures book { book.new ≡ book.old }
+    ensures boot { book.old.boot ≡ W.boot }
+    ensures told { IfOk result (λ a. IsTold W.boot spents.items receipts.now a.entries a.ended) }
+    ensures unknown { IfErr result (λ f. IsTrue (is_unknown f.0) ↔ ¬ (AllStand book.old.entries receipts.now)) }
+    ensures missing { IfErr result (λ f. is_unknown f.0 ≡ false → is_missing f.0 ≡ not (once_each (processes book.old) spents.items)) }
+    ensures back { IfErr result (λ f. f.1.items ≡ spents.items) }
+{
+    // What this says of the entries is what `boot` and `told` rest on.
+    let _entries = book.entries();
+    if !all_held(book, receipts) {
+        return Err((SettleFault::Unknown, spents));
+    }
+    settle_accounts(book, spents)
+}
+
+/// Whether the book holds each of these receipts.
+fn all_held<W: BookName, O: FileObject>(book: &Book<W, O>, receipts: &[Receipt<W>]) -> bool
+    ensures { IsTrue result ↔ AllStand book.now.entries receipts.now }
+{
+    for receipt in receipts {
+        if !book.holds(receipt) {
+            return false;
+        }
+    }
+    true
+}

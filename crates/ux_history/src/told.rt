@@ -1,0 +1,54 @@
+//! Accounts that settle with what the calls left.
+ghost use Rattle.std.specs.Prelude.{◌≡◌, ◌+◌, ℕ, true, false, not, length, sum_by, Some, IfOk, IfErr, if◌then◌else◌};
+ghost use Rattle.ux_history.specs.Shares.{once_each};
+ghost use Rattle.ux_history.specs.Faults.{is_missing, is_unknown};
+ghost use Rattle.ux_history.specs.Telling.{AllStand, IsTold};
+
+use crate::account::{Account, settle_accounts};
+use crate::fault::SettleFault;
+use crate::naming::Trailing;
+use crate::running_book::RunningBook;
+use crate::shares::Spent;
+use crate::witness::Witness;
+use ux_object::FileObject;
+
+/// As `settle_accounts`. Where it answers an account, each witness's call stands at its number in one and the
+/// same history, which has as many calls of each process as its share counted. No call is looked up.
+///
+/// # Errors
+///
+/// Those of `settle_accounts`, with the shares.
+pub fn settle_told<W: Trailing, O: FileObject>(
+    book: &mut RunningBook<W, O>,
+    spents: Vec<Spent<W>>,
+    witnesses: &mut [Witness<W>],
+) -> Result<Account, (SettleFault, Vec<Spent<W>>)>
+    ensures once { IfOk result (λ a. once_each (length W.boot.processes) spents.items ≡ true) }
+    ensures missing { IfErr result (λ f. is_missing f.0 ≡ not (once_each (length W.boot.processes) spents.items)) }
+    ensures sum { IfOk result (λ a. a.entries ≡ sum_by (λ c. c.k) spents.items + (if a.ended then 1 else 0)) }
+    ensures told { IfOk result (λ a. IsTold W.boot spents.items witnesses.old a.entries a.ended) }
+    ensures witnesses { witnesses.new ≡ witnesses.old }
+    ensures book { book.new ≡ book.old }
+    ensures known { IfErr result (λ f. is_unknown f.0 ≡ false) }
+    ensures back { IfErr result (λ f. f.1.items ≡ spents.items) }
+{
+    confirm_all(book, witnesses);
+    // What this says of the entries is that they are a legal history.
+    let _count = book.entry_count();
+    settle_accounts(book, spents)
+}
+
+/// Each witness's call stands at its number.
+fn confirm_all<W: Trailing, O: FileObject>(
+    book: &mut RunningBook<W, O>,
+    witnesses: &mut [Witness<W>],
+)
+    ensures stand { AllStand book.old.entries witnesses.old }
+    ensures witnesses { witnesses.new ≡ witnesses.old }
+    ensures book { book.new ≡ book.old }
+{
+    for i in 0..witnesses.len() {
+        let witness = &mut witnesses[i];
+        book.confirm(witness);
+    }
+}
