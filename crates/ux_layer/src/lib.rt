@@ -3,7 +3,10 @@
 #![tactic(auto)]
 
 mod layer;
+mod running;
 mod seat;
+mod waiters;
 
-pub use layer::{BookGuard, Layer, start};
+pub use layer::{BookGuard, Layer, start, start_book};
+pub use running::{RunningLayer, RunningSeat, start_running};
 pub use seat::Seat;

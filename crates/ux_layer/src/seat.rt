@@ -2,12 +2,14 @@
 ghost use Rattle.std.specs.Prelude.{◌≡◌, true, false, [], IfOk, IfErr, OnOk, OnErr};
 ghost use Rattle.ux_history.specs.Books.{is_last};
 ghost use Rattle.ux_history.specs.Shares.{once_more};
+ghost use Rattle.ux_history.specs.Receipts.{IsSlip};
+ghost use Rattle.ux_history.specs.Faults.{is_deadlock};
 
-use crate::layer::Shared;
+use crate::layer::{Shared, desk_of};
 use std::alloc::Global;
 use std::marker::Model;
 use std::sync::{Arc, Wait};
-use ux_history::{BookName, CallFault, Receipt, Share, Spent};
+use ux_history::{Book, BookName, CallBook, CallFault, Share, Shows, Spent, exit_share};
 use ux_object::FileObject;
 use ux_state::RetiredList;
 use ux_types::{Pid, Reply, Request};
@@ -15,14 +17,14 @@ use ux_types::{Pid, Reply, Request};
 /// The place of one process, by which one thread at a time makes its calls. Contracts see the process, and
 /// how many calls it has made.
 #[derive(Drop)]
-pub struct Seat<W: BookName, O: FileObject> {
+pub struct Seat<W: BookName, O: FileObject, B: CallBook<W, O> = Book<W, O>> {
     share: Share<W>,
-    shared: Arc<Shared<W, O>, Global>,
+    shared: Arc<Shared<B>, Global>,
     /// The file objects that went with a call, between the call and their drop.
     retired: RetiredList<O>,
 }
 
-impl<W: BookName, O: FileObject> Model for Seat<W, O> {
+impl<W: BookName, O: FileObject, B: CallBook<W, O>> Model for Seat<W, O, B> {
     ghost use Rattle.std.specs.Prelude.{◌≡◌, []};
     ghost use Rattle.ux_history.specs.Shares.{Caller};
 
@@ -33,7 +35,7 @@ impl<W: BookName, O: FileObject> Model for Seat<W, O> {
     ghost invariant = { λ s. s.retired ≡ [] };
 }
 
-impl<W: BookName, O: FileObject> Seat<W, O> {
+impl<W: BookName, O: FileObject, B: CallBook<W, O>> Seat<W, O, B> {
     /// The process.
     pub fn pid(&self) -> Pid
         ensures { result ≡ self.now.pid }
@@ -49,20 +51,23 @@ impl<W: BookName, O: FileObject> Seat<W, O> {
     }
 
     /// Makes a call, which is an entry whatever its answer. The file objects that go with it are dropped
-    /// after the lock is given back, and all who wait are woken.
+    /// after the lock is given back, and all who wait are woken. Some legal history from the layer's boot
+    /// state has the call, with this request and this very reply.
     ///
     /// # Errors
     ///
-    /// `Stranger` or `NoMemory`, as `Book::record` has them; no entry was made then.
+    /// Those of the book's `record`; no entry was made then.
     pub fn call<R: Wait>(
         &mut self,
         rt: &R,
         request: &Request,
-    ) -> Result<(Reply, Receipt<W>), CallFault>
+    ) -> Result<(Reply, B::Slip), CallFault>
         requires { is_last request.now ≡ false }
-        ensures receipt { IfOk result (λ r. r.1.call ≡ record { pid = self.old.pid; k = self.old.k; request = request.now; reply = r.0 }) }
-        ensures recorded { IfOk result (λ r. r.1.tried ≡ false) }
+        ensures receipt { IfOk result (λ r. (B.Slip.slip r.1).call ≡ record { pid = self.old.pid; k = self.old.k; request = request.now; reply = r.0 }) }
+        ensures recorded { IfOk result (λ r. (B.Slip.slip r.1).tried ≡ false) }
+        ensures shown { IfOk result (λ r. IsSlip W.boot (B.Slip.slip r.1)) }
         ensures count { OnOk result (self.new ≡ once_more self.old) }
+        ensures goes_on { IfErr result (λ f. is_deadlock f ≡ false) }
         ensures same { OnErr result (self.new ≡ self.old) }
     {
         let Seat {
@@ -70,28 +75,35 @@ impl<W: BookName, O: FileObject> Seat<W, O> {
             shared,
             retired,
         } = self;
-        let made = shared.book.lock(rt).record(share, request, retired);
+        let mut guard = shared.desk.lock(rt);
+        let desk = desk_of(rt, &mut *guard);
+        let made = desk.book.record(share, request, retired);
+        if made.is_ok() {
+            desk.waiters.entry_made();
+        }
+        drop(guard);
         shared.changed.notify_all();
         retired.clear();
-        match made {
-            Ok(recorded) => Ok((recorded.reply, recorded.receipt)),
-            Err(fault) => Err(fault),
-        }
+        let (reply, slip) = made?;
+        slip.show();
+        Ok((reply, slip))
     }
 
-    /// As `call`; but a call that may wait, and can't be done yet, waits until it can be.
+    /// As `call`; but a call that may wait, and can't be done yet, waits until it can be. Of the history it
+    /// says what `call` does, and that the call isn't one that should have waited.
     ///
     /// # Errors
     ///
-    /// Those of `call`.
+    /// Those of `call`, and `Deadlock` where the seats of all processes that haven't exited wait.
     pub fn call_blocking<R: Wait>(
         &mut self,
         rt: &R,
         request: &Request,
-    ) -> Result<(Reply, Receipt<W>), CallFault>
+    ) -> Result<(Reply, B::Slip), CallFault>
         requires { is_last request.now ≡ false }
-        ensures receipt { IfOk result (λ r. r.1.call ≡ record { pid = self.old.pid; k = self.old.k; request = request.now; reply = r.0 }) }
-        ensures tried { IfOk result (λ r. r.1.tried ≡ true) }
+        ensures receipt { IfOk result (λ r. (B.Slip.slip r.1).call ≡ record { pid = self.old.pid; k = self.old.k; request = request.now; reply = r.0 }) }
+        ensures tried { IfOk result (λ r. (B.Slip.slip r.1).tried ≡ true) }
+        ensures shown { IfOk result (λ r. IsSlip W.boot (B.Slip.slip r.1)) }
         ensures count { OnOk result (self.new ≡ once_more self.old) }
         ensures same { OnErr result (self.new ≡ self.old) }
     {
@@ -100,22 +112,53 @@ impl<W: BookName, O: FileObject> Seat<W, O> {
             shared,
             retired,
         } = self;
-        let mut book = shared.book.lock(rt);
+        let mut guard = shared.desk.lock(rt);
+        let mut ticket = desk_of(rt, &mut *guard).waiters.ticket();
         for _ in rt.forever() {
-            match book.try_record(share, request, retired) {
-                Ok(Some(recorded)) => {
-                    drop(book);
-                    shared.changed.notify_all();
-                    retired.clear();
-                    return Ok((recorded.reply, recorded.receipt));
-                }
-                Ok(None) => book = shared.changed.wait(rt, book),
-                Err(fault) => {
-                    drop(book);
-                    retired.clear();
-                    return Err(fault);
-                }
+            let desk = desk_of(rt, &mut *guard);
+            if desk.waiters.is_over(ticket) {
+                return Err(CallFault::Deadlock);
             }
+            if let Some((reply, slip)) = desk.book.try_record(share, request, retired)? {
+                desk.waiters.entry_made();
+                drop(guard);
+                shared.changed.notify_all();
+                retired.clear();
+                slip.show();
+                return Ok((reply, slip));
+            }
+            if desk.waiters.must_wait(&mut ticket) {
+                shared.changed.notify_all();
+                return Err(CallFault::Deadlock);
+            }
+            guard = shared.changed.wait(rt, guard);
+        }
+        unreachable!()
+    }
+
+    /// Returns once this process has so many entries, or doesn't live.
+    ///
+    /// # Errors
+    ///
+    /// `Deadlock` where the seats of all processes that haven't exited wait.
+    pub fn wait_for<R: Wait>(&self, rt: &R, pid: Pid, calls: u64) -> Result<(), CallFault>
+        ensures fault { IfErr result (λ f. f ≡ CallFault.Deadlock) }
+    {
+        let mut guard = self.shared.desk.lock(rt);
+        let mut ticket = desk_of(rt, &mut *guard).waiters.ticket();
+        for _ in rt.forever() {
+            let desk = desk_of(rt, &mut *guard);
+            if desk.waiters.is_over(ticket) {
+                return Err(CallFault::Deadlock);
+            }
+            if desk.has_come(pid, calls) {
+                return Ok(());
+            }
+            if desk.waiters.must_wait(&mut ticket) {
+                self.shared.changed.notify_all();
+                return Err(CallFault::Deadlock);
+            }
+            guard = self.shared.changed.wait(rt, guard);
         }
         unreachable!()
     }
@@ -126,7 +169,7 @@ impl<W: BookName, O: FileObject> Seat<W, O> {
     /// # Errors
     ///
     /// `Stranger`, as `Book::exit` has it, with the seat as it was.
-    pub fn exit<R: Wait>(self, rt: &R) -> Result<Spent<W>, (CallFault, Seat<W, O>)>
+    pub fn exit<R: Wait>(self, rt: &R) -> Result<Spent<W>, (CallFault, Seat<W, O, B>)>
         ensures spent { IfOk result (λ s. s ≡ once_more self) }
         ensures stranger { IfErr result (λ f. f.0 ≡ CallFault.Stranger) }
         ensures back { IfErr result (λ f. f.1 ≡ self) }
@@ -136,7 +179,13 @@ impl<W: BookName, O: FileObject> Seat<W, O> {
             shared,
             mut retired,
         } = self;
-        let ended = shared.book.lock(rt).exit(share, &mut retired);
+        let mut guard = shared.desk.lock(rt);
+        let desk = desk_of(rt, &mut *guard);
+        let ended = exit_share(&mut desk.book, share, &mut retired);
+        if ended.is_ok() {
+            desk.waiters.exit_made();
+        }
+        drop(guard);
         shared.changed.notify_all();
         retired.clear();
         match ended {
@@ -154,11 +203,11 @@ impl<W: BookName, O: FileObject> Seat<W, O> {
 }
 
 /// The place of a share's process, with room for what its calls let go of.
-pub(crate) fn make_seat<W: BookName, O: FileObject>(
+pub(crate) fn make_seat<W: BookName, O: FileObject, B: CallBook<W, O>>(
     share: Share<W>,
-    shared: Arc<Shared<W, O>, Global>,
+    shared: Arc<Shared<B>, Global>,
     mut retired: RetiredList<O>,
-) -> Seat<W, O>
+) -> Seat<W, O, B>
     ensures { result ≡ share }
 {
     retired.clear();

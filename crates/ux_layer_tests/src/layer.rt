@@ -21,6 +21,7 @@ use ux_types::{
     Addr, Bytes, Errno, Fd, MsgFlags, Name, OpenFlags, Pid, ProcSpec, Reply, Request, SockType,
 };
 
+mod deadlock;
 mod watched;
 
 const USER: ProcSpec = ProcSpec {

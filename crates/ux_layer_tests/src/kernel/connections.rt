@@ -63,8 +63,16 @@ const OF_108: &[u8] =
 const NAMES: &[Row] = &[
     (1, Asked::Socket, Told::Fd(0)),
     (1, Asked::Bind(0, At::Path(b"")), Told::Err(Errno::EINVAL)),
-    (1, Asked::Bind(0, At::Path(OF_108)), Told::Err(Errno::EINVAL)),
-    (1, Asked::Bind(0, At::Abstract(OF_108)), Told::Err(Errno::EINVAL)),
+    (
+        1,
+        Asked::Bind(0, At::Path(OF_108)),
+        Told::Err(Errno::EINVAL),
+    ),
+    (
+        1,
+        Asked::Bind(0, At::Abstract(OF_108)),
+        Told::Err(Errno::EINVAL),
+    ),
     (1, Asked::Bind(0, At::Path(OF_107)), Told::Ok),
     (1, Asked::SockName(0), Told::Addr(At::Path(OF_107))),
     (1, Asked::Socket, Told::Fd(1)),

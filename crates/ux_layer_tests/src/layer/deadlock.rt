@@ -1,0 +1,93 @@
+//! Where the seats of all processes wait, each call that waits says so, and leaves no entry.
+ghost use Rattle.std.specs.Prelude.{◌≡◌};
+ghost use Rattle.ux_model.specs.Boot.{IsBootState};
+
+use super::{is_answered, receive, two_processes};
+use std::alloc::Global;
+use std::marker::Brand;
+use std::process::Abort;
+use std::sync::Wait;
+use std::sync::ledger::Blank;
+use std::test::Fail;
+use std::thread;
+use std::thread::Threads;
+use ux_history::{BookName, CallFault, PARTS, Spent};
+use ux_kernel::Kernel;
+use ux_layer::{Seat, start};
+use ux_objects::Counter;
+use ux_types::{Fd, OpenFlags, Pid, Reply, Request, SockType};
+
+const PAIR: Request = Request::SocketPair {
+    kind: SockType::Stream,
+    flags: OpenFlags(0),
+};
+
+/// What a process waits for.
+#[derive(Clone, Copy)]
+enum Awaited {
+    /// A message that nobody sends.
+    Message,
+    /// So many entries of a process that makes no more.
+    Entries(Pid, u64),
+}
+
+#[test]
+fn where_all_wait_each_call_says_so(rt: HostRuntime) -> Result<(), Fail> {
+    for second in [Awaited::Message, Awaited::Entries(Pid(1), 2)].as_slice() {
+        let kernel = two_processes(rt.alloc())?;
+        wait_all::<Brand, _>(&rt, rt.alloc(), Blank::new(PARTS), kernel, *second)?;
+    }
+    Ok(())
+}
+
+fn wait_all<W: BookName + Send + Sync, R: Threads + Wait + Abort + Sync>(
+    rt: &R,
+    alloc: Global,
+    blank: Blank,
+    kernel: Kernel<Counter>,
+    second: Awaited,
+) -> Result<(), Fail>
+    requires name { blank.name ≡ W.name }
+    requires parts { (blank.parts ≡ W.parts) × (blank.parts ≡ 1024) }
+    requires boots { IsBootState kernel }
+    requires named { kernel ≡ W.boot }
+{
+    let Ok((layer, mut seats)) = start::<W, Counter, R>(rt, alloc, blank, kernel) else {
+        return Err(Fail::from("no layer"));
+    };
+    let other = seats.pop().ok_or("no seat")?;
+    let one = seats.pop().ok_or("no seat")?;
+    let (one, other) = thread::join(
+        rt,
+        move || wait_in_vain(rt, one, Awaited::Message),
+        move || wait_in_vain(rt, other, second),
+    );
+    let one = one.ok_or("a wait went wrong")?;
+    let other = other.ok_or("a wait went wrong")?;
+    let settled = match layer.settle(rt, vec![in alloc; one, other]?) {
+        Ok(account) => account.entries,
+        Err(_) => 0,
+    };
+    assert_eq!(rt; settled, 4);
+    Ok(())
+}
+
+/// Makes a pair, waits until it is told that all do, and exits. What was told leaves the seat as it was.
+fn wait_in_vain<W: BookName, R: Wait>(
+    rt: &R,
+    mut seat: Seat<W, Counter>,
+    awaited: Awaited,
+) -> Option<Spent<W>> {
+    if !is_answered(rt, &mut seat, PAIR, Reply::Fds(Fd(0), Fd(1))) {
+        return None;
+    }
+    let told = match awaited {
+        Awaited::Message => seat.call_blocking(rt, &receive(0)).err(),
+        Awaited::Entries(pid, calls) => seat.wait_for(rt, pid, calls).err(),
+    };
+    let same = seat.calls() == 1;
+    match seat.exit(rt) {
+        Ok(spent) if told == Some(CallFault::Deadlock) && same => Some(spent),
+        _ => None,
+    }
+}
