@@ -31,7 +31,24 @@ ending s (suc p) = if has_exited s.lines (suc p) then [] else Request.Exit ∷ [
 abbrev pub turns : Plan → ℕ → List Request
 turns s p = asked p s.lines ++ ending s p
 
--- a legal history from this state, in which each process makes the script's calls for it, in order and no others
+-- each process makes the script's calls for it, in order and no others
+abbrev pub MakesAll : Plan → List Entry → Type 0
+MakesAll s entries = (p : ℕ) → p ≤ length s.procs → requests_of p entries ≡ turns s p
+
+-- a legal history from this state, in which they do
 pub record Runs (boot : State) (s : Plan) (entries : List Entry) : Type 0 where
   pub legal : IsLegal boot entries
-  pub calls : (p : ℕ) → p ≤ length s.procs → requests_of p entries ≡ turns s p
+  pub calls : MakesAll s entries
+
+-- the one list is the first of the other
+abbrev pub IsFront : List Request → List Request → Type 0
+IsFront front whole = (more : List Request) × (front ++ more ≡ whole)
+
+-- each process makes the first of the script's calls for it, in order and no others
+abbrev pub MakesFirst : Plan → List Entry → Type 0
+MakesFirst s entries = (p : ℕ) → p ≤ length s.procs → IsFront (requests_of p entries) (turns s p)
+
+-- a legal history from this state, in which they do
+pub record HasBegun (boot : State) (s : Plan) (entries : List Entry) : Type 0 where
+  pub legal : IsLegal boot entries
+  pub calls : MakesFirst s entries

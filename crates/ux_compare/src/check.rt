@@ -1,19 +1,19 @@
 //! Whether a history is that of a script.
-ghost use Rattle.std.specs.Prelude.{◌≡◌, ◌++◌, ◌∷◌, ◌≤◌, ◌↔◌, [], true, ℕ, length, map, filter, IsTrue, IfSome, IfNone};
+ghost use Rattle.std.specs.Prelude.{◌≡◌, ◌++◌, ◌∷◌, ◌≤◌, ◌↔◌, [], true, List, ℕ, length, map, filter, IsTrue, IfSome, IfNone};
 ghost use Rattle.ux_model.specs.Limits.{process_limit};
 ghost use Rattle.ux_syntax.specs.Spelling.{plan_of, asks_exit};
 ghost use Rattle.ux_syntax.specs.Turns.{has_exited};
-ghost use Rattle.ux_compare.specs.Runs.{requests_of, asked, ending, turns};
+ghost use Rattle.ux_compare.specs.Runs.{requests_of, asked, ending, turns, MakesAll, MakesFirst, IsFront};
 
 use ux_syntax::{Act, Line, Script};
 use ux_types::{Entry, Request};
 
-/// Whether each of so many processes made the script's calls, and no others, and the layer was ended where the
-/// script has it.
-pub(crate) fn is_of(script: &Script, entries: &[Entry], count: usize) -> bool
+/// Whether each of so many processes made the script's calls, in their order and no others, and the layer was
+/// ended where the script has it.
+pub fn makes_all(script: &Script, entries: &[Entry], count: usize) -> bool
     requires count { count ≡ length script.now.procs.items }
     requires few { count ≤ process_limit }
-    ensures { result ≡ true → (p : ℕ) → p ≤ length script.now.procs.items → requests_of p entries.now ≡ turns (plan_of script.now) p }
+    ensures { IsTrue result ↔ MakesAll (plan_of script.now) entries.now }
 {
     for pid in 0..count as u32 + 1 {
         if !follows(script, entries, pid) {
@@ -23,9 +23,55 @@ pub(crate) fn is_of(script: &Script, entries: &[Entry], count: usize) -> bool
     true
 }
 
+/// Whether each of so many processes made the first of the script's calls, or all, in their order and no others.
+pub fn makes_first(script: &Script, entries: &[Entry], count: usize) -> bool
+    requires count { count ≡ length script.now.procs.items }
+    requires few { count ≤ process_limit }
+    ensures { result ≡ true → MakesFirst (plan_of script.now) entries.now }
+{
+    for pid in 0..count as u32 + 1 {
+        if !begins(script, entries, pid) {
+            return false;
+        }
+    }
+    true
+}
+
+/// Whether this process made the first of the script's calls, or all, and no others.
+fn begins(script: &Script, entries: &[Entry], pid: u32) -> bool
+    ensures { result ≡ true → IsFront (requests_of pid entries.now) (turns (plan_of script.now) pid) }
+{
+    is_front(&script.lines, entries, pid) || follows(script, entries, pid)
+}
+
+/// Whether this process's calls are the first of its lines'.
+fn is_front(lines: &[Line], entries: &[Entry], pid: u32) -> bool
+    ensures { result ≡ true → IsFront (requests_of pid entries.now) (asked pid lines.now) }
+{
+    let mut left = lines;
+    let mut rest = entries;
+    while let Some((line, more)) = left.split_first() {
+        left = more;
+        if line.pid.0 != pid {
+            continue;
+        }
+        let Act::Call(request) = &line.act else {
+            continue;
+        };
+        let Some((made, after)) = next_of(rest, pid) else {
+            return true;
+        };
+        if !is_same(&made.request, request) {
+            return false;
+        }
+        rest = after;
+    }
+    next_of(rest, pid).is_none()
+}
+
 /// Whether this process made the script's calls, and no others.
 fn follows(script: &Script, entries: &[Entry], pid: u32) -> bool
-    ensures { result ≡ true → requests_of pid entries.now ≡ turns (plan_of script.now) pid }
+    ensures { IsTrue result ↔ (requests_of pid entries.now ≡ turns (plan_of script.now) pid) }
 {
     match behind(&script.lines, entries, pid) {
         Some(rest) => ends(script, rest, pid),
@@ -35,7 +81,7 @@ fn follows(script: &Script, entries: &[Entry], pid: u32) -> bool
 
 /// Whether the process's calls are those that follow its lines.
 fn ends(script: &Script, entries: &[Entry], pid: u32) -> bool
-    ensures { result ≡ true → requests_of pid entries.now ≡ ending (plan_of script.now) pid }
+    ensures { IsTrue result ↔ (requests_of pid entries.now ≡ ending (plan_of script.now) pid) }
 {
     if pid == 0 {
         if script.off {
@@ -51,7 +97,7 @@ fn ends(script: &Script, entries: &[Entry], pid: u32) -> bool
 
 /// Whether the process's one entry is an exit.
 fn is_exit_alone(entries: &[Entry], pid: u32) -> bool
-    ensures { result ≡ true → requests_of pid entries.now ≡ Request.Exit ∷ [] }
+    ensures { IsTrue result ↔ (requests_of pid entries.now ≡ Request.Exit ∷ []) }
 {
     match next_of(entries, pid) {
         Some((entry, rest)) => {
@@ -63,7 +109,7 @@ fn is_exit_alone(entries: &[Entry], pid: u32) -> bool
 
 /// Whether the process's one entry is the end of the layer.
 fn is_off_alone(entries: &[Entry], pid: u32) -> bool
-    ensures { result ≡ true → requests_of pid entries.now ≡ Request.Off ∷ [] }
+    ensures { IsTrue result ↔ (requests_of pid entries.now ≡ Request.Off ∷ []) }
 {
     match next_of(entries, pid) {
         Some((entry, rest)) => {
@@ -89,7 +135,8 @@ fn exits(lines: &[Line], pid: u32) -> bool
 
 /// What is left of the entries after the process's calls of these lines, where it made them.
 fn behind<'a>(lines: &[Line], entries: &'a [Entry], pid: u32) -> Option<&'a [Entry]>
-    ensures { IfSome result (λ rest. asked pid lines.now ++ requests_of pid rest.now ≡ requests_of pid entries.now) }
+    ensures some { IfSome result (λ rest. asked pid lines.now ++ requests_of pid rest.now ≡ requests_of pid entries.now) }
+    ensures none { IfNone result ((more : List Request) → ¬ (asked pid lines.now ++ more ≡ requests_of pid entries.now)) }
 {
     let mut left = lines;
     let mut rest = entries;

@@ -1,7 +1,6 @@
-//! Compares a history with the script whose calls it should hold, and with the receipts of its calls.
+//! Compares a history with the script whose calls it should hold.
 #![tactic(auto)]
 
 mod check;
-mod history;
 
-pub use history::compare;
+pub use check::{makes_all, makes_first};

@@ -44,8 +44,14 @@ const FAULTS: &[(&str, &str)] = &[
     ("proc 0 0 1 16\n1 recv 0 8 64\n", "line 2: bad line"),
     ("proc 0 0 2 16\n", "line 1: bad line"),
     // The header comes first, and nothing of a process after its exit.
-    ("proc 0 0 1 16\n1 dup 0\nproc 0 0 1 16\n", "line 3: bad line"),
-    ("proc 0 0 1 16\n1 dup 0\nobject p:f pipe\n", "line 3: bad line"),
+    (
+        "proc 0 0 1 16\n1 dup 0\nproc 0 0 1 16\n",
+        "line 3: bad line",
+    ),
+    (
+        "proc 0 0 1 16\n1 dup 0\nobject p:f pipe\n",
+        "line 3: bad line",
+    ),
     ("proc 0 0 1 16\n1 exit\n1 dup 0\n", "line 3: bad line"),
     // One blank stands between words, and none at either end.
     ("proc 0 0 1 16\n1 dup  0\n", "line 2: bad line"),

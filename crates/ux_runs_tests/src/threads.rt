@@ -80,13 +80,100 @@ proc 1000 1000 0 16
 off
 ";
 
+/// How often a run is made in which threads wait, but never all of them.
+const RUNS: u32 = 1000;
+
 #[test]
 fn two_threads_wait_for_one_another(rt: HostRuntime) -> Result<(), Fail> {
     let alloc = rt.alloc();
     let script = parse_script(alloc, SEMAPHORES.as_bytes())?;
-    let mut trace = Vec::new(alloc);
-    let entries = history_of(&rt, alloc, &script, &mut trace, &NoGate)?;
-    repeat(&rt, alloc, &script, &entries, 11)
+    for _run in 0..RUNS {
+        let mut trace = Vec::new(alloc);
+        let entries = history_of(&rt, alloc, &script, &mut trace, &NoGate)?;
+        repeat(&rt, alloc, &script, &entries, 11)?;
+    }
+    Ok(())
+}
+
+/// Scripts that come to where every process waits: what is told then, and the trace up to there.
+const DEADLOCKS: [(&str, &str, &str); 4] = [
+    (
+        "object p:a counter
+proc 1000 1000 0 16
+1 open p:a rw -
+1 read 0 8
+1 close 0
+",
+        "deadlock: process 1 waits in line 4",
+        "0 1 0 open = fd 0\n",
+    ),
+    (
+        "object p:a counter
+proc 1000 1000 0 16
+proc 1000 1000 0 16
+1 open p:a rw -
+2 wait 1 1
+2 open p:a rw -
+1 read 0 8
+2 read 0 8
+off
+",
+        "deadlock: process 1 waits in line 7, process 2 waits in line 8",
+        "0 1 0 open = fd 0\n1 2 0 open = fd 0\n",
+    ),
+    (
+        "object p:a counter
+proc 1000 1000 0 16
+proc 1000 1000 0 16
+proc 1000 1000 0 16
+1 wait 3 1
+3 exit
+2 wait 3 1
+2 wait 1 2
+1 open p:a rw -
+1 read 0 8
+",
+        "deadlock: process 1 waits in line 10, process 2 waits in line 8",
+        "0 3 0 exit = ok\n1 1 0 open = fd 0\n",
+    ),
+    (
+        "proc 1000 1000 0 16
+proc 1000 1000 0 16
+1 wait 2 1
+2 wait 1 1
+",
+        "deadlock: process 1 waits in line 3, process 2 waits in line 4",
+        "",
+    ),
+];
+
+/// Sees that a run by threads ends where every process waits, and has written the trace up to there.
+fn expect_deadlock<R: Threads + Wait + Abort + Sync>(
+    rt: &R,
+    alloc: Global,
+    script: &str,
+    text: &str,
+    trace: &str,
+) -> Result<(), Fail> {
+    let script = parse_script(alloc, script.as_bytes())?;
+    let kernel = kernel_of(alloc, &script)?;
+    let mut written = Vec::new(alloc);
+    let told = match run_threads(rt, alloc, &script, &mut written, kernel, &NoGate) {
+        Ok(_entries) => String::new(alloc),
+        Err(fault) => format!(in alloc; "{fault}")?,
+    };
+    assert!(rt; told.as_str() == text && written.as_slice() == trace.as_bytes());
+    Ok(())
+}
+
+#[test]
+fn a_run_ends_where_every_process_waits(rt: HostRuntime) -> Result<(), Fail> {
+    for row in DEADLOCKS.as_slice() {
+        for _run in 0..RUNS {
+            expect_deadlock(&rt, rt.alloc(), row.0, row.1, row.2)?;
+        }
+    }
+    Ok(())
 }
 
 /// A server and its client, which wait for one another so that there is one order.
@@ -122,7 +209,7 @@ const TRACE_OF_THE_SERVER: &str = "0 2 0 socket = fd 0
 fn lines_that_wait_leave_one_order(rt: HostRuntime) -> Result<(), Fail> {
     let alloc = rt.alloc();
     let script = parse_script(alloc, SERVER.as_bytes())?;
-    for _turn in 0..1000 {
+    for _run in 0..RUNS {
         let mut trace = Vec::new(alloc);
         let entries = history_of(&rt, alloc, &script, &mut trace, &NoGate)?;
         assert!(rt; trace.as_slice() == TRACE_OF_THE_SERVER.as_bytes());

@@ -51,7 +51,7 @@ pub fn run_serial<O: FileObject, W: Write>(
     let entries = match run_calls::<Brand, O>(alloc, Blank::new(PARTS), script, kernel) {
         Ok(entries) => entries,
         Err(CallFault::Stranger) => return Err(ScriptFault::Stranger),
-        Err(CallFault::NoMemory) => return Err(ScriptFault::NoMemory),
+        Err(_) => return Err(ScriptFault::NoMemory),
     };
     match tell(alloc, writer, &entries) {
         Ok(()) => Ok(entries),

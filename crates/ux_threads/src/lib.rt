@@ -1,6 +1,7 @@
 //! Runs a script with a thread for each process, and writes the trace of its history.
 #![tactic(auto)]
 
+mod compared;
 mod gate;
 mod run;
 mod work;

@@ -1,5 +1,6 @@
 //! A run of a script by threads, from its kernel to its trace.
-ghost use Rattle.std.specs.Prelude.{◌≡◌, ◌≤◌, ◌⊎◌, ℕ, length, map, IfOk, IfErr, OnErr};
+ghost use Rattle.std.specs.Prelude.{◌≡◌, ◌≤◌, ◌⊎◌, ℕ, true, false, length, map, IfOk, IfErr};
+ghost use Rattle.ux_model.specs.Limits.{process_limit};
 ghost use Rattle.std.specs.Io.KnownBytes.{Appends};
 ghost use Rattle.ux_model.specs.Boot.{IsBootState, new_process};
 ghost use Rattle.ux_model.specs.History.{IsLegal};
@@ -7,24 +8,24 @@ ghost use Rattle.ux_syntax.specs.Spelling.{plan_of};
 ghost use Rattle.ux_syntax.specs.Trace.{trace};
 ghost use Rattle.ux_script.specs.Runs.{IsRunFault};
 ghost use Rattle.ux_compare.specs.Runs.{requests_of, turns, Runs};
-ghost use Rattle.ux_threads.specs.Runs.{WritesBeginning};
+ghost use Rattle.ux_threads.specs.Runs.{WritesBeginning, WritesBegun, IsOfScript, is_deadlock};
 
+use crate::compared::{begun_history, whole_history};
 use crate::gate::Gate;
-use crate::work::{Done, work_all};
+use crate::work::{Done, Stop, work_all};
 use std::alloc::Global;
 use std::io::Write;
 use std::marker::Brand;
 use std::sync::Wait;
 use std::sync::ledger::Blank;
 use std::thread::Threads;
-use ux_compare::compare;
-use ux_history::{BookName, CallFault, PARTS, Receipt, Spent};
+use ux_history::{BookName, PARTS, Receipt, Spent};
 use ux_kernel::Kernel;
-use ux_layer::start;
+use ux_layer::{Layer, start};
 use ux_object::FileObject;
 use ux_script::tell;
-use ux_syntax::{Script, ScriptFault};
-use ux_types::Entry;
+use ux_syntax::{Script, ScriptFault, Waiting};
+use ux_types::{Entry, Pid};
 
 /// Runs the script on a kernel that has just started with its processes, one thread for each, and writes the
 /// trace. Each process makes its lines in their order, by calls that wait where they have to, and exits; then
@@ -32,7 +33,10 @@ use ux_types::Entry;
 ///
 /// # Errors
 ///
-/// `Writing`; `NoMemory`, also where a thread can't be started; `Stranger` for a script that no text spells.
+/// `Writing`; `NoMemory`, also where a thread can't be started; `Stranger` where a call was refused as that of no
+/// live process, accounts don't settle, or the history isn't the script's, as of a script that no text spells;
+/// `Deadlock` where every process that hasn't exited waits, with the lines in which they do: the run ends there,
+/// and the trace so far is written.
 pub fn run_threads<O: FileObject + Send, G: Gate, Out: Write>(
     rt: &(impl Threads + Wait + Sync),
     alloc: Global,
@@ -50,12 +54,31 @@ pub fn run_threads<O: FileObject + Send, G: Gate, Out: Write>(
     // What was written is its trace.
     ensures trace { IfOk result (λ entries. Appends (Out.contents writer.old) (Out.contents writer.new) (trace entries.items)) }
     // After a fault a beginning of such a trace was written.
-    ensures beginning { OnErr result (WritesBeginning kernel (plan_of script.now) (Out.contents writer.old) (Out.contents writer.new)) }
-    ensures fault { IfErr result (λ f. IsRunFault f) }
+    ensures beginning { IfErr result (λ f. is_deadlock f ≡ false → WritesBeginning kernel (plan_of script.now) (Out.contents writer.old) (Out.contents writer.new)) }
+    // Where every process waits, a beginning of the trace of a history that has begun as such a run.
+    ensures begun { IfErr result (λ f. is_deadlock f ≡ true → WritesBegun kernel (plan_of script.now) (Out.contents writer.old) (Out.contents writer.new)) }
+    ensures fault { IfErr result (λ f. is_deadlock f ≡ false → IsRunFault f) }
 {
-    let entries = run_named::<Brand, O, _, G>(rt, alloc, Blank::new(PARTS), script, kernel, gate)?;
-    tell(alloc, writer, &entries)?;
-    Ok(entries)
+    match run_named::<Brand, O, _, G>(rt, alloc, Blank::new(PARTS), script, kernel, gate)? {
+        Ran::Whole(entries) => {
+            tell(alloc, writer, &entries)?;
+            Ok(entries)
+        }
+        Ran::Begun(entries, waiting) => {
+            // The deadlock is what is told, also where the trace can't be written.
+            let _told = tell(alloc, writer, &entries);
+            Err(ScriptFault::Deadlock(waiting))
+        }
+    }
+}
+
+/// The history of a run.
+#[derive(Drop)]
+enum Ran {
+    /// Of the whole script.
+    Whole(Vec<Entry>),
+    /// Up to where every process waits, each in its line.
+    Begun(Vec<Entry>, Waiting),
 }
 
 /// Makes the calls in threads, and compares what they brought back with the history.
@@ -66,59 +89,104 @@ fn run_named<W: BookName + Send + Sync, O: FileObject + Send, R: Threads + Wait 
     script: &Script,
     kernel: Kernel<O>,
     gate: &G,
-) -> Result<Vec<Entry>, ScriptFault>
+) -> Result<Ran, ScriptFault>
     requires name { blank.name ≡ W.name }
     requires parts { (blank.parts ≡ W.parts) × (blank.parts ≡ 1024) }
     requires boots { IsBootState kernel }
     requires named { kernel ≡ W.boot }
     requires processes { kernel.processes ≡ map new_process script.now.procs.items }
-    ensures runs { IfOk result (λ entries. Runs W.boot (plan_of script.now) entries.items) }
+    ensures runs { IfOk result (λ ran. IsOfScript W.boot (plan_of script.now) ran) }
     ensures fault { IfErr result (λ f. (f ≡ ScriptFault.NoMemory) ⊎ (f ≡ ScriptFault.Stranger)) }
 {
     let count = kernel.process_count();
     let Ok((layer, seats)) = start::<W, O, R>(rt, alloc, blank, kernel) else {
         return Err(ScriptFault::NoMemory);
     };
-    let Ok(done) = work_all(rt, alloc, script, &layer, seats, gate) else {
+    let Ok(done) = work_all(rt, alloc, script, seats, gate) else {
         return Err(ScriptFault::NoMemory);
     };
-    let (spents, receipts) = gather(alloc, done)?;
+    let brought = gather(alloc, done)?;
+    if brought.waits.is_empty() {
+        let entries = finish(rt, alloc, script, &layer, brought, count)?;
+        return Ok(Ran::Whole(entries));
+    }
+    let guard = layer.book(rt);
+    let entries = begun_history(alloc, guard.book(), script, &brought.receipts, count)?;
+    Ok(Ran::Begun(entries, Waiting::new(brought.waits)))
+}
+
+/// Ends the layer where the script says so, and compares its history with what the workers brought back.
+fn finish<W: BookName, O: FileObject, R: Wait>(
+    rt: &R,
+    alloc: Global,
+    script: &Script,
+    layer: &Layer<W, O>,
+    brought: Brought<W>,
+    count: usize,
+) -> Result<Vec<Entry>, ScriptFault>
+    requires count { count ≡ length script.now.procs.items }
+    requires few { count ≤ process_limit }
+    ensures runs { IfOk result (λ entries. Runs W.boot (plan_of script.now) entries.items) }
+    ensures fault { IfErr result (λ f. (f ≡ ScriptFault.NoMemory) ⊎ (f ≡ ScriptFault.Stranger)) }
+{
+    let Brought {
+        spents,
+        receipts,
+        waits: _,
+    } = brought;
     if script.off && layer.off(rt).is_err() {
         return Err(ScriptFault::Stranger);
     }
     if layer.settle(rt, spents).is_err() {
         return Err(ScriptFault::Stranger);
     }
-    compare(rt, alloc, script, &layer, &receipts, count)
+    whole_history(alloc, layer.book(rt).book(), script, &receipts, count)
 }
 
-/// What the workers brought back, where none met a fault. Lack of memory is told before a stranger.
-fn gather<W: BookName>(
-    alloc: Global,
-    done: Vec<Done<W>>,
-) -> Result<(Vec<Spent<W>>, Vec<Vec<Receipt<W>>>), ScriptFault>
+/// What all workers brought back.
+#[derive(Drop)]
+struct Brought<W: BookName> {
+    spents: Vec<Spent<W>>,
+    receipts: Vec<Vec<Receipt<W>>>,
+    /// Where every process waits: which, and in which line.
+    waits: Vec<(Pid, usize)>,
+}
+
+/// What the workers brought back, where each either exited or waits with all others. Lack of memory is told
+/// before all else, then a stranger.
+fn gather<W: BookName>(alloc: Global, done: Vec<Done<W>>) -> Result<Brought<W>, ScriptFault>
     ensures { IfErr result (λ f. (f ≡ ScriptFault.NoMemory) ⊎ (f ≡ ScriptFault.Stranger)) }
 {
-    if done
-        .iter()
-        .any(|one| one.fault == Some(CallFault::NoMemory))
-    {
+    if done.iter().any(|one| one.stop == Some(Stop::NoMemory)) {
         return Err(ScriptFault::NoMemory);
     }
-    let mut spents = Vec::new(alloc);
-    let mut receipts = Vec::new(alloc);
+    let mut brought = Brought {
+        spents: Vec::new(alloc),
+        receipts: Vec::new(alloc),
+        waits: Vec::new(alloc),
+    };
     for one in done {
-        let Done {
-            spent,
-            receipts: theirs,
-            fault,
-        } = one;
-        let (Some(spent), None) = (spent, fault) else {
-            return Err(ScriptFault::Stranger);
-        };
-        if spents.push(spent).is_err() || receipts.push(theirs).is_err() {
-            return Err(ScriptFault::NoMemory);
-        }
+        add(&mut brought, one)?;
     }
-    Ok((spents, receipts))
+    Ok(brought)
+}
+
+/// Adds what one worker brought back.
+fn add<W: BookName>(brought: &mut Brought<W>, done: Done<W>) -> Result<(), ScriptFault>
+    ensures { IfErr result (λ f. (f ≡ ScriptFault.NoMemory) ⊎ (f ≡ ScriptFault.Stranger)) }
+{
+    let Done {
+        spent,
+        receipts,
+        stop,
+    } = done;
+    let kept = match (spent, stop) {
+        (Some(spent), None) => brought.spents.push(spent).is_ok(),
+        (None, Some(Stop::Deadlock(pid, line))) => brought.waits.push((pid, line)).is_ok(),
+        _ => return Err(ScriptFault::Stranger),
+    };
+    if !kept || brought.receipts.push(receipts).is_err() {
+        return Err(ScriptFault::NoMemory);
+    }
+    Ok(())
 }

@@ -9,17 +9,28 @@ use std::sync::atomic::{AtomicBool, Ordering};
 use std::thread;
 use std::thread::{JoinHandle, Scope, Threads};
 use ux_history::{BookName, CallFault, NoMemory, Receipt, Spent, is_last};
-use ux_layer::{Layer, Seat};
+use ux_layer::Seat;
 use ux_object::FileObject;
-use ux_syntax::{Act, Script};
-use ux_types::Request;
+use ux_syntax::{Act, Line, Script};
+use ux_types::{Pid, Request};
 
-/// What a worker brings back. With no `spent` its exit was refused.
+/// Why a worker stopped before all its lines were made.
+#[derive(Clone, Copy, Debug, PartialEq, Eq)]
+pub(crate) enum Stop {
+    /// Memory ran out.
+    NoMemory,
+    /// A call was refused as that of a stranger.
+    Stranger,
+    /// Every process waits, this one in the line of this number.
+    Deadlock(Pid, usize),
+}
+
+/// What a worker brings back. With no `spent` its exit was refused, or it stopped where every process waits.
 #[derive(Drop)]
 pub(crate) struct Done<W: BookName> {
     pub(crate) spent: Option<Spent<W>>,
     pub(crate) receipts: Vec<Receipt<W>>,
-    pub(crate) fault: Option<CallFault>,
+    pub(crate) stop: Option<Stop>,
 }
 
 /// Starts a thread for each seat, and joins them all. Where one can't be started, its seat is exited here, and
@@ -33,7 +44,6 @@ pub(crate) fn work_all<
     rt: &R,
     alloc: Global,
     script: &Script,
-    layer: &Layer<W, O>,
     seats: Vec<Seat<W, O>>,
     gate: &G,
 ) -> Result<Vec<Done<W>>, NoMemory> {
@@ -50,7 +60,7 @@ pub(crate) fn work_all<
                 return Err(NoMemory);
             };
             for seat in seats {
-                match start_work(scope, rt, alloc, script, layer, seat, gate, stop) {
+                match start_work(scope, rt, alloc, script, seat, gate, stop) {
                     Ok(thread) => {
                         let _ = threads.push(thread);
                     }
@@ -78,7 +88,6 @@ fn start_work<
     'b: 's,
     'c: 's,
     'd: 's,
-    'e: 's,
     E,
     W: BookName + Send + Sync + 's,
     O: FileObject + Send + 's,
@@ -89,12 +98,11 @@ fn start_work<
     rt: &'a R,
     alloc: Global,
     script: &'b Script,
-    layer: &'c Layer<W, O>,
     seat: Seat<W, O>,
-    gate: &'d G,
-    stop: &'e AtomicBool,
+    gate: &'c G,
+    stop: &'d AtomicBool,
 ) -> Result<JoinHandle<Done<W>>, Done<W>> {
-    match scope.spawn(move || work(rt, alloc, script, layer, seat, gate, stop)) {
+    match scope.spawn(move || work(rt, alloc, script, seat, gate, stop)) {
         Ok(thread) => Ok(thread),
         Err(refused) => {
             stop.store(true, Ordering::SeqCst);
@@ -103,58 +111,77 @@ fn start_work<
     }
 }
 
-/// Makes the seat's lines, and exits it.
+/// Makes the seat's lines, and exits it. Where every process waits the history ends there, without exits.
 fn work<W: BookName, O: FileObject, R: Wait, G: Gate>(
     rt: &R,
     alloc: Global,
     script: &Script,
-    layer: &Layer<W, O>,
     mut seat: Seat<W, O>,
     gate: &G,
     stop: &AtomicBool,
 ) -> Done<W> {
     let mut receipts = Vec::new(alloc);
-    let fault = make_calls(rt, script, layer, &mut seat, gate, stop, &mut receipts).err();
+    let stopped = make_calls(rt, script, &mut seat, gate, stop, &mut receipts).err();
+    let spent = match stopped {
+        Some(Stop::Deadlock(..)) => None,
+        _ => exit(rt, seat, gate),
+    };
+    Done {
+        spent,
+        receipts,
+        stop: stopped,
+    }
+}
+
+/// Exits a seat.
+fn exit<W: BookName, O: FileObject, R: Wait, G: Gate>(
+    rt: &R,
+    seat: Seat<W, O>,
+    gate: &G,
+) -> Option<Spent<W>> {
     let (pid, k) = (seat.pid(), seat.calls());
     gate.before(pid, k);
     let spent = seat.exit(rt).ok();
     gate.after(pid, k);
-    Done {
-        spent,
-        receipts,
-        fault,
-    }
+    spent
 }
 
 /// Goes through the seat's lines up to its exit: makes its calls, and waits for other processes.
 fn make_calls<W: BookName, O: FileObject, R: Wait, G: Gate>(
     rt: &R,
     script: &Script,
-    layer: &Layer<W, O>,
     seat: &mut Seat<W, O>,
     gate: &G,
     stop: &AtomicBool,
     receipts: &mut Vec<Receipt<W>>,
-) -> Result<(), CallFault> {
+) -> Result<(), Stop> {
     let pid = seat.pid();
     for line in &script.lines {
         if line.pid != pid {
             continue;
         }
         if stop.load(Ordering::SeqCst) {
-            return Err(CallFault::NoMemory);
+            return Err(Stop::NoMemory);
         }
-        match &line.act {
-            Act::Wait(other, calls) => layer.wait_for(rt, *other, u64::from(*calls)),
-            Act::Call(request) => {
-                if is_last(request) {
-                    return Ok(());
-                }
-                make_call(rt, seat, request, gate, receipts)?;
-            }
+        let made = match &line.act {
+            Act::Wait(other, calls) => seat.wait_for(rt, *other, u64::from(*calls)),
+            Act::Call(request) if is_last(request) => return Ok(()),
+            Act::Call(request) => make_call(rt, seat, request, gate, receipts),
+        };
+        if let Err(fault) = made {
+            return Err(stop_at(line, fault));
         }
     }
     Ok(())
+}
+
+/// Why the worker of this line stops there.
+fn stop_at(line: &Line, fault: CallFault) -> Stop {
+    match fault {
+        CallFault::NoMemory => Stop::NoMemory,
+        CallFault::Deadlock => Stop::Deadlock(line.pid, line.number),
+        CallFault::Stranger | CallFault::Full => Stop::Stranger,
+    }
 }
 
 /// Makes one call, for whose receipt there is room before.

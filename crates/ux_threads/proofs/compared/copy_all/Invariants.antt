@@ -1,5 +1,5 @@
 use Rattle.std.proofs.Common.{◌≡◌, ◌++◌, length}
-use Rattle.ux_compare.proofs.history.copy_all.Given as goal
+use Rattle.ux_threads.proofs.compared.copy_all.Given as goal
 
 -- the copies so far, and the entries that are left, are all entries
 abbrev pub invariant-loop-entry : goal.invariant-loop-entry

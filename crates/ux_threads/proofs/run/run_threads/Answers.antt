@@ -1,0 +1,11 @@
+use Rattle.ux_syntax.specs.Spelling.{plan_of}
+use Rattle.ux_compare.specs.Runs.{HasBegun}
+use Rattle.ux_threads.proofs.Beginnings.{begun_either}
+use Rattle.ux_threads.proofs.run.run_threads.Goals as goal
+
+pub returns-in-Begun-clause-begun : goal.returns-in-Begun-clause-begun
+returns-in-Begun-clause-begun g c = λ _.
+    let entries = c.in-Begun.entries.items in
+    let begun : HasBegun c.args.kernel (plan_of c.args.script.now) entries = rw c.in-Begun.is at c.in_ok-entries.ensures.runs in
+    let told = begun_either c.tell-told.result _ _ _ c.tell-told.ensures.ok c.tell-told.ensures.err in
+    (entries, begun, rw c.deref-in-Begun.ensures.value at told)

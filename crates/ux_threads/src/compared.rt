@@ -1,0 +1,93 @@
+//! A history beside its script and the receipts of its calls.
+ghost use Rattle.std.specs.Prelude.{◌≡◌, ◌≤◌, ◌⊎◌, ◌↔◌, true, length, IsTrue, IfOk, IfErr, OnOk};
+ghost use Rattle.std.specs.List.{AllByRecursion};
+ghost use Rattle.ux_model.specs.Limits.{process_limit};
+ghost use Rattle.ux_syntax.specs.Spelling.{plan_of};
+ghost use Rattle.ux_compare.specs.Runs.{Runs, HasBegun, MakesAll};
+ghost use Rattle.ux_threads.specs.Receipts.{AreHeld};
+
+use std::alloc::{AllocError, Global};
+use ux_compare::{makes_all, makes_first};
+use ux_history::{Book, BookName, Receipt};
+use ux_object::FileObject;
+use ux_syntax::{Script, ScriptFault};
+use ux_types::Entry;
+
+/// A copy of the book's history, where the book has the entry of each receipt, and each of so many processes made
+/// the script's calls in it, and no others.
+///
+/// # Errors
+///
+/// `Stranger` only where that isn't so, else `NoMemory`.
+pub(crate) fn whole_history<W: BookName, O: FileObject>(
+    alloc: Global,
+    book: &Book<W, O>,
+    script: &Script,
+    receipts: &[Vec<Receipt<W>>],
+    count: usize,
+) -> Result<Vec<Entry>, ScriptFault>
+    requires count { count ≡ length script.now.procs.items }
+    requires few { count ≤ process_limit }
+    ensures entries { IfOk result (λ entries. entries.items ≡ book.now.entries) }
+    ensures runs { IfOk result (λ entries. Runs W.boot (plan_of script.now) entries.items) }
+    ensures held { OnOk result (AllByRecursion (λ theirs. AreHeld book.now.entries theirs.items) receipts.now) }
+    ensures stranger { IfErr result (λ f. f ≡ ScriptFault.Stranger → ¬ (AllByRecursion (λ theirs. AreHeld book.now.entries theirs.items) receipts.now × MakesAll (plan_of script.now) book.now.entries)) }
+    ensures fault { IfErr result (λ f. (f ≡ ScriptFault.NoMemory) ⊎ (f ≡ ScriptFault.Stranger)) }
+{
+    if !all_held(book, receipts) || !makes_all(script, book.entries(), count) {
+        return Err(ScriptFault::Stranger);
+    }
+    copy_all(alloc, book.entries()).map_err(|_| ScriptFault::NoMemory)
+}
+
+/// As `whole_history`, of a run that was cut short: each process made the first of the script's calls.
+///
+/// # Errors
+///
+/// Those of `whole_history`.
+pub(crate) fn begun_history<W: BookName, O: FileObject>(
+    alloc: Global,
+    book: &Book<W, O>,
+    script: &Script,
+    receipts: &[Vec<Receipt<W>>],
+    count: usize,
+) -> Result<Vec<Entry>, ScriptFault>
+    requires count { count ≡ length script.now.procs.items }
+    requires few { count ≤ process_limit }
+    ensures entries { IfOk result (λ entries. entries.items ≡ book.now.entries) }
+    ensures begun { IfOk result (λ entries. HasBegun W.boot (plan_of script.now) entries.items) }
+    ensures held { OnOk result (AllByRecursion (λ theirs. AreHeld book.now.entries theirs.items) receipts.now) }
+    ensures fault { IfErr result (λ f. (f ≡ ScriptFault.NoMemory) ⊎ (f ≡ ScriptFault.Stranger)) }
+{
+    if !all_held(book, receipts) || !makes_first(script, book.entries(), count) {
+        return Err(ScriptFault::Stranger);
+    }
+    copy_all(alloc, book.entries()).map_err(|_| ScriptFault::NoMemory)
+}
+
+/// A copy of a history.
+fn copy_all(alloc: Global, entries: &[Entry]) -> Result<Vec<Entry>, AllocError>
+    ensures { IfOk result (λ copy. copy.items ≡ entries.now) }
+{
+    let mut copy = Vec::with_capacity(alloc, entries.len())?;
+    let mut left = entries;
+    while let Some((entry, more)) = left.split_first() {
+        copy.push(entry.clone()?)?;
+        left = more;
+    }
+    Ok(copy)
+}
+
+/// Whether the book has the entry of each of these receipts at its number.
+fn all_held<W: BookName, O: FileObject>(book: &Book<W, O>, receipts: &[Vec<Receipt<W>>]) -> bool
+    ensures { IsTrue result ↔ AllByRecursion (λ theirs. AreHeld book.now.entries theirs.items) receipts.now }
+{
+    receipts.iter().all(|theirs| are_held(book, theirs))
+}
+
+/// Whether the book has the entry of each of one worker's receipts at its number.
+fn are_held<W: BookName, O: FileObject>(book: &Book<W, O>, receipts: &[Receipt<W>]) -> bool
+    ensures { IsTrue result ↔ AreHeld book.now.entries receipts.now }
+{
+    receipts.iter().all(|receipt| book.holds(receipt))
+}
