@@ -1,5 +1,5 @@
 //! Runs each script of `data/`, compares its trace with the one that lies beside it, makes its calls once more, and
-//! makes them by seats.
+//! makes them by seats, over a book that keeps each call and over one that keeps none.
 #![tactic(auto)]
 
 ghost use Rattle.std.specs.Prelude.{◌≡◌, map, IfOk};
@@ -8,14 +8,14 @@ ghost use Rattle.ux_model.specs.Boot.{IsBootState, new_process};
 mod seats;
 
 use anyhow::{Result, anyhow};
-use seats::goes_by_seats;
+use seats::{goes_by_running_seats, goes_by_seats};
 use std::alloc::Global;
 use std::fs;
 use std::marker::Brand;
 use std::rt::Files;
 use std::sync::Wait;
 use std::sync::ledger::Blank;
-use ux_history::PARTS;
+use ux_history::{PARTS, Trail};
 use ux_kernel::Kernel;
 use ux_object::FileObject;
 use ux_objects::{FailAt, Plain};
@@ -143,13 +143,15 @@ enum Pass {
     Again,
     /// By the seats of the processes.
     Seats,
+    /// By seats over a book that keeps no call.
+    RunningSeats,
 }
 
 impl Pass {
     /// Which read or write of an object is to fail: none where the calls are made again, without those that failed.
     fn failing_call(self, line: &ObjectLine) -> Option<u32> {
         match self {
-            Pass::Serial | Pass::Seats => line.fail,
+            Pass::Serial | Pass::Seats | Pass::RunningSeats => line.fail,
             Pass::Again => None,
         }
     }
@@ -185,18 +187,36 @@ fn repeat<O: FileObject>(
     }
 }
 
-/// Makes a script's calls by seats. It must have this trace.
+/// Makes a script's calls by seats. It must have this trace, and be answered as in this history.
 fn seat<O: FileObject, R: Wait + AllocGlobal>(
     rt: &R,
     script: &Script,
+    history: &[Entry],
     wanted: &[u8],
     objects: Vec<(Name, O)>,
 ) -> Result<()> {
     let kernel = kernel_of(rt.alloc(), script, objects)?;
-    if goes_by_seats::<Brand, O, R>(rt, Blank::new(PARTS), kernel, script, wanted)? {
+    let blank = Blank::new(PARTS);
+    if goes_by_seats::<Brand, O, R>(rt, blank, kernel, script, history, wanted)? {
         return Ok(());
     }
     Err(anyhow!("another trace by seats"))
+}
+
+/// Makes a script's calls by seats over a book that keeps none. It must be answered as in this history.
+fn seat_running<O: FileObject, R: Wait + AllocGlobal>(
+    rt: &R,
+    script: &Script,
+    history: &[Entry],
+    objects: Vec<(Name, O)>,
+) -> Result<()> {
+    let kernel = kernel_of(rt.alloc(), script, objects)?;
+    let trail = Trail::new(rt.alloc())?;
+    let blank = Blank::new(PARTS);
+    if goes_by_running_seats::<Brand, O, R>(rt, blank, trail, kernel, script, history)? {
+        return Ok(());
+    }
+    Err(anyhow!("other accounts by running seats"))
 }
 
 /// Makes a script's file objects and its calls, and gives its history. The boxes are made and used here, since
@@ -221,16 +241,20 @@ fn perform<R: Wait + AllocGlobal>(
     match pass {
         Pass::Serial => return run_over(alloc, script, wanted, objects),
         Pass::Again => repeat(alloc, script, &history, objects)?,
-        Pass::Seats => seat(rt, script, wanted, objects)?,
+        Pass::Seats => seat(rt, script, &history, wanted, objects)?,
+        Pass::RunningSeats => seat_running(rt, script, &history, objects)?,
     }
     Ok(history)
 }
 
-/// Runs a script, makes its calls once more, and makes them by seats. It must have this trace.
+/// The ways in which the calls of each script are made.
+const PASSES: [Pass; 4] = [Pass::Serial, Pass::Again, Pass::Seats, Pass::RunningSeats];
+
+/// Runs a script, makes its calls once more, and makes them by seats of both kinds. It must have this trace.
 fn must_have_trace<R: Wait + AllocGlobal>(rt: &R, text: &[u8], wanted: &[u8]) -> Result<()> {
     let script = parse_script(rt.alloc(), text)?;
     let mut history = Vec::new(rt.alloc());
-    for pass in [Pass::Serial, Pass::Again, Pass::Seats] {
+    for pass in PASSES {
         history = perform(rt, &script, wanted, pass, history)?;
     }
     Ok(())

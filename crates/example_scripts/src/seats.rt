@@ -1,6 +1,6 @@
 //! A script whose calls are made by the seats of its processes, in the order of its lines.
 
-ghost use Rattle.std.specs.Prelude.{◌≡◌, false};
+ghost use Rattle.std.specs.Prelude.{◌≡◌, false, []};
 ghost use Rattle.ux_model.specs.Boot.{IsBootState};
 ghost use Rattle.ux_history.specs.Books.{is_last};
 
@@ -8,37 +8,43 @@ use anyhow::{Result, anyhow};
 use std::alloc::Global;
 use std::sync::Wait;
 use std::sync::ledger::Blank;
-use ux_history::{Book, BookName, Receipt, Spent, is_last};
+use ux_history::{Book, BookName, CallBook, Receipt, Spent, Trail, Trailing, is_last};
 use ux_kernel::Kernel;
-use ux_layer::{Layer, Seat, start};
+use ux_layer::{Layer, Seat, start, start_running};
 use ux_object::FileObject;
 use ux_script::write_trace;
 use ux_syntax::{Act, Script};
-use ux_types::{Pid, Request};
+use ux_types::{Entry, Pid, Reply, Request};
 
 /// The seats of the processes 1, 2 and so on, as long as they haven't exited, and what their calls left.
-struct Hall<W: BookName, O: FileObject> {
-    seats: Vec<Option<Seat<W, O>>>,
-    receipts: Vec<Receipt<W>>,
+struct Hall<W: BookName, O: FileObject, B: CallBook<W, O>> {
+    seats: Vec<Option<Seat<W, O, B>>>,
+    slips: Vec<B::Slip>,
     spents: Vec<Spent<W>>,
+    /// How many calls and exits were made.
+    made: usize,
+    /// Whether each call was answered as in the history of one thread.
+    is_alike: bool,
 }
 
 /// Written out, a drop is a call, and not each of its parts in the proof of each function that drops one.
-impl<W: BookName, O: FileObject> Drop for Hall<W, O> {
+impl<W: BookName, O: FileObject, B: CallBook<W, O>> Drop for Hall<W, O, B> {
     fn drop(self) {
         let Hall {
             seats,
-            receipts,
+            slips,
             spents,
+            made: _,
+            is_alike: _,
         } = self;
         drop(seats);
-        drop(receipts);
+        drop(slips);
         drop(spents);
     }
 }
 
-impl<W: BookName, O: FileObject> Hall<W, O> {
-    fn new(alloc: Global, seats: Vec<Seat<W, O>>) -> Result<Hall<W, O>> {
+impl<W: BookName, O: FileObject, B: CallBook<W, O>> Hall<W, O, B> {
+    fn new(alloc: Global, seats: Vec<Seat<W, O, B>>) -> Result<Hall<W, O, B>> {
         let mut places = Vec::new(alloc);
         for seat in seats {
             if places.push(Some(seat)).is_err() {
@@ -47,41 +53,52 @@ impl<W: BookName, O: FileObject> Hall<W, O> {
         }
         Ok(Hall {
             seats: places,
-            receipts: Vec::new(alloc),
+            slips: Vec::new(alloc),
             spents: Vec::new(alloc),
+            made: 0,
+            is_alike: true,
         })
     }
 
     /// What its calls left.
-    fn into_parts(self) -> (Vec<Receipt<W>>, Vec<Spent<W>>) {
+    fn into_parts(self) -> (Vec<B::Slip>, Vec<Spent<W>>) {
         let Hall {
             seats,
-            receipts,
+            slips,
             spents,
+            made: _,
+            is_alike: _,
         } = self;
         drop(seats);
-        (receipts, spents)
+        (slips, spents)
     }
 
     /// The place of a process's seat.
-    fn place(&mut self, pid: Pid) -> Result<&mut Option<Seat<W, O>>> {
+    fn place(&mut self, pid: Pid) -> Result<&mut Option<Seat<W, O, B>>> {
         match self.seats.get_mut((pid.0 as usize).wrapping_sub(1)) {
             Some(place) => Ok(place),
             None => Err(anyhow!("no such process")),
         }
     }
 
-    /// Makes a call of a process that lives.
-    fn call<R: Wait>(&mut self, rt: &R, pid: Pid, request: &Request) -> Result<()>
+    /// Makes a call of a process that lives, which must be answered as the next entry of this history.
+    fn call<R: Wait>(
+        &mut self,
+        rt: &R,
+        history: &[Entry],
+        pid: Pid,
+        request: &Request,
+    ) -> Result<()>
         requires { is_last request.now ≡ false }
     {
         let Some(seat) = self.place(pid)? else {
             return Err(anyhow!("a call after the exit"));
         };
         match seat.call(rt, request) {
-            Ok((reply, receipt)) => {
-                drop(reply);
-                self.receipts.push(receipt)?;
+            Ok((reply, slip)) => {
+                self.is_alike = self.is_alike && is_answer_of(history.get(self.made), reply);
+                self.made = self.made.wrapping_add(1);
+                self.slips.push(slip)?;
                 Ok(())
             }
             Err(fault) => Err(anyhow!("{fault}")),
@@ -95,6 +112,7 @@ impl<W: BookName, O: FileObject> Hall<W, O> {
         };
         match seat.exit(rt) {
             Ok(spent) => {
+                self.made = self.made.wrapping_add(1);
                 self.spents.push(spent)?;
                 Ok(())
             }
@@ -103,12 +121,12 @@ impl<W: BookName, O: FileObject> Hall<W, O> {
     }
 
     /// Makes the calls of the script's lines. A wait is over at its turn, as the calls go in the lines' order.
-    fn make_calls<R: Wait>(&mut self, rt: &R, script: &Script) -> Result<()> {
+    fn make_calls<R: Wait>(&mut self, rt: &R, script: &Script, history: &[Entry]) -> Result<()> {
         for line in &script.lines {
             match &line.act {
                 Act::Wait(..) => {}
                 Act::Call(request) if is_last(request) => self.exit(rt, line.pid)?,
-                Act::Call(request) => self.call(rt, line.pid, request)?,
+                Act::Call(request) => self.call(rt, history, line.pid, request)?,
             }
         }
         Ok(())
@@ -125,20 +143,44 @@ impl<W: BookName, O: FileObject> Hall<W, O> {
     }
 }
 
-/// Whether each of these receipts stands in the book.
-fn holds_all<W: BookName, O: FileObject>(book: &Book<W, O>, receipts: &[Receipt<W>]) -> bool {
-    receipts.iter().all(|receipt| book.holds(receipt))
+/// Whether the entry has this reply.
+fn is_answer_of(entry: Option<&Entry>, reply: Reply) -> bool {
+    match entry {
+        Some(entry) => entry.reply == reply,
+        None => false,
+    }
 }
 
-/// Whether the layer's history has this trace, settles with all shares, and has each receipt.
+/// Makes the script's calls by these seats, and ends the layer where the script says so. Gives what the calls left,
+/// where each was answered as in this history.
+fn make_all<W: BookName, O: FileObject, B: CallBook<W, O>, R: Wait + AllocGlobal>(
+    rt: &R,
+    layer: &Layer<W, O, B>,
+    seats: Vec<Seat<W, O, B>>,
+    script: &Script,
+    history: &[Entry],
+) -> Result<(Vec<B::Slip>, Vec<Spent<W>>)> {
+    let mut hall = Hall::new(rt.alloc(), seats)?;
+    hall.make_calls(rt, script, history)?;
+    hall.make_exits(rt)?;
+    if script.off && layer.off(rt).is_err() {
+        return Err(anyhow!("the layer isn't ended"));
+    }
+    if !hall.is_alike {
+        return Err(anyhow!("another answer"));
+    }
+    Ok(hall.into_parts())
+}
+
+/// Whether the layer's history has this trace, and settles with all shares and all receipts.
 fn is_right<W: BookName, O: FileObject, R: Wait + AllocGlobal>(
     rt: &R,
     layer: &Layer<W, O>,
-    hall: Hall<W, O>,
+    receipts: &[Receipt<W>],
+    spents: Vec<Spent<W>>,
     wanted: &[u8],
 ) -> Result<bool> {
-    let (receipts, spents) = hall.into_parts();
-    let account = match layer.settle(rt, spents) {
+    let account = match layer.settle_held(rt, spents, receipts) {
         Ok(account) => account,
         Err((fault, _spents)) => return Err(anyhow!("{fault}")),
     };
@@ -146,19 +188,17 @@ fn is_right<W: BookName, O: FileObject, R: Wait + AllocGlobal>(
     let entries = guard.book().entries();
     let mut trace: Vec<u8> = Vec::new(rt.alloc());
     write_trace(rt.alloc(), &mut trace, entries)?;
-    Ok(
-        account.entries == entries.len()
-            && holds_all(guard.book(), &receipts)
-            && trace.as_slice() == wanted,
-    )
+    Ok(account.entries == entries.len() && trace.as_slice() == wanted)
 }
 
-/// Whether the script has this trace when its calls are made by seats, and settles then.
+/// Whether the script has this trace when its calls are made by seats, is answered as in this history, and settles
+/// then.
 pub fn goes_by_seats<W: BookName, O: FileObject, R: Wait + AllocGlobal>(
     rt: &R,
     blank: Blank,
     kernel: Kernel<O>,
     script: &Script,
+    history: &[Entry],
     wanted: &[u8],
 ) -> Result<bool>
     requires name { blank.name ≡ W.name }
@@ -169,11 +209,32 @@ pub fn goes_by_seats<W: BookName, O: FileObject, R: Wait + AllocGlobal>(
     let Ok((layer, seats)) = start::<W, O, R>(rt, rt.alloc(), blank, kernel) else {
         return Err(anyhow!("out of memory"));
     };
-    let mut hall = Hall::new(rt.alloc(), seats)?;
-    hall.make_calls(rt, script)?;
-    hall.make_exits(rt)?;
-    if script.off && layer.off(rt).is_err() {
-        return Ok(false);
+    let (receipts, spents) = make_all::<W, O, Book<W, O>, R>(rt, &layer, seats, script, history)?;
+    is_right(rt, &layer, &receipts, spents, wanted)
+}
+
+/// Whether the script is answered as in this history when its calls are made by seats over a book that keeps none
+/// of them, and settles then with as many entries.
+pub fn goes_by_running_seats<W: Trailing, O: FileObject, R: Wait + AllocGlobal>(
+    rt: &R,
+    blank: Blank,
+    trail: Trail,
+    kernel: Kernel<O>,
+    script: &Script,
+    history: &[Entry],
+) -> Result<bool>
+    requires name { blank.name ≡ W.name }
+    requires parts { (blank.parts ≡ W.parts) × (blank.parts ≡ 1024) }
+    requires trail { trail ≡ record { id = W.trail; calls = [] } }
+    requires boots { IsBootState kernel }
+    requires named { kernel ≡ W.boot }
+{
+    let Ok((layer, seats)) = start_running::<W, O, R>(rt, rt.alloc(), blank, trail, kernel) else {
+        return Err(anyhow!("out of memory"));
+    };
+    let (mut witnesses, spents) = make_all(rt, &layer, seats, script, history)?;
+    match layer.settle_told(rt, spents, witnesses.as_mut_slice()) {
+        Ok(account) => Ok(account.entries == history.len()),
+        Err((fault, _spents)) => Err(anyhow!("{fault}")),
     }
-    is_right(rt, &layer, hall, wanted)
 }

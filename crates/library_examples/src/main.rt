@@ -2,6 +2,7 @@
 #![tactic(auto)]
 
 mod one_process;
+mod relying;
 mod two_threads;
 
 use anyhow::Result;

@@ -6,6 +6,7 @@ ghost use Rattle.ux_model.specs.Boot.{IsBootState};
 ghost use Rattle.ux_history.specs.Books.{is_last};
 
 use crate::print_history;
+use crate::relying::{close, entries_made, stands};
 use anyhow::{Result, anyhow};
 use bstr::BString;
 use std::alloc::Global;
@@ -135,10 +136,28 @@ fn worker_calls(alloc: Global) -> Result<Vec<Request>> {
     ]?)
 }
 
-/// What the worker asks for after the monitor's exit: with the close the file has no reference left.
-fn last_calls(alloc: Global) -> Result<Vec<Request>> {
+/// Takes the file's path away, and closes it: with the close it has no reference left.
+fn let_go<W: BookName, R: Wait>(
+    rt: &R,
+    alloc: Global,
+    seat: &mut Seat<W, MemFile>,
+    receipts: &mut Vec<Receipt<W>>,
+) -> Result<()> {
     let path = notes(alloc)?;
-    Ok(vec![in alloc; Request::Unlink { path }, Request::Close { fd: Fd(1) }]?)
+    make_calls(
+        rt,
+        seat,
+        receipts,
+        &vec![in alloc; Request::Unlink { path }]?,
+    )?;
+    match close(rt, seat, Fd(1)) {
+        Ok((reply, receipt)) => {
+            drop(reply);
+            receipts.push(receipt)?;
+            Ok(())
+        }
+        Err(fault) => Err(anyhow!("{fault}")),
+    }
 }
 
 /// Makes these calls, each of which waits until it can be done, and keeps their receipts.
@@ -203,13 +222,19 @@ fn worker<W: BookName, R: Wait>(
     make_calls(rt, &mut seat, &mut receipts, &worker_calls(alloc)?)?;
     // The monitor has exited.
     layer.wait_for(rt, MONITOR, 7);
-    make_calls(rt, &mut seat, &mut receipts, &last_calls(alloc)?)?;
+    let_go(rt, alloc, &mut seat, &mut receipts)?;
     exit(rt, seat, receipts)
 }
 
-/// Whether each of these receipts stands in the book.
+/// Whether each of these receipts stands in the book. That its call stands in some legal history needs no look.
 fn holds_all<W: BookName>(book: &Book<W, MemFile>, receipts: &[Receipt<W>]) -> bool {
-    receipts.iter().all(|receipt| book.holds(receipt))
+    for receipt in receipts {
+        stands(receipt);
+        if !book.holds(receipt) {
+            return false;
+        }
+    }
+    true
 }
 
 /// Compares the history with what the processes have of it.
@@ -242,11 +267,7 @@ fn settle_both<W: BookName, R: Wait + AllocGlobal>(
     spent: Spent<W>,
     other: Spent<W>,
 ) -> Result<usize> {
-    let spents = vec![in rt.alloc(); spent, other]?;
-    match layer.settle(rt, spents) {
-        Ok(account) => Ok(account.entries),
-        Err((fault, _spents)) => Err(anyhow!("{fault}")),
-    }
+    entries_made(rt, layer, vec![in rt.alloc(); spent, other]?)
 }
 
 /// Makes the history's calls once more, on another kernel.
