@@ -2,7 +2,7 @@
 ghost use Rattle.std.specs.Prelude.{◌≡◌, ◌↔◌, ◌≤◌, length, Some, None, IfOk, IsSome, IsSomeAnd, MatchOption, OnOk, OnErr, is_some, option_map, option_and_then, slice_get};
 ghost use Rattle.ux_model.specs.Backlog.{backlog_of};
 ghost use Rattle.ux_model.specs.Names.{is_unnamed_addr};
-ghost use Rattle.ux_model.specs.Socket.{peer_of, pending_ends, awaiting, with_passcred, with_association, shut_down};
+ghost use Rattle.ux_model.specs.Socket.{peer_of, pending_ends, awaiting, with_passcred, with_queue_limit, with_association, shut_down};
 ghost use Rattle.ux_model.specs.Description.{socket_of, changed};
 ghost use Rattle.ux_model.specs.Binding.{with_name};
 ghost use Rattle.ux_model.specs.Connecting.{listener_of, with_listening, server_end, tied};
@@ -227,6 +227,15 @@ impl Description {
     {
         if let Target::Socket(s) = &mut self.target {
             s.set_passcred(on);
+        }
+    }
+
+    /// Another limit of the bytes in its socket's queue. Nothing is dropped where these are more.
+    pub fn set_queue_limit(&mut self, limit: u32)
+        ensures { self.new ≡ changed (with_queue_limit limit) self.old }
+    {
+        if let Target::Socket(s) = &mut self.target {
+            s.set_queue_limit(limit);
         }
     }
 

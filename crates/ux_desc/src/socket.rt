@@ -1,8 +1,8 @@
 //! A socket.
 ghost use Rattle.std.specs.Prelude.{◌≡◌, ◌↔◌, ◌==◌, ◌<◌, ◌≤◌, ◌-◌, [], ◌∷◌, ◌++◌, length, drop, false, Some, None, IsTrue, IfOk, IfErr, IsErrAnd, OnOk, OnErr, option_map, slice_get};
-ghost use Rattle.ux_model.specs.Limits.{stream_limit, record_limit};
+ghost use Rattle.ux_model.specs.Limits.{record_limit};
 ghost use Rattle.ux_model.specs.Message.{message, queued_bytes};
-ghost use Rattle.ux_model.specs.Socket.{is_stream, is_dgram, new_socket, pair_end, peer_of, association_of, tied_socket, takes_from, pending_ends, has_room, sent_part, sent, with_queue, with_reset, with_passcred, with_association, shut_down};
+ghost use Rattle.ux_model.specs.Socket.{is_stream, is_dgram, new_socket, pair_end, peer_of, association_of, tied_socket, takes_from, pending_ends, has_room, sent_part, sent, with_queue, with_reset, with_passcred, with_queue_limit, with_association, shut_down};
 ghost use Rattle.ux_model.specs.Front.{OnStreamFront, OnRecordFront, OnFront};
 ghost use Rattle.ux_model.specs.Accepting.{without_first_end};
 ghost use Rattle.ux_model.specs.Release.{resets_peer};
@@ -14,10 +14,7 @@ use std::marker::Model;
 use ux_record::{Received, RecordQueue};
 use ux_rights::{RefList, SendError};
 use ux_stream::{Refused, StreamQueue};
-use ux_types::{Addr, Cred, DescriptionId, Mode, SockType};
-
-/// The bytes that wait in one stream's queue at most.
-const STREAM_LIMIT: usize = 65536;
+use ux_types::{Addr, Cred, DescriptionId, FIRST_QUEUE_LIMIT, Mode, SockType};
 
 /// A socket, without what its descriptors and its description say (unix(7)).
 pub struct Socket {
@@ -35,6 +32,8 @@ pub struct Socket {
     reset: bool,
     /// False of a server's end that no accept has taken.
     pub(crate) accepted: bool,
+    /// How many bytes its queue takes, if it is a stream socket.
+    queue_limit: u32,
 }
 
 // Written out, so that it is proved here and not in each function that drops one.
@@ -50,6 +49,7 @@ impl Drop for Socket {
             peer_cred: _,
             reset: _,
             accepted: _,
+            queue_limit: _,
         } = self;
         drop(phase);
         drop(queue);
@@ -74,6 +74,7 @@ impl Model for Socket {
       peer_cred = s.peer_cred;
       reset = s.reset;
       accepted = s.accepted;
+      queue_limit = s.queue_limit;
     } };
 }
 
@@ -92,6 +93,7 @@ impl Socket {
             peer_cred: None,
             reset: false,
             accepted: true,
+            queue_limit: FIRST_QUEUE_LIMIT,
         }
     }
 
@@ -189,6 +191,13 @@ impl Socket {
         self.passcred
     }
 
+    /// How many bytes its queue takes, if it is a stream socket.
+    pub fn queue_limit(&self) -> u32
+        ensures { result ≡ self.now.queue_limit }
+    {
+        self.queue_limit
+    }
+
     /// The credentials that were recorded of its peer (SO_PEERCRED).
     pub fn peer_cred(&self) -> Option<Cred>
         ensures { result ≡ self.now.peer_cred }
@@ -240,7 +249,7 @@ impl Socket {
         ensures { result ≡ has_room self.now }
     {
         match &self.queue {
-            Queue::Stream(queue) => room_of(queue) != 0,
+            Queue::Stream(queue) => room_of(queue, self.queue_limit) != 0,
             Queue::Dgram(queue) => !queue.is_full(),
             Queue::Seq(queue) => !queue.is_full(),
         }
@@ -271,7 +280,7 @@ impl Socket {
     {
         match &mut self.queue {
             Queue::Stream(queue) => {
-                let room = room_of(queue);
+                let room = room_of(queue, self.queue_limit);
                 queue.send(bytes, room, tag, rights, cred, uid)
             }
             Queue::Dgram(queue) => send_whole(queue, bytes, tag, rights, cred, uid, from),
@@ -370,6 +379,13 @@ impl Socket {
         self.passcred = on;
     }
 
+    /// Another limit of the bytes in its queue, if it is a stream socket. Nothing is dropped where these are more.
+    pub fn set_queue_limit(&mut self, limit: u32)
+        ensures { self.new ≡ with_queue_limit limit self.old }
+    {
+        self.queue_limit = limit;
+    }
+
     /// ECONNRESET is pending from now on, or no longer.
     pub fn set_reset(&mut self, on: bool)
         ensures { self.new ≡ with_reset on self.old }
@@ -378,11 +394,11 @@ impl Socket {
     }
 }
 
-/// The bytes that a stream's queue still takes.
-fn room_of(queue: &StreamQueue) -> usize
-    ensures { result ≡ stream_limit - queued_bytes queue.now }
+/// The bytes that a stream's queue with this limit still takes: none where it has more.
+fn room_of(queue: &StreamQueue, limit: u32) -> usize
+    ensures { result ≡ limit - queued_bytes queue.now }
 {
-    STREAM_LIMIT.saturating_sub(queue.len_bytes())
+    (limit as usize).saturating_sub(queue.len_bytes())
 }
 
 /// Queues a message whole, and says how many bytes it has.

@@ -15,10 +15,7 @@ use std::marker::Model;
 use thiserror::Error;
 use ux_marks::Marks;
 use ux_rights::Reference;
-use ux_types::{DescriptionId, Errno, Fd, Refusal};
-
-/// The most descriptors that one process may have.
-const GREATEST_LIMIT: u32 = 1024;
+use ux_types::{DescriptionId, Errno, Fd, Refusal, TABLE_LIMIT};
 
 /// Why a descriptor got no number.
 #[derive(Clone, Copy, Debug, PartialEq, Eq, Error)]
@@ -100,11 +97,11 @@ impl Model for Table {
 }
 
 impl Table {
-    /// A table with nothing open. A limit below 1 counts as 1, above 1,024 as 1,024.
+    /// A table with nothing open. A limit below 1 counts as 1, above 4,096 as 4,096.
     pub fn new(alloc: Global, limit: u32) -> Result<Table, AllocError>
         ensures { IfOk result (λ t. t ≡ empty_table limit) }
     {
-        let limit = limit.min(GREATEST_LIMIT).max(1) as usize;
+        let limit = limit.min(TABLE_LIMIT).max(1) as usize;
         Ok(Table {
             places: Vec::new(alloc),
             limit,

@@ -11,7 +11,7 @@ use thiserror::Error;
 use ux_names::is_valid_path;
 use ux_object::FileObject;
 use ux_state::State;
-use ux_types::{Name, OBJECT_LIMIT, ProcSpec};
+use ux_types::{Name, OBJECT_LIMIT, PROCESS_LIMIT, ProcSpec};
 
 /// Why no kernel could be made, with the number that a boot fault is told by.
 #[derive(Clone, Copy, Debug, PartialEq, Eq, Error)]
@@ -35,9 +35,6 @@ pub enum BootFault {
     #[error("a path that isn't 1 to 107 bytes without NUL")]
     BadPath = 6,
 }
-
-/// The processes that one kernel may have.
-const PROCESS_LIMIT: usize = 64;
 
 impl<O: FileObject> Kernel<O> {
     /// A kernel with these file objects, numbered from 0 on, each under its path, and these processes,

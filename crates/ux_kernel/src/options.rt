@@ -1,5 +1,5 @@
 //! Options of sockets (getsockopt(2), setsockopt(2)).
-ghost use Rattle.std.specs.Prelude.{◌≡◌, IsTrue};
+ghost use Rattle.std.specs.Prelude.{◌≡◌, if◌then◌else◌, Some, None, IsTrue};
 ghost use Rattle.ux_model.specs.State.{is_live};
 ghost use Rattle.ux_model.specs.Options as model;
 ghost use Rattle.ux_msg.specs.Answers.{Gives};
@@ -7,11 +7,11 @@ ghost use Rattle.ux_msg.specs.Answers.{Gives};
 use crate::kernel::Kernel;
 use ux_desc::Socket;
 use ux_object::FileObject;
-use ux_types::{Errno, Fd, Pid, Refusal, Reply, SockOpt, SockType};
+use ux_types::{Errno, Fd, GREATEST_QUEUE_LIMIT, Pid, Refusal, Reply, SockOpt, SockType};
 
 impl<O: FileObject> Kernel<O> {
     /// getsockopt(2). SO_ERROR clears the pending error that it tells. ENOTCONN of SO_PEERCRED where no peer's
-    /// credentials were recorded.
+    /// credentials were recorded. EOPNOTSUPP of the limit of a queue that isn't a stream's.
     #[tactic(auto, using(ux_msg::proofs::Found::socket_found), unfolding(ux_model::specs::Options::get_opt))]
     pub(crate) fn get_opt(&mut self, pid: Pid, fd: Fd, opt: SockOpt) -> Result<Reply, Refusal>
         requires { IsTrue (is_live self.old pid.0) }
@@ -34,11 +34,12 @@ impl<O: FileObject> Kernel<O> {
                 None => Err(Refusal::Answer(Errno::ENOTCONN)),
             },
             SockOpt::AcceptConn => Ok(on_off(socket.is_listening())),
+            SockOpt::QueueLimit if socket.is_stream() => Ok(Reply::Opt(socket.queue_limit() as u64)),
+            SockOpt::QueueLimit => Err(Refusal::Answer(Errno::EOPNOTSUPP)),
         }
     }
 
-    /// setsockopt(2). EINVAL of an option other than SO_PASSCRED. A socket that has neither a name nor a peer
-    /// gets a name of the abstract namespace as SO_PASSCRED is set on; ENOSPC where none is free.
+    /// setsockopt(2) of SO_PASSCRED, or of the limit of a stream's queue. EINVAL of other options.
     #[tactic(auto, using(ux_msg::proofs::Found::socket_found), unfolding(ux_model::specs::Options::set_opt))]
     pub(crate) fn set_opt(
         &mut self,
@@ -54,15 +55,36 @@ impl<O: FileObject> Kernel<O> {
             Ok(found) => found,
             Err(e) => return Err(Refusal::from(e)),
         };
-        if opt != SockOpt::PassCred {
-            return Err(Refusal::Answer(Errno::EINVAL));
+        match opt {
+            SockOpt::PassCred => {
+                let on = value != 0;
+                if on && socket.is_unnamed() && socket.tied_socket().is_none() {
+                    self.state.autobind(id)?;
+                }
+                self.state.set_passcred(id, on);
+                Ok(Reply::Ok)
+            }
+            SockOpt::QueueLimit if !socket.is_stream() => Err(Refusal::Answer(Errno::EOPNOTSUPP)),
+            SockOpt::QueueLimit => {
+                let Some(limit) = queue_limit_of(value) else {
+                    return Err(Refusal::Answer(Errno::EINVAL));
+                };
+                self.state.set_queue_limit(id, limit);
+                Ok(Reply::Ok)
+            }
+            _ => Err(Refusal::Answer(Errno::EINVAL)),
         }
-        let on = value != 0;
-        if on && socket.is_unnamed() && socket.tied_socket().is_none() {
-            self.state.autobind(id)?;
-        }
-        self.state.set_passcred(id, on);
-        Ok(Reply::Ok)
+    }
+}
+
+/// The limit of a queue that this value sets: 1 to 1,048,576.
+fn queue_limit_of(value: u64) -> Option<u32>
+    ensures { result ≡ if model.may_limit value then Some value else None }
+{
+    if 1 <= value && value <= GREATEST_QUEUE_LIMIT as u64 {
+        Some(value as u32)
+    } else {
+        None
     }
 }
 

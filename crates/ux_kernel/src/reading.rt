@@ -11,10 +11,7 @@ use crate::kernel::Kernel;
 use crate::open_file::{OpenFile, errno_of};
 use ux_msg::read_socket;
 use ux_object::{FileObject, ObjKind};
-use ux_types::{Bytes, DescriptionId, Errno, Fd, Pid, Refusal, Reply};
-
-/// The bytes that one read asks for at most.
-const READ_LIMIT: usize = 1048576;
+use ux_types::{Bytes, DescriptionId, Errno, Fd, Pid, READ_LIMIT, Refusal, Reply};
 
 /// The bytes of a counter's value, which are read all at once (eventfd(2)).
 const COUNTER_BYTES: usize = 8;

@@ -5,7 +5,7 @@ use Rattle.std.specs.List.{AllByRecursion}
 use Rattle.std.proofs.lemmas.List.{length-take, length-drop}
 use Rattle.std.proofs.lemmas.List.Sums.{sum_by-cons, sum_by_push}
 use Rattle.ux_model.specs.Types.{Name, Addr, SockType}
-use Rattle.ux_model.specs.Limits.{name_limit, record_bytes_limit, rights_limit, stream_limit, autobind_names}
+use Rattle.ux_model.specs.Limits.{name_limit, rights_limit, first_queue_limit, greatest_queue_limit, record_bytes_limit, autobind_names}
 use Rattle.ux_model.specs.Names.{free_name, autobind_name, lowest_from, named}
 use Rattle.ux_model.specs.Message.{Message, queued_bytes}
 use Rattle.ux_model.specs.Socket.{Socket, is_stream, stream_room, sent}
@@ -17,21 +17,22 @@ use Rattle.ux_model.specs.Rooms.{name_bytes, sender_bytes}
 
 -- of one message
 pub record IsBoundedMessage (m : Message) : Type 0 where
-  pub few_bytes : length m.bytes ≤ record_bytes_limit
+  pub few_bytes : length m.bytes ≤ greatest_queue_limit
   pub few_rights : length m.rights ≤ rights_limit
   pub short_sender : sender_bytes m.from ≤ name_limit
 
 abbrev pub AreBoundedMessages : List Message → Type 0
 AreBoundedMessages queue = AllByRecursion IsBoundedMessage queue
 
--- of the parts of a socket that calls tell of
-pub record HasBounds (kind : SockType) (name : Addr) (queue : List Message) : Type 0 where
+-- Of the parts of a socket that calls tell of. A limit that was lowered may be less than what waits, so both keep to the greatest limit.
+pub record HasBounds (kind : SockType) (name : Addr) (limit : ℕ) (queue : List Message) : Type 0 where
   pub short : name_bytes name ≤ name_limit
   pub each : AreBoundedMessages queue
-  pub all : is_stream kind ≡ true → queued_bytes queue ≤ stream_limit
+  pub limited : limit ≤ greatest_queue_limit
+  pub all : is_stream kind ≡ true → queued_bytes queue ≤ greatest_queue_limit
 
 abbrev pub IsBounded : Socket → Type 0
-IsBounded s = HasBounds s.kind s.name s.queue
+IsBounded s = HasBounds s.kind s.name s.queue_limit s.queue
 
 abbrev pub IsBoundedTarget : Target → Type 0
 IsBoundedTarget (to_object o) = Unit {0}
@@ -57,8 +58,8 @@ socket_bounded S d s bounded h = go (description_at S d) (bounded d) h
     go (Some D) own h = by_target D.target own h
 
 -- without a name and with nothing in its queue
-pub new_bounded : (kind : SockType) → HasBounds kind Addr.Unnamed []
-new_bounded kind = record { short = omega arith; each = tt; all = λ stream. omega arith }
+pub new_bounded : (kind : SockType) → HasBounds kind Addr.Unnamed first_queue_limit []
+new_bounded kind = record { short = omega arith; each = tt; limited = omega arith; all = λ stream. omega arith }
 
 -- ---- names
 
@@ -85,19 +86,22 @@ sent_bounded s m few short fits own = go (is_stream s.kind) refl
     part : Bool → Message
     part b = record m { bytes = if b then take (stream_room s) m.bytes else m.bytes; from = if b then None else m.from }
 
-    go : (b : Bool) → is_stream s.kind ≡ b → HasBounds s.kind s.name (s.queue ++ part b ∷ [])
+    go : (b : Bool) → is_stream s.kind ≡ b → HasBounds s.kind s.name s.queue_limit (s.queue ++ part b ∷ [])
     go true h =
         let cut = length-take (stream_room s) m.bytes in
         let more = sum_by_push (λ m. length (Message.bytes m)) s.queue (part true) in
-        let before : queued_bytes s.queue ≤ stream_limit = own.all h in
+        let before : queued_bytes s.queue ≤ greatest_queue_limit = own.all h in
+        let limited : s.queue_limit ≤ greatest_queue_limit = own.limited in
         record {
           short = own.short;
-          each = pushed_each s.queue (part true) own.each (record { few_bytes = omega (arith, cut); few_rights = few; short_sender = omega arith });
-          all = λ stream. omega (arith, cut, more, before);
+          limited = own.limited;
+          each = pushed_each s.queue (part true) own.each (record { few_bytes = omega (arith, cut, limited); few_rights = few; short_sender = omega arith });
+          all = λ stream. omega (arith, cut, more, before, limited);
         }
     go false h = record {
       short = own.short;
-      each = pushed_each s.queue (part false) own.each (record { few_bytes = fits h; few_rights = few; short_sender = short });
+      limited = own.limited;
+      each = pushed_each s.queue (part false) own.each (record { few_bytes = let few = fits h in omega (arith, few); few_rights = few; short_sender = short });
       all = λ stream. absurd (cc (stream, h));
     }
 
@@ -115,7 +119,7 @@ left_each (suc n) (m ∷ ms) each = go (nat_le (length m.bytes) (suc n)) (left_e
     cut_bounded : IsBoundedMessage cut
     cut_bounded =
         let long = length-drop (suc n) m.bytes in
-        let few : length m.bytes ≤ record_bytes_limit = each.0.few_bytes in
+        let few : length m.bytes ≤ greatest_queue_limit = each.0.few_bytes in
         record { few_bytes = omega (arith, long, few); few_rights = omega arith; short_sender = each.0.short_sender }
 
     go : (b : Bool) → AreBoundedMessages (without_first (suc n - length m.bytes) ms) → AreBoundedMessages (if b then without_first (suc n - length m.bytes) ms else cut ∷ ms)
@@ -143,20 +147,22 @@ fewer_left (suc n) (m ∷ ms) = go (nat_le (length m.bytes) (suc n)) (fewer_left
         omega (arith, all, long, left)
 
 -- what is left of a queue
-pub rest_bounded : (n : ℕ) (s : Socket) (m : Message) (ms : List Message) → HasBounds s.kind s.name (m ∷ ms) → HasBounds s.kind s.name (front_of n s m ms).rest
+pub rest_bounded : (n : ℕ) (s : Socket) (m : Message) (ms : List Message) → HasBounds s.kind s.name s.queue_limit (m ∷ ms) → HasBounds s.kind s.name s.queue_limit (front_of n s m ms).rest
 rest_bounded n s m ms own = go (is_stream s.kind)
   where
     front : Bool → Front
     front b = if b then stream_front s.passcred n m ms else record_front n m ms
 
-    go : (b : Bool) → HasBounds s.kind s.name (front b).rest
+    go : (b : Bool) → HasBounds s.kind s.name s.queue_limit (front b).rest
     go true = record {
       short = own.short;
+      limited = own.limited;
       each = left_each _ (m ∷ ms) own.each;
-      all = λ stream. let few = fewer_left (stream_front s.passcred n m ms).whole (m ∷ ms) in let before : queued_bytes (m ∷ ms) ≤ stream_limit = own.all stream in omega (arith, few, before);
+      all = λ stream. let few = fewer_left (stream_front s.passcred n m ms).whole (m ∷ ms) in let before : queued_bytes (m ∷ ms) ≤ greatest_queue_limit = own.all stream in omega (arith, few, before);
     }
     go false = record {
       short = own.short;
+      limited = own.limited;
       each = own.each.1;
-      all = λ stream. let more = sum_by-cons (λ m. length (Message.bytes m)) m ms in let before : queued_bytes (m ∷ ms) ≤ stream_limit = own.all stream in omega (arith, more, before);
+      all = λ stream. let more = sum_by-cons (λ m. length (Message.bytes m)) m ms in let before : queued_bytes (m ∷ ms) ≤ greatest_queue_limit = own.all stream in omega (arith, more, before);
     }

@@ -8,7 +8,7 @@ use Rattle.ux_model.specs.Places.{place}
 use Rattle.ux_model.specs.Limits.{offset_limit}
 use Rattle.ux_model.specs.Object.{View, is_memory, after_failure}
 use Rattle.ux_model.specs.Names.{named, is_valid_path, is_unnamed_addr}
-use Rattle.ux_model.specs.Socket.{Socket, is_dgram, peer_of, tied_socket}
+use Rattle.ux_model.specs.Socket.{Socket, is_stream, is_dgram, peer_of, tied_socket}
 use Rattle.ux_model.specs.Description.{Description}
 use Rattle.ux_model.specs.State.{State, process_at}
 use Rattle.ux_model.specs.References.{orefs}
@@ -18,7 +18,7 @@ use Rattle.ux_model.specs.Seeking.{lseek, seek_to, seek_base}
 use Rattle.ux_model.specs.Descriptors.{set_flags}
 use Rattle.ux_model.specs.Naming.{unlink}
 use Rattle.ux_model.specs.Connecting.{listen, shutdown}
-use Rattle.ux_model.specs.Options.{get_opt, tell_option, tell_cred}
+use Rattle.ux_model.specs.Options.{get_opt, tell_option, tell_cred, may_limit, set_opt}
 use Rattle.ux_model.specs.Readiness.{poll}
 use Rattle.ux_model.specs.Closing.{close, exit, off}
 use Rattle.ux_model.specs.Step.{Step, outcome, lacks_memory, fails}
@@ -84,10 +84,15 @@ option_spares S d s SockOpt.Error = refl
 option_spares S d s SockOpt.PassCred = refl
 option_spares S d s SockOpt.PeerCred = cred_spares S s.peer_cred
 option_spares S d s SockOpt.AcceptConn = refl
+option_spares S d s SockOpt.QueueLimit = either IsSparing (is_stream s.kind) _ _ (λ b. refl) (λ b. refl)
 
 get_opt_spares : (S : State) (p : ℕ) (fd : Fd) (opt : SockOpt) → IsSparing (get_opt S p fd opt)
 unfolding get_opt
 get_opt_spares S p fd opt = found_socket IsSparing S p fd _ refl refl (λ d s h. option_spares S d s opt)
+
+limit_spares : (S : State) (p : ℕ) (fd : Fd) (value : ℕ) → IsSparing (set_opt S p fd SockOpt.QueueLimit value)
+unfolding set_opt
+limit_spares S p fd value = found_socket IsSparing S p fd _ refl refl (λ d s h. either IsSparing (not (is_stream s.kind)) _ _ (λ b. refl) (λ b. either IsSparing (not (may_limit value)) _ _ (λ c. refl) (λ c. refl)))
 
 poll_spares : (S : State) (p : ℕ) (fd : Fd) → IsSparing (poll S p fd)
 unfolding poll
@@ -121,6 +126,7 @@ each_spares S p tag (Request.Connect fd addr) h = absurd (cc h)
 each_spares S p tag (Request.Accept fd flags) h = absurd (cc h)
 each_spares S p tag (Request.Shutdown fd how) h = shutdown_spares S p fd how
 each_spares S p tag (Request.GetOpt fd opt) h = get_opt_spares S p fd opt
+each_spares S p tag (Request.SetOpt fd SockOpt.QueueLimit value) h = limit_spares S p fd value
 each_spares S p tag (Request.SetOpt fd opt value) h = absurd (cc h)
 each_spares S p tag (Request.GetSockName fd) h = absurd (cc h)
 each_spares S p tag (Request.GetPeerName fd) h = absurd (cc h)

@@ -404,11 +404,11 @@ front_obeys S p d n s space flags m ms h q = answers refl refl refl (same (asks_
         let all : rights_sent_by u t.queue ≡ rights_sent_by u (m ∷ ms) = ap (λ w. rights_sent_by u (Socket.queue w)) (sym (same_as t here)) ∙ ap (rights_sent_by u) q in
         omega (arith, all, parts)
 
-    still_bounded : (t : Socket) → socket_at T d ≡ Some t → IsBounded t → HasBounds t.kind t.name front.rest
+    still_bounded : (t : Socket) → socket_at T d ≡ Some t → IsBounded t → HasBounds t.kind t.name t.queue_limit front.rest
     still_bounded t here own =
         let same : s ≡ t = same_as t here in
-        let before : HasBounds s.kind s.name (m ∷ ms) = subst (λ (l : List Message). HasBounds s.kind s.name l) q (subst IsBounded (sym same) own) in
-        subst (λ (u : Socket). HasBounds u.kind u.name front.rest) same (rest_bounded n s m ms before)
+        let before : HasBounds s.kind s.name s.queue_limit (m ∷ ms) = subst (λ (l : List Message). HasBounds s.kind s.name s.queue_limit l) q (subst IsBounded (sym same) own) in
+        subst (λ (u : Socket). HasBounds u.kind u.name u.queue_limit front.rest) same (rest_bounded n s m ms before)
 
     peeked : (b : Bool) → Reaches S false (if b then T else with_socket_by T d (with_queue front.rest))
     peeked true = delivered

@@ -52,7 +52,7 @@ name_given S d s name h unnamed short = with_socket_reached S d (with_name name)
   pending = λ k. omega arith;
   waits = λ w. omega arith;
   flies = λ u limit are within. omega (arith, within);
-  bounds = λ all own. record { short = short; each = own.each; all = own.all };
+  bounds = λ all own. record { short = short; each = own.each; limited = own.limited; all = own.all };
   named = λ a has.
       let none : is_unnamed_addr t.name ≡ true = ap (λ (u : Socket). is_unnamed_addr u.name) (sym (same_socket S d s t h here)) ∙ unnamed in
       let one : is_unnamed_addr t.name ≡ false = ap is_unnamed_addr has in

@@ -3,7 +3,7 @@ use Rattle.std.specs.Prelude.{◌≡◌, ℕ, List, [], ◌∷◌, None, refl, c
 use Rattle.ux_model.specs.Types.{Errno, Cred, Addr, SockType, SockOpt, Request, Reply}
 use Rattle.ux_model.specs.Boot.{boot_state}
 use Rattle.ux_model.specs.Delivery.{control_bytes}
-use Rattle.ux_model.proofs.Play.{computing, play, one_process, process, fd, flags, open_flags, pair, send, recv, shut, ends, refused}
+use Rattle.ux_model.proofs.Play.{computing, play, one_process, process, fd, flags, open_flags, pair, send, recv, shut, ends, got, refused}
 
 abbrev a_socket : SockType → Request
 a_socket kind = Request.Socket kind (open_flags 0)
@@ -74,6 +74,42 @@ named_by_option : play one_process 0 (
     refused Errno.EINVAL ∷ []
 unfolding computing
 named_by_option = refl
+
+-- A limit that is raised or lowered: of the bytes that wait none is dropped, and there is room once they are fewer than the limit.
+limit_of_a_queue : play one_process 0 (
+    (1, pair) ∷
+    (1, Request.GetOpt (fd 1) SockOpt.QueueLimit) ∷
+    (1, Request.SetOpt (fd 1) SockOpt.QueueLimit 4) ∷
+    (1, send 0 (codes "abcdef")) ∷
+    (1, send 0 (codes "g")) ∷
+    (1, poll_of 0) ∷
+    (1, Request.SetOpt (fd 1) SockOpt.QueueLimit 2) ∷
+    (1, recv 1 3) ∷
+    (1, send 0 (codes "gx")) ∷
+    (1, recv 1 8) ∷
+    (1, Request.SetOpt (fd 1) SockOpt.QueueLimit 0) ∷
+    (1, Request.SetOpt (fd 1) SockOpt.QueueLimit 1048577) ∷
+    (1, a_socket SockType.Dgram) ∷
+    (1, Request.GetOpt (fd 2) SockOpt.QueueLimit) ∷
+    (1, Request.SetOpt (fd 2) SockOpt.QueueLimit 0) ∷ [])
+    ≡
+    ends 0 1 ∷
+    Reply.Opt 65536 ∷
+    Reply.Ok ∷
+    Reply.Count 4 ∷
+    refused Errno.EAGAIN ∷
+    told 0 ∷
+    Reply.Ok ∷
+    got 3 (codes "abc") ∷
+    Reply.Count 1 ∷
+    got 2 (codes "dg") ∷
+    refused Errno.EINVAL ∷
+    refused Errno.EINVAL ∷
+    Reply.Fd (fd 2) ∷
+    refused Errno.EOPNOTSUPP ∷
+    refused Errno.EOPNOTSUPP ∷ []
+unfolding computing
+limit_of_a_queue = refl
 
 -- of a process that may have four descriptors: the rights of this send count, and those that a receive takes count no more
 limit_in_flight : play (boot_state [] (process 4 ∷ [])) 0 (

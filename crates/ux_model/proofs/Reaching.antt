@@ -205,7 +205,7 @@ kept_socket S n s t k = record {
 -- where only the queue and what is pending change, and the queue has no more rights and keeps to its limits
 pub queue_changed : (S : State) (n : ℕ) (s : Socket) (queue : List Message) (reset : Bool) →
     ((d : ℕ) → is_some (description_at S d) ≡ false → queue_refs d queue ≤ queue_refs d s.queue) → ((u : ℕ) → rights_sent_by u queue ≤ rights_sent_by u s.queue) →
-    (IsBounded s → HasBounds s.kind s.name queue) → KeepsSocket S n s (record s { queue = queue; reset = reset })
+    (IsBounded s → HasBounds s.kind s.name s.queue_limit queue) → KeepsSocket S n s (record s { queue = queue; reset = reset })
 queue_changed S n s queue reset holds fewer bounds = record {
   holds = λ d gone. let h : queue_refs d queue ≤ queue_refs d s.queue = holds d gone in omega (arith, h);
   peer = refl;

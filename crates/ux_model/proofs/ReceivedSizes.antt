@@ -6,7 +6,7 @@ use Rattle.std.proofs.lemmas.Bool.{eqb-true, ltb-false, leb-true, ne_eqb, and_pa
 use Rattle.std.proofs.lemmas.List.{length-take, length-append}
 use Rattle.std.proofs.lemmas.List.Sums.{sum_by-append}
 use Rattle.ux_model.specs.Types.{Cred}
-use Rattle.ux_model.specs.Limits.{name_limit, rights_limit, stream_limit}
+use Rattle.ux_model.specs.Limits.{name_limit, rights_limit, greatest_queue_limit}
 use Rattle.ux_model.specs.Message.{Message, same_cred, queued_bytes, all_bytes}
 use Rattle.ux_model.specs.Socket.{Socket, is_stream}
 use Rattle.ux_model.specs.Stream.{front_with_cred, front_to_barrier, joined_run, rights_within}
@@ -21,7 +21,7 @@ use Rattle.ux_model.proofs.Bounds.{AreBoundedMessages, HasBounds}
 
 pub record IsSmallFront (n : ℕ) (front : Front) : Type 0 where
   pub few : length front.bytes ≤ n
-  pub limited : length front.bytes ≤ stream_limit
+  pub limited : length front.bytes ≤ greatest_queue_limit
   pub few_rights : length front.rights ≤ rights_limit
   pub short : sender_bytes front.from ≤ name_limit
 
@@ -60,7 +60,7 @@ few_within (suc n) (m ∷ ms) each = go (length m.rights == 0) refl (few_within 
         let both = length-append m.rights (rights_within left []) in
         omega (arith, few, none, both)
 
-stream_small : (wants : Bool) (n : ℕ) (m : Message) (ms : List Message) → AreBoundedMessages (m ∷ ms) → queued_bytes (m ∷ ms) ≤ stream_limit → IsSmallFront n (stream_front wants n m ms)
+stream_small : (wants : Bool) (n : ℕ) (m : Message) (ms : List Message) → AreBoundedMessages (m ∷ ms) → queued_bytes (m ∷ ms) ≤ greatest_queue_limit → IsSmallFront n (stream_front wants n m ms)
 stream_small wants n m ms each all =
     let run : List Message = joined_run wants m ms in
     let cut = length-take (min n (queued_bytes run)) (all_bytes run) in
@@ -84,7 +84,7 @@ record_small n m ms each =
     let few = each.0.few_bytes in
     record { few = omega (arith, cut); limited = omega (arith, cut, few); few_rights = each.0.few_rights; short = each.0.short_sender }
 
-pub front_small : (n : ℕ) (s : Socket) (m : Message) (ms : List Message) → HasBounds s.kind s.name (m ∷ ms) → IsSmallFront n (front_of n s m ms)
+pub front_small : (n : ℕ) (s : Socket) (m : Message) (ms : List Message) → HasBounds s.kind s.name s.queue_limit (m ∷ ms) → IsSmallFront n (front_of n s m ms)
 front_small n s m ms own = go (is_stream s.kind) refl
   where
     go : (b : Bool) → is_stream s.kind ≡ b → IsSmallFront n (if b then stream_front s.passcred n m ms else record_front n m ms)

@@ -6,7 +6,7 @@ use Rattle.std.proofs.lemmas.Bool.{ltb-false}
 use Rattle.std.proofs.lemmas.List.{length-take}
 use Rattle.ux_model.specs.Types.{Errno, Fd, Cred, Name, Addr, SockType, SockOpt, Mode, OpenFlags, MsgFlags, Whence, Request, Reply}
 use Rattle.ux_model.specs.Places.{place}
-use Rattle.ux_model.specs.Limits.{name_limit, read_limit, stream_limit, offset_limit, record_bytes_limit}
+use Rattle.ux_model.specs.Limits.{name_limit, read_limit, greatest_queue_limit, offset_limit, record_bytes_limit}
 use Rattle.ux_model.specs.Flags.{can_read, can_write, are_send_flags, are_receive_flags, no_flags}
 use Rattle.ux_model.specs.Object.{Body, memory, counter, pipe, View, ObjectError, would_block, full, invalid, read_body, write_body, is_memory, is_pipe}
 use Rattle.ux_model.specs.Names.{named, is_valid_path, is_valid_addr, is_unnamed_addr, free_name}
@@ -32,7 +32,7 @@ use Rattle.ux_model.specs.Reading.{is_short_read, read_error, read_answer, read}
 use Rattle.ux_model.specs.Writing.{write_place, write_answer, write}
 use Rattle.ux_model.specs.Seeking.{seek_base, seek_to, lseek}
 use Rattle.ux_model.specs.Descriptors.{dup, dup2, set_flags}
-use Rattle.ux_model.specs.Options.{tell_cred, tell_option, get_opt, pass_cred_on, change_option, set_opt}
+use Rattle.ux_model.specs.Options.{tell_cred, tell_option, get_opt, pass_cred_on, may_limit, change_option, set_opt}
 use Rattle.ux_model.specs.Readiness.{poll}
 use Rattle.ux_model.specs.Closing.{close, exit, off}
 use Rattle.ux_model.specs.Step.{Step, outcome}
@@ -192,6 +192,7 @@ option_plain S d s SockOpt.Error = plain refl
 option_plain S d s SockOpt.PassCred = plain refl
 option_plain S d s SockOpt.PeerCred = cred_plain S s.peer_cred
 option_plain S d s SockOpt.AcceptConn = plain refl
+option_plain S d s SockOpt.QueueLimit = either Plain (is_stream s.kind) _ _ (λ b. plain refl) (λ b. plain refl)
 
 get_opt_plain : (S : State) (p : ℕ) (fd : Fd) (opt : SockOpt) → Plain (get_opt S p fd opt)
 unfolding get_opt
@@ -207,6 +208,7 @@ change_plain S d s value SockOpt.Error = plain refl
 change_plain S d s value SockOpt.PassCred = either Plain (value == 0) _ _ (λ b. plain refl) (λ b. passcred_plain S d s)
 change_plain S d s value SockOpt.PeerCred = plain refl
 change_plain S d s value SockOpt.AcceptConn = plain refl
+change_plain S d s value SockOpt.QueueLimit = either Plain (not (is_stream s.kind)) _ _ (λ b. plain refl) (λ b. either Plain (not (may_limit value)) _ _ (λ c. plain refl) (λ c. plain refl))
 
 set_opt_plain : (S : State) (p : ℕ) (fd : Fd) (opt : SockOpt) (value : ℕ) → Plain (set_opt S p fd opt value)
 unfolding set_opt
@@ -334,7 +336,7 @@ accept_within S p fd flags all = found_socket (Within name_room) S p fd _ (plain
 -- ---- receives
 
 abbrev message_room : ℕ → ℕ → Size
-message_room n space = record { data_bytes = min stream_limit n; control = min control_limit space; name = name_limit }
+message_room n space = record { data_bytes = min greatest_queue_limit n; control = min control_limit space; name = name_limit }
 
 abbrev data_room : ℕ → Size
 data_room n = record no_bytes { data_bytes = n }
@@ -352,7 +354,7 @@ no_message : {n space : ℕ} {o : Outcome} → is_plain o.reply ≡ true → is_
 no_message {n} {space} {o} h k = record { fits = plain_fits o.reply (message_room n space) h; alone = plain_fits (bytes_alone o.reply) (data_room n) k }
 
 -- a message of these parts
-received : (n space count : ℕ) (bytes control : List ℕ) (flags : MsgFlags) (from : Option Addr) (T : State) (grows : Bool) → length bytes ≤ n → length bytes ≤ stream_limit → length control ≤ min control_limit space →
+received : (n space count : ℕ) (bytes control : List ℕ) (flags : MsgFlags) (from : Option Addr) (T : State) (grows : Bool) → length bytes ≤ n → length bytes ≤ greatest_queue_limit → length control ≤ min control_limit space →
     sender_bytes from ≤ name_limit → Receives n space (record { reply = Reply.Received count bytes flags control from; next = T; may_lack_memory = grows; failure = None })
 unfolding size_of
 received n space count bytes control flags from T grows few limited small short = record {
@@ -363,14 +365,14 @@ received n space count bytes control flags from T grows few limited small short 
 nothing_received : {n space : ℕ} (S : State) → Receives n space (record { reply = Reply.Received 0 [] no_flags [] None; next = S; may_lack_memory = false; failure = None })
 nothing_received {n} {space} S = received n space 0 [] [] no_flags None S false (omega arith) (omega arith) (omega arith) (omega arith)
 
-front_within : (S : State) (p d : ℕ) (s : Socket) (n space : ℕ) (flags : MsgFlags) (m : Message) (ms : List Message) → HasBounds s.kind s.name s.queue → s.queue ≡ m ∷ ms →
+front_within : (S : State) (p d : ℕ) (s : Socket) (n space : ℕ) (flags : MsgFlags) (m : Message) (ms : List Message) → HasBounds s.kind s.name s.queue_limit s.queue → s.queue ≡ m ∷ ms →
     Receives n space (receive_front S p d s space flags (front_of n s m ms))
 unfolding receive_front
 front_within S p d s n space flags m ms bounds q =
-    let small = front_small n s m ms (subst (λ (l : List Message). HasBounds s.kind s.name l) q bounds) in
+    let small = front_small n s m ms (subst (λ (l : List Message). HasBounds s.kind s.name s.queue_limit l) q bounds) in
     received n space _ _ _ _ _ _ true small.few small.limited (control_small s.passcred (front_of n s m ms).cred (front_of n s m ms).rights space (table_of S p) small.few_rights) small.short
 
-receive_within : (S : State) (p d : ℕ) (s : Socket) (n space : ℕ) (flags : MsgFlags) → HasBounds s.kind s.name s.queue → Receives n space (receive S p d s n space flags)
+receive_within : (S : State) (p d : ℕ) (s : Socket) (n space : ℕ) (flags : MsgFlags) → HasBounds s.kind s.name s.queue_limit s.queue → Receives n space (receive S p d s n space flags)
 receive_within S p d s n space flags bounds = either (Receives n space) (is_dgram s.kind) _ _
     (λ b. by_queue (Receives n space) s.queue _ _ (either (Receives n space) s.read_shut _ _ (λ c. nothing_received S) (λ c. no_message refl refl)) (λ m ms q. front_within S p d s n space flags m ms bounds q))
     (λ b. maybe (Receives n space) (peer_of s.phase) _ _ (no_message refl refl) (λ peer is. either (Receives n space) (is_stream s.kind && (n == 0)) _ _ (λ c. nothing_received S)

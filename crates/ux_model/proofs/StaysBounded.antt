@@ -2,6 +2,7 @@
 use Rattle.std.proofs.Common.{◌≡◌, ℕ, zero, suc, Bool, true, false, if◌then◌else◌, List, [], ◌∷◌, ◌++◌, length, map, set, Option, Some, None, sym, subst, arith}
 use Rattle.std.specs.Prelude.{option_map}
 use Rattle.ux_model.specs.Types.{Cred, Entry}
+use Rattle.ux_model.specs.Limits.{first_queue_limit}
 use Rattle.ux_model.specs.Places.{place}
 use Rattle.ux_model.specs.Socket.{Socket, awaiting}
 use Rattle.ux_model.specs.Description.{Description, Target, to_object, to_socket, changed, changed_target}
@@ -50,7 +51,7 @@ changed_bounded S d change stays all = place_bounded S d (option_map (changed ch
 -- a server's end has its listener's name
 connected_bounded : (S : State) (d l : ℕ) (cred listener_cred : Cred) (listener : Socket) → socket_at S l ≡ Some listener → AreBounded S → AreBounded (with_connection S d cred l listener listener_cred)
 connected_bounded S d l cred listener_cred listener there all =
-    let end_bounded : HasBounds listener.kind listener.name [] = record { short = (socket_bounded S l listener all there).short; each = tt; all = λ stream. omega arith } in
+    let end_bounded : HasBounds listener.kind listener.name first_queue_limit [] = record { short = (socket_bounded S l listener all there).short; each = tt; limited = omega arith; all = λ stream. omega arith } in
     let T : State = with_socket_by S l (awaiting (next_description S)) in
     let E : Description = socket_description no_open_flags (server_end listener d cred) in
     changed_bounded (with_new T E) d (tied (next_description S) listener_cred) (λ s own. own)

@@ -1,6 +1,6 @@
 -- Laws of the two free choices, want of memory and a failure: which calls never make the first, and what the second tells.
 use Rattle.std.specs.Prelude.{◌≡◌, ◌↔◌, ℕ, Bool, true, false, List, Some}
-use Rattle.ux_model.specs.Types.{Errno, Request, Reply}
+use Rattle.ux_model.specs.Types.{Errno, SockOpt, Request, Reply}
 use Rattle.ux_model.specs.Places.{place}
 use Rattle.ux_model.specs.Object.{View, after_failure}
 use Rattle.ux_model.specs.State.{State}
@@ -17,6 +17,7 @@ takes_no_memory (Request.Unlink path) = true
 takes_no_memory (Request.Listen fd backlog) = true
 takes_no_memory (Request.Shutdown fd how) = true
 takes_no_memory (Request.GetOpt fd opt) = true
+takes_no_memory (Request.SetOpt fd SockOpt.QueueLimit value) = true
 takes_no_memory (Request.Poll fd) = true
 takes_no_memory Request.Exit = true
 takes_no_memory Request.Off = true

@@ -1,8 +1,9 @@
 -- getsockopt(2) and setsockopt(2) at the level SOL_SOCKET (socket(7), unix(7)).
-use Rattle.std.specs.Prelude.{ℕ, Bool, true, false, not, ◌||◌, ◌==◌, if◌then◌else◌, Option, Some, None, is_some}
+use Rattle.std.specs.Prelude.{ℕ, Bool, true, false, not, ◌||◌, ◌&&◌, ◌==◌, nat_le, if◌then◌else◌, Option, Some, None, is_some}
 use Rattle.ux_model.specs.Types.{Errno, Fd, Cred, SockType, SockOpt, Reply}
 use Rattle.ux_model.specs.Names.{is_unnamed_addr, free_name}
-use Rattle.ux_model.specs.Socket.{Socket, tied_socket, with_reset, with_passcred}
+use Rattle.ux_model.specs.Limits.{greatest_queue_limit}
+use Rattle.ux_model.specs.Socket.{Socket, is_stream, tied_socket, with_reset, with_passcred, with_queue_limit}
 use Rattle.ux_model.specs.State.{State, with_socket_by}
 use Rattle.ux_model.specs.Outcome.{Outcome, refuse, answer, growing, on_socket}
 use Rattle.ux_model.specs.Binding.{with_abstract}
@@ -29,6 +30,10 @@ abbrev pub tell_cred : State → Option Cred → Outcome
 tell_cred S None = refuse S Errno.ENOTCONN
 tell_cred S (Some cred) = answer (Reply.Cred cred) S
 
+-- the limit of a stream's own queue, in bytes; other queues have none that can be asked for
+abbrev pub tell_queue_limit : State → Socket → Outcome
+tell_queue_limit S s = if is_stream s.kind then answer (Reply.Opt s.queue_limit) S else refuse S Errno.EOPNOTSUPP
+
 -- of the socket with this number. SO_ERROR clears what it tells.
 abbrev pub tell_option : State → ℕ → Socket → SockOpt → Outcome
 tell_option S d s SockOpt.Kind = answer (Reply.Opt (type_number s.kind)) S
@@ -36,6 +41,7 @@ tell_option S d s SockOpt.Error = answer (Reply.Opt (pending_error s)) (with_soc
 tell_option S d s SockOpt.PassCred = answer (on_off s.passcred) S
 tell_option S d s SockOpt.PeerCred = tell_cred S s.peer_cred
 tell_option S d s SockOpt.AcceptConn = answer (on_off (is_some (listener_of s.phase))) S
+tell_option S d s SockOpt.QueueLimit = tell_queue_limit S s
 
 unfoldable pub get_opt : State → ℕ → Fd → SockOpt → Outcome
 get_opt S p fd opt = on_socket S p fd (λ d s. tell_option S d s opt)
@@ -55,13 +61,24 @@ pass_cred_on S d s =
     if not (is_unnamed_addr s.name) || is_some (tied_socket s.phase) then answer Reply.Ok (set_passcred S d true) else
     pass_cred_named S d
 
--- SO_PASSCRED alone can be set; 0 is off
+-- a limit of a stream's own queue, which may be less than the bytes in it
+abbrev pub may_limit : ℕ → Bool
+may_limit value = nat_le 1 value && nat_le value greatest_queue_limit
+
+abbrev pub limit_queue : State → ℕ → Socket → ℕ → Outcome
+limit_queue S d s value =
+    if not (is_stream s.kind) then refuse S Errno.EOPNOTSUPP else
+    if not (may_limit value) then refuse S Errno.EINVAL else
+    answer Reply.Ok (with_socket_by S d (with_queue_limit value))
+
+-- SO_PASSCRED, of which 0 is off, and the limit of a queue can be set
 abbrev pub change_option : State → ℕ → Socket → ℕ → SockOpt → Outcome
 change_option S d s value SockOpt.Kind = refuse S Errno.EINVAL
 change_option S d s value SockOpt.Error = refuse S Errno.EINVAL
 change_option S d s value SockOpt.PassCred = if value == 0 then answer Reply.Ok (set_passcred S d false) else pass_cred_on S d s
 change_option S d s value SockOpt.PeerCred = refuse S Errno.EINVAL
 change_option S d s value SockOpt.AcceptConn = refuse S Errno.EINVAL
+change_option S d s value SockOpt.QueueLimit = limit_queue S d s value
 
 unfoldable pub set_opt : State → ℕ → Fd → SockOpt → ℕ → Outcome
 set_opt S p fd opt value = on_socket S p fd (λ d s. change_option S d s value opt)

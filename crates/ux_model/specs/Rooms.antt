@@ -1,7 +1,7 @@
 -- How many bytes a reply holds, at most, by its request and the limits.
 use Rattle.std.specs.Prelude.{ℕ, ◌≤◌, ◌+◌, ◌*◌, min, length, Option, Some, None}
 use Rattle.ux_model.specs.Types.{Addr, Request, Reply}
-use Rattle.ux_model.specs.Limits.{name_limit, read_limit, rights_limit, stream_limit}
+use Rattle.ux_model.specs.Limits.{name_limit, read_limit, rights_limit, greatest_queue_limit}
 
 -- ---- what a reply holds
 
@@ -38,7 +38,7 @@ control_limit = 32 + (16 + 4 * rights_limit)
 
 unfoldable pub room_for : Request → Size
 room_for (Request.Read fd n) = record no_bytes { data_bytes = min read_limit n }
-room_for (Request.RecvMsg fd n space flags) = record { data_bytes = min stream_limit n; control = min control_limit space; name = name_limit }
+room_for (Request.RecvMsg fd n space flags) = record { data_bytes = min greatest_queue_limit n; control = min control_limit space; name = name_limit }
 room_for (Request.Accept fd flags) = record no_bytes { name = name_limit }
 room_for (Request.GetSockName fd) = record no_bytes { name = name_limit }
 room_for (Request.GetPeerName fd) = record no_bytes { name = name_limit }

@@ -12,10 +12,7 @@ use crate::draft::{Draft, is_over_limit};
 use ux_object::FileObject;
 use ux_rights::RefList;
 use ux_state::State;
-use ux_types::{Addr, DescriptionId, Errno, Refusal, Reply};
-
-/// The bytes of one datagram or record at most.
-pub(crate) const RECORD_BYTES_LIMIT: usize = 65536;
+use ux_types::{Addr, DescriptionId, Errno, RECORD_BYTES_LIMIT, Refusal, Reply};
 
 /// Sends a datagram from the socket of this description to an address, or where it is associated. It tells the
 /// name that the socket has now.

@@ -12,7 +12,7 @@ ghost use Rattle.ux_msg.specs.Answers.{Gives};
 ghost use Rattle.ux_msg.specs.Sendings.{IsRefusedBehind, send_from_at, send_with_at, write_socket_at};
 ghost use Rattle.ux_model.specs.Sending as model;
 
-use crate::datagrams::{RECORD_BYTES_LIMIT, send_datagram};
+use crate::datagrams::send_datagram;
 use crate::draft::{Draft, is_over_limit};
 use bitflags::Flags;
 use std::alloc::Global;
@@ -24,10 +24,7 @@ use ux_names::{is_unnamed, is_valid_addr};
 use ux_object::FileObject;
 use ux_rights::RefList;
 use ux_state::State;
-use ux_types::{Addr, Cred, DescriptionId, Errno, Fd, MsgFlags, Pid, Refusal, Reply};
-
-/// The descriptors that one message passes at most (SCM_MAX_FD of unix(7)).
-const RIGHTS_LIMIT: usize = 253;
+use ux_types::{Addr, Cred, DescriptionId, Errno, Fd, MsgFlags, Pid, RECORD_BYTES_LIMIT, RIGHTS_LIMIT, Refusal, Reply};
 
 /// What a sendmsg(2) is given beside its descriptor.
 #[derive(Clone, Copy)]

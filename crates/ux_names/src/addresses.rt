@@ -3,10 +3,7 @@ ghost use Rattle.std.specs.Prelude.{◌≡◌, ◌==◌};
 ghost use Rattle.std.specs.List.{list_any};
 ghost use Rattle.ux_model.specs.Names.{is_valid_path, is_valid_addr, is_unnamed_addr};
 
-use ux_types::{Addr, Name};
-
-/// The bytes of the longest name (sun_path of unix(7), without a path's last or an abstract name's first NUL).
-const NAME_LIMIT: usize = 107;
+use ux_types::{Addr, NAME_LIMIT, Name};
 
 /// Whether it can be a path: 1 to 107 bytes without NUL (unix(7)).
 pub fn is_valid_path(path: &Name) -> bool

@@ -8,10 +8,7 @@ use std::alloc::{AllocError, Allocator, Global};
 use std::collections::VecDeque;
 use std::marker::Model;
 use ux_rights::{RefList, SendError};
-use ux_types::{Addr, Cred};
-
-/// The most messages that wait in one queue.
-const RECORD_LIMIT: usize = 16;
+use ux_types::{Addr, Cred, RECORD_LIMIT};
 
 /// A send that was refused.
 #[derive(Drop)]

@@ -5,19 +5,7 @@ ghost use Rattle.ux_model.specs.Rooms.{size_of, room_for, Fits};
 use crate::copying::{addr_copy, bytes_copy, sender_copy};
 use std::alloc::{AllocError, Global};
 use std::marker::Model;
-use ux_types::{Reply, Request};
-
-/// The most bytes that one read asks for.
-const READ_LIMIT: usize = 1048576;
-
-/// The most bytes that one receive takes.
-const STREAM_LIMIT: usize = 65536;
-
-/// The longest control buffer that a receive tells: credentials, padding, and 253 rights.
-const CONTROL_LIMIT: usize = 1060;
-
-/// The longest name of a socket.
-const NAME_LIMIT: usize = 107;
+use ux_types::{CONTROL_LIMIT, GREATEST_QUEUE_LIMIT, NAME_LIMIT, READ_LIMIT, Reply, Request};
 
 /// Room for a copy of one reply. Contracts see how many bytes of data, of control and of a name it has room for.
 #[derive(Drop)]
@@ -51,7 +39,7 @@ impl ReplyRoom {
         match request {
             Request::Read { n, .. } => ReplyRoom::of_size(alloc, READ_LIMIT.min(*n), 0, 0),
             Request::RecvMsg { n, space, .. } => {
-                let data = STREAM_LIMIT.min(*n);
+                let data = (GREATEST_QUEUE_LIMIT as usize).min(*n);
                 let control = CONTROL_LIMIT.min(*space);
                 ReplyRoom::of_size(alloc, data, control, NAME_LIMIT)
             }

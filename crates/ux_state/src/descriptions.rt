@@ -3,7 +3,7 @@ ghost use Rattle.std.specs.Prelude.{◌≡◌, ◌↔◌, ◌<◌, true, false, 
 ghost use Rattle.ux_model.specs.Places.{place, changed_place};
 ghost use Rattle.ux_model.specs.Description.{socket_in, changed};
 ghost use Rattle.ux_model.specs.Message.{message};
-ghost use Rattle.ux_model.specs.Socket.{is_stream, has_room, sent_part, sent, with_queue, with_reset, with_passcred, with_association, shut_down};
+ghost use Rattle.ux_model.specs.Socket.{is_stream, has_room, sent_part, sent, with_queue, with_reset, with_passcred, with_queue_limit, with_association, shut_down};
 ghost use Rattle.ux_model.specs.Front.{OnFront};
 ghost use Rattle.ux_model.specs.State.{socket_at, with_socket_by, with_description_by};
 ghost use Rattle.ux_model.specs.Descriptors.{with_flags};
@@ -109,6 +109,15 @@ impl<O: FileObject> State<O> {
     {
         if let Some(x) = self.slots.get_mut(id) {
             x.set_passcred(on);
+        }
+    }
+
+    /// Another limit of the bytes in a socket's queue. Nothing is dropped where these are more.
+    pub fn set_queue_limit(&mut self, id: DescriptionId, limit: u32)
+        ensures { self.new ≡ with_socket_by self.old id (with_queue_limit limit) }
+    {
+        if let Some(x) = self.slots.get_mut(id) {
+            x.set_queue_limit(limit);
         }
     }
 

@@ -58,16 +58,17 @@ pub type_kind : IsKind type_at type_text (λ _. Unit {0})
 unfolding type_at
 type_kind = chosen_kind type_text (SockType.Stream ∷ SockType.Dgram ∷ SockType.Seq ∷ []) each_type
 
-each_option : (o : SockOpt) → IsChosen option_text (SockOpt.Kind ∷ SockOpt.Error ∷ SockOpt.PassCred ∷ SockOpt.PeerCred ∷ SockOpt.AcceptConn ∷ []) o
+each_option : (o : SockOpt) → IsChosen option_text (SockOpt.Kind ∷ SockOpt.Error ∷ SockOpt.PassCred ∷ SockOpt.PeerCred ∷ SockOpt.AcceptConn ∷ SockOpt.QueueLimit ∷ []) o
 each_option SockOpt.Kind = (refl, refl)
 each_option SockOpt.Error = (refl, refl)
 each_option SockOpt.PassCred = (refl, refl)
 each_option SockOpt.PeerCred = (refl, refl)
 each_option SockOpt.AcceptConn = (refl, refl)
+each_option SockOpt.QueueLimit = (refl, refl)
 
 pub option_kind : IsKind option_at option_text (λ _. Unit {0})
 unfolding option_at
-option_kind = chosen_kind option_text (SockOpt.Kind ∷ SockOpt.Error ∷ SockOpt.PassCred ∷ SockOpt.PeerCred ∷ SockOpt.AcceptConn ∷ []) each_option
+option_kind = chosen_kind option_text (SockOpt.Kind ∷ SockOpt.Error ∷ SockOpt.PassCred ∷ SockOpt.PeerCred ∷ SockOpt.AcceptConn ∷ SockOpt.QueueLimit ∷ []) each_option
 
 each_whence : (w : Whence) → IsChosen whence_text (Whence.Set ∷ Whence.Cur ∷ Whence.End ∷ []) w
 each_whence Whence.Set = (refl, refl)

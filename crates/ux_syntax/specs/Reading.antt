@@ -68,7 +68,7 @@ unfoldable pub type_at : List ℕ → Result SockType Fault
 type_at w = chosen_at type_text (SockType.Stream ∷ SockType.Dgram ∷ SockType.Seq ∷ []) w
 
 unfoldable pub option_at : List ℕ → Result SockOpt Fault
-option_at w = chosen_at option_text (SockOpt.Kind ∷ SockOpt.Error ∷ SockOpt.PassCred ∷ SockOpt.PeerCred ∷ SockOpt.AcceptConn ∷ []) w
+option_at w = chosen_at option_text (SockOpt.Kind ∷ SockOpt.Error ∷ SockOpt.PassCred ∷ SockOpt.PeerCred ∷ SockOpt.AcceptConn ∷ SockOpt.QueueLimit ∷ []) w
 
 unfoldable pub mode_at : List ℕ → Result Mode Fault
 mode_at w = chosen_at mode_text (Mode.Read ∷ Mode.Write ∷ Mode.Both ∷ []) w

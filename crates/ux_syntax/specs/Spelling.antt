@@ -166,6 +166,7 @@ option_text SockOpt.Error = codes "error"
 option_text SockOpt.PassCred = codes "passcred"
 option_text SockOpt.PeerCred = codes "peercred"
 option_text SockOpt.AcceptConn = codes "accept"
+option_text SockOpt.QueueLimit = codes "qlimit"
 
 abbrev pub mode_text : Mode → List ℕ
 mode_text Mode.Read = codes "r"

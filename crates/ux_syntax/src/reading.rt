@@ -231,11 +231,11 @@ fn read_text(alloc: Global, text: &[u8]) -> Result<Script, ScriptFault>
 /// is a process's number and what it asks for: `open p:NAME MODE OFLAGS`, `read FD N`, `write FD HEX`,
 /// `lseek FD OFFSET WHENCE`, `dup FD`, `dup2 FD FD`, `flags FD OFLAGS`, `close FD`, `unlink p:NAME`,
 /// `socket TYPE OFLAGS`, `pair TYPE OFLAGS`, `bind FD ADDR`, `listen FD BACKLOG`, `connect FD ADDR`,
-/// `accept FD OFLAGS`, `shut FD MODE`, `sockname FD`, `peername FD`, `send FD ADDR HEX CONTROL MFLAGS`,
-/// `recv FD N SPACE MFLAGS`, `exit`, or `wait PID N`, which isn't a call: where processes are threads, the
-/// process goes on when that one has N entries or more, or has exited. A line `off` may come last. A send's
-/// ADDR may be `-` for none; its CONTROL is `-` for no bytes, `x:HEX` for these, or `r:N,N,..` for one item
-/// of descriptor numbers.
+/// `accept FD OFLAGS`, `shut FD MODE`, `getopt FD OPTION`, `setopt FD OPTION N`, `sockname FD`, `peername FD`,
+/// `send FD ADDR HEX CONTROL MFLAGS`, `recv FD N SPACE MFLAGS`, `poll FD`, `exit`, or `wait PID N`, which isn't
+/// a call: where processes are threads, the process goes on when that one has N entries or more, or has exited.
+/// A line `off` may come last. A send's ADDR may be `-` for none; its CONTROL is `-` for no bytes, `x:HEX` for
+/// these, or items joined by `+`: `c:PID,UID,GID` for credentials and `r:N,N,..` for descriptor numbers.
 pub fn parse_script(alloc: Global, text: &[u8]) -> Result<Script, ScriptFault>
     // What is read is spelled so.
     ensures found { IfOk result (λ script. Spells (lines_of text.now) (plan_of script)) }

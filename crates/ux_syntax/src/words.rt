@@ -205,6 +205,8 @@ impl Word for SockOpt {
             Ok(SockOpt::PeerCred)
         } else if word == b"accept".as_slice() {
             Ok(SockOpt::AcceptConn)
+        } else if word == b"qlimit".as_slice() {
+            Ok(SockOpt::QueueLimit)
         } else {
             Err(BAD)
         }

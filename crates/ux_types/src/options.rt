@@ -64,4 +64,7 @@ pub enum SockOpt {
     PeerCred,
     /// SO_ACCEPTCONN.
     AcceptConn,
+    /// How many bytes a stream socket's own queue takes: of this layer alone. The nearest that there is elsewhere is
+    /// SO_RCVBUF.
+    QueueLimit,
 }

@@ -1,0 +1,35 @@
+//! The limits of the layer, each where it is named in the calls' pages. What bounds one kind of file object alone
+//! stands with it.
+
+/// The most file objects that one kernel may have.
+pub const OBJECT_LIMIT: usize = 64;
+
+/// The most processes that a kernel is booted with.
+pub const PROCESS_LIMIT: usize = 64;
+
+/// The most descriptors that one process may have open.
+pub const TABLE_LIMIT: u32 = 4096;
+
+/// How many bytes the queue of a new stream socket takes.
+pub const FIRST_QUEUE_LIMIT: u32 = 65536;
+
+/// The greatest limit that a stream socket's queue may be given.
+pub const GREATEST_QUEUE_LIMIT: u32 = 1048576;
+
+/// The most datagrams or records that wait in a socket's queue.
+pub const RECORD_LIMIT: usize = 16;
+
+/// The most bytes of one datagram or record.
+pub const RECORD_BYTES_LIMIT: usize = 65536;
+
+/// The most descriptors that go in one message (SCM_MAX_FD of unix(7)).
+pub const RIGHTS_LIMIT: usize = 253;
+
+/// The longest control buffer that a receive tells: credentials, padding, and the most rights of a message.
+pub const CONTROL_LIMIT: usize = 32 + 16 + 4 * RIGHTS_LIMIT;
+
+/// The most bytes that one read asks for.
+pub const READ_LIMIT: usize = 1048576;
+
+/// The most bytes of a path and of an abstract name (sun_path of unix(7), without its NUL).
+pub const NAME_LIMIT: usize = 107;
