@@ -34,7 +34,9 @@ impl<O: FileObject> Kernel<O> {
                 None => Err(Refusal::Answer(Errno::ENOTCONN)),
             },
             SockOpt::AcceptConn => Ok(on_off(socket.is_listening())),
-            SockOpt::QueueLimit if socket.is_stream() => Ok(Reply::Opt(socket.queue_limit() as u64)),
+            SockOpt::QueueLimit if socket.is_stream() => Ok(Reply::Opt(
+                socket.queue_limit() as u64,
+            )),
             SockOpt::QueueLimit => Err(Refusal::Answer(Errno::EOPNOTSUPP)),
         }
     }

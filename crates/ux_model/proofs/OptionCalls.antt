@@ -51,8 +51,15 @@ on_obeys S d s h = either (Call S) (not (is_unnamed_addr s.name) || is_some (tie
     (λ b. named_obeys S d s h (first_holds (is_unnamed_addr s.name) (is_some (tied_socket s.phase)) b))
 
 limit_keeps : (S : State) (d : ℕ) (s : Socket) (limit : ℕ) → limit ≤ greatest_queue_limit → KeepsSocket S d s (with_queue_limit limit s)
-limit_keeps S d s limit few = record { holds = λ k gone. omega arith; peer = refl; pending = λ k. omega arith; waits = λ w. omega arith; flies = λ u limit are within. omega (arith, within);
-    bounds = λ all own. record { short = own.short; each = own.each; limited = few; all = own.all }; named = λ a has. has }
+limit_keeps S d s limit few = record {
+  holds = λ k gone. omega arith;
+  peer = refl;
+  pending = λ k. omega arith;
+  waits = λ w. omega arith;
+  flies = λ u limit are within. omega (arith, within);
+  bounds = λ all own. record { short = own.short; each = own.each; limited = few; all = own.all };
+  named = λ a has. has;
+}
 
 limit_obeys : (S : State) (d : ℕ) (s : Socket) (value : ℕ) → Call S (limit_queue S d s value)
 limit_obeys S d s value = either (Call S) (not (is_stream s.kind)) _ _ (λ b. refuses refl refl) (λ b. either (Call S) (not (may_limit value)) _ _ (λ c. refuses refl refl)

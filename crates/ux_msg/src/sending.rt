@@ -24,7 +24,10 @@ use ux_names::{is_unnamed, is_valid_addr};
 use ux_object::FileObject;
 use ux_rights::RefList;
 use ux_state::State;
-use ux_types::{Addr, Cred, DescriptionId, Errno, Fd, MsgFlags, Pid, RECORD_BYTES_LIMIT, RIGHTS_LIMIT, Refusal, Reply};
+use ux_types::{
+    Addr, Cred, DescriptionId, Errno, Fd, MsgFlags, Pid, RECORD_BYTES_LIMIT, RIGHTS_LIMIT, Refusal,
+    Reply,
+};
 
 /// What a sendmsg(2) is given beside its descriptor.
 #[derive(Clone, Copy)]
