@@ -106,6 +106,7 @@ const SCRIPTS: &[&str] = &[
     "whose_rights_are_in_flight",
     "passcred_names_a_socket",
     "options_of_each_type",
+    "limit_of_a_stream_queue",
     "options_and_readiness",
     "readiness_of_files",
     "readiness_of_datagram_sockets",

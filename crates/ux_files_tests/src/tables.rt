@@ -140,14 +140,14 @@ const LIMITS: &[(u32, u32)] = &[
     (0, 1),
     (1, 1),
     (2, 2),
-    (1023, 1023),
-    (1024, 1024),
-    (1025, 1024),
-    (u32::MAX, 1024),
+    (4095, 4095),
+    (4096, 4096),
+    (4097, 4096),
+    (u32::MAX, 4096),
 ];
 
 #[test]
-fn a_limit_is_between_1_and_1024(rt: HostRuntime) -> Result<(), Fail> {
+fn a_limit_is_between_1_and_4096(rt: HostRuntime) -> Result<(), Fail> {
     for (asked, limit) in LIMITS {
         let table = make_table(rt.alloc(), *asked)?;
         expect_empty(&rt, &table, *limit);
@@ -156,7 +156,7 @@ fn a_limit_is_between_1_and_1024(rt: HostRuntime) -> Result<(), Fail> {
 }
 
 /// Limits of tables that are filled: the least, the greatest, and those about a word's end.
-const FILLED: &[u32] = &[1, 2, 63, 64, 65, 128, 1024];
+const FILLED: &[u32] = &[1, 2, 63, 64, 65, 128, 4096];
 
 #[test]
 fn the_lowest_free_number_is_taken(rt: HostRuntime) -> Result<(), Fail> {

@@ -6,6 +6,7 @@ mod datagrams;
 mod objects;
 mod options;
 mod pairs;
+mod queue_limits;
 mod rights;
 
 use bstr::BString;

@@ -194,6 +194,26 @@ fn a_script_with_waits_has_the_trace_of_the_script_without_them(
     check_trace(&rt, rt.alloc(), (TWO_PROCESSES_THAT_WAIT, TWO_PROCESSES.1))
 }
 
+/// A process that may have more descriptors than there can be, and duplicates one until it has all.
+const MOST_DESCRIPTORS: usize = 4096;
+
+#[test]
+fn a_process_has_4096_descriptors_at_most(rt: HostRuntime) -> Result<(), Fail> {
+    let alloc = rt.alloc();
+    let mut script = String::new(alloc);
+    let mut trace = String::new(alloc);
+    script.push_str("proc 0 0 1 5000\n1 pair stream -\n")?;
+    trace.push_str("0 1 0 pair = fds 0 1\n")?;
+    for entry in 1..MOST_DESCRIPTORS - 1 {
+        let number = entry + 1;
+        script.push_str("1 dup 0\n")?;
+        trace.push_str(&format!(in alloc; "{entry} 1 {entry} dup = fd {number}\n")?)?;
+    }
+    script.push_str("1 dup 0\n")?;
+    trace.push_str("4095 1 4095 dup = err EMFILE\n4096 1 4096 exit = ok\n")?;
+    check_trace(&rt, alloc, (script.as_str(), trace.as_str()))
+}
+
 /// Sees that a script has this fault, and that nothing of it is written.
 fn expect_fault(rt: &impl Abort, alloc: Global, script: &str, text: &str) -> Result<(), Fail> {
     let mut written: Vec<u8> = Vec::new(alloc);

@@ -218,6 +218,71 @@ fn lines_that_wait_leave_one_order(rt: HostRuntime) -> Result<(), Fail> {
     Ok(())
 }
 
+/// A client whose second byte finds no room, until the server raises the limit of its end's queue; then the limit is
+/// lowered, and the client's send is refused.
+const LIMITS: &str = "proc 1000 1000 0 16
+proc 1000 1000 0 16
+1 socket stream -
+1 bind 0 a:s
+1 listen 0 1
+2 wait 1 3
+2 socket stream -
+2 connect 0 a:s
+1 accept 0 -
+1 setopt 1 qlimit 1
+2 wait 1 5
+2 send 0 - 6162 - -
+1 wait 2 3
+2 send 0 - 6263 - -
+1 setopt 1 qlimit 2
+1 wait 2 4
+1 setopt 1 qlimit 1
+2 wait 1 7
+2 send 0 - 63 - d
+2 poll 0
+1 wait 2 6
+1 recv 1 8 0 -
+2 wait 1 8
+2 send 0 - 63 - d
+1 wait 2 7
+1 exit
+2 wait 1 9
+2 recv 0 8 0 -
+";
+
+const TRACE_OF_LIMITS: &str = "0 1 0 socket = fd 0
+1 1 1 bind = ok
+2 1 2 listen = ok
+3 2 0 socket = fd 0
+4 2 1 connect = ok
+5 1 3 accept = accepted 1 u
+6 1 4 setopt = ok
+7 2 2 send = n 1
+8 1 5 setopt = ok
+9 2 3 send = n 1
+10 1 6 setopt = ok
+11 2 4 send = err EAGAIN
+12 2 5 poll = poll -
+13 1 7 recv = got 2 6162 - - -
+14 2 6 send = n 1
+15 1 8 exit = ok
+16 2 7 recv = err ECONNRESET
+17 2 8 exit = ok
+";
+
+#[test]
+fn a_raised_limit_wakes_who_waits_to_send(rt: HostRuntime) -> Result<(), Fail> {
+    let alloc = rt.alloc();
+    let script = parse_script(alloc, LIMITS.as_bytes())?;
+    for _run in 0..RUNS {
+        let mut trace = Vec::new(alloc);
+        let entries = history_of(&rt, alloc, &script, &mut trace, &NoGate)?;
+        assert!(rt; trace.as_slice() == TRACE_OF_LIMITS.as_bytes());
+        repeat(&rt, alloc, &script, &entries, 18)?;
+    }
+    Ok(())
+}
+
 /// Two calls of each process, none of which waits.
 const SOCKETS: &str = "proc 1000 1000 0 16
 proc 1000 1000 0 16

@@ -257,12 +257,12 @@ fn all_goes_at_the_end(rt: HostRuntime) -> Result<(), Fail> {
 }
 
 #[test]
-fn a_process_of_64_opens_1024_descriptors_and_exits(rt: HostRuntime) -> Result<(), Fail> {
+fn a_process_of_64_opens_4096_descriptors_and_exits(rt: HostRuntime) -> Result<(), Fail> {
     let alloc = rt.alloc();
-    let procs = vec![in alloc; process(1024); 64]?;
+    let procs = vec![in alloc; process(4096); 64]?;
     let mut held = start_with(&rt, alloc, Counter::new(), Counter::new(), &procs)?;
     let s = &mut held.state;
-    for fd in 0..1024 {
+    for fd in 0..4096 {
         open(&rt, s, 64, 0, Mode::Read, Ok(Fd(fd)));
     }
     open(&rt, s, 64, 0, Mode::Read, Err(InstallError::Full));
@@ -270,7 +270,7 @@ fn a_process_of_64_opens_1024_descriptors_and_exits(rt: HostRuntime) -> Result<(
     end(&rt, s, 64);
     settle(&rt, s, &[]);
     expect_openings(&rt, s, 0, false, false);
-    assert!(rt; s.description(DescriptionId::new(1023)).is_none());
+    assert!(rt; s.description(DescriptionId::new(4095)).is_none());
     assert!(rt; s.is_live(Pid(63)));
     Ok(())
 }
