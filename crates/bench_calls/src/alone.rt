@@ -2,15 +2,15 @@
 use crate::layers::{CALLER, Layer, must, must_all};
 use crate::rows::{PAIR, Requests, Row};
 use crate::seats::{TURNS, Way, Worker, each};
-use anyhow::{Result, anyhow};
+use anyhow::Result;
 use std::alloc::Global;
 use std::rt::Clock;
 use std::sync::Wait;
 use std::thread;
 use std::thread::Threads;
 use std::time::{Duration, Instant};
-use ux_history::BookName;
-use ux_layer::Seat;
+use ux_history::{BookName, CallBook, Trailing};
+use ux_layer::{RunningSeat, Seat};
 use ux_objects::MemFile;
 
 /// One byte over a pair at the numbers 0 and 1.
@@ -46,33 +46,36 @@ pub(crate) fn time_apart<W: BookName + Send + Sync, R: Threads + Wait + Clock + 
     seats: Vec<Seat<W, MemFile>>,
 ) -> Result<Duration> {
     let start = Instant::now(rt)?;
-    exchange_all(rt, alloc, seats)?;
-    Ok(start.elapsed(rt)?)
+    let all = thread::map_vec(rt, seats, &|seat| exchange(rt, alloc, seat))?;
+    time_since(rt, start, all)
 }
 
-/// Has each seat make its calls in a thread of its own.
-fn exchange_all<W: BookName + Send + Sync, R: Threads + Wait + Sync>(
+/// As `time_apart`, over a book that keeps no entry.
+pub(crate) fn time_running<W: Trailing + Send + Sync, R: Threads + Wait + Clock + Sync>(
     rt: &R,
     alloc: Global,
-    seats: Vec<Seat<W, MemFile>>,
-) -> Result<()> {
-    thread::scope(thread::scope_env(), rt, move |scope| -> Result<()> {
-        let mut threads = Vec::with_capacity(alloc, seats.len())?;
-        for seat in seats {
-            match scope.spawn(move || exchange(rt, alloc, seat)) {
-                Ok(thread) => threads.push(thread)?,
-                Err(_refused) => return Err(anyhow!("a thread can't be started")),
-            }
-        }
-        for thread in threads {
-            thread.join(rt)?;
-        }
-        Ok(())
-    })
+    seats: Vec<RunningSeat<W, MemFile>>,
+) -> Result<Duration> {
+    let start = Instant::now(rt)?;
+    let all = thread::map_vec(rt, seats, &|seat| exchange(rt, alloc, seat))?;
+    time_since(rt, start, all)
+}
+
+/// How long it took, where each thread made all its calls.
+fn time_since<R: Clock>(rt: &R, start: Instant, all: Vec<Result<()>>) -> Result<Duration> {
+    let time = start.elapsed(rt)?;
+    for made in all {
+        made?;
+    }
+    Ok(time)
 }
 
 /// Makes the calls of one process.
-fn exchange<W: BookName, R: Wait>(rt: &R, alloc: Global, seat: Seat<W, MemFile>) -> Result<()> {
+fn exchange<W: BookName, B: CallBook<W, MemFile>, R: Wait>(
+    rt: &R,
+    alloc: Global,
+    seat: Seat<W, MemFile, B>,
+) -> Result<()> {
     let mut worker = Worker::new(seat, Way::Call);
     worker.call_rows(rt, alloc, PAIR)?;
     let calls = Requests::of(alloc, EXCHANGE)?;

@@ -1,6 +1,7 @@
 //! Measures calls of a kernel, and of a book that keeps their history: with few and with many descriptors open,
 //! descriptions made before, names in use, and entries in the book. Then calls by seats: by 1, 2, 4 and 8 threads,
-//! none of which waits for another, and by two threads that wait for one another. The times go to standard error.
+//! none of which waits for another, over a book that keeps each call and over one that keeps none, and by two
+//! threads that wait for one another. The times go to standard error.
 #![tactic(auto)]
 
 mod alone;
@@ -10,10 +11,10 @@ mod rows;
 mod seats;
 mod together;
 
-ghost use Rattle.std.specs.Prelude.{◌≡◌};
+ghost use Rattle.std.specs.Prelude.{◌≡◌, []};
 ghost use Rattle.ux_model.specs.Boot.{IsBootState};
 
-use crate::alone::{measure_alone, time_apart};
+use crate::alone::{measure_alone, time_apart, time_running};
 use crate::calls::{measure, measure_connection};
 use crate::layers::{Layer, PROCESSES, Recorded, Stepped, boot, fill, hold_names, make_before};
 use crate::seats::{TURNS, each};
@@ -26,9 +27,9 @@ use std::sync::Wait;
 use std::sync::ledger::Blank;
 use std::thread::Threads;
 use std::time::Duration;
-use ux_history::{BookName, PARTS};
+use ux_history::{BookName, PARTS, Trail, Trailing};
 use ux_kernel::Kernel;
-use ux_layer::start;
+use ux_layer::{start, start_running};
 use ux_objects::MemFile;
 
 /// What is measured on a layer that isn't shared.
@@ -153,6 +154,38 @@ fn seats_named<W: BookName + Send + Sync, R: Threads + Wait + Clock + AllocGloba
     time
 }
 
+/// How long exchanges take by the seats of so many threads, over a book that keeps no entry.
+fn by_running<R: Threads + Wait + Clock + AllocGlobal + Sync>(
+    rt: &R,
+    threads: usize,
+) -> Result<Duration> {
+    let kernel = boot(rt.alloc(), threads)?;
+    let trail = Trail::new(rt.alloc())?;
+    running_named::<Brand, R>(rt, Blank::new(PARTS), trail, kernel)
+}
+
+/// So, under a name that lives in here.
+fn running_named<W: Trailing + Send + Sync, R: Threads + Wait + Clock + AllocGlobal + Sync>(
+    rt: &R,
+    blank: Blank,
+    trail: Trail,
+    kernel: Kernel<MemFile>,
+) -> Result<Duration>
+    requires name { blank.name ≡ W.name }
+    requires parts { (blank.parts ≡ W.parts) × (blank.parts ≡ 1024) }
+    requires trail { trail ≡ record { id = W.trail; calls = [] } }
+    requires boots { IsBootState kernel }
+    requires named { kernel ≡ W.boot }
+{
+    let alloc = rt.alloc();
+    let Ok((layer, seats)) = start_running::<W, MemFile, R>(rt, alloc, blank, trail, kernel) else {
+        return Err(anyhow!("out of memory"));
+    };
+    let time = time_running(rt, alloc, seats);
+    drop(layer);
+    time
+}
+
 /// How many threads make calls at once.
 const THREADS: [usize; 4] = [1, 2, 4, 8];
 
@@ -161,10 +194,12 @@ fn measure_threads<R: Threads + Wait + Clock + Eprint + AllocGlobal + Sync>(rt: 
     eprintln!(rt; "threads:")?;
     by_record(rt, rt.alloc(), Measured::Exchange)?;
     for threads in THREADS {
-        let time = by_seats(rt, threads, Work::Apart)?;
-        let time = each(time, (TURNS as usize).saturating_mul(threads));
+        let turns = (TURNS as usize).saturating_mul(threads);
+        let kept = each(by_seats(rt, threads, Work::Apart)?, turns);
+        let unkept = each(by_running(rt, threads)?, turns);
         let s = if threads == 1 { "" } else { "s" };
-        eprintln!(rt; "seat: send and receive, 1 byte, {threads} thread{s}: {time} ns")?;
+        eprintln!(rt; "seat: send and receive, 1 byte, {threads} thread{s}: {kept} ns")?;
+        eprintln!(rt; "running: send and receive, 1 byte, {threads} thread{s}: {unkept} ns")?;
     }
     let time = each(by_seats(rt, 2, Work::InTurns)?, TURNS as usize);
     eprintln!(rt; "seat: a byte to and fro between two threads: {time} ns")?;

@@ -5,7 +5,7 @@ use anyhow::{Result, anyhow};
 use std::alloc::Global;
 use std::sync::Wait;
 use std::time::Duration;
-use ux_history::{BookName, is_last};
+use ux_history::{Book, BookName, CallBook, is_last};
 use ux_layer::Seat;
 use ux_objects::MemFile;
 use ux_types::Request;
@@ -23,21 +23,21 @@ pub(crate) enum Way {
 }
 
 /// A seat, and how it makes calls.
-pub(crate) struct Worker<W: BookName> {
-    seat: Seat<W, MemFile>,
+pub(crate) struct Worker<W: BookName, B: CallBook<W, MemFile> = Book<W, MemFile>> {
+    seat: Seat<W, MemFile, B>,
     way: Way,
 }
 
 /// As of a layer that isn't shared.
-impl<W: BookName> Drop for Worker<W> {
+impl<W: BookName, B: CallBook<W, MemFile>> Drop for Worker<W, B> {
     fn drop(self) {
         let Worker { seat, way: _ } = self;
         drop(seat);
     }
 }
 
-impl<W: BookName> Worker<W> {
-    pub(crate) fn new(seat: Seat<W, MemFile>, way: Way) -> Worker<W> {
+impl<W: BookName, B: CallBook<W, MemFile>> Worker<W, B> {
+    pub(crate) fn new(seat: Seat<W, MemFile, B>, way: Way) -> Worker<W, B> {
         Worker { seat, way }
     }
 
