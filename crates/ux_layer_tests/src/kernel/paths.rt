@@ -5,7 +5,7 @@ use std::process::Abort;
 use ux_types::{Addr, Errno, Fd, Name, Reply, Request};
 
 /// How many paths there are.
-const PATHS: usize = 16_384;
+const PATHS: usize = 4096;
 
 const SOCKET: &[Row] = &[(1, Asked::Socket, Told::Fd(0))];
 
