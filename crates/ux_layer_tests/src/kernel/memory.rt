@@ -180,8 +180,8 @@ const GROWTHS: &[(Asked, Told, &[Row])] = &[
         )],
     ),
     (
-        Asked::File(FileCall::Write(0, b"defgh")),
-        Told::Count(5),
+        Asked::File(FileCall::Write(0, b"0123456789012345678901234567890123456789")),
+        Told::Count(40),
         &[
             (
                 1,
@@ -207,13 +207,13 @@ const LEFT: &[Row] = &[
     ),
     (
         1,
-        Asked::File(FileCall::Read(1000, 9)),
-        Told::Bytes(b"abdefgh"),
+        Asked::File(FileCall::Read(1000, 99)),
+        Told::Bytes(b"ab0123456789012345678901234567890123456789"),
     ),
     (
         1,
         Asked::File(FileCall::Lseek(0, 0, Whence::Cur)),
-        Told::At(7),
+        Told::At(42),
     ),
     (1, Asked::Unlink(b"f"), Told::Ok),
     (1, Asked::Exit, Told::Ok),
