@@ -26,24 +26,35 @@ fn script_text(alloc: Global) -> Result<Vec<u8>, AllocError> {
     Ok(text)
 }
 
-/// Takes all memory before this call of process 1, and keeps it. It counts the calls and exits of both.
+/// Takes all memory before this call of process 1, and before the exit of process 2 what its thread has kept for
+/// itself, and gives nothing back. It counts the calls and exits of both.
 #[derive(Drop)]
 struct Thief<'a, R: Wait> {
     rt: &'a R,
     alloc: Global,
     from: u64,
-    taken: Mutex<Option<Hoard>>,
+    taken: [Mutex<Option<Hoard>>; 2],
     came: AtomicU64,
+}
+
+impl<R: Wait + Sync> Thief<'_, R> {
+    /// Takes all memory that this thread can have, once.
+    fn take(&self, place: &Mutex<Option<Hoard>>) {
+        let mut taken = place.lock(self.rt);
+        if taken.is_none() {
+            *taken = Hoard::take_all(self.alloc).ok();
+        }
+    }
 }
 
 impl<R: Wait + Sync> Gate for Thief<'_, R> {
     fn before(&self, pid: Pid, k: u64) {
         self.came.fetch_add(1, Ordering::SeqCst);
+        let [first, second] = &self.taken;
         if pid == Pid(1) && k == self.from {
-            let mut taken = self.taken.lock(self.rt);
-            if taken.is_none() {
-                *taken = Hoard::take_all(self.alloc).ok();
-            }
+            self.take(first);
+        } else if pid == Pid(2) && k == 2 {
+            self.take(second);
         }
     }
 
@@ -65,7 +76,7 @@ fn expect_refusal<R: Threads + Wait + Abort + Sync>(
         rt,
         alloc,
         from,
-        taken: Mutex::new(None),
+        taken: [Mutex::new(None), Mutex::new(None)],
         came: AtomicU64::new(0),
     };
     let mut written: Vec<u8> = Vec::new(alloc);
