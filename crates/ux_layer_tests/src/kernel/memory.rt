@@ -1,8 +1,8 @@
 //! Calls that take no memory, made with none, and calls on files that are refused each of their growths.
 use super::objects::is_gone;
 use super::{
-    Asked, At, FileCall, Machine, Row, Told, ask, case_of, expect, make_machine, named, process,
-    refused, says_rows, says_without_memory, turns_off,
+    Asked, At, Case, FileCall, Machine, Row, Told, ask, case_of, expect, make_machine, named,
+    process, refused, says_rows, says_without_memory, turns_off,
 };
 use hoard::{Hoard, Purse};
 use std::alloc::Global;
@@ -111,7 +111,7 @@ fn ask_with(
     machine: &mut Machine,
     purse: &mut Purse,
     bytes: usize,
-    case: &super::Case,
+    case: &Case,
 ) -> Option<Reply> {
     purse.leave(alloc, bytes);
     let answer = ask(machine, 1, &case.request);
