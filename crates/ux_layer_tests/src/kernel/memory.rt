@@ -119,8 +119,8 @@ fn ask_with(
     answer
 }
 
-/// Makes the call of a row with no memory, and with 16 bytes more while it is refused. After each refusal, of which
-/// there is one, these rows are answered as they say: nothing has changed.
+/// Makes the call of a row with no memory, which is refused, and with 16 bytes more while it is. After each refusal
+/// these rows are answered as they say: nothing has changed.
 fn says_with_least(
     rt: &impl Abort,
     alloc: Global,
