@@ -56,7 +56,7 @@ impl Attempt for Read<'_> {
 }
 
 /// A script that one thread runs, and its trace. What is written is the trace with each refused call in it, or a
-/// beginning of that.
+/// beginning of that. There is room for it, so that no write fails.
 #[derive(Clone, Copy)]
 struct Run<'a> {
     script: &'a Script,
@@ -68,11 +68,13 @@ impl Attempt for Run<'_> {
         let Ok(kernel) = kernel_of(alloc, self.script) else {
             return Tried::Refused;
         };
-        let mut trace: Vec<u8> = Vec::new(alloc);
+        let Ok(mut trace) = Vec::with_capacity(alloc, self.trace.len().saturating_mul(2)) else {
+            return Tried::Refused;
+        };
         match run_serial(alloc, self.script, &mut trace, kernel) {
             Ok(_history) if trace.as_slice() == self.trace => Tried::Done,
             Ok(_history) => Tried::Refused,
-            Err(ScriptFault::NoMemory | ScriptFault::Writing) => Tried::Refused,
+            Err(ScriptFault::NoMemory) => Tried::Refused,
             Err(_) => Tried::Wrong,
         }
     }

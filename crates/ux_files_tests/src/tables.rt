@@ -294,6 +294,24 @@ fn marked_numbers_are_closed_on_exec(rt: HostRuntime) -> Result<(), Fail> {
 }
 
 #[test]
+fn numbers_are_closed_without_memory(rt: HostRuntime) -> Result<(), Fail> {
+    let alloc = rt.alloc();
+    let mut table = make_table(alloc, 5)?;
+    open(&rt, &mut table, 0, 10, true);
+    open(&rt, &mut table, 1, 11, false);
+    open(&rt, &mut table, 2, 12, false);
+    let hoard = Hoard::take_all(alloc)?;
+    close(&rt, &mut table, 1, 11, false);
+    close_nothing(&rt, &mut table, 4);
+    table.close_on_exec();
+    drop(hoard);
+    expect_closed(&rt, &table, 0);
+    expect_open(&rt, &table, 2, 12, false);
+    expect_two(&rt, &table, 0, 1);
+    Ok(())
+}
+
+#[test]
 fn a_growth_is_refused_and_changes_nothing(rt: HostRuntime) -> Result<(), Fail> {
     let alloc = rt.alloc();
     let mut table = make_table(alloc, 1024)?;

@@ -152,6 +152,26 @@ fn lacks_memory<W: BookName>(shelf: &mut Shelf<W>, request: Request) -> bool
     }
 }
 
+/// Whether a call that is tried lacks memory.
+fn lacks_memory_when_tried<W: BookName>(shelf: &mut Shelf<W>, request: Request) -> bool
+    requires { is_last request ≡ false }
+{
+    shelf.retired.clear();
+    let tried = shelf
+        .kept
+        .book
+        .try_record(&mut shelf.share, &request, &mut shelf.retired);
+    drop(request);
+    match tried {
+        Ok(Some(recorded)) => {
+            drop(recorded);
+            false
+        }
+        Ok(None) => false,
+        Err(fault) => fault == CallFault::NoMemory,
+    }
+}
+
 #[test]
 fn each_call_is_one_entry(rt: HostRuntime) -> Result<(), Fail> {
     let alloc = rt.alloc();
@@ -321,17 +341,56 @@ fn end_without_memory<W: BookName>(
     requires named { kernel ≡ W.boot }
 {
     let mut shelf = make_shelf::<W>(alloc, blank, kernel)?;
+    let mut spents = Vec::with_capacity(alloc, 1)?;
     let hoard = Hoard::take_all(alloc)?;
     assert!(rt; lacks_memory(&mut shelf, receive(MsgFlags(0))));
+    assert!(rt; lacks_memory_when_tried(&mut shelf, receive(MsgFlags::DONTWAIT)));
     let Shelf {
         mut kept,
         share,
         mut retired,
     } = shelf;
-    assert_eq!(rt; kept.book.entries().len(), 0);
-    let spent = end_book(rt, &mut kept.book, share, &mut retired, 0)?;
-    drop(spent);
+    assert_eq!(rt; (share.calls(), kept.book.entries().len()), (0, 0));
+    spents.push(end_book(rt, &mut kept.book, share, &mut retired, 0)?)?;
+    drop(retired);
+    let Ok(account) = settle_accounts(&mut kept.book, spents) else {
+        return Err(AllocError);
+    };
     drop(hoard);
+    let entries = 2;
+    let ended = true;
+    assert_eq!(rt; account, Account { entries, ended });
     assert_eq!(rt; kept.book.entries().len(), 2);
+    Ok(())
+}
+
+#[test]
+fn a_book_that_is_refused_memory_gives_the_kernel_back(rt: HostRuntime) -> Result<(), Fail> {
+    let alloc = rt.alloc();
+    let Ok(kernel) = Kernel::boot(alloc, Vec::new(alloc), &ONE) else {
+        return Err(Fail::from("no kernel"));
+    };
+    refuse_book::<Brand>(&rt, alloc, Blank::new(PARTS), kernel)?;
+    Ok(())
+}
+
+fn refuse_book<W: BookName>(
+    rt: &impl Abort,
+    alloc: Global,
+    blank: Blank,
+    kernel: Kernel<Counter>,
+) -> Result<(), AllocError>
+    requires name { blank.name ≡ W.name }
+    requires parts { (blank.parts ≡ W.parts) × (blank.parts ≡ 1024) }
+    requires boots { IsBootState kernel }
+    requires named { kernel ≡ W.boot }
+{
+    let hoard = Hoard::take_all(alloc)?;
+    let refused = Book::<W, Counter>::new(alloc, blank, kernel).err();
+    drop(hoard);
+    let Some((kernel, _)) = refused else {
+        panic!(rt; "a book without memory");
+    };
+    assert!(rt; kernel.is_live(Pid(1)) && kernel.process_count() == 1);
     Ok(())
 }

@@ -3,18 +3,22 @@
 mod boots;
 mod connections;
 mod datagrams;
+mod files;
+mod memory;
 mod objects;
 mod options;
 mod pairs;
+mod paths;
 mod queue_limits;
 mod rights;
 
 use bstr::BString;
+use files::{FileCall, file_request_of};
 use hoard::Hoard;
 use std::alloc::{AllocError, Global};
 use std::process::Abort;
 use ux_kernel::Kernel;
-use ux_objects::Counter;
+use ux_objects::{Counter, Plain};
 use ux_state::RetiredList;
 use ux_types::{
     Addr, Bytes, Cred, Errno, Fd, Mode, MsgFlags, Name, OpenFlags, Pid, PollFlags, ProcSpec, Reply,
@@ -136,8 +140,8 @@ fn named(alloc: Global, bytes: &[u8]) -> Result<Name, AllocError> {
 
 /// A kernel, and a list for what its calls let go of.
 struct Machine {
-    kernel: Kernel<Counter>,
-    retired: RetiredList<Counter>,
+    kernel: Kernel<Plain>,
+    retired: RetiredList<Plain>,
 }
 
 /// Written out, a drop is a call, and not each of its parts in the proof of each test.
@@ -152,7 +156,7 @@ impl Drop for Machine {
 /// A kernel of these file objects and processes.
 fn make_machine(
     alloc: Global,
-    objects: Vec<(Name, Counter)>,
+    objects: Vec<(Name, Plain)>,
     procs: &[ProcSpec],
 ) -> Result<Machine, AllocError> {
     let retired = RetiredList::new(alloc)?;
@@ -191,12 +195,14 @@ enum At {
 #[derive(Clone, Copy)]
 enum Asked {
     Open(&'static [u8]),
+    File(FileCall),
     Pair,
     PairOf(SockType),
     Socket,
     SocketOf(SockType),
     Bind(u32, At),
     Listen(u32, i32),
+    Shutdown(u32, Mode),
     Connect(u32, At),
     Accept(u32, u8),
     SockName(u32),
@@ -225,6 +231,9 @@ enum Told {
     Fd(u32),
     Fds(u32, u32),
     Count(usize),
+    /// What was read of a file object.
+    Bytes(&'static [u8]),
+    At(u64),
     Got(&'static [u8]),
     /// These bytes of a datagram, with these flags, from this address.
     From(&'static [u8], u8, At),
@@ -265,6 +274,7 @@ fn request_of(alloc: Global, asked: &Asked) -> Result<Request, AllocError> {
             mode: Mode::Both,
             flags: OpenFlags(0),
         },
+        Asked::File(call) => file_request_of(alloc, call)?,
         Asked::Pair => pair(SockType::Stream),
         Asked::PairOf(kind) => pair(*kind),
         Asked::Socket => socket(SockType::Stream),
@@ -276,6 +286,10 @@ fn request_of(alloc: Global, asked: &Asked) -> Result<Request, AllocError> {
         Asked::Listen(fd, backlog) => Request::Listen {
             fd: Fd(*fd),
             backlog: *backlog,
+        },
+        Asked::Shutdown(fd, how) => Request::Shutdown {
+            fd: Fd(*fd),
+            how: *how,
         },
         Asked::Connect(fd, at) => Request::Connect {
             fd: Fd(*fd),
@@ -321,6 +335,8 @@ fn reply_of(alloc: Global, told: &Told) -> Result<Reply, AllocError> {
         Told::Fd(fd) => Reply::Fd(Fd(*fd)),
         Told::Fds(low, high) => fds(*low, *high),
         Told::Count(count) => Reply::Count(*count),
+        Told::Bytes(bytes) => Reply::Bytes(Bytes::new(Vec::from_slice(alloc, bytes)?)),
+        Told::At(offset) => Reply::At(*offset),
         Told::Got(bytes) => got(alloc, bytes, 0, None)?,
         Told::From(bytes, flags, at) => got(alloc, bytes, *flags, Some(addr_of(alloc, at)?))?,
         Told::GotMany(count) => got(alloc, &copies(alloc, *count)?, 0, None)?,
@@ -478,10 +494,10 @@ fn makes(
 }
 
 /// Open counters under these paths.
-fn counters(alloc: Global, paths: &[&[u8]]) -> Result<Vec<(Name, Counter)>, AllocError> {
+fn counters(alloc: Global, paths: &[&[u8]]) -> Result<Vec<(Name, Plain)>, AllocError> {
     let mut objects = Vec::with_capacity(alloc, paths.len())?;
     for path in paths {
-        objects.push((named(alloc, path)?, Counter::new()))?;
+        objects.push((named(alloc, path)?, Plain::Counter(Counter::new())))?;
     }
     Ok(objects)
 }

@@ -4,6 +4,7 @@ ghost use Rattle.ux_model.specs.Boot.{IsBootState};
 ghost use Rattle.ux_history.specs.Books.{is_last};
 
 use bstr::BString;
+use hoard::Hoard;
 use std::alloc::{AllocError, Global};
 use std::marker::Brand;
 use std::process::Abort;
@@ -347,6 +348,39 @@ fn call_once<W: BookName, R: Wait + Abort>(
     assert!(rt; calls_and_exits(rt, seat));
     assert_eq!(rt; layer.off(rt), Ok(()));
     assert_eq!(rt; layer.off(rt), Err(OffFault::Given));
+    Ok(())
+}
+
+#[test]
+fn a_blocking_call_that_is_refused_memory_is_no_entry(rt: HostRuntime) -> Result<(), Fail> {
+    let kernel = two_processes(rt.alloc())?;
+    refuse_call::<Brand, _>(&rt, rt.alloc(), Blank::new(PARTS), kernel)
+}
+
+fn refuse_call<W: BookName, R: Wait + Abort>(
+    rt: &R,
+    alloc: Global,
+    blank: Blank,
+    kernel: Kernel<Counter>,
+) -> Result<(), Fail>
+    requires name { blank.name ≡ W.name }
+    requires parts { (blank.parts ≡ W.parts) × (blank.parts ≡ 1024) }
+    requires boots { IsBootState kernel }
+    requires named { kernel ≡ W.boot }
+{
+    let Ok((layer, mut seats)) = start::<W, Counter, R>(rt, alloc, blank, kernel) else {
+        return Err(Fail::from("no layer"));
+    };
+    let other = seats.pop().ok_or("no seat")?;
+    let mut seat = seats.pop().ok_or("no seat")?;
+    let hoard = Hoard::take_all(alloc)?;
+    let told = seat.call_blocking(rt, &receive(0)).err();
+    let exited = has_exited(rt, seat);
+    drop(hoard);
+    assert_eq!(rt; told, Some(CallFault::NoMemory));
+    assert!(rt; exited);
+    assert_eq!(rt; layer.book(rt).book().entries().len(), 1);
+    assert!(rt; calls_and_exits(rt, other));
     Ok(())
 }
 

@@ -1,9 +1,10 @@
 //! A short history that is made once more, as it was, otherwise, and on another kernel.
+use hoard::Hoard;
 use std::alloc::{AllocError, Global};
 use std::test::Fail;
 use ux_kernel::Kernel;
 use ux_objects::Counter;
-use ux_replay::check_history;
+use ux_replay::{ReplayFault, check_history, replay};
 use ux_types::{
     Bytes, Entry, Errno, Fd, MsgFlags, OpenFlags, Pid, ProcSpec, Released, Reply, Request, SockType,
 };
@@ -39,8 +40,8 @@ fn entry(k: u64, request: Request, reply: Reply) -> Entry {
     }
 }
 
-/// What is found on a kernel of one process that may have so many descriptors.
-fn found(alloc: Global, entries: &[Entry], limit: u32) -> Result<Result<u64, u64>, Fail> {
+/// A kernel of one process that may have so many descriptors.
+fn kernel_with(alloc: Global, limit: u32) -> Result<Kernel<Counter>, Fail> {
     let user = ProcSpec {
         uid: 1000,
         gid: 1000,
@@ -48,9 +49,15 @@ fn found(alloc: Global, entries: &[Entry], limit: u32) -> Result<Result<u64, u64
         limit,
     };
     match Kernel::<Counter>::boot(alloc, Vec::new(alloc), &[user]) {
-        Ok(kernel) => Ok(check_history(alloc, entries, kernel)),
+        Ok(kernel) => Ok(kernel),
         Err(_) => Err(Fail::from("no kernel")),
     }
+}
+
+/// What is found on a kernel of one process that may have so many descriptors.
+fn found(alloc: Global, entries: &[Entry], limit: u32) -> Result<Result<u64, u64>, Fail> {
+    let kernel = kernel_with(alloc, limit)?;
+    Ok(check_history(alloc, entries, kernel))
 }
 
 #[test]
@@ -102,5 +109,19 @@ fn a_refusal_for_lack_of_memory_is_left_out(rt: HostRuntime) -> Result<(), Fail>
     entries.push(entry(2, dup, Reply::Err(Errno::ENOMEM)))?;
     entries.push(exit)?;
     assert_eq!(rt; found(rt.alloc(), &entries, 16)?, Ok(4));
+    Ok(())
+}
+
+#[test]
+fn without_memory_nothing_is_made_once_more(rt: HostRuntime) -> Result<(), Fail> {
+    let alloc = rt.alloc();
+    let entries = history(alloc)?;
+    let (first, second) = (kernel_with(alloc, 16)?, kernel_with(alloc, 16)?);
+    let hoard = Hoard::take_all(alloc)?;
+    let checked = check_history(alloc, &entries, first);
+    let replayed = replay(alloc, &entries, second);
+    drop(hoard);
+    assert_eq!(rt; checked, Err(0));
+    assert_eq!(rt; replayed, Err(ReplayFault::NoMemory(0)));
     Ok(())
 }

@@ -1,5 +1,8 @@
 //! Command lines, and the texts of faults.
+use clap::error::ErrorKind;
+use hoard::Purse;
 use std::alloc::{AllocError, Global};
+use std::process::Abort;
 use std::test::Fail;
 use ux_command::{Fault, read_args};
 use ux_kernel::BootFault;
@@ -61,6 +64,36 @@ fn other_command_lines_are_refused(rt: HostRuntime) -> Result<(), Fail> {
             .ok_or("understood")?;
         assert_eq!(rt; told.exit_code(), 2);
     }
+    Ok(())
+}
+
+/// The steps in which more memory is left, of 16 bytes each.
+const STEPS: usize = 3800;
+
+/// Reads a command line with no memory, and with 16 bytes more while it is refused, and tells how often it was.
+fn refusals_of(rt: &impl Abort, alloc: Global, words: &[String]) -> Result<usize, Fail> {
+    let mut purse = Purse::new(alloc)?;
+    for step in 0..STEPS {
+        purse.leave(alloc, step.saturating_mul(16));
+        let read = read_args(alloc, words);
+        purse.open();
+        match read {
+            Ok(args) => {
+                assert!(rt; args.check && !args.threads);
+                assert_eq!(rt; args.script, "a.ux");
+                return Ok(step);
+            }
+            Err(error) => assert!(rt; error.kind() == ErrorKind::OutOfMemory),
+        }
+    }
+    Err(Fail::from("refused with 60 KiB"))
+}
+
+#[test]
+fn want_of_memory_is_told_of_a_command_line(rt: HostRuntime) -> Result<(), Fail> {
+    let words = texts(rt.alloc(), &["uxrun", "--check", "a.ux"])?;
+    let refusals = refusals_of(&rt, rt.alloc(), words.as_slice())?;
+    assert!(rt; refusals > 0);
     Ok(())
 }
 

@@ -1,6 +1,7 @@
 //! Runs by examples, and with writers that fail. Scripts with file objects have their traces in `examples/`.
 ghost use Rattle.std.specs.Prelude.{Some};
 
+use hoard::Purse;
 use std::alloc::Global;
 use std::io;
 use std::io::Write;
@@ -8,7 +9,7 @@ use std::process::Abort;
 use std::test::Fail;
 use ux_kernel::Kernel;
 use ux_objects::Counter;
-use ux_script::run_serial;
+use ux_script::{run_serial, write_trace};
 use ux_syntax::{Act, Line, Script, ScriptFault, parse_script};
 use ux_types::{Entry, Name, Pid, Request};
 
@@ -308,6 +309,46 @@ fn what_is_not_flushed_was_not_written(rt: HostRuntime) {
     let mut writer = Fake::new(rt.alloc(), 100, 0);
     writer.fails_to_flush = true;
     expect_failure(&rt, rt.alloc(), SEND_AND_RECEIVE.0, &mut writer);
+}
+
+/// The steps in which more memory is left, of 16 bytes each.
+const STEPS: usize = 3800;
+
+/// Writes a trace with no memory, and with 16 bytes more while that is refused: what was written then is a
+/// beginning of it. Tells how often it was refused.
+fn refusals_of(
+    rt: &impl Abort,
+    alloc: Global,
+    history: &[Entry],
+    trace: &[u8],
+) -> Result<usize, Fail> {
+    let mut purse = Purse::new(alloc)?;
+    let mut written: Vec<u8> = Vec::with_capacity(alloc, 4096)?;
+    for step in 0..STEPS {
+        written.clear();
+        purse.leave(alloc, step.saturating_mul(16));
+        let told = write_trace(alloc, &mut written, history);
+        purse.open();
+        match told {
+            Ok(()) => {
+                assert!(rt; written.as_slice() == trace);
+                return Ok(step);
+            }
+            Err(fault) => assert!(rt; matches!(fault, ScriptFault::NoMemory)),
+        }
+        assert!(rt; trace.starts_with(written.as_slice()) && written.len() < trace.len());
+    }
+    Err(Fail::from("refused with 60 KiB"))
+}
+
+#[test]
+fn a_trace_that_is_refused_memory_is_begun(rt: HostRuntime) -> Result<(), Fail> {
+    let alloc = rt.alloc();
+    let (script, trace) = SEND_AND_RECEIVE;
+    let mut written: Vec<u8> = Vec::new(alloc);
+    let history = run(alloc, script, &mut written)?;
+    assert!(rt; refusals_of(&rt, alloc, &history, trace.as_bytes())? > 0);
+    Ok(())
 }
 
 #[test]

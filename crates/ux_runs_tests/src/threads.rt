@@ -16,6 +16,7 @@ use ux_syntax::{Script, parse_script};
 use ux_threads::{Gate, NoGate, run_threads};
 use ux_types::{Entry, Name, Pid};
 
+mod memory;
 mod stress;
 
 /// How often a thread looks for what another is to do, before it gives up.

@@ -5,27 +5,27 @@ use std::alloc::{AllocError, Global};
 use std::process::Abort;
 use ux_kernel::{BootFault, Kernel};
 use ux_object::FileObject;
-use ux_objects::Counter;
+use ux_objects::{Counter, Plain};
 use ux_types::{Errno, Name, Pid, ProcSpec};
 
 /// Two counters, the second of them closed.
-fn one_closed(alloc: Global) -> Result<Vec<(Name, Counter)>, AllocError> {
+fn one_closed(alloc: Global) -> Result<Vec<(Name, Plain)>, AllocError> {
     let mut objects = counters(alloc, &[b"a"])?;
-    let mut closed = Counter::new();
+    let mut closed = Plain::Counter(Counter::new());
     closed.close();
     objects.push((named(alloc, b"b")?, closed))?;
     Ok(objects)
 }
 
 /// The same, and another under the path of the first.
-fn closed_and_twice(alloc: Global) -> Result<Vec<(Name, Counter)>, AllocError> {
+fn closed_and_twice(alloc: Global) -> Result<Vec<(Name, Plain)>, AllocError> {
     let mut objects = one_closed(alloc)?;
-    objects.push((named(alloc, b"a")?, Counter::new()))?;
+    objects.push((named(alloc, b"a")?, Plain::Counter(Counter::new())))?;
     Ok(objects)
 }
 
 /// These file objects have the same paths and contents as those.
-fn are_as_before(rt: &impl Abort, objects: &[(Name, Counter)], before: &[(Name, Counter)]) {
+fn are_as_before(rt: &impl Abort, objects: &[(Name, Plain)], before: &[(Name, Plain)]) {
     assert_eq!(rt; objects.len(), before.len());
     for (object, before) in objects.iter().zip(before) {
         assert_eq!(rt; object.0, before.0);
@@ -38,7 +38,7 @@ fn are_as_before(rt: &impl Abort, objects: &[(Name, Counter)], before: &[(Name, 
 fn faults(
     rt: &impl Abort,
     alloc: Global,
-    (objects, as_before): (Vec<(Name, Counter)>, Vec<(Name, Counter)>),
+    (objects, as_before): (Vec<(Name, Plain)>, Vec<(Name, Plain)>),
     procs: &[ProcSpec],
     fault: BootFault,
 ) {
@@ -56,7 +56,7 @@ fn two_alike(
     rt: &impl Abort,
     alloc: Global,
     paths: &[&[u8]],
-) -> Result<(Vec<(Name, Counter)>, Vec<(Name, Counter)>), AllocError> {
+) -> Result<(Vec<(Name, Plain)>, Vec<(Name, Plain)>), AllocError> {
     let mut first = counters(alloc, paths)?;
     let mut second = counters(alloc, paths)?;
     add_five(rt, &mut first);
@@ -65,7 +65,7 @@ fn two_alike(
 }
 
 /// Adds 5 to the first of these counters.
-fn add_five(rt: &impl Abort, objects: &mut Vec<(Name, Counter)>) {
+fn add_five(rt: &impl Abort, objects: &mut Vec<(Name, Plain)>) {
     if let Some(first) = objects.first_mut() {
         if first.1.is_open() {
             assert_eq!(rt; first.1.write(0, &5u64.to_le_bytes()), Ok(8));

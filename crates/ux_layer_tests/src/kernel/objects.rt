@@ -5,7 +5,7 @@ use ux_object::FileObject;
 use ux_types::Errno;
 
 /// Whether this one file object was handed out, closed.
-fn is_gone(machine: &Machine, number: u32) -> bool {
+pub(super) fn is_gone(machine: &Machine, number: u32) -> bool {
     machine.retired.len() == 1
         && machine
             .retired
