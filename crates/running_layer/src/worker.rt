@@ -75,15 +75,22 @@ impl<W: Trailing> Worker<W> {
         }
     }
 
+    /// Sends a byte and receives it so many times and once more, and gives the witness of the last call.
+    fn exchange<R: Wait>(&mut self, rt: &R, send: &Request, more: u64) -> Result<Witness<W>>
+        requires { is_last send.now ≡ false }
+    {
+        for _ in 0..more {
+            self.call(rt, send)?;
+            self.call(rt, &RECEIVE)?;
+        }
+        self.call(rt, send)?;
+        self.call(rt, &RECEIVE)
+    }
+
     /// Makes so many calls, and keeps the witness of the last.
     fn work<R: Wait>(mut self, rt: &R, alloc: Global, calls: u64) -> Result<Worker<W>> {
         let send = send(alloc)?;
-        for _ in 1..calls / 2 {
-            self.call(rt, &send)?;
-            self.call(rt, &RECEIVE)?;
-        }
-        self.call(rt, &send)?;
-        let last = self.call(rt, &RECEIVE)?;
+        let last = self.exchange(rt, &send, (calls / 2).saturating_sub(1))?;
         self.witnesses.push(last)?;
         Ok(self)
     }
