@@ -1,7 +1,7 @@
 //! A layer that runs for long: four threads as its processes make some calls and exit, and then four others make many,
 //! of which the layer keeps nothing. At the end the accounts settle with what the threads kept of their calls. How
 //! much memory the program has after the first calls and at the end goes to standard error. The first word of the
-//! command line says how many calls the later threads make together: `rt run -- 10000000` makes ten million.
+//! command line says how many calls the later threads make together: `rt run -- 100000000` makes a hundred million.
 #![tactic(auto)]
 
 mod memory;
@@ -33,7 +33,7 @@ const THREADS: u64 = 4;
 const FIRST_CALLS: u64 = 10_000;
 
 /// How many calls the others make together, where the command line says nothing.
-const CALLS: u64 = 1_000_000;
+const CALLS: u64 = 10_000_000;
 
 /// How many calls each of the others makes.
 fn calls_each<R: Env + AllocGlobal>(rt: &R) -> Result<u64> {
