@@ -1,7 +1,7 @@
-//! A layer that runs for long: four threads as its processes make calls of which the layer keeps nothing. At the end
-//! the accounts settle with what the threads kept of their calls, and the program has as much memory as after the
-//! first calls. How much that is goes to standard error. The first word of the command line says how many calls all
-//! threads make together: `rt run -- 10000000` makes ten million.
+//! A layer that runs for long: four threads as its processes make some calls and exit, and then four others make many,
+//! of which the layer keeps nothing. At the end the accounts settle with what the threads kept of their calls. How
+//! much memory the program has after the first calls and at the end goes to standard error. The first word of the
+//! command line says how many calls the later threads make together: `rt run -- 100000000` makes a hundred million.
 #![tactic(auto)]
 
 mod memory;
@@ -11,7 +11,7 @@ ghost use Rattle.std.specs.Prelude.{◌≡◌, [], IfOk};
 ghost use Rattle.ux_model.specs.Boot.{IsBootState};
 
 use crate::memory::print_memory;
-use crate::worker::{Worker, exit_all, work_all, workers_of};
+use crate::worker::{Done, put_all, work_all};
 use anyhow::{Result, anyhow};
 use std::alloc::Global;
 use std::env;
@@ -22,20 +22,20 @@ use std::sync::ledger::Blank;
 use std::thread::Threads;
 use ux_history::{PARTS, Trail, Trailing};
 use ux_kernel::Kernel;
-use ux_layer::{RunningLayer, start_running};
+use ux_layer::{RunningLayer, RunningSeat, start_running};
 use ux_objects::MemFile;
 use ux_types::ProcSpec;
 
-/// How many threads make calls.
+/// How many threads make calls at once.
 const THREADS: u64 = 4;
 
-/// How many calls each thread makes before the memory is looked at first.
+/// How many calls each of the first threads makes.
 const FIRST_CALLS: u64 = 10_000;
 
-/// How many calls all threads make together after that, where the command line says nothing.
-const CALLS: u64 = 1_000_000;
+/// How many calls the others make together, where the command line says nothing.
+const CALLS: u64 = 10_000_000;
 
-/// How many calls each thread makes.
+/// How many calls each of the others makes.
 fn calls_each<R: Env + AllocGlobal>(rt: &R) -> Result<u64> {
     let mut words = env::args(rt)?;
     let _program = words.next();
@@ -46,7 +46,7 @@ fn calls_each<R: Env + AllocGlobal>(rt: &R) -> Result<u64> {
     Ok(calls / THREADS)
 }
 
-/// A kernel with a process for each thread.
+/// A kernel with a process for each thread of both rounds.
 fn boot(alloc: Global) -> Result<Kernel<MemFile>>
     ensures { IfOk result (λ kernel. IsBootState kernel) }
 {
@@ -56,7 +56,7 @@ fn boot(alloc: Global) -> Result<Kernel<MemFile>>
         privileged: false,
         limit: 16,
     };
-    match Kernel::boot(alloc, Vec::new(alloc), &[user; THREADS as usize]) {
+    match Kernel::boot(alloc, Vec::new(alloc), &[user; 2 * THREADS as usize]) {
         Ok(kernel) => Ok(kernel),
         Err((fault, _objects)) => Err(anyhow!("{fault}")),
     }
@@ -80,20 +80,42 @@ fn run<W: Trailing + Send + Sync, R: Threads + Wait + Files + Print + Eprint + A
     let Ok((layer, seats)) = start_running::<W, MemFile, R>(rt, alloc, blank, trail, kernel) else {
         return Err(anyhow!("out of memory"));
     };
-    let workers = work_all(rt, alloc, workers_of(rt, alloc, seats)?, FIRST_CALLS)?;
+    let (first, others) = halves(alloc, seats)?;
+    let before = work_all(rt, alloc, first, FIRST_CALLS)?;
     print_memory(rt, "after the first calls")?;
-    let workers = work_all(rt, alloc, workers, calls)?;
+    let after = work_all(rt, alloc, others, calls)?;
     print_memory(rt, "at the end")?;
-    settle(rt, &layer, workers)
+    settle(rt, &layer, before, after)
 }
 
-/// Ends all processes, and settles their accounts with what they kept of their calls.
+/// The seats of the first threads, and those of the others.
+fn halves<W: Trailing>(
+    alloc: Global,
+    seats: Vec<RunningSeat<W, MemFile>>,
+) -> Result<(Vec<RunningSeat<W, MemFile>>, Vec<RunningSeat<W, MemFile>>)> {
+    let mut first = Vec::with_capacity(alloc, THREADS as usize)?;
+    let mut others = Vec::with_capacity(alloc, THREADS as usize)?;
+    for seat in seats {
+        if u64::from(seat.pid().0) <= THREADS {
+            first.push(seat)?;
+        } else {
+            others.push(seat)?;
+        }
+    }
+    Ok((first, others))
+}
+
+/// Settles the accounts of all processes with what they kept of their calls.
 fn settle<W: Trailing, R: Wait + Print + AllocGlobal>(
     rt: &R,
     layer: &RunningLayer<W, MemFile>,
-    workers: Vec<Worker<W>>,
+    before: Vec<Done<W>>,
+    after: Vec<Done<W>>,
 ) -> Result<()> {
-    let (spents, mut witnesses) = exit_all(rt, rt.alloc(), workers)?;
+    let mut spents = Vec::new(rt.alloc());
+    let mut witnesses = Vec::new(rt.alloc());
+    put_all(before, &mut spents, &mut witnesses)?;
+    put_all(after, &mut spents, &mut witnesses)?;
     let account = match layer.settle_told(rt, spents, witnesses.as_mut_slice()) {
         Ok(account) => account,
         Err((fault, _spents)) => return Err(anyhow!("{fault}")),

@@ -39,113 +39,109 @@ fn send(alloc: Global) -> Result<Request>
     })
 }
 
-/// A seat, and what its thread keeps of its calls: the witness of the last one of each round.
-pub(crate) struct Worker<W: Trailing> {
-    seat: RunningSeat<W, MemFile>,
+/// What is left of a process that made its calls and exited: its share, and the witnesses of its first call and of the
+/// last before the exit.
+pub(crate) struct Done<W: Trailing> {
+    spent: Spent<W>,
     witnesses: Vec<Witness<W>>,
 }
 
 /// Written out, a drop is a call, and not each of its parts in the proof of each function that drops one.
-impl<W: Trailing> Drop for Worker<W> {
+impl<W: Trailing> Drop for Done<W> {
     fn drop(self) {
-        let Worker { seat, witnesses } = self;
-        drop(seat);
+        let Done { spent, witnesses } = self;
+        drop(spent);
         drop(witnesses);
     }
 }
 
-impl<W: Trailing> Worker<W> {
-    /// A seat that has a pair.
-    fn new<R: Wait>(rt: &R, alloc: Global, seat: RunningSeat<W, MemFile>) -> Result<Worker<W>> {
-        let witnesses = Vec::new(alloc);
-        let mut worker = Worker { seat, witnesses };
-        let witness = worker.call(rt, &PAIR)?;
-        worker.witnesses.push(witness)?;
-        Ok(worker)
-    }
-
-    /// Makes a call, which must be granted.
-    fn call<R: Wait>(&mut self, rt: &R, request: &Request) -> Result<Witness<W>>
-        requires { is_last request.now ≡ false }
-    {
-        match self.seat.call(rt, request) {
-            Ok((Reply::Err(refused), _witness)) => Err(anyhow!("a call was refused: {refused}")),
-            Ok((_reply, witness)) => Ok(witness),
-            Err(fault) => Err(anyhow!("{fault}")),
+impl<W: Trailing> Done<W> {
+    /// Adds the share and the witnesses to those of others.
+    fn put(self, spents: &mut Vec<Spent<W>>, witnesses: &mut Vec<Witness<W>>) -> Result<()> {
+        let Done {
+            spent,
+            witnesses: mine,
+        } = self;
+        spents.push(spent)?;
+        for witness in mine {
+            witnesses.push(witness)?;
         }
-    }
-
-    /// Sends a byte and receives it so many times and once more, and gives the witness of the last call.
-    fn exchange<R: Wait>(&mut self, rt: &R, send: &Request, more: u64) -> Result<Witness<W>>
-        requires { is_last send.now ≡ false }
-    {
-        for _ in 0..more {
-            self.call(rt, send)?;
-            self.call(rt, &RECEIVE)?;
-        }
-        self.call(rt, send)?;
-        self.call(rt, &RECEIVE)
-    }
-
-    /// Makes so many calls, and keeps the witness of the last.
-    fn work<R: Wait>(mut self, rt: &R, alloc: Global, calls: u64) -> Result<Worker<W>> {
-        let send = send(alloc)?;
-        let last = self.exchange(rt, &send, (calls / 2).saturating_sub(1))?;
-        self.witnesses.push(last)?;
-        Ok(self)
-    }
-
-    /// Ends the process.
-    fn exit<R: Wait>(self, rt: &R) -> Result<(Spent<W>, Vec<Witness<W>>)> {
-        let Worker { seat, witnesses } = self;
-        match seat.exit(rt) {
-            Ok(spent) => Ok((spent, witnesses)),
-            Err((fault, _seat)) => Err(anyhow!("{fault}")),
-        }
+        Ok(())
     }
 }
 
-/// A worker for each seat.
-pub(crate) fn workers_of<W: Trailing, R: Wait>(
+/// Makes a call, which must be granted.
+fn call<W: Trailing, R: Wait>(
+    rt: &R,
+    seat: &mut RunningSeat<W, MemFile>,
+    request: &Request,
+) -> Result<Witness<W>>
+    requires { is_last request.now ≡ false }
+{
+    match seat.call(rt, request) {
+        Ok((Reply::Err(refused), _witness)) => Err(anyhow!("a call was refused: {refused}")),
+        Ok((_reply, witness)) => Ok(witness),
+        Err(fault) => Err(anyhow!("{fault}")),
+    }
+}
+
+/// Sends a byte and receives it so many times and once more, and gives the witness of the last call.
+fn exchange<W: Trailing, R: Wait>(
+    rt: &R,
+    seat: &mut RunningSeat<W, MemFile>,
+    send: &Request,
+    more: u64,
+) -> Result<Witness<W>>
+    requires { is_last send.now ≡ false }
+{
+    for _ in 0..more {
+        call(rt, seat, send)?;
+        call(rt, seat, &RECEIVE)?;
+    }
+    call(rt, seat, send)?;
+    call(rt, seat, &RECEIVE)
+}
+
+/// Makes so many calls over a pair, and exits.
+fn work<W: Trailing, R: Wait>(
     rt: &R,
     alloc: Global,
-    seats: Vec<RunningSeat<W, MemFile>>,
-) -> Result<Vec<Worker<W>>> {
-    let mut workers = Vec::with_capacity(alloc, seats.len())?;
-    for seat in seats {
-        workers.push(Worker::new(rt, alloc, seat)?)?;
+    mut seat: RunningSeat<W, MemFile>,
+    calls: u64,
+) -> Result<Done<W>> {
+    let send = send(alloc)?;
+    let mut witnesses = Vec::with_capacity(alloc, 2)?;
+    witnesses.push(call(rt, &mut seat, &PAIR)?)?;
+    let more = (calls / 2).saturating_sub(1);
+    witnesses.push(exchange(rt, &mut seat, &send, more)?)?;
+    match seat.exit(rt) {
+        Ok(spent) => Ok(Done { spent, witnesses }),
+        Err((fault, _seat)) => Err(anyhow!("{fault}")),
     }
-    Ok(workers)
 }
 
-/// Has each worker make so many calls, in a thread of its own where one can be made.
+/// Has each seat make so many calls and exit, in a thread of its own where one can be made.
 pub(crate) fn work_all<W: Trailing + Send + Sync, R: Threads + Wait + Sync>(
     rt: &R,
     alloc: Global,
-    workers: Vec<Worker<W>>,
+    seats: Vec<RunningSeat<W, MemFile>>,
     calls: u64,
-) -> Result<Vec<Worker<W>>> {
-    let mut all = Vec::with_capacity(alloc, workers.len())?;
-    for worker in thread::map_vec(rt, workers, &|worker| worker.work(rt, alloc, calls))? {
-        all.push(worker?)?;
+) -> Result<Vec<Done<W>>> {
+    let mut all = Vec::with_capacity(alloc, seats.len())?;
+    for done in thread::map_vec(rt, seats, &|seat| work(rt, alloc, seat, calls))? {
+        all.push(done?)?;
     }
     Ok(all)
 }
 
-/// Ends all processes, and gives the shares and the witnesses of all.
-pub(crate) fn exit_all<W: Trailing, R: Wait>(
-    rt: &R,
-    alloc: Global,
-    workers: Vec<Worker<W>>,
-) -> Result<(Vec<Spent<W>>, Vec<Witness<W>>)> {
-    let mut spents = Vec::new(alloc);
-    let mut all = Vec::new(alloc);
-    for worker in workers {
-        let (spent, witnesses) = worker.exit(rt)?;
-        spents.push(spent)?;
-        for witness in witnesses {
-            all.push(witness)?;
-        }
+/// Adds the shares and the witnesses of all to those of others.
+pub(crate) fn put_all<W: Trailing>(
+    all: Vec<Done<W>>,
+    spents: &mut Vec<Spent<W>>,
+    witnesses: &mut Vec<Witness<W>>,
+) -> Result<()> {
+    for done in all {
+        done.put(spents, witnesses)?;
     }
-    Ok((spents, all))
+    Ok(())
 }
