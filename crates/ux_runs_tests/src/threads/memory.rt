@@ -37,7 +37,7 @@ struct Thief<'a, R: Wait> {
     came: AtomicU64,
 }
 
-impl<R: Wait + Sync> Thief<'_, R> {
+impl<R: Wait> Thief<'_, R> {
     /// Takes all memory that this thread can have, once.
     fn take(&self, place: &Mutex<Option<Hoard>>) {
         let mut taken = place.lock(self.rt);
