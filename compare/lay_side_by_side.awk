@@ -21,9 +21,18 @@ function without_closed(answer) {
     return answer
 }
 
-# Whether two answers differ in the words of these numbers alone, or only in what was closed.
+# The conditions that a poll tells, but for these.
+function without_flags(answer, flags,    i, n, names, left) {
+    n = split(substr(answer, 6), names, "|")
+    left = ""
+    for (i = 1; i <= n; i++) if (names[i] != "-" && index(" " flags " ", " " names[i] " ") == 0) left = left "|" names[i]
+    return left
+}
+
+# Whether two answers differ in the words of these numbers alone, in these conditions of a poll, or in what was closed.
 function differ_in(words, a, b,    i, n, as, bs) {
     if (words == "closed") return without_closed(a) == without_closed(b)
+    if (words ~ /^[A-Z]/) return a ~ /^poll / && b ~ /^poll / && without_flags(a, words) == without_flags(b, words)
     n = split(a, as, " ")
     if (split(b, bs, " ") != n) return 0
     for (i = 1; i <= n; i++) if (as[i] != bs[i] && index(" " words " ", " " i " ") == 0) return 0
