@@ -10,9 +10,9 @@ function begin_rule(text) {
 
 function is_like(text, pattern) { return text ~ "^(" pattern ")$" }
 
-# Whether an earlier call of the script is like the pattern.
+# Whether an earlier call with our answer is like the pattern.
 function has_come(pattern,    i) {
-    for (i = 1; i < next_line; i++) if (is_like(line[i], pattern)) return 1
+    for (i = 1; i <= pasts; i++) if (is_like(past[i], pattern)) return 1
     return 0
 }
 
@@ -65,7 +65,8 @@ function tell(i, text,    r, a, b, found) {
     for (r = 1; r <= rules && !meets(r, text, a, b, kind[i]); r++) continue
     found = r <= rules
     parted = !found || state[r] == "parts"
-    printf "%s %s %d %s:%d: %s: %s %s | %s | Linux: %s\n", found ? rule[r] : "-", parted ? "parts" : "same", row, name, row, kind[i], pid, text, a, b
+    printf "%s %s %d ", found ? rule[r] : "-", parted ? "parts" : "same", row
+    printf "%s:%d: %s: %s %s | %s | Linux: %s\n", name, row, kind[i], pid, text, a, b
 }
 
 FNR == 1 { file++ }
@@ -94,6 +95,7 @@ END {
         text = text_of(our_trace[i])
         if (our_trace[i] == linux_trace[i]) agree++
         else tell(i, text)
+        past[++pasts] = text " = " answer_of(our_trace[i])
     }
     printf "= %d %d\n", agree, count + 1 - i
 }

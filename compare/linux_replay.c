@@ -8,6 +8,7 @@
 #include <fcntl.h>
 #include <grp.h>
 #include <limits.h>
+#include <linux/sockios.h>
 #include <poll.h>
 #include <signal.h>
 #include <stdarg.h>
@@ -19,6 +20,7 @@
 #include <sys/epoll.h>
 #include <sys/eventfd.h>
 #include <sys/inotify.h>
+#include <sys/ioctl.h>
 #include <sys/mman.h>
 #include <sys/prctl.h>
 #include <sys/random.h>
@@ -33,7 +35,7 @@
 enum {
     MOST_PROCESSES = 64, MOST_OBJECTS = 64, MOST_DESCRIPTORS = 4096, CHANNEL = MOST_DESCRIPTORS, MOST_WORDS = 8,
     LINE = 4096, MOST_BYTES = 1 << 20, CHUNK = 1 << 16, MOST_CONTROL = 1 << 16, MOST_ALIASES = 64, PREFIX = 9,
-    KEPT_LENGTH = 90, SECONDS = 10, NOBODY = 65534, NO_DESCRIPTOR = INT_MAX, NO_PROCESS = 0x7ffffff0
+    KEPT_LENGTH = 90, FILLED = 1 << 15, SECONDS = 10, NOBODY = 65534, NO_DESCRIPTOR = INT_MAX, NO_PROCESS = 0x7ffffff0
 };
 
 struct process {
@@ -628,7 +630,7 @@ static const struct {
 static const char *kind_of(int number) {
     struct stat told;
     struct address address = {.length = sizeof address.bytes};
-    int listens = 0;
+    int listens = 0, waiting = 0;
     socklen_t length = sizeof listens;
     if (fstat(number, &told) < 0) return "closed";
     if (S_ISREG(told.st_mode)) return "mem";
@@ -638,7 +640,9 @@ static const char *kind_of(int number) {
     int is_tied = getpeername(number, &address.head, &address.length) == 0;
     switch (type_of(number)) {
     case SOCK_DGRAM: return is_tied ? "dgram/tied" : "dgram/idle";
-    case SOCK_STREAM: return listens ? "stream/listening" : is_tied ? "stream/tied" : "stream/idle";
+    case SOCK_STREAM:
+        ioctl(number, SIOCOUTQ, &waiting);
+        return listens ? "stream/listening" : !is_tied ? "stream/idle" : waiting > FILLED ? "stream/tied/filled" : "stream/tied";
     default: return listens ? "seq/listening" : is_tied ? "seq/tied" : "seq/idle";
     }
 }
