@@ -1,7 +1,7 @@
-# Lays the two traces of a script side by side. The files are the rules, the script, what each call's descriptor led to, our
-# trace and Linux's. Prints a line a difference: the rule or -, whether the states are the `same` after it or it `parts` them,
-# the script's line, and what it is; after one that parts it stops. The last line is `=`, how many calls agree, and how many
-# are behind a difference that parts. `name` is the script's.
+# Lays the two traces of a script side by side. The files are the rules, the script, what each call's descriptor led to,
+# our trace and Linux's. Prints a line a difference: the rule or -, whether the states are the `same` after it or it `parts`
+# them, the script's line, and what it is; after one that parts it stops. The last line is `=`, how many calls agree, and
+# how many are behind a difference that parts. `name` is the script's.
 
 function begin_rule(text) {
     rule[++rules] = text
@@ -25,7 +25,7 @@ function without_closed(answer) {
 function without_flags(answer, flags,    i, n, names, left) {
     n = split(substr(answer, 6), names, "|")
     left = ""
-    for (i = 1; i <= n; i++) if (names[i] != "-" && index(" " flags " ", " " names[i] " ") == 0) left = left "|" names[i]
+    for (i = 1; i <= n; i++) if (names[i] != "-" && !index(" " flags " ", " " names[i] " ")) left = left "|" names[i]
     return left
 }
 

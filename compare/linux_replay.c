@@ -1,7 +1,8 @@
-/* Makes the calls of a script of uxrun on the machine's own kernel, and prints their trace in uxrun's words. Each process
- * of the script is a child that is handed its lines one at a time, in the script's order, and answers each. No call waits:
- * every description is non-blocking behind the script's view. Descriptors have the script's numbers, under its limits, so
- * which number is free, and that none is, are the kernel's own answers. What can't be tried is answered `not tried WHY`. */
+/* Makes the calls of a script of uxrun on the machine's own kernel, and prints their trace in uxrun's words. Each
+ * process of the script is a child that is handed its lines one at a time, in the script's order, and answers each. No
+ * call waits: every description is non-blocking behind the script's view. Descriptors have the script's numbers, under
+ * its limits, so which number is free, and that none is, are the kernel's own answers. What can't be tried is answered
+ * `not tried: WHY`. */
 #define _GNU_SOURCE
 #include <dirent.h>
 #include <errno.h>
@@ -183,7 +184,7 @@ struct address {
     socklen_t length;
 };
 
-/* An abstract name of the script as a name of this run alone: behind a prefix, or, where it is long, of the same length. */
+/* An abstract name of the script as a name of this run alone: behind a prefix, or, where it is long, of its length. */
 static size_t real_name(const char *name, size_t length, char *real) {
     unsigned number;
     int used = 0;
@@ -509,10 +510,11 @@ static int option_in(const char *word) {
 static void do_getopt(char **word) {
     struct ucred credentials;
     int option = option_in(word[3]), number = descriptor_in(word[2]), value = 0;
+    void *place = option == SO_PEERCRED ? (void *)&credentials : &value;
     socklen_t length = option == SO_PEERCRED ? sizeof credentials : sizeof value;
     if (option < 0) {
         not_tried("qlimit");
-    } else if (getsockopt(number, SOL_SOCKET, option, option == SO_PEERCRED ? (void *)&credentials : &value, &length) < 0) {
+    } else if (getsockopt(number, SOL_SOCKET, option, place, &length) < 0) {
         say_error();
     } else if (option == SO_PEERCRED) {
         size_t start = reply_length;
@@ -642,7 +644,8 @@ static const char *kind_of(int number) {
     case SOCK_DGRAM: return is_tied ? "dgram/tied" : "dgram/idle";
     case SOCK_STREAM:
         ioctl(number, SIOCOUTQ, &waiting);
-        return listens ? "stream/listening" : !is_tied ? "stream/idle" : waiting > FILLED ? "stream/tied/filled" : "stream/tied";
+        if (is_tied && waiting > FILLED) return "stream/tied/filled";
+        return listens ? "stream/listening" : is_tied ? "stream/tied" : "stream/idle";
     default: return listens ? "seq/listening" : is_tied ? "seq/tied" : "seq/idle";
     }
 }
@@ -694,14 +697,16 @@ static void set_limit(int what, unsigned long limit) {
 /* A process of the superuser acts as nobody, so that no privilege of its own changes an answer. */
 static void become_ordinary(void) {
     if (geteuid() != 0) return;
-    if (setgroups(0, NULL) < 0 || setresgid(NOBODY, NOBODY, NOBODY) < 0 || setresuid(NOBODY, NOBODY, NOBODY) < 0) _exit(2);
+    if (setgroups(0, NULL) < 0 || setresgid(NOBODY, NOBODY, NOBODY) < 0) _exit(2);
+    if (setresuid(NOBODY, NOBODY, NOBODY) < 0) _exit(2);
 }
 
 static void live(int channel, pid_t parent) {
     static char line[LINE + 128];
     become_ordinary();
     if (prctl(PR_SET_PDEATHSIG, SIGKILL) < 0 || getppid() != parent) _exit(2);
-    if (dup2(channel, CHANNEL) < 0 || close_range(0, CHANNEL - 1, 0) < 0 || close_range(CHANNEL + 1, ~0u, 0) < 0) _exit(2);
+    if (dup2(channel, CHANNEL) < 0) _exit(2);
+    if (close_range(0, CHANNEL - 1, 0) < 0 || close_range(CHANNEL + 1, ~0u, 0) < 0) _exit(2);
     signal(SIGPIPE, SIG_IGN);
     signal(SIGXFSZ, SIG_IGN);
     set_limit(RLIMIT_FSIZE, MOST_BYTES);
@@ -748,7 +753,8 @@ static void give_up(const char *what) {
 
 static void enter_folder(void) {
     const char *place = getenv("TMPDIR");
-    if (snprintf(folder, sizeof folder, "%s/linux_replay.XXXXXX", place && *place ? place : "/tmp") >= PATH_MAX) exit(2);
+    if (place == NULL || *place == 0) place = "/tmp";
+    if (snprintf(folder, sizeof folder, "%s/linux_replay.XXXXXX", place) >= PATH_MAX) give_up("TMPDIR is too long");
     int from = open(".", O_RDONLY | O_DIRECTORY | O_CLOEXEC);
     if (from < 0 || mkdtemp(folder) == NULL) fail(folder);
     home = from;
@@ -771,7 +777,8 @@ static void catch_signals(void) {
 
 static void make_shared(void) {
     shared = mmap(NULL, sizeof *shared, PROT_READ | PROT_WRITE, MAP_SHARED | MAP_ANONYMOUS, -1, 0);
-    if (shared == MAP_FAILED || getrandom(shared->key, sizeof shared->key, 0) != sizeof shared->key) fail("linux_replay");
+    if (shared == MAP_FAILED) fail("mmap");
+    if (getrandom(shared->key, sizeof shared->key, 0) != sizeof shared->key) fail("getrandom");
     for (int i = 0; i < PREFIX; i++) prefix[i] = (char)('A' + shared->key[i] % 26);
 }
 
@@ -791,16 +798,18 @@ static void add_object(char **word) {
     char **kind = strcmp(word[2], "fail") ? word + 2 : word + 4;
     if (!file_in(word[1], made->name)) give_up(reply);
     made->kind = kind[0][0];
-    if (made->kind == 'm') made->bytes = malloc(LINE);
-    if (made->bytes) made->length = bytes_in(kind[1], made->bytes);
+    made->bytes = malloc(LINE);
+    if (made->bytes == NULL) fail("malloc");
+    if (made->kind == 'm') made->length = bytes_in(kind[1], made->bytes);
 }
 
 static void make_file(struct object *object) {
     struct stat told;
-    int number = object->kind == 'p' ? mkfifo(object->name, 0600) : open(object->name, O_WRONLY | O_CREAT | O_EXCL, 0600);
+    int is_pipe = object->kind == 'p';
+    int number = is_pipe ? mkfifo(object->name, 0600) : open(object->name, O_WRONLY | O_CREAT | O_EXCL, 0600);
     if (number < 0) fail(object->name);
-    if (object->kind != 'p') {
-        if (object->bytes && write(number, object->bytes, object->length) != (ssize_t)object->length) fail(object->name);
+    if (!is_pipe) {
+        if (write(number, object->bytes, object->length) != (ssize_t)object->length) fail(object->name);
         close(number);
     }
     if (geteuid() == 0 && chown(object->name, NOBODY, NOBODY) < 0) fail(object->name);
@@ -894,7 +903,7 @@ static void hear_reply(struct process *process) {
     reply[--reply_length] = 0;
 }
 
-/* An open for writing finds a reader, so that it needn't wait for one. An open of a counter hands over its descriptor. */
+/* An open of a pipe finds a reader, so that it needn't wait for one. An open of a counter is handed its descriptor. */
 static void make_open(struct process *process, const char *line, char **word) {
     char file[LINE], other[LINE + 64];
     reply_length = 0;

@@ -1,6 +1,6 @@
-# Writes `count` random scripts to the files FOLDER/SEED.K.ux, the same ones for a seed on every machine. What a descriptor
-# leads to is known as far as the calls before it succeed: a type of socket, s, d or q, with its phase, 0 idle, b bound,
-# l listening, c connected or associated; or a file object's m, c or p.
+# Writes `count` random scripts to the files FOLDER/SEED.K.ux, the same ones for a seed on every machine. What a
+# descriptor leads to is known as far as the calls before it succeed: a type of socket, s, d or q, with its phase, 0 idle,
+# b bound, l listening, c connected or associated; or a file object's m, c or p.
 
 # A generator of numbers of its own, as those of awks differ.
 function below(n) {
@@ -59,7 +59,7 @@ function free_name(    name, turn) {
     return name
 }
 
-# A name of which a kind that matches is known, or any. They are walked in a list, as awks walk arrays in orders of their own.
+# A name of which a kind that matches is known, or any. They are walked in a list, as awks walk arrays in any order.
 function bound_name(pattern,    i, n, names, found) {
     n = split("p:a p:b p:c a:x a:y a:z a:00000", names, " ")
     found = ""
@@ -161,7 +161,8 @@ function send_to_name(    fd) {
 function receive(    fd) {
     fd = some_fd("^([sqd]c|d)")
     if (fd < 0) return make_pair()
-    say("recv " fd " " one_of("0 1 2 4 8 8 64 64 64") " " one_of("0 0 0 20 24 28 32 52 64 64") " " one_of("- - - - - d p t x dp pt"))
+    say("recv " fd " " one_of("0 1 2 4 8 8 64 64 64") " " one_of("0 0 0 20 24 28 32 52 64 64") " " \
+        one_of("- - - - - d p t x dp pt"))
 }
 
 function open_object(    i, mode) {
