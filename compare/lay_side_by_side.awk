@@ -39,9 +39,16 @@ function differ_in(words, a, b,    i, n, as, bs) {
     return 1
 }
 
+function alike_at(word, a, b,    as, bs) {
+    split(a, as, " ")
+    split(b, bs, " ")
+    return as[word] == bs[word]
+}
+
 function meets(r, text, a, b, led) {
     return is_like(led, on[r]) && is_like(text, call[r]) && is_like(a, ours[r]) && is_like(b, linux[r]) &&
-        (!(r in differ) || differ_in(differ[r], a, b)) && (!(r in after) || has_come(after[r]))
+        (!(r in differ) || differ_in(differ[r], a, b)) && (!(r in unlike) || !alike_at(unlike[r], a, b)) &&
+        (!(r in after) || has_come(after[r]))
 }
 
 function answer_of(trace_line) {
@@ -78,6 +85,7 @@ file == 1 && key == "after:" { after[rules] = value }
 file == 1 && key == "ours:" { ours[rules] = value }
 file == 1 && key == "linux:" { linux[rules] = value }
 file == 1 && key == "differ:" { differ[rules] = value }
+file == 1 && key == "unlike:" { unlike[rules] = value }
 file == 1 && key == "state:" { state[rules] = value }
 file == 2 && !/^(#|object |proc |$)/ && $2 != "wait" {
     row_of[++lines] = FNR
