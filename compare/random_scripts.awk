@@ -1,6 +1,7 @@
 # Writes `count` random scripts to the files FOLDER/SEED.K.ux, the same ones for a seed on every machine. What a
 # descriptor leads to is known as far as the calls before it succeed: a type of socket, s, d or q, with its phase, 0 idle,
-# b bound, l listening, c connected or associated; or a file object's m, c or p.
+# b bound, l listening, c connected or associated; or a file object's m, c or p. So are its peer, how many messages wait at
+# it, and which clients wait at a name.
 
 # A generator of numbers of its own, as those of awks differ.
 function below(n) {
@@ -42,6 +43,42 @@ function some_fd(pattern,    fd, n, fds) {
     return n ? fds[below(n)] : -1
 }
 
+# Makes a process the one that calls which has a descriptor where something waits, and answers it, or -1.
+function where_waits(    p, fd, n, at, place) {
+    n = 0
+    for (p = 1; p <= processes; p++) for (fd = 0; fd < limit; fd++) {
+        if ((p, fd) in kind && waits[p, fd] > 0) at[n++] = p " " fd
+    }
+    if (n == 0) return -1
+    split(at[below(n)], place, " ")
+    pid = place[1]
+    return place[2]
+}
+
+# A message goes to the peer of a descriptor, or to what a name leads to, with the kinds of what it passes.
+function deliver(key) {
+    if (key == "" || !(key in kind)) return
+    waits[key]++
+    queue[key] = queue[key] " " (passed == "" ? "-" : passed)
+}
+
+# What a receive with so much space opens, and takes off where it doesn't peek.
+function arrive(fd, space, flags,    n, messages, kinds, i, rest) {
+    n = split(queue[pid, fd], messages, " ")
+    if (n == 0) return
+    if (messages[1] != "-" && space >= 20) {
+        n = split(messages[1], kinds, ",")
+        for (i = 1; i <= n && 16 + 4 * i <= space; i++) opened(kinds[i])
+    }
+    if (flags ~ /p/) return
+    waits[pid, fd]--
+    rest = queue[pid, fd]
+    sub(/^ *[^ ]+/, "", rest)
+    queue[pid, fd] = rest
+}
+
+function join_peers(a, b) { peer[a] = b; peer[b] = a }
+
 function type_word(what) { return what ~ /^s/ ? "stream" : what ~ /^d/ ? "dgram" : "seq" }
 
 function oflags() { return one_of("- - - - x n nx") }
@@ -59,12 +96,12 @@ function free_name(    name, turn) {
     return name
 }
 
-# A name of which a kind that matches is known, or any. They are walked in a list, as awks walk arrays in any order.
+# A name of which a kind that matches is known, or none. They are walked in a list, as awks walk arrays in any order.
 function bound_name(pattern,    i, n, names, found) {
     n = split("p:a p:b p:c a:x a:y a:z a:00000", names, " ")
     found = ""
     for (i = 1; i <= n; i++) if (names[i] in holder && holder[names[i]] ~ pattern) found = found " " names[i]
-    return found != "" && below(8) ? one_of(found) : any_name()
+    return found == "" ? "" : below(12) ? one_of(found) : any_name()
 }
 
 function rights(    n, list, fd) {
@@ -72,6 +109,7 @@ function rights(    n, list, fd) {
     for (n = 1 + below(3); n > 0; n--) {
         fd = some_fd(".")
         list = list (list == "" ? "" : ",") (fd < 0 ? 0 : fd)
+        passed = passed (passed == "" ? "" : ",") (leads(fd) == "" ? "x" : leads(fd))
     }
     return "r:" list
 }
@@ -79,6 +117,7 @@ function rights(    n, list, fd) {
 function own_credentials() { return "c:" pid "," uid[pid] ",1000" }
 
 function control(    r) {
+    passed = ""
     r = below(26)
     if (r < 6) return rights()
     if (r < 8) return own_credentials()
@@ -87,17 +126,19 @@ function control(    r) {
     return "-"
 }
 
-function make_socket(    what) {
-    what = one_of("s s d d q")
-    say("socket " type_word(what) " " oflags())
-    return opened(what "0")
+function make_socket_of(type) {
+    say("socket " type_word(type) " " oflags())
+    return opened(type "0")
 }
 
-function make_pair(    what) {
+function make_socket() { return make_socket_of(one_of("s s d d q")) }
+
+function make_pair(    what, one, other) {
     what = one_of("s s s d q")
     say("pair " type_word(what) " " oflags())
-    opened(what "c")
-    opened(what "c")
+    one = opened(what "c")
+    other = opened(what "c")
+    if (other >= 0) join_peers(pid SUBSEP one, pid SUBSEP other)
 }
 
 function bind_it(fd, name) {
@@ -105,6 +146,7 @@ function bind_it(fd, name) {
     if (leads(fd) == "" || name in holder) return
     bound[pid, fd] = name
     holder[name] = leads(fd)
+    owner[name] = pid SUBSEP fd
     if (leads(fd) ~ /^[sq]0/) kind[pid, fd] = substr(leads(fd), 1, 1) "b"
 }
 
@@ -117,7 +159,7 @@ function name_socket(    fd) {
 
 function make_listener(    fd, name) {
     fd = some_fd("^[sq][0b]")
-    if (fd < 0) { say("socket " one_of("stream seq") " -"); fd = opened("s0") }
+    if (fd < 0) fd = make_socket_of(one_of("s s q"))
     if (fd < 0) return drop()
     if (leads(fd) ~ /0/ && below(6)) bind_it(fd, free_name())
     say("listen " fd " " one_of("0 1 2 5 5 5 -1 200"))
@@ -127,42 +169,84 @@ function make_listener(    fd, name) {
     holder[name] = leads(fd)
 }
 
-function reach(    fd, name, type) {
-    fd = some_fd("^([sq]0|d)")
-    if (fd < 0) fd = make_socket()
-    if (fd < 0) return drop()
-    type = leads(fd) == "" ? "s" : substr(leads(fd), 1, 1)
-    name = bound_name(type == "d" ? "^d" : "^" type "l")
-    say("connect " fd " " name)
-    if (leads(fd) ~ /0/ && name in holder) kind[pid, fd] = type "c"
-    waiting[name]++
+function associate(    fd, name) {
+    fd = some_fd("^d")
+    name = bound_name("^d")
+    if (fd < 0 || name == "") return name_socket()
+    say("connect " fd " " (below(8) ? name : "u"))
+    if (leads(fd) !~ /^d/ || !(name in holder)) return
+    kind[pid, fd] = "dc"
+    peer[pid, fd] = owner[name]
 }
 
-function take(    fd, name) {
-    fd = some_fd("^[sq]l")
+# Connects to a listener, by a socket of its type.
+function reach(    fd, name, type) {
+    name = bound_name("^[sq]l")
+    if (name == "") return make_listener()
+    type = name in holder ? substr(holder[name], 1, 1) : "s"
+    fd = some_fd("^" type "0")
+    if (fd < 0) fd = make_socket_of(type)
+    if (fd < 0) return drop()
+    say("connect " fd " " name)
+    if (leads(fd) != type "0" || !(name in holder) || holder[name] != type "l") return
+    kind[pid, fd] = type "c"
+    clients[name] = clients[name] " " pid ":" fd
+    waits[owner[name]]++
+}
+
+# Accepts the connection that has waited longest at the listener, as far as is known.
+function take(    fd, name, n, those, client, made) {
+    fd = where_listener_waits()
     if (fd < 0) return reach()
     say("accept " fd " " oflags())
-    name = (pid, fd) in bound ? bound[pid, fd] : ""
-    if (waiting[name] > 0) { waiting[name]--; opened(substr(leads(fd), 1, 1) "c") }
+    name = bound[pid, fd]
+    n = split(clients[name], those, " ")
+    clients[name] = ""
+    for (made = 2; made <= n; made++) clients[name] = clients[name] " " those[made]
+    waits[pid, fd]--
+    made = opened(substr(leads(fd), 1, 1) "c")
+    if (n == 0 || made < 0) return
+    split(those[1], client, ":")
+    waits[pid, made] = waits[client[1], client[2], "sent"]
+    join_peers(pid SUBSEP made, client[1] SUBSEP client[2])
+}
+
+function where_listener_waits(    p, fd, n, at, place) {
+    n = 0
+    for (p = 1; p <= processes; p++) for (fd = 0; fd < limit; fd++) {
+        if ((p, fd) in kind && kind[p, fd] ~ /l$/ && (waits[p, fd] > 0 || below(80) == 0)) at[n++] = p " " fd
+    }
+    if (n == 0) return -1
+    split(at[below(n)], place, " ")
+    pid = place[1]
+    return place[2]
 }
 
 function send_to_peer(    fd) {
     fd = some_fd("^[sqd]c")
     if (fd < 0) return below(3) ? make_pair() : reach()
     say("send " fd " - " hex(size()) " " control() " " (below(60) ? one_of("- - - - d") : one_of("p t x")))
+    if ((pid, fd) in peer) deliver(peer[pid, fd])
+    else waits[pid, fd, "sent"]++
 }
 
-function send_to_name(    fd) {
+function send_to_name(    fd, name) {
     fd = some_fd("^d")
     if (fd < 0) return make_socket()
-    say("send " fd " " bound_name("^d") " " hex(size()) " " control() " -")
+    name = bound_name("^d")
+    if (name == "") return name_socket()
+    say("send " fd " " name " " hex(size()) " " control() " -")
+    if (name in owner) deliver(owner[name])
 }
 
-function receive(    fd) {
-    fd = some_fd("^([sqd]c|d)")
-    if (fd < 0) return make_pair()
-    say("recv " fd " " one_of("0 1 2 4 8 8 64 64 64") " " one_of("0 0 0 20 24 28 32 52 64 64") " " \
-        one_of("- - - - - d p t x dp pt"))
+function receive(    fd, space, flags) {
+    fd = below(4) ? where_waits() : some_fd("^([sqd]c|d)")
+    if (fd < 0) return send_to_peer()
+    if (leads(fd) ~ /l$/) return take()
+    space = one_of("0 0 0 20 24 28 32 52 64 64")
+    flags = one_of("- - - - - d p t x dp pt")
+    say("recv " fd " " one_of("0 1 2 4 8 8 64 64 64") " " space " " flags)
+    arrive(fd, space, flags)
 }
 
 function open_object(    i, mode) {
@@ -211,6 +295,8 @@ function drop(    fd) {
     if (fd < 0) return make_pair()
     say("close " fd)
     delete kind[pid, fd]
+    delete waits[pid, fd]
+    delete peer[pid, fd]
     if ((pid, fd) in bound && bound[pid, fd] ~ /^a/) delete holder[bound[pid, fd]]
     delete bound[pid, fd]
 }
@@ -260,7 +346,8 @@ function make_call(    r) {
     else if (r < 8) make_pair()
     else if (r < 14) name_socket()
     else if (r < 22) make_listener()
-    else if (r < 32) reach()
+    else if (r < 30) reach()
+    else if (r < 33) associate()
     else if (r < 42) take()
     else if (r < 58) send_to_peer()
     else if (r < 65) send_to_name()
@@ -295,7 +382,8 @@ BEGIN {
     state = (seed * 26544 + 97) % 2147483646 + 1
     for (k = 1; k <= count; k++) {
         file = folder "/" seed "." k ".ux"
-        split("", kind); split("", bound); split("", holder); split("", waiting)
+        split("", kind); split("", bound); split("", holder); split("", owner)
+        split("", peer); split("", waits); split("", queue); split("", clients)
         say_header()
         for (lines = 12 + below(24); lines > 0; lines--) { pid = 1 + below(processes); make_call() }
         if (below(3) == 0) print "off" > file
