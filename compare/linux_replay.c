@@ -711,6 +711,9 @@ static void live(int channel, pid_t parent) {
     signal(SIGXFSZ, SIG_IGN);
     set_limit(RLIMIT_FSIZE, MOST_BYTES);
     set_limit(RLIMIT_NOFILE, processes[me].limit);
+    reply_length = 0;
+    say("\n");
+    say_to_parent();
     while (hear(line)) {
         answer(line);
         say_to_parent();
@@ -815,7 +818,9 @@ static void make_file(struct object *object) {
     if (geteuid() == 0 && chown(object->name, NOBODY, NOBODY) < 0) fail(object->name);
     if (stat(object->name, &told) < 0) fail(object->name);
     object->file = told.st_ino;
-    if (object->kind != 'c') object->watch = inotify_add_watch(watches, object->name, IN_DELETE_SELF);
+    if (object->kind == 'c') return;
+    object->watch = inotify_add_watch(watches, object->name, IN_DELETE_SELF);
+    if (object->watch < 0) fail("inotify_add_watch");
 }
 
 /* A counter is an eventfd, which an epoll lists as long as anything refers to it; its file only holds its path. */
@@ -852,11 +857,6 @@ static void make_processes(void) {
         shared->pids[i] = child;
         processes[i].channel = ends[0];
     }
-}
-
-static void begin(void) {
-    make_objects();
-    make_processes();
 }
 
 static struct object *object_at(const char *file) {
@@ -901,6 +901,13 @@ static void hear_reply(struct process *process) {
         reply_length += (size_t)count;
     } while (reply[reply_length - 1] != '\n');
     reply[--reply_length] = 0;
+}
+
+/* Each process says a line when it has only its own descriptors. */
+static void begin(void) {
+    make_objects();
+    make_processes();
+    for (unsigned i = 1; i <= process_count; i++) hear_reply(&processes[i]);
 }
 
 /* An open of a pipe finds a reader, so that it needn't wait for one. An open of a counter is handed its descriptor. */
