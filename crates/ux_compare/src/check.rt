@@ -1,5 +1,5 @@
 //! Whether a history is that of a script.
-ghost use Rattle.std.specs.Prelude.{◌≡◌, ◌++◌, ◌∷◌, ◌≤◌, ◌↔◌, [], true, List, ℕ, length, map, filter, IsTrue, IfSome, IfNone};
+ghost use Rattle.std.specs.Prelude.{◌≡◌, ◌++◌, ◌∷◌, ◌≤◌, ◌↔◌, [], true, false, List, ℕ, length, map, filter, IsTrue, IfSome, IfNone};
 ghost use Rattle.ux_model.specs.Limits.{process_limit};
 ghost use Rattle.ux_syntax.specs.Spelling.{plan_of, asks_exit};
 ghost use Rattle.ux_syntax.specs.Turns.{has_exited};
@@ -27,7 +27,7 @@ pub fn makes_all(script: &Script, entries: &[Entry], count: usize) -> bool
 pub fn makes_first(script: &Script, entries: &[Entry], count: usize) -> bool
     requires count { count ≡ length script.now.procs.items }
     requires few { count ≤ process_limit }
-    ensures { result ≡ true → MakesFirst (plan_of script.now) entries.now }
+    ensures { IsTrue result ↔ MakesFirst (plan_of script.now) entries.now }
 {
     for pid in 0..count as u32 + 1 {
         if !begins(script, entries, pid) {
@@ -39,14 +39,15 @@ pub fn makes_first(script: &Script, entries: &[Entry], count: usize) -> bool
 
 /// Whether this process made the first of the script's calls, or all, and no others.
 fn begins(script: &Script, entries: &[Entry], pid: u32) -> bool
-    ensures { result ≡ true → IsFront (requests_of pid entries.now) (turns (plan_of script.now) pid) }
+    ensures { IsTrue result ↔ IsFront (requests_of pid entries.now) (turns (plan_of script.now) pid) }
 {
     is_front(&script.lines, entries, pid) || follows(script, entries, pid)
 }
 
 /// Whether this process's calls are the first of its lines'.
 fn is_front(lines: &[Line], entries: &[Entry], pid: u32) -> bool
-    ensures { result ≡ true → IsFront (requests_of pid entries.now) (asked pid lines.now) }
+    ensures front { result ≡ true → IsFront (requests_of pid entries.now) (asked pid lines.now) }
+    ensures none { result ≡ false → (more : List Request) → ¬ (requests_of pid entries.now ++ more ≡ asked pid lines.now) }
 {
     let mut left = lines;
     let mut rest = entries;

@@ -96,6 +96,18 @@ impl Model for Table {
     ghost invariant = { λ t. IsTable t.places.items t.limit t.marks };
 }
 
+impl Clone for Table {
+    ghost is_clone = { λ x y. y ≡ x };
+
+    fn clone(&self) -> Result<Table, AllocError> {
+        Ok(Table {
+            places: self.places.clone()?,
+            limit: self.limit,
+            marks: self.marks.clone()?,
+        })
+    }
+}
+
 impl Table {
     /// A table with nothing open. A limit below 1 counts as 1, above 4,096 as 4,096.
     pub fn new(alloc: Global, limit: u32) -> Result<Table, AllocError>

@@ -1,9 +1,8 @@
 -- Witnesses that were confirmed one by one.
-use Rattle.std.proofs.Common.{◌≡◌, ◌≢◌, ℕ, ◌+◌, ◌<◌, ◌≤◌, List, length, get_or, Some, true, sym, ap, ◌∙◌, subst, arith, ⊎_elim}
+use Rattle.std.proofs.Common.{◌≡◌, ◌≢◌, ℕ, ◌+◌, ◌<◌, List, length, get_or, Some, true, sym, ap, ◌∙◌, subst, arith, ⊎_elim}
 use Rattle.std.specs.Prelude.{Result, Ok, Err, IfOk, if◌then◌else◌}
 use Rattle.std.specs.List.{slice_get}
-use Rattle.std.proofs.lemmas.Option.{get_or_from_slice_get, slice_get_past, none-some}
-use Rattle.std.proofs.lemmas.Bool.{cases_lt}
+use Rattle.std.proofs.lemmas.Option.{get_or_from_slice_get}
 use Rattle.std.proofs.lemmas.Bool.Decides.{eqb_tells}
 use Rattle.ux_model.specs.Types.{Entry}
 use Rattle.ux_model.specs.State.{State}
@@ -24,14 +23,6 @@ stands_more calls slips i w is here before k s less at =
     (λ t. subst (λ (x : Slip). slice_get calls x.number ≡ Some x.call) (is ∙ (ap (λ j. get_or slips j w) (sym t.1) ∙ get_or_from_slice_get slips k s w at)) here)
     (λ t. before k s (let ne : k ≢ i = t.1 in omega arith) at)
     (eqb_tells k i)
-
--- what stands somewhere stands before the end
-pub stands_within : (slips : List Slip) (k n : ℕ) (s : Slip) → slice_get slips k ≡ Some s → length slips ≤ n → k < n
-stands_within slips k n s at long =
-    ⊎_elim {C = k < n}
-    (λ (t : k < length slips). omega arith)
-    (λ (t : length slips ≤ k). absurd (none-some s (sym (slice_get_past slips k t) ∙ at)))
-    (cases_lt k (length slips))
 
 -- an account of a history in which the witnesses' calls stand
 pub told_of : {E : Type 0} (boot : State) (es : List Entry) (cs : List Caller) (slips : List Slip) (r : Result Account E) → IsLegal boot es

@@ -11,6 +11,7 @@ ghost use Rattle.ux_history.specs.Books.{state_of, ends_of, is_last, Adds, Appen
 ghost use Rattle.ux_history.specs.Shares.{knows, once_more, fresh, call_by, processes, once_each};
 ghost use Rattle.ux_history.specs.Logs.{last_entries};
 ghost use Rattle.ux_history.specs.Receipts.{call_of, next_slip};
+ghost use Rattle.ux_history.specs.Telling.{AllStand};
 ghost use Rattle.ux_history.specs.Faults.{is_stranger, is_alive};
 
 use crate::account::Account;
@@ -34,13 +35,22 @@ pub const PARTS: u64 = 1024;
 
 /// A kernel with all that was called since its boot state. Contracts see that state and the entries, which
 /// are a legal history; the kernel is at the end of them. `W` names the one book of its ledger.
-#[derive(Drop)]
 pub struct Book<W: BookName, O: FileObject> {
     log: Log<W, O>,
     /// How many entries there are but for the end of the layer, which the shares count.
     ledger: ledger::Book<W>,
     /// The parts that no process has.
     rest: ledger::Share<W>,
+}
+
+// Written out, so that it is proved here and not in each function that drops one.
+impl<W: BookName, O: FileObject> Drop for Book<W, O> {
+    fn drop(self) {
+        let Book { log, ledger, rest } = self;
+        drop(log);
+        drop(ledger);
+        drop(rest)
+    }
 }
 
 impl<W: BookName, O: FileObject> Model for Book<W, O> {
@@ -156,6 +166,18 @@ impl<W: BookName, O: FileObject> Book<W, O> {
             Some(entry) => receipt.call().is_of(entry),
             None => false,
         }
+    }
+
+    /// Whether each receipt's call stands at its number.
+    pub fn holds_all(&self, receipts: &[Receipt<W>]) -> bool
+        ensures { IsTrue result ↔ AllStand self.now.entries receipts.now }
+    {
+        for receipt in receipts {
+            if !self.holds(receipt) {
+                return false;
+            }
+        }
+        true
     }
 
     /// Makes a call of the share's process, and keeps it as one more entry. The file objects that went with

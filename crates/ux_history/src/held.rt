@@ -1,8 +1,6 @@
 //! Accounts that settle with the receipts of a book's calls.
-ghost use Rattle.std.specs.Prelude.{◌≡◌, ◌↔◌, ℕ, true, false, not, sum_by, ◌+◌, map, Some, IsTrue, IfOk, IfErr, if◌then◌else◌};
-ghost use Rattle.std.specs.List.{slice_get};
+ghost use Rattle.std.specs.Prelude.{◌≡◌, ◌↔◌, false, not, IsTrue, IfOk, IfErr};
 ghost use Rattle.ux_history.specs.Shares.{processes, once_each};
-ghost use Rattle.ux_history.specs.Receipts.{call_of, Slip};
 ghost use Rattle.ux_history.specs.Telling.{IsTold, AllStand};
 ghost use Rattle.ux_history.specs.Faults.{is_missing, is_unknown};
 
@@ -35,20 +33,8 @@ pub fn settle_held<W: BookName, O: FileObject>(
 {
     // What this says of the entries is what `boot` and `told` rest on.
     let _entries = book.entries();
-    if !all_held(book, receipts) {
+    if !book.holds_all(receipts) {
         return Err((SettleFault::Unknown, spents));
     }
     settle_accounts(book, spents)
-}
-
-/// Whether the book holds each of these receipts.
-fn all_held<W: BookName, O: FileObject>(book: &Book<W, O>, receipts: &[Receipt<W>]) -> bool
-    ensures { IsTrue result ↔ AllStand book.now.entries receipts.now }
-{
-    for receipt in receipts {
-        if !book.holds(receipt) {
-            return false;
-        }
-    }
-    true
 }

@@ -25,13 +25,27 @@ use ux_types::{Entry, Errno, Pid, Released, Reply, Request};
 
 /// A kernel with all that was called since its boot state. Contracts see that state, the entries, and how
 /// many entries there is room for; the kernel is at the end of them.
-#[derive(Drop)]
 pub(crate) struct Log<W: BookName, O: FileObject> {
     entries: Vec<Entry>,
     kernel: Kernel<O>,
     /// How many entries there are with each process's number, those of no process first.
     calls: Vec<u64>,
     of: PhantomData<W>,
+}
+
+// Written out, so that it is proved here and not in each function that drops one.
+impl<W: BookName, O: FileObject> Drop for Log<W, O> {
+    fn drop(self) {
+        let Log {
+            entries,
+            kernel,
+            calls,
+            of: _,
+        } = self;
+        drop(entries);
+        drop(kernel);
+        drop(calls)
+    }
 }
 
 impl<W: BookName, O: FileObject> Model for Log<W, O> {

@@ -34,7 +34,6 @@ use ux_types::{Pid, Reply, Request};
 /// A kernel and how often it was called since its boot state. Contracts see that state and the entries, of
 /// which nothing is kept: they are a legal history, and the kernel is at the end of them. `W` names the one
 /// book of its ledger and its trail.
-#[derive(Drop)]
 pub struct RunningBook<W: Trailing, O: FileObject> {
     log: RunningLog<W, O>,
     /// The calls of the entries, for the witnesses.
@@ -43,6 +42,22 @@ pub struct RunningBook<W: Trailing, O: FileObject> {
     ledger: ledger::Book<W>,
     /// The parts that no process has.
     rest: ledger::Share<W>,
+}
+
+// Written out, so that it is proved here and not in each function that drops one.
+impl<W: Trailing, O: FileObject> Drop for RunningBook<W, O> {
+    fn drop(self) {
+        let RunningBook {
+            log,
+            trail,
+            ledger,
+            rest,
+        } = self;
+        drop(log);
+        drop(trail);
+        drop(ledger);
+        drop(rest)
+    }
 }
 
 impl<W: Trailing, O: FileObject> Model for RunningBook<W, O> {

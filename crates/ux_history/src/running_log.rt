@@ -23,7 +23,6 @@ use ux_types::{Errno, Pid, Reply, Request};
 
 /// A kernel and how often it was called since its boot state. Contracts see that state and the entries, of
 /// which nothing is kept; the kernel is at the end of them.
-#[derive(Drop)]
 pub(crate) struct RunningLog<W: BookName, O: FileObject> {
     kernel: Kernel<O>,
     /// How many entries there are with each process's number, those of no process first.
@@ -32,6 +31,22 @@ pub(crate) struct RunningLog<W: BookName, O: FileObject> {
     number: u64,
     past: Past,
     of: PhantomData<W>,
+}
+
+// Written out, so that it is proved here and not in each function that drops one.
+impl<W: BookName, O: FileObject> Drop for RunningLog<W, O> {
+    fn drop(self) {
+        let RunningLog {
+            kernel,
+            calls,
+            number: _,
+            past,
+            of: _,
+        } = self;
+        drop(kernel);
+        drop(calls);
+        drop(past)
+    }
 }
 
 impl<W: BookName, O: FileObject> Model for RunningLog<W, O> {

@@ -1,6 +1,6 @@
 //! The whole layer as one value.
 ghost use Rattle.std.specs.Prelude.{◌≡◌, ◌≤◌, length};
-ghost use Rattle.ux_model.specs.Limits.{process_limit};
+ghost use Rattle.ux_model.specs.Limits.{made_limit};
 ghost use Rattle.ux_model.specs.State.{is_live};
 ghost use Rattle.ux_model.specs.History.{has_live};
 
@@ -38,7 +38,7 @@ impl<O: FileObject> Kernel<O> {
     /// How many processes were made, exited ones too.
     pub fn process_count(&self) -> usize
         ensures count { result ≡ length self.now.processes }
-        ensures most { result ≤ process_limit }
+        ensures most { result ≤ made_limit }
     {
         self.state.process_count()
     }

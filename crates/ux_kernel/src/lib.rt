@@ -9,6 +9,7 @@ mod closing;
 mod connecting;
 mod descriptors;
 mod files;
+mod forking;
 mod kernel;
 mod naming;
 mod open_file;

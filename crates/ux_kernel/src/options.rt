@@ -41,7 +41,9 @@ impl<O: FileObject> Kernel<O> {
         }
     }
 
-    /// setsockopt(2) of SO_PASSCRED, or of the limit of a stream's queue. EINVAL of other options.
+    /// setsockopt(2) of SO_PASSCRED, or of the limit of a stream's queue. A socket that has neither a name nor a peer
+    /// gets a name of the abstract namespace as SO_PASSCRED is set on; ENOSPC where none is free. EOPNOTSUPP of the limit
+    /// of a queue that isn't a stream's, then EINVAL where it isn't 1 to 1,048,576 bytes. EINVAL of other options.
     #[tactic(auto, using(ux_msg::proofs::Found::socket_found), unfolding(ux_model::specs::Options::set_opt))]
     pub(crate) fn set_opt(
         &mut self,

@@ -19,7 +19,7 @@ impl<O: FileObject> Kernel<O> {
     /// empty list by rising number, closed and otherwise as they were. `tag` is the number of the call, which
     /// a message that it sends keeps. A refusal is the reply. One with ENOMEM leaves the kernel as it was, and
     /// close(2), unlink(2), lseek(2), the flags of fcntl(2), listen(2), shutdown(2), getsockopt(2), poll(2),
-    /// _exit(2) and the end of the layer never give it.
+    /// setsockopt(2) of a queue's limit, execve(2), _exit(2) and the end of the layer never give it.
     #[tactic(auto, unfolding(ux_model::specs::Step::Step))]
     pub fn step(
         &mut self,
@@ -99,6 +99,8 @@ impl<O: FileObject> Kernel<O> {
                 flags,
             } => recv_msg(&mut self.state, self.alloc, pid, *fd, *n, *space, *flags),
             Request::Poll { fd } => self.poll(pid, *fd),
+            Request::Fork => self.fork(pid),
+            Request::Exec => Ok(self.exec(pid)),
             Request::Exit => Ok(self.exit(pid)),
             Request::Off => Ok(self.off()),
         }

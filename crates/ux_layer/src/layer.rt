@@ -25,10 +25,17 @@ use ux_state::RetiredList;
 use ux_types::Pid;
 
 /// What stands under the lock: the book, and who waits for one more entry.
-#[derive(Drop)]
 pub(crate) struct Desk<B: Drop> {
     pub(crate) book: B,
     pub(crate) waiters: Waiters,
+}
+
+// Written out, so that it is proved here and not in each function that drops one.
+impl<B: Drop> Drop for Desk<B> {
+    fn drop(self) {
+        let Desk { book, waiters: _ } = self;
+        drop(book)
+    }
 }
 
 impl<B: Drop> Desk<B> {
@@ -43,10 +50,18 @@ impl<B: Drop> Desk<B> {
 
 /// What all seats share. The lock is made first, over nothing, so that a kernel comes back as it was where
 /// there is no memory for it; the book is put under it before any seat is there.
-#[derive(Drop)]
 pub(crate) struct Shared<B: Drop> {
     pub(crate) desk: Mutex<Option<Desk<B>>>,
     pub(crate) changed: Condvar,
+}
+
+// Written out, so that it is proved here and not in each function that drops one.
+impl<B: Drop> Drop for Shared<B> {
+    fn drop(self) {
+        let Shared { desk, changed } = self;
+        drop(desk);
+        drop(changed)
+    }
 }
 
 /// What was put under the lock. Nobody finds nothing there; whoever did would wait for ever.

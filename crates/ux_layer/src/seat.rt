@@ -16,12 +16,25 @@ use ux_types::{Pid, Reply, Request};
 
 /// The place of one process, by which one thread at a time makes its calls. Contracts see the process, and
 /// how many calls it has made.
-#[derive(Drop)]
 pub struct Seat<W: BookName, O: FileObject, B: CallBook<W, O> = Book<W, O>> {
     share: Share<W>,
     shared: Arc<Shared<B>, Global>,
     /// The file objects that went with a call, between the call and their drop.
     retired: RetiredList<O>,
+}
+
+// Written out, so that it is proved here and not in each function that drops one.
+impl<W: BookName, O: FileObject, B: CallBook<W, O>> Drop for Seat<W, O, B> {
+    fn drop(self) {
+        let Seat {
+            share,
+            shared,
+            retired,
+        } = self;
+        drop(share);
+        drop(shared);
+        drop(retired)
+    }
 }
 
 impl<W: BookName, O: FileObject, B: CallBook<W, O>> Model for Seat<W, O, B> {

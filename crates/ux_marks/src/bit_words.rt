@@ -25,6 +25,17 @@ impl Model for BitWords {
     ghost invariant = { λ m. IsSummary m.full m.words.items };
 }
 
+impl Clone for BitWords {
+    ghost is_clone = { λ x y. y ≡ x };
+
+    fn clone(&self) -> Result<BitWords, AllocError> {
+        Ok(BitWords {
+            words: self.words.clone()?,
+            full: self.full,
+        })
+    }
+}
+
 impl BitWords {
     /// So many words, none of whose bits is set.
     pub(crate) fn new(alloc: Global, words: usize) -> Result<BitWords, AllocError>

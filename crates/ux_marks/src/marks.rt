@@ -25,6 +25,17 @@ impl Model for Marks {
     ghost invariant = { λ m. m.len ≤ 64 * length m.words };
 }
 
+impl Clone for Marks {
+    ghost is_clone = { λ x y. y ≡ x };
+
+    fn clone(&self) -> Result<Marks, AllocError> {
+        Ok(Marks {
+            words: self.words.clone()?,
+            len: self.len,
+        })
+    }
+}
+
 impl Marks {
     /// The most numbers that can be marked.
     pub const LIMIT: usize = 4096;

@@ -7,13 +7,13 @@ use Rattle.std.proofs.lemmas.List.{length_push, length-map}
 use Rattle.std.proofs.lemmas.List.Sums.{sum_by-cons}
 use Rattle.ux_model.specs.Types.{Errno, Fd, Name, SockType, Mode, OpenFlags, Whence, Request, Reply}
 use Rattle.ux_model.specs.Places.{place, filled}
-use Rattle.ux_model.specs.Limits.{read_limit, offset_limit}
+use Rattle.ux_model.specs.Limits.{made_limit, read_limit, offset_limit}
 use Rattle.ux_model.specs.Flags.{asks_cloexec, can_read, can_write, no_flags}
 use Rattle.ux_model.specs.Object.{Body, View, ObjectError, would_block, full, invalid, read_body, write_body, is_memory, is_pipe, with_body, after_failure}
 use Rattle.ux_model.specs.Names.{PathTarget, file, same_name, named, is_valid_path}
 use Rattle.ux_model.specs.Socket.{Socket}
 use Rattle.ux_model.specs.Description.{Description, to_object, to_socket, socket_of, socket_in}
-use Rattle.ux_model.specs.Process.{Process, Descriptor, own_cred, lowest_free, two_lowest_free, descriptor, copy_of, with_cloexec}
+use Rattle.ux_model.specs.Process.{Process, Descriptor, own_cred, lowest_free, two_lowest_free, descriptor, copy_of, kept_on_exec, with_cloexec}
 use Rattle.ux_model.specs.State.{State, process_at, description_at, socket_at, table_of, next_description, with_object, with_description, with_table, with_new}
 use Rattle.ux_model.specs.References.{path_names, orefs}
 use Rattle.ux_model.specs.Outcome.{Outcome, Chosen, own, lacking_memory, failing, descriptor_at}
@@ -27,16 +27,16 @@ use Rattle.ux_model.specs.Reading.{read, read_answer, read_error, offset_after_r
 use Rattle.ux_model.specs.Writing.{write, write_answer, offset_after_write, write_place}
 use Rattle.ux_model.specs.Seeking.{lseek, seek_to, seek_base}
 use Rattle.ux_model.specs.Descriptors.{dup, dup2, set_flags, with_flags}
+use Rattle.ux_model.specs.Forking.{fork, exec}
 use Rattle.ux_model.specs.Closing.{close, exit, off}
 use Rattle.ux_model.specs.Release.{settled, released}
 use Rattle.ux_model.specs.Step.{Step, outcome}
-use Rattle.ux_model.specs.History.{is_exit}
 use Rattle.ux_model.specs.Invariants.{LeftByRefusal}
 use Rattle.ux_model.proofs.Named.{table_in}
 use Rattle.ux_model.proofs.Walk.{either, maybe, by_target, by_path, found}
 use Rattle.ux_model.proofs.Bounds.{new_bounded}
 use Rattle.ux_model.proofs.OnePlace.{same_at}
-use Rattle.ux_model.proofs.Reaching.{Reaches, still, description_made, peers_made, object_changed, paths_taken, turned_off, same_target, NamesWhatIsThere, put_names, taken_names, same_names, none_counts, with_table_reached, with_process_reached, with_description_reached, some_filled, some_more, some_pushed}
+use Rattle.ux_model.proofs.Reaching.{changes_lives, Reaches, still, description_made, peers_made, object_changed, paths_taken, turned_off, same_target, NamesWhatIsThere, put_names, taken_names, same_names, kept_names, none_counts, with_table_reached, with_child_reached, with_process_reached, with_description_reached, some_filled, some_more, some_pushed}
 use Rattle.ux_model.proofs.Obeying.{failures, FailAlike, tells_choice, Obeys, Call, refuses, uses, answers, may_fail, there_of}
 use Rattle.ux_model.proofs.NameCalls.{socket_obeys, bind_obeys, listen_obeys, connect_obeys, accept_obeys, sock_name_obeys, peer_name_obeys, shutdown_obeys}
 use Rattle.ux_model.proofs.OptionCalls.{get_opt_obeys, set_opt_obeys, poll_obeys}
@@ -77,6 +77,16 @@ pub exit_obeys : (S : State) (p : ℕ) → Obeys S true (exit S p)
 unfolding exit
 exit_obeys S p = maybe (Obeys S true) (process_at S p) _ _ (refuses refl refl)
     (λ P h. answers refl refl refl (with_process_objects S p _) (with_process_reached S p P (record P { exited = true; table = map (λ e. None) P.table }) still h (λ d. none_counts d P.table) (length-map P.table _) (record { user = refl; privileged = refl })))
+
+pub fork_obeys : (S : State) (p : ℕ) → Obeys S true (fork S p)
+unfolding fork
+fork_obeys S p = maybe (Obeys S true) (process_at S p) _ _ (refuses refl refl)
+    (λ P h. either (Obeys S true) (nat_le made_limit (length S.processes)) _ _ (λ b. refuses refl refl) (λ b. answers refl refl refl refl (with_child_reached S p P still h)))
+
+pub exec_obeys : (S : State) (p : ℕ) → Call S (exec S p)
+unfolding exec
+exec_obeys S p = maybe (Call S) (process_at S p) _ _ (refuses refl refl) (λ P h. answers refl refl refl (with_table_objects S p _)
+    (with_table_reached S p (map kept_on_exec P.table) still (λ sound. subst (λ (l : List (Option Descriptor)). NamesWhatIsThere S l (map kept_on_exec P.table)) (sym (ap table_in h)) (kept_names S P.table))))
 
 pub off_obeys : (S : State) → Call S (off S)
 unfolding off
@@ -204,6 +214,7 @@ still_error (Reply.Addr addr) e h = h
 still_error (Reply.Opt value) e h = h
 still_error (Reply.Cred cred) e h = h
 still_error (Reply.Poll flags) e h = h
+still_error (Reply.Child pid) e h = h
 still_error (Reply.Err f) e h = h
 
 still_own : (r : Reply) → tells_choice r ≡ false → tells_choice (bytes_alone r) ≡ false
@@ -219,6 +230,7 @@ still_own (Reply.Addr addr) h = h
 still_own (Reply.Opt value) h = h
 still_own (Reply.Cred cred) h = h
 still_own (Reply.Poll flags) h = h
+still_own (Reply.Child pid) h = h
 still_own (Reply.Err e) h = h
 
 socket_read_obeys : (S : State) (o : Outcome) → Call S o → Call S (record o { reply = bytes_alone o.reply })
@@ -276,7 +288,7 @@ lseek_obeys S p fd offset whence = found (Call S) S p fd _ (refuses refl refl) (
 
 -- ---- all calls
 
-pub each_obeys : (S : State) (p tag : ℕ) (request : Request) → Obeys S (is_exit request) (outcome S p tag request)
+pub each_obeys : (S : State) (p tag : ℕ) (request : Request) → Obeys S (changes_lives request) (outcome S p tag request)
 unfolding outcome
 each_obeys S p tag (Request.Open path mode flags) = open_obeys S p path mode flags
 each_obeys S p tag (Request.Read fd n) = read_obeys S p fd n
@@ -301,6 +313,8 @@ each_obeys S p tag (Request.GetPeerName fd) = peer_name_obeys S p fd
 each_obeys S p tag (Request.SendMsg fd addr bytes control flags) = send_obeys S p tag fd addr bytes control flags
 each_obeys S p tag (Request.RecvMsg fd n space flags) = recv_obeys S p fd n space flags
 each_obeys S p tag (Request.Poll fd) = poll_obeys S p fd
+each_obeys S p tag Request.Fork = fork_obeys S p
+each_obeys S p tag Request.Exec = exec_obeys S p
 each_obeys S p tag Request.Exit = exit_obeys S p
 each_obeys S p tag Request.Off = off_obeys S
 
@@ -325,6 +339,6 @@ chosen_objects S T ends o reply obeys (failing e f) = (obeys.failed T f).1
 
 -- So a step makes such changes, and then all goes that has to.
 pub step_reached : (S T : State) (p tag : ℕ) (request : Request) (reply : Reply) (gone : List ℕ) → Step S p tag request reply gone T →
-    (U : State) × Reaches S (is_exit request) U × (gone ≡ released U) × (T ≡ settled U)
+    (U : State) × Reaches S (changes_lives request) U × (gone ≡ released U) × (T ≡ settled U)
 unfolding Step
-step_reached S T p tag request reply gone s = (s.0, chosen_reached S s.0 (is_exit request) (outcome S p tag request) reply (each_obeys S p tag request) s.1, s.2, s.3)
+step_reached S T p tag request reply gone s = (s.0, chosen_reached S s.0 (changes_lives request) (outcome S p tag request) reply (each_obeys S p tag request) s.1, s.2, s.3)

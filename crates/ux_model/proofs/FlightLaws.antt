@@ -1,6 +1,6 @@
 -- The rights in flight of a user without privileged processes stay within the limit of those, through the changes of calls, releases and
 -- whole histories.
-use Rattle.std.proofs.Common.{◌≡◌, ℕ, zero, suc, ◌+◌, ◌≤◌, Bool, true, false, List, [], ◌∷◌, length, map, set, Option, Some, None, refl, ap, sym, subst, ◌∙◌, arith, ◌⊎◌, inl, inr}
+use Rattle.std.proofs.Common.{◌≡◌, ℕ, zero, suc, ◌+◌, ◌≤◌, Bool, true, false, List, [], ◌∷◌, ◌++◌, length, map, set, Option, Some, None, refl, ap, sym, subst, ◌∙◌, arith, ◌⊎◌, inl, inr}
 use Rattle.std.specs.Prelude.{sum_by, option_map, if◌then◌else◌}
 use Rattle.std.specs.List.{slice_get, enumerate_from}
 use Rattle.std.proofs.lemmas.List.{length-map}
@@ -9,20 +9,20 @@ use Rattle.ux_model.specs.Types.{Cred, Entry}
 use Rattle.ux_model.specs.Socket.{Socket}
 use Rattle.ux_model.specs.Description.{Description, Target, to_object, to_socket}
 use Rattle.ux_model.specs.Process.{Process}
-use Rattle.ux_model.specs.State.{State, description_at, with_socket_by, with_new}
+use Rattle.ux_model.specs.State.{State, description_at, with_socket_by, with_child, with_new}
+use Rattle.ux_model.specs.Forking.{child_of}
 use Rattle.ux_model.specs.Connecting.{with_connection}
 use Rattle.ux_model.specs.Closing.{with_nothing_open}
 use Rattle.ux_model.specs.Release.{place_after_loss, description_after_loss, target_after_loss, without, drop_rounds, drop_all, drop_unreferenced, has_unreferenced, settled}
 use Rattle.ux_model.specs.Flight.{flying_at, flying_in, in_flight}
 use Rattle.ux_model.specs.Boot.{IsBootState}
 use Rattle.ux_model.specs.Step.{Step}
-use Rattle.ux_model.specs.History.{is_exit}
 use Rattle.ux_model.specs.FlightLaws.{AreLimited, FlightIsLimited}
 use Rattle.ux_model.proofs.Induction.{IsKept, kept_throughout}
 use Rattle.ux_model.proofs.OnePlace.{more_by}
 use Rattle.ux_model.proofs.Flying.{nothing_flying, flying_changed}
 use Rattle.ux_model.proofs.Sound.{IsSound}
-use Rattle.ux_model.proofs.Reaching.{Reaches, still, process_changed, description_made, peers_made, connection_made, description_changed, object_changed, paths_taken, path_bound, name_bound, turned_off, IsOfSameUser, KeepsPlace}
+use Rattle.ux_model.proofs.Reaching.{changes_lives, Reaches, still, process_changed, process_forked, description_made, peers_made, connection_made, description_changed, object_changed, paths_taken, path_bound, name_bound, turned_off, IsOfSameUser, KeepsPlace}
 use Rattle.ux_model.proofs.Calls.{step_reached}
 use Rattle.ux_model.proofs.Living.{settled_keeps}
 use Rattle.ux_model.proofs.Dangling.{keeps_sound}
@@ -65,6 +65,25 @@ process_within : (u limit : ℕ) (S : State) (i : ℕ) (P Q : Process) → slice
     IsWithin u limit (record S { processes = set S.processes i Q })
 unfolding in_flight
 process_within u limit S i P Q there long same w = (process_limited u limit S i P Q there long same w.0, w.1)
+
+-- a copy of a process keeps to what the process does
+either_last : (Ps : List Process) (j : ℕ) (Q R : Process) → slice_get (Ps ++ Q ∷ []) j ≡ Some R → (slice_get Ps j ≡ Some R) ⊎ (Q ≡ R)
+either_last [] zero Q R h = inr (cc h)
+either_last [] (suc j) Q R h = absurd (cc h)
+either_last (P ∷ Ps) zero Q R h = inl h
+either_last (P ∷ Ps) (suc j) Q R h = either_last Ps j Q R h
+
+child_within : (u limit : ℕ) (S : State) (i : ℕ) (P : Process) → slice_get S.processes i ≡ Some P → IsWithin u limit S → IsWithin u limit (with_child S (child_of P))
+unfolding in_flight
+child_within u limit S i P there w = (are, w.1)
+  where
+    are : AreLimited (with_child S (child_of P)) u limit
+    are zero R h is = absurd (cc h)
+    are (suc j) R h is = go (either_last S.processes j (child_of P) R h)
+      where
+        go : (slice_get S.processes j ≡ Some R) ⊎ (child_of P ≡ R) → KeepsTo limit R
+        go (inl old) = w.0 (suc j) R old is
+        go (inr e) = subst (KeepsTo limit) e (w.0 (suc i) P there (ap (λ W. Process.uid W) e ∙ is))
 
 -- where all tables are emptied
 turned_limited : (u limit : ℕ) (Ps : List Process) → ((i : ℕ) (P : Process) → slice_get Ps i ≡ Some P → P.uid ≡ u → KeepsTo limit P) →
@@ -143,6 +162,7 @@ reached_within : (u limit : ℕ) (S : State) (ends : Bool) (T : State) → IsSou
 reached_within u limit S ends T sound w still = w
 reached_within u limit S ends T sound w (process_changed {T = U} i P Q r h names kept same) =
     process_within u limit U i P Q h (names sound).long same (reached_within u limit S ends U sound w r)
+reached_within u limit S ends T sound w (process_forked {T = U} i P r h makes) = child_within u limit U i P h (reached_within u limit S ends U sound w r)
 reached_within u limit S ends T sound w (description_made {T = U} D r leads nothing bounds) =
     made_within u limit U D (nothing_flying u D.target nothing.refs) (reached_within u limit S ends U sound w r)
 reached_within u limit S ends T sound w (peers_made {T = U} D E r peers) =
@@ -207,7 +227,7 @@ HasWithin u limit es S = IsSound S × IsWithin u limit S
 step_within : (u limit p tag : ℕ) (e : Entry) (S T : State) → IsSound S → IsWithin u limit S → Step S p tag e.request e.reply e.released T → IsWithin u limit T
 step_within u limit p tag e S T sound w step =
     let r = step_reached S T p tag e.request e.reply e.released step in
-    subst (IsWithin u limit) (sym r.3) (settled_within u limit r.0 (reached_within u limit S (is_exit e.request) r.0 sound w r.1))
+    subst (IsWithin u limit) (sym r.3) (settled_within u limit r.0 (reached_within u limit S (changes_lives e.request) r.0 sound w r.1))
 
 boot_flight : (u : ℕ) (boot : State) → IsBootState boot → in_flight boot u ≡ 0
 unfolding in_flight

@@ -20,11 +20,12 @@ use Rattle.ux_model.specs.Naming.{unlink}
 use Rattle.ux_model.specs.Connecting.{listen, shutdown}
 use Rattle.ux_model.specs.Options.{get_opt, tell_option, tell_cred, may_limit, set_opt}
 use Rattle.ux_model.specs.Readiness.{poll}
+use Rattle.ux_model.specs.Forking.{exec}
 use Rattle.ux_model.specs.Closing.{close, exit, off}
 use Rattle.ux_model.specs.Step.{Step, outcome, lacks_memory, fails}
-use Rattle.ux_model.specs.History.{is_exit}
 use Rattle.ux_model.specs.Invariants.{OneMoreFailure}
 use Rattle.ux_model.specs.FreeChoices.{takes_no_memory, NeverLacksMemory, HasFailed, FailedAsOften, TellsFailure, FailsWhereAnObjectFailed}
+use Rattle.ux_model.proofs.Reaching.{changes_lives}
 use Rattle.ux_model.proofs.Walk.{either, maybe, by_target, found, found_socket}
 use Rattle.ux_model.proofs.ChangedPlaces.{place_within}
 use Rattle.ux_model.proofs.Settling.{object_left}
@@ -102,6 +103,10 @@ exit_spares : (S : State) (p : ℕ) → IsSparing (exit S p)
 unfolding exit
 exit_spares S p = maybe IsSparing (process_at S p) _ _ refl (λ P h. refl)
 
+exec_spares : (S : State) (p : ℕ) → IsSparing (exec S p)
+unfolding exec
+exec_spares S p = maybe IsSparing (process_at S p) _ _ refl (λ P h. refl)
+
 off_spares : (S : State) → IsSparing (off S)
 unfolding off
 off_spares S = refl
@@ -133,6 +138,8 @@ each_spares S p tag (Request.GetPeerName fd) h = absurd (cc h)
 each_spares S p tag (Request.SendMsg fd addr bytes control flags) h = absurd (cc h)
 each_spares S p tag (Request.RecvMsg fd n space flags) h = absurd (cc h)
 each_spares S p tag (Request.Poll fd) h = poll_spares S p fd
+each_spares S p tag Request.Fork h = absurd (cc h)
+each_spares S p tag Request.Exec h = exec_spares S p
 each_spares S p tag Request.Exit h = exit_spares S p
 each_spares S p tag Request.Off h = off_spares S
 
@@ -259,4 +266,4 @@ fails_where_an_object_failed S T p tag request reply gone s =
     subst (TellsFailure S reply) (sym s.3) (⊎_elim {C = TellsFailure S reply (settled s.0)}
     (one_tells S s.0 reply)
     (none_tells S s.0 reply)
-    (which S s.0 (is_exit request) (outcome S p tag request) reply (each_obeys S p tag request) s.1))
+    (which S s.0 (changes_lives request) (outcome S p tag request) reply (each_obeys S p tag request) s.1))

@@ -9,8 +9,8 @@ use Rattle.ux_model.specs.State.{State, description_at, table_of}
 use Rattle.ux_model.specs.References.{refs, orefs}
 use Rattle.ux_model.specs.Release.{target_after_loss, description_after_loss, without, is_unreferenced, has_unreferenced, drop_all, drop_rounds, drop_unreferenced, retired}
 use Rattle.ux_model.specs.Step.{outcome}
-use Rattle.ux_model.specs.History.{is_exit}
 use Rattle.ux_model.specs.HandingOut.{IsHandedOut, HandsOutWhatWasHeld}
+use Rattle.ux_model.proofs.Reaching.{changes_lives}
 use Rattle.ux_model.proofs.ReleaseLaws.{description_at-without}
 use Rattle.ux_model.proofs.Named.{entry_counts, opening_counts}
 use Rattle.ux_model.proofs.HeldOpen.{IsHeldOpen, KeepsObjects}
@@ -99,4 +99,4 @@ all_handed S T kept = each_closed (IsHandedOut S) (λ o. orefs (drop_unreference
 
 pub handed_out : HandsOutWhatWasHeld
 handed_out S T p tag request reply chosen =
-    all_handed S T (chosen_objects S T (is_exit request) (outcome S p tag request) reply (each_obeys S p tag request) chosen)
+    all_handed S T (chosen_objects S T (changes_lives request) (outcome S p tag request) reply (each_obeys S p tag request) chosen)

@@ -10,12 +10,13 @@ use Rattle.ux_model.specs.Object.{View}
 use Rattle.ux_model.specs.Names.{PathTarget, bound}
 use Rattle.ux_model.specs.Description.{Description, Target, to_object, to_socket}
 use Rattle.ux_model.specs.Process.{Process}
-use Rattle.ux_model.specs.State.{State, description_at, with_object, with_new}
+use Rattle.ux_model.specs.State.{State, description_at, with_object, with_child, with_new}
 use Rattle.ux_model.specs.References.{table_refs, target_refs, description_refs, path_names, leads_to, is_open_of, refs, orefs}
 use Rattle.ux_model.specs.Peers.{target_peer, peer_in, at_target, at_socket, HoldsNothing}
 use Rattle.ux_model.specs.Closing.{with_nothing_open}
+use Rattle.ux_model.specs.Forking.{child_of}
 use Rattle.ux_model.specs.Invariants.{pends, pends_at_all}
-use Rattle.ux_model.proofs.Moves.{process_counts, new_counts, new_counts_at_object}
+use Rattle.ux_model.proofs.Moves.{process_counts, child_counts, new_counts, new_counts_at_object}
 use Rattle.ux_model.proofs.Making.{paired-push, paired-pair}
 use Rattle.ux_model.proofs.OneGoes.{paired-alike}
 use Rattle.ux_model.proofs.OnePlace.{same_at, no_more_by, at_each}
@@ -45,6 +46,21 @@ process_held S i P Q held h names = record {
       let none : refs S d ≡ 0 = held.no_description_dangles d gone in
       omega (arith, moved, less, none);
   no_object_dangles = λ o gone. same_orefs_processes S (set S.processes i Q) o ∙ held.no_object_dangles o gone;
+  all_open = held.all_open;
+  ends_wait = held.ends_wait;
+  names_owned = held.names_owned;
+}
+
+-- a copy of one
+pub child_held : (S : State) (i : ℕ) (P : Process) → IsHeld S → slice_get S.processes i ≡ Some P → IsHeld (with_child S (child_of P))
+child_held S i P held h = record {
+  no_description_dangles = λ d gone.
+      let more = child_counts S (child_of P) d in
+      let own = process_counts S (suc i) d P (with_nothing_open P) h in
+      let empty = none_counts d P.table in
+      let none : refs S d ≡ 0 = held.no_description_dangles d gone in
+      omega (arith, more, own, empty, none);
+  no_object_dangles = λ o gone. same_orefs_processes S (S.processes ++ child_of P ∷ []) o ∙ held.no_object_dangles o gone;
   all_open = held.all_open;
   ends_wait = held.ends_wait;
   names_owned = held.names_owned;

@@ -1,27 +1,28 @@
 -- What a call may do to a state, part by part: each call's next state comes of its first by such changes. What each of these changes
 -- keeps, every call keeps. A call that changes what none of these do brings a further one, which owes a line of `exits_kept` (Living), of
 -- `reached_sound` (ReachedSound), of `reached_there` (Closed), of `reached_within` (FlightLaws) and of `reached_bounded` (StaysBounded).
-use Rattle.std.proofs.Common.{◌≡◌, ℕ, zero, suc, ◌+◌, ◌≤◌, ◌<◌, ◌==◌, Bool, true, false, cond, List, [], ◌∷◌, ◌++◌, length, map, set, Option, Some, None, refl, ap, sym, subst, ◌∙◌, arith}
+use Rattle.std.proofs.Common.{◌≡◌, ℕ, zero, suc, ◌+◌, ◌≤◌, ◌<◌, ◌==◌, Bool, true, false, cond, if◌then◌else◌, List, [], ◌∷◌, ◌++◌, length, map, set, Option, Some, None, refl, ap, sym, subst, ◌∙◌, arith}
 use Rattle.std.specs.Prelude.{is_some, filter, option_map}
 use Rattle.std.specs.List.{slice_get}
 use Rattle.std.proofs.lemmas.Bool.{eqb-true}
-use Rattle.std.proofs.lemmas.List.{length-set}
+use Rattle.std.proofs.lemmas.List.{length-set, length-map}
 use Rattle.std.proofs.lemmas.List.Sums.{sum_by-cons}
-use Rattle.ux_model.specs.Types.{Cred, Name, Addr}
+use Rattle.ux_model.specs.Types.{Cred, Name, Addr, Request}
 use Rattle.ux_model.specs.Places.{place, filled, emptied}
 use Rattle.ux_model.specs.Object.{View}
 use Rattle.ux_model.specs.Names.{PathTarget, bound}
 use Rattle.ux_model.specs.Message.{Message}
 use Rattle.ux_model.specs.Socket.{Socket, peer_of}
 use Rattle.ux_model.specs.Description.{Description, Target, to_object, to_socket, socket_of, socket_in, changed, changed_target}
-use Rattle.ux_model.specs.Process.{Process, Descriptor}
-use Rattle.ux_model.specs.State.{State, description_at, socket_at, process_at, table_of, with_object, with_description, with_socket_by, with_process, with_table, with_new}
+use Rattle.ux_model.specs.Process.{Process, Descriptor, kept_on_exec}
+use Rattle.ux_model.specs.State.{State, description_at, socket_at, process_at, table_of, with_object, with_description, with_socket_by, with_process, with_table, with_child, with_new}
 use Rattle.ux_model.specs.References.{names_description, table_refs, queue_refs, socket_refs, target_refs, description_refs, leads_to, is_open_of, orefs}
 use Rattle.ux_model.specs.Peers.{target_peer, peer_in, at_target, at_socket, HoldsNothing}
 use Rattle.ux_model.specs.Flight.{rights_sent_by, flying_at, flying_in, in_flight}
 use Rattle.ux_model.specs.FlightLaws.{AreLimited}
 use Rattle.ux_model.specs.Connecting.{with_connection}
 use Rattle.ux_model.specs.Closing.{with_nothing_open}
+use Rattle.ux_model.specs.Forking.{child_of}
 use Rattle.ux_model.specs.Invariants.{pends, pends_at_all}
 use Rattle.ux_model.proofs.Named.{table_in}
 use Rattle.ux_model.proofs.Sound.{IsSound, unaccepted, target_name, name_in}
@@ -67,12 +68,14 @@ pub record ArePeers (d : ℕ) (D E : Description) : Type 0 where
   pub first_bounds : IsBoundedTarget D.target
   pub second_bounds : IsBoundedTarget E.target
 
--- T comes of S by changes of one part each. A condition may use that nothing dangles in S. `ends` says whether it may end a process.
+-- T comes of S by changes of one part each. A condition may use that nothing dangles in S. `ends` says whether it may end or make a process.
 pub data Reaches (S : State) (ends : Bool) : State → Type 0 where
   still : Reaches S ends S
   -- a process changes, and its table names what is there
   process_changed : {T : State} (i : ℕ) (P Q : Process) → Reaches S ends T → slice_get T.processes i ≡ Some P → (IsSound S → NamesWhatIsThere T P.table Q.table) →
       (ends ≡ false → Q.exited ≡ P.exited) → IsOfSameUser P Q → Reaches S ends (record T { processes = set T.processes i Q })
+  -- a copy of a process comes to be
+  process_forked : {T : State} (i : ℕ) (P : Process) → Reaches S ends T → slice_get T.processes i ≡ Some P → ends ≡ true → Reaches S ends (with_child T (child_of P))
   -- a new description refers to nothing, and leads to a file object that something leads to already, or to a socket without a peer
   description_made : {T : State} (D : Description) → Reaches S ends T → (IsSound S → (o : ℕ) → leads_to o D.target ≡ true → 0 < orefs T o) → HoldsNothing D → IsBoundedTarget D.target →
       Reaches S ends (with_new T D)
@@ -161,6 +164,27 @@ taken_names S table n = record { counts = λ d gone. emptied_counts d table n; l
 pub same_names : (S : State) (table : List (Option Descriptor)) → NamesWhatIsThere S table table
 same_names S table = record { counts = λ d gone. omega arith; long = omega arith }
 
+-- what exec leaves of one place, and of a table
+kept_one : (d : ℕ) (x : Option Descriptor) → one d (kept_on_exec x) ≤ one d x
+kept_one d None = omega arith
+kept_one d (Some e) = go e.cloexec
+  where
+    go : (b : Bool) → one d (if b then None else Some e) ≤ one d (Some e)
+    go true = omega arith
+    go false = omega arith
+
+kept_counts : (d : ℕ) (table : List (Option Descriptor)) → table_refs d (map kept_on_exec table) ≤ table_refs d table
+kept_counts d [] = omega arith
+kept_counts d (x ∷ xs) =
+    let new = sum_by-cons (one d) (kept_on_exec x) (map kept_on_exec xs) in
+    let old = sum_by-cons (one d) x xs in
+    let first = kept_one d x in
+    let rest = kept_counts d xs in
+    omega (arith, new, old, first, rest)
+
+pub kept_names : (S : State) (table : List (Option Descriptor)) → NamesWhatIsThere S table (map kept_on_exec table)
+kept_names S table = record { counts = λ d gone. kept_counts d table; long = let same = length-map table kept_on_exec in omega (arith, same) }
+
 -- ---- one description
 
 -- the same of a target, at place n
@@ -231,6 +255,16 @@ with_table_reached {S} {ends} T (suc i) table r names = go (slice_get T.processe
         Reaches S ends (elim o as (λ _. State) [ Some P ↦ record T { processes = set T.processes i (record P { table = table }) } | None ↦ T ])
     go None h names = r
     go (Some P) h names = process_changed i P (record P { table = table }) r h names (λ k. refl) (record { user = refl; privileged = refl })
+
+-- a call that ends or makes a process
+abbrev pub changes_lives : Request → Bool
+changes_lives Request.Exit = true
+changes_lives Request.Fork = true
+changes_lives _ = false
+
+pub with_child_reached : {S : State} (T : State) (p : ℕ) (P : Process) → Reaches S true T → process_at T p ≡ Some P → Reaches S true (with_child T (child_of P))
+with_child_reached T zero P r h = absurd (cc h)
+with_child_reached T (suc i) P r h = process_forked i P r h refl
 
 pub with_process_reached : {S : State} (T : State) (p : ℕ) (P Q : Process) → Reaches S true T → process_at T p ≡ Some P → ((d : ℕ) → table_refs d Q.table ≡ 0) → length Q.table ≡ length P.table →
     IsOfSameUser P Q → Reaches S true (with_process T p Q)

@@ -6,7 +6,7 @@ use Rattle.std.proofs.lemmas.Bool.{ltb-false}
 use Rattle.std.proofs.lemmas.List.{length-take}
 use Rattle.ux_model.specs.Types.{Errno, Fd, Cred, Name, Addr, SockType, SockOpt, Mode, OpenFlags, MsgFlags, Whence, Request, Reply}
 use Rattle.ux_model.specs.Places.{place}
-use Rattle.ux_model.specs.Limits.{name_limit, read_limit, greatest_queue_limit, offset_limit, record_bytes_limit}
+use Rattle.ux_model.specs.Limits.{made_limit, name_limit, read_limit, greatest_queue_limit, offset_limit, record_bytes_limit}
 use Rattle.ux_model.specs.Flags.{can_read, can_write, are_send_flags, are_receive_flags, no_flags}
 use Rattle.ux_model.specs.Object.{Body, memory, counter, pipe, View, ObjectError, would_block, full, invalid, read_body, write_body, is_memory, is_pipe}
 use Rattle.ux_model.specs.Names.{named, is_valid_path, is_valid_addr, is_unnamed_addr, free_name}
@@ -34,6 +34,7 @@ use Rattle.ux_model.specs.Seeking.{seek_base, seek_to, lseek}
 use Rattle.ux_model.specs.Descriptors.{dup, dup2, set_flags}
 use Rattle.ux_model.specs.Options.{tell_cred, tell_option, get_opt, pass_cred_on, may_limit, change_option, set_opt}
 use Rattle.ux_model.specs.Readiness.{poll}
+use Rattle.ux_model.specs.Forking.{fork, exec}
 use Rattle.ux_model.specs.Closing.{close, exit, off}
 use Rattle.ux_model.specs.Step.{Step, outcome}
 use Rattle.ux_model.specs.Rooms.{name_bytes, sender_bytes, Size, no_bytes, size_of, control_limit, room_for, Fits}
@@ -70,6 +71,7 @@ plain_fits (Reply.Addr addr) room h = absurd (cc h)
 plain_fits (Reply.Opt value) room h = nothing_fits room
 plain_fits (Reply.Cred cred) room h = nothing_fits room
 plain_fits (Reply.Poll flags) room h = nothing_fits room
+plain_fits (Reply.Child pid) room h = nothing_fits room
 plain_fits (Reply.Err e) room h = nothing_fits room
 
 -- of an outcome's own reply
@@ -131,6 +133,14 @@ unlink_plain S path = either Plain (not (is_valid_path path)) _ _ (λ b. plain r
 exit_plain : (S : State) (p : ℕ) → Plain (exit S p)
 unfolding exit
 exit_plain S p = maybe Plain (process_at S p) _ _ (plain refl) (λ P h. plain refl)
+
+fork_plain : (S : State) (p : ℕ) → Plain (fork S p)
+unfolding fork
+fork_plain S p = maybe Plain (process_at S p) _ _ (plain refl) (λ P h. either Plain (nat_le made_limit (length S.processes)) _ _ (λ b. plain refl) (λ b. plain refl))
+
+exec_plain : (S : State) (p : ℕ) → Plain (exec S p)
+unfolding exec
+exec_plain S p = maybe Plain (process_at S p) _ _ (plain refl) (λ P h. plain refl)
 
 off_plain : (S : State) → Plain (off S)
 unfolding off
@@ -467,6 +477,8 @@ each_within S p tag (Request.GetPeerName fd) all = peer_name_within S p fd all
 each_within S p tag (Request.SendMsg fd addr bytes control flags) all = send_plain S p tag fd addr bytes control flags
 each_within S p tag (Request.RecvMsg fd n space flags) all = recv_within S p fd n space flags all
 each_within S p tag (Request.Poll fd) all = poll_plain S p fd
+each_within S p tag Request.Fork all = fork_plain S p
+each_within S p tag Request.Exec all = exec_plain S p
 each_within S p tag Request.Exit all = exit_plain S p
 each_within S p tag Request.Off all = off_plain S
 

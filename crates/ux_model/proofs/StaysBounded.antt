@@ -11,13 +11,13 @@ use Rattle.ux_model.specs.Pairing.{socket_description}
 use Rattle.ux_model.specs.Connecting.{server_end, no_open_flags, tied, with_connection}
 use Rattle.ux_model.specs.Release.{target_after_loss, description_after_loss, without, is_unreferenced, has_unreferenced, drop_all, drop_rounds, drop_unreferenced, settled}
 use Rattle.ux_model.specs.Step.{Step}
-use Rattle.ux_model.specs.History.{is_exit, replay, IsLegal}
+use Rattle.ux_model.specs.History.{replay, IsLegal}
 use Rattle.ux_model.proofs.ReleaseLaws.{description_at-without}
 use Rattle.ux_model.proofs.OnePlace.{at_each}
 use Rattle.ux_model.proofs.Induction.{IsKept, kept_throughout}
 use Rattle.ux_model.proofs.Sound.{IsSound}
 use Rattle.ux_model.proofs.Bounds.{HasBounds, IsBounded, IsBoundedTarget, IsBoundedPlace, AreBounded, socket_bounded}
-use Rattle.ux_model.proofs.Reaching.{Reaches, still, process_changed, description_made, peers_made, connection_made, description_changed, object_changed, paths_taken, path_bound, name_bound, turned_off}
+use Rattle.ux_model.proofs.Reaching.{changes_lives, Reaches, still, process_changed, process_forked, description_made, peers_made, connection_made, description_changed, object_changed, paths_taken, path_bound, name_bound, turned_off}
 use Rattle.ux_model.proofs.Calls.{step_reached}
 use Rattle.ux_model.proofs.Dangling.{keeps_sound}
 
@@ -67,6 +67,7 @@ nothing_bounded (x ∷ xs) (suc i) = nothing_bounded xs i
 reached_bounded : (S : State) (ends : Bool) (T : State) → IsSound S → AreBounded S → Reaches S ends T → AreBounded T
 reached_bounded S ends T sound all still = all
 reached_bounded S ends T sound all (process_changed {T = U} i P Q r h names kept same) = reached_bounded S ends U sound all r
+reached_bounded S ends T sound all (process_forked {T = U} i P r h makes) = reached_bounded S ends U sound all r
 reached_bounded S ends T sound all (description_made {T = U} D r leads nothing bounds) = made_bounded U D (reached_bounded S ends U sound all r) bounds
 reached_bounded S ends T sound all (peers_made {T = U} D E r peers) =
     made_bounded (with_new U D) E (made_bounded U D (reached_bounded S ends U sound all r) peers.first_bounds) peers.second_bounds
@@ -115,7 +116,7 @@ HasBounded es S = IsSound S × AreBounded S
 step_bounded : (p tag : ℕ) (e : Entry) (S T : State) → IsSound S → AreBounded S → Step S p tag e.request e.reply e.released T → AreBounded T
 step_bounded p tag e S T sound all step =
     let r = step_reached S T p tag e.request e.reply e.released step in
-    subst AreBounded (sym r.3) (settled_bounded r.0 (reached_bounded S (is_exit e.request) r.0 sound all r.1))
+    subst AreBounded (sym r.3) (settled_bounded r.0 (reached_bounded S (changes_lives e.request) r.0 sound all r.1))
 
 keeps_bounded : (boot : State) → IsKept boot HasBounded
 keeps_bounded boot = record {

@@ -36,6 +36,7 @@ pub mod Accepting
 pub mod Options
 pub mod Readiness
 pub mod Closing
+pub mod Forking
 pub mod Step
 pub mod Waiting
 pub mod Rooms

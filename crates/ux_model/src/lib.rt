@@ -6,14 +6,14 @@
 ghost use Rattle.ux_model.specs.Release.{EndsAlike};
 ghost use Rattle.ux_model.specs.HandingOut.{HandsOutWhatWasHeld};
 ghost use Rattle.ux_model.specs.FreeChoices.{NeverLacksMemory, FailsWhereAnObjectFailed};
-ghost use Rattle.ux_model.specs.History.{LeadsToOne, FrontIsLegal, ExitAloneEnds, ExitLeavesOneFewer, StepKeepsProcesses, LivesUntilExit};
+ghost use Rattle.ux_model.specs.History.{LeadsToOne, FrontIsLegal, ExitAndForkAlone, LiveOnesCounted, ForkAloneMakes, ForkTellsTheNext, LivesUntilExit};
 ghost use Rattle.ux_model.specs.Peers.{OneGoes};
 ghost use Rattle.ux_model.specs.Invariants.{NoneLeftUnreferenced, SettlesAtOnce, StaysSettled, RefusalChangesNothing, RefusedEntryChangesNothing, WholeAfterAnyCalls, NothingDangles, ClosedOnce};
 ghost use Rattle.ux_model.specs.ReadyCalls.{TellsInput, TellsRoom};
 ghost use Rattle.ux_model.specs.FlightLaws.{FlightIsLimited};
 ghost use Rattle.ux_model.specs.RoomLaws.{RepliesFit};
 ghost use Rattle.ux_model.specs.Owning.{NameGoes};
-ghost use Rattle.ux_model.specs.Moves.{ProcessCounts, SocketCounts, NewCounts, NewCountsAtObject, SameTargetCountsAlike, TakenPathCountsNot};
+ghost use Rattle.ux_model.specs.Moves.{ProcessCounts, ChildCounts, SocketCounts, NewCounts, NewCountsAtObject, SameTargetCountsAlike, TakenPathCountsNot};
 
 /// Descriptions without a reference may be dropped one at a time and in any order: the same state is
 /// left as when all go at once, again and again.
@@ -34,26 +34,33 @@ pub fn front_of_a_legal_history()
     ensures { FrontIsLegal }
 {}
 
-/// A process ends with its own exit, and with nothing else.
-#[tactic(auto, using(crate::proofs::Living::exit_alone_ends))]
-pub fn exit_alone_ends_a_process()
-    ensures { ExitAloneEnds }
+/// A process ends with its own exit, and begins with the fork that tells its number, and with nothing else.
+#[tactic(auto, using(crate::proofs::Living::exit_and_fork_alone))]
+pub fn exit_ends_and_fork_begins_a_process()
+    ensures { ExitAndForkAlone }
 {}
 
-/// The exit of a live process leaves one fewer, and any other call as many.
-#[tactic(auto, using(crate::proofs::Living::exit_leaves_one_fewer))]
-pub fn an_exit_leaves_one_fewer()
-    ensures { ExitLeavesOneFewer }
+/// The exit of a live process leaves one fewer, a fork that made one leaves one more, and any other call as
+/// many.
+#[tactic(auto, using(crate::proofs::Living::live_ones_counted))]
+pub fn live_processes_are_counted()
+    ensures { LiveOnesCounted }
 {}
 
-/// No step makes or forgets a process.
-#[tactic(auto, using(crate::proofs::Living::step_keeps_processes))]
-pub fn step_keeps_processes()
-    ensures { StepKeepsProcesses }
+/// No step forgets a process, and a fork alone makes one.
+#[tactic(auto, using(crate::proofs::Living::fork_alone_makes))]
+pub fn fork_alone_makes_a_process()
+    ensures { ForkAloneMakes }
 {}
 
-/// At the end of a legal history those processes live that did at its start and haven't made their
-/// exit.
+/// A fork tells the number that comes next.
+#[tactic(auto, using(crate::proofs::Living::fork_tells_the_next))]
+pub fn fork_tells_the_next_number()
+    ensures { ForkTellsTheNext }
+{}
+
+/// At the end of a legal history those processes live that did at its start or were made since, and haven't
+/// made their exit.
 #[tactic(auto, using(crate::proofs::Living::lives_until_exit))]
 pub fn processes_live_until_their_exit()
     ensures { LivesUntilExit }
@@ -63,6 +70,12 @@ pub fn processes_live_until_their_exit()
 #[tactic(auto, using(crate::proofs::Moves::process_counts))]
 pub fn process_counts()
     ensures { ProcessCounts }
+{}
+
+/// A further process adds the references of its table.
+#[tactic(auto, using(crate::proofs::Moves::child_counts))]
+pub fn child_counts()
+    ensures { ChildCounts }
 {}
 
 /// A changed socket changes the references by those that it holds before and after.
@@ -160,8 +173,8 @@ pub fn what_a_step_hands_out()
     ensures { HandsOutWhatWasHeld }
 {}
 
-/// In no state do close, unlink, lseek, shutdown, listen, poll, getsockopt, fcntl, and the ends of a
-/// process and of the layer, answer ENOMEM.
+/// In no state do close, unlink, lseek, shutdown, listen, poll, getsockopt, fcntl, setsockopt of a queue's
+/// limit, execve, and the ends of a process and of the layer, answer ENOMEM.
 #[tactic(auto, using(crate::proofs::FreeChoices::never_lacks_memory))]
 pub fn some_calls_never_lack_memory()
     ensures { NeverLacksMemory }

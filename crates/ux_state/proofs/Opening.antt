@@ -11,7 +11,8 @@ use Rattle.ux_model.specs.Object.{View}
 use Rattle.ux_model.specs.Socket.{Socket, new_socket, pair_end}
 use Rattle.ux_model.specs.Description.{Description, to_socket}
 use Rattle.ux_model.specs.Process.{Process, Descriptor, descriptor, lowest_free, two_lowest_free}
-use Rattle.ux_model.specs.State.{State, is_live, table_of, next_description, with_table, with_new}
+use Rattle.ux_model.specs.Forking.{child_of}
+use Rattle.ux_model.specs.State.{with_child, State, is_live, table_of, next_description, with_table, with_new}
 use Rattle.ux_model.specs.Pairing.{socket_description, with_pair}
 use Rattle.ux_model.specs.FileObjects.{is_opening}
 use Rattle.ux_model.specs.Opening.{file_description}
@@ -168,6 +169,14 @@ entries_put V S T p P R ds table t live same here r end e =
 -- the descriptions stay
 pub same_places : (V S : State) (ds : List (Option Description)) → V ≡ S → ds ≡ V.descriptions → record V { descriptions = ds } ≡ S
 same_places V S ds same e = (λ j. record V { descriptions = e j }) ∙ same
+
+-- one process more
+pub child_put : (V S : State) (ds : List (Option Description)) (ps : List Process) (Q P : Process) → V ≡ S → ds ≡ V.descriptions → ps ≡ V.processes ++ Q ∷ [] → Q ≡ child_of P →
+    record V { descriptions = ds; processes = ps } ≡ with_child S (child_of P)
+child_put V S ds ps Q P same e pushed copy =
+    (λ j. record V { descriptions = e j; processes = pushed j })
+    ∙ (λ j. record V { processes = V.processes ++ copy j ∷ [] })
+    ∙ ap (λ U. with_child U (child_of P)) same
 
 -- the table of the process, through its parts
 pub table_is : (V S : State) (p : ℕ) (P R : Process) → is_live S p ≡ true → V ≡ S → P ≡ get_or V.processes (p - 1) P → R ≡ P → R.table ≡ table_of S p

@@ -1,25 +1,26 @@
 -- Counts where the table of a process changes.
-use Rattle.std.proofs.Common.{◌≡◌, ℕ, zero, suc, ◌+◌, ◌-◌, ◌<◌, ◌≤◌, true, List, [], ◌∷◌, length, get_or, set, map, take, Option, Some, None, option_map, refl, sym, ◌∙◌, ap, arith}
+use Rattle.std.proofs.Common.{◌≡◌, ℕ, zero, suc, ◌+◌, ◌-◌, ◌<◌, ◌≤◌, true, List, [], ◌∷◌, ◌++◌, length, get_or, set, map, take, Option, Some, None, option_map, refl, sym, ◌∙◌, ap, arith}
 use Rattle.std.specs.List.{sum_by}
-use Rattle.std.specs.Prelude.{Bool, slice_set}
-use Rattle.std.proofs.lemmas.List.{length-set}
+use Rattle.std.specs.Prelude.{Bool, false, ◌==◌, if◌then◌else◌, cond, slice_set}
+use Rattle.std.proofs.lemmas.List.{length-set, length-append, length-map}
 use Rattle.std.proofs.lemmas.List.Sums.{get_or-le-sum_by, sum_by-cons, sum_by_more, sum_by-take-le}
 use Rattle.ux_model.specs.Types.{Name}
+use Rattle.ux_model.specs.Limits.{made_limit}
 use Rattle.ux_model.specs.Names.{PathTarget}
 use Rattle.ux_model.specs.Places.{place}
 use Rattle.ux_model.specs.Object.{View}
 use Rattle.ux_model.specs.Description.{Description}
-use Rattle.ux_model.specs.Process.{Process, Descriptor, with_cloexec}
+use Rattle.ux_model.specs.Process.{Process, Descriptor, kept_on_exec, with_cloexec}
 use Rattle.ux_model.specs.State.{State, is_live, with_process}
 use Rattle.ux_model.specs.References.{table_refs, description_refs, refs}
 use Rattle.ux_model.specs.Peers.{Paired}
 use Rattle.ux_model.specs.Flight.{flying_in, in_flight}
 use Rattle.ux_model.specs.Owning.{AreOwned}
-use Rattle.ux_model.proofs.Moves.{table_emptied, process_counts}
+use Rattle.ux_model.proofs.Moves.{table_emptied, process_counts, child_counts}
 use Rattle.ux_slots.specs.Held.{Held, count_at}
 use Rattle.ux_state.specs.declared.openings.Openings.{Openings}
 use Rattle.ux_state.specs.Counting.{Counted}
-use Rattle.ux_state.specs.EntryCounts.{entry_refs}
+use Rattle.ux_state.specs.EntryCounts.{entry_refs, closed_on_exec}
 use Rattle.ux_state.specs.Keeping.{state_of, AreLinked, IsState}
 use Rattle.ux_state.proofs.Lookups.{live_at, live_positive, found_process, with_process_is}
 
@@ -86,6 +87,27 @@ module _ {fs : ℕ → ℕ} (xs : List Openings) (ls : List ℕ) (H : Held Descr
         let c = state.counted k in
         omega (arith, a, b, c)
 
+  -- a further process, whose entries are counted
+  pub child_kept : (K : Held Description) (Q : Process) → length ps < made_limit → K.places ≡ H.places → ((k : ℕ) → count_at K k ≡ count_at H k + table_refs k Q.table) →
+      IsState xs ls K fs (state_of os K (ps ++ Q ∷ []) paths names)
+  child_kept K Q few same counts = record {
+    few_objects = state.few_objects;
+    few_processes = let long = length-append ps (Q ∷ []) in omega (arith, few, long);
+    one_each = state.one_each;
+    link_each = state.link_each;
+    linked = state.linked;
+    opened = rw same state.opened;
+    counted = λ k.
+        let a = child_counts (state_of os H ps paths names) Q k in
+        let b : refs (state_of os K (ps ++ Q ∷ []) paths names) k ≡ refs (state_of os H (ps ++ Q ∷ []) paths names) k = same_refs os H K (ps ++ Q ∷ []) paths names k (held_same H.places K.places same) in
+        let c = counts k in
+        let e = state.counted k in
+        omega (arith, a, b, c, e);
+    flying = same_flight os H K ps _ paths paths names names (held_same H.places K.places same) state.flying;
+    paired = rw same state.paired;
+    owned = rw same state.owned;
+  }
+
   -- other objects, as many, refer to nothing
   pub objects_kept : (os' : List (Option View)) → length os' ≡ length os → IsState xs ls H fs (state_of os' H ps paths names)
   unfolding refs in_flight
@@ -122,6 +144,66 @@ module _ {fs : ℕ → ℕ} (xs : List Openings) (ls : List ℕ) (H : Held Descr
 
 pub entry_in_table : (k : ℕ) (table : List (Option Descriptor)) (n : ℕ) → entry_refs k (place table n) ≤ table_refs k table
 entry_in_table k table n = let e = table_emptied k table n in omega (arith, e)
+
+-- what exec takes out of a table and what it leaves are the whole
+pub table_parted : (k : ℕ) (table : List (Option Descriptor)) → table_refs k (map closed_on_exec table) + table_refs k (map kept_on_exec table) ≡ table_refs k table
+table_parted k [] = refl
+table_parted k (x ∷ xs) =
+    let gone = sum_by-cons (entry_refs k) (closed_on_exec x) (map closed_on_exec xs) in
+    let left = sum_by-cons (entry_refs k) (kept_on_exec x) (map kept_on_exec xs) in
+    let old = sum_by-cons (entry_refs k) x xs in
+    let first = one_parted x in
+    let rest = table_parted k xs in
+    omega (arith, gone, left, old, first, rest)
+  where
+    one_parted : (x : Option Descriptor) → entry_refs k (closed_on_exec x) + entry_refs k (kept_on_exec x) ≡ entry_refs k x
+    one_parted None = refl
+    one_parted (Some e) = go e.cloexec
+      where
+        go : (b : Bool) → entry_refs k (if b then Some e else None) + entry_refs k (if b then None else Some e) ≡ entry_refs k (Some e)
+        go true = omega arith
+        go false = omega arith
+
+-- the entry at a number counts among those up to it, and these among all
+pub table_at : (k : ℕ) (table : List (Option Descriptor)) (i : ℕ) → i < length table → table_refs k (take i table) + entry_refs k (place table i) ≤ table_refs k table
+table_at k table i inside =
+    let a = sum_by_more (entry_refs k) table i None inside in
+    let b = sum_by-take-le (entry_refs k) table (i + 1) in
+    omega (arith, a, b)
+
+-- so of what exec takes out
+closed_place : (table : List (Option Descriptor)) (i : ℕ) → place (map closed_on_exec table) i ≡ closed_on_exec (place table i)
+closed_place [] i = refl
+closed_place (x ∷ xs) zero = refl
+closed_place (x ∷ xs) (suc i) = closed_place xs i
+
+pub marked_more : (k : ℕ) (table : List (Option Descriptor)) (i : ℕ) → i < length table →
+    table_refs k (take (i + 1) (map closed_on_exec table)) ≡ table_refs k (take i (map closed_on_exec table)) + entry_refs k (closed_on_exec (place table i))
+marked_more k table i inside =
+    let long = length-map table closed_on_exec in
+    let a = sum_by_more (entry_refs k) (map closed_on_exec table) i None (omega (arith, inside, long)) in
+    let here : entry_refs k (place (map closed_on_exec table) i) ≡ entry_refs k (closed_on_exec (place table i)) = ap (entry_refs k) (closed_place table i) in
+    omega (arith, a, here)
+
+pub marked_at : (k : ℕ) (table : List (Option Descriptor)) (i : ℕ) → i < length table →
+    table_refs k (take i (map closed_on_exec table)) + entry_refs k (closed_on_exec (place table i)) ≤ table_refs k (map closed_on_exec table)
+marked_at k table i inside =
+    let a = marked_more k table i inside in
+    let b = sum_by-take-le (entry_refs k) (map closed_on_exec table) (i + 1) in
+    omega (arith, a, b)
+
+-- there are no more than places
+pub table_refs_few : (k : ℕ) (table : List (Option Descriptor)) → table_refs k table ≤ length table
+table_refs_few k [] = omega arith
+table_refs_few k (x ∷ xs) = let all = sum_by-cons (entry_refs k) x xs in let first = one_few x in let rest = table_refs_few k xs in omega (arith, all, first, rest)
+  where
+    one_few : (x : Option Descriptor) → entry_refs k x ≤ 1
+    one_few None = omega arith
+    one_few (Some e) = go (e.description == k)
+      where
+        go : (b : Bool) → cond {A = ℕ} b 1 0 ≤ 1
+        go true = omega arith
+        go false = omega arith
 
 -- another close-on-exec leads to the same description
 pub table_marked : (k : ℕ) (on : Bool) (table : List (Option Descriptor)) (n : ℕ) → table_refs k (slice_set table n (option_map (with_cloexec on) (place table n))) ≡ table_refs k table

@@ -1,7 +1,7 @@
 -- What a state keeps true of its parts.
 use Rattle.std.specs.Prelude.{◌≡◌, ℕ, ◌+◌, ◌<◌, ◌≤◌, true, List, length, map, count_by, Option, Some, None, slice_index_or}
 use Rattle.ux_model.specs.Types.{Name}
-use Rattle.ux_model.specs.Limits.{object_limit, process_limit}
+use Rattle.ux_model.specs.Limits.{object_limit, made_limit}
 use Rattle.ux_model.specs.Names.{PathTarget}
 use Rattle.ux_model.specs.Object.{View}
 use Rattle.ux_model.specs.Description.{Description}
@@ -42,7 +42,7 @@ pub record AreLinked (paths : List (Name × PathTarget)) (links : List ℕ) : Ty
 
 pub record IsState (openings : List Openings) (links : List ℕ) (held : Held Description) (flights : ℕ → ℕ) (S : State) : Type 0 where
   pub few_objects : length S.objects ≤ object_limit
-  pub few_processes : length S.processes ≤ process_limit
+  pub few_processes : length S.processes ≤ made_limit
   pub one_each : length openings ≡ length S.objects
   pub link_each : length links ≡ length S.objects
   pub opened : Counted S.descriptions openings

@@ -1,6 +1,6 @@
 //! What a number leads to.
 ghost use Rattle.std.specs.Prelude.{◌≡◌, ◌≤◌, Some, None, Ok, Err, IsTrue, IsSomeAnd, MatchOption, MatchResult, length};
-ghost use Rattle.ux_model.specs.Limits.{process_limit};
+ghost use Rattle.ux_model.specs.Limits.{made_limit};
 ghost use Rattle.ux_model.specs.Flags.{can_read, can_write};
 ghost use Rattle.ux_model.specs.Places.{place};
 ghost use Rattle.ux_model.specs.Process.{own_cred};
@@ -21,7 +21,7 @@ impl<O: FileObject> State<O> {
     /// How many processes were made, exited ones too.
     pub fn process_count(&self) -> usize
         ensures count { result ≡ length self.now.processes }
-        ensures most { result ≤ process_limit }
+        ensures most { result ≤ made_limit }
     {
         self.processes.len()
     }

@@ -9,6 +9,7 @@ mod descriptions;
 mod entries;
 mod finding;
 mod flights;
+mod forking;
 mod making;
 mod naming;
 mod objects;

@@ -2,6 +2,7 @@
 ghost use Rattle.std.specs.Prelude.{◌≡◌, map, None, true, IfOk};
 ghost use Rattle.ux_model.specs.Boot.{new_process};
 ghost use Rattle.ux_model.specs.Closing.{with_nothing_open};
+ghost use Rattle.ux_model.specs.Forking.{child_of};
 
 use std::alloc::{AllocError, Global};
 use std::marker::Model;
@@ -37,6 +38,19 @@ impl Process {
             privileged: spec.privileged,
             exited: false,
             table: Table::new(alloc, spec.limit)?,
+        })
+    }
+
+    /// Its copy, which lives.
+    pub(crate) fn fork(&self) -> Result<Process, AllocError>
+        ensures { IfOk result (λ P. P ≡ child_of self.now) }
+    {
+        Ok(Process {
+            uid: self.uid,
+            gid: self.gid,
+            privileged: self.privileged,
+            exited: false,
+            table: self.table.clone()?,
         })
     }
 

@@ -1,11 +1,11 @@
 //! Counts of the references that table entries, messages and waiting ends are.
-ghost use Rattle.std.specs.Prelude.{◌≡◌, ◌+◌, ◌<◌, ◌≤◌, ◌^◌, ℕ, IsTrue};
+ghost use Rattle.std.specs.Prelude.{◌≡◌, ◌+◌, ◌<◌, ◌≤◌, ◌^◌, ℕ, map, IsTrue};
 ghost use Rattle.ux_model.specs.References.{times, queue_refs, socket_refs, target_refs, table_refs};
 ghost use Rattle.ux_model.specs.Socket.{pending_ends};
 ghost use Rattle.ux_model.specs.Flight.{rights_sent_by, flying_at};
 ghost use Rattle.ux_slots.specs.Held.{count_at, once, HasMore};
 ghost use Rattle.ux_state.specs.Flights.{flights_of};
-ghost use Rattle.ux_state.specs.EntryCounts.{entry_refs, AreHeld, HaveRoom};
+ghost use Rattle.ux_state.specs.EntryCounts.{entry_refs, closed_on_exec, AreHeld, HaveRoom, TableHasRoom};
 
 use crate::flights::Flights;
 use ux_desc::{Description, Socket, Target};
@@ -42,6 +42,62 @@ pub(crate) fn release_table(slots: &mut Slots<Description>, table: &Table)
 {
     for number in 0..table.limit() {
         release(slots, table.get(Fd(number)));
+    }
+}
+
+/// An entry that exec closes, if this is one.
+fn closed_on_exec(entry: Option<Descriptor>) -> Option<Descriptor>
+    ensures { result ≡ closed_on_exec entry }
+{
+    match entry {
+        Some(entry) if entry.cloexec => Some(entry),
+        _ => None,
+    }
+}
+
+/// Counts the entries of a table less that exec closes.
+pub(crate) fn release_marked(slots: &mut Slots<Description>, table: &Table)
+    requires { (k : ℕ) → table_refs k (map closed_on_exec table.now) ≤ count_at slots.old k }
+    ensures { HasMore (λ k. table_refs k (map closed_on_exec table.now)) slots.new slots.old }
+{
+    for number in 0..table.limit() {
+        release(slots, closed_on_exec(table.get(Fd(number))));
+    }
+}
+
+/// Whether each entry of a table can be counted once more.
+pub(crate) fn table_has_room(slots: &Slots<Description>, table: &Table) -> bool
+    ensures { IsTrue result → TableHasRoom slots.now table.now }
+{
+    for number in 0..table.limit() {
+        if let Some(entry) = table.get(Fd(number)) {
+            if !slots.has_room(entry.description, table.limit() as usize) {
+                return false;
+            }
+        }
+    }
+    true
+}
+
+/// Counts an entry once more, if there is one.
+fn retain_entry(slots: &mut Slots<Description>, entry: Option<Descriptor>)
+    requires held { (k : ℕ) → 0 < entry_refs k entry → 0 < count_at slots.old k }
+    requires room { (k : ℕ) → 0 < entry_refs k entry → count_at slots.old k + 1 < 2 ^ 64 }
+    ensures { HasMore (λ k. entry_refs k entry) slots.old slots.new }
+{
+    if let Some(entry) = entry {
+        retain(slots, entry.description);
+    }
+}
+
+/// Counts all entries of a table once more.
+pub(crate) fn retain_table(slots: &mut Slots<Description>, table: &Table)
+    requires held { (k : ℕ) → table_refs k table.now ≤ count_at slots.old k }
+    requires room { TableHasRoom slots.old table.now }
+    ensures { HasMore (λ k. table_refs k table.now) slots.old slots.new }
+{
+    for number in 0..table.limit() {
+        retain_entry(slots, table.get(Fd(number)));
     }
 }
 

@@ -3,8 +3,8 @@ ghost use Rattle.std.specs.Prelude.{◌≡◌, ◌≤◌, ◌⊎◌, ◌↔◌, 
 ghost use Rattle.std.specs.List.{AllByRecursion};
 ghost use Rattle.ux_model.specs.Limits.{process_limit};
 ghost use Rattle.ux_syntax.specs.Spelling.{plan_of};
-ghost use Rattle.ux_compare.specs.Runs.{Runs, HasBegun, MakesAll};
-ghost use Rattle.ux_threads.specs.Receipts.{AreHeld};
+ghost use Rattle.ux_history.specs.Telling.{AllStand};
+ghost use Rattle.ux_compare.specs.Runs.{Runs, HasBegun, MakesAll, MakesFirst};
 
 use std::alloc::{AllocError, Global};
 use ux_compare::{makes_all, makes_first};
@@ -30,8 +30,8 @@ pub(crate) fn whole_history<W: BookName, O: FileObject>(
     requires few { count ≤ process_limit }
     ensures entries { IfOk result (λ entries. entries.items ≡ book.now.entries) }
     ensures runs { IfOk result (λ entries. Runs W.boot (plan_of script.now) entries.items) }
-    ensures held { OnOk result (AllByRecursion (λ theirs. AreHeld book.now.entries theirs.items) receipts.now) }
-    ensures stranger { IfErr result (λ f. f ≡ ScriptFault.Stranger → ¬ (AllByRecursion (λ theirs. AreHeld book.now.entries theirs.items) receipts.now × MakesAll (plan_of script.now) book.now.entries)) }
+    ensures held { OnOk result (AllByRecursion (λ theirs. AllStand book.now.entries theirs.items) receipts.now) }
+    ensures stranger { IfErr result (λ f. f ≡ ScriptFault.Stranger → ¬ (AllByRecursion (λ theirs. AllStand book.now.entries theirs.items) receipts.now × MakesAll (plan_of script.now) book.now.entries)) }
     ensures fault { IfErr result (λ f. (f ≡ ScriptFault.NoMemory) ⊎ (f ≡ ScriptFault.Stranger)) }
 {
     if !all_held(book, receipts) || !makes_all(script, book.entries(), count) {
@@ -56,7 +56,8 @@ pub(crate) fn begun_history<W: BookName, O: FileObject>(
     requires few { count ≤ process_limit }
     ensures entries { IfOk result (λ entries. entries.items ≡ book.now.entries) }
     ensures begun { IfOk result (λ entries. HasBegun W.boot (plan_of script.now) entries.items) }
-    ensures held { OnOk result (AllByRecursion (λ theirs. AreHeld book.now.entries theirs.items) receipts.now) }
+    ensures held { OnOk result (AllByRecursion (λ theirs. AllStand book.now.entries theirs.items) receipts.now) }
+    ensures stranger { IfErr result (λ f. f ≡ ScriptFault.Stranger → ¬ (AllByRecursion (λ theirs. AllStand book.now.entries theirs.items) receipts.now × MakesFirst (plan_of script.now) book.now.entries)) }
     ensures fault { IfErr result (λ f. (f ≡ ScriptFault.NoMemory) ⊎ (f ≡ ScriptFault.Stranger)) }
 {
     if !all_held(book, receipts) || !makes_first(script, book.entries(), count) {
@@ -80,14 +81,7 @@ fn copy_all(alloc: Global, entries: &[Entry]) -> Result<Vec<Entry>, AllocError>
 
 /// Whether the book has the entry of each of these receipts at its number.
 fn all_held<W: BookName, O: FileObject>(book: &Book<W, O>, receipts: &[Vec<Receipt<W>>]) -> bool
-    ensures { IsTrue result ↔ AllByRecursion (λ theirs. AreHeld book.now.entries theirs.items) receipts.now }
+    ensures { IsTrue result ↔ AllByRecursion (λ theirs. AllStand book.now.entries theirs.items) receipts.now }
 {
-    receipts.iter().all(|theirs| are_held(book, theirs))
-}
-
-/// Whether the book has the entry of each of one worker's receipts at its number.
-fn are_held<W: BookName, O: FileObject>(book: &Book<W, O>, receipts: &[Receipt<W>]) -> bool
-    ensures { IsTrue result ↔ AreHeld book.now.entries receipts.now }
-{
-    receipts.iter().all(|receipt| book.holds(receipt))
+    receipts.iter().all(|theirs| book.holds_all(theirs))
 }

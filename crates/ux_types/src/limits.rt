@@ -7,6 +7,9 @@ pub const OBJECT_LIMIT: usize = 64;
 /// The most processes that a kernel is booted with.
 pub const PROCESS_LIMIT: usize = 64;
 
+/// The most processes that a kernel makes in all, those that have exited counted.
+pub const MADE_LIMIT: usize = 1024;
+
 /// The most descriptors that one process may have open.
 pub const TABLE_LIMIT: u32 = 4096;
 

@@ -65,6 +65,6 @@ pub enum SockOpt {
     /// SO_ACCEPTCONN.
     AcceptConn,
     /// How many bytes a stream socket's own queue takes: of this layer alone. The nearest that there is elsewhere is
-    /// SO_RCVBUF.
+    /// SO_SNDBUF of its peer (unix(7)).
     QueueLimit,
 }

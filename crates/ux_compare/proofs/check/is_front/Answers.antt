@@ -3,9 +3,9 @@ use Rattle.ux_compare.specs.Runs.{requests_of, asked}
 use Rattle.ux_compare.proofs.check.is_front.Goals as goal
 
 -- what the process has not made yet is what it lacks
-pub returns-in_default-next_of : goal.returns-in_default-next_of
-returns-in_default-next_of c =
+pub returns-in_default-next_of-clause-front : goal.returns-in_default-next_of-clause-front
+returns-in_default-next_of-clause-front c =
     let pid = c.args.pid in
     let more = asked pid c.loop-line.left.now in
     let none : requests_of pid c.loop-line.rest.now ≡ [] = search rules in
-    λ _. (more, c.loop-line.invariant more (ap (λ t. t ++ more) none))
+    λ _. (more, c.loop-line.invariant.0 more (ap (λ t. t ++ more) none))

@@ -5,4 +5,4 @@ use Rattle.ux_compare.proofs.check.makes_first.Goals as goal
 
 pub loop-pid-preserved : goal.loop-pid-preserved
 loop-pid-preserved c =
-    below_more (λ p. IsFront (requests_of p c.args.entries.now) (turns (plan_of c.args.script.now) p)) c.loop-pid.pid c.loop-pid.invariant (c.begins.ensures c.if-not-begins.false)
+    below_more (λ p. IsFront (requests_of p c.args.entries.now) (turns (plan_of c.args.script.now) p)) c.loop-pid.pid c.loop-pid.invariant (c.begins.ensures.0 c.if-not-begins.false)

@@ -1,9 +1,10 @@
-use Rattle.std.proofs.Common.{◌≡◌, ◌≤◌, List, length, map, get_or, set, Some, sym, ap, ◌∙◌, subst}
+use Rattle.std.proofs.Common.{◌≡◌, ◌<◌, ◌≤◌, List, length, map, get_or, set, Some, sym, ap, ◌∙◌, subst, arith}
 use Rattle.std.specs.List.{slice_get}
 use Rattle.std.proofs.lemmas.List.{set-get_or}
+use Rattle.std.proofs.lemmas.Option.{slice_get_within}
 use Rattle.ux_history.specs.Books.{Held}
 use Rattle.ux_history.specs.Receipts.{Slip, call_of}
-use Rattle.ux_history.proofs.Stands.{stands_more, stands_within}
+use Rattle.ux_history.proofs.Stands.{stands_more}
 use Rattle.ux_history.proofs.told.confirm_all.Goals as goal
 
 pub loop-i-preserved : goal.loop-i-preserved
@@ -19,4 +20,5 @@ loop-i-preserved g c =
 pub returns-clause-stand : goal.returns-clause-stand
 returns-clause-stand g c = λ k s at.
     let end : length c.args.witnesses.now ≤ c.loop-i.i = c.loop-i-test.false in
-    c.loop-i.invariant.2 k s (stands_within c.args.witnesses.now k c.loop-i.i s at end) at
+    let within : k < length c.args.witnesses.now = slice_get_within c.args.witnesses.now k s at in
+    c.loop-i.invariant.2 k s (omega arith) at

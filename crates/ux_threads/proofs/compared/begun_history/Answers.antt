@@ -11,5 +11,5 @@ returns-clause-begun g c =
     let s = plan_of c.args.script.now in
     let copied : IfOk c.map_err.result (λ entries. entries.items ≡ book.entries) = search rules in
     let begun : HasBegun g.W.BookName.boot s book.entries =
-    record { legal = search rules; calls = rw c.entries.ensures.entries at (c.makes_first.ensures c.if-not-makes_first.false) } in
+    record { legal = search rules; calls = rw c.entries.ensures.entries at (c.makes_first.ensures.0 c.if-not-makes_first.false) } in
     IfOk-weaker c.map_err.result _ _ (λ entries same. subst (λ (es : List Entry). HasBegun g.W.BookName.boot s es) (sym same) begun) copied
