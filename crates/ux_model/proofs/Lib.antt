@@ -40,6 +40,11 @@ pub mod ReplySizes
 pub mod Closed
 pub mod HandingOut
 pub mod FreeChoices
+pub mod ByPlace
+pub mod Rising
+pub mod Queues
+pub mod Replacing
+pub mod Shows
 mod Play
 mod StreamExamples
 mod DatagramExamples

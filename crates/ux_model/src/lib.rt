@@ -12,6 +12,7 @@ ghost use Rattle.ux_model.specs.Invariants.{NoneLeftUnreferenced, SettlesAtOnce,
 ghost use Rattle.ux_model.specs.ReadyCalls.{TellsInput, TellsRoom};
 ghost use Rattle.ux_model.specs.FlightLaws.{FlightIsLimited};
 ghost use Rattle.ux_model.specs.RoomLaws.{RepliesFit};
+ghost use Rattle.ux_model.specs.Changes.{StepChangesTables};
 ghost use Rattle.ux_model.specs.Owning.{NameGoes};
 ghost use Rattle.ux_model.specs.Moves.{ProcessCounts, ChildCounts, SocketCounts, NewCounts, NewCountsAtObject, SameTargetCountsAlike, TakenPathCountsNot};
 
@@ -217,4 +218,10 @@ pub fn rights_in_flight_are_limited()
 #[tactic(auto, using(crate::proofs::ReplySizes::replies_fit))]
 pub fn replies_fit_their_room()
     ensures { RepliesFit }
+{}
+
+/// A call shows by its request and its reply how it changes the descriptor tables: which numbers it gives and
+/// what they lead to, which it takes away, and that all others stay.
+pub fn a_call_shows_its_changes()
+    ensures { StepChangesTables }
 {}
