@@ -45,6 +45,12 @@ pub mod Rising
 pub mod Queues
 pub mod Replacing
 pub mod Shows
+pub mod Carried
+pub mod Mail
+pub mod Moments
+pub mod Passing
+pub mod OneChain
+pub mod OneDescription
 mod Play
 mod StreamExamples
 mod DatagramExamples

@@ -80,40 +80,44 @@ answers {S} {p} {tag} {request} {o} plain same none childless quiet = record {
 
 -- ---- what a descriptor leads to
 
-by_socket : (Q : Outcome → Type 0) (S : State) (p : ℕ) (fd : Fd) (rest : ℕ → Socket → Outcome) → ((e : Errno) → Q (refuse S e)) →
-    ((d : ℕ) (s : Socket) → find_socket S p fd ≡ Ok (d, s) → socket_at S d ≡ Some s → Q (rest d s)) → Q (on_socket S p fd rest)
-by_socket Q S p fd rest bad rest_of = go (find_socket S p fd) refl
+abbrev target_led : Descriptor → Target → Result (ℕ × Socket) Errno
+target_led e t = elim (socket_of t) as (λ _. Result (ℕ × Socket) Errno) [ None ↦ Err Errno.ENOTSOCK | Some s ↦ Ok (e.description, s) ]
+
+abbrev description_led : Descriptor → Option Description → Result (ℕ × Socket) Errno
+description_led e x = elim (elim x as (λ _. Result (Descriptor × Description) Errno) [ None ↦ Err Errno.EBADF | Some D ↦ Ok (e, D) ]) as (λ _. Result (ℕ × Socket) Errno) [ Err f ↦ Err f | Ok w ↦ target_led w.0 w.1.target ]
+
+abbrev descriptor_led : State → Option Descriptor → Result (ℕ × Socket) Errno
+descriptor_led S o = elim (elim o as (λ _. Result (Descriptor × Description) Errno) [
+  | None ↦ Err Errno.EBADF
+  | Some e ↦ elim (description_at S e.description) as (λ _. Result (Descriptor × Description) Errno) [ None ↦ Err Errno.EBADF | Some D ↦ Ok (e, D) ]
+]) as (λ _. Result (ℕ × Socket) Errno) [ Err f ↦ Err f | Ok w ↦ target_led w.0 w.1.target ]
+
+-- the socket that was found is there
+pub socket_found : (S : State) (p d : ℕ) (fd : Fd) (s : Socket) → find_socket S p fd ≡ Ok (d, s) → socket_at S d ≡ Some s
+socket_found S p d fd s found = there (descriptor_at S p fd) found
   where
-    at_target : (e : Descriptor) (D : Description) (t : Target) → D.target ≡ t → description_at S e.description ≡ Some D →
-        (d : ℕ) (s : Socket) → (elim (socket_of t) as (λ _. Result (ℕ × Socket) Errno) [ None ↦ Err Errno.ENOTSOCK | Some s ↦ Ok (e.description, s) ]) ≡ Ok (d, s) → socket_at S d ≡ Some s
-    at_target e D (to_object o) is h d s same = absurd (cc same)
-    at_target e D (to_socket u) is h d s same =
+    at_target : (e : Descriptor) (D : Description) (t : Target) → D.target ≡ t → description_at S e.description ≡ Some D → target_led e t ≡ Ok (d, s) → socket_at S d ≡ Some s
+    at_target e D (to_object o) is h same = absurd (cc same)
+    at_target e D (to_socket u) is h same =
         let number : e.description ≡ d = ap (λ r. elim r as (λ _. ℕ) [ Err f ↦ 0 | Ok w ↦ w.0 ]) same in
         let socket : u ≡ s = ap (λ r. elim r as (λ _. Socket) [ Err f ↦ u | Ok w ↦ w.1 ]) same in
         subst (λ (k : ℕ). socket_at S k ≡ Some s) number (ap socket_in h ∙ ap socket_of is ∙ ap Some socket)
 
-    at_place : (e : Descriptor) (x : Option Description) → description_at S e.description ≡ x → (d : ℕ) (s : Socket) →
-        (elim (elim x as (λ _. Result (Descriptor × Description) Errno) [ None ↦ Err Errno.EBADF | Some D ↦ Ok (e, D) ]) as (λ _. Result (ℕ × Socket) Errno) [
-          | Err f ↦ Err f
-          | Ok w ↦ elim (socket_of w.1.target) as (λ _. Result (ℕ × Socket) Errno) [ None ↦ Err Errno.ENOTSOCK | Some s ↦ Ok (w.0.description, s) ]
-        ]) ≡ Ok (d, s) → socket_at S d ≡ Some s
-    at_place e None h d s same = absurd (cc same)
-    at_place e (Some D) h d s same = at_target e D D.target refl h d s same
+    at_place : (e : Descriptor) (x : Option Description) → description_at S e.description ≡ x → description_led e x ≡ Ok (d, s) → socket_at S d ≡ Some s
+    at_place e None h same = absurd (cc same)
+    at_place e (Some D) h same = at_target e D D.target refl h same
 
-    there : (o : Option Descriptor) (d : ℕ) (s : Socket) →
-        (elim (elim o as (λ _. Result (Descriptor × Description) Errno) [
-          | None ↦ Err Errno.EBADF
-          | Some e ↦ elim (description_at S e.description) as (λ _. Result (Descriptor × Description) Errno) [ None ↦ Err Errno.EBADF | Some D ↦ Ok (e, D) ]
-        ]) as (λ _. Result (ℕ × Socket) Errno) [
-          | Err f ↦ Err f
-          | Ok w ↦ elim (socket_of w.1.target) as (λ _. Result (ℕ × Socket) Errno) [ None ↦ Err Errno.ENOTSOCK | Some s ↦ Ok (w.0.description, s) ]
-        ]) ≡ Ok (d, s) → socket_at S d ≡ Some s
-    there None d s same = absurd (cc same)
-    there (Some e) d s same = at_place e (description_at S e.description) refl d s same
+    there : (o : Option Descriptor) → descriptor_led S o ≡ Ok (d, s) → socket_at S d ≡ Some s
+    there None same = absurd (cc same)
+    there (Some e) same = at_place e (description_at S e.description) refl same
 
+pub by_socket : (Q : Outcome → Type 0) (S : State) (p : ℕ) (fd : Fd) (rest : ℕ → Socket → Outcome) → ((e : Errno) → Q (refuse S e)) →
+    ((d : ℕ) (s : Socket) → find_socket S p fd ≡ Ok (d, s) → socket_at S d ≡ Some s → Q (rest d s)) → Q (on_socket S p fd rest)
+by_socket Q S p fd rest bad rest_of = go (find_socket S p fd) refl
+  where
     go : (r : Result (ℕ × Socket) Errno) → find_socket S p fd ≡ r → Q (elim r as (λ _. Outcome) [ Err e ↦ refuse S e | Ok w ↦ rest w.0 w.1 ])
     go (Err e) h = bad e
-    go (Ok w) h = rest_of w.0 w.1 h (there (descriptor_at S p fd) w.0 w.1 h)
+    go (Ok w) h = rest_of w.0 w.1 h (socket_found S p w.0 fd w.1 h)
 
 -- ---- descriptors
 
@@ -605,10 +609,10 @@ by_waiting Q [] x f h k = h refl
 by_waiting Q (m ∷ ms) x f h k = k m ms refl
 
 -- where a receive takes nothing: nothing waits, or no byte of a stream is wanted
-abbrev TakesNothing : Socket → ℕ → Type 0
+abbrev pub TakesNothing : Socket → ℕ → Type 0
 TakesNothing s n = (s.queue ≡ []) ⊎ ((is_stream s.kind && (n == 0)) ≡ true)
 
-by_receive : (Q : Outcome → Type 0) (S : State) (p d : ℕ) (s : Socket) (n space : ℕ) (flags : MsgFlags) → ((e : Errno) → Q (refuse S e)) →
+pub by_receive : (Q : Outcome → Type 0) (S : State) (p d : ℕ) (s : Socket) (n space : ℕ) (flags : MsgFlags) → ((e : Errno) → Q (refuse S e)) →
     Q (answer (Reply.Err Errno.ECONNRESET) (with_socket_by S d (with_reset false))) → (TakesNothing s n → Q (answer nothing_received S)) →
     ((m : Message) (ms : List Message) → s.queue ≡ m ∷ ms → Q (receive_front S p d s space flags (front_of n s m ms))) → Q (receive S p d s n space flags)
 by_receive Q S p d s n space flags bad reset nothing front = either Q (is_dgram s.kind) _ _
