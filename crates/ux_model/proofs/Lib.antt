@@ -51,6 +51,7 @@ pub mod Moments
 pub mod Passing
 pub mod OneChain
 pub mod OneDescription
+pub mod SmallTables
 mod Play
 mod StreamExamples
 mod DatagramExamples

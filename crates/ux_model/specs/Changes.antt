@@ -1,15 +1,16 @@
 -- Laws: how a call changes the descriptor tables, told by its request and reply.
-use Rattle.std.specs.Prelude.{◌≡◌, ℕ, suc, Bool, true, false, ◌==◌, if◌then◌else◌, List, [], ◌∷◌, take, Option, Some, None, option_map, Ok, Err}
+use Rattle.std.specs.Prelude.{◌≡◌, ℕ, suc, ◌≤◌, Bool, true, false, ◌==◌, if◌then◌else◌, List, [], ◌∷◌, length, take, Option, Some, None, option_map, Ok, Err}
 use Rattle.std.specs.List.{slice_get, list_any}
-use Rattle.ux_model.specs.Types.{Fd, Request, Reply}
+use Rattle.ux_model.specs.Types.{Fd, Request, Reply, Entry}
+use Rattle.ux_model.specs.Limits.{table_limit}
 use Rattle.ux_model.specs.Flags.{asks_cloexec, asks_cloexec_rights}
 use Rattle.ux_model.specs.Socket.{pending_ends}
 use Rattle.ux_model.specs.Process.{Descriptor, kept_on_exec, with_cloexec}
-use Rattle.ux_model.specs.State.{State, next_description}
+use Rattle.ux_model.specs.State.{State, table_of, next_description}
 use Rattle.ux_model.specs.Outcome.{find_socket}
 use Rattle.ux_model.specs.Delivered.{brought}
 use Rattle.ux_model.specs.Step.{Step}
-use Rattle.ux_model.specs.History.{is_allowed, makes}
+use Rattle.ux_model.specs.History.{is_allowed, makes, replay, IsLegal}
 use Rattle.ux_model.specs.Giving.{held_at, description_in, given}
 
 -- the flag of a descriptor that the call gives
@@ -75,7 +76,11 @@ pub record ChangesTables (S : State) (p : ℕ) (request : Request) (reply : Repl
   -- none is given twice
   pub once : (i j n : ℕ) → slice_get (given S p request reply) i ≡ Some n → slice_get (given S p request reply) j ≡ Some n → i ≡ j
 
--- so each call that a process may make
+-- so each call that a process may make, and the end of the layer
 abbrev pub StepChangesTables : Type 0
 StepChangesTables = (S T : State) (p k tag : ℕ) (request : Request) (reply : Reply) (gone : List ℕ) → Step S p tag request reply gone T →
     is_allowed S p k request ≡ true → ChangesTables S p request reply T
+
+-- no table of a legal history has more places than one may have
+abbrev pub TablesStaySmall : Type 0
+TablesStaySmall = (boot : State) (entries : List Entry) (p : ℕ) → IsLegal boot entries → length (table_of (replay boot entries) p) ≤ table_limit

@@ -46,5 +46,5 @@ tag_of b = if length b.numbers == 0 then None else option_map (λ (o : Origin). 
 -- The tag of the message of which the call that gave this reply installed at least one right. A peek installs them too; and where a receive
 -- joins the bytes of several messages of a stream, it is the tag of the one whose rights came along.
 abbrev pub delivered_by : State → ℕ → Request → Reply → Option ℕ
-delivered_by S p request (Reply.Received count bytes flags control from) = tag_of (brought S p request)
-delivered_by S p request _ = None
+delivered_by S p (Request.RecvMsg fd n space flags) (Reply.Received count bytes set control from) = tag_of (brought S p (Request.RecvMsg fd n space flags))
+delivered_by S p _ _ = None

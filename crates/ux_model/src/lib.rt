@@ -12,7 +12,7 @@ ghost use Rattle.ux_model.specs.Invariants.{NoneLeftUnreferenced, SettlesAtOnce,
 ghost use Rattle.ux_model.specs.ReadyCalls.{TellsInput, TellsRoom};
 ghost use Rattle.ux_model.specs.FlightLaws.{FlightIsLimited};
 ghost use Rattle.ux_model.specs.RoomLaws.{RepliesFit};
-ghost use Rattle.ux_model.specs.Changes.{StepChangesTables};
+ghost use Rattle.ux_model.specs.Changes.{StepChangesTables, TablesStaySmall};
 ghost use Rattle.ux_model.specs.PedigreeLaws.{MessagesAreSent, ChainIsOne, PedigreeIsOfOne, HoldsOnlyItsOwn};
 ghost use Rattle.ux_model.specs.Owning.{NameGoes};
 ghost use Rattle.ux_model.specs.Moves.{ProcessCounts, ChildCounts, SocketCounts, NewCounts, NewCountsAtObject, SameTargetCountsAlike, TakenPathCountsNot};
@@ -249,4 +249,10 @@ pub fn pedigree_is_of_one_description()
 /// A process that was sent nothing holds only what it made, copied or inherited.
 pub fn who_was_sent_nothing_holds_only_its_own()
     ensures { HoldsOnlyItsOwn }
+{}
+
+/// No descriptor table of a legal history has more places than one may have.
+#[tactic(auto, using(crate::proofs::SmallTables::tables_stay_small))]
+pub fn tables_stay_small()
+    ensures { TablesStaySmall }
 {}
