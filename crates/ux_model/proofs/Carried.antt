@@ -20,6 +20,7 @@ use Rattle.ux_model.proofs.Walk.{either}
 use Rattle.ux_model.proofs.FrontRights.{IsFront, cred_front}
 use Rattle.ux_model.proofs.ByPlace.{get_below, get_before}
 use Rattle.ux_model.proofs.Queues.{Waits, queue_is}
+use Rattle.ux_model.proofs.Replacing.{gives_none}
 use Rattle.ux_model.proofs.Shows.{socket_found, by_socket, by_receive}
 
 abbrev origin_tag : Option Origin → Option ℕ
@@ -155,8 +156,8 @@ receive_tells S p n space fd flags = by_socket Q S p fd _ (λ e. inl refl)
 
 chosen_tells : (S T : State) (p : ℕ) (request : Request) (o : Outcome) (reply : Reply) → Tells S p request o.reply → Chosen S o reply T → Tells S p request reply
 chosen_tells S T p request o reply tells (own e f) = subst (Tells S p request) (sym e) tells
-chosen_tells S T p request o reply tells (lacking_memory e may f) = subst (Tells S p request) (sym e) (inl refl)
-chosen_tells S T p request o reply tells (failing e f) = subst (Tells S p request) (sym e) (inl refl)
+chosen_tells S T p request o reply tells (lacking_memory e may f) = subst (Tells S p request) (sym e) (inl (gives_none S p request (Reply.Err Errno.ENOMEM) refl))
+chosen_tells S T p request o reply tells (failing e f) = subst (Tells S p request) (sym e) (inl (gives_none S p request (Reply.Err Errno.EIO) refl))
 
 -- so of a receive that gave a number: the message that its rights are of
 pub received : (S T : State) (p n space i k : ℕ) (fd : Fd) (flags : MsgFlags) (reply : Reply) → Chosen S (recv_msg S p fd n space flags) reply T →

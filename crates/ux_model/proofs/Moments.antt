@@ -10,7 +10,7 @@ use Rattle.ux_model.specs.Step.{Step}
 use Rattle.ux_model.specs.History.{replay, makes, is_allowed, IsLegal}
 use Rattle.ux_model.specs.Giving.{held_at, is_held, description_in, description_of, given, gives}
 use Rattle.ux_model.specs.Pedigree.{before, Stands}
-use Rattle.ux_model.specs.Changes.{left_by, is_err, left, left_to_others, ChangesTables}
+use Rattle.ux_model.specs.Changes.{left_by, is_err, left, others_left_by, left_to_others, ChangesTables}
 use Rattle.ux_model.proofs.ChangedPlaces.{bool_cases}
 use Rattle.ux_model.proofs.Induction.{take_next}
 use Rattle.ux_model.proofs.ByPlace.{get_below, get_within, length_front}
@@ -57,9 +57,12 @@ left_by_keeps _ n o d h = h
 left_keeps : (S : State) (e : Entry) (n : ℕ) (o : Option Descriptor) (d : ℕ) → description_in (left e.request e.reply n o) ≡ Some d → description_in o ≡ Some d
 left_keeps S e n o d h = in_either (is_err e.reply) o (left_by e.request n o) d {R = description_in o ≡ Some d} (λ g. g) (left_by_keeps e.request n o d) h
 
-to_others_keeps : (request : Request) (o : Option Descriptor) (d : ℕ) → description_in (left_to_others request o) ≡ Some d → description_in o ≡ Some d
-to_others_keeps Request.Off o d h = absurd (cc h)
-to_others_keeps _ o d h = h
+others_keep : (request : Request) (o : Option Descriptor) (d : ℕ) → description_in (others_left_by request o) ≡ Some d → description_in o ≡ Some d
+others_keep Request.Off o d h = absurd (cc h)
+others_keep _ o d h = h
+
+to_others_keeps : (e : Entry) (o : Option Descriptor) (d : ℕ) → description_in (left_to_others e.request e.reply o) ≡ Some d → description_in o ≡ Some d
+to_others_keeps e o d h = in_either (is_err e.reply) o (others_left_by e.request o) d {R = description_in o ≡ Some d} (λ g. g) (others_keep e.request o d) h
 
 -- the entry gave the number: to a child, or to its own process as one of those that it gives
 pub given_cases : (S : State) (e : Entry) (q n : ℕ) → gives S e q n ≡ true →
@@ -82,7 +85,7 @@ kept_description S T e q n d changes not_given h =
     let same : e.pid.0 ≡ q = eqb-true e.pid.0 q own in
     let there : description_of T e.pid.0 n ≡ Some d = subst (λ (p : ℕ). description_of T p n ≡ Some d) (sym same) h in
     subst (λ (p : ℕ). description_of S p n ≡ Some d) same (left_keeps S e n (held_at S e.pid.0 n) d (ap description_in (sym (changes.own n none)) ∙ there)))
-    (λ other. to_others_keeps e.request (held_at S q n) d (ap description_in (sym (changes.others q n other parts.0)) ∙ h))
+    (λ other. to_others_keeps e (held_at S q n) d (ap description_in (sym (changes.others q n other parts.0)) ∙ h))
 
 pub held_leads : (S : State) (p n : ℕ) → is_held S p n ≡ true → (d : ℕ) × (description_of S p n ≡ Some d)
 held_leads S p n h = go (held_at S p n) h

@@ -116,7 +116,7 @@ delivered_from boot es j e m legal at waits rights rich =
           (f.0, w.0, f.1, f.2, w.2);
     }
 
-receive_chosen : (S T : State) (p tag n space : ℕ) (fd : Fd) (flags : MsgFlags) (reply : Reply) (gone : List ℕ) → Step S p tag (Request.RecvMsg fd n space flags) reply gone T →
+pub receive_chosen : (S T : State) (p tag n space : ℕ) (fd : Fd) (flags : MsgFlags) (reply : Reply) (gone : List ℕ) → Step S p tag (Request.RecvMsg fd n space flags) reply gone T →
     (U : State) × Chosen S (recv_msg S p fd n space flags) reply U
 unfolding Step outcome
 receive_chosen S T p tag n space fd flags reply gone s = (s.0, s.1)

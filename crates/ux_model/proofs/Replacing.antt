@@ -8,8 +8,9 @@ use Rattle.ux_model.specs.Process.{Process, Descriptor}
 use Rattle.ux_model.specs.Delivery.{installed}
 use Rattle.ux_model.specs.State.{State, process_at, is_live, table_of, with_process, with_table}
 use Rattle.ux_model.specs.History.{is_off, makes}
-use Rattle.ux_model.specs.Giving.{held_at, given}
-use Rattle.ux_model.specs.Changes.{cloexec_of, left_by, is_err, left, left_to_others, sources, ChangesTables}
+use Rattle.ux_model.specs.Delivered.{Brought, brought}
+use Rattle.ux_model.specs.Giving.{held_at, numbers_told, numbers_received, given}
+use Rattle.ux_model.specs.Changes.{cloexec_of, left_by, is_err, left, others_left_by, left_to_others, sources, ChangesTables}
 use Rattle.ux_model.proofs.Named.{table_in}
 use Rattle.ux_model.proofs.ByPlace.{get_set_same, get_set_other}
 use Rattle.ux_model.proofs.Rising.{Rise, rise_once, installed_other, installed_at}
@@ -71,9 +72,38 @@ makes_none : (q : ℕ) (request : Request) (reply : Reply) → tells_child reply
 makes_none q Request.Fork (Reply.Child pid) h = absurd (false≢true (sym h))
 makes_none q request reply h = refl
 
-stays_to_others : (request : Request) (held : Option Descriptor) → is_off request ≡ false → left_to_others request held ≡ held
-stays_to_others Request.Off held h = absurd (false≢true (sym h))
-stays_to_others request held h = refl
+others_stay : (request : Request) (held : Option Descriptor) → is_off request ≡ false → others_left_by request held ≡ held
+others_stay Request.Off held h = absurd (false≢true (sym h))
+others_stay request held h = refl
+
+stays_to_others : (request : Request) (reply : Reply) (held : Option Descriptor) → is_off request ≡ false → left_to_others request reply held ≡ held
+stays_to_others request reply held h = go (is_err reply)
+  where
+    go : (b : Bool) → cond b held (others_left_by request held) ≡ held
+    go true = refl
+    go false = others_stay request held h
+
+-- an answer that tells no number
+abbrev pub tells_number : Reply → Bool
+tells_number (Reply.Fd fd) = true
+tells_number (Reply.Fds first second) = true
+tells_number (Reply.Accepted fd addr) = true
+tells_number (Reply.Received count bytes flags control from) = true
+tells_number _ = false
+
+told_none : (request : Request) (reply : Reply) → tells_number reply ≡ false → numbers_told request reply ≡ []
+told_none request (Reply.Fd fd) h = absurd (false≢true (sym h))
+told_none request (Reply.Fds first second) h = absurd (false≢true (sym h))
+told_none request (Reply.Accepted fd addr) h = absurd (false≢true (sym h))
+told_none request _ h = refl
+
+received_none : (b : Brought) (reply : Reply) → tells_number reply ≡ false → numbers_received b reply ≡ []
+received_none b (Reply.Received count bytes flags control from) h = absurd (false≢true (sym h))
+received_none b _ h = refl
+
+pub gives_none : (S : State) (p : ℕ) (request : Request) (reply : Reply) → tells_number reply ≡ false → given S p request reply ≡ []
+gives_none S p (Request.RecvMsg fd n space flags) reply h = received_none (brought S p (Request.RecvMsg fd n space flags)) reply h
+gives_none S p request reply h = told_none request reply h
 
 -- it leaves what it doesn't give
 pub record IsPlain (request : Request) : Type 0 where
@@ -96,7 +126,7 @@ none_there ns i n none h = let nowhere : slice_get [] i ≡ Some n = sym (ap (λ
 pub changes : (S T : State) (p : ℕ) (request : Request) (reply : Reply) (table : List (Option Descriptor)) → Replaces S p table T → is_off request ≡ false →
     given S p request reply ≡ [] → tells_child reply ≡ false → ((n : ℕ) → place table n ≡ left request reply n (held_at S p n)) → ChangesTables S p request reply T
 changes S T p request reply table replaced on none childless each = record {
-  others = λ q n d c. replaced.other q n (eqb-false p q d) ∙ sym (stays_to_others request (held_at S q n) on);
+  others = λ q n d c. replaced.other q n (eqb-false p q d) ∙ sym (stays_to_others request reply (held_at S q n) on);
   child = λ q n c. absurd (false≢true (sym (makes_none q request reply childless) ∙ c));
   own = λ n g. replaced.same n ∙ each n;
   new = λ i n g. none_there (given S p request reply) i n none g;
@@ -105,7 +135,7 @@ changes S T p request reply table replaced on none childless each = record {
 
 -- one that is refused, whatever else it changes
 pub refusal : (S T : State) (p : ℕ) (request : Request) (e : Errno) → Replaces S p (table_of S p) T → is_off request ≡ false → ChangesTables S p request (Reply.Err e) T
-refusal S T p request e replaced on = changes S T p request (Reply.Err e) (table_of S p) replaced on refl refl (λ n. refl)
+refusal S T p request e replaced on = changes S T p request (Reply.Err e) (table_of S p) replaced on (gives_none S p request (Reply.Err e) refl) refl (λ n. refl)
 
 -- one that leaves the table as it was
 pub keeps_table : (S T : State) (p : ℕ) (request : Request) (reply : Reply) → IsPlain request → Replaces S p (table_of S p) T → given S p request reply ≡ [] → tells_child reply ≡ false →
@@ -118,7 +148,7 @@ pub installs : (S T : State) (p : ℕ) (request : Request) (reply : Reply) (ns :
     Replaces S p (installed (cloexec_of request) ns (sources S p request) (table_of S p)) T → Rise 0 (length (table_of S p)) ns → length ns ≤ length (sources S p request) →
     given S p request reply ≡ ns → tells_child reply ≡ false → ChangesTables S p request reply T
 installs S T p request reply ns plain replaced rise enough tells childless = record {
-  others = λ q n d c. replaced.other q n (eqb-false p q d) ∙ sym (stays_to_others request (held_at S q n) plain.no_end);
+  others = λ q n d c. replaced.other q n (eqb-false p q d) ∙ sym (stays_to_others request reply (held_at S q n) plain.no_end);
   child = λ q n c. absurd (false≢true (sym (makes_none q request reply childless) ∙ c));
   own = λ n g.
       replaced.same n ∙ installed_other (cloexec_of request) ns (sources S p request) (table_of S p) n (sym (ap (λ l. list_any (λ m. m == n) l) tells) ∙ g)

@@ -55,7 +55,7 @@ use Rattle.ux_model.proofs.Obeying.{Obeys}
 use Rattle.ux_model.proofs.Calls.{each_obeys}
 use Rattle.ux_model.proofs.Living.{settled_keeps}
 use Rattle.ux_model.proofs.Queues.{queue_of, queue_in, queue_at, Quiet, Mail, MayCarry, quiet_mail, quiet_after, quiet_table, quiet_new, quiet_put, quiet_by, quiet_socket, quiet_target, sent_mail, taken_mail, Waits, settled_waits}
-use Rattle.ux_model.proofs.Replacing.{Replaces, replaced_process, replaced_table, replaced_none, replaced_alike, tells_child, live_process, held_alike, IsPlain, changes, refusal, keeps_table, installs}
+use Rattle.ux_model.proofs.Replacing.{Replaces, replaced_process, replaced_table, replaced_none, replaced_alike, tells_child, live_process, held_alike, gives_none, IsPlain, changes, refusal, keeps_table, installs}
 
 -- of an outcome in S
 pub record Shows (S : State) (p tag : ℕ) (request : Request) (o : Outcome) : Type 0 where
@@ -514,11 +514,12 @@ poll_shows S p tag fd = maybe (Shows S p tag (Request.Poll fd)) (descriptor_at S
 
 enqueue_shows : (S : State) (p tag : ℕ) (request : Request) (limit : Option ℕ) (d : ℕ) (other : Socket) (m : Message) → IsPlain request → MayCarry S p tag request m →
     Shows S p tag request (enqueue S limit d other m)
-enqueue_shows S p tag request limit d other m plain may = either (Shows S p tag request) (is_stream other.kind && (length m.bytes == 0)) _ _ (λ b. answers plain refl refl refl (silent S))
+enqueue_shows S p tag request limit d other m plain may = either (Shows S p tag request) (is_stream other.kind && (length m.bytes == 0)) _ _ (λ b. answers plain refl (gives_none S p request (Reply.Count 0) refl) refl (silent S))
     (λ b. either (Shows S p tag request) (is_over_limit S limit m) _ _ (λ c. refuses plain.no_end)
     (λ c. either (Shows S p tag request) (not (has_room other)) _ _ (λ e. refuses plain.no_end)
     (λ e. record {
-      tables = keeps_table S (with_socket_by S d (sent m)) p request (Reply.Count (length (sent_part other m).bytes)) plain (replaced_none S (with_socket_by S d (sent m)) p refl) refl refl;
+      tables = keeps_table S (with_socket_by S d (sent m)) p request (Reply.Count (length (sent_part other m).bytes)) plain (replaced_none S (with_socket_by S d (sent m)) p refl)
+          (gives_none S p request (Reply.Count (length (sent_part other m).bytes)) refl) refl;
       mail = sent_mail S p tag d request m may;
     })))
 
@@ -541,7 +542,7 @@ to_target_shows S p tag request limit d t target m plain may = either (Shows S p
 
 -- an association that ends leaves the tables
 ended_shows : (S : State) (p tag d : ℕ) (request : Request) → IsPlain request → Shows S p tag request (answer (Reply.Err Errno.ECONNREFUSED) (with_socket_by S d (with_association None)))
-ended_shows S p tag d request plain = answers plain refl refl refl (quiet_socket S d (with_association None) (λ s. refl))
+ended_shows S p tag d request plain = answers plain refl (gives_none S p request (Reply.Err Errno.ECONNREFUSED) refl) refl (quiet_socket S d (with_association None) (λ s. refl))
 
 by_association_shows : (S : State) (p tag : ℕ) (request : Request) (limit : Option ℕ) (d : ℕ) (target : Option ℕ) (m : Message) → IsPlain request → MayCarry S p tag request m →
     Shows S p tag request (send_by_association S limit d target m)
@@ -621,7 +622,7 @@ by_receive Q S p d s n space flags bad reset nothing front = either Q (is_dgram 
     (λ peer is. either Q (is_stream s.kind && (n == 0)) _ _ (λ c. nothing (inr c))
     (λ c. by_waiting Q s.queue _ _ (λ none. either Q s.reset _ _ (λ e. reset) (λ e. either Q (at_end S s peer) _ _ (λ f. nothing (inl none)) (λ f. bad Errno.EAGAIN))) front)))
 
-delivery_rise : (wanted : Bool) (cred : Cred) (rights : List ℕ) (space : ℕ) (table : List (Option Descriptor)) → Rise 0 (length table) (delivery wanted cred rights space table).numbers
+pub delivery_rise : (wanted : Bool) (cred : Cred) (rights : List ℕ) (space : ℕ) (table : List (Option Descriptor)) → Rise 0 (length table) (delivery wanted cred rights space table).numbers
 unfolding delivery
 delivery_rise wanted cred rights space table =
     rise_take (install_count (length rights) (space_for_rights wanted space) (length (free_numbers table))) 0 (length table) (free_numbers table) (rise_free table)
@@ -642,7 +643,7 @@ delivery_none wanted cred rights table = ap (λ k. take k (free_numbers table)) 
     none false = omega arith
 
 -- what the front brings, where the descriptor leads to its socket
-brought_is : (S : State) (p d n space : ℕ) (fd : Fd) (flags : MsgFlags) (s : Socket) (q : List Message) → find_socket S p fd ≡ Ok (d, s) → s.queue ≡ q →
+pub brought_is : (S : State) (p d n space : ℕ) (fd : Fd) (flags : MsgFlags) (s : Socket) (q : List Message) → find_socket S p fd ≡ Ok (d, s) → s.queue ≡ q →
     brought S p (Request.RecvMsg fd n space flags) ≡ brought_from s n space (table_of S p) q
 brought_is S p d n space fd flags s q h is =
     ap (λ r. elim r as (λ _. Brought) [ Err e ↦ nothing_brought | Ok w ↦ brought_from w.1 n space (table_of S p) w.1.queue ]) h ∙ ap (brought_from s n space (table_of S p)) is
@@ -658,7 +659,7 @@ few_of_none rights s n space table cred none = go (delivery s.passcred cred righ
     go (m ∷ ms) h = let l : length (delivery s.passcred cred rights space table).numbers ≡ suc (length ms) = ap (λ (r : List ℕ). length r) h in absurd (omega (arith, few, l))
 
 -- where nothing is taken nothing is brought
-nothing_is_brought : (s : Socket) (n space : ℕ) (table : List (Option Descriptor)) (q : List Message) → (q ≡ []) ⊎ ((is_stream s.kind && (n == 0)) ≡ true) → (brought_from s n space table q).numbers ≡ []
+pub nothing_is_brought : (s : Socket) (n space : ℕ) (table : List (Option Descriptor)) (q : List Message) → (q ≡ []) ⊎ ((is_stream s.kind && (n == 0)) ≡ true) → (brought_from s n space table q).numbers ≡ []
 nothing_is_brought s n space table [] h = refl
 nothing_is_brought s n space table (m ∷ ms) (inl h) = absurd (cc h)
 nothing_is_brought s n space table (m ∷ ms) (inr h) =
@@ -818,7 +819,7 @@ write_shows S p tag fd bytes = found Q S p fd _ (refuses refl) (λ e D g h. by_t
 
 seek_shows : (S : State) (p tag d : ℕ) (request : Request) (D : Description) (to : ℤ) → IsPlain request → description_at S d ≡ Some D → Shows S p tag request (seek_to S d D to)
 seek_shows S p tag d request D (pos n) plain h = either (Shows S p tag request) (nat_lt offset_limit n) _ _ (λ b. refuses plain.no_end)
-    (λ b. answers plain refl refl refl (quiet_put S d D (record D { offset = n }) h refl))
+    (λ b. answers plain refl (gives_none S p request (Reply.At n) refl) refl (quiet_put S d D (record D { offset = n }) h refl))
 seek_shows S p tag d request D (negsuc n) plain h = refuses plain.no_end
 
 pub lseek_shows : (S : State) (p tag : ℕ) (fd : Fd) (offset : ℤ) (whence : Whence) → Shows S p tag (Request.Lseek fd offset whence) (lseek S p fd offset whence)

@@ -40,9 +40,12 @@ abbrev pub left : Request → Reply → ℕ → Option Descriptor → Option Des
 left request reply n held = if is_err reply then held else left_by request n held
 
 -- and in the tables of others: the end of the layer alone changes them, and leaves nothing
-abbrev pub left_to_others : Request → Option Descriptor → Option Descriptor
-left_to_others Request.Off held = None
-left_to_others _ held = held
+abbrev pub others_left_by : Request → Option Descriptor → Option Descriptor
+others_left_by Request.Off held = None
+others_left_by _ held = held
+
+abbrev pub left_to_others : Request → Reply → Option Descriptor → Option Descriptor
+left_to_others request reply held = if is_err reply then held else others_left_by request held
 
 abbrev pub as_list : {X : Type 0} → Option X → List X
 as_list None = []
@@ -66,7 +69,7 @@ sources S p _ = []
 -- What a call of process p, from S to T, tells of the tables before it and after it.
 pub record ChangesTables (S : State) (p : ℕ) (request : Request) (reply : Reply) (T : State) : Type 0 where
   -- other processes keep their tables, but for a child, which has its parent's, and at the end of the layer
-  pub others : (q n : ℕ) → (p == q) ≡ false → makes q request reply ≡ false → held_at T q n ≡ left_to_others request (held_at S q n)
+  pub others : (q n : ℕ) → (p == q) ≡ false → makes q request reply ≡ false → held_at T q n ≡ left_to_others request reply (held_at S q n)
   pub child : (q n : ℕ) → makes q request reply ≡ true → held_at T q n ≡ held_at S p n
   -- a number of its own that it doesn't give
   pub own : (n : ℕ) → list_any (λ m. m == n) (given S p request reply) ≡ false → held_at T p n ≡ left request reply n (held_at S p n)

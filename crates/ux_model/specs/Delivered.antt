@@ -43,8 +43,13 @@ brought S p _ = nothing_brought
 abbrev pub tag_of : Brought → Option ℕ
 tag_of b = if length b.numbers == 0 then None else option_map (λ (o : Origin). o.tag) b.origin
 
--- The tag of the message of which the call that gave this reply installed at least one right. A peek installs them too; and where a receive
--- joins the bytes of several messages of a stream, it is the tag of the one whose rights came along.
+-- The same by a reply, which tells that something was received or not. A peek installs rights too; and where a receive joins the bytes of
+-- several messages of a stream, the tag is that of the one whose rights came along.
+abbrev pub told_of : Brought → Reply → Option ℕ
+told_of b (Reply.Received count bytes flags control from) = tag_of b
+told_of b _ = None
+
+-- the tag of the message of which the call that gave this reply installed at least one right
 abbrev pub delivered_by : State → ℕ → Request → Reply → Option ℕ
-delivered_by S p (Request.RecvMsg fd n space flags) (Reply.Received count bytes set control from) = tag_of (brought S p (Request.RecvMsg fd n space flags))
-delivered_by S p _ _ = None
+delivered_by S p (Request.RecvMsg fd n space flags) reply = told_of (brought S p (Request.RecvMsg fd n space flags)) reply
+delivered_by S p _ reply = None

@@ -7,7 +7,7 @@ use Rattle.ux_model.specs.Control.{Control}
 use Rattle.ux_model.specs.ControlReading.{control_in}
 use Rattle.ux_model.specs.Process.{Descriptor}
 use Rattle.ux_model.specs.State.{State, table_of}
-use Rattle.ux_model.specs.Delivered.{brought}
+use Rattle.ux_model.specs.Delivered.{Brought, brought}
 use Rattle.ux_model.specs.History.{makes}
 
 -- ---- holding
@@ -34,13 +34,22 @@ abbrev pub is_onto_itself : Request → Bool
 is_onto_itself (Request.Dup2 fd to) = to.0 == fd.0
 is_onto_itself _ = false
 
--- The numbers that the call of process p gives it anew in state S, in order, where it answers this; dup2(2) onto itself gives none.
+-- the numbers that an answer tells; dup2(2) onto itself gives none
+abbrev pub numbers_told : Request → Reply → List ℕ
+numbers_told request (Reply.Fd fd) = if is_onto_itself request then [] else fd.0 ∷ []
+numbers_told request (Reply.Fds first second) = first.0 ∷ second.0 ∷ []
+numbers_told request (Reply.Accepted fd addr) = fd.0 ∷ []
+numbers_told request _ = []
+
+-- those that a receive gives, which brings this
+abbrev pub numbers_received : Brought → Reply → List ℕ
+numbers_received b (Reply.Received count bytes flags control from) = b.numbers
+numbers_received b _ = []
+
+-- The numbers that the call of process p gives it anew in state S, in order, where it answers this.
 abbrev pub given : State → ℕ → Request → Reply → List ℕ
-given S p request (Reply.Fd fd) = if is_onto_itself request then [] else fd.0 ∷ []
-given S p request (Reply.Fds first second) = first.0 ∷ second.0 ∷ []
-given S p request (Reply.Accepted fd addr) = fd.0 ∷ []
-given S p request (Reply.Received count bytes flags control from) = (brought S p request).numbers
-given S p request _ = []
+given S p (Request.RecvMsg fd n space flags) reply = numbers_received (brought S p (Request.RecvMsg fd n space flags)) reply
+given S p request reply = numbers_told request reply
 
 -- The entry, of a call that was made in state S, gave process p the number n anew; fork(2) gives a child each of its numbers.
 abbrev pub gives : State → Entry → ℕ → ℕ → Bool
