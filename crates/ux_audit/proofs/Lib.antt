@@ -7,3 +7,4 @@ pub mod Placing
 pub mod Walking
 pub mod Originating
 pub mod Checking
+pub mod Texts

@@ -5,3 +5,4 @@ pub mod Givers
 pub mod Holdings
 pub mod Origins
 pub mod Indexes
+pub mod Text

@@ -15,7 +15,8 @@ use std::alloc::{AllocError, Global};
 use std::marker::Model;
 use ux_types::{Entry, Fd, Pid};
 
-/// A history, and what was found in its entries once for all questions. Contracts see the entries.
+/// A history, and what was found in its entries once for all questions. Contracts see the entries. Of those of a
+/// legal history the answers say what was; of others they say nothing.
 #[derive(Drop)]
 pub struct Audit<'a> {
     entries: &'a [Entry],
@@ -53,7 +54,6 @@ impl<'a> Audit<'a> {
     ///
     /// Out of memory.
     pub fn holdings(&self, alloc: Global) -> Result<Vec<(Pid, Fd)>, AllocError>
-        requires legal { IsHistory self.now }
         ensures { IfOk result (λ held. (boot : State) → IsLegal boot self.now → AreHoldings (replay boot self.now) held.items) }
     {
         list_all(alloc, self.index.tables.as_slice())
@@ -66,7 +66,6 @@ impl<'a> Audit<'a> {
     ///
     /// Out of memory.
     pub fn pedigree(&self, alloc: Global, pid: Pid, fd: Fd) -> Result<Option<Chain>, AllocError>
-        requires legal { IsHistory self.now }
         ensures chain { IfOk result (λ found. (boot : State) → IsLegal boot self.now →
             IfSome found (λ chain. IsPedigree boot self.now chain.links.items pid.0 fd.0)) }
         ensures held { IfOk result (λ found. (boot : State) → IsLegal boot self.now →
@@ -92,7 +91,6 @@ impl<'a> Audit<'a> {
         pid: Pid,
         fd: Fd,
     ) -> Result<bool, AllocError>
-        requires legal { IsHistory self.now }
         ensures { IfOk result (λ yes. (boot : State) → IsLegal boot self.now →
             IsTrue yes ↔ IsPedigree boot self.now chain.now.links.items pid.0 fd.0) }
     {

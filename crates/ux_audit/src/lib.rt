@@ -12,8 +12,10 @@ mod marks;
 mod origin;
 mod shown;
 mod tables;
+mod text;
 mod walk;
 
 pub use audit::{Audit, check_pedigree, holdings, pedigree};
 pub use chain::Chain;
+pub use text::chain_text;
 pub use ux_types::{How, Link};
