@@ -1,9 +1,9 @@
 -- The numbers that a receive tells in its control buffer are those that it gave.
-use Rattle.std.proofs.Common.{◌≡◌, ℕ, zero, suc, ◌+◌, ◌*◌, ◌^◌, ◌<◌, ◌≤◌, ◌==◌, Bool, true, false, not, ◌||◌, if◌then◌else◌, List, [], ◌∷◌, ◌++◌, length, flat_map, Option, Some, None, option_map, refl, ap, sym, ◌∙◌, subst, arith}
+use Rattle.std.proofs.Common.{◌≡◌, ℕ, suc, ◌+◌, ◌^◌, ◌<◌, ◌≤◌, ◌==◌, Bool, true, false, not, if◌then◌else◌, List, [], ◌∷◌, ◌++◌, length, flat_map, Option, Some, None, option_map, refl, ap, sym, ◌∙◌, subst, arith}
 use Rattle.std.specs.Prelude.{IfSome}
 use Rattle.std.specs.List.{AllByRecursion}
 use Rattle.std.specs.Int.{w32, w64, to_le_bytes, from_le_bytes}
-use Rattle.ux_model.specs.Types.{Cred, Fd, MsgFlags, Errno, Request, Reply}
+use Rattle.ux_model.specs.Types.{Cred, Fd, MsgFlags, Request, Reply}
 use Rattle.ux_model.specs.Limits.{table_limit}
 use Rattle.ux_model.specs.Flags.{are_receive_flags}
 use Rattle.ux_model.specs.Control.{Control, Item, rights_item, cred_item, payload, item_type, item_bytes, IsItem, Spells, ReadsAs}
@@ -11,16 +11,16 @@ use Rattle.ux_model.specs.ControlReading.{control_in, with_items}
 use Rattle.ux_model.specs.Front.{Front, front_of}
 use Rattle.ux_model.specs.Socket.{Socket}
 use Rattle.ux_model.specs.Process.{Descriptor}
-use Rattle.ux_model.specs.Delivery.{Delivery, delivery, rights_bytes, control_bytes}
+use Rattle.ux_model.specs.Delivery.{delivery, rights_bytes, control_bytes}
 use Rattle.ux_model.specs.State.{State, table_of}
-use Rattle.ux_model.specs.Outcome.{Outcome, Chosen, own, lacking_memory, failing, find_socket}
+use Rattle.ux_model.specs.Outcome.{Outcome, Chosen, own, lacking_memory, failing}
 use Rattle.ux_model.specs.Delivered.{Brought, brought}
 use Rattle.ux_model.specs.Receiving.{receive_front, recv_msg}
 use Rattle.ux_model.specs.Giving.{numbers_received, rights_in}
 use Rattle.ux_model.proofs.Walk.{either}
 use Rattle.ux_model.proofs.Rising.{Rise}
 use Rattle.ux_model.proofs.Shows.{by_socket, by_receive, brought_is, nothing_is_brought, delivery_rise}
-use Rattle.ux_cmsg.proofs.Numbers.{IsBytes, bytes_below, wide32}
+use Rattle.ux_cmsg.proofs.Numbers.{bytes_below, wide32}
 use Rattle.ux_cmsg.proofs.Collecting.{read_is}
 use Rattle.ux_cmsg.proofs.Written.{control_spelled}
 use Rattle.ux_audit.specs.Shown.{numbers_read}

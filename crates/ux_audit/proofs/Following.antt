@@ -9,7 +9,7 @@ use Rattle.ux_model.specs.Process.{Descriptor, kept_on_exec, with_cloexec}
 use Rattle.ux_model.specs.State.{State}
 use Rattle.ux_model.specs.History.{makes}
 use Rattle.ux_model.specs.Giving.{held_at, given}
-use Rattle.ux_model.specs.Changes.{cloexec_of, left_by, is_err, left, others_left_by, left_to_others, ChangesTables}
+use Rattle.ux_model.specs.Changes.{cloexec_of, left_by, is_err, others_left_by, ChangesTables}
 use Rattle.ux_model.proofs.ChangedPlaces.{bool_cases}
 use Rattle.ux_model.proofs.ByPlace.{member_place}
 use Rattle.ux_model.proofs.Replacing.{gives_none}

@@ -1,24 +1,23 @@
 -- Where a holding came from, by the request of the entry that gave it.
-use Rattle.std.proofs.Common.{◌≡◌, ◌⊎◌, inl, inr, ℕ, suc, ◌<◌, ◌≤◌, ◌==◌, Bool, true, false, List, [], length, get_or, take, Option, None, Some, MatchOption, option_map, refl, ap, sym, ◌∙◌, subst, arith, slice_get}
+use Rattle.std.proofs.Common.{◌≡◌, ◌⊎◌, inl, inr, ℕ, ◌<◌, ◌≤◌, ◌==◌, true, false, List, [], length, get_or, Option, None, Some, MatchOption, option_map, refl, ap, sym, ◌∙◌, subst, arith, slice_get}
 use Rattle.std.specs.Prelude.{IfSome, IfNone}
 use Rattle.std.specs.List.{list_any}
-use Rattle.std.proofs.lemmas.Bool.{false≢true, eqb-true, eqb-false}
+use Rattle.std.proofs.lemmas.Bool.{false≢true}
 use Rattle.std.proofs.lemmas.Option.{slice_get_read}
 use Rattle.ux_model.specs.Types.{Name, Mode, OpenFlags, MsgFlags, SockType, Fd, Request, Entry, How}
 use Rattle.ux_model.specs.State.{State}
-use Rattle.ux_model.specs.History.{replay, IsLegal}
+use Rattle.ux_model.specs.History.{IsLegal}
 use Rattle.ux_model.specs.Changes.{sources}
 use Rattle.ux_model.specs.Process.{fd_of}
-use Rattle.ux_model.specs.Giving.{given, how_of, copied, sent_by}
-use Rattle.ux_model.specs.Pedigree.{before, delivered}
-use Rattle.ux_model.proofs.ChangedPlaces.{bool_cases}
+use Rattle.ux_model.specs.Giving.{given, how_of, copied, sent_by, IsReceive, receive}
+use Rattle.ux_model.specs.Pedigree.{before}
 use Rattle.ux_model.proofs.ByPlace.{place_member}
 use Rattle.ux_model.proofs.Moments.{moment}
-use Rattle.ux_model.proofs.Passing.{IsReceive, receive, receive_no_fork, IsOwn, own_number, IsDelivered, receive_delivered, gives_nothing}
+use Rattle.ux_model.proofs.Passing.{receive_no_fork, IsOwn, own_number, IsDelivered, receive_delivered, gives_nothing}
 use Rattle.ux_audit.specs.declared.hands.Giver.{Giver}
 use Rattle.ux_audit.specs.declared.hands.Origin.{Origin}
 use Rattle.ux_audit.specs.Shown.{shown, gave}
-use Rattle.ux_audit.specs.Origins.{GivesAt, NoneGives, NeverGiven, IsGiver, IsOrigin}
+use Rattle.ux_audit.specs.Origins.{NeverGiven, IsGiver, IsOrigin}
 use Rattle.ux_audit.proofs.Told.{shown_given, gave_gives, told_delivered}
 
 pub one_entry : (es : List Entry) (j : ℕ) (e f : Entry) → slice_get es j ≡ Some e → slice_get es j ≡ Some f → e ≡ f

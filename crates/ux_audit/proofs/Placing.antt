@@ -1,5 +1,5 @@
 -- The lists of places that a scan notes, and the last of them below another.
-use Rattle.std.proofs.Common.{◌≡◌, ◌⊎◌, ℕ, zero, suc, ◌+◌, ◌<◌, ◌≤◌, ◌==◌, ◌&&◌, ◌||◌, cond, Bool, true, false, List, [], ◌∷◌, ◌++◌, length, map, replicate, Option, Some, None, MatchOption, refl, ap, sym, ◌∙◌, subst, inl, inr, ⊎_elim, arith, append_assoc}
+use Rattle.std.proofs.Common.{◌≡◌, ◌⊎◌, ℕ, zero, suc, ◌+◌, ◌<◌, ◌≤◌, ◌==◌, ◌&&◌, ◌||◌, cond, Bool, true, false, List, [], ◌∷◌, ◌++◌, length, replicate, Option, Some, None, MatchOption, refl, ap, sym, ◌∙◌, subst, inl, inr, ⊎_elim, arith}
 use Rattle.std.specs.Prelude.{IfSome}
 use Rattle.std.specs.List.{slice_get, list_any}
 use Rattle.std.specs.Global.{Vec}
@@ -11,8 +11,8 @@ use Rattle.ux_model.specs.References.{times}
 use Rattle.ux_model.specs.History.{makes}
 use Rattle.ux_model.proofs.ChangedPlaces.{bool_cases}
 use Rattle.ux_model.proofs.ByPlace.{get_below}
-use Rattle.ux_audit.specs.Shown.{shown, shows, gave}
-use Rattle.ux_audit.specs.Givers.{items_at, places_at, Rises, ArePlaces, AreGivers, NoneBelow, IsLastBelow}
+use Rattle.ux_audit.specs.Shown.{shown, shows}
+use Rattle.ux_audit.specs.Givers.{items_at, places_at, ArePlaces, AreGivers, NoneBelow, IsLastBelow}
 use Rattle.ux_audit.specs.Origins.{GivesAt, NoneGives}
 
 -- ---- one place more, as often as it was given

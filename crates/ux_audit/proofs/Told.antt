@@ -1,16 +1,16 @@
 -- What the entries of a legal history tell is what their calls did.
-use Rattle.std.proofs.Common.{◌≡◌, ℕ, suc, ◌≤◌, ◌==◌, ◌&&◌, ◌||◌, Bool, true, false, List, length, take, Option, Some, refl, ap, sym, ◌∙◌, subst}
+use Rattle.std.proofs.Common.{◌≡◌, ℕ, suc, ◌≤◌, ◌==◌, ◌&&◌, ◌||◌, List, length, take, Some, refl, ap, subst}
 use Rattle.std.specs.List.{slice_get, list_any}
 use Rattle.ux_model.specs.Types.{Request, Entry}
 use Rattle.ux_model.specs.Limits.{table_limit}
 use Rattle.ux_model.specs.State.{State, table_of}
 use Rattle.ux_model.specs.Step.{Step}
-use Rattle.ux_model.specs.History.{replay, makes, IsLegal}
+use Rattle.ux_model.specs.History.{makes, IsLegal}
 use Rattle.ux_model.specs.Giving.{given, gives}
 use Rattle.ux_model.specs.Pedigree.{before, delivered}
 use Rattle.ux_model.proofs.Fronts.{front_is_legal}
 use Rattle.ux_model.proofs.SmallTables.{tables_stay_small}
-use Rattle.ux_model.proofs.Moments.{Moment, moment}
+use Rattle.ux_model.proofs.Moments.{moment}
 use Rattle.ux_model.proofs.Passing.{receive_chosen}
 use Rattle.ux_audit.specs.Shown.{shown, gave}
 use Rattle.ux_audit.proofs.Controls.{chosen_reads}

@@ -1,15 +1,15 @@
 -- The walk back, link by link.
-use Rattle.std.proofs.Common.{◌≡◌, ℕ, zero, suc, ◌+◌, ◌-◌, ◌<◌, ◌≤◌, Bool, true, false, ◌&&◌, not, List, [], ◌∷◌, ◌++◌, length, map, replicate, take, reverse, Option, None, Some, MatchOption, refl, ap, sym, ◌∙◌, subst, arith, append_assoc, slice_get, is_some}
+use Rattle.std.proofs.Common.{◌≡◌, ℕ, zero, suc, ◌+◌, ◌-◌, ◌<◌, ◌≤◌, Bool, true, false, ◌&&◌, not, List, [], ◌∷◌, ◌++◌, length, map, replicate, reverse, Option, None, Some, MatchOption, refl, ap, sym, ◌∙◌, subst, arith, append_assoc, slice_get, is_some}
 use Rattle.std.proofs.lemmas.Bool.{false≢true}
 use Rattle.std.proofs.lemmas.List.{take_all, reverse-append, append-nil}
 use Rattle.ux_model.specs.Types.{Pid, Fd, Entry, How, Link}
 use Rattle.ux_model.specs.Places.{place}
 use Rattle.ux_model.specs.Process.{Process, Descriptor}
-use Rattle.ux_model.specs.State.{State, table_of}
+use Rattle.ux_model.specs.State.{State}
 use Rattle.ux_model.specs.Boot.{IsBootState}
 use Rattle.ux_model.specs.History.{replay, IsLegal}
 use Rattle.ux_model.specs.Giving.{is_held, held_at, how_of}
-use Rattle.ux_model.specs.Pedigree.{before, delivered, Stands, IsGiven, IsChain, first, onward, IsPedigree}
+use Rattle.ux_model.specs.Pedigree.{before, Stands, IsGiven, IsChain, first, onward, IsPedigree}
 use Rattle.ux_model.proofs.Named.{table_in}
 use Rattle.ux_model.proofs.ByPlace.{get_within, take_none}
 use Rattle.ux_model.proofs.Moments.{moment, kept_description, held_leads, leads_held}

@@ -2,7 +2,7 @@
 use Rattle.std.specs.Prelude.{◌≡◌, ℕ, ◌≤◌, ◌^◌, length, All, Bool, ◌==◌, if◌then◌else◌, List, Option, Some, None, option_map}
 use Rattle.std.specs.List.{slice_get, list_any}
 use Rattle.std.specs.Global.{Vec}
-use Rattle.ux_model.specs.Types.{Request, Reply, Entry}
+use Rattle.ux_model.specs.Types.{Request, Entry}
 use Rattle.ux_model.specs.Places.{place}
 use Rattle.ux_model.specs.Flags.{asks_cloexec}
 use Rattle.ux_model.specs.Process.{Descriptor}

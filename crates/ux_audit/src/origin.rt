@@ -2,8 +2,7 @@
 ghost use Rattle.std.specs.Prelude.{◌≡◌, ◌==◌, ◌<◌, Some, false, length, map, MatchOption, IfSome, IfNone, IfOk, option_map};
 ghost use Rattle.std.specs.List.{list_any, slice_get};
 ghost use Rattle.ux_types.specs.declared.Entry.{Entry};
-ghost use Rattle.ux_model.specs.Giving.{sent_by};
-ghost use Rattle.ux_model.proofs.Passing.{IsReceive};
+ghost use Rattle.ux_model.specs.Giving.{sent_by, IsReceive};
 ghost use Rattle.ux_audit.specs.Shown.{shown};
 ghost use Rattle.ux_audit.specs.Origins.{NeverGiven, IsOrigin};
 

@@ -16,7 +16,7 @@ use Rattle.ux_model.specs.Outcome.{Outcome, Chosen, own, lacking_memory, failing
 use Rattle.ux_model.specs.Closing.{exit, with_nothing_open}
 use Rattle.ux_model.specs.Forking.{child_of, fork}
 use Rattle.ux_model.specs.Step.{Step, outcome, lacks_memory, fails}
-use Rattle.ux_model.specs.History.{has_live, live_count, is_off, is_exit, has_exited, makes, makes_one, was_made, is_allowed, ExitAndForkAlone, LiveOnesCounted, ForkAloneMakes, ForkTellsTheNext, LivesUntilExit}
+use Rattle.ux_model.specs.History.{has_live, live_count, is_exit, has_exited, makes, makes_one, was_made, is_allowed, ExitAndForkAlone, LiveOnesCounted, ForkAloneMakes, ForkTellsTheNext, LivesUntilExit}
 use Rattle.ux_model.proofs.Induction.{IsKept, kept_throughout}
 use Rattle.ux_model.proofs.Walk.{either, maybe}
 use Rattle.ux_model.proofs.Reaching.{Reaches, still, process_changed, process_forked, description_made, peers_made, connection_made, description_changed, object_changed, paths_taken, path_bound, name_bound, turned_off}

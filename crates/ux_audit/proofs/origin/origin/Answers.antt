@@ -1,5 +1,5 @@
 use Rattle.std.proofs.Common.{sym, subst}
-use Rattle.ux_model.proofs.Passing.{IsReceive, receive}
+use Rattle.ux_model.specs.Giving.{IsReceive, receive}
 use Rattle.ux_audit.specs.declared.hands.Origin.{Origin}
 use Rattle.ux_audit.specs.Origins.{IsOrigin}
 use Rattle.ux_audit.proofs.Rows.{IfOk_then}

@@ -1,6 +1,6 @@
-use Rattle.std.proofs.Common.{ℕ, option_map, ap, sym, ◌∙◌, arith}
+use Rattle.std.proofs.Common.{option_map, ap, sym, ◌∙◌, arith}
 use Rattle.ux_model.specs.Types.{Fd}
-use Rattle.ux_audit.proofs.Originating.{never_undelivered, never_shown, never_later, never_unsent, origin_received, place_found, read_entry}
+use Rattle.ux_audit.proofs.Originating.{never_undelivered, never_later, never_unsent, origin_received, place_found, read_entry}
 use Rattle.ux_audit.proofs.origin.received.Goals as goal
 
 pub returns-in_default-clause-none : goal.returns-in_default-clause-none

@@ -1,4 +1,4 @@
-use Rattle.std.proofs.Common.{◌==◌, ℕ, Bool, map, Option, Some, ap, ◌∙◌, if◌then◌else◌}
+use Rattle.std.proofs.Common.{◌==◌, Bool, map, Option, Some, ap, ◌∙◌, if◌then◌else◌}
 use Rattle.std.specs.List.{list_any}
 use Rattle.ux_model.specs.Types.{Fd}
 use Rattle.ux_model.specs.Places.{place}

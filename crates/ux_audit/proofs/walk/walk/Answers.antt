@@ -1,11 +1,7 @@
-use Rattle.std.proofs.Common.{◌≡◌, Option, List, Some, reverse, subst, sym, arith}
-use Rattle.std.specs.Prelude.{IfSome, IfNone}
-use Rattle.std.specs.List.{slice_get}
-use Rattle.ux_model.specs.Types.{Entry, Link}
+use Rattle.std.proofs.Common.{List, reverse, subst, sym, arith}
+use Rattle.ux_model.specs.Types.{Link}
 use Rattle.ux_model.specs.Pedigree.{IsPedigree}
 use Rattle.ux_model.proofs.ByPlace.{get_within}
-use Rattle.ux_audit.specs.declared.hands.Origin.{Origin}
-use Rattle.ux_audit.specs.Origins.{NeverGiven, IsOrigin}
 use Rattle.ux_audit.proofs.Walking.{IsWalking, walk_ends, walk_goes_on, walk_finds}
 use Rattle.ux_audit.proofs.Originating.{origin_found, never_found, giver_earlier}
 use Rattle.ux_audit.proofs.walk.walk.Goals as goal
