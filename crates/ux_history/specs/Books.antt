@@ -27,6 +27,15 @@ ends_of entries = count_by (λ e. is_off e.request) entries
 abbrev pub is_last : Request → Bool
 is_last request = is_exit request || is_off request
 
+-- a process that makes another one
+abbrev pub is_fork : Request → Bool
+is_fork Request.Fork = true
+is_fork _ = false
+
+-- exit, off and fork, each of which a book has a function for
+abbrev pub has_own_call : Request → Bool
+has_own_call request = is_last request || is_fork request
+
 -- the book has this entry more, which may follow
 pub record Adds (old new : Held) (e : Entry) : Type 0 where
   pub next : MayFollow old.boot old.entries e

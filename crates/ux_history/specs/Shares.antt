@@ -1,5 +1,5 @@
 -- What the right to call is, and what accounts of it settle.
-use Rattle.std.specs.Prelude.{◌≡◌, ℕ, zero, suc, ◌+◌, Bool, true, ◌==◌, ◌&&◌, List, [], ◌∷◌, ◌++◌, length, count_by}
+use Rattle.std.specs.Prelude.{◌≡◌, ℕ, zero, suc, ◌+◌, Bool, true, ◌==◌, ◌&&◌, List, [], ◌∷◌, ◌++◌, length, count_by, Option, Some, None}
 use Rattle.std.specs.List.{list_all}
 use Rattle.ux_model.specs.Types.{Pid, Request, Reply, Entry}
 use Rattle.ux_model.specs.State.{is_live}
@@ -28,9 +28,14 @@ fresh (suc n) = fresh n ++ record { pid = record { 0 = suc n }; k = 0 } ∷ []
 abbrev pub call_by : Caller → Request → Reply → List ℕ → Entry
 call_by c request reply released = record { pid = c.pid; k = c.k; request = request; reply = reply; released = released }
 
--- how many processes were made
+-- how many processes were made, those that have exited too
 abbrev pub processes : Held → ℕ
-processes book = length book.boot.processes
+processes book = length (state_of book).processes
+
+-- the process that a call made, which has made no call yet
+abbrev pub child_by : Request → Reply → Option Caller
+child_by Request.Fork (Reply.Child pid) = Some (record { pid = pid; k = 0 })
+child_by _ _ = None
 
 -- how many of the callers are this process
 abbrev pub times : ℕ → List Caller → ℕ

@@ -1,7 +1,8 @@
-use Rattle.std.proofs.Common.{◌≡◌, ◌++◌, ◌∷◌, [], ◌==◌, map, length, vec_capacity, ap, sym, subst, ◌∙◌, arith}
+use Rattle.std.proofs.Common.{◌≡◌, ◌≤◌, ◌++◌, ◌∷◌, [], ◌==◌, map, length, vec_capacity, ap, sym, subst, ◌∙◌, arith}
 use Rattle.std.proofs.lemmas.Bool.{false≢true}
 use Rattle.std.proofs.lemmas.List.{nil_from_length, length-map}
 use Rattle.std.proofs.lemmas.List.Sums.{count_by-le-length}
+use Rattle.ux_model.specs.Limits.{made_limit}
 use Rattle.ux_model.specs.Types.{Reply, Errno, Entry}
 use Rattle.ux_model.specs.State.{State}
 use Rattle.ux_model.specs.Step.{Step}
@@ -34,10 +35,13 @@ returns-then-is_again-clause-none g c = nil_from_length c.step-reply.new.retired
 
 -- ---- where it is an entry
 
+few_made : (g : Over) (c : goal.After-process_count-made g) → length c.self.inside.kernel.processes ≤ made_limit
+few_made g c = let count = c.process_count-made.ensures.count in let most = c.process_count-made.ensures.most in omega (arith, count, most)
+
 pub note-requires-clause-counted : goal.note-requires-clause-counted
 note-requires-clause-counted g c =
     let allowed = allowed_now _ _ _ _ _ c.args.self.now c.args.pid c.args.k c.args.request c.self.invariant c.self.view_is c.requires.call in
-    let inside = caller_inside c.self.inside.kernel c.self.inside.calls.items c.args.pid.0 c.args.k c.args.request c.self.invariant.slots allowed in
+    let inside = caller_inside c.self.inside.kernel c.self.inside.calls.items c.args.pid.0 c.args.k c.args.request c.self.invariant.slots (few_made g c) allowed in
     omega (arith, inside, c.self.inside.calls.ok.0)
 
 pub note-requires-clause-few : goal.note-requires-clause-few
@@ -76,7 +80,7 @@ grown g c =
     let boot = g.W.BookName.boot in
     let view = c.self.view_is in
     log_push boot old.kernel c.step-reply.new.self old.entries.items c.note.new.entries.items old.calls.items c.note.new.calls.items (vec_capacity old.entries) (vec_capacity c.note.new.entries) (entry_of g c) c.len-number.result
-    c.self.invariant
+    c.self.invariant (few_made g c)
     (allowed_now _ _ _ _ _ c.args.self.now c.args.pid c.args.k c.args.request c.self.invariant view c.requires.call)
     (counted_now _ _ _ c.args.self.now c.args.pid c.args.k c.args.request view c.requires.call)
     (room_now boot old.kernel old.entries.items old.calls.items _ c.args.self.now c.args.request c.self.invariant view c.requires.room)
