@@ -262,7 +262,7 @@ fn read_text(alloc: Global, text: &[u8]) -> Result<Script, ScriptFault>
 /// which isn't a call: where processes are threads, the process goes on when that one has N entries or more, or has
 /// exited. Each `fork` makes one more process, whose number is the next: it is known to the lines behind that line,
 /// as their own process and as one that is waited for, and to none before. Process 1 alone may fork, and only where
-/// fewer than 1,024 processes are known; each other fork line is a bad line.
+/// fewer than 1,024 processes are known: each other fork line is a bad line, and never told as an unknown process.
 /// A line `off` may come last. A send's ADDR may be `-` for none; its CONTROL is `-` for no bytes, `x:HEX` for
 /// these, or items joined by `+`: `c:PID,UID,GID` for credentials and `r:N,N,..` for descriptor numbers.
 pub fn parse_script(alloc: Global, text: &[u8]) -> Result<Script, ScriptFault>
