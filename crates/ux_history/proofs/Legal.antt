@@ -228,6 +228,10 @@ room_for_one boot S T es cs cap e n log allowed k room step =
     let taken = room_taken (is_last e.request) (makes_one e.request e.reply) (last_makes_none e.request e.reply) in
     omega (arith, left, taken, room)
 
+-- as many as were counted are few
+pub few_from : {n m : ℕ} → n ≡ m → n ≤ made_limit → m ≤ made_limit
+few_from same few = subst (λ (k : ℕ). k ≤ made_limit) same few
+
 -- what the kernel asks of a caller
 pub allowed_caller : (S : State) (p k : ℕ) (request : Request) → is_allowed S p k request ≡ true → IsCaller S p request
 allowed_caller S p k request = go (is_off request)

@@ -324,12 +324,12 @@ impl<W: BookName, O: FileObject> Book<W, O> {
             drop(spare);
             return Ok(None);
         };
-        // The log says that a process which was made has a part.
-        let _made = self.log.process_count();
         let (reply, call) = self.log.answer(number, spare);
-        let child = child_share(&mut self.rest, request, &reply);
         self.ledger.add(&mut share.part, 1);
         share.k += 1;
+        // The log says that a process which was made has a part.
+        let _made = self.log.process_count();
+        let child = child_share(&mut self.rest, request, &reply);
         let of = PhantomData;
         let receipt = Receipt {
             number,

@@ -1,5 +1,4 @@
 use Rattle.std.proofs.Common.{ap, sym, ◌∙◌, rules}
-use Rattle.std.proofs.lemmas.Bool.{not-false}
 use Rattle.ux_history.specs.Shares.{once_each}
 use Rattle.ux_history.proofs.Accounts.{first_each}
 use Rattle.ux_history.proofs.account.settle_accounts.Goals as goal
@@ -12,4 +11,4 @@ returns-clause-first g c =
     let count = c.process_count.ensures in
     let spents = c.args.spents.items in
     first_each g.W.BookName.boot _ spents count.boot count.legal
-    (ap (λ n. once_each n spents) (sym count.count) ∙ ap (once_each c.process_count.result) (sym c.as_slice.ensures.value) ∙ sym c.is_each_once.ensures ∙ not-false _ c.if-not-is_each_once.false)
+    (ap (λ n. once_each n spents) (sym count.count) ∙ ap (once_each c.process_count.result) (sym c.as_slice.ensures.value) ∙ sym c.is_each_once.ensures ∙ c.if-not-is_each_once.false)

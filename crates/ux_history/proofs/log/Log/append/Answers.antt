@@ -1,15 +1,14 @@
-use Rattle.std.proofs.Common.{◌≡◌, ◌≤◌, ◌++◌, ◌∷◌, [], ◌==◌, map, length, vec_capacity, ap, sym, subst, ◌∙◌, arith}
+use Rattle.std.proofs.Common.{◌≡◌, ◌++◌, ◌∷◌, [], ◌==◌, map, length, vec_capacity, ap, sym, subst, ◌∙◌, arith}
 use Rattle.std.proofs.lemmas.Bool.{false≢true}
 use Rattle.std.proofs.lemmas.List.{nil_from_length, length-map}
 use Rattle.std.proofs.lemmas.List.Sums.{count_by-le-length}
-use Rattle.ux_model.specs.Limits.{made_limit}
 use Rattle.ux_model.specs.Types.{Reply, Errno, Entry}
 use Rattle.ux_model.specs.State.{State}
 use Rattle.ux_model.specs.Step.{Step}
 use Rattle.ux_model.specs.History.{MayFollow}
 use Rattle.ux_history.specs.Books.{Held, state_of}
 use Rattle.ux_history.specs.Logs.{Kept, IsLog}
-use Rattle.ux_history.proofs.Legal.{Pushed, Waited, log_push, waited, room_for_one, room_now, caller_inside, allowed_now, counted_now}
+use Rattle.ux_history.proofs.Legal.{few_from, Pushed, Waited, log_push, waited, room_for_one, room_now, caller_inside, allowed_now, counted_now}
 use Rattle.ux_history.proofs.log.Log.append.Given.{Over}
 use Rattle.ux_history.proofs.log.Log.append.Goals as goal
 use Rattle.ux_history.proofs.log.Log.append.Goals.{else-waits-via-then-waits+else-is_again, else-waits-via-else-waits}
@@ -35,13 +34,10 @@ returns-then-is_again-clause-none g c = nil_from_length c.step-reply.new.retired
 
 -- ---- where it is an entry
 
-few_made : (g : Over) (c : goal.After-process_count-made g) → length c.self.inside.kernel.processes ≤ made_limit
-few_made g c = let count = c.process_count-made.ensures.count in let most = c.process_count-made.ensures.most in omega (arith, count, most)
-
 pub note-requires-clause-counted : goal.note-requires-clause-counted
 note-requires-clause-counted g c =
     let allowed = allowed_now _ _ _ _ _ c.args.self.now c.args.pid c.args.k c.args.request c.self.invariant c.self.view_is c.requires.call in
-    let inside = caller_inside c.self.inside.kernel c.self.inside.calls.items c.args.pid.0 c.args.k c.args.request c.self.invariant.slots (few_made g c) allowed in
+    let inside = caller_inside c.self.inside.kernel c.self.inside.calls.items c.args.pid.0 c.args.k c.args.request c.self.invariant.slots (few_from c.process_count-made.ensures.count c.process_count-made.ensures.most) allowed in
     omega (arith, inside, c.self.inside.calls.ok.0)
 
 pub note-requires-clause-few : goal.note-requires-clause-few
@@ -80,7 +76,7 @@ grown g c =
     let boot = g.W.BookName.boot in
     let view = c.self.view_is in
     log_push boot old.kernel c.step-reply.new.self old.entries.items c.note.new.entries.items old.calls.items c.note.new.calls.items (vec_capacity old.entries) (vec_capacity c.note.new.entries) (entry_of g c) c.len-number.result
-    c.self.invariant (few_made g c)
+    c.self.invariant (few_from c.process_count-made.ensures.count c.process_count-made.ensures.most)
     (allowed_now _ _ _ _ _ c.args.self.now c.args.pid c.args.k c.args.request c.self.invariant view c.requires.call)
     (counted_now _ _ _ c.args.self.now c.args.pid c.args.k c.args.request view c.requires.call)
     (room_now boot old.kernel old.entries.items old.calls.items _ c.args.self.now c.args.request c.self.invariant view c.requires.room)

@@ -1,8 +1,7 @@
-use Rattle.std.proofs.Common.{◌≡◌, ◌≤◌, ◌++◌, ◌∷◌, [], ◌==◌, map, length, ap, sym, subst, ◌∙◌, arith}
+use Rattle.std.proofs.Common.{◌≡◌, ◌++◌, ◌∷◌, [], ◌==◌, map, length, ap, sym, subst, ◌∙◌, arith}
 use Rattle.std.proofs.lemmas.Bool.{false≢true}
 use Rattle.std.proofs.lemmas.List.{nil_from_length, length-map}
 use Rattle.std.proofs.lemmas.List.Sums.{count_by-le-length}
-use Rattle.ux_model.specs.Limits.{made_limit}
 use Rattle.ux_model.specs.Types.{Reply, Errno, Entry}
 use Rattle.ux_model.specs.State.{State}
 use Rattle.ux_model.specs.Step.{Step}
@@ -10,7 +9,7 @@ use Rattle.ux_model.specs.History.{MayFollow}
 use Rattle.ux_history.specs.Books.{Held, state_of}
 use Rattle.ux_history.specs.Pasts.{entries_of}
 use Rattle.ux_history.specs.Running.{IsRunning}
-use Rattle.ux_history.proofs.Legal.{Waited, waited}
+use Rattle.ux_history.proofs.Legal.{few_from, Waited, waited}
 use Rattle.ux_history.proofs.Running.{Grown, ready, running_push, few_entries}
 use Rattle.ux_history.proofs.running_log.RunningLog.append.Given.{Over}
 use Rattle.ux_history.proofs.running_log.RunningLog.append.Goals as goal
@@ -36,23 +35,20 @@ returns-then-is_again-clause-none g c = nil_from_length c.step-reply.new.retired
 
 -- ---- where it is an entry
 
-few_made : (g : Over) (c : goal.After-process_count-made g) → length c.self.inside.kernel.processes ≤ made_limit
-few_made g c = let count = c.process_count-made.ensures.count in let most = c.process_count-made.ensures.most in omega (arith, count, most)
-
 pub count-requires-clause-counted : goal.count-requires-clause-counted
 count-requires-clause-counted g c =
-    let may = ready c.args.pid c.args.k c.args.request.now c.self.invariant c.self.view_is (few_made g c) c.requires.call c.requires.few in
+    let may = ready c.args.pid c.args.k c.args.request.now c.self.invariant c.self.view_is (few_from c.process_count-made.ensures.count c.process_count-made.ensures.most) c.requires.call c.requires.few in
     omega (arith, may.inside, c.self.inside.calls.ok.0)
 
 pub count-requires-clause-few : goal.count-requires-clause-few
 count-requires-clause-few g c =
-    let may = ready c.args.pid c.args.k c.args.request.now c.self.invariant c.self.view_is (few_made g c) c.requires.call c.requires.few in
+    let may = ready c.args.pid c.args.k c.args.request.now c.self.invariant c.self.view_is (few_from c.process_count-made.ensures.count c.process_count-made.ensures.most) c.requires.call c.requires.few in
     let few = count_by-le-length (λ (e : Entry). e.pid.0 == c.args.pid.0) (entries_of c.self.inside.past) in
     omega (arith, may.counted, few, c.self.invariant.long)
 
 pub count-requires-clause-room : goal.count-requires-clause-room
 count-requires-clause-room g c =
-    let may = ready c.args.pid c.args.k c.args.request.now c.self.invariant c.self.view_is (few_made g c) c.requires.call c.requires.few in
+    let may = ready c.args.pid c.args.k c.args.request.now c.self.invariant c.self.view_is (few_from c.process_count-made.ensures.count c.process_count-made.ensures.most) c.requires.call c.requires.few in
     let e : Entry = record { pid = c.args.pid; k = c.args.k; request = c.args.request.now; reply = c.step-reply.result; released = map (λ r. r.0) c.step-reply.new.retired } in
     let few = few_entries c.step-reply.new.self e c.self.invariant may c.step-reply.ensures.step in
     omega (arith, few, c.self.invariant.long)
@@ -71,7 +67,7 @@ appended_here g c =
 grown : (g : Over) (c : goal.After-count g) → Grown g.W.BookName.boot c.step-reply.new.self (entries_of c.self.inside.past) (entries_of c.push.new.self) c.count.new.calls.items (entry_of g c) c.count.new.number
 unfolding entry_of
 grown g c =
-    running_push (entry_of g c) c.self.invariant (ready c.args.pid c.args.k c.args.request.now c.self.invariant c.self.view_is (few_made g c) c.requires.call c.requires.few) c.step-reply.ensures.step
+    running_push (entry_of g c) c.self.invariant (ready c.args.pid c.args.k c.args.request.now c.self.invariant c.self.view_is (few_from c.process_count-made.ensures.count c.process_count-made.ensures.most) c.requires.call c.requires.few) c.step-reply.ensures.step
     (appended_here g c) c.count.ensures.calls c.count.ensures.number
 
 pub invariant_of-self-2 : goal.invariant_of-self-2
