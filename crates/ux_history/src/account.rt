@@ -38,6 +38,7 @@ pub fn settle_accounts<W: BookName, O: FileObject, B: CallBook<W, O>>(
     ensures once { IfOk result (λ a. once_each (processes (B.held book.old)) spents.items ≡ true) }
     ensures first { IfOk result (λ a. once_each (length W.boot.processes) spents.items ≡ true) }
     ensures missing { IfErr result (λ f. is_missing f.0 ≡ not (once_each (processes (B.held book.old)) spents.items)) }
+    ensures absent { IfErr result (λ f. once_each (length W.boot.processes) spents.items ≡ false → is_missing f.0 ≡ true) }
     ensures lacking { IfErr result (λ f. is_missing f.0 ≡ true → IsLacking W.boot spents.items) }
     ensures boot { (B.held book.old).boot ≡ W.boot }
     ensures counted { IfOk result (λ a. all_counted (B.held book.old).entries spents.items ≡ true) }

@@ -27,6 +27,7 @@ pub fn settle_told<W: Trailing, O: FileObject>(
     ensures once { IfOk result (λ a. once_each (processes book.old) spents.items ≡ true) }
     ensures first { IfOk result (λ a. once_each (length W.boot.processes) spents.items ≡ true) }
     ensures missing { IfErr result (λ f. is_missing f.0 ≡ not (once_each (processes book.old) spents.items)) }
+    ensures absent { IfErr result (λ f. once_each (length W.boot.processes) spents.items ≡ false → is_missing f.0 ≡ true) }
     ensures lacking { IfErr result (λ f. is_missing f.0 ≡ true → IsLacking W.boot spents.items) }
     ensures sum { IfOk result (λ a. a.entries ≡ sum_by (λ c. c.k) spents.items + (if a.ended then 1 else 0)) }
     ensures told { IfOk result (λ a. IsTold W.boot spents.items witnesses.old a.entries a.ended) }

@@ -1,5 +1,5 @@
 //! What the seats share: the book under its lock.
-ghost use Rattle.std.specs.Prelude.{◌≡◌, ◌+◌, not, true, false, length, sum_by, is_some, IfOk, IfErr, if◌then◌else◌};
+ghost use Rattle.std.specs.Prelude.{◌≡◌, ◌+◌, true, false, length, sum_by, is_some, IfOk, IfErr, if◌then◌else◌};
 ghost use Rattle.std.specs.Sync.Mutex.{mutex_guard_value};
 ghost use Rattle.ux_model.specs.Boot.{IsBootState};
 ghost use Rattle.ux_history.specs.Books.{state_of};

@@ -1,5 +1,5 @@
 //! A layer whose book keeps no entry: its memory stays as it is, however many calls are made.
-ghost use Rattle.std.specs.Prelude.{◌≡◌, ◌+◌, [], true, not, length, sum_by, IfOk, IfErr, if◌then◌else◌};
+ghost use Rattle.std.specs.Prelude.{◌≡◌, ◌+◌, [], true, false, length, sum_by, IfOk, IfErr, if◌then◌else◌};
 ghost use Rattle.ux_model.specs.Boot.{IsBootState};
 ghost use Rattle.ux_history.specs.Shares.{fresh, once_each};
 ghost use Rattle.ux_history.specs.Settling.{IsLacking};
