@@ -52,3 +52,4 @@ mod LegalExample
 mod ClosingExample
 pub mod ObjectExamples
 mod NameExamples
+mod ForkingExamples
