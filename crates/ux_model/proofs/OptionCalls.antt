@@ -8,7 +8,7 @@ use Rattle.ux_model.specs.Limits.{greatest_queue_limit}
 use Rattle.ux_model.specs.Socket.{Socket, is_stream, tied_socket, with_reset, with_passcred, with_queue_limit}
 use Rattle.ux_model.specs.State.{State, socket_at, with_socket_by}
 use Rattle.ux_model.specs.Outcome.{descriptor_at}
-use Rattle.ux_model.specs.Options.{tell_cred, tell_queue_limit, tell_option, get_opt, pass_cred_named, pass_cred_on, may_limit, limit_queue, change_option, set_opt}
+use Rattle.ux_model.specs.Options.{tell_cred, tell_option, get_opt, pass_cred_named, pass_cred_on, may_limit, limit_queue, change_option, set_opt}
 use Rattle.ux_model.specs.Readiness.{poll}
 use Rattle.ux_model.proofs.Walk.{either, maybe, found_socket}
 use Rattle.ux_model.proofs.Bounds.{free_short}

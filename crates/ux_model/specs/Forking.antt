@@ -1,5 +1,5 @@
 -- A further process (fork(2)), and a new program in one (execve(2)).
-use Rattle.std.specs.Prelude.{ℕ, suc, false, nat_le, if◌then◌else◌, map, length, ◌++◌, ◌∷◌, []}
+use Rattle.std.specs.Prelude.{ℕ, false, nat_le, if◌then◌else◌, map, length}
 use Rattle.ux_model.specs.Types.{Errno, Reply}
 use Rattle.ux_model.specs.Limits.{made_limit}
 use Rattle.ux_model.specs.Process.{Process, kept_on_exec, pid_of}
