@@ -139,3 +139,15 @@ fn a_refused_group_changes_nothing(rt: HostRuntime) -> Result<(), Fail> {
     assert_eq!(rt; marks.first_clear(), None);
     Ok(())
 }
+
+#[test]
+fn a_copy_has_marks_of_its_own(rt: HostRuntime) -> Result<(), Fail> {
+    let mut marks = Marks::new(rt.alloc(), 200)?;
+    fill(&rt, &mut marks, 200);
+    let copy = marks.clone()?;
+    put(&rt, &mut marks, 130, false);
+    assert_eq!(rt; copy.first_clear(0), None);
+    assert_eq!(rt; marks.first_clear(0), Some(130));
+    assert_eq!(rt; copy.numbers(), 200);
+    Ok(())
+}

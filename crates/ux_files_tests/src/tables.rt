@@ -294,6 +294,38 @@ fn marked_numbers_are_closed_on_exec(rt: HostRuntime) -> Result<(), Fail> {
 }
 
 #[test]
+fn a_copy_of_a_table_is_a_table_of_its_own(rt: HostRuntime) -> Result<(), Fail> {
+    let mut table = make_table(rt.alloc(), 4)?;
+    open(&rt, &mut table, 0, 10, true);
+    open(&rt, &mut table, 1, 11, false);
+    let mut copy = table.clone()?;
+    close(&rt, &mut table, 1, 11, false);
+    table.set_cloexec(Fd(0), false);
+    expect_two(&rt, &copy, 2, 3);
+    copy.close_on_exec();
+    expect_closed(&rt, &copy, 0);
+    expect_open(&rt, &copy, 1, 11, false);
+    expect_two(&rt, &copy, 0, 2);
+    expect_open(&rt, &table, 0, 10, false);
+    expect_two(&rt, &table, 1, 2);
+    Ok(())
+}
+
+#[test]
+fn a_copy_of_a_table_is_refused_memory(rt: HostRuntime) -> Result<(), Fail> {
+    let alloc = rt.alloc();
+    let mut table = make_table(alloc, 1024)?;
+    open(&rt, &mut table, 0, 10, true);
+    let hoard = Hoard::take_all(alloc)?;
+    let refused = table.clone().is_err();
+    drop(hoard);
+    assert!(rt; refused);
+    expect_open(&rt, &table, 0, 10, true);
+    expect_lowest(&rt, &table, 1);
+    Ok(())
+}
+
+#[test]
 fn numbers_are_closed_without_memory(rt: HostRuntime) -> Result<(), Fail> {
     let alloc = rt.alloc();
     let mut table = make_table(alloc, 5)?;

@@ -1,9 +1,17 @@
--- Shares that are cut, and counted.
-use Rattle.std.proofs.Common.{◌≡◌, ℕ, zero, suc, ◌+◌, ◌-◌, ◌<◌, ◌≤◌, ◌==◌, ◌&&◌, List, [], ◌∷◌, ◌++◌, length, Bool, true, false, cond, refl, ap, ◌∙◌, arith, ⊎_elim}
-use Rattle.std.proofs.lemmas.Bool.{false≢true, eqb-true}
+-- Shares that are cut, and counted, and what a further entry does to them.
+use Rattle.std.proofs.Common.{◌≡◌, ◌≢◌, ℕ, zero, suc, ◌+◌, ◌-◌, ◌<◌, ◌≤◌, ◌==◌, ◌&&◌, List, [], ◌∷◌, ◌++◌, length, Bool, true, false, cond, refl, ap, sym, subst, ◌∙◌, arith, ⊎_elim}
+use Rattle.std.proofs.lemmas.Bool.{false≢true, eqb-true, and_parts}
 use Rattle.std.proofs.lemmas.Bool.Decides.{eqb_tells}
 use Rattle.std.proofs.lemmas.List.Sums.{sum_by-cons}
-use Rattle.ux_history.specs.Shares.{Caller, fresh, times, once_each}
+use Rattle.std.proofs.lemmas.List.{length-append}
+use Rattle.ux_model.specs.Types.{Entry}
+use Rattle.ux_model.specs.History.{is_off, makes_one, replay, IsLegal}
+use Rattle.ux_model.specs.State.{State}
+use Rattle.ux_model.proofs.Induction.{kept_throughout}
+use Rattle.ux_model.proofs.Living.{fork_alone_makes}
+use Rattle.ux_history.specs.Books.{Held, state_of, ends_of, Adds}
+use Rattle.ux_history.specs.Shares.{Caller, IsBook, fresh, times, once_each, processes}
+use Rattle.ux_history.proofs.Legal.{ends_push}
 
 pub fresh_more : (p : ℕ) → 0 < p → fresh (p - 1) ++ record { pid = record { 0 = p }; k = 0 } ∷ [] ≡ fresh (p + 1 - 1)
 fresh_more zero h = absurd (omega arith)
@@ -60,3 +68,62 @@ found_once (suc n) cs h =
 -- where each of n processes stands once, there are at least n callers
 pub once_most : (n : ℕ) (cs : List Caller) → once_each n cs ≡ true → n ≤ length cs
 once_most n cs h = let all = found_once n cs h in let most = found_most n cs in omega arith
+
+-- ---- a further entry
+
+-- a fork alone makes a process
+pub processes_after : (old new : Held) (e : Entry) → Adds old new e → processes new ≡ processes old + cond {A = ℕ} (makes_one e.request e.reply) 1 0
+processes_after old new e adds =
+    ap (λ (b : Held). length (state_of b).processes) adds.appended
+    ∙ fork_alone_makes (state_of old) (replay old.boot (old.entries ++ e ∷ [])) e.pid.0 (length old.entries) e.request e.reply e.released adds.next.steps
+
+-- a part is there for a process that was made
+pub part_for_child : {old new : Held} {e : Entry} {parts total rest amount count : ℕ} → IsBook old parts total rest amount → Adds old new e → count ≡ processes new → count ≤ 1024 →
+    cond {A = ℕ} (makes_one e.request e.reply) 1 0 ≤ rest
+part_for_child {old} {new} {e} book adds is most =
+    let more = processes_after old new e adds in
+    let all = book.rest in
+    omega (arith, more, all, is, most)
+
+-- the entry is counted, unless it is the layer's end, and a process that was made has a part
+pub book_after : {old new : Held} {e : Entry} {parts total total' rest rest' amount amount' : ℕ} → IsBook old parts total rest amount → Adds old new e →
+    total' ≡ total + cond {A = ℕ} (is_off e.request) 0 1 → rest' + cond {A = ℕ} (makes_one e.request e.reply) 1 0 ≡ rest → amount' ≡ 0 → IsBook new parts total' rest' amount'
+book_after {old} {new} {e} {parts} {total} {total'} {rest} {rest'} {amount} {amount'} book adds counted given none =
+    let more = processes_after old new e adds in
+    let all = book.rest in
+    let before = book.counted in
+    let longer : length new.entries ≡ length old.entries + 1 = ap (λ (b : Held). length b.entries) adds.appended ∙ length-append old.entries (e ∷ []) in
+    let ends : ends_of new.entries ≡ ends_of old.entries + cond {A = ℕ} (is_off e.request) 1 0 = ap (λ (b : Held). ends_of b.entries) adds.appended ∙ ends_push old.entries e in
+    let either = counted_or_end (is_off e.request) in
+    record {
+      whole = book.whole;
+      counted = omega (arith, counted, before, longer, ends, either);
+      rest = omega (arith, more, all, given);
+      nothing = none;
+    }
+  where
+    counted_or_end : (b : Bool) → cond {A = ℕ} b 0 1 + cond {A = ℕ} b 1 0 ≡ 1
+    counted_or_end true = refl
+    counted_or_end false = refl
+
+-- ---- processes of the start, and those that were made since
+
+pub boot_within : (boot : State) (es : List Entry) → IsLegal boot es → length boot.processes ≤ length (replay boot es).processes
+boot_within boot es legal = kept_throughout boot (λ l S. length boot.processes ≤ length S.processes) (record {
+  at_boot = λ boots. omega arith;
+  by_entry = λ l e S T so_far step allowed. let more = fork_alone_makes S T e.pid.0 (length l) e.request e.reply e.released step in omega (arith, so_far, more);
+}) es legal
+
+pub once_each_front : (m n : ℕ) (cs : List Caller) → m ≤ n → once_each n cs ≡ true → once_each m cs ≡ true
+once_each_front m zero cs few all = ap (λ i. once_each i cs) (let none : m ≡ 0 = omega (arith, few) in none)
+once_each_front m (suc n) cs few all =
+    ⊎_elim {C = once_each m cs ≡ true}
+    (λ w. ap (λ i. once_each i cs) w.1 ∙ all)
+    (λ w. let ne : m ≢ suc n = w.1 in once_each_front m n cs (omega (arith, few, ne)) (and_parts (once_each n cs) _ all).0)
+    (eqb_tells m (suc n))
+
+-- the shares of all processes are those of the ones at the start, too
+pub first_each : (boot : State) (book : Held) (cs : List Caller) → book.boot ≡ boot → IsLegal boot book.entries → once_each (processes book) cs ≡ true → once_each (length boot.processes) cs ≡ true
+first_each boot book cs begins legal all =
+    once_each_front (length boot.processes) (processes book) cs
+    (subst (λ (S : State). length boot.processes ≤ length (replay S book.entries).processes) (sym begins) (boot_within boot book.entries legal)) all

@@ -6,11 +6,11 @@ use Rattle.std.proofs.lemmas.Option.{get_or_from_slice_get}
 use Rattle.std.proofs.lemmas.Bool.Decides.{eqb_tells}
 use Rattle.ux_model.specs.Types.{Entry}
 use Rattle.ux_model.specs.State.{State}
-use Rattle.ux_model.specs.History.{IsLegal}
+use Rattle.ux_model.specs.History.{replay, IsLegal}
 use Rattle.ux_history.specs.declared.receipts.Call.{Call}
 use Rattle.ux_history.specs.declared.account.Account.{Account}
 use Rattle.ux_history.specs.Books.{ends_of}
-use Rattle.ux_history.specs.Shares.{Caller, all_counted}
+use Rattle.ux_history.specs.Shares.{Caller, once_each, all_counted}
 use Rattle.ux_history.specs.Receipts.{Slip}
 use Rattle.ux_history.specs.Telling.{AllStand, IsTold}
 
@@ -27,6 +27,6 @@ stands_more calls slips i w is here before k s less at =
 -- an account of a history in which the witnesses' calls stand
 pub told_of : {E : Type 0} (boot : State) (es : List Entry) (cs : List Caller) (slips : List Slip) (r : Result Account E) → IsLegal boot es
     → IfOk r (λ a. a.entries ≡ length es) → IfOk r (λ a. (if a.ended then 1 else 0) ≡ ends_of es) → IfOk r (λ a. all_counted es cs ≡ true)
-    → AllStand es slips → IfOk r (λ a. IsTold boot cs slips a.entries a.ended)
-told_of boot es cs slips (Ok a) legal long ends counted stand = record { entries = es; legal = legal; long = sym long; counted = counted; ends = sym ends; stand = stand }
-told_of boot es cs slips (Err f) legal long ends counted stand = tt
+    → IfOk r (λ a. once_each (length (replay boot es).processes) cs ≡ true) → AllStand es slips → IfOk r (λ a. IsTold boot cs slips a.entries a.ended)
+told_of boot es cs slips (Ok a) legal long ends counted once stand = record { entries = es; legal = legal; long = sym long; counted = counted; ends = sym ends; once = once; stand = stand }
+told_of boot es cs slips (Err f) legal long ends counted once stand = tt

@@ -1,5 +1,6 @@
 -- What a log keeps true.
 use Rattle.std.specs.Prelude.{◌≡◌, ℕ, ◌+◌, ◌≤◌, ◌-◌, List, length, slice_index}
+use Rattle.ux_model.specs.Limits.{made_limit}
 use Rattle.ux_model.specs.Types.{Entry}
 use Rattle.ux_model.specs.State.{State}
 use Rattle.ux_model.specs.History.{calls_of, live_count, replay, IsLegal}
@@ -14,12 +15,11 @@ pub record Kept : Type 0 where
 abbrev pub last_entries : State → List Entry → ℕ
 last_entries S entries = live_count S + (1 - ends_of entries)
 
--- The entries are a legal history that leads to the kernel's state, which has the processes that were made at boot, those of each process are counted, and those of none, which are the layer's end, once at most, and there is room for the last ones.
+-- The entries are a legal history that leads to the kernel's state, those of each process that is ever made are counted, and those of none, which are the layer's end, once at most, and there is room for the last ones.
 pub record IsLog (boot : State) (entries : List Entry) (kernel : State) (calls : List ℕ) (capacity : ℕ) : Type 0 where
   pub legal : IsLegal boot entries
   pub at_replay : kernel ≡ replay boot entries
-  pub made : length kernel.processes ≡ length boot.processes
-  pub slots : length calls ≡ length kernel.processes + 1
+  pub slots : length calls ≡ made_limit + 1
   pub counted : (p : ℕ) → slice_index calls p ≡ calls_of p entries
   pub ends : calls_of 0 entries ≡ ends_of entries
   pub once : ends_of entries ≤ 1

@@ -1,10 +1,10 @@
 -- What the right to call is, and what accounts of it settle.
-use Rattle.std.specs.Prelude.{◌≡◌, ℕ, zero, suc, ◌+◌, Bool, true, ◌==◌, ◌&&◌, List, [], ◌∷◌, ◌++◌, length, count_by}
+use Rattle.std.specs.Prelude.{◌≡◌, ℕ, zero, suc, ◌+◌, Bool, true, ◌==◌, ◌&&◌, List, [], ◌∷◌, ◌++◌, length, count_by, Option, Some, None}
 use Rattle.std.specs.List.{list_all}
 use Rattle.ux_model.specs.Types.{Pid, Request, Reply, Entry}
 use Rattle.ux_model.specs.State.{is_live}
 use Rattle.ux_model.specs.History.{calls_of}
-use Rattle.ux_history.specs.Books.{Held, state_of, ends_of}
+use Rattle.ux_history.specs.Books.{Held, state_of, ends_of, entry_of}
 
 -- a process, and how many calls it has made
 pub record Caller : Type 0 where
@@ -24,13 +24,18 @@ abbrev pub fresh : ℕ → List Caller
 fresh zero = []
 fresh (suc n) = fresh n ++ record { pid = record { 0 = suc n }; k = 0 } ∷ []
 
--- an entry of this caller
-abbrev pub call_by : Caller → Request → Reply → List ℕ → Entry
-call_by c request reply released = record { pid = c.pid; k = c.k; request = request; reply = reply; released = released }
+-- the entry of a call that this caller makes at the end of a book
+abbrev pub call_by : Held → Caller → Request → Reply → List ℕ → Entry
+call_by book c request reply released = entry_of (state_of book) c.pid c.k request reply released
 
--- how many processes were made
+-- how many processes were made, those that have exited too
 abbrev pub processes : Held → ℕ
-processes book = length book.boot.processes
+processes book = length (state_of book).processes
+
+-- the process that a call made, which has made no call yet
+abbrev pub child_by : Request → Reply → Option Caller
+child_by Request.Fork (Reply.Child pid) = Some (record { pid = pid; k = 0 })
+child_by _ _ = None
 
 -- how many of the callers are this process
 abbrev pub times : ℕ → List Caller → ℕ

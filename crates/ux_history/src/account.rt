@@ -1,10 +1,10 @@
 //! What the shares of all processes counted, against the entries.
 ghost use Rattle.std.specs.Prelude.{◌≡◌, ◌+◌, ◌-◌, ◌<◌, ◌≤◌, ◌==◌, true, false, not, length, sum_by, IfOk, IfErr, if◌then◌else◌};
-ghost use Rattle.ux_model.specs.Limits.{process_limit};
+ghost use Rattle.ux_model.specs.Limits.{made_limit};
 ghost use Rattle.ux_model.specs.History.{calls_of};
 ghost use Rattle.ux_history.specs.Books.{ends_of};
 ghost use Rattle.ux_history.specs.Shares.{processes, times, once_each, all_counted};
-ghost use Rattle.ux_history.specs.Settling.{IsSettled};
+ghost use Rattle.ux_history.specs.Settling.{IsSettled, IsLacking};
 ghost use Rattle.ux_history.specs.Faults.{is_missing, is_unknown};
 
 use crate::call_book::CallBook;
@@ -36,7 +36,10 @@ pub fn settle_accounts<W: BookName, O: FileObject, B: CallBook<W, O>>(
 ) -> Result<Account, (SettleFault, Vec<Spent<W>>)>
     ensures book { B.held book.new ≡ B.held book.old }
     ensures once { IfOk result (λ a. once_each (processes (B.held book.old)) spents.items ≡ true) }
+    ensures first { IfOk result (λ a. once_each (length W.boot.processes) spents.items ≡ true) }
     ensures missing { IfErr result (λ f. is_missing f.0 ≡ not (once_each (processes (B.held book.old)) spents.items)) }
+    ensures absent { IfErr result (λ f. once_each (length W.boot.processes) spents.items ≡ false → is_missing f.0 ≡ true) }
+    ensures lacking { IfErr result (λ f. is_missing f.0 ≡ true → IsLacking W.boot spents.items) }
     ensures boot { (B.held book.old).boot ≡ W.boot }
     ensures counted { IfOk result (λ a. all_counted (B.held book.old).entries spents.items ≡ true) }
     ensures miscounted { IfErr result (λ f. is_missing f.0 ≡ false → all_counted (B.held book.old).entries spents.items ≡ false) }
@@ -58,7 +61,7 @@ pub fn settle_accounts<W: BookName, O: FileObject, B: CallBook<W, O>>(
 
 /// Whether each of the processes 1 to `count` is among them once.
 fn is_each_once<W: BookName>(spents: &[Spent<W>], count: usize) -> bool
-    requires { count ≤ process_limit }
+    requires { count ≤ made_limit }
     ensures { result ≡ once_each count spents.now }
 {
     let mut once = true;

@@ -1,14 +1,15 @@
 //! The book: a kernel with all that was called since it started, and the right to call as shares.
 ghost use Rattle.std.specs.Prelude.{◌≡◌, ◌+◌, ◌<◌, ◌≤◌, ◌&&◌, ◌↔◌, [], true, false, not, length, map, sum_by, Some, IfOk, IfErr, OnOk, OnErr, IfSome, IfNone, OnSome, IsTrue, if◌then◌else◌};
 ghost use Rattle.std.specs.List.{slice_get, AllByRecursion};
-ghost use Rattle.ux_model.specs.Limits.{process_limit};
+ghost use Rattle.ux_model.specs.Limits.{made_limit};
 ghost use Rattle.ux_model.specs.Boot.{IsBootState};
 ghost use Rattle.ux_model.specs.State.{is_live};
 ghost use Rattle.ux_model.specs.Waiting.{should_wait};
 ghost use Rattle.ux_model.specs.History.{calls_of, has_live, IsLegal};
 ghost use Rattle.ux_model.specs.HandingOut.{IsHandedOut};
-ghost use Rattle.ux_history.specs.Books.{state_of, ends_of, is_last, Adds, Appends, MustWait};
-ghost use Rattle.ux_history.specs.Shares.{knows, once_more, fresh, call_by, processes, once_each};
+ghost use Rattle.ux_model.specs.History.{makes_one};
+ghost use Rattle.ux_history.specs.Books.{state_of, ends_of, is_last, has_own_call, Adds, Appends, MustWait};
+ghost use Rattle.ux_history.specs.Shares.{knows, once_more, fresh, call_by, child_by, processes, once_each};
 ghost use Rattle.ux_history.specs.Logs.{last_entries};
 ghost use Rattle.ux_history.specs.Receipts.{call_of, next_slip};
 ghost use Rattle.ux_history.specs.Telling.{AllStand};
@@ -28,7 +29,7 @@ use std::sync::ledger::Blank;
 use ux_kernel::Kernel;
 use ux_object::FileObject;
 use ux_state::RetiredList;
-use ux_types::{Entry, Pid, Request};
+use ux_types::{Entry, Pid, Reply, Request};
 
 /// Into how many parts a book's ledger is cut: one for each process that is ever made.
 pub const PARTS: u64 = 1024;
@@ -132,7 +133,7 @@ impl<W: BookName, O: FileObject> Book<W, O> {
     /// How many processes were made.
     pub fn process_count(&self) -> usize
         ensures count { result ≡ processes self.now }
-        ensures most { result ≤ process_limit }
+        ensures most { result ≤ made_limit }
     {
         self.log.process_count()
     }
@@ -194,12 +195,12 @@ impl<W: BookName, O: FileObject> Book<W, O> {
         request: &Request,
         retired: &mut RetiredList<O>,
     ) -> Result<Recorded<W>, CallFault>
-        requires call { is_last request.now ≡ false }
+        requires call { has_own_call request.now ≡ false }
         requires empty { retired.old ≡ [] }
         ensures known { OnOk result (knows self.old share.old ≡ true) }
         ensures stranger { IfErr result (λ f. is_stranger f ≡ not (knows self.old share.old)) }
         ensures memory { IfErr result (λ f. is_stranger f ≡ false → f ≡ CallFault.NoMemory) }
-        ensures entry { IfOk result (λ r. Adds self.old self.new (call_by share.old request.now r.reply (map (λ o. o.0) retired.new))) }
+        ensures entry { IfOk result (λ r. Adds self.old self.new (call_by self.old share.old request.now r.reply (map (λ o. o.0) retired.new))) }
         ensures receipt { IfOk result (λ r. r.receipt ≡ next_slip self.old share.old request.now r.reply false) }
         ensures share { OnOk result (share.new ≡ once_more share.old) }
         ensures handed_out { OnOk result (AllByRecursion (IsHandedOut (state_of self.old)) retired.new) }
@@ -208,7 +209,39 @@ impl<W: BookName, O: FileObject> Book<W, O> {
         ensures none { OnErr result (retired.new ≡ []) }
     {
         match self.make(share, request, false, retired) {
-            Ok(Some(recorded)) => Ok(recorded),
+            Ok(Some((recorded, _))) => Ok(recorded),
+            Ok(None) => unreachable!(),
+            Err(fault) => Err(fault),
+        }
+    }
+
+    /// Makes a process that is a copy of the share's, as one more entry (fork(2)), and gives the new process's
+    /// share, which has made no call yet. It is there exactly where the answer is `Child`. All allocations come
+    /// before the call, also those for the new process's exit.
+    ///
+    /// # Errors
+    ///
+    /// Those of `record`. Book and share are then as before.
+    pub fn fork(
+        &mut self,
+        share: &mut Share<W>,
+        retired: &mut RetiredList<O>,
+    ) -> Result<(Recorded<W>, Option<Share<W>>), CallFault>
+        requires empty { retired.old ≡ [] }
+        ensures known { OnOk result (knows self.old share.old ≡ true) }
+        ensures stranger { IfErr result (λ f. is_stranger f ≡ not (knows self.old share.old)) }
+        ensures memory { IfErr result (λ f. is_stranger f ≡ false → f ≡ CallFault.NoMemory) }
+        ensures entry { IfOk result (λ r. Adds self.old self.new (call_by self.old share.old Request.Fork r.0.reply (map (λ o. o.0) retired.new))) }
+        ensures receipt { IfOk result (λ r. r.0.receipt ≡ next_slip self.old share.old Request.Fork r.0.reply false) }
+        ensures child { IfOk result (λ r. r.1 ≡ child_by Request.Fork r.0.reply) }
+        ensures share { OnOk result (share.new ≡ once_more share.old) }
+        ensures handed_out { OnOk result (AllByRecursion (IsHandedOut (state_of self.old)) retired.new) }
+        ensures same { OnErr result (self.new ≡ self.old) }
+        ensures kept { OnErr result (share.new ≡ share.old) }
+        ensures none { OnErr result (retired.new ≡ []) }
+    {
+        match self.make(share, &Request::Fork, false, retired) {
+            Ok(Some(forked)) => Ok(forked),
             Ok(None) => unreachable!(),
             Err(fault) => Err(fault),
         }
@@ -226,12 +259,12 @@ impl<W: BookName, O: FileObject> Book<W, O> {
         request: &Request,
         retired: &mut RetiredList<O>,
     ) -> Result<Option<Recorded<W>>, CallFault>
-        requires call { is_last request.now ≡ false }
+        requires call { has_own_call request.now ≡ false }
         requires empty { retired.old ≡ [] }
         ensures known { OnOk result (knows self.old share.old ≡ true) }
         ensures stranger { IfErr result (λ f. is_stranger f ≡ not (knows self.old share.old)) }
         ensures memory { IfErr result (λ f. is_stranger f ≡ false → f ≡ CallFault.NoMemory) }
-        ensures entry { IfOk result (λ o. IfSome o (λ r. Adds self.old self.new (call_by share.old request.now r.reply (map (λ o. o.0) retired.new)))) }
+        ensures entry { IfOk result (λ o. IfSome o (λ r. Adds self.old self.new (call_by self.old share.old request.now r.reply (map (λ o. o.0) retired.new)))) }
         ensures done { IfOk result (λ o. IfSome o (λ r. should_wait (state_of self.old) share.old.pid.0 request.now r.reply ≡ false)) }
         ensures receipt { IfOk result (λ o. IfSome o (λ r. r.receipt ≡ next_slip self.old share.old request.now r.reply true)) }
         ensures share { IfOk result (λ o. OnSome o (share.new ≡ once_more share.old)) }
@@ -244,25 +277,31 @@ impl<W: BookName, O: FileObject> Book<W, O> {
         ensures kept { OnErr result (share.new ≡ share.old) }
         ensures none { OnErr result (retired.new ≡ []) }
     {
-        self.make(share, request, true, retired)
+        match self.make(share, request, true, retired) {
+            Ok(Some((recorded, _))) => Ok(Some(recorded)),
+            Ok(None) => Ok(None),
+            Err(fault) => Err(fault),
+        }
     }
 
-    /// Makes a call of the share's process; where it is `tried`, only if it needn't wait.
+    /// Makes a call of the share's process, and gives the share of a process that it made; where it is `tried`,
+    /// only if it needn't wait.
     fn make(
         &mut self,
         share: &mut Share<W>,
         request: &Request,
         tried: bool,
         retired: &mut RetiredList<O>,
-    ) -> Result<Option<Recorded<W>>, CallFault>
+    ) -> Result<Option<(Recorded<W>, Option<Share<W>>)>, CallFault>
         requires call { is_last request.now ≡ false }
         requires empty { retired.old ≡ [] }
         ensures known { OnOk result (knows self.old share.old ≡ true) }
         ensures stranger { IfErr result (λ f. is_stranger f ≡ not (knows self.old share.old)) }
         ensures memory { IfErr result (λ f. is_stranger f ≡ false → f ≡ CallFault.NoMemory) }
-        ensures entry { IfOk result (λ o. IfSome o (λ r. Adds self.old self.new (call_by share.old request.now r.reply (map (λ o. o.0) retired.new)))) }
-        ensures done { IfOk result (λ o. IfSome o (λ r. tried ≡ true → should_wait (state_of self.old) share.old.pid.0 request.now r.reply ≡ false)) }
-        ensures receipt { IfOk result (λ o. IfSome o (λ r. r.receipt ≡ next_slip self.old share.old request.now r.reply tried)) }
+        ensures entry { IfOk result (λ o. IfSome o (λ r. Adds self.old self.new (call_by self.old share.old request.now r.0.reply (map (λ o. o.0) retired.new)))) }
+        ensures done { IfOk result (λ o. IfSome o (λ r. tried ≡ true → should_wait (state_of self.old) share.old.pid.0 request.now r.0.reply ≡ false)) }
+        ensures receipt { IfOk result (λ o. IfSome o (λ r. r.0.receipt ≡ next_slip self.old share.old request.now r.0.reply tried)) }
+        ensures child { IfOk result (λ o. IfSome o (λ r. r.1 ≡ child_by request.now r.0.reply)) }
         ensures share { IfOk result (λ o. OnSome o (share.new ≡ once_more share.old)) }
         ensures handed_out { IfOk result (λ o. OnSome o (AllByRecursion (IsHandedOut (state_of self.old)) retired.new)) }
         ensures tried { IfOk result (λ o. IfNone o (tried ≡ true)) }
@@ -288,6 +327,9 @@ impl<W: BookName, O: FileObject> Book<W, O> {
         let (reply, call) = self.log.answer(number, spare);
         self.ledger.add(&mut share.part, 1);
         share.k += 1;
+        // The log says that a process which was made has a part.
+        let _made = self.log.process_count();
+        let child = child_share(&mut self.rest, request, &reply);
         let of = PhantomData;
         let receipt = Receipt {
             number,
@@ -295,7 +337,7 @@ impl<W: BookName, O: FileObject> Book<W, O> {
             tried,
             of,
         };
-        Ok(Some(Recorded { reply, receipt }))
+        Ok(Some((Recorded { reply, receipt }, child)))
     }
 
     /// Ends the share's process, in room that was set aside when the book was made: it takes no memory. The
@@ -395,20 +437,43 @@ impl<W: BookName, O: FileObject> Book<W, O> {
     }
 }
 
-/// Whether it is the last call of a process or of the layer, which is no call of `Book::record`.
-pub fn is_last(request: &Request) -> bool
-    ensures { result ≡ is_last request.now }
+/// Whether it is exit, off or fork, which are no calls of `Book::record`: a book has a function for each.
+pub fn has_own_call(request: &Request) -> bool
+    ensures { result ≡ has_own_call request.now }
 {
-    matches!(request, Request::Exit | Request::Off)
+    matches!(request, Request::Exit | Request::Off | Request::Fork)
 }
 
-/// Room for one more entry, a copy of the request for it, and what the caller gets.
+/// The share of the process that a call made, with a part that no process has, if the call made one.
+pub(crate) fn child_share<W: BookName>(
+    rest: &mut ledger::Share<W>,
+    request: &Request,
+    reply: &Reply,
+) -> Option<Share<W>>
+    requires parts { (if makes_one request.now reply.now then 1 else 0) ≤ rest.old.parts }
+    requires amount { rest.old.amount ≡ 0 }
+    ensures child { result ≡ child_by request.now reply.now }
+    ensures parts { rest.new.parts + (if makes_one request.now reply.now then 1 else 0) ≡ rest.old.parts }
+    ensures amount { rest.new.amount ≡ 0 }
+{
+    match (request, reply) {
+        (Request::Fork, Reply::Child(pid)) => Some(Share {
+            pid: *pid,
+            k: 0,
+            part: rest.split_off(1, 0),
+        }),
+        _ => None,
+    }
+}
+
+/// Room for one more entry and the exit of a process that it may make, a copy of the request for it, and what
+/// the caller gets.
 fn set_aside<W: BookName, O: FileObject>(
     log: &mut Log<W, O>,
     request: &Request,
 ) -> Result<(Request, Spare), AllocError>
     ensures book { log.new.book ≡ log.old.book }
-    ensures room { OnOk result (length log.old.book.entries + last_entries (state_of log.old.book) log.old.book.entries + 1 ≤ log.new.room) }
+    ensures room { OnOk result (length log.old.book.entries + last_entries (state_of log.old.book) log.old.book.entries + 2 ≤ log.new.room) }
     ensures copy { IfOk result (λ r. r.0 ≡ request.now) }
     ensures spare { IfOk result (λ r. r.1 ≡ request.now) }
 {
@@ -424,7 +489,7 @@ pub(crate) fn cut<W: BookName>(
     rest: &mut ledger::Share<W>,
     count: usize,
 ) -> Result<Vec<Share<W>>, AllocError>
-    requires few { count ≤ process_limit }
+    requires few { count ≤ made_limit }
     requires parts { rest.old.parts ≡ 1024 }
     requires amount { rest.old.amount ≡ 0 }
     ensures shares { IfOk result (λ v. v.items ≡ fresh count) }

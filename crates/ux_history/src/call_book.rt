@@ -1,13 +1,13 @@
 //! What seats ask of a book, whether it keeps its entries or not.
 ghost use Rattle.std.specs.Prelude.{◌≡◌, ◌+◌, ◌≤◌, [], true, false, not, length, map, sum_by, IfOk, IfErr, OnOk, OnErr, IfSome, IfNone, OnSome, IsTrue, if◌then◌else◌};
 ghost use Rattle.std.specs.List.{AllByRecursion};
-ghost use Rattle.ux_model.specs.Limits.{process_limit};
+ghost use Rattle.ux_model.specs.Limits.{made_limit};
 ghost use Rattle.ux_model.specs.State.{is_live};
 ghost use Rattle.ux_model.specs.Waiting.{should_wait};
 ghost use Rattle.ux_model.specs.History.{calls_of, has_live, IsLegal};
 ghost use Rattle.ux_model.specs.HandingOut.{IsHandedOut};
-ghost use Rattle.ux_history.specs.Books.{state_of, ends_of, is_last, Adds, Appends, MustWait};
-ghost use Rattle.ux_history.specs.Shares.{knows, once_more, call_by, processes, once_each};
+ghost use Rattle.ux_history.specs.Books.{state_of, ends_of, has_own_call, Adds, Appends, MustWait};
+ghost use Rattle.ux_history.specs.Shares.{knows, once_more, call_by, child_by, processes, once_each};
 ghost use Rattle.ux_history.specs.Receipts.{next_slip, IsSlip};
 ghost use Rattle.ux_history.specs.Faults.{is_stranger, is_alive, is_deadlock};
 
@@ -62,12 +62,12 @@ pub trait CallBook<W: BookName, O: FileObject>: Drop {
         request: &Request,
         retired: &mut RetiredList<O>,
     ) -> Result<(Reply, Self::Slip), CallFault>
-        requires call { is_last request.now ≡ false }
+        requires call { has_own_call request.now ≡ false }
         requires empty { retired.old ≡ [] }
         ensures known { OnOk result (knows (held self.old) share.old ≡ true) }
         ensures stranger { IfErr result (λ f. is_stranger f ≡ not (knows (held self.old) share.old)) }
         ensures goes_on { IfErr result (λ f. is_deadlock f ≡ false) }
-        ensures entry { IfOk result (λ r. Adds (held self.old) (held self.new) (call_by share.old request.now r.0 (map (λ o. o.0) retired.new))) }
+        ensures entry { IfOk result (λ r. Adds (held self.old) (held self.new) (call_by (held self.old) share.old request.now r.0 (map (λ o. o.0) retired.new))) }
         ensures slip { IfOk result (λ r. Self.Slip.slip r.1 ≡ next_slip (held self.old) share.old request.now r.0 false) }
         ensures share { OnOk result (share.new ≡ once_more share.old) }
         ensures handed_out { OnOk result (AllByRecursion (IsHandedOut (state_of (held self.old))) retired.new) }
@@ -87,12 +87,12 @@ pub trait CallBook<W: BookName, O: FileObject>: Drop {
         request: &Request,
         retired: &mut RetiredList<O>,
     ) -> Result<Option<(Reply, Self::Slip)>, CallFault>
-        requires call { is_last request.now ≡ false }
+        requires call { has_own_call request.now ≡ false }
         requires empty { retired.old ≡ [] }
         ensures known { OnOk result (knows (held self.old) share.old ≡ true) }
         ensures stranger { IfErr result (λ f. is_stranger f ≡ not (knows (held self.old) share.old)) }
         ensures goes_on { IfErr result (λ f. is_deadlock f ≡ false) }
-        ensures entry { IfOk result (λ o. IfSome o (λ r. Adds (held self.old) (held self.new) (call_by share.old request.now r.0 (map (λ o. o.0) retired.new)))) }
+        ensures entry { IfOk result (λ o. IfSome o (λ r. Adds (held self.old) (held self.new) (call_by (held self.old) share.old request.now r.0 (map (λ o. o.0) retired.new)))) }
         ensures done { IfOk result (λ o. IfSome o (λ r. should_wait (state_of (held self.old)) share.old.pid.0 request.now r.0 ≡ false)) }
         ensures slip { IfOk result (λ o. IfSome o (λ r. Self.Slip.slip r.1 ≡ next_slip (held self.old) share.old request.now r.0 true)) }
         ensures share { IfOk result (λ o. OnSome o (share.new ≡ once_more share.old)) }
@@ -101,6 +101,30 @@ pub trait CallBook<W: BookName, O: FileObject>: Drop {
         ensures unchanged { IfOk result (λ o. IfNone o (held self.new ≡ held self.old)) }
         ensures unspent { IfOk result (λ o. IfNone o (share.new ≡ share.old)) }
         ensures nothing { IfOk result (λ o. IfNone o (retired.new ≡ [])) }
+        ensures same { OnErr result (held self.new ≡ held self.old) }
+        ensures kept { OnErr result (share.new ≡ share.old) }
+        ensures none { OnErr result (retired.new ≡ []) };
+
+    /// Makes a process that is a copy of the share's, as one more entry (fork(2)), and gives the new process's
+    /// share, which has made no call yet. It is there exactly where the answer is `Child`.
+    ///
+    /// # Errors
+    ///
+    /// Those of `record`.
+    fn fork(
+        &mut self,
+        share: &mut Share<W>,
+        retired: &mut RetiredList<O>,
+    ) -> Result<(Reply, Self::Slip, Option<Share<W>>), CallFault>
+        requires empty { retired.old ≡ [] }
+        ensures known { OnOk result (knows (held self.old) share.old ≡ true) }
+        ensures stranger { IfErr result (λ f. is_stranger f ≡ not (knows (held self.old) share.old)) }
+        ensures goes_on { IfErr result (λ f. is_deadlock f ≡ false) }
+        ensures entry { IfOk result (λ r. Adds (held self.old) (held self.new) (call_by (held self.old) share.old Request.Fork r.0 (map (λ o. o.0) retired.new))) }
+        ensures slip { IfOk result (λ r. Self.Slip.slip r.1 ≡ next_slip (held self.old) share.old Request.Fork r.0 false) }
+        ensures child { IfOk result (λ r. r.2 ≡ child_by Request.Fork r.0) }
+        ensures share { OnOk result (share.new ≡ once_more share.old) }
+        ensures handed_out { OnOk result (AllByRecursion (IsHandedOut (state_of (held self.old))) retired.new) }
         ensures same { OnErr result (held self.new ≡ held self.old) }
         ensures kept { OnErr result (share.new ≡ share.old) }
         ensures none { OnErr result (retired.new ≡ []) };
@@ -137,7 +161,7 @@ pub trait CallBook<W: BookName, O: FileObject>: Drop {
     /// How many processes were made. The entries are a legal history.
     fn process_count(&self) -> usize
         ensures count { result ≡ processes (held self.now) }
-        ensures most { result ≤ process_limit }
+        ensures most { result ≤ made_limit }
         ensures boot { (held self.now).boot ≡ W.boot }
         ensures legal { IsLegal W.boot (held self.now).entries };
 
@@ -197,6 +221,17 @@ impl<W: BookName, O: FileObject> CallBook<W, O> for Book<W, O> {
         match Book::try_record(self, share, request, retired) {
             Ok(Some(recorded)) => Ok(Some((recorded.reply, recorded.receipt))),
             Ok(None) => Ok(None),
+            Err(fault) => Err(fault),
+        }
+    }
+
+    fn fork(
+        &mut self,
+        share: &mut Share<W>,
+        retired: &mut RetiredList<O>,
+    ) -> Result<(Reply, Receipt<W>, Option<Share<W>>), CallFault> {
+        match Book::fork(self, share, retired) {
+            Ok((recorded, child)) => Ok((recorded.reply, recorded.receipt, child)),
             Err(fault) => Err(fault),
         }
     }

@@ -1,6 +1,7 @@
 //! Accounts that settle with the receipts of a book's calls.
-ghost use Rattle.std.specs.Prelude.{◌≡◌, ◌↔◌, false, not, IsTrue, IfOk, IfErr};
+ghost use Rattle.std.specs.Prelude.{◌≡◌, ◌↔◌, true, false, not, length, IsTrue, IfOk, IfErr};
 ghost use Rattle.ux_history.specs.Shares.{processes, once_each};
+ghost use Rattle.ux_history.specs.Settling.{IsLacking};
 ghost use Rattle.ux_history.specs.Telling.{IsTold, AllStand};
 ghost use Rattle.ux_history.specs.Faults.{is_missing, is_unknown};
 
@@ -29,6 +30,8 @@ pub fn settle_held<W: BookName, O: FileObject>(
     ensures told { IfOk result (λ a. IsTold W.boot spents.items receipts.now a.entries a.ended) }
     ensures unknown { IfErr result (λ f. IsTrue (is_unknown f.0) ↔ ¬ (AllStand book.old.entries receipts.now)) }
     ensures missing { IfErr result (λ f. is_unknown f.0 ≡ false → is_missing f.0 ≡ not (once_each (processes book.old) spents.items)) }
+    ensures absent { IfErr result (λ f. is_unknown f.0 ≡ false → once_each (length W.boot.processes) spents.items ≡ false → is_missing f.0 ≡ true) }
+    ensures lacking { IfErr result (λ f. is_missing f.0 ≡ true → IsLacking W.boot spents.items) }
     ensures back { IfErr result (λ f. f.1.items ≡ spents.items) }
 {
     // What this says of the entries is what `boot` and `told` rest on.

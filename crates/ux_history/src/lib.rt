@@ -19,7 +19,7 @@ mod trail;
 mod witness;
 
 pub use account::{Account, settle_accounts};
-pub use book::{Book, PARTS, is_last};
+pub use book::{Book, PARTS, has_own_call};
 pub use call_book::{CallBook, Shows, exit_share};
 pub use fault::{CallFault, NoMemory, OffFault, SettleFault};
 pub use held::settle_held;

@@ -1,7 +1,7 @@
 //! A kernel with its history.
 ghost use Rattle.std.specs.Prelude.{◌≡◌, ◌+◌, ◌^◌, ◌<◌, ◌≤◌, ◌++◌, ◌∷◌, [], true, length, map, replicate, slice_index, slice_set, vec_len, vec_capacity, if◌then◌else◌, IfOk, IfErr, OnOk, IfSome, IfNone, OnSome, IsSomeAnd};
 ghost use Rattle.std.specs.List.{slice_get, AllByRecursion};
-ghost use Rattle.ux_model.specs.Limits.{object_limit, process_limit};
+ghost use Rattle.ux_model.specs.Limits.{object_limit, made_limit};
 ghost use Rattle.ux_model.specs.Boot.{IsBootState};
 ghost use Rattle.ux_model.specs.State.{is_live};
 ghost use Rattle.ux_model.specs.Waiting.{may_wait, is_again};
@@ -21,14 +21,15 @@ use std::marker::{Model, PhantomData};
 use ux_kernel::Kernel;
 use ux_object::FileObject;
 use ux_state::{Retired, RetiredList};
-use ux_types::{Entry, Errno, Pid, Released, Reply, Request};
+use ux_types::{Done, Entry, Errno, MADE_LIMIT, Pid, Released, Reply, Request};
 
 /// A kernel with all that was called since its boot state. Contracts see that state, the entries, and how
 /// many entries there is room for; the kernel is at the end of them.
 pub(crate) struct Log<W: BookName, O: FileObject> {
     entries: Vec<Entry>,
     kernel: Kernel<O>,
-    /// How many entries there are with each process's number, those of no process first.
+    /// How many entries there are with the number of each process that may ever be made, those of no process
+    /// first.
     calls: Vec<u64>,
     of: PhantomData<W>,
 }
@@ -68,7 +69,7 @@ impl<W: BookName, O: FileObject> Log<W, O> {
         ensures back { IfErr result (λ k. k ≡ kernel) }
     {
         let count = kernel.process_count();
-        let Ok(calls) = zeros(alloc, count + 1) else {
+        let Ok(calls) = zeros(alloc, MADE_LIMIT + 1) else {
             return Err(kernel);
         };
         let Ok(entries) = Vec::with_capacity(alloc, count + 1) else {
@@ -129,7 +130,7 @@ impl<W: BookName, O: FileObject> Log<W, O> {
     /// How many processes were made.
     pub(crate) fn process_count(&self) -> usize
         ensures count { result ≡ processes self.now.book }
-        ensures most { result ≤ process_limit }
+        ensures most { result ≤ made_limit }
     {
         let kernel = &self.kernel;
         kernel.process_count()
@@ -180,12 +181,12 @@ impl<W: BookName, O: FileObject> Log<W, O> {
         self.calls_of(Pid(0)) != 0
     }
 
-    /// Makes room for one more entry besides the last ones.
+    /// Makes room for one more entry besides the last ones, and for the exit of a process that it may make.
     pub(crate) fn reserve(&mut self) -> Result<(), AllocError>
         ensures book { self.new.book ≡ self.old.book }
-        ensures room { OnOk result (length self.old.book.entries + last_entries (state_of self.old.book) self.old.book.entries + 1 ≤ self.new.room) }
+        ensures room { OnOk result (length self.old.book.entries + last_entries (state_of self.old.book) self.old.book.entries + 2 ≤ self.new.room) }
     {
-        let last = self.process_count() + 2;
+        let last = self.process_count() + 3;
         self.entries.reserve(last)?;
         Ok(())
     }
@@ -202,7 +203,7 @@ impl<W: BookName, O: FileObject> Log<W, O> {
     ) -> Option<usize>
         requires call { may_call self.old.book pid k request ≡ true }
         requires empty { retired.old ≡ [] }
-        requires room { length self.old.book.entries + last_entries (state_of self.old.book) self.old.book.entries + (if is_last request then 0 else 1) ≤ self.old.room }
+        requires room { length self.old.book.entries + last_entries (state_of self.old.book) self.old.book.entries + (if is_last request then 0 else 2) ≤ self.old.room }
         ensures entry { OnSome result (Makes self.old.book self.new.book pid k request waits (map (λ r. r.0) retired.new)) }
         ensures number { IfSome result (λ n. n ≡ length self.old.book.entries) }
         ensures fits { OnSome result (k + 1 < 2 ^ 64) }
@@ -213,18 +214,22 @@ impl<W: BookName, O: FileObject> Log<W, O> {
         ensures same { IfNone result (self.new ≡ self.old) }
     {
         let number = self.entries.len();
-        let reply = self.kernel.step(pid, number as u64, &request, retired);
-        if waits && is_again(&reply) {
+        // The kernel says that no more processes were made than are counted.
+        let _made = self.kernel.process_count();
+        let done = self.kernel.step(pid, number as u64, &request, retired);
+        if waits && is_again(&done.reply) {
             drop(request);
-            drop(reply);
+            drop(done);
             return None;
         }
+        let Done { reply, delivered } = done;
         let entry = Entry {
             pid,
             k,
             request,
             reply,
             released: numbers_of(retired.as_slice()),
+            delivered,
         };
         note(&mut self.entries, &mut self.calls, entry);
         Some(number)

@@ -1,19 +1,19 @@
 //! The book of which a program keeps no entry: a call takes the same room and time whatever came before.
 ghost use Rattle.std.specs.Prelude.{◌≡◌, ◌+◌, ◌^◌, ◌<◌, ◌≤◌, [], true, false, not, length, map, sum_by, Some, IfOk, IfErr, OnOk, OnErr, IfSome, IfNone, OnSome, IsTrue, if◌then◌else◌};
 ghost use Rattle.std.specs.List.{slice_get, AllByRecursion};
-ghost use Rattle.ux_model.specs.Limits.{process_limit};
+ghost use Rattle.ux_model.specs.Limits.{made_limit};
 ghost use Rattle.ux_model.specs.Boot.{IsBootState};
 ghost use Rattle.ux_model.specs.State.{is_live};
 ghost use Rattle.ux_model.specs.Waiting.{should_wait};
 ghost use Rattle.ux_model.specs.History.{calls_of, has_live, IsLegal};
 ghost use Rattle.ux_model.specs.HandingOut.{IsHandedOut};
-ghost use Rattle.ux_history.specs.Books.{state_of, ends_of, is_last, Adds, Appends, MustWait};
-ghost use Rattle.ux_history.specs.Shares.{knows, once_more, fresh, call_by, processes, once_each};
+ghost use Rattle.ux_history.specs.Books.{state_of, ends_of, is_last, has_own_call, Adds, Appends, MustWait};
+ghost use Rattle.ux_history.specs.Shares.{knows, once_more, fresh, call_by, child_by, processes, once_each};
 ghost use Rattle.ux_history.specs.Receipts.{call_of, next_slip};
 ghost use Rattle.ux_history.specs.Faults.{is_stranger, is_alive};
 
 use crate::account::Account;
-use crate::book::{PARTS, cut, merge_all};
+use crate::book::{PARTS, child_share, cut, merge_all};
 use crate::call_book::CallBook;
 use crate::fault::{CallFault, NoMemory, OffFault};
 use crate::naming::Trailing;
@@ -138,7 +138,7 @@ impl<W: Trailing, O: FileObject> RunningBook<W, O> {
     /// How many processes were made.
     pub fn process_count(&self) -> usize
         ensures count { result ≡ processes self.now }
-        ensures most { result ≤ process_limit }
+        ensures most { result ≤ made_limit }
     {
         self.log.process_count()
     }
@@ -188,13 +188,13 @@ impl<W: Trailing, O: FileObject> RunningBook<W, O> {
         request: &Request,
         retired: &mut RetiredList<O>,
     ) -> Result<(Reply, Witness<W>), CallFault>
-        requires call { is_last request.now ≡ false }
+        requires call { has_own_call request.now ≡ false }
         requires empty { retired.old ≡ [] }
         ensures known { OnOk result (knows self.old share.old ≡ true) }
         ensures stranger { IfErr result (λ f. is_stranger f ≡ not (knows self.old share.old)) }
         ensures fault { IfErr result (λ f. is_stranger f ≡ false → f ≡ CallFault.Full) }
         ensures full { IfErr result (λ f. is_stranger f ≡ false → 2 ^ 62 ≤ length self.old.entries) }
-        ensures entry { IfOk result (λ r. Adds self.old self.new (call_by share.old request.now r.0 (map (λ o. o.0) retired.new))) }
+        ensures entry { IfOk result (λ r. Adds self.old self.new (call_by self.old share.old request.now r.0 (map (λ o. o.0) retired.new))) }
         ensures witness { IfOk result (λ r. r.1 ≡ next_slip self.old share.old request.now r.0 false) }
         ensures share { OnOk result (share.new ≡ once_more share.old) }
         ensures handed_out { OnOk result (AllByRecursion (IsHandedOut (state_of self.old)) retired.new) }
@@ -203,7 +203,39 @@ impl<W: Trailing, O: FileObject> RunningBook<W, O> {
         ensures none { OnErr result (retired.new ≡ []) }
     {
         match self.make(share, request, false, retired) {
-            Ok(Some(recorded)) => Ok(recorded),
+            Ok(Some((reply, witness, _))) => Ok((reply, witness)),
+            Ok(None) => unreachable!(),
+            Err(fault) => Err(fault),
+        }
+    }
+
+    /// Makes a process that is a copy of the share's, as one more entry (fork(2)), and gives the new process's
+    /// share, which has made no call yet. It is there exactly where the answer is `Child`.
+    ///
+    /// # Errors
+    ///
+    /// Those of `record`. Book and share are then as before.
+    pub fn fork(
+        &mut self,
+        share: &mut Share<W>,
+        retired: &mut RetiredList<O>,
+    ) -> Result<(Reply, Witness<W>, Option<Share<W>>), CallFault>
+        requires empty { retired.old ≡ [] }
+        ensures known { OnOk result (knows self.old share.old ≡ true) }
+        ensures stranger { IfErr result (λ f. is_stranger f ≡ not (knows self.old share.old)) }
+        ensures fault { IfErr result (λ f. is_stranger f ≡ false → f ≡ CallFault.Full) }
+        ensures full { IfErr result (λ f. is_stranger f ≡ false → 2 ^ 62 ≤ length self.old.entries) }
+        ensures entry { IfOk result (λ r. Adds self.old self.new (call_by self.old share.old Request.Fork r.0 (map (λ o. o.0) retired.new))) }
+        ensures witness { IfOk result (λ r. r.1 ≡ next_slip self.old share.old Request.Fork r.0 false) }
+        ensures child { IfOk result (λ r. r.2 ≡ child_by Request.Fork r.0) }
+        ensures share { OnOk result (share.new ≡ once_more share.old) }
+        ensures handed_out { OnOk result (AllByRecursion (IsHandedOut (state_of self.old)) retired.new) }
+        ensures same { OnErr result (self.new ≡ self.old) }
+        ensures kept { OnErr result (share.new ≡ share.old) }
+        ensures none { OnErr result (retired.new ≡ []) }
+    {
+        match self.make(share, &Request::Fork, false, retired) {
+            Ok(Some(forked)) => Ok(forked),
             Ok(None) => unreachable!(),
             Err(fault) => Err(fault),
         }
@@ -221,13 +253,13 @@ impl<W: Trailing, O: FileObject> RunningBook<W, O> {
         request: &Request,
         retired: &mut RetiredList<O>,
     ) -> Result<Option<(Reply, Witness<W>)>, CallFault>
-        requires call { is_last request.now ≡ false }
+        requires call { has_own_call request.now ≡ false }
         requires empty { retired.old ≡ [] }
         ensures known { OnOk result (knows self.old share.old ≡ true) }
         ensures stranger { IfErr result (λ f. is_stranger f ≡ not (knows self.old share.old)) }
         ensures fault { IfErr result (λ f. is_stranger f ≡ false → f ≡ CallFault.Full) }
         ensures full { IfErr result (λ f. is_stranger f ≡ false → 2 ^ 62 ≤ length self.old.entries) }
-        ensures entry { IfOk result (λ o. IfSome o (λ r. Adds self.old self.new (call_by share.old request.now r.0 (map (λ o. o.0) retired.new)))) }
+        ensures entry { IfOk result (λ o. IfSome o (λ r. Adds self.old self.new (call_by self.old share.old request.now r.0 (map (λ o. o.0) retired.new)))) }
         ensures done { IfOk result (λ o. IfSome o (λ r. should_wait (state_of self.old) share.old.pid.0 request.now r.0 ≡ false)) }
         ensures witness { IfOk result (λ o. IfSome o (λ r. r.1 ≡ next_slip self.old share.old request.now r.0 true)) }
         ensures share { IfOk result (λ o. OnSome o (share.new ≡ once_more share.old)) }
@@ -240,26 +272,32 @@ impl<W: Trailing, O: FileObject> RunningBook<W, O> {
         ensures kept { OnErr result (share.new ≡ share.old) }
         ensures none { OnErr result (retired.new ≡ []) }
     {
-        self.make(share, request, true, retired)
+        match self.make(share, request, true, retired) {
+            Ok(Some((reply, witness, _))) => Ok(Some((reply, witness))),
+            Ok(None) => Ok(None),
+            Err(fault) => Err(fault),
+        }
     }
 
-    /// Makes a call of the share's process; where it is `tried`, only if it needn't wait.
+    /// Makes a call of the share's process, and gives the share of a process that it made; where it is `tried`,
+    /// only if it needn't wait.
     fn make(
         &mut self,
         share: &mut Share<W>,
         request: &Request,
         tried: bool,
         retired: &mut RetiredList<O>,
-    ) -> Result<Option<(Reply, Witness<W>)>, CallFault>
+    ) -> Result<Option<(Reply, Witness<W>, Option<Share<W>>)>, CallFault>
         requires call { is_last request.now ≡ false }
         requires empty { retired.old ≡ [] }
         ensures known { OnOk result (knows self.old share.old ≡ true) }
         ensures stranger { IfErr result (λ f. is_stranger f ≡ not (knows self.old share.old)) }
         ensures fault { IfErr result (λ f. is_stranger f ≡ false → f ≡ CallFault.Full) }
         ensures full { IfErr result (λ f. is_stranger f ≡ false → 2 ^ 62 ≤ length self.old.entries) }
-        ensures entry { IfOk result (λ o. IfSome o (λ r. Adds self.old self.new (call_by share.old request.now r.0 (map (λ o. o.0) retired.new)))) }
+        ensures entry { IfOk result (λ o. IfSome o (λ r. Adds self.old self.new (call_by self.old share.old request.now r.0 (map (λ o. o.0) retired.new)))) }
         ensures done { IfOk result (λ o. IfSome o (λ r. tried ≡ true → should_wait (state_of self.old) share.old.pid.0 request.now r.0 ≡ false)) }
         ensures witness { IfOk result (λ o. IfSome o (λ r. r.1 ≡ next_slip self.old share.old request.now r.0 tried)) }
+        ensures child { IfOk result (λ o. IfSome o (λ r. r.2 ≡ child_by request.now r.0)) }
         ensures share { IfOk result (λ o. OnSome o (share.new ≡ once_more share.old)) }
         ensures handed_out { IfOk result (λ o. OnSome o (AllByRecursion (IsHandedOut (state_of self.old)) retired.new)) }
         ensures tried { IfOk result (λ o. IfNone o (tried ≡ true)) }
@@ -282,6 +320,9 @@ impl<W: Trailing, O: FileObject> RunningBook<W, O> {
         let Some(reply) = self.log.append(share.pid, share.k, request, waits, retired) else {
             return Ok(None);
         };
+        // The log says that a process which was made has a part.
+        let _made = self.log.process_count();
+        let child = child_share(&mut self.rest, request, &reply);
         let mark = self.trail.push(share.pid, share.k, request, &reply);
         let tried = Snapshot::of(&tried);
         self.ledger.add(&mut share.part, 1);
@@ -293,7 +334,7 @@ impl<W: Trailing, O: FileObject> RunningBook<W, O> {
             tried,
             of,
         };
-        Ok(Some((reply, witness)))
+        Ok(Some((reply, witness, child)))
     }
 
     /// Ends the share's process where it is a live one which has made so many calls, and tells whether it
@@ -396,6 +437,14 @@ impl<W: Trailing, O: FileObject> CallBook<W, O> for RunningBook<W, O> {
         retired: &mut RetiredList<O>,
     ) -> Result<Option<(Reply, Witness<W>)>, CallFault> {
         RunningBook::try_record(self, share, request, retired)
+    }
+
+    fn fork(
+        &mut self,
+        share: &mut Share<W>,
+        retired: &mut RetiredList<O>,
+    ) -> Result<(Reply, Witness<W>, Option<Share<W>>), CallFault> {
+        RunningBook::fork(self, share, retired)
     }
 
     fn end(&mut self, share: &mut Share<W>, retired: &mut RetiredList<O>) -> bool {

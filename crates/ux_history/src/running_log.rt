@@ -1,14 +1,14 @@
 //! A kernel with the number of its calls.
 ghost use Rattle.std.specs.Prelude.{◌≡◌, ◌+◌, ◌^◌, ◌<◌, ◌≤◌, ◌↔◌, [], true, false, length, map, slice_set, vec_len, if◌then◌else◌, IsTrue, IfOk, IfErr, IfSome, IfNone, OnSome};
 ghost use Rattle.std.specs.List.{AllByRecursion};
-ghost use Rattle.ux_model.specs.Limits.{process_limit};
+ghost use Rattle.ux_model.specs.Limits.{made_limit};
 ghost use Rattle.ux_model.specs.Boot.{IsBootState};
 ghost use Rattle.ux_model.specs.State.{is_live};
 ghost use Rattle.ux_model.specs.Waiting.{may_wait, is_again};
 ghost use Rattle.ux_model.specs.Step.{Step};
 ghost use Rattle.ux_model.specs.History.{calls_of, has_live, IsLegal};
 ghost use Rattle.ux_model.specs.HandingOut.{IsHandedOut};
-ghost use Rattle.ux_history.specs.Books.{state_of, may_call, ends_of, is_last, Adds};
+ghost use Rattle.ux_history.specs.Books.{state_of, may_call, ends_of, is_last, entry_of, Adds};
 ghost use Rattle.ux_history.specs.Shares.{processes};
 
 use crate::log::{is_again, numbers_of, zeros};
@@ -19,13 +19,14 @@ use std::marker::{Model, PhantomData};
 use ux_kernel::Kernel;
 use ux_object::FileObject;
 use ux_state::RetiredList;
-use ux_types::{Errno, Pid, Reply, Request};
+use ux_types::{Errno, MADE_LIMIT, Pid, Reply, Request};
 
 /// A kernel and how often it was called since its boot state. Contracts see that state and the entries, of
 /// which nothing is kept; the kernel is at the end of them.
 pub(crate) struct RunningLog<W: BookName, O: FileObject> {
     kernel: Kernel<O>,
-    /// How many entries there are with each process's number, those of no process first.
+    /// How many entries there are with the number of each process that may ever be made, those of no process
+    /// first.
     calls: Vec<u64>,
     /// How many entries there are.
     number: u64,
@@ -69,8 +70,9 @@ impl<W: BookName, O: FileObject> RunningLog<W, O> {
         ensures book { IfOk result (λ l. l ≡ record { boot = kernel; entries = [] }) }
         ensures back { IfErr result (λ k. k ≡ kernel) }
     {
-        let count = kernel.process_count();
-        let Ok(calls) = zeros(alloc, count + 1) else {
+        // The kernel says of itself that its processes are few.
+        let _made = kernel.process_count();
+        let Ok(calls) = zeros(alloc, MADE_LIMIT + 1) else {
             return Err(kernel);
         };
         Ok(RunningLog {
@@ -115,7 +117,7 @@ impl<W: BookName, O: FileObject> RunningLog<W, O> {
     /// How many processes were made.
     pub(crate) fn process_count(&self) -> usize
         ensures count { result ≡ processes self.now }
-        ensures most { result ≤ process_limit }
+        ensures most { result ≤ made_limit }
     {
         let kernel = &self.kernel;
         kernel.process_count()
@@ -179,7 +181,7 @@ impl<W: BookName, O: FileObject> RunningLog<W, O> {
         requires call { may_call self.old pid k request.now ≡ true }
         requires empty { retired.old ≡ [] }
         requires few { is_last request.now ≡ false → length self.old.entries < 2 ^ 62 }
-        ensures entry { IfSome result (λ r. Adds self.old self.new (record { pid = pid; k = k; request = request.now; reply = r; released = map (λ o. o.0) retired.new })) }
+        ensures entry { IfSome result (λ r. Adds self.old self.new (entry_of (state_of self.old) pid k request.now r (map (λ o. o.0) retired.new))) }
         ensures done { IfSome result (λ r. waits ≡ true → is_again r ≡ false) }
         ensures fits { OnSome result (k + 1 < 2 ^ 64) }
         ensures handed_out { OnSome result (AllByRecursion (IsHandedOut (state_of self.old)) retired.new) }
@@ -188,15 +190,17 @@ impl<W: BookName, O: FileObject> RunningLog<W, O> {
         ensures none { IfNone result (retired.new ≡ []) }
         ensures same { IfNone result (self.new ≡ self.old) }
     {
-        let reply = self.kernel.step(pid, self.number, request, retired);
-        if waits && is_again(&reply) {
-            drop(reply);
+        // The kernel says that no more processes were made than are counted.
+        let _made = self.kernel.process_count();
+        let done = self.kernel.step(pid, self.number, request, retired);
+        if waits && is_again(&done.reply) {
+            drop(done);
             return None;
         }
         let released = numbers_of(retired.as_slice());
-        self.past.push(pid, k, request, &reply, &released);
+        self.past.push(pid, k, request, &done, &released);
         count(&mut self.number, &mut self.calls, pid, k);
-        Some(reply)
+        Some(done.reply)
     }
 
     /// Makes the last call of a process, or of the layer, for which there is always room.
@@ -210,7 +214,7 @@ impl<W: BookName, O: FileObject> RunningLog<W, O> {
         requires call { may_call self.old pid k request.now ≡ true }
         requires last { is_last request.now ≡ true }
         requires empty { retired.old ≡ [] }
-        ensures entry { Adds self.old self.new (record { pid = pid; k = k; request = request.now; reply = result; released = map (λ o. o.0) retired.new }) }
+        ensures entry { Adds self.old self.new (entry_of (state_of self.old) pid k request.now result (map (λ o. o.0) retired.new)) }
         ensures fits { k + 1 < 2 ^ 64 }
         ensures handed_out { AllByRecursion (IsHandedOut (state_of self.old)) retired.new }
     {

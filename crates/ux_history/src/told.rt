@@ -1,7 +1,8 @@
 //! Accounts that settle with what the calls left.
 ghost use Rattle.std.specs.Prelude.{◌≡◌, ◌+◌, ℕ, true, false, not, length, sum_by, Some, IfOk, IfErr, if◌then◌else◌};
-ghost use Rattle.ux_history.specs.Shares.{once_each};
+ghost use Rattle.ux_history.specs.Shares.{processes, once_each};
 ghost use Rattle.ux_history.specs.Faults.{is_missing, is_unknown};
+ghost use Rattle.ux_history.specs.Settling.{IsLacking};
 ghost use Rattle.ux_history.specs.Telling.{AllStand, IsTold};
 
 use crate::account::{Account, settle_accounts};
@@ -23,8 +24,11 @@ pub fn settle_told<W: Trailing, O: FileObject>(
     spents: Vec<Spent<W>>,
     witnesses: &mut [Witness<W>],
 ) -> Result<Account, (SettleFault, Vec<Spent<W>>)>
-    ensures once { IfOk result (λ a. once_each (length W.boot.processes) spents.items ≡ true) }
-    ensures missing { IfErr result (λ f. is_missing f.0 ≡ not (once_each (length W.boot.processes) spents.items)) }
+    ensures once { IfOk result (λ a. once_each (processes book.old) spents.items ≡ true) }
+    ensures first { IfOk result (λ a. once_each (length W.boot.processes) spents.items ≡ true) }
+    ensures missing { IfErr result (λ f. is_missing f.0 ≡ not (once_each (processes book.old) spents.items)) }
+    ensures absent { IfErr result (λ f. once_each (length W.boot.processes) spents.items ≡ false → is_missing f.0 ≡ true) }
+    ensures lacking { IfErr result (λ f. is_missing f.0 ≡ true → IsLacking W.boot spents.items) }
     ensures sum { IfOk result (λ a. a.entries ≡ sum_by (λ c. c.k) spents.items + (if a.ended then 1 else 0)) }
     ensures told { IfOk result (λ a. IsTold W.boot spents.items witnesses.old a.entries a.ended) }
     ensures witnesses { witnesses.new ≡ witnesses.old }

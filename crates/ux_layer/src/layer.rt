@@ -1,10 +1,10 @@
 //! What the seats share: the book under its lock.
-ghost use Rattle.std.specs.Prelude.{◌≡◌, ◌+◌, not, true, false, length, sum_by, is_some, IfOk, IfErr, if◌then◌else◌};
+ghost use Rattle.std.specs.Prelude.{◌≡◌, ◌+◌, true, false, length, sum_by, is_some, IfOk, IfErr, if◌then◌else◌};
 ghost use Rattle.std.specs.Sync.Mutex.{mutex_guard_value};
 ghost use Rattle.ux_model.specs.Boot.{IsBootState};
 ghost use Rattle.ux_history.specs.Books.{state_of};
 ghost use Rattle.ux_history.specs.Shares.{fresh, once_each};
-ghost use Rattle.ux_history.specs.Settling.{IsSettled};
+ghost use Rattle.ux_history.specs.Settling.{IsSettled, IsLacking};
 ghost use Rattle.ux_history.specs.Telling.{IsTold};
 ghost use Rattle.ux_history.specs.Faults.{is_missing, is_unknown};
 
@@ -39,12 +39,14 @@ impl<B: Drop> Drop for Desk<B> {
 }
 
 impl<B: Drop> Desk<B> {
-    /// Whether this process has so many entries, or doesn't live.
+    /// Whether this process has so many entries, or has exited, or was never made and process 1 has exited.
     pub(crate) fn has_come<W: BookName, O: FileObject>(&self, pid: Pid, calls: u64) -> bool
     where
         B: CallBook<W, O>,
     {
-        self.book.calls_of(pid) >= calls || !self.book.is_live(pid)
+        let is_made = pid.0 as usize <= self.book.process_count();
+        let awaited = if is_made { pid } else { Pid(1) };
+        self.book.calls_of(pid) >= calls || !self.book.is_live(awaited)
     }
 }
 
@@ -53,12 +55,18 @@ impl<B: Drop> Desk<B> {
 pub(crate) struct Shared<B: Drop> {
     pub(crate) desk: Mutex<Option<Desk<B>>>,
     pub(crate) changed: Condvar,
+    /// Where the seats of further processes are allocated.
+    pub(crate) alloc: Global,
 }
 
 // Written out, so that it is proved here and not in each function that drops one.
 impl<B: Drop> Drop for Shared<B> {
     fn drop(self) {
-        let Shared { desk, changed } = self;
+        let Shared {
+            desk,
+            changed,
+            alloc: _,
+        } = self;
         drop(desk);
         drop(changed)
     }
@@ -137,7 +145,8 @@ impl<W: BookName, O: FileObject, B: CallBook<W, O>> Layer<W, O, B> {
         spents: Vec<Spent<W>>,
     ) -> Result<Account, (SettleFault, Vec<Spent<W>>)>
         ensures once { IfOk result (λ a. once_each (length W.boot.processes) spents.items ≡ true) }
-        ensures missing { IfErr result (λ f. is_missing f.0 ≡ not (once_each (length W.boot.processes) spents.items)) }
+        ensures missing { IfErr result (λ f. once_each (length W.boot.processes) spents.items ≡ false → is_missing f.0 ≡ true) }
+        ensures lacking { IfErr result (λ f. is_missing f.0 ≡ true → IsLacking W.boot spents.items) }
         ensures sum { IfOk result (λ a. a.entries ≡ sum_by (λ c. c.k) spents.items + (if a.ended then 1 else 0)) }
         ensures settled { IfOk result (λ a. IsSettled W.boot spents.items a.entries a.ended) }
         ensures back { IfErr result (λ f. f.1.items ≡ spents.items) }
@@ -146,8 +155,8 @@ impl<W: BookName, O: FileObject, B: CallBook<W, O>> Layer<W, O, B> {
         settle_accounts(&mut desk_of(rt, &mut *guard).book, spents)
     }
 
-    /// Returns once this process has so many entries, or doesn't live. Whoever waits here makes no calls, and
-    /// isn't counted where the layer looks whether all its seats wait.
+    /// Returns once this process has so many entries, or has exited, or was never made and process 1 has exited.
+    /// Whoever waits here makes no calls, and isn't counted where the layer looks whether all its seats wait.
     pub fn wait_for<R: Wait>(&self, rt: &R, pid: Pid, calls: u64) {
         let mut guard = self.shared.desk.lock(rt);
         for _ in rt.forever() {
@@ -191,7 +200,8 @@ impl<W: BookName, O: FileObject> Layer<W, O> {
         receipts: &[Receipt<W>],
     ) -> Result<Account, (SettleFault, Vec<Spent<W>>)>
         ensures told { IfOk result (λ a. IsTold W.boot spents.items receipts.now a.entries a.ended) }
-        ensures missing { IfErr result (λ f. is_unknown f.0 ≡ false → is_missing f.0 ≡ not (once_each (length W.boot.processes) spents.items)) }
+        ensures missing { IfErr result (λ f. is_unknown f.0 ≡ false → once_each (length W.boot.processes) spents.items ≡ false → is_missing f.0 ≡ true) }
+        ensures lacking { IfErr result (λ f. is_missing f.0 ≡ true → IsLacking W.boot spents.items) }
         ensures back { IfErr result (λ f. f.1.items ≡ spents.items) }
     {
         let mut guard = self.shared.desk.lock(rt);
@@ -244,6 +254,7 @@ pub fn start_book<W: BookName, O: FileObject, B: CallBook<W, O>, R: Wait>(
     let shared = Shared {
         desk: Mutex::new(None),
         changed: Condvar::new(),
+        alloc,
     };
     let Ok(shared) = Arc::new(alloc, shared) else {
         return Err((book.into_kernel(), NoMemory));
@@ -279,7 +290,7 @@ fn retired_lists<O: FileObject>(
 }
 
 /// One more owner. No program makes so many that there is none left.
-fn another<B: Drop, R: Wait>(rt: &R, shared: &Arc<Shared<B>, Global>) -> Arc<Shared<B>, Global> {
+pub(crate) fn another<B: Drop, R: Wait>(rt: &R, shared: &Arc<Shared<B>, Global>) -> Arc<Shared<B>, Global> {
     for _ in rt.forever() {
         if let Ok(more) = Arc::try_clone(shared) {
             return more;

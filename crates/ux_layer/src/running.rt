@@ -1,7 +1,8 @@
 //! A layer whose book keeps no entry: its memory stays as it is, however many calls are made.
-ghost use Rattle.std.specs.Prelude.{◌≡◌, ◌+◌, [], true, not, length, sum_by, IfOk, IfErr, if◌then◌else◌};
+ghost use Rattle.std.specs.Prelude.{◌≡◌, ◌+◌, [], true, false, length, sum_by, IfOk, IfErr, if◌then◌else◌};
 ghost use Rattle.ux_model.specs.Boot.{IsBootState};
 ghost use Rattle.ux_history.specs.Shares.{fresh, once_each};
+ghost use Rattle.ux_history.specs.Settling.{IsLacking};
 ghost use Rattle.ux_history.specs.Telling.{IsTold};
 ghost use Rattle.ux_history.specs.Faults.{is_missing};
 
@@ -36,7 +37,8 @@ impl<W: Trailing, O: FileObject> Layer<W, O, RunningBook<W, O>> {
         witnesses: &mut [Witness<W>],
     ) -> Result<Account, (SettleFault, Vec<Spent<W>>)>
         ensures once { IfOk result (λ a. once_each (length W.boot.processes) spents.items ≡ true) }
-        ensures missing { IfErr result (λ f. is_missing f.0 ≡ not (once_each (length W.boot.processes) spents.items)) }
+        ensures missing { IfErr result (λ f. once_each (length W.boot.processes) spents.items ≡ false → is_missing f.0 ≡ true) }
+        ensures lacking { IfErr result (λ f. is_missing f.0 ≡ true → IsLacking W.boot spents.items) }
         ensures sum { IfOk result (λ a. a.entries ≡ sum_by (λ c. c.k) spents.items + (if a.ended then 1 else 0)) }
         ensures told { IfOk result (λ a. IsTold W.boot spents.items witnesses.old a.entries a.ended) }
         ensures witnesses { witnesses.new ≡ witnesses.old }

@@ -1,11 +1,12 @@
 //! The place of one process.
 ghost use Rattle.std.specs.Prelude.{◌≡◌, true, false, [], IfOk, IfErr, OnOk, OnErr};
-ghost use Rattle.ux_history.specs.Books.{is_last};
-ghost use Rattle.ux_history.specs.Shares.{once_more};
+ghost use Rattle.ux_model.specs.Types.{Request};
+ghost use Rattle.ux_history.specs.Books.{has_own_call};
+ghost use Rattle.ux_history.specs.Shares.{once_more, child_by};
 ghost use Rattle.ux_history.specs.Receipts.{IsSlip};
 ghost use Rattle.ux_history.specs.Faults.{is_deadlock};
 
-use crate::layer::{Shared, desk_of};
+use crate::layer::{Shared, another, desk_of};
 use std::alloc::Global;
 use std::marker::Model;
 use std::sync::{Arc, Wait};
@@ -75,7 +76,7 @@ impl<W: BookName, O: FileObject, B: CallBook<W, O>> Seat<W, O, B> {
         rt: &R,
         request: &Request,
     ) -> Result<(Reply, B::Slip), CallFault>
-        requires { is_last request.now ≡ false }
+        requires { has_own_call request.now ≡ false }
         ensures receipt { IfOk result (λ r. (B.Slip.slip r.1).call ≡ record { pid = self.old.pid; k = self.old.k; request = request.now; reply = r.0 }) }
         ensures recorded { IfOk result (λ r. (B.Slip.slip r.1).tried ≡ false) }
         ensures shown { IfOk result (λ r. IsSlip W.boot (B.Slip.slip r.1)) }
@@ -113,7 +114,7 @@ impl<W: BookName, O: FileObject, B: CallBook<W, O>> Seat<W, O, B> {
         rt: &R,
         request: &Request,
     ) -> Result<(Reply, B::Slip), CallFault>
-        requires { is_last request.now ≡ false }
+        requires { has_own_call request.now ≡ false }
         ensures receipt { IfOk result (λ r. (B.Slip.slip r.1).call ≡ record { pid = self.old.pid; k = self.old.k; request = request.now; reply = r.0 }) }
         ensures tried { IfOk result (λ r. (B.Slip.slip r.1).tried ≡ true) }
         ensures shown { IfOk result (λ r. IsSlip W.boot (B.Slip.slip r.1)) }
@@ -149,7 +150,52 @@ impl<W: BookName, O: FileObject, B: CallBook<W, O>> Seat<W, O, B> {
         unreachable!()
     }
 
-    /// Returns once this process has so many entries, or doesn't live.
+    /// Makes a process that is a copy of this one (fork(2)), and gives its seat, which is there exactly where the
+    /// answer is `Child`. The call is an entry whatever its answer. All allocations come before it.
+    ///
+    /// # Errors
+    ///
+    /// Those of the book's `fork`, and `NoMemory` where there is none for the new seat; no entry was made then.
+    pub fn fork<R: Wait>(
+        &mut self,
+        rt: &R,
+    ) -> Result<(Reply, B::Slip, Option<Seat<W, O, B>>), CallFault>
+        ensures receipt { IfOk result (λ r. (B.Slip.slip r.1).call ≡ record { pid = self.old.pid; k = self.old.k; request = Request.Fork; reply = r.0 }) }
+        ensures recorded { IfOk result (λ r. (B.Slip.slip r.1).tried ≡ false) }
+        ensures shown { IfOk result (λ r. IsSlip W.boot (B.Slip.slip r.1)) }
+        ensures child { IfOk result (λ r. r.2 ≡ child_by Request.Fork r.0) }
+        ensures count { OnOk result (self.new ≡ once_more self.old) }
+        ensures goes_on { IfErr result (λ f. is_deadlock f ≡ false) }
+        ensures same { OnErr result (self.new ≡ self.old) }
+    {
+        let Seat {
+            share,
+            shared,
+            retired,
+        } = self;
+        let Ok(list) = RetiredList::new(shared.alloc) else {
+            return Err(CallFault::NoMemory);
+        };
+        let owner = another(rt, shared);
+        let mut guard = shared.desk.lock(rt);
+        let desk = desk_of(rt, &mut *guard);
+        let made = desk.book.fork(share, retired);
+        if let Ok((_, _, child)) = &made {
+            desk.waiters.fork_made(child.is_some());
+        }
+        drop(guard);
+        shared.changed.notify_all();
+        retired.clear();
+        let (reply, slip, child) = made?;
+        slip.show();
+        let seat = match child {
+            Some(share) => Some(make_seat(share, owner, list)),
+            None => None,
+        };
+        Ok((reply, slip, seat))
+    }
+
+    /// Returns once this process has so many entries, or has exited, or was never made and process 1 has exited.
     ///
     /// # Errors
     ///

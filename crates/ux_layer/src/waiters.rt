@@ -49,6 +49,14 @@ impl Waiters {
         self.idle = 0;
     }
 
+    /// The entry of a fork was made, which made a process or none.
+    pub(crate) fn fork_made(&mut self, made: bool) {
+        if made {
+            self.live = self.live.saturating_add(1);
+        }
+        self.entry_made();
+    }
+
     /// The entry of an exit was made.
     pub(crate) fn exit_made(&mut self) {
         self.live = self.live.saturating_sub(1);

@@ -4,6 +4,7 @@ mod boots;
 mod connections;
 mod datagrams;
 mod files;
+mod forking;
 mod memory;
 mod objects;
 mod options;
@@ -47,6 +48,14 @@ fn socket(kind: SockType) -> Request {
         kind,
         flags: OpenFlags(0),
     }
+}
+
+fn open(alloc: Global, path: &[u8], flags: u8) -> Result<Request, AllocError> {
+    Ok(Request::Open {
+        path: named(alloc, path)?,
+        mode: Mode::Both,
+        flags: OpenFlags(flags),
+    })
 }
 
 fn unlink(alloc: Global, path: &[u8]) -> Result<Request, AllocError> {
@@ -195,6 +204,8 @@ enum At {
 #[derive(Clone, Copy)]
 enum Asked {
     Open(&'static [u8]),
+    /// With close-on-exec.
+    OpenMarked(&'static [u8]),
     File(FileCall),
     Pair,
     PairOf(SockType),
@@ -221,6 +232,8 @@ enum Asked {
     Take(u32, usize, u8),
     Close(u32),
     Unlink(&'static [u8]),
+    Fork,
+    Exec,
     Exit,
 }
 
@@ -246,6 +259,7 @@ enum Told {
     Opt(u64),
     Cred(u32, u32, u32),
     Poll(u8),
+    Child(u32),
     Err(Errno),
 }
 
@@ -269,11 +283,8 @@ fn addr_of(alloc: Global, at: &At) -> Result<Addr, AllocError> {
 /// The request of a row.
 fn request_of(alloc: Global, asked: &Asked) -> Result<Request, AllocError> {
     Ok(match asked {
-        Asked::Open(path) => Request::Open {
-            path: named(alloc, path)?,
-            mode: Mode::Both,
-            flags: OpenFlags(0),
-        },
+        Asked::Open(path) => open(alloc, path, 0)?,
+        Asked::OpenMarked(path) => open(alloc, path, 4)?,
         Asked::File(call) => file_request_of(alloc, call)?,
         Asked::Pair => pair(SockType::Stream),
         Asked::PairOf(kind) => pair(*kind),
@@ -324,6 +335,8 @@ fn request_of(alloc: Global, asked: &Asked) -> Result<Request, AllocError> {
         },
         Asked::Close(fd) => Request::Close { fd: Fd(*fd) },
         Asked::Unlink(path) => unlink(alloc, path)?,
+        Asked::Fork => Request::Fork,
+        Asked::Exec => Request::Exec,
         Asked::Exit => Request::Exit,
     })
 }
@@ -350,6 +363,7 @@ fn reply_of(alloc: Global, told: &Told) -> Result<Reply, AllocError> {
             gid: *gid,
         }),
         Told::Poll(flags) => Reply::Poll(PollFlags(*flags)),
+        Told::Child(pid) => Reply::Child(Pid(*pid)),
         Told::Err(errno) => refused(*errno),
     })
 }

@@ -26,6 +26,7 @@ pub mod ReadyCalls
 pub mod Calls
 pub mod Replays
 pub mod Living
+pub mod Numbering
 pub mod Settling
 pub mod Refusals
 pub mod KeptSound
@@ -64,3 +65,4 @@ mod LegalExample
 mod ClosingExample
 pub mod ObjectExamples
 mod NameExamples
+mod ForkingExamples

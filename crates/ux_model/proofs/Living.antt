@@ -389,7 +389,7 @@ exited_push : (p : ℕ) (es : List Entry) (e : Entry) → has_exited p (es ++ e 
 exited_push p [] e = or-false (is_exit e.request && (e.pid.0 == p))
 exited_push p (x ∷ es) e = ap (λ b. (is_exit x.request && (x.pid.0 == p)) || b) (exited_push p es e) ∙ sym (or_assoc (is_exit x.request && (x.pid.0 == p)) (has_exited p es) (is_exit e.request && (e.pid.0 == p)))
 
-made_push : (p : ℕ) (es : List Entry) (e : Entry) → was_made p (es ++ e ∷ []) ≡ was_made p es || makes p e.request e.reply
+pub made_push : (p : ℕ) (es : List Entry) (e : Entry) → was_made p (es ++ e ∷ []) ≡ was_made p es || makes p e.request e.reply
 made_push p [] e = or-false (makes p e.request e.reply)
 made_push p (x ∷ es) e = ap (λ b. makes p x.request x.reply || b) (made_push p es e) ∙ sym (or_assoc (makes p x.request x.reply) (was_made p es) (makes p e.request e.reply))
 
@@ -412,7 +412,7 @@ makes_no_exit : (p q : ℕ) (request : Request) (reply : Reply) → makes p requ
 makes_no_exit p q Request.Exit reply h = absurd (cc h)
 makes_no_exit p q request reply h = refl
 
-made_next : (S T : State) (q tag p : ℕ) (request : Request) (reply : Reply) (gone : List ℕ) → Step S q tag request reply gone T → makes p request reply ≡ true → p ≡ next_process S
+pub made_next : (S T : State) (q tag p : ℕ) (request : Request) (reply : Reply) (gone : List ℕ) → Step S q tag request reply gone T → makes p request reply ≡ true → p ≡ next_process S
 made_next S T q tag p Request.Fork (Reply.Child pid) gone s h =
     let told : pid.0 ≡ next_process S = fork_tells_the_next S T q tag pid gone s in
     let same : pid.0 ≡ p = eqb-true pid.0 p h in
@@ -424,7 +424,7 @@ exit_is_live : (S : State) (q k : ℕ) (request : Request) → is_exit request �
 exit_is_live S q k Request.Exit h may = may
 exit_is_live S q k request h may = absurd (cc h)
 
-live_within : (S : State) (q : ℕ) → is_live S q ≡ true → q ≤ length S.processes
+pub live_within : (S : State) (q : ℕ) → is_live S q ≡ true → q ≤ length S.processes
 live_within S zero h = omega arith
 live_within S (suc i) h = go (slice_get S.processes i) refl h
   where

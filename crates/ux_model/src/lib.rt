@@ -6,7 +6,7 @@
 ghost use Rattle.ux_model.specs.Release.{EndsAlike};
 ghost use Rattle.ux_model.specs.HandingOut.{HandsOutWhatWasHeld};
 ghost use Rattle.ux_model.specs.FreeChoices.{NeverLacksMemory, FailsWhereAnObjectFailed};
-ghost use Rattle.ux_model.specs.History.{LeadsToOne, FrontIsLegal, ExitAndForkAlone, LiveOnesCounted, ForkAloneMakes, ForkTellsTheNext, LivesUntilExit};
+ghost use Rattle.ux_model.specs.History.{LeadsToOne, FrontIsLegal, ExitAndForkAlone, LiveOnesCounted, ForkAloneMakes, ForkTellsTheNext, LivesUntilExit, NumberedFromOne, NoCallBeforeMade};
 ghost use Rattle.ux_model.specs.Peers.{OneGoes};
 ghost use Rattle.ux_model.specs.Invariants.{NoneLeftUnreferenced, SettlesAtOnce, StaysSettled, RefusalChangesNothing, RefusedEntryChangesNothing, WholeAfterAnyCalls, NothingDangles, ClosedOnce};
 ghost use Rattle.ux_model.specs.ReadyCalls.{TellsInput, TellsRoom};
@@ -59,6 +59,18 @@ pub fn fork_alone_makes_a_process()
 #[tactic(auto, using(crate::proofs::Living::fork_tells_the_next))]
 pub fn fork_tells_the_next_number()
     ensures { ForkTellsTheNext }
+{}
+
+/// The processes that lived at the start of a legal history or were made since are numbered from 1 to their
+/// count.
+#[tactic(auto, using(crate::proofs::Numbering::numbered_from_one))]
+pub fn processes_are_numbered_from_one()
+    ensures { NumberedFromOne }
+{}
+
+/// A process has made no call before it was made.
+pub fn processes_call_once_they_are_made()
+    ensures { NoCallBeforeMade }
 {}
 
 /// At the end of a legal history those processes live that did at its start or were made since, and haven't

@@ -97,6 +97,7 @@ impl ReplyRoom {
             Reply::Opt(value) => Reply::Opt(*value),
             Reply::Cred(cred) => Reply::Cred(*cred),
             Reply::Poll(flags) => Reply::Poll(*flags),
+            Reply::Child(pid) => Reply::Child(*pid),
             Reply::Err(errno) => Reply::Err(*errno),
         }
     }

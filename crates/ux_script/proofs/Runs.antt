@@ -1,60 +1,45 @@
 -- A run of a script as far as it has come.
 use mathlib.Core.Bool.{and_comm, or_assoc, or-true, or-false}
 use Rattle.std.proofs.Common.{◌≡◌, ◌≢◌, ℕ, zero, suc, ◌+◌, ◌<◌, ◌≤◌, Bool, true, false, cond, not, ◌&&◌, ◌||◌, ◌==◌, ◌⊎◌, inl, inr, List, [], ◌∷◌, ◌++◌, length, get_or, take, map, filter, Some, None, refl, ap, sym, subst, ◌∙◌, append_assoc, add-one, arith}
-use Rattle.std.specs.Prelude.{if◌then◌else◌, Result, Ok, Err, OnOk, OnErr, IfErr}
+use Rattle.std.specs.Prelude.{nat_lt, if◌then◌else◌, Result, Ok, Err, OnOk, OnErr, IfErr}
 use Rattle.std.specs.List.{AllByRecursion, range_with_len, slice_get, list_any}
-use Rattle.std.proofs.lemmas.Bool.{and_left, and_right, ne_eqb, eq-eqb, cases_lt}
-use Rattle.std.proofs.lemmas.List.{append-nil, map-append, take_more}
+use Rattle.std.proofs.lemmas.Bool.{and_left, and_right, and_from, ne_eqb, eq-eqb, le-leb, false_from_ne_true, cases_lt}
+use Rattle.std.proofs.lemmas.List.{append-nil, map-append, length-map, take_more}
 use Rattle.std.proofs.lemmas.List.Elements.{filter-append}
-use Rattle.std.proofs.lemmas.List.Sums.{sum_by-cons}
+use Rattle.std.proofs.lemmas.List.Sums.{sum_by-cons, sum_by-append, sum_by_push}
 use Rattle.ux_model.specs.Types.{Pid, ProcSpec, Request, Entry}
 use Rattle.ux_model.specs.Process.{Process}
 use Rattle.ux_model.specs.State.{State, is_live}
 use Rattle.ux_model.specs.Boot.{IsBootState, new_process}
 use Rattle.ux_model.specs.History as history
 use Rattle.ux_model.specs.History.{IsLegal, replay, is_off, has_live}
-use Rattle.ux_model.proofs.Living.{lives_until_exit}
+use Rattle.ux_model.proofs.Living.{lives_until_exit, live_within}
+use Rattle.ux_model.proofs.Numbering.{numbered_from_one}
 use Rattle.ux_model.proofs.Appending.{legal_empty, legal_push}
 use Rattle.ux_history.specs.Books.{Held, state_of, ends_of}
+use Rattle.ux_history.specs.Shares as shares
 use Rattle.ux_history.specs.declared.fault.CallFault.{CallFault}
 use Rattle.ux_syntax.specs.declared.script.Act.{Act}
 use Rattle.ux_syntax.specs.Lines.{Line}
 use Rattle.ux_syntax.specs.declared.script.Script.{Script}
-use Rattle.ux_syntax.specs.Spelling.{plan_of, is_exit, asks_exit, asks_off, NamesProcesses, IsQuiet, NoneAfterExit, IsCall, IsOrderly}
+use Rattle.ux_syntax.specs.Spelling.{plan_of, is_exit, is_fork, asks_exit, asks_fork, asks_off, forks_of, known_count, NamesProcesses, EachKnowing, IsQuiet, NoneAfterExit, IsCall, IsOrderly}
 use Rattle.ux_syntax.specs.Turns.{has_exited, exit_line, off_line, is_call, call_lines, all_turns}
 use Rattle.ux_script.specs.Runs.{line_of_entry, exits_of, Makes, MakesOne}
 
 -- ---- who lives
-
--- the processes of a boot state are those that the script wants
-boot_live : (boot : State) (procs : List ProcSpec) (p : ℕ) → boot.processes ≡ map new_process procs → 1 ≤ p → p ≤ length procs → is_live boot p ≡ true
-boot_live boot procs zero same first last = absurd (omega (arith, first))
-boot_live boot procs (suc i) same first last = ap (λ (Ps : List Process). elim (slice_get Ps i) as (λ _. Bool) [ Some P ↦ not P.exited | None ↦ false ]) same ∙ go procs i (omega (arith, last))
-  where
-    go : (ps : List ProcSpec) (i : ℕ) → i < length ps → (elim (slice_get (map new_process ps) i) as (λ _. Bool) [ Some P ↦ not P.exited | None ↦ false ]) ≡ true
-    go [] i h = absurd (omega (arith, h))
-    go (p ∷ ps) zero h = refl
-    go (p ∷ ps) (suc i) h = go ps i (omega (arith, h))
-
-boot_past : (boot : State) (procs : List ProcSpec) (i : ℕ) → boot.processes ≡ map new_process procs → length procs ≤ i → is_live boot (suc i) ≡ false
-boot_past boot procs i same past = ap (λ (Ps : List Process). elim (slice_get Ps i) as (λ _. Bool) [ Some P ↦ not P.exited | None ↦ false ]) same ∙ go procs i past
-  where
-    go : (ps : List ProcSpec) (i : ℕ) → length ps ≤ i → (elim (slice_get (map new_process ps) i) as (λ _. Bool) [ Some P ↦ not P.exited | None ↦ false ]) ≡ false
-    go [] i h = refl
-    go (p ∷ ps) zero h = absurd (omega (arith, h))
-    go (p ∷ ps) (suc i) h = go ps i (omega (arith, h))
 
 -- an exit in the history is one among its lines
 exited_lines : (es : List Entry) (p : ℕ) → history.has_exited p es ≡ has_exited (map line_of_entry es) p
 exited_lines [] p = refl
 exited_lines (e ∷ es) p = (λ j. and_comm (is_exit e.request) (e.pid.0 == p) j || exited_lines es p j)
 
--- in a run that made these lines, a process lives until its exit is among them
-pub lives_by_lines : (boot : State) (procs : List ProcSpec) (es : List Entry) (lines : List Line) (p : ℕ) → boot.processes ≡ map new_process procs → IsLegal boot es → map line_of_entry es ≡ lines → 1 ≤ p → p ≤ length procs →
+-- in a run that made these lines, a process that was made lives until its exit is among them
+pub lives_by_lines : (boot : State) (es : List Entry) (lines : List Line) (p : ℕ) → IsLegal boot es → map line_of_entry es ≡ lines → 1 ≤ p → p ≤ length (replay boot es).processes →
     is_live (replay boot es) p ≡ not (has_exited lines p)
-lives_by_lines boot procs es lines p same legal made first last =
+lives_by_lines boot es lines p legal made first last =
+    let there : (is_live boot p || history.was_made p es) ≡ true = numbered_from_one boot es p legal ∙ and_from (nat_lt 0 p) _ (le-leb 1 p first) (le-leb p (length (replay boot es).processes) last) in
     lives_until_exit boot es p legal
-    ∙ (λ j. boot_live boot procs p same first last j && not (exited_lines es p j))
+    ∙ (λ j. there j && not (exited_lines es p j))
     ∙ ap (λ ls. not (has_exited ls p)) made
 
 -- an exit is a call
@@ -91,14 +76,64 @@ not_exited (suc i) (x ∷ xs) line none inside item =
         and_left _ _ (ne_eqb x.pid.0 line.pid.0 (λ g. other (sym g)))
     first false h = and_right _ _ h
 
+-- ---- how many processes are there
+
+forks-cons : (x : Line) (xs : List Line) → forks_of (x ∷ xs) ≡ cond {A = ℕ} (asks_fork x.act) 1 0 + forks_of xs
+forks-cons x xs = sum_by-cons (λ (l : Line). cond {A = ℕ} (asks_fork l.act) 1 0) x xs
+
+-- a fork is a call
+first_fork : (xs : List Line) (pid : Pid) (act : Act) → forks_of (call_lines xs) ≡ forks_of xs → forks_of (call_lines (record { pid = pid; act = act } ∷ xs)) ≡ forks_of (record { pid = pid; act = act } ∷ xs)
+first_fork xs pid (Act.Call request) h =
+    let x : Line = record { pid = pid; act = Act.Call request } in
+    forks-cons x (call_lines xs) ∙ ap (λ n. cond {A = ℕ} (asks_fork x.act) 1 0 + n) h ∙ sym (forks-cons x xs)
+first_fork xs pid (Act.Wait other calls) h =
+    let x : Line = record { pid = pid; act = Act.Wait other calls } in
+    let more : forks_of (x ∷ xs) ≡ cond {A = ℕ} false 1 0 + forks_of xs = forks-cons x xs in
+    omega (arith, h, more)
+
+pub forks_calls : (lines : List Line) → forks_of (call_lines lines) ≡ forks_of lines
+forks_calls [] = refl
+forks_calls (x ∷ xs) = first_fork xs x.pid x.act (forks_calls xs)
+
+-- and no exit is one
+forks_exits : (ns : List ℕ) → forks_of (map exit_line ns) ≡ 0
+forks_exits [] = refl
+forks_exits (n ∷ ns) =
+    let rest = forks_exits ns in
+    let more : forks_of (exit_line n ∷ map exit_line ns) ≡ cond {A = ℕ} false 1 0 + forks_of (map exit_line ns) = forks-cons (exit_line n) (map exit_line ns) in
+    omega (arith, rest, more)
+
+forks_all : (lines : List Line) (n : ℕ) → forks_of (call_lines lines ++ exits_of lines n) ≡ forks_of lines
+forks_all lines n =
+    let both = sum_by-append (λ (l : Line). cond {A = ℕ} (asks_fork l.act) 1 0) (call_lines lines) (exits_of lines n) in
+    let calls = forks_calls lines in
+    let exits = forks_exits (filter (λ pid. not (has_exited lines pid)) (range_with_len 1 n)) in
+    omega (arith, both, calls, exits)
+
+-- what is said of each line, beside the number of processes that it knows
+known_at : (IsSo : ℕ → Line → Type 0) (count i : ℕ) (lines : List Line) (line : Line) → EachKnowing IsSo count lines → i < length lines → line ≡ get_or lines i line → IsSo (count + forks_of (take i lines)) line
+known_at IsSo count i [] line all inside item = absurd (omega (arith, inside))
+known_at IsSo count zero (x ∷ xs) line all inside item =
+    let none : count ≡ count + forks_of [] = omega arith in
+    subst (λ (n : ℕ). IsSo n line) none (subst (IsSo count) (sym item) all.0)
+known_at IsSo count (suc i) (x ∷ xs) line all inside item =
+    let first = forks-cons x [] in
+    let more = forks-cons x (take i xs) in
+    let sum : (count + forks_of (x ∷ [])) + forks_of (take i xs) ≡ count + forks_of (x ∷ take i xs) = omega (arith, first, more) in
+    subst (λ (n : ℕ). IsSo n line) sum (known_at IsSo (count + forks_of (x ∷ [])) i xs line all.1 (omega (arith, inside)) item)
+
 -- the process of a line lives when the lines before it were made
-pub line_lives : (boot : State) (procs : List ProcSpec) (lines : List Line) (es : List Entry) (i : ℕ) (line : Line) → boot.processes ≡ map new_process procs → IsLegal boot es → map line_of_entry es ≡ call_lines (take i lines) →
-    AllByRecursion (NamesProcesses (length procs)) lines → NoneAfterExit lines → i < length lines → line ≡ get_or lines i line →
-    is_live (replay boot es) line.pid.0 ≡ true
-line_lives boot procs lines es i line same legal made all none inside item =
-    let here = all_at (NamesProcesses (length procs)) i lines line all inside item in
-    lives_by_lines boot procs es (call_lines (take i lines)) line.pid.0 same legal made here.0.0 here.0.1
-    ∙ ap not (exited_calls (take i lines) line.pid.0 ∙ not_exited i lines line none inside item)
+pub line_lives : (book : Held) (script : Script) (i : ℕ) (line : Line) → Makes book script (call_lines (take i script.lines.items)) → IsOrderly (plan_of script) → i < length script.lines.items → line ≡ get_or script.lines.items i line →
+    is_live (state_of book) line.pid.0 ≡ true
+line_lives book script i line so_far orderly inside item =
+    let lines = script.lines.items in
+    let here = known_at NamesProcesses (length script.procs.items) i lines line orderly.processes inside item in
+    let first = here.0.0 in
+    let last = here.0.1 in
+    let made = so_far.made in
+    let forks = forks_calls (take i lines) in
+    lives_by_lines book.boot book.entries (call_lines (take i lines)) line.pid.0 so_far.legal so_far.calls first (omega (arith, last, made, forks))
+    ∙ ap not (exited_calls (take i lines) line.pid.0 ∙ not_exited i lines line orderly.exits inside item)
 
 -- with one line more there may be one call more
 calls_more : (lines : List Line) (i : ℕ) (line : Line) → i < length lines → line ≡ get_or lines i line → call_lines (take i lines) ++ call_lines (line ∷ []) ≡ call_lines (take (i + 1) lines)
@@ -157,10 +192,13 @@ others_exits lines (suc n) p below =
     last false = ap (λ b. (b && true) || false) (ne_eqb (n + 1) p (λ h. omega (arith, h, below)))
 
 -- whether the next process has made its exit, after the script's calls and some of the missing exits
-pub exit_known : (boot : State) (procs : List ProcSpec) (lines : List Line) (es : List Entry) (n : ℕ) → boot.processes ≡ map new_process procs → IsLegal boot es → map line_of_entry es ≡ call_lines lines ++ exits_of lines n → n < length procs →
-    is_live (replay boot es) (n + 1) ≡ not (has_exited lines (n + 1))
-exit_known boot procs lines es n same legal made inside =
-    lives_by_lines boot procs es (call_lines lines ++ exits_of lines n) (n + 1) same legal made (omega arith) (omega (arith, inside))
+pub exit_known : (book : Held) (script : Script) (n : ℕ) → Makes book script (call_lines script.lines.items ++ exits_of script.lines.items n) → n < known_count (plan_of script) →
+    is_live (state_of book) (n + 1) ≡ not (has_exited script.lines.items (n + 1))
+exit_known book script n so_far inside =
+    let lines = script.lines.items in
+    let made = so_far.made in
+    let forks = forks_all lines n in
+    lives_by_lines book.boot book.entries (call_lines lines ++ exits_of lines n) (n + 1) so_far.legal so_far.calls (omega arith) (omega (arith, inside, made, forks))
     ∙ ap not (exited-append (call_lines lines) (exits_of lines n) (n + 1) ∙ (λ j. exited_calls lines (n + 1) j || others_exits lines n (n + 1) (omega arith) j) ∙ or-false (has_exited lines (n + 1)))
 
 -- ---- the end
@@ -199,15 +237,23 @@ nobody S gone = go S.processes gone
     go [] g = refl
     go (P ∷ Ps) g = λ j. g 0 j || go Ps (λ i. g (suc i)) j
 
-all_gone : (boot : State) (procs : List ProcSpec) (lines : List Line) (es : List Entry) → boot.processes ≡ map new_process procs → IsLegal boot es → map line_of_entry es ≡ call_lines lines ++ exits_of lines (length procs) →
-    has_live (replay boot es) ≡ false
-all_gone boot procs lines es same legal made = nobody (replay boot es) (λ i. go i (cases_lt i (length procs)))
+all_gone : (book : Held) (script : Script) → Makes book script (call_lines script.lines.items ++ exits_of script.lines.items (known_count (plan_of script))) → has_live (state_of book) ≡ false
+all_gone book script so_far = nobody (state_of book) (λ i. go i (cases_lt i count))
   where
-    go : (i : ℕ) → (i < length procs) ⊎ (length procs ≤ i) → is_live (replay boot es) (suc i) ≡ false
+    count : ℕ
+    count = known_count (plan_of script)
+
+    lines : List Line
+    lines = script.lines.items
+
+    all : length (state_of book).processes ≡ count
+    all = let made = so_far.made in let forks = forks_all lines count in omega (arith, made, forks)
+
+    go : (i : ℕ) → (i < count) ⊎ (count ≤ i) → is_live (state_of book) (suc i) ≡ false
     go i (inl inside) =
-        lives_by_lines boot procs es (call_lines lines ++ exits_of lines (length procs)) (suc i) same legal made (omega arith) (omega (arith, inside))
-        ∙ ap not (exited_all lines (length procs) (suc i) (omega arith) (omega (arith, inside)))
-    go i (inr past) = lives_until_exit boot es (suc i) legal ∙ ap (λ b. b && not (history.has_exited (suc i) es)) (boot_past boot procs i same past)
+        lives_by_lines book.boot book.entries (call_lines lines ++ exits_of lines count) (suc i) so_far.legal so_far.calls (omega arith) (omega (arith, inside, all))
+        ∙ ap not (exited_all lines count (suc i) (omega arith) (omega (arith, inside)))
+    go i (inr past) = false_from_ne_true _ (λ live. let within = live_within (state_of book) (suc i) live in omega (arith, within, past, all))
 
 both_calls : (xs ys : List Line) → AllByRecursion IsCall xs → AllByRecursion IsCall ys → AllByRecursion IsCall (xs ++ ys)
 both_calls [] ys a b = b
@@ -242,9 +288,10 @@ not_ended (e ∷ es) all =
 -- ---- a run as far as it has come
 
 -- one more entry of a process
-pub makes_more : (old new : Held) (script : Script) (pid : Pid) (request : Request) (made : List Line) → MakesOne old new pid request → Makes old script made →
+pub makes_more : (old new : Held) (script : Script) (pid : Pid) (request : Request) (made : List Line) → MakesOne old new pid request → shares.processes new ≡ shares.processes old + cond {A = ℕ} (is_fork request) 1 0 → Makes old script made →
     Makes new script (made ++ record { pid = pid; act = Act.Call request } ∷ [])
-makes_more old new script pid request made one so_far =
+makes_more old new script pid request made one count so_far =
+    let here : Line = record { pid = pid; act = Act.Call request } in
     let now = one.appended.adds.appended in
     record {
       processes = ap (λ (h : Held). State.processes h.boot) now ∙ so_far.processes;
@@ -252,10 +299,11 @@ makes_more old new script pid request made one so_far =
       calls = ap (λ (h : Held). map line_of_entry h.entries) now
           ∙ map-append line_of_entry old.entries (_ ∷ [])
           ∙ ap (λ ls. ls ++ record { pid = pid; act = Act.Call request } ∷ []) so_far.calls;
+      made = let before = so_far.made in let more = sum_by_push (λ (l : Line). cond {A = ℕ} (asks_fork l.act) 1 0) made here in omega (arith, count, before, more);
     }
 
 pub makes_same : (book : Held) (script : Script) (made more : List Line) → made ≡ more → Makes book script made → Makes book script more
-makes_same book script made more e so_far = record { processes = so_far.processes; legal = so_far.legal; calls = so_far.calls ∙ e }
+makes_same book script made more e so_far = record { processes = so_far.processes; legal = so_far.legal; calls = so_far.calls ∙ e; made = so_far.made ∙ ap (λ ls. length script.procs.items + forks_of ls) e }
 
 pub boot_kept : (old new : Held) (pid : Pid) (request : Request) → MakesOne old new pid request → new.boot ≡ old.boot
 boot_kept old new pid request one = ap Held.boot one.appended.adds.appended
@@ -265,35 +313,39 @@ pub no_stranger : (book : Held) (script : Script) (i : ℕ) (line : Line) (reque
     (is_off request ≡ false) × (is_live (state_of book) line.pid.0 ≡ true)
 no_stranger book script i line request orderly so_far inside item asks = (
   ap asks_off (sym asks) ∙ all_at IsCall i script.lines.items line orderly.calls inside item,
-  line_lives book.boot script.procs.items script.lines.items book.entries i line so_far.processes so_far.legal so_far.calls orderly.processes orderly.exits inside item,
+  line_lives book script i line so_far orderly inside item,
 )
 
 -- nor is the end of the layer behind all exits refused
-pub no_stranger_ends : (book : Held) (script : Script) (n : ℕ) → IsOrderly (plan_of script) → n ≡ length script.procs.items → Makes book script (call_lines script.lines.items ++ exits_of script.lines.items n) →
+pub no_stranger_ends : (book : Held) (script : Script) (n : ℕ) → IsOrderly (plan_of script) → n ≡ known_count (plan_of script) → Makes book script (call_lines script.lines.items ++ exits_of script.lines.items n) →
     (has_live (state_of book) ≡ false → ends_of book.entries ≡ 1) → ⊥
 no_stranger_ends book script n orderly count so_far refused =
     let lines = script.lines.items in
-    let made = so_far.calls ∙ ap (λ m. call_lines lines ++ exits_of lines m) count in
     let none = not_ended book.entries (subst (AllByRecursion IsCall) (sym so_far.calls) (both_calls _ _ (all_calls lines orderly.calls) (exits_are_calls lines n))) in
-    let once = refused (all_gone book.boot script.procs.items lines book.entries so_far.processes so_far.legal made) in
+    let once = refused (all_gone book script (makes_same book script _ _ (ap (λ m. call_lines lines ++ exits_of lines m) count) so_far)) in
     omega (arith, none, once)
 
 -- all calls of a run without an end, and with one
-pub without_end : (script : Script) (n : ℕ) → n ≡ length script.procs.items → script.off ≡ false → call_lines script.lines.items ++ exits_of script.lines.items n ≡ all_turns (plan_of script)
+pub without_end : (script : Script) (n : ℕ) → n ≡ known_count (plan_of script) → script.off ≡ false → call_lines script.lines.items ++ exits_of script.lines.items n ≡ all_turns (plan_of script)
 without_end script n count no_end =
     ap (λ m. call_lines script.lines.items ++ exits_of script.lines.items m) count
-    ∙ ap (λ ls. call_lines script.lines.items ++ ls) (sym (append-nil (exits_of script.lines.items (length script.procs.items))))
-    ∙ ap (λ b. call_lines script.lines.items ++ (exits_of script.lines.items (length script.procs.items) ++ (if b then off_line ∷ [] else []))) (sym no_end)
+    ∙ ap (λ ls. call_lines script.lines.items ++ ls) (sym (append-nil (exits_of script.lines.items (known_count (plan_of script)))))
+    ∙ ap (λ b. call_lines script.lines.items ++ (exits_of script.lines.items (known_count (plan_of script)) ++ (if b then off_line ∷ [] else []))) (sym no_end)
 
-pub with_end : (script : Script) (n : ℕ) → n ≡ length script.procs.items → script.off ≡ true → (call_lines script.lines.items ++ exits_of script.lines.items n) ++ off_line ∷ [] ≡ all_turns (plan_of script)
+pub with_end : (script : Script) (n : ℕ) → n ≡ known_count (plan_of script) → script.off ≡ true → (call_lines script.lines.items ++ exits_of script.lines.items n) ++ off_line ∷ [] ≡ all_turns (plan_of script)
 with_end script n count end =
     ap (λ m. (call_lines script.lines.items ++ exits_of script.lines.items m) ++ off_line ∷ []) count
-    ∙ append_assoc (call_lines script.lines.items) (exits_of script.lines.items (length script.procs.items)) (off_line ∷ [])
-    ∙ ap (λ b. call_lines script.lines.items ++ (exits_of script.lines.items (length script.procs.items) ++ (if b then off_line ∷ [] else []))) (sym end)
+    ∙ append_assoc (call_lines script.lines.items) (exits_of script.lines.items (known_count (plan_of script))) (off_line ∷ [])
+    ∙ ap (λ b. call_lines script.lines.items ++ (exits_of script.lines.items (known_count (plan_of script)) ++ (if b then off_line ∷ [] else []))) (sym end)
 
 -- a book that was just opened
 pub makes_none : (book : Held) (script : Script) (boot : State) → book ≡ record { boot = boot; entries = [] } → IsBootState boot → boot.processes ≡ map new_process script.procs.items → Makes book script []
-makes_none book script boot new boots same = subst (λ (h : Held). Makes h script []) (sym new) (record { processes = same; legal = legal_empty boot boots; calls = refl })
+makes_none book script boot new boots same = subst (λ (h : Held). Makes h script []) (sym new) (record {
+  processes = same;
+  legal = legal_empty boot boots;
+  calls = refl;
+  made = let count = ap length same ∙ length-map script.procs.items new_process in omega (arith, count);
+})
 
 -- what follows from a success, and from a refusal
 pub ok_then : {P Q : Type 0} (r : Result (Unit {0}) CallFault) → (P → Q) → OnOk r P → OnOk r Q

@@ -1,24 +1,27 @@
 -- The shares of a book, at its start and through its calls.
-use mathlib.Core.Bool.{and-true, and-false}
-use Rattle.std.proofs.Common.{◌≡◌, ◌≢◌, ℕ, zero, suc, ◌+◌, ◌-◌, ◌<◌, ◌≤◌, Bool, true, false, cond, not, ◌&&◌, ◌==◌, ◌⊎◌, inl, inr, List, [], ◌∷◌, ◌++◌, length, get_or, set, map, Option, Some, None, refl, ap, sym, subst, ◌∙◌, ⊎_elim, arith}
+use mathlib.Core.Bool.{and-true, and-false, or-true, or-false}
+use Rattle.std.proofs.Common.{◌≡◌, ◌≢◌, ℕ, zero, suc, ◌+◌, ◌-◌, ◌<◌, ◌≤◌, Bool, true, false, cond, not, ◌&&◌, ◌||◌, ◌==◌, ◌⊎◌, inl, inr, List, [], ◌∷◌, ◌++◌, length, get_or, set, map, Option, Some, None, refl, ap, sym, subst, ◌∙◌, ⊎_elim, arith}
 use Rattle.std.specs.Prelude.{if◌then◌else◌, option_map, Result, Ok, Err, OnOk, OnErr}
 use Rattle.std.specs.List.{slice_get, list_all}
 use Rattle.std.proofs.lemmas.Bool.{false≢true, and_right, and_parts, ne_eqb, eq-eqb, cases_lt}
 use Rattle.std.proofs.lemmas.Bool.Decides.{eqb_tells}
 use Rattle.std.proofs.lemmas.List.{map-append, length-map, length-append, length-set, get_or-set_same, get_or-set_other, get_or-append_right, get_or_append_left, get_or_past, set-set}
 use Rattle.std.proofs.lemmas.List.Sums.{sum_by_push}
-use Rattle.ux_model.specs.Types.{Pid, Request, Entry}
+use Rattle.ux_model.specs.Types.{Pid, Request, Reply, Entry}
 use Rattle.ux_model.specs.Process.{Process}
 use Rattle.ux_model.specs.State.{State, is_live}
 use Rattle.ux_model.specs.Places.{place}
 use Rattle.ux_model.specs.Boot.{IsBootState}
-use Rattle.ux_model.specs.History.{calls_of, is_exit}
-use Rattle.ux_model.proofs.Living.{exit_alone_ends}
+use Rattle.ux_model.specs.Step.{Step}
+use Rattle.ux_model.specs.History.{calls_of, is_exit, makes, makes_one, replay, IsLegal}
+use Rattle.ux_model.proofs.Living.{exit_and_fork_alone, fork_tells_the_next, live_within}
+use Rattle.ux_model.proofs.Numbering.{no_call_before_made}
 use Rattle.ux_model.proofs.OnePlace.{same_at}
-use Rattle.ux_history.specs.Books.{Held, state_of}
-use Rattle.ux_history.specs.Shares.{Caller, fresh, knows, once_more}
+use Rattle.ux_history.specs.Books.{Held, state_of, is_fork}
+use Rattle.ux_history.specs.Shares.{Caller, child_by, fresh, knows, once_more, processes}
+use Rattle.ux_history.proofs.Accounts.{processes_after}
 use Rattle.ux_script.specs.Runs.{MakesOne}
-use Rattle.ux_script.specs.Shares.{share_of, HasShares}
+use Rattle.ux_script.specs.Shares.{share_of, HasShares, Forks}
 
 -- the share of a process that has made so many calls, where it lives
 abbrev given : Bool → ℕ → ℕ → Option Caller
@@ -76,7 +79,14 @@ none_behind S i past = go S.processes i past
 -- a book that was just opened, and its shares
 pub first_shares : (book : Held) (boot : State) (places : List (Option Caller)) → IsBootState boot → book ≡ record { boot = boot; entries = [] } →
     places ≡ None ∷ map (λ (c : Caller). Some c) (fresh (length boot.processes)) → HasShares book places
-first_shares book boot places boots new all = record { each = λ p. ap (λ (ps : List (Option Caller)). place ps p) all ∙ go p ∙ ap (λ (b : Held). share_of b p) (sym new) }
+first_shares book boot places boots new all = record {
+  each = λ p. ap (λ (ps : List (Option Caller)). place ps p) all ∙ go p ∙ ap (λ (b : Held). share_of b p) (sym new);
+  long =
+      let count : processes book ≡ n = ap processes new in
+      let places_long : length places ≡ length (None ∷ map (λ (c : Caller). Some c) (fresh n)) = ap length all in
+      let shares : length (map (λ (c : Caller). Some c) (fresh n)) ≡ n = length-map (fresh n) (λ (c : Caller). Some c) ∙ length_fresh n in
+      omega (arith, count, places_long, shares);
+}
   where
     n : ℕ
     n = length boot.processes
@@ -111,11 +121,37 @@ share_known book p c = go (is_live (state_of book) p) refl
 
 -- ---- through a call
 
-live_after : (old new : Held) (pid : Pid) (request : Request) (p : ℕ) → MakesOne old new pid request → is_live (state_of new) p ≡ (is_live (state_of old) p && not (is_exit request && (pid.0 == p)))
+-- a call that made no process didn't make this one
+makes_not : (p : ℕ) (request : Request) (reply : Reply) → makes_one request reply ≡ false → makes p request reply ≡ false
+makes_not p Request.Fork (Reply.Child pid) h = absurd (cc h)
+makes_not p request reply h = refl
+
+-- a fork alone makes one
+pub no_fork : (request : Request) (reply : Reply) → is_fork request ≡ false → makes_one request reply ≡ false
+no_fork Request.Fork reply h = absurd (cc h)
+no_fork request reply h = refl
+
+-- where none was made, there are as many processes as before
+pub as_many : (old new : Held) (pid : Pid) (request : Request) (one : MakesOne old new pid request) → makes_one request one.appended.reply ≡ false → processes new ≡ processes old
+as_many old new pid request one none =
+    let after = processes_after old new _ one.appended.adds in
+    let more : processes new ≡ processes old + cond {A = ℕ} false 1 0 = after ∙ ap (λ (b : Bool). processes old + cond {A = ℕ} b 1 0) none in
+    omega (arith, more)
+
+live_after : (old new : Held) (pid : Pid) (request : Request) (p : ℕ) → (one : MakesOne old new pid request) →
+    is_live (state_of new) p ≡ ((is_live (state_of old) p && not (is_exit request && (pid.0 == p))) || makes p request one.appended.reply)
 live_after old new pid request p one =
     let adds = one.appended.adds in
     ap (λ (b : Held). is_live (state_of b) p) adds.appended
-    ∙ exit_alone_ends (state_of old) _ pid.0 (length old.entries) p request one.appended.reply one.released adds.next.steps
+    ∙ exit_and_fork_alone (state_of old) _ pid.0 (length old.entries) p request one.appended.reply one.released adds.next.steps
+
+-- of a process that the call didn't make
+live_still : (old new : Held) (pid : Pid) (request : Request) (p : ℕ) → (one : MakesOne old new pid request) → makes p request one.appended.reply ≡ false →
+    is_live (state_of new) p ≡ (is_live (state_of old) p && not (is_exit request && (pid.0 == p)))
+live_still old new pid request p one none =
+    live_after old new pid request p one
+    ∙ ap (λ (b : Bool). (is_live (state_of old) p && not (is_exit request && (pid.0 == p))) || b) none
+    ∙ or-false (is_live (state_of old) p && not (is_exit request && (pid.0 == p)))
 
 calls_after : (old new : Held) (pid : Pid) (request : Request) (p : ℕ) → MakesOne old new pid request → calls_of p new.entries ≡ calls_of p old.entries + cond {A = ℕ} (pid.0 == p) 1 0
 calls_after old new pid request p one =
@@ -123,11 +159,11 @@ calls_after old new pid request p one =
     ∙ sum_by_push (λ (x : Entry). cond {A = ℕ} (x.pid.0 == p) 1 0) old.entries _
 
 -- a call leaves the shares of all others
-pub other_share : (old new : Held) (pid : Pid) (request : Request) (p : ℕ) → MakesOne old new pid request → pid.0 ≢ p → share_of new p ≡ share_of old p
-other_share old new pid request p one other =
+pub other_share : (old new : Held) (pid : Pid) (request : Request) (p : ℕ) → (one : MakesOne old new pid request) → makes p request one.appended.reply ≡ false → pid.0 ≢ p → share_of new p ≡ share_of old p
+other_share old new pid request p one none other =
     let who = ne_eqb pid.0 p other in
     let live : is_live (state_of new) p ≡ is_live (state_of old) p =
-    live_after old new pid request p one
+    live_still old new pid request p one none
     ∙ ap (λ (b : Bool). is_live (state_of old) p && not b) (and_right (is_exit request) _ who)
     ∙ and-true (is_live (state_of old) p) in
     let calls : calls_of p new.entries ≡ calls_of p old.entries =
@@ -137,12 +173,12 @@ other_share old new pid request p one other =
     λ j. given (live j) p (calls j)
 
 -- its own counts one more
-pub own_share : (old new : Held) (pid : Pid) (request : Request) (c : Caller) → MakesOne old new pid request → is_exit request ≡ false → share_of old pid.0 ≡ Some c → share_of new pid.0 ≡ Some (once_more c)
-own_share old new pid request c one stays was =
+pub own_share : (old new : Held) (pid : Pid) (request : Request) (c : Caller) → (one : MakesOne old new pid request) → makes pid.0 request one.appended.reply ≡ false → is_exit request ≡ false → share_of old pid.0 ≡ Some c → share_of new pid.0 ≡ Some (once_more c)
+own_share old new pid request c one none stays was =
     (λ j. given (live j) pid.0 (calls j)) ∙ more (is_live (state_of old) pid.0) was
   where
     live : is_live (state_of new) pid.0 ≡ is_live (state_of old) pid.0
-    live = live_after old new pid request pid.0 one
+    live = live_still old new pid request pid.0 one none
         ∙ ap (λ (b : Bool). is_live (state_of old) pid.0 && not (b && (pid.0 == pid.0))) stays
         ∙ and-true (is_live (state_of old) pid.0)
 
@@ -158,7 +194,7 @@ own_share old new pid request c one stays was =
 pub gone_share : (old new : Held) (pid : Pid) → MakesOne old new pid Request.Exit → share_of new pid.0 ≡ None
 gone_share old new pid one =
     ap (λ (b : Bool). given b pid.0 (calls_of pid.0 new.entries))
-    (live_after old new pid Request.Exit pid.0 one
+    (live_still old new pid Request.Exit pid.0 one refl
     ∙ ap (λ (b : Bool). is_live (state_of old) pid.0 && not b) (eq-eqb pid.0 pid.0 refl)
     ∙ and-false (is_live (state_of old) pid.0))
 
@@ -173,28 +209,51 @@ length_of_some (x ∷ xs) (suc i) c h = let rest = length_of_some xs i c h in om
 pub place_there : (xs : List (Option Caller)) (i : ℕ) (c : Caller) (left : List (Option Caller)) → Some c ≡ place xs i → left ≡ set xs i None → i < length left
 place_there xs i c left h e = let inside = length_of_some xs i c (sym h) in let same : length left ≡ length xs = ap length e ∙ length-set xs i None in omega (arith, inside, same)
 
--- the place of a process that called
-changed : (old new : Held) (xs : List (Option Caller)) (pid : Pid) (request : Request) (o : Option Caller) → HasShares old xs → MakesOne old new pid request → pid.0 < length xs → share_of new pid.0 ≡ o → HasShares new (set xs pid.0 o)
-changed old new xs pid request o has one inside own = record {
-  each = λ p. ⊎_elim {C = place (set xs pid.0 o) p ≡ share_of new p}
-      (λ w. ap (place (set xs pid.0 o)) (sym w.1) ∙ get_or-set_same xs pid.0 o None inside ∙ sym own ∙ ap (share_of new) w.1)
-      (λ w. get_or-set_other xs pid.0 p o None (λ e. w.1 (sym e)) ∙ has.each p ∙ sym (other_share old new pid request p one w.1))
-      (eqb_tells pid.0 p);
+-- the place of a process that called, and those of all others but of one that it made
+changed_at : (old new : Held) (xs : List (Option Caller)) (pid : Pid) (request : Request) (o : Option Caller) → HasShares old xs → (one : MakesOne old new pid request) → pid.0 < length xs → share_of new pid.0 ≡ o →
+    (p : ℕ) → makes p request one.appended.reply ≡ false → place (set xs pid.0 o) p ≡ share_of new p
+changed_at old new xs pid request o has one inside own p none =
+    ⊎_elim {C = place (set xs pid.0 o) p ≡ share_of new p}
+    (λ w. ap (place (set xs pid.0 o)) (sym w.1) ∙ get_or-set_same xs pid.0 o None inside ∙ sym own ∙ ap (share_of new) w.1)
+    (λ w. get_or-set_other xs pid.0 p o None (λ e. w.1 (sym e)) ∙ has.each p ∙ sym (other_share old new pid request p one none w.1))
+    (eqb_tells pid.0 p)
+
+changed : (old new : Held) (xs : List (Option Caller)) (pid : Pid) (request : Request) (o : Option Caller) → HasShares old xs → (one : MakesOne old new pid request) → makes_one request one.appended.reply ≡ false →
+    pid.0 < length xs → share_of new pid.0 ≡ o → HasShares new (set xs pid.0 o)
+changed old new xs pid request o has one none inside own = record {
+  each = λ p. changed_at old new xs pid request o has one inside own p (makes_not p request one.appended.reply none);
+  long =
+      let same = as_many old new pid request one none in
+      let long = has.long in
+      let as_long = length-set xs pid.0 o in
+      omega (arith, same, long, as_long);
 }
 
 -- what stands in a place is put there
 put_back : (book : Held) (xs : List (Option Caller)) (i : ℕ) (o : Option Caller) → HasShares book xs → o ≡ place xs i → HasShares book (set xs i o)
-put_back book xs i o has same = record { each = λ p. same_at (λ x. x) xs i p o same ∙ has.each p }
+put_back book xs i o has same = record {
+  each = λ p. same_at (λ x. x) xs i p o same ∙ has.each p;
+  long = let long = has.long in let as_long = length-set xs i o in omega (arith, long, as_long);
+}
 
 -- where the place of a process was empty
 pub keeps_empty : (book : Held) (xs left : List (Option Caller)) (i : ℕ) → HasShares book xs → None ≡ place xs i → left ≡ set xs i None → HasShares book left
 keeps_empty book xs left i has none e = subst (HasShares book) (sym e) (put_back book xs i None has none)
 
--- where a process called, or its call was refused
-pub keeps_shares : (old new : Held) (xs left all : List (Option Caller)) (pid : Pid) (request : Request) (c d : Caller) → {F : Type 0} (r : Result (Unit {0}) F) → HasShares old xs → is_exit request ≡ false →
-    Some c ≡ place xs pid.0 → left ≡ set xs pid.0 None → all ≡ set left d.pid.0 (Some d) →
-    OnOk r (MakesOne old new c.pid request) → OnOk r (d ≡ once_more c) → OnErr r (new ≡ old) → OnErr r (d ≡ c) → HasShares new all
-keeps_shares old new xs left all pid request c d r has stays was e f entry more same kept = subst (HasShares new) (sym whole) (by r entry more same kept)
+-- a share that is taken and put back again after its process called
+record Taken (old : Held) (xs left all : List (Option Caller)) (pid : Pid) (c d : Caller) : Type 0 where
+  own : share_of old pid.0 ≡ Some c
+  who : c.pid.0 ≡ pid.0
+  inside : pid.0 < length xs
+  whole : d.pid.0 ≡ c.pid.0 → all ≡ set xs pid.0 (Some d)
+
+taken : (old : Held) (xs left all : List (Option Caller)) (pid : Pid) (c d : Caller) → HasShares old xs → Some c ≡ place xs pid.0 → left ≡ set xs pid.0 None → all ≡ set left d.pid.0 (Some d) → Taken old xs left all pid c d
+taken old xs left all pid c d has was e f = record {
+  own = own;
+  who = who;
+  inside = length_of_some xs pid.0 c (sym was);
+  whole = λ same. f ∙ ap (λ (l : List (Option Caller)). set l d.pid.0 (Some d)) e ∙ ap (λ (n : ℕ). set (set xs pid.0 None) n (Some d)) (same ∙ who) ∙ set-set xs pid.0 None (Some d);
+}
   where
     own : share_of old pid.0 ≡ Some c
     own = sym (was ∙ has.each pid.0)
@@ -202,18 +261,158 @@ keeps_shares old new xs left all pid request c d r has stays was e f entry more 
     who : c.pid.0 ≡ pid.0
     who = (share_known old pid.0 c own).0
 
-    here : {F : Type 0} (r : Result (Unit {0}) F) → OnOk r (d ≡ once_more c) → OnErr r (d ≡ c) → d.pid.0 ≡ pid.0
-    here (Ok u) more kept = ap (λ (x : Caller). x.pid.0) more ∙ who
-    here (Err g) more kept = ap (λ (x : Caller). x.pid.0) kept ∙ who
+-- where a process made a call that made none, and where its call was refused
+called : (old new : Held) (xs left all : List (Option Caller)) (pid : Pid) (request : Request) (c d : Caller) → HasShares old xs → Taken old xs left all pid c d → (one : MakesOne old new c.pid request) →
+    makes_one request one.appended.reply ≡ false → is_exit request ≡ false → d ≡ once_more c → HasShares new all
+called old new xs left all pid request c d has t one none stays more =
+    subst (HasShares new) (sym (t.whole (ap (λ (x : Caller). x.pid.0) more)))
+    (changed old new xs (record { 0 = pid.0 }) request (Some d) has here none_here t.inside
+    (own_share old new pid request c here (makes_not pid.0 request _ none_here) stays t.own ∙ ap (λ (x : Caller). Some x) (sym more)))
+  where
+    both : (here : MakesOne old new pid request) × (makes_one request here.appended.reply ≡ false)
+    both = subst (λ (n : ℕ). (here : MakesOne old new (record { 0 = n }) request) × (makes_one request here.appended.reply ≡ false)) t.who (one, none)
+
+    here : MakesOne old new pid request
+    here = both.0
+
+    none_here : makes_one request here.appended.reply ≡ false
+    none_here = both.1
+
+pub refused_shares : (old new : Held) (xs left all : List (Option Caller)) (pid : Pid) (c d : Caller) → HasShares old xs → Some c ≡ place xs pid.0 → left ≡ set xs pid.0 None → all ≡ set left d.pid.0 (Some d) →
+    new ≡ old → d ≡ c → HasShares new all
+refused_shares old new xs left all pid c d has was e f same kept =
+    let t = taken old xs left all pid c d has was e f in
+    subst (HasShares new) (sym (t.whole (ap (λ (x : Caller). x.pid.0) kept)))
+    (subst (λ (b : Held). HasShares b (set xs pid.0 (Some d))) (sym same) (put_back old xs pid.0 (Some d) has (ap (λ (x : Caller). Some x) kept ∙ was)))
+
+-- where a process called, or its call was refused
+pub keeps_shares : (old new : Held) (xs left all : List (Option Caller)) (pid : Pid) (request : Request) (c d : Caller) → {F : Type 0} (r : Result (Unit {0}) F) → HasShares old xs → is_exit request ≡ false → is_fork request ≡ false →
+    Some c ≡ place xs pid.0 → left ≡ set xs pid.0 None → all ≡ set left d.pid.0 (Some d) →
+    OnOk r (MakesOne old new c.pid request) → OnOk r (d ≡ once_more c) → OnErr r (new ≡ old) → OnErr r (d ≡ c) → HasShares new all
+keeps_shares old new xs left all pid request c d (Ok u) has stays none was e f entry more same kept =
+    called old new xs left all pid request c d has (taken old xs left all pid c d has was e f) entry (no_fork request _ none) stays more
+keeps_shares old new xs left all pid request c d (Err g) has stays none was e f entry more same kept =
+    refused_shares old new xs left all pid c d has was e f same kept
+
+-- ---- through a fork
+
+-- a place more behind all others
+pub wider : (book : Held) (xs ys : List (Option Caller)) → HasShares book xs → ys ≡ xs ++ None ∷ [] → HasShares book ys
+wider book xs ys has is = subst (HasShares book) (sym is) (record {
+  each = λ p. place_more xs p ∙ has.each p;
+  long = let longer = length-append xs (None ∷ []) in let long = has.long in omega (arith, longer, long);
+})
+  where
+    place_more : (xs : List (Option Caller)) (p : ℕ) → place (xs ++ None ∷ []) p ≡ place xs p
+    place_more [] zero = refl
+    place_more [] (suc p) = refl
+    place_more (x ∷ xs) zero = refl
+    place_more (x ∷ xs) (suc p) = place_more xs p
+
+-- what the share of a child tells of the answer
+no_child : (reply : Reply) → None ≡ child_by Request.Fork reply → makes_one Request.Fork reply ≡ false
+no_child (Reply.Child pid) h = absurd (cc h)
+no_child reply h = refl
+
+child_told : (reply : Reply) (x : Caller) → Some x ≡ child_by Request.Fork reply → (reply ≡ Reply.Child x.pid) × (x.k ≡ 0)
+child_told (Reply.Child pid) x h = let same : x ≡ record { pid = pid; k = 0 } = cc h in (ap (λ (y : Caller). Reply.Child y.pid) (sym same), ap (λ (y : Caller). y.k) same)
+child_told reply x h = absurd (cc h)
+
+-- where no process was made
+pub childless : (old new : Held) (xs left all : List (Option Caller)) (pid : Pid) (c d : Caller) → HasShares old xs → Some c ≡ place xs pid.0 → left ≡ set xs pid.0 None → all ≡ set left d.pid.0 (Some d) →
+    Forks old new c.pid None → d ≡ once_more c → HasShares new all
+childless old new xs left all pid c d has was e f forked more =
+    called old new xs left all pid Request.Fork c d has (taken old xs left all pid c d has was e f) forked.one (no_child _ forked.made) refl more
+
+-- what a fork tells that made a process
+pub record Child (old new : Held) (x : Caller) : Type 0 where
+  pub next : x.pid.0 ≡ processes old + 1
+  pub many : processes new ≡ processes old + 1
+  pub share : share_of new x.pid.0 ≡ Some x
+  pub others : (p : ℕ) → p ≢ x.pid.0 → makes p Request.Fork (Reply.Child x.pid) ≡ false
+
+pub child_is : (old new : Held) (pid : Pid) (x : Caller) → IsLegal old.boot old.entries → pid.0 ≤ processes old → Forks old new pid (Some x) → Child old new x
+child_is old new pid x legal within forked = record {
+  next = next;
+  many = many;
+  share = (λ j. given (live j) x.pid.0 (calls j)) ∙ ap (λ (k : ℕ). Some (record { pid = x.pid; k = k })) (sym told.1);
+  others = λ p other. ne_eqb x.pid.0 p (λ h. other (sym h));
+}
+  where
+    one : MakesOne old new pid Request.Fork
+    one = forked.one
+
+    told : (one.appended.reply ≡ Reply.Child x.pid) × (x.k ≡ 0)
+    told = child_told one.appended.reply x forked.made
+
+    next : x.pid.0 ≡ processes old + 1
+    next =
+        let step = subst (λ (r : Reply). Step (state_of old) pid.0 (length old.entries) Request.Fork r one.released (replay old.boot (old.entries ++ _ ∷ []))) told.0 one.appended.adds.next.steps in
+        let is = fork_tells_the_next (state_of old) _ pid.0 (length old.entries) x.pid one.released step in
+        omega (arith, is)
+
+    many : processes new ≡ processes old + 1
+    many = processes_after old new _ one.appended.adds ∙ ap (λ (r : Reply). processes old + cond {A = ℕ} (makes_one Request.Fork r) 1 0) told.0
+
+    live : is_live (state_of new) x.pid.0 ≡ true
+    live =
+        live_after old new pid Request.Fork x.pid.0 one
+        ∙ ap (λ (r : Reply). (is_live (state_of old) x.pid.0 && not (false && (pid.0 == x.pid.0))) || makes x.pid.0 Request.Fork r) told.0
+        ∙ ap (λ (b : Bool). (is_live (state_of old) x.pid.0 && not (false && (pid.0 == x.pid.0))) || b) (eq-eqb x.pid.0 x.pid.0 refl)
+        ∙ or-true (is_live (state_of old) x.pid.0 && not (false && (pid.0 == x.pid.0)))
+
+    calls : calls_of x.pid.0 new.entries ≡ 0
+    calls =
+        let before : calls_of x.pid.0 old.entries ≡ 0 = no_call_before_made old.boot old.entries x.pid.0 legal (omega (arith, next)) in
+        let after : calls_of x.pid.0 new.entries ≡ calls_of x.pid.0 old.entries + cond {A = ℕ} false 1 0 =
+        calls_after old new pid Request.Fork x.pid.0 one ∙ ap (λ (b : Bool). calls_of x.pid.0 old.entries + cond {A = ℕ} b 1 0) (ne_eqb pid.0 x.pid.0 (λ h. omega (arith, h, within, next))) in
+        omega (arith, before, after)
+
+-- whoever has a share was made
+pub caller_made : (old : Held) (xs : List (Option Caller)) (pid : Pid) (c : Caller) → HasShares old xs → Some c ≡ place xs pid.0 → c.pid.0 ≤ processes old
+caller_made old xs pid c has was =
+    let own = sym (was ∙ has.each pid.0) in
+    let known = share_known old pid.0 c own in
+    live_within (state_of old) c.pid.0 (and_parts (is_live (state_of old) c.pid.0) _ known.1).0
+
+-- where a process was made, and its share was put at its place
+pub child_shares : (old new : Held) (xs left all done : List (Option Caller)) (pid : Pid) (c d x : Caller) → HasShares old xs → IsLegal old.boot old.entries → Some c ≡ place xs pid.0 → left ≡ set xs pid.0 None → all ≡ set left d.pid.0 (Some d) →
+    Forks old new c.pid (Some x) → d ≡ once_more c → processes old + 1 < length xs → done ≡ set all x.pid.0 (Some x) → HasShares new done
+child_shares old new xs left all done pid c d x has legal was e f forked more room put = subst (HasShares new) (sym put) (record { each = each; long = long })
+  where
+    t : Taken old xs left all pid c d
+    t = taken old xs left all pid c d has was e f
+
+    here : Forks old new pid (Some x)
+    here = subst (λ (n : ℕ). Forks old new (record { 0 = n }) (Some x)) t.who forked
+
+    within : pid.0 ≤ processes old
+    within = let made = caller_made old xs pid c has was in let who = t.who in omega (arith, made, who)
+
+    child : Child old new x
+    child = child_is old new pid x legal within here
 
     whole : all ≡ set xs pid.0 (Some d)
-    whole = f ∙ ap (λ (l : List (Option Caller)). set l d.pid.0 (Some d)) e ∙ ap (λ (n : ℕ). set (set xs pid.0 None) n (Some d)) (here r more kept) ∙ set-set xs pid.0 None (Some d)
+    whole = t.whole (ap (λ (y : Caller). y.pid.0) more)
 
-    by : {F : Type 0} (r : Result (Unit {0}) F) → OnOk r (MakesOne old new c.pid request) → OnOk r (d ≡ once_more c) → OnErr r (new ≡ old) → OnErr r (d ≡ c) → HasShares new (set xs pid.0 (Some d))
-    by (Ok u) entry more same kept =
-        let one : MakesOne old new pid request = subst (λ (n : ℕ). MakesOne old new (record { 0 = n }) request) who entry in
-        changed old new xs pid request (Some d) has one (length_of_some xs pid.0 c (sym was)) (own_share old new pid request c one stays own ∙ ap (λ (x : Caller). Some x) (sym more))
-    by (Err g) entry more same kept = subst (λ (b : Held). HasShares b (set xs pid.0 (Some d))) (sym same) (put_back old xs pid.0 (Some d) has (ap (λ (x : Caller). Some x) kept ∙ was))
+    as_long : length all ≡ length xs
+    as_long = ap length whole ∙ length-set xs pid.0 (Some d)
+
+    none_at : (p : ℕ) → p ≢ x.pid.0 → makes p Request.Fork here.one.appended.reply ≡ false
+    none_at p other = ap (λ (r : Reply). makes p Request.Fork r) (child_told _ x here.made).0 ∙ child.others p other
+
+    own : share_of new pid.0 ≡ Some d
+    own = own_share old new pid Request.Fork c here.one (none_at pid.0 (λ h. let next = child.next in omega (arith, h, within, next))) refl t.own ∙ ap (λ (y : Caller). Some y) (sym more)
+
+    each : (p : ℕ) → place (set all x.pid.0 (Some x)) p ≡ share_of new p
+    each p =
+        ⊎_elim {C = place (set all x.pid.0 (Some x)) p ≡ share_of new p}
+        (λ w. ap (place (set all x.pid.0 (Some x))) (sym w.1) ∙ get_or-set_same all x.pid.0 (Some x) None (let next = child.next in omega (arith, next, room, as_long)) ∙ sym child.share ∙ ap (share_of new) w.1)
+        (λ w. get_or-set_other all x.pid.0 p (Some x) None (λ h. w.1 (sym h)) ∙ ap (λ (l : List (Option Caller)). place l p) whole ∙ changed_at old new xs pid Request.Fork (Some d) has here.one t.inside own p (none_at p (λ h. w.1 (sym h))))
+        (eqb_tells x.pid.0 p)
+
+    long : processes new < length (set all x.pid.0 (Some x))
+    long = let many = child.many in let same = length-set all x.pid.0 (Some x) in omega (arith, many, same, as_long, room)
 
 -- what was made by the share of a process was made by it
 pub made_by : (old new : Held) (xs : List (Option Caller)) (pid : Pid) (request : Request) (c : Caller) → HasShares old xs → Some c ≡ place xs pid.0 → MakesOne old new c.pid request → MakesOne old new pid request
@@ -225,17 +424,21 @@ made_by old new xs pid request c has was entry =
 pub exit_shares : (old new : Held) (xs left : List (Option Caller)) (pid : Pid) (c : Caller) → HasShares old xs → Some c ≡ place xs pid.0 → left ≡ set xs pid.0 None → MakesOne old new c.pid Request.Exit → HasShares new left
 exit_shares old new xs left pid c has was e entry =
     let one = made_by old new xs pid Request.Exit c has was entry in
-    subst (HasShares new) (sym e) (changed old new xs pid Request.Exit None has one (length_of_some xs pid.0 c (sym was)) (gone_share old new pid one))
+    subst (HasShares new) (sym e) (changed old new xs pid Request.Exit None has one refl (length_of_some xs pid.0 c (sym was)) (gone_share old new pid one))
 
 -- where the layer was ended
 pub end_shares : (old new : Held) (xs : List (Option Caller)) → HasShares old xs → MakesOne old new (record { 0 = 0 }) Request.Off → HasShares new xs
-end_shares old new xs has one = record { each = go }
+end_shares old new xs has one = record { each = go; long = let same = as_many old new (record { 0 = 0 }) Request.Off one refl in let long = has.long in omega (arith, same, long) }
   where
     go : (p : ℕ) → place xs p ≡ share_of new p
     go zero = has.each 0
-    go (suc i) = has.each (suc i) ∙ sym (other_share old new (record { 0 = 0 }) Request.Off (suc i) one (λ h. omega (arith, h)))
+    go (suc i) = has.each (suc i) ∙ sym (other_share old new (record { 0 = 0 }) Request.Off (suc i) one refl (λ h. omega (arith, h)))
 
 -- the request of a call that is an exit
 pub exit_is : (request : Request) → is_exit request ≡ true → request ≡ Request.Exit
 exit_is Request.Exit h = refl
 exit_is request h = absurd (false≢true h)
+
+pub fork_is : (request : Request) → is_fork request ≡ true → request ≡ Request.Fork
+fork_is Request.Fork h = refl
+fork_is request h = absurd (cc h)

@@ -2,10 +2,10 @@
 
 ghost use Rattle.std.specs.Prelude.{◌≡◌, ◌≤◌, ◌⊎◌, ◌++◌, [], false, length, map, IfOk, OnOk, IfErr, OnErr};
 ghost use Rattle.std.specs.Io.KnownBytes.{Appends};
-ghost use Rattle.ux_model.specs.Limits.{process_limit};
+ghost use Rattle.ux_model.specs.Limits.{made_limit};
 ghost use Rattle.ux_model.specs.History.{IsLegal};
 ghost use Rattle.ux_model.specs.Boot.{IsBootState, new_process};
-ghost use Rattle.ux_syntax.specs.Spelling.{plan_of, IsOrderly};
+ghost use Rattle.ux_syntax.specs.Spelling.{plan_of, known_count, IsOrderly};
 ghost use Rattle.ux_syntax.specs.Turns.{all_turns, call_lines};
 ghost use Rattle.ux_syntax.specs.Trace.{trace};
 ghost use Rattle.ux_script.specs.Writes.{AppendsBeginning};
@@ -26,8 +26,8 @@ use ux_types::{Entry, Pid, Request};
 /// Makes the script's calls in order on a kernel that has just started with the script's processes,
 /// then an exit of each process that is left, and ends the layer where the script says so; and writes
 /// the trace. A file object that a call let go of is dropped before the next call. The bytes go out when
-/// all calls were made; a call that lacks memory in the kernel answers ENOMEM, and goes on. Lines that
-/// wait for a process are skipped.
+/// all calls were made; a call that lacks memory in the kernel answers ENOMEM, and goes on, but a fork that makes
+/// no process ends the run as out of memory. Lines that wait for a process are skipped.
 pub fn run_serial<O: FileObject, W: Write>(
     alloc: Global,
     script: &Script,
@@ -88,11 +88,10 @@ fn run_calls<W: BookName, O: FileObject>(
     ensures calls { IfOk result (λ entries. map line_of_entry entries.items ≡ all_turns (plan_of script.now)) }
     ensures stranger { IfErr result (λ f. f ≡ CallFault.Stranger → ¬ IsOrderly (plan_of script.now)) }
 {
-    let count = kernel.process_count();
     let Ok(mut serial) = Serial::<W, O>::new(alloc, blank, kernel) else {
         return Err(CallFault::NoMemory);
     };
-    make_all(&mut serial, script, count)?;
+    make_all(&mut serial, script)?;
     Ok(serial.into_entries())
 }
 
@@ -100,16 +99,14 @@ fn run_calls<W: BookName, O: FileObject>(
 fn make_all<W: BookName, O: FileObject>(
     serial: &mut Serial<W, O>,
     script: &Script,
-    count: usize,
 ) -> Result<(), CallFault>
-    requires begun { Makes serial.old script.now [] }
-    requires count { count ≡ length script.now.procs.items }
-    requires few { count ≤ process_limit }
+    requires { Makes serial.old script.now [] }
     ensures made { OnOk result (Makes serial.new script.now (all_turns (plan_of script.now))) }
     ensures boot { OnOk result (serial.new.boot ≡ serial.old.boot) }
     ensures stranger { IfErr result (λ f. f ≡ CallFault.Stranger → ¬ IsOrderly (plan_of script.now)) }
 {
     make_calls(serial, script)?;
+    let count = serial.process_count();
     make_exits(serial, script, count)?;
     if !script.off {
         return Ok(());
@@ -143,8 +140,8 @@ fn make_exits<W: BookName, O: FileObject>(
     count: usize,
 ) -> Result<(), CallFault>
     requires begun { Makes serial.old script.now (call_lines script.now.lines.items) }
-    requires count { count ≡ length script.now.procs.items }
-    requires few { count ≤ process_limit }
+    requires count { count ≡ known_count (plan_of script.now) }
+    requires few { count ≤ made_limit }
     ensures made { OnOk result (Makes serial.new script.now (call_lines script.now.lines.items ++ exits_of script.now.lines.items count)) }
     ensures boot { OnOk result (serial.new.boot ≡ serial.old.boot) }
     ensures stranger { IfErr result (λ f. f ≡ CallFault.Stranger → ⊥) }

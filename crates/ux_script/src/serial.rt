@@ -1,12 +1,14 @@
 //! A book and the shares of all its processes, whose calls are made one after the other.
-ghost use Rattle.std.specs.Prelude.{◌≡◌, ◌<◌, ◌∷◌, [], false, map, Some, None, IfOk, OnOk, IfErr, OnErr, length};
+ghost use Rattle.std.specs.Prelude.{◌≡◌, ◌+◌, ◌<◌, ◌≤◌, ◌∷◌, [], false, map, Some, None, IfOk, OnOk, IfErr, OnErr, length, if◌then◌else◌};
 ghost use Rattle.ux_model.specs.Boot.{IsBootState};
 ghost use Rattle.ux_model.specs.Places.{place, filled, emptied};
 ghost use Rattle.ux_model.specs.State.{is_live};
 ghost use Rattle.ux_model.specs.History.{has_live, is_exit, is_off, IsLegal};
-ghost use Rattle.ux_history.specs.Books.{state_of, ends_of, is_last};
-ghost use Rattle.ux_history.specs.Shares.{knows, once_more};
+ghost use Rattle.ux_model.specs.Limits.{made_limit};
+ghost use Rattle.ux_history.specs.Books.{state_of, ends_of, has_own_call, is_fork};
+ghost use Rattle.ux_history.specs.Shares.{knows, once_more, processes};
 ghost use Rattle.ux_script.specs.Runs.{MakesOne};
+ghost use Rattle.ux_script.specs.Shares.{Forks};
 
 use std::alloc::{AllocError, Global};
 use std::marker::Model;
@@ -22,6 +24,7 @@ use ux_types::{Entry, Pid, Request};
 pub(crate) struct Serial<W: BookName, O: FileObject> {
     book: Book<W, O>,
     /// The share of each process at the place of its number, until its exit. No process has the number 0.
+    /// There may be places without a process behind all others.
     shares: Vec<Option<Share<W>>>,
     /// What the last call let go of.
     retired: RetiredList<O>,
@@ -88,10 +91,19 @@ impl<W: BookName, O: FileObject> Serial<W, O> {
         self.book.is_live(pid)
     }
 
+    /// How many processes were made.
+    pub(crate) fn process_count(&self) -> usize
+        ensures count { result ≡ processes self.now }
+        ensures most { result ≤ made_limit }
+    {
+        self.book.process_count()
+    }
+
     /// Makes the next call of a process. It is a stranger where it doesn't live, or asks for the layer's end.
-    /// What the call before let go of is dropped first.
+    /// A fork that makes no process is told as want of memory. What the call before let go of is dropped first.
     pub(crate) fn call(&mut self, pid: Pid, request: &Request) -> Result<(), CallFault>
         ensures entry { OnOk result (MakesOne self.old self.new pid request.now) }
+        ensures made { OnOk result (processes self.new ≡ processes self.old + (if is_fork request.now then 1 else 0)) }
         ensures stranger { IfErr result (λ f. f ≡ CallFault.Stranger → is_off request.now ≡ false → is_live (state_of self.old) pid.0 ≡ false) }
     {
         if is_off(request) {
@@ -100,12 +112,16 @@ impl<W: BookName, O: FileObject> Serial<W, O> {
         if is_exit(request) {
             return self.exit(pid);
         }
+        if is_fork(request) {
+            return self.fork(pid);
+        }
         self.make(pid, request)
     }
 
     /// Ends the layer, when no process is left and it wasn't ended before.
     pub(crate) fn end(&mut self) -> Result<(), CallFault>
         ensures entry { OnOk result (MakesOne self.old self.new (record { 0 = 0 }) Request.Off) }
+        ensures made { OnOk result (processes self.new ≡ processes self.old) }
         ensures stranger { OnErr result (has_live (state_of self.old) ≡ false → ends_of self.old.entries ≡ 1) }
     {
         self.retired.clear();
@@ -115,10 +131,11 @@ impl<W: BookName, O: FileObject> Serial<W, O> {
         }
     }
 
-    /// Makes a process's call that isn't its exit.
+    /// Makes a process's call that is neither its exit nor a fork.
     fn make(&mut self, pid: Pid, request: &Request) -> Result<(), CallFault>
-        requires { is_last request.now ≡ false }
+        requires { has_own_call request.now ≡ false }
         ensures entry { OnOk result (MakesOne self.old self.new pid request.now) }
+        ensures made { OnOk result (processes self.new ≡ processes self.old) }
         ensures stranger { IfErr result (λ f. f ≡ CallFault.Stranger → is_live (state_of self.old) pid.0 ≡ false) }
     {
         let Some(mut share) = take(&mut self.shares, pid) else {
@@ -130,9 +147,35 @@ impl<W: BookName, O: FileObject> Serial<W, O> {
         made
     }
 
+    /// Makes a process's fork, and puts the share of the process that it made at its place.
+    fn fork(&mut self, pid: Pid) -> Result<(), CallFault>
+        ensures entry { OnOk result (MakesOne self.old self.new pid Request.Fork) }
+        ensures made { OnOk result (processes self.new ≡ processes self.old + 1) }
+        ensures stranger { IfErr result (λ f. f ≡ CallFault.Stranger → is_live (state_of self.old) pid.0 ≡ false) }
+    {
+        if self.shares.push(None).is_err() {
+            return Err(CallFault::NoMemory);
+        }
+        let Some(mut share) = take(&mut self.shares, pid) else {
+            return Err(CallFault::Stranger);
+        };
+        self.retired.clear();
+        let forked = fork(&mut self.book, &mut share, &mut self.retired);
+        put(&mut self.shares, share);
+        match forked {
+            Ok(Some(child)) => {
+                put(&mut self.shares, child);
+                Ok(())
+            }
+            Ok(None) => Err(CallFault::NoMemory),
+            Err(fault) => Err(fault),
+        }
+    }
+
     /// Makes a process's exit.
     fn exit(&mut self, pid: Pid) -> Result<(), CallFault>
         ensures entry { OnOk result (MakesOne self.old self.new pid Request.Exit) }
+        ensures made { OnOk result (processes self.new ≡ processes self.old) }
         ensures stranger { OnErr result (is_live (state_of self.old) pid.0 ≡ false) }
     {
         let Some(share) = take(&mut self.shares, pid) else {
@@ -153,7 +196,7 @@ fn record<W: BookName, O: FileObject>(
     request: &Request,
     retired: &mut RetiredList<O>,
 ) -> Result<(), CallFault>
-    requires call { is_last request.now ≡ false }
+    requires call { has_own_call request.now ≡ false }
     requires empty { retired.old ≡ [] }
     ensures entry { OnOk result (MakesOne book.old book.new share.old.pid request.now) }
     ensures share { OnOk result (share.new ≡ once_more share.old) }
@@ -165,6 +208,32 @@ fn record<W: BookName, O: FileObject>(
         Ok(recorded) => {
             drop(recorded);
             Ok(())
+        }
+        Err(fault) => Err(fault),
+    }
+}
+
+/// Makes a fork of the share's process, gives the share of the process that it made, if it made one, and lets go
+/// of the answer and of the receipt.
+fn fork<W: BookName, O: FileObject>(
+    book: &mut Book<W, O>,
+    share: &mut Share<W>,
+    retired: &mut RetiredList<O>,
+) -> Result<Option<Share<W>>, CallFault>
+    requires empty { retired.old ≡ [] }
+    ensures legal { IsLegal book.old.boot book.old.entries }
+    ensures entry { IfOk result (λ child. Forks book.old book.new share.old.pid child) }
+    ensures share { OnOk result (share.new ≡ once_more share.old) }
+    ensures stranger { IfErr result (λ f. f ≡ CallFault.Stranger → knows book.old share.old ≡ false) }
+    ensures same { OnErr result (book.new ≡ book.old) }
+    ensures kept { OnErr result (share.new ≡ share.old) }
+{
+    // What this says of the entries is what `legal` says.
+    let _entries = book.entries();
+    match book.fork(share, retired) {
+        Ok((recorded, child)) => {
+            drop(recorded);
+            Ok(child)
         }
         Err(fault) => Err(fault),
     }
@@ -210,6 +279,12 @@ fn is_exit(request: &Request) -> bool
     ensures { result ≡ is_exit request.now }
 {
     matches!(request, Request::Exit)
+}
+
+fn is_fork(request: &Request) -> bool
+    ensures { result ≡ is_fork request.now }
+{
+    matches!(request, Request::Fork)
 }
 
 fn is_off(request: &Request) -> bool

@@ -4,6 +4,7 @@
 mod connections;
 mod files;
 mod flights;
+mod processes;
 mod sockets;
 
 use bstr::BString;

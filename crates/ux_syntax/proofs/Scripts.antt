@@ -1,11 +1,13 @@
 -- Lines that are read spell the script that was read, and lines that spell a script are read.
-use Rattle.std.proofs.Common.{◌≡◌, ◌≢◌, ◌⊎◌, ℕ, suc, ◌-◌, ◌<◌, ◌≤◌, Bool, true, false, cond, not, ltb, leb, eqb, eq-eqb, ◌&&◌, List, [], ◌∷◌, ◌++◌, length, map, filter, take, codes, Result, Ok, Err, refl, ap, sym, ◌∙◌, subst, append_assoc, arith, inl, inr}
+use Rattle.std.proofs.Common.{◌≡◌, ◌≢◌, ◌⊎◌, ℕ, suc, ◌+◌, ◌-◌, ◌<◌, ◌≤◌, Bool, true, false, cond, not, ltb, leb, eqb, eq-eqb, ◌&&◌, List, [], ◌∷◌, ◌++◌, length, map, filter, take, codes, Result, Ok, Err, refl, ap, sym, ◌∙◌, subst, append_assoc, arith, inl, inr}
 use Rattle.std.specs.Prelude.{IfOk, IfErr, slice_index_or}
 use Rattle.std.specs.List.{AllByRecursion, slice_split}
-use Rattle.std.proofs.lemmas.Bool.{ltb-true, ltb-false, lt-ltb, eqb-true, leb-true, le-leb, and_parts, and_from, and_left, and_right, or_parts, false_from_ne_true, both_ways}
+use Rattle.std.proofs.lemmas.Bool.{ltb-true, ltb-false, lt-ltb, eqb-true, leb-true, le-leb, and_parts, and_from, and_left, and_right, or_parts, not-true, false_from_ne_true, both_ways}
 use Rattle.std.proofs.lemmas.List.{append-nil, map-append, nil_from_length, length-append, take_at}
 use Rattle.std.proofs.lemmas.List.Elements.{filter-append}
+use Rattle.std.proofs.lemmas.List.Sums.{sum_by-cons}
 use Rattle.ux_model.specs.Types.{ProcSpec}
+use Rattle.ux_model.specs.Limits.{made_limit}
 use Rattle.ux_syntax.specs.declared.fault.Fault.{Fault}
 use Rattle.ux_syntax.specs.declared.fault.Fault.TheVariants.{BadLine, UnknownProcess, TooLong}
 use Rattle.ux_syntax.specs.declared.fault.ScriptFault.{ScriptFault}
@@ -15,9 +17,9 @@ use Rattle.ux_syntax.specs.declared.script.Act.{Act}
 use Rattle.ux_syntax.specs.Lines.{Line}
 use Rattle.ux_syntax.specs.declared.script.Script.{Script}
 use Rattle.ux_syntax.specs.declared.reading.Item.{Item}
-use Rattle.ux_syntax.specs.Spelling.{Written, open_path, read_fd, write_fd, seek, dup_fd, dup_onto, set_flags, close, unlink_path, socket, pair, bind, listen, connect, accept, shut, get_opt, set_opt, sock_name, peer_name, send, recv, poll, exit, meaning, Asked, call, wait, act_of, Turn, line_of, Plan, plan_of, objects_of, procs_of, header_line, turn_line, off_lines, is_meant, FitsHeader, FitsTurn, IsProcess, AwaitsProcess, NamesProcesses, IsCallOfStranger, IsFaultOf, is_off, asks_exit, asks_off, NoneAfterExit, IsCall, IsOrderly, Spells, IsFirstFault}
+use Rattle.ux_syntax.specs.Spelling.{Written, open_path, read_fd, write_fd, seek, dup_fd, dup_onto, set_flags, close, unlink_path, socket, pair, bind, listen, connect, accept, shut, get_opt, set_opt, sock_name, peer_name, send, recv, poll, fork, exec, exit, meaning, Asked, call, wait, act_of, Turn, line_of, Plan, plan_of, objects_of, procs_of, header_line, turn_line, off_lines, is_meant, FitsHeader, FitsTurn, IsProcess, AwaitsProcess, NamesProcesses, IsCallOfStranger, IsFaultOf, is_off, asks_exit, asks_off, asks_fork, forks_of, known_count, EachKnowing, MayFork, NoneAfterExit, IsCall, IsOrderly, Spells, IsFirstFault}
 use Rattle.ux_syntax.specs.Turns.{has_exited, is_known, awaits_known}
-use Rattle.ux_syntax.specs.Reading.{◌>>=◌, line_fault, words_at, item_at, with_header, with_line, with_off, joined_by, is_skipped, added, line_at, on_line, lines_at, no_lines}
+use Rattle.ux_syntax.specs.Reading.{◌>>=◌, line_fault, words_at, item_at, with_header, with_line, with_off, may_fork, joined_by_fork, joined_by_other, joined_by, is_skipped, added, line_at, on_line, lines_at, no_lines}
 use Rattle.ux_syntax.specs.Results.{FailsAt, Refuses, GivesScript}
 use Rattle.ux_syntax.proofs.Rows.{IsBadOrOk, bind_ok, ok_is, guard_ok}
 use Rattle.ux_syntax.proofs.Items.{words_bad, Says, item_takes, skip_again, header_again_line, turn_again_line, off_again_line}
@@ -119,21 +121,68 @@ known_from count pid e = let p = and_parts (ltb 0 pid) (leb pid count) e in (ltb
 known_to : (count pid : ℕ) → IsProcess count pid → (ltb 0 pid && leb pid count) ≡ true
 known_to count pid o = and_from (ltb 0 pid) (leb pid count) (lt-ltb 0 pid o.0) (le-leb pid count o.1)
 
-awaits_from : (procs : List ProcSpec) (act : Act) → awaits_known procs act ≡ true → AwaitsProcess (length procs) act
-awaits_from procs (Act.Call request) e = tt
-awaits_from procs (Act.Wait pid calls) e = known_from (length procs) pid.0 e
+awaits_from : (count : ℕ) (act : Act) → awaits_known count act ≡ true → AwaitsProcess count act
+awaits_from count (Act.Call request) e = tt
+awaits_from count (Act.Wait pid calls) e = known_from count pid.0 e
 
-awaits_to : (procs : List ProcSpec) (act : Act) → AwaitsProcess (length procs) act → awaits_known procs act ≡ true
-awaits_to procs (Act.Call request) o = refl
-awaits_to procs (Act.Wait pid calls) o = known_to (length procs) pid.0 o
+awaits_to : (count : ℕ) (act : Act) → AwaitsProcess count act → awaits_known count act ≡ true
+awaits_to count (Act.Call request) o = refl
+awaits_to count (Act.Wait pid calls) o = known_to count pid.0 o
+
+-- the processes that are known behind a line and further lines
+known_on : (count : ℕ) (u : Line) (us : List Line) → (count + forks_of (u ∷ [])) + forks_of us ≡ count + forks_of (u ∷ us)
+known_on count u us = omega (arith, sum_by-cons (λ (line : Line). cond (asks_fork line.act) 1 0) u us)
+
+known_more : (IsSo : ℕ → Line → Type 0) (count : ℕ) (ls : List Line) (l : Line) → EachKnowing IsSo count ls → IsSo (count + forks_of ls) l → EachKnowing IsSo count (ls ++ l ∷ [])
+known_more IsSo count [] l h p = (subst (λ n. IsSo n l) (omega arith) p, tt)
+known_more IsSo count (u ∷ us) l h p = (h.0, known_more IsSo (count + forks_of (u ∷ [])) us l h.1 (subst (λ n. IsSo n l) (sym (known_on count u us)) p))
+
+known_less : (IsSo : ℕ → Line → Type 0) (count : ℕ) (ls : List Line) (l : Line) → EachKnowing IsSo count (ls ++ l ∷ []) → EachKnowing IsSo count ls × IsSo (count + forks_of ls) l
+known_less IsSo count [] l h = (tt, subst (λ n. IsSo n l) (omega arith) h.0)
+known_less IsSo count (u ∷ us) l h =
+    let p = known_less IsSo (count + forks_of (u ∷ [])) us l h.1 in
+    ((h.0, p.0), subst (λ n. IsSo n l) (known_on count u us) p.1)
 
 -- a process that isn't there has no lines
-unknown_quiet : (count : ℕ) (ls : List Line) (p : ℕ) → AllByRecursion (NamesProcesses count) ls → (ltb 0 p && leb p count) ≡ false → has_exited ls p ≡ false
+unknown_quiet : (count : ℕ) (ls : List Line) (p : ℕ) → EachKnowing NamesProcesses count ls → is_known (count + forks_of ls) p ≡ false → has_exited ls p ≡ false
 unknown_quiet count [] p all unknown = refl
 unknown_quiet count (u ∷ us) p all unknown =
-    let other : eqb u.pid.0 p ≡ false = false_from_ne_true (eqb u.pid.0 p)
-    (λ e. both_ways (ltb 0 p && leb p count) unknown (subst (λ (q : ℕ). (ltb 0 q && leb q count) ≡ true) (eqb-true u.pid.0 p e) (known_to count u.pid.0 all.0.0))) in
-    rw (and_left (eqb u.pid.0 p) (asks_exit u.act) other, unknown_quiet count us p all.1 unknown) refl
+    let other : eqb u.pid.0 p ≡ false = false_from_ne_true (eqb u.pid.0 p) (λ e.
+    let same : u.pid.0 ≡ p = eqb-true u.pid.0 p e in
+    both_ways (is_known (count + forks_of (u ∷ us)) p) unknown (known_to (count + forks_of (u ∷ us)) p (omega (arith, same, all.0.0.0), omega (arith, same, all.0.0.1)))) in
+    let on : is_known ((count + forks_of (u ∷ [])) + forks_of us) p ≡ false = ap (λ n. is_known n p) (known_on count u us) ∙ unknown in
+    rw (and_left (eqb u.pid.0 p) (asks_exit u.act) other, unknown_quiet (count + forks_of (u ∷ [])) us p all.1 on) refl
+
+-- what the script's next line is like that may stand there
+record MayJoin (s : Plan) (line : Line) : Type 0 where
+  names : NamesProcesses (known_count s) line
+  forks : MayFork (known_count s) line
+  quiet : has_exited s.lines line.pid.0 ≡ false
+
+-- a fork waits for no process
+fork_awaits : (count : ℕ) (act : Act) → asks_fork act ≡ true → AwaitsProcess count act
+fork_awaits count (Act.Call request) e = tt
+fork_awaits count (Act.Wait pid calls) e = absurd cc
+
+fork_known : (s : Plan) (line : Line) → asks_fork line.act ≡ true → may_fork s line.pid.0 ≡ true → MayJoin s line
+fork_known s line forks e =
+    let p = and_parts (eqb line.pid.0 1 && ltb (known_count s) made_limit) (is_known (known_count s) line.pid.0 && not (has_exited s.lines line.pid.0)) e in
+    let q = and_parts (eqb line.pid.0 1) (ltb (known_count s) made_limit) p.0 in
+    let r = and_parts (is_known (known_count s) line.pid.0) (not (has_exited s.lines line.pid.0)) p.1 in
+    let first : line.pid.0 ≡ 1 = eqb-true line.pid.0 1 q.0 in
+    let there : IsProcess (known_count s) line.pid.0 = known_from (known_count s) line.pid.0 r.0 in
+    record {
+      names = (there, fork_awaits (known_count s) line.act forks);
+      forks = λ f. (first, subst (IsProcess (known_count s)) first there, ltb-true (known_count s) made_limit q.1);
+      quiet = not-true (has_exited s.lines line.pid.0) r.1;
+    }
+
+fork_may : (s : Plan) (line : Line) → asks_fork line.act ≡ true → MayJoin s line → may_fork s line.pid.0 ≡ true
+fork_may s line forks may =
+    let f = may.forks forks in
+    and_from (eqb line.pid.0 1 && ltb (known_count s) made_limit) (is_known (known_count s) line.pid.0 && not (has_exited s.lines line.pid.0))
+    (and_from (eqb line.pid.0 1) (ltb (known_count s) made_limit) (eq-eqb line.pid.0 1 f.0) (lt-ltb (known_count s) made_limit f.2))
+    (and_from (is_known (known_count s) line.pid.0) (not (has_exited s.lines line.pid.0)) (known_to (known_count s) line.pid.0 may.names.0) (ap not may.quiet))
 
 -- ---- one line
 
@@ -213,6 +262,31 @@ known_ok true false true x y e = (refl, refl, refl, ok_is x y e)
 known_ok true false false x y e = absurd cc
 known_ok false exited awaited x y e = absurd cc
 
+-- a line that joined the script might stand there
+line_joined : (s : Plan) (line : Line) (t : Plan) → joined_by s (Item.Line line) ≡ Ok t → MayJoin s line × (with_line s line ≡ t)
+line_joined s line t e = go (asks_fork line.act) refl e
+  where
+    count : ℕ
+    count = known_count s
+
+    go : (b : Bool) → asks_fork line.act ≡ b → cond b (joined_by_fork s line) (joined_by_other s line) ≡ Ok t → MayJoin s line × (with_line s line ≡ t)
+    go true forks k =
+        let g = guard_ok (may_fork s line.pid.0) (with_line s line) t k in
+        (fork_known s line forks g.0, g.1)
+    go false other k =
+        let g = known_ok (is_known count line.pid.0) (has_exited s.lines line.pid.0) (awaits_known count line.act) (with_line s line) t k in (
+          record { names = (known_from count line.pid.0 g.0, awaits_from count line.act g.2); forks = λ f. absurd (both_ways (asks_fork line.act) other f); quiet = g.1 },
+          g.3,
+        )
+
+-- a line that may stand there joins the script
+line_joins : (s : Plan) (line : Line) → MayJoin s line → joined_by s (Item.Line line) ≡ Ok (with_line s line)
+line_joins s line may = go (asks_fork line.act) refl
+  where
+    go : (b : Bool) → asks_fork line.act ≡ b → cond b (joined_by_fork s line) (joined_by_other s line) ≡ Ok (with_line s line)
+    go true forks = rw (fork_may s line forks may) refl
+    go false other = rw (known_to (known_count s) line.pid.0 may.names.0, may.quiet, awaits_to (known_count s) line.act may.names.1) refl
+
 -- the lines with one more that says something
 meant_spelling : (ls : List (List ℕ)) (l line : List ℕ) (before after : List (List ℕ)) → is_meant l ≡ true → filter is_meant ls ≡ before → l ≡ line → after ≡ before ++ line ∷ [] → filter is_meant (ls ++ l ∷ []) ≡ after
 meant_spelling ls l line before after m h e k = meant_more ls l m ∙ ap (λ (xs : List (List ℕ)). xs ++ l ∷ []) h ∙ ap (λ (x : List ℕ). before ++ x ∷ []) e ∙ sym k
@@ -249,7 +323,7 @@ header_takes ls s l x h none no_off short says =
       meant = refl;
       fit_headers = each_more FitsHeader h.headers x h.fit_headers says.2;
       fit_turns = tt;
-      orderly = record { processes = tt; exits = tt; calls = tt };
+      orderly = record { processes = tt; forks = tt; exits = tt; calls = tt };
     } in
     subst (λ (y : Plan). Spells (ls ++ l ∷ []) y) same made
 
@@ -278,14 +352,16 @@ is_no_end (peer_name fd) = refl
 is_no_end (send fd addr bytes control flags) = refl
 is_no_end (recv fd n space flags) = refl
 is_no_end (poll fd) = refl
+is_no_end fork = refl
+is_no_end exec = refl
 is_no_end exit = refl
 
 asked_no_end : (a : Asked) → asks_off (act_of a) ≡ false
 asked_no_end (call c) = is_no_end c
 asked_no_end (wait pid calls) = refl
 
-turn_takes : (ls : List (List ℕ)) (s : Plan) (l : List ℕ) (line : Line) → (h : Spells ls s) → s.off ≡ false → is_known s.procs line.pid.0 ≡ true → has_exited s.lines line.pid.0 ≡ false → awaits_known s.procs line.act ≡ true → is_short l → Says (Item.Line line) l → Spells (ls ++ l ∷ []) (with_line s line)
-turn_takes ls s l line h no_off known quiet awaited short says =
+turn_takes : (ls : List (List ℕ)) (s : Plan) (l : List ℕ) (line : Line) → (h : Spells ls s) → s.off ≡ false → MayJoin s line → is_short l → Says (Item.Line line) l → Spells (ls ++ l ∷ []) (with_line s line)
+turn_takes ls s l line h no_off may short says =
     let w = says.1 in
     let before : filter is_meant ls ≡ texts_of h.headers h.turns false = h.spelled ∙ ap (λ (b : Bool). texts_of h.headers h.turns b) no_off in
     record {
@@ -300,8 +376,9 @@ turn_takes ls s l line h no_off known quiet awaited short says =
       fit_headers = h.fit_headers;
       fit_turns = each_more FitsTurn h.turns w.0 h.fit_turns w.3;
       orderly = record {
-        processes = each_more (NamesProcesses (length s.procs)) s.lines line h.orderly.processes (known_from (length s.procs) line.pid.0 known, awaits_from s.procs line.act awaited);
-        exits = exits_more s.lines line h.orderly.exits quiet;
+        processes = known_more NamesProcesses (length s.procs) s.lines line h.orderly.processes may.names;
+        forks = known_more MayFork (length s.procs) s.lines line h.orderly.forks may.forks;
+        exits = exits_more s.lines line h.orderly.exits may.quiet;
         calls = each_more IsCall s.lines line h.orderly.calls (ap (λ (x : Line). asks_off x.act) (sym w.1) ∙ asked_no_end w.0.asked);
       };
     }
@@ -318,7 +395,7 @@ off_takes ls s l h no_off short says = record {
   meant = h.meant;
   fit_headers = h.fit_headers;
   fit_turns = h.fit_turns;
-  orderly = record { processes = h.orderly.processes; exits = h.orderly.exits; calls = h.orderly.calls };
+  orderly = record { processes = h.orderly.processes; forks = h.orderly.forks; exits = h.orderly.exits; calls = h.orderly.calls };
 }
 
 joined_takes : (item : Item) (ls : List (List ℕ)) (s : Plan) (l : List ℕ) (t : Plan) → Spells ls s → s.off ≡ false → is_short l → Says item l → joined_by s item ≡ Ok t → Spells (ls ++ l ∷ []) t
@@ -328,8 +405,8 @@ joined_takes (Item.Header x) ls s l t h no_off short says e =
     let none : s.lines ≡ [] = nil_from_length s.lines (eqb-true (length s.lines) 0 g.0) in
     subst (λ (y : Plan). Spells (ls ++ l ∷ []) y) g.1 (header_takes ls s l x h none no_off short says)
 joined_takes (Item.Line line) ls s l t h no_off short says e =
-    let g = known_ok (is_known s.procs line.pid.0) (has_exited s.lines line.pid.0) (awaits_known s.procs line.act) (with_line s line) t e in
-    subst (λ (y : Plan). Spells (ls ++ l ∷ []) y) g.3 (turn_takes ls s l line h no_off g.0 g.1 g.2 short says)
+    let g = line_joined s line t e in
+    subst (λ (y : Plan). Spells (ls ++ l ∷ []) y) g.1 (turn_takes ls s l line h no_off g.0 short says)
 joined_takes Item.Off ls s l t h no_off short says e = subst (λ (y : Plan). Spells (ls ++ l ∷ []) y) (ok_is (with_off s) t e) (off_takes ls s l h no_off short says)
 
 is_skip : (item : Item) (l : List ℕ) → is_skipped item ≡ true → Says item l → is_meant l ≡ false
@@ -376,7 +453,7 @@ step_off ls l t m h on =
     let before : Plan = with_lines t t.lines in
     let whole : with_off before ≡ t = rw (← on) refl in (
       before,
-      record { headers = h.headers; turns = h.turns; short = short.0; spelled = ends.0; objects = h.objects; procs = h.procs; meant = h.meant; fit_headers = h.fit_headers; fit_turns = h.fit_turns; orderly = record { processes = h.orderly.processes; exits = h.orderly.exits; calls = h.orderly.calls } },
+      record { headers = h.headers; turns = h.turns; short = short.0; spelled = ends.0; objects = h.objects; procs = h.procs; meant = h.meant; fit_headers = h.fit_headers; fit_turns = h.fit_turns; orderly = record { processes = h.orderly.processes; forks = h.orderly.forks; exits = h.orderly.exits; calls = h.orderly.calls } },
       line_from before l Item.Off t (off_again_line l short.1 m ends.1) (ap (λ (y : Plan). Ok y) whole),
     )
 
@@ -387,17 +464,16 @@ step_turn ls l t ts u m h no_off same =
     (sym (meant_more ls l m) ∙ h.spelled ∙ ap (λ (vs : List Turn). texts_of h.headers vs t.off) same ∙ ap (λ (b : Bool). texts_of h.headers (ts ++ u ∷ []) b) no_off ∙ turn_spelling h.headers ts u) in
     let short = each_less is_short ls l h.short in
     let fits = each_less FitsTurn ts u (subst (λ (vs : List Turn). AllByRecursion FitsTurn vs) same h.fit_turns) in
-    let processes = each_less (NamesProcesses (length t.procs)) (map line_of ts) (line_of u) (subst (λ (vs : List Line). AllByRecursion (NamesProcesses (length t.procs)) vs) lines h.orderly.processes) in
+    let count = length t.procs in
+    let processes = known_less NamesProcesses count (map line_of ts) (line_of u) (subst (λ (vs : List Line). EachKnowing NamesProcesses count vs) lines h.orderly.processes) in
+    let forks = known_less MayFork count (map line_of ts) (line_of u) (subst (λ (vs : List Line). EachKnowing MayFork count vs) lines h.orderly.forks) in
     let exits = exits_less (map line_of ts) (line_of u) (subst NoneAfterExit lines h.orderly.exits) in
     let calls = each_less IsCall (map line_of ts) (line_of u) (subst (λ (vs : List Line). AllByRecursion IsCall vs) lines h.orderly.calls) in
-    let first : ltb 0 u.pid ≡ true = lt-ltb 0 u.pid processes.1.0.0 in
-    let last : leb u.pid (length t.procs) ≡ true = le-leb u.pid (length t.procs) processes.1.0.1 in
-    let awaited : awaits_known t.procs (act_of u.asked) ≡ true = awaits_to t.procs (act_of u.asked) processes.1.1 in
     let before : Plan = with_lines t (map line_of ts) in
-    let adds : joined_by before (Item.Line (line_of u)) ≡ Ok (with_lines t (map line_of ts ++ line_of u ∷ [])) = rw (first, last, exits.1, awaited) refl in
+    let adds : joined_by before (Item.Line (line_of u)) ≡ Ok (with_lines t (map line_of ts ++ line_of u ∷ [])) = line_joins before (line_of u) (record { names = processes.1; forks = forks.1; quiet = exits.1 }) in
     let whole : with_lines t (map line_of ts ++ line_of u ∷ []) ≡ t = ap (λ (vs : List Line). with_lines t vs) (sym lines) ∙ rw (← no_off) refl in (
       before,
-      record { headers = h.headers; turns = ts; short = short.0; spelled = ends.0; objects = h.objects; procs = h.procs; meant = refl; fit_headers = h.fit_headers; fit_turns = fits.0; orderly = record { processes = processes.0; exits = exits.0; calls = calls.0 } },
+      record { headers = h.headers; turns = ts; short = short.0; spelled = ends.0; objects = h.objects; procs = h.procs; meant = refl; fit_headers = h.fit_headers; fit_turns = fits.0; orderly = record { processes = processes.0; forks = forks.0; exits = exits.0; calls = calls.0 } },
       line_from before l (Item.Line (line_of u)) t (turn_again_line u l short.1 m ends.1 fits.1) (adds ∙ ap (λ (y : Plan). Ok y) whole),
     )
 
@@ -410,7 +486,7 @@ step_header ls l t hs x m h no_off none same =
     let fits = each_less FitsHeader hs x (subst (λ (ys : List Header). AllByRecursion FitsHeader ys) same h.fit_headers) in
     let whole : with_header (plan_from hs) x ≡ t = sym (header_more hs x) ∙ ap plan_from (sym same) ∙ sym (plan_is t h.headers h.objects h.procs lines no_off) in (
       plan_from hs,
-      record { headers = hs; turns = []; short = short.0; spelled = ends.0; objects = refl; procs = refl; meant = refl; fit_headers = fits.0; fit_turns = tt; orderly = record { processes = tt; exits = tt; calls = tt } },
+      record { headers = hs; turns = []; short = short.0; spelled = ends.0; objects = refl; procs = refl; meant = refl; fit_headers = fits.0; fit_turns = tt; orderly = record { processes = tt; forks = tt; exits = tt; calls = tt } },
       line_from (plan_from hs) l (Item.Header x) t (header_again_line x l short.1 m ends.1 fits.1) (ap (λ (y : Plan). Ok y) whole),
     )
 
@@ -446,7 +522,7 @@ line_again ls l t h = step_chosen ls l t (is_meant l) refl h
 -- ---- all lines
 
 pub none_spelled : Spells [] no_lines
-none_spelled = record { headers = []; turns = []; short = tt; spelled = refl; objects = refl; procs = refl; meant = refl; fit_headers = tt; fit_turns = tt; orderly = record { processes = tt; exits = tt; calls = tt } }
+none_spelled = record { headers = []; turns = []; short = tt; spelled = refl; objects = refl; procs = refl; meant = refl; fit_headers = tt; fit_turns = tt; orderly = record { processes = tt; forks = tt; exits = tt; calls = tt } }
 
 on_ok : (n : ℕ) (go : Plan → Result Plan ScriptFault) (r : Result Plan Fault) (t : Plan) → on_line n go r ≡ Ok t → (s : Plan) × (r ≡ Ok s) × (go s ≡ Ok t)
 on_ok n go (Ok s) t e = (s, refl, e)
@@ -547,31 +623,47 @@ header_why s l x f y false short m k e =
 may_stand : (s : Plan) (line : Line) (t : Turn) → IsOrderly s → line_of t ≡ line → has_exited s.lines line.pid.0 ≡ false → NoneAfterExit (s.lines ++ line_of t ∷ [])
 may_stand s line t orderly same quiet = exits_more s.lines (line_of t) orderly.exits (ap (λ (y : Line). has_exited s.lines y.pid.0) same ∙ quiet)
 
-turn_why : (s : Plan) (l : List ℕ) (line : Line) (f : Fault) (x : Plan) (known exited awaited : Bool) → IsOrderly s → s.off ≡ false → is_known s.procs line.pid.0 ≡ known → has_exited s.lines line.pid.0 ≡ exited → awaits_known s.procs line.act ≡ awaited
-    → length l ≤ 4096 → Says (Item.Line line) l → item_at l ≡ Ok (Item.Line line)
-    → cond known (cond exited (Err BadLine) (cond awaited (Ok x) (Err UnknownProcess))) (Err UnknownProcess) ≡ Err f → IsFaultOf f s l
-turn_why s l line f x true true awaited orderly no_off known exited there short says k e =
+-- a fork line is none that names a stranger
+fork_why : (s : Plan) (l : List ℕ) (line : Line) (f : Fault) (x : Plan) (may : Bool) → asks_fork line.act ≡ true → length l ≤ 4096 → Says (Item.Line line) l → item_at l ≡ Ok (Item.Line line) → cond may (Ok x) (Err BadLine) ≡ Err f → IsFaultOf f s l
+fork_why s l line f x true forks short says k e = absurd (ok_no_fault x f e)
+fork_why s l line f x false forks short says k e =
     subst (λ g. IsFaultOf g s l) (err_is {X = Plan} BadLine f e) (
       short,
       λ w.
           let same : line ≡ line_of w.0 = same_line line (line_of w.0) (sym k ∙ stranger_reads s l w short says.0) in
-          both_ways (has_exited s.lines line.pid.0) (ap (λ (y : Line). has_exited s.lines y.pid.0) same ∙ (exits_less s.lines (line_of w.0) w.4).1) exited,
+          both_ways (asks_fork line.act) (ap (λ (y : Line). asks_fork y.act) same ∙ w.4) forks,
     )
-turn_why s l line f x true false true orderly no_off known exited there short says k e = absurd (ok_no_fault x f e)
-turn_why s l line f x true false false orderly no_off known exited there short says k e =
+
+turn_why : (s : Plan) (l : List ℕ) (line : Line) (f : Fault) (x : Plan) (known exited awaited : Bool) → IsOrderly s → s.off ≡ false → asks_fork line.act ≡ false → is_known (known_count s) line.pid.0 ≡ known → has_exited s.lines line.pid.0 ≡ exited → awaits_known (known_count s) line.act ≡ awaited
+    → length l ≤ 4096 → Says (Item.Line line) l → item_at l ≡ Ok (Item.Line line)
+    → cond known (cond exited (Err BadLine) (cond awaited (Ok x) (Err UnknownProcess))) (Err UnknownProcess) ≡ Err f → IsFaultOf f s l
+turn_why s l line f x true true awaited orderly no_off other known exited there short says k e =
+    subst (λ g. IsFaultOf g s l) (err_is {X = Plan} BadLine f e) (
+      short,
+      λ w.
+          let same : line ≡ line_of w.0 = same_line line (line_of w.0) (sym k ∙ stranger_reads s l w short says.0) in
+          both_ways (has_exited s.lines line.pid.0) (ap (λ (y : Line). has_exited s.lines y.pid.0) same ∙ (exits_less s.lines (line_of w.0) w.5).1) exited,
+    )
+turn_why s l line f x true false true orderly no_off other known exited there short says k e = absurd (ok_no_fault x f e)
+turn_why s l line f x true false false orderly no_off other known exited there short says k e =
     let w = says.1 in
     subst (λ g. IsFaultOf g s l) (err_is {X = Plan} UnknownProcess f e)
-    (short, (w.0, w.2, w.3, no_off, may_stand s line w.0 orderly w.1 exited, λ o. both_ways (awaits_known s.procs line.act) there (awaits_to s.procs line.act (subst (NamesProcesses (length s.procs)) w.1 o).1)))
-turn_why s l line f x false exited awaited orderly no_off known gone there short says k e =
+    (short, (w.0, w.2, w.3, no_off, ap (λ (y : Line). asks_fork y.act) w.1 ∙ other, may_stand s line w.0 orderly w.1 exited, λ o. both_ways (awaits_known (known_count s) line.act) there (awaits_to (known_count s) line.act (subst (NamesProcesses (known_count s)) w.1 o).1)))
+turn_why s l line f x false exited awaited orderly no_off other known gone there short says k e =
     let w = says.1 in
     let quiet = unknown_quiet (length s.procs) s.lines line.pid.0 orderly.processes known in
     subst (λ g. IsFaultOf g s l) (err_is {X = Plan} UnknownProcess f e)
-    (short, (w.0, w.2, w.3, no_off, may_stand s line w.0 orderly w.1 quiet, λ o. both_ways (is_known s.procs line.pid.0) known (known_to (length s.procs) line.pid.0 (subst (NamesProcesses (length s.procs)) w.1 o).0)))
+    (short, (w.0, w.2, w.3, no_off, ap (λ (y : Line). asks_fork y.act) w.1 ∙ other, may_stand s line w.0 orderly w.1 quiet, λ o. both_ways (is_known (known_count s) line.pid.0) known (known_to (known_count s) line.pid.0 (subst (NamesProcesses (known_count s)) w.1 o).0)))
+
+line_why : (s : Plan) (l : List ℕ) (line : Line) (f : Fault) (forks : Bool) → IsOrderly s → s.off ≡ false → asks_fork line.act ≡ forks → length l ≤ 4096 → Says (Item.Line line) l → item_at l ≡ Ok (Item.Line line)
+    → cond forks (joined_by_fork s line) (joined_by_other s line) ≡ Err f → IsFaultOf f s l
+line_why s l line f true orderly no_off forks short says k e = fork_why s l line f _ (may_fork s line.pid.0) forks short says k e
+line_why s l line f false orderly no_off other short says k e = turn_why s l line f _ (is_known (known_count s) line.pid.0) (has_exited s.lines line.pid.0) (awaits_known (known_count s) line.act) orderly no_off other refl refl refl short says k e
 
 joined_why : (s : Plan) (l : List ℕ) (item : Item) (f : Fault) → IsOrderly s → s.off ≡ false → length l ≤ 4096 → Says item l → item_at l ≡ Ok item → joined_by s item ≡ Err f → IsFaultOf f s l
 joined_why s l Item.Skipped f orderly no_off short says k e = absurd (ok_no_fault s f e)
 joined_why s l (Item.Header x) f orderly no_off short says k e = header_why s l x f _ (eqb (length s.lines) 0) short says.0 k e
-joined_why s l (Item.Line line) f orderly no_off short says k e = turn_why s l line f _ (is_known s.procs line.pid.0) (has_exited s.lines line.pid.0) (awaits_known s.procs line.act) orderly no_off refl refl refl short says k e
+joined_why s l (Item.Line line) f orderly no_off short says k e = line_why s l line f (asks_fork line.act) orderly no_off refl short says k e
 joined_why s l Item.Off f orderly no_off short says k e = absurd (ok_no_fault (with_off s) f e)
 
 added_why : (s : Plan) (l : List ℕ) (item : Item) (f : Fault) (off skipped : Bool) → IsOrderly s → s.off ≡ off → is_skipped item ≡ skipped → length l ≤ 4096 → Says item l → item_at l ≡ Ok item

@@ -4,6 +4,7 @@ use Rattle.std.specs.List.{slice_split, find, list_all}
 use Rattle.std.specs.Str.{bytes_eq}
 use Rattle.std.specs.Char.{is_ascii_digit}
 use Rattle.std.specs.Str.Parse.{digits_value, signed_digits_value}
+use Rattle.ux_model.specs.Limits.{made_limit}
 use Rattle.ux_model.specs.Types.{Cred, Name, Addr, OpenFlags, MsgFlags, SockType, SockOpt, Mode, Whence, ProcSpec, Request}
 use Rattle.ux_object.specs.declared.ObjKind.{ObjKind}
 use Rattle.ux_syntax.specs.declared.fault.Fault.{Fault}
@@ -18,7 +19,7 @@ use Rattle.ux_syntax.specs.declared.script.Act.{Act}
 use Rattle.ux_syntax.specs.Lines.{Line}
 use Rattle.ux_syntax.specs.declared.reading.Item.{Item}
 use Rattle.ux_syntax.specs.Trace.{dash, stands, word_text}
-use Rattle.ux_syntax.specs.Spelling.{Plan, open_path, read_fd, write_fd, seek, dup_fd, dup_onto, set_flags, close, unlink_path, socket, pair, bind, listen, connect, accept, shut, get_opt, set_opt, sock_name, peer_name, send, recv, poll, exit, meaning, mode_text, type_text, option_text, whence_text, kind_text, is_meant}
+use Rattle.ux_syntax.specs.Spelling.{Plan, open_path, read_fd, write_fd, seek, dup_fd, dup_onto, set_flags, close, unlink_path, socket, pair, bind, listen, connect, accept, shut, get_opt, set_opt, sock_name, peer_name, send, recv, poll, fork, exec, exit, meaning, mode_text, type_text, option_text, whence_text, kind_text, is_meant, asks_fork, known_count}
 use Rattle.ux_syntax.specs.Turns.{has_exited, is_known, awaits_known}
 
 infixl 10 ◌>>=◌
@@ -319,6 +320,12 @@ recv_at ws = (number_at >> number_at >> number_at >> msg_flags_at >> ends) ws >>
 unfoldable pub poll_at : List (List ℕ) → Result Request Fault
 poll_at ws = (number_at >> ends) ws >>= λ x. Ok (meaning (poll x.0))
 
+unfoldable pub fork_at : List (List ℕ) → Result Request Fault
+fork_at ws = ends ws >>= λ x. Ok (meaning fork)
+
+unfoldable pub exec_at : List (List ℕ) → Result Request Fault
+exec_at ws = ends ws >>= λ x. Ok (meaning exec)
+
 unfoldable pub exit_at : List (List ℕ) → Result Request Fault
 exit_at ws = ends ws >>= λ x. Ok (meaning exit)
 
@@ -326,7 +333,7 @@ exit_at ws = ends ws >>= λ x. Ok (meaning exit)
 abbrev pub all_words : List CallWord
 all_words = CallWord.Open ∷ CallWord.Read ∷ CallWord.Write ∷ CallWord.Lseek ∷ CallWord.Dup ∷ CallWord.Dup2 ∷ CallWord.Flags ∷ CallWord.Close ∷ CallWord.Unlink
     ∷ CallWord.Socket ∷ CallWord.Pair ∷ CallWord.Bind ∷ CallWord.Listen ∷ CallWord.Connect ∷ CallWord.Accept ∷ CallWord.Shut ∷ CallWord.GetOpt ∷ CallWord.SetOpt
-    ∷ CallWord.SockName ∷ CallWord.PeerName ∷ CallWord.Send ∷ CallWord.Recv ∷ CallWord.Poll ∷ CallWord.Exit ∷ []
+    ∷ CallWord.SockName ∷ CallWord.PeerName ∷ CallWord.Send ∷ CallWord.Recv ∷ CallWord.Poll ∷ CallWord.Fork ∷ CallWord.Exec ∷ CallWord.Exit ∷ []
 
 unfoldable pub word_at : List ℕ → Result CallWord Fault
 word_at w = chosen_at word_text all_words w
@@ -355,6 +362,8 @@ args_at CallWord.PeerName ws = peer_name_at ws
 args_at CallWord.Send ws = send_at ws
 args_at CallWord.Recv ws = recv_at ws
 args_at CallWord.Poll ws = poll_at ws
+args_at CallWord.Fork ws = fork_at ws
+args_at CallWord.Exec ws = exec_at ws
 args_at CallWord.Exit ws = exit_at ws
 args_at CallWord.Off ws = Err BadLine
 
@@ -426,13 +435,25 @@ with_off s = record { objects = s.objects; procs = s.procs; lines = s.lines; off
 
 -- the script with one line more, of a process that is there
 abbrev pub joined_by_line : Plan → Line → Result Plan Fault
-joined_by_line s line = if has_exited s.lines line.pid.0 then Err BadLine else if awaits_known s.procs line.act then Ok (with_line s line) else Err UnknownProcess
+joined_by_line s line = if has_exited s.lines line.pid.0 then Err BadLine else if awaits_known (known_count s) line.act then Ok (with_line s line) else Err UnknownProcess
+
+-- A fork of the process may come next: it is process 1, which is there and has made no exit, and there are fewer processes than may be made.
+abbrev pub may_fork : Plan → ℕ → Bool
+may_fork s pid = (pid == 1 && nat_lt (known_count s) made_limit) && (is_known (known_count s) pid && not (has_exited s.lines pid))
+
+-- the script with one fork line more
+abbrev pub joined_by_fork : Plan → Line → Result Plan Fault
+joined_by_fork s line = if may_fork s line.pid.0 then Ok (with_line s line) else Err BadLine
+
+-- the script with one line more that is no fork
+abbrev pub joined_by_other : Plan → Line → Result Plan Fault
+joined_by_other s line = if is_known (known_count s) line.pid.0 then joined_by_line s line else Err UnknownProcess
 
 -- The script with one item more where `off` was not said. A process that isn't there has no lines, so it has made no exit.
 abbrev pub joined_by : Plan → Item → Result Plan Fault
 joined_by s Item.Skipped = Ok s
 joined_by s (Item.Header h) = if length s.lines == 0 then Ok (with_header s h) else Err BadLine
-joined_by s (Item.Line line) = if is_known s.procs line.pid.0 then joined_by_line s line else Err UnknownProcess
+joined_by s (Item.Line line) = if asks_fork line.act then joined_by_fork s line else joined_by_other s line
 joined_by s Item.Off = Ok (with_off s)
 
 abbrev pub is_skipped : Item → Bool

@@ -1,10 +1,10 @@
 -- What a function returned, beside what reading gives.
-use Rattle.std.specs.Prelude.{◌≡◌, ℕ, suc, ◌<◌, Bool, false, List, length, Result, Ok, Err, slice_index_or}
+use Rattle.std.specs.Prelude.{◌≡◌, ℕ, suc, Bool, false, List, length, Result, Ok, Err, slice_index_or}
 use Rattle.ux_syntax.specs.declared.fault.Fault.{Fault}
 use Rattle.ux_syntax.specs.declared.fault.LineError.{LineError}
 use Rattle.ux_syntax.specs.declared.fault.ScriptFault.{ScriptFault}
 use Rattle.ux_syntax.specs.declared.script.Script.{Script}
-use Rattle.ux_syntax.specs.Spelling.{Plan, plan_of, IsFirstFault}
+use Rattle.ux_syntax.specs.Spelling.{Plan, plan_of, known_count, IsFirstFault}
 use Rattle.ux_syntax.specs.Turns.{has_exited}
 use Rattle.ux_syntax.specs.Reading.{line_fault}
 
@@ -52,7 +52,7 @@ Refuses texts ScriptFault.NoMemory = Unit {0}
 Refuses texts ScriptFault.Stranger = ⊥
 Refuses texts (ScriptFault.Deadlock waiting) = ⊥
 
--- one mark for each process, which says whether the process has made its exit
+-- one mark for each process that is known so far, which says whether the process has made its exit; no other process has
 pub record Marks (s : Plan) (exited : List Bool) : Type 0 where
-  pub long : length exited ≡ length s.procs
-  pub each : (i : ℕ) → i < length exited → slice_index_or exited i false ≡ has_exited s.lines (suc i)
+  pub long : length exited ≡ known_count s
+  pub each : (i : ℕ) → slice_index_or exited i false ≡ has_exited s.lines (suc i)

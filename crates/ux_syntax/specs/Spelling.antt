@@ -1,10 +1,11 @@
 -- Which lines spell which script.
-use Rattle.std.specs.Prelude.{◌≡◌, ◌≢◌, ℕ, ◌<◌, ◌≤◌, ◌^◌, ◌-◌, ◌%◌, ℤ, pos, negsuc, take, Bool, true, false, List, [], ◌∷◌, ◌++◌, length, replicate, map, filter, codes, decimal, Option, Some, None, IfSome, if◌then◌else◌, ◌==◌, not, slice_index_or}
+use Rattle.std.specs.Prelude.{◌≡◌, ◌≢◌, ℕ, ◌+◌, ◌<◌, ◌≤◌, ◌^◌, ◌-◌, ◌%◌, ℤ, pos, negsuc, take, Bool, true, false, List, [], ◌∷◌, ◌++◌, length, replicate, map, filter, count_by, codes, decimal, Option, Some, None, IfSome, if◌then◌else◌, ◌==◌, not, slice_index_or}
 use Rattle.std.specs.List.{AllByRecursion, slice_split, join_with_byte}
 use Rattle.std.specs.Fmt.{signed_decimal}
 use Rattle.ux_model.specs.Types.{Cred, Name, Addr, OpenFlags, MsgFlags, SockType, SockOpt, Mode, Whence, ProcSpec, Request}
 use Rattle.ux_model.specs.Flags.{has_bits}
 use Rattle.ux_model.specs.Process.{fd_of}
+use Rattle.ux_model.specs.Limits.{made_limit}
 pub use Rattle.ux_model.specs.History.{is_exit, is_off}
 use Rattle.ux_object.specs.declared.ObjKind.{ObjKind}
 use Rattle.ux_model.specs.Control as model
@@ -81,6 +82,8 @@ pub data Written : Type 0 where
   send : (fd : ℕ) → (addr : Option Addr) → (bytes : List ℕ) → (control : ControlWord) → (flags : MsgFlags) → Written
   recv : (fd n space : ℕ) → (flags : MsgFlags) → Written
   poll : (fd : ℕ) → Written
+  fork : Written
+  exec : Written
   exit : Written
 
 -- the call that is meant
@@ -108,6 +111,8 @@ meaning (peer_name fd) = Request.GetPeerName (fd_of fd)
 meaning (send fd addr bytes control flags) = Request.SendMsg (fd_of fd) addr bytes (control_buffer control) flags
 meaning (recv fd n space flags) = Request.RecvMsg (fd_of fd) n space flags
 meaning (poll fd) = Request.Poll (fd_of fd)
+meaning fork = Request.Fork
+meaning exec = Request.Exec
 meaning exit = Request.Exit
 
 -- what a line asks for as it is written: a call, or to wait until a process has so many entries
@@ -208,6 +213,8 @@ args_of (peer_name fd) = decimal fd ∷ []
 args_of (send fd addr bytes control flags) = decimal fd ∷ addr_or_dash addr ∷ hex bytes ∷ control_text control ∷ msg_flags flags ∷ []
 args_of (recv fd n space flags) = decimal fd ∷ decimal n ∷ decimal space ∷ msg_flags flags ∷ []
 args_of (poll fd) = decimal fd ∷ []
+args_of fork = []
+args_of exec = []
 args_of exit = []
 
 -- ---- lines
@@ -331,6 +338,8 @@ FitsCall (peer_name fd) = IsNumber fd
 FitsCall (send fd addr bytes control flags) = IsNumber fd × FitsAddrOrDash addr × AreBytes bytes × FitsControl control × FitsMsgFlags flags
 FitsCall (recv fd n space flags) = IsNumber fd × IsNumber n × IsNumber space × FitsMsgFlags flags
 FitsCall (poll fd) = IsNumber fd
+FitsCall fork = Unit {0}
+FitsCall exec = Unit {0}
 FitsCall exit = Unit {0}
 
 abbrev pub FitsAsked : Asked → Type 0
@@ -380,6 +389,33 @@ abbrev pub asks_off : Act → Bool
 asks_off (Act.Call request) = is_off request
 asks_off (Act.Wait pid calls) = false
 
+-- the call makes a further process
+abbrev pub is_fork : Request → Bool
+is_fork Request.Fork = true
+is_fork _ = false
+
+-- what is asked for is a further process
+abbrev pub asks_fork : Act → Bool
+asks_fork (Act.Call request) = is_fork request
+asks_fork (Act.Wait pid calls) = false
+
+-- how many of the lines ask for a further process
+abbrev pub forks_of : List Line → ℕ
+forks_of lines = count_by (λ line. asks_fork line.act) lines
+
+-- the processes that a line behind all others knows: those of the header, and one more for each fork line
+abbrev pub known_count : Plan → ℕ
+known_count s = length s.procs + forks_of s.lines
+
+-- Each line is so, beside the number of processes that it knows: the first line knows so many, and behind a fork line there is one more.
+abbrev pub EachKnowing : (ℕ → Line → Type 0) → ℕ → List Line → Type 0
+EachKnowing IsSo count [] = Unit {0}
+EachKnowing IsSo count (line ∷ lines) = IsSo count line × EachKnowing IsSo (count + forks_of (line ∷ [])) lines
+
+-- a fork line is process 1's, which is there, and not all processes that may be made are there before it
+abbrev pub MayFork : ℕ → Line → Type 0
+MayFork count line = asks_fork line.act ≡ true → (line.pid.0 ≡ 1) × IsProcess count 1 × (count < made_limit)
+
 -- none of the lines is of the process
 abbrev pub IsQuiet : ℕ → List Line → Type 0
 IsQuiet pid lines = AllByRecursion (λ line. line.pid.0 ≢ pid) lines
@@ -393,9 +429,10 @@ NoneAfterExit (line ∷ lines) = (asks_exit line.act ≡ true → IsQuiet line.p
 abbrev pub IsCall : Line → Type 0
 IsCall line = asks_off line.act ≡ false
 
--- each line is of a process that is there and hasn't made its exit, and each process that is waited for is there
+-- each line is of a process that is there and hasn't made its exit, each process that is waited for is there, and process 1 alone forks
 pub record IsOrderly (s : Plan) : Type 0 where
-  pub processes : AllByRecursion (NamesProcesses (length s.procs)) s.lines
+  pub processes : EachKnowing NamesProcesses (length s.procs) s.lines
+  pub forks : EachKnowing MayFork (length s.procs) s.lines
   pub exits : NoneAfterExit s.lines
   pub calls : AllByRecursion IsCall s.lines
 
@@ -416,9 +453,9 @@ pub record Spells (texts : List (List ℕ)) (s : Plan) : Type 0 where
 
 -- ---- why a line is at fault
 
--- the line, rightly written, names a process that isn't there: its own or the one that it waits for; and `off` was not said, nor its process's exit
+-- the line, rightly written and no fork, names a process that isn't there: its own or the one that it waits for; and `off` was not said, nor its process's exit
 abbrev pub IsCallOfStranger : Plan → List ℕ → Type 0
-IsCallOfStranger s text = (t : Turn) × (text ≡ turn_line t) × FitsTurn t × (s.off ≡ false) × NoneAfterExit (s.lines ++ line_of t ∷ []) × (NamesProcesses (length s.procs) (line_of t) → ⊥)
+IsCallOfStranger s text = (t : Turn) × (text ≡ turn_line t) × FitsTurn t × (s.off ≡ false) × (asks_fork (act_of t.asked) ≡ false) × NoneAfterExit (s.lines ++ line_of t ∷ []) × (NamesProcesses (known_count s) (line_of t) → ⊥)
 
 -- Why a line that comes after those of the script is at fault, if it is: too long before bad, and bad before unknown.
 abbrev pub IsFaultOf : Fault → Plan → List ℕ → Type 0

@@ -158,6 +158,7 @@ reply_text (Reply.Addr name) = codes "addr " ++ addr_text name
 reply_text (Reply.Opt n) = codes "opt " ++ decimal n
 reply_text (Reply.Cred cred) = codes "cred " ++ (decimal cred.pid.0 ++ (codes " " ++ (decimal cred.uid ++ (codes " " ++ decimal cred.gid))))
 reply_text (Reply.Poll flags) = codes "poll " ++ poll_flags_text flags
+reply_text (Reply.Child pid) = codes "child " ++ decimal pid.0
 reply_text (Reply.Err e) = codes "err " ++ errno_text e
 
 -- the same where the control bytes of a receive read as this
@@ -190,6 +191,8 @@ word_text CallWord.PeerName = codes "peername"
 word_text CallWord.Send = codes "send"
 word_text CallWord.Recv = codes "recv"
 word_text CallWord.Poll = codes "poll"
+word_text CallWord.Fork = codes "fork"
+word_text CallWord.Exec = codes "exec"
 word_text CallWord.Exit = codes "exit"
 word_text CallWord.Off = codes "off"
 
@@ -217,6 +220,8 @@ request_word (Request.GetPeerName fd) = CallWord.PeerName
 request_word (Request.SendMsg fd addr bytes control flags) = CallWord.Send
 request_word (Request.RecvMsg fd n space flags) = CallWord.Recv
 request_word (Request.Poll fd) = CallWord.Poll
+request_word Request.Fork = CallWord.Fork
+request_word Request.Exec = CallWord.Exec
 request_word Request.Exit = CallWord.Exit
 request_word Request.Off = CallWord.Off
 

@@ -2,7 +2,7 @@
 
 ghost use Rattle.std.specs.Prelude.{◌≡◌, map};
 ghost use Rattle.ux_syntax.specs.Trace.{word_text, request_word};
-ghost use Rattle.ux_syntax.specs.Reading.{open_at, read_at, write_at, lseek_at, dup_at, dup2_at, set_flags_at, close_at, unlink_at, socket_at, pair_at, bind_at, listen_at, connect_at, accept_at, shut_at, get_opt_at, set_opt_at, sock_name_at, peer_name_at, send_at, recv_at, poll_at, exit_at, word_at, args_at};
+ghost use Rattle.ux_syntax.specs.Reading.{open_at, read_at, write_at, lseek_at, dup_at, dup2_at, set_flags_at, close_at, unlink_at, socket_at, pair_at, bind_at, listen_at, connect_at, accept_at, shut_at, get_opt_at, set_opt_at, sock_name_at, peer_name_at, send_at, recv_at, poll_at, fork_at, exec_at, exit_at, word_at, args_at};
 ghost use Rattle.ux_syntax.specs.Results.{Gives};
 
 use crate::control::ControlWord;
@@ -37,6 +37,8 @@ pub enum CallWord {
     Send,
     Recv,
     Poll,
+    Fork,
+    Exec,
     Exit,
     Off,
 }
@@ -66,6 +68,8 @@ const CALL_WORDS: &[CallWord] = &[
     CallWord::Send,
     CallWord::Recv,
     CallWord::Poll,
+    CallWord::Fork,
+    CallWord::Exec,
     CallWord::Exit,
 ];
 
@@ -98,6 +102,8 @@ impl CallWord {
             Request::SendMsg { .. } => CallWord::Send,
             Request::RecvMsg { .. } => CallWord::Recv,
             Request::Poll { .. } => CallWord::Poll,
+            Request::Fork => CallWord::Fork,
+            Request::Exec => CallWord::Exec,
             Request::Exit => CallWord::Exit,
             Request::Off => CallWord::Off,
         }
@@ -131,6 +137,8 @@ impl CallWord {
             CallWord::Send => "send",
             CallWord::Recv => "recv",
             CallWord::Poll => "poll",
+            CallWord::Fork => "fork",
+            CallWord::Exec => "exec",
             CallWord::Exit => "exit",
             CallWord::Off => "off",
         }
@@ -436,6 +444,24 @@ fn close_of(alloc: Global, words: &[&[u8]]) -> Result<Request, LineError>
     Ok(Request::Close { fd: Fd(fd) })
 }
 
+/// `fork`.
+#[tactic(auto, unfolding(crate::specs::Reading::fork_at))]
+fn fork_of(words: &[&[u8]]) -> Result<Request, LineError>
+    ensures { Gives (λ r. r) result (fork_at (map (λ w. w.now) words.now)) }
+{
+    end(words)?;
+    Ok(Request::Fork)
+}
+
+/// `exec`.
+#[tactic(auto, unfolding(crate::specs::Reading::exec_at))]
+fn exec_of(words: &[&[u8]]) -> Result<Request, LineError>
+    ensures { Gives (λ r. r) result (exec_at (map (λ w. w.now) words.now)) }
+{
+    end(words)?;
+    Ok(Request::Exec)
+}
+
 /// `exit`.
 #[tactic(auto, unfolding(crate::specs::Reading::exit_at))]
 fn exit_of(words: &[&[u8]]) -> Result<Request, LineError>
@@ -477,6 +503,8 @@ pub(crate) fn request_of(
         CallWord::Send => send_of(alloc, args),
         CallWord::Recv => recv_of(alloc, args),
         CallWord::Poll => poll_of(alloc, args),
+        CallWord::Fork => fork_of(args),
+        CallWord::Exec => exec_of(args),
         CallWord::Exit => exit_of(args),
         CallWord::Off => Err(BAD),
     }

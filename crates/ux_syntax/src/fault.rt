@@ -13,7 +13,7 @@ use thiserror::Error;
 pub enum Fault {
     /// It is none of the lines that a script may have there.
     BadLine,
-    /// It names a process that the header doesn't have.
+    /// It names a process that isn't there: the header doesn't have it, and no fork line before makes it.
     UnknownProcess,
     /// It has more than 4,096 bytes.
     TooLong,
@@ -34,7 +34,7 @@ pub enum ScriptFault {
     /// A line that a script may not have there.
     #[error("line {0}: bad line")]
     BadLine(usize),
-    /// A line that names a process that the header doesn't have.
+    /// A line that names a process that isn't there: the header doesn't have it, and no fork line before makes it.
     #[error("line {0}: unknown process")]
     UnknownProcess(usize),
     /// A line of more than 4,096 bytes.

@@ -1,20 +1,20 @@
 //! Reading a script, line by line.
 
-ghost use Rattle.std.specs.Prelude.{◌≡◌, ◌==◌, not, map, IfOk, IfErr, OnOk, Ok};
+ghost use Rattle.std.specs.Prelude.{◌≡◌, ◌==◌, true, not, length, map, IfOk, IfErr, OnOk, Ok};
 ghost use Rattle.std.specs.List.{slice_split};
-ghost use Rattle.ux_syntax.specs.Spelling.{Plan, plan_of, Spells, IsOrderly, OneScript, lines_of, is_meant};
+ghost use Rattle.ux_syntax.specs.Spelling.{Plan, plan_of, Spells, IsOrderly, OneScript, lines_of, is_meant, asks_fork};
 ghost use Rattle.ux_syntax.specs.Turns.{is_known, awaits_known};
-ghost use Rattle.ux_syntax.specs.Reading.{words_at, item_at, joined_by, line_at, no_lines, script_at};
+ghost use Rattle.ux_syntax.specs.Reading.{words_at, item_at, may_fork, joined_by, joined_by_fork, line_at, no_lines, script_at};
 ghost use Rattle.ux_syntax.specs.Results.{Gives, Leaves, GivesScript, Refuses, Marks};
 
 use crate::acts::act_of;
 use crate::fault::{BAD, Fault, LineError, ScriptFault};
 use crate::headers::{object_of, proc_of};
 use crate::row::{end, next};
-use crate::script::{Act, Header, Line, Script, asks_exit};
+use crate::script::{Act, Header, Line, Script, asks_exit, asks_fork};
 use crate::words::Word;
 use std::alloc::{AllocError, Global};
-use ux_types::Pid;
+use ux_types::{MADE_LIMIT, Pid};
 
 /// How many bytes a line may have, without its line feed.
 pub(crate) const LINE_LIMIT: usize = 4096;
@@ -88,7 +88,7 @@ fn item_of(alloc: Global, number: usize, text: &[u8]) -> Result<Item, LineError>
     words_of(alloc, number, &words)
 }
 
-/// A script as far as it was read, with a mark for each process that has made its exit.
+/// A script as far as it was read, with a mark for each process that is known so far: whether it has made its exit.
 #[derive(Drop)]
 pub(crate) struct Reader {
     pub(crate) script: Script,
@@ -113,14 +113,14 @@ impl Reader {
     }
 
     fn knows(&self, pid: Pid) -> bool
-        ensures { result ≡ is_known self.now.script.procs.items pid.0 }
+        ensures { result ≡ is_known (length self.now.exited.items) pid.0 }
     {
-        0 < pid.0 && pid.0 as usize <= self.script.procs.len()
+        0 < pid.0 && pid.0 as usize <= self.exited.len()
     }
 
     /// Whether a process that is waited for is there.
     fn knows_awaited(&self, act: &Act) -> bool
-        ensures { result ≡ awaits_known self.now.script.procs.items act.now }
+        ensures { result ≡ awaits_known (length self.now.exited.items) act.now }
     {
         match act {
             Act::Call(_) => true,
@@ -146,11 +146,37 @@ impl Reader {
         Ok(())
     }
 
+    /// Whether a fork of this process may come next.
+    fn may_fork(&self, pid: Pid) -> bool
+        requires { Marks (plan_of self.now.script) self.now.exited.items }
+        ensures { result ≡ may_fork (plan_of self.now.script) pid.0 }
+    {
+        pid.0 == 1 && self.exited.len() < MADE_LIMIT && self.knows(pid) && !self.exited[0]
+    }
+
+    /// Adds a fork line, behind which there is one process more.
+    fn add_fork(&mut self, line: Line) -> Result<(), LineError>
+        requires forks { asks_fork line.act ≡ true }
+        requires marks { Marks (plan_of self.old.script) self.old.exited.items }
+        ensures reads { Leaves (plan_of self.new.script) result (joined_by_fork (plan_of self.old.script) line) }
+        ensures marks { OnOk result (Marks (plan_of self.new.script) self.new.exited.items) }
+    {
+        if !self.may_fork(line.pid) {
+            return Err(BAD);
+        }
+        self.exited.push(false)?;
+        self.script.lines.push(line)?;
+        Ok(())
+    }
+
     fn add_line(&mut self, line: Line) -> Result<(), LineError>
         requires { Marks (plan_of self.old.script) self.old.exited.items }
         ensures reads { Leaves (plan_of self.new.script) result (joined_by (plan_of self.old.script) (Item.Line line)) }
         ensures marks { OnOk result (Marks (plan_of self.new.script) self.new.exited.items) }
     {
+        if asks_fork(&line.act) {
+            return self.add_fork(line);
+        }
         if !self.knows(line.pid) {
             return Err(LineError::Fault(Fault::UnknownProcess));
         }
@@ -232,8 +258,11 @@ fn read_text(alloc: Global, text: &[u8]) -> Result<Script, ScriptFault>
 /// `lseek FD OFFSET WHENCE`, `dup FD`, `dup2 FD FD`, `flags FD OFLAGS`, `close FD`, `unlink p:NAME`,
 /// `socket TYPE OFLAGS`, `pair TYPE OFLAGS`, `bind FD ADDR`, `listen FD BACKLOG`, `connect FD ADDR`,
 /// `accept FD OFLAGS`, `shut FD MODE`, `getopt FD OPTION`, `setopt FD OPTION N`, `sockname FD`, `peername FD`,
-/// `send FD ADDR HEX CONTROL MFLAGS`, `recv FD N SPACE MFLAGS`, `poll FD`, `exit`, or `wait PID N`, which isn't
-/// a call: where processes are threads, the process goes on when that one has N entries or more, or has exited.
+/// `send FD ADDR HEX CONTROL MFLAGS`, `recv FD N SPACE MFLAGS`, `poll FD`, `fork`, `exec`, `exit`, or `wait PID N`,
+/// which isn't a call: where processes are threads, the process goes on when that one has N entries or more, or has
+/// exited. Each `fork` makes one more process, whose number is the next: it is known to the lines behind that line,
+/// as their own process and as one that is waited for, and to none before. Process 1 alone may fork, and only where
+/// fewer than 1,024 processes are known: each other fork line is a bad line, and never told as an unknown process.
 /// A line `off` may come last. A send's ADDR may be `-` for none; its CONTROL is `-` for no bytes, `x:HEX` for
 /// these, or items joined by `+`: `c:PID,UID,GID` for credentials and `r:N,N,..` for descriptor numbers.
 pub fn parse_script(alloc: Global, text: &[u8]) -> Result<Script, ScriptFault>

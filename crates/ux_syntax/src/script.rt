@@ -1,7 +1,7 @@
 //! Scripts: file objects, processes, and what their lines ask for.
 
 ghost use Rattle.std.specs.Prelude.{◌≡◌};
-ghost use Rattle.ux_syntax.specs.Spelling.{asks_exit};
+ghost use Rattle.ux_syntax.specs.Spelling.{asks_exit, asks_fork};
 
 use std::marker::Model;
 use ux_object::ObjKind;
@@ -67,4 +67,10 @@ pub(crate) fn asks_exit(act: &Act) -> bool
     ensures { result ≡ asks_exit act.now }
 {
     matches!(act, Act::Call(Request::Exit))
+}
+
+pub(crate) fn asks_fork(act: &Act) -> bool
+    ensures { result ≡ asks_fork act.now }
+{
+    matches!(act, Act::Call(Request::Fork))
 }

@@ -310,6 +310,7 @@ impl fmt::Display for ReplyText<'_> {
             Reply::Opt(value) => write!(f, "opt {value}"),
             Reply::Cred(cred) => write!(f, "cred {} {} {}", cred.pid.0, cred.uid, cred.gid),
             Reply::Poll(flags) => write!(f, "poll {}", Conditions(*flags)),
+            Reply::Child(pid) => write!(f, "child {}", pid.0),
             Reply::Err(errno) => write!(f, "err {}", errno_name(*errno)),
         }
     }

@@ -2,6 +2,7 @@
 
 mod calls;
 mod connections;
+mod forks;
 mod options;
 mod readers;
 mod scripts;

@@ -13,7 +13,7 @@ use ux_objects::Plain;
 use ux_types::{Errno, Mode, Reply, SockOpt, Whence};
 
 /// A kernel of one process with so many descriptors at most and a memory file of three bytes under `f`.
-fn with_file(alloc: Global, limit: u32) -> Result<Machine, Fail> {
+pub(super) fn with_file(alloc: Global, limit: u32) -> Result<Machine, Fail> {
     let mut objects = Vec::new(alloc);
     let Ok(file) = Plain::new(alloc, ObjKind::Memory, b"abc") else {
         return Err(Fail::from("no file"));
@@ -74,6 +74,10 @@ const NO_MEMORY: &[Row] = &[
     (1, Asked::Poll(3), Told::Poll(0b00_0010)),
     (1, Asked::Shutdown(2, Mode::Write), Told::Ok),
     (1, Asked::Poll(3), Told::Poll(0b00_0111)),
+    (1, Asked::File(FileCall::SetFlags(0, 3)), Told::Ok),
+    (1, Asked::File(FileCall::SetFlags(3, 4)), Told::Ok),
+    (1, Asked::Exec, Told::Ok),
+    (1, Asked::Close(3), Told::Err(Errno::EBADF)),
     (1, Asked::Unlink(b"f"), Told::Ok),
     (1, Asked::Unlink(b"f"), Told::Err(Errno::ENOENT)),
     (1, Asked::Close(0), Told::Ok),
@@ -86,7 +90,7 @@ const CLOSED: &[Row] = &[(1, Asked::Close(0), Told::Err(Errno::EBADF))];
 const EXIT: &[Row] = &[(1, Asked::Exit, Told::Ok)];
 
 #[test]
-fn ten_calls_are_answered_without_memory(rt: HostRuntime) -> Result<(), Fail> {
+fn eleven_calls_are_answered_without_memory(rt: HostRuntime) -> Result<(), Fail> {
     let alloc = rt.alloc();
     let mut machine = with_file(alloc, 16)?;
     let k = &mut machine;
@@ -244,6 +248,53 @@ fn each_growth_of_a_call_on_a_file_is_refused(rt: HostRuntime) -> Result<(), Fai
     says_rows(&rt, alloc, k, OPENED)?;
     says_all_with_least(&rt, alloc, k, p, GROWTHS)?;
     says_rows(&rt, alloc, k, LEFT)?;
+    assert!(rt; is_gone(k, 0));
+    Ok(())
+}
+
+/// A file under two numbers, one with close-on-exec, and both ends of a pair.
+const BEFORE_FORK: &[Row] = &[
+    (1, Asked::OpenMarked(b"f"), Told::Fd(0)),
+    (1, Asked::File(FileCall::Dup(0)), Told::Fd(1)),
+    (1, Asked::Pair, Told::Fds(2, 3)),
+    (1, Asked::Unlink(b"f"), Told::Ok),
+];
+
+/// A fork, and what shows that nothing changed by a refusal.
+const FORK: (Asked, Told, &[Row]) = (
+    Asked::Fork,
+    Told::Child(2),
+    &[(
+        1,
+        Asked::File(FileCall::Lseek(0, 0, Whence::Cur)),
+        Told::At(0),
+    )],
+);
+
+/// All that both processes have open, the file last.
+const AFTER_FORK: &[Row] = &[
+    (1, Asked::Exit, Told::Ok),
+    (2, Asked::File(FileCall::Read(0, 1)), Told::Bytes(b"a")),
+    (2, Asked::Send(2, b"x", 0), Told::Count(1)),
+    (2, Asked::Recv(3, 9, 0), Told::Got(b"x")),
+    (2, Asked::Close(0), Told::Ok),
+];
+
+/// The last descriptor of the file, and then the end.
+const LAST_CLOSE: &[Row] = &[(2, Asked::Close(1), Told::Ok)];
+
+/// A reference that a refused fork had counted would keep the file open.
+#[test]
+fn each_growth_of_a_fork_is_refused(rt: HostRuntime) -> Result<(), Fail> {
+    let alloc = rt.alloc();
+    let mut machine = with_file(alloc, 1024)?;
+    let k = &mut machine;
+    let mut purse = Purse::new(alloc)?;
+    says_rows(&rt, alloc, k, BEFORE_FORK)?;
+    says_with_least(&rt, alloc, k, &mut purse, &FORK)?;
+    says_rows(&rt, alloc, k, AFTER_FORK)?;
+    assert!(rt; !is_gone(k, 0));
+    says_rows(&rt, alloc, k, LAST_CLOSE)?;
     assert!(rt; is_gone(k, 0));
     Ok(())
 }

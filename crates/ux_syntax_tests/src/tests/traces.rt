@@ -285,6 +285,33 @@ fn entries_of_files_are_printed(rt: HostRuntime) -> Result<(), Fail> {
 }
 
 #[test]
+fn entries_of_forks_are_printed(rt: HostRuntime) -> Result<(), Fail> {
+    // Entries of the calls on processes.
+    let rows = vec![in rt.alloc();
+        (
+            (2, 2),
+            "fork",
+            Reply::Child(Pid(2)),
+            "2 1 2 fork = child 2\n",
+        ),
+        (
+            (5, 7),
+            "fork",
+            Reply::Child(Pid(1024)),
+            "5 1 7 fork = child 1024\n",
+        ),
+        (
+            (5, 7),
+            "fork",
+            Reply::Err(Errno::EAGAIN),
+            "5 1 7 fork = err EAGAIN\n",
+        ),
+        ((5, 7), "exec", Reply::Ok, "5 1 7 exec = ok\n"),
+    ]?;
+    expect_rows(&rt, rt.alloc(), rows)
+}
+
+#[test]
 fn reads_are_printed(rt: HostRuntime) -> Result<(), Fail> {
     let alloc = rt.alloc();
     let bytes = Reply::Bytes(bytes_of(alloc, b"hi")?);

@@ -1,6 +1,8 @@
-use Rattle.std.proofs.Common.{subst}
+use Rattle.std.proofs.Common.{◌≡◌, true, length, subst}
+use Rattle.std.specs.Prelude.{IfOk}
 use Rattle.ux_model.specs.State.{State}
-use Rattle.ux_model.specs.History.{IsLegal}
+use Rattle.ux_model.specs.History.{replay, IsLegal}
+use Rattle.ux_history.specs.Shares.{once_each}
 use Rattle.ux_history.proofs.Stands.{told_of}
 use Rattle.ux_history.proofs.told.settle_told.Goals as goal
 
@@ -11,4 +13,6 @@ returns-clause-told g c =
     let count = c.entry_count-count.ensures in
     told_of g.W.BookName.boot c.confirm_all.new.book.entries c.args.spents.items c.args.witnesses.now c.settle_accounts.result
     (subst (λ (S : State). IsLegal S c.confirm_all.new.book.entries) count.boot count.legal)
-    settle.entries settle.ended settle.counted (rw all.book all.stand)
+    settle.entries settle.ended settle.counted
+    (subst (λ (S : State). IfOk c.settle_accounts.result (λ a. once_each (length (replay S c.confirm_all.new.book.entries).processes) c.args.spents.items ≡ true)) count.boot settle.once)
+    (rw all.book all.stand)

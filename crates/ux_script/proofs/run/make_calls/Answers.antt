@@ -29,7 +29,7 @@ loop-line-preserved g c =
           record {
             so_far = subst (λ (h : Held). Makes h script (call_lines (take (i + 1) lines))) (sym w.serial-is)
                 (makes_same _ script _ _ (call_made lines i line request inside item (act_is ∙ w.in-Call.is))
-                (makes_more old w.call.new.self script line.pid request (call_lines (take i lines)) one c.loop-line.invariant.so_far));
+                (makes_more old w.call.new.self script line.pid request (call_lines (take i lines)) one w.in_ok-call-in-Call.ensures.made c.loop-line.invariant.so_far));
             same_boot = subst (λ (h : Held). h.boot ≡ c.args.serial.now.boot) (sym w.serial-is)
                 (boot_kept old w.call.new.self line.pid request one ∙ c.loop-line.invariant.same_boot);
           }

@@ -2,6 +2,7 @@ use Rattle.std.proofs.Common.{◌≡◌, ◌<◌, ◌+◌, ◌++◌, length, ref
 use Rattle.std.proofs.lemmas.Bool.{not-true, not-false}
 use Rattle.ux_model.specs.Types.{Request}
 use Rattle.ux_history.specs.Books.{Held}
+use Rattle.ux_syntax.specs.Spelling.{plan_of, known_count}
 use Rattle.ux_syntax.specs.Turns.{call_lines}
 use Rattle.ux_script.specs.Runs.{exits_of, Makes}
 use Rattle.ux_script.proofs.Runs.{makes_more, makes_same, boot_kept, exit_known, exit_made, exit_there}
@@ -16,15 +17,15 @@ loop-index-preserved g c =
     let old = c.loop-index.serial in
     let so_far = c.loop-index.invariant.so_far in
     let made = call_lines lines ++ exits_of lines n in
-    let inside : n < length script.procs.items = omega (arith, c.loop-index-test.true, c.requires.count) in
-    let known = c.is_live.ensures ∙ exit_known old.boot script.procs.items lines old.entries n so_far.processes so_far.legal so_far.calls inside in
+    let inside : n < known_count (plan_of script) = omega (arith, c.loop-index-test.true, c.requires.count) in
+    let known = c.is_live.ensures ∙ exit_known old script n so_far inside in
     elim c.if-is_live.branch [
       | then-is_live+in_ok-call w ↦
           let one = w.in_ok-call.ensures.entry in
           record {
             so_far = subst (λ (h : Held). Makes h script (call_lines lines ++ exits_of lines (n + 1))) (sym w.serial-is)
                 (makes_same _ script _ _ (exit_made lines made n (not-true _ (sym known ∙ w.if-is_live.true)) refl)
-                (makes_more old w.call.new.self script (record { 0 = n + 1 }) Request.Exit made one so_far));
+                (makes_more old w.call.new.self script (record { 0 = n + 1 }) Request.Exit made one w.in_ok-call.ensures.made so_far));
             same_boot = subst (λ (h : Held). h.boot ≡ c.args.serial.now.boot) (sym w.serial-is)
                 (boot_kept old w.call.new.self (record { 0 = n + 1 }) Request.Exit one ∙ c.loop-index.invariant.same_boot);
           }

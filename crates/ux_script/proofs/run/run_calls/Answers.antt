@@ -1,16 +1,10 @@
-use Rattle.std.proofs.Common.{ap, ◌∙◌, length, rules}
-use Rattle.std.proofs.lemmas.List.{length-map}
+use Rattle.std.proofs.Common.{rules}
 use Rattle.std.proofs.lemmas.Result.{err_from_is_err_and}
-use Rattle.ux_model.specs.Boot.{new_process}
 use Rattle.ux_script.proofs.Runs.{makes_none}
 use Rattle.ux_script.proofs.run.run_calls.Goals as goal
 
 pub make_all-requires : goal.make_all-requires
-make_all-requires g c = record {
-  begun = makes_none c.in-Ok.serial c.args.script.now c.args.kernel c.in-Ok.ensures c.requires.boots c.requires.processes;
-  count = c.process_count-count.ensures.count ∙ ap length c.requires.processes ∙ length-map c.args.script.now.procs.items new_process;
-  few = c.process_count-count.ensures.most;
-}
+make_all-requires g c = makes_none c.in-Ok.serial c.args.script.now c.args.kernel c.in-Ok.ensures c.requires.boots c.requires.processes
 
 pub returns-in_err-make_all-clause-stranger : goal.returns-in_err-make_all-clause-stranger
 returns-in_err-make_all-clause-stranger g c =

@@ -1,14 +1,16 @@
-use Rattle.std.proofs.Common.{◌≡◌, true, map, ap, sym, ◌∙◌}
-use Rattle.std.proofs.lemmas.Bool.{false≢true}
+use Rattle.std.proofs.Common.{◌≡◌, ℕ, ◌+◌, Bool, true, false, cond, map, ap, sym, subst, ◌∙◌}
+use Rattle.std.proofs.lemmas.Bool.{false≢true, or_parts}
 use Rattle.ux_model.specs.Waiting.{may_wait}
-use Rattle.ux_history.specs.Books.{state_of}
-use Rattle.ux_history.specs.Shares.{Caller}
+use Rattle.ux_model.specs.History.{is_exit, is_off}
+use Rattle.ux_history.specs.Books.{Held, state_of}
+use Rattle.ux_history.specs.Shares.{Caller, IsBook}
+use Rattle.ux_history.proofs.Accounts.{part_for_child, book_after}
 use Rattle.ux_history.proofs.Slips.{Answered, answered}
 use Rattle.ux_history.proofs.book.Book.make.Given.{Over}
 use Rattle.ux_history.proofs.book.Book.make.Goals as goal
 use Rattle.ux_history.proofs.book.Book.make.Goals.{then-tried, else-tried}
 
-made_here : (g : Over) (c : goal.After-share-1 g) → Answered g.W.BookName.boot c.args.self.now c.append.new.self.book c.args.share.now c.args.request.now c.args.tried c.in-Some.number c.answer-reply.result.0 c.answer-reply.result.1 (map (λ o. o.0) c.append.new.retired)
+made_here : (g : Over) (c : goal.After-reply-1 g) → Answered g.W.BookName.boot c.args.self.now c.append.new.self.book c.args.share.now c.args.request.now c.args.tried c.in-Some.number c.answer-reply.result.0 c.answer-reply.result.1 (map (λ o. o.0) c.append.new.retired)
 made_here g c =
     let log = c.set_aside.new.log.book in
     let waits : c.args.tried ≡ true → c.if-tried.waits ≡ may_wait (state_of log) c.share.inside.pid.0 c.args.request.now = elim c.if-tried.branch [
@@ -23,13 +25,28 @@ made_here g c =
     c.in-Ok.ensures.copy c.in-Some.ensures.entry c.in-Some.ensures.number c.answer-reply.ensures.answer waits c.answer-reply.ensures.boot c.answer-reply.ensures.legal
 
 pub invariant_of-receipt : goal.invariant_of-receipt
-invariant_of-receipt g c = (made_here g c).slip
+invariant_of-receipt g c = (made_here g c.before).slip
 
 pub returns-clause-entry : goal.returns-clause-entry
-returns-clause-entry g c = (made_here g c).adds
+returns-clause-entry g c = (made_here g c.before).adds
 
 pub returns-clause-done : goal.returns-clause-done
-returns-clause-done g c = (made_here g c).done
+returns-clause-done g c = (made_here g c.before).done
 
 pub returns-clause-receipt : goal.returns-clause-receipt
-returns-clause-receipt g c = (made_here g c).receipt
+returns-clause-receipt g c = (made_here g c.before).receipt
+
+book_here : (g : Over) (c : goal.After-reply-1 g) → IsBook c.args.self.now g.W.Ledger.parts c.self.inside.ledger.total c.self.inside.rest.parts c.self.inside.rest.amount
+book_here g c = subst (λ (b : Held). IsBook b g.W.Ledger.parts c.self.inside.ledger.total c.self.inside.rest.parts c.self.inside.rest.amount) c.self.view_is c.self.invariant
+
+pub child_share-child-requires-clause-parts : goal.child_share-child-requires-clause-parts
+child_share-child-requires-clause-parts g c =
+    part_for_child (book_here g c) (made_here g c).adds c.process_count-made.ensures.count c.process_count-made.ensures.most
+
+pub invariant_of-self-2 : goal.invariant_of-self-2
+invariant_of-self-2 g c =
+    let request = c.args.request.now in
+    let no_end : is_off request ≡ false = (or_parts (is_exit request) (is_off request) c.requires.call).1 in
+    book_after (book_here g c.before) (made_here g c.before).adds
+    (c.add.ensures.total ∙ ap (λ (b : Bool). c.self.inside.ledger.total + cond {A = ℕ} b 0 1) (sym no_end))
+    c.child_share-child.ensures.parts c.child_share-child.ensures.amount

@@ -1,4 +1,5 @@
-use Rattle.std.proofs.Common.{rules}
+use Rattle.std.proofs.Common.{arith, rules}
+use Rattle.ux_history.proofs.Accounts.{book_after}
 use Rattle.ux_history.proofs.Legal.{may_end}
 use Rattle.ux_history.proofs.book.Book.off.Goals as goal
 
@@ -11,3 +12,6 @@ returns-clause-first g c = search rules
 
 pub returns-then-has_ended-clause-alive : goal.returns-then-has_ended-clause-alive
 returns-then-has_ended-clause-alive g c = search rules
+
+pub invariant_of-self : goal.invariant_of-self
+invariant_of-self g c = book_after c.self.invariant c.append_last.ensures.entry.adds (omega arith) (omega arith) c.self.invariant.nothing

@@ -4,6 +4,6 @@ use Rattle.ux_history.proofs.log.Log.reserve.Goals as goal
 
 pub returns-clause-room : goal.returns-clause-room
 returns-clause-room g c =
-    room_of_last g.W.BookName.boot c.self.inside.kernel c.self.inside.entries.items c.self.inside.calls.items _ c.process_count-last.result _ c.args.self.now
-    c.self.invariant c.self.view_is c.process_count-last.ensures.count
+    room_of_last g.W.BookName.boot c.self.inside.entries.items _ c.process_count-last.result _ c.args.self.now
+    c.self.view_is c.process_count-last.ensures.count
     (omega (arith, c.in_ok-reserve.ensures.ok, c.in_ok-reserve.ensures.len, c.self.inside.entries.ok.0))

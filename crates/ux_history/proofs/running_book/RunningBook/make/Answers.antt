@@ -1,5 +1,5 @@
-use Rattle.std.proofs.Common.{◌≡◌, Bool, true, length, map, ap, sym, subst, ◌∙◌}
-use Rattle.std.proofs.lemmas.Bool.{false≢true}
+use Rattle.std.proofs.Common.{◌≡◌, ℕ, ◌+◌, Bool, true, false, cond, length, map, ap, sym, subst, ◌∙◌}
+use Rattle.std.proofs.lemmas.Bool.{false≢true, or_parts}
 use Rattle.std.proofs.lemmas.List.{length-map}
 use Rattle.ux_model.specs.Waiting.{may_wait}
 use Rattle.ux_history.specs.Books.{state_of}
@@ -7,7 +7,9 @@ use Rattle.ux_history.specs.Shares.{Caller}
 use Rattle.ux_history.specs.Receipts.{call_of, IsSlip}
 use Rattle.ux_history.specs.Trails.{Trailed, Marked}
 use Rattle.ux_history.proofs.Slips.{Answered}
-use Rattle.ux_history.proofs.Running.{answered_next}
+use Rattle.ux_model.specs.History.{is_exit, is_off}
+use Rattle.ux_history.proofs.Accounts.{part_for_child, book_after}
+use Rattle.ux_history.proofs.Running.{answered_next, trail_after}
 use Rattle.ux_history.proofs.running_book.RunningBook.make.Given.{Over}
 use Rattle.ux_history.proofs.running_book.RunningBook.make.Goals as goal
 use Rattle.ux_history.proofs.running_book.RunningBook.make.Goals.{then-tried, else-tried}
@@ -42,3 +44,17 @@ returns-clause-done g c = (made_here g c).done
 
 pub returns-clause-witness : goal.returns-clause-witness
 returns-clause-witness g c = (λ j. record { number = c.entry_count-number.result; call = c.push-mark.result.call; tried = c.of-tried.ensures j }) ∙ (made_here g c).receipt
+
+pub child_share-child-requires-clause-parts : goal.child_share-child-requires-clause-parts
+child_share-child-requires-clause-parts g c =
+    part_for_child c.self.invariant.0 c.in-Some.ensures.entry c.process_count-made.ensures.count c.process_count-made.ensures.most
+
+pub invariant_of-self-2 : goal.invariant_of-self-2
+invariant_of-self-2 g c =
+    let request = c.args.request.now in
+    let no_end : is_off request ≡ false = (or_parts (is_exit request) (is_off request) c.requires.call).1 in (
+      book_after c.self.invariant.0 c.in-Some.ensures.entry
+          (c.add.ensures.total ∙ ap (λ (b : Bool). c.self.inside.ledger.total + cond {A = ℕ} b 0 1) (sym no_end))
+          c.child_share-child.ensures.parts c.child_share-child.ensures.amount,
+      trail_after c.self.invariant.1 c.push-mark.ensures.trail c.in-Some.ensures.entry,
+    )

@@ -1,0 +1,106 @@
+//! Processes that are made, and what a new program in one closes: by the counts of references.
+use super::{append, end, expect_queue, open_pair, pass, settle, start_with_files};
+use hoard::Hoard;
+use std::alloc::{AllocError, Global};
+use std::process::Abort;
+use std::test::Fail;
+use ux_object::FileObject;
+use ux_state::State;
+use ux_types::{DescriptionId, Fd, Mode, OpenFlags, Pid};
+
+/// Makes a child of a process, if there is memory. None is made beyond 1,024.
+fn fork<O: FileObject>(
+    rt: &impl Abort,
+    state: &mut State<O>,
+    parent: u32,
+) -> Result<Pid, AllocError> {
+    assert!(rt; state.is_live(Pid(parent)));
+    assert!(rt; state.process_count() < 1024);
+    state.fork_process(Pid(parent))
+}
+
+/// Starts a program in a process.
+fn exec<O: FileObject>(rt: &impl Abort, state: &mut State<O>, pid: u32) {
+    assert!(rt; state.is_live(Pid(pid)));
+    state.exec_process(Pid(pid));
+}
+
+/// Opens the first file object in process 1 with close-on-exec, at this number.
+fn open_marked<O: FileObject>(rt: &impl Abort, state: &mut State<O>, fd: u32) {
+    assert!(rt; state.is_live(Pid(1)));
+    let opened = state.open_object(Pid(1), 0, Mode::Both, OpenFlags(4));
+    assert!(rt; opened == Ok(Fd(fd)));
+}
+
+/// Sees how often each of the descriptions 0, 1 and 2 is referred to.
+fn expect_counts<O: FileObject>(rt: &impl Abort, state: &State<O>, counts: [u64; 3]) {
+    let [first, second, third] = counts;
+    assert!(rt; state.count(DescriptionId::new(0)) == first);
+    assert!(rt; state.count(DescriptionId::new(1)) == second);
+    assert!(rt; state.count(DescriptionId::new(2)) == third);
+}
+
+#[test]
+fn a_child_refers_to_all_that_its_parent_does(rt: HostRuntime) -> Result<(), Fail> {
+    let alloc = rt.alloc();
+    let mut held = start_with_files(&rt, alloc)?;
+    let s = &mut held.state;
+    open_marked(&rt, s, 0);
+    open_pair(&rt, s, 1, 2);
+    pass(&rt, alloc, s, 1, 2, 1000)?;
+    expect_counts(&rt, s, [1, 1, 2]);
+    assert!(rt; fork(&rt, s, 1) == Ok(Pid(3)));
+    expect_counts(&rt, s, [2, 2, 3]);
+    assert!(rt; s.rights_in_flight(1000) == 1);
+    exec(&rt, s, 3);
+    expect_counts(&rt, s, [1, 2, 3]);
+    end(&rt, s, 1);
+    settle(&rt, s, &[]);
+    expect_counts(&rt, s, [0, 1, 2]);
+    Ok(())
+}
+
+#[test]
+fn numbers_of_the_exited_are_not_given_again(rt: HostRuntime) -> Result<(), Fail> {
+    let mut held = start_with_files(&rt, rt.alloc())?;
+    let s = &mut held.state;
+    end(&rt, s, 2);
+    assert!(rt; fork(&rt, s, 1) == Ok(Pid(3)));
+    end(&rt, s, 1);
+    assert!(rt; fork(&rt, s, 3) == Ok(Pid(4)));
+    assert!(rt; s.process_count() == 4);
+    assert!(rt; !s.is_live(Pid(1)));
+    assert!(rt; !s.is_live(Pid(5)));
+    Ok(())
+}
+
+/// Whether a fork of process 1 is made while there is no memory.
+fn forks_without_memory<O: FileObject>(
+    rt: &impl Abort,
+    alloc: Global,
+    state: &mut State<O>,
+) -> Result<bool, AllocError> {
+    let hoard = Hoard::take_all(alloc)?;
+    let made = fork(rt, state, 1).is_ok();
+    exec(rt, state, 1);
+    drop(hoard);
+    Ok(made)
+}
+
+#[test]
+fn a_refused_fork_counts_nothing_and_exec_needs_no_memory(rt: HostRuntime) -> Result<(), Fail> {
+    let alloc = rt.alloc();
+    let mut held = start_with_files(&rt, alloc)?;
+    let s = &mut held.state;
+    open_marked(&rt, s, 0);
+    open_pair(&rt, s, 1, 2);
+    append(&rt, alloc, s, 1, b"ab");
+    let made = forks_without_memory(&rt, alloc, s)?;
+    assert!(rt; !made);
+    assert!(rt; s.process_count() == 2);
+    expect_counts(&rt, s, [0, 1, 1]);
+    expect_queue(&rt, s, 1, b"ab", false)?;
+    assert!(rt; fork(&rt, s, 1) == Ok(Pid(3)));
+    expect_counts(&rt, s, [0, 2, 2]);
+    Ok(())
+}
