@@ -43,7 +43,7 @@ use Rattle.ux_model.specs.Step.{Step, outcome}
 use Rattle.ux_model.specs.History.{is_off, has_live, is_allowed}
 use Rattle.ux_model.specs.Giving.{held_at, description_in, given, sent_by, rights_in}
 use Rattle.ux_model.specs.Changes.{cloexec_of, sources, oldest_end, as_list, ChangesTables, StepChangesTables}
-use Rattle.ux_model.proofs.Walk.{either, maybe, by_target, by_path, found, found_named, found_peer}
+use Rattle.ux_model.proofs.Walk.{either, maybe, by_target, by_path, by_queue, found, found_named, found_peer}
 use Rattle.ux_model.proofs.Named.{table_in}
 use Rattle.ux_model.proofs.ChangedPlaces.{bool_cases, place_within}
 use Rattle.ux_model.proofs.ByPlace.{take_none, take_few, get_below, get_pushed_other}
@@ -602,12 +602,6 @@ send_shows S p tag fd addr bytes control flags = maybe Q (process_at S p) _ _ (r
 
 -- ---- receiving
 
--- by whether something waits
-by_waiting : (Q : Outcome → Type 0) (q : List Message) (x : Outcome) (f : Message → List Message → Outcome) → (q ≡ [] → Q x) → ((m : Message) (ms : List Message) → q ≡ m ∷ ms → Q (f m ms)) →
-    Q (elim q as (λ _. Outcome) [ [] ↦ x | m ∷ ms ↦ f m ms ])
-by_waiting Q [] x f h k = h refl
-by_waiting Q (m ∷ ms) x f h k = k m ms refl
-
 -- where a receive takes nothing: nothing waits, or no byte of a stream is wanted
 abbrev pub TakesNothing : Socket → ℕ → Type 0
 TakesNothing s n = (s.queue ≡ []) ⊎ ((is_stream s.kind && (n == 0)) ≡ true)
@@ -616,10 +610,10 @@ pub by_receive : (Q : Outcome → Type 0) (S : State) (p d : ℕ) (s : Socket) (
     Q (answer (Reply.Err Errno.ECONNRESET) (with_socket_by S d (with_reset false))) → (TakesNothing s n → Q (answer nothing_received S)) →
     ((m : Message) (ms : List Message) → s.queue ≡ m ∷ ms → Q (receive_front S p d s space flags (front_of n s m ms))) → Q (receive S p d s n space flags)
 by_receive Q S p d s n space flags bad reset nothing front = either Q (is_dgram s.kind) _ _
-    (λ b. by_waiting Q s.queue _ _ (λ none. either Q s.read_shut _ _ (λ c. nothing (inl none)) (λ c. bad Errno.EAGAIN)) front)
+    (λ b. by_queue Q s.queue _ _ (λ none. either Q s.read_shut _ _ (λ c. nothing (inl none)) (λ c. bad Errno.EAGAIN)) front)
     (λ b. maybe Q (peer_of s.phase) _ _ (bad Errno.ENOTCONN)
     (λ peer is. either Q (is_stream s.kind && (n == 0)) _ _ (λ c. nothing (inr c))
-    (λ c. by_waiting Q s.queue _ _ (λ none. either Q s.reset _ _ (λ e. reset) (λ e. either Q (at_end S s peer) _ _ (λ f. nothing (inl none)) (λ f. bad Errno.EAGAIN))) front)))
+    (λ c. by_queue Q s.queue _ _ (λ none. either Q s.reset _ _ (λ e. reset) (λ e. either Q (at_end S s peer) _ _ (λ f. nothing (inl none)) (λ f. bad Errno.EAGAIN))) front)))
 
 pub delivery_rise : (wanted : Bool) (cred : Cred) (rights : List ℕ) (space : ℕ) (table : List (Option Descriptor)) → Rise 0 (length table) (delivery wanted cred rights space table).numbers
 unfolding delivery
