@@ -78,39 +78,50 @@ fn receiving(fd: u32, space: usize, flags: MsgFlags) -> Request {
     }
 }
 
-/// A call of a socket that has to do with names.
-fn by_name(alloc: Global, call: Call) -> Result<Request, AllocError> {
-    let addr = Addr::Abstract(named(alloc, b"s")?);
-    Ok(match call {
-        Call::Bind(fd) => Request::Bind { fd: Fd(fd), addr },
-        Call::Connect(fd) => Request::Connect { fd: Fd(fd), addr },
-        _ => Request::Exit,
+/// The name of the server.
+fn server(alloc: Global) -> Result<Addr, AllocError> {
+    Ok(Addr::Abstract(named(alloc, b"s")?))
+}
+
+fn listening(fd: u32) -> Request {
+    Request::Listen {
+        fd: Fd(fd),
+        backlog: 4,
+    }
+}
+
+fn accepting(fd: u32) -> Request {
+    Request::Accept {
+        fd: Fd(fd),
+        flags: OpenFlags(0),
+    }
+}
+
+fn opening(alloc: Global, cloexec: bool) -> Result<Request, AllocError> {
+    Ok(Request::Open {
+        path: named(alloc, b"f")?,
+        mode: Mode::Both,
+        flags: flags_of(cloexec),
     })
 }
 
 fn request_of(alloc: Global, call: Call) -> Result<Request, AllocError> {
+    let kind = SockType::Stream;
+    let plain = OpenFlags(0);
     Ok(match call {
-        Call::Open(cloexec) => Request::Open {
-            path: named(alloc, b"f")?,
-            mode: Mode::Both,
-            flags: flags_of(cloexec),
-        },
-        Call::Pair => Request::SocketPair {
-            kind: SockType::Stream,
-            flags: OpenFlags(0),
-        },
-        Call::Socket => Request::Socket {
-            kind: SockType::Stream,
-            flags: OpenFlags(0),
-        },
-        Call::Listen(fd) => Request::Listen {
+        Call::Open(cloexec) => return opening(alloc, cloexec),
+        Call::Pair => Request::SocketPair { kind, flags: plain },
+        Call::Socket => Request::Socket { kind, flags: plain },
+        Call::Bind(fd) => Request::Bind {
             fd: Fd(fd),
-            backlog: 4,
+            addr: server(alloc)?,
         },
-        Call::Accept(fd) => Request::Accept {
+        Call::Listen(fd) => listening(fd),
+        Call::Connect(fd) => Request::Connect {
             fd: Fd(fd),
-            flags: OpenFlags(0),
+            addr: server(alloc)?,
         },
+        Call::Accept(fd) => accepting(fd),
         Call::Dup(fd) => Request::Dup { fd: Fd(fd) },
         Call::Dup2(fd, to) => Request::Dup2 {
             fd: Fd(fd),
@@ -127,7 +138,6 @@ fn request_of(alloc: Global, call: Call) -> Result<Request, AllocError> {
         Call::Fork => Request::Fork,
         Call::Exec => Request::Exec,
         Call::Exit => Request::Exit,
-        Call::Bind(_) | Call::Connect(_) => return by_name(alloc, call),
     })
 }
 
