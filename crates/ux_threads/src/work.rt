@@ -61,7 +61,7 @@ impl<W: BookName> Crew<W> {
     }
 
     /// Waits for all threads, and gives what all brought back.
-    fn join_all<R: Wait>(self, rt: &R) -> Vec<Done<W>> {
+    fn join_all<R: Threads + Wait>(self, rt: &R) -> Vec<Done<W>> {
         let Crew { threads, mut done } = self;
         for thread in threads {
             let _ = done.push(thread.join(rt));
@@ -185,7 +185,7 @@ fn work<W: BookName, O: FileObject, R: Wait, G: Gate>(
     let mut worker = Worker::new(alloc, seat);
     let left = worker.make_calls(rt, &script.lines, gate, stop);
     if !left.is_empty() {
-        worker.stop = Some(Stop::Stranger);
+        worker.stopped = Some(Stop::Stranger);
     }
     worker.end(rt, gate)
 }
@@ -195,7 +195,8 @@ fn work<W: BookName, O: FileObject, R: Wait, G: Gate>(
 struct Worker<W: BookName, O: FileObject> {
     seat: Seat<W, O>,
     receipts: Vec<Receipt<W>>,
-    stop: Option<Stop>,
+    /// Why it makes no further line, where that isn't its exit.
+    stopped: Option<Stop>,
 }
 
 impl<W: BookName, O: FileObject> Worker<W, O> {
@@ -204,7 +205,7 @@ impl<W: BookName, O: FileObject> Worker<W, O> {
         Worker {
             seat,
             receipts: Vec::new(alloc),
-            stop: None,
+            stopped: None,
         }
     }
 
@@ -224,7 +225,7 @@ impl<W: BookName, O: FileObject> Worker<W, O> {
         match self.fork(rt, gate) {
             Ok(child) => Some((child, more)),
             Err(fault) => {
-                self.stop = Some(stop_at(line, fault));
+                self.stopped = Some(stop_at(line, fault));
                 None
             }
         }
@@ -250,7 +251,7 @@ impl<W: BookName, O: FileObject> Worker<W, O> {
                     Ok(Step::Fork) => return left,
                     Ok(Step::Last) => return &[],
                     Err(why) => {
-                        self.stop = Some(why);
+                        self.stopped = Some(why);
                         return &[];
                     }
                 }
@@ -337,16 +338,16 @@ impl<W: BookName, O: FileObject> Worker<W, O> {
         let Worker {
             seat,
             receipts,
-            stop,
+            stopped,
         } = self;
-        let spent = match stop {
+        let spent = match stopped {
             Some(Stop::Deadlock(..)) => None,
             _ => exit(rt, seat, gate),
         };
         Done {
             spent,
             receipts,
-            stop,
+            stop: stopped,
         }
     }
 }
