@@ -10,6 +10,7 @@ use Rattle.ux_model.specs.Process.{Process}
 use Rattle.ux_model.specs.State.{State, is_live}
 use Rattle.ux_model.specs.Boot.{IsBootState}
 use Rattle.ux_model.specs.Step.{Step}
+use Rattle.ux_model.specs.Delivered.{delivered_by}
 use Rattle.ux_model.specs.Release.{settled}
 use Rattle.ux_model.specs.Waiting.{is_again}
 use Rattle.ux_model.specs.History.{calls_of, is_exit, is_off, has_live, live_count, makes_one, is_allowed, replay, MayFollow, IsLegal}
@@ -55,13 +56,14 @@ log_empty boot S es cs n cap boots same none count zeros room =
 
 -- a step from the end of a history is an entry that may follow
 may_follow : (boot S T : State) (es : List Entry) (e : Entry) → S ≡ replay boot es → is_allowed S e.pid.0 e.k e.request ≡ true →
-    Step S e.pid.0 (length es) e.request e.reply e.released T → e.k ≡ calls_of e.pid.0 es → MayFollow boot es e
-may_follow boot S T es e at allowed step k =
+    Step S e.pid.0 (length es) e.request e.reply e.released T → e.k ≡ calls_of e.pid.0 es → e.delivered ≡ delivered_by S e.pid.0 e.request e.reply → MayFollow boot es e
+may_follow boot S T es e at allowed step k told =
     let from_end : Step (replay boot es) e.pid.0 (length es) e.request e.reply e.released T = subst (λ (U : State). Step U e.pid.0 (length es) e.request e.reply e.released T) at step in
     record {
       steps = subst (λ (U : State). Step (replay boot es) e.pid.0 (length es) e.request e.reply e.released U) (step_replay boot T es e from_end) from_end;
       numbered = k;
       allowed = ap (λ (U : State). is_allowed U e.pid.0 e.k e.request) (sym at) ∙ allowed;
+      told = told ∙ ap (λ (U : State). delivered_by U e.pid.0 e.request e.reply) at;
     }
 
 -- the count of one process is raised, and the others stay
@@ -185,12 +187,12 @@ pub record Pushed (boot S T : State) (es es' : List Entry) (cs' : List ℕ) (e :
 pub log_push : (boot S T : State) (es es' : List Entry) (cs cs' : List ℕ) (cap cap' : ℕ) (e : Entry) (n : ℕ) →
     IsLog boot es S cs cap → length S.processes ≤ made_limit → is_allowed S e.pid.0 e.k e.request ≡ true → e.k ≡ calls_of e.pid.0 es →
     length es + last_entries S es + cond {A = ℕ} (is_last e.request) 0 2 ≤ cap → cap ≤ cap' →
-    Step S e.pid.0 n e.request e.reply e.released T → n ≡ length es →
+    Step S e.pid.0 n e.request e.reply e.released T → e.delivered ≡ delivered_by S e.pid.0 e.request e.reply → n ≡ length es →
     es' ≡ es ++ e ∷ [] → cs' ≡ set cs e.pid.0 (e.k + 1) → Pushed boot S T es es' cs' e cap'
-log_push boot S T es es' cs cs' cap cap' e n log few allowed k room more step number es_is cs_is =
+log_push boot S T es es' cs cs' cap cap' e n log few allowed k room more step told number es_is cs_is =
     let step_here : Step S e.pid.0 (length es) e.request e.reply e.released T = subst (λ (i : ℕ). Step S e.pid.0 i e.request e.reply e.released T) number step in
     let slot = caller_inside S cs e.pid.0 e.k e.request log.slots few allowed in
-    let may = may_follow boot S T es e log.at_replay allowed step_here k in
+    let may = may_follow boot S T es e log.at_replay allowed step_here k told in
     let who = nobodys S e.pid.0 e.k e.request allowed in
     let new : IsLog boot (es ++ e ∷ []) T (set cs e.pid.0 (e.k + 1)) cap' = record {
       legal = legal_push boot es e log.legal may;

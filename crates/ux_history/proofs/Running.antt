@@ -8,11 +8,12 @@ use Rattle.ux_model.specs.Types.{Pid, Request, Reply, Entry}
 use Rattle.ux_model.specs.State.{State}
 use Rattle.ux_model.specs.Boot.{IsBootState}
 use Rattle.ux_model.specs.Step.{Step}
+use Rattle.ux_model.specs.Delivered.{delivered_by}
 use Rattle.ux_model.specs.Waiting.{may_wait, is_again}
 use Rattle.ux_model.specs.History.{calls_of, is_allowed, MayFollow, IsLegal}
 use Rattle.ux_model.proofs.Appending.{legal_push}
 use Rattle.ux_history.specs.declared.receipts.Call.{Call}
-use Rattle.ux_history.specs.Books.{Held, state_of, may_call, is_last, Adds}
+use Rattle.ux_history.specs.Books.{Held, state_of, may_call, is_last, entry_of, Adds}
 use Rattle.ux_history.specs.Shares.{Caller}
 use Rattle.ux_history.specs.Logs.{Kept, last_entries}
 use Rattle.ux_history.specs.Receipts.{call_of}
@@ -69,9 +70,9 @@ pub record Grown (boot T : State) (es es' : List Entry) (cs' : List ℕ) (e : En
   pub next : MayFollow boot es e
 
 pub running_push : {boot S T : State} {es es' : List Entry} {cs cs' : List ℕ} {number number' : ℕ} (e : Entry) → IsRunning boot es S cs number → Ready S es cs e.pid e.k e.request →
-    Step S e.pid.0 number e.request e.reply e.released T → es' ≡ es ++ e ∷ [] → cs' ≡ set cs e.pid.0 (e.k + 1) → number' ≡ number + 1 → Grown boot T es es' cs' e number'
-running_push {boot} {S} {T} {es} {es'} {cs} {cs'} {number} {number'} e run may step es_is cs_is number_is =
-    let pushed = log_push boot S T es es' cs cs' (2 ^ 62 + 1026) (2 ^ 62 + 1026) e number run.log may.made may.allowed may.counted may.room (omega arith) step run.long es_is cs_is in
+    Step S e.pid.0 number e.request e.reply e.released T → e.delivered ≡ delivered_by S e.pid.0 e.request e.reply → es' ≡ es ++ e ∷ [] → cs' ≡ set cs e.pid.0 (e.k + 1) → number' ≡ number + 1 → Grown boot T es es' cs' e number'
+running_push {boot} {S} {T} {es} {es'} {cs} {cs'} {number} {number'} e run may step told es_is cs_is number_is =
+    let pushed = log_push boot S T es es' cs cs' (2 ^ 62 + 1026) (2 ^ 62 + 1026) e number run.log may.made may.allowed may.counted may.room (omega arith) step told run.long es_is cs_is in
     let long = run.long in
     let longer = ap length es_is ∙ length-append es (e ∷ []) in
     record {
@@ -87,7 +88,7 @@ few_entries {boot} {S} {es} {cs} {number} T e run may step =
 
 -- what the caller of the next call gets
 pub answered_next : (boot : State) (log old new : Held) (c : Caller) (pid : Pid) (k : ℕ) (request : Request) (waits tried : Bool) (number : ℕ) (reply : Reply) (call : Call) (released : List ℕ) →
-    log ≡ old → pid ≡ c.pid → k ≡ c.k → Adds log new (record { pid = pid; k = k; request = request; reply = reply; released = released }) → (waits ≡ true → is_again reply ≡ false) → number ≡ length log.entries →
+    log ≡ old → pid ≡ c.pid → k ≡ c.k → Adds log new (entry_of (state_of log) pid k request reply released) → (waits ≡ true → is_again reply ≡ false) → number ≡ length log.entries →
     call ≡ record { pid = pid; k = k; request = request; reply = reply } → (tried ≡ true → waits ≡ may_wait (state_of log) pid.0 request) → log.boot ≡ boot → IsLegal log.boot log.entries →
     Answered boot old new c request tried number reply call released
 answered_next boot log old new c pid k request waits tried number reply call released same who count adds done number_is call_is waiting begins legal =
@@ -96,7 +97,7 @@ answered_next boot log old new c pid k request waits tried number reply call rel
     (subst (λ (b : Held). IsLegal b.boot b.entries) (sym adds.appended) (legal_push log.boot log.entries e legal adds.next))
   where
     e : Entry
-    e = record { pid = pid; k = k; request = request; reply = reply; released = released }
+    e = entry_of (state_of log) pid k request reply released
 
     at : slice_get new.entries number ≡ Some e
     at = ap (λ (b : Held). slice_get b.entries number) adds.appended ∙ ap (slice_get (log.entries ++ e ∷ [])) number_is ∙ get_at log.entries e

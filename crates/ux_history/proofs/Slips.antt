@@ -13,7 +13,7 @@ use Rattle.ux_model.specs.Rooms.{size_of, room_for, Fits}
 use Rattle.ux_model.proofs.Fronts.{front_is_legal}
 use Rattle.ux_model.proofs.ReplySizes.{replies_fit}
 use Rattle.ux_history.specs.declared.receipts.Call.{Call}
-use Rattle.ux_history.specs.Books.{Held, Adds, Makes, state_of}
+use Rattle.ux_history.specs.Books.{Held, Adds, Makes, entry_of, state_of}
 use Rattle.ux_history.specs.Shares.{Caller, call_by}
 use Rattle.ux_history.specs.Receipts.{call_of, next_slip, IsSlip}
 
@@ -24,7 +24,7 @@ get_at (y ∷ xs) x = get_at xs x
 -- A call that was just made, against what its caller gets.
 pub record Answered (boot : State) (old new : Held) (c : Caller) (request : Request) (tried : Bool) (number : ℕ) (reply : Reply) (call : Call) (released : List ℕ) : Type 0 where
   pub slip : IsSlip boot (record { number = number; call = call; tried = tried })
-  pub adds : Adds old new (call_by c request reply released)
+  pub adds : Adds old new (call_by old c request reply released)
   pub done : tried ≡ true → should_wait (state_of old) c.pid.0 request reply ≡ false
   pub receipt : record { number = number; call = call; tried = tried } ≡ next_slip old c request reply tried
 
@@ -52,7 +52,7 @@ answered boot log old new c pid k copy request waits tried number reply call rel
     }
   where
     e : Entry
-    e = record { pid = pid; k = k; request = copy; reply = made.reply; released = released }
+    e = entry_of (state_of log) pid k copy made.reply released
 
     at : slice_get new.entries number ≡ Some e
     at = ap (λ (b : Held). slice_get b.entries number) made.adds.appended ∙ ap (slice_get (log.entries ++ e ∷ [])) number_is ∙ get_at log.entries e
@@ -60,8 +60,8 @@ answered boot log old new c pid k copy request waits tried number reply call rel
     said : (reply ≡ made.reply) × (call ≡ call_of e)
     said = subst (λ (o : Option Entry). IsSomeAnd o (λ x. (reply ≡ x.reply) × (call ≡ call_of x))) at there
 
-    e_is : e ≡ call_by c request reply released
-    e_is = λ j. record { pid = who j; k = count j; request = asked j; reply = sym said.0 j; released = released }
+    e_is : e ≡ call_by old c request reply released
+    e_is = λ j. entry_of (state_of (same j)) (who j) (count j) (asked j) (sym said.0 j) released
 
     come : replay boot (take number new.entries) ≡ state_of log
     come =

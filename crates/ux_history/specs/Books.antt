@@ -3,6 +3,7 @@ use Rattle.std.specs.Prelude.{◌≡◌, ℕ, Bool, true, false, ◌==◌, ◌&&
 use Rattle.ux_model.specs.Types.{Pid, Request, Reply, Entry, Errno}
 use Rattle.ux_model.specs.State.{State}
 use Rattle.ux_model.specs.Step.{Step}
+use Rattle.ux_model.specs.Delivered.{delivered_by}
 use Rattle.ux_model.specs.Waiting.{may_wait, is_again}
 use Rattle.ux_model.specs.History.{calls_of, is_exit, is_off, replay, is_allowed, MayFollow}
 
@@ -36,6 +37,11 @@ is_fork _ = false
 abbrev pub has_own_call : Request → Bool
 has_own_call request = is_last request || is_fork request
 
+-- the entry of a call that a process makes in this state, which tells the message of which rights came with it
+abbrev pub entry_of : State → Pid → ℕ → Request → Reply → List ℕ → Entry
+entry_of S pid k request reply released =
+    record { pid = pid; k = k; request = request; reply = reply; released = released; delivered = delivered_by S pid.0 request reply }
+
 -- the book has this entry more, which may follow
 pub record Adds (old new : Held) (e : Entry) : Type 0 where
   pub next : MayFollow old.boot old.entries e
@@ -44,12 +50,12 @@ pub record Adds (old new : Held) (e : Entry) : Type 0 where
 -- the book has one more entry, with this process, count and request, and which released these file objects
 pub record Appends (old new : Held) (pid : Pid) (k : ℕ) (request : Request) (released : List ℕ) : Type 0 where
   pub reply : Reply
-  pub adds : Adds old new (record { pid = pid; k = k; request = request; reply = reply; released = released })
+  pub adds : Adds old new (entry_of (state_of old) pid k request reply released)
 
 -- so, and where the call was to wait the answer isn't that it couldn't be done yet
 pub record Makes (old new : Held) (pid : Pid) (k : ℕ) (request : Request) (waits : Bool) (released : List ℕ) : Type 0 where
   pub reply : Reply
-  pub adds : Adds old new (record { pid = pid; k = k; request = request; reply = reply; released = released })
+  pub adds : Adds old new (entry_of (state_of old) pid k request reply released)
   pub done : waits ≡ true → is_again reply ≡ false
 
 -- the call may wait, and would have to: it can be answered EAGAIN, which changes nothing

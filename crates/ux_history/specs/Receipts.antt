@@ -9,7 +9,7 @@ use Rattle.ux_history.specs.declared.receipts.Call.{Call}
 use Rattle.ux_history.specs.Books.{Held}
 use Rattle.ux_history.specs.Shares.{Caller}
 
--- an entry but for the file objects that it released
+-- an entry but for the file objects that it released and the message of which rights came
 abbrev pub call_of : Entry → Call
 call_of e = record { pid = e.pid; k = e.k; request = e.request; reply = e.reply }
 

@@ -4,7 +4,7 @@ use Rattle.std.specs.List.{list_all}
 use Rattle.ux_model.specs.Types.{Pid, Request, Reply, Entry}
 use Rattle.ux_model.specs.State.{is_live}
 use Rattle.ux_model.specs.History.{calls_of}
-use Rattle.ux_history.specs.Books.{Held, state_of, ends_of}
+use Rattle.ux_history.specs.Books.{Held, state_of, ends_of, entry_of}
 
 -- a process, and how many calls it has made
 pub record Caller : Type 0 where
@@ -24,9 +24,9 @@ abbrev pub fresh : ℕ → List Caller
 fresh zero = []
 fresh (suc n) = fresh n ++ record { pid = record { 0 = suc n }; k = 0 } ∷ []
 
--- an entry of this caller
-abbrev pub call_by : Caller → Request → Reply → List ℕ → Entry
-call_by c request reply released = record { pid = c.pid; k = c.k; request = request; reply = reply; released = released }
+-- the entry of a call that this caller makes at the end of a book
+abbrev pub call_by : Held → Caller → Request → Reply → List ℕ → Entry
+call_by book c request reply released = entry_of (state_of book) c.pid c.k request reply released
 
 -- how many processes were made, those that have exited too
 abbrev pub processes : Held → ℕ

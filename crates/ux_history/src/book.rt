@@ -200,7 +200,7 @@ impl<W: BookName, O: FileObject> Book<W, O> {
         ensures known { OnOk result (knows self.old share.old ≡ true) }
         ensures stranger { IfErr result (λ f. is_stranger f ≡ not (knows self.old share.old)) }
         ensures memory { IfErr result (λ f. is_stranger f ≡ false → f ≡ CallFault.NoMemory) }
-        ensures entry { IfOk result (λ r. Adds self.old self.new (call_by share.old request.now r.reply (map (λ o. o.0) retired.new))) }
+        ensures entry { IfOk result (λ r. Adds self.old self.new (call_by self.old share.old request.now r.reply (map (λ o. o.0) retired.new))) }
         ensures receipt { IfOk result (λ r. r.receipt ≡ next_slip self.old share.old request.now r.reply false) }
         ensures share { OnOk result (share.new ≡ once_more share.old) }
         ensures handed_out { OnOk result (AllByRecursion (IsHandedOut (state_of self.old)) retired.new) }
@@ -231,7 +231,7 @@ impl<W: BookName, O: FileObject> Book<W, O> {
         ensures known { OnOk result (knows self.old share.old ≡ true) }
         ensures stranger { IfErr result (λ f. is_stranger f ≡ not (knows self.old share.old)) }
         ensures memory { IfErr result (λ f. is_stranger f ≡ false → f ≡ CallFault.NoMemory) }
-        ensures entry { IfOk result (λ r. Adds self.old self.new (call_by share.old Request.Fork r.0.reply (map (λ o. o.0) retired.new))) }
+        ensures entry { IfOk result (λ r. Adds self.old self.new (call_by self.old share.old Request.Fork r.0.reply (map (λ o. o.0) retired.new))) }
         ensures receipt { IfOk result (λ r. r.0.receipt ≡ next_slip self.old share.old Request.Fork r.0.reply false) }
         ensures child { IfOk result (λ r. r.1 ≡ child_by Request.Fork r.0.reply) }
         ensures share { OnOk result (share.new ≡ once_more share.old) }
@@ -264,7 +264,7 @@ impl<W: BookName, O: FileObject> Book<W, O> {
         ensures known { OnOk result (knows self.old share.old ≡ true) }
         ensures stranger { IfErr result (λ f. is_stranger f ≡ not (knows self.old share.old)) }
         ensures memory { IfErr result (λ f. is_stranger f ≡ false → f ≡ CallFault.NoMemory) }
-        ensures entry { IfOk result (λ o. IfSome o (λ r. Adds self.old self.new (call_by share.old request.now r.reply (map (λ o. o.0) retired.new)))) }
+        ensures entry { IfOk result (λ o. IfSome o (λ r. Adds self.old self.new (call_by self.old share.old request.now r.reply (map (λ o. o.0) retired.new)))) }
         ensures done { IfOk result (λ o. IfSome o (λ r. should_wait (state_of self.old) share.old.pid.0 request.now r.reply ≡ false)) }
         ensures receipt { IfOk result (λ o. IfSome o (λ r. r.receipt ≡ next_slip self.old share.old request.now r.reply true)) }
         ensures share { IfOk result (λ o. OnSome o (share.new ≡ once_more share.old)) }
@@ -298,7 +298,7 @@ impl<W: BookName, O: FileObject> Book<W, O> {
         ensures known { OnOk result (knows self.old share.old ≡ true) }
         ensures stranger { IfErr result (λ f. is_stranger f ≡ not (knows self.old share.old)) }
         ensures memory { IfErr result (λ f. is_stranger f ≡ false → f ≡ CallFault.NoMemory) }
-        ensures entry { IfOk result (λ o. IfSome o (λ r. Adds self.old self.new (call_by share.old request.now r.0.reply (map (λ o. o.0) retired.new)))) }
+        ensures entry { IfOk result (λ o. IfSome o (λ r. Adds self.old self.new (call_by self.old share.old request.now r.0.reply (map (λ o. o.0) retired.new)))) }
         ensures done { IfOk result (λ o. IfSome o (λ r. tried ≡ true → should_wait (state_of self.old) share.old.pid.0 request.now r.0.reply ≡ false)) }
         ensures receipt { IfOk result (λ o. IfSome o (λ r. r.0.receipt ≡ next_slip self.old share.old request.now r.0.reply tried)) }
         ensures child { IfOk result (λ o. IfSome o (λ r. r.1 ≡ child_by request.now r.0.reply)) }

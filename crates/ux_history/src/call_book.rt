@@ -67,7 +67,7 @@ pub trait CallBook<W: BookName, O: FileObject>: Drop {
         ensures known { OnOk result (knows (held self.old) share.old ≡ true) }
         ensures stranger { IfErr result (λ f. is_stranger f ≡ not (knows (held self.old) share.old)) }
         ensures goes_on { IfErr result (λ f. is_deadlock f ≡ false) }
-        ensures entry { IfOk result (λ r. Adds (held self.old) (held self.new) (call_by share.old request.now r.0 (map (λ o. o.0) retired.new))) }
+        ensures entry { IfOk result (λ r. Adds (held self.old) (held self.new) (call_by (held self.old) share.old request.now r.0 (map (λ o. o.0) retired.new))) }
         ensures slip { IfOk result (λ r. Self.Slip.slip r.1 ≡ next_slip (held self.old) share.old request.now r.0 false) }
         ensures share { OnOk result (share.new ≡ once_more share.old) }
         ensures handed_out { OnOk result (AllByRecursion (IsHandedOut (state_of (held self.old))) retired.new) }
@@ -92,7 +92,7 @@ pub trait CallBook<W: BookName, O: FileObject>: Drop {
         ensures known { OnOk result (knows (held self.old) share.old ≡ true) }
         ensures stranger { IfErr result (λ f. is_stranger f ≡ not (knows (held self.old) share.old)) }
         ensures goes_on { IfErr result (λ f. is_deadlock f ≡ false) }
-        ensures entry { IfOk result (λ o. IfSome o (λ r. Adds (held self.old) (held self.new) (call_by share.old request.now r.0 (map (λ o. o.0) retired.new)))) }
+        ensures entry { IfOk result (λ o. IfSome o (λ r. Adds (held self.old) (held self.new) (call_by (held self.old) share.old request.now r.0 (map (λ o. o.0) retired.new)))) }
         ensures done { IfOk result (λ o. IfSome o (λ r. should_wait (state_of (held self.old)) share.old.pid.0 request.now r.0 ≡ false)) }
         ensures slip { IfOk result (λ o. IfSome o (λ r. Self.Slip.slip r.1 ≡ next_slip (held self.old) share.old request.now r.0 true)) }
         ensures share { IfOk result (λ o. OnSome o (share.new ≡ once_more share.old)) }
@@ -120,7 +120,7 @@ pub trait CallBook<W: BookName, O: FileObject>: Drop {
         ensures known { OnOk result (knows (held self.old) share.old ≡ true) }
         ensures stranger { IfErr result (λ f. is_stranger f ≡ not (knows (held self.old) share.old)) }
         ensures goes_on { IfErr result (λ f. is_deadlock f ≡ false) }
-        ensures entry { IfOk result (λ r. Adds (held self.old) (held self.new) (call_by share.old Request.Fork r.0 (map (λ o. o.0) retired.new))) }
+        ensures entry { IfOk result (λ r. Adds (held self.old) (held self.new) (call_by (held self.old) share.old Request.Fork r.0 (map (λ o. o.0) retired.new))) }
         ensures slip { IfOk result (λ r. Self.Slip.slip r.1 ≡ next_slip (held self.old) share.old Request.Fork r.0 false) }
         ensures child { IfOk result (λ r. r.2 ≡ child_by Request.Fork r.0) }
         ensures share { OnOk result (share.new ≡ once_more share.old) }

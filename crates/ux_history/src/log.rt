@@ -21,7 +21,7 @@ use std::marker::{Model, PhantomData};
 use ux_kernel::Kernel;
 use ux_object::FileObject;
 use ux_state::{Retired, RetiredList};
-use ux_types::{Entry, Errno, MADE_LIMIT, Pid, Released, Reply, Request};
+use ux_types::{Done, Entry, Errno, MADE_LIMIT, Pid, Released, Reply, Request};
 
 /// A kernel with all that was called since its boot state. Contracts see that state, the entries, and how
 /// many entries there is room for; the kernel is at the end of them.
@@ -216,18 +216,20 @@ impl<W: BookName, O: FileObject> Log<W, O> {
         let number = self.entries.len();
         // The kernel says that no more processes were made than are counted.
         let _made = self.kernel.process_count();
-        let reply = self.kernel.step(pid, number as u64, &request, retired);
-        if waits && is_again(&reply) {
+        let done = self.kernel.step(pid, number as u64, &request, retired);
+        if waits && is_again(&done.reply) {
             drop(request);
-            drop(reply);
+            drop(done);
             return None;
         }
+        let Done { reply, delivered } = done;
         let entry = Entry {
             pid,
             k,
             request,
             reply,
             released: numbers_of(retired.as_slice()),
+            delivered,
         };
         note(&mut self.entries, &mut self.calls, entry);
         Some(number)

@@ -4,7 +4,7 @@ ghost use Rattle.ux_history.specs.Pasts.{entries_of};
 
 use std::mem;
 use std::snapshot::Snapshot;
-use ux_types::{Pid, Released, Reply, Request};
+use ux_types::{Done, Pid, Released, Reply, Request};
 
 /// The calls so far, as `entries_of` tells them. Only clauses see them: it takes one byte, however many
 /// they are.
@@ -24,6 +24,7 @@ pub(crate) struct Made {
     request: Snapshot<Request>,
     reply: Snapshot<Reply>,
     released: Snapshot<Released>,
+    delivered: Snapshot<Option<u64>>,
     before: Past,
 }
 
@@ -47,11 +48,13 @@ impl Drop for Made {
             request,
             reply,
             released,
+            delivered,
             before,
         } = self;
         drop(request);
         drop(reply);
         drop(released);
+        drop(delivered);
         drop(before)
     }
 }
@@ -63,17 +66,18 @@ impl Past {
         pid: Pid,
         k: u64,
         request: &Request,
-        reply: &Reply,
+        done: &Done,
         released: &Released,
     )
-        ensures { entries_of self.new ≡ entries_of self.old ++ record { pid = pid; k = k; request = request.now; reply = reply.now; released = released.now } ∷ [] }
+        ensures { entries_of self.new ≡ entries_of self.old ++ record { pid = pid; k = k; request = request.now; reply = done.now.reply; released = released.now; delivered = done.now.delivered } ∷ [] }
     {
         let made = Made {
             pid,
             k,
             request: Snapshot::of(request),
-            reply: Snapshot::of(reply),
+            reply: Snapshot::of(&done.reply),
             released: Snapshot::of(released),
+            delivered: Snapshot::of(&done.delivered),
             before: mem::replace(self, Past::Nothing),
         };
         *self = Past::After(Snapshot::of(&made));

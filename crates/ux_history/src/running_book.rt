@@ -194,7 +194,7 @@ impl<W: Trailing, O: FileObject> RunningBook<W, O> {
         ensures stranger { IfErr result (λ f. is_stranger f ≡ not (knows self.old share.old)) }
         ensures fault { IfErr result (λ f. is_stranger f ≡ false → f ≡ CallFault.Full) }
         ensures full { IfErr result (λ f. is_stranger f ≡ false → 2 ^ 62 ≤ length self.old.entries) }
-        ensures entry { IfOk result (λ r. Adds self.old self.new (call_by share.old request.now r.0 (map (λ o. o.0) retired.new))) }
+        ensures entry { IfOk result (λ r. Adds self.old self.new (call_by self.old share.old request.now r.0 (map (λ o. o.0) retired.new))) }
         ensures witness { IfOk result (λ r. r.1 ≡ next_slip self.old share.old request.now r.0 false) }
         ensures share { OnOk result (share.new ≡ once_more share.old) }
         ensures handed_out { OnOk result (AllByRecursion (IsHandedOut (state_of self.old)) retired.new) }
@@ -225,7 +225,7 @@ impl<W: Trailing, O: FileObject> RunningBook<W, O> {
         ensures stranger { IfErr result (λ f. is_stranger f ≡ not (knows self.old share.old)) }
         ensures fault { IfErr result (λ f. is_stranger f ≡ false → f ≡ CallFault.Full) }
         ensures full { IfErr result (λ f. is_stranger f ≡ false → 2 ^ 62 ≤ length self.old.entries) }
-        ensures entry { IfOk result (λ r. Adds self.old self.new (call_by share.old Request.Fork r.0 (map (λ o. o.0) retired.new))) }
+        ensures entry { IfOk result (λ r. Adds self.old self.new (call_by self.old share.old Request.Fork r.0 (map (λ o. o.0) retired.new))) }
         ensures witness { IfOk result (λ r. r.1 ≡ next_slip self.old share.old Request.Fork r.0 false) }
         ensures child { IfOk result (λ r. r.2 ≡ child_by Request.Fork r.0) }
         ensures share { OnOk result (share.new ≡ once_more share.old) }
@@ -259,7 +259,7 @@ impl<W: Trailing, O: FileObject> RunningBook<W, O> {
         ensures stranger { IfErr result (λ f. is_stranger f ≡ not (knows self.old share.old)) }
         ensures fault { IfErr result (λ f. is_stranger f ≡ false → f ≡ CallFault.Full) }
         ensures full { IfErr result (λ f. is_stranger f ≡ false → 2 ^ 62 ≤ length self.old.entries) }
-        ensures entry { IfOk result (λ o. IfSome o (λ r. Adds self.old self.new (call_by share.old request.now r.0 (map (λ o. o.0) retired.new)))) }
+        ensures entry { IfOk result (λ o. IfSome o (λ r. Adds self.old self.new (call_by self.old share.old request.now r.0 (map (λ o. o.0) retired.new)))) }
         ensures done { IfOk result (λ o. IfSome o (λ r. should_wait (state_of self.old) share.old.pid.0 request.now r.0 ≡ false)) }
         ensures witness { IfOk result (λ o. IfSome o (λ r. r.1 ≡ next_slip self.old share.old request.now r.0 true)) }
         ensures share { IfOk result (λ o. OnSome o (share.new ≡ once_more share.old)) }
@@ -294,7 +294,7 @@ impl<W: Trailing, O: FileObject> RunningBook<W, O> {
         ensures stranger { IfErr result (λ f. is_stranger f ≡ not (knows self.old share.old)) }
         ensures fault { IfErr result (λ f. is_stranger f ≡ false → f ≡ CallFault.Full) }
         ensures full { IfErr result (λ f. is_stranger f ≡ false → 2 ^ 62 ≤ length self.old.entries) }
-        ensures entry { IfOk result (λ o. IfSome o (λ r. Adds self.old self.new (call_by share.old request.now r.0 (map (λ o. o.0) retired.new)))) }
+        ensures entry { IfOk result (λ o. IfSome o (λ r. Adds self.old self.new (call_by self.old share.old request.now r.0 (map (λ o. o.0) retired.new)))) }
         ensures done { IfOk result (λ o. IfSome o (λ r. tried ≡ true → should_wait (state_of self.old) share.old.pid.0 request.now r.0 ≡ false)) }
         ensures witness { IfOk result (λ o. IfSome o (λ r. r.1 ≡ next_slip self.old share.old request.now r.0 tried)) }
         ensures child { IfOk result (λ o. IfSome o (λ r. r.2 ≡ child_by request.now r.0)) }

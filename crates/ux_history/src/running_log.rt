@@ -8,7 +8,7 @@ ghost use Rattle.ux_model.specs.Waiting.{may_wait, is_again};
 ghost use Rattle.ux_model.specs.Step.{Step};
 ghost use Rattle.ux_model.specs.History.{calls_of, has_live, IsLegal};
 ghost use Rattle.ux_model.specs.HandingOut.{IsHandedOut};
-ghost use Rattle.ux_history.specs.Books.{state_of, may_call, ends_of, is_last, Adds};
+ghost use Rattle.ux_history.specs.Books.{state_of, may_call, ends_of, is_last, entry_of, Adds};
 ghost use Rattle.ux_history.specs.Shares.{processes};
 
 use crate::log::{is_again, numbers_of, zeros};
@@ -181,7 +181,7 @@ impl<W: BookName, O: FileObject> RunningLog<W, O> {
         requires call { may_call self.old pid k request.now ≡ true }
         requires empty { retired.old ≡ [] }
         requires few { is_last request.now ≡ false → length self.old.entries < 2 ^ 62 }
-        ensures entry { IfSome result (λ r. Adds self.old self.new (record { pid = pid; k = k; request = request.now; reply = r; released = map (λ o. o.0) retired.new })) }
+        ensures entry { IfSome result (λ r. Adds self.old self.new (entry_of (state_of self.old) pid k request.now r (map (λ o. o.0) retired.new))) }
         ensures done { IfSome result (λ r. waits ≡ true → is_again r ≡ false) }
         ensures fits { OnSome result (k + 1 < 2 ^ 64) }
         ensures handed_out { OnSome result (AllByRecursion (IsHandedOut (state_of self.old)) retired.new) }
@@ -192,15 +192,15 @@ impl<W: BookName, O: FileObject> RunningLog<W, O> {
     {
         // The kernel says that no more processes were made than are counted.
         let _made = self.kernel.process_count();
-        let reply = self.kernel.step(pid, self.number, request, retired);
-        if waits && is_again(&reply) {
-            drop(reply);
+        let done = self.kernel.step(pid, self.number, request, retired);
+        if waits && is_again(&done.reply) {
+            drop(done);
             return None;
         }
         let released = numbers_of(retired.as_slice());
-        self.past.push(pid, k, request, &reply, &released);
+        self.past.push(pid, k, request, &done, &released);
         count(&mut self.number, &mut self.calls, pid, k);
-        Some(reply)
+        Some(done.reply)
     }
 
     /// Makes the last call of a process, or of the layer, for which there is always room.
@@ -214,7 +214,7 @@ impl<W: BookName, O: FileObject> RunningLog<W, O> {
         requires call { may_call self.old pid k request.now ≡ true }
         requires last { is_last request.now ≡ true }
         requires empty { retired.old ≡ [] }
-        ensures entry { Adds self.old self.new (record { pid = pid; k = k; request = request.now; reply = result; released = map (λ o. o.0) retired.new }) }
+        ensures entry { Adds self.old self.new (entry_of (state_of self.old) pid k request.now result (map (λ o. o.0) retired.new)) }
         ensures fits { k + 1 < 2 ^ 64 }
         ensures handed_out { AllByRecursion (IsHandedOut (state_of self.old)) retired.new }
     {

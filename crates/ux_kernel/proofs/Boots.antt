@@ -1,12 +1,13 @@
 -- The state of a kernel that was just made.
 use Rattle.std.proofs.Common.{◌≡◌, ℕ, ◌+◌, Bool, true, false, not, ◌&&◌, ◌||◌, nat_lt, cond, List, [], ◌∷◌, length, map, ◌≤◌, if◌then◌else◌, arith, replicate, Option, Some, None, sym, ◌∙◌, ap, refl}
-use Rattle.std.specs.List.{list_all, list_any, enumerate_from}
+use Rattle.std.specs.Prelude.{min, max}
+use Rattle.std.specs.List.{list_all, list_any, enumerate_from, AllByRecursion}
 use Rattle.std.proofs.lemmas.List.{length-replicate, length-map}
 use Rattle.std.proofs.lemmas.List.Folds.{list_all-map}
 use Rattle.std.proofs.lemmas.Bool.{ltb-false, le-ltb}
 use Rattle.std.proofs.lemmas.Option.{none-some}
 use Rattle.ux_model.specs.Types.{Name, ProcSpec}
-use Rattle.ux_model.specs.Limits.{object_limit, process_limit}
+use Rattle.ux_model.specs.Limits.{object_limit, process_limit, table_limit}
 use Rattle.ux_model.specs.Object.{View}
 use Rattle.ux_model.specs.Process.{Process}
 use Rattle.ux_model.specs.Names.{PathTarget, file, is_valid_path, same_name}
@@ -111,6 +112,13 @@ tables_empty (s ∷ ss) = λ j. table j ∷ tables_empty ss j
     table : (new_process s).table ≡ replicate (length (new_process s).table) None
     table = ap (λ n. replicate n None) (sym (length-replicate _ None))
 
+tables_small : (specs : List ProcSpec) → AllByRecursion (λ P. length (Process.table P) ≤ table_limit) (map new_process specs)
+tables_small [] = tt
+tables_small (s ∷ ss) = (table, tables_small ss)
+  where
+    table : length (new_process s).table ≤ table_limit
+    table = let long : length (new_process s).table ≡ max 1 (min table_limit s.limit) = length-replicate _ None in omega (arith, long)
+
 none_exited : (specs : List ProcSpec) → list_all (λ P. not (Process.exited P)) (map new_process specs) ≡ true
 none_exited [] = refl
 none_exited (s ∷ ss) = none_exited ss
@@ -135,6 +143,7 @@ boots objects specs h =
       no_abstract_names = refl;
       live_processes = none_exited specs;
       empty_tables = tables_empty specs;
+      small_tables = tables_small specs;
       open_objects = all_open objects ∙ f.opened;
       paths = numbers_of 0 objects;
       own_paths = ap are_distinct (names_of 0 objects) ∙ f.distinct;

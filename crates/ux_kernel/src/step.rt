@@ -1,7 +1,8 @@
 //! One call.
-ghost use Rattle.std.specs.Prelude.{◌≡◌, [], map};
+ghost use Rattle.std.specs.Prelude.{◌≡◌, [], map, IfOk, None};
 ghost use Rattle.std.specs.List.{AllByRecursion};
-ghost use Rattle.ux_msg.specs.Answers.{GivesOrFails};
+ghost use Rattle.ux_msg.specs.Answers.{GivesOrFails, reply_of};
+ghost use Rattle.ux_model.specs.Delivered.{delivered_by};
 ghost use Rattle.ux_model.specs.Step.{outcome, Step};
 ghost use Rattle.ux_model.specs.Outcome.{Chosen};
 ghost use Rattle.ux_model.specs.HandingOut.{IsHandedOut};
@@ -11,13 +12,14 @@ use crate::kernel::Kernel;
 use ux_msg::{Outgoing, recv_msg, send_msg};
 use ux_object::FileObject;
 use ux_state::RetiredList;
-use ux_types::{Errno, Pid, Refusal, Reply, Request};
+use ux_types::{Done, Errno, Pid, Refusal, Reply, Request};
 
 impl<O: FileObject> Kernel<O> {
     /// Makes one call of a process that hasn't exited, or the end of the layer once none is left, and
     /// releases what nothing refers to any more: the file objects that went with the call are put into an
     /// empty list by rising number, closed and otherwise as they were. `tag` is the number of the call, which
-    /// a message that it sends keeps. A refusal is the reply. One with ENOMEM leaves the kernel as it was, and
+    /// a message that it sends keeps; the answer tells that of the message of which rights were received. A
+    /// refusal is the reply. One with ENOMEM leaves the kernel as it was, and
     /// close(2), unlink(2), lseek(2), the flags of fcntl(2), listen(2), shutdown(2), getsockopt(2), poll(2),
     /// setsockopt(2) of a queue's limit, execve(2), _exit(2) and the end of the layer never give it.
     #[tactic(auto, unfolding(ux_model::specs::Step::Step))]
@@ -27,36 +29,39 @@ impl<O: FileObject> Kernel<O> {
         tag: u64,
         request: &Request,
         retired: &mut RetiredList<O>,
-    ) -> Reply
+    ) -> Done
         requires caller { IsCaller self.old pid.0 request.now }
         requires empty { retired.old ≡ [] }
-        ensures step { Step self.old pid.0 tag request.now result (map (λ r. r.0) retired.new) self.new }
+        ensures step { Step self.old pid.0 tag request.now result.reply (map (λ r. r.0) retired.new) self.new }
+        ensures told { result.delivered ≡ delivered_by self.old pid.0 request.now result.reply }
         ensures handed_out { AllByRecursion (IsHandedOut self.old) retired.new }
     {
-        let reply = self.call(pid, tag, request);
+        let done = self.call(pid, tag, request);
         self.state.settle(retired);
-        reply
+        done
     }
 
     /// Makes the call, and leaves what it lets go of.
-    fn call(&mut self, pid: Pid, tag: u64, request: &Request) -> Reply
+    fn call(&mut self, pid: Pid, tag: u64, request: &Request) -> Done
         requires { IsCaller self.old pid.0 request.now }
-        ensures { Chosen self.old (outcome self.old pid.0 tag request.now) result self.new }
+        ensures chosen { Chosen self.old (outcome self.old pid.0 tag request.now) result.reply self.new }
+        ensures told { result.delivered ≡ delivered_by self.old pid.0 request.now result.reply }
     {
         match self.dispatch(pid, tag, request) {
-            Ok(reply) => reply,
-            Err(Refusal::Answer(errno)) => Reply::Err(errno),
-            Err(Refusal::NoMemory) => Reply::Err(Errno::ENOMEM),
+            Ok(done) => done,
+            Err(Refusal::Answer(errno)) => refused(errno),
+            Err(Refusal::NoMemory) => refused(Errno::ENOMEM),
         }
     }
 
     /// Hands the call to the function of its name.
     #[tactic(auto, unfolding(ux_model::specs::Step::outcome))]
-    fn dispatch(&mut self, pid: Pid, tag: u64, request: &Request) -> Result<Reply, Refusal>
+    fn dispatch(&mut self, pid: Pid, tag: u64, request: &Request) -> Result<Done, Refusal>
         requires { IsCaller self.old pid.0 request.now }
-        ensures { GivesOrFails self.old (outcome self.old pid.0 tag request.now) result self.new }
+        ensures gives { GivesOrFails self.old (outcome self.old pid.0 tag request.now) (reply_of result) self.new }
+        ensures told { IfOk result (λ done. done.delivered ≡ delivered_by self.old pid.0 request.now done.reply) }
     {
-        match request {
+        let answer = match request {
             Request::Open { path, mode, flags } => self.open_file(pid, path, *mode, *flags),
             Request::Read { fd, n } => self.read(pid, *fd, *n),
             Request::Write { fd, bytes } => self.write(pid, tag, *fd, bytes.as_slice()),
@@ -97,12 +102,30 @@ impl<O: FileObject> Kernel<O> {
                 n,
                 space,
                 flags,
-            } => recv_msg(&mut self.state, self.alloc, pid, *fd, *n, *space, *flags),
+            } => return recv_msg(&mut self.state, self.alloc, pid, *fd, *n, *space, *flags),
             Request::Poll { fd } => self.poll(pid, *fd),
             Request::Fork => self.fork(pid),
             Request::Exec => Ok(self.exec(pid)),
             Request::Exit => Ok(self.exit(pid)),
             Request::Off => Ok(self.off()),
+        };
+        match answer {
+            Ok(reply) => Ok(Done {
+                reply,
+                delivered: None,
+            }),
+            Err(refusal) => Err(refusal),
         }
+    }
+}
+
+/// The answer of a call that was refused.
+fn refused(errno: Errno) -> Done
+    ensures reply { result.reply ≡ Reply.Err errno }
+    ensures none { result.delivered ≡ None }
+{
+    Done {
+        reply: Reply::Err(errno),
+        delivered: None,
     }
 }

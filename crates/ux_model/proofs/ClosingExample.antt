@@ -25,7 +25,7 @@ abbrev boot : State
 boot = with_files ((codes "f", memory (codes "hi")) ∷ [])
 
 abbrev entry : ℕ → Request → Reply → List ℕ → Entry
-entry k request reply released = record { pid = record { 0 = 1 }; k = k; request = request; reply = reply; released = released }
+entry k request reply released = record { pid = record { 0 = 1 }; k = k; request = request; reply = reply; released = released; delivered = None }
 
 -- a file is opened, its path is taken away, another descriptor is refused, and the file goes with the last one
 abbrev opening : Entry
@@ -44,23 +44,23 @@ abbrev before : List Entry
 before = opening ∷ unlinking ∷ failing_close ∷ []
 
 boots : IsBootState boot
-boots = record { no_descriptions = refl; no_abstract_names = refl; live_processes = refl; empty_tables = refl; open_objects = refl; paths = refl; own_paths = refl }
+boots = record { no_descriptions = refl; no_abstract_names = refl; live_processes = refl; empty_tables = refl; small_tables = (omega arith, tt); open_objects = refl; paths = refl; own_paths = refl }
 
 first : MayFollow boot [] opening
 unfolding computing
-first = record { steps = (_, own refl refl, refl, refl); numbered = refl; allowed = refl }
+first = record { steps = (_, own refl refl, refl, refl); numbered = refl; allowed = refl; told = refl }
 
 second : MayFollow boot (opening ∷ []) unlinking
 unfolding computing
-second = record { steps = (_, own refl refl, refl, refl); numbered = refl; allowed = refl }
+second = record { steps = (_, own refl refl, refl, refl); numbered = refl; allowed = refl; told = refl }
 
 third : MayFollow boot (opening ∷ unlinking ∷ []) failing_close
 unfolding computing
-third = record { steps = (_, own refl refl, refl, refl); numbered = refl; allowed = refl }
+third = record { steps = (_, own refl refl, refl, refl); numbered = refl; allowed = refl; told = refl }
 
 fourth : MayFollow boot before closing
 unfolding computing
-fourth = record { steps = (_, own refl refl, refl, refl); numbered = refl; allowed = refl }
+fourth = record { steps = (_, own refl refl, refl, refl); numbered = refl; allowed = refl; told = refl }
 
 legal_so_far : IsLegal boot before
 legal_so_far = legal_push boot _ _ (legal_push boot _ _ (legal_push boot [] _ (legal_empty boot boots) first) second) third

@@ -54,7 +54,7 @@ one_more m front whole f = record { rest = f.rest; is = ap (λ xs. m ∷ xs) f.i
 none_of : (whole : List Message) → IsFront [] whole
 none_of whole = record { rest = whole; is = refl }
 
-cred_front : (cred : Cred) (q : List Message) → IsFront (front_with_cred cred q) q
+pub cred_front : (cred : Cred) (q : List Message) → IsFront (front_with_cred cred q) q
 cred_front cred [] = none_of []
 cred_front cred (m ∷ ms) = go (cred_front cred ms) (same_cred m.cred cred)
   where

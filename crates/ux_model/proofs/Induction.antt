@@ -43,11 +43,11 @@ kept_throughout boot P keeps es legal =
 
 -- ---- the last entry
 
-get_pushed : {X : Type 0} (xs : List X) (x : X) → slice_get (xs ++ x ∷ []) (length xs) ≡ Some x
+pub get_pushed : {X : Type 0} (xs : List X) (x : X) → slice_get (xs ++ x ∷ []) (length xs) ≡ Some x
 get_pushed [] x = refl
 get_pushed (y ∷ xs) x = get_pushed xs x
 
-take_pushed : {X : Type 0} (xs ys : List X) → take (length xs) (xs ++ ys) ≡ xs
+pub take_pushed : {X : Type 0} (xs ys : List X) → take (length xs) (xs ++ ys) ≡ xs
 take_pushed [] ys = refl
 take_pushed (y ∷ xs) ys = ap (λ l. y ∷ l) (take_pushed xs ys)
 

@@ -41,6 +41,18 @@ pub mod ReplySizes
 pub mod Closed
 pub mod HandingOut
 pub mod FreeChoices
+pub mod ByPlace
+pub mod Rising
+pub mod Queues
+pub mod Replacing
+pub mod Shows
+pub mod Carried
+pub mod Mail
+pub mod Moments
+pub mod Passing
+pub mod OneChain
+pub mod OneDescription
+pub mod SmallTables
 mod Play
 mod StreamExamples
 mod DatagramExamples

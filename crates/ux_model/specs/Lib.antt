@@ -37,6 +37,7 @@ pub mod Options
 pub mod Readiness
 pub mod Closing
 pub mod Forking
+pub mod Delivered
 pub mod Step
 pub mod Waiting
 pub mod Rooms
@@ -49,6 +50,10 @@ pub mod Boot
 pub mod Owning
 pub mod History
 pub mod Invariants
+pub mod Giving
+pub mod Changes
+pub mod Pedigree
+pub mod PedigreeLaws
 pub mod ReadyCalls
 pub mod FlightLaws
 pub mod RoomLaws

@@ -12,6 +12,8 @@ ghost use Rattle.ux_model.specs.Invariants.{NoneLeftUnreferenced, SettlesAtOnce,
 ghost use Rattle.ux_model.specs.ReadyCalls.{TellsInput, TellsRoom};
 ghost use Rattle.ux_model.specs.FlightLaws.{FlightIsLimited};
 ghost use Rattle.ux_model.specs.RoomLaws.{RepliesFit};
+ghost use Rattle.ux_model.specs.Changes.{StepChangesTables, TablesStaySmall};
+ghost use Rattle.ux_model.specs.PedigreeLaws.{MessagesAreSent, ChainIsOne, PedigreeIsOfOne, HoldsOnlyItsOwn};
 ghost use Rattle.ux_model.specs.Owning.{NameGoes};
 ghost use Rattle.ux_model.specs.Moves.{ProcessCounts, ChildCounts, SocketCounts, NewCounts, NewCountsAtObject, SameTargetCountsAlike, TakenPathCountsNot};
 
@@ -229,4 +231,40 @@ pub fn rights_in_flight_are_limited()
 #[tactic(auto, using(crate::proofs::ReplySizes::replies_fit))]
 pub fn replies_fit_their_room()
     ensures { RepliesFit }
+{}
+
+/// A call shows by its request and its reply how it changes the descriptor tables: which numbers it gives and
+/// what they lead to, which it takes away, and that all others stay.
+pub fn a_call_shows_its_changes()
+    ensures { StepChangesTables }
+{}
+
+/// Each message with rights that nobody has received was sent by the entry that its tag names, and its rights
+/// are the descriptions that the numbers of that send led to then.
+#[tactic(auto, using(crate::proofs::Mail::messages_are_sent))]
+pub fn waiting_rights_were_sent()
+    ensures { MessagesAreSent }
+{}
+
+/// A holding has one pedigree at most.
+pub fn a_holding_has_one_pedigree()
+    ensures { ChainIsOne }
+{}
+
+/// All holdings of a pedigree lead to one open file description, and so does the descriptor at the history's
+/// end.
+#[tactic(auto, using(crate::proofs::OneDescription::pedigree_is_of_one))]
+pub fn pedigree_is_of_one_description()
+    ensures { PedigreeIsOfOne }
+{}
+
+/// A process that was sent nothing holds only what it made, copied or inherited.
+pub fn who_was_sent_nothing_holds_only_its_own()
+    ensures { HoldsOnlyItsOwn }
+{}
+
+/// No descriptor table of a legal history has more places than one may have.
+#[tactic(auto, using(crate::proofs::SmallTables::tables_stay_small))]
+pub fn tables_stay_small()
+    ensures { TablesStaySmall }
 {}

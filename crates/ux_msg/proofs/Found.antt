@@ -1,11 +1,11 @@
 -- What a number of a process leads to.
 use Rattle.std.proofs.Common.{◌≡◌, ℕ, ◌<◌, ◌≤◌, length, Bool, true, false, not, ◌⊎◌, inl, inr, if◌then◌else◌, List, Option, Some, None, Result, Ok, Err, sym, ◌∙◌, ap, subst, refl}
-use Rattle.std.specs.Prelude.{IsSomeAnd, option_and_then}
+use Rattle.std.specs.Prelude.{IsSomeAnd, IfOk, option_and_then}
 use Rattle.std.proofs.lemmas.Option.{none-some}
 use Rattle.std.proofs.lemmas.List.{get_or_past}
 use Rattle.std.proofs.lemmas.Bool.{cases_lt}
-use Rattle.ux_model.specs.Types.{Errno, Refusal, Fd, Addr, SockType, MsgFlags, Reply}
-use Rattle.ux_model.specs.Flags.{are_send_flags, are_receive_flags}
+use Rattle.ux_model.specs.Types.{Errno, Refusal, Fd, Addr, SockType, MsgFlags, Request, Reply, Done}
+use Rattle.ux_model.specs.Flags.{are_send_flags, are_receive_flags, no_flags}
 use Rattle.ux_model.specs.Control.{Control}
 use Rattle.ux_model.specs.ControlReading.{control_in}
 use Rattle.ux_model.specs.Names.{PathTarget, file, bound, named}
@@ -19,9 +19,10 @@ use Rattle.ux_model.specs.References.{refs}
 use Rattle.ux_model.proofs.Named.{entry_counts}
 use Rattle.ux_model.specs.Outcome.{Outcome, refuse, descriptor_at, find_description, find_socket, on_socket, as_process}
 use Rattle.ux_msg.specs.Answers.{Gives}
-use Rattle.ux_model.specs.Receiving.{receive, recv_msg}
+use Rattle.ux_model.specs.Receiving.{receive, recv_msg, bytes_alone, read_socket}
 use Rattle.ux_model.specs.Sending.{send_to_target, send_by_name, send_with, send_read, reading_control, send_msg}
-use Rattle.ux_msg.specs.Receipts.{receive_at}
+use Rattle.ux_msg.specs.Receipts.{receive_at, read_socket_at, brought_at}
+use Rattle.ux_model.specs.Delivered.{Brought, nothing_brought, brought_from, brought, told_of, delivered_by}
 use Rattle.ux_msg.specs.Sendings.{send_with_at}
 
 -- the entry, and its description
@@ -97,6 +98,28 @@ pub received_gives : (S T : State) (p : ℕ) (fd : Fd) (n space : ℕ) (flags : 
 received_gives S T p fd n space flags d k s r h ok g same =
     let P : Outcome → Type 0 = λ o. Gives S o r T in
     subst P (ap (λ x. receive_at S p x n space flags) same ∙ received_at S p fd n space flags d s h ok) g
+
+-- and what it brings is what the call does
+pub received_told : (S : State) (p : ℕ) (fd : Fd) (n space : ℕ) (flags : MsgFlags) (d k : ℕ) (s : Socket) (r : Result Done Refusal) → find_socket S p fd ≡ Ok (d, s) → k ≡ d →
+    IfOk r (λ done. done.delivered ≡ told_of (brought_at S p k n space) done.reply) → IfOk r (λ done. done.delivered ≡ delivered_by S p (Request.RecvMsg fd n space flags) done.reply)
+received_told S p fd n space flags d k s r h same told =
+    let here : socket_at S k ≡ Some s = ap (socket_at S) same ∙ socket_found S p fd d s h in
+    let there : brought_at S p k n space ≡ brought_from s n space (table_of S p) s.queue =
+    ap (λ o. elim o as (λ _. Brought) [ None ↦ nothing_brought | Some s ↦ brought_from s n space (table_of S p) s.queue ]) here in
+    let call : brought S p (Request.RecvMsg fd n space flags) ≡ brought_from s n space (table_of S p) s.queue =
+    ap (λ r. elim r as (λ _. Brought) [ Err e ↦ nothing_brought | Ok w ↦ brought_from w.1 n space (table_of S p) w.1.queue ]) h in
+    subst (λ (b : Brought). IfOk r (λ done. done.delivered ≡ told_of b done.reply)) (there ∙ sym call) told
+
+-- read(2) tells the bytes alone
+pub read_gives : (S T : State) (p d n : ℕ) (bytes reply : Reply) → bytes ≡ bytes_alone reply → (reply ≡ (receive_at S p d n 0 no_flags).reply) × (T ≡ (receive_at S p d n 0 no_flags).next) →
+    (bytes ≡ (read_socket_at S p d n).reply) × (T ≡ (read_socket_at S p d n).next)
+read_gives S T p d n bytes reply alone g = go (socket_at S d) g
+  where
+    go : (o : Option Socket) → let receives : Option Socket → Outcome = λ o. elim o as (λ _. Outcome) [ None ↦ refuse S Errno.EBADF | Some s ↦ receive S p d s n 0 no_flags ] in
+        let reads : Option Socket → Outcome = λ o. elim o as (λ _. Outcome) [ None ↦ refuse S Errno.EBADF | Some s ↦ read_socket S p d s n ] in
+        (reply ≡ (receives o).reply) × (T ≡ (receives o).next) → (bytes ≡ (reads o).reply) × (T ≡ (reads o).next)
+    go None g = (alone ∙ ap bytes_alone g.0, g.1)
+    go (Some s) g = (alone ∙ ap bytes_alone g.0, g.1)
 
 -- ---- by its name
 

@@ -1,6 +1,6 @@
 -- What a function that makes a call answers and leaves, beside the outcome of the call.
-use Rattle.std.specs.Prelude.{◌≡◌, ◌⊎◌, IsTrue, Some, Result, Err, MatchResult}
-use Rattle.ux_model.specs.Types.{Errno, Refusal, Reply}
+use Rattle.std.specs.Prelude.{◌≡◌, ◌⊎◌, IsTrue, Some, Result, Ok, Err, MatchResult}
+use Rattle.ux_model.specs.Types.{Errno, Refusal, Reply, Done}
 use Rattle.ux_model.specs.State.{State}
 use Rattle.ux_model.specs.Outcome.{Outcome}
 
@@ -18,3 +18,8 @@ Gives S outcome answer T = MatchResult answer
 -- and where a file object may fail
 abbrev pub GivesOrFails : State → Outcome → Result Reply Refusal → State → Type 0
 GivesOrFails S outcome answer T = Gives S outcome answer T ⊎ ((answer ≡ Err (Refusal.Answer Errno.EIO)) × (outcome.failure ≡ Some T))
+
+-- the reply of an answer that tells of rights besides
+abbrev pub reply_of : Result Done Refusal → Result Reply Refusal
+reply_of (Ok done) = Ok done.reply
+reply_of (Err refusal) = Err refusal

@@ -1,5 +1,5 @@
 //! How rights and credentials come to a receiver (recvmsg(2), cmsg(3)).
-ghost use Rattle.std.specs.Prelude.{◌≡◌, IsTrue, IfOk, OnOk, OnErr, Some, None, if◌then◌else◌, map, take, length};
+ghost use Rattle.std.specs.Prelude.{◌≡◌, ◌==◌, not, IsTrue, IfOk, OnOk, OnErr, Some, None, if◌then◌else◌, map, take, length};
 ghost use Rattle.ux_model.specs.State.{is_live, table_of, with_table};
 ghost use Rattle.ux_model.specs.Process.{free_numbers};
 ghost use Rattle.ux_model.specs.Delivery.{delivery, installed, install_count, writes_cred, space_for_rights};
@@ -26,6 +26,8 @@ pub(crate) struct Delivered {
     pub(crate) control: Vec<u8>,
     /// Whether something was left out that came with the bytes (MSG_CTRUNC).
     pub(crate) truncated: bool,
+    /// Whether at least one right was installed.
+    pub(crate) installs: bool,
 }
 
 /// How a receiver wants what comes with the bytes.
@@ -57,6 +59,7 @@ pub(crate) fn deliver<O: FileObject>(
     requires held { AreReferenced state.old received.now.rights }
     ensures control { IfOk result (λ r. r.control.items ≡ (delivery wanted.cred received.now.cred received.now.rights wanted.space (table_of state.old pid.0)).control) }
     ensures truncated { IfOk result (λ r. r.truncated ≡ (delivery wanted.cred received.now.cred received.now.rights wanted.space (table_of state.old pid.0)).truncated) }
+    ensures installs { IfOk result (λ r. r.installs ≡ not (length (delivery wanted.cred received.now.cred received.now.rights wanted.space (table_of state.old pid.0)).numbers == 0)) }
     ensures installed { OnOk result (state.new ≡ with_table state.old pid.0 (installed wanted.cloexec
         (delivery wanted.cred received.now.cred received.now.rights wanted.space (table_of state.old pid.0)).numbers received.now.rights (table_of state.old pid.0))) }
     ensures err { OnErr result (state.new ≡ state.old) }
@@ -65,12 +68,14 @@ pub(crate) fn deliver<O: FileObject>(
     let told = cred_told(wanted, received.cred);
     let numbers = find_numbers(state, alloc, pid, rights.len(), space_for_rights(wanted))?;
     let truncated = numbers.len() < rights.len() || (wanted.cred && told.is_none());
+    let installs = !numbers.is_empty();
     let control = Control::new(told, numbers);
     let bytes = write_control(alloc, &control)?;
     state.install_rights(pid, control.rights(), rights, wanted.cloexec)?;
     Ok(Delivered {
         control: bytes,
         truncated,
+        installs,
     })
 }
 

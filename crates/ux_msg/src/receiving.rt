@@ -1,21 +1,24 @@
 //! Receiving at a socket (recvmsg(2), read(2)).
-ghost use Rattle.std.specs.Prelude.{◌≡◌, ◌<◌, nat_lt, if◌then◌else◌, IsTrue, IsSomeAnd, length};
+ghost use Rattle.std.specs.Prelude.{◌≡◌, ◌<◌, nat_lt, if◌then◌else◌, IsTrue, IsSomeAnd, IfOk, None, option_map, length};
 ghost use Rattle.ux_model.specs.Flags.{asks_real_length, are_receive_flags, received_flags};
 ghost use Rattle.ux_model.specs.Socket.{marks_records};
 ghost use Rattle.ux_model.specs.Front.{OnFront};
 ghost use Rattle.ux_model.specs.State.{is_live, socket_at};
 ghost use Rattle.ux_state.specs.Moves.{IsSocketAt};
-ghost use Rattle.ux_msg.specs.Answers.{Gives};
+ghost use Rattle.ux_model.specs.Types.{Request};
+ghost use Rattle.ux_model.specs.Delivered.{told_of, delivered_by};
+ghost use Rattle.ux_msg.specs.Answers.{Gives, reply_of};
 ghost use Rattle.ux_model.specs.Receiving as model;
-ghost use Rattle.ux_msg.specs.Receipts.{receive_at, receive_nothing_at, read_socket_at};
+ghost use Rattle.ux_msg.specs.Receipts.{receive_at, receive_nothing_at, read_socket_at, brought_at};
 
 use crate::delivering::{Delivered, Wanted, deliver};
 use bitflags::Flags;
 use std::alloc::Global;
 use ux_object::FileObject;
 use ux_record::Received;
+use ux_rights::Origin;
 use ux_state::State;
-use ux_types::{Bytes, DescriptionId, Errno, Fd, MsgFlags, Pid, Refusal, Reply, SockType};
+use ux_types::{Bytes, DescriptionId, Done, Errno, Fd, MsgFlags, Pid, Refusal, Reply, SockType};
 
 /// recvmsg(2) of at most n bytes, with room for `space` bytes of control. The process lives.
 ///
@@ -33,9 +36,10 @@ pub fn recv_msg<O: FileObject>(
     n: usize,
     space: usize,
     flags: MsgFlags,
-) -> Result<Reply, Refusal>
+) -> Result<Done, Refusal>
     requires { IsTrue (is_live state.old pid.0) }
-    ensures { Gives state.old (model.recv_msg state.old pid.0 fd n space flags) result state.new }
+    ensures gives { Gives state.old (model.recv_msg state.old pid.0 fd n space flags) (reply_of result) state.new }
+    ensures told { IfOk result (λ done. done.delivered ≡ delivered_by state.old pid.0 (Request.RecvMsg fd n space flags) done.reply) }
 {
     let id = match state.find_socket(pid, fd) {
         Ok((id, _)) => id,
@@ -63,8 +67,8 @@ pub fn read_socket<O: FileObject>(
     requires { IsTrue (is_live state.old pid.0) }
     ensures { Gives state.old (read_socket_at state.old pid.0 id n) result state.new }
 {
-    let reply = recv_at(state, alloc, pid, id, n, 0, MsgFlags(0))?;
-    Ok(bytes_alone(reply))
+    let done = recv_at(state, alloc, pid, id, n, 0, MsgFlags(0))?;
+    Ok(bytes_alone(done.reply))
 }
 
 /// What read(2) tells of a reply to recvmsg(2).
@@ -86,9 +90,10 @@ fn recv_at<O: FileObject>(
     n: usize,
     space: usize,
     flags: MsgFlags,
-) -> Result<Reply, Refusal>
+) -> Result<Done, Refusal>
     requires { IsTrue (is_live state.old pid.0) }
-    ensures { Gives state.old (receive_at state.old pid.0 id n space flags) result state.new }
+    ensures gives { Gives state.old (receive_at state.old pid.0 id n space flags) (reply_of result) state.new }
+    ensures told { IfOk result (λ done. done.delivered ≡ told_of (brought_at state.old pid.0 id n space) done.reply) }
 {
     let Some(socket) = state.socket(id) else {
         return Err(Refusal::Answer(Errno::EBADF));
@@ -115,10 +120,11 @@ fn recv_from_peer<O: FileObject>(
     n: usize,
     space: usize,
     flags: MsgFlags,
-) -> Result<Reply, Refusal>
+) -> Result<Done, Refusal>
     requires live { IsTrue (is_live state.old pid.0) }
     requires socket { IsSocketAt state.old id }
-    ensures { IsSomeAnd (socket_at state.old id) (λ s. Gives state.old (model.receive_from_peer state.old pid.0 id s n space flags) result state.new) }
+    ensures gives { IsSomeAnd (socket_at state.old id) (λ s. Gives state.old (model.receive_from_peer state.old pid.0 id s n space flags) (reply_of result) state.new) }
+    ensures told { IfOk result (λ done. done.delivered ≡ told_of (brought_at state.old pid.0 id n space) done.reply) }
 {
     let Some(socket) = state.socket(id) else {
         unreachable!();
@@ -146,11 +152,12 @@ fn recv_front<O: FileObject>(
     n: usize,
     space: usize,
     flags: MsgFlags,
-) -> Result<Reply, Refusal>
+) -> Result<Done, Refusal>
     requires live { IsTrue (is_live state.old pid.0) }
     requires some { IsSomeAnd (socket_at state.old id) (λ s. 0 < length s.queue) }
-    ensures { IsSomeAnd (socket_at state.old id) (λ s. OnFront n s (λ front.
-        Gives state.old (model.receive_front state.old pid.0 id s space flags front) result state.new)) }
+    ensures gives { IsSomeAnd (socket_at state.old id) (λ s. OnFront n s (λ front.
+        Gives state.old (model.receive_front state.old pid.0 id s space flags front) (reply_of result) state.new)) }
+    ensures told { IfOk result (λ done. done.delivered ≡ told_of (brought_at state.old pid.0 id n space) done.reply) }
 {
     let Some(socket) = state.socket(id) else {
         unreachable!();
@@ -162,11 +169,26 @@ fn recv_front<O: FileObject>(
     };
     let kind = socket.kind();
     let front = socket.peek(n)?;
-    let delivered = deliver(state, alloc, pid, &front, wanted)?;
+    let delivery = deliver(state, alloc, pid, &front, wanted)?;
     if !flags.contains(MsgFlags::PEEK) {
         state.skip_front(id, n);
     }
-    Ok(received(kind, flags, front, delivered))
+    let delivered = tag_delivered(front.origin, delivery.installs);
+    Ok(Done {
+        reply: received(kind, flags, front, delivery),
+        delivered,
+    })
+}
+
+/// The tag of the message that rights are of, where at least one of them was installed.
+fn tag_delivered(origin: Option<Origin>, installs: bool) -> Option<u64>
+    ensures { result ≡ (if installs then option_map (λ o. o.tag) origin else None) }
+{
+    if !installs {
+        return None;
+    }
+    let Origin { tag, .. } = origin?;
+    Some(tag)
 }
 
 /// What a receive answers where nothing waits, at a socket with this peer.
@@ -175,8 +197,9 @@ fn recv_nothing<O: FileObject>(
     alloc: Global,
     id: DescriptionId,
     peer: DescriptionId,
-) -> Result<Reply, Refusal>
-    ensures { Gives state.old (receive_nothing_at state.old id peer) result state.new }
+) -> Result<Done, Refusal>
+    ensures gives { Gives state.old (receive_nothing_at state.old id peer) (reply_of result) state.new }
+    ensures none { IfOk result (λ done. done.delivered ≡ None) }
 {
     let Some(socket) = state.socket(id) else {
         return Err(Refusal::Answer(Errno::EBADF));
@@ -195,9 +218,9 @@ fn recv_nothing<O: FileObject>(
 
 /// The reply that tells what was received at a socket of this type by a call with these flags, and what was
 /// delivered with it.
-fn received(kind: SockType, flags: MsgFlags, front: Received, delivered: Delivered) -> Reply
+fn received(kind: SockType, flags: MsgFlags, front: Received, delivery: Delivered) -> Reply
     ensures { result ≡ Reply.Received (if asks_real_length flags then front.whole else length front.bytes.items) front.bytes.items
-        (received_flags (nat_lt (length front.bytes.items) front.whole) delivered.truncated (marks_records kind)) delivered.control.items front.from }
+        (received_flags (nat_lt (length front.bytes.items) front.whole) delivery.truncated (marks_records kind)) delivery.control.items front.from }
 {
     let taken = front.bytes.len();
     let count = if flags.contains(MsgFlags::TRUNC) {
@@ -207,13 +230,9 @@ fn received(kind: SockType, flags: MsgFlags, front: Received, delivered: Deliver
     };
     Reply::Received {
         count,
-        flags: flags_told(
-            taken < front.whole,
-            delivered.truncated,
-            marks_records(kind),
-        ),
+        flags: flags_told(taken < front.whole, delivery.truncated, marks_records(kind)),
         bytes: Bytes::new(front.bytes),
-        control: Bytes::new(delivered.control),
+        control: Bytes::new(delivery.control),
         from: front.from,
     }
 }
@@ -242,16 +261,21 @@ fn marks_records(kind: SockType) -> bool
     matches!(kind, SockType::Seq)
 }
 
-/// The reply that tells of nothing. It takes no memory.
-fn nothing_received(alloc: Global) -> Reply
-    ensures { result ≡ model.nothing_received }
+/// The answer that tells of nothing. It takes no memory.
+fn nothing_received(alloc: Global) -> Done
+    ensures reply { result.reply ≡ model.nothing_received }
+    ensures none { result.delivered ≡ None }
 {
-    Reply::Received {
+    let reply = Reply::Received {
         count: 0,
         bytes: Bytes::new(Vec::new(alloc)),
         flags: MsgFlags(0),
         control: Bytes::new(Vec::new(alloc)),
         from: None,
+    };
+    Done {
+        reply,
+        delivered: None,
     }
 }
 

@@ -1,7 +1,13 @@
 use Rattle.std.proofs.Common.{rules}
-use Rattle.ux_msg.proofs.Found.{received_gives}
+use Rattle.ux_msg.specs.Answers.{reply_of}
+use Rattle.ux_msg.proofs.Found.{received_gives, received_told}
 use Rattle.ux_msg.proofs.receiving.recv_msg.Goals as goal
 
-pub returns : goal.returns
-returns g c =
-    received_gives c.args.state.now c.recv_at.new.state c.args.pid.0 c.args.fd c.args.n c.args.space c.args.flags c.in-Ok.id _ c.in-Ok.field-0-1.now c.recv_at.result c.in-Ok.ensures (search rules) c.recv_at.ensures (search rules)
+pub returns-clause-gives : goal.returns-clause-gives
+returns-clause-gives g c =
+    received_gives c.args.state.now c.recv_at.new.state c.args.pid.0 c.args.fd c.args.n c.args.space c.args.flags c.in-Ok.id _ c.in-Ok.field-0-1.now (reply_of c.recv_at.result) c.in-Ok.ensures (search rules)
+    c.recv_at.ensures.gives (search rules)
+
+pub returns-clause-told : goal.returns-clause-told
+returns-clause-told g c =
+    received_told c.args.state.now c.args.pid.0 c.args.fd c.args.n c.args.space c.args.flags c.in-Ok.id _ c.in-Ok.field-0-1.now c.recv_at.result c.in-Ok.ensures (search rules) c.recv_at.ensures.told

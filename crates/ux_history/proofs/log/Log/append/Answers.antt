@@ -1,4 +1,4 @@
-use Rattle.std.proofs.Common.{◌≡◌, ◌++◌, ◌∷◌, [], ◌==◌, map, length, vec_capacity, ap, sym, subst, ◌∙◌, arith}
+use Rattle.std.proofs.Common.{◌≡◌, ◌++◌, ◌∷◌, [], ◌==◌, map, length, vec_capacity, refl, ap, sym, subst, ◌∙◌, arith}
 use Rattle.std.proofs.lemmas.Bool.{false≢true}
 use Rattle.std.proofs.lemmas.List.{nil_from_length, length-map}
 use Rattle.std.proofs.lemmas.List.Sums.{count_by-le-length}
@@ -6,7 +6,7 @@ use Rattle.ux_model.specs.Types.{Reply, Errno, Entry}
 use Rattle.ux_model.specs.State.{State}
 use Rattle.ux_model.specs.Step.{Step}
 use Rattle.ux_model.specs.History.{MayFollow}
-use Rattle.ux_history.specs.Books.{Held, state_of}
+use Rattle.ux_history.specs.Books.{Held, state_of, entry_of}
 use Rattle.ux_history.specs.Logs.{Kept, IsLog}
 use Rattle.ux_history.proofs.Legal.{few_from, Pushed, Waited, log_push, waited, room_for_one, room_now, caller_inside, allowed_now, counted_now}
 use Rattle.ux_history.proofs.log.Log.append.Given.{Over}
@@ -15,11 +15,11 @@ use Rattle.ux_history.proofs.log.Log.append.Goals.{else-waits-via-then-waits+els
 
 -- ---- where the call would have to wait
 
-idle : (g : Over) (c : goal.After-drop-then-is_again g) → Waited g.W.BookName.boot c.self.inside.kernel c.step-reply.new.self c.self.inside.entries.items c.args.pid.0 c.args.request (map (λ r. r.0) c.step-reply.new.retired)
+idle : (g : Over) (c : goal.After-drop-then-is_again g) → Waited g.W.BookName.boot c.self.inside.kernel c.step-done.new.self c.self.inside.entries.items c.args.pid.0 c.args.request (map (λ r. r.0) c.step-done.new.retired)
 idle g c =
-    waited g.W.BookName.boot c.self.inside.kernel c.step-reply.new.self c.self.inside.entries.items c.args.pid.0 c.len-number.result c.args.request c.step-reply.result (map (λ r. r.0) c.step-reply.new.retired)
+    waited g.W.BookName.boot c.self.inside.kernel c.step-done.new.self c.self.inside.entries.items c.args.pid.0 c.len-number.result c.args.request c.step-done.result.reply (map (λ r. r.0) c.step-done.new.retired)
     c.self.invariant.legal c.self.invariant.at_replay (sym c.is_again.ensures ∙ c.if-is_again.true)
-    (omega (arith, c.len-number.ensures, c.self.inside.entries.ok.0)) c.step-reply.ensures.step
+    (omega (arith, c.len-number.ensures, c.self.inside.entries.ok.0)) c.step-done.ensures.step
 
 pub invariant_of-self : goal.invariant_of-self
 invariant_of-self g c =
@@ -30,7 +30,7 @@ returns-then-is_again-clause-again g c =
     subst (λ (k : Kept). Step (state_of k.book) c.args.pid.0 (length k.book.entries) c.args.request (Reply.Err Errno.EAGAIN) [] (state_of k.book)) c.self.view_is (idle g c).again
 
 pub returns-then-is_again-clause-none : goal.returns-then-is_again-clause-none
-returns-then-is_again-clause-none g c = nil_from_length c.step-reply.new.retired (sym (length-map c.step-reply.new.retired (λ r. r.0)) ∙ ap length (idle g c).none)
+returns-then-is_again-clause-none g c = nil_from_length c.step-done.new.retired (sym (length-map c.step-done.new.retired (λ r. r.0)) ∙ ap length (idle g c).none)
 
 -- ---- where it is an entry
 
@@ -52,35 +52,35 @@ note-requires-clause-room g c =
     let boot = g.W.BookName.boot in
     let view = c.self.view_is in
     let allowed = allowed_now _ _ _ _ _ c.args.self.now c.args.pid c.args.k c.args.request c.self.invariant view c.requires.call in
-    let e : Entry = record { pid = c.args.pid; k = c.args.k; request = c.args.request; reply = c.step-reply.result; released = map (λ r. r.0) c.step-reply.new.retired } in
-    let one = room_for_one boot old.kernel c.step-reply.new.self old.entries.items old.calls.items (vec_capacity old.entries) e c.len-number.result c.self.invariant allowed
+    let e = entry_of old.kernel c.args.pid c.args.k c.args.request c.step-done.result.reply (map (λ r. r.0) c.step-done.new.retired) in
+    let one = room_for_one boot old.kernel c.step-done.new.self old.entries.items old.calls.items (vec_capacity old.entries) e c.len-number.result c.self.invariant allowed
     (counted_now _ _ _ c.args.self.now c.args.pid c.args.k c.args.request view c.requires.call)
-    (room_now boot old.kernel old.entries.items old.calls.items _ c.args.self.now c.args.request c.self.invariant view c.requires.room) c.step-reply.ensures.step in
+    (room_now boot old.kernel old.entries.items old.calls.items _ c.args.self.now c.args.request c.self.invariant view c.requires.room) c.step-done.ensures.step in
     omega (arith, one, old.entries.ok.0)
 
 -- the entry that is kept
-entry_of : (g : Over) → goal.After-note g → Entry
-entry_of g c = record { pid = c.args.pid; k = c.args.k; request = c.args.request; reply = c.step-reply.result; released = map (λ r. r.0) c.step-reply.new.retired }
+kept : (g : Over) → goal.After-note g → State → Entry
+kept g c S = entry_of S c.args.pid c.args.k c.args.request c.step-done.result.reply (map (λ r. r.0) c.step-done.new.retired)
 
-appended_here : (g : Over) (c : goal.After-note g) → c.note.new.entries.items ≡ c.self.inside.entries.items ++ entry_of g c ∷ []
-unfolding entry_of
+appended_here : (g : Over) (c : goal.After-note g) → c.note.new.entries.items ≡ c.self.inside.entries.items ++ kept g c c.self.inside.kernel ∷ []
+unfolding kept
 appended_here g c =
-    let numbers : c.numbers_of.result ≡ map (λ r. r.0) c.step-reply.new.retired = c.numbers_of.ensures ∙ ap (map (λ r. r.0)) c.as_slice.ensures.objects in
+    let numbers : c.numbers_of.result ≡ map (λ r. r.0) c.step-done.new.retired = c.numbers_of.ensures ∙ ap (map (λ r. r.0)) c.as_slice.ensures.objects in
     c.note.ensures.entries
-    ∙ (λ j. c.self.inside.entries.items ++ record { pid = c.args.pid; k = c.args.k; request = c.args.request; reply = c.step-reply.result; released = numbers j } ∷ [])
+    ∙ (λ j. c.self.inside.entries.items ++ record { pid = c.args.pid; k = c.args.k; request = c.args.request; reply = c.step-done.result.reply; released = numbers j; delivered = c.step-done.ensures.told j } ∷ [])
 
-grown : (g : Over) (c : goal.After-note g) → Pushed g.W.BookName.boot c.self.inside.kernel c.step-reply.new.self c.self.inside.entries.items c.note.new.entries.items c.note.new.calls.items (entry_of g c) (vec_capacity c.note.new.entries)
-unfolding entry_of
+grown : (g : Over) (c : goal.After-note g) → Pushed g.W.BookName.boot c.self.inside.kernel c.step-done.new.self c.self.inside.entries.items c.note.new.entries.items c.note.new.calls.items (kept g c c.self.inside.kernel) (vec_capacity c.note.new.entries)
+unfolding kept
 grown g c =
     let old = c.self.inside in
     let boot = g.W.BookName.boot in
     let view = c.self.view_is in
-    log_push boot old.kernel c.step-reply.new.self old.entries.items c.note.new.entries.items old.calls.items c.note.new.calls.items (vec_capacity old.entries) (vec_capacity c.note.new.entries) (entry_of g c) c.len-number.result
+    log_push boot old.kernel c.step-done.new.self old.entries.items c.note.new.entries.items old.calls.items c.note.new.calls.items (vec_capacity old.entries) (vec_capacity c.note.new.entries) (kept g c old.kernel) c.len-number.result
     c.self.invariant (few_from c.process_count-made.ensures.count c.process_count-made.ensures.most)
     (allowed_now _ _ _ _ _ c.args.self.now c.args.pid c.args.k c.args.request c.self.invariant view c.requires.call)
     (counted_now _ _ _ c.args.self.now c.args.pid c.args.k c.args.request view c.requires.call)
     (room_now boot old.kernel old.entries.items old.calls.items _ c.args.self.now c.args.request c.self.invariant view c.requires.room)
-    c.note.ensures.capacity c.step-reply.ensures.step
+    c.note.ensures.capacity c.step-done.ensures.step refl
     (omega (arith, c.len-number.ensures, old.entries.ok.0))
     (appended_here g c) c.note.ensures.calls
 
@@ -88,15 +88,18 @@ pub invariant_of-self-2 : goal.invariant_of-self-2
 invariant_of-self-2 g c = (grown g c).log
 
 pub returns-clause-entry : goal.returns-clause-entry
-unfolding entry_of
+unfolding kept
 returns-clause-entry g c =
     let boot = g.W.BookName.boot in
+    let es = c.self.inside.entries.items in
+    let at = c.self.invariant.at_replay in
     record {
-      reply = c.step-reply.result;
+      reply = c.step-done.result.reply;
       adds = record {
-        next = subst (λ (k : Kept). MayFollow k.book.boot k.book.entries (entry_of g c)) c.self.view_is (grown g c).next;
+        next = subst (λ (k : Kept). MayFollow k.book.boot k.book.entries (kept g c (state_of k.book))) c.self.view_is (subst (λ (S : State). MayFollow boot es (kept g c S)) at (grown g c).next);
         appended = (λ j. record { boot = boot; entries = appended_here g c j })
-            ∙ (λ j. record { boot = Held.boot (Kept.book (c.self.view_is j)); entries = Held.entries (Kept.book (c.self.view_is j)) ++ entry_of g c ∷ [] });
+            ∙ (λ j. record { boot = boot; entries = es ++ kept g c (at j) ∷ [] })
+            ∙ (λ j. record { boot = Held.boot (Kept.book (c.self.view_is j)); entries = Held.entries (Kept.book (c.self.view_is j)) ++ kept g c (state_of (Kept.book (c.self.view_is j))) ∷ [] });
       };
       done = elim c.else-waits.branch [
         | else-waits-via-then-waits+else-is_again w ↦ λ h. sym w.is_again.ensures ∙ w.if-is_again.false

@@ -1,4 +1,4 @@
-use Rattle.std.proofs.Common.{◌≡◌, ◌++◌, ◌∷◌, [], ◌==◌, map, length, ap, sym, subst, ◌∙◌, arith}
+use Rattle.std.proofs.Common.{◌≡◌, ◌++◌, ◌∷◌, [], ◌==◌, map, length, refl, ap, sym, subst, ◌∙◌, arith}
 use Rattle.std.proofs.lemmas.Bool.{false≢true}
 use Rattle.std.proofs.lemmas.List.{nil_from_length, length-map}
 use Rattle.std.proofs.lemmas.List.Sums.{count_by-le-length}
@@ -6,7 +6,7 @@ use Rattle.ux_model.specs.Types.{Reply, Errno, Entry}
 use Rattle.ux_model.specs.State.{State}
 use Rattle.ux_model.specs.Step.{Step}
 use Rattle.ux_model.specs.History.{MayFollow}
-use Rattle.ux_history.specs.Books.{Held, state_of}
+use Rattle.ux_history.specs.Books.{Held, state_of, entry_of}
 use Rattle.ux_history.specs.Pasts.{entries_of}
 use Rattle.ux_history.specs.Running.{IsRunning}
 use Rattle.ux_history.proofs.Legal.{few_from, Waited, waited}
@@ -17,10 +17,10 @@ use Rattle.ux_history.proofs.running_log.RunningLog.append.Goals.{else-waits-via
 
 -- ---- where the call would have to wait
 
-idle : (g : Over) (c : goal.After-drop g) → Waited g.W.BookName.boot c.self.inside.kernel c.step-reply.new.self (entries_of c.self.inside.past) c.args.pid.0 c.args.request.now (map (λ r. r.0) c.step-reply.new.retired)
+idle : (g : Over) (c : goal.After-drop g) → Waited g.W.BookName.boot c.self.inside.kernel c.step-done.new.self (entries_of c.self.inside.past) c.args.pid.0 c.args.request.now (map (λ r. r.0) c.step-done.new.retired)
 idle g c =
-    waited g.W.BookName.boot c.self.inside.kernel c.step-reply.new.self (entries_of c.self.inside.past) c.args.pid.0 c.self.inside.number c.args.request.now c.step-reply.result (map (λ r. r.0) c.step-reply.new.retired)
-    c.self.invariant.log.legal c.self.invariant.log.at_replay (sym c.is_again.ensures ∙ c.if-is_again.true) c.self.invariant.long c.step-reply.ensures.step
+    waited g.W.BookName.boot c.self.inside.kernel c.step-done.new.self (entries_of c.self.inside.past) c.args.pid.0 c.self.inside.number c.args.request.now c.step-done.result.reply (map (λ r. r.0) c.step-done.new.retired)
+    c.self.invariant.log.legal c.self.invariant.log.at_replay (sym c.is_again.ensures ∙ c.if-is_again.true) c.self.invariant.long c.step-done.ensures.step
 
 pub invariant_of-self : goal.invariant_of-self
 invariant_of-self g c =
@@ -31,7 +31,7 @@ returns-then-is_again-clause-again g c =
     subst (λ (b : Held). Step (state_of b) c.args.pid.0 (length b.entries) c.args.request.now (Reply.Err Errno.EAGAIN) [] (state_of b)) c.self.view_is (idle g c).again
 
 pub returns-then-is_again-clause-none : goal.returns-then-is_again-clause-none
-returns-then-is_again-clause-none g c = nil_from_length c.step-reply.new.retired (sym (length-map c.step-reply.new.retired (λ r. r.0)) ∙ ap length (idle g c).none)
+returns-then-is_again-clause-none g c = nil_from_length c.step-done.new.retired (sym (length-map c.step-done.new.retired (λ r. r.0)) ∙ ap length (idle g c).none)
 
 -- ---- where it is an entry
 
@@ -49,38 +49,42 @@ count-requires-clause-few g c =
 pub count-requires-clause-room : goal.count-requires-clause-room
 count-requires-clause-room g c =
     let may = ready c.args.pid c.args.k c.args.request.now c.self.invariant c.self.view_is (few_from c.process_count-made.ensures.count c.process_count-made.ensures.most) c.requires.call c.requires.few in
-    let e : Entry = record { pid = c.args.pid; k = c.args.k; request = c.args.request.now; reply = c.step-reply.result; released = map (λ r. r.0) c.step-reply.new.retired } in
-    let few = few_entries c.step-reply.new.self e c.self.invariant may c.step-reply.ensures.step in
+    let e = entry_of c.self.inside.kernel c.args.pid c.args.k c.args.request.now c.step-done.result.reply (map (λ r. r.0) c.step-done.new.retired) in
+    let few = few_entries c.step-done.new.self e c.self.invariant may c.step-done.ensures.step in
     omega (arith, few, c.self.invariant.long)
 
 -- the entry that is counted
-entry_of : (g : Over) → goal.After-count g → Entry
-entry_of g c = record { pid = c.args.pid; k = c.args.k; request = c.args.request.now; reply = c.step-reply.result; released = map (λ r. r.0) c.step-reply.new.retired }
+counted : (g : Over) → goal.After-count g → State → Entry
+counted g c S = entry_of S c.args.pid c.args.k c.args.request.now c.step-done.result.reply (map (λ r. r.0) c.step-done.new.retired)
 
-appended_here : (g : Over) (c : goal.After-count g) → entries_of c.push.new.self ≡ entries_of c.self.inside.past ++ entry_of g c ∷ []
-unfolding entry_of
+appended_here : (g : Over) (c : goal.After-count g) → entries_of c.push.new.self ≡ entries_of c.self.inside.past ++ counted g c c.self.inside.kernel ∷ []
+unfolding counted
 appended_here g c =
-    let numbers : c.numbers_of-released.result ≡ map (λ r. r.0) c.step-reply.new.retired = c.numbers_of-released.ensures ∙ ap (map (λ r. r.0)) c.as_slice.ensures.objects in
+    let numbers : c.numbers_of-released.result ≡ map (λ r. r.0) c.step-done.new.retired = c.numbers_of-released.ensures ∙ ap (map (λ r. r.0)) c.as_slice.ensures.objects in
     c.push.ensures
-    ∙ (λ j. entries_of c.self.inside.past ++ record { pid = c.args.pid; k = c.args.k; request = c.args.request.now; reply = c.step-reply.result; released = numbers j } ∷ [])
+    ∙ (λ j. entries_of c.self.inside.past ++ record { pid = c.args.pid; k = c.args.k; request = c.args.request.now; reply = c.step-done.result.reply; released = numbers j; delivered = c.step-done.ensures.told j } ∷ [])
 
-grown : (g : Over) (c : goal.After-count g) → Grown g.W.BookName.boot c.step-reply.new.self (entries_of c.self.inside.past) (entries_of c.push.new.self) c.count.new.calls.items (entry_of g c) c.count.new.number
-unfolding entry_of
+grown : (g : Over) (c : goal.After-count g) → Grown g.W.BookName.boot c.step-done.new.self (entries_of c.self.inside.past) (entries_of c.push.new.self) c.count.new.calls.items (counted g c c.self.inside.kernel) c.count.new.number
+unfolding counted
 grown g c =
-    running_push (entry_of g c) c.self.invariant (ready c.args.pid c.args.k c.args.request.now c.self.invariant c.self.view_is (few_from c.process_count-made.ensures.count c.process_count-made.ensures.most) c.requires.call c.requires.few) c.step-reply.ensures.step
+    running_push (counted g c c.self.inside.kernel) c.self.invariant
+    (ready c.args.pid c.args.k c.args.request.now c.self.invariant c.self.view_is (few_from c.process_count-made.ensures.count c.process_count-made.ensures.most) c.requires.call c.requires.few) c.step-done.ensures.step refl
     (appended_here g c) c.count.ensures.calls c.count.ensures.number
 
 pub invariant_of-self-2 : goal.invariant_of-self-2
 invariant_of-self-2 g c = (grown g c).log
 
 pub returns-clause-entry : goal.returns-clause-entry
-unfolding entry_of
+unfolding counted
 returns-clause-entry g c =
     let boot = g.W.BookName.boot in
+    let es = entries_of c.self.inside.past in
+    let at = c.self.invariant.log.at_replay in
     record {
-      next = subst (λ (b : Held). MayFollow b.boot b.entries (entry_of g c)) c.self.view_is (grown g c).next;
+      next = subst (λ (b : Held). MayFollow b.boot b.entries (counted g c (state_of b))) c.self.view_is (subst (λ (S : State). MayFollow boot es (counted g c S)) at (grown g c).next);
       appended = (λ j. record { boot = boot; entries = appended_here g c j })
-          ∙ (λ j. record { boot = Held.boot (c.self.view_is j); entries = Held.entries (c.self.view_is j) ++ entry_of g c ∷ [] });
+          ∙ (λ j. record { boot = boot; entries = es ++ counted g c (at j) ∷ [] })
+          ∙ (λ j. record { boot = Held.boot (c.self.view_is j); entries = Held.entries (c.self.view_is j) ++ counted g c (state_of (c.self.view_is j)) ∷ [] });
     }
 
 pub returns-clause-done : goal.returns-clause-done

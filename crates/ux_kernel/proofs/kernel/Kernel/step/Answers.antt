@@ -9,4 +9,4 @@ pub returns-clause-handed_out : goal.returns-clause-handed_out
 returns-clause-handed_out g c =
     subst (AllByRecursion (IsHandedOut c.args.self.now))
     (sym (c.settle.ensures.retired ∙ ap retired c.self.view_is))
-    (handed_out c.args.self.now c.call-reply.new.self c.args.pid.0 c.args.tag c.args.request.now c.call-reply.result c.call-reply.ensures)
+    (handed_out c.args.self.now c.call-done.new.self c.args.pid.0 c.args.tag c.args.request.now c.call-done.result.reply c.call-done.ensures.chosen)
