@@ -3,7 +3,7 @@
 //! history is compared with what the processes counted, with their receipts, and with a second run of its calls.
 ghost use Rattle.std.specs.Prelude.{◌≡◌, false, IfOk};
 ghost use Rattle.ux_model.specs.Boot.{IsBootState};
-ghost use Rattle.ux_history.specs.Books.{is_last};
+ghost use Rattle.ux_history.specs.Books.{has_own_call};
 
 use crate::print_history;
 use crate::relying::{close, entries_made, stands};
@@ -168,9 +168,9 @@ fn make_calls<W: BookName, R: Wait>(
     requests: &[Request],
 ) -> Result<()> {
     for request in requests {
-        // A process exits by its seat.
-        if ux_history::is_last(request) {
-            return Err(anyhow!("an exit isn't a call"));
+        // A process makes another one, and exits, by functions of its seat's own.
+        if ux_history::has_own_call(request) {
+            return Err(anyhow!("a fork or an exit isn't a call"));
         }
         match seat.call_blocking(rt, request) {
             Ok((reply, receipt)) => {

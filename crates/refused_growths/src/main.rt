@@ -130,7 +130,8 @@ fn is_refused(entry: &Entry) -> bool {
     matches!(entry.reply, Reply::Err(Errno::ENOMEM))
 }
 
-/// Whether a history is that of another run, but for calls that were refused memory.
+/// Whether a history is that of another run, but for calls that were refused memory. Those count, so a message may have
+/// another tag.
 fn is_but_for_refusals(history: &[Entry], undisturbed: &[Entry]) -> bool {
     let mut rest = undisturbed.iter();
     for entry in history {
@@ -144,6 +145,7 @@ fn is_but_for_refusals(history: &[Entry], undisturbed: &[Entry]) -> bool {
             || entry.request != other.request
             || entry.reply != other.reply
             || entry.released != other.released
+            || entry.delivered.is_some() != other.delivered.is_some()
         {
             return false;
         }

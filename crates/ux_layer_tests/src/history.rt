@@ -1,7 +1,7 @@
 //! What stays of a call in the history: shares, entries, receipts, and the accounts settled.
 ghost use Rattle.std.specs.Prelude.{◌≡◌, [], false, length};
 ghost use Rattle.ux_model.specs.Boot.{IsBootState};
-ghost use Rattle.ux_history.specs.Books.{is_last};
+ghost use Rattle.ux_history.specs.Books.{has_own_call};
 
 use bstr::BString;
 use hoard::Hoard;
@@ -33,7 +33,7 @@ const PAIR: Request = Request::SocketPair {
 
 /// A receive of one byte by the number 0.
 const fn receive(flags: MsgFlags) -> Request
-    ensures { is_last result ≡ false }
+    ensures { has_own_call result ≡ false }
 {
     Request::RecvMsg {
         fd: Fd(0),
@@ -96,7 +96,7 @@ fn answer_of<W: BookName>(
     request: Request,
     number: usize,
 ) -> Reply
-    requires { is_last request ≡ false }
+    requires { has_own_call request ≡ false }
 {
     shelf.retired.clear();
     let made = shelf
@@ -115,7 +115,7 @@ fn answer_of<W: BookName>(
 
 /// Whether a call is tried and would have to wait.
 fn would_wait<W: BookName>(shelf: &mut Shelf<W>, request: Request) -> bool
-    requires { is_last request ≡ false }
+    requires { has_own_call request ≡ false }
 {
     shelf.retired.clear();
     let tried = shelf
@@ -135,7 +135,7 @@ fn would_wait<W: BookName>(shelf: &mut Shelf<W>, request: Request) -> bool
 
 /// Whether a call lacks memory.
 fn lacks_memory<W: BookName>(shelf: &mut Shelf<W>, request: Request) -> bool
-    requires { is_last request ≡ false }
+    requires { has_own_call request ≡ false }
 {
     shelf.retired.clear();
     let made = shelf
@@ -154,7 +154,7 @@ fn lacks_memory<W: BookName>(shelf: &mut Shelf<W>, request: Request) -> bool
 
 /// Whether a call that is tried lacks memory.
 fn lacks_memory_when_tried<W: BookName>(shelf: &mut Shelf<W>, request: Request) -> bool
-    requires { is_last request ≡ false }
+    requires { has_own_call request ≡ false }
 {
     shelf.retired.clear();
     let tried = shelf

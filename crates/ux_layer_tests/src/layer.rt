@@ -1,7 +1,7 @@
 //! Calls by seats, one thread after another and several at once, and the history that they leave.
 ghost use Rattle.std.specs.Prelude.{◌≡◌, false, IfOk};
 ghost use Rattle.ux_model.specs.Boot.{IsBootState};
-ghost use Rattle.ux_history.specs.Books.{is_last};
+ghost use Rattle.ux_history.specs.Books.{has_own_call};
 
 use bstr::BString;
 use hoard::Hoard;
@@ -104,7 +104,7 @@ impl<W: BookName, O: FileObject> Worker<W, O> {
 
     /// Makes a call that must be answered so, and keeps its receipt.
     fn must<R: Wait>(&mut self, rt: &R, request: Request, answer: Reply) -> Result<(), Trouble>
-        requires { is_last request ≡ false }
+        requires { has_own_call request ≡ false }
     {
         let called = self.seat.call_blocking(rt, &request);
         drop(request);
@@ -148,7 +148,7 @@ fn server(alloc: Global) -> Result<Addr, AllocError> {
 
 /// A receive of at most 8 bytes by this number.
 fn receive(fd: u32) -> Request
-    ensures { is_last result ≡ false }
+    ensures { has_own_call result ≡ false }
 {
     Request::RecvMsg {
         fd: Fd(fd),
@@ -160,7 +160,7 @@ fn receive(fd: u32) -> Request
 
 /// A send of these bytes by this number.
 fn send(alloc: Global, fd: u32, bytes: &[u8]) -> Result<Request, AllocError>
-    ensures { IfOk result (λ r. is_last r ≡ false) }
+    ensures { IfOk result (λ r. has_own_call r ≡ false) }
 {
     Ok(Request::SendMsg {
         fd: Fd(fd),
@@ -410,7 +410,7 @@ fn is_answered<W: BookName, O: FileObject, R: Wait>(
     request: Request,
     answer: Reply,
 ) -> bool
-    requires { is_last request ≡ false }
+    requires { has_own_call request ≡ false }
 {
     let called = seat.call(rt, &request);
     drop(request);

@@ -37,6 +37,7 @@ fn entry(k: u64, request: Request, reply: Reply) -> Entry {
         request,
         reply,
         released: Released::new(),
+        delivered: None,
     }
 }
 
