@@ -7,7 +7,9 @@ use anyhow::{Result, anyhow};
 use std::alloc::Global;
 use std::sync::Wait;
 use std::sync::ledger::Blank;
-use ux_history::{Book, BookName, CallBook, CallFault, Receipt, Spent, Trail, Trailing, has_own_call};
+use ux_history::{
+    Book, BookName, CallBook, CallFault, Receipt, Spent, Trail, Trailing, has_own_call,
+};
 use ux_kernel::Kernel;
 use ux_layer::{Layer, Seat, start, start_running};
 use ux_object::FileObject;

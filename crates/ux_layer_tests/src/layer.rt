@@ -13,7 +13,7 @@ use std::sync::ledger::Blank;
 use std::test::Fail;
 use std::thread;
 use std::thread::Threads;
-use ux_history::{BookName, CallFault, OffFault, PARTS, Receipt, SettleFault, Spent};
+use ux_history::{BookName, CallBook, CallFault, OffFault, PARTS, Receipt, SettleFault, Spent};
 use ux_kernel::Kernel;
 use ux_layer::{Layer, Seat, start};
 use ux_object::FileObject;
@@ -23,6 +23,7 @@ use ux_types::{
 };
 
 mod deadlock;
+mod forking;
 mod watched;
 
 const USER: ProcSpec = ProcSpec {
@@ -299,9 +300,9 @@ fn settle_both<W: BookName, R: Wait>(
 }
 
 /// Sees that accounts don't settle with these shares alone, and gives them back.
-fn ask_for_more<W: BookName, R: Wait>(
+fn ask_for_more<W: BookName, B: CallBook<W, Counter>, R: Wait>(
     rt: &R,
-    layer: &Layer<W, Counter>,
+    layer: &Layer<W, Counter, B>,
     spents: Vec<Spent<W>>,
 ) -> Result<Vec<Spent<W>>, Fail> {
     match layer.settle(rt, spents) {
