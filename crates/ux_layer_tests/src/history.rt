@@ -422,7 +422,7 @@ impl Forked {
 }
 
 /// What a fork's answer tells.
-fn forked<W: BookName>(reply: Reply, child: Option<Share<W>>) -> Forked {
+fn outcome_of<W: BookName>(reply: Reply, child: Option<Share<W>>) -> Forked {
     let Some(share) = child else {
         if reply == Reply::Err(Errno::ENOMEM) {
             return Forked::Told;
@@ -449,7 +449,7 @@ fn fork_with<W: BookName>(
     match made {
         Ok((Recorded { reply, receipt }, child)) => {
             drop(receipt);
-            forked(reply, child)
+            outcome_of(reply, child)
         }
         Err(CallFault::NoMemory) => Forked::Refused,
         Err(_) => Forked::Otherwise,
@@ -476,14 +476,14 @@ fn fork_at_last<W: BookName>(
 ) -> usize {
     for step in 0..STEPS {
         let (calls, entries, processes) = counts(shelf);
-        let forked = fork_with(alloc, shelf, purse, step * 16);
-        let more = forked.more();
+        let outcome = fork_with(alloc, shelf, purse, step * 16);
+        let more = outcome.more();
         let now = counts(shelf);
-        assert!(rt; forked != Forked::Otherwise);
+        assert!(rt; outcome != Forked::Otherwise);
         assert_eq!(rt; now.0, calls.wrapping_add(more.0));
         assert_eq!(rt; now.1, entries.wrapping_add(more.1));
         assert_eq!(rt; now.2, processes.wrapping_add(more.2));
-        if forked == Forked::Child {
+        if outcome == Forked::Child {
             return step;
         }
     }
