@@ -161,7 +161,7 @@ fn let_go<W: BookName, R: Wait>(
 }
 
 /// Makes these calls, each of which waits until it can be done, and keeps their receipts.
-fn make_calls<W: BookName, R: Wait>(
+pub(crate) fn make_calls<W: BookName, R: Wait>(
     rt: &R,
     seat: &mut Seat<W, MemFile>,
     receipts: &mut Vec<Receipt<W>>,
@@ -227,7 +227,7 @@ fn worker<W: BookName, R: Wait>(
 }
 
 /// Whether each of these receipts stands in the book. That its call stands in some legal history needs no look.
-fn holds_all<W: BookName>(book: &Book<W, MemFile>, receipts: &[Receipt<W>]) -> bool {
+pub(crate) fn holds_all<W: BookName>(book: &Book<W, MemFile>, receipts: &[Receipt<W>]) -> bool {
     for receipt in receipts {
         stands(receipt);
         if !book.holds(receipt) {
@@ -257,7 +257,7 @@ fn settle<W: BookName, R: Wait + Print + AllocGlobal>(
         return Err(anyhow!("a receipt doesn't stand"));
     }
     println!(rt; "each receipt stands")?;
-    check(rt, guard.book())
+    check(rt, guard.book(), boot(rt.alloc())?)
 }
 
 /// How many entries the accounts of both settle with.
@@ -271,8 +271,11 @@ fn settle_both<W: BookName, R: Wait + AllocGlobal>(
 }
 
 /// Makes the history's calls once more, on another kernel.
-fn check<W: BookName>(rt: &(impl Print + AllocGlobal), book: &Book<W, MemFile>) -> Result<()> {
-    let again = boot(rt.alloc())?;
+pub(crate) fn check<W: BookName>(
+    rt: &(impl Print + AllocGlobal),
+    book: &Book<W, MemFile>,
+    again: Kernel<MemFile>,
+) -> Result<()> {
     match check_history(rt.alloc(), book.entries(), again) {
         Ok(count) => println!(rt; "check ok {count}")?,
         Err(number) => return Err(anyhow!("check differs at {number}")),

@@ -55,6 +55,7 @@ const SCRIPTS: &[&str] = &[
     "limit_of_rights_in_flight",
     "given_credentials",
     "options_and_readiness",
+    "fork_and_exec",
 ];
 
 /// The file objects of a script.
