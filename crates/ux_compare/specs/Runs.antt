@@ -1,11 +1,11 @@
 -- Which histories are runs of a script by threads.
-use Rattle.std.specs.Prelude.{◌≡◌, ◌≤◌, ℕ, zero, suc, ◌==◌, List, [], ◌∷◌, ◌++◌, length, map, filter, if◌then◌else◌}
+use Rattle.std.specs.Prelude.{◌≡◌, ◌≤◌, ℕ, zero, suc, ◌==◌, List, [], ◌∷◌, ◌++◌, map, filter, if◌then◌else◌}
 use Rattle.ux_model.specs.Types.{Request, Entry}
 use Rattle.ux_model.specs.State.{State}
 use Rattle.ux_model.specs.History.{IsLegal}
 use Rattle.ux_syntax.specs.declared.script.Act.{Act}
 use Rattle.ux_syntax.specs.Lines.{Line}
-use Rattle.ux_syntax.specs.Spelling.{Plan}
+use Rattle.ux_syntax.specs.Spelling.{Plan, known_count}
 use Rattle.ux_syntax.specs.Turns.{has_exited}
 
 -- what a process asked for, in order
@@ -31,9 +31,9 @@ ending s (suc p) = if has_exited s.lines (suc p) then [] else Request.Exit ∷ [
 abbrev pub turns : Plan → ℕ → List Request
 turns s p = asked p s.lines ++ ending s p
 
--- each process makes the script's calls for it, in order and no others
+-- each process, those that are forked included, makes the script's calls for it, in order and no others
 abbrev pub MakesAll : Plan → List Entry → Type 0
-MakesAll s entries = (p : ℕ) → p ≤ length s.procs → requests_of p entries ≡ turns s p
+MakesAll s entries = (p : ℕ) → p ≤ known_count s → requests_of p entries ≡ turns s p
 
 -- a legal history from this state, in which they do
 pub record Runs (boot : State) (s : Plan) (entries : List Entry) : Type 0 where
@@ -44,9 +44,9 @@ pub record Runs (boot : State) (s : Plan) (entries : List Entry) : Type 0 where
 abbrev pub IsFront : List Request → List Request → Type 0
 IsFront front whole = (more : List Request) × (front ++ more ≡ whole)
 
--- each process makes the first of the script's calls for it, in order and no others
+-- each process, those that are forked included, makes the first of the script's calls for it, in order and no others
 abbrev pub MakesFirst : Plan → List Entry → Type 0
-MakesFirst s entries = (p : ℕ) → p ≤ length s.procs → IsFront (requests_of p entries) (turns s p)
+MakesFirst s entries = (p : ℕ) → p ≤ known_count s → IsFront (requests_of p entries) (turns s p)
 
 -- a legal history from this state, in which they do
 pub record HasBegun (boot : State) (s : Plan) (entries : List Entry) : Type 0 where

@@ -1,7 +1,7 @@
 //! Whether a history is that of a script.
-ghost use Rattle.std.specs.Prelude.{◌≡◌, ◌++◌, ◌∷◌, ◌≤◌, ◌↔◌, [], true, false, List, ℕ, length, map, filter, IsTrue, IfSome, IfNone};
-ghost use Rattle.ux_model.specs.Limits.{process_limit};
-ghost use Rattle.ux_syntax.specs.Spelling.{plan_of, asks_exit};
+ghost use Rattle.std.specs.Prelude.{◌≡◌, ◌++◌, ◌∷◌, ◌≤◌, ◌↔◌, [], true, false, List, ℕ, map, filter, IsTrue, IfSome, IfNone};
+ghost use Rattle.ux_model.specs.Limits.{made_limit};
+ghost use Rattle.ux_syntax.specs.Spelling.{plan_of, known_count, asks_exit};
 ghost use Rattle.ux_syntax.specs.Turns.{has_exited};
 ghost use Rattle.ux_compare.specs.Runs.{requests_of, asked, ending, turns, MakesAll, MakesFirst, IsFront};
 
@@ -11,8 +11,8 @@ use ux_types::{Entry, Request};
 /// Whether each of so many processes made the script's calls, in their order and no others, and the layer was
 /// ended where the script has it.
 pub fn makes_all(script: &Script, entries: &[Entry], count: usize) -> bool
-    requires count { count ≡ length script.now.procs.items }
-    requires few { count ≤ process_limit }
+    requires count { count ≡ known_count (plan_of script.now) }
+    requires few { count ≤ made_limit }
     ensures { IsTrue result ↔ MakesAll (plan_of script.now) entries.now }
 {
     for pid in 0..count as u32 + 1 {
@@ -25,8 +25,8 @@ pub fn makes_all(script: &Script, entries: &[Entry], count: usize) -> bool
 
 /// Whether each of so many processes made the first of the script's calls, or all, in their order and no others.
 pub fn makes_first(script: &Script, entries: &[Entry], count: usize) -> bool
-    requires count { count ≡ length script.now.procs.items }
-    requires few { count ≤ process_limit }
+    requires count { count ≡ known_count (plan_of script.now) }
+    requires few { count ≤ made_limit }
     ensures { IsTrue result ↔ MakesFirst (plan_of script.now) entries.now }
 {
     for pid in 0..count as u32 + 1 {

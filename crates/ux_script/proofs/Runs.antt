@@ -91,7 +91,7 @@ first_fork xs pid (Act.Wait other calls) h =
     let more : forks_of (x ∷ xs) ≡ cond {A = ℕ} false 1 0 + forks_of xs = forks-cons x xs in
     omega (arith, h, more)
 
-pub forks_calls : (lines : List Line) → forks_of (call_lines lines) ≡ forks_of lines
+forks_calls : (lines : List Line) → forks_of (call_lines lines) ≡ forks_of lines
 forks_calls [] = refl
 forks_calls (x ∷ xs) = first_fork xs x.pid x.act (forks_calls xs)
 
@@ -109,6 +109,10 @@ forks_all lines n =
     let calls = forks_calls lines in
     let exits = forks_exits (filter (λ pid. not (has_exited lines pid)) (range_with_len 1 n)) in
     omega (arith, both, calls, exits)
+
+-- each fork line of a script has made its process
+pub all_known : (book : Held) (script : Script) (count : ℕ) → count ≡ shares.processes book → Makes book script (call_lines script.lines.items) → count ≡ known_count (plan_of script)
+all_known book script count is so_far = let made = so_far.made in let forks = forks_calls script.lines.items in omega (arith, is, made, forks)
 
 -- what is said of each line, beside the number of processes that it knows
 known_at : (IsSo : ℕ → Line → Type 0) (count i : ℕ) (lines : List Line) (line : Line) → EachKnowing IsSo count lines → i < length lines → line ≡ get_or lines i line → IsSo (count + forks_of (take i lines)) line
@@ -351,6 +355,10 @@ makes_none book script boot new boots same = subst (λ (h : Held). Makes h scrip
 pub ok_then : {P Q : Type 0} (r : Result (Unit {0}) CallFault) → (P → Q) → OnOk r P → OnOk r Q
 ok_then (Ok u) f p = f p
 ok_then (Err e) f p = tt
+
+pub ok_both : {P Q R : Type 0} (r : Result (Unit {0}) CallFault) → (P × Q → R) → OnOk r P → OnOk r Q → OnOk r R
+ok_both (Ok u) f p q = f (p, q)
+ok_both (Err e) f p q = tt
 
 pub err_then : {P : Type 0} {Q : CallFault → Type 0} (r : Result (Unit {0}) CallFault) → (P → (f : CallFault) → Q f) → OnErr r P → IfErr r Q
 err_then (Ok u) f p = tt

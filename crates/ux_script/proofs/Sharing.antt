@@ -17,7 +17,7 @@ use Rattle.ux_model.specs.History.{calls_of, is_exit, makes, makes_one, replay, 
 use Rattle.ux_model.proofs.Living.{exit_and_fork_alone, fork_tells_the_next, live_within}
 use Rattle.ux_model.proofs.Numbering.{no_call_before_made}
 use Rattle.ux_model.proofs.OnePlace.{same_at}
-use Rattle.ux_history.specs.Books.{Held, state_of, is_fork}
+use Rattle.ux_history.specs.Books.{Held, state_of, entry_of, is_fork}
 use Rattle.ux_history.specs.Shares.{Caller, child_by, fresh, knows, once_more, processes}
 use Rattle.ux_history.proofs.Accounts.{processes_after}
 use Rattle.ux_script.specs.Runs.{MakesOne}
@@ -297,17 +297,20 @@ keeps_shares old new xs left all pid request c d (Err g) has stays none was e f 
 -- ---- through a fork
 
 -- a place more behind all others
-pub wider : (book : Held) (xs ys : List (Option Caller)) → HasShares book xs → ys ≡ xs ++ None ∷ [] → HasShares book ys
-wider book xs ys has is = subst (HasShares book) (sym is) (record {
+place_more : (xs : List (Option Caller)) (p : ℕ) → place (xs ++ None ∷ []) p ≡ place xs p
+place_more [] zero = refl
+place_more [] (suc p) = refl
+place_more (x ∷ xs) zero = refl
+place_more (x ∷ xs) (suc p) = place_more xs p
+
+pub wider : (book : Held) (xs ys : List (Option Caller)) (ok : Bool) → HasShares book xs → ys ≡ (if ok then xs ++ None ∷ [] else xs) → ok ≡ true → HasShares book ys
+wider book xs ys ok has is grown = subst (HasShares book) (sym (is ∙ ap (λ (b : Bool). if b then xs ++ None ∷ [] else xs) grown)) (record {
   each = λ p. place_more xs p ∙ has.each p;
   long = let longer = length-append xs (None ∷ []) in let long = has.long in omega (arith, longer, long);
 })
-  where
-    place_more : (xs : List (Option Caller)) (p : ℕ) → place (xs ++ None ∷ []) p ≡ place xs p
-    place_more [] zero = refl
-    place_more [] (suc p) = refl
-    place_more (x ∷ xs) zero = refl
-    place_more (x ∷ xs) (suc p) = place_more xs p
+
+wide : (xs ys : List (Option Caller)) (ok : Bool) → ys ≡ (if ok then xs ++ None ∷ [] else xs) → ok ≡ true → length ys ≡ length xs + 1
+wide xs ys ok is grown = ap length (is ∙ ap (λ (b : Bool). if b then xs ++ None ∷ [] else xs) grown) ∙ length-append xs (None ∷ [])
 
 -- what the share of a child tells of the answer
 no_child : (reply : Reply) → None ≡ child_by Request.Fork reply → makes_one Request.Fork reply ≡ false
@@ -323,6 +326,10 @@ pub childless : (old new : Held) (xs left all : List (Option Caller)) (pid : Pid
     Forks old new c.pid None → d ≡ once_more c → HasShares new all
 childless old new xs left all pid c d has was e f forked more =
     called old new xs left all pid Request.Fork c d has (taken old xs left all pid c d has was e f) forked.one (no_child _ forked.made) refl more
+
+-- the number that a fork tells is the next
+next_of : (S T : State) (p tag : ℕ) (pid : Pid) (reply : Reply) (gone : List ℕ) → reply ≡ Reply.Child pid → Step S p tag Request.Fork reply gone T → pid.0 ≡ suc (length S.processes)
+next_of S T p tag pid reply gone told step = fork_tells_the_next S T p tag pid gone (subst (λ (r : Reply). Step S p tag Request.Fork r gone T) told step)
 
 -- what a fork tells that made a process
 pub record Child (old new : Held) (x : Caller) : Type 0 where
@@ -346,10 +353,7 @@ child_is old new pid x legal within forked = record {
     told = child_told one.appended.reply x forked.made
 
     next : x.pid.0 ≡ processes old + 1
-    next =
-        let step = subst (λ (r : Reply). Step (state_of old) pid.0 (length old.entries) Request.Fork r one.released (replay old.boot (old.entries ++ _ ∷ []))) told.0 one.appended.adds.next.steps in
-        let is = fork_tells_the_next (state_of old) _ pid.0 (length old.entries) x.pid one.released step in
-        omega (arith, is)
+    next = let is = next_of (state_of old) (replay old.boot (old.entries ++ entry_of (state_of old) pid one.k Request.Fork one.appended.reply one.released ∷ [])) pid.0 (length old.entries) x.pid one.appended.reply one.released told.0 one.appended.adds.next.steps in omega (arith, is)
 
     many : processes new ≡ processes old + 1
     many = processes_after old new _ one.appended.adds ∙ ap (λ (r : Reply). processes old + cond {A = ℕ} (makes_one Request.Fork r) 1 0) told.0
@@ -375,11 +379,26 @@ caller_made old xs pid c has was =
     let known = share_known old pid.0 c own in
     live_within (state_of old) c.pid.0 (and_parts (is_live (state_of old) c.pid.0) _ known.1).0
 
--- where a process was made, and its share was put at its place
-pub child_shares : (old new : Held) (xs left all done : List (Option Caller)) (pid : Pid) (c d x : Caller) → HasShares old xs → IsLegal old.boot old.entries → Some c ≡ place xs pid.0 → left ≡ set xs pid.0 None → all ≡ set left d.pid.0 (Some d) →
-    Forks old new c.pid (Some x) → d ≡ once_more c → processes old + 1 < length xs → done ≡ set all x.pid.0 (Some x) → HasShares new done
-child_shares old new xs left all done pid c d x has legal was e f forked more room put = subst (HasShares new) (sym put) (record { each = each; long = long })
+-- where a process was made, and its share is put at its place
+pub record Placed (old new : Held) (all : List (Option Caller)) (x : Caller) : Type 0 where
+  pub fits : x.pid.0 < length all
+  pub shares : (done : List (Option Caller)) → done ≡ set all x.pid.0 (Some x) → HasShares new done
+  pub many : processes new ≡ processes old + 1
+
+pub placed : (old new : Held) (before xs left all : List (Option Caller)) (ok : Bool) (pid : Pid) (c d x : Caller) → HasShares old before → xs ≡ (if ok then before ++ None ∷ [] else before) → ok ≡ true → IsLegal old.boot old.entries →
+    Some c ≡ place xs pid.0 → left ≡ set xs pid.0 None → all ≡ set left d.pid.0 (Some d) → Forks old new c.pid (Some x) → d ≡ once_more c → Placed old new all x
+placed old new before xs left all ok pid c d x first more_is grown legal was e f forked more = record {
+  fits = fits;
+  shares = λ done put. subst (HasShares new) (sym put) (record { each = each; long = long });
+  many = child.many;
+}
   where
+    has : HasShares old xs
+    has = wider old before xs ok first more_is grown
+
+    room : processes old + 1 < length xs
+    room = let long = first.long in let longer = wide before xs ok more_is grown in omega (arith, long, longer)
+
     t : Taken old xs left all pid c d
     t = taken old xs left all pid c d has was e f
 
@@ -398,6 +417,9 @@ child_shares old new xs left all done pid c d x has legal was e f forked more ro
     as_long : length all ≡ length xs
     as_long = ap length whole ∙ length-set xs pid.0 (Some d)
 
+    fits : x.pid.0 < length all
+    fits = let next = child.next in omega (arith, next, room, as_long)
+
     none_at : (p : ℕ) → p ≢ x.pid.0 → makes p Request.Fork here.one.appended.reply ≡ false
     none_at p other = ap (λ (r : Reply). makes p Request.Fork r) (child_told _ x here.made).0 ∙ child.others p other
 
@@ -407,7 +429,7 @@ child_shares old new xs left all done pid c d x has legal was e f forked more ro
     each : (p : ℕ) → place (set all x.pid.0 (Some x)) p ≡ share_of new p
     each p =
         ⊎_elim {C = place (set all x.pid.0 (Some x)) p ≡ share_of new p}
-        (λ w. ap (place (set all x.pid.0 (Some x))) (sym w.1) ∙ get_or-set_same all x.pid.0 (Some x) None (let next = child.next in omega (arith, next, room, as_long)) ∙ sym child.share ∙ ap (share_of new) w.1)
+        (λ w. ap (place (set all x.pid.0 (Some x))) (sym w.1) ∙ get_or-set_same all x.pid.0 (Some x) None fits ∙ sym child.share ∙ ap (share_of new) w.1)
         (λ w. get_or-set_other all x.pid.0 p (Some x) None (λ h. w.1 (sym h)) ∙ ap (λ (l : List (Option Caller)). place l p) whole ∙ changed_at old new xs pid Request.Fork (Some d) has here.one t.inside own p (none_at p (λ h. w.1 (sym h))))
         (eqb_tells x.pid.0 p)
 
@@ -442,3 +464,7 @@ exit_is request h = absurd (false≢true h)
 pub fork_is : (request : Request) → is_fork request ≡ true → request ≡ Request.Fork
 fork_is Request.Fork h = refl
 fork_is request h = absurd (cc h)
+
+-- no share that a book has is a stranger's
+pub share_of_known : (book : Held) (xs : List (Option Caller)) (pid : Pid) (c : Caller) → HasShares book xs → Some c ≡ place xs pid.0 → knows book c ≡ false → ⊥
+share_of_known book xs pid c has was stranger = false≢true (sym stranger ∙ (share_known book pid.0 c (sym (was ∙ has.each pid.0))).1)

@@ -1,7 +1,7 @@
 //! Scripts: file objects, processes, and what their lines ask for.
 
 ghost use Rattle.std.specs.Prelude.{◌≡◌};
-ghost use Rattle.ux_syntax.specs.Spelling.{asks_exit, asks_fork};
+ghost use Rattle.ux_syntax.specs.Spelling.{plan_of, known_count, asks_exit, asks_fork};
 
 use std::marker::Model;
 use ux_object::ObjKind;
@@ -54,6 +54,16 @@ pub struct Script {
     pub lines: Vec<Line>,
     /// Whether the layer is ended after all calls.
     pub off: bool,
+}
+
+impl Script {
+    /// How many processes there are at the end: those of the header, and one for each fork line.
+    pub fn process_count(&self) -> usize
+        ensures { result ≡ known_count (plan_of self.now) }
+    {
+        let forks = self.lines.iter().filter(|line| asks_fork(&line.act));
+        self.procs.len() + forks.count()
+    }
 }
 
 /// A line of the header.

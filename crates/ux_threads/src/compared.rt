@@ -1,8 +1,8 @@
 //! A history beside its script and the receipts of its calls.
 ghost use Rattle.std.specs.Prelude.{◌≡◌, ◌≤◌, ◌⊎◌, ◌↔◌, true, length, IsTrue, IfOk, IfErr, OnOk};
 ghost use Rattle.std.specs.List.{AllByRecursion};
-ghost use Rattle.ux_model.specs.Limits.{process_limit};
-ghost use Rattle.ux_syntax.specs.Spelling.{plan_of};
+ghost use Rattle.ux_model.specs.Limits.{made_limit};
+ghost use Rattle.ux_syntax.specs.Spelling.{plan_of, known_count};
 ghost use Rattle.ux_history.specs.Telling.{AllStand};
 ghost use Rattle.ux_compare.specs.Runs.{Runs, HasBegun, MakesAll, MakesFirst};
 
@@ -26,8 +26,8 @@ pub(crate) fn whole_history<W: BookName, O: FileObject>(
     receipts: &[Vec<Receipt<W>>],
     count: usize,
 ) -> Result<Vec<Entry>, ScriptFault>
-    requires count { count ≡ length script.now.procs.items }
-    requires few { count ≤ process_limit }
+    requires count { count ≡ known_count (plan_of script.now) }
+    requires few { count ≤ made_limit }
     ensures entries { IfOk result (λ entries. entries.items ≡ book.now.entries) }
     ensures runs { IfOk result (λ entries. Runs W.boot (plan_of script.now) entries.items) }
     ensures held { OnOk result (AllByRecursion (λ theirs. AllStand book.now.entries theirs.items) receipts.now) }
@@ -52,8 +52,8 @@ pub(crate) fn begun_history<W: BookName, O: FileObject>(
     receipts: &[Vec<Receipt<W>>],
     count: usize,
 ) -> Result<Vec<Entry>, ScriptFault>
-    requires count { count ≡ length script.now.procs.items }
-    requires few { count ≤ process_limit }
+    requires count { count ≡ known_count (plan_of script.now) }
+    requires few { count ≤ made_limit }
     ensures entries { IfOk result (λ entries. entries.items ≡ book.now.entries) }
     ensures begun { IfOk result (λ entries. HasBegun W.boot (plan_of script.now) entries.items) }
     ensures held { OnOk result (AllByRecursion (λ theirs. AllStand book.now.entries theirs.items) receipts.now) }

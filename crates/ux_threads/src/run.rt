@@ -1,10 +1,10 @@
 //! A run of a script by threads, from its kernel to its trace.
 ghost use Rattle.std.specs.Prelude.{◌≡◌, ◌≤◌, ◌⊎◌, ℕ, true, false, length, map, IfOk, IfErr};
-ghost use Rattle.ux_model.specs.Limits.{process_limit};
+ghost use Rattle.ux_model.specs.Limits.{made_limit};
 ghost use Rattle.std.specs.Io.KnownBytes.{Appends};
 ghost use Rattle.ux_model.specs.Boot.{IsBootState, new_process};
 ghost use Rattle.ux_model.specs.History.{IsLegal};
-ghost use Rattle.ux_syntax.specs.Spelling.{plan_of};
+ghost use Rattle.ux_syntax.specs.Spelling.{plan_of, known_count};
 ghost use Rattle.ux_syntax.specs.Trace.{trace};
 ghost use Rattle.ux_script.specs.Runs.{IsRunFault};
 ghost use Rattle.ux_compare.specs.Runs.{requests_of, turns, Runs};
@@ -25,16 +25,18 @@ use ux_layer::{Layer, start};
 use ux_object::FileObject;
 use ux_script::tell;
 use ux_syntax::{Script, ScriptFault, Waiting};
-use ux_types::{Entry, Pid};
+use ux_types::{Entry, MADE_LIMIT, Pid};
 
 /// Runs the script on a kernel that has just started with its processes, one thread for each, and writes the
-/// trace. Each process makes its lines in their order, by calls that wait where they have to, and exits; then
-/// the layer is ended, where the script says so. The gate is told of each call.
+/// trace. Each process makes its lines in their order, by calls that wait where they have to, and exits; a child's
+/// lines begin when its fork was answered. Then the layer is ended, where the script says so. The gate is told of
+/// each call.
 ///
 /// # Errors
 ///
-/// `Writing`; `NoMemory`, also where a thread can't be started; `Stranger` where a call was refused as that of no
-/// live process, accounts don't settle, or the history isn't the script's, as of a script that no text spells;
+/// `Writing`; `NoMemory`, also where a thread can't be started or a fork makes no process; `Stranger` where a call
+/// was refused as that of no live process, accounts don't settle, or the history isn't the script's, as of a script
+/// that no text spells, which may fork in another process than the first, or beyond the limit of processes;
 /// `Deadlock` where every process that hasn't exited waits, with the lines in which they do: the run ends there,
 /// and the trace so far is written.
 pub fn run_threads<O: FileObject + Send, G: Gate, Out: Write>(
@@ -49,8 +51,8 @@ pub fn run_threads<O: FileObject + Send, G: Gate, Out: Write>(
     requires processes { kernel.processes ≡ map new_process script.now.procs.items }
     // The entries are a legal history from the kernel's state.
     ensures legal { IfOk result (λ entries. IsLegal kernel entries.items) }
-    // Each process made the script's calls, in their order, and one exit last; the layer was ended where the script has it.
-    ensures calls { IfOk result (λ entries. (p : ℕ) → p ≤ length script.now.procs.items → requests_of p entries.items ≡ turns (plan_of script.now) p) }
+    // Each process, each child included, made the script's calls, in their order, and one exit last; the layer was ended where the script has it.
+    ensures calls { IfOk result (λ entries. (p : ℕ) → p ≤ known_count (plan_of script.now) → requests_of p entries.items ≡ turns (plan_of script.now) p) }
     // What was written is its trace.
     ensures trace { IfOk result (λ entries. Appends (Out.contents writer.old) (Out.contents writer.new) (trace entries.items)) }
     // After a fault a beginning of such a trace was written.
@@ -98,7 +100,10 @@ fn run_named<W: BookName + Send + Sync, O: FileObject + Send, R: Threads + Wait 
     ensures runs { IfOk result (λ ran. IsOfScript W.boot (plan_of script.now) ran) }
     ensures fault { IfErr result (λ f. (f ≡ ScriptFault.NoMemory) ⊎ (f ≡ ScriptFault.Stranger)) }
 {
-    let count = kernel.process_count();
+    let count = script.process_count();
+    if count > MADE_LIMIT {
+        return Err(ScriptFault::Stranger);
+    }
     let Ok((layer, seats)) = start::<W, O, R>(rt, alloc, blank, kernel) else {
         return Err(ScriptFault::NoMemory);
     };
@@ -124,8 +129,8 @@ fn finish<W: BookName, O: FileObject, R: Wait>(
     brought: Brought<W>,
     count: usize,
 ) -> Result<Vec<Entry>, ScriptFault>
-    requires count { count ≡ length script.now.procs.items }
-    requires few { count ≤ process_limit }
+    requires count { count ≡ known_count (plan_of script.now) }
+    requires few { count ≤ made_limit }
     ensures runs { IfOk result (λ entries. Runs W.boot (plan_of script.now) entries.items) }
     ensures fault { IfErr result (λ f. (f ≡ ScriptFault.NoMemory) ⊎ (f ≡ ScriptFault.Stranger)) }
 {
