@@ -10,6 +10,7 @@
 #include <grp.h>
 #include <limits.h>
 #include <linux/sockios.h>
+#include <sched.h>
 #include <poll.h>
 #include <signal.h>
 #include <stdarg.h>
@@ -28,13 +29,14 @@
 #include <sys/resource.h>
 #include <sys/socket.h>
 #include <sys/stat.h>
+#include <sys/syscall.h>
 #include <sys/un.h>
 #include <sys/wait.h>
 #include <time.h>
 #include <unistd.h>
 
 enum {
-    MOST_PROCESSES = 64, MOST_OBJECTS = 64, MOST_DESCRIPTORS = 4096, CHANNEL = MOST_DESCRIPTORS, MOST_WORDS = 8,
+    MOST_PROCESSES = 1024, MOST_OBJECTS = 64, MOST_DESCRIPTORS = 4096, CHANNEL = MOST_DESCRIPTORS, MEMORY, MOST_WORDS = 8,
     LINE = 4096, MOST_BYTES = 1 << 20, CHUNK = 1 << 16, MOST_CONTROL = 1 << 16, MOST_ALIASES = 64, PREFIX = 9,
     KEPT_LENGTH = 90, FILLED = 1 << 15, SECONDS = 10, NOBODY = 65534, NO_DESCRIPTOR = INT_MAX, NO_PROCESS = 0x7ffffff0
 };
@@ -53,18 +55,25 @@ struct object {
     ino_t file;
 };
 
-/* What the children and their parent share: the processes' real numbers, and the real names that autobind gave. */
+/* What the children and their parent share: the processes with their real numbers, and the real names that autobind gave. */
 struct shared {
+    unsigned process_count;
+    struct process processes[MOST_PROCESSES + 1];
     pid_t pids[MOST_PROCESSES + 1];
     char aliases[MOST_ALIASES][6];
     unsigned char key[16];
 };
 
-static struct process processes[MOST_PROCESSES + 1];
 static struct object objects[MOST_OBJECTS];
-static unsigned process_count, object_count, me;
+static unsigned object_count, me;
 static struct shared *shared;
+static int memory = -1;
 static char prefix[PREFIX + 1];
+static const char GO_ON[] = "--go-on";
+
+static void set_prefix(void) {
+    for (int i = 0; i < PREFIX; i++) prefix[i] = (char)('A' + shared->key[i] % 26);
+}
 
 static void fail(const char *what) {
     perror(what);
@@ -115,7 +124,7 @@ static unsigned number_in(const char *word) { return (unsigned)strtoul(word, NUL
 /* A descriptor number that the script's process can have; any other is a number that is never open. */
 static int descriptor_in(const char *word) {
     unsigned number = number_in(word);
-    return number < processes[me].limit ? (int)number : NO_DESCRIPTOR;
+    return number < shared->processes[me].limit ? (int)number : NO_DESCRIPTOR;
 }
 
 static unsigned digit_in(char digit) { return digit <= '9' ? (unsigned)(digit - '0') : (unsigned)(digit - 'a' + 10); }
@@ -277,9 +286,9 @@ static void learn_name(int number) {
 /* ---- control buffers ---- */
 
 static struct ucred real_credentials(unsigned pid, unsigned uid, unsigned gid) {
-    struct process *own = &processes[me];
+    struct process *own = &shared->processes[me];
     struct ucred real = {.pid = NO_PROCESS};
-    if (pid >= 1 && pid <= process_count) real.pid = shared->pids[pid];
+    if (pid >= 1 && pid <= shared->process_count) real.pid = shared->pids[pid];
     real.uid = getuid() + (uid == own->uid ? 0 : 1);
     real.gid = getgid() + (gid == own->gid ? 0 : 1);
     return real;
@@ -287,14 +296,14 @@ static struct ucred real_credentials(unsigned pid, unsigned uid, unsigned gid) {
 
 /* Whether these are credentials that only a privileged process may give; the machine's user is none. */
 static int wants_privilege(unsigned pid, unsigned uid, unsigned gid) {
-    struct process *own = &processes[me];
+    struct process *own = &shared->processes[me];
     return own->privileged && (pid != me || uid != own->uid || gid != own->gid);
 }
 
 static void say_credentials(const struct ucred *real) {
-    for (unsigned i = 1; i <= process_count; i++) {
+    for (unsigned i = 1; i <= shared->process_count; i++) {
         if (shared->pids[i] == real->pid && real->uid == getuid() && real->gid == getgid()) {
-            say("%u,%u,%u", i, processes[i].uid, processes[i].gid);
+            say("%u,%u,%u", i, shared->processes[i].uid, shared->processes[i].gid);
             return;
         }
     }
@@ -590,6 +599,13 @@ static void do_recv(char **word) {
     say_address(&from);
 }
 
+static void set_limit(int what, unsigned long limit) {
+    struct rlimit both;
+    if (getrlimit(what, &both) < 0) _exit(2);
+    both.rlim_cur = limit;
+    if (setrlimit(what, &both) < 0) _exit(2);
+}
+
 static void do_poll(char **word) {
     static const struct { int flag; const char *name; } conditions[] = {
         {POLLIN, "IN"}, {POLLOUT, "OUT"}, {POLLRDHUP, "RDHUP"}, {POLLHUP, "HUP"}, {POLLERR, "ERR"}, {POLLNVAL, "NVAL"},
@@ -608,6 +624,40 @@ static void do_poll(char **word) {
     }
 }
 
+/* The child is one of this process's parent, which so hears of its end, and answers by the channel that came with the line. */
+static void do_fork(char **word) {
+    unsigned number = shared->process_count + 1;
+    (void)word;
+    if (passed < 0) {
+        not_tried("a fork where no descriptor is free");
+        return;
+    }
+    pid_t child = (pid_t)syscall(SYS_clone, CLONE_PARENT | SIGCHLD, 0, 0, 0, 0);
+    if (child == 0) {
+        me = number;
+        set_limit(RLIMIT_NOFILE, MEMORY);
+        if (dup2(passed, CHANNEL) < 0 || prctl(PR_SET_PDEATHSIG, SIGKILL) < 0) _exit(2);
+        set_limit(RLIMIT_NOFILE, shared->processes[me].limit);
+        reply_length = 0;
+    } else if (child > 0) {
+        shared->pids[number] = child;
+        say("child %u", number);
+    } else {
+        say_error();
+    }
+    close(passed);
+}
+
+/* This program once more, which finds in the memory who it is. It needs descriptors of its own to begin. */
+static void do_exec(char **word) {
+    char number[16];
+    (void)word;
+    snprintf(number, sizeof number, "%u", me);
+    set_limit(RLIMIT_NOFILE, MEMORY);
+    execl("/proc/self/exe", "linux_replay", GO_ON, number, NULL);
+    _exit(2);
+}
+
 static void do_exit(char **word) {
     (void)word;
     _exit(0);
@@ -623,7 +673,8 @@ static const struct {
     {"unlink", do_unlink, 0}, {"socket", do_socket, 0}, {"pair", do_pair, 0}, {"bind", do_bind, 1},
     {"listen", do_listen, 1}, {"connect", do_connect, 1}, {"accept", do_accept, 1}, {"shut", do_shut, 1},
     {"getopt", do_getopt, 1}, {"setopt", do_setopt, 1}, {"sockname", do_name, 1}, {"peername", do_name, 1},
-    {"send", do_send, 1}, {"recv", do_recv, 1}, {"poll", do_poll, 1}, {"exit", do_exit, 0},
+    {"send", do_send, 1}, {"recv", do_recv, 1}, {"poll", do_poll, 1}, {"fork", do_fork, 0}, {"exec", do_exec, 0},
+    {"exit", do_exit, 0},
 };
 
 /* ---- a child: one process of the script ---- */
@@ -687,13 +738,6 @@ static void say_to_parent(void) {
     }
 }
 
-static void set_limit(int what, unsigned long limit) {
-    struct rlimit both;
-    if (getrlimit(what, &both) < 0) _exit(2);
-    both.rlim_cur = limit;
-    if (setrlimit(what, &both) < 0) _exit(2);
-}
-
 /* A process of the superuser acts as nobody, so that no privilege of its own changes an answer. */
 static void become_ordinary(void) {
     if (geteuid() != 0) return;
@@ -701,24 +745,40 @@ static void become_ordinary(void) {
     if (setresuid(NOBODY, NOBODY, NOBODY) < 0) _exit(2);
 }
 
-static void live(int channel, pid_t parent) {
+static void answer_all(void) {
     static char line[LINE + 128];
-    become_ordinary();
-    if (prctl(PR_SET_PDEATHSIG, SIGKILL) < 0 || getppid() != parent) _exit(2);
-    if (dup2(channel, CHANNEL) < 0) _exit(2);
-    if (close_range(0, CHANNEL - 1, 0) < 0 || close_range(CHANNEL + 1, ~0u, 0) < 0) _exit(2);
-    signal(SIGPIPE, SIG_IGN);
-    signal(SIGXFSZ, SIG_IGN);
-    set_limit(RLIMIT_FSIZE, MOST_BYTES);
-    set_limit(RLIMIT_NOFILE, processes[me].limit);
-    reply_length = 0;
-    say("\n");
-    say_to_parent();
     while (hear(line)) {
         answer(line);
         say_to_parent();
     }
     _exit(0);
+}
+
+/* A process behind its exec: its limit is its own again. */
+static void go_on(unsigned number) {
+    shared = mmap(NULL, sizeof *shared, PROT_READ | PROT_WRITE, MAP_SHARED, MEMORY, 0);
+    if (shared == MAP_FAILED) _exit(2);
+    me = number;
+    set_prefix();
+    set_limit(RLIMIT_NOFILE, shared->processes[me].limit);
+    say("- ok\n");
+    say_to_parent();
+    answer_all();
+}
+
+static void live(int channel, pid_t parent) {
+    become_ordinary();
+    if (prctl(PR_SET_PDEATHSIG, SIGKILL) < 0 || getppid() != parent) _exit(2);
+    if (dup2(channel, CHANNEL) < 0 || dup2(memory, MEMORY) < 0) _exit(2);
+    if (close_range(0, CHANNEL - 1, 0) < 0 || close_range(MEMORY + 1, ~0u, 0) < 0) _exit(2);
+    signal(SIGPIPE, SIG_IGN);
+    signal(SIGXFSZ, SIG_IGN);
+    set_limit(RLIMIT_FSIZE, MOST_BYTES);
+    set_limit(RLIMIT_NOFILE, shared->processes[me].limit);
+    reply_length = 0;
+    say("\n");
+    say_to_parent();
+    answer_all();
 }
 
 /* ---- the parent ---- */
@@ -740,8 +800,8 @@ static void empty_folder(void) {
 /* Ends all that a run has begun: its processes and its folder. */
 static void clean_up(void) {
     if (home < 0 || is_child) return;
-    for (unsigned i = 1; i <= process_count; i++) {
-        if (shared->pids[i] == 0 || processes[i].has_exited) continue;
+    for (unsigned i = 1; i <= shared->process_count; i++) {
+        if (shared->pids[i] == 0 || shared->processes[i].has_exited) continue;
         kill(shared->pids[i], SIGKILL);
         waitpid(shared->pids[i], NULL, 0);
     }
@@ -779,15 +839,17 @@ static void catch_signals(void) {
 }
 
 static void make_shared(void) {
-    shared = mmap(NULL, sizeof *shared, PROT_READ | PROT_WRITE, MAP_SHARED | MAP_ANONYMOUS, -1, 0);
+    memory = memfd_create("linux_replay", 0);
+    if (memory < 0 || ftruncate(memory, sizeof *shared) < 0) fail("memfd_create");
+    shared = mmap(NULL, sizeof *shared, PROT_READ | PROT_WRITE, MAP_SHARED, memory, 0);
     if (shared == MAP_FAILED) fail("mmap");
     if (getrandom(shared->key, sizeof shared->key, 0) != sizeof shared->key) fail("getrandom");
-    for (int i = 0; i < PREFIX; i++) prefix[i] = (char)('A' + shared->key[i] % 26);
+    set_prefix();
 }
 
 static void add_process(char **word) {
-    if (process_count == MOST_PROCESSES) give_up("too many processes");
-    struct process *made = &processes[++process_count];
+    if (shared->process_count == MOST_PROCESSES) give_up("too many processes");
+    struct process *made = &shared->processes[++shared->process_count];
     unsigned limit = number_in(word[4]);
     *made = (struct process){.uid = number_in(word[1]), .gid = number_in(word[2]), .privileged = word[3][0] == '1'};
     made->limit = limit < 1 ? 1 : limit > MOST_DESCRIPTORS ? MOST_DESCRIPTORS : limit;
@@ -843,7 +905,7 @@ static void make_objects(void) {
 
 static void make_processes(void) {
     pid_t parent = getpid();
-    for (unsigned i = 1; i <= process_count; i++) {
+    for (unsigned i = 1; i <= shared->process_count; i++) {
         int ends[2];
         if (socketpair(AF_UNIX, SOCK_SEQPACKET | SOCK_CLOEXEC, 0, ends) < 0) fail("socketpair");
         pid_t child = fork();
@@ -855,7 +917,7 @@ static void make_processes(void) {
         }
         close(ends[1]);
         shared->pids[i] = child;
-        processes[i].channel = ends[0];
+        shared->processes[i].channel = ends[0];
     }
 }
 
@@ -907,7 +969,7 @@ static void hear_reply(struct process *process) {
 static void begin(void) {
     make_objects();
     make_processes();
-    for (unsigned i = 1; i <= process_count; i++) hear_reply(&processes[i]);
+    for (unsigned i = 1; i <= shared->process_count; i++) hear_reply(&shared->processes[i]);
 }
 
 /* An open of a pipe finds a reader, so that it needn't wait for one. An open of a counter is handed its descriptor. */
@@ -930,10 +992,30 @@ static void make_open(struct process *process, const char *line, char **word) {
 static void hear_end(struct process *process) {
     wait_for(process);
     if (recv(process->channel, reply, 1, 0) != 0) give_up("a process goes on");
-    waitpid(shared->pids[process - processes], NULL, 0);
+    waitpid(shared->pids[process - shared->processes], NULL, 0);
     close(process->channel);
     process->has_exited = 1;
     strcpy(reply, "- ok");
+}
+
+/* The process that forks is handed the channel of its child, which says a line when it has it. */
+static void make_fork(struct process *process, const char *line) {
+    struct process *child = &shared->processes[shared->process_count + 1];
+    char told[LINE];
+    int ends[2];
+    if (shared->process_count == MOST_PROCESSES) give_up("too many processes");
+    if (socketpair(AF_UNIX, SOCK_SEQPACKET | SOCK_CLOEXEC, 0, ends) < 0) fail("socketpair");
+    *child = *process;
+    child->calls = 0;
+    child->channel = ends[0];
+    tell(process, line, ends[1]);
+    close(ends[1]);
+    hear_reply(process);
+    if (strncmp(reply, "- child ", 8)) return;
+    snprintf(told, sizeof told, "%s", reply);
+    hear_reply(child);
+    shared->process_count++;
+    strcpy(reply, told);
 }
 
 static void make_call(struct process *process, const char *line) {
@@ -942,6 +1024,10 @@ static void make_call(struct process *process, const char *line) {
     words_in(copy, word);
     if (strcmp(word[1], "open") == 0) {
         make_open(process, line, word);
+        return;
+    }
+    if (strcmp(word[1], "fork") == 0) {
+        make_fork(process, line);
         return;
     }
     tell(process, line, -1);
@@ -1040,7 +1126,7 @@ static void print_call(unsigned pid, const char *word, char *told) {
     char *rest = strchr(told, ' ');
     see_what_goes(gone);
     if (kinds) fprintf(kinds, "%.*s\n", (int)(rest - told), told);
-    printf("%u %u %u %s = %s", call_count++, pid, processes[pid].calls++, word, rest + 1);
+    printf("%u %u %u %s = %s", call_count++, pid, shared->processes[pid].calls++, word, rest + 1);
     print_what_goes(gone);
     forget_names();
 }
@@ -1050,16 +1136,16 @@ static void run_line(const char *line) {
     char word[LINE + 1] = "";
     sscanf(line, "%*u %4095s", word);
     if (strcmp(word, "wait") == 0) return;
-    if (pid < 1 || pid > process_count || processes[pid].has_exited || strlen(line) > LINE) give_up("a bad line");
-    make_call(&processes[pid], line);
+    if (pid < 1 || pid > shared->process_count || shared->processes[pid].has_exited || strlen(line) > LINE) give_up("a bad line");
+    make_call(&shared->processes[pid], line);
     print_call(pid, word, reply);
 }
 
 static void exit_all(void) {
     char line[32];
-    for (unsigned i = 1; i <= process_count; i++) {
+    for (unsigned i = 1; i <= shared->process_count; i++) {
         snprintf(line, sizeof line, "%u exit", i);
-        if (!processes[i].has_exited) run_line(line);
+        if (!shared->processes[i].has_exited) run_line(line);
     }
 }
 
@@ -1116,6 +1202,7 @@ static void run_script(char *text) {
 }
 
 int main(int count, char **words) {
+    if (count == 3 && strcmp(words[1], GO_ON) == 0) go_on(number_in(words[2]));
     if (count < 2 || count > 3) {
         fprintf(stderr, "usage: linux_replay SCRIPT [FILE]   FILE gets what each call's descriptor led to\n");
         return 2;
@@ -1125,7 +1212,7 @@ int main(int count, char **words) {
     struct rlimit most;
     if (getrlimit(RLIMIT_NOFILE, &most) < 0) fail("linux_replay");
     most.rlim_cur = most.rlim_max;
-    if (most.rlim_max <= CHANNEL + 1 || setrlimit(RLIMIT_NOFILE, &most) < 0) give_up("too few descriptors are allowed");
+    if (most.rlim_max <= MEMORY + 1 || setrlimit(RLIMIT_NOFILE, &most) < 0) give_up("too few descriptors are allowed");
     make_shared();
     catch_signals();
     atexit(clean_up);
