@@ -6,11 +6,11 @@ use crate::rows::{FILE, PAIR_AND_CLOSES, Requests, Row, named};
 use anyhow::{Result, anyhow};
 use std::alloc::Global;
 use std::sync::ledger::Blank;
-use ux_history::{Book, BookName, Share, is_last};
+use ux_history::{Book, BookName, Share, has_own_call};
 use ux_kernel::Kernel;
 use ux_objects::MemFile;
 use ux_state::RetiredList;
-use ux_types::{Name, Pid, ProcSpec, Reply, Request, SockType};
+use ux_types::{Done, Name, Pid, ProcSpec, Reply, Request, SockType};
 
 /// A user's process with the greatest table.
 const PROCESS: ProcSpec = ProcSpec {
@@ -32,7 +32,8 @@ pub(crate) const CALLER: Pid = Pid(1);
 
 /// Where calls are made.
 pub(crate) trait Layer {
-    /// Makes a call, if the process lives, and answers whether it was granted.
+    /// Makes a call, if the process lives, and answers whether it was granted. A book is asked for no fork, no exit and
+    /// no end of the layer, for which it has functions of their own.
     fn ask(&mut self, pid: Pid, request: &Request) -> bool;
 }
 
@@ -144,13 +145,17 @@ impl Layer for Stepped {
         let tag = self.tag;
         self.tag = tag.wrapping_add(1);
         self.retired.clear();
-        is_granted(self.kernel.step(pid, tag, request, &mut self.retired))
+        let Done {
+            reply,
+            delivered: _,
+        } = self.kernel.step(pid, tag, request, &mut self.retired);
+        is_granted(reply)
     }
 }
 
 impl<W: BookName> Layer for Recorded<W> {
     fn ask(&mut self, pid: Pid, request: &Request) -> bool {
-        if is_last(request) || pid.0 == 0 {
+        if has_own_call(request) || pid.0 == 0 {
             return false;
         }
         let Some(share) = self.shares.get_mut(pid.0 as usize - 1) else {

@@ -5,7 +5,7 @@ use anyhow::{Result, anyhow};
 use std::alloc::Global;
 use std::sync::Wait;
 use std::time::Duration;
-use ux_history::{Book, BookName, CallBook, is_last};
+use ux_history::{Book, BookName, CallBook, has_own_call};
 use ux_layer::Seat;
 use ux_objects::MemFile;
 use ux_types::Request;
@@ -43,8 +43,8 @@ impl<W: BookName, B: CallBook<W, MemFile>> Worker<W, B> {
 
     /// Makes a call, and answers whether it was granted.
     fn call<R: Wait>(&mut self, rt: &R, request: &Request) -> Result<bool> {
-        if is_last(request) {
-            return Ok(false);
+        if has_own_call(request) {
+            return Err(anyhow!("a fork or an exit isn't measured by a seat's call"));
         }
         let made = match self.way {
             Way::Call => self.seat.call(rt, request),

@@ -51,6 +51,7 @@ fn entries_of(alloc: Global, script: Script) -> Result<Vec<Entry>, AllocError> {
                 from: None,
             },
             released: Released::new(),
+            delivered: None,
         })?;
     }
     Ok(entries)

@@ -115,6 +115,8 @@ const SCRIPTS: &[&str] = &[
     "poll_of_a_half_closed_connection",
     "failed_read",
     "which_calls_fail",
+    "exec_closes_what_is_marked",
+    "child_at_the_other_end",
 ];
 
 /// A file object as a kernel holds it.

@@ -1,14 +1,15 @@
 //! A script whose calls are made by the seats of its processes, in the order of its lines.
 
-ghost use Rattle.std.specs.Prelude.{◌≡◌, false, []};
+ghost use Rattle.std.specs.Prelude.{◌≡◌, []};
 ghost use Rattle.ux_model.specs.Boot.{IsBootState};
-ghost use Rattle.ux_history.specs.Books.{is_last};
 
 use anyhow::{Result, anyhow};
 use std::alloc::Global;
 use std::sync::Wait;
 use std::sync::ledger::Blank;
-use ux_history::{Book, BookName, CallBook, Receipt, Spent, Trail, Trailing, is_last};
+use ux_history::{
+    Book, BookName, CallBook, CallFault, Receipt, Spent, Trail, Trailing, has_own_call,
+};
 use ux_kernel::Kernel;
 use ux_layer::{Layer, Seat, start, start_running};
 use ux_object::FileObject;
@@ -81,28 +82,41 @@ impl<W: BookName, O: FileObject, B: CallBook<W, O>> Hall<W, O, B> {
         }
     }
 
-    /// Makes a call of a process that lives, which must be answered as the next entry of this history.
+    /// Makes a call of a process that lives, which must be answered as the next entry of this history. The seat of a
+    /// process that it makes is kept.
     fn call<R: Wait>(
         &mut self,
         rt: &R,
         history: &[Entry],
         pid: Pid,
         request: &Request,
-    ) -> Result<()>
-        requires { is_last request.now ≡ false }
-    {
+    ) -> Result<()> {
         let Some(seat) = self.place(pid)? else {
             return Err(anyhow!("a call after the exit"));
         };
-        match seat.call(rt, request) {
-            Ok((reply, slip)) => {
+        match ask(rt, seat, request) {
+            Ok((reply, slip, child)) => {
                 self.is_alike = self.is_alike && is_answer_of(history.get(self.made), reply);
                 self.made = self.made.wrapping_add(1);
                 self.slips.push(slip)?;
-                Ok(())
+                self.keep(child)
             }
             Err(fault) => Err(anyhow!("{fault}")),
         }
+    }
+
+    /// Puts the seat of a process that was made behind all others, whose place is that of its number.
+    fn keep(&mut self, child: Option<Seat<W, O, B>>) -> Result<()> {
+        let Some(seat) = child else {
+            return Ok(());
+        };
+        if seat.pid().0 as usize != self.seats.len().wrapping_add(1) {
+            return Err(anyhow!("a process with another number"));
+        }
+        if self.seats.push(Some(seat)).is_err() {
+            return Err(anyhow!("out of memory"));
+        }
+        Ok(())
     }
 
     /// Ends a process, if it hasn't exited.
@@ -125,7 +139,7 @@ impl<W: BookName, O: FileObject, B: CallBook<W, O>> Hall<W, O, B> {
         for line in &script.lines {
             match &line.act {
                 Act::Wait(..) => {}
-                Act::Call(request) if is_last(request) => self.exit(rt, line.pid)?,
+                Act::Call(Request::Exit) => self.exit(rt, line.pid)?,
                 Act::Call(request) => self.call(rt, history, line.pid, request)?,
             }
         }
@@ -140,6 +154,21 @@ impl<W: BookName, O: FileObject, B: CallBook<W, O>> Hall<W, O, B> {
             self.exit(rt, pid)?;
         }
         Ok(())
+    }
+}
+
+/// Makes a call that is no exit. A fork gives the seat of the process that it makes.
+fn ask<W: BookName, O: FileObject, B: CallBook<W, O>, R: Wait>(
+    rt: &R,
+    seat: &mut Seat<W, O, B>,
+    request: &Request,
+) -> Result<(Reply, B::Slip, Option<Seat<W, O, B>>), CallFault> {
+    if has_own_call(request) {
+        return seat.fork(rt);
+    }
+    match seat.call(rt, request) {
+        Ok((reply, slip)) => Ok((reply, slip, None)),
+        Err(fault) => Err(fault),
     }
 }
 

@@ -1,8 +1,10 @@
-//! The layer as a library: one process without threads, then two threads as processes.
+//! The layer as a library: one process without threads, then two threads as processes, then a process that makes
+//! another.
 #![tactic(auto)]
 
 mod one_process;
 mod relying;
+mod service_manager;
 mod two_threads;
 
 use anyhow::Result;
@@ -23,5 +25,6 @@ fn print_history<W: BookName>(
 
 fn main(rt: HostRuntime) -> Result<()> {
     one_process::run(&rt)?;
-    two_threads::run(&rt)
+    two_threads::run(&rt)?;
+    service_manager::run(&rt)
 }

@@ -10,7 +10,7 @@ use bstr::BString;
 use std::alloc::Global;
 use std::marker::Brand;
 use std::sync::ledger::Blank;
-use ux_history::{Account, Book, BookName, PARTS, Share, is_last, settle_accounts};
+use ux_history::{Account, Book, BookName, PARTS, Share, has_own_call, settle_accounts};
 use ux_kernel::Kernel;
 use ux_objects::MemFile;
 use ux_state::RetiredList;
@@ -69,9 +69,9 @@ fn make_calls<W: BookName>(
     requests: &[Request],
 ) -> Result<()> {
     for request in requests {
-        // The last call of a process is an exit of its share.
-        if is_last(request) {
-            return Err(anyhow!("an exit isn't recorded"));
+        // A process makes another one, and exits, by functions of the book's own.
+        if has_own_call(request) {
+            return Err(anyhow!("a fork or an exit isn't recorded so"));
         }
         // The file objects that went with the call before, closed, are dropped here.
         retired.clear();

@@ -3,7 +3,7 @@
 //! history is compared with what the processes counted, with their receipts, and with a second run of its calls.
 ghost use Rattle.std.specs.Prelude.{◌≡◌, false, IfOk};
 ghost use Rattle.ux_model.specs.Boot.{IsBootState};
-ghost use Rattle.ux_history.specs.Books.{is_last};
+ghost use Rattle.ux_history.specs.Books.{has_own_call};
 
 use crate::print_history;
 use crate::relying::{close, entries_made, stands};
@@ -161,16 +161,16 @@ fn let_go<W: BookName, R: Wait>(
 }
 
 /// Makes these calls, each of which waits until it can be done, and keeps their receipts.
-fn make_calls<W: BookName, R: Wait>(
+pub(crate) fn make_calls<W: BookName, R: Wait>(
     rt: &R,
     seat: &mut Seat<W, MemFile>,
     receipts: &mut Vec<Receipt<W>>,
     requests: &[Request],
 ) -> Result<()> {
     for request in requests {
-        // A process exits by its seat.
-        if ux_history::is_last(request) {
-            return Err(anyhow!("an exit isn't a call"));
+        // A process makes another one, and exits, by functions of its seat's own.
+        if ux_history::has_own_call(request) {
+            return Err(anyhow!("a fork or an exit isn't a call"));
         }
         match seat.call_blocking(rt, request) {
             Ok((reply, receipt)) => {
@@ -227,7 +227,7 @@ fn worker<W: BookName, R: Wait>(
 }
 
 /// Whether each of these receipts stands in the book. That its call stands in some legal history needs no look.
-fn holds_all<W: BookName>(book: &Book<W, MemFile>, receipts: &[Receipt<W>]) -> bool {
+pub(crate) fn holds_all<W: BookName>(book: &Book<W, MemFile>, receipts: &[Receipt<W>]) -> bool {
     for receipt in receipts {
         stands(receipt);
         if !book.holds(receipt) {
@@ -257,7 +257,7 @@ fn settle<W: BookName, R: Wait + Print + AllocGlobal>(
         return Err(anyhow!("a receipt doesn't stand"));
     }
     println!(rt; "each receipt stands")?;
-    check(rt, guard.book())
+    check(rt, guard.book(), boot(rt.alloc())?)
 }
 
 /// How many entries the accounts of both settle with.
@@ -271,8 +271,11 @@ fn settle_both<W: BookName, R: Wait + AllocGlobal>(
 }
 
 /// Makes the history's calls once more, on another kernel.
-fn check<W: BookName>(rt: &(impl Print + AllocGlobal), book: &Book<W, MemFile>) -> Result<()> {
-    let again = boot(rt.alloc())?;
+pub(crate) fn check<W: BookName>(
+    rt: &(impl Print + AllocGlobal),
+    book: &Book<W, MemFile>,
+    again: Kernel<MemFile>,
+) -> Result<()> {
     match check_history(rt.alloc(), book.entries(), again) {
         Ok(count) => println!(rt; "check ok {count}")?,
         Err(number) => return Err(anyhow!("check differs at {number}")),

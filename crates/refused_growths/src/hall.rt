@@ -1,8 +1,7 @@
 //! A script whose calls are made by the seats of its processes, with little memory or with none.
 
-ghost use Rattle.std.specs.Prelude.{◌≡◌, false};
+ghost use Rattle.std.specs.Prelude.{◌≡◌};
 ghost use Rattle.ux_model.specs.Boot.{IsBootState};
-ghost use Rattle.ux_history.specs.Books.{is_last};
 
 use crate::scarcity::{STEPS, Supply, bytes_at};
 use anyhow::{Result, anyhow};
@@ -10,7 +9,7 @@ use hoard::Purse;
 use std::alloc::{AllocError, Global};
 use std::sync::Wait;
 use std::sync::ledger::Blank;
-use ux_history::{Book, BookName, CallFault, Receipt, Spent, is_last};
+use ux_history::{Book, BookName, CallFault, Receipt, Spent, has_own_call};
 use ux_kernel::Kernel;
 use ux_layer::{Layer, Seat, start};
 use ux_objects::Plain;
@@ -53,15 +52,16 @@ enum Made {
 }
 
 impl<W: BookName> Hall<W> {
-    /// Room for what so many calls leave is taken here.
+    /// Room for what so many calls leave, and for the seats that they make, is taken here.
     fn new(
         alloc: Global,
         layer: Layer<W, Plain>,
         seats: Vec<Seat<W, Plain>>,
         calls: usize,
     ) -> Result<Hall<W>> {
-        let mut places = Vec::with_capacity(alloc, seats.len())?;
-        let spents = Vec::with_capacity(alloc, seats.len())?;
+        let most = seats.len().saturating_add(calls);
+        let mut places = Vec::with_capacity(alloc, most)?;
+        let spents = Vec::with_capacity(alloc, most)?;
         for seat in seats {
             if places.push(Some(seat)).is_err() {
                 return Err(anyhow!("out of memory"));
@@ -89,8 +89,8 @@ impl<W: BookName> Hall<W> {
         }
     }
 
-    /// Makes a call, and sees that it counts where an entry was made, and not where none was. Where so many bytes
-    /// are named, no more is left for it.
+    /// Makes a call that is no exit, and sees that it counts where an entry was made, and not where none was. Where so
+    /// many bytes are named, no more is left for it.
     fn call<R: Wait + AllocGlobal>(
         &mut self,
         rt: &R,
@@ -98,9 +98,7 @@ impl<W: BookName> Hall<W> {
         bytes: Option<usize>,
         pid: Pid,
         request: &Request,
-    ) -> Result<Made>
-        requires { is_last request.now ≡ false }
-    {
+    ) -> Result<Made> {
         let before = self.entries(rt);
         let Some(seat) = self.seat(pid) else {
             return Err(anyhow!("a call after the exit"));
@@ -109,20 +107,21 @@ impl<W: BookName> Hall<W> {
         if let Some(bytes) = bytes {
             purse.leave(rt.alloc(), bytes);
         }
-        let answer = seat.call(rt, request);
+        let answer = ask(rt, seat, request);
         if bytes.is_some() {
             purse.open();
         }
         let counted = seat.calls().wrapping_sub(calls);
         let entered = self.entries(rt).wrapping_sub(before);
         match answer {
-            Ok((reply, receipt)) => {
+            Ok((reply, receipt, child)) => {
                 let refused = matches!(reply, Reply::Err(Errno::ENOMEM));
                 drop(reply);
                 self.receipts.push(receipt)?;
                 if (counted, entered) != (1, 1) {
                     return Err(anyhow!("an answer without an entry"));
                 }
+                self.keep(child)?;
                 Ok(if refused {
                     Made::Refused
                 } else {
@@ -134,6 +133,20 @@ impl<W: BookName> Hall<W> {
         }
     }
 
+    /// Puts the seat of a process that was made behind all others, whose place is that of its number.
+    fn keep(&mut self, child: Option<Seat<W, Plain>>) -> Result<()> {
+        let Some(seat) = child else {
+            return Ok(());
+        };
+        if seat.pid().0 as usize != self.seats.len().wrapping_add(1) {
+            return Err(anyhow!("a process with another number"));
+        }
+        if self.seats.push(Some(seat)).is_err() {
+            return Err(anyhow!("out of memory"));
+        }
+        Ok(())
+    }
+
     /// Makes a call with no memory, and with more while it is refused.
     fn call_at_last<R: Wait + AllocGlobal>(
         &mut self,
@@ -141,9 +154,7 @@ impl<W: BookName> Hall<W> {
         purse: &mut Purse,
         pid: Pid,
         request: &Request,
-    ) -> Result<()>
-        requires { is_last request.now ≡ false }
-    {
+    ) -> Result<()> {
         for step in 0..STEPS {
             if self.call(rt, purse, Some(bytes_at(step)), pid, request)? == Made::Answered {
                 return Ok(());
@@ -174,7 +185,8 @@ impl<W: BookName> Hall<W> {
         }
     }
 
-    /// Makes a line's call, which is the script's call of this number.
+    /// Makes a line's call, which is the script's call of this number. A process that a refused fork didn't make
+    /// makes none.
     fn make<R: Wait + AllocGlobal>(
         &mut self,
         rt: &R,
@@ -187,10 +199,11 @@ impl<W: BookName> Hall<W> {
         if matches!(supply, Supply::NoneAfter(calls) if calls == number) {
             purse.refill(rt.alloc());
         }
-        if is_last(request) {
+        if matches!(request, Request::Exit) {
             return self.exit(rt, pid);
         }
         match supply {
+            Supply::NoneAfter(_) if pid.0 as usize > self.seats.len() => Ok(()),
             Supply::Scarce(_) => self.call_at_last(rt, purse, pid, request),
             Supply::NoneAfter(calls) if calls <= number => {
                 self.call(rt, purse, None, pid, request)?;
@@ -257,6 +270,21 @@ impl<W: BookName> Hall<W> {
             Ok(_account) => Err(anyhow!("a receipt or an entry is lost")),
             Err((fault, _spents)) => Err(anyhow!("{fault}")),
         }
+    }
+}
+
+/// Makes a call that is no exit. A fork gives the seat of the process that it makes.
+fn ask<W: BookName, R: Wait>(
+    rt: &R,
+    seat: &mut Seat<W, Plain>,
+    request: &Request,
+) -> Result<(Reply, Receipt<W>, Option<Seat<W, Plain>>), CallFault> {
+    if has_own_call(request) {
+        return seat.fork(rt);
+    }
+    match seat.call(rt, request) {
+        Ok((reply, receipt)) => Ok((reply, receipt, None)),
+        Err(fault) => Err(fault),
     }
 }
 

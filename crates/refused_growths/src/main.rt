@@ -55,6 +55,7 @@ const SCRIPTS: &[&str] = &[
     "limit_of_rights_in_flight",
     "given_credentials",
     "options_and_readiness",
+    "fork_and_exec",
 ];
 
 /// The file objects of a script.
@@ -130,7 +131,8 @@ fn is_refused(entry: &Entry) -> bool {
     matches!(entry.reply, Reply::Err(Errno::ENOMEM))
 }
 
-/// Whether a history is that of another run, but for calls that were refused memory.
+/// Whether a history is that of another run, but for calls that were refused memory. Those count, so a message may have
+/// another tag.
 fn is_but_for_refusals(history: &[Entry], undisturbed: &[Entry]) -> bool {
     let mut rest = undisturbed.iter();
     for entry in history {
@@ -144,6 +146,7 @@ fn is_but_for_refusals(history: &[Entry], undisturbed: &[Entry]) -> bool {
             || entry.request != other.request
             || entry.reply != other.reply
             || entry.released != other.released
+            || entry.delivered.is_some() != other.delivered.is_some()
         {
             return false;
         }

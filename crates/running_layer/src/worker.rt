@@ -1,6 +1,6 @@
 //! What each thread does: it sends itself one byte over a pair, and receives it, again and again.
 ghost use Rattle.std.specs.Prelude.{◌≡◌, false, IfOk};
-ghost use Rattle.ux_history.specs.Books.{is_last};
+ghost use Rattle.ux_history.specs.Books.{has_own_call};
 
 use anyhow::{Result, anyhow};
 use std::alloc::Global;
@@ -28,7 +28,7 @@ const RECEIVE: Request = Request::RecvMsg {
 
 /// A send of a byte at 0.
 fn send(alloc: Global) -> Result<Request>
-    ensures { IfOk result (λ request. is_last request ≡ false) }
+    ensures { IfOk result (λ request. has_own_call request ≡ false) }
 {
     Ok(Request::SendMsg {
         fd: Fd(0),
@@ -76,7 +76,7 @@ fn call<W: Trailing, R: Wait>(
     seat: &mut RunningSeat<W, MemFile>,
     request: &Request,
 ) -> Result<Witness<W>>
-    requires { is_last request.now ≡ false }
+    requires { has_own_call request.now ≡ false }
 {
     match seat.call(rt, request) {
         Ok((Reply::Err(refused), _witness)) => Err(anyhow!("a call was refused: {refused}")),
@@ -92,7 +92,7 @@ fn exchange<W: Trailing, R: Wait>(
     send: &Request,
     more: u64,
 ) -> Result<Witness<W>>
-    requires { is_last send.now ≡ false }
+    requires { has_own_call send.now ≡ false }
 {
     for _ in 0..more {
         call(rt, seat, send)?;

@@ -1,5 +1,6 @@
 //! The command line.
 
+use clap::error::ErrorKind;
 use clap::{Arg, ArgAction, Command, Error};
 use std::alloc::Global;
 
@@ -13,6 +14,8 @@ pub struct Args<'a> {
     pub threads: bool,
     /// Whether the history is made once more, and compared.
     pub check: bool,
+    /// Of how many of the first calls it is told who came to which descriptor through whom, if it is.
+    pub audit: Option<u32>,
     /// A path, or `-` for standard input.
     pub script: &'a str,
 }
@@ -27,22 +30,49 @@ pub fn read_args<'a>(alloc: Global, words: &'a [String]) -> Result<Args<'a>, Err
         .long("check")
         .action(ArgAction::SetTrue)
         .help("Makes the calls of the trace once more, on a second kernel, and compares");
+    let audit = Arg::new(alloc, "audit")
+        .long("audit")
+        .value_name("N")
+        .action(ArgAction::Set)
+        .help(
+            "Tells which descriptors are open after the first N calls, and how each came to its process",
+        );
     let threads = Arg::new(alloc, "threads")
         .long("threads")
         .action(ArgAction::SetTrue)
         .help(
             "Makes the calls of each process in a thread of its own, where they wait if they have to",
         );
-    let command = Command::new(alloc, "uxrun")
+    let mut command = Command::new(alloc, "uxrun")
         .about("Runs a script of socket calls and prints its trace")
         .version(VERSION)
         .arg(threads)?
         .arg(check)?
+        .arg(audit)?
         .arg(script)?;
-    let matches = command.try_get_matches_from(words)?;
+    let matches = command.try_get_matches_from_mut(words)?;
+    let audit = match matches.get_str("audit") {
+        Some(text) => match number_of(text) {
+            Some(number) => Some(number),
+            None => return Err(command.error(ErrorKind::ValueValidation, NO_NUMBER)?),
+        },
+        None => None,
+    };
     Ok(Args {
         threads: matches.get_flag("threads"),
         check: matches.get_flag("check"),
+        audit,
         script: matches.get_str("SCRIPT").unwrap_or("-"),
     })
+}
+
+/// Why the value of `--audit` isn't taken.
+const NO_NUMBER: &str = "N of --audit is a number from 0 to 4294967295, without leading zeros";
+
+/// The number that is written so, as numbers are in scripts: in decimal, without leading zeros.
+fn number_of(text: &str) -> Option<u32> {
+    if text.starts_with('+') || (text.starts_with('0') && text.len() > 1) {
+        return None;
+    }
+    text.parse().ok()
 }

@@ -5,6 +5,7 @@ use thiserror::Error;
 use ux_kernel::BootFault;
 use ux_object::ObjError;
 use ux_syntax::ScriptFault;
+use ux_types::{Fd, Pid};
 
 /// Why no whole trace was printed. Its text stands behind `uxrun: ` on standard error.
 #[derive(Debug, Drop, Error)]
@@ -18,6 +19,9 @@ pub enum Fault {
     /// A call that was made once more, with this number in the trace, wasn't answered as the first time.
     #[error("check differs at {0}")]
     Differs(u64),
+    /// The chain of holdings of this process's descriptor isn't its pedigree.
+    #[error("audit fails at {} {}", .0.0, .1.0)]
+    Audit(Pid, Fd),
 }
 
 impl From<ScriptFault> for Fault {

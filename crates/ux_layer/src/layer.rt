@@ -290,7 +290,10 @@ fn retired_lists<O: FileObject>(
 }
 
 /// One more owner. No program makes so many that there is none left.
-pub(crate) fn another<B: Drop, R: Wait>(rt: &R, shared: &Arc<Shared<B>, Global>) -> Arc<Shared<B>, Global> {
+pub(crate) fn another<B: Drop, R: Wait>(
+    rt: &R,
+    shared: &Arc<Shared<B>, Global>,
+) -> Arc<Shared<B>, Global> {
     for _ in rt.forever() {
         if let Ok(more) = Arc::try_clone(shared) {
             return more;

@@ -1,10 +1,10 @@
 //! What stays of a call in the history: shares, entries, receipts, and the accounts settled.
 ghost use Rattle.std.specs.Prelude.{◌≡◌, [], false, length};
 ghost use Rattle.ux_model.specs.Boot.{IsBootState};
-ghost use Rattle.ux_history.specs.Books.{is_last};
+ghost use Rattle.ux_history.specs.Books.{has_own_call};
 
 use bstr::BString;
-use hoard::Hoard;
+use hoard::{Hoard, Purse};
 use std::alloc::{AllocError, Global};
 use std::marker::Brand;
 use std::process::Abort;
@@ -33,7 +33,7 @@ const PAIR: Request = Request::SocketPair {
 
 /// A receive of one byte by the number 0.
 const fn receive(flags: MsgFlags) -> Request
-    ensures { is_last result ≡ false }
+    ensures { has_own_call result ≡ false }
 {
     Request::RecvMsg {
         fd: Fd(0),
@@ -96,7 +96,7 @@ fn answer_of<W: BookName>(
     request: Request,
     number: usize,
 ) -> Reply
-    requires { is_last request ≡ false }
+    requires { has_own_call request ≡ false }
 {
     shelf.retired.clear();
     let made = shelf
@@ -115,7 +115,7 @@ fn answer_of<W: BookName>(
 
 /// Whether a call is tried and would have to wait.
 fn would_wait<W: BookName>(shelf: &mut Shelf<W>, request: Request) -> bool
-    requires { is_last request ≡ false }
+    requires { has_own_call request ≡ false }
 {
     shelf.retired.clear();
     let tried = shelf
@@ -135,7 +135,7 @@ fn would_wait<W: BookName>(shelf: &mut Shelf<W>, request: Request) -> bool
 
 /// Whether a call lacks memory.
 fn lacks_memory<W: BookName>(shelf: &mut Shelf<W>, request: Request) -> bool
-    requires { is_last request ≡ false }
+    requires { has_own_call request ≡ false }
 {
     shelf.retired.clear();
     let made = shelf
@@ -154,7 +154,7 @@ fn lacks_memory<W: BookName>(shelf: &mut Shelf<W>, request: Request) -> bool
 
 /// Whether a call that is tried lacks memory.
 fn lacks_memory_when_tried<W: BookName>(shelf: &mut Shelf<W>, request: Request) -> bool
-    requires { is_last request ≡ false }
+    requires { has_own_call request ≡ false }
 {
     shelf.retired.clear();
     let tried = shelf
@@ -392,5 +392,133 @@ fn refuse_book<W: BookName>(
         panic!(rt; "a book without memory");
     };
     assert!(rt; kernel.is_live(Pid(1)) && kernel.process_count() == 1);
+    Ok(())
+}
+
+/// The steps in which more is left, of 16 bytes each.
+const STEPS: usize = 3800;
+
+/// How a fork went.
+#[derive(Clone, Copy, Debug, PartialEq, Eq)]
+enum Forked {
+    /// The book was refused memory, and made no entry.
+    Refused,
+    /// The kernel was refused memory, which is an entry.
+    Told,
+    /// There is a process 2 that has made no call.
+    Child,
+    Otherwise,
+}
+
+impl Forked {
+    /// How many calls, entries and processes there are more.
+    fn more(self) -> (u64, usize, usize) {
+        match self {
+            Forked::Refused | Forked::Otherwise => (0, 0, 0),
+            Forked::Told => (1, 1, 0),
+            Forked::Child => (1, 1, 1),
+        }
+    }
+}
+
+/// What a fork's answer tells.
+fn outcome_of<W: BookName>(reply: Reply, child: Option<Share<W>>) -> Forked {
+    let Some(share) = child else {
+        if reply == Reply::Err(Errno::ENOMEM) {
+            return Forked::Told;
+        }
+        return Forked::Otherwise;
+    };
+    if reply == Reply::Child(Pid(2)) && share.pid() == Pid(2) && share.calls() == 0 {
+        return Forked::Child;
+    }
+    Forked::Otherwise
+}
+
+/// Forks while so many bytes are left.
+fn fork_with<W: BookName>(
+    alloc: Global,
+    shelf: &mut Shelf<W>,
+    purse: &mut Purse,
+    bytes: usize,
+) -> Forked {
+    shelf.retired.clear();
+    purse.leave(alloc, bytes);
+    let made = shelf.kept.book.fork(&mut shelf.share, &mut shelf.retired);
+    purse.open();
+    match made {
+        Ok((Recorded { reply, receipt }, child)) => {
+            drop(receipt);
+            outcome_of(reply, child)
+        }
+        Err(CallFault::NoMemory) => Forked::Refused,
+        Err(_) => Forked::Otherwise,
+    }
+}
+
+/// How many calls the share has made, and how many entries and processes the book has.
+fn counts<W: BookName>(shelf: &Shelf<W>) -> (u64, usize, usize) {
+    let book = &shelf.kept.book;
+    (
+        shelf.share.calls(),
+        book.entries().len(),
+        book.process_count(),
+    )
+}
+
+/// Forks with no memory, and with more while that is refused, and tells how often it was. What is refused leaves book
+/// and share as they were, but for an entry that tells it.
+fn fork_at_last<W: BookName>(
+    rt: &impl Abort,
+    alloc: Global,
+    shelf: &mut Shelf<W>,
+    purse: &mut Purse,
+) -> usize {
+    for step in 0..STEPS {
+        let (calls, entries, processes) = counts(shelf);
+        let outcome = fork_with(alloc, shelf, purse, step * 16);
+        let more = outcome.more();
+        let now = counts(shelf);
+        assert!(rt; outcome != Forked::Otherwise);
+        assert_eq!(rt; now.0, calls.wrapping_add(more.0));
+        assert_eq!(rt; now.1, entries.wrapping_add(more.1));
+        assert_eq!(rt; now.2, processes.wrapping_add(more.2));
+        if outcome == Forked::Child {
+            return step;
+        }
+    }
+    panic!(rt; "no child");
+}
+
+#[test]
+fn a_fork_that_is_refused_memory_makes_no_process(rt: HostRuntime) -> Result<(), Fail> {
+    let alloc = rt.alloc();
+    let Ok(kernel) = Kernel::boot(alloc, Vec::new(alloc), &ONE) else {
+        return Err(Fail::from("no kernel"));
+    };
+    refuse_forks::<Brand>(&rt, alloc, Blank::new(PARTS), kernel)?;
+    Ok(())
+}
+
+fn refuse_forks<W: BookName>(
+    rt: &impl Abort,
+    alloc: Global,
+    blank: Blank,
+    kernel: Kernel<Counter>,
+) -> Result<(), AllocError>
+    requires name { blank.name ≡ W.name }
+    requires parts { (blank.parts ≡ W.parts) × (blank.parts ≡ 1024) }
+    requires boots { IsBootState kernel }
+    requires named { kernel ≡ W.boot }
+{
+    let mut shelf = make_shelf::<W>(alloc, blank, kernel)?;
+    let s = &mut shelf;
+    let reply = answer_of(rt, s, PAIR, 0);
+    assert_eq!(rt; reply, Reply::Fds(Fd(0), Fd(1)));
+    drop(reply);
+    let mut purse = Purse::new(alloc)?;
+    let refusals = fork_at_last(rt, alloc, s, &mut purse);
+    drop(purse);
+    assert!(rt; refusals > 0);
     Ok(())
 }

@@ -22,8 +22,8 @@ use ux_kernel::Kernel;
 use ux_objects::{Counter, Plain};
 use ux_state::RetiredList;
 use ux_types::{
-    Addr, Bytes, Cred, Errno, Fd, Mode, MsgFlags, Name, OpenFlags, Pid, PollFlags, ProcSpec, Reply,
-    Request, SockOpt, SockType,
+    Addr, Bytes, Cred, Done, Errno, Fd, Mode, MsgFlags, Name, OpenFlags, Pid, PollFlags, ProcSpec,
+    Reply, Request, SockOpt, SockType,
 };
 
 /// A user's process with this descriptor limit.
@@ -186,7 +186,10 @@ fn ask(machine: &mut Machine, pid: u32, request: &Request) -> Option<Reply> {
         return None;
     }
     machine.retired.clear();
-    let reply = machine
+    let Done {
+        reply,
+        delivered: _,
+    } = machine
         .kernel
         .step(Pid(pid), 0, request, &mut machine.retired);
     Some(reply)
@@ -473,10 +476,10 @@ fn turns_off(machine: &mut Machine) -> bool {
         return false;
     }
     machine.retired.clear();
-    machine
+    let done = machine
         .kernel
-        .step(Pid(0), 0, &Request::Off, &mut machine.retired)
-        == Reply::Ok
+        .step(Pid(0), 0, &Request::Off, &mut machine.retired);
+    done.reply == Reply::Ok
 }
 
 /// Makes each call of these rows while every allocation is refused, and each is answered as its row says.

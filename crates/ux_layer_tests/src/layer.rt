@@ -1,7 +1,7 @@
 //! Calls by seats, one thread after another and several at once, and the history that they leave.
 ghost use Rattle.std.specs.Prelude.{◌≡◌, false, IfOk};
 ghost use Rattle.ux_model.specs.Boot.{IsBootState};
-ghost use Rattle.ux_history.specs.Books.{is_last};
+ghost use Rattle.ux_history.specs.Books.{has_own_call};
 
 use bstr::BString;
 use hoard::Hoard;
@@ -13,7 +13,7 @@ use std::sync::ledger::Blank;
 use std::test::Fail;
 use std::thread;
 use std::thread::Threads;
-use ux_history::{BookName, CallFault, OffFault, PARTS, Receipt, SettleFault, Spent};
+use ux_history::{BookName, CallBook, CallFault, OffFault, PARTS, Receipt, SettleFault, Spent};
 use ux_kernel::Kernel;
 use ux_layer::{Layer, Seat, start};
 use ux_object::FileObject;
@@ -23,6 +23,7 @@ use ux_types::{
 };
 
 mod deadlock;
+mod forking;
 mod watched;
 
 const USER: ProcSpec = ProcSpec {
@@ -104,7 +105,7 @@ impl<W: BookName, O: FileObject> Worker<W, O> {
 
     /// Makes a call that must be answered so, and keeps its receipt.
     fn must<R: Wait>(&mut self, rt: &R, request: Request, answer: Reply) -> Result<(), Trouble>
-        requires { is_last request ≡ false }
+        requires { has_own_call request ≡ false }
     {
         let called = self.seat.call_blocking(rt, &request);
         drop(request);
@@ -148,7 +149,7 @@ fn server(alloc: Global) -> Result<Addr, AllocError> {
 
 /// A receive of at most 8 bytes by this number.
 fn receive(fd: u32) -> Request
-    ensures { is_last result ≡ false }
+    ensures { has_own_call result ≡ false }
 {
     Request::RecvMsg {
         fd: Fd(fd),
@@ -160,7 +161,7 @@ fn receive(fd: u32) -> Request
 
 /// A send of these bytes by this number.
 fn send(alloc: Global, fd: u32, bytes: &[u8]) -> Result<Request, AllocError>
-    ensures { IfOk result (λ r. is_last r ≡ false) }
+    ensures { IfOk result (λ r. has_own_call r ≡ false) }
 {
     Ok(Request::SendMsg {
         fd: Fd(fd),
@@ -299,9 +300,9 @@ fn settle_both<W: BookName, R: Wait>(
 }
 
 /// Sees that accounts don't settle with these shares alone, and gives them back.
-fn ask_for_more<W: BookName, R: Wait>(
+fn ask_for_more<W: BookName, B: CallBook<W, Counter>, R: Wait>(
     rt: &R,
-    layer: &Layer<W, Counter>,
+    layer: &Layer<W, Counter, B>,
     spents: Vec<Spent<W>>,
 ) -> Result<Vec<Spent<W>>, Fail> {
     match layer.settle(rt, spents) {
@@ -410,7 +411,7 @@ fn is_answered<W: BookName, O: FileObject, R: Wait>(
     request: Request,
     answer: Reply,
 ) -> bool
-    requires { is_last request ≡ false }
+    requires { has_own_call request ≡ false }
 {
     let called = seat.call(rt, &request);
     drop(request);

@@ -1,8 +1,8 @@
 -- Which message the rights of a receive are of, and what was sent with it.
-use Rattle.std.proofs.Common.{◌≡◌, ◌⊎◌, ℕ, zero, suc, ◌+◌, ◌-◌, ◌<◌, Bool, true, false, not, ◌==◌, if◌then◌else◌, List, [], ◌∷◌, ◌++◌, length, min, Option, Some, None, Result, Ok, Err, option_map, refl, ap, sym, ◌∙◌, subst, inl, inr, ⊎_elim, arith, slice_get}
+use Rattle.std.proofs.Common.{◌≡◌, ◌⊎◌, ℕ, zero, suc, ◌-◌, ◌<◌, Bool, true, false, not, ◌==◌, if◌then◌else◌, List, [], ◌∷◌, ◌++◌, length, min, Option, Some, None, Result, Ok, Err, option_map, refl, ap, sym, ◌∙◌, subst, inl, inr, ⊎_elim, arith, slice_get}
 use Rattle.std.proofs.lemmas.Bool.{eqb-true, ne_eqb}
 use Rattle.std.proofs.lemmas.List.{append-nil}
-use Rattle.ux_model.specs.Types.{Errno, Fd, Cred, MsgFlags, Request, Reply}
+use Rattle.ux_model.specs.Types.{Errno, Fd, MsgFlags, Request, Reply}
 use Rattle.ux_model.specs.Places.{place}
 use Rattle.ux_model.specs.Message.{Message, queued_bytes}
 use Rattle.ux_model.specs.Stream.{Origin, origin_of, front_with_cred, front_to_barrier, joined_run, rights_within, origin_within}
@@ -12,7 +12,7 @@ use Rattle.ux_model.specs.Socket.{Socket, is_stream}
 use Rattle.ux_model.specs.Process.{Descriptor}
 use Rattle.ux_model.specs.State.{State, socket_at, table_of}
 use Rattle.ux_model.specs.Sending.{descriptions_behind}
-use Rattle.ux_model.specs.Outcome.{Outcome, Chosen, own, lacking_memory, failing, refuse, find_socket}
+use Rattle.ux_model.specs.Outcome.{Outcome, Chosen, own, lacking_memory, failing, find_socket}
 use Rattle.ux_model.specs.Delivered.{Brought, nothing_brought, brought_from, brought, tag_of, delivered_by}
 use Rattle.ux_model.specs.Receiving.{receive_front, recv_msg}
 use Rattle.ux_model.specs.Giving.{given, description_in}

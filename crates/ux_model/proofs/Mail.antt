@@ -1,11 +1,10 @@
 -- Each message with rights that waits was sent by the entry that its tag names.
-use Rattle.std.proofs.Common.{◌≡◌, ◌⊎◌, ℕ, zero, suc, ◌+◌, ◌<◌, Bool, true, false, List, [], ◌∷◌, ◌++◌, length, take, Option, Some, None, refl, ap, sym, ◌∙◌, subst, inl, inr, ⊎_elim, arith, slice_get}
+use Rattle.std.proofs.Common.{◌≡◌, ◌<◌, true, List, [], ◌∷◌, ◌++◌, length, Option, Some, refl, ap, sym, ◌∙◌, subst, ⊎_elim, arith, slice_get}
 use Rattle.ux_model.specs.Types.{Entry}
 use Rattle.ux_model.specs.Places.{place}
 use Rattle.ux_model.specs.Message.{Message}
-use Rattle.ux_model.specs.Socket.{Socket}
 use Rattle.ux_model.specs.Description.{Description}
-use Rattle.ux_model.specs.State.{State, socket_at, table_of}
+use Rattle.ux_model.specs.State.{State, table_of}
 use Rattle.ux_model.specs.Sending.{descriptions_behind}
 use Rattle.ux_model.specs.Boot.{IsBootState}
 use Rattle.ux_model.specs.Step.{Step}
@@ -16,7 +15,7 @@ use Rattle.ux_model.specs.PedigreeLaws.{IsSent, MessagesAreSent}
 use Rattle.ux_model.proofs.Induction.{IsKept, kept_throughout, get_pushed, take_pushed}
 use Rattle.ux_model.proofs.Replays.{step_replay}
 use Rattle.ux_model.proofs.ByPlace.{get_below, get_before, take_before}
-use Rattle.ux_model.proofs.Queues.{queue_in, queue_is, Waits, IsNew, Mail}
+use Rattle.ux_model.proofs.Queues.{queue_in, queue_is, Waits, IsNew}
 use Rattle.ux_model.proofs.Shows.{step_mail}
 
 -- the state is that of the history, and each message with rights was sent

@@ -417,11 +417,11 @@ front_obeys S p d n s space flags m ms h q = answers refl refl refl (same (asks_
 from_peer_obeys : (S : State) (p d : ℕ) (s : Socket) (n space : ℕ) (flags : MsgFlags) → socket_at S d ≡ Some s → Call S (receive_from_peer S p d s n space flags)
 from_peer_obeys S p d s n space flags h = maybe (Call S) (peer_of s.phase) _ _ (refuses refl refl)
     (λ peer is. either (Call S) (is_stream s.kind && (n == 0)) _ _ (λ b. answers refl refl refl refl still)
-    (λ b. by_queue (Call S) s.queue _ _ (nothing_obeys S d s peer h) (λ m ms q. front_obeys S p d n s space flags m ms h q)))
+    (λ b. by_queue (Call S) s.queue _ _ (λ none. nothing_obeys S d s peer h) (λ m ms q. front_obeys S p d n s space flags m ms h q)))
 
 pub receive_obeys : (S : State) (p d : ℕ) (s : Socket) (n space : ℕ) (flags : MsgFlags) → socket_at S d ≡ Some s → Call S (receive S p d s n space flags)
 receive_obeys S p d s n space flags h = either (Call S) (is_dgram s.kind) _ _
-    (λ b. by_queue (Call S) s.queue _ _ (either (Call S) s.read_shut _ _ (λ c. answers refl refl refl refl still) (λ c. refuses refl refl)) (λ m ms q. front_obeys S p d n s space flags m ms h q))
+    (λ b. by_queue (Call S) s.queue _ _ (λ none. either (Call S) s.read_shut _ _ (λ c. answers refl refl refl refl still) (λ c. refuses refl refl)) (λ m ms q. front_obeys S p d n s space flags m ms h q))
     (λ b. from_peer_obeys S p d s n space flags h)
 
 pub recv_obeys : (S : State) (p : ℕ) (fd : Fd) (n space : ℕ) (flags : MsgFlags) → Call S (recv_msg S p fd n space flags)

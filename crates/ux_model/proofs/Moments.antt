@@ -1,5 +1,5 @@
 -- A legal history around one entry, and what a holding leads to as long as it stands.
-use Rattle.std.proofs.Common.{◌≡◌, ◌⊎◌, ℕ, zero, suc, ◌<◌, ◌≤◌, Bool, true, false, ◌==◌, ◌&&◌, ◌||◌, cond, if◌then◌else◌, not, is_some, List, [], ◌∷◌, ◌++◌, length, take, Option, Some, None, option_map, refl, ap, sym, ◌∙◌, subst, inl, inr, arith, slice_get}
+use Rattle.std.proofs.Common.{◌≡◌, ◌⊎◌, ℕ, zero, suc, ◌<◌, ◌≤◌, Bool, true, false, ◌==◌, ◌&&◌, ◌||◌, cond, not, is_some, List, [], ◌∷◌, ◌++◌, length, take, Option, Some, None, option_map, refl, ap, sym, ◌∙◌, subst, inl, inr, arith, slice_get}
 use Rattle.std.specs.List.{list_any}
 use Rattle.std.proofs.lemmas.Bool.{eqb-true, eqb-false, false≢true, or_parts}
 use Rattle.ux_model.specs.Types.{Request, Entry, Link}
@@ -7,7 +7,7 @@ use Rattle.ux_model.specs.Process.{Descriptor, kept_on_exec, with_cloexec}
 use Rattle.ux_model.specs.Flags.{asks_cloexec}
 use Rattle.ux_model.specs.State.{State}
 use Rattle.ux_model.specs.Step.{Step}
-use Rattle.ux_model.specs.History.{replay, makes, is_allowed, IsLegal}
+use Rattle.ux_model.specs.History.{replay, makes, IsLegal}
 use Rattle.ux_model.specs.Giving.{held_at, is_held, description_in, description_of, given, gives}
 use Rattle.ux_model.specs.Pedigree.{before, Stands}
 use Rattle.ux_model.specs.Changes.{left_by, is_err, left, others_left_by, left_to_others, ChangesTables}

@@ -1,5 +1,5 @@
 -- All holdings of a chain lead to one description.
-use Rattle.std.proofs.Common.{◌≡◌, ◌⊎◌, ◌≢◌, ℕ, zero, suc, ◌≤◌, true, List, [], ◌∷◌, ◌++◌, length, take, Option, Some, None, refl, ap, sym, ◌∙◌, subst, ⊎_elim, arith, slice_get}
+use Rattle.std.proofs.Common.{◌≡◌, ℕ, zero, suc, ◌≤◌, true, List, [], ◌∷◌, length, take, Some, None, refl, ap, sym, ◌∙◌, subst, ⊎_elim, arith, slice_get}
 use Rattle.std.proofs.lemmas.List.{take_all}
 use Rattle.ux_model.specs.Types.{Entry, How, Link}
 use Rattle.ux_model.specs.State.{State}

@@ -1,6 +1,5 @@
 -- What each way of taking a number hands on: the description that it led to.
-use Rattle.std.proofs.Common.{◌≡◌, ◌≢◌, ◌⊎◌, ℕ, zero, suc, ◌<◌, ◌≤◌, Bool, true, false, ◌==◌, cond, List, [], ◌∷◌, length, take, Option, Some, None, option_map, refl, ap, sym, ◌∙◌, subst, ⊎_elim, arith, slice_get}
-use Rattle.std.specs.List.{list_any}
+use Rattle.std.proofs.Common.{◌≡◌, ◌≢◌, ℕ, zero, suc, ◌<◌, true, List, [], length, take, Option, Some, None, refl, ap, sym, ◌∙◌, subst, ⊎_elim, arith, slice_get}
 use Rattle.std.proofs.lemmas.Bool.{false≢true}
 use Rattle.ux_model.specs.Types.{Fd, MsgFlags, Request, Reply, Entry, How, Link}
 use Rattle.ux_model.specs.Message.{Message}
@@ -12,9 +11,9 @@ use Rattle.ux_model.specs.Receiving.{recv_msg}
 use Rattle.ux_model.specs.Delivered.{brought, delivered_by}
 use Rattle.ux_model.specs.Step.{Step, outcome}
 use Rattle.ux_model.specs.History.{replay, makes, IsLegal}
-use Rattle.ux_model.specs.Giving.{held_at, description_in, description_of, given, gives, how_received, how_of, copied, sent_by}
+use Rattle.ux_model.specs.Giving.{held_at, description_in, description_of, given, gives, how_received, how_of, copied, sent_by, IsReceive, receive}
 use Rattle.ux_model.specs.Changes.{as_list, sources}
-use Rattle.ux_model.specs.Pedigree.{before, delivered, IsGiven, IsCarried, IsFrom}
+use Rattle.ux_model.specs.Pedigree.{before, delivered, IsGiven, IsFrom}
 use Rattle.ux_model.specs.PedigreeLaws.{LeadsTo}
 use Rattle.ux_model.proofs.Fronts.{front_is_legal, in_front}
 use Rattle.ux_model.proofs.ByPlace.{get_below, member_place, take_within, length_front}
@@ -36,10 +35,6 @@ how_forked (Request.RecvMsg fd n space flags) tag h = absurd (tagged tag h)
     tagged None g = cc g
     tagged (Some t) g = cc g
 how_forked _ tag h = absurd (cc h)
-
--- a receive, by the parts of its request
-pub data IsReceive : Request → Type 0 where
-  receive : (fd : Fd) (n space : ℕ) (flags : MsgFlags) → IsReceive (Request.RecvMsg fd n space flags)
 
 pub how_receives : (r : Request) (o : Option ℕ) (tag : ℕ) → how_of r o ≡ Some (How.Received tag) → IsReceive r × (o ≡ Some tag)
 how_receives (Request.RecvMsg fd n space flags) o tag h = (receive fd n space flags, tagged o h)

@@ -1,17 +1,17 @@
 -- Which messages with rights wait after a call: those that waited before it, and what it sends.
-use Rattle.std.proofs.Common.{◌≡◌, ◌⊎◌, ℕ, zero, suc, ◌+◌, ◌-◌, ◌<◌, Bool, true, false, ◌==◌, cond, if◌then◌else◌, List, [], ◌∷◌, ◌++◌, length, map, drop, min, Option, Some, None, option_map, refl, ap, sym, ◌∙◌, subst, inl, inr, ⊎_elim, arith, slice_get}
+use Rattle.std.proofs.Common.{◌≡◌, ◌⊎◌, ℕ, zero, suc, ◌-◌, ◌<◌, Bool, true, false, ◌==◌, cond, if◌then◌else◌, List, [], ◌∷◌, ◌++◌, length, drop, min, Option, Some, None, option_map, refl, ap, sym, ◌∙◌, subst, inl, inr, ⊎_elim, arith, slice_get}
 use Rattle.std.specs.Prelude.{nat_le}
 use Rattle.std.proofs.lemmas.Bool.{eqb-true}
-use Rattle.ux_model.specs.Types.{Fd, Request}
-use Rattle.ux_model.specs.Places.{place, filled}
+use Rattle.ux_model.specs.Types.{Request}
+use Rattle.ux_model.specs.Places.{place}
 use Rattle.ux_model.specs.Message.{Message, queued_bytes}
 use Rattle.ux_model.specs.Stream.{joined_run, without_first}
-use Rattle.ux_model.specs.Front.{Front, front_of, stream_front, record_front}
+use Rattle.ux_model.specs.Front.{front_of, stream_front, record_front}
 use Rattle.ux_model.specs.Socket.{Socket, is_stream, sent_part, sent, with_queue}
 use Rattle.ux_model.specs.Description.{Description, Target, to_object, to_socket, socket_of, socket_in, changed, changed_target}
 use Rattle.ux_model.specs.Process.{Descriptor}
 use Rattle.ux_model.specs.State.{State, description_at, socket_at, table_of, with_description, with_description_by, with_socket_by, with_table, with_new}
-use Rattle.ux_model.specs.Release.{target_after_loss, description_after_loss, place_after_loss, without, is_unreferenced, drop_all, drop_rounds, drop_unreferenced, has_unreferenced, settled}
+use Rattle.ux_model.specs.Release.{target_after_loss, description_after_loss, without, is_unreferenced, drop_all, drop_rounds, drop_unreferenced, has_unreferenced, settled}
 use Rattle.ux_model.specs.Sending.{descriptions_behind}
 use Rattle.ux_model.specs.Giving.{sent_by}
 use Rattle.ux_model.proofs.ReleaseLaws.{description_at-without}

@@ -384,9 +384,9 @@ front_within S p d s n space flags m ms bounds q =
 
 receive_within : (S : State) (p d : ℕ) (s : Socket) (n space : ℕ) (flags : MsgFlags) → HasBounds s.kind s.name s.queue_limit s.queue → Receives n space (receive S p d s n space flags)
 receive_within S p d s n space flags bounds = either (Receives n space) (is_dgram s.kind) _ _
-    (λ b. by_queue (Receives n space) s.queue _ _ (either (Receives n space) s.read_shut _ _ (λ c. nothing_received S) (λ c. no_message refl refl)) (λ m ms q. front_within S p d s n space flags m ms bounds q))
+    (λ b. by_queue (Receives n space) s.queue _ _ (λ none. either (Receives n space) s.read_shut _ _ (λ c. nothing_received S) (λ c. no_message refl refl)) (λ m ms q. front_within S p d s n space flags m ms bounds q))
     (λ b. maybe (Receives n space) (peer_of s.phase) _ _ (no_message refl refl) (λ peer is. either (Receives n space) (is_stream s.kind && (n == 0)) _ _ (λ c. nothing_received S)
-    (λ c. by_queue (Receives n space) s.queue _ _ (nothing_within peer) (λ m ms q. front_within S p d s n space flags m ms bounds q))))
+    (λ c. by_queue (Receives n space) s.queue _ _ (λ none. nothing_within peer) (λ m ms q. front_within S p d s n space flags m ms bounds q))))
   where
     nothing_within : (peer : ℕ) → Receives n space (receive_nothing S d s peer)
     nothing_within peer = either (Receives n space) s.reset _ _ (λ b. no_message refl refl) (λ b. either (Receives n space) (at_end S s peer) _ _ (λ c. nothing_received S) (λ c. no_message refl refl))

@@ -1,49 +1,48 @@
 -- Of each call: what its outcome shows of the tables, and which messages it leaves.
-use Rattle.std.proofs.Common.{◌≡◌, ◌⊎◌, ℕ, zero, suc, ◌+◌, ◌<◌, ◌≤◌, Bool, true, false, not, ◌&&◌, ◌||◌, ◌==◌, cond, if◌then◌else◌, List, [], ◌∷◌, ◌++◌, length, take, map, min, Option, Some, None, Result, Ok, Err, option_map, refl, ap, sym, ◌∙◌, subst, inl, inr, arith, slice_get, slice_set}
+use Rattle.std.proofs.Common.{◌≡◌, ◌⊎◌, ℕ, zero, suc, ◌<◌, ◌≤◌, Bool, true, false, not, ◌&&◌, ◌||◌, ◌==◌, cond, if◌then◌else◌, List, [], ◌∷◌, ◌++◌, length, take, map, min, Option, Some, None, Result, Ok, Err, option_map, refl, ap, sym, ◌∙◌, subst, inl, inr, arith, slice_get, slice_set}
 use Rattle.std.specs.Prelude.{nat_le, nat_lt, ℤ, pos, negsuc, ◌+ℤ◌, is_some, is_none, IsTrue}
-use Rattle.std.specs.List.{list_any}
 use Rattle.std.proofs.lemmas.Bool.{eqb-true, eqb-false, leb-false, false≢true, ne_eqb, and_parts}
 use Rattle.ux_model.specs.Types.{Errno, Fd, Cred, Name, Addr, SockType, SockOpt, Mode, OpenFlags, MsgFlags, Whence, Request, Reply}
 use Rattle.ux_model.specs.Places.{place, filled, emptied}
-use Rattle.ux_model.specs.Limits.{made_limit, read_limit, offset_limit, record_bytes_limit, rights_limit}
+use Rattle.ux_model.specs.Limits.{made_limit, read_limit, offset_limit, record_bytes_limit}
 use Rattle.ux_model.specs.Flags.{can_read, can_write, asks_cloexec, asks_cloexec_rights, asks_peek, are_receive_flags, are_send_flags, no_flags}
-use Rattle.ux_model.specs.Object.{Body, View, ObjectError, would_block, full, invalid, read_body, write_body, is_memory, is_pipe, with_body}
-use Rattle.ux_model.specs.Names.{PathTarget, file, named, is_valid_path, is_valid_addr, is_unnamed_addr, free_name}
+use Rattle.ux_model.specs.Object.{Body, View, ObjectError, would_block, full, invalid, read_body, write_body, is_memory, is_pipe}
+use Rattle.ux_model.specs.Names.{named, is_valid_path, is_valid_addr, is_unnamed_addr, free_name}
 use Rattle.ux_model.specs.Message.{Message, queued_bytes}
 use Rattle.ux_model.specs.Stream.{joined_run, rights_within}
 use Rattle.ux_model.specs.Front.{Front, stream_front, record_front, front_of}
 use Rattle.ux_model.specs.Control.{Control}
 use Rattle.ux_model.specs.ControlReading.{control_in}
-use Rattle.ux_model.specs.Backlog.{Backlog, backlog_of}
-use Rattle.ux_model.specs.Socket.{Socket, Phase, new_socket, pair_end, is_stream, is_dgram, pending_ends, peer_of, association_of, tied_socket, takes_from, has_room, sent_part, sent, with_reset, with_association, with_passcred, with_queue_limit, with_queue, shut_down, awaiting}
-use Rattle.ux_model.specs.Description.{Description, Target, to_object, to_socket, socket_of, socket_in, changed}
+use Rattle.ux_model.specs.Backlog.{backlog_of}
+use Rattle.ux_model.specs.Socket.{Socket, new_socket, pair_end, is_stream, is_dgram, pending_ends, peer_of, association_of, tied_socket, takes_from, has_room, sent_part, sent, with_reset, with_association, with_passcred, with_queue_limit, with_queue, shut_down, awaiting}
+use Rattle.ux_model.specs.Description.{Description, Target, to_object, to_socket, socket_of, socket_in}
 use Rattle.ux_model.specs.Process.{Process, Descriptor, own_cred, free_numbers, lowest_free, two_lowest_free, descriptor, copy_of, kept_on_exec, with_cloexec, fd_of, pid_of}
-use Rattle.ux_model.specs.Delivery.{Delivery, delivery, installed, install_count, space_for_rights, rights_fit}
-use Rattle.ux_model.specs.State.{State, process_at, is_live, description_at, socket_at, table_of, next_description, next_process, with_child, with_object, with_description, with_socket_by, with_process, with_table, with_new}
-use Rattle.ux_model.specs.Outcome.{Outcome, Chosen, own, lacking_memory, failing, refuse, answer, growing, descriptor_at, find_socket, on_socket, on_descriptor}
+use Rattle.ux_model.specs.Delivery.{delivery, installed, install_count, space_for_rights}
+use Rattle.ux_model.specs.State.{State, process_at, is_live, description_at, socket_at, table_of, next_description, next_process, with_child, with_description, with_socket_by, with_process, with_table, with_new}
+use Rattle.ux_model.specs.Outcome.{Outcome, Chosen, own, lacking_memory, failing, refuse, answer, growing, descriptor_at, find_socket, on_socket}
 use Rattle.ux_model.specs.Delivered.{Brought, nothing_brought, brought, brought_from}
 use Rattle.ux_model.specs.Naming.{unlink}
 use Rattle.ux_model.specs.Pairing.{make_pair, with_pair, socket_description}
-use Rattle.ux_model.specs.Binding.{look_up, bind_path, bind_abstract, autobind, bind_to, bind, get_sock_name, with_name}
+use Rattle.ux_model.specs.Binding.{bind_to, bind, get_sock_name, with_name}
 use Rattle.ux_model.specs.Connecting.{make_socket, listener_of, with_listening, listen, connect_to, connect_stream, connect_datagram, connect, get_peer_name, shutdown, with_connection, server_end, tied, no_open_flags}
 use Rattle.ux_model.specs.Accepting.{accept_first, accept, with_accepted, without_first_end, as_accepted, accepted_with, client_name}
-use Rattle.ux_model.specs.Sending.{message_of, flight_limit, is_over_limit, enqueue, is_too_long, send_to_peer, send_connected, send_stream, send_to_target, send_by_default, send_by_association, send_by, send_datagram, send_from, is_sendable_addr, is_sendable_control, given_refusal, sent_cred, send_given, send_with, send_read, send_msg, descriptions_behind}
-use Rattle.ux_model.specs.Receiving.{with_delivered, told, receive_front, nothing_received, at_end, receive, recv_msg, bytes_alone}
+use Rattle.ux_model.specs.Sending.{message_of, flight_limit, is_over_limit, enqueue, is_too_long, send_connected, send_stream, send_to_target, send_by_association, send_by, send_from, is_sendable_addr, is_sendable_control, given_refusal, sent_cred, send_given, send_with, send_read, send_msg, descriptions_behind}
+use Rattle.ux_model.specs.Receiving.{with_delivered, receive_front, nothing_received, at_end, receive, recv_msg, bytes_alone}
 use Rattle.ux_model.specs.FileObjects.{holds_bytes, is_open_for}
 use Rattle.ux_model.specs.Opening.{open_file, file_description}
-use Rattle.ux_model.specs.Reading.{read, read_answer, read_error, is_short_read, offset_after_read}
+use Rattle.ux_model.specs.Reading.{read, read_answer, is_short_read, offset_after_read}
 use Rattle.ux_model.specs.Writing.{write, write_answer, offset_after_write, write_place}
 use Rattle.ux_model.specs.Seeking.{lseek, seek_to, seek_base}
-use Rattle.ux_model.specs.Options.{tell_cred, tell_option, get_opt, pass_cred_named, pass_cred_on, may_limit, limit_queue, change_option, set_opt}
+use Rattle.ux_model.specs.Options.{tell_cred, tell_option, get_opt, pass_cred_on, may_limit, change_option, set_opt}
 use Rattle.ux_model.specs.Readiness.{poll}
 use Rattle.ux_model.specs.Descriptors.{dup, dup2, set_flags, with_flags}
 use Rattle.ux_model.specs.Forking.{fork, exec, child_of}
 use Rattle.ux_model.specs.Closing.{close, exit, off, with_nothing_open}
 use Rattle.ux_model.specs.Release.{settled, drop_unreferenced}
 use Rattle.ux_model.specs.Step.{Step, outcome}
-use Rattle.ux_model.specs.History.{is_off, makes, has_live, is_allowed}
-use Rattle.ux_model.specs.Giving.{held_at, description_in, given, sent_by, rights_in, is_onto_itself}
-use Rattle.ux_model.specs.Changes.{cloexec_of, left_by, left, sources, oldest_end, as_list, ChangesTables, StepChangesTables}
+use Rattle.ux_model.specs.History.{is_off, has_live, is_allowed}
+use Rattle.ux_model.specs.Giving.{held_at, description_in, given, sent_by, rights_in}
+use Rattle.ux_model.specs.Changes.{cloexec_of, sources, oldest_end, as_list, ChangesTables, StepChangesTables}
 use Rattle.ux_model.proofs.Walk.{either, maybe, by_target, by_path, by_queue, found, found_named, found_peer}
 use Rattle.ux_model.proofs.Named.{table_in}
 use Rattle.ux_model.proofs.ChangedPlaces.{bool_cases, place_within}
@@ -54,7 +53,7 @@ use Rattle.ux_model.proofs.Reaching.{changes_lives}
 use Rattle.ux_model.proofs.Obeying.{Obeys}
 use Rattle.ux_model.proofs.Calls.{each_obeys}
 use Rattle.ux_model.proofs.Living.{settled_keeps}
-use Rattle.ux_model.proofs.Queues.{queue_of, queue_in, queue_at, Quiet, Mail, MayCarry, quiet_mail, quiet_after, quiet_table, quiet_new, quiet_put, quiet_by, quiet_socket, quiet_target, sent_mail, taken_mail, Waits, settled_waits}
+use Rattle.ux_model.proofs.Queues.{queue_of, queue_in, Quiet, Mail, MayCarry, quiet_mail, quiet_after, quiet_table, quiet_new, quiet_put, quiet_by, quiet_socket, quiet_target, sent_mail, taken_mail, Waits, settled_waits}
 use Rattle.ux_model.proofs.Replacing.{Replaces, replaced_process, replaced_table, replaced_none, replaced_alike, tells_child, live_process, held_alike, gives_none, IsPlain, changes, refusal, keeps_table, installs}
 
 -- of an outcome in S
@@ -603,12 +602,6 @@ send_shows S p tag fd addr bytes control flags = maybe Q (process_at S p) _ _ (r
 
 -- ---- receiving
 
--- by whether something waits
-by_waiting : (Q : Outcome → Type 0) (q : List Message) (x : Outcome) (f : Message → List Message → Outcome) → (q ≡ [] → Q x) → ((m : Message) (ms : List Message) → q ≡ m ∷ ms → Q (f m ms)) →
-    Q (elim q as (λ _. Outcome) [ [] ↦ x | m ∷ ms ↦ f m ms ])
-by_waiting Q [] x f h k = h refl
-by_waiting Q (m ∷ ms) x f h k = k m ms refl
-
 -- where a receive takes nothing: nothing waits, or no byte of a stream is wanted
 abbrev pub TakesNothing : Socket → ℕ → Type 0
 TakesNothing s n = (s.queue ≡ []) ⊎ ((is_stream s.kind && (n == 0)) ≡ true)
@@ -617,10 +610,10 @@ pub by_receive : (Q : Outcome → Type 0) (S : State) (p d : ℕ) (s : Socket) (
     Q (answer (Reply.Err Errno.ECONNRESET) (with_socket_by S d (with_reset false))) → (TakesNothing s n → Q (answer nothing_received S)) →
     ((m : Message) (ms : List Message) → s.queue ≡ m ∷ ms → Q (receive_front S p d s space flags (front_of n s m ms))) → Q (receive S p d s n space flags)
 by_receive Q S p d s n space flags bad reset nothing front = either Q (is_dgram s.kind) _ _
-    (λ b. by_waiting Q s.queue _ _ (λ none. either Q s.read_shut _ _ (λ c. nothing (inl none)) (λ c. bad Errno.EAGAIN)) front)
+    (λ b. by_queue Q s.queue _ _ (λ none. either Q s.read_shut _ _ (λ c. nothing (inl none)) (λ c. bad Errno.EAGAIN)) front)
     (λ b. maybe Q (peer_of s.phase) _ _ (bad Errno.ENOTCONN)
     (λ peer is. either Q (is_stream s.kind && (n == 0)) _ _ (λ c. nothing (inr c))
-    (λ c. by_waiting Q s.queue _ _ (λ none. either Q s.reset _ _ (λ e. reset) (λ e. either Q (at_end S s peer) _ _ (λ f. nothing (inl none)) (λ f. bad Errno.EAGAIN))) front)))
+    (λ c. by_queue Q s.queue _ _ (λ none. either Q s.reset _ _ (λ e. reset) (λ e. either Q (at_end S s peer) _ _ (λ f. nothing (inl none)) (λ f. bad Errno.EAGAIN))) front)))
 
 pub delivery_rise : (wanted : Bool) (cred : Cred) (rights : List ℕ) (space : ℕ) (table : List (Option Descriptor)) → Rise 0 (length table) (delivery wanted cred rights space table).numbers
 unfolding delivery

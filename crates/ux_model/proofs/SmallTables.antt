@@ -1,5 +1,5 @@
 -- No table ever has more places than one may have.
-use Rattle.std.proofs.Common.{◌≡◌, ℕ, zero, suc, ◌≤◌, Bool, List, [], ◌∷◌, ◌++◌, length, map, set, Option, Some, None, refl, ap, sym, subst, ◌∙◌, arith, slice_get}
+use Rattle.std.proofs.Common.{◌≡◌, ℕ, zero, suc, ◌≤◌, Bool, List, [], ◌∷◌, ◌++◌, length, map, set, Option, Some, None, refl, ap, sym, subst, arith, slice_get}
 use Rattle.std.specs.List.{AllByRecursion}
 use Rattle.std.proofs.lemmas.List.{length-map}
 use Rattle.ux_model.specs.Types.{Entry}
@@ -10,7 +10,7 @@ use Rattle.ux_model.specs.Release.{settled, drop_unreferenced}
 use Rattle.ux_model.specs.Closing.{with_nothing_open}
 use Rattle.ux_model.specs.Forking.{child_of}
 use Rattle.ux_model.specs.Step.{Step}
-use Rattle.ux_model.specs.History.{replay, IsLegal}
+use Rattle.ux_model.specs.History.{replay}
 use Rattle.ux_model.specs.Changes.{TablesStaySmall}
 use Rattle.ux_model.proofs.Named.{table_in}
 use Rattle.ux_model.proofs.Sound.{IsSound}

@@ -31,9 +31,9 @@ pub by_path : (Q : Outcome → Type 0) (t : PathTarget) (f g : ℕ → Outcome) 
 by_path Q (file o) f g h k = h o refl
 by_path Q (bound d) f g h k = k d refl
 
-pub by_queue : (Q : Outcome → Type 0) (q : List Message) (x : Outcome) (f : Message → List Message → Outcome) → Q x → ((m : Message) (ms : List Message) → q ≡ m ∷ ms → Q (f m ms)) →
+pub by_queue : (Q : Outcome → Type 0) (q : List Message) (x : Outcome) (f : Message → List Message → Outcome) → (q ≡ [] → Q x) → ((m : Message) (ms : List Message) → q ≡ m ∷ ms → Q (f m ms)) →
     Q (elim q as (λ _. Outcome) [ [] ↦ x | m ∷ ms ↦ f m ms ])
-by_queue Q [] x f h k = h
+by_queue Q [] x f h k = h refl
 by_queue Q (m ∷ ms) x f h k = k m ms refl
 
 -- ---- what a descriptor leads to

@@ -1,5 +1,5 @@
 -- Which rights a receive delivers, at which numbers, and of which message (recvmsg(2), unix(7)).
-use Rattle.std.specs.Prelude.{ℕ, ◌==◌, if◌then◌else◌, List, [], ◌∷◌, length, Option, Some, None, option_map, Ok, Err}
+use Rattle.std.specs.Prelude.{ℕ, ◌==◌, if◌then◌else◌, List, [], ◌∷◌, length, Option, None, option_map, Ok, Err}
 use Rattle.ux_model.specs.Types.{Request, Reply}
 use Rattle.ux_model.specs.Message.{Message}
 use Rattle.ux_model.specs.Stream.{Origin}

@@ -1,7 +1,7 @@
 -- Which numbers a call gives its process, and what they lead to.
-use Rattle.std.specs.Prelude.{ℕ, suc, Bool, true, false, ◌==◌, ◌&&◌, ◌||◌, if◌then◌else◌, List, [], ◌∷◌, take, Option, Some, None, option_map, is_some, Ok, Err}
+use Rattle.std.specs.Prelude.{ℕ, Bool, false, ◌==◌, ◌&&◌, ◌||◌, if◌then◌else◌, List, [], ◌∷◌, Option, Some, None, option_map, is_some}
 use Rattle.std.specs.List.{list_any}
-use Rattle.ux_model.specs.Types.{Fd, Request, Reply, Entry, How}
+use Rattle.ux_model.specs.Types.{Fd, MsgFlags, Request, Reply, Entry, How}
 use Rattle.ux_model.specs.Places.{place}
 use Rattle.ux_model.specs.Control.{Control}
 use Rattle.ux_model.specs.ControlReading.{control_in}
@@ -86,3 +86,7 @@ rights_in (Some control) = control.rights
 abbrev pub sent_by : Request → List ℕ
 sent_by (Request.SendMsg fd addr bytes control flags) = rights_in (control_in control)
 sent_by _ = []
+
+-- a receive, by the parts of its request
+pub data IsReceive : Request → Type 0 where
+  receive : (fd : Fd) (n space : ℕ) (flags : MsgFlags) → IsReceive (Request.RecvMsg fd n space flags)

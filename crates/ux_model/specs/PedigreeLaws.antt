@@ -1,5 +1,5 @@
 -- Laws of pedigrees.
-use Rattle.std.specs.Prelude.{◌≡◌, ◌≢◌, None, ℕ, suc, ◌<◌, List, [], length, Option, Some}
+use Rattle.std.specs.Prelude.{◌≡◌, ◌≢◌, None, ℕ, suc, ◌<◌, List, length, Some}
 use Rattle.std.specs.List.{slice_get}
 use Rattle.ux_model.specs.Types.{Entry, How, Link}
 use Rattle.ux_model.specs.Message.{Message}

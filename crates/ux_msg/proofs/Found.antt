@@ -1,6 +1,6 @@
 -- What a number of a process leads to.
 use Rattle.std.proofs.Common.{◌≡◌, ℕ, ◌<◌, ◌≤◌, length, Bool, true, false, not, ◌⊎◌, inl, inr, if◌then◌else◌, List, Option, Some, None, Result, Ok, Err, sym, ◌∙◌, ap, subst, refl}
-use Rattle.std.specs.Prelude.{IsSomeAnd, IfOk, option_and_then}
+use Rattle.std.specs.Prelude.{IsSomeAnd, IfOk}
 use Rattle.std.proofs.lemmas.Option.{none-some}
 use Rattle.std.proofs.lemmas.List.{get_or_past}
 use Rattle.std.proofs.lemmas.Bool.{cases_lt}
@@ -12,11 +12,12 @@ use Rattle.ux_model.specs.Names.{PathTarget, file, bound, named}
 use Rattle.ux_model.specs.Message.{Message}
 use Rattle.ux_model.specs.Socket.{Socket}
 use Rattle.ux_model.specs.Binding.{same_kind, socket_of_kind, socket_of_target, look_up}
-use Rattle.ux_model.specs.Description.{Description, socket_of}
+use Rattle.ux_model.specs.Description.{Description}
 use Rattle.ux_model.specs.Process.{Process, Descriptor}
 use Rattle.ux_model.specs.State.{State, description_at, socket_at, process_at, table_of}
 use Rattle.ux_model.specs.References.{refs}
 use Rattle.ux_model.proofs.Named.{entry_counts}
+use Rattle.ux_model.proofs.Shows.{socket_found}
 use Rattle.ux_model.specs.Outcome.{Outcome, refuse, descriptor_at, find_description, find_socket, on_socket, as_process}
 use Rattle.ux_msg.specs.Answers.{Gives}
 use Rattle.ux_model.specs.Receiving.{receive, recv_msg, bytes_alone, read_socket}
@@ -61,32 +62,11 @@ open_inside S p fd e D h = go (cases_lt fd.0 (length (table_of S p)))
 pub found_held : (S : State) (p : ℕ) (fd : Fd) (e : Descriptor) (D : Description) → find_description S p fd ≡ Ok (e, D) → 0 < refs S e.description
 found_held S p fd e D h = entry_counts S p fd.0 e (found S p fd e D h).entry
 
--- the socket of its description
-pub socket_found : (S : State) (p : ℕ) (fd : Fd) (d : ℕ) (s : Socket) → find_socket S p fd ≡ Ok (d, s) → socket_at S d ≡ Some s
-socket_found S p fd d s h = outer (find_description S p fd) refl h
-  where
-    inner : (e : Descriptor) (D : Description) (o : Option Socket) → find_description S p fd ≡ Ok (e, D) → socket_of D.target ≡ o →
-        (elim o as (λ _. Result (ℕ × Socket) Errno) [ None ↦ Err Errno.ENOTSOCK | Some s ↦ Ok (e.description, s) ]) ≡ Ok (d, s) → socket_at S d ≡ Some s
-    inner e D None f k r = cc
-    inner e D (Some y) f k r =
-        let same : ◌≡◌ {A = ℕ × Socket} (e.description, y) (d, s) = cc in
-        let one : e.description ≡ d = ap (λ q. q.0) same in
-        let two : y ≡ s = ap (λ q. q.1) same in
-        ap (socket_at S) (sym one) ∙ ap (option_and_then (λ D. socket_of (Description.target D))) (found S p fd e D f).description ∙ k ∙ ap (λ z. Some z) two
-
-    outer : (o : Result (Descriptor × Description) Errno) → find_description S p fd ≡ o →
-        (elim o as (λ _. Result (ℕ × Socket) Errno) [
-          | Err e ↦ Err e
-          | Ok found ↦ elim (socket_of found.1.target) as (λ _. Result (ℕ × Socket) Errno) [ None ↦ Err Errno.ENOTSOCK | Some s ↦ Ok (found.0.description, s) ]
-        ]) ≡ Ok (d, s) → socket_at S d ≡ Some s
-    outer (Err e) f r = cc
-    outer (Ok (e, D)) f r = inner e D (socket_of D.target) f refl r
-
 pub received_at : (S : State) (p : ℕ) (fd : Fd) (n space : ℕ) (flags : MsgFlags) (d : ℕ) (s : Socket) → find_socket S p fd ≡ Ok (d, s) → are_receive_flags flags ≡ true →
     receive_at S p d n space flags ≡ recv_msg S p fd n space flags
 unfolding recv_msg
 received_at S p fd n space flags d s h ok =
-    ap (λ o. elim o as (λ _. Outcome) [ None ↦ refuse S Errno.EBADF | Some s ↦ receive S p d s n space flags ]) (socket_found S p fd d s h)
+    ap (λ o. elim o as (λ _. Outcome) [ None ↦ refuse S Errno.EBADF | Some s ↦ receive S p d s n space flags ]) (socket_found S p d fd s h)
     ∙ ap (λ b. if not b then refuse S Errno.EINVAL else receive S p d s n space flags) (sym ok)
     ∙ sym (ap (λ r. elim r as (λ _. Outcome) [
       | Err e ↦ refuse S e
@@ -103,7 +83,7 @@ received_gives S T p fd n space flags d k s r h ok g same =
 pub received_told : (S : State) (p : ℕ) (fd : Fd) (n space : ℕ) (flags : MsgFlags) (d k : ℕ) (s : Socket) (r : Result Done Refusal) → find_socket S p fd ≡ Ok (d, s) → k ≡ d →
     IfOk r (λ done. done.delivered ≡ told_of (brought_at S p k n space) done.reply) → IfOk r (λ done. done.delivered ≡ delivered_by S p (Request.RecvMsg fd n space flags) done.reply)
 received_told S p fd n space flags d k s r h same told =
-    let here : socket_at S k ≡ Some s = ap (socket_at S) same ∙ socket_found S p fd d s h in
+    let here : socket_at S k ≡ Some s = ap (socket_at S) same ∙ socket_found S p d fd s h in
     let there : brought_at S p k n space ≡ brought_from s n space (table_of S p) s.queue =
     ap (λ o. elim o as (λ _. Brought) [ None ↦ nothing_brought | Some s ↦ brought_from s n space (table_of S p) s.queue ]) here in
     let call : brought S p (Request.RecvMsg fd n space flags) ≡ brought_from s n space (table_of S p) s.queue =
@@ -184,7 +164,7 @@ sent_gives S T p tag fd addr bytes buffer control flags d k s r h ok reads g sam
     found_at P x = elim x [ Err e ↦ refuse S e | Ok f ↦ allowed P f.0 f.1 (are_send_flags flags) ]
 
     here : socket_at S k ≡ Some s
-    here = ap (socket_at S) same ∙ socket_found S p fd d s h
+    here = ap (socket_at S) same ∙ socket_found S p d fd s h
 
     go : (o : Option Process) → Gives S (elim o as (λ _. Outcome) [ None ↦ refuse S Errno.ESRCH | Some P ↦ at_socket P k (socket_at S k) ]) r T →
         Gives S (elim o as (λ _. Outcome) [

@@ -7,13 +7,13 @@ use std::alloc::Global;
 use ux_kernel::Kernel;
 use ux_object::FileObject;
 use ux_state::{Retired, RetiredList};
-use ux_types::{Entry, Errno, Reply, Request};
+use ux_types::{Done, Entry, Errno, Reply, Request};
 
 /// Why a history wasn't made again to its end.
 #[derive(Clone, Copy, Debug, PartialEq, Eq)]
 pub enum ReplayFault {
-    /// The call of the entry of this number may not be made, is answered otherwise, or releases other file
-    /// objects.
+    /// The call of the entry of this number may not be made, is answered otherwise, tells of rights of another
+    /// message, or releases other file objects.
     Differs(u64),
     /// No memory was left at the entry of this number, which had it the first time.
     NoMemory(u64),
@@ -35,8 +35,8 @@ impl ReplayFault {
 ///
 /// # Errors
 ///
-/// The number of the first entry whose call may not be made, is answered otherwise, or releases other file
-/// objects, or at which no memory is left.
+/// The number of the first entry whose call may not be made, is answered otherwise, tells of rights of another
+/// message, or releases other file objects, or at which no memory is left.
 pub fn check_history<O: FileObject>(
     alloc: Global,
     history: &[Entry],
@@ -109,7 +109,8 @@ fn is_left_out(reply: &Reply) -> bool {
     matches!(reply, Reply::Err(Errno::EIO | Errno::ENOMEM))
 }
 
-/// Makes an entry's call, and tells whether it is answered as then, and releases the same file objects.
+/// Makes an entry's call, and tells whether it is answered as then, tells of rights of the same message, and
+/// releases the same file objects.
 fn repeat<O: FileObject>(
     kernel: &mut Kernel<O>,
     number: u64,
@@ -120,9 +121,9 @@ fn repeat<O: FileObject>(
         return Repeated::Otherwise;
     }
     retired.clear();
-    let reply = kernel.step(entry.pid, number, &entry.request, retired);
-    let compared = compare(&reply, &entry.reply);
-    drop(reply);
+    let done = kernel.step(entry.pid, number, &entry.request, retired);
+    let compared = compare(&done, entry);
+    drop(done);
     if matches!(compared, Repeated::Same)
         && !are_these(retired.as_slice(), entry.released.as_slice())
     {
@@ -141,11 +142,11 @@ fn may_call<O: FileObject>(kernel: &Kernel<O>, entry: &Entry) -> bool
     kernel.is_live(entry.pid)
 }
 
-/// An answer beside that of the first time.
-fn compare(again: &Reply, first: &Reply) -> Repeated {
-    if again == first {
+/// An answer, and the message that it tells of, beside those of the first time.
+fn compare(again: &Done, first: &Entry) -> Repeated {
+    if again.reply == first.reply && again.delivered == first.delivered {
         Repeated::Same
-    } else if matches!(again, Reply::Err(Errno::ENOMEM)) {
+    } else if matches!(again.reply, Reply::Err(Errno::ENOMEM)) {
         Repeated::NoMemory
     } else {
         Repeated::Otherwise

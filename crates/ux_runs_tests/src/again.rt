@@ -1,10 +1,13 @@
 //! A short history that is made once more, as it was, otherwise, and on another kernel.
 use hoard::Hoard;
 use std::alloc::{AllocError, Global};
+use std::process::Abort;
 use std::test::Fail;
 use ux_kernel::Kernel;
 use ux_objects::Counter;
 use ux_replay::{ReplayFault, check_history, replay};
+use ux_script::run_serial;
+use ux_syntax::parse_script;
 use ux_types::{
     Bytes, Entry, Errno, Fd, MsgFlags, OpenFlags, Pid, ProcSpec, Released, Reply, Request, SockType,
 };
@@ -37,6 +40,7 @@ fn entry(k: u64, request: Request, reply: Reply) -> Entry {
         request,
         reply,
         released: Released::new(),
+        delivered: None,
     }
 }
 
@@ -90,6 +94,37 @@ fn other_released_objects_differ(rt: HostRuntime) -> Result<(), Fail> {
     exit.released = Released::new();
     exit.released.push(0);
     assert_eq!(rt; found(rt.alloc(), &entries, 16)?, Err(2));
+    Ok(())
+}
+
+/// A message that brings a descriptor.
+const PASSING: &str = "proc 1000 1000 0 16
+1 pair stream -
+1 send 0 - 78 r:0 -
+1 recv 1 8 24 -
+";
+
+/// The history of a process that passes itself a descriptor. The receive tells the number of the send.
+fn passing(rt: &impl Abort, alloc: Global) -> Result<Vec<Entry>, Fail> {
+    let script = parse_script(alloc, PASSING.as_bytes())?;
+    let mut trace: Vec<u8> = Vec::new(alloc);
+    let kernel = kernel_with(alloc, 16)?;
+    let entries = run_serial(alloc, &script, &mut trace, kernel)?;
+    let receive = entries.get(2).ok_or("no receive")?;
+    assert_eq!(rt; receive.delivered, Some(1));
+    Ok(entries)
+}
+
+#[test]
+fn rights_of_another_message_differ(rt: HostRuntime) -> Result<(), Fail> {
+    let alloc = rt.alloc();
+    let mut entries = passing(&rt, alloc)?;
+    assert_eq!(rt; found(alloc, &entries, 16)?, Ok(4));
+    for told in [None, Some(0)].as_slice() {
+        let receive = entries.get_mut(2).ok_or("no receive")?;
+        receive.delivered = *told;
+        assert_eq!(rt; found(alloc, &entries, 16)?, Err(2));
+    }
     Ok(())
 }
 

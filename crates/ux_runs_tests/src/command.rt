@@ -8,6 +8,7 @@ use ux_command::{Fault, read_args};
 use ux_kernel::BootFault;
 use ux_object::ObjError;
 use ux_syntax::ScriptFault;
+use ux_types::{Fd, Pid};
 
 fn texts(alloc: Global, words: &[&str]) -> Result<Vec<String>, AllocError> {
     let mut texts = Vec::new(alloc);
@@ -25,7 +26,32 @@ fn a_script_is_named(rt: HostRuntime) -> Result<(), Fail> {
             return Err(Fail::from("not understood"));
         };
         assert_eq!(rt; args.script, name);
-        assert!(rt; !args.check && !args.threads);
+        assert!(rt; !args.check && !args.threads && args.audit.is_none());
+    }
+    Ok(())
+}
+
+#[test]
+fn an_audit_is_asked_for_with_a_number(rt: HostRuntime) -> Result<(), Fail> {
+    for (text, number) in [("0", 0), ("9", 9), ("4294967295", u32::MAX)] {
+        let words = texts(rt.alloc(), &["uxrun", "--audit", text, "a.ux"])?;
+        let Ok(args) = read_args(rt.alloc(), words.as_slice()) else {
+            return Err(Fail::from("not understood"));
+        };
+        assert_eq!(rt; args.audit, Some(number));
+        assert_eq!(rt; args.script, "a.ux");
+    }
+    Ok(())
+}
+
+#[test]
+fn an_audit_of_what_is_no_number_is_refused(rt: HostRuntime) -> Result<(), Fail> {
+    for text in ["", "07", "+7", "7x", "4294967296"] {
+        let words = texts(rt.alloc(), &["uxrun", "--audit", text, "a.ux"])?;
+        let told = read_args(rt.alloc(), words.as_slice())
+            .err()
+            .ok_or("understood")?;
+        assert_eq!(rt; told.exit_code(), 2);
     }
     Ok(())
 }
@@ -68,7 +94,7 @@ fn other_command_lines_are_refused(rt: HostRuntime) -> Result<(), Fail> {
 }
 
 /// The steps in which more memory is left, of 16 bytes each.
-const STEPS: usize = 3800;
+const STEPS: usize = 4600;
 
 /// Reads a command line with no memory, and with 16 bytes more while it is refused, and tells how often it was.
 fn refusals_of(rt: &impl Abort, alloc: Global, words: &[String]) -> Result<usize, Fail> {
@@ -86,7 +112,7 @@ fn refusals_of(rt: &impl Abort, alloc: Global, words: &[String]) -> Result<usize
             Err(error) => assert!(rt; error.kind() == ErrorKind::OutOfMemory),
         }
     }
-    Err(Fail::from("refused with 60 KiB"))
+    Err(Fail::from("refused with 72 KiB"))
 }
 
 #[test]
@@ -115,6 +141,7 @@ fn faults_have_their_texts(rt: HostRuntime) -> Result<(), Fail> {
         (Fault::from(AllocError), "out of memory"),
         (Fault::from(ObjError::NoMemory), "out of memory"),
         (Fault::Differs(7), "check differs at 7"),
+        (Fault::Audit(Pid(2), Fd(5)), "audit fails at 2 5"),
     ];
     for (fault, text) in rows {
         assert_eq!(rt; fault.to_string(rt.alloc())?.as_str(), text);

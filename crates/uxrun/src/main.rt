@@ -1,8 +1,10 @@
 //! Runs a script of socket calls, and prints the trace.
 #![tactic(auto)]
 
+mod audit;
 mod objects;
 
+use audit::tell_audit;
 use clap::Error;
 use clap::error::ErrorKind;
 use objects::{check_script, run_script};
@@ -32,16 +34,19 @@ fn script_of<R: Files + Input + AllocGlobal>(rt: &R, name: &str) -> Result<Scrip
 }
 
 /// Runs the script that was named, and prints its trace to standard output; where it is asked for, makes the
-/// calls once more, and tells how many entries there are.
+/// calls once more, and tells how many entries there are, and who came to which descriptor through whom.
 fn run<R: Files + Input + Threads + Wait + Print + AllocGlobal + Sync>(
     rt: &R,
     args: &Args<'_>,
 ) -> Result<(), Fault> {
     let script = script_of(rt, args.script)?;
-    let history = run_script(rt, &script, args.threads)?;
+    let mut history = run_script(rt, &script, args.threads)?;
     if args.check {
-        let checked = check_script(rt, &script, history)?;
-        println!(rt; "check ok {}", checked.len()).map_err(|_| ScriptFault::Writing)?;
+        history = check_script(rt, &script, history)?;
+        println!(rt; "check ok {}", history.len()).map_err(|_| ScriptFault::Writing)?;
+    }
+    if let Some(count) = args.audit {
+        tell_audit(rt, &history, count)?;
     }
     Ok(())
 }

@@ -1,7 +1,7 @@
 //! What the threads do to the file objects, as objects of the tests' own tell it.
 ghost use Rattle.std.specs.Prelude.{◌≡◌, false, IfOk};
 ghost use Rattle.ux_model.specs.Boot.{IsBootState};
-ghost use Rattle.ux_history.specs.Books.{is_last};
+ghost use Rattle.ux_history.specs.Books.{has_own_call};
 ghost use Rattle.ux_objects.specs.Faultless.{counter_view};
 
 use super::{Done, Trouble, USER, Worker, holds_all, is_answered};
@@ -135,7 +135,7 @@ fn path_of(alloc: Global, path: &[u8]) -> Result<Name, AllocError> {
 
 /// A request to open the object at this path.
 fn open(alloc: Global, path: &[u8]) -> Result<Request, AllocError>
-    ensures { IfOk result (λ r. is_last r ≡ false) }
+    ensures { IfOk result (λ r. has_own_call r ≡ false) }
 {
     Ok(Request::Open {
         path: path_of(alloc, path)?,

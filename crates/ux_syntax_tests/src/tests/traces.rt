@@ -40,6 +40,7 @@ fn expect_text(
         request,
         reply,
         released: Released::new(),
+        delivered: None,
     };
     expect_entry(rt, alloc, number, &entry, line)
 }
@@ -392,6 +393,7 @@ fn expect_closed(
         request,
         reply: Reply::Ok,
         released,
+        delivered: None,
     };
     expect_entry(rt, alloc, number, &entry, line)
 }

@@ -1,0 +1,10 @@
+pub mod Controls
+pub mod Told
+pub mod Rows
+pub mod Following
+pub mod Listing
+pub mod Placing
+pub mod Walking
+pub mod Originating
+pub mod Checking
+pub mod Texts

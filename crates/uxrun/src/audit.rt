@@ -1,0 +1,44 @@
+//! Who came to which descriptor through whom.
+
+use std::alloc::Global;
+use ux_audit::Audit;
+use ux_command::Fault;
+use ux_syntax::ScriptFault;
+use ux_types::{Entry, Fd, Pid};
+
+/// Tells each descriptor that is open after the first so many calls, or after all where there are fewer, and the
+/// chain of holdings through which its process came to it; and last, how many descriptors there are. Each chain
+/// is checked before it is told.
+pub fn tell_audit<R: Print + AllocGlobal>(
+    rt: &R,
+    history: &[Entry],
+    count: u32,
+) -> Result<(), Fault> {
+    let alloc: Global = rt.alloc();
+    let entries = &history[..history.len().min(count as usize)];
+    let audit = Audit::new(alloc, entries)?;
+    let holdings = audit.holdings(alloc)?;
+    for (pid, fd) in &holdings {
+        tell_one(rt, &audit, *pid, *fd)?;
+    }
+    println!(rt; "audit ok {}", holdings.len()).map_err(|_| ScriptFault::Writing)?;
+    Ok(())
+}
+
+/// Tells one descriptor and its chain.
+fn tell_one<R: Print + AllocGlobal>(
+    rt: &R,
+    audit: &Audit<'_>,
+    pid: Pid,
+    fd: Fd,
+) -> Result<(), Fault> {
+    let alloc: Global = rt.alloc();
+    let Some(chain) = audit.pedigree(alloc, pid, fd)? else {
+        return Err(Fault::Audit(pid, fd));
+    };
+    if !audit.check_pedigree(alloc, &chain, pid, fd)? {
+        return Err(Fault::Audit(pid, fd));
+    }
+    println!(rt; "held {} {} = {chain}", pid.0, fd.0).map_err(|_| ScriptFault::Writing)?;
+    Ok(())
+}
