@@ -16,6 +16,7 @@ use ux_syntax::{Script, parse_script};
 use ux_threads::{Gate, NoGate, run_threads};
 use ux_types::{Entry, Name, Pid};
 
+mod forking;
 mod memory;
 mod stress;
 

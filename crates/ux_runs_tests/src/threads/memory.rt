@@ -26,6 +26,17 @@ fn script_text(alloc: Global) -> Result<Vec<u8>, AllocError> {
     Ok(text)
 }
 
+/// Process 1 forks once the other is there. Process 2 waits for the child, and goes on.
+const FORK: &str = "proc 1000 1000 0 16
+proc 1000 1000 0 16
+2 socket dgram -
+1 wait 2 1
+1 fork
+2 wait 3 999
+2 send 0 - 6869 - -
+off
+";
+
 /// Takes all memory before this call of process 1, and before the exit of process 2 what its thread has kept for
 /// itself, and gives nothing back. It counts the calls and exits of both.
 #[derive(Drop)]
@@ -61,16 +72,16 @@ impl<R: Wait + Sync> Gate for Thief<'_, R> {
     fn after(&self, _pid: Pid, _k: u64) {}
 }
 
-/// Sees that a run is refused memory from this call of process 1 on and writes nothing, and that so many calls and
-/// exits come.
+/// Sees that a run of this script is refused memory from this call of process 1 on and writes nothing, and that so
+/// many calls and exits come.
 fn expect_refusal<R: Threads + Wait + Abort + Sync>(
     rt: &R,
     alloc: Global,
+    text: &[u8],
     from: u64,
     came: u64,
 ) -> Result<(), Fail> {
-    let text = script_text(alloc)?;
-    let script = parse_script(alloc, &text)?;
+    let script = parse_script(alloc, text)?;
     let kernel = kernel_of(alloc, &script)?;
     let thief = Thief {
         rt,
@@ -91,10 +102,17 @@ fn expect_refusal<R: Threads + Wait + Abort + Sync>(
 
 #[test]
 fn a_worker_without_memory_exits_and_the_run_tells_so(rt: HostRuntime) -> Result<(), Fail> {
+    let text = script_text(rt.alloc())?;
     // The first makes no call after the one that was refused, but exits; so the second, which waits for that,
     // makes its two calls and exits, too.
-    expect_refusal(&rt, rt.alloc(), 0, 5)?;
-    expect_refusal(&rt, rt.alloc(), 1, 6)?;
+    expect_refusal(&rt, rt.alloc(), &text, 0, 5)?;
+    expect_refusal(&rt, rt.alloc(), &text, 1, 6)?;
     // It makes all its calls, and there is none for the history's copy.
-    expect_refusal(&rt, rt.alloc(), CALLS, 104)
+    expect_refusal(&rt, rt.alloc(), &text, CALLS, 104)
+}
+
+#[test]
+fn a_fork_without_memory_ends_the_run(rt: HostRuntime) -> Result<(), Fail> {
+    // The first exits, so the second doesn't wait for a child that was never made: it sends, and exits, too.
+    expect_refusal(&rt, rt.alloc(), FORK.as_bytes(), 0, 5)
 }
