@@ -108,7 +108,9 @@ const PASSING: &str = "proc 1000 1000 0 16
 fn passing(rt: &impl Abort, alloc: Global) -> Result<Vec<Entry>, Fail> {
     let script = parse_script(alloc, PASSING.as_bytes())?;
     let mut trace: Vec<u8> = Vec::new(alloc);
-    let kernel = kernel_with(alloc, 16)?;
+    let Ok(kernel) = Kernel::<Counter>::boot(alloc, Vec::new(alloc), &script.procs) else {
+        return Err(Fail::from("no kernel"));
+    };
     let entries = run_serial(alloc, &script, &mut trace, kernel)?;
     let receive = entries.get(2).ok_or("no receive")?;
     assert_eq!(rt; receive.delivered, Some(1));
