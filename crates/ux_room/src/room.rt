@@ -2,28 +2,27 @@
 ghost use Rattle.std.specs.Prelude.{◌≡◌, IfOk};
 ghost use Rattle.ux_model.specs.Rooms.{size_of, room_for, Fits};
 
-use crate::copying::{addr_copy, bytes_copy, sender_copy};
+use crate::copying::{addr_copy, sender_copy};
 use std::alloc::{AllocError, Global};
 use std::marker::Model;
-use ux_types::{CONTROL_LIMIT, GREATEST_QUEUE_LIMIT, NAME_LIMIT, READ_LIMIT, Reply, Request};
+use ux_types::{
+    BytesRoom, CONTROL_LIMIT, GREATEST_QUEUE_LIMIT, NAME_LIMIT, READ_LIMIT, Reply, Request,
+};
 
 /// Room for a copy of one reply. Contracts see how many bytes of data, of control and of a name it has room for.
 #[derive(Drop)]
 pub struct ReplyRoom {
-    data: Vec<u8>,
-    control: Vec<u8>,
-    name: Vec<u8>,
+    data: BytesRoom,
+    control: BytesRoom,
+    name: BytesRoom,
 }
 
 impl Model for ReplyRoom {
-    ghost use Rattle.std.specs.Prelude.{◌≡◌, [], vec_capacity};
     ghost use Rattle.ux_model.specs.Rooms.{Size};
 
     ghost Value = { Size };
 
-    ghost view = { λ r. record { data_bytes = vec_capacity r.data; control = vec_capacity r.control; name = vec_capacity r.name } };
-
-    ghost invariant = { λ r. (r.data.items ≡ []) × (r.control.items ≡ []) × (r.name.items ≡ []) };
+    ghost view = { λ r. record { data_bytes = r.data; control = r.control; name = r.name } };
 }
 
 impl ReplyRoom {
@@ -50,19 +49,19 @@ impl ReplyRoom {
         }
     }
 
-    /// Room for exactly so many bytes.
+    /// Room for so many bytes.
     fn of_size(
         alloc: Global,
         data_bytes: usize,
         control: usize,
         name: usize,
     ) -> Result<ReplyRoom, AllocError>
-        ensures { IfOk result (λ room. room ≡ record { data_bytes = data_bytes; control = control; name = name }) }
+        ensures { IfOk result (λ room. Fits (record { data_bytes = data_bytes; control = control; name = name }) room) }
     {
         Ok(ReplyRoom {
-            data: Vec::with_capacity(alloc, data_bytes)?,
-            control: Vec::with_capacity(alloc, control)?,
-            name: Vec::with_capacity(alloc, name)?,
+            data: BytesRoom::new(alloc, data_bytes)?,
+            control: BytesRoom::new(alloc, control)?,
+            name: BytesRoom::new(alloc, name)?,
         })
     }
 
@@ -77,7 +76,7 @@ impl ReplyRoom {
             Reply::Fd(fd) => Reply::Fd(*fd),
             Reply::Fds(first, second) => Reply::Fds(*first, *second),
             Reply::Count(count) => Reply::Count(*count),
-            Reply::Bytes(bytes) => Reply::Bytes(bytes_copy(self.data, bytes)),
+            Reply::Bytes(bytes) => Reply::Bytes(bytes.share(self.data)),
             Reply::At(offset) => Reply::At(*offset),
             Reply::Received {
                 count,
@@ -87,9 +86,9 @@ impl ReplyRoom {
                 from,
             } => Reply::Received {
                 count: *count,
-                bytes: bytes_copy(self.data, bytes),
+                bytes: bytes.share(self.data),
                 flags: *flags,
-                control: bytes_copy(self.control, control),
+                control: control.share(self.control),
                 from: sender_copy(self.name, from),
             },
             Reply::Accepted(fd, addr) => Reply::Accepted(*fd, addr_copy(self.name, addr)),
