@@ -20,14 +20,18 @@ mod witness;
 
 pub use account::{Account, settle_accounts};
 pub use book::{Book, PARTS, has_own_call};
-pub use call_book::{CallBook, Shows, exit_share};
+pub use call_book::{Asks, CallBook, Keeps, Shows, exit_share};
 pub use fault::{CallFault, NoMemory, OffFault, SettleFault};
 pub use held::settle_held;
 pub use naming::{BookName, Trailing};
 pub use receipts::{Call, Receipt, Recorded};
 pub use running_book::RunningBook;
 pub use shares::{Share, Spent};
+pub use spare::Prepared;
+// A crate can name `Prepared` in a contract only if the types of its fields are exported.
+#[doc(hidden)]
+pub use spare::Spare;
 pub use told::settle_told;
 pub use trail::Trail;
 pub use ux_types::Entry;
-pub use witness::Witness;
+pub use witness::{Witness, Witnessed};

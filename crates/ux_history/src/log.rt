@@ -3,6 +3,7 @@ ghost use Rattle.std.specs.Prelude.{◌≡◌, ◌+◌, ◌^◌, ◌<◌, ◌≤
 ghost use Rattle.std.specs.List.{slice_get, AllByRecursion};
 ghost use Rattle.ux_model.specs.Limits.{object_limit, made_limit};
 ghost use Rattle.ux_model.specs.Boot.{IsBootState};
+ghost use Rattle.ux_model.specs.Rooms.{size_of, room_for, Fits};
 ghost use Rattle.ux_model.specs.State.{is_live};
 ghost use Rattle.ux_model.specs.Waiting.{may_wait, is_again};
 ghost use Rattle.ux_model.specs.Step.{Step};
@@ -257,10 +258,11 @@ impl<W: BookName, O: FileObject> Log<W, O> {
         }
     }
 
-    /// The answer that an entry keeps, and its call, put into room that was set aside for its request.
-    pub(crate) fn answer(&self, number: usize, spare: Spare) -> (Reply, Call)
+    /// The call of an entry, put into room that was set aside for its request.
+    pub(crate) fn call(&self, number: usize, spare: Spare) -> Call
         requires { IsSomeAnd (slice_get self.now.book.entries number) (λ e. e.request ≡ spare) }
-        ensures answer { IsSomeAnd (slice_get self.now.book.entries number) (λ e. (result.0 ≡ e.reply) × (result.1 ≡ call_of e)) }
+        ensures call { IsSomeAnd (slice_get self.now.book.entries number) (λ e. result ≡ call_of e) }
+        ensures fits { Fits (size_of result.reply) (room_for spare) }
         ensures boot { self.now.book.boot ≡ W.boot }
         ensures legal { IsLegal self.now.book.boot self.now.book.entries }
     {
