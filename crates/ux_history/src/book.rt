@@ -19,9 +19,9 @@ use crate::account::Account;
 use crate::fault::{CallFault, NoMemory, OffFault};
 use crate::log::Log;
 use crate::naming::BookName;
+use crate::prepared::Prepared;
 use crate::receipts::{Receipt, Recorded};
 use crate::shares::{Share, Spent};
-use crate::spare::Prepared;
 use std::alloc::{AllocError, Global};
 use std::marker::{Model, PhantomData};
 use std::sync::ledger;
@@ -43,15 +43,24 @@ pub struct Book<W: BookName, O: FileObject> {
     ledger: ledger::Book<W>,
     /// The parts that no process has.
     rest: ledger::Share<W>,
+    /// Room for the copy of a reply that its receipt keeps, which is used where there can be no further owner of
+    /// what the reply holds.
+    room: Option<ReplyRoom>,
 }
 
 // Written out, so that it is proved here and not in each function that drops one.
 impl<W: BookName, O: FileObject> Drop for Book<W, O> {
     fn drop(self) {
-        let Book { log, ledger, rest } = self;
+        let Book {
+            log,
+            ledger,
+            rest,
+            room,
+        } = self;
         drop(log);
         drop(ledger);
-        drop(rest)
+        drop(rest);
+        drop(room)
     }
 }
 
@@ -91,7 +100,15 @@ impl<W: BookName, O: FileObject> Book<W, O> {
         };
         let (ledger, mut rest) = blank.open::<W>();
         match cut(alloc, &mut rest, log.process_count()) {
-            Ok(shares) => Ok((Book { log, ledger, rest }, shares)),
+            Ok(shares) => Ok((
+                Book {
+                    log,
+                    ledger,
+                    rest,
+                    room: None,
+                },
+                shares,
+            )),
             Err(_) => Err((log.into_kernel(), NoMemory)),
         }
     }
@@ -115,6 +132,7 @@ impl<W: BookName, O: FileObject> Book<W, O> {
             log,
             ledger: _,
             rest: _,
+            room: _,
         } = self;
         log.into_entries()
     }
@@ -127,6 +145,7 @@ impl<W: BookName, O: FileObject> Book<W, O> {
             log,
             ledger: _,
             rest: _,
+            room: _,
         } = self;
         log.into_kernel()
     }
@@ -345,7 +364,7 @@ impl<W: BookName, O: FileObject> Book<W, O> {
         if !self.knows(share) {
             return Err((CallFault::Stranger, request));
         }
-        let prepared = match Prepared::new(self.log.allocator(), request) {
+        let prepared = match Prepared::new(request) {
             Ok(prepared) => prepared,
             Err(request) => return Err((CallFault::NoMemory, request)),
         };
@@ -435,16 +454,18 @@ impl<W: BookName, O: FileObject> Book<W, O> {
         if !self.knows(share) {
             return Err((CallFault::Stranger, prepared));
         }
-        if self.log.reserve().is_err() {
+        let alloc = self.log.allocator();
+        let room = ReplyRoom::provide(&mut self.room, alloc, prepared.request());
+        if room.is_err() || self.log.reserve().is_err() {
             return Err((CallFault::NoMemory, prepared));
         }
-        let (request, spare) = prepared.into_parts();
+        let (request, copy) = prepared.into_parts();
         let waits = tried && self.log.waits(share.pid, &request);
         let Some(number) = self.log.append(share.pid, share.k, request, waits, retired) else {
-            drop(spare);
+            drop(copy);
             return Ok(None);
         };
-        let call = self.log.call(number, spare);
+        let call = self.log.call(number, copy, &mut self.room);
         self.ledger.add(&mut share.part, 1);
         share.k += 1;
         // The log says that a process which was made has a part.
@@ -592,7 +613,7 @@ fn copy_for_call(alloc: Global, request: &Request) -> Result<(Prepared, ReplyRoo
     ensures room { IfOk result (λ r. Fits (room_for request.now) r.1) }
 {
     let room = ReplyRoom::for_request(alloc, request)?;
-    match Prepared::new(alloc, request.clone()?) {
+    match Prepared::new(request.clone()?) {
         Ok(prepared) => Ok((prepared, room)),
         Err(_) => Err(AllocError),
     }

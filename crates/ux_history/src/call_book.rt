@@ -15,10 +15,9 @@ use crate::account::Account;
 use crate::book::Book;
 use crate::fault::{CallFault, OffFault};
 use crate::naming::BookName;
+use crate::prepared::Prepared;
 use crate::receipts::Receipt;
 use crate::shares::{Share, Spent};
-use crate::spare::Prepared;
-use std::alloc::Global;
 use ux_kernel::Kernel;
 use ux_object::FileObject;
 use ux_state::RetiredList;
@@ -116,7 +115,7 @@ pub trait CallBook<W: BookName, O: FileObject>: Drop {
     /// # Errors
     ///
     /// The request, where there is no memory.
-    fn prepare(alloc: Global, request: Request) -> Result<Self::Prepared, Request>
+    fn prepare(request: Request) -> Result<Self::Prepared, Request>
         ensures request { IfOk result (λ p. Self.Prepared.asked p ≡ request) }
         ensures back { IfErr result (λ r. r ≡ request) };
 
@@ -314,8 +313,8 @@ impl<W: BookName, O: FileObject> CallBook<W, O> for Book<W, O> {
         }
     }
 
-    fn prepare(alloc: Global, request: Request) -> Result<Prepared, Request> {
-        Prepared::new(alloc, request)
+    fn prepare(request: Request) -> Result<Prepared, Request> {
+        Prepared::new(request)
     }
 
     fn record_prepared(

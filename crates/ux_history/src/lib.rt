@@ -9,11 +9,11 @@ mod held;
 mod log;
 mod naming;
 mod past;
+mod prepared;
 mod receipts;
 mod running_book;
 mod running_log;
 mod shares;
-mod spare;
 mod told;
 mod trail;
 mod witness;
@@ -24,13 +24,10 @@ pub use call_book::{Asks, CallBook, Keeps, Shows, exit_share};
 pub use fault::{CallFault, NoMemory, OffFault, SettleFault};
 pub use held::settle_held;
 pub use naming::{BookName, Trailing};
+pub use prepared::Prepared;
 pub use receipts::{Call, Receipt, Recorded};
 pub use running_book::RunningBook;
 pub use shares::{Share, Spent};
-pub use spare::Prepared;
-// A crate can name `Prepared` in a contract only if the types of its fields are exported.
-#[doc(hidden)]
-pub use spare::Spare;
 pub use told::settle_told;
 pub use trail::Trail;
 pub use ux_types::Entry;

@@ -434,7 +434,7 @@ impl<W: Trailing, O: FileObject> CallBook<W, O> for RunningBook<W, O> {
         RunningBook::record(self, share, request, retired)
     }
 
-    fn prepare(_alloc: Global, request: Request) -> Result<Request, Request> {
+    fn prepare(request: Request) -> Result<Request, Request> {
         Ok(request)
     }
 

@@ -130,7 +130,7 @@ impl<W: BookName, O: FileObject, B: CallBook<W, O>> Seat<W, O, B> {
             shared,
             retired,
         } = self;
-        let prepared = match B::prepare(shared.alloc, request) {
+        let prepared = match B::prepare(request) {
             Ok(prepared) => prepared,
             Err(request) => return Err((CallFault::NoMemory, request)),
         };
