@@ -76,7 +76,7 @@ impl ControlWord {
         ensures { IfOk result (λ bytes. bytes ≡ control_buffer self) }
     {
         let bytes = match self {
-            ControlWord::Bare => Vec::new(alloc),
+            ControlWord::Bare => return Ok(Bytes::empty()),
             ControlWord::Raw(bytes) => return Ok(bytes),
             ControlWord::Rights(numbers) => layout_of(alloc, None, numbers.fds)?,
             ControlWord::Credentials(cred) => layout_of(alloc, Some(cred), Vec::new(alloc))?,
@@ -90,7 +90,7 @@ impl ControlWord {
                 bytes
             }
         };
-        Ok(Bytes::new(bytes))
+        Ok(Bytes::new(bytes)?)
     }
 
     /// Control data of one item.
@@ -221,7 +221,7 @@ impl Word for ControlWord {
             [dash] if *dash == b'-' => Ok(ControlWord::Bare),
             [letter, colon, digits @ ..] if *letter == b'x' && *colon == b':' => {
                 let bytes = some_pairs_of(alloc, digits)?;
-                Ok(ControlWord::Raw(Bytes::new(bytes)))
+                Ok(ControlWord::Raw(Bytes::new(bytes)?))
             }
             _ => control_items_of(alloc, word),
         }

@@ -42,7 +42,7 @@ fn body_of(alloc: Global, kind: ObjKind, words: &[&[u8]]) -> Result<Bytes, LineE
         }
         ObjKind::Counter | ObjKind::Pipe => {
             end(words)?;
-            Ok(Bytes::new(Vec::new(alloc)))
+            Ok(Bytes::empty())
         }
     }
 }

@@ -8,9 +8,8 @@ ghost use Rattle.ux_syntax.specs.Results.{Gives};
 
 use crate::fault::{BAD, LineError};
 use crate::words::{Word, digit_of};
-use bstr::BString;
 use std::alloc::Global;
-use ux_types::{Addr, Name};
+use ux_types::{Addr, Bytes, Name};
 
 /// Whether a byte stands for itself in a name.
 pub(crate) fn stands(byte: u8) -> bool
@@ -50,7 +49,7 @@ fn name_of(alloc: Global, text: &[u8]) -> Result<Name, LineError>
         bytes.push(byte)?;
         rest = after;
     }
-    Ok(Name::new(BString::new(bytes)))
+    Ok(Name::new(Bytes::new(bytes)?))
 }
 
 /// The name that a word has behind this letter and a colon.

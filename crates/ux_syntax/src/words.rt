@@ -133,9 +133,9 @@ impl Word for Bytes {
             return Err(BAD);
         }
         if word == b"-".as_slice() {
-            return Ok(Bytes::new(Vec::new(alloc)));
+            return Ok(Bytes::empty());
         }
-        Ok(Bytes::new(pairs_of(alloc, word)?))
+        Ok(Bytes::new(pairs_of(alloc, word)?)?)
     }
 }
 
