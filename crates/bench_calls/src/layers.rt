@@ -2,7 +2,7 @@
 ghost use Rattle.std.specs.Prelude.{◌≡◌, IfOk};
 ghost use Rattle.ux_model.specs.Boot.{IsBootState};
 
-use crate::rows::{FILE, PAIR_AND_CLOSES, Requests, Row, named};
+use crate::rows::{FILE, PAIR_AND_CLOSES, Requests, Row};
 use anyhow::{Result, anyhow};
 use std::alloc::Global;
 use std::sync::ledger::Blank;
@@ -81,7 +81,7 @@ impl<W: BookName> Drop for Recorded<W> {
 /// The file that a kernel starts with.
 fn file(alloc: Global) -> Result<Vec<(Name, MemFile)>> {
     let file = MemFile::new(alloc, &CONTENTS)?;
-    Ok(vec![in alloc; (named(alloc, FILE)?, file)]?)
+    Ok(vec![in alloc; (Name::from_slice(alloc, FILE)?, file)]?)
 }
 
 /// A kernel with one file and so many processes.

@@ -1,5 +1,4 @@
 //! Calls as rows of a table, and the requests that they stand for.
-use bstr::BString;
 use std::alloc::{AllocError, Global};
 use ux_cmsg::{Control, write_control};
 use ux_types::{Addr, Bytes, Fd, Mode, MsgFlags, Name, OpenFlags, Request, SockType, Whence};
@@ -65,32 +64,27 @@ impl Row<'_> {
     }
 }
 
-/// A name of these bytes.
-pub(crate) fn named(alloc: Global, bytes: &[u8]) -> Result<Name, AllocError> {
-    Ok(Name::new(BString::from_slice(alloc, bytes)?))
-}
-
 /// An abstract name of these bytes.
 fn abstract_addr(alloc: Global, bytes: &[u8]) -> Result<Addr, AllocError> {
-    Ok(Addr::Abstract(named(alloc, bytes)?))
+    Ok(Addr::Abstract(Name::from_slice(alloc, bytes)?))
 }
 
 /// So many bytes.
 fn bytes(alloc: Global, length: usize) -> Result<Bytes, AllocError> {
-    Ok(Bytes::new(vec![in alloc; 90; length]?))
+    Bytes::new(vec![in alloc; 90; length]?)
 }
 
 /// The bytes of a control buffer that passes the file so many times.
 fn rights(alloc: Global, count: usize) -> Result<Bytes, AllocError> {
     let files = vec![in alloc; Fd(0); count]?;
     let control = write_control(alloc, &Control::new(None, files))?;
-    Ok(Bytes::new(control))
+    Bytes::new(control)
 }
 
 /// An open of the file.
 fn open(alloc: Global) -> Result<Request, AllocError> {
     Ok(Request::Open {
-        path: named(alloc, FILE)?,
+        path: Name::from_slice(alloc, FILE)?,
         mode: Mode::Both,
         flags: OpenFlags(0),
     })
@@ -139,7 +133,7 @@ fn plain_send(
     length: usize,
 ) -> Result<Request, AllocError> {
     let bytes = bytes(alloc, length)?;
-    Ok(send(fd, addr, bytes, Bytes::new(Vec::new(alloc))))
+    Ok(send(fd, addr, bytes, Bytes::empty()))
 }
 
 /// A send of one byte that passes the file so many times.
@@ -166,7 +160,7 @@ fn request_of(alloc: Global, row: Row, turn: u32) -> Result<Request, AllocError>
         },
         Row::Pair(kind) => Request::SocketPair { kind, flags },
         Row::Socket(kind) => Request::Socket { kind, flags },
-        Row::BindPath(fd, path) => bind(fd, Addr::Path(named(alloc, path)?)),
+        Row::BindPath(fd, path) => bind(fd, Addr::Path(Name::from_slice(alloc, path)?)),
         Row::Bind(fd, name) => bind(fd, abstract_addr(alloc, name)?),
         Row::Listen(fd, backlog) => Request::Listen {
             fd: Fd(fd),

@@ -1,7 +1,6 @@
 //! Names of the abstract namespace.
 use crate::measuring::{Batch, nanos};
 use anyhow::{Result, anyhow};
-use bstr::BString;
 use std::alloc::{AllocError, Global};
 use std::rt::Clock;
 use ux_names::AbstractNames;
@@ -48,7 +47,7 @@ fn other_names(alloc: Global) -> Result<Vec<Name>, AllocError> {
     let mut names = Vec::new(alloc);
     for number in 0..CALLS {
         let text = format!(in alloc; "service-{number}")?;
-        names.push(Name::new(BString::from_slice(alloc, text.as_bytes())?))?;
+        names.push(Name::from_slice(alloc, text.as_bytes())?)?;
     }
     Ok(names)
 }

@@ -38,7 +38,7 @@ fn entries_of(alloc: Global, script: Script) -> Result<Vec<Entry>, AllocError> {
         let Act::Call(request) = act else {
             continue;
         };
-        let bytes = Bytes::new(Vec::from_slice(alloc, b"Hello, world!")?);
+        let bytes = Bytes::from_slice(alloc, b"Hello, world!")?;
         entries.push(Entry {
             pid,
             k: number as u64,
@@ -47,7 +47,7 @@ fn entries_of(alloc: Global, script: Script) -> Result<Vec<Entry>, AllocError> {
                 count: 13,
                 bytes,
                 flags: MsgFlags::TRUNC,
-                control: Bytes::new(Vec::new(alloc)),
+                control: Bytes::empty(),
                 from: None,
             },
             released: Released::new(),

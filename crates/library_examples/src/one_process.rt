@@ -6,7 +6,6 @@ ghost use Rattle.ux_model.specs.Boot.{IsBootState};
 
 use crate::print_history;
 use anyhow::{Result, anyhow};
-use bstr::BString;
 use std::alloc::Global;
 use std::marker::Brand;
 use std::sync::ledger::Blank;
@@ -20,7 +19,7 @@ use ux_types::{Bytes, Fd, Mode, Name, OpenFlags, ProcSpec, Request, Whence};
 fn start(alloc: Global) -> Result<Kernel<MemFile>>
     ensures { IfOk result (λ kernel. IsBootState kernel) }
 {
-    let path = Name::new(BString::from_slice(alloc, b"notes")?);
+    let path = Name::from_slice(alloc, b"notes")?;
     let file = MemFile::new(alloc, b"")?;
     let writer = ProcSpec {
         uid: 1000,
@@ -38,8 +37,8 @@ fn start(alloc: Global) -> Result<Kernel<MemFile>>
 
 /// The calls that the process makes before it exits.
 fn calls(alloc: Global) -> Result<Vec<Request>> {
-    let path = Name::new(BString::from_slice(alloc, b"notes")?);
-    let bytes = Bytes::new(Vec::from_slice(alloc, b"hello")?);
+    let path = Name::from_slice(alloc, b"notes")?;
+    let bytes = Bytes::from_slice(alloc, b"hello")?;
     let open = Request::Open {
         path,
         mode: Mode::Both,

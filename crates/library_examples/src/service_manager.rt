@@ -8,7 +8,6 @@ use crate::print_history;
 use crate::relying::entries_made;
 use crate::two_threads::{check, holds_all, make_calls};
 use anyhow::{Result, anyhow};
-use bstr::BString;
 use std::alloc::Global;
 use std::marker::Brand;
 use std::sync::Wait;
@@ -36,14 +35,9 @@ const SOCKET: Request = Request::Socket {
     flags: OpenFlags(0),
 };
 
-/// A path.
-fn path_of(alloc: Global, path: &[u8]) -> Result<Name> {
-    Ok(Name::new(BString::from_slice(alloc, path)?))
-}
-
 /// Where the service is found.
 fn address(alloc: Global) -> Result<Addr> {
-    Ok(Addr::Path(path_of(alloc, b"service")?))
+    Ok(Addr::Path(Name::from_slice(alloc, b"service")?))
 }
 
 /// A kernel with the manager's two files, and two processes: the manager and a client.
@@ -59,8 +53,8 @@ fn boot(alloc: Global) -> Result<Kernel<MemFile>>
         limit: 16,
     };
     let objects = vec![in alloc;
-        (path_of(alloc, b"log")?, log),
-        (path_of(alloc, b"key")?, key),
+        (Name::from_slice(alloc, b"log")?, log),
+        (Name::from_slice(alloc, b"key")?, key),
     ]?;
     match Kernel::boot(alloc, objects, &[user, user]) {
         Ok(kernel) => Ok(kernel),
@@ -71,7 +65,7 @@ fn boot(alloc: Global) -> Result<Kernel<MemFile>>
 /// A file that no program finds that starts in this process, or in a child of it.
 fn open_marked(alloc: Global, path: &[u8], mode: Mode) -> Result<Request> {
     Ok(Request::Open {
-        path: path_of(alloc, path)?,
+        path: Name::from_slice(alloc, path)?,
         mode,
         flags: OpenFlags::CLOEXEC,
     })
@@ -79,7 +73,7 @@ fn open_marked(alloc: Global, path: &[u8], mode: Mode) -> Result<Request> {
 
 /// A write to the log.
 fn write_log(alloc: Global, text: &[u8]) -> Result<Request> {
-    let bytes = Bytes::new(Vec::from_slice(alloc, text)?);
+    let bytes = Bytes::from_slice(alloc, text)?;
     Ok(Request::Write { fd: LOG, bytes })
 }
 
@@ -118,8 +112,8 @@ fn come(alloc: Global) -> Result<Vec<Request>> {
     let greeting = Request::SendMsg {
         fd: CONNECTION,
         addr: None,
-        bytes: Bytes::new(Vec::from_slice(alloc, b"hello")?),
-        control: Bytes::new(Vec::new(alloc)),
+        bytes: Bytes::from_slice(alloc, b"hello")?,
+        control: Bytes::empty(),
         flags: MsgFlags(0),
     };
     Ok(vec![in alloc;

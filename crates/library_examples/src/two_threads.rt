@@ -8,7 +8,6 @@ ghost use Rattle.ux_history.specs.Books.{has_own_call};
 use crate::print_history;
 use crate::relying::{close, entries_made, stands};
 use anyhow::{Result, anyhow};
-use bstr::BString;
 use std::alloc::Global;
 use std::marker::Brand;
 use std::sync::Wait;
@@ -59,12 +58,12 @@ impl<W: BookName> Done<W> {
 
 /// The path of the file.
 fn notes(alloc: Global) -> Result<Name> {
-    Ok(Name::new(BString::from_slice(alloc, b"notes")?))
+    Ok(Name::from_slice(alloc, b"notes")?)
 }
 
 /// Where the monitor listens.
 fn address(alloc: Global) -> Result<Addr> {
-    Ok(Addr::Abstract(Name::new(BString::from_slice(alloc, b"monitor")?)))
+    Ok(Addr::Abstract(Name::from_slice(alloc, b"monitor")?))
 }
 
 /// A kernel with one memory file and two processes.
@@ -92,8 +91,8 @@ fn pass(alloc: Global) -> Result<Request> {
     Ok(Request::SendMsg {
         fd: Fd(2),
         addr: None,
-        bytes: Bytes::new(Vec::from_slice(alloc, b"x")?),
-        control: Bytes::new(control),
+        bytes: Bytes::from_slice(alloc, b"x")?,
+        control: Bytes::new(control)?,
         flags: MsgFlags(0),
     })
 }

@@ -33,8 +33,8 @@ fn send(alloc: Global) -> Result<Request>
     Ok(Request::SendMsg {
         fd: Fd(0),
         addr: None,
-        bytes: Bytes::new(Vec::from_slice(alloc, b"x")?),
-        control: Bytes::new(Vec::new(alloc)),
+        bytes: Bytes::from_slice(alloc, b"x")?,
+        control: Bytes::empty(),
         flags: MsgFlags(0),
     })
 }

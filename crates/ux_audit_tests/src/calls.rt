@@ -1,6 +1,5 @@
 //! Calls of a kernel that are kept as a history, and what an audit says of it.
 
-use bstr::BString;
 use std::alloc::{AllocError, Global};
 use std::process::Abort;
 use std::test::Fail;
@@ -49,10 +48,6 @@ fn flags_of(cloexec: bool) -> OpenFlags {
     }
 }
 
-fn named(alloc: Global, bytes: &[u8]) -> Result<Name, AllocError> {
-    Ok(Name::new(BString::new(Vec::from_slice(alloc, bytes)?)))
-}
-
 /// A send of one byte with these descriptors.
 fn sending(alloc: Global, fd: u32, rights: &[u32]) -> Result<Request, AllocError> {
     let mut numbers = Vec::new(alloc);
@@ -63,8 +58,8 @@ fn sending(alloc: Global, fd: u32, rights: &[u32]) -> Result<Request, AllocError
     Ok(Request::SendMsg {
         fd: Fd(fd),
         addr: None,
-        bytes: Bytes::new(Vec::from_slice(alloc, b"x")?),
-        control: Bytes::new(write_control(alloc, &control)?),
+        bytes: Bytes::from_slice(alloc, b"x")?,
+        control: Bytes::new(write_control(alloc, &control)?)?,
         flags: MsgFlags(0),
     })
 }
@@ -80,7 +75,7 @@ fn receiving(fd: u32, space: usize, flags: MsgFlags) -> Request {
 
 /// The name of the server.
 fn server(alloc: Global) -> Result<Addr, AllocError> {
-    Ok(Addr::Abstract(named(alloc, b"s")?))
+    Ok(Addr::Abstract(Name::from_slice(alloc, b"s")?))
 }
 
 fn listening(fd: u32) -> Request {
@@ -99,7 +94,7 @@ fn accepting(fd: u32) -> Request {
 
 fn opening(alloc: Global, cloexec: bool) -> Result<Request, AllocError> {
     Ok(Request::Open {
-        path: named(alloc, b"f")?,
+        path: Name::from_slice(alloc, b"f")?,
         mode: Mode::Both,
         flags: flags_of(cloexec),
     })
@@ -166,7 +161,7 @@ fn make_recorder(alloc: Global, procs: &[ProcSpec]) -> Result<Recorder, AllocErr
         return Err(AllocError);
     };
     let mut objects = Vec::new(alloc);
-    objects.push((named(alloc, b"f")?, file))?;
+    objects.push((Name::from_slice(alloc, b"f")?, file))?;
     let retired = RetiredList::new(alloc)?;
     match Kernel::boot(alloc, objects, procs) {
         Ok(kernel) => Ok(Recorder {

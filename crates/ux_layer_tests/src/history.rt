@@ -3,7 +3,6 @@ ghost use Rattle.std.specs.Prelude.{◌≡◌, [], false, length};
 ghost use Rattle.ux_model.specs.Boot.{IsBootState};
 ghost use Rattle.ux_history.specs.Books.{has_own_call};
 
-use bstr::BString;
 use hoard::{Hoard, Purse};
 use std::alloc::{AllocError, Global};
 use std::marker::Brand;
@@ -247,7 +246,7 @@ fn try_calls<W: BookName>(
 fn the_end_comes_once_and_accounts_settle(rt: HostRuntime) -> Result<(), Fail> {
     let alloc = rt.alloc();
     let mut objects = Vec::new(alloc);
-    let path = Name::new(BString::new(Vec::from_slice(alloc, b"c")?));
+    let path = Name::from_slice(alloc, b"c")?;
     objects.push((path, Counter::new()))?;
     let Ok(kernel) = Kernel::boot(alloc, objects, &ONE) else {
         return Err(Fail::from("no kernel"));

@@ -13,7 +13,6 @@ mod paths;
 mod queue_limits;
 mod rights;
 
-use bstr::BString;
 use files::{FileCall, file_request_of};
 use hoard::Hoard;
 use std::alloc::{AllocError, Global};
@@ -52,7 +51,7 @@ fn socket(kind: SockType) -> Request {
 
 fn open(alloc: Global, path: &[u8], flags: u8) -> Result<Request, AllocError> {
     Ok(Request::Open {
-        path: named(alloc, path)?,
+        path: Name::from_slice(alloc, path)?,
         mode: Mode::Both,
         flags: OpenFlags(flags),
     })
@@ -60,7 +59,7 @@ fn open(alloc: Global, path: &[u8], flags: u8) -> Result<Request, AllocError> {
 
 fn unlink(alloc: Global, path: &[u8]) -> Result<Request, AllocError> {
     Ok(Request::Unlink {
-        path: named(alloc, path)?,
+        path: Name::from_slice(alloc, path)?,
     })
 }
 
@@ -74,8 +73,8 @@ fn send(
     Ok(Request::SendMsg {
         fd: Fd(fd),
         addr,
-        bytes: Bytes::new(Vec::from_slice(alloc, bytes)?),
-        control: Bytes::new(Vec::new(alloc)),
+        bytes: Bytes::from_slice(alloc, bytes)?,
+        control: Bytes::empty(),
         flags: MsgFlags(flags),
     })
 }
@@ -99,8 +98,8 @@ fn pass(alloc: Global, fd: u32, numbers: &[u32]) -> Result<Request, AllocError> 
     Ok(Request::SendMsg {
         fd: Fd(fd),
         addr: None,
-        bytes: Bytes::new(Vec::from_slice(alloc, b"x")?),
-        control: Bytes::new(rights_item(alloc, numbers)?),
+        bytes: Bytes::from_slice(alloc, b"x")?,
+        control: Bytes::new(rights_item(alloc, numbers)?)?,
         flags: MsgFlags(0),
     })
 }
@@ -108,9 +107,9 @@ fn pass(alloc: Global, fd: u32, numbers: &[u32]) -> Result<Request, AllocError> 
 fn taken(alloc: Global, flags: u8, numbers: &[u32]) -> Result<Reply, AllocError> {
     Ok(Reply::Received {
         count: 1,
-        bytes: Bytes::new(Vec::from_slice(alloc, b"x")?),
+        bytes: Bytes::from_slice(alloc, b"x")?,
         flags: MsgFlags(flags),
-        control: Bytes::new(rights_item(alloc, numbers)?),
+        control: Bytes::new(rights_item(alloc, numbers)?)?,
         from: None,
     })
 }
@@ -131,20 +130,15 @@ fn fds(a: u32, b: u32) -> Reply {
 fn got(alloc: Global, bytes: &[u8], flags: u8, from: Option<Addr>) -> Result<Reply, AllocError> {
     Ok(Reply::Received {
         count: bytes.len(),
-        bytes: Bytes::new(Vec::from_slice(alloc, bytes)?),
+        bytes: Bytes::from_slice(alloc, bytes)?,
         flags: MsgFlags(flags),
-        control: Bytes::new(Vec::new(alloc)),
+        control: Bytes::empty(),
         from,
     })
 }
 
 fn refused(e: Errno) -> Reply {
     Reply::Err(e)
-}
-
-/// A path or a name of these bytes.
-fn named(alloc: Global, bytes: &[u8]) -> Result<Name, AllocError> {
-    Ok(Name::new(BString::new(Vec::from_slice(alloc, bytes)?)))
 }
 
 /// A kernel, and a list for what its calls let go of.
@@ -278,8 +272,8 @@ fn copies(alloc: Global, count: usize) -> Result<Vec<u8>, AllocError> {
 fn addr_of(alloc: Global, at: &At) -> Result<Addr, AllocError> {
     Ok(match at {
         At::Unnamed => Addr::Unnamed,
-        At::Path(bytes) => Addr::Path(named(alloc, bytes)?),
-        At::Abstract(bytes) => Addr::Abstract(named(alloc, bytes)?),
+        At::Path(bytes) => Addr::Path(Name::from_slice(alloc, bytes)?),
+        At::Abstract(bytes) => Addr::Abstract(Name::from_slice(alloc, bytes)?),
     })
 }
 
@@ -351,7 +345,7 @@ fn reply_of(alloc: Global, told: &Told) -> Result<Reply, AllocError> {
         Told::Fd(fd) => Reply::Fd(Fd(*fd)),
         Told::Fds(low, high) => fds(*low, *high),
         Told::Count(count) => Reply::Count(*count),
-        Told::Bytes(bytes) => Reply::Bytes(Bytes::new(Vec::from_slice(alloc, bytes)?)),
+        Told::Bytes(bytes) => Reply::Bytes(Bytes::from_slice(alloc, bytes)?),
         Told::At(offset) => Reply::At(*offset),
         Told::Got(bytes) => got(alloc, bytes, 0, None)?,
         Told::From(bytes, flags, at) => got(alloc, bytes, *flags, Some(addr_of(alloc, at)?))?,
@@ -514,7 +508,10 @@ fn makes(
 fn counters(alloc: Global, paths: &[&[u8]]) -> Result<Vec<(Name, Plain)>, AllocError> {
     let mut objects = Vec::with_capacity(alloc, paths.len())?;
     for path in paths {
-        objects.push((named(alloc, path)?, Plain::Counter(Counter::new())))?;
+        objects.push((
+            Name::from_slice(alloc, path)?,
+            Plain::Counter(Counter::new()),
+        ))?;
     }
     Ok(objects)
 }

@@ -3,7 +3,6 @@ ghost use Rattle.std.specs.Prelude.{◌≡◌, false, IfOk};
 ghost use Rattle.ux_model.specs.Boot.{IsBootState};
 ghost use Rattle.ux_history.specs.Books.{has_own_call};
 
-use bstr::BString;
 use hoard::Hoard;
 use std::alloc::{AllocError, Global};
 use std::marker::Brand;
@@ -144,7 +143,7 @@ fn answered<A: PartialEq + Drop, R: Drop>(
 
 /// The address of the server.
 fn server(alloc: Global) -> Result<Addr, AllocError> {
-    Ok(Addr::Abstract(Name::new(BString::from_slice(alloc, b"s")?)))
+    Ok(Addr::Abstract(Name::from_slice(alloc, b"s")?))
 }
 
 /// A receive of at most 8 bytes by this number.
@@ -166,8 +165,8 @@ fn send(alloc: Global, fd: u32, bytes: &[u8]) -> Result<Request, AllocError>
     Ok(Request::SendMsg {
         fd: Fd(fd),
         addr: None,
-        bytes: Bytes::new(Vec::from_slice(alloc, bytes)?),
-        control: Bytes::new(Vec::new(alloc)),
+        bytes: Bytes::from_slice(alloc, bytes)?,
+        control: Bytes::empty(),
         flags: MsgFlags(0),
     })
 }
@@ -207,9 +206,9 @@ fn ask<W: BookName, R: Wait>(
     w.must(rt, Request::Connect { fd: Fd(0), addr }, Reply::Ok)?;
     let got = Reply::Received {
         count: 2,
-        bytes: Bytes::new(Vec::from_slice(alloc, b"hi")?),
+        bytes: Bytes::from_slice(alloc, b"hi")?,
         flags: MsgFlags(0),
-        control: Bytes::new(Vec::new(alloc)),
+        control: Bytes::empty(),
         from: None,
     };
     w.must(rt, receive(0), got)?;

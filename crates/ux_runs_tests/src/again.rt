@@ -21,8 +21,8 @@ fn history(alloc: Global) -> Result<Vec<Entry>, AllocError> {
     let send = Request::SendMsg {
         fd: Fd(0),
         addr: None,
-        bytes: Bytes::new(Vec::from_slice(alloc, b"hi")?),
-        control: Bytes::new(Vec::new(alloc)),
+        bytes: Bytes::from_slice(alloc, b"hi")?,
+        control: Bytes::empty(),
         flags: MsgFlags(0),
     };
     let mut entries = Vec::new(alloc);

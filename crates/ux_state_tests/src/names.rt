@@ -1,7 +1,6 @@
 //! Names at their limits. Each step is a function of its own, so that a test's proof stays short.
-use bstr::BString;
 use hoard::Hoard;
-use std::alloc::{AllocError, Global};
+use std::alloc::Global;
 use std::process::Abort;
 use std::test::Fail;
 use ux_names::{AbstractNames, AutobindError, BindError, PathTarget, Paths};
@@ -9,11 +8,6 @@ use ux_types::{DescriptionId, Errno, Name, Refusal};
 
 /// How many names autobind chooses from.
 const CHOICE: u128 = 1_048_576;
-
-/// The name with these bytes.
-fn make_name(alloc: Global, bytes: &[u8]) -> Result<Name, AllocError> {
-    Ok(Name::new(BString::from_slice(alloc, bytes)?))
-}
 
 /// The socket of this description.
 fn socket(number: u128) -> PathTarget {
@@ -29,7 +23,7 @@ fn bind_path(
     target: PathTarget,
 ) -> Result<(), Fail> {
     let before = paths.len();
-    assert!(rt; paths.bind(make_name(alloc, path)?, target).is_ok());
+    assert!(rt; paths.bind(Name::from_slice(alloc, path)?, target).is_ok());
     assert_eq!(rt; paths.len(), before.saturating_add(1));
     expect_path(rt, alloc, paths, path, Some(target))
 }
@@ -42,7 +36,7 @@ fn expect_path(
     path: &[u8],
     target: Option<PathTarget>,
 ) -> Result<(), Fail> {
-    let name = make_name(alloc, path)?;
+    let name = Name::from_slice(alloc, path)?;
     assert_eq!(rt; paths.find(&name), target);
     Ok(())
 }
@@ -55,7 +49,7 @@ fn unlink(
     path: &[u8],
     target: Option<PathTarget>,
 ) -> Result<(), Fail> {
-    let name = make_name(alloc, path)?;
+    let name = Name::from_slice(alloc, path)?;
     assert_eq!(rt; paths.unlink(&name), target);
     expect_path(rt, alloc, paths, path, None)
 }
@@ -87,7 +81,7 @@ fn bind(
     number: u128,
     answer: Result<(), BindError>,
 ) -> Result<(), Fail> {
-    let bound = names.bind(make_name(alloc, name)?, DescriptionId::new(number));
+    let bound = names.bind(Name::from_slice(alloc, name)?, DescriptionId::new(number));
     assert!(rt; bound == answer, "{number}");
     Ok(())
 }
@@ -114,7 +108,7 @@ fn release(
     name: &[u8],
     number: u128,
 ) -> Result<(), Fail> {
-    let name = make_name(alloc, name)?;
+    let name = Name::from_slice(alloc, name)?;
     assert!(rt; names.release(&name) == Some(DescriptionId::new(number)));
     assert!(rt; names.find(&name).is_none());
     assert!(rt; names.release(&name).is_none());
@@ -163,7 +157,7 @@ fn three_paths(rt: &impl Abort, alloc: Global) -> Result<Paths, Fail> {
 fn a_path_is_bound_once(rt: HostRuntime) -> Result<(), Fail> {
     let alloc = rt.alloc();
     let mut paths = three_paths(&rt, alloc)?;
-    let again = paths.bind(make_name(alloc, b"/a")?, PathTarget::File(8));
+    let again = paths.bind(Name::from_slice(alloc, b"/a")?, PathTarget::File(8));
     assert_eq!(rt; again, Err(BindError::Taken));
     expect_path(&rt, alloc, &paths, b"/a", Some(socket(1)))?;
     expect_path(&rt, alloc, &paths, b"/d", None)?;
@@ -246,8 +240,8 @@ fn a_refused_name_changes_nothing(rt: HostRuntime) -> Result<(), Fail> {
     let alloc = rt.alloc();
     let mut paths = Paths::new(alloc);
     let mut names = AbstractNames::new(alloc)?;
-    let path = make_name(alloc, b"/a")?;
-    let name = make_name(alloc, b"12345")?;
+    let path = Name::from_slice(alloc, b"/a")?;
+    let name = Name::from_slice(alloc, b"12345")?;
     let id = DescriptionId::new(1);
     let hoard = Hoard::take_all(alloc)?;
     let reserved = paths.reserve(1).is_err();
@@ -270,7 +264,7 @@ fn names_go_without_memory(rt: HostRuntime) -> Result<(), Fail> {
     let alloc = rt.alloc();
     let mut paths = Paths::new(alloc);
     let mut names = AbstractNames::new(alloc)?;
-    let path = make_name(alloc, b"/a")?;
+    let path = Name::from_slice(alloc, b"/a")?;
     let listed = path.clone()?;
     let given = names.autobind(DescriptionId::new(1))?;
     paths.reserve(1)?;

@@ -3,7 +3,6 @@ ghost use Rattle.std.specs.Prelude.{◌≡◌, IfOk};
 ghost use Rattle.ux_model.specs.Limits.{name_limit};
 ghost use Rattle.ux_model.specs.Rooms.{sender_bytes, size_of, room_for, Fits};
 
-use bstr::BString;
 use hoard::Hoard;
 use std::alloc::{AllocError, Global};
 use std::process::Abort;
@@ -12,20 +11,6 @@ use ux_room::ReplyRoom;
 use ux_types::{
     Addr, Bytes, Cred, Errno, Fd, MsgFlags, Name, OpenFlags, Pid, PollFlags, Reply, Request,
 };
-
-/// These bytes.
-fn bytes(alloc: Global, items: &[u8]) -> Result<Bytes, AllocError>
-    ensures { IfOk result (λ b. b ≡ items.now) }
-{
-    Ok(Bytes::new(Vec::from_slice(alloc, items)?))
-}
-
-/// The name with these bytes.
-fn name(alloc: Global, items: &[u8]) -> Result<Name, AllocError>
-    ensures { IfOk result (λ n. n ≡ items.now) }
-{
-    Ok(Name::new(BString::from_slice(alloc, items)?))
-}
 
 /// Makes room for the reply to a request, and copies a reply while every allocation is refused.
 #[tactic(auto, using(ux_room::proofs::Fitting::fits_trans))]
@@ -73,8 +58,11 @@ fn replies_without_bytes_are_copied(rt: HostRuntime) -> Result<(), Fail> {
 #[tactic(auto, unfolding(ux_model::specs::Rooms::size_of, ux_model::specs::Rooms::room_for))]
 fn bytes_that_were_read_are_copied(rt: HostRuntime) -> Result<(), Fail> {
     let alloc = rt.alloc();
-    let read = Reply::Bytes(bytes(alloc, b"ping")?);
-    expect(&rt, alloc, Request::Read { fd: Fd(0), n: 4 }, read);
+    let fd = Fd(0);
+    let few = Reply::Bytes(Bytes::from_slice(alloc, b"ping")?);
+    expect(&rt, alloc, Request::Read { fd, n: 4 }, few);
+    let many = Reply::Bytes(Bytes::from_slice(alloc, b"ping and then pong")?);
+    expect(&rt, alloc, Request::Read { fd, n: 18 }, many);
     Ok(())
 }
 
@@ -83,14 +71,14 @@ fn bytes_that_were_read_are_copied(rt: HostRuntime) -> Result<(), Fail> {
 fn addresses_are_copied(rt: HostRuntime) -> Result<(), Fail> {
     let alloc = rt.alloc();
     let fd = Fd(0);
-    let path = Addr::Path(name(alloc, b"/a")?);
+    let path = Addr::Path(Name::from_slice(alloc, b"/a")?);
     expect(&rt, alloc, Request::GetSockName { fd }, Reply::Addr(path));
-    let taken = Addr::Abstract(name(alloc, b"00000")?);
+    let taken = Addr::Abstract(Name::from_slice(alloc, b"00000")?);
     expect(&rt, alloc, Request::GetPeerName { fd }, Reply::Addr(taken));
     let flags = OpenFlags(0);
     let accepted = Reply::Accepted(Fd(1), Addr::Unnamed);
     expect(&rt, alloc, Request::Accept { fd, flags }, accepted);
-    let accepted = Reply::Accepted(Fd(1), Addr::Path(name(alloc, b"/b")?));
+    let accepted = Reply::Accepted(Fd(1), Addr::Path(Name::from_slice(alloc, b"/b")?));
     expect(&rt, alloc, Request::Accept { fd, flags }, accepted);
     Ok(())
 }
@@ -115,9 +103,9 @@ fn message(alloc: Global, from: Option<Addr>) -> Result<Reply, AllocError>
 {
     Ok(Reply::Received {
         count: 5,
-        bytes: bytes(alloc, b"ping")?,
+        bytes: Bytes::from_slice(alloc, b"ping")?,
         flags: MsgFlags::TRUNC,
-        control: bytes(alloc, &[7, 8])?,
+        control: Bytes::from_slice(alloc, &[7, 8])?,
         from,
     })
 }
@@ -127,7 +115,7 @@ fn messages_are_copied(rt: HostRuntime) -> Result<(), Fail> {
     let alloc = rt.alloc();
     let unnamed = message(alloc, None)?;
     expect(&rt, alloc, receive(), unnamed);
-    let sender = Addr::Abstract(name(alloc, b"sender")?);
+    let sender = Addr::Abstract(Name::from_slice(alloc, b"sender")?);
     let named = message(alloc, Some(sender))?;
     expect(&rt, alloc, receive(), named);
     Ok(())
@@ -145,11 +133,15 @@ fn room_is_refused_without_memory(rt: HostRuntime) -> Result<(), Fail> {
     let alloc = rt.alloc();
     let fd = Fd(0);
     let hoard = Hoard::take_all(alloc)?;
-    let read = is_refused(alloc, Request::Read { fd, n: 1 });
+    let few = is_refused(alloc, Request::Read { fd, n: 14 });
+    let read = is_refused(alloc, Request::Read { fd, n: 15 });
     let named = is_refused(alloc, Request::GetSockName { fd });
     let plain = is_refused(alloc, Request::Close { fd });
     drop(hoard);
     assert!(rt; read && named, "nothing was refused");
-    assert!(rt; !plain, "a reply without bytes takes memory");
+    assert!(rt;
+        !plain && !few,
+        "a reply without bytes, or with 14, takes memory"
+    );
     Ok(())
 }

@@ -7,7 +7,6 @@ mod flights;
 mod processes;
 mod sockets;
 
-use bstr::BString;
 use std::alloc::{AllocError, Global};
 use std::process::Abort;
 use std::test::Fail;
@@ -17,11 +16,6 @@ use ux_objects::MemFile;
 use ux_rights::RefList;
 use ux_state::{RetiredList, State};
 use ux_types::{Cred, DescriptionId, Errno, Fd, Mode, Name, OpenFlags, Pid, ProcSpec, SockType};
-
-/// A path with these bytes.
-fn name(alloc: Global, bytes: &[u8]) -> Result<Name, AllocError> {
-    Ok(Name::new(BString::from_slice(alloc, bytes)?))
-}
 
 /// A user's process with this descriptor limit.
 fn process(limit: u32) -> ProcSpec {
@@ -72,7 +66,10 @@ fn start_with<O: FileObject>(
     assert!(rt; procs.len() <= 64);
     assert!(rt; a.is_open());
     assert!(rt; b.is_open());
-    let (first, second) = (name(alloc, b"a")?, name(alloc, b"b")?);
+    let (first, second) = (
+        Name::from_slice(alloc, b"a")?,
+        Name::from_slice(alloc, b"b")?,
+    );
     assert!(rt; second != first);
     let mut objects = Vec::with_capacity(alloc, 2)?;
     objects.push_reserved((first, a));

@@ -10,12 +10,11 @@ mod sends;
 mod traces;
 mod waits;
 
-use bstr::BString;
 use std::alloc::Global;
 use std::process::Abort;
 use std::test::*;
 use ux_syntax::{Act, ScriptFault, parse_script};
-use ux_types::{Addr, Bytes, Name, Request};
+use ux_types::{Addr, Name, Request};
 
 /// The text of the fault of a script, or none if it is read.
 fn fault_of(alloc: Global, text: &[u8]) -> Result<String, Fail> {
@@ -25,19 +24,11 @@ fn fault_of(alloc: Global, text: &[u8]) -> Result<String, Fail> {
     }
 }
 
-fn name_of(alloc: Global, bytes: &[u8]) -> Result<Name, Fail> {
-    Ok(Name::new(BString::new(Vec::from_slice(alloc, bytes)?)))
-}
-
-fn bytes_of(alloc: Global, bytes: &[u8]) -> Result<Bytes, Fail> {
-    Ok(Bytes::new(Vec::from_slice(alloc, bytes)?))
-}
-
 /// The address of this form, `u`, `p` or `a`, and this name.
 fn addr_of(alloc: Global, form: char, name: &[u8]) -> Result<Addr, Fail> {
     match form {
-        'p' => Ok(Addr::Path(name_of(alloc, name)?)),
-        'a' => Ok(Addr::Abstract(name_of(alloc, name)?)),
+        'p' => Ok(Addr::Path(Name::from_slice(alloc, name)?)),
+        'a' => Ok(Addr::Abstract(Name::from_slice(alloc, name)?)),
         _ => Ok(Addr::Unnamed),
     }
 }

@@ -1,5 +1,5 @@
 //! Kernels that can be booted, and those that can't.
-use super::{Asked, Row, Told, bare, counters, make_machine, named, process, says_rows};
+use super::{Asked, Row, Told, bare, counters, make_machine, process, says_rows};
 use hoard::Hoard;
 use std::alloc::{AllocError, Global};
 use std::process::Abort;
@@ -13,14 +13,17 @@ fn one_closed(alloc: Global) -> Result<Vec<(Name, Plain)>, AllocError> {
     let mut objects = counters(alloc, &[b"a"])?;
     let mut closed = Plain::Counter(Counter::new());
     closed.close();
-    objects.push((named(alloc, b"b")?, closed))?;
+    objects.push((Name::from_slice(alloc, b"b")?, closed))?;
     Ok(objects)
 }
 
 /// The same, and another under the path of the first.
 fn closed_and_twice(alloc: Global) -> Result<Vec<(Name, Plain)>, AllocError> {
     let mut objects = one_closed(alloc)?;
-    objects.push((named(alloc, b"a")?, Plain::Counter(Counter::new())))?;
+    objects.push((
+        Name::from_slice(alloc, b"a")?,
+        Plain::Counter(Counter::new()),
+    ))?;
     Ok(objects)
 }
 

@@ -19,7 +19,7 @@ pub(super) fn file_request_of(alloc: Global, call: &FileCall) -> Result<Request,
         FileCall::Read(fd, n) => Request::Read { fd: Fd(*fd), n: *n },
         FileCall::Write(fd, bytes) => Request::Write {
             fd: Fd(*fd),
-            bytes: Bytes::new(Vec::from_slice(alloc, bytes)?),
+            bytes: Bytes::from_slice(alloc, bytes)?,
         },
         FileCall::Lseek(fd, offset, whence) => Request::Lseek {
             fd: Fd(*fd),

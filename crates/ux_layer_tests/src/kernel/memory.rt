@@ -1,8 +1,8 @@
 //! Calls that take no memory, made with none, and calls on files that are refused each of their growths.
 use super::objects::is_gone;
 use super::{
-    Asked, At, Case, FileCall, Machine, Row, Told, ask, case_of, expect, make_machine, named,
-    process, refused, says_rows, says_without_memory, turns_off,
+    Asked, At, Case, FileCall, Machine, Row, Told, ask, case_of, expect, make_machine, process,
+    refused, says_rows, says_without_memory, turns_off,
 };
 use hoard::{Hoard, Purse};
 use std::alloc::Global;
@@ -10,7 +10,7 @@ use std::process::Abort;
 use std::test::Fail;
 use ux_object::ObjKind;
 use ux_objects::Plain;
-use ux_types::{Errno, Mode, Reply, SockOpt, Whence};
+use ux_types::{Errno, Mode, Name, Reply, SockOpt, Whence};
 
 /// A kernel of one process with so many descriptors at most and a memory file of three bytes under `f`.
 pub(super) fn with_file(alloc: Global, limit: u32) -> Result<Machine, Fail> {
@@ -18,7 +18,7 @@ pub(super) fn with_file(alloc: Global, limit: u32) -> Result<Machine, Fail> {
     let Ok(file) = Plain::new(alloc, ObjKind::Memory, b"abc") else {
         return Err(Fail::from("no file"));
     };
-    objects.push((named(alloc, b"f")?, file))?;
+    objects.push((Name::from_slice(alloc, b"f")?, file))?;
     Ok(make_machine(alloc, objects, &[process(limit)])?)
 }
 

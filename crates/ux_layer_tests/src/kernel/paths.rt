@@ -1,5 +1,5 @@
 //! Many paths of sockets that are gone, taken away from the oldest on.
-use super::{Asked, Case, Machine, Row, Told, bare, named, process, says, says_rows};
+use super::{Asked, Case, Machine, Row, Told, bare, process, says, says_rows};
 use std::alloc::{AllocError, Global};
 use std::process::Abort;
 use ux_types::{Addr, Errno, Fd, Name, Reply, Request};
@@ -14,7 +14,7 @@ const CLOSE: &[Row] = &[(1, Asked::Close(0), Told::Ok)];
 /// The path of this number.
 fn path_of(alloc: Global, number: usize) -> Result<Name, AllocError> {
     let text = format!(in alloc; "p{number}")?;
-    named(alloc, text.as_bytes())
+    Name::from_slice(alloc, text.as_bytes())
 }
 
 /// Gives a socket a path, and closes it: the path stays.

@@ -5,7 +5,6 @@ ghost use Rattle.ux_history.specs.Books.{has_own_call};
 ghost use Rattle.ux_objects.specs.Faultless.{counter_view};
 
 use super::{Done, Trouble, USER, Worker, holds_all, is_answered};
-use bstr::BString;
 use std::alloc::{AllocError, Global};
 use std::marker::Brand;
 use std::process::Abort;
@@ -128,17 +127,12 @@ impl FileObject for Watched<'_> {
     }
 }
 
-/// A path.
-fn path_of(alloc: Global, path: &[u8]) -> Result<Name, AllocError> {
-    Ok(Name::new(BString::from_slice(alloc, path)?))
-}
-
 /// A request to open the object at this path.
 fn open(alloc: Global, path: &[u8]) -> Result<Request, AllocError>
     ensures { IfOk result (λ r. has_own_call r ≡ false) }
 {
     Ok(Request::Open {
-        path: path_of(alloc, path)?,
+        path: Name::from_slice(alloc, path)?,
         mode: Mode::Both,
         flags: OpenFlags(0),
     })
@@ -156,7 +150,7 @@ fn watched_kernel<'a>(
     let mut objects = Vec::new(alloc);
     for path in paths {
         let counter = Counter::new();
-        objects.push((path_of(alloc, path)?, Watched { counter, watch }))?;
+        objects.push((Name::from_slice(alloc, path)?, Watched { counter, watch }))?;
     }
     match Kernel::boot(alloc, objects, procs) {
         Ok(kernel) => Ok(kernel),
@@ -233,7 +227,7 @@ fn own<W: BookName, R: Wait>(
     fd: Fd,
 ) -> Result<(), Trouble> {
     worker.must(rt, open(alloc, path)?, Reply::Fd(fd))?;
-    let path = path_of(alloc, path)?;
+    let path = Name::from_slice(alloc, path)?;
     worker.must(rt, Request::Unlink { path }, Reply::Ok)
 }
 
@@ -299,7 +293,7 @@ fn read_five<W: BookName, R: Wait>(
 ) -> Result<Done<W>, Trouble> {
     let mut worker = Worker::new(alloc, seat);
     worker.must(rt, open(alloc, b"a")?, Reply::Fd(Fd(0)))?;
-    let five = Bytes::new(Vec::from_slice(alloc, &FIVE)?);
+    let five = Bytes::from_slice(alloc, &FIVE)?;
     worker.must(rt, Request::Read { fd: Fd(0), n: 8 }, Reply::Bytes(five))?;
     worker.done(rt)
 }
@@ -314,7 +308,7 @@ fn write_five<W: BookName, R: Wait>(
     let mut worker = Worker::new(alloc, seat);
     worker.must(rt, open(alloc, b"a")?, Reply::Fd(Fd(0)))?;
     let waits = comes_to(&watch.empty, 1, PATIENCE);
-    let bytes = Bytes::new(Vec::from_slice(alloc, &FIVE)?);
+    let bytes = Bytes::from_slice(alloc, &FIVE)?;
     worker.must(rt, Request::Write { fd: Fd(0), bytes }, Reply::Count(8))?;
     if waits {
         worker.done(rt)

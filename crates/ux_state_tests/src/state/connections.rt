@@ -1,6 +1,6 @@
 //! What no script shows of names and connections: the flags of an accepted end, and sockets of another type. The
 //! rest of them stands in the scripts of `examples/`, and in the kernel's tests.
-use super::{Held, name, process, start_with, user};
+use super::{Held, process, start_with, user};
 use std::alloc::Global;
 use std::process::Abort;
 use std::test::Fail;
@@ -165,8 +165,8 @@ fn a_name_leads_to_sockets_of_one_type(rt: HostRuntime) -> Result<(), Fail> {
     let mut held = start_alone(&rt, alloc, 8)?;
     let s = &mut held.state;
     open_socket(&rt, s, 0);
-    bind_path(&rt, s, 0, &name(alloc, b"p")?, Ok(()));
-    let addr = Addr::Path(name(alloc, b"p")?);
+    bind_path(&rt, s, 0, &Name::from_slice(alloc, b"p")?, Ok(()));
+    let addr = Addr::Path(Name::from_slice(alloc, b"p")?);
     expect_named(&rt, s, SockType::Stream, &addr, Ok(0));
     expect_named(&rt, s, SockType::Seq, &addr, Err(Errno::EPROTOTYPE));
     Ok(())

@@ -1,6 +1,6 @@
 //! File objects, descriptors and descriptions, and how a file object goes.
 use super::{
-    append, close, end, name, open, open_pair, process, settle, start, start_with, start_with_files,
+    append, close, end, open, open_pair, process, settle, start, start_with, start_with_files,
 };
 use std::alloc::{AllocError, Global};
 use std::process::Abort;
@@ -10,7 +10,7 @@ use ux_names::PathTarget;
 use ux_object::FileObject;
 use ux_objects::{Counter, Pipe};
 use ux_state::State;
-use ux_types::{DescriptionId, Errno, Fd, Mode, OpenFlags, Pid};
+use ux_types::{DescriptionId, Errno, Fd, Mode, Name, OpenFlags, Pid};
 
 /// A descriptor of the description with this number.
 fn descriptor(description: u128, cloexec: bool) -> Descriptor {
@@ -101,7 +101,7 @@ fn expect_path<O: FileObject>(
     path: &[u8],
     answer: Option<PathTarget>,
 ) -> Result<(), AllocError> {
-    let path = name(alloc, path)?;
+    let path = Name::from_slice(alloc, path)?;
     assert!(rt; state.path(&path) == answer);
     Ok(())
 }
@@ -121,7 +121,7 @@ fn a_state_starts_as_it_is_wanted(rt: HostRuntime) -> Result<(), Fail> {
     }
     expect_path(&rt, alloc, s, b"a", Some(PathTarget::File(0)))?;
     expect_path(&rt, alloc, s, b"b", Some(PathTarget::File(1)))?;
-    s.unlink(&name(alloc, b"a")?);
+    s.unlink(&Name::from_slice(alloc, b"a")?);
     expect_path(&rt, alloc, s, b"a", None)?;
     expect_path(&rt, alloc, s, b"b", Some(PathTarget::File(1)))?;
     match s.object(1) {
@@ -208,7 +208,7 @@ fn a_file_goes_with_its_last_descriptor(rt: HostRuntime) -> Result<(), Fail> {
     open(&rt, s, 1, 1, Mode::Read, Ok(Fd(0)));
     open(&rt, s, 2, 1, Mode::Write, Ok(Fd(0)));
     settle(&rt, s, &[]);
-    s.unlink(&name(alloc, b"b")?);
+    s.unlink(&Name::from_slice(alloc, b"b")?);
     settle(&rt, s, &[]);
     close(&rt, s, 1, 0);
     settle(&rt, s, &[]);
@@ -228,7 +228,7 @@ fn a_file_goes_with_its_last_path(rt: HostRuntime) -> Result<(), Fail> {
     open(&rt, s, 1, 0, Mode::Both, Ok(Fd(0)));
     close(&rt, s, 1, 0);
     settle(&rt, s, &[]);
-    s.unlink(&name(alloc, b"a")?);
+    s.unlink(&Name::from_slice(alloc, b"a")?);
     settle(&rt, s, &[0]);
     settle(&rt, s, &[]);
     Ok(())

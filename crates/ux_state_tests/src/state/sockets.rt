@@ -1,6 +1,6 @@
 //! Connected sockets: messages, resets, and what goes with their queues.
 use super::{
-    append, close, expect_queue, expect_socket, name, open, open_pair, pass, settle, start,
+    append, close, expect_queue, expect_socket, open, open_pair, pass, settle, start,
     start_with_files, user,
 };
 use hoard::Hoard;
@@ -11,7 +11,7 @@ use ux_object::FileObject;
 use ux_objects::Counter;
 use ux_rights::RefList;
 use ux_state::{RetiredList, State};
-use ux_types::{DescriptionId, Errno, Fd, Mode, OpenFlags, Pid, SockType};
+use ux_types::{DescriptionId, Errno, Fd, Mode, Name, OpenFlags, Pid, SockType};
 
 /// Takes these bytes from a socket.
 fn take<O: FileObject>(
@@ -193,7 +193,7 @@ fn a_state_settles_under_refused_memory(rt: HostRuntime) -> Result<(), Fail> {
     open(&rt, s, 1, 0, Mode::Both, Ok(Fd(0)));
     open_pair(&rt, s, 1, 2);
     append(&rt, alloc, s, 2, b"abc");
-    s.unlink(&name(alloc, b"a")?);
+    s.unlink(&Name::from_slice(alloc, b"a")?);
     close(&rt, s, 1, 0);
     close(&rt, s, 1, 2);
     let (gone, opened) = settle_without_memory(alloc, s)?;

@@ -1,9 +1,9 @@
 //! The calls of a script: what each asks for, and what is no call.
-use super::{bytes_of, expect_bad_lines, expect_request, name_of};
+use super::{expect_bad_lines, expect_request};
 use std::alloc::Global;
 use std::process::Abort;
 use std::test::*;
-use ux_types::{Fd, Mode, OpenFlags, Request, Whence};
+use ux_types::{Bytes, Fd, Mode, Name, OpenFlags, Request, Whence};
 
 /// Sees that a call opens a path.
 fn expect_open(
@@ -14,7 +14,7 @@ fn expect_open(
     mode: Mode,
     flags: OpenFlags,
 ) -> Result<(), Fail> {
-    let path = name_of(alloc, path)?;
+    let path = Name::from_slice(alloc, path)?;
     expect_request(rt, alloc, call, Request::Open { path, mode, flags })
 }
 
@@ -26,13 +26,13 @@ fn expect_write(
     fd: Fd,
     bytes: &[u8],
 ) -> Result<(), Fail> {
-    let bytes = bytes_of(alloc, bytes)?;
+    let bytes = Bytes::from_slice(alloc, bytes)?;
     expect_request(rt, alloc, call, Request::Write { fd, bytes })
 }
 
 /// Sees that a call unlinks a path.
 fn expect_unlink(rt: &impl Abort, alloc: Global, call: &str, path: &[u8]) -> Result<(), Fail> {
-    let path = name_of(alloc, path)?;
+    let path = Name::from_slice(alloc, path)?;
     expect_request(rt, alloc, call, Request::Unlink { path })
 }
 

@@ -1,11 +1,11 @@
 //! Whole scripts: what their text gives, and which line is at fault.
-use super::{bytes_of, expect_bad_lines, expect_fault, expect_faults};
+use super::{expect_bad_lines, expect_fault, expect_faults};
 use std::alloc::Global;
 use std::process::Abort;
 use std::test::*;
 use ux_object::ObjKind;
 use ux_syntax::{Act, Line, ObjectLine, Script, parse_script};
-use ux_types::{Fd, MsgFlags, OpenFlags, Pid, ProcSpec, Request, SockType};
+use ux_types::{Bytes, Fd, MsgFlags, OpenFlags, Pid, ProcSpec, Request, SockType};
 
 /// Whether a line is a call of this process that asks for this.
 fn is_call(line: &Line, pid: u32, request: &Request) -> bool {
@@ -57,8 +57,8 @@ fn a_script_is_read(rt: HostRuntime) -> Result<(), Fail> {
     let send = Request::SendMsg {
         fd: Fd(0),
         addr: None,
-        bytes: bytes_of(rt.alloc(), &[0x68, 0xff])?,
-        control: bytes_of(rt.alloc(), b"")?,
+        bytes: Bytes::from_slice(rt.alloc(), &[0x68, 0xff])?,
+        control: Bytes::empty(),
         flags: MsgFlags(15),
     };
     expect_call(&rt, &script, 1, 2, send);

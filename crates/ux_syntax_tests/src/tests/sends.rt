@@ -1,9 +1,9 @@
 //! Sends of a script: to which address, and with which control data.
-use super::{addr_of, bytes_of, expect_bad_lines, expect_request, fault_of, request_in};
+use super::{addr_of, expect_bad_lines, expect_request, fault_of, request_in};
 use std::alloc::Global;
 use std::process::Abort;
 use std::test::*;
-use ux_types::{Addr, Fd, MsgFlags, Request};
+use ux_types::{Addr, Bytes, Fd, MsgFlags, Request};
 
 /// Sees which address a send has, and which control bytes.
 fn expect_send(
@@ -16,8 +16,8 @@ fn expect_send(
     let send = Request::SendMsg {
         fd: Fd(0),
         addr,
-        bytes: bytes_of(alloc, b"hi")?,
-        control: bytes_of(alloc, control)?,
+        bytes: Bytes::from_slice(alloc, b"hi")?,
+        control: Bytes::from_slice(alloc, control)?,
         flags: MsgFlags(1),
     };
     expect_request(rt, alloc, call, send)

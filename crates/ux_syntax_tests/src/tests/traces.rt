@@ -1,10 +1,10 @@
 //! The lines of a trace.
-use super::{addr_of, beside, bytes_of, name_of, request_in};
+use super::{addr_of, beside, request_in};
 use std::alloc::Global;
 use std::process::Abort;
 use std::test::*;
 use ux_syntax::entry_text;
-use ux_types::{Addr, Bytes, Entry, Errno, Fd, MsgFlags, Pid, Released, Reply, Request};
+use ux_types::{Addr, Bytes, Entry, Errno, Fd, MsgFlags, Name, Pid, Released, Reply, Request};
 
 /// An entry's number in the history, and its number among its process's calls.
 type Numbers = (usize, u64);
@@ -132,9 +132,9 @@ fn receives_are_printed(rt: HostRuntime) -> Result<(), Fail> {
     for (numbers, count, bytes, flags, line) in RECEIVES {
         let got = Reply::Received {
             count: *count,
-            bytes: bytes_of(alloc, bytes)?,
+            bytes: Bytes::from_slice(alloc, bytes)?,
             flags: *flags,
-            control: Bytes::new(Vec::new(alloc)),
+            control: Bytes::empty(),
             from: None,
         };
         expect_text(&rt, alloc, *numbers, "recv 1 8 0 -", got, line)?;
@@ -147,9 +147,9 @@ fn expect_items(rt: &impl Abort, alloc: Global, control: &[u8], items: &str) -> 
     let line = format!(in alloc; "5 1 7 recv = got 2 6869 CTRUNC {items} -\n")?;
     let got = Reply::Received {
         count: 2,
-        bytes: bytes_of(alloc, b"hi")?,
+        bytes: Bytes::from_slice(alloc, b"hi")?,
         flags: MsgFlags::CTRUNC,
-        control: bytes_of(alloc, control)?,
+        control: Bytes::from_slice(alloc, control)?,
         from: None,
     };
     expect_fifth(rt, alloc, "recv 1 8 0 -", got, &line)
@@ -220,9 +220,9 @@ fn expect_from(rt: &impl Abort, alloc: Global, from: Addr, text: &str) -> Result
     let line = format!(in alloc; "5 1 7 recv = got 0 - - - {text}\n")?;
     let got = Reply::Received {
         count: 0,
-        bytes: Bytes::new(Vec::new(alloc)),
+        bytes: Bytes::empty(),
         flags: MsgFlags(0),
-        control: Bytes::new(Vec::new(alloc)),
+        control: Bytes::empty(),
         from: Some(from),
     };
     expect_fifth(rt, alloc, "recv 1 8 0 -", got, &line)
@@ -315,9 +315,9 @@ fn entries_of_forks_are_printed(rt: HostRuntime) -> Result<(), Fail> {
 #[test]
 fn reads_are_printed(rt: HostRuntime) -> Result<(), Fail> {
     let alloc = rt.alloc();
-    let bytes = Reply::Bytes(bytes_of(alloc, b"hi")?);
+    let bytes = Reply::Bytes(Bytes::from_slice(alloc, b"hi")?);
     expect_fifth(&rt, alloc, "read 3 8", bytes, "5 1 7 read = bytes 6869\n")?;
-    let none = Reply::Bytes(bytes_of(alloc, b"")?);
+    let none = Reply::Bytes(Bytes::empty());
     expect_fifth(&rt, alloc, "read 3 8", none, "5 1 7 read = bytes -\n")
 }
 
@@ -367,7 +367,7 @@ fn addresses_are_printed(rt: HostRuntime) -> Result<(), Fail> {
     for (form, name, text) in ADDRESSES {
         expect_name(&rt, alloc, addr_of(alloc, *form, name)?, text)?;
     }
-    let name = Reply::Addr(Addr::Abstract(name_of(alloc, b"00001")?));
+    let name = Reply::Addr(Addr::Abstract(Name::from_slice(alloc, b"00001")?));
     expect_fifth(
         &rt,
         alloc,
