@@ -3,6 +3,7 @@
  * want 5,000 descriptors and a little more. */
 #define _GNU_SOURCE
 #include <fcntl.h>
+#include <poll.h>
 #include <stddef.h>
 #include <stdint.h>
 #include <stdio.h>
@@ -14,7 +15,7 @@
 #include <time.h>
 #include <unistd.h>
 
-enum { TURNS = 16, ROUNDS = 40, DATAGRAM = 64, GREATEST = 65536, BACKLOG = 4, MOST_NAMES = 10000, MOST_RIGHTS = 253 };
+enum { TURNS = 16, ROUNDS = 40, GREATEST = 65536, BACKLOG = 4, MOST_NAMES = 10000, MOST_RIGHTS = 253 };
 
 static char bytes[GREATEST];
 static char path[] = "linux_unix.XXXXXX";
@@ -117,6 +118,15 @@ static void dup_and_close(void) {
 static void write_1(void) { must(write(file, bytes, 1) == 1); }
 static void read_1(void) { must(read(file, bytes, 1) == 1); }
 
+static void poll_1(void) {
+    struct pollfd one = {.fd = file, .events = POLLIN | POLLOUT};
+    must(poll(&one, 1, 0) == 1);
+}
+
+static void make_pipe(void) { must(pipe2(pair, O_NONBLOCK) == 0); }
+
+static void pipe_4096(void) { must(write(pair[1], bytes, 4096) == 4096 && read(pair[0], bytes, 4096) == 4096); }
+
 static int make_socket(void) {
     int number = socket(AF_UNIX, SOCK_STREAM | SOCK_NONBLOCK, 0);
     must(number >= 0);
@@ -202,18 +212,20 @@ static void make_target(void) {
     must(bind(pair[1], (struct sockaddr *)&targets_address, targets_length) == 0);
 }
 
-/* A datagram to an address, or where there is none to the socket's peer, and its receive with its sender's name. */
-static void exchange_datagram(struct sockaddr_un *address, socklen_t length) {
+/* A datagram of so many bytes to an address, or where there is none to the socket's peer, and its receive with its
+ * sender's name. */
+static void exchange_datagram(struct sockaddr_un *address, socklen_t length, size_t size) {
     struct sockaddr_un from;
-    struct iovec whole = {bytes, DATAGRAM};
+    struct iovec whole = {bytes, size};
     struct msghdr message = {.msg_name = address, .msg_namelen = length, .msg_iov = &whole, .msg_iovlen = 1};
     struct msghdr received = {.msg_name = &from, .msg_namelen = sizeof from, .msg_iov = &whole, .msg_iovlen = 1};
-    must(sendmsg(pair[0], &message, 0) == DATAGRAM);
-    must(recvmsg(pair[1], &received, 0) == DATAGRAM);
+    must(sendmsg(pair[0], &message, 0) == (ssize_t)size);
+    must(recvmsg(pair[1], &received, 0) == (ssize_t)size);
 }
 
-static void datagram_on_a_pair(void) { exchange_datagram(NULL, 0); }
-static void datagram_by_address(void) { exchange_datagram(&targets_address, targets_length); }
+static void datagram_on_a_pair(void) { exchange_datagram(NULL, 0, 64); }
+static void large_datagram(void) { exchange_datagram(NULL, 0, GREATEST); }
+static void datagram_by_address(void) { exchange_datagram(&targets_address, targets_length, 64); }
 
 struct calls {
     const char *name;
@@ -230,6 +242,7 @@ static const struct calls ALL[] = {
     {"send and receive of 1 right, and its close", make_pair, rights_1, close_pair},
     {"send and receive of 253 rights, and their closes", make_pair, rights_253, close_pair},
     {"datagram of 64 bytes on a pair", make_datagram_pair, datagram_on_a_pair, close_pair},
+    {"datagram of 65,536 bytes on a pair", make_datagram_pair, large_datagram, close_pair},
     {"datagram of 64 bytes by an address", make_target, datagram_by_address, close_pair},
     {"pair and two closes", nothing, pair_and_closes, nothing},
     {"socket, connect, accept, two closes", make_listener, connect_and_accept, close_listener},
@@ -237,6 +250,8 @@ static const struct calls ALL[] = {
     {"dup and close", nothing, dup_and_close, nothing},
     {"write, 1 byte", rewind_file, write_1, nothing},
     {"read, 1 byte", rewind_file, read_1, nothing},
+    {"poll of a file", nothing, poll_1, nothing},
+    {"pipe, 4,096 bytes", make_pipe, pipe_4096, close_pair},
 };
 
 /* A connection, with so many other names in use. */

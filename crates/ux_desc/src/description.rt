@@ -15,7 +15,7 @@ use bitflags::Flags;
 use std::marker::Model;
 use ux_rights::{RefList, SendError};
 use ux_stream::Refused;
-use ux_types::{Addr, Cred, DescriptionId, Mode, OpenFlags};
+use ux_types::{Addr, Bytes, Cred, DescriptionId, Mode, OpenFlags};
 
 /// What a description leads to.
 #[derive(Drop)]
@@ -158,7 +158,7 @@ impl Description {
     /// as before.
     pub fn send(
         &mut self,
-        bytes: &[u8],
+        bytes: &Bytes,
         tag: u64,
         rights: RefList,
         cred: Cred,

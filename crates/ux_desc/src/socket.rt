@@ -14,7 +14,7 @@ use std::marker::Model;
 use ux_record::{Received, RecordQueue};
 use ux_rights::{RefList, SendError};
 use ux_stream::{Refused, StreamQueue};
-use ux_types::{Addr, Cred, DescriptionId, FIRST_QUEUE_LIMIT, Mode, SockType};
+use ux_types::{Addr, Bytes, Cred, DescriptionId, FIRST_QUEUE_LIMIT, Mode, SockType};
 
 /// A socket, without what its descriptors and its description say (unix(7)).
 pub struct Socket {
@@ -264,7 +264,7 @@ impl Socket {
     /// before.
     pub fn send(
         &mut self,
-        bytes: &[u8],
+        bytes: &Bytes,
         tag: u64,
         rights: RefList,
         cred: Cred,
@@ -281,7 +281,7 @@ impl Socket {
         match &mut self.queue {
             Queue::Stream(queue) => {
                 let room = room_of(queue, self.queue_limit);
-                queue.send(bytes, room, tag, rights, cred, uid)
+                queue.send(bytes.as_slice(), room, tag, rights, cred, uid)
             }
             Queue::Dgram(queue) => send_whole(queue, bytes, tag, rights, cred, uid, from),
             Queue::Seq(queue) => send_whole(queue, bytes, tag, rights, cred, uid, from),
@@ -294,9 +294,9 @@ impl Socket {
     /// # Errors
     ///
     /// Out of memory.
-    pub fn peek(&self, n: usize) -> Result<Received, AllocError>
+    pub fn peek(&self, alloc: Global, n: usize) -> Result<Received, AllocError>
         requires some { 0 < length self.now.queue }
-        ensures bytes { IfOk result (λ r. OnFront n self.now (λ f. r.bytes.items ≡ f.bytes)) }
+        ensures bytes { IfOk result (λ r. OnFront n self.now (λ f. r.bytes ≡ f.bytes)) }
         ensures whole { IfOk result (λ r. OnFront n self.now (λ f. r.whole ≡ f.whole)) }
         ensures rights { IfOk result (λ r. OnFront n self.now (λ f. r.rights ≡ f.rights)) }
         ensures origin { IfOk result (λ r. OnFront n self.now (λ f. r.origin ≡ f.origin)) }
@@ -304,7 +304,7 @@ impl Socket {
         ensures from { IfOk result (λ r. OnFront n self.now (λ f. r.from ≡ f.from)) }
     {
         match &self.queue {
-            Queue::Stream(queue) => peek_stream(queue, n, self.passcred),
+            Queue::Stream(queue) => peek_stream(queue, alloc, n, self.passcred),
             Queue::Dgram(queue) => queue.peek(n),
             Queue::Seq(queue) => queue.peek(n),
         }
@@ -404,7 +404,7 @@ fn room_of(queue: &StreamQueue, limit: u32) -> usize
 /// Queues a message whole, and says how many bytes it has.
 fn send_whole(
     queue: &mut RecordQueue,
-    bytes: &[u8],
+    bytes: &Bytes,
     tag: u64,
     rights: RefList,
     cred: Cred,
@@ -427,16 +427,21 @@ fn send_whole(
 }
 
 /// What a receive of at most n bytes gives of a stream.
-fn peek_stream(queue: &StreamQueue, n: usize, wants_cred: bool) -> Result<Received, AllocError>
+fn peek_stream(
+    queue: &StreamQueue,
+    alloc: Global,
+    n: usize,
+    wants_cred: bool,
+) -> Result<Received, AllocError>
     requires { 0 < length queue.now }
-    ensures bytes { IfOk result (λ r. OnStreamFront wants_cred n queue.now (λ f. r.bytes.items ≡ f.bytes)) }
+    ensures bytes { IfOk result (λ r. OnStreamFront wants_cred n queue.now (λ f. r.bytes ≡ f.bytes)) }
     ensures whole { IfOk result (λ r. OnStreamFront wants_cred n queue.now (λ f. r.whole ≡ f.whole)) }
     ensures rights { IfOk result (λ r. OnStreamFront wants_cred n queue.now (λ f. r.rights ≡ f.rights)) }
     ensures origin { IfOk result (λ r. OnStreamFront wants_cred n queue.now (λ f. r.origin ≡ f.origin)) }
     ensures cred { IfOk result (λ r. OnStreamFront wants_cred n queue.now (λ f. r.cred ≡ f.cred)) }
     ensures from { IfOk result (λ r. r.from ≡ None) }
 {
-    let front = queue.peek(n, wants_cred)?;
+    let front = queue.peek(alloc, n, wants_cred)?;
     Ok(Received {
         whole: front.bytes.len(),
         bytes: front.bytes,

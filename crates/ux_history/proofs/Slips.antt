@@ -121,5 +121,16 @@ pub said_at : (es : List Entry) (i : ℕ) (e : Entry) (answer : Reply) (call : C
 said_at es i e answer call here same_reply same_call =
     subst (λ (o : Option Entry). IsSomeAnd o (λ x. (answer ≡ x.reply) × (call ≡ call_of x))) (sym here) (same_reply, same_call)
 
+pub called_at : (es : List Entry) (i : ℕ) (e : Entry) (call : Call) → slice_get es i ≡ Some e → call ≡ call_of e → IsSomeAnd (slice_get es i) (λ x. call ≡ call_of x)
+called_at es i e call here same = subst (λ (o : Option Entry). IsSomeAnd o (λ x. call ≡ call_of x)) (sym here) same
+
+-- a call that is an entry's has its reply
+pub said_of : (es : List Entry) (i : ℕ) (call : Call) → IsSomeAnd (slice_get es i) (λ x. call ≡ call_of x) → IsSomeAnd (slice_get es i) (λ x. (call.reply ≡ x.reply) × (call ≡ call_of x))
+said_of es i call said = go (slice_get es i) said
+  where
+    go : (o : Option Entry) → IsSomeAnd o (λ x. call ≡ call_of x) → IsSomeAnd o (λ x. (call.reply ≡ x.reply) × (call ≡ call_of x))
+    go None h = absurd h
+    go (Some e) h = (ap Call.reply h, h)
+
 pub request_at : (es : List Entry) (i : ℕ) (e : Entry) (request : Request) → slice_get es i ≡ Some e → IsSomeAnd (slice_get es i) (λ x. x.request ≡ request) → e.request ≡ request
 request_at es i e request here asked = subst (λ (o : Option Entry). IsSomeAnd o (λ x. x.request ≡ request)) here asked

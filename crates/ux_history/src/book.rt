@@ -2,6 +2,7 @@
 ghost use Rattle.std.specs.Prelude.{◌≡◌, ◌+◌, ◌<◌, ◌≤◌, ◌&&◌, ◌↔◌, [], true, false, not, length, map, sum_by, Some, IfOk, IfErr, OnOk, OnErr, IfSome, IfNone, OnSome, IsTrue, if◌then◌else◌};
 ghost use Rattle.std.specs.List.{slice_get, AllByRecursion};
 ghost use Rattle.ux_model.specs.Limits.{made_limit};
+ghost use Rattle.ux_model.specs.Rooms.{size_of, room_for, Fits};
 ghost use Rattle.ux_model.specs.Boot.{IsBootState};
 ghost use Rattle.ux_model.specs.State.{is_live};
 ghost use Rattle.ux_model.specs.Waiting.{should_wait};
@@ -10,7 +11,6 @@ ghost use Rattle.ux_model.specs.HandingOut.{IsHandedOut};
 ghost use Rattle.ux_model.specs.History.{makes_one};
 ghost use Rattle.ux_history.specs.Books.{state_of, ends_of, is_last, has_own_call, Adds, Appends, MustWait};
 ghost use Rattle.ux_history.specs.Shares.{knows, once_more, fresh, call_by, child_by, processes, once_each};
-ghost use Rattle.ux_history.specs.Logs.{last_entries};
 ghost use Rattle.ux_history.specs.Receipts.{call_of, next_slip};
 ghost use Rattle.ux_history.specs.Telling.{AllStand};
 ghost use Rattle.ux_history.specs.Faults.{is_stranger, is_alive};
@@ -19,15 +19,16 @@ use crate::account::Account;
 use crate::fault::{CallFault, NoMemory, OffFault};
 use crate::log::Log;
 use crate::naming::BookName;
+use crate::prepared::Prepared;
 use crate::receipts::{Receipt, Recorded};
 use crate::shares::{Share, Spent};
-use crate::spare::Spare;
 use std::alloc::{AllocError, Global};
 use std::marker::{Model, PhantomData};
 use std::sync::ledger;
 use std::sync::ledger::Blank;
 use ux_kernel::Kernel;
 use ux_object::FileObject;
+use ux_room::ReplyRoom;
 use ux_state::RetiredList;
 use ux_types::{Entry, Pid, Reply, Request};
 
@@ -42,15 +43,24 @@ pub struct Book<W: BookName, O: FileObject> {
     ledger: ledger::Book<W>,
     /// The parts that no process has.
     rest: ledger::Share<W>,
+    /// Room for the copy of a reply that its receipt keeps, which is used where there can be no further owner of
+    /// what the reply holds.
+    room: Option<ReplyRoom>,
 }
 
 // Written out, so that it is proved here and not in each function that drops one.
 impl<W: BookName, O: FileObject> Drop for Book<W, O> {
     fn drop(self) {
-        let Book { log, ledger, rest } = self;
+        let Book {
+            log,
+            ledger,
+            rest,
+            room,
+        } = self;
         drop(log);
         drop(ledger);
-        drop(rest)
+        drop(rest);
+        drop(room)
     }
 }
 
@@ -90,7 +100,15 @@ impl<W: BookName, O: FileObject> Book<W, O> {
         };
         let (ledger, mut rest) = blank.open::<W>();
         match cut(alloc, &mut rest, log.process_count()) {
-            Ok(shares) => Ok((Book { log, ledger, rest }, shares)),
+            Ok(shares) => Ok((
+                Book {
+                    log,
+                    ledger,
+                    rest,
+                    room: None,
+                },
+                shares,
+            )),
             Err(_) => Err((log.into_kernel(), NoMemory)),
         }
     }
@@ -114,6 +132,7 @@ impl<W: BookName, O: FileObject> Book<W, O> {
             log,
             ledger: _,
             rest: _,
+            room: _,
         } = self;
         log.into_entries()
     }
@@ -126,6 +145,7 @@ impl<W: BookName, O: FileObject> Book<W, O> {
             log,
             ledger: _,
             rest: _,
+            room: _,
         } = self;
         log.into_kernel()
     }
@@ -208,7 +228,7 @@ impl<W: BookName, O: FileObject> Book<W, O> {
         ensures kept { OnErr result (share.new ≡ share.old) }
         ensures none { OnErr result (retired.new ≡ []) }
     {
-        match self.make(share, request, false, retired) {
+        match self.make_copy(share, request, false, retired) {
             Ok(Some((recorded, _))) => Ok(recorded),
             Ok(None) => unreachable!(),
             Err(fault) => Err(fault),
@@ -240,7 +260,7 @@ impl<W: BookName, O: FileObject> Book<W, O> {
         ensures kept { OnErr result (share.new ≡ share.old) }
         ensures none { OnErr result (retired.new ≡ []) }
     {
-        match self.make(share, &Request::Fork, false, retired) {
+        match self.make_copy(share, &Request::Fork, false, retired) {
             Ok(Some(forked)) => Ok(forked),
             Ok(None) => unreachable!(),
             Err(fault) => Err(fault),
@@ -277,16 +297,87 @@ impl<W: BookName, O: FileObject> Book<W, O> {
         ensures kept { OnErr result (share.new ≡ share.old) }
         ensures none { OnErr result (retired.new ≡ []) }
     {
-        match self.make(share, request, true, retired) {
+        match self.make_copy(share, request, true, retired) {
             Ok(Some((recorded, _))) => Ok(Some(recorded)),
             Ok(None) => Ok(None),
             Err(fault) => Err(fault),
         }
     }
 
-    /// Makes a call of the share's process, and gives the share of a process that it made; where it is `tried`,
-    /// only if it needn't wait.
-    fn make(
+    /// As `record`, of a request that was prepared; the reply is in the receipt alone.
+    ///
+    /// # Errors
+    ///
+    /// Those of `record`, with what was prepared.
+    pub fn record_prepared(
+        &mut self,
+        share: &mut Share<W>,
+        prepared: Prepared,
+        retired: &mut RetiredList<O>,
+    ) -> Result<Receipt<W>, (CallFault, Prepared)>
+        requires call { has_own_call prepared ≡ false }
+        requires empty { retired.old ≡ [] }
+        ensures known { OnOk result (knows self.old share.old ≡ true) }
+        ensures stranger { IfErr result (λ f. is_stranger f.0 ≡ not (knows self.old share.old)) }
+        ensures memory { IfErr result (λ f. is_stranger f.0 ≡ false → f.0 ≡ CallFault.NoMemory) }
+        ensures back { IfErr result (λ f. f.1 ≡ prepared) }
+        ensures entry { IfOk result (λ r. Adds self.old self.new (call_by self.old share.old prepared r.call.reply (map (λ o. o.0) retired.new))) }
+        ensures receipt { IfOk result (λ r. r ≡ next_slip self.old share.old prepared r.call.reply false) }
+        ensures share { OnOk result (share.new ≡ once_more share.old) }
+        ensures handed_out { OnOk result (AllByRecursion (IsHandedOut (state_of self.old)) retired.new) }
+        ensures same { OnErr result (self.new ≡ self.old) }
+        ensures kept { OnErr result (share.new ≡ share.old) }
+        ensures none { OnErr result (retired.new ≡ []) }
+    {
+        match self.make(share, prepared, false, retired) {
+            Ok(Some((receipt, _))) => Ok(receipt),
+            Ok(None) => unreachable!(),
+            Err(fault) => Err(fault),
+        }
+    }
+
+    /// As `record`, but it takes the request, and the reply is in the receipt alone.
+    ///
+    /// # Errors
+    ///
+    /// Those of `record`, with the request.
+    pub fn record_given(
+        &mut self,
+        share: &mut Share<W>,
+        request: Request,
+        retired: &mut RetiredList<O>,
+    ) -> Result<Receipt<W>, (CallFault, Request)>
+        requires call { has_own_call request ≡ false }
+        requires empty { retired.old ≡ [] }
+        ensures known { OnOk result (knows self.old share.old ≡ true) }
+        ensures stranger { IfErr result (λ f. is_stranger f.0 ≡ not (knows self.old share.old)) }
+        ensures memory { IfErr result (λ f. is_stranger f.0 ≡ false → f.0 ≡ CallFault.NoMemory) }
+        ensures back { IfErr result (λ f. f.1 ≡ request) }
+        ensures entry { IfOk result (λ r. Adds self.old self.new (call_by self.old share.old request r.call.reply (map (λ o. o.0) retired.new))) }
+        ensures receipt { IfOk result (λ r. r ≡ next_slip self.old share.old request r.call.reply false) }
+        ensures share { OnOk result (share.new ≡ once_more share.old) }
+        ensures handed_out { OnOk result (AllByRecursion (IsHandedOut (state_of self.old)) retired.new) }
+        ensures same { OnErr result (self.new ≡ self.old) }
+        ensures kept { OnErr result (share.new ≡ share.old) }
+        ensures none { OnErr result (retired.new ≡ []) }
+    {
+        if !self.knows(share) {
+            return Err((CallFault::Stranger, request));
+        }
+        let prepared = match Prepared::new(request) {
+            Ok(prepared) => prepared,
+            Err(request) => return Err((CallFault::NoMemory, request)),
+        };
+        match self.record_prepared(share, prepared, retired) {
+            Ok(receipt) => Ok(receipt),
+            Err((fault, prepared)) => Err((fault, prepared.into_request())),
+        }
+    }
+
+    /// Makes a call of the share's process with a copy of the request, and gives a copy of the reply and the share
+    /// of a process that it made; where it is `tried`, only if it needn't wait.
+    #[tactic(auto, using(ux_room::proofs::Fitting::fits_trans))]
+    fn make_copy(
         &mut self,
         share: &mut Share<W>,
         request: &Request,
@@ -316,20 +407,70 @@ impl<W: BookName, O: FileObject> Book<W, O> {
         if !self.knows(share) {
             return Err(CallFault::Stranger);
         }
-        let Ok((copy, spare)) = set_aside(&mut self.log, request) else {
+        let Ok((prepared, room)) = copy_for_call(self.log.allocator(), request) else {
             return Err(CallFault::NoMemory);
         };
-        let waits = tried && self.log.waits(share.pid, request);
-        let Some(number) = self.log.append(share.pid, share.k, copy, waits, retired) else {
-            drop(spare);
+        match self.make(share, prepared, tried, retired) {
+            Ok(Some((receipt, child))) => {
+                let reply = room.copy(receipt.reply());
+                Ok(Some((Recorded { reply, receipt }, child)))
+            }
+            Ok(None) => Ok(None),
+            Err((fault, _)) => Err(fault),
+        }
+    }
+
+    /// Makes a call of the share's process, and gives the share of a process that it made; where it is `tried`,
+    /// only if it needn't wait.
+    fn make(
+        &mut self,
+        share: &mut Share<W>,
+        prepared: Prepared,
+        tried: bool,
+        retired: &mut RetiredList<O>,
+    ) -> Result<Option<(Receipt<W>, Option<Share<W>>)>, (CallFault, Prepared)>
+        requires call { is_last prepared ≡ false }
+        requires empty { retired.old ≡ [] }
+        ensures known { OnOk result (knows self.old share.old ≡ true) }
+        ensures stranger { IfErr result (λ f. is_stranger f.0 ≡ not (knows self.old share.old)) }
+        ensures memory { IfErr result (λ f. is_stranger f.0 ≡ false → f.0 ≡ CallFault.NoMemory) }
+        ensures back { IfErr result (λ f. f.1 ≡ prepared) }
+        ensures entry { IfOk result (λ o. IfSome o (λ r. Adds self.old self.new (call_by self.old share.old prepared r.0.call.reply (map (λ o. o.0) retired.new)))) }
+        ensures done { IfOk result (λ o. IfSome o (λ r. tried ≡ true → should_wait (state_of self.old) share.old.pid.0 prepared r.0.call.reply ≡ false)) }
+        ensures receipt { IfOk result (λ o. IfSome o (λ r. r.0 ≡ next_slip self.old share.old prepared r.0.call.reply tried)) }
+        ensures fits { IfOk result (λ o. IfSome o (λ r. Fits (size_of r.0.call.reply) (room_for prepared))) }
+        ensures child { IfOk result (λ o. IfSome o (λ r. r.1 ≡ child_by prepared r.0.call.reply)) }
+        ensures share { IfOk result (λ o. OnSome o (share.new ≡ once_more share.old)) }
+        ensures handed_out { IfOk result (λ o. OnSome o (AllByRecursion (IsHandedOut (state_of self.old)) retired.new)) }
+        ensures tried { IfOk result (λ o. IfNone o (tried ≡ true)) }
+        ensures waits { IfOk result (λ o. IfNone o (MustWait self.old share.old.pid prepared)) }
+        ensures unchanged { IfOk result (λ o. IfNone o (self.new ≡ self.old)) }
+        ensures unspent { IfOk result (λ o. IfNone o (share.new ≡ share.old)) }
+        ensures nothing { IfOk result (λ o. IfNone o (retired.new ≡ [])) }
+        ensures same { OnErr result (self.new ≡ self.old) }
+        ensures kept { OnErr result (share.new ≡ share.old) }
+        ensures none { OnErr result (retired.new ≡ []) }
+    {
+        if !self.knows(share) {
+            return Err((CallFault::Stranger, prepared));
+        }
+        let alloc = self.log.allocator();
+        let room = ReplyRoom::provide(&mut self.room, alloc, prepared.request());
+        if room.is_err() || self.log.reserve().is_err() {
+            return Err((CallFault::NoMemory, prepared));
+        }
+        let (request, copy) = prepared.into_parts();
+        let waits = tried && self.log.waits(share.pid, &request);
+        let Some(number) = self.log.append(share.pid, share.k, request, waits, retired) else {
+            drop(copy);
             return Ok(None);
         };
-        let (reply, call) = self.log.answer(number, spare);
+        let call = self.log.call(number, copy, &mut self.room);
         self.ledger.add(&mut share.part, 1);
         share.k += 1;
         // The log says that a process which was made has a part.
         let _made = self.log.process_count();
-        let child = child_share(&mut self.rest, request, &reply);
+        let child = child_share(&mut self.rest, &call.request, &call.reply);
         let of = PhantomData;
         let receipt = Receipt {
             number,
@@ -337,7 +478,7 @@ impl<W: BookName, O: FileObject> Book<W, O> {
             tried,
             of,
         };
-        Ok(Some((Recorded { reply, receipt }, child)))
+        Ok(Some((receipt, child)))
     }
 
     /// Ends the share's process, in room that was set aside when the book was made: it takes no memory. The
@@ -466,20 +607,16 @@ pub(crate) fn child_share<W: BookName>(
     }
 }
 
-/// Room for one more entry and the exit of a process that it may make, a copy of the request for it, and what
-/// the caller gets.
-fn set_aside<W: BookName, O: FileObject>(
-    log: &mut Log<W, O>,
-    request: &Request,
-) -> Result<(Request, Spare), AllocError>
-    ensures book { log.new.book ≡ log.old.book }
-    ensures room { OnOk result (length log.old.book.entries + last_entries (state_of log.old.book) log.old.book.entries + 2 ≤ log.new.room) }
-    ensures copy { IfOk result (λ r. r.0 ≡ request.now) }
-    ensures spare { IfOk result (λ r. r.1 ≡ request.now) }
+/// A copy of the request with what its call needs, and room for a copy of the reply.
+fn copy_for_call(alloc: Global, request: &Request) -> Result<(Prepared, ReplyRoom), AllocError>
+    ensures request { IfOk result (λ r. r.0 ≡ request.now) }
+    ensures room { IfOk result (λ r. Fits (room_for request.now) r.1) }
 {
-    log.reserve()?;
-    let spare = Spare::for_call(log.allocator(), request)?;
-    Ok((request.clone()?, spare))
+    let room = ReplyRoom::for_request(alloc, request)?;
+    match Prepared::new(request.clone()?) {
+        Ok(prepared) => Ok((prepared, room)),
+        Err(_) => Err(AllocError),
+    }
 }
 
 /// A share of one part for each of so many processes.

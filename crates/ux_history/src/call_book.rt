@@ -15,6 +15,7 @@ use crate::account::Account;
 use crate::book::Book;
 use crate::fault::{CallFault, OffFault};
 use crate::naming::BookName;
+use crate::prepared::Prepared;
 use crate::receipts::Receipt;
 use crate::shares::{Share, Spent};
 use ux_kernel::Kernel;
@@ -35,10 +36,44 @@ pub trait Shows<W: BookName>: Drop {
         ensures { IsSlip W.boot (slip self.now) };
 }
 
+/// What a caller keeps of a call that took its request: as `Shows`, and it has the answer.
+pub trait Keeps<W: BookName>: Drop {
+    ghost use Rattle.ux_history.specs.Receipts.{Slip};
+
+    /// The number, the call, and whether a call that could wait gave it.
+    ghost kept: { Self → Slip };
+
+    /// What was answered.
+    fn reply(&self) -> &Reply
+        ensures { result.now ≡ (kept self.now).call.reply };
+
+    /// Does nothing when it runs. Its contract is what it shows.
+    fn show(&self)
+        ensures { IsSlip W.boot (kept self.now) };
+}
+
+/// A request with what its call needs that is made before the book is at hand.
+pub trait Asks: Drop {
+    ghost use Rattle.ux_model.specs.Types.{Request};
+
+    /// The request.
+    ghost asked: { Self → Request };
+
+    /// The request, and nothing else of it.
+    fn into_request(self) -> Request
+        ensures { result ≡ asked self };
+}
+
 /// A book of a kernel's calls. `held` is its history: the kernel is at the end of it.
 pub trait CallBook<W: BookName, O: FileObject>: Drop {
     /// What a call gives its caller beside the answer.
     type Slip: Shows<W>;
+
+    /// A request with what its call needs that is made before the book is at hand.
+    type Prepared: Asks;
+
+    /// What a call gives its caller that takes its request.
+    type Kept: Keeps<W>;
 
     ghost use Rattle.ux_history.specs.Books.{Held};
 
@@ -69,6 +104,40 @@ pub trait CallBook<W: BookName, O: FileObject>: Drop {
         ensures goes_on { IfErr result (λ f. is_deadlock f ≡ false) }
         ensures entry { IfOk result (λ r. Adds (held self.old) (held self.new) (call_by (held self.old) share.old request.now r.0 (map (λ o. o.0) retired.new))) }
         ensures slip { IfOk result (λ r. Self.Slip.slip r.1 ≡ next_slip (held self.old) share.old request.now r.0 false) }
+        ensures share { OnOk result (share.new ≡ once_more share.old) }
+        ensures handed_out { OnOk result (AllByRecursion (IsHandedOut (state_of (held self.old))) retired.new) }
+        ensures same { OnErr result (held self.new ≡ held self.old) }
+        ensures kept { OnErr result (share.new ≡ share.old) }
+        ensures none { OnErr result (retired.new ≡ []) };
+
+    /// A request with what its call needs that doesn't depend on the book.
+    ///
+    /// # Errors
+    ///
+    /// The request, where there is no memory.
+    fn prepare(request: Request) -> Result<Self::Prepared, Request>
+        ensures request { IfOk result (λ p. Self.Prepared.asked p ≡ request) }
+        ensures back { IfErr result (λ r. r ≡ request) };
+
+    /// As `record`, of a request that was prepared; the reply is in what the caller keeps.
+    ///
+    /// # Errors
+    ///
+    /// Those of `record`, with what was prepared.
+    fn record_prepared(
+        &mut self,
+        share: &mut Share<W>,
+        prepared: Self::Prepared,
+        retired: &mut RetiredList<O>,
+    ) -> Result<Self::Kept, (CallFault, Self::Prepared)>
+        requires call { has_own_call (Self.Prepared.asked prepared) ≡ false }
+        requires empty { retired.old ≡ [] }
+        ensures known { OnOk result (knows (held self.old) share.old ≡ true) }
+        ensures stranger { IfErr result (λ f. is_stranger f.0 ≡ not (knows (held self.old) share.old)) }
+        ensures goes_on { IfErr result (λ f. is_deadlock f.0 ≡ false) }
+        ensures back { IfErr result (λ f. Self.Prepared.asked f.1 ≡ Self.Prepared.asked prepared) }
+        ensures entry { IfOk result (λ r. Adds (held self.old) (held self.new) (call_by (held self.old) share.old (Self.Prepared.asked prepared) (Self.Kept.kept r).call.reply (map (λ o. o.0) retired.new))) }
+        ensures receipt { IfOk result (λ r. Self.Kept.kept r ≡ next_slip (held self.old) share.old (Self.Prepared.asked prepared) (Self.Kept.kept r).call.reply false) }
         ensures share { OnOk result (share.new ≡ once_more share.old) }
         ensures handed_out { OnOk result (AllByRecursion (IsHandedOut (state_of (held self.old))) retired.new) }
         ensures same { OnErr result (held self.new ≡ held self.old) }
@@ -190,9 +259,41 @@ impl<W: BookName> Shows<W> for Receipt<W> {
     }
 }
 
+impl<W: BookName> Keeps<W> for Receipt<W> {
+    ghost kept = { λ r. r };
+
+    fn reply(&self) -> &Reply {
+        Receipt::reply(self)
+    }
+
+    fn show(&self) {
+        self.shows()
+    }
+}
+
+impl Asks for Request {
+    ghost asked = { λ r. r };
+
+    fn into_request(self) -> Request {
+        self
+    }
+}
+
+impl Asks for Prepared {
+    ghost asked = { λ p. p };
+
+    fn into_request(self) -> Request {
+        Prepared::into_request(self)
+    }
+}
+
 /// Every call is kept, with its request and its reply.
 impl<W: BookName, O: FileObject> CallBook<W, O> for Book<W, O> {
     type Slip = Receipt<W>;
+
+    type Prepared = Prepared;
+
+    type Kept = Receipt<W>;
 
     ghost held = { λ b. b };
 
@@ -210,6 +311,19 @@ impl<W: BookName, O: FileObject> CallBook<W, O> for Book<W, O> {
             Ok(recorded) => Ok((recorded.reply, recorded.receipt)),
             Err(fault) => Err(fault),
         }
+    }
+
+    fn prepare(request: Request) -> Result<Prepared, Request> {
+        Prepared::new(request)
+    }
+
+    fn record_prepared(
+        &mut self,
+        share: &mut Share<W>,
+        prepared: Prepared,
+        retired: &mut RetiredList<O>,
+    ) -> Result<Receipt<W>, (CallFault, Prepared)> {
+        Book::record_prepared(self, share, prepared, retired)
     }
 
     fn try_record(

@@ -3,6 +3,7 @@ ghost use Rattle.std.specs.Prelude.{◌≡◌, ◌+◌, ◌^◌, ◌<◌, ◌≤
 ghost use Rattle.std.specs.List.{slice_get, AllByRecursion};
 ghost use Rattle.ux_model.specs.Limits.{object_limit, made_limit};
 ghost use Rattle.ux_model.specs.Boot.{IsBootState};
+ghost use Rattle.ux_model.specs.Rooms.{size_of, room_for, Fits};
 ghost use Rattle.ux_model.specs.State.{is_live};
 ghost use Rattle.ux_model.specs.Waiting.{may_wait, is_again};
 ghost use Rattle.ux_model.specs.Step.{Step};
@@ -15,11 +16,11 @@ ghost use Rattle.ux_history.specs.Receipts.{call_of};
 
 use crate::naming::BookName;
 use crate::receipts::Call;
-use crate::spare::Spare;
 use std::alloc::{AllocError, Global};
 use std::marker::{Model, PhantomData};
 use ux_kernel::Kernel;
 use ux_object::FileObject;
+use ux_room::ReplyRoom;
 use ux_state::{Retired, RetiredList};
 use ux_types::{Done, Entry, Errno, MADE_LIMIT, Pid, Released, Reply, Request};
 
@@ -257,15 +258,24 @@ impl<W: BookName, O: FileObject> Log<W, O> {
         }
     }
 
-    /// The answer that an entry keeps, and its call, put into room that was set aside for its request.
-    pub(crate) fn answer(&self, number: usize, spare: Spare) -> (Reply, Call)
-        requires { IsSomeAnd (slice_get self.now.book.entries number) (λ e. e.request ≡ spare) }
-        ensures answer { IsSomeAnd (slice_get self.now.book.entries number) (λ e. (result.0 ≡ e.reply) × (result.1 ≡ call_of e)) }
+    /// The call of an entry, with this copy of its request. It takes no memory: there is room for a copy of the
+    /// reply.
+    pub(crate) fn call(&self, number: usize, request: Request, room: &mut Option<ReplyRoom>) -> Call
+        requires entry { IsSomeAnd (slice_get self.now.book.entries number) (λ e. e.request ≡ request) }
+        requires room { IsSomeAnd room.old (λ r. Fits (room_for request) r) }
+        ensures call { IsSomeAnd (slice_get self.now.book.entries number) (λ e. result ≡ call_of e) }
+        ensures fits { Fits (size_of result.reply) (room_for request) }
         ensures boot { self.now.book.boot ≡ W.boot }
         ensures legal { IsLegal self.now.book.boot self.now.book.entries }
     {
         let entry = &self.entries()[number];
-        spare.fill(entry.pid, entry.k, &entry.reply)
+        let reply = ReplyRoom::lend(room, &entry.reply);
+        Call {
+            pid: entry.pid,
+            k: entry.k,
+            request,
+            reply,
+        }
     }
 }
 

@@ -107,6 +107,13 @@ impl<W: BookName> Receipt<W> {
         &self.call
     }
 
+    /// What was answered.
+    pub fn reply(&self) -> &Reply
+        ensures { result.now ≡ self.now.call.reply }
+    {
+        &self.call.reply
+    }
+
     /// Whether `try_record` gave it.
     pub fn is_tried(&self) -> bool
         ensures { result ≡ self.now.tried }

@@ -20,7 +20,7 @@ use crate::naming::Trailing;
 use crate::running_log::RunningLog;
 use crate::shares::{Share, Spent};
 use crate::trail::Trail;
-use crate::witness::Witness;
+use crate::witness::{Witness, Witnessed};
 use std::alloc::Global;
 use std::marker::{Model, PhantomData};
 use std::snapshot::Snapshot;
@@ -415,6 +415,10 @@ impl<W: Trailing, O: FileObject> RunningBook<W, O> {
 impl<W: Trailing, O: FileObject> CallBook<W, O> for RunningBook<W, O> {
     type Slip = Witness<W>;
 
+    type Prepared = Request;
+
+    type Kept = Witnessed<W>;
+
     ghost held = { λ b. b };
 
     fn into_kernel(self) -> Kernel<O> {
@@ -428,6 +432,22 @@ impl<W: Trailing, O: FileObject> CallBook<W, O> for RunningBook<W, O> {
         retired: &mut RetiredList<O>,
     ) -> Result<(Reply, Witness<W>), CallFault> {
         RunningBook::record(self, share, request, retired)
+    }
+
+    fn prepare(request: Request) -> Result<Request, Request> {
+        Ok(request)
+    }
+
+    fn record_prepared(
+        &mut self,
+        share: &mut Share<W>,
+        request: Request,
+        retired: &mut RetiredList<O>,
+    ) -> Result<Witnessed<W>, (CallFault, Request)> {
+        match RunningBook::record(self, share, &request, retired) {
+            Ok((reply, witness)) => Ok(Witnessed { reply, witness }),
+            Err(fault) => Err((fault, request)),
+        }
     }
 
     fn try_record(

@@ -2,11 +2,12 @@
 ghost use Rattle.std.specs.Prelude.{◌≡◌};
 ghost use Rattle.ux_history.specs.Receipts.{IsSlip};
 
-use crate::call_book::Shows;
+use crate::call_book::{Keeps, Shows};
 use crate::naming::Trailing;
 use crate::trail::Mark;
 use std::marker::{Model, PhantomData};
 use std::snapshot::Snapshot;
+use ux_types::Reply;
 
 /// What a call left in a history of which nothing is kept. Its type says that some legal history from the
 /// book's boot state has the call at this number, and where `try_record` gave it, that it isn't one that
@@ -68,5 +69,55 @@ impl<W: Trailing> Shows<W> for Witness<W> {
 
     fn show(&self) {
         self.shows()
+    }
+}
+
+/// A call of which the book keeps nothing: its answer, and its witness, which is of this answer. Contracts see
+/// what they see of the witness.
+pub struct Witnessed<W: Trailing> {
+    pub(crate) reply: Reply,
+    pub(crate) witness: Witness<W>,
+}
+
+// Written out, so that it is proved here and not in each function that drops one.
+impl<W: Trailing> Drop for Witnessed<W> {
+    fn drop(self) {
+        let Witnessed { reply, witness } = self;
+        drop(reply);
+        drop(witness)
+    }
+}
+
+impl<W: Trailing> Model for Witnessed<W> {
+    ghost use Rattle.std.specs.Prelude.{◌≡◌};
+    ghost use Rattle.ux_history.specs.Receipts.{Slip};
+
+    ghost Value = { Slip };
+
+    ghost view = { λ w. w.witness };
+
+    ghost invariant = { λ w. w.witness.call.reply ≡ w.reply };
+}
+
+impl<W: Trailing> Witnessed<W> {
+    /// The answer, and the witness of the call.
+    pub fn into_parts(self) -> (Reply, Witness<W>)
+        ensures reply { result.0 ≡ self.call.reply }
+        ensures witness { result.1 ≡ self }
+    {
+        let Witnessed { reply, witness } = self;
+        (reply, witness)
+    }
+}
+
+impl<W: Trailing> Keeps<W> for Witnessed<W> {
+    ghost kept = { λ w. w };
+
+    fn reply(&self) -> &Reply {
+        &self.reply
+    }
+
+    fn show(&self) {
+        self.witness.shows()
     }
 }

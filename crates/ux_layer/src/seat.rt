@@ -10,7 +10,9 @@ use crate::layer::{Shared, another, desk_of};
 use std::alloc::Global;
 use std::marker::Model;
 use std::sync::{Arc, Wait};
-use ux_history::{Book, BookName, CallBook, CallFault, Share, Shows, Spent, exit_share};
+use ux_history::{
+    Asks, Book, BookName, CallBook, CallFault, Keeps, Share, Shows, Spent, exit_share,
+};
 use ux_object::FileObject;
 use ux_state::RetiredList;
 use ux_types::{Pid, Reply, Request};
@@ -101,6 +103,53 @@ impl<W: BookName, O: FileObject, B: CallBook<W, O>> Seat<W, O, B> {
         let (reply, slip) = made?;
         slip.show();
         Ok((reply, slip))
+    }
+
+    /// As `call`, but it takes the request, and the answer is in what is given. What the call needs but its place
+    /// in the history is made before the lock is taken.
+    ///
+    /// # Errors
+    ///
+    /// Those of `call`, with the request.
+    pub fn call_given<R: Wait>(
+        &mut self,
+        rt: &R,
+        request: Request,
+    ) -> Result<B::Kept, (CallFault, Request)>
+        requires { has_own_call request ≡ false }
+        ensures receipt { IfOk result (λ r. (B.Kept.kept r).call ≡ record { pid = self.old.pid; k = self.old.k; request = request; reply = (B.Kept.kept r).call.reply }) }
+        ensures recorded { IfOk result (λ r. (B.Kept.kept r).tried ≡ false) }
+        ensures shown { IfOk result (λ r. IsSlip W.boot (B.Kept.kept r)) }
+        ensures count { OnOk result (self.new ≡ once_more self.old) }
+        ensures goes_on { IfErr result (λ f. is_deadlock f.0 ≡ false) }
+        ensures back { IfErr result (λ f. f.1 ≡ request) }
+        ensures same { OnErr result (self.new ≡ self.old) }
+    {
+        let Seat {
+            share,
+            shared,
+            retired,
+        } = self;
+        let prepared = match B::prepare(request) {
+            Ok(prepared) => prepared,
+            Err(request) => return Err((CallFault::NoMemory, request)),
+        };
+        let mut guard = shared.desk.lock(rt);
+        let desk = desk_of(rt, &mut *guard);
+        let made = desk.book.record_prepared(share, prepared, retired);
+        if made.is_ok() {
+            desk.waiters.entry_made();
+        }
+        drop(guard);
+        shared.changed.notify_all();
+        retired.clear();
+        match made {
+            Ok(kept) => {
+                kept.show();
+                Ok(kept)
+            }
+            Err((fault, prepared)) => Err((fault, prepared.into_request())),
+        }
     }
 
     /// As `call`; but a call that may wait, and can't be done yet, waits until it can be. Of the history it

@@ -1,8 +1,6 @@
 -- Lemmas on lists of names.
-use Rattle.std.proofs.Common.{◌≡◌, ◌≢◌, Bool, true, false, cond, List, [], ◌∷◌, ◌++◌, Some, None, inl, inr, refl, ap, sym, subst, ◌∙◌, ◌⊎◌}
+use Rattle.std.proofs.Common.{◌≡◌, ◌≢◌, Bool, true, false, cond, List, [], ◌∷◌, ◌++◌, Some, None, inl, inr, refl, ap, sym, ◌∙◌, ◌⊎◌}
 use Rattle.std.specs.Prelude.{is_some, ◌||◌}
-use Rattle.std.specs.List.{IsDistinct, AllByRecursion}
-use Rattle.std.specs.Map.{lookup, keys_of, remove_entry}
 use Rattle.std.proofs.lemmas.Slice.Eq.{bytes_eq-Decides}
 use Rattle.std.proofs.lemmas.Bool.{cases_Bool}
 use Rattle.ux_model.specs.Types.{Name}
@@ -16,41 +14,19 @@ same_name_tells a b = elim (cases_Bool (same_name a b)) [
   | inr apart ↦ inr (apart, λ e. let clash : false ≡ true = sym apart ∙ (bytes_eq-Decides a b).1 e in absurd (cc clash))
 ]
 
-same_name_at : (a b : Name) → a ≡ b → same_name a b ≡ true
+pub same_name_at : (a b : Name) → a ≡ b → same_name a b ≡ true
 same_name_at a b e = (bytes_eq-Decides a b).1 e
 
 same_name_apart : (a b : Name) → a ≢ b → same_name a b ≡ false
 same_name_apart a b apart = elim (same_name_tells a b) [ inl same ↦ absurd (apart same.1) | inr away ↦ away.0 ]
 
-same_name_sym : (a b : Name) → same_name a b ≡ same_name b a
+pub same_name_sym : (a b : Name) → same_name a b ≡ same_name b a
 same_name_sym a b = elim (same_name_tells a b) [
   | inl same ↦ same.0 ∙ sym (same_name_at b a (sym same.1))
   | inr apart ↦ apart.0 ∙ sym (same_name_apart b a (λ e. apart.1 (sym e)))
 ]
 
 module _ {X : Type 0} where
-  -- ---- the list of a map
-
-  -- a map's look-up finds what the list names
-  pub lookup_named : (name : Name) (es : List (Name × X)) → lookup (same_name name) es ≡ named name es
-  lookup_named name [] = refl
-  lookup_named name (e ∷ es) = rw (same_name_sym name e.0, lookup_named name es) refl
-
-  others_stay : (name : Name) (es : List (Name × X)) → AllByRecursion (λ y. same_name name y ≡ false) (keys_of es) → without_name name es ≡ es
-  others_stay name [] apart = refl
-  others_stay name (e ∷ es) apart = rw (same_name_sym e.0 name, apart.0) (ap (λ ys. e ∷ ys) (others_stay name es apart.1))
-
-  -- where no name stands twice, the first that is the same is the only one
-  pub without_first : (name : Name) (es : List (Name × X)) → IsDistinct same_name (keys_of es) → remove_entry (same_name name) es ≡ without_name name es
-  unfolding IsDistinct
-  without_first name [] once = refl
-  without_first name (e ∷ es) once = elim (same_name_tells name e.0) [
-    | inl same ↦
-        let apart : AllByRecursion (λ y. same_name name y ≡ false) (keys_of es) = subst (λ (n : Name). AllByRecursion (λ y. same_name n y ≡ false) (keys_of es)) (sym same.1) once.0 in
-        rw (same.0, same_name_at e.0 name (sym same.1)) (sym (others_stay name es apart))
-    | inr apart ↦ rw (apart.0, same_name_apart e.0 name (λ s. apart.1 (sym s))) (ap (λ ys. e ∷ ys) (without_first name es once.1))
-  ]
-
   -- ---- a further name
 
   appended : (name other : Name) (x : X) (es : List (Name × X)) → is_some (named other (es ++ (name, x) ∷ [])) ≡ (is_some (named other es) || same_name name other)

@@ -2,3 +2,4 @@ pub mod Refusals
 pub mod Listed
 pub mod Targets
 pub mod Marked
+pub mod Order

@@ -1,5 +1,5 @@
 //! Names of the abstract namespace, and which the layer gives by itself.
-ghost use Rattle.std.specs.Prelude.{◌≡◌, ◌<◌, ◌↔◌, true, false, [], ◌∷◌, ◌++◌, length, IsTrue, IsSome, IfSome, None, Some, IfOk, OnOk, OnErr, slice_get, option_map};
+ghost use Rattle.std.specs.Prelude.{◌≡◌, ◌<◌, ◌↔◌, true, false, [], ◌∷◌, ◌++◌, length, IsTrue, IsSome, IfSome, None, Some, IfOk, OnOk, OnErr, map, option_map};
 ghost use Rattle.ux_model.specs.Limits.{autobind_names};
 ghost use Rattle.ux_model.specs.Names.{named, without_name, autobind_name, free_name};
 ghost use Rattle.ux_names.specs.Marked.{PutsName};
@@ -73,12 +73,25 @@ impl AbstractNames {
         self.listing.len() == 0
     }
 
-    /// The name with this place in the order of binding, and the description that it leads to.
-    pub fn get_index(&self, index: usize) -> Option<(&Name, DescriptionId)>
-        ensures { option_map (λ e. (e.0.now, e.1)) result ≡ slice_get self.now index }
+    /// The names in order of binding, each with the description that it leads to. It sorts them.
+    ///
+    /// # Errors
+    ///
+    /// There was no memory for so many.
+    pub fn in_order(&self) -> Result<Vec<(&Name, DescriptionId)>, AllocError>
+        ensures { IfOk result (λ names. map (λ e. (e.0.now, e.1)) names.items ≡ self.now) }
     {
-        let (name, id) = self.listing.get_index(index)?;
-        Some((name, *id))
+        let listed = match self.listing.in_order() {
+            Ok(listed) => listed,
+            Err(error) => return Err(error),
+        };
+        let mut names = Vec::new(self.listing.allocator());
+        for entry in &listed {
+            if names.push((entry.0, *entry.1)).is_err() {
+                return Err(AllocError);
+            }
+        }
+        Ok(names)
     }
 
     /// The description that a name leads to, if it is listed.

@@ -1,6 +1,7 @@
 //! The names of a layer (unix(7)): paths, and names of the abstract namespace, each kind a list in order
-//! of binding, which `len` and `get_index` tell place by place. A name is found by a hash of its bytes, and
-//! the lowest name that autobind may give without a search through those that are in use.
+//! of binding, which `in_order` sorts when it is asked for. A name is found, bound and taken away by a hash
+//! of its bytes, whatever else is in use, and the lowest name that autobind may give is found without a
+//! search through those that are in use.
 #![tactic(auto)]
 
 mod abstract_names;
@@ -16,6 +17,6 @@ pub use paths::{PathTarget, Paths};
 pub use refusals::{AutobindError, BindError};
 // A crate can name `Paths` and `AbstractNames` in a contract only if the types of their fields are exported.
 #[doc(hidden)]
-pub use listing::Listing;
+pub use listing::{Binding, Listing};
 #[doc(hidden)]
 pub use paths::Target;

@@ -1,5 +1,7 @@
 //! Names in order of binding, each with what it names.
-ghost use Rattle.std.specs.Prelude.{◌≡◌, ◌+◌, ◌<◌, ◌≤◌, [], ◌∷◌, ◌++◌, length, None, Some, OnOk, IsOk, slice_get, option_map, option_copied};
+ghost use Rattle.std.specs.Prelude.{◌≡◌, ◌+◌, ◌<◌, ◌≤◌, [], ◌∷◌, ◌++◌, length, map, None, Some, OnOk, IfOk, IsOk, option_copied};
+ghost use Rattle.std.specs.List.Sorted.{IsPermutation, IsNonDecreasingBy};
+ghost use Rattle.std.specs.Map.Iter.{deref_pair};
 ghost use Rattle.ux_model.specs.Names.{named, without_name};
 
 use indexmap::IndexMap;
@@ -7,16 +9,27 @@ use std::alloc::{AllocError, Global};
 use std::marker::Model;
 use ux_types::Name;
 
+/// What a name names, with the number of its binding.
+#[derive(Drop)]
+pub struct Binding<X> {
+    /// It is above the numbers of all that were bound before.
+    pub(crate) number: u64,
+    pub(crate) value: X,
+}
+
 /// Names, each once, in order of binding, with what they name. Contracts see the list of the pairs, and
 /// how many more names there is room for.
 pub struct Listing<X> {
-    bound: IndexMap<Name, X>,
+    /// In any order, so that a name goes without moving the others.
+    bound: IndexMap<Name, Binding<X>>,
+    /// The number of the next binding.
+    next: u64,
 }
 
 // Written out, so that it is proved here and not in each function that drops one.
 impl<X: Drop> Drop for Listing<X> {
     fn drop(self) {
-        let Listing { bound } = self;
+        let Listing { bound, next: _ } = self;
         drop(bound);
     }
 }
@@ -26,14 +39,15 @@ impl<X> Model for Listing<X> {
     ghost use Rattle.std.specs.Cmp.Lexicographic.{pointwise};
     ghost use Rattle.indexmap.specs.IndexMap as map;
     ghost use Rattle.ux_names.specs.Listed.{Listed, listed_code};
+    ghost use Rattle.ux_names.specs.Order.{in_order, room_of, AreNumbered};
 
     ghost Value = { Listed X };
 
     ghost coded = { listed_code X.code };
 
-    ghost view = { λ l. record { names = l.bound.entries; room = map.spare l.bound } };
+    ghost view = { λ l. record { names = in_order l.bound.entries l.next; room = room_of (map.spare l.bound) l.next } };
 
-    ghost invariant = { λ l. map.IsUnique (pointwise ◌==◌) l.bound };
+    ghost invariant = { λ l. map.IsUnique (pointwise ◌==◌) l.bound × AreNumbered l.bound.entries l.next };
 }
 
 impl<X: Drop> Listing<X> {
@@ -43,6 +57,7 @@ impl<X: Drop> Listing<X> {
     {
         Listing {
             bound: IndexMap::new(alloc),
+            next: 0,
         }
     }
 
@@ -58,27 +73,44 @@ impl<X: Drop> Listing<X> {
         self.bound.len()
     }
 
-    /// The name with this place in the order, and what it names.
-    pub(crate) fn get_index(&self, index: usize) -> Option<(&Name, &X)>
-        ensures { option_map (λ e. (e.0.now, e.1.now)) result ≡ slice_get self.now.names index }
+    /// The names in order of binding, each with what it names. It sorts them.
+    ///
+    /// # Errors
+    ///
+    /// There was no memory for so many.
+    pub(crate) fn in_order(&self) -> Result<Vec<(&Name, &X)>, AllocError>
+        ensures { IfOk result (λ names. map (λ e. (e.0.now, e.1.now)) names.items ≡ self.now.names) }
     {
-        self.bound.get_index(index)
+        let entries = sorted_entries(self.allocator(), &self.bound)?;
+        let mut names = Vec::new(self.allocator());
+        for entry in &entries {
+            names.push((entry.0, &entry.1.value))?;
+        }
+        Ok(names)
     }
 
     /// What a name names, if it is listed.
     pub(crate) fn find(&self, name: &Name) -> Option<&X>
         ensures { option_copied result ≡ named name.now self.now.names }
     {
-        self.bound.get(name)
+        let binding = self.bound.get(name)?;
+        Some(&binding.value)
     }
 
     /// Makes room for so many more names.
+    ///
+    /// # Errors
+    ///
+    /// There was no memory, or not as many numbers are left. The names stand as before.
     pub(crate) fn reserve(&mut self, additional: usize) -> Result<(), AllocError>
         ensures ok { OnOk result (additional ≤ self.new.room) }
         ensures had_room { additional ≤ self.old.room → IsOk result }
         ensures room { self.old.room ≤ self.new.room }
         ensures names { self.new.names ≡ self.old.names }
     {
+        if additional as u64 > u64::MAX - self.next {
+            return Err(AllocError);
+        }
         self.bound.reserve(additional)
     }
 
@@ -89,9 +121,11 @@ impl<X: Drop> Listing<X> {
         ensures names { self.new.names ≡ self.old.names ++ (name, value) ∷ [] }
         ensures room { self.old.room ≤ self.new.room + 1 }
     {
-        let Ok(_known) = self.bound.insert(name, value) else {
+        let number = self.next;
+        let Ok(_known) = self.bound.insert(name, Binding { number, value }) else {
             unreachable!();
         };
+        self.next = number + 1;
     }
 
     /// Takes a name away, and answers what it named. The others keep their order.
@@ -100,7 +134,8 @@ impl<X: Drop> Listing<X> {
         ensures names { self.new.names ≡ without_name name.now self.old.names }
         ensures room { self.old.room ≤ self.new.room }
     {
-        self.bound.shift_remove(name)
+        let binding = self.bound.swap_remove(name)?;
+        Some(binding.value)
     }
 
     /// Takes all names away.
@@ -109,5 +144,22 @@ impl<X: Drop> Listing<X> {
         ensures room { length self.old.names + self.old.room ≤ self.new.room }
     {
         self.bound.clear();
+        self.next = 0;
     }
+}
+
+/// The entries of a map, in order of the numbers of their bindings.
+fn sorted_entries<X: Drop>(
+    alloc: Global,
+    bound: &IndexMap<Name, Binding<X>>,
+) -> Result<Vec<(&Name, &Binding<X>)>, AllocError>
+    ensures all { IfOk result (λ entries. IsPermutation bound.now.entries (map deref_pair entries.items)) }
+    ensures sorted { IfOk result (λ entries. IsNonDecreasingBy (λ e. e.1.now.number) entries.items) }
+{
+    let mut entries = Vec::new(alloc);
+    for entry in bound {
+        entries.push(entry)?;
+    }
+    entries.sort_unstable_by_key(|entry| entry.1.number);
+    Ok(entries)
 }

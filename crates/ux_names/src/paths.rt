@@ -1,5 +1,5 @@
 //! Paths, and what they name.
-ghost use Rattle.std.specs.Prelude.{◌≡◌, ◌+◌, ◌<◌, ◌≤◌, ◌↔◌, [], ◌∷◌, ◌++◌, length, IsTrue, IsSome, IsOk, None, Some, OnOk, OnErr, slice_get, option_map};
+ghost use Rattle.std.specs.Prelude.{◌≡◌, ◌+◌, ◌<◌, ◌≤◌, ◌↔◌, [], ◌∷◌, ◌++◌, length, IsTrue, IsSome, IsOk, None, Some, OnOk, OnErr, IfOk, map, option_map};
 ghost use Rattle.ux_model.specs.Names.{named, without_name};
 ghost use Rattle.ux_names.specs.Targets.{target_of};
 
@@ -96,12 +96,25 @@ impl Paths {
         self.listing.len() == 0
     }
 
-    /// The path with this place in the order of binding, and what it names.
-    pub fn get_index(&self, index: usize) -> Option<(&Name, PathTarget)>
-        ensures { option_map (λ e. (e.0.now, target_of e.1)) result ≡ slice_get self.now.names index }
+    /// The paths in order of binding, each with what it names. It sorts them.
+    ///
+    /// # Errors
+    ///
+    /// There was no memory for so many.
+    pub fn in_order(&self) -> Result<Vec<(&Name, PathTarget)>, AllocError>
+        ensures { IfOk result (λ paths. map (λ e. (e.0.now, target_of e.1)) paths.items ≡ self.now.names) }
     {
-        let (name, target) = self.listing.get_index(index)?;
-        Some((name, target.get()))
+        let listed = match self.listing.in_order() {
+            Ok(listed) => listed,
+            Err(error) => return Err(error),
+        };
+        let mut paths = Vec::new(self.listing.allocator());
+        for entry in &listed {
+            if paths.push((entry.0, entry.1.get())).is_err() {
+                return Err(AllocError);
+            }
+        }
+        Ok(paths)
     }
 
     /// What a path names, if it is listed.

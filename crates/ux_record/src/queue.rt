@@ -8,7 +8,7 @@ use std::alloc::{AllocError, Allocator, Global};
 use std::collections::VecDeque;
 use std::marker::Model;
 use ux_rights::{RefList, SendError};
-use ux_types::{Addr, Cred, RECORD_LIMIT};
+use ux_types::{Addr, Bytes, Cred, RECORD_LIMIT};
 
 /// A send that was refused.
 #[derive(Drop)]
@@ -23,14 +23,13 @@ pub struct Refused {
 /// What was sent to a datagram or seqpacket socket and not yet received, the oldest first. Contracts see
 /// the list of its messages.
 pub struct RecordQueue<A: Allocator + Copy = Global> {
-    records: VecDeque<Record<A>, A>,
-    alloc: A,
+    records: VecDeque<Record, A>,
 }
 
 // Written out, so that it is proved here and not in each function that drops one.
 impl<A: Allocator + Copy> Drop for RecordQueue<A> {
     fn drop(self) {
-        let RecordQueue { records, alloc: _ } = self;
+        let RecordQueue { records } = self;
         drop(records);
     }
 }
@@ -54,7 +53,6 @@ impl<A: Allocator + Copy> RecordQueue<A> {
     {
         RecordQueue {
             records: VecDeque::new(alloc),
-            alloc,
         }
     }
 
@@ -80,7 +78,7 @@ impl<A: Allocator + Copy> RecordQueue<A> {
         self.records.len() == RECORD_LIMIT
     }
 
-    /// Appends one message, which may be empty.
+    /// Appends one message, which may be empty, as one more owner of its bytes.
     ///
     /// # Errors
     ///
@@ -88,7 +86,7 @@ impl<A: Allocator + Copy> RecordQueue<A> {
     /// queue stands as before.
     pub fn send(
         &mut self,
-        bytes: &[u8],
+        bytes: &Bytes,
         tag: u64,
         rights: RefList,
         cred: Cred,
@@ -109,7 +107,7 @@ impl<A: Allocator + Copy> RecordQueue<A> {
             });
         }
         let error = SendError::NoMemory;
-        let Ok(bytes) = Vec::from_slice(self.alloc, bytes) else {
+        let Ok(bytes) = bytes.clone() else {
             return Err(Refused {
                 error,
                 rights,
@@ -130,9 +128,9 @@ impl<A: Allocator + Copy> RecordQueue<A> {
 
     /// Takes the first message, with its first n bytes; the rest of it is gone (recvmsg(2)). It takes no
     /// memory.
-    pub fn take(&mut self, n: usize) -> Received<A>
+    pub fn take(&mut self, n: usize) -> Received
         requires { 0 < length self.old }
-        ensures bytes { OnRecordFront n self.old (λ f. result.bytes.items ≡ f.bytes) }
+        ensures bytes { OnRecordFront n self.old (λ f. result.bytes ≡ f.bytes) }
         ensures whole { OnRecordFront n self.old (λ f. result.whole ≡ f.whole) }
         ensures rights { OnRecordFront n self.old (λ f. result.rights ≡ f.rights) }
         ensures origin { OnRecordFront n self.old (λ f. result.origin ≡ f.origin) }
@@ -150,9 +148,9 @@ impl<A: Allocator + Copy> RecordQueue<A> {
     /// # Errors
     ///
     /// Out of memory.
-    pub fn peek(&self, n: usize) -> Result<Received<A>, AllocError>
+    pub fn peek(&self, n: usize) -> Result<Received, AllocError>
         requires { 0 < length self.now }
-        ensures bytes { IfOk result (λ r. OnRecordFront n self.now (λ f. r.bytes.items ≡ f.bytes)) }
+        ensures bytes { IfOk result (λ r. OnRecordFront n self.now (λ f. r.bytes ≡ f.bytes)) }
         ensures whole { IfOk result (λ r. OnRecordFront n self.now (λ f. r.whole ≡ f.whole)) }
         ensures rights { IfOk result (λ r. OnRecordFront n self.now (λ f. r.rights ≡ f.rights)) }
         ensures origin { IfOk result (λ r. OnRecordFront n self.now (λ f. r.origin ≡ f.origin)) }
@@ -160,7 +158,7 @@ impl<A: Allocator + Copy> RecordQueue<A> {
         ensures from { IfOk result (λ r. OnRecordFront n self.now (λ f. r.from ≡ f.from)) }
         ensures some_origin { IfOk result (λ r. IsSome r.origin ↔ (0 < length r.rights)) }
     {
-        self.records[0].copy_received(self.alloc, n)
+        self.records[0].copy_received(n)
     }
 
     /// Takes the first message off, and gives its rights and the user of the process that sent it. None

@@ -2,16 +2,16 @@
 ghost use Rattle.std.specs.Prelude.{◌≡◌, ◌<◌, ◌↔◌, length, take, IsSome, IfOk};
 ghost use Rattle.ux_model.specs.Stream.{origin_of};
 
-use std::alloc::{AllocError, Allocator, Global};
+use std::alloc::AllocError;
 use std::marker::Model;
 use ux_rights::{Origin, RefList};
-use ux_types::{Addr, Cred};
+use ux_types::{Addr, Bytes, Cred};
 
 /// What a receive gives.
 #[derive(Drop)]
-pub struct Received<A: Allocator + Copy = Global> {
+pub struct Received {
     /// The message's first bytes, no more than were asked for.
-    pub bytes: Vec<u8, A>,
+    pub bytes: Bytes,
     /// How many bytes the message had. With more than were asked for it is truncated (MSG_TRUNC of
     /// recvmsg(2)).
     pub whole: usize,
@@ -25,34 +25,34 @@ pub struct Received<A: Allocator + Copy = Global> {
 
 /// A whole message.
 #[derive(Drop)]
-pub struct Record<A: Allocator + Copy = Global> {
+pub struct Record {
     tag: u64,
-    bytes: Vec<u8, A>,
+    bytes: Bytes,
     rights: RefList,
     cred: Cred,
     uid: u32,
     from: Option<Addr>,
 }
 
-impl<A: Allocator + Copy> Model for Record<A> {
+impl Model for Record {
     ghost use Rattle.ux_model.specs.Message.{Message};
 
     ghost Value = { Message };
 
-    ghost view = { λ r. record { tag = r.tag; bytes = r.bytes.items; rights = r.rights; cred = r.cred; uid = r.uid; from = r.from } };
+    ghost view = { λ r. record { tag = r.tag; bytes = r.bytes; rights = r.rights; cred = r.cred; uid = r.uid; from = r.from } };
 }
 
-impl<A: Allocator + Copy> Record<A> {
+impl Record {
     /// A message of the call with this number.
     pub fn new(
         tag: u64,
-        bytes: Vec<u8, A>,
+        bytes: Bytes,
         rights: RefList,
         cred: Cred,
         uid: u32,
         from: Option<Addr>,
-    ) -> Record<A>
-        ensures { result ≡ record { tag = tag; bytes = bytes.items; rights = rights; cred = cred; uid = uid; from = from } }
+    ) -> Record
+        ensures { result ≡ record { tag = tag; bytes = bytes; rights = rights; cred = cred; uid = uid; from = from } }
     {
         Record {
             tag,
@@ -77,9 +77,9 @@ impl<A: Allocator + Copy> Record<A> {
         })
     }
 
-    /// What a receive of at most n bytes gives. The bytes are cut where they are.
-    pub fn into_received(self, n: usize) -> Received<A>
-        ensures bytes { result.bytes.items ≡ take n self.bytes }
+    /// What a receive of at most n bytes gives. It copies none of more than 14.
+    pub fn into_received(self, n: usize) -> Received
+        ensures bytes { result.bytes ≡ take n self.bytes }
         ensures whole { result.whole ≡ length self.bytes }
         ensures rights { result.rights ≡ self.rights }
         ensures origin { result.origin ≡ origin_of self }
@@ -89,16 +89,15 @@ impl<A: Allocator + Copy> Record<A> {
         let origin = self.origin();
         let Record {
             tag: _,
-            mut bytes,
+            bytes,
             rights,
             cred,
             uid: _,
             from,
         } = self;
         let whole = bytes.len();
-        bytes.truncate(n);
         Received {
-            bytes,
+            bytes: bytes.first(n),
             whole,
             rights,
             origin,
@@ -107,19 +106,18 @@ impl<A: Allocator + Copy> Record<A> {
         }
     }
 
-    /// A copy of what a receive of at most n bytes gives.
-    pub fn copy_received(&self, alloc: A, n: usize) -> Result<Received<A>, AllocError>
-        ensures bytes { IfOk result (λ r. r.bytes.items ≡ take n self.now.bytes) }
+    /// What a receive of at most n bytes gives, for one that leaves the message where it is.
+    pub fn copy_received(&self, n: usize) -> Result<Received, AllocError>
+        ensures bytes { IfOk result (λ r. r.bytes ≡ take n self.now.bytes) }
         ensures whole { IfOk result (λ r. r.whole ≡ length self.now.bytes) }
         ensures rights { IfOk result (λ r. r.rights ≡ self.now.rights) }
         ensures origin { IfOk result (λ r. r.origin ≡ origin_of self.now) }
         ensures cred { IfOk result (λ r. r.cred ≡ self.now.cred) }
         ensures from { IfOk result (λ r. r.from ≡ self.now.from) }
     {
-        let whole = self.bytes.len();
         Ok(Received {
-            bytes: Vec::from_slice(alloc, &self.bytes[..n.min(whole)])?,
-            whole,
+            bytes: self.bytes.clone()?.first(n),
+            whole: self.bytes.len(),
             rights: self.rights.clone()?,
             origin: self.origin(),
             cred: self.cred,

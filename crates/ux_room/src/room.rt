@@ -1,29 +1,66 @@
 //! Room for a copy of one reply.
-ghost use Rattle.std.specs.Prelude.{◌≡◌, IfOk};
+ghost use Rattle.std.specs.Prelude.{◌≡◌, IfOk, OnOk, IsTrue, IsSomeAnd};
 ghost use Rattle.ux_model.specs.Rooms.{size_of, room_for, Fits};
+ghost use Rattle.ux_room.specs.Sizes.{size_by};
 
-use crate::copying::{addr_copy, bytes_copy, sender_copy};
+use crate::copying::{addr_copy, sender_copy};
 use std::alloc::{AllocError, Global};
 use std::marker::Model;
-use ux_types::{CONTROL_LIMIT, GREATEST_QUEUE_LIMIT, NAME_LIMIT, READ_LIMIT, Reply, Request};
+use ux_types::{
+    BytesRoom, CONTROL_LIMIT, GREATEST_QUEUE_LIMIT, NAME_LIMIT, READ_LIMIT, Reply, Request,
+};
 
 /// Room for a copy of one reply. Contracts see how many bytes of data, of control and of a name it has room for.
 #[derive(Drop)]
 pub struct ReplyRoom {
-    data: Vec<u8>,
-    control: Vec<u8>,
-    name: Vec<u8>,
+    data: BytesRoom,
+    control: BytesRoom,
+    name: BytesRoom,
+    sizes: Sizes,
+}
+
+/// How many bytes of data, of control and of a name.
+#[derive(Clone, Copy)]
+struct Sizes {
+    data: usize,
+    control: usize,
+    name: usize,
 }
 
 impl Model for ReplyRoom {
-    ghost use Rattle.std.specs.Prelude.{◌≡◌, [], vec_capacity};
-    ghost use Rattle.ux_model.specs.Rooms.{Size};
+    ghost use Rattle.ux_model.specs.Rooms.{Size, Fits};
+    ghost use Rattle.ux_room.specs.Sizes.{size_by};
 
     ghost Value = { Size };
 
-    ghost view = { λ r. record { data_bytes = vec_capacity r.data; control = vec_capacity r.control; name = vec_capacity r.name } };
+    ghost view = { λ r. record { data_bytes = r.data; control = r.control; name = r.name } };
 
-    ghost invariant = { λ r. (r.data.items ≡ []) × (r.control.items ≡ []) × (r.name.items ≡ []) };
+    ghost invariant = { λ r. Fits (size_by r.sizes) (record { data_bytes = r.data; control = r.control; name = r.name }) };
+}
+
+/// How many bytes the reply to a request may have.
+#[tactic(auto, unfolding(ux_model::specs::Rooms::room_for))]
+fn sizes_for(request: &Request) -> Sizes
+    ensures { size_by result ≡ room_for request.now }
+{
+    let mut sizes = Sizes {
+        data: 0,
+        control: 0,
+        name: 0,
+    };
+    match request {
+        Request::Read { n, .. } => sizes.data = READ_LIMIT.min(*n),
+        Request::RecvMsg { n, space, .. } => {
+            sizes.data = (GREATEST_QUEUE_LIMIT as usize).min(*n);
+            sizes.control = CONTROL_LIMIT.min(*space);
+            sizes.name = NAME_LIMIT;
+        }
+        Request::Accept { .. } | Request::GetSockName { .. } | Request::GetPeerName { .. } => {
+            sizes.name = NAME_LIMIT;
+        }
+        _ => {}
+    }
+    sizes
 }
 
 impl ReplyRoom {
@@ -32,38 +69,69 @@ impl ReplyRoom {
     /// # Errors
     ///
     /// An allocation was refused.
-    #[tactic(auto, unfolding(ux_model::specs::Rooms::room_for))]
     pub fn for_request(alloc: Global, request: &Request) -> Result<ReplyRoom, AllocError>
         ensures { IfOk result (λ room. Fits (room_for request.now) room) }
     {
-        match request {
-            Request::Read { n, .. } => ReplyRoom::of_size(alloc, READ_LIMIT.min(*n), 0, 0),
-            Request::RecvMsg { n, space, .. } => {
-                let data = (GREATEST_QUEUE_LIMIT as usize).min(*n);
-                let control = CONTROL_LIMIT.min(*space);
-                ReplyRoom::of_size(alloc, data, control, NAME_LIMIT)
-            }
-            Request::Accept { .. } | Request::GetSockName { .. } | Request::GetPeerName { .. } => {
-                ReplyRoom::of_size(alloc, 0, 0, NAME_LIMIT)
-            }
-            _ => ReplyRoom::of_size(alloc, 0, 0, 0),
+        ReplyRoom::of_sizes(alloc, sizes_for(request))
+    }
+
+    /// Room for so many bytes.
+    fn of_sizes(alloc: Global, sizes: Sizes) -> Result<ReplyRoom, AllocError>
+        ensures { IfOk result (λ room. Fits (size_by sizes) room) }
+    {
+        Ok(ReplyRoom {
+            data: BytesRoom::new(alloc, sizes.data)?,
+            control: BytesRoom::new(alloc, sizes.control)?,
+            name: BytesRoom::new(alloc, sizes.name)?,
+            sizes,
+        })
+    }
+
+    /// Sees to it that there is room for the reply to this request. Room that was kept stays where it is
+    /// enough, and else makes way for more.
+    ///
+    /// # Errors
+    ///
+    /// An allocation was refused.
+    pub fn provide(
+        kept: &mut Option<ReplyRoom>,
+        alloc: Global,
+        request: &Request,
+    ) -> Result<(), AllocError>
+        ensures { OnOk result (IsSomeAnd kept.new (λ room. Fits (room_for request.now) room)) }
+    {
+        let wanted = sizes_for(request);
+        let wanted = match kept {
+            Some(room) if room.has(wanted) => return Ok(()),
+            Some(room) => room.sizes.or_more(wanted),
+            None => wanted,
+        };
+        *kept = Some(ReplyRoom::of_sizes(alloc, wanted)?);
+        Ok(())
+    }
+
+    /// A copy of the reply: further owners of what it holds, and where there can be none, a copy in the room
+    /// that was kept. It takes no memory.
+    pub fn lend(kept: &mut Option<ReplyRoom>, reply: &Reply) -> Reply
+        requires fits { IsSomeAnd kept.old (λ room. Fits (size_of reply.now) room) }
+        ensures same { result ≡ reply.now }
+    {
+        if let Ok(copy) = reply.clone() {
+            return copy;
+        }
+        match kept.take() {
+            Some(room) => room.copy(reply),
+            None => unreachable!(),
         }
     }
 
-    /// Room for exactly so many bytes.
-    fn of_size(
-        alloc: Global,
-        data_bytes: usize,
-        control: usize,
-        name: usize,
-    ) -> Result<ReplyRoom, AllocError>
-        ensures { IfOk result (λ room. room ≡ record { data_bytes = data_bytes; control = control; name = name }) }
+    /// Whether there is room for so many bytes.
+    fn has(&self, sizes: Sizes) -> bool
+        ensures { IsTrue result → Fits (size_by sizes) self.now }
     {
-        Ok(ReplyRoom {
-            data: Vec::with_capacity(alloc, data_bytes)?,
-            control: Vec::with_capacity(alloc, control)?,
-            name: Vec::with_capacity(alloc, name)?,
-        })
+        sizes.data <= self.sizes.data
+            && sizes.control <= self.sizes.control
+            && sizes.name <= self.sizes.name
     }
 
     /// A copy of the reply, in this room: it takes no memory.
@@ -77,7 +145,7 @@ impl ReplyRoom {
             Reply::Fd(fd) => Reply::Fd(*fd),
             Reply::Fds(first, second) => Reply::Fds(*first, *second),
             Reply::Count(count) => Reply::Count(*count),
-            Reply::Bytes(bytes) => Reply::Bytes(bytes_copy(self.data, bytes)),
+            Reply::Bytes(bytes) => Reply::Bytes(bytes.share(self.data)),
             Reply::At(offset) => Reply::At(*offset),
             Reply::Received {
                 count,
@@ -87,9 +155,9 @@ impl ReplyRoom {
                 from,
             } => Reply::Received {
                 count: *count,
-                bytes: bytes_copy(self.data, bytes),
+                bytes: bytes.share(self.data),
                 flags: *flags,
-                control: bytes_copy(self.control, control),
+                control: control.share(self.control),
                 from: sender_copy(self.name, from),
             },
             Reply::Accepted(fd, addr) => Reply::Accepted(*fd, addr_copy(self.name, addr)),
@@ -99,6 +167,19 @@ impl ReplyRoom {
             Reply::Poll(flags) => Reply::Poll(*flags),
             Reply::Child(pid) => Reply::Child(*pid),
             Reply::Err(errno) => Reply::Err(*errno),
+        }
+    }
+}
+
+impl Sizes {
+    /// As many, or more where these are more.
+    fn or_more(self, other: Sizes) -> Sizes
+        ensures { Fits (size_by other) (size_by result) }
+    {
+        Sizes {
+            data: self.data.max(other.data),
+            control: self.control.max(other.control),
+            name: self.name.max(other.name),
         }
     }
 }

@@ -1,11 +1,12 @@
 //! A ring of bytes that grows as it has to.
-ghost use Rattle.std.specs.Prelude.{◌≡◌, ◌+◌, ◌≤◌, ◌++◌, [], length, take, drop, max, IfOk, OnOk};
+ghost use Rattle.std.specs.Prelude.{◌≡◌, ◌+◌, ◌≤◌, ◌++◌, [], length, take, drop, max, IfOk, IsOk, OnOk};
 ghost use Rattle.std.specs.Int.{IsNextPowerOfTwo};
 ghost use Rattle.circular_buffer.specs.Buffer.{buffer};
 
 use circular_buffer::HeapCircularBuffer;
 use std::alloc::{AllocError, Allocator, Global};
 use std::marker::Model;
+use ux_types::{Bytes, SHORT_BYTES};
 
 /// The places of the smallest ring.
 const SMALLEST: usize = 64;
@@ -74,20 +75,18 @@ impl<A: Allocator + Copy> ByteRing<A> {
         }
     }
 
-    /// A copy of the first bytes.
-    pub fn front(&self, alloc: A, n: usize) -> Result<Vec<u8, A>, AllocError>
-        ensures { IfOk result (λ v. v.items ≡ take n self.now.items) }
+    /// A copy of the first bytes. At most 14 take no memory.
+    pub fn front(&self, alloc: Global, n: usize) -> Result<Bytes, AllocError>
+        ensures bytes { IfOk result (λ b. b ≡ take n self.now.items) }
+        ensures short { n ≤ SHORT_BYTES → IsOk result }
     {
         let Some(ring) = &self.ring else {
-            return Ok(Vec::new(alloc));
+            return Ok(Bytes::empty());
         };
         let count = n.min(ring.len());
-        let mut bytes = Vec::with_capacity(alloc, count)?;
         let (older, newer) = ring.as_slices();
         let first = count.min(older.len());
-        bytes.extend_from_slice(&older[..first])?;
-        bytes.extend_from_slice(&newer[..count - first])?;
-        Ok(bytes)
+        joined(alloc, &older[..first], &newer[..count - first])
     }
 
     /// Takes out the first bytes.
@@ -111,4 +110,30 @@ fn places(needed: usize) -> Result<usize, AllocError>
         Some(places) => Ok(places),
         None => Err(AllocError),
     }
+}
+
+/// A copy of two parts, the one behind the other. At most 14 bytes take no memory.
+fn joined(alloc: Global, first: &[u8], second: &[u8]) -> Result<Bytes, AllocError>
+    ensures bytes { IfOk result (λ b. b ≡ first.now ++ second.now) }
+    ensures short { length first.now + length second.now ≤ SHORT_BYTES → IsOk result }
+{
+    if first.len() + second.len() <= SHORT_BYTES {
+        return Ok(joined_short(first, second));
+    }
+    let mut bytes = Vec::with_capacity(alloc, first.len() + second.len())?;
+    bytes.extend_from_slice(first)?;
+    bytes.extend_from_slice(second)?;
+    Bytes::new(bytes)
+}
+
+/// A copy of two parts that need no memory, the one behind the other.
+fn joined_short(first: &[u8], second: &[u8]) -> Bytes
+    requires { length first.now + length second.now ≤ SHORT_BYTES }
+    ensures { result ≡ first.now ++ second.now }
+{
+    let mut buf = [0u8; SHORT_BYTES];
+    let count = first.len() + second.len();
+    buf[..first.len()].copy_from_slice(first);
+    buf[first.len()..count].copy_from_slice(second);
+    Bytes::short(&buf[..count])
 }

@@ -11,7 +11,7 @@ use std::alloc::{AllocError, Allocator, Global};
 use std::collections::VecDeque;
 use std::marker::Model;
 use ux_rights::{Origin, RefList, SendError};
-use ux_types::Cred;
+use ux_types::{Bytes, Cred};
 
 /// A send that was refused.
 #[derive(Drop)]
@@ -23,8 +23,8 @@ pub struct Refused {
 
 /// What a receive gives.
 #[derive(Drop)]
-pub struct Received<A: Allocator + Copy = Global> {
-    pub bytes: Vec<u8, A>,
+pub struct Received {
+    pub bytes: Bytes,
     pub rights: RefList,
     /// The send that the rights come from, where there are any.
     pub origin: Option<Origin>,
@@ -142,9 +142,14 @@ impl<A: Allocator + Copy> StreamQueue<A> {
     /// # Errors
     ///
     /// Out of memory. The queue stands as before.
-    pub fn take(&mut self, n: usize, wants_cred: bool) -> Result<Received<A>, AllocError>
+    pub fn take(
+        &mut self,
+        alloc: Global,
+        n: usize,
+        wants_cred: bool,
+    ) -> Result<Received, AllocError>
         requires { 0 < length self.old }
-        ensures bytes { IfOk result (λ r. OnStreamFront wants_cred n self.old (λ f. r.bytes.items ≡ f.bytes)) }
+        ensures bytes { IfOk result (λ r. OnStreamFront wants_cred n self.old (λ f. r.bytes ≡ f.bytes)) }
         ensures rights { IfOk result (λ r. OnStreamFront wants_cred n self.old (λ f. r.rights ≡ f.rights)) }
         ensures origin { IfOk result (λ r. OnStreamFront wants_cred n self.old (λ f. r.origin ≡ f.origin)) }
         ensures cred { IfOk result (λ r. OnStreamFront wants_cred n self.old (λ f. r.cred ≡ f.cred)) }
@@ -153,7 +158,7 @@ impl<A: Allocator + Copy> StreamQueue<A> {
         ensures err { OnErr result (self.new ≡ self.old) }
     {
         let reach = reach_of(&self.marks, n, wants_cred);
-        let bytes = self.ring.front(self.alloc, reach.count)?;
+        let bytes = self.ring.front(alloc, reach.count)?;
         self.ring.drop_front(reach.count);
         let rights = take_bytes(&mut self.marks, reach.count);
         Ok(Received {
@@ -183,16 +188,16 @@ impl<A: Allocator + Copy> StreamQueue<A> {
     /// # Errors
     ///
     /// Out of memory.
-    pub fn peek(&self, n: usize, wants_cred: bool) -> Result<Received<A>, AllocError>
+    pub fn peek(&self, alloc: Global, n: usize, wants_cred: bool) -> Result<Received, AllocError>
         requires { 0 < length self.now }
-        ensures bytes { IfOk result (λ r. OnStreamFront wants_cred n self.now (λ f. r.bytes.items ≡ f.bytes)) }
+        ensures bytes { IfOk result (λ r. OnStreamFront wants_cred n self.now (λ f. r.bytes ≡ f.bytes)) }
         ensures rights { IfOk result (λ r. OnStreamFront wants_cred n self.now (λ f. r.rights ≡ f.rights)) }
         ensures origin { IfOk result (λ r. OnStreamFront wants_cred n self.now (λ f. r.origin ≡ f.origin)) }
         ensures cred { IfOk result (λ r. OnStreamFront wants_cred n self.now (λ f. r.cred ≡ f.cred)) }
         ensures some_origin { IfOk result (λ r. IsSome r.origin ↔ (0 < length r.rights)) }
     {
         let reach = reach_of(&self.marks, n, wants_cred);
-        let bytes = self.ring.front(self.alloc, reach.count)?;
+        let bytes = self.ring.front(alloc, reach.count)?;
         let rights = copy_rights(&self.marks, reach.count)?;
         Ok(Received {
             bytes,

@@ -5,24 +5,24 @@ use Rattle.ux_model.specs.History.{is_exit, is_off}
 use Rattle.ux_history.specs.Books.{Held, state_of}
 use Rattle.ux_history.specs.Shares.{Caller, IsBook}
 use Rattle.ux_history.proofs.Accounts.{part_for_child, book_after}
-use Rattle.ux_history.proofs.Slips.{Answered, answered}
+use Rattle.ux_history.proofs.Slips.{Answered, answered, said_of}
 use Rattle.ux_history.proofs.book.Book.make.Given.{Over}
 use Rattle.ux_history.proofs.book.Book.make.Goals as goal
 use Rattle.ux_history.proofs.book.Book.make.Goals.{then-tried, else-tried}
 
-made_here : (g : Over) (c : goal.After-reply-1 g) → Answered g.W.BookName.boot c.args.self.now c.append.new.self.book c.args.share.now c.args.request.now c.args.tried c.in-Some.number c.answer-reply.result.0 c.answer-reply.result.1 (map (λ o. o.0) c.append.new.retired)
+made_here : (g : Over) (c : goal.After-call g) → Answered g.W.BookName.boot c.args.self.now c.append.new.self.book c.args.share.now c.args.prepared c.args.tried c.in-Some.number c.call.result.reply c.call.result (map (λ o. o.0) c.append.new.retired)
 made_here g c =
-    let log = c.set_aside.new.log.book in
-    let waits : c.args.tried ≡ true → c.if-tried.waits ≡ may_wait (state_of log) c.share.inside.pid.0 c.args.request.now = elim c.if-tried.branch [
+    let log = c.reserve.new.self.book in
+    let waits : c.args.tried ≡ true → c.if-tried.waits ≡ may_wait (state_of log) c.share.inside.pid.0 c.args.prepared = elim c.if-tried.branch [
       | then-tried w ↦ λ t. w.waits-is ∙ w.waits-waits.ensures
       | else-tried w ↦ λ t. absurd (false≢true (sym w.if-tried.false ∙ t))
     ] in
-    answered g.W.BookName.boot log c.args.self.now c.append.new.self.book c.args.share.now c.share.inside.pid c.share.inside.k c.in-Ok.copy c.args.request.now c.if-tried.waits c.args.tried c.in-Some.number
-    c.answer-reply.result.0 c.answer-reply.result.1 (map (λ o. o.0) c.append.new.retired)
-    (c.in-Ok.ensures.book ∙ c.self.view_is)
+    answered g.W.BookName.boot log c.args.self.now c.append.new.self.book c.args.share.now c.share.inside.pid c.share.inside.k c.into_parts.result.0 c.args.prepared c.if-tried.waits c.args.tried c.in-Some.number
+    c.call.result.reply c.call.result (map (λ o. o.0) c.append.new.retired)
+    (c.reserve.ensures.book ∙ c.self.view_is)
     (ap Caller.pid c.share.view_is)
     (c.share.invariant.0 ∙ ap Caller.k c.share.view_is)
-    c.in-Ok.ensures.copy c.in-Some.ensures.entry c.in-Some.ensures.number c.answer-reply.ensures.answer waits c.answer-reply.ensures.boot c.answer-reply.ensures.legal
+    (ap (λ r. r.0) c.into_parts.ensures) c.in-Some.ensures.entry c.in-Some.ensures.number (said_of c.append.new.self.book.entries c.in-Some.number c.call.result c.call.ensures.call) waits c.call.ensures.boot c.call.ensures.legal
 
 pub invariant_of-receipt : goal.invariant_of-receipt
 invariant_of-receipt g c = (made_here g c.before).slip
@@ -36,7 +36,7 @@ returns-clause-done g c = (made_here g c.before).done
 pub returns-clause-receipt : goal.returns-clause-receipt
 returns-clause-receipt g c = (made_here g c.before).receipt
 
-book_here : (g : Over) (c : goal.After-reply-1 g) → IsBook c.args.self.now g.W.Ledger.parts c.self.inside.ledger.total c.self.inside.rest.parts c.self.inside.rest.amount
+book_here : (g : Over) (c : goal.After-call g) → IsBook c.args.self.now g.W.Ledger.parts c.self.inside.ledger.total c.self.inside.rest.parts c.self.inside.rest.amount
 book_here g c = subst (λ (b : Held). IsBook b g.W.Ledger.parts c.self.inside.ledger.total c.self.inside.rest.parts c.self.inside.rest.amount) c.self.view_is c.self.invariant
 
 pub child_share-child-requires-clause-parts : goal.child_share-child-requires-clause-parts
@@ -45,7 +45,7 @@ child_share-child-requires-clause-parts g c =
 
 pub invariant_of-self-2 : goal.invariant_of-self-2
 invariant_of-self-2 g c =
-    let request = c.args.request.now in
+    let request = c.args.prepared in
     let no_end : is_off request ≡ false = (or_parts (is_exit request) (is_off request) c.requires.call).1 in
     book_after (book_here g c.before) (made_here g c.before).adds
     (c.add.ensures.total ∙ ap (λ (b : Bool). c.self.inside.ledger.total + cond {A = ℕ} b 0 1) (sym no_end))

@@ -2,4 +2,4 @@ use Rattle.std.proofs.Common.{rules}
 use Rattle.ux_record.proofs.record.Record.copy_received.Goals as goal
 
 pub returns-clause-from : goal.returns-clause-from
-returns-clause-from g c = search rules
+returns-clause-from c = search rules

@@ -2,7 +2,7 @@ use Rattle.std.proofs.Common.{rules}
 use Rattle.ux_record.proofs.record.Record.origin.Goals as goal
 
 pub returns-then-is_empty : goal.returns-then-is_empty
-returns-then-is_empty g c = search rules
+returns-then-is_empty c = search rules
 
 pub returns : goal.returns
-returns g c = search rules
+returns c = search rules

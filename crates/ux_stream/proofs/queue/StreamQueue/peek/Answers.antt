@@ -5,7 +5,7 @@ pub copy_rights-requires-clause-within : goal.copy_rights-requires-clause-within
 copy_rights-requires-clause-within g c = reach_within _ _ _ _ c.reach_of-reach.ensures
 
 pub returns-clause-bytes : goal.returns-clause-bytes
-returns-clause-bytes g c = rw (← c.self.view_is) (front_bytes _ _ _ _ _ _ c.reach_of-reach.ensures c.self.invariant c.in_ok-bytes.ensures)
+returns-clause-bytes g c = rw (← c.self.view_is) (front_bytes _ _ _ _ _ _ c.reach_of-reach.ensures c.self.invariant c.in_ok-bytes.ensures.bytes)
 
 pub returns-clause-rights : goal.returns-clause-rights
 returns-clause-rights g c = rw (← c.self.view_is) (front_rights _ _ _ _ _ _ c.reach_of-reach.ensures c.self.invariant c.in_ok-rights.ensures.rights)

@@ -13,7 +13,7 @@ invariant_of-self g c =
     rw (c.take_bytes-rights.ensures.left, c.drop_front.ensures) (queue_off c.reach_of-reach.result.count c.self.inside.marks.items c.self.inside.ring.items c.self.invariant)
 
 pub returns-clause-bytes : goal.returns-clause-bytes
-returns-clause-bytes g c = rw (← c.self.view_is) (front_bytes _ _ _ _ _ _ c.reach_of-reach.ensures c.self.invariant c.in_ok-bytes.ensures)
+returns-clause-bytes g c = rw (← c.self.view_is) (front_bytes _ _ _ _ _ _ c.reach_of-reach.ensures c.self.invariant c.in_ok-bytes.ensures.bytes)
 
 pub returns-clause-rights : goal.returns-clause-rights
 returns-clause-rights g c = rw (← c.self.view_is) (front_rights _ _ _ _ _ _ c.reach_of-reach.ensures c.self.invariant c.take_bytes-rights.ensures.rights)
