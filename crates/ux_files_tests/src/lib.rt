@@ -5,6 +5,8 @@
 #[cfg(test)]
 mod broken_object;
 #[cfg(test)]
+mod bytes;
+#[cfg(test)]
 mod marks;
 #[cfg(test)]
 mod objects;
