@@ -8,7 +8,7 @@ ghost use Rattle.ux_kernel.specs.Faults.{fault_of};
 use crate::kernel::Kernel;
 use std::alloc::Global;
 use thiserror::Error;
-use ux_names::is_valid_path;
+use ux_names::{Seed, is_valid_path};
 use ux_object::FileObject;
 use ux_state::State;
 use ux_types::{Name, OBJECT_LIMIT, PROCESS_LIMIT, ProcSpec};
@@ -44,9 +44,30 @@ impl<O: FileObject> Kernel<O> {
     ///
     /// The first of `TooManyObjects`, `TooManyProcesses`, `BadPath`, `NameTwice`, `ObjectClosed` and
     /// `NoMemory`, with all file objects, which are as before.
-    #[tactic(auto, using(crate::proofs::Boots::open_of, crate::proofs::Boots::boots))]
     pub fn boot(
         alloc: Global,
+        objects: Vec<(Name, O)>,
+        procs: &[ProcSpec],
+    ) -> Result<Kernel<O>, (BootFault, Vec<(Name, O)>)>
+        ensures state { IfOk result (λ k. k ≡ boot_state (map (λ o. (o.0, O.view o.1)) objects.items) procs.now) }
+        ensures boots { IfOk result (λ k. IsBootState k) }
+        ensures fault { MatchOption (fault_of (map (λ o. (o.0, O.view o.1)) objects.items) procs.now)
+            (IfErr result (λ f. f.0 ≡ BootFault.NoMemory))
+            (λ due. IsErrAnd result (λ f. f.0 ≡ due)) }
+        ensures back { IfErr result (λ f. f.1 ≡ objects) }
+    {
+        Kernel::boot_with_seed(alloc, Seed::fixed(), objects, procs)
+    }
+
+    /// As `boot`, with names that are hashed by this seed.
+    ///
+    /// # Errors
+    ///
+    /// Those of `boot`.
+    #[tactic(auto, using(crate::proofs::Boots::open_of, crate::proofs::Boots::boots))]
+    pub fn boot_with_seed(
+        alloc: Global,
+        seed: Seed,
         objects: Vec<(Name, O)>,
         procs: &[ProcSpec],
     ) -> Result<Kernel<O>, (BootFault, Vec<(Name, O)>)>
@@ -60,7 +81,7 @@ impl<O: FileObject> Kernel<O> {
         if let Some(fault) = find_fault(&objects, procs) {
             return Err((fault, objects));
         }
-        match State::new(alloc, objects, procs) {
+        match State::new(alloc, seed, objects, procs) {
             Ok(state) => Ok(Kernel { alloc, state }),
             Err(objects) => Err((BootFault::NoMemory, objects)),
         }

@@ -23,3 +23,4 @@ mod writing;
 
 pub use boot::BootFault;
 pub use kernel::Kernel;
+pub use ux_names::Seed;

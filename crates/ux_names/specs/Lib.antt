@@ -3,3 +3,4 @@ pub mod Listed
 pub mod Targets
 pub mod Marked
 pub mod Order
+pub mod Seeds

@@ -7,6 +7,7 @@ ghost use Rattle.ux_names.specs.Marked.{PutsName};
 use crate::digits::{name_of, number_of};
 use crate::listing::Listing;
 use crate::refusals::{AutobindError, BindError};
+use crate::seed::Seed;
 use std::alloc::{AllocError, Global};
 use std::marker::Model;
 use ux_marks::GroupedMarks;
@@ -53,8 +54,19 @@ impl AbstractNames {
     pub fn new(alloc: Global) -> Result<AbstractNames, AllocError>
         ensures { IfOk result (λ names. names ≡ []) }
     {
+        AbstractNames::with_seed(alloc, Seed::fixed())
+    }
+
+    /// No names yet, which are hashed by this seed.
+    ///
+    /// # Errors
+    ///
+    /// There was no memory.
+    pub fn with_seed(alloc: Global, seed: Seed) -> Result<AbstractNames, AllocError>
+        ensures { IfOk result (λ names. names ≡ []) }
+    {
         Ok(AbstractNames {
-            listing: Listing::new(alloc),
+            listing: Listing::new(alloc, seed),
             numbers: GroupedMarks::new(alloc, GROUPS)?,
         })
     }

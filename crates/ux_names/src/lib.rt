@@ -10,11 +10,13 @@ mod digits;
 mod listing;
 mod paths;
 mod refusals;
+mod seed;
 
 pub use abstract_names::AbstractNames;
 pub use addresses::{is_unnamed, is_valid_addr, is_valid_path};
 pub use paths::{PathTarget, Paths};
 pub use refusals::{AutobindError, BindError};
+pub use seed::Seed;
 // A crate can name `Paths` and `AbstractNames` in a contract only if the types of their fields are exported.
 #[doc(hidden)]
 pub use listing::{Binding, Listing};

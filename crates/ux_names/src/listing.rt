@@ -4,6 +4,7 @@ ghost use Rattle.std.specs.List.Sorted.{IsPermutation, IsNonDecreasingBy};
 ghost use Rattle.std.specs.Map.Iter.{deref_pair};
 ghost use Rattle.ux_model.specs.Names.{named, without_name};
 
+use crate::seed::Seed;
 use indexmap::IndexMap;
 use std::alloc::{AllocError, Global};
 use std::marker::Model;
@@ -21,7 +22,7 @@ pub struct Binding<X> {
 /// how many more names there is room for.
 pub struct Listing<X> {
     /// In any order, so that a name goes without moving the others.
-    bound: IndexMap<Name, Binding<X>>,
+    bound: IndexMap<Name, Binding<X>, Seed>,
     /// The number of the next binding.
     next: u64,
 }
@@ -51,12 +52,12 @@ impl<X> Model for Listing<X> {
 }
 
 impl<X: Drop> Listing<X> {
-    /// No names yet. It takes no memory.
-    pub(crate) fn new(alloc: Global) -> Listing<X>
+    /// No names yet, which are hashed by this seed. It takes no memory.
+    pub(crate) fn new(alloc: Global, seed: Seed) -> Listing<X>
         ensures { result.names ≡ [] }
     {
         Listing {
-            bound: IndexMap::new(alloc),
+            bound: IndexMap::with_hasher(alloc, seed),
             next: 0,
         }
     }
@@ -151,7 +152,7 @@ impl<X: Drop> Listing<X> {
 /// The entries of a map, in order of the numbers of their bindings.
 fn sorted_entries<X: Drop>(
     alloc: Global,
-    bound: &IndexMap<Name, Binding<X>>,
+    bound: &IndexMap<Name, Binding<X>, Seed>,
 ) -> Result<Vec<(&Name, &Binding<X>)>, AllocError>
     ensures all { IfOk result (λ entries. IsPermutation bound.now.entries (map deref_pair entries.items)) }
     ensures sorted { IfOk result (λ entries. IsNonDecreasingBy (λ e. e.1.now.number) entries.items) }

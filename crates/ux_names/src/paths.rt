@@ -5,6 +5,7 @@ ghost use Rattle.ux_names.specs.Targets.{target_of};
 
 use crate::listing::Listing;
 use crate::refusals::BindError;
+use crate::seed::Seed;
 use std::alloc::{AllocError, Global};
 use std::marker::Model;
 use ux_types::{DescriptionId, Name};
@@ -77,8 +78,15 @@ impl Paths {
     pub fn new(alloc: Global) -> Paths
         ensures { result.names ≡ [] }
     {
+        Paths::with_seed(alloc, Seed::fixed())
+    }
+
+    /// No paths yet, which are hashed by this seed. It takes no memory.
+    pub fn with_seed(alloc: Global, seed: Seed) -> Paths
+        ensures { result.names ≡ [] }
+    {
         Paths {
-            listing: Listing::new(alloc),
+            listing: Listing::new(alloc, seed),
         }
     }
 

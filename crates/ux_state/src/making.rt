@@ -12,7 +12,7 @@ use crate::process::Process;
 use crate::slot::Slot;
 use crate::state::State;
 use std::alloc::{AllocError, Global};
-use ux_names::{AbstractNames, BindError, PathTarget, Paths};
+use ux_names::{AbstractNames, BindError, PathTarget, Paths, Seed};
 use ux_object::FileObject;
 use ux_slots::Slots;
 use ux_types::{Name, ProcSpec};
@@ -26,9 +26,11 @@ struct Files<O: FileObject> {
 
 impl<O: FileObject> State<O> {
     /// A state with these open file objects, each under its path, and these processes, numbered from 1
-    /// on, in which nothing was made yet. The objects come back where memory is wanting.
+    /// on, in which nothing was made yet; its names are hashed by this seed. The objects come back where memory
+    /// is wanting.
     pub fn new(
         alloc: Global,
+        seed: Seed,
         objects: Vec<(Name, O)>,
         procs: &[ProcSpec],
     ) -> Result<State<O>, Vec<(Name, O)>>
@@ -40,7 +42,7 @@ impl<O: FileObject> State<O> {
         ensures back { IfErr result (λ back. back ≡ objects) }
     {
         let count = objects.len();
-        let Ok(room) = room_for(alloc, count) else {
+        let Ok(room) = room_for(alloc, seed, count) else {
             return Err(objects);
         };
         let Ok(openings) = none_for(alloc, count) else {
@@ -52,7 +54,7 @@ impl<O: FileObject> State<O> {
         let Ok(processes) = new_processes(alloc, procs) else {
             return Err(objects);
         };
-        let Ok(abstract_names) = AbstractNames::new(alloc) else {
+        let Ok(abstract_names) = AbstractNames::with_seed(alloc, seed) else {
             return Err(objects);
         };
         let files = filled(room, objects);
@@ -70,13 +72,17 @@ impl<O: FileObject> State<O> {
 }
 
 /// Room for so many file objects.
-fn room_for<O: FileObject>(alloc: Global, count: usize) -> Result<Files<O>, AllocError>
+fn room_for<O: FileObject>(
+    alloc: Global,
+    seed: Seed,
+    count: usize,
+) -> Result<Files<O>, AllocError>
     ensures objects { IfOk result (λ f. f.objects.items ≡ []) }
     ensures objects_room { IfOk result (λ f. count ≤ vec_capacity f.objects) }
     ensures paths { IfOk result (λ f. f.paths.names ≡ []) }
     ensures paths_room { IfOk result (λ f. count ≤ f.paths.room) }
 {
-    let mut paths = Paths::new(alloc);
+    let mut paths = Paths::with_seed(alloc, seed);
     paths.reserve(count)?;
     Ok(Files {
         objects: Vec::with_capacity(alloc, count)?,

@@ -74,7 +74,7 @@ fn start_with<O: FileObject>(
     let mut objects = Vec::with_capacity(alloc, 2)?;
     objects.push_reserved((first, a));
     objects.push_reserved((second, b));
-    match State::new(alloc, objects, procs) {
+    match State::new(alloc, Seed::fixed(), objects, procs) {
         Ok(state) => Ok(Held { state }),
         Err(_) => Err(AllocError)?,
     }

@@ -2,4 +2,4 @@ use Rattle.ux_names.proofs.Ordering.{none_given}
 use Rattle.ux_names.proofs.listing.Listing.new.Goals as goal
 
 pub returns : goal.returns
-returns g c = none_given c.new.result.entries
+returns g c = none_given c.with_hasher.result.entries
