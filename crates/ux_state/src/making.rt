@@ -72,11 +72,7 @@ impl<O: FileObject> State<O> {
 }
 
 /// Room for so many file objects.
-fn room_for<O: FileObject>(
-    alloc: Global,
-    seed: Seed,
-    count: usize,
-) -> Result<Files<O>, AllocError>
+fn room_for<O: FileObject>(alloc: Global, seed: Seed, count: usize) -> Result<Files<O>, AllocError>
     ensures objects { IfOk result (λ f. f.objects.items ≡ []) }
     ensures objects_room { IfOk result (λ f. count ≤ vec_capacity f.objects) }
     ensures paths { IfOk result (λ f. f.paths.names ≡ []) }

@@ -11,6 +11,7 @@ use std::alloc::{AllocError, Global};
 use std::process::Abort;
 use std::test::Fail;
 use ux_fdtable::InstallError;
+use ux_names::Seed;
 use ux_object::FileObject;
 use ux_objects::MemFile;
 use ux_rights::RefList;
