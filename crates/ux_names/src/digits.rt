@@ -3,7 +3,6 @@ ghost use Rattle.std.specs.Prelude.{◌≡◌, ◌≢◌, ℕ, ◌<◌, IfOk, Ma
 ghost use Rattle.ux_model.specs.Limits.{autobind_names};
 ghost use Rattle.ux_model.specs.Names.{hex_digit, autobind_name};
 
-use bstr::BString;
 use std::alloc::{AllocError, Global};
 use ux_types::Name;
 
@@ -19,7 +18,7 @@ pub(crate) fn name_of(alloc: Global, number: usize) -> Result<Name, AllocError>
         digit_of(number / 16 % 16),
         digit_of(number % 16),
     ];
-    Ok(Name::new(BString::new(digits.to_vec(alloc)?)))
+    Name::from_slice(alloc, &digits)
 }
 
 /// The number whose name this is, if it is one that autobind gives.

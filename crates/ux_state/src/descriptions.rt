@@ -15,7 +15,7 @@ use ux_desc::Description;
 use ux_object::FileObject;
 use ux_rights::{RefList, SendError};
 use ux_slots::Slots;
-use ux_types::{Addr, Cred, DescriptionId, Mode, OpenFlags};
+use ux_types::{Addr, Bytes, Cred, DescriptionId, Mode, OpenFlags};
 
 impl<O: FileObject> State<O> {
     /// Queues a message at a socket, of a stream the bytes that there is room for, and says how many bytes
@@ -28,7 +28,7 @@ impl<O: FileObject> State<O> {
     pub fn send(
         &mut self,
         id: DescriptionId,
-        bytes: &[u8],
+        bytes: &Bytes,
         tag: u64,
         rights: RefList,
         cred: Cred,
@@ -153,7 +153,7 @@ impl<O: FileObject> State<O> {
 fn push_message(
     slots: &mut Slots<Description>,
     id: DescriptionId,
-    bytes: &[u8],
+    bytes: &Bytes,
     tag: u64,
     rights: RefList,
     cred: Cred,
