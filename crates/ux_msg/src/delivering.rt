@@ -11,7 +11,7 @@ use ux_object::FileObject;
 use ux_record::Received;
 use ux_rights::plan_rights;
 use ux_state::State;
-use ux_types::{Cred, Fd, Pid};
+use ux_types::{Bytes, Cred, Fd, Pid};
 
 /// The bytes of an item of credentials in a control buffer (CMSG_LEN of cmsg(3)).
 const CRED_LEN: usize = 28;
@@ -23,7 +23,7 @@ const CRED_SPACE: usize = 32;
 #[derive(Drop)]
 pub(crate) struct Delivered {
     /// The bytes of its control buffer.
-    pub(crate) control: Vec<u8>,
+    pub(crate) control: Bytes,
     /// Whether something was left out that came with the bytes (MSG_CTRUNC).
     pub(crate) truncated: bool,
     /// Whether at least one right was installed.
@@ -57,7 +57,7 @@ pub(crate) fn deliver<O: FileObject>(
 ) -> Result<Delivered, AllocError>
     requires live { IsTrue (is_live state.old pid.0) }
     requires held { AreReferenced state.old received.now.rights }
-    ensures control { IfOk result (λ r. r.control.items ≡ (delivery wanted.cred received.now.cred received.now.rights wanted.space (table_of state.old pid.0)).control) }
+    ensures control { IfOk result (λ r. r.control ≡ (delivery wanted.cred received.now.cred received.now.rights wanted.space (table_of state.old pid.0)).control) }
     ensures truncated { IfOk result (λ r. r.truncated ≡ (delivery wanted.cred received.now.cred received.now.rights wanted.space (table_of state.old pid.0)).truncated) }
     ensures installs { IfOk result (λ r. r.installs ≡ not (length (delivery wanted.cred received.now.cred received.now.rights wanted.space (table_of state.old pid.0)).numbers == 0)) }
     ensures installed { OnOk result (state.new ≡ with_table state.old pid.0 (installed wanted.cloexec
@@ -70,7 +70,7 @@ pub(crate) fn deliver<O: FileObject>(
     let truncated = numbers.len() < rights.len() || (wanted.cred && told.is_none());
     let installs = !numbers.is_empty();
     let control = Control::new(told, numbers);
-    let bytes = write_control(alloc, &control)?;
+    let bytes = Bytes::new(write_control(alloc, &control)?)?;
     state.install_rights(pid, control.rights(), rights, wanted.cloexec)?;
     Ok(Delivered {
         control: bytes,

@@ -6,14 +6,14 @@ ghost use Rattle.ux_model.specs.Sending.{is_over_limit};
 use ux_object::FileObject;
 use ux_rights::RefList;
 use ux_state::State;
-use ux_types::Cred;
+use ux_types::{Bytes, Cred};
 
 /// What a process sends, but for the rights.
 #[derive(Clone, Copy)]
 pub(crate) struct Draft<'a> {
     /// The number of the call.
     pub(crate) tag: u64,
-    pub(crate) bytes: &'a [u8],
+    pub(crate) bytes: &'a Bytes,
     /// The credentials that it tells (SCM_CREDENTIALS).
     pub(crate) cred: Cred,
     /// The user of the sending process, whatever the credentials say.

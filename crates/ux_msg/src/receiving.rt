@@ -103,7 +103,7 @@ fn recv_at<O: FileObject>(
     }
     if socket.is_empty() {
         return if socket.is_read_shut() {
-            Ok(nothing_received(alloc))
+            Ok(nothing_received())
         } else {
             Err(Refusal::Answer(Errno::EAGAIN))
         };
@@ -133,10 +133,10 @@ fn recv_from_peer<O: FileObject>(
         return Err(Refusal::Answer(Errno::ENOTCONN));
     };
     if socket.is_stream() && n == 0 {
-        return Ok(nothing_received(alloc));
+        return Ok(nothing_received());
     }
     if socket.is_empty() {
-        return recv_nothing(state, alloc, id, peer);
+        return recv_nothing(state, id, peer);
     }
     recv_front(state, alloc, pid, id, n, space, flags)
 }
@@ -168,7 +168,7 @@ fn recv_front<O: FileObject>(
         cloexec: flags.contains(MsgFlags::CMSG_CLOEXEC),
     };
     let kind = socket.kind();
-    let front = socket.peek(n)?;
+    let front = socket.peek(alloc, n)?;
     let delivery = deliver(state, alloc, pid, &front, wanted)?;
     if !flags.contains(MsgFlags::PEEK) {
         state.skip_front(id, n);
@@ -194,7 +194,6 @@ fn tag_delivered(origin: Option<Origin>, installs: bool) -> Option<u64>
 /// What a receive answers where nothing waits, at a socket with this peer.
 fn recv_nothing<O: FileObject>(
     state: &mut State<O>,
-    alloc: Global,
     id: DescriptionId,
     peer: DescriptionId,
 ) -> Result<Done, Refusal>
@@ -212,15 +211,15 @@ fn recv_nothing<O: FileObject>(
         Some(other) if !socket.is_read_shut() && !other.is_write_shut() => {
             Err(Refusal::Answer(Errno::EAGAIN))
         }
-        _ => Ok(nothing_received(alloc)),
+        _ => Ok(nothing_received()),
     }
 }
 
 /// The reply that tells what was received at a socket of this type by a call with these flags, and what was
 /// delivered with it.
 fn received(kind: SockType, flags: MsgFlags, front: Received, delivery: Delivered) -> Reply
-    ensures { result ≡ Reply.Received (if asks_real_length flags then front.whole else length front.bytes.items) front.bytes.items
-        (received_flags (nat_lt (length front.bytes.items) front.whole) delivery.truncated (marks_records kind)) delivery.control.items front.from }
+    ensures { result ≡ Reply.Received (if asks_real_length flags then front.whole else length front.bytes) front.bytes
+        (received_flags (nat_lt (length front.bytes) front.whole) delivery.truncated (marks_records kind)) delivery.control front.from }
 {
     let taken = front.bytes.len();
     let count = if flags.contains(MsgFlags::TRUNC) {
@@ -231,8 +230,8 @@ fn received(kind: SockType, flags: MsgFlags, front: Received, delivery: Delivere
     Reply::Received {
         count,
         flags: flags_told(taken < front.whole, delivery.truncated, marks_records(kind)),
-        bytes: Bytes::new(front.bytes),
-        control: Bytes::new(delivery.control),
+        bytes: front.bytes,
+        control: delivery.control,
         from: front.from,
     }
 }
@@ -261,16 +260,16 @@ fn marks_records(kind: SockType) -> bool
     matches!(kind, SockType::Seq)
 }
 
-/// The answer that tells of nothing. It takes no memory.
-fn nothing_received(alloc: Global) -> Done
+/// The answer that tells of nothing.
+fn nothing_received() -> Done
     ensures reply { result.reply ≡ model.nothing_received }
     ensures none { result.delivered ≡ None }
 {
     let reply = Reply::Received {
         count: 0,
-        bytes: Bytes::new(Vec::new(alloc)),
+        bytes: Bytes::empty(),
         flags: MsgFlags(0),
-        control: Bytes::new(Vec::new(alloc)),
+        control: Bytes::empty(),
         from: None,
     };
     Done {

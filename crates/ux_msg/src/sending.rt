@@ -25,8 +25,8 @@ use ux_object::FileObject;
 use ux_rights::RefList;
 use ux_state::State;
 use ux_types::{
-    Addr, Cred, DescriptionId, Errno, Fd, MsgFlags, Pid, RECORD_BYTES_LIMIT, RIGHTS_LIMIT, Refusal,
-    Reply,
+    Addr, Bytes, Cred, DescriptionId, Errno, Fd, MsgFlags, Pid, RECORD_BYTES_LIMIT, RIGHTS_LIMIT,
+    Refusal, Reply,
 };
 
 /// What a sendmsg(2) is given beside its descriptor.
@@ -34,7 +34,7 @@ use ux_types::{
 pub struct Outgoing<'a> {
     /// Where it is to go, if not to the socket's peer.
     pub addr: Option<&'a Addr>,
-    pub bytes: &'a [u8],
+    pub bytes: &'a Bytes,
     /// The bytes of a control buffer (cmsg(3)).
     pub control: &'a [u8],
     pub flags: MsgFlags,
@@ -137,7 +137,7 @@ pub fn write_socket<O: FileObject>(
     pid: Pid,
     id: DescriptionId,
     tag: u64,
-    bytes: &[u8],
+    bytes: &Bytes,
 ) -> Result<Reply, Refusal>
     requires { IsTrue (is_live state.old pid.0) }
     ensures { Gives state.old (write_socket_at state.old pid.0 tag id bytes.now) result state.new }
@@ -300,7 +300,7 @@ fn flight_limit<O: FileObject>(state: &State<O>, pid: Pid) -> Option<u32>
 
 /// Whether a control buffer may go with these bytes: with few rights or none, which on a stream have a byte to
 /// go with.
-fn is_sendable_control(socket: &Socket, bytes: &[u8], control: &Control) -> bool
+fn is_sendable_control(socket: &Socket, bytes: &Bytes, control: &Control) -> bool
     ensures { result ≡ model.is_sendable_control socket.now.kind bytes.now control.now }
 {
     let rights = control.rights();
