@@ -187,14 +187,12 @@ fn few_bytes_and_copies_take_no_memory(rt: HostRuntime) -> Result<(), Fail> {
     purse.refill(alloc);
     let mut right = true;
     for (text, bytes) in &all {
-        let made = are_made(alloc, text);
-        right = right && are_copied(bytes) == Ok(true);
-        right = right
-            && if text.len() <= 14 {
-                made == Ok(true)
-            } else {
-                made.is_err()
-            };
+        let expected = if text.len() <= 14 {
+            Ok(true)
+        } else {
+            Err(AllocError)
+        };
+        right = right && are_made(alloc, text) == expected && are_copied(bytes) == Ok(true);
     }
     drop(purse);
     assert!(rt; right);
