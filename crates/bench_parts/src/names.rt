@@ -9,9 +9,6 @@ use ux_types::{DescriptionId, Name};
 /// How often a batch is measured.
 const ROUNDS: u32 = 100;
 
-/// How often a batch is measured in which the oldest names go.
-const SLOW_ROUNDS: u32 = 5;
-
 /// The calls of a batch.
 const CALLS: u32 = 16;
 
@@ -25,13 +22,15 @@ enum Step {
     ReleaseOldest,
 }
 
-/// Names in use.
+/// Names in use: those that autobind gives to the first numbers.
 #[derive(Drop)]
 struct Crowd {
     alloc: Global,
     names: AbstractNames,
     /// How many stay in use.
     count: usize,
+    /// The number of the oldest name; the others follow in order, and after the last number the first.
+    oldest: usize,
     /// The names of the next batch.
     chosen: Vec<Name>,
     step: Step,
@@ -52,24 +51,19 @@ fn other_names(alloc: Global) -> Result<Vec<Name>, AllocError> {
     Ok(names)
 }
 
+/// The name that autobind gives to a number.
+fn name_of(alloc: Global, number: usize) -> Result<Name, AllocError> {
+    let text = format!(in alloc; "{number:05x}")?;
+    Name::from_slice(alloc, text.as_bytes())
+}
+
 /// The place in the order of binding of a batch's name.
 fn place_of(step: Step, call: usize, len: usize) -> usize {
     match step {
         Step::ReleaseOldest => call,
-        Step::ReleaseNewest => len.saturating_sub(call).saturating_sub(1),
+        Step::ReleaseNewest => len.saturating_sub(CALLS as usize).saturating_add(call),
         _ => call.saturating_mul(len) / CALLS as usize,
     }
-}
-
-/// Copies of the names of a batch.
-fn choose(alloc: Global, names: &AbstractNames, step: Step) -> Result<Vec<Name>, AllocError> {
-    let mut chosen = Vec::new(alloc);
-    for call in 0..CALLS as usize {
-        if let Some((name, _)) = names.get_index(place_of(step, call, names.len())) {
-            chosen.push(name.clone()?)?;
-        }
-    }
-    Ok(chosen)
 }
 
 /// Gives names until so many are in use, and answers how many were given.
@@ -94,6 +88,14 @@ fn bind_all(names: &mut AbstractNames, chosen: &mut Vec<Name>) -> u32 {
     granted
 }
 
+/// Binds copies of these names.
+fn bind_copies(names: &mut AbstractNames, chosen: &[Name]) -> Result<(), AllocError> {
+    for name in chosen {
+        let _ = names.bind(name.clone()?, description());
+    }
+    Ok(())
+}
+
 /// Finds these names.
 fn find_all(names: &AbstractNames, chosen: &[Name]) -> u32 {
     let mut granted: u32 = 0;
@@ -114,13 +116,6 @@ fn release_all(names: &mut AbstractNames, chosen: &[Name]) -> u32 {
     granted
 }
 
-/// Takes away as many of the newest names as a batch has calls.
-fn release_newest(alloc: Global, names: &mut AbstractNames) -> Result<(), AllocError> {
-    let newest = choose(alloc, names, Step::ReleaseNewest)?;
-    let _ = release_all(names, newest.as_slice());
-    Ok(())
-}
-
 impl Crowd {
     /// With so many names in use.
     fn new(alloc: Global, count: usize) -> Result<Crowd> {
@@ -133,6 +128,7 @@ impl Crowd {
             alloc,
             names,
             count,
+            oldest: 0,
             chosen: Vec::new(alloc),
             step: Step::Bind,
         })
@@ -143,10 +139,34 @@ impl Crowd {
         self.count.saturating_add(CALLS as usize)
     }
 
+    /// The names of a batch.
+    fn choose(&self) -> Result<Vec<Name>, AllocError> {
+        let full = self.full();
+        let mut chosen = Vec::new(self.alloc);
+        for call in 0..CALLS as usize {
+            let place = self.oldest.saturating_add(place_of(self.step, call, full));
+            chosen.push(name_of(self.alloc, place % full.max(1))?)?;
+        }
+        Ok(chosen)
+    }
+
     /// Has no more names in use than those that stay.
     fn thin(&mut self) -> Result<(), AllocError> {
-        if self.names.len() > self.count {
-            release_newest(self.alloc, &mut self.names)?;
+        let others = other_names(self.alloc)?;
+        let _ = release_all(&mut self.names, others.as_slice());
+        for number in self.count..self.full() {
+            let name = name_of(self.alloc, number)?;
+            let _ = self.names.release(&name);
+        }
+        Ok(())
+    }
+
+    /// Has the names of the last batch in use again, and chooses those of the next.
+    fn refill(&mut self) -> Result<(), AllocError> {
+        bind_copies(&mut self.names, self.chosen.as_slice())?;
+        self.chosen = self.choose()?;
+        if let Step::ReleaseOldest = self.step {
+            self.oldest = self.oldest.saturating_add(CALLS as usize) % self.full().max(1);
         }
         Ok(())
     }
@@ -164,11 +184,8 @@ impl Batch for Crowd {
                 self.chosen = other_names(self.alloc)?;
             }
             Step::Autobind => self.thin()?,
-            _ => {
-                let full = self.full();
-                let _ = autobind_to(&mut self.names, full);
-                self.chosen = choose(self.alloc, &self.names, self.step)?;
-            }
+            Step::Find => self.chosen = self.choose()?,
+            _ => self.refill()?,
         }
         Ok(())
     }
@@ -186,17 +203,17 @@ impl Batch for Crowd {
     }
 }
 
-/// The time of a step, in the quickest of so many rounds.
-fn measure_step<R: Clock>(rt: &R, rounds: u32, crowd: &mut Crowd, step: Step) -> Result<u128> {
+/// The time of a step, in its quickest round.
+fn measure_step<R: Clock>(rt: &R, crowd: &mut Crowd, step: Step) -> Result<u128> {
     crowd.step = step;
-    nanos(rt, rounds, crowd)
+    nanos(rt, ROUNDS, crowd)
 }
 
 /// Prints the times of names that come.
 fn measure_coming<R: Clock + Eprint>(rt: &R, crowd: &mut Crowd) -> Result<()> {
-    let bind = measure_step(rt, ROUNDS, crowd, Step::Bind)?;
-    let autobind = measure_step(rt, ROUNDS, crowd, Step::Autobind)?;
-    let find = measure_step(rt, ROUNDS, crowd, Step::Find)?;
+    let bind = measure_step(rt, crowd, Step::Bind)?;
+    let autobind = measure_step(rt, crowd, Step::Autobind)?;
+    let find = measure_step(rt, crowd, Step::Find)?;
     let count = crowd.count;
     eprintln!(rt; "names, {count} in use: bind {bind} ns, autobind {autobind} ns, find {find} ns")?;
     Ok(())
@@ -204,8 +221,8 @@ fn measure_coming<R: Clock + Eprint>(rt: &R, crowd: &mut Crowd) -> Result<()> {
 
 /// Prints the times of names that go.
 fn measure_going<R: Clock + Eprint>(rt: &R, crowd: &mut Crowd) -> Result<()> {
-    let newest = measure_step(rt, ROUNDS, crowd, Step::ReleaseNewest)?;
-    let oldest = measure_step(rt, SLOW_ROUNDS, crowd, Step::ReleaseOldest)?;
+    let newest = measure_step(rt, crowd, Step::ReleaseNewest)?;
+    let oldest = measure_step(rt, crowd, Step::ReleaseOldest)?;
     let count = crowd.count;
     eprintln!(rt;
         "names, {count} in use: release of the newest {newest} ns, of the oldest {oldest} ns"

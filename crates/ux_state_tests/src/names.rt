@@ -1,6 +1,7 @@
 //! Names at their limits. Each step is a function of its own, so that a test's proof stays short.
 use hoard::Hoard;
-use std::alloc::Global;
+use std::alloc::{AllocError, Global};
+use std::ops::Range;
 use std::process::Abort;
 use std::test::Fail;
 use ux_names::{AbstractNames, AutobindError, BindError, PathTarget, Paths};
@@ -54,22 +55,24 @@ fn unlink(
     expect_path(rt, alloc, paths, path, None)
 }
 
-/// Sees which path has a place.
-fn expect_path_at(rt: &impl Abort, paths: &Paths, index: usize, path: &[u8]) {
-    match paths.get_index(index) {
+/// Sees which path an entry of the list has.
+fn expect_path_at(rt: &impl Abort, listed: &[(&Name, PathTarget)], index: usize, path: &[u8]) {
+    match listed.get(index) {
         Some((name, _)) => assert_eq!(rt; name.as_bytes(), path, "{index}"),
         None => assert!(rt; false, "{index}"),
     }
 }
 
 /// Sees which paths there are, in order.
-fn expect_order(rt: &impl Abort, paths: &Paths, order: &[&[u8]]) {
+fn expect_order(rt: &impl Abort, paths: &Paths, order: &[&[u8]]) -> Result<(), Fail> {
+    let listed = paths.in_order()?;
+    assert_eq!(rt; listed.len(), order.len());
     assert_eq!(rt; paths.len(), order.len());
     assert!(rt; paths.is_empty() == order.is_empty());
     for (index, path) in order.iter().enumerate() {
-        expect_path_at(rt, paths, index, path);
+        expect_path_at(rt, listed.as_slice(), index, path);
     }
-    assert!(rt; paths.get_index(order.len()).is_none());
+    Ok(())
 }
 
 /// Binds a name, and sees whether that was answered.
@@ -116,14 +119,22 @@ fn release(
 }
 
 /// Sees which name has a place, and what it leads to.
-fn expect_place(rt: &impl Abort, names: &AbstractNames, index: usize, bytes: &[u8], number: u128) {
-    match names.get_index(index) {
+fn expect_place(
+    rt: &impl Abort,
+    names: &AbstractNames,
+    index: usize,
+    bytes: &[u8],
+    number: u128,
+) -> Result<(), Fail> {
+    let listed = names.in_order()?;
+    match listed.get(index) {
         Some((name, id)) => {
             assert_eq!(rt; name.as_bytes(), bytes);
             assert_eq!(rt; id.number(), number);
         }
         None => assert!(rt; false, "{number}"),
     }
+    Ok(())
 }
 
 /// Binds so many of the names that are given, and answers how many were.
@@ -145,11 +156,11 @@ fn expect_none_free(rt: &impl Abort, names: &mut AbstractNames) {
 /// Three paths, bound in this order.
 fn three_paths(rt: &impl Abort, alloc: Global) -> Result<Paths, Fail> {
     let mut paths = Paths::new(alloc);
-    expect_order(rt, &paths, &[]);
+    expect_order(rt, &paths, &[])?;
     bind_path(rt, alloc, &mut paths, b"/b", PathTarget::File(7))?;
     bind_path(rt, alloc, &mut paths, b"/a", socket(1))?;
     bind_path(rt, alloc, &mut paths, b"/c", socket(u128::MAX))?;
-    expect_order(rt, &paths, &[b"/b", b"/a", b"/c"]);
+    expect_order(rt, &paths, &[b"/b", b"/a", b"/c"])?;
     Ok(paths)
 }
 
@@ -162,7 +173,7 @@ fn a_path_is_bound_once(rt: HostRuntime) -> Result<(), Fail> {
     expect_path(&rt, alloc, &paths, b"/a", Some(socket(1)))?;
     expect_path(&rt, alloc, &paths, b"/d", None)?;
     paths.clear();
-    expect_order(&rt, &paths, &[]);
+    expect_order(&rt, &paths, &[])?;
     Ok(())
 }
 
@@ -172,9 +183,125 @@ fn paths_keep_their_order(rt: HostRuntime) -> Result<(), Fail> {
     let mut paths = three_paths(&rt, alloc)?;
     unlink(&rt, alloc, &mut paths, b"/d", None)?;
     unlink(&rt, alloc, &mut paths, b"/b", Some(PathTarget::File(7)))?;
-    expect_order(&rt, &paths, &[b"/a", b"/c"]);
+    expect_order(&rt, &paths, &[b"/a", b"/c"])?;
     bind_path(&rt, alloc, &mut paths, b"/b", socket(2))?;
-    expect_order(&rt, &paths, &[b"/a", b"/c", b"/b"]);
+    expect_order(&rt, &paths, &[b"/a", b"/c", b"/b"])?;
+    Ok(())
+}
+
+/// The path of a number.
+fn path_of(alloc: Global, number: u32) -> Result<Name, AllocError> {
+    let text = format!(in alloc; "/{number}")?;
+    Name::from_slice(alloc, text.as_bytes())
+}
+
+/// Binds the paths of these numbers, also in a plain list of the numbers.
+fn bind_many(
+    rt: &impl Abort,
+    alloc: Global,
+    paths: &mut Paths,
+    plain: &mut Vec<u32>,
+    numbers: Range<u32>,
+) -> Result<(), Fail> {
+    for number in numbers {
+        let bound = paths.bind(path_of(alloc, number)?, PathTarget::File(number));
+        assert!(rt; bound.is_ok(), "{number}");
+        plain.push(number)?;
+    }
+    Ok(())
+}
+
+/// Takes away the path at a place of the plain list.
+fn unlink_at(
+    rt: &impl Abort,
+    alloc: Global,
+    paths: &mut Paths,
+    plain: &mut Vec<u32>,
+    place: usize,
+) -> Result<(), Fail> {
+    if place < plain.len() {
+        let number = plain.remove(place);
+        let name = path_of(alloc, number)?;
+        assert_eq!(rt; paths.unlink(&name), Some(PathTarget::File(number)));
+    }
+    Ok(())
+}
+
+/// Sees that the paths are those of the plain list, in its order.
+fn expect_plain(rt: &impl Abort, alloc: Global, paths: &Paths, plain: &[u32]) -> Result<(), Fail> {
+    let listed = paths.in_order()?;
+    assert_eq!(rt; listed.len(), plain.len());
+    for (index, number) in plain.iter().enumerate() {
+        let name = path_of(alloc, *number)?;
+        expect_path_at(rt, listed.as_slice(), index, name.as_bytes());
+    }
+    Ok(())
+}
+
+/// Takes away the oldest path, the newest and one in the middle, and binds another.
+fn take_three(
+    rt: &impl Abort,
+    alloc: Global,
+    paths: &mut Paths,
+    plain: &mut Vec<u32>,
+    number: u32,
+) -> Result<(), Fail> {
+    unlink_at(rt, alloc, paths, plain, 0)?;
+    unlink_at(rt, alloc, paths, plain, plain.len().saturating_sub(1))?;
+    unlink_at(rt, alloc, paths, plain, plain.len() / 2)?;
+    bind_many(rt, alloc, paths, plain, number..number.saturating_add(1))?;
+    expect_plain(rt, alloc, paths, plain.as_slice())
+}
+
+#[test]
+fn many_paths_keep_their_order(rt: HostRuntime) -> Result<(), Fail> {
+    let alloc = rt.alloc();
+    let mut paths = Paths::new(alloc);
+    let mut plain = Vec::new(alloc);
+    bind_many(&rt, alloc, &mut paths, &mut plain, 0..100)?;
+    expect_plain(&rt, alloc, &paths, plain.as_slice())?;
+    for number in 100..149 {
+        take_three(&rt, alloc, &mut paths, &mut plain, number)?;
+    }
+    paths.clear();
+    plain.clear();
+    bind_many(&rt, alloc, &mut paths, &mut plain, 0..5)?;
+    expect_plain(&rt, alloc, &paths, plain.as_slice())
+}
+
+/// How many paths there are at most in a test.
+const MANY: u32 = 1_000_000;
+
+/// Binds so many paths, and answers how many were bound.
+fn bind_to(alloc: Global, paths: &mut Paths, count: u32) -> Result<u32, AllocError> {
+    let mut bound: u32 = 0;
+    for number in 0..count {
+        let path = path_of(alloc, number)?;
+        let listed = paths.bind(path, PathTarget::File(number)).is_ok();
+        bound = bound.saturating_add(u32::from(listed));
+    }
+    Ok(bound)
+}
+
+/// Takes these paths away, the oldest first, and answers how many named what they were to.
+fn unlink_from_oldest(alloc: Global, paths: &mut Paths, count: u32) -> Result<u32, AllocError> {
+    let mut unlinked: u32 = 0;
+    for number in 0..count {
+        let path = path_of(alloc, number)?;
+        let named = paths.unlink(&path) == Some(PathTarget::File(number));
+        unlinked = unlinked.saturating_add(u32::from(named));
+    }
+    Ok(unlinked)
+}
+
+#[test]
+fn a_million_paths_go_from_the_oldest_on(rt: HostRuntime) -> Result<(), Fail> {
+    let alloc = rt.alloc();
+    let mut paths = Paths::new(alloc);
+    assert_eq!(rt; bind_to(alloc, &mut paths, MANY)?, MANY);
+    assert_eq!(rt; paths.len() as u32, MANY);
+    assert_eq!(rt; unlink_from_oldest(alloc, &mut paths, MANY)?, MANY);
+    assert!(rt; paths.is_empty());
     Ok(())
 }
 
@@ -198,7 +325,7 @@ fn a_name_that_was_bound_by_hand_is_not_given(rt: HostRuntime) -> Result<(), Fai
     bind_others(&rt, alloc, &mut names)?;
     autobind(&rt, &mut names, 0, b"00000")?;
     autobind(&rt, &mut names, 2, b"00002")?;
-    expect_place(&rt, &names, 0, b"00001", 90);
+    expect_place(&rt, &names, 0, b"00001", 90)?;
     Ok(())
 }
 
