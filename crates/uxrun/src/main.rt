@@ -10,6 +10,7 @@ use clap::error::ErrorKind;
 use objects::{check_script, run_script};
 use std::alloc::Global;
 use std::process::ExitCode;
+use std::random::RandomSource;
 use std::rt::Files;
 use std::sync::Wait;
 use std::thread::Threads;
@@ -35,7 +36,7 @@ fn script_of<R: Files + Input + AllocGlobal>(rt: &R, name: &str) -> Result<Scrip
 
 /// Runs the script that was named, and prints its trace to standard output; where it is asked for, makes the
 /// calls once more, and tells how many entries there are, and who came to which descriptor through whom.
-fn run<R: Files + Input + Threads + Wait + Print + AllocGlobal + Sync>(
+fn run<R: Files + Input + Threads + Wait + Print + RandomSource + AllocGlobal + Sync>(
     rt: &R,
     args: &Args<'_>,
 ) -> Result<(), Fault> {

@@ -4,12 +4,14 @@ ghost use Rattle.std.specs.Prelude.{◌≡◌, map, IfOk};
 ghost use Rattle.ux_model.specs.Boot.{IsBootState, new_process};
 
 use std::alloc::{AllocError, Global};
+use std::hash::RandomState;
 use std::io;
 use std::io::BufWriter;
+use std::random::RandomSource;
 use std::sync::Wait;
 use std::thread::Threads;
 use ux_command::Fault;
-use ux_kernel::{BootFault, Kernel};
+use ux_kernel::{BootFault, Kernel, Seed};
 use ux_object::FileObject;
 use ux_objects::{FailAt, Plain};
 use ux_replay::{ReplayFault, replay};
@@ -32,7 +34,7 @@ enum Task {
 
 /// Runs the script over its file objects, and prints its trace to standard output. With `threads` each process
 /// is a thread.
-pub fn run_script<R: Threads + Wait + Print + AllocGlobal + Sync>(
+pub fn run_script<R: Threads + Wait + Print + RandomSource + AllocGlobal + Sync>(
     rt: &R,
     script: &Script,
     threads: bool,
@@ -42,7 +44,7 @@ pub fn run_script<R: Threads + Wait + Print + AllocGlobal + Sync>(
 
 /// Makes the calls of the script's history once more, over file objects that are as they were at first, and gives
 /// the history back.
-pub fn check_script<R: Threads + Wait + Print + AllocGlobal + Sync>(
+pub fn check_script<R: Threads + Wait + Print + RandomSource + AllocGlobal + Sync>(
     rt: &R,
     script: &Script,
     history: Vec<Entry>,
@@ -63,7 +65,7 @@ impl Task {
 
 /// Makes the script's file objects, and does this with them. More than a kernel may have are counted before any
 /// is made. The boxes are made and used here, since the gate lets no function hand out a `dyn` value that it made.
-fn perform<R: Threads + Wait + Print + AllocGlobal + Sync>(
+fn perform<R: Threads + Wait + Print + RandomSource + AllocGlobal + Sync>(
     rt: &R,
     script: &Script,
     task: Task,
@@ -83,34 +85,36 @@ fn perform<R: Threads + Wait + Print + AllocGlobal + Sync>(
     }
     match task {
         Task::Run { threads } => run_over(rt, script, threads, objects),
-        Task::Check { history } => check_over(alloc, script, history, objects),
+        Task::Check { history } => check_over(rt, script, history, objects),
     }
 }
 
-/// A kernel of the script's processes and these file objects.
-fn kernel_of<O: FileObject>(
-    alloc: Global,
+/// A kernel of the script's processes and these file objects. Its names are hashed by random keys, so that no script
+/// can choose names that collide.
+fn kernel_of<O: FileObject, R: RandomSource + AllocGlobal>(
+    rt: &R,
     script: &Script,
     objects: Vec<(Name, O)>,
 ) -> Result<Kernel<O>, Fault>
     ensures boots { IfOk result (λ kernel. IsBootState kernel) }
     ensures processes { IfOk result (λ kernel. kernel.processes ≡ map new_process script.now.procs.items) }
 {
-    match Kernel::boot(alloc, objects, &script.procs) {
+    let keys = RandomState::new(rt).map_err(|_| ScriptFault::Reading)?;
+    match Kernel::boot_with_seed(rt.alloc(), Seed::random(keys), objects, &script.procs) {
         Ok(kernel) => Ok(kernel),
         Err((fault, _objects)) => Err(Fault::from(fault)),
     }
 }
 
 /// Runs the script over these file objects, and prints its trace to standard output.
-fn run_over<O: FileObject + Send, R: Threads + Wait + Print + AllocGlobal + Sync>(
+fn run_over<O: FileObject + Send, R: Threads + Wait + Print + RandomSource + AllocGlobal + Sync>(
     rt: &R,
     script: &Script,
     threads: bool,
     objects: Vec<(Name, O)>,
 ) -> Result<Vec<Entry>, Fault> {
     let alloc: Global = rt.alloc();
-    let kernel = kernel_of(alloc, script, objects)?;
+    let kernel = kernel_of(rt, script, objects)?;
     let mut writer = BufWriter::new(alloc, io::writer(rt)).map_err(|_| AllocError)?;
     let history = if threads {
         run_threads(rt, alloc, script, &mut writer, kernel, &NoGate)?
@@ -121,14 +125,14 @@ fn run_over<O: FileObject + Send, R: Threads + Wait + Print + AllocGlobal + Sync
 }
 
 /// Makes the calls of a history once more over these file objects.
-fn check_over<O: FileObject>(
-    alloc: Global,
+fn check_over<O: FileObject, R: RandomSource + AllocGlobal>(
+    rt: &R,
     script: &Script,
     history: Vec<Entry>,
     objects: Vec<(Name, O)>,
 ) -> Result<Vec<Entry>, Fault> {
-    let kernel = kernel_of(alloc, script, objects)?;
-    match replay(alloc, &history, kernel) {
+    let kernel = kernel_of(rt, script, objects)?;
+    match replay(rt.alloc(), &history, kernel) {
         Ok(_count) => Ok(history),
         Err(ReplayFault::Differs(number)) => Err(Fault::Differs(number)),
         Err(ReplayFault::NoMemory(_)) => Err(Fault::Script(ScriptFault::NoMemory)),
