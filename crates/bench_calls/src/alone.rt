@@ -11,7 +11,7 @@ use std::thread::Threads;
 use std::time::{Duration, Instant};
 use ux_history::{BookName, CallBook, Trailing};
 use ux_layer::{RunningSeat, Seat};
-use ux_objects::MemFile;
+use ux_objects::Plain;
 
 /// One byte over a pair at the numbers 0 and 1.
 const EXCHANGE: &[Row] = &[Row::Send(0, 1), Row::Receive(1, 1)];
@@ -43,7 +43,7 @@ fn time_of<R: Clock, L: Layer>(rt: &R, alloc: Global, layer: &mut L) -> Result<D
 pub(crate) fn time_apart<W: BookName + Send + Sync, R: Threads + Wait + Clock + Sync>(
     rt: &R,
     alloc: Global,
-    seats: Vec<Seat<W, MemFile>>,
+    seats: Vec<Seat<W, Plain>>,
 ) -> Result<Duration> {
     let start = Instant::now(rt)?;
     let all = thread::map_vec(rt, seats, &|seat| exchange(rt, alloc, seat))?;
@@ -54,7 +54,7 @@ pub(crate) fn time_apart<W: BookName + Send + Sync, R: Threads + Wait + Clock + 
 pub(crate) fn time_running<W: Trailing + Send + Sync, R: Threads + Wait + Clock + Sync>(
     rt: &R,
     alloc: Global,
-    seats: Vec<RunningSeat<W, MemFile>>,
+    seats: Vec<RunningSeat<W, Plain>>,
 ) -> Result<Duration> {
     let start = Instant::now(rt)?;
     let all = thread::map_vec(rt, seats, &|seat| exchange(rt, alloc, seat))?;
@@ -71,12 +71,12 @@ fn time_since<R: Clock>(rt: &R, start: Instant, all: Vec<Result<()>>) -> Result<
 }
 
 /// Makes the calls of one process.
-fn exchange<W: BookName, B: CallBook<W, MemFile>, R: Wait>(
+fn exchange<W: BookName, B: CallBook<W, Plain>, R: Wait>(
     rt: &R,
     alloc: Global,
-    seat: Seat<W, MemFile, B>,
+    seat: Seat<W, Plain, B>,
 ) -> Result<()> {
-    let mut worker = Worker::new(seat, Way::Call);
+    let mut worker = Worker::new(alloc, seat, Way::Call);
     worker.call_rows(rt, alloc, PAIR)?;
     let calls = Requests::of(alloc, EXCHANGE)?;
     worker.repeat(rt, &calls)

@@ -124,6 +124,14 @@ const ALL: &[(&str, &Calls)] = &[
         },
     ),
     (
+        "datagram of 65,536 bytes on a pair",
+        &Calls {
+            before: DATAGRAM_PAIR,
+            measured: &[Row::Send(2, 65_536), Row::Receive(1, 65_536)],
+            after: CLOSES,
+        },
+    ),
+    (
         "datagram of 64 bytes by an address",
         &Calls {
             before: NAMED,
@@ -161,6 +169,22 @@ const ALL: &[(&str, &Calls)] = &[
             before: &[Row::Rewind(0)],
             measured: &[Row::Read(0, 1)],
             after: &[],
+        },
+    ),
+    (
+        "poll of a file",
+        &Calls {
+            before: &[],
+            measured: &[Row::Poll(0)],
+            after: &[],
+        },
+    ),
+    (
+        "pipe, 4,096 bytes",
+        &Calls {
+            before: &[Row::OpenPipe],
+            measured: &[Row::Write(1, 4096), Row::Read(1, 4096)],
+            after: &[Row::Close(1)],
         },
     ),
 ];

@@ -1,14 +1,15 @@
 //! A kernel alone, and a book that keeps what was called.
-ghost use Rattle.std.specs.Prelude.{◌≡◌, IfOk};
+ghost use Rattle.std.specs.Prelude.{◌≡◌, [], IfOk};
 ghost use Rattle.ux_model.specs.Boot.{IsBootState};
 
-use crate::rows::{FILE, PAIR_AND_CLOSES, Requests, Row};
+use crate::rows::{FILE, PAIR_AND_CLOSES, PIPE, Requests, Row, given};
 use anyhow::{Result, anyhow};
 use std::alloc::Global;
 use std::sync::ledger::Blank;
 use ux_history::{Book, BookName, Share, has_own_call};
 use ux_kernel::Kernel;
-use ux_objects::MemFile;
+use ux_object::ObjKind;
+use ux_objects::Plain;
 use ux_state::RetiredList;
 use ux_types::{Done, Name, Pid, ProcSpec, Reply, Request, SockType};
 
@@ -39,8 +40,8 @@ pub(crate) trait Layer {
 
 /// A kernel alone.
 pub(crate) struct Stepped {
-    kernel: Kernel<MemFile>,
-    retired: RetiredList<MemFile>,
+    kernel: Kernel<Plain>,
+    retired: RetiredList<Plain>,
     tag: u64,
 }
 
@@ -57,17 +58,20 @@ impl Drop for Stepped {
     }
 }
 
-/// A book, and the shares of its processes by rising number.
+/// A book, and the shares of its processes by rising number. It is given each request, whose bytes are made anew, as a
+/// caller makes them who keeps his own.
 pub(crate) struct Recorded<W: BookName> {
-    book: Book<W, MemFile>,
+    alloc: Global,
+    book: Book<W, Plain>,
     shares: Vec<Share<W>>,
-    retired: RetiredList<MemFile>,
+    retired: RetiredList<Plain>,
 }
 
 /// As of a kernel alone.
 impl<W: BookName> Drop for Recorded<W> {
     fn drop(self) {
         let Recorded {
+            alloc: _,
             book,
             shares,
             retired,
@@ -78,25 +82,28 @@ impl<W: BookName> Drop for Recorded<W> {
     }
 }
 
-/// The file that a kernel starts with.
-fn file(alloc: Global) -> Result<Vec<(Name, MemFile)>> {
-    let file = MemFile::new(alloc, &CONTENTS)?;
-    Ok(vec![in alloc; (Name::from_slice(alloc, FILE)?, file)]?)
+/// The file and the pipe that a kernel starts with.
+fn objects(alloc: Global) -> Result<Vec<(Name, Plain)>> {
+    let file = Plain::new(alloc, ObjKind::Memory, &CONTENTS)?;
+    let pipe = Plain::new(alloc, ObjKind::Pipe, &[])?;
+    let mut objects = vec![in alloc; (Name::from_slice(alloc, FILE)?, file)]?;
+    objects.push((Name::from_slice(alloc, PIPE)?, pipe))?;
+    Ok(objects)
 }
 
-/// A kernel with one file and so many processes.
-pub(crate) fn boot(alloc: Global, processes: usize) -> Result<Kernel<MemFile>>
+/// A kernel with a file, a pipe and so many processes.
+pub(crate) fn boot(alloc: Global, processes: usize) -> Result<Kernel<Plain>>
     ensures { IfOk result (λ kernel. IsBootState kernel) }
 {
     let processes = vec![in alloc; PROCESS; processes]?;
-    match Kernel::boot(alloc, file(alloc)?, &processes) {
+    match Kernel::boot(alloc, objects(alloc)?, &processes) {
         Ok(kernel) => Ok(kernel),
         Err((fault, _objects)) => Err(anyhow!("{fault}")),
     }
 }
 
 impl Stepped {
-    /// A kernel with one file.
+    /// A kernel with a file and a pipe.
     pub(crate) fn new(alloc: Global) -> Result<Stepped> {
         let retired = RetiredList::new(alloc)?;
         Ok(Stepped {
@@ -109,7 +116,7 @@ impl Stepped {
 
 impl<W: BookName> Recorded<W> {
     /// A book of this kernel.
-    pub(crate) fn new(alloc: Global, blank: Blank, kernel: Kernel<MemFile>) -> Result<Recorded<W>>
+    pub(crate) fn new(alloc: Global, blank: Blank, kernel: Kernel<Plain>) -> Result<Recorded<W>>
         requires name { blank.name ≡ W.name }
         requires parts { (blank.parts ≡ W.parts) × (blank.parts ≡ 1024) }
         requires boots { IsBootState kernel }
@@ -118,6 +125,7 @@ impl<W: BookName> Recorded<W> {
         let retired = RetiredList::new(alloc)?;
         match Book::new(alloc, blank, kernel) {
             Ok((book, shares)) => Ok(Recorded {
+                alloc,
                 book,
                 shares,
                 retired,
@@ -130,11 +138,27 @@ impl<W: BookName> Recorded<W> {
     }
 }
 
-/// Drops a reply, and answers whether it tells no refusal.
-pub(crate) fn is_granted(reply: Reply) -> bool {
-    let refused = matches!(&reply, Reply::Err(_));
-    drop(reply);
-    !refused
+/// Whether a reply tells no refusal.
+pub(crate) fn is_granted(reply: &Reply) -> bool {
+    !matches!(reply, Reply::Err(_))
+}
+
+/// Makes a call by a share, and answers whether it was granted.
+fn is_recorded<W: BookName>(
+    book: &mut Book<W, Plain>,
+    share: &mut Share<W>,
+    request: Request,
+    retired: &mut RetiredList<Plain>,
+) -> bool
+    requires { retired.old ≡ [] }
+{
+    if has_own_call(&request) {
+        return false;
+    }
+    match book.record_given(share, request, retired) {
+        Ok(receipt) => is_granted(receipt.reply()),
+        Err(_) => false,
+    }
 }
 
 impl Layer for Stepped {
@@ -149,24 +173,21 @@ impl Layer for Stepped {
             reply,
             delivered: _,
         } = self.kernel.step(pid, tag, request, &mut self.retired);
-        is_granted(reply)
+        is_granted(&reply)
     }
 }
 
 impl<W: BookName> Layer for Recorded<W> {
     fn ask(&mut self, pid: Pid, request: &Request) -> bool {
-        if has_own_call(request) || pid.0 == 0 {
+        if pid.0 == 0 {
             return false;
         }
         let Some(share) = self.shares.get_mut(pid.0 as usize - 1) else {
             return false;
         };
         self.retired.clear();
-        match self.book.record(share, request, &mut self.retired) {
-            Ok(recorded) => {
-                drop(recorded.receipt);
-                is_granted(recorded.reply)
-            }
+        match given(self.alloc, request) {
+            Ok(request) => is_recorded(&mut self.book, share, request, &mut self.retired),
             Err(_) => false,
         }
     }

@@ -30,7 +30,7 @@ use std::time::Duration;
 use ux_history::{BookName, PARTS, Trail, Trailing};
 use ux_kernel::Kernel;
 use ux_layer::{start, start_running};
-use ux_objects::MemFile;
+use ux_objects::Plain;
 
 /// What is measured on a layer that isn't shared.
 #[derive(Clone, Copy)]
@@ -100,7 +100,7 @@ fn record_named<W: BookName, R: Clock + Eprint>(
     rt: &R,
     alloc: Global,
     blank: Blank,
-    kernel: Kernel<MemFile>,
+    kernel: Kernel<Plain>,
     measured: Measured,
 ) -> Result<()>
     requires name { blank.name ≡ W.name }
@@ -135,7 +135,7 @@ fn by_seats<R: Threads + Wait + Clock + AllocGlobal + Sync>(
 fn seats_named<W: BookName + Send + Sync, R: Threads + Wait + Clock + AllocGlobal + Sync>(
     rt: &R,
     blank: Blank,
-    kernel: Kernel<MemFile>,
+    kernel: Kernel<Plain>,
     work: Work,
 ) -> Result<Duration>
     requires name { blank.name ≡ W.name }
@@ -143,7 +143,7 @@ fn seats_named<W: BookName + Send + Sync, R: Threads + Wait + Clock + AllocGloba
     requires boots { IsBootState kernel }
     requires named { kernel ≡ W.boot }
 {
-    let Ok((layer, seats)) = start::<W, MemFile, R>(rt, rt.alloc(), blank, kernel) else {
+    let Ok((layer, seats)) = start::<W, Plain, R>(rt, rt.alloc(), blank, kernel) else {
         return Err(anyhow!("out of memory"));
     };
     let time = match work {
@@ -169,7 +169,7 @@ fn running_named<W: Trailing + Send + Sync, R: Threads + Wait + Clock + AllocGlo
     rt: &R,
     blank: Blank,
     trail: Trail,
-    kernel: Kernel<MemFile>,
+    kernel: Kernel<Plain>,
 ) -> Result<Duration>
     requires name { blank.name ≡ W.name }
     requires parts { (blank.parts ≡ W.parts) × (blank.parts ≡ 1024) }
@@ -178,7 +178,7 @@ fn running_named<W: Trailing + Send + Sync, R: Threads + Wait + Clock + AllocGlo
     requires named { kernel ≡ W.boot }
 {
     let alloc = rt.alloc();
-    let Ok((layer, seats)) = start_running::<W, MemFile, R>(rt, alloc, blank, trail, kernel) else {
+    let Ok((layer, seats)) = start_running::<W, Plain, R>(rt, alloc, blank, trail, kernel) else {
         return Err(anyhow!("out of memory"));
     };
     let time = time_running(rt, alloc, seats);

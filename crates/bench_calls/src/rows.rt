@@ -6,11 +6,17 @@ use ux_types::{Addr, Bytes, Fd, Mode, MsgFlags, Name, OpenFlags, Request, SockTy
 /// The path of the file.
 pub(crate) const FILE: &[u8] = b"file";
 
+/// The path of the pipe.
+pub(crate) const PIPE: &[u8] = b"pipe";
+
 /// A call. The numbers that come first are of descriptors.
 #[derive(Clone, Copy)]
 pub(crate) enum Row<'a> {
     /// An open of the file.
     Open,
+    /// One of the pipe.
+    OpenPipe,
+    Poll(u32),
     /// A read of so many bytes.
     Read(u32, usize),
     /// A write of so many bytes.
@@ -81,10 +87,10 @@ fn rights(alloc: Global, count: usize) -> Result<Bytes, AllocError> {
     Bytes::new(control)
 }
 
-/// An open of the file.
-fn open(alloc: Global) -> Result<Request, AllocError> {
+/// An open of the object with this path.
+fn open(alloc: Global, path: &[u8]) -> Result<Request, AllocError> {
     Ok(Request::Open {
-        path: Name::from_slice(alloc, FILE)?,
+        path: Name::from_slice(alloc, path)?,
         mode: Mode::Both,
         flags: OpenFlags(0),
     })
@@ -146,7 +152,9 @@ fn pass(alloc: Global, fd: u32, count: usize) -> Result<Request, AllocError> {
 fn request_of(alloc: Global, row: Row, turn: u32) -> Result<Request, AllocError> {
     let flags = OpenFlags(0);
     Ok(match row {
-        Row::Open => open(alloc)?,
+        Row::Open => open(alloc, FILE)?,
+        Row::OpenPipe => open(alloc, PIPE)?,
+        Row::Poll(fd) => Request::Poll { fd: Fd(fd) },
         Row::Read(fd, n) => Request::Read { fd: Fd(fd), n },
         Row::Write(fd, length) => Request::Write {
             fd: Fd(fd),
@@ -179,6 +187,41 @@ fn request_of(alloc: Global, row: Row, turn: u32) -> Result<Request, AllocError>
         Row::Receive(fd, n) => receive(fd, n, 0),
         Row::Take(fd) => receive(fd, 1, 2048),
     })
+}
+
+/// A send of the same bytes, made anew.
+fn sent_anew(
+    alloc: Global,
+    fd: Fd,
+    addr: &Option<Addr>,
+    bytes: &Bytes,
+    control: &Bytes,
+) -> Result<Request, AllocError> {
+    Ok(Request::SendMsg {
+        fd,
+        addr: addr.clone()?,
+        bytes: Bytes::from_slice(alloc, bytes.as_slice())?,
+        control: Bytes::from_slice(alloc, control.as_slice())?,
+        flags: MsgFlags(0),
+    })
+}
+
+/// A request as a caller gives it who keeps his own: its bytes are made anew.
+pub(crate) fn given(alloc: Global, request: &Request) -> Result<Request, AllocError> {
+    match request {
+        Request::Write { fd, bytes } => Ok(Request::Write {
+            fd: *fd,
+            bytes: Bytes::from_slice(alloc, bytes.as_slice())?,
+        }),
+        Request::SendMsg {
+            fd,
+            addr,
+            bytes,
+            control,
+            flags: _,
+        } => sent_anew(alloc, *fd, addr, bytes, control),
+        request => request.clone(),
+    }
 }
 
 /// The requests of some rows.

@@ -1,13 +1,13 @@
 //! Calls by seats, each of which must be granted.
 use crate::layers::is_granted;
-use crate::rows::{Requests, Row};
+use crate::rows::{Requests, Row, given};
 use anyhow::{Result, anyhow};
 use std::alloc::Global;
 use std::sync::Wait;
 use std::time::Duration;
-use ux_history::{Book, BookName, CallBook, has_own_call};
+use ux_history::{Book, BookName, CallBook, Keeps, has_own_call};
 use ux_layer::Seat;
-use ux_objects::MemFile;
+use ux_objects::Plain;
 use ux_types::Request;
 
 /// How often each thread makes its calls.
@@ -23,38 +23,55 @@ pub(crate) enum Way {
 }
 
 /// A seat, and how it makes calls.
-pub(crate) struct Worker<W: BookName, B: CallBook<W, MemFile> = Book<W, MemFile>> {
-    seat: Seat<W, MemFile, B>,
+pub(crate) struct Worker<W: BookName, B: CallBook<W, Plain> = Book<W, Plain>> {
+    alloc: Global,
+    seat: Seat<W, Plain, B>,
     way: Way,
 }
 
 /// As of a layer that isn't shared.
-impl<W: BookName, B: CallBook<W, MemFile>> Drop for Worker<W, B> {
+impl<W: BookName, B: CallBook<W, Plain>> Drop for Worker<W, B> {
     fn drop(self) {
-        let Worker { seat, way: _ } = self;
+        let Worker {
+            alloc: _,
+            seat,
+            way: _,
+        } = self;
         drop(seat);
     }
 }
 
-impl<W: BookName, B: CallBook<W, MemFile>> Worker<W, B> {
-    pub(crate) fn new(seat: Seat<W, MemFile, B>, way: Way) -> Worker<W, B> {
-        Worker { seat, way }
+impl<W: BookName, B: CallBook<W, Plain>> Worker<W, B> {
+    pub(crate) fn new(alloc: Global, seat: Seat<W, Plain, B>, way: Way) -> Worker<W, B> {
+        Worker { alloc, seat, way }
     }
 
     /// Makes a call, and answers whether it was granted.
     fn call<R: Wait>(&mut self, rt: &R, request: &Request) -> Result<bool> {
+        match self.way {
+            Way::Call => self.call_at_once(rt, given(self.alloc, request)?),
+            Way::Blocking => self.call_when_done(rt, request),
+        }
+    }
+
+    /// Makes a call that is given, and answers whether it was granted.
+    fn call_at_once<R: Wait>(&mut self, rt: &R, request: Request) -> Result<bool> {
+        if has_own_call(&request) {
+            return Err(anyhow!("a fork or an exit isn't measured by a seat's call"));
+        }
+        match self.seat.call_given(rt, request) {
+            Ok(kept) => Ok(is_granted(kept.reply())),
+            Err((fault, _request)) => Err(anyhow!("{fault}")),
+        }
+    }
+
+    /// Makes a call once it can be done, and answers whether it was granted.
+    fn call_when_done<R: Wait>(&mut self, rt: &R, request: &Request) -> Result<bool> {
         if has_own_call(request) {
             return Err(anyhow!("a fork or an exit isn't measured by a seat's call"));
         }
-        let made = match self.way {
-            Way::Call => self.seat.call(rt, request),
-            Way::Blocking => self.seat.call_blocking(rt, request),
-        };
-        match made {
-            Ok((reply, receipt)) => {
-                drop(receipt);
-                Ok(is_granted(reply))
-            }
+        match self.seat.call_blocking(rt, request) {
+            Ok((reply, _receipt)) => Ok(is_granted(&reply)),
             Err(fault) => Err(anyhow!("{fault}")),
         }
     }

@@ -10,7 +10,7 @@ use std::thread::Threads;
 use std::time::{Duration, Instant};
 use ux_history::BookName;
 use ux_layer::{Layer, Seat};
-use ux_objects::MemFile;
+use ux_objects::Plain;
 use ux_types::{Pid, SockType};
 
 /// The process that listens.
@@ -31,8 +31,8 @@ const CONNECTED: &[Row] = &[Row::Socket(SockType::Stream), Row::Connect(0, b"lis
 pub(crate) fn time_in_turns<W: BookName + Send + Sync, R: Threads + Wait + Clock + Sync>(
     rt: &R,
     alloc: Global,
-    layer: &Layer<W, MemFile>,
-    mut seats: Vec<Seat<W, MemFile>>,
+    layer: &Layer<W, Plain>,
+    mut seats: Vec<Seat<W, Plain>>,
 ) -> Result<Duration> {
     let (Some(second), Some(first)) = (seats.pop(), seats.pop()) else {
         return Err(anyhow!("a process is missing"));
@@ -47,8 +47,8 @@ pub(crate) fn time_in_turns<W: BookName + Send + Sync, R: Threads + Wait + Clock
 }
 
 /// Listens for the other, and answers each byte by one.
-fn serve<W: BookName, R: Wait>(rt: &R, alloc: Global, seat: Seat<W, MemFile>) -> Result<()> {
-    let mut worker = Worker::new(seat, Way::Blocking);
+fn serve<W: BookName, R: Wait>(rt: &R, alloc: Global, seat: Seat<W, Plain>) -> Result<()> {
+    let mut worker = Worker::new(alloc, seat, Way::Blocking);
     worker.call_rows(rt, alloc, ACCEPTED)?;
     let calls = Requests::of(alloc, &[Row::Receive(1, 1), Row::Send(1, 1)])?;
     worker.repeat(rt, &calls)
@@ -58,10 +58,10 @@ fn serve<W: BookName, R: Wait>(rt: &R, alloc: Global, seat: Seat<W, MemFile>) ->
 fn ask<W: BookName, R: Wait + Clock>(
     rt: &R,
     alloc: Global,
-    layer: &Layer<W, MemFile>,
-    seat: Seat<W, MemFile>,
+    layer: &Layer<W, Plain>,
+    seat: Seat<W, Plain>,
 ) -> Result<Duration> {
-    let mut worker = Worker::new(seat, Way::Blocking);
+    let mut worker = Worker::new(alloc, seat, Way::Blocking);
     // The other listens.
     layer.wait_for(rt, SERVER, 3);
     worker.call_rows(rt, alloc, CONNECTED)?;
