@@ -1,7 +1,7 @@
 -- Calls on a file object by what is known of its description, which may be gone.
-use Rattle.std.specs.Prelude.{◌≡◌, ℕ, ◌+◌, ◌<◌, ◌^◌, true, false, not, ◌&&◌, ◌==◌, nat_lt, if◌then◌else◌, List, length, Option, Some, None, ℤ, pos, negsuc}
+use Rattle.std.specs.Prelude.{◌≡◌, ℕ, ◌+◌, ◌≤◌, ◌<◌, ◌^◌, true, false, not, ◌&&◌, ◌==◌, nat_lt, if◌then◌else◌, List, length, Option, Some, None, ℤ, pos, negsuc}
 use Rattle.ux_model.specs.Types.{Errno}
-use Rattle.ux_model.specs.Limits.{offset_limit}
+use Rattle.ux_model.specs.Limits.{offset_limit, read_limit}
 use Rattle.ux_model.specs.Places.{place}
 use Rattle.ux_model.specs.Flags.{can_read, can_write}
 use Rattle.ux_model.specs.Object.{View, ready, read_body, is_pipe}
@@ -61,6 +61,7 @@ pub record IsReadable (S : State) (f : OpenFile) (kind : ObjKind) (n wanted : �
   pub is_ready : (ready view.body).0 ≡ true
   pub enough : read_body view.body f.offset wanted ≡ read_body view.body f.offset n
   pub fits : kind ≡ ObjKind.Memory → f.offset + wanted < 2 ^ 64
+  pub few : wanted ≤ read_limit
 
 -- ---- write
 

@@ -12,6 +12,7 @@ mod files;
 mod forking;
 mod kernel;
 mod naming;
+mod object_bytes;
 mod open_file;
 mod options;
 mod pairing;

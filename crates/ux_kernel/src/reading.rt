@@ -1,5 +1,6 @@
 //! Reading (read(2)) of file objects and sockets.
-ghost use Rattle.std.specs.Prelude.{◌≡◌, ◌+◌, ◌<◌, ◌^◌, IsTrue, Some};
+ghost use Rattle.std.specs.Prelude.{◌≡◌, ◌+◌, ◌≤◌, ◌<◌, ◌^◌, IsTrue, Some};
+ghost use Rattle.ux_model.specs.Limits.{read_limit};
 ghost use Rattle.ux_model.specs.State.{is_live, description_at};
 ghost use Rattle.ux_model.specs.Object.{read_body};
 ghost use Rattle.ux_msg.specs.Answers.{GivesOrFails};
@@ -8,6 +9,7 @@ ghost use Rattle.ux_object.specs.Kind.{kind_of};
 ghost use Rattle.ux_kernel.specs.FileCalls.{description_of, read_file, read_at, IsReadable};
 
 use crate::kernel::Kernel;
+use crate::object_bytes::read_bytes;
 use crate::open_file::{OpenFile, errno_of};
 use ux_msg::read_socket;
 use ux_object::{FileObject, ObjKind};
@@ -33,7 +35,8 @@ impl<O: FileObject> Kernel<O> {
 
     /// Reads by this description.
     fn read_at(&mut self, pid: Pid, id: DescriptionId, n: usize) -> Result<Reply, Refusal>
-        requires { IsTrue (is_live self.old pid.0) }
+        requires live { IsTrue (is_live self.old pid.0) }
+        requires few { n ≤ read_limit }
         ensures { GivesOrFails self.old (read_at self.old pid.0 id n) result self.new }
     {
         let Some(description) = self.state.description(id) else {
@@ -47,7 +50,8 @@ impl<O: FileObject> Kernel<O> {
 
     /// Reads of an open file object.
     fn read_file(&mut self, file: OpenFile, n: usize) -> Result<Reply, Refusal>
-        requires { description_at self.old file.id ≡ Some (description_of file) }
+        requires here { description_at self.old file.id ≡ Some (description_of file) }
+        requires few { n ≤ read_limit }
         ensures { GivesOrFails self.old (read_file self.old file n) result self.new }
     {
         let Some(object) = self.state.object(file.object) else {
@@ -61,7 +65,7 @@ impl<O: FileObject> Kernel<O> {
             return Err(Refusal::Answer(Errno::EINVAL));
         }
         if kind != ObjKind::Counter && n == 0 {
-            return Ok(Reply::Bytes(Bytes::new(Vec::new(self.alloc))));
+            return Ok(Reply::Bytes(Bytes::empty()));
         }
         if object.ready().0 {
             let wanted = wanted_of(object, file.offset, n);
@@ -69,7 +73,7 @@ impl<O: FileObject> Kernel<O> {
         }
         // A pipe that nobody can write to has ended.
         if kind == ObjKind::Pipe && !self.state.has_writer(file.object) {
-            return Ok(Reply::Bytes(Bytes::new(Vec::new(self.alloc))));
+            return Ok(Reply::Bytes(Bytes::empty()));
         }
         Err(Refusal::Answer(Errno::EAGAIN))
     }
@@ -86,17 +90,19 @@ impl<O: FileObject> Kernel<O> {
         requires readable { IsReadable self.old file kind n wanted }
         ensures { GivesOrFails self.old (read_file self.old file n) result self.new }
     {
-        let mut bytes = vec![in self.alloc; 0u8; wanted]?;
-        match self
-            .state
-            .read_object(file.object, file.offset, bytes.as_mut_slice())
-        {
-            Ok(count) => {
-                bytes.truncate(count);
+        match read_bytes(
+            &mut self.state,
+            self.alloc,
+            file.object,
+            file.offset,
+            wanted,
+        )? {
+            Ok(bytes) => {
                 if kind == ObjKind::Memory {
-                    self.state.set_offset(file.id, file.offset + count as u64);
+                    self.state
+                        .set_offset(file.id, file.offset + bytes.len() as u64);
                 }
-                Ok(Reply::Bytes(Bytes::new(bytes)))
+                Ok(Reply::Bytes(bytes))
             }
             Err(error) => Err(Refusal::Answer(errno_of(error))),
         }
@@ -105,6 +111,7 @@ impl<O: FileObject> Kernel<O> {
 
 /// How many bytes a read of n bytes wants of an object: of a memory file no more than it has.
 fn wanted_of<O: FileObject>(object: &O, offset: u64, n: usize) -> usize
+    ensures least { result ≤ n }
     ensures enough { read_body (O.view object.now).body offset result ≡ read_body (O.view object.now).body offset n }
     ensures fits { kind_of (O.view object.now).body ≡ ObjKind.Memory → offset + result < 2 ^ 64 }
 {

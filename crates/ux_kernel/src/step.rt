@@ -64,7 +64,7 @@ impl<O: FileObject> Kernel<O> {
         let answer = match request {
             Request::Open { path, mode, flags } => self.open_file(pid, path, *mode, *flags),
             Request::Read { fd, n } => self.read(pid, *fd, *n),
-            Request::Write { fd, bytes } => self.write(pid, tag, *fd, bytes.as_slice()),
+            Request::Write { fd, bytes } => self.write(pid, tag, *fd, bytes),
             Request::Lseek { fd, offset, whence } => self.lseek(pid, *fd, *offset, *whence),
             Request::Dup { fd } => self.dup(pid, *fd),
             Request::Dup2 { fd, to } => self.dup2(pid, *fd, *to),
@@ -91,7 +91,7 @@ impl<O: FileObject> Kernel<O> {
             } => {
                 let message = Outgoing {
                     addr: addr.as_ref(),
-                    bytes: bytes.as_slice(),
+                    bytes,
                     control: control.as_slice(),
                     flags: *flags,
                 };

@@ -9,7 +9,7 @@ use crate::kernel::Kernel;
 use crate::open_file::{OpenFile, errno_of};
 use ux_msg::write_socket;
 use ux_object::{FileObject, ObjError, ObjKind};
-use ux_types::{DescriptionId, Errno, Fd, Pid, Refusal, Reply};
+use ux_types::{Bytes, DescriptionId, Errno, Fd, Pid, Refusal, Reply};
 
 impl<O: FileObject> Kernel<O> {
     /// write(2), as the call with number `tag`, which a message to a socket keeps. EBADF where the number
@@ -21,7 +21,7 @@ impl<O: FileObject> Kernel<O> {
         pid: Pid,
         tag: u64,
         fd: Fd,
-        bytes: &[u8],
+        bytes: &Bytes,
     ) -> Result<Reply, Refusal>
         requires { IsTrue (is_live self.old pid.0) }
         ensures { GivesOrFails self.old (model.write self.old pid.0 tag fd bytes.now) result self.new }
@@ -39,7 +39,7 @@ impl<O: FileObject> Kernel<O> {
         pid: Pid,
         id: DescriptionId,
         tag: u64,
-        bytes: &[u8],
+        bytes: &Bytes,
     ) -> Result<Reply, Refusal>
         requires { IsTrue (is_live self.old pid.0) }
         ensures { GivesOrFails self.old (write_at self.old pid.0 tag id bytes.now) result self.new }
@@ -55,7 +55,7 @@ impl<O: FileObject> Kernel<O> {
     }
 
     /// Writes to an open file object.
-    fn write_file(&mut self, file: OpenFile, bytes: &[u8]) -> Result<Reply, Refusal>
+    fn write_file(&mut self, file: OpenFile, bytes: &Bytes) -> Result<Reply, Refusal>
         requires { description_at self.old file.id ≡ Some (description_of file) }
         ensures { GivesOrFails self.old (write_file self.old file bytes.now) result self.new }
     {
@@ -77,7 +77,7 @@ impl<O: FileObject> Kernel<O> {
         if kind == ObjKind::Pipe && !self.state.has_reader(file.object) {
             return Err(Refusal::Answer(Errno::EPIPE));
         }
-        self.write_open(file, kind, place, bytes)
+        self.write_open(file, kind, place, bytes.as_slice())
     }
 
     /// Hands the bytes to an open file object, and moves the offset of a memory file.
