@@ -16,7 +16,10 @@ use ux_object::FileObject;
 use ux_objects::MemFile;
 use ux_rights::RefList;
 use ux_state::{RetiredList, State};
-use ux_types::{Cred, DescriptionId, Errno, Fd, Mode, Name, OpenFlags, Pid, ProcSpec, SockType};
+use ux_types::{
+    Bytes, Cred, DescriptionId, Errno, Fd, Mode, Name, OpenFlags, Pid, ProcSpec, SHORT_BYTES,
+    SockType,
+};
 
 /// A user's process with this descriptor limit.
 fn process(limit: u32) -> ProcSpec {
@@ -132,8 +135,10 @@ fn append<O: FileObject>(
 ) {
     let id = DescriptionId::new(id);
     assert!(rt; !bytes.is_empty());
+    assert!(rt; bytes.len() <= SHORT_BYTES);
+    let bytes = Bytes::short(bytes);
     assert!(rt; state.socket(id).is_some());
-    let sent = state.send(id, bytes, 1, RefList::new(alloc), user(), 1000, None);
+    let sent = state.send(id, &bytes, 1, RefList::new(alloc), user(), 1000, None);
     assert!(rt; sent == Ok(bytes.len()));
 }
 
@@ -151,7 +156,7 @@ fn pass<O: FileObject>(
     assert!(rt; state.socket(id).is_some());
     assert!(rt; state.count(passed) > 0);
     let rights = RefList::from_slice(alloc, &[passed])?;
-    let sent = state.send(id, b"x", 1, rights, user(), uid, None);
+    let sent = state.send(id, &Bytes::short(b"x"), 1, rights, user(), uid, None);
     assert!(rt; sent == Ok(1));
     Ok(())
 }
@@ -175,7 +180,7 @@ fn expect_socket<O: FileObject>(
 
 /// Sees what waits at a socket, and whether it is reset.
 fn expect_queue<O: FileObject>(
-    rt: &impl Abort,
+    rt: &(impl Abort + AllocGlobal),
     state: &State<O>,
     id: u128,
     bytes: &[u8],
@@ -186,7 +191,7 @@ fn expect_queue<O: FileObject>(
             assert!(rt; socket.reset() == reset);
             assert!(rt; socket.is_empty() == bytes.is_empty());
             if !socket.is_empty() {
-                let front = socket.peek(100)?;
+                let front = socket.peek(rt.alloc(), 100)?;
                 assert!(rt; front.bytes.as_slice() == bytes);
             }
         }

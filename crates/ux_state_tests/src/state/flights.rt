@@ -9,7 +9,7 @@ use std::test::Fail;
 use ux_object::FileObject;
 use ux_rights::RefList;
 use ux_state::State;
-use ux_types::{DescriptionId, Fd, Mode};
+use ux_types::{Bytes, DescriptionId, Fd, Mode};
 
 /// Sends a reference to a description twice in one message to a socket, for a process of a user.
 fn pass_twice<O: FileObject>(
@@ -25,7 +25,7 @@ fn pass_twice<O: FileObject>(
     assert!(rt; state.socket(id).is_some());
     assert!(rt; state.count(passed) > 0);
     let rights = RefList::from_slice(alloc, &[passed, passed])?;
-    let sent = state.send(id, b"x", 1, rights, user(), uid, None);
+    let sent = state.send(id, &Bytes::short(b"x"), 1, rights, user(), uid, None);
     assert!(rt; sent == Ok(1));
     Ok(())
 }
@@ -133,10 +133,11 @@ fn send_without_memory<O: FileObject>(
     assert!(rt; state.count(passed) > 0);
     let rights = RefList::from_slice(alloc, &[passed])?;
     let hoard = Hoard::take_all(alloc)?;
-    let with = state.send(id, b"x", 1, rights, user(), 1001, None);
+    let with = state.send(id, &Bytes::short(b"x"), 1, rights, user(), 1001, None);
     let socket_stays = state.socket(id).is_some();
     assert!(rt; socket_stays);
-    let without = state.send(id, b"y", 1, RefList::new(alloc), user(), 1001, None);
+    let bytes = Bytes::short(b"y");
+    let without = state.send(id, &bytes, 1, RefList::new(alloc), user(), 1001, None);
     drop(hoard);
     Ok((with.is_ok(), without.is_ok()))
 }

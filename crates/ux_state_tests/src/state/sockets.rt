@@ -15,7 +15,7 @@ use ux_types::{DescriptionId, Errno, Fd, Mode, Name, OpenFlags, Pid, SockType};
 
 /// Takes these bytes from a socket.
 fn take<O: FileObject>(
-    rt: &impl Abort,
+    rt: &(impl Abort + AllocGlobal),
     state: &mut State<O>,
     id: u128,
     bytes: &[u8],
@@ -26,7 +26,7 @@ fn take<O: FileObject>(
         assert!(rt; false);
         return Ok(());
     };
-    let shown = socket.peek(bytes.len())?;
+    let shown = socket.peek(rt.alloc(), bytes.len())?;
     assert!(rt; shown.bytes.as_slice() == bytes);
     state.skip_front(id, bytes.len());
     Ok(())
