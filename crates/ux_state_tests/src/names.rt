@@ -299,7 +299,7 @@ fn a_million_paths_go_from_the_oldest_on(rt: HostRuntime) -> Result<(), Fail> {
     let alloc = rt.alloc();
     let mut paths = Paths::new(alloc);
     assert_eq!(rt; bind_to(alloc, &mut paths, MANY)?, MANY);
-    assert_eq!(rt; paths.len() as u32, MANY);
+    assert_eq!(rt; paths.len() as u128, u128::from(MANY));
     assert_eq!(rt; unlink_from_oldest(alloc, &mut paths, MANY)?, MANY);
     assert!(rt; paths.is_empty());
     Ok(())
