@@ -7,7 +7,7 @@ use ux_backlog::PushError;
 use ux_desc::{Description, Socket, Target};
 use ux_record::Received;
 use ux_rights::{RefList, SendError};
-use ux_types::{Addr, Cred, DescriptionId, Mode, OpenFlags, Pid, SockType};
+use ux_types::{Addr, Bytes, Cred, DescriptionId, Mode, OpenFlags, Pid, SockType};
 
 fn user() -> Cred {
     Cred {
@@ -23,7 +23,7 @@ fn pair_end(alloc: Global) -> Socket {
 }
 
 /// Sends, of which so many bytes are taken.
-fn send(rt: &impl Abort, s: &mut Socket, bytes: &[u8], rights: RefList, count: usize) {
+fn send(rt: &impl Abort, s: &mut Socket, bytes: &Bytes, rights: RefList, count: usize) {
     assert!(rt; !bytes.is_empty());
     match s.send(bytes, 1, rights, user(), 1000, None) {
         Ok(sent) => assert!(rt; sent == count),
@@ -40,7 +40,7 @@ fn expect_skip(rt: &impl Abort, skipped: (RefList, Option<u32>), numbers: &[u128
 
 /// Sends where there is no room, which gives these references back.
 fn expect_full(rt: &impl Abort, s: &mut Socket, rights: RefList, numbers: &[u128]) {
-    match s.send(b"z", 3, rights, user(), 1000, None) {
+    match s.send(&Bytes::short(b"z"), 3, rights, user(), 1000, None) {
         Ok(_) => assert!(rt; false),
         Err(refused) => {
             assert!(rt; refused.error == SendError::Full);
@@ -58,13 +58,14 @@ fn expect(rt: &impl Abort, received: Received, bytes: &[u8], numbers: &[u128]) {
 /// Takes these bytes with these rights off.
 fn take(
     rt: &impl Abort,
+    alloc: Global,
     s: &mut Socket,
     n: usize,
     bytes: &[u8],
     numbers: &[u128],
 ) -> Result<(), AllocError> {
     assert!(rt; !s.is_empty());
-    expect(rt, s.peek(n)?, bytes, numbers);
+    expect(rt, s.peek(alloc, n)?, bytes, numbers);
     expect_skip(rt, s.skip(n), numbers);
     Ok(())
 }
@@ -91,12 +92,18 @@ fn a_socket_keeps_what_was_sent(rt: HostRuntime) -> Result<(), AllocError> {
     let mut s = pair_end(alloc);
     assert!(rt; s.peer() == Some(DescriptionId::new(4)) && *s.name() == Addr::Unnamed);
     assert!(rt; !s.passcred() && s.has_room());
-    send(&rt, &mut s, b"abc", RefList::new(alloc), 3);
-    send(&rt, &mut s, b"de", references(alloc, &[9, 7])?, 2);
-    take(&rt, &mut s, 2, b"ab", &[])?;
+    send(&rt, &mut s, &Bytes::short(b"abc"), RefList::new(alloc), 3);
+    send(
+        &rt,
+        &mut s,
+        &Bytes::short(b"de"),
+        references(alloc, &[9, 7])?,
+        2,
+    );
+    take(&rt, alloc, &mut s, 2, b"ab", &[])?;
     assert!(rt; !s.is_empty());
-    expect(&rt, s.peek(9)?, b"cde", &[9, 7]);
-    take(&rt, &mut s, 9, b"cde", &[9, 7])?;
+    expect(&rt, s.peek(alloc, 9)?, b"cde", &[9, 7]);
+    take(&rt, alloc, &mut s, 9, b"cde", &[9, 7])?;
     assert!(rt; s.is_empty() && s.pop_message().is_none());
     Ok(())
 }
@@ -105,9 +112,15 @@ fn a_socket_keeps_what_was_sent(rt: HostRuntime) -> Result<(), AllocError> {
 fn a_full_socket_gives_rights_back(rt: HostRuntime) -> Result<(), AllocError> {
     let alloc = rt.alloc();
     let mut s = pair_end(alloc);
-    let most = vec![in alloc; b'x'; 65535]?;
+    let most = Bytes::new(vec![in alloc; b'x'; 65535]?)?;
     send(&rt, &mut s, &most, references(alloc, &[5, 6])?, 65535);
-    send(&rt, &mut s, b"yz", references(alloc, &[8, 8])?, 1);
+    send(
+        &rt,
+        &mut s,
+        &Bytes::short(b"yz"),
+        references(alloc, &[8, 8])?,
+        1,
+    );
     expect_full(&rt, &mut s, references(alloc, &[1, 2])?, &[1, 2]);
     for numbers in [[5, 6], [8, 8]] {
         match s.pop_message() {
@@ -127,7 +140,14 @@ fn unread_messages_reset_the_peer(rt: HostRuntime) -> Result<(), AllocError> {
     let alloc = rt.alloc();
     let mut d = Description::of_socket(OpenFlags(0), pair_end(alloc));
     assert!(rt; d.object().is_none() && d.lost_peer().is_none());
-    let sent = d.send(b"ab", 1, RefList::new(alloc), user(), 1000, None);
+    let sent = d.send(
+        &Bytes::short(b"ab"),
+        1,
+        RefList::new(alloc),
+        user(),
+        1000,
+        None,
+    );
     assert!(rt; sent.is_ok_and(|count| count == 2));
     assert!(rt; d.lost_peer() == Some(DescriptionId::new(4)));
     assert!(rt; d.socket().is_some_and(|s| !s.is_empty()));
@@ -192,6 +212,7 @@ fn a_server_end_shows_its_listeners_name(rt: HostRuntime) -> Result<(), AllocErr
 /// Takes one message off, of which so many bytes are asked for.
 fn take_message(
     rt: &impl Abort,
+    alloc: Global,
     s: &mut Socket,
     n: usize,
     bytes: &[u8],
@@ -199,7 +220,7 @@ fn take_message(
     from: Option<&Addr>,
 ) -> Result<(), AllocError> {
     assert!(rt; !s.is_empty());
-    let front = s.peek(n)?;
+    let front = s.peek(alloc, n)?;
     assert!(rt; front.whole == whole);
     assert!(rt; front.from.as_ref() == from);
     expect(rt, front, bytes, &[]);
@@ -212,12 +233,19 @@ fn a_datagram_is_taken_whole(rt: HostRuntime) -> Result<(), AllocError> {
     let alloc = rt.alloc();
     let mut s = Socket::new(alloc, SockType::Dgram);
     let from = Some(path(alloc, b"a")?);
-    let sent = s.send(b"abc", 1, RefList::new(alloc), user(), 1000, from);
+    let sent = s.send(
+        &Bytes::short(b"abc"),
+        1,
+        RefList::new(alloc),
+        user(),
+        1000,
+        from,
+    );
     assert!(rt; sent.is_ok_and(|count| count == 3));
-    let sent = s.send(b"", 2, RefList::new(alloc), user(), 1000, None);
+    let sent = s.send(&Bytes::empty(), 2, RefList::new(alloc), user(), 1000, None);
     assert!(rt; sent.is_ok_and(|count| count == 0));
-    take_message(&rt, &mut s, 2, b"ab", 3, Some(&path(alloc, b"a")?))?;
-    take_message(&rt, &mut s, 2, b"", 0, None)?;
+    take_message(&rt, alloc, &mut s, 2, b"ab", 3, Some(&path(alloc, b"a")?))?;
+    take_message(&rt, alloc, &mut s, 2, b"", 0, None)?;
     assert!(rt; s.is_empty());
     assert!(rt; s.kind() == SockType::Dgram);
     assert!(rt; !s.resets_peer());
@@ -230,7 +258,14 @@ fn sixteen_records_wait(rt: HostRuntime) -> Result<(), AllocError> {
     let mut s = Socket::new(alloc, SockType::Seq);
     for _ in 0..16 {
         assert!(rt; s.has_room());
-        let sent = s.send(b"x", 1, RefList::new(alloc), user(), 1000, None);
+        let sent = s.send(
+            &Bytes::short(b"x"),
+            1,
+            RefList::new(alloc),
+            user(),
+            1000,
+            None,
+        );
         assert!(rt; sent.is_ok());
     }
     assert!(rt; !s.has_room());

@@ -6,7 +6,7 @@ use std::alloc::{AllocError, Allocator, Global};
 use std::process::Abort;
 use ux_record::{Received, RecordQueue};
 use ux_rights::{Origin, RefList, SendError};
-use ux_types::{Addr, Cred, Pid};
+use ux_types::{Addr, Bytes, Cred, Pid};
 
 const CRED: Cred = Cred {
     pid: Pid(4),
@@ -18,7 +18,7 @@ const CRED: Cred = Cred {
 const RIGHTS: &[u128] = &[7, 8, 7];
 
 /// The message of call 9, of which two bytes were asked for.
-fn assert_cut<A: Allocator + Copy>(rt: &impl Abort, received: Received<A>, from: &Option<Addr>) {
+fn assert_cut(rt: &impl Abort, received: Received, from: &Option<Addr>) {
     assert_eq!(rt; received.bytes.as_slice(), b"ab".as_slice());
     expect_references(rt, &received.rights, RIGHTS);
     let origin = Some(Origin { tag: 9, uid: 1000 });
@@ -30,7 +30,7 @@ fn assert_cut<A: Allocator + Copy>(rt: &impl Abort, received: Received<A>, from:
 }
 
 /// A message without bytes, rights and a sender's name.
-fn assert_nothing<A: Allocator + Copy>(rt: &impl Abort, received: Received<A>) {
+fn assert_nothing(rt: &impl Abort, received: Received) {
     assert_eq!(rt;
         (received.bytes.len(), received.whole, received.origin),
         (0, 0, None)
@@ -42,7 +42,7 @@ fn assert_nothing<A: Allocator + Copy>(rt: &impl Abort, received: Received<A>) {
 fn send<A: Allocator + Copy>(
     rt: &impl Abort,
     queue: &mut RecordQueue<A>,
-    bytes: &[u8],
+    bytes: &Bytes,
     tag: u64,
     rights: RefList,
     from: Option<Addr>,
@@ -79,9 +79,30 @@ fn whole_messages_in_order(rt: HostRuntime) -> Result<(), AllocError> {
     let from = Some(path(alloc, b"/a")?);
     let mut queue = RecordQueue::new(alloc);
     let rights = references(alloc, RIGHTS)?;
-    send(&rt, &mut queue, b"abc", 9, rights, from.clone()?);
-    send(&rt, &mut queue, b"", 10, RefList::new(alloc), None);
-    send(&rt, &mut queue, b"", 11, RefList::new(alloc), None);
+    send(
+        &rt,
+        &mut queue,
+        &Bytes::short(b"abc"),
+        9,
+        rights,
+        from.clone()?,
+    );
+    send(
+        &rt,
+        &mut queue,
+        &Bytes::empty(),
+        10,
+        RefList::new(alloc),
+        None,
+    );
+    send(
+        &rt,
+        &mut queue,
+        &Bytes::empty(),
+        11,
+        RefList::new(alloc),
+        None,
+    );
     assert_eq!(rt; queue.len(), 3);
     take_cut(&rt, &mut queue, &from)?;
     take_both(&rt, &mut queue);
@@ -98,7 +119,7 @@ fn expect_full(
     from: &Option<Addr>,
 ) -> Result<(), AllocError> {
     let rights = references(alloc, RIGHTS)?;
-    match queue.send(b"y", 16, rights, CRED, 5, from.clone()?) {
+    match queue.send(&Bytes::short(b"y"), 16, rights, CRED, 5, from.clone()?) {
         Ok(()) => assert!(rt; false),
         Err(refused) => {
             assert_eq!(rt; refused.error, SendError::Full);
@@ -115,20 +136,20 @@ fn the_seventeenth_is_refused(rt: HostRuntime) -> Result<(), AllocError> {
     let mut queue = RecordQueue::new(alloc);
     for tag in 0..16_u64 {
         assert!(rt; !queue.is_full());
-        send(&rt, &mut queue, b"x", tag, RefList::new(alloc), None);
+        send(
+            &rt,
+            &mut queue,
+            &Bytes::short(b"x"),
+            tag,
+            RefList::new(alloc),
+            None,
+        );
     }
     assert!(rt; queue.is_full());
     let from = Some(path(alloc, b"/b")?);
     expect_full(&rt, alloc, &mut queue, &from)?;
     assert_eq!(rt; queue.len(), 16);
     Ok(())
-}
-
-/// How many sends and peeks were refused.
-#[derive(Drop)]
-struct Refusals {
-    sends: u64,
-    peeks: u64,
 }
 
 /// Sends a message with 20 bytes, and tells whether it was queued.
@@ -141,7 +162,8 @@ fn is_queued<A: Allocator + Copy>(
 ) -> Result<bool, AllocError> {
     let name = from.clone()?;
     let rights = references(alloc, RIGHTS)?;
-    match queue.send(&[tag; 20], tag as u64, rights, CRED, 5, name) {
+    let bytes = Bytes::from_slice(alloc, &[tag; 20])?;
+    match queue.send(&bytes, tag as u64, rights, CRED, 5, name) {
         Ok(()) => Ok(true),
         Err(refused) => {
             assert_eq!(rt; refused.error, SendError::NoMemory);
@@ -152,61 +174,48 @@ fn is_queued<A: Allocator + Copy>(
     }
 }
 
-/// Peeks at a message with 20 bytes, and tells whether memory was wanting.
-fn peek_lacks_memory<A: Allocator + Copy>(
-    rt: &impl Abort,
-    queue: &RecordQueue<A>,
-    tag: u8,
-) -> bool {
-    assert!(rt; !queue.is_empty());
-    match queue.peek(20) {
-        Ok(received) => {
-            assert_eq!(rt; received.bytes.as_slice(), [tag; 20].as_slice());
-            false
-        }
-        Err(AllocError) => true,
-    }
-}
-
-/// Takes a message with 20 bytes.
-fn take<A: Allocator + Copy>(
-    rt: &impl Abort,
-    queue: &mut RecordQueue<A>,
-    tag: u8,
-    from: &Option<Addr>,
-) {
-    assert!(rt; !queue.is_empty());
-    let received = queue.take(20);
+/// Sees what a receive gives of a message with 20 bytes.
+fn expect_whole(rt: &impl Abort, received: Received, tag: u8, from: &Option<Addr>) {
     assert_eq!(rt; received.bytes.as_slice(), [tag; 20].as_slice());
     expect_references(rt, &received.rights, RIGHTS);
     assert!(rt; received.from == *from);
 }
 
-/// Sends twelve messages, and takes those that were queued.
+/// Peeks at a message with 20 bytes, and takes it.
+fn take<A: Allocator + Copy>(
+    rt: &impl Abort,
+    queue: &mut RecordQueue<A>,
+    tag: u8,
+    from: &Option<Addr>,
+) -> Result<(), AllocError> {
+    assert!(rt; !queue.is_empty());
+    expect_whole(rt, queue.peek(20)?, tag, from);
+    expect_whole(rt, queue.take(20), tag, from);
+    Ok(())
+}
+
+/// Sends twelve messages, takes those that were queued, and says how many sends were refused.
 fn pass<A: Allocator + Copy>(
     rt: &impl Abort,
     alloc: Global,
     queue: &mut RecordQueue<A>,
-) -> Result<Refusals, AllocError> {
-    let mut refusals = Refusals { sends: 0, peeks: 0 };
+) -> Result<u64, AllocError> {
+    let mut refused: u64 = 0;
     let from = Some(path(alloc, b"/c")?);
     let mut queued = Vec::new(alloc);
     for tag in 0..12_u8 {
         if is_queued(rt, alloc, queue, tag, &from)? {
             queued.push(tag)?;
         } else {
-            refusals.sends = refusals.sends.saturating_add(1);
+            refused = refused.saturating_add(1);
         }
         assert_eq!(rt; queue.len(), queued.len());
     }
     for tag in &queued {
-        if peek_lacks_memory(rt, queue, *tag) {
-            refusals.peeks = refusals.peeks.saturating_add(1);
-        }
-        take(rt, queue, *tag, &from);
+        take(rt, queue, *tag, &from)?;
     }
     assert!(rt; queue.is_empty());
-    Ok(refusals)
+    Ok(refused)
 }
 
 /// On a heap that is 16 bytes larger each time, each allocation is at some time the first that is refused.
@@ -214,57 +223,98 @@ fn pass<A: Allocator + Copy>(
 #[test]
 fn refused_allocations_change_nothing(rt: HostRuntime) -> Result<(), AllocError> {
     let alloc = rt.alloc();
-    let mut all = Refusals { sends: 0, peeks: 0 };
+    let mut all: u64 = 0;
     for blocks in 0..1000_usize {
         let heap = LocalHeap::new(alloc, blocks * 16)?;
-        let refusals = pass(&rt, alloc, &mut RecordQueue::new(&heap))?;
-        if refusals.sends == 0 && refusals.peeks == 0 {
-            assert!(rt; all.sends > 0, "{}", all.sends);
-            assert!(rt; all.peeks > 0, "{}", all.peeks);
+        let refused = pass(&rt, alloc, &mut RecordQueue::new(&heap))?;
+        if refused == 0 {
+            assert!(rt; all > 0, "{all}");
             return Ok(());
         }
-        all.sends = all.sends.saturating_add(refusals.sends);
-        all.peeks = all.peeks.saturating_add(refusals.peeks);
+        all = all.saturating_add(refused);
     }
     assert!(rt; false, "no heap was enough");
     Ok(())
 }
 
-/// Takes a message of one byte, where a copy of it is refused.
-fn take_alone<A: Allocator + Copy>(rt: &impl Abort, queue: &mut RecordQueue<A>) -> Received<A> {
+/// Takes a message of one byte, where a copy of its rights is refused.
+fn take_alone(rt: &impl Abort, queue: &mut RecordQueue) -> Received {
     assert!(rt; !queue.is_empty());
     assert!(rt; is_refused(queue.peek(1)));
     queue.take(1)
 }
 
-/// Sees how many references a message has, and who sent it.
-fn expect_moved<A: Allocator + Copy>(
-    rt: &impl Abort,
-    received: Received<A>,
-    rights: usize,
-    from: &Option<Addr>,
-) {
-    assert_eq!(rt; received.rights.len(), rights);
-    assert!(rt; received.from == *from);
-}
-
-/// The bytes come from a heap of their own, so only the copies of the rights and of the name are refused.
+/// Where there is no memory, a peek at many rights is refused, and they can still be taken.
 #[test]
 fn what_cannot_be_copied_moves(rt: HostRuntime) -> Result<(), AllocError> {
     let alloc = rt.alloc();
-    let heap = LocalHeap::new(alloc, 4096)?;
-    let mut queue = RecordQueue::new(&heap);
-    let from = Some(path(alloc, b"/c")?);
+    let mut queue = RecordQueue::new(alloc);
+    let from = Some(path(alloc, b"/a/name/of/many/bytes")?);
     let rights = references(alloc, &[1, 2, 3, 4, 5])?;
-    send(&rt, &mut queue, b"a", 1, rights, None);
-    send(&rt, &mut queue, b"b", 2, RefList::new(alloc), from.clone()?);
-    assert_eq!(rt; queue.len(), 2);
+    let bytes = Bytes::short(b"a");
+    send(&rt, &mut queue, &bytes, 1, rights, from.clone()?);
+    assert_eq!(rt; queue.len(), 1);
     let hoard = Hoard::take_all(alloc)?;
     let first = take_alone(&rt, &mut queue);
-    let second = take_alone(&rt, &mut queue);
     drop(hoard);
-    expect_moved(&rt, first, 5, &None);
-    expect_moved(&rt, second, 0, &from);
+    assert_eq!(rt; first.rights.len(), 5);
+    assert!(rt; first.from == from);
+    Ok(())
+}
+
+/// Sees what a receive of at most n bytes gives of a message without rights.
+fn expect_first(rt: &impl Abort, received: Received, n: usize, bytes: &[u8], from: &Option<Addr>) {
+    assert_eq!(rt; received.bytes.as_slice(), &bytes[..n.min(bytes.len())]);
+    assert_eq!(rt; (received.whole, received.rights.len()), (bytes.len(), 0));
+    assert!(rt; received.from == *from);
+}
+
+/// How many bytes are asked for.
+const WANTED: &[usize] = &[0, 14, 15, 50, 99, 100, 101];
+
+/// Takes each of the messages with these bytes, for which a peek shows what all receives would give.
+fn take_each(
+    rt: &impl Abort,
+    queue: &mut RecordQueue,
+    bytes: &[u8],
+    from: &Option<Addr>,
+) -> Result<(), AllocError> {
+    for n in WANTED {
+        for peeked in WANTED {
+            assert!(rt; !queue.is_empty());
+            expect_first(rt, queue.peek(*peeked)?, *peeked, bytes, from);
+        }
+        assert!(rt; !queue.is_empty());
+        expect_first(rt, queue.take(*n), *n, bytes, from);
+    }
+    Ok(())
+}
+
+/// The bytes and the name are handed on, so a receive of any part of them needs no memory.
+#[test]
+fn a_message_is_handed_on_without_memory(rt: HostRuntime) -> Result<(), AllocError> {
+    let alloc = rt.alloc();
+    let mut queue = RecordQueue::new(alloc);
+    let from = Some(path(alloc, b"/a/name/of/many/bytes")?);
+    let mut long = Vec::new(alloc);
+    for byte in 0..100_u8 {
+        long.push(byte)?;
+    }
+    let short = Vec::from_slice(alloc, b"fourteen bytes")?;
+    for bytes in [&long, &short] {
+        for _ in WANTED {
+            let bytes = Bytes::from_slice(alloc, bytes)?;
+            let none = RefList::new(alloc);
+            send(&rt, &mut queue, &bytes, 1, none, from.clone()?);
+        }
+    }
+    let hoard = Hoard::take_all(alloc)?;
+    let taken = take_each(&rt, &mut queue, &long, &from);
+    let taken_too = take_each(&rt, &mut queue, &short, &from);
+    drop(hoard);
+    taken?;
+    taken_too?;
+    assert!(rt; queue.is_empty());
     Ok(())
 }
 

@@ -11,7 +11,7 @@ use std::alloc::{AllocError, Allocator, Global};
 use std::process::Abort;
 use ux_rights::{Origin, SendError};
 use ux_stream::{Received, StreamQueue};
-use ux_types::{Cred, Pid};
+use ux_types::{Cred, Pid, SHORT_BYTES};
 
 /// Pseudo-random numbers, by a linear congruence (Knuth's MMIX).
 #[derive(Drop)]
@@ -58,7 +58,7 @@ impl Dice {
     }
 }
 
-fn assert_front<A: Allocator + Copy>(rt: &impl Abort, received: Received<A>, wanted: &ListFront) {
+fn assert_front(rt: &impl Abort, received: Received, wanted: &ListFront) {
     assert_eq!(rt; received.bytes.as_slice(), wanted.bytes.as_slice());
     expect_references(rt, &received.rights, &wanted.rights);
     assert_eq!(rt;
@@ -68,12 +68,7 @@ fn assert_front<A: Allocator + Copy>(rt: &impl Abort, received: Received<A>, wan
 }
 
 /// Sees which bytes and references a receive gives.
-fn expect_bytes<A: Allocator + Copy>(
-    rt: &impl Abort,
-    received: Received<A>,
-    bytes: &[u8],
-    numbers: &[u128],
-) {
+fn expect_bytes(rt: &impl Abort, received: Received, bytes: &[u8], numbers: &[u128]) {
     assert_eq!(rt; received.bytes.as_slice(), bytes);
     expect_references(rt, &received.rights, numbers);
 }
@@ -149,7 +144,7 @@ impl<A: Allocator + Copy> Both<A> {
         let wanted = self.list.front(n, wants_cred)?;
         assert!(rt; self.queue.is_empty() == wanted.is_none());
         if let Some(wanted) = wanted {
-            match self.queue.peek(n, wants_cred) {
+            match self.queue.peek(self.alloc, n, wants_cred) {
                 Ok(received) => assert_front(rt, received, &wanted),
                 Err(AllocError) => {
                     self.refused_receives = self.refused_receives.saturating_add(1);
@@ -163,7 +158,34 @@ impl<A: Allocator + Copy> Both<A> {
         let wanted = self.list.front(n, wants_cred)?;
         assert!(rt; self.queue.is_empty() == wanted.is_none());
         if let Some(wanted) = wanted {
-            match self.queue.take(n, wants_cred) {
+            match self.queue.take(self.alloc, n, wants_cred) {
+                Ok(received) => {
+                    assert_front(rt, received, &wanted);
+                    self.list.drop_front(wanted.bytes.len());
+                }
+                Err(AllocError) => {
+                    self.refused_receives = self.refused_receives.saturating_add(1);
+                }
+            }
+        }
+        Ok(())
+    }
+
+    /// Takes where there is no memory at all: at most 14 bytes need none, and more are refused and stay.
+    fn take_without_memory(
+        &mut self,
+        rt: &impl Abort,
+        n: usize,
+        wants_cred: bool,
+    ) -> Result<(), AllocError> {
+        let wanted = self.list.front(n, wants_cred)?;
+        assert!(rt; self.queue.is_empty() == wanted.is_none());
+        if let Some(wanted) = wanted {
+            let hoard = Hoard::take_all(self.alloc)?;
+            let taken = self.queue.take(self.alloc, n, wants_cred);
+            drop(hoard);
+            assert_eq!(rt; taken.is_ok(), wanted.bytes.len() <= SHORT_BYTES);
+            match taken {
                 Ok(received) => {
                     assert_front(rt, received, &wanted);
                     self.list.drop_front(wanted.bytes.len());
@@ -235,7 +257,6 @@ fn two_queues_agree(rt: HostRuntime) -> Result<(), AllocError> {
 fn refused_allocations_change_nothing(rt: HostRuntime) -> Result<(), AllocError> {
     let alloc = rt.alloc();
     let mut refused_sends: u64 = 0;
-    let mut refused_receives: u64 = 0;
     for blocks in 0..1000_usize {
         let heap = LocalHeap::new(alloc, blocks * 16)?;
         let mut both = Both::new(StreamQueue::new(&heap), alloc);
@@ -247,34 +268,49 @@ fn refused_allocations_change_nothing(rt: HostRuntime) -> Result<(), AllocError>
             both.pop(&rt);
         }
         assert!(rt; both.queue.is_empty());
-        if both.refused_sends == 0 && both.refused_receives == 0 {
+        if both.refused_sends == 0 {
             assert!(rt; refused_sends > 10, "{refused_sends}");
-            assert!(rt; refused_receives > 10, "{refused_receives}");
             return Ok(());
         }
         refused_sends = refused_sends.saturating_add(both.refused_sends);
-        refused_receives = refused_receives.saturating_add(both.refused_receives);
     }
     assert!(rt; false, "no heap was enough");
     Ok(())
 }
 
-/// Takes two bytes of a queue, where a copy of the first message is refused.
-fn take_alone<A: Allocator + Copy>(
-    rt: &impl Abort,
-    queue: &mut StreamQueue<A>,
-) -> Result<Received<A>, AllocError> {
-    assert!(rt; !queue.is_empty());
-    assert!(rt; is_refused(queue.peek(2, true)));
-    queue.take(2, true)
+/// A receive that is refused for want of memory leaves the queue as before, as the next one shows.
+#[test]
+fn few_bytes_are_received_without_memory(rt: HostRuntime) -> Result<(), AllocError> {
+    let alloc = rt.alloc();
+    let mut both = Both::new(StreamQueue::new(alloc), alloc);
+    let mut dice = Dice { state: 7 };
+    for tag in 0..8_u64 {
+        both.send(&rt, dice.message(alloc, tag)?)?;
+    }
+    for n in [0, 1, 14, 15, 16, 60] {
+        both.take_without_memory(&rt, n, true)?;
+        both.take(&rt, n, true)?;
+    }
+    assert!(rt; both.refused_receives > 1, "{}", both.refused_receives);
+    Ok(())
 }
 
-/// The bytes come from a heap of their own, so only the copy of the rights is refused.
+/// Takes two bytes of a queue, where a copy of the rights is refused.
+fn take_alone(
+    rt: &impl Abort,
+    alloc: Global,
+    queue: &mut StreamQueue,
+) -> Result<Received, AllocError> {
+    assert!(rt; !queue.is_empty());
+    assert!(rt; is_refused(queue.peek(alloc, 2, true)));
+    queue.take(alloc, 2, true)
+}
+
+/// Two bytes need no memory, so only the copy of the rights is refused.
 #[test]
 fn rights_move_where_they_cannot_be_copied(rt: HostRuntime) -> Result<(), AllocError> {
     let alloc = rt.alloc();
-    let heap = LocalHeap::new(alloc, 4096)?;
-    let mut queue = StreamQueue::new(&heap);
+    let mut queue = StreamQueue::new(alloc);
     let numbers = [1, 2, 3, 4, 5, 6];
     let cred = Cred {
         pid: Pid(1),
@@ -284,7 +320,7 @@ fn rights_move_where_they_cannot_be_copied(rt: HostRuntime) -> Result<(), AllocE
     let sent = queue.send(b"abc", 9, 7, references(alloc, &numbers)?, cred, 2);
     assert!(rt; sent.is_ok());
     let hoard = Hoard::take_all(alloc)?;
-    let taken = take_alone(&rt, &mut queue);
+    let taken = take_alone(&rt, alloc, &mut queue);
     drop(hoard);
     expect_bytes(&rt, taken?, b"ab", &numbers);
     assert_eq!(rt; queue.len_bytes(), 1);

@@ -1,5 +1,4 @@
 //! What the tests share: lists of references by their numbers, and paths.
-use bstr::BString;
 use std::alloc::{AllocError, Global};
 use std::process::Abort;
 use ux_rights::RefList;
@@ -24,7 +23,7 @@ pub(crate) fn expect_references(rt: &impl Abort, list: &RefList, numbers: &[u128
 
 /// A path with these bytes, as an address.
 pub(crate) fn path(alloc: Global, bytes: &[u8]) -> Result<Addr, AllocError> {
-    Ok(Addr::Path(Name::new(BString::from_slice(alloc, bytes)?)))
+    Ok(Addr::Path(Name::from_slice(alloc, bytes)?))
 }
 
 /// Whether an answer is a refusal. Of a value of any type its drop is a call, and not each of its parts.
