@@ -106,6 +106,23 @@ fn eleven_calls_are_answered_without_memory(rt: HostRuntime) -> Result<(), Fail>
     Ok(())
 }
 
+/// Reads of few bytes, to the end of the file and at its end.
+const FEW_BYTES: &[Row] = &[
+    (1, Asked::File(FileCall::Read(0, 2)), Told::Bytes(b"ab")),
+    (1, Asked::File(FileCall::Read(0, 99)), Told::Bytes(b"c")),
+    (1, Asked::File(FileCall::Read(0, 99)), Told::Bytes(b"")),
+];
+
+#[test]
+fn few_bytes_are_read_without_memory(rt: HostRuntime) -> Result<(), Fail> {
+    let alloc = rt.alloc();
+    let mut machine = with_file(alloc, 16)?;
+    let k = &mut machine;
+    says_rows(&rt, alloc, k, MADE)?;
+    says_without_memory(&rt, alloc, k, FEW_BYTES)?;
+    Ok(())
+}
+
 /// The steps in which more is left, of 16 bytes each.
 const STEPS: usize = 3800;
 
@@ -147,11 +164,13 @@ fn says_with_least(
     Err(Fail::from("refused with 60 KiB"))
 }
 
-/// Four descriptors of the file, of two descriptions: a table has room for four before it grows.
+/// Four descriptors of the file, of two descriptions: a table has room for four before it grows. The first of
+/// them stands behind two bytes.
 const OPENED: &[Row] = &[
     (1, Asked::Open(b"f"), Told::Fd(1)),
     (1, Asked::File(FileCall::Dup(0)), Told::Fd(2)),
     (1, Asked::File(FileCall::Dup(0)), Told::Fd(3)),
+    (1, Asked::File(FileCall::Read(0, 2)), Told::Bytes(b"ab")),
 ];
 
 /// An open, before there is any descriptor.
@@ -175,15 +194,6 @@ const GROWTHS: &[(Asked, Told, &[Row])] = &[
         &[(1, Asked::Close(1000), Told::Err(Errno::EBADF))],
     ),
     (
-        Asked::File(FileCall::Read(0, 2)),
-        Told::Bytes(b"ab"),
-        &[(
-            1,
-            Asked::File(FileCall::Lseek(0, 0, Whence::Cur)),
-            Told::At(0),
-        )],
-    ),
-    (
         Asked::File(FileCall::Write(0, b"0123456789012345678901234567890123456789")),
         Told::Count(40),
         &[
@@ -199,6 +209,15 @@ const GROWTHS: &[(Asked, Told, &[Row])] = &[
             ),
             (1, Asked::File(FileCall::Read(1, 9)), Told::Bytes(b"abc")),
         ],
+    ),
+    (
+        Asked::File(FileCall::Read(1, 15)),
+        Told::Bytes(b"123456789012345"),
+        &[(
+            1,
+            Asked::File(FileCall::Lseek(1, 0, Whence::Cur)),
+            Told::At(3),
+        )],
     ),
 ];
 
