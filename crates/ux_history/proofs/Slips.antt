@@ -9,7 +9,8 @@ use Rattle.ux_model.specs.Types.{Pid, Request, Reply, Entry}
 use Rattle.ux_model.specs.State.{State}
 use Rattle.ux_model.specs.Waiting.{may_wait, is_again, should_wait}
 use Rattle.ux_model.specs.History.{replay, IsLegal}
-use Rattle.ux_model.specs.Rooms.{size_of, room_for, Fits}
+use Rattle.ux_model.specs.Rooms.{Size, size_of, room_for, Fits}
+use Rattle.ux_room.proofs.Fitting.{fits_trans}
 use Rattle.ux_model.proofs.Fronts.{front_is_legal}
 use Rattle.ux_model.proofs.ReplySizes.{replies_fit}
 use Rattle.ux_history.specs.declared.receipts.Call.{Call}
@@ -106,6 +107,10 @@ fits_at boot es i e request legal here asked =
   where
     there : IsSomeAnd (Some e) (λ x. x.request ≡ request) → e.request ≡ request
     there h = h
+
+pub some_fits : (room : Option Size) (small large : Size) → Fits small large → IsSomeAnd room (λ r. Fits large r) → IsSomeAnd room (λ r. Fits small r)
+some_fits None small large fits there = absurd there
+some_fits (Some room) small large fits there = fits_trans small large room fits there
 
 -- an entry that was read at a number
 pub read_here : (es xs : List Entry) (i : ℕ) (x : Entry) (request : Request) → xs ≡ es → IsSomeAnd (slice_get es i) (λ e. e.request ≡ request) → x ≡ get_or xs i x → slice_get es i ≡ Some x

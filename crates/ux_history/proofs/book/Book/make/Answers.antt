@@ -1,8 +1,10 @@
-use Rattle.std.proofs.Common.{◌≡◌, ℕ, ◌+◌, Bool, true, false, cond, map, ap, sym, subst, ◌∙◌}
+use Rattle.std.proofs.Common.{◌≡◌, ℕ, ◌+◌, ◌≤◌, Bool, true, false, cond, map, ap, sym, subst, ◌∙◌}
 use Rattle.std.proofs.lemmas.Bool.{false≢true, or_parts}
 use Rattle.ux_model.specs.Waiting.{may_wait}
-use Rattle.ux_model.specs.History.{is_exit, is_off}
+use Rattle.ux_model.specs.Types.{Request}
+use Rattle.ux_model.specs.History.{is_exit, is_off, makes_one}
 use Rattle.ux_history.specs.Books.{Held, state_of}
+use Rattle.ux_history.specs.Receipts.{Slip}
 use Rattle.ux_history.specs.Shares.{Caller, IsBook}
 use Rattle.ux_history.proofs.Accounts.{part_for_child, book_after}
 use Rattle.ux_history.proofs.Slips.{Answered, answered, said_of}
@@ -10,19 +12,20 @@ use Rattle.ux_history.proofs.book.Book.make.Given.{Over}
 use Rattle.ux_history.proofs.book.Book.make.Goals as goal
 use Rattle.ux_history.proofs.book.Book.make.Goals.{then-tried, else-tried}
 
-made_here : (g : Over) (c : goal.After-call g) → Answered g.W.BookName.boot c.args.self.now c.append.new.self.book c.args.share.now c.args.prepared c.args.tried c.in-Some.number c.call.result.reply c.call.result (map (λ o. o.0) c.append.new.retired)
+made_here : (g : Over) (c : goal.After-child_share-arg-3-1 g) → Answered g.W.BookName.boot c.args.self.now c.append.new.self.book c.args.share.now c.args.prepared c.args.tried c.in-Some.number c.call-call.result.reply c.call-call.result (map (λ o. o.0) c.append.new.retired)
 made_here g c =
     let log = c.reserve.new.self.book in
+    let asked : c.into_parts-request.result.0 ≡ c.args.prepared = ap (λ r. r.0) c.into_parts-request.ensures in
     let waits : c.args.tried ≡ true → c.if-tried.waits ≡ may_wait (state_of log) c.share.inside.pid.0 c.args.prepared = elim c.if-tried.branch [
-      | then-tried w ↦ λ t. w.waits-is ∙ w.waits-waits.ensures
+      | then-tried w ↦ λ t. w.waits-is ∙ w.waits-waits.ensures ∙ ap (may_wait (state_of log) c.share.inside.pid.0) asked
       | else-tried w ↦ λ t. absurd (false≢true (sym w.if-tried.false ∙ t))
     ] in
-    answered g.W.BookName.boot log c.args.self.now c.append.new.self.book c.args.share.now c.share.inside.pid c.share.inside.k c.into_parts.result.0 c.args.prepared c.if-tried.waits c.args.tried c.in-Some.number
-    c.call.result.reply c.call.result (map (λ o. o.0) c.append.new.retired)
+    answered g.W.BookName.boot log c.args.self.now c.append.new.self.book c.args.share.now c.share.inside.pid c.share.inside.k c.into_parts-request.result.0 c.args.prepared c.if-tried.waits c.args.tried c.in-Some.number
+    c.call-call.result.reply c.call-call.result (map (λ o. o.0) c.append.new.retired)
     (c.reserve.ensures.book ∙ c.self.view_is)
     (ap Caller.pid c.share.view_is)
     (c.share.invariant.0 ∙ ap Caller.k c.share.view_is)
-    (ap (λ r. r.0) c.into_parts.ensures) c.in-Some.ensures.entry c.in-Some.ensures.number (said_of c.append.new.self.book.entries c.in-Some.number c.call.result c.call.ensures.call) waits c.call.ensures.boot c.call.ensures.legal
+    asked c.in-Some.ensures.entry c.in-Some.ensures.number (said_of c.append.new.self.book.entries c.in-Some.number c.call-call.result c.call-call.ensures.call) waits c.call-call.ensures.boot c.call-call.ensures.legal
 
 pub invariant_of-receipt : goal.invariant_of-receipt
 invariant_of-receipt g c = (made_here g c.before).slip
@@ -36,12 +39,17 @@ returns-clause-done g c = (made_here g c.before).done
 pub returns-clause-receipt : goal.returns-clause-receipt
 returns-clause-receipt g c = (made_here g c.before).receipt
 
-book_here : (g : Over) (c : goal.After-call g) → IsBook c.args.self.now g.W.Ledger.parts c.self.inside.ledger.total c.self.inside.rest.parts c.self.inside.rest.amount
+book_here : (g : Over) (c : goal.After-child_share-arg-3-1 g) → IsBook c.args.self.now g.W.Ledger.parts c.self.inside.ledger.total c.self.inside.rest.parts c.self.inside.rest.amount
 book_here g c = subst (λ (b : Held). IsBook b g.W.Ledger.parts c.self.inside.ledger.total c.self.inside.rest.parts c.self.inside.rest.amount) c.self.view_is c.self.invariant
+
+-- the receipt has the request that was prepared
+request_here : (g : Over) (c : goal.After-child_share-arg-3-1 g) → c.call-call.result.request ≡ c.args.prepared
+request_here g c = ap (λ (s : Slip). s.call.request) (made_here g c).receipt
 
 pub child_share-child-requires-clause-parts : goal.child_share-child-requires-clause-parts
 child_share-child-requires-clause-parts g c =
-    part_for_child (book_here g c) (made_here g c).adds c.process_count-made.ensures.count c.process_count-made.ensures.most
+    subst (λ (r : Request). cond {A = ℕ} (makes_one r c.call-call.result.reply) 1 0 ≤ c.self.inside.rest.parts) (sym (request_here g c))
+    (part_for_child (book_here g c) (made_here g c).adds c.process_count-made.ensures.count c.process_count-made.ensures.most)
 
 pub invariant_of-self-2 : goal.invariant_of-self-2
 invariant_of-self-2 g c =
@@ -49,4 +57,5 @@ invariant_of-self-2 g c =
     let no_end : is_off request ≡ false = (or_parts (is_exit request) (is_off request) c.requires.call).1 in
     book_after (book_here g c.before) (made_here g c.before).adds
     (c.add.ensures.total ∙ ap (λ (b : Bool). c.self.inside.ledger.total + cond {A = ℕ} b 0 1) (sym no_end))
-    c.child_share-child.ensures.parts c.child_share-child.ensures.amount
+    (subst (λ (r : Request). c.child_share-child.new.rest.parts + cond {A = ℕ} (makes_one r c.call-call.result.reply) 1 0 ≡ c.self.inside.rest.parts) (request_here g c.before) c.child_share-child.ensures.parts)
+    c.child_share-child.ensures.amount
