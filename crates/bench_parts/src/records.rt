@@ -5,7 +5,7 @@ use std::alloc::{AllocError, Global};
 use std::rt::Clock;
 use ux_record::RecordQueue;
 use ux_rights::RefList;
-use ux_types::{Cred, Pid};
+use ux_types::{Bytes, Cred, Pid};
 
 /// How often a batch is measured.
 const ROUNDS: u32 = 200;
@@ -35,12 +35,12 @@ enum Step {
 struct Records {
     alloc: Global,
     queue: RecordQueue,
-    message: Vec<u8>,
+    message: Bytes,
     step: Step,
 }
 
 /// Sends a message.
-fn send(alloc: Global, queue: &mut RecordQueue, message: &[u8]) -> bool {
+fn send(alloc: Global, queue: &mut RecordQueue, message: &Bytes) -> bool {
     queue
         .send(message, 1, RefList::new(alloc), CRED, 1000, None)
         .is_ok()
@@ -52,7 +52,7 @@ fn take(queue: &mut RecordQueue, length: usize) -> bool {
         return false;
     }
     let received = queue.take(length);
-    received.whole == length && received.bytes.last() == Some(&BYTE)
+    received.whole == length && received.bytes.as_slice().last() == Some(&BYTE)
 }
 
 /// Takes all messages off.
@@ -68,7 +68,7 @@ impl Records {
         Ok(Records {
             alloc,
             queue: RecordQueue::new(alloc),
-            message: vec![in alloc; BYTE; length]?,
+            message: Bytes::new(vec![in alloc; BYTE; length]?)?,
             step: Step::Send,
         })
     }
@@ -77,7 +77,7 @@ impl Records {
     fn send_all(&mut self) -> u32 {
         let mut granted: u32 = 0;
         for _ in 0..CALLS {
-            let sent = send(self.alloc, &mut self.queue, self.message.as_slice());
+            let sent = send(self.alloc, &mut self.queue, &self.message);
             granted = granted.saturating_add(u32::from(sent));
         }
         granted

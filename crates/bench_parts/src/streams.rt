@@ -58,11 +58,11 @@ fn send(alloc: Global, queue: &mut StreamQueue, message: &[u8]) -> bool {
 }
 
 /// Takes so many bytes.
-fn take(queue: &mut StreamQueue, length: usize) -> bool {
+fn take(alloc: Global, queue: &mut StreamQueue, length: usize) -> bool {
     if queue.is_empty() {
         return false;
     }
-    match queue.take(length, false) {
+    match queue.take(alloc, length, false) {
         Ok(received) => is_message(received.bytes.as_slice(), length),
         Err(_) => false,
     }
@@ -111,7 +111,7 @@ impl Stream {
         let length = self.message.len();
         let mut granted: u32 = 0;
         for _ in 0..self.calls {
-            let taken = take(&mut self.queue, length);
+            let taken = take(self.alloc, &mut self.queue, length);
             granted = granted.saturating_add(u32::from(taken));
         }
         granted
