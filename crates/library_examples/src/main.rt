@@ -9,13 +9,13 @@ mod two_threads;
 
 use anyhow::Result;
 use ux_history::{Book, BookName};
-use ux_objects::MemFile;
+use ux_object::FileObject;
 use ux_syntax::entry_text;
 
 /// Prints the history.
-fn print_history<W: BookName>(
+fn print_history<W: BookName, O: FileObject>(
     rt: &(impl Print + AllocGlobal),
-    book: &Book<W, MemFile>,
+    book: &Book<W, O>,
 ) -> Result<()> {
     for (number, entry) in book.entries().iter().enumerate() {
         print!(rt; "{}", entry_text(rt.alloc(), number, entry)?)?;

@@ -9,26 +9,22 @@ use anyhow::{Result, anyhow};
 use std::alloc::Global;
 use std::marker::Brand;
 use std::sync::ledger::Blank;
+use ux_calls::{Boot, call};
 use ux_history::{Account, Book, BookName, PARTS, Share, has_own_call, settle_accounts};
 use ux_kernel::Kernel;
-use ux_objects::MemFile;
+use ux_objects::Plain;
 use ux_state::RetiredList;
-use ux_types::{Bytes, Fd, Mode, Name, OpenFlags, ProcSpec, Request, Whence};
+use ux_types::{Fd, Mode, Request, Whence};
 
 /// A kernel with one memory file, at the path `notes`, and one process.
-fn start(alloc: Global) -> Result<Kernel<MemFile>>
+fn start(alloc: Global) -> Result<Kernel<Plain>>
     ensures { IfOk result (λ kernel. IsBootState kernel) }
 {
-    let path = Name::from_slice(alloc, b"notes")?;
-    let file = MemFile::new(alloc, b"")?;
-    let writer = ProcSpec {
-        uid: 1000,
-        gid: 1000,
-        privileged: false,
-        limit: 16,
-    };
-    let objects = vec![in alloc; (path, file)]?;
-    match Kernel::boot(alloc, objects, &[writer]) {
+    let plan = Boot::new(alloc)
+        .file(b"notes", b"")?
+        .process(1000, 1000, 16)?;
+    let (objects, processes) = plan.into_parts();
+    match Kernel::boot(alloc, objects, &processes) {
         Ok(kernel) => Ok(kernel),
         // The file comes back with the fault.
         Err((fault, _objects)) => Err(anyhow!("{fault}")),
@@ -37,34 +33,22 @@ fn start(alloc: Global) -> Result<Kernel<MemFile>>
 
 /// The calls that the process makes before it exits.
 fn calls(alloc: Global) -> Result<Vec<Request>> {
-    let path = Name::from_slice(alloc, b"notes")?;
-    let bytes = Bytes::from_slice(alloc, b"hello")?;
-    let open = Request::Open {
-        path,
-        mode: Mode::Both,
-        flags: OpenFlags(0),
-    };
-    // The dup shares the offset of its original, which is set back to the beginning.
-    let rewind = Request::Lseek {
-        fd: Fd(1),
-        offset: 0,
-        whence: Whence::Set,
-    };
     Ok(vec![in alloc;
-        open,
-        Request::Write { fd: Fd(0), bytes },
-        Request::Dup { fd: Fd(0) },
-        rewind,
-        Request::Read { fd: Fd(0), n: 64 },
-        Request::Close { fd: Fd(0) },
+        call::open(alloc, b"notes", Mode::Both)?,
+        call::write(alloc, Fd(0), b"hello")?,
+        // The dup shares the offset of its original, which is set back to the beginning.
+        call::dup(Fd(0)),
+        call::lseek(Fd(1), 0, Whence::Set),
+        call::read(Fd(0), 64),
+        call::close(Fd(0)),
     ]?)
 }
 
 /// Makes these calls of the share's process.
 fn make_calls<W: BookName>(
-    book: &mut Book<W, MemFile>,
+    book: &mut Book<W, Plain>,
     share: &mut Share<W>,
-    retired: &mut RetiredList<MemFile>,
+    retired: &mut RetiredList<Plain>,
     requests: &[Request],
 ) -> Result<()> {
     for request in requests {
@@ -85,9 +69,9 @@ fn make_calls<W: BookName>(
 /// Ends the process, and compares what its share counted with the history.
 fn end<W: BookName>(
     alloc: Global,
-    book: &mut Book<W, MemFile>,
+    book: &mut Book<W, Plain>,
     share: Share<W>,
-    retired: &mut RetiredList<MemFile>,
+    retired: &mut RetiredList<Plain>,
 ) -> Result<Account> {
     retired.clear();
     let spents = match book.exit(share, retired) {
@@ -103,7 +87,7 @@ fn end<W: BookName>(
 /// Fills this book with the calls of its one process, and prints its history.
 fn fill<W: BookName>(
     rt: &(impl Print + AllocGlobal),
-    book: &mut Book<W, MemFile>,
+    book: &mut Book<W, Plain>,
     mut shares: Vec<Share<W>>,
 ) -> Result<()> {
     let requests = calls(rt.alloc())?;
@@ -122,14 +106,14 @@ fn fill<W: BookName>(
 fn keep_book<W: BookName>(
     rt: &(impl Print + AllocGlobal),
     blank: Blank,
-    kernel: Kernel<MemFile>,
+    kernel: Kernel<Plain>,
 ) -> Result<()>
     requires name { blank.name ≡ W.name }
     requires parts { (blank.parts ≡ W.parts) × (blank.parts ≡ 1024) }
     requires boots { IsBootState kernel }
     requires named { kernel ≡ W.boot }
 {
-    match Book::<W, MemFile>::new(rt.alloc(), blank, kernel) {
+    match Book::<W, Plain>::new(rt.alloc(), blank, kernel) {
         Ok((mut book, shares)) => {
             let filled = fill(rt, &mut book, shares);
             // One drop for all ways out of `fill` keeps the proof short.

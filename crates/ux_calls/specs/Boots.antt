@@ -1,0 +1,19 @@
+-- What a layer is to start with.
+use Rattle.std.specs.Prelude.{ℕ, List, ◌++◌, ◌∷◌, []}
+use Rattle.ux_model.specs.Types.{ProcSpec}
+use Rattle.ux_model.specs.Object.{View, new_view}
+use Rattle.ux_object.specs.declared.ObjKind.{ObjKind}
+use Rattle.ux_objects.specs.Failing.{first_body}
+
+-- file objects, each under its path, and processes
+pub record Plan : Type 0 where
+  pub objects : List (List ℕ × View)
+  pub processes : List ProcSpec
+
+-- with one more object of this kind, which was just made
+abbrev pub with_object : Plan → List ℕ → ObjKind → List ℕ → Plan
+with_object plan path kind bytes = record plan { objects = plan.objects ++ (path, new_view (first_body kind bytes)) ∷ [] }
+
+-- with one more process
+abbrev pub with_process : Plan → ProcSpec → Plan
+with_process plan spec = record plan { processes = plan.processes ++ spec ∷ [] }

@@ -1,0 +1,161 @@
+//! What a layer starts with, put together step by step.
+ghost use Rattle.std.specs.Prelude.{◌≡◌, [], true, false, map, IfOk};
+ghost use Rattle.ux_object.specs.declared.ObjKind.{ObjKind};
+ghost use Rattle.ux_objects.specs.Failing.{plain_view};
+ghost use Rattle.ux_calls.specs.Boots.{with_object, with_process};
+
+use std::alloc::{AllocError, Global};
+use std::marker::Model;
+use ux_object::{ObjError, ObjKind};
+use ux_objects::Plain;
+use ux_types::{Name, ProcSpec};
+
+/// The file objects and the processes that a layer is to start with. Objects are numbered from 0 on and
+/// processes from 1 on, in the order in which they are given. Contracts see both lists.
+pub struct Boot {
+    alloc: Global,
+    objects: Vec<(Name, Plain)>,
+    processes: Vec<ProcSpec>,
+}
+
+// Written out, so that it is proved here and not in each function that drops one.
+impl Drop for Boot {
+    fn drop(self) {
+        let Boot {
+            alloc: _,
+            objects,
+            processes,
+        } = self;
+        drop(objects);
+        drop(processes);
+    }
+}
+
+impl Model for Boot {
+    ghost use Rattle.std.specs.Prelude.{map};
+    ghost use Rattle.ux_objects.specs.Failing.{plain_view};
+    ghost use Rattle.ux_calls.specs.Boots.{Plan};
+
+    ghost Value = { Plan };
+
+    ghost view = { λ b. record { objects = map (λ o. (o.0, plain_view o.1)) b.objects.items; processes = b.processes.items } };
+}
+
+impl Boot {
+    /// Nothing yet. All that follows is allocated here.
+    pub fn new(alloc: Global) -> Boot
+        ensures { result ≡ record { objects = []; processes = [] } }
+    {
+        Boot {
+            alloc,
+            objects: Vec::new(alloc),
+            processes: Vec::new(alloc),
+        }
+    }
+
+    /// Where all of it is allocated.
+    pub fn allocator(&self) -> Global {
+        self.alloc
+    }
+
+    /// Adds a memory file with a copy of these bytes.
+    ///
+    /// # Errors
+    ///
+    /// `Full` for more than 1,048,576 bytes, else `NoMemory`.
+    pub fn file(self, path: &[u8], bytes: &[u8]) -> Result<Boot, ObjError>
+        ensures { IfOk result (λ b. b ≡ with_object self path.now ObjKind.Memory bytes.now) }
+    {
+        self.object(path, ObjKind::Memory, bytes)
+    }
+
+    /// Adds a counter at 0, as of eventfd(2).
+    ///
+    /// # Errors
+    ///
+    /// `NoMemory`.
+    pub fn counter(self, path: &[u8]) -> Result<Boot, ObjError>
+        ensures { IfOk result (λ b. b ≡ with_object self path.now ObjKind.Counter []) }
+    {
+        self.object(path, ObjKind::Counter, b"")
+    }
+
+    /// Adds an empty pipe, as of pipe(7).
+    ///
+    /// # Errors
+    ///
+    /// `NoMemory`.
+    pub fn pipe(self, path: &[u8]) -> Result<Boot, ObjError>
+        ensures { IfOk result (λ b. b ≡ with_object self path.now ObjKind.Pipe []) }
+    {
+        self.object(path, ObjKind::Pipe, b"")
+    }
+
+    /// Adds an object of this kind: a file with a copy of these bytes, a counter at 0, or an empty pipe.
+    fn object(mut self, path: &[u8], kind: ObjKind, bytes: &[u8]) -> Result<Boot, ObjError>
+        ensures { IfOk result (λ b. b ≡ with_object self path.now kind bytes.now) }
+    {
+        let plain = Plain::new(self.alloc, kind, bytes)?;
+        let Ok(name) = Name::from_slice(self.alloc, path) else {
+            return Err(ObjError::NoMemory);
+        };
+        match self.objects.push((name, plain)) {
+            Ok(()) => Ok(self),
+            Err(_) => Err(ObjError::NoMemory),
+        }
+    }
+
+    /// Adds a process of this user and group, which may have so many descriptors (below 1 counts as 1, above
+    /// 4,096 as 4,096).
+    ///
+    /// # Errors
+    ///
+    /// Out of memory.
+    pub fn process(self, uid: u32, gid: u32, limit: u32) -> Result<Boot, AllocError>
+        ensures { IfOk result (λ b. b ≡ with_process self (record { uid = uid; gid = gid; privileged = false; limit = limit })) }
+    {
+        self.spec(ProcSpec {
+            uid,
+            gid,
+            privileged: false,
+            limit,
+        })
+    }
+
+    /// As `process`, of a process that may give credentials that aren't its own.
+    ///
+    /// # Errors
+    ///
+    /// Out of memory.
+    pub fn privileged(self, uid: u32, gid: u32, limit: u32) -> Result<Boot, AllocError>
+        ensures { IfOk result (λ b. b ≡ with_process self (record { uid = uid; gid = gid; privileged = true; limit = limit })) }
+    {
+        self.spec(ProcSpec {
+            uid,
+            gid,
+            privileged: true,
+            limit,
+        })
+    }
+
+    /// Adds a process.
+    fn spec(mut self, spec: ProcSpec) -> Result<Boot, AllocError>
+        ensures { IfOk result (λ b. b ≡ with_process self spec) }
+    {
+        self.processes.push(spec)?;
+        Ok(self)
+    }
+
+    /// The objects, each under its path, and the processes: what `Kernel::boot` takes.
+    pub fn into_parts(self) -> (Vec<(Name, Plain)>, Vec<ProcSpec>)
+        ensures objects { map (λ o. (o.0, plain_view o.1)) result.0.items ≡ self.objects }
+        ensures processes { result.1.items ≡ self.processes }
+    {
+        let Boot {
+            alloc: _,
+            objects,
+            processes,
+        } = self;
+        (objects, processes)
+    }
+}
