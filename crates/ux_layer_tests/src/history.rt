@@ -18,14 +18,14 @@ use ux_objects::Counter;
 use ux_state::RetiredList;
 use ux_types::{Errno, Fd, MsgFlags, Name, OpenFlags, Pid, ProcSpec, Reply, Request, SockType};
 
-pub(crate) const ONE: [ProcSpec; 1] = [ProcSpec {
+const ONE: [ProcSpec; 1] = [ProcSpec {
     uid: 1000,
     gid: 1000,
     privileged: false,
     limit: 16,
 }];
 
-pub(crate) const PAIR: Request = Request::SocketPair {
+const PAIR: Request = Request::SocketPair {
     kind: SockType::Stream,
     flags: OpenFlags(0),
 };
@@ -43,8 +43,8 @@ const fn receive(flags: MsgFlags) -> Request
 }
 
 /// A book, whose drop is proved once.
-pub(crate) struct Kept<W: BookName> {
-    pub(crate) book: Book<W, Counter>,
+struct Kept<W: BookName> {
+    book: Book<W, Counter>,
 }
 
 impl<W: BookName> Drop for Kept<W> {
@@ -56,14 +56,14 @@ impl<W: BookName> Drop for Kept<W> {
 
 /// A book of one process and its share, and a list for the file objects that go.
 #[derive(Drop)]
-pub(crate) struct Shelf<W: BookName> {
-    pub(crate) kept: Kept<W>,
-    pub(crate) share: Share<W>,
-    pub(crate) retired: RetiredList<Counter>,
+struct Shelf<W: BookName> {
+    kept: Kept<W>,
+    share: Share<W>,
+    retired: RetiredList<Counter>,
 }
 
 /// A shelf at the start of a kernel.
-pub(crate) fn make_shelf<W: BookName>(
+fn make_shelf<W: BookName>(
     alloc: Global,
     blank: Blank,
     kernel: Kernel<Counter>,

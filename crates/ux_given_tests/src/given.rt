@@ -4,7 +4,7 @@ ghost use Rattle.std.specs.Prelude.{◌≡◌, false};
 ghost use Rattle.ux_model.specs.Boot.{IsBootState};
 ghost use Rattle.ux_history.specs.Books.{has_own_call};
 
-use crate::history::{ONE, PAIR, Shelf, make_shelf};
+use crate::shelf::{ONE, PAIR, Shelf, make_shelf};
 use hoard::Purse;
 use std::alloc::{AllocError, Global};
 use std::marker::Brand;
@@ -262,7 +262,10 @@ fn share_one<W: BookName>(
         Request::SendMsg { bytes, .. } => assert!(rt; bytes.as_slice().as_ptr() == start),
         _ => panic!(rt; "another request"),
     }
-    match &s.kept.book.entries()[1].request {
+    let Some(entry) = s.kept.book.entries().get(1) else {
+        panic!(rt; "no entry");
+    };
+    match &entry.request {
         Request::SendMsg { bytes, .. } => assert!(rt; bytes.as_slice().as_ptr() == start),
         _ => panic!(rt; "another request"),
     }
