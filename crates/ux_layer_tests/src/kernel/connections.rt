@@ -101,11 +101,17 @@ const CLIENTS: &[Row] = &[
     (1, Asked::Socket, Told::Fd(2)),
 ];
 
-/// Calls of theirs that take memory.
-const CONNECTED: &[Row] = &[
-    (1, Asked::Bind(1, At::Unnamed), Told::Ok),
-    (1, Asked::Bind(2, At::Abstract(b"n")), Told::Ok),
-    (1, Asked::Connect(1, At::Path(b"p")), Told::Ok),
+/// A call of the first that takes memory.
+const NAMED: &[Row] = &[(1, Asked::Bind(1, At::Unnamed), Told::Ok)];
+
+/// One of the second, for whose name there is room.
+const ALSO_NAMED: &[Row] = &[(1, Asked::Bind(2, At::Abstract(b"n")), Told::Ok)];
+
+/// A further call that takes memory.
+const CONNECTED: &[Row] = &[(1, Asked::Connect(1, At::Path(b"p")), Told::Ok)];
+
+/// Calls that tell short names.
+const TOLD: &[Row] = &[
     (1, Asked::SockName(1), Told::Addr(At::Abstract(b"00000"))),
     (1, Asked::PeerName(1), Told::Addr(At::Path(b"p"))),
     (
@@ -165,7 +171,10 @@ fn a_connection_that_is_refused_memory_is_not_there(rt: HostRuntime) -> Result<(
     let k = &mut machine;
     says_at_last(&rt, alloc, k, A_SERVER)?;
     says_rows(&rt, alloc, k, CLIENTS)?;
+    says_at_last(&rt, alloc, k, NAMED)?;
+    says_rows(&rt, alloc, k, ALSO_NAMED)?;
     says_at_last(&rt, alloc, k, CONNECTED)?;
+    says_rows(&rt, alloc, k, TOLD)?;
     says_rows(&rt, alloc, k, AFTERWARDS)?;
     says_without_memory(&rt, alloc, k, WITHOUT_MEMORY)
 }

@@ -18,9 +18,11 @@ const MADE: &[Row] = &[
     (1, Asked::Bind(1, SENDER), Told::Ok),
 ];
 
-/// Calls that take memory: a datagram keeps its bytes and its sender's name, and a receive copies both.
-const SENT: &[Row] = &[
-    (1, Asked::SendTo(1, TARGET, b"abc"), Told::Count(3)),
+/// A call that takes memory: the queue's first message.
+const SENT: &[Row] = &[(1, Asked::SendTo(1, TARGET, b"abc"), Told::Count(3))];
+
+/// A peek and a receive of it.
+const RECEIVED: &[Row] = &[
     (1, Asked::Recv(0, 2, 1), Told::From(b"ab", 2, SENDER)),
     (1, Asked::Recv(0, 8, 0), Told::From(b"abc", 0, SENDER)),
 ];
@@ -34,6 +36,7 @@ fn a_datagram_that_is_refused_memory_is_not_sent(rt: HostRuntime) -> Result<(), 
     let mut machine = bare(alloc, &[process(16)])?;
     says_rows(&rt, alloc, &mut machine, MADE)?;
     says_at_last(&rt, alloc, &mut machine, SENT)?;
+    says_rows(&rt, alloc, &mut machine, RECEIVED)?;
     says_rows(&rt, alloc, &mut machine, SENT_ONCE)
 }
 

@@ -36,16 +36,16 @@ fn a_pair_from_its_making_to_its_end(rt: HostRuntime) -> Result<(), AllocError> 
 /// Calls that take memory before a message is sent.
 const MADE_AND_SENT: &[Row] = &[
     (1, Asked::Pair, Told::Fds(0, 1)),
-    (1, Asked::Send(0, b"abc", 0), Told::Count(3)),
+    (1, Asked::Send(0, b"abcdefghijklmnop", 0), Told::Count(16)),
 ];
 
 /// A further send.
 const SENT: &[Row] = &[(1, Asked::Send(0, b"def", 0), Told::Count(3))];
 
-/// Calls that take memory to receive.
+/// Calls that take memory to receive, as for each more than 14 bytes.
 const RECEIVED: &[Row] = &[
-    (1, Asked::Recv(1, 1, 1), Told::Got(b"a")),
-    (1, Asked::Recv(1, 4, 0), Told::Got(b"abcd")),
+    (1, Asked::Recv(1, 15, 1), Told::Got(b"abcdefghijklmno")),
+    (1, Asked::Recv(1, 17, 0), Told::Got(b"abcdefghijklmnopd")),
 ];
 
 /// What shows that a refused call took nothing.
