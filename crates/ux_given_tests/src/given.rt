@@ -11,7 +11,7 @@ use std::marker::Brand;
 use std::process::Abort;
 use std::sync::ledger::Blank;
 use std::test::Fail;
-use ux_history::{BookName, CallFault, PARTS, Prepared, Receipt};
+use ux_history::{BookName, CallFault, PARTS, Receipt};
 use ux_kernel::Kernel;
 use ux_objects::Counter;
 use ux_types::{Bytes, Errno, Fd, MsgFlags, Reply, Request};
@@ -216,58 +216,5 @@ fn exchange_many<W: BookName>(
     drop(purse);
     // The list of entries grows by doubling.
     assert!(rt; refused <= 5);
-    Ok(())
-}
-
-#[test]
-fn a_long_message_is_shared(rt: HostRuntime) -> Result<(), Fail> {
-    let alloc = rt.alloc();
-    let Ok(kernel) = Kernel::boot(alloc, Vec::new(alloc), &ONE) else {
-        return Err(Fail::from("no kernel"));
-    };
-    share_one::<Brand>(&rt, alloc, Blank::new(PARTS), kernel)?;
-    Ok(())
-}
-
-/// Prepares a send before the book is asked, and sees that its receipt and its entry have the bytes that were given.
-fn share_one<W: BookName>(
-    rt: &impl Abort,
-    alloc: Global,
-    blank: Blank,
-    kernel: Kernel<Counter>,
-) -> Result<(), AllocError>
-    requires name { blank.name ≡ W.name }
-    requires parts { (blank.parts ≡ W.parts) × (blank.parts ≡ 1024) }
-    requires boots { IsBootState kernel }
-    requires named { kernel ≡ W.boot }
-{
-    let mut shelf = make_shelf::<W>(alloc, blank, kernel)?;
-    let s = &mut shelf;
-    drop(must_give(rt, s, PAIR));
-    let bytes = Bytes::new(vec![in alloc; 7u8; 4096]?)?;
-    let start = bytes.as_slice().as_ptr();
-    let Ok(prepared) = Prepared::new(send(bytes)) else {
-        return Err(AllocError);
-    };
-    s.retired.clear();
-    let made = s
-        .kept
-        .book
-        .record_prepared(&mut s.share, prepared, &mut s.retired);
-    let Ok(receipt) = made else {
-        return Err(AllocError);
-    };
-    assert!(rt; *receipt.reply() == Reply::Count(4096));
-    match &receipt.call().request {
-        Request::SendMsg { bytes, .. } => assert!(rt; bytes.as_slice().as_ptr() == start),
-        _ => panic!(rt; "another request"),
-    }
-    let Some(entry) = s.kept.book.entries().get(1) else {
-        panic!(rt; "no entry");
-    };
-    match &entry.request {
-        Request::SendMsg { bytes, .. } => assert!(rt; bytes.as_slice().as_ptr() == start),
-        _ => panic!(rt; "another request"),
-    }
     Ok(())
 }

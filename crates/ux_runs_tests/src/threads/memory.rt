@@ -14,13 +14,13 @@ use ux_types::Pid;
 /// How many calls process 1 makes. Their history takes more than a block that a thread may have kept for itself.
 const CALLS: u64 = 100;
 
-/// Process 1 makes its calls once the other is there, and each needs memory for a copy of its bytes. Process 2 waits
+/// Process 1 makes its calls once the other is there, and each needs memory: room for a copy of its reply. Process 2 waits
 /// until the first has exited, and goes on.
 fn script_text(alloc: Global) -> Result<Vec<u8>, AllocError> {
     let mut text = Vec::from_slice(alloc, b"proc 1000 1000 0 16\nproc 1000 1000 0 16\n")?;
     text.extend_from_slice(b"2 socket dgram -\n1 wait 2 1\n")?;
     for _call in 0..CALLS {
-        text.extend_from_slice(b"1 send 0 - 6869 - -\n")?;
+        text.extend_from_slice(b"1 recv 0 8 0 -\n")?;
     }
     text.extend_from_slice(b"2 wait 1 999\n2 send 0 - 6869 - -\noff\n")?;
     Ok(text)
