@@ -1,5 +1,6 @@
 //! What a layer starts with, put together step by step.
-ghost use Rattle.std.specs.Prelude.{◌≡◌, [], true, false, map, IfOk};
+ghost use Rattle.std.specs.Prelude.{◌≡◌, ◌<◌, ◌↔◌, ◌⊎◌, [], true, false, length, map, IfOk, IfErr, IsErrAnd};
+ghost use Rattle.ux_model.specs.Limits.{file_limit};
 ghost use Rattle.ux_object.specs.declared.ObjKind.{ObjKind};
 ghost use Rattle.ux_objects.specs.Failing.{plain_view};
 ghost use Rattle.ux_calls.specs.Boots.{with_object, with_process};
@@ -62,9 +63,11 @@ impl Boot {
     ///
     /// # Errors
     ///
-    /// `Full` for more than 1,048,576 bytes, else `NoMemory`.
+    /// `Full` exactly for more than 1,048,576 bytes, else `NoMemory`.
     pub fn file(self, path: &[u8], bytes: &[u8]) -> Result<Boot, ObjError>
-        ensures { IfOk result (λ b. b ≡ with_object self path.now ObjKind.Memory bytes.now) }
+        ensures made { IfOk result (λ b. b ≡ with_object self path.now ObjKind.Memory bytes.now) }
+        ensures full { IsErrAnd result (λ e. e ≡ ObjError.Full) ↔ (file_limit < length bytes.now) }
+        ensures refused { IfErr result (λ e. (e ≡ ObjError.Full) ⊎ (e ≡ ObjError.NoMemory)) }
     {
         self.object(path, ObjKind::Memory, bytes)
     }
@@ -75,7 +78,8 @@ impl Boot {
     ///
     /// `NoMemory`.
     pub fn counter(self, path: &[u8]) -> Result<Boot, ObjError>
-        ensures { IfOk result (λ b. b ≡ with_object self path.now ObjKind.Counter []) }
+        ensures made { IfOk result (λ b. b ≡ with_object self path.now ObjKind.Counter []) }
+        ensures refused { IfErr result (λ e. e ≡ ObjError.NoMemory) }
     {
         self.object(path, ObjKind::Counter, b"")
     }
@@ -86,14 +90,17 @@ impl Boot {
     ///
     /// `NoMemory`.
     pub fn pipe(self, path: &[u8]) -> Result<Boot, ObjError>
-        ensures { IfOk result (λ b. b ≡ with_object self path.now ObjKind.Pipe []) }
+        ensures made { IfOk result (λ b. b ≡ with_object self path.now ObjKind.Pipe []) }
+        ensures refused { IfErr result (λ e. e ≡ ObjError.NoMemory) }
     {
         self.object(path, ObjKind::Pipe, b"")
     }
 
     /// Adds an object of this kind: a file with a copy of these bytes, a counter at 0, or an empty pipe.
     fn object(mut self, path: &[u8], kind: ObjKind, bytes: &[u8]) -> Result<Boot, ObjError>
-        ensures { IfOk result (λ b. b ≡ with_object self path.now kind bytes.now) }
+        ensures made { IfOk result (λ b. b ≡ with_object self path.now kind bytes.now) }
+        ensures full { IsErrAnd result (λ e. e ≡ ObjError.Full) ↔ ((kind ≡ ObjKind.Memory) × (file_limit < length bytes.now)) }
+        ensures refused { IfErr result (λ e. (e ≡ ObjError.Full) ⊎ (e ≡ ObjError.NoMemory)) }
     {
         let plain = Plain::new(self.alloc, kind, bytes)?;
         let Ok(name) = Name::from_slice(self.alloc, path) else {

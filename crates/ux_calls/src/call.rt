@@ -1,8 +1,9 @@
 //! The requests of the calls, with the arguments that the manual pages give. None is a fork, an exit
 //! or the end of the layer, as each contract's right side shows.
-ghost use Rattle.std.specs.Prelude.{◌≡◌, [], None, IfOk, map, min};
+ghost use Rattle.std.specs.Prelude.{◌≡◌, ◌≤◌, [], None, IfOk, map, min};
 ghost use Rattle.ux_model.specs.Types.{Request, Addr};
-ghost use Rattle.ux_model.specs.Delivery.{control_bytes};
+ghost use Rattle.ux_model.specs.Limits.{rights_limit};
+ghost use Rattle.ux_model.specs.Delivery.{control_bytes, rights_fit};
 ghost use Rattle.ux_calls.specs.Calls.{no_open_flags, no_msg_flags, rights_space};
 
 use std::alloc::{AllocError, Global};
@@ -293,9 +294,11 @@ pub fn recv(fd: Fd, n: usize) -> Request
     }
 }
 
-/// recvmsg(2) of at most `n` bytes, with room for so many descriptors, at most as many as go in one message.
+/// recvmsg(2) of at most `n` bytes, with room for so many descriptors, at most as many as go in one message. A
+/// socket with SO_PASSCRED takes 32 bytes of that room for credentials.
 pub fn recv_rights(fd: Fd, n: usize, count: usize) -> Request
-    ensures { result ≡ Request.RecvMsg fd n (rights_space (min count 253)) no_msg_flags }
+    ensures request { result ≡ Request.RecvMsg fd n (rights_space (min count rights_limit)) no_msg_flags }
+    ensures enough { min count rights_limit ≤ rights_fit (rights_space (min count rights_limit)) }
 {
     // A head of 16 bytes, and 4 for each descriptor, up to the next multiple of 8.
     let space = 16 + 8 * ((count.min(RIGHTS_LIMIT) + 1) / 2);
