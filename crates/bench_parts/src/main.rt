@@ -2,6 +2,7 @@
 //! buffers, slots and names. The times go to standard error.
 #![tactic(auto)]
 
+mod collisions;
 mod control;
 mod measuring;
 mod names;
@@ -12,6 +13,7 @@ mod slots;
 mod streams;
 mod tables;
 
+use crate::collisions::measure_collisions;
 use crate::control::measure_control;
 use crate::names::measure_names;
 use crate::objects::measure_objects;
@@ -68,6 +70,7 @@ fn main(rt: HostRuntime) -> Result<()> {
         measure_control(&rt, alloc, count)?;
     }
     measure_places(&rt, alloc)?;
+    measure_collisions(&rt, alloc)?;
     println!(rt; "done")?;
     Ok(())
 }

@@ -44,9 +44,9 @@ fn entries_of(alloc: Global, script: Script) -> Result<Vec<Entry>, AllocError> {
             k: number as u64,
             request,
             reply: Reply::Received {
+                flags: MsgFlags::TRUNC,
                 count: 13,
                 bytes,
-                flags: MsgFlags::TRUNC,
                 control: Bytes::empty(),
                 from: None,
             },

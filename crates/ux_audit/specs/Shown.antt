@@ -13,7 +13,7 @@ IsHistory entries = (boot : State) × IsLegal boot entries
 
 -- the numbers that the control buffer of a receive spells
 abbrev pub numbers_read : Reply → List ℕ
-numbers_read (Reply.Received count bytes flags control from) = rights_in (control_in control)
+numbers_read (Reply.Received flags count bytes control from) = rights_in (control_in control)
 numbers_read _ = []
 
 -- the numbers that the call gave its process anew, in order

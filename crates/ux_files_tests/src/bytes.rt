@@ -30,8 +30,8 @@ fn values_are_so_large(rt: HostRuntime) {
     assert_eq!(rt; size_of::<Bytes>(), 16);
     assert_eq!(rt; size_of::<Name>(), 16);
     assert_eq!(rt; size_of::<Request>(), 80);
-    assert_eq!(rt; size_of::<Reply>(), 88);
-    assert_eq!(rt; size_of::<Entry>(), 272);
+    assert_eq!(rt; size_of::<Reply>(), 80);
+    assert_eq!(rt; size_of::<Entry>(), 200);
 }
 
 /// Sees that these are the bytes.

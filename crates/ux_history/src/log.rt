@@ -302,7 +302,7 @@ fn note(entries: &mut Vec<Entry>, calls: &mut Vec<u64>, entry: Entry)
 
 /// The numbers of file objects.
 pub(crate) fn numbers_of<O: FileObject>(retired: &[Retired<O>]) -> Released
-    requires { length retired.now ≤ object_limit }
+    requires rising { AllPairs (λ a b. a < b) (map (λ r. r.0) retired.now) }
     ensures { result ≡ map (λ r. r.0) retired.now }
 {
     let mut numbers = Released::new();

@@ -16,7 +16,7 @@ abbrev send_to : ℕ → List ℕ → List ℕ → Request
 send_to n name bytes = Request.SendMsg (fd n) (Some (Addr.Abstract name)) bytes [] (flags 0)
 
 abbrev got_from : Addr → ℕ → List ℕ → ℕ → Reply
-got_from from count bytes told = Reply.Received count bytes (flags told) [] (Some from)
+got_from from count bytes told = Reply.Received (flags told) count bytes [] (Some from)
 
 -- a datagram that is longer than what is asked for is cut, and the rest is gone; with MSG_TRUNC the count is its length
 cut : play one_process 0 (
@@ -87,9 +87,9 @@ ends_of_records : play one_process 0 (
     Reply.Count 3 ∷
     Reply.Count 0 ∷
     Reply.Ok ∷
-    Reply.Received 2 (codes "ab") (flags 34) [] None ∷
-    Reply.Received 0 [] (flags 32) [] None ∷
-    Reply.Received 0 [] (flags 0) [] None ∷
+    Reply.Received (flags 34) 2 (codes "ab") [] None ∷
+    Reply.Received (flags 32) 0 [] [] None ∷
+    Reply.Received (flags 0) 0 [] [] None ∷
     refused Errno.EPIPE ∷ []
 unfolding computing
 ends_of_records = refl

@@ -1,4 +1,5 @@
 pub mod ReleaseLaws
+pub mod ReleasedNumbers
 pub mod AnyOrder
 pub mod Fronts
 pub mod Appending

@@ -128,7 +128,7 @@ limit_in_flight : play (boot_state [] (process 4 ∷ [])) 0 (
     Reply.Count 1 ∷
     refused Errno.ETOOMANYREFS ∷
     Reply.Count 1 ∷
-    Reply.Received 1 (codes "x") (flags 16) [] None ∷
+    Reply.Received (flags 16) 1 (codes "x") [] None ∷
     Reply.Count 1 ∷ []
 unfolding computing
 limit_in_flight = refl

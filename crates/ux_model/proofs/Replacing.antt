@@ -88,7 +88,7 @@ abbrev pub tells_number : Reply → Bool
 tells_number (Reply.Fd fd) = true
 tells_number (Reply.Fds first second) = true
 tells_number (Reply.Accepted fd addr) = true
-tells_number (Reply.Received count bytes flags control from) = true
+tells_number (Reply.Received flags count bytes control from) = true
 tells_number _ = false
 
 told_none : (request : Request) (reply : Reply) → tells_number reply ≡ false → numbers_told request reply ≡ []
@@ -98,7 +98,7 @@ told_none request (Reply.Accepted fd addr) h = absurd (false≢true (sym h))
 told_none request _ h = refl
 
 received_none : (b : Brought) (reply : Reply) → tells_number reply ≡ false → numbers_received b reply ≡ []
-received_none b (Reply.Received count bytes flags control from) h = absurd (false≢true (sym h))
+received_none b (Reply.Received flags count bytes control from) h = absurd (false≢true (sym h))
 received_none b _ h = refl
 
 pub gives_none : (S : State) (p : ℕ) (request : Request) (reply : Reply) → tells_number reply ≡ false → given S p request reply ≡ []

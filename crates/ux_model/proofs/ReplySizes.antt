@@ -49,7 +49,7 @@ use Rattle.ux_model.proofs.ReceivedSizes.{front_small, control_small}
 
 abbrev is_plain : Reply → Bool
 is_plain (Reply.Bytes bytes) = false
-is_plain (Reply.Received count bytes flags control from) = false
+is_plain (Reply.Received flags count bytes control from) = false
 is_plain (Reply.Accepted fd addr) = false
 is_plain (Reply.Addr addr) = false
 is_plain _ = true
@@ -65,7 +65,7 @@ plain_fits (Reply.Fds a b) room h = nothing_fits room
 plain_fits (Reply.Count n) room h = nothing_fits room
 plain_fits (Reply.Bytes bytes) room h = absurd (cc h)
 plain_fits (Reply.At n) room h = nothing_fits room
-plain_fits (Reply.Received count bytes flags control from) room h = absurd (cc h)
+plain_fits (Reply.Received flags count bytes control from) room h = absurd (cc h)
 plain_fits (Reply.Accepted fd addr) room h = absurd (cc h)
 plain_fits (Reply.Addr addr) room h = absurd (cc h)
 plain_fits (Reply.Opt value) room h = nothing_fits room
@@ -365,14 +365,14 @@ no_message {n} {space} {o} h k = record { fits = plain_fits o.reply (message_roo
 
 -- a message of these parts
 received : (n space count : ℕ) (bytes control : List ℕ) (flags : MsgFlags) (from : Option Addr) (T : State) (grows : Bool) → length bytes ≤ n → length bytes ≤ greatest_queue_limit → length control ≤ min control_limit space →
-    sender_bytes from ≤ name_limit → Receives n space (record { reply = Reply.Received count bytes flags control from; next = T; may_lack_memory = grows; failure = None })
+    sender_bytes from ≤ name_limit → Receives n space (record { reply = Reply.Received flags count bytes control from; next = T; may_lack_memory = grows; failure = None })
 unfolding size_of
 received n space count bytes control flags from T grows few limited small short = record {
   fits = record { data_fits = omega (arith, few, limited); control_fits = small; name_fits = short };
   alone = record { data_fits = few; control_fits = omega arith; name_fits = omega arith };
 }
 
-nothing_received : {n space : ℕ} (S : State) → Receives n space (record { reply = Reply.Received 0 [] no_flags [] None; next = S; may_lack_memory = false; failure = None })
+nothing_received : {n space : ℕ} (S : State) → Receives n space (record { reply = Reply.Received no_flags 0 [] [] None; next = S; may_lack_memory = false; failure = None })
 nothing_received {n} {space} S = received n space 0 [] [] no_flags None S false (omega arith) (omega arith) (omega arith) (omega arith)
 
 front_within : (S : State) (p d : ℕ) (s : Socket) (n space : ℕ) (flags : MsgFlags) (m : Message) (ms : List Message) → HasBounds s.kind s.name s.queue_limit s.queue → s.queue ≡ m ∷ ms →

@@ -46,7 +46,7 @@ tag_of b = if length b.numbers == 0 then None else option_map (λ (o : Origin). 
 -- The same by a reply, which tells that something was received or not. A peek installs rights too; and where a receive joins the bytes of
 -- several messages of a stream, the tag is that of the one whose rights came along.
 abbrev pub told_of : Brought → Reply → Option ℕ
-told_of b (Reply.Received count bytes flags control from) = tag_of b
+told_of b (Reply.Received flags count bytes control from) = tag_of b
 told_of b _ = None
 
 -- the tag of the message of which the call that gave this reply installed at least one right

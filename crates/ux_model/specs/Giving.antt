@@ -43,7 +43,7 @@ numbers_told request _ = []
 
 -- those that a receive gives, which brings this
 abbrev pub numbers_received : Brought → Reply → List ℕ
-numbers_received b (Reply.Received count bytes flags control from) = b.numbers
+numbers_received b (Reply.Received flags count bytes control from) = b.numbers
 numbers_received b _ = []
 
 -- The numbers that the call of process p gives it anew in state S, in order, where it answers this.

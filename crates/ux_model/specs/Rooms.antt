@@ -25,7 +25,7 @@ no_bytes = record { data_bytes = 0; control = 0; name = 0 }
 
 unfoldable pub size_of : Reply → Size
 size_of (Reply.Bytes bytes) = record no_bytes { data_bytes = length bytes }
-size_of (Reply.Received count bytes flags control from) = record { data_bytes = length bytes; control = length control; name = sender_bytes from }
+size_of (Reply.Received flags count bytes control from) = record { data_bytes = length bytes; control = length control; name = sender_bytes from }
 size_of (Reply.Accepted fd addr) = record no_bytes { name = name_bytes addr }
 size_of (Reply.Addr addr) = record no_bytes { name = name_bytes addr }
 size_of _ = no_bytes

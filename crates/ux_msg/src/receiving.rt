@@ -218,8 +218,8 @@ fn recv_nothing<O: FileObject>(
 /// The reply that tells what was received at a socket of this type by a call with these flags, and what was
 /// delivered with it.
 fn received(kind: SockType, flags: MsgFlags, front: Received, delivery: Delivered) -> Reply
-    ensures { result ≡ Reply.Received (if asks_real_length flags then front.whole else length front.bytes) front.bytes
-        (received_flags (nat_lt (length front.bytes) front.whole) delivery.truncated (marks_records kind)) delivery.control front.from }
+    ensures { result ≡ Reply.Received (received_flags (nat_lt (length front.bytes) front.whole) delivery.truncated (marks_records kind))
+        (if asks_real_length flags then front.whole else length front.bytes) front.bytes delivery.control front.from }
 {
     let taken = front.bytes.len();
     let count = if flags.contains(MsgFlags::TRUNC) {
@@ -228,8 +228,8 @@ fn received(kind: SockType, flags: MsgFlags, front: Received, delivery: Delivere
         taken
     };
     Reply::Received {
-        count,
         flags: flags_told(taken < front.whole, delivery.truncated, marks_records(kind)),
+        count,
         bytes: front.bytes,
         control: delivery.control,
         from: front.from,
@@ -266,9 +266,9 @@ fn nothing_received() -> Done
     ensures none { result.delivered ≡ None }
 {
     let reply = Reply::Received {
+        flags: MsgFlags(0),
         count: 0,
         bytes: Bytes::empty(),
-        flags: MsgFlags(0),
         control: Bytes::empty(),
         from: None,
     };

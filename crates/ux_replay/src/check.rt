@@ -125,7 +125,7 @@ fn repeat<O: FileObject>(
     let compared = compare(&done, entry);
     drop(done);
     if matches!(compared, Repeated::Same)
-        && !are_these(retired.as_slice(), entry.released.as_slice())
+        && !are_these(retired.as_slice(), entry.released.numbers().as_slice())
     {
         return Repeated::Otherwise;
     }

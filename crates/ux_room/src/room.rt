@@ -1,5 +1,5 @@
 //! Room for a copy of one reply.
-ghost use Rattle.std.specs.Prelude.{◌≡◌, IfOk, OnOk, IsTrue, IsSomeAnd};
+ghost use Rattle.std.specs.Prelude.{◌≡◌, IfOk, OnOk, OnErr, IsTrue, IsSomeAnd};
 ghost use Rattle.ux_model.specs.Rooms.{size_of, room_for, Fits};
 ghost use Rattle.ux_room.specs.Sizes.{size_by};
 
@@ -88,7 +88,7 @@ impl ReplyRoom {
     }
 
     /// Sees to it that there is room for the reply to this request. Room that was kept stays where it is
-    /// enough, and else makes way for more.
+    /// enough, or where there is no memory for more, and else makes way for more.
     ///
     /// # Errors
     ///
@@ -98,7 +98,8 @@ impl ReplyRoom {
         alloc: Global,
         request: &Request,
     ) -> Result<(), AllocError>
-        ensures { OnOk result (IsSomeAnd kept.new (λ room. Fits (room_for request.now) room)) }
+        ensures room { OnOk result (IsSomeAnd kept.new (λ room. Fits (room_for request.now) room)) }
+        ensures same { OnErr result (kept.new ≡ kept.old) }
     {
         let wanted = sizes_for(request);
         let wanted = match kept {
@@ -148,15 +149,15 @@ impl ReplyRoom {
             Reply::Bytes(bytes) => Reply::Bytes(bytes.share(self.data)),
             Reply::At(offset) => Reply::At(*offset),
             Reply::Received {
+                flags,
                 count,
                 bytes,
-                flags,
                 control,
                 from,
             } => Reply::Received {
+                flags: *flags,
                 count: *count,
                 bytes: bytes.share(self.data),
-                flags: *flags,
                 control: control.share(self.control),
                 from: sender_copy(self.name, from),
             },

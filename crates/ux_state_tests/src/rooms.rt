@@ -102,9 +102,9 @@ fn message(alloc: Global, from: Option<Addr>) -> Result<Reply, AllocError>
     ensures { IfOk result (λ r. size_of r ≡ record { data_bytes = 4; control = 2; name = sender_bytes from }) }
 {
     Ok(Reply::Received {
+        flags: MsgFlags::TRUNC,
         count: 5,
         bytes: Bytes::from_slice(alloc, b"ping")?,
-        flags: MsgFlags::TRUNC,
         control: Bytes::from_slice(alloc, &[7, 8])?,
         from,
     })

@@ -152,7 +152,7 @@ reply_text (Reply.Fds a b) = codes "fds " ++ (decimal a.0 ++ (codes " " ++ decim
 reply_text (Reply.Count n) = codes "n " ++ decimal n
 reply_text (Reply.Bytes bytes) = codes "bytes " ++ hex bytes
 reply_text (Reply.At n) = codes "at " ++ decimal n
-reply_text (Reply.Received count bytes flags control from) = got_text count bytes flags (items_text control) from
+reply_text (Reply.Received flags count bytes control from) = got_text count bytes flags (items_text control) from
 reply_text (Reply.Accepted a name) = codes "accepted " ++ (decimal a.0 ++ (codes " " ++ addr_text name))
 reply_text (Reply.Addr name) = codes "addr " ++ addr_text name
 reply_text (Reply.Opt n) = codes "opt " ++ decimal n
@@ -163,7 +163,7 @@ reply_text (Reply.Err e) = codes "err " ++ errno_text e
 
 -- the same where the control bytes of a receive read as this
 abbrev pub reply_telling : Option Control → Reply → List ℕ
-reply_telling read (Reply.Received count bytes flags control from) = got_text count bytes flags (told_text control read) from
+reply_telling read (Reply.Received flags count bytes control from) = got_text count bytes flags (told_text control read) from
 reply_telling read reply = reply_text reply
 
 -- the word that names a call, in a script and in a trace

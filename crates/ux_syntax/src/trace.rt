@@ -290,9 +290,9 @@ impl fmt::Display for ReplyText<'_> {
             Reply::Bytes(bytes) => write!(f, "bytes {}", Hex(bytes.as_slice())),
             Reply::At(offset) => write!(f, "at {offset}"),
             Reply::Received {
+                flags,
                 count,
                 bytes,
-                flags,
                 control,
                 from,
             } => {
@@ -350,6 +350,7 @@ pub fn entry_text(alloc: Global, number: usize, entry: &Entry) -> Result<String,
         reply: &entry.reply,
         read: &read,
     };
-    let closed = Closed(entry.released.as_slice());
+    let numbers = entry.released.numbers();
+    let closed = Closed(numbers.as_slice());
     format!(in alloc; "{number} {pid} {k} {word} = {reply}{closed}\n")
 }
