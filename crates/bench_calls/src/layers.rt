@@ -2,7 +2,7 @@
 ghost use Rattle.std.specs.Prelude.{◌≡◌, [], IfOk};
 ghost use Rattle.ux_model.specs.Boot.{IsBootState};
 
-use crate::rows::{FILE, PAIR_AND_CLOSES, PIPE, Requests, Row, given};
+use crate::rows::{FILE, Giving, PAIR_AND_CLOSES, PIPE, Requests, Row};
 use anyhow::{Result, anyhow};
 use std::alloc::Global;
 use std::sync::ledger::Blank;
@@ -58,10 +58,10 @@ impl Drop for Stepped {
     }
 }
 
-/// A book, and the shares of its processes by rising number. It is given each request, whose bytes are made anew, as a
-/// caller makes them who keeps his own.
+/// A book, and the shares of its processes by rising number. It is given each request.
 pub(crate) struct Recorded<W: BookName> {
     alloc: Global,
+    giving: Giving,
     book: Book<W, Plain>,
     shares: Vec<Share<W>>,
     retired: RetiredList<Plain>,
@@ -72,6 +72,7 @@ impl<W: BookName> Drop for Recorded<W> {
     fn drop(self) {
         let Recorded {
             alloc: _,
+            giving: _,
             book,
             shares,
             retired,
@@ -116,7 +117,12 @@ impl Stepped {
 
 impl<W: BookName> Recorded<W> {
     /// A book of this kernel.
-    pub(crate) fn new(alloc: Global, blank: Blank, kernel: Kernel<Plain>) -> Result<Recorded<W>>
+    pub(crate) fn new(
+        alloc: Global,
+        giving: Giving,
+        blank: Blank,
+        kernel: Kernel<Plain>,
+    ) -> Result<Recorded<W>>
         requires name { blank.name ≡ W.name }
         requires parts { (blank.parts ≡ W.parts) × (blank.parts ≡ 1024) }
         requires boots { IsBootState kernel }
@@ -126,6 +132,7 @@ impl<W: BookName> Recorded<W> {
         match Book::new(alloc, blank, kernel) {
             Ok((book, shares)) => Ok(Recorded {
                 alloc,
+                giving,
                 book,
                 shares,
                 retired,
@@ -186,7 +193,7 @@ impl<W: BookName> Layer for Recorded<W> {
             return false;
         };
         self.retired.clear();
-        match given(self.alloc, request) {
+        match self.giving.give(self.alloc, request) {
             Ok(request) => is_recorded(&mut self.book, share, request, &mut self.retired),
             Err(_) => false,
         }

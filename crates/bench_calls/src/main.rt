@@ -17,6 +17,7 @@ ghost use Rattle.ux_model.specs.Boot.{IsBootState};
 use crate::alone::{measure_alone, time_apart, time_running};
 use crate::calls::{measure, measure_connection};
 use crate::layers::{Layer, PROCESSES, Recorded, Stepped, boot, fill, hold_names, make_before};
+use crate::rows::Giving;
 use crate::seats::{TURNS, each};
 use crate::together::time_in_turns;
 use anyhow::{Result, anyhow};
@@ -90,15 +91,21 @@ fn by_step<R: Clock + Eprint>(rt: &R, alloc: Global, measured: Measured) -> Resu
 }
 
 /// Measures a book, which has half as many more entries as descriptions were made.
-fn by_record<R: Clock + Eprint>(rt: &R, alloc: Global, measured: Measured) -> Result<()> {
+fn by_record<R: Clock + Eprint>(
+    rt: &R,
+    alloc: Global,
+    giving: Giving,
+    measured: Measured,
+) -> Result<()> {
     let kernel = boot(alloc, PROCESSES)?;
-    record_named::<Brand, R>(rt, alloc, Blank::new(PARTS), kernel, measured)
+    record_named::<Brand, R>(rt, alloc, giving, Blank::new(PARTS), kernel, measured)
 }
 
 /// So, under a name that lives in here.
 fn record_named<W: BookName, R: Clock + Eprint>(
     rt: &R,
     alloc: Global,
+    giving: Giving,
     blank: Blank,
     kernel: Kernel<Plain>,
     measured: Measured,
@@ -108,8 +115,8 @@ fn record_named<W: BookName, R: Clock + Eprint>(
     requires boots { IsBootState kernel }
     requires named { kernel ≡ W.boot }
 {
-    let mut layer = Recorded::<W>::new(alloc, blank, kernel)?;
-    measure_on(rt, alloc, "record", &mut layer, measured)
+    let mut layer = Recorded::<W>::new(alloc, giving, blank, kernel)?;
+    measure_on(rt, alloc, giving.title(), &mut layer, measured)
 }
 
 /// What threads do.
@@ -192,7 +199,7 @@ const THREADS: [usize; 4] = [1, 2, 4, 8];
 /// Measures calls by seats, and the same calls by a book alone.
 fn measure_threads<R: Threads + Wait + Clock + Eprint + AllocGlobal + Sync>(rt: &R) -> Result<()> {
     eprintln!(rt; "threads:")?;
-    by_record(rt, rt.alloc(), Measured::Exchange)?;
+    by_record(rt, rt.alloc(), Giving::Again, Measured::Exchange)?;
     for threads in THREADS {
         let turns = (TURNS as usize).saturating_mul(threads);
         let kept = each(by_seats(rt, threads, Work::Apart)?, turns);
@@ -208,15 +215,20 @@ fn measure_threads<R: Threads + Wait + Clock + Eprint + AllocGlobal + Sync>(rt: 
 
 /// Measures calls of a kernel and of a book.
 fn measure_layers<R: Clock + Eprint>(rt: &R, alloc: Global) -> Result<()> {
-    for (open, made) in [(4, 10), (400, 10), (4000, 10), (4, 1_000_000)] {
+    let first = Measured::Calls { open: 4, made: 10 };
+    eprintln!(rt; "4 descriptors open, 10 descriptions made before:")?;
+    by_step(rt, alloc, first)?;
+    by_record(rt, alloc, Giving::Again, first)?;
+    by_record(rt, alloc, Giving::Anew, first)?;
+    for (open, made) in [(400, 10), (4000, 10), (4, 1_000_000)] {
         eprintln!(rt; "{open} descriptors open, {made} descriptions made before:")?;
         by_step(rt, alloc, Measured::Calls { open, made })?;
-        by_record(rt, alloc, Measured::Calls { open, made })?;
+        by_record(rt, alloc, Giving::Again, Measured::Calls { open, made })?;
     }
     eprintln!(rt; "4 descriptors of the file open, and other names in use:")?;
     for connections in CONNECTIONS {
         by_step(rt, alloc, connections)?;
-        by_record(rt, alloc, connections)?;
+        by_record(rt, alloc, Giving::Again, connections)?;
     }
     Ok(())
 }

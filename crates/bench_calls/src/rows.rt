@@ -206,8 +206,8 @@ fn sent_anew(
     })
 }
 
-/// A request as a caller gives it who keeps his own: its bytes are made anew.
-pub(crate) fn given(alloc: Global, request: &Request) -> Result<Request, AllocError> {
+/// The request that a caller gives who makes the bytes for it.
+fn made_anew(alloc: Global, request: &Request) -> Result<Request, AllocError> {
     match request {
         Request::Write { fd, bytes } => Ok(Request::Write {
             fd: *fd,
@@ -221,6 +221,33 @@ pub(crate) fn given(alloc: Global, request: &Request) -> Result<Request, AllocEr
             flags: _,
         } => sent_anew(alloc, *fd, addr, bytes, control),
         request => request.clone(),
+    }
+}
+
+/// How a caller comes by the bytes of a request.
+#[derive(Clone, Copy)]
+pub(crate) enum Giving {
+    /// It gives the same bytes again, as a C program sends the same buffer again.
+    Again,
+    /// It makes them for each call.
+    Anew,
+}
+
+impl Giving {
+    /// A request like this one, to be given to a book.
+    pub(crate) fn give(self, alloc: Global, request: &Request) -> Result<Request, AllocError> {
+        match self {
+            Giving::Again => request.clone(),
+            Giving::Anew => made_anew(alloc, request),
+        }
+    }
+
+    /// What the times of such calls are called.
+    pub(crate) fn title(self) -> &'static str {
+        match self {
+            Giving::Again => "record",
+            Giving::Anew => "anew",
+        }
     }
 }
 

@@ -1,6 +1,6 @@
 //! Calls by seats, each of which must be granted.
 use crate::layers::is_granted;
-use crate::rows::{Requests, Row, given};
+use crate::rows::{Giving, Requests, Row};
 use anyhow::{Result, anyhow};
 use std::alloc::Global;
 use std::sync::Wait;
@@ -49,7 +49,7 @@ impl<W: BookName, B: CallBook<W, Plain>> Worker<W, B> {
     /// Makes a call, and answers whether it was granted.
     fn call<R: Wait>(&mut self, rt: &R, request: &Request) -> Result<bool> {
         match self.way {
-            Way::Call => self.call_at_once(rt, given(self.alloc, request)?),
+            Way::Call => self.call_at_once(rt, Giving::Again.give(self.alloc, request)?),
             Way::Blocking => self.call_when_done(rt, request),
         }
     }
