@@ -5,3 +5,4 @@ pub mod SameRequests
 pub mod Trails
 pub mod Running
 pub mod Stands
+pub mod Releasing

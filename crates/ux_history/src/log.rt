@@ -1,6 +1,6 @@
 //! A kernel with its history.
 ghost use Rattle.std.specs.Prelude.{◌≡◌, ◌+◌, ◌^◌, ◌<◌, ◌≤◌, ◌++◌, ◌∷◌, [], true, length, map, replicate, slice_index, slice_set, vec_len, vec_capacity, if◌then◌else◌, IfOk, IfErr, OnOk, IfSome, IfNone, OnSome, IsSomeAnd};
-ghost use Rattle.std.specs.List.{slice_get, AllByRecursion};
+ghost use Rattle.std.specs.List.{slice_get, AllByRecursion, AllPairs};
 ghost use Rattle.ux_model.specs.Limits.{object_limit, made_limit};
 ghost use Rattle.ux_model.specs.Boot.{IsBootState};
 ghost use Rattle.ux_model.specs.Rooms.{size_of, room_for, Fits};

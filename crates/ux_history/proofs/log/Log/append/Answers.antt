@@ -1,4 +1,5 @@
-use Rattle.std.proofs.Common.{◌≡◌, ◌++◌, ◌∷◌, [], ◌==◌, map, length, vec_capacity, refl, ap, sym, subst, ◌∙◌, arith}
+use Rattle.std.proofs.Common.{◌≡◌, ◌<◌, ℕ, List, ◌++◌, ◌∷◌, [], ◌==◌, map, length, vec_capacity, refl, ap, sym, subst, ◌∙◌, arith}
+use Rattle.std.specs.List.{AllPairs}
 use Rattle.std.proofs.lemmas.Bool.{false≢true}
 use Rattle.std.proofs.lemmas.List.{nil_from_length, length-map}
 use Rattle.std.proofs.lemmas.List.Sums.{count_by-le-length}
@@ -6,6 +7,7 @@ use Rattle.ux_model.specs.Types.{Reply, Errno, Entry}
 use Rattle.ux_model.specs.State.{State}
 use Rattle.ux_model.specs.Step.{Step}
 use Rattle.ux_model.specs.History.{MayFollow}
+use Rattle.ux_model.proofs.ReleasedNumbers.{step_releases_rising}
 use Rattle.ux_history.specs.Books.{Held, state_of, entry_of}
 use Rattle.ux_history.specs.Logs.{Kept, IsLog}
 use Rattle.ux_history.proofs.Legal.{few_from, Pushed, Waited, log_push, waited, room_for_one, room_now, caller_inside, allowed_now, counted_now}
@@ -57,6 +59,12 @@ note-requires-clause-room g c =
     (counted_now _ _ _ c.args.self.now c.args.pid c.args.k c.args.request view c.requires.call)
     (room_now boot old.kernel old.entries.items old.calls.items _ c.args.self.now c.args.request c.self.invariant view c.requires.room) c.step-done.ensures.step in
     omega (arith, one, old.entries.ok.0)
+
+pub numbers_of-requires : goal.numbers_of-requires
+numbers_of-requires g c = record {
+  rising = subst (λ (ns : List ℕ). AllPairs (λ (a b : ℕ). a < b) ns) (ap (map (λ r. r.0)) (sym c.as_slice.ensures.objects))
+      (step_releases_rising c.self.inside.kernel c.step-done.new.self c.args.pid.0 c.len-number.result c.args.request c.step-done.result.reply (map (λ r. r.0) c.step-done.new.retired) c.step-done.ensures.step);
+}
 
 -- the entry that is kept
 kept : (g : Over) → goal.After-note g → State → Entry

@@ -1,4 +1,5 @@
-use Rattle.std.proofs.Common.{◌≡◌, ◌++◌, ◌∷◌, [], ◌==◌, map, length, refl, ap, sym, subst, ◌∙◌, arith}
+use Rattle.std.proofs.Common.{◌≡◌, ◌<◌, ℕ, List, ◌++◌, ◌∷◌, [], ◌==◌, map, length, refl, ap, sym, subst, ◌∙◌, arith}
+use Rattle.std.specs.List.{AllPairs}
 use Rattle.std.proofs.lemmas.Bool.{false≢true}
 use Rattle.std.proofs.lemmas.List.{nil_from_length, length-map}
 use Rattle.std.proofs.lemmas.List.Sums.{count_by-le-length}
@@ -6,6 +7,7 @@ use Rattle.ux_model.specs.Types.{Reply, Errno, Entry}
 use Rattle.ux_model.specs.State.{State}
 use Rattle.ux_model.specs.Step.{Step}
 use Rattle.ux_model.specs.History.{MayFollow}
+use Rattle.ux_model.proofs.ReleasedNumbers.{step_releases_rising}
 use Rattle.ux_history.specs.Books.{Held, state_of, entry_of}
 use Rattle.ux_history.specs.Pasts.{entries_of}
 use Rattle.ux_history.specs.Running.{IsRunning}
@@ -52,6 +54,12 @@ count-requires-clause-room g c =
     let e = entry_of c.self.inside.kernel c.args.pid c.args.k c.args.request.now c.step-done.result.reply (map (λ r. r.0) c.step-done.new.retired) in
     let few = few_entries c.step-done.new.self e c.self.invariant may c.step-done.ensures.step in
     omega (arith, few, c.self.invariant.long)
+
+pub numbers_of-released-requires : goal.numbers_of-released-requires
+numbers_of-released-requires g c = record {
+  rising = subst (λ (ns : List ℕ). AllPairs (λ (a b : ℕ). a < b) ns) (ap (map (λ r. r.0)) (sym c.as_slice.ensures.objects))
+      (step_releases_rising c.self.inside.kernel c.step-done.new.self c.args.pid.0 c.self.inside.number c.args.request.now c.step-done.result.reply (map (λ r. r.0) c.step-done.new.retired) c.step-done.ensures.step);
+}
 
 -- the entry that is counted
 counted : (g : Over) → goal.After-count g → State → Entry
