@@ -51,23 +51,23 @@ pub numbers_push : (n number old new : ℕ) → number < n → bit_at new number
     numbers_below n new ≡ numbers_below n old ++ number ∷ []
 numbers_push zero number old new inside this others above = absurd (omega (arith, inside))
 numbers_push (suc n) number old new inside this others above = elim (cases_eq n number) [
-    | inl e ↦
-        let clear : bit_at old n ≡ 0 = elim (cases_eq (bit_at old n) 1) [
-          | inl set ↦ absurd (omega (arith, above n (omega arith) set, e))
-          | inr other ↦ omega (arith, bit_at-lt old n, other)
-        ] in
-        numbers_another n new (ap (bit_at new) e ∙ this)
-        ∙ (λ j. numbers_agree n new old (λ i low. others i (λ h. omega (arith, h, e, low))) j ++ e j ∷ [])
-        ∙ ap (λ ns. ns ++ number ∷ []) (sym (numbers_same n old clear))
-    | inr away ↦
-        let clear : bit_at old n ≡ 0 = elim (cases_eq (bit_at old n) 1) [
-          | inl set ↦ absurd (omega (arith, above n (omega arith) set, inside))
-          | inr other ↦ omega (arith, bit_at-lt old n, other)
-        ] in
-        numbers_same n new (others n away ∙ clear)
-        ∙ numbers_push n number old new (omega (arith, inside, away)) this others (λ i low set. above i (omega (arith, low)) set)
-        ∙ ap (λ ns. ns ++ number ∷ []) (sym (numbers_same n old clear))
-  ]
+  | inl e ↦
+      let clear : bit_at old n ≡ 0 = elim (cases_eq (bit_at old n) 1) [
+        | inl set ↦ absurd (omega (arith, above n (omega arith) set, e))
+        | inr other ↦ omega (arith, bit_at-lt old n, other)
+      ] in
+      numbers_another n new (ap (bit_at new) e ∙ this)
+      ∙ (λ j. numbers_agree n new old (λ i low. others i (λ h. omega (arith, h, e, low))) j ++ e j ∷ [])
+      ∙ ap (λ ns. ns ++ number ∷ []) (sym (numbers_same n old clear))
+  | inr away ↦
+      let clear : bit_at old n ≡ 0 = elim (cases_eq (bit_at old n) 1) [
+        | inl set ↦ absurd (omega (arith, above n (omega arith) set, inside))
+        | inr other ↦ omega (arith, bit_at-lt old n, other)
+      ] in
+      numbers_same n new (others n away ∙ clear)
+      ∙ numbers_push n number old new (omega (arith, inside, away)) this others (λ i low set. above i (omega (arith, low)) set)
+      ∙ ap (λ ns. ns ++ number ∷ []) (sym (numbers_same n old clear))
+]
 
 front : (P : ℕ → Type 0) (xs ys : List ℕ) → AllByRecursion P (xs ++ ys) → AllByRecursion P xs × AllByRecursion P ys
 front P [] ys h = (tt, h)
@@ -92,12 +92,12 @@ bit_from n i a b same inside set =
 
 pub bits_from : (a b : ℕ) → a < 2 ^ 64 → b < 2 ^ 64 → numbers_below 64 a ≡ numbers_below 64 b → a ≡ b
 bits_from a b small small' same = same_from_bits_below 64 a b small small' (λ i inside. elim (cases_eq (bit_at a i) 1) [
-    | inl set ↦ set ∙ sym (bit_from 64 i a b same inside set)
-    | inr clear ↦ elim (cases_eq (bit_at b i) 1) [
-      | inl set ↦ absurd (clear (bit_from 64 i b a (sym same) inside set))
-      | inr other ↦ omega (arith, bit_at-lt a i, bit_at-lt b i, clear, other)
-    ]
-  ])
+  | inl set ↦ set ∙ sym (bit_from 64 i a b same inside set)
+  | inr clear ↦ elim (cases_eq (bit_at b i) 1) [
+    | inl set ↦ absurd (clear (bit_from 64 i b a (sym same) inside set))
+    | inr other ↦ omega (arith, bit_at-lt a i, bit_at-lt b i, clear, other)
+  ]
+])
 
 pub length_numbers : (n bits : ℕ) → length (numbers_below n bits) ≤ n
 unfolding numbers_below
