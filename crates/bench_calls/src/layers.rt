@@ -145,7 +145,7 @@ impl<W: BookName> Recorded<W> {
     }
 }
 
-/// Whether a reply tells no refusal.
+/// Whether a reply reports no refusal.
 pub(crate) fn is_granted(reply: &Reply) -> bool {
     !matches!(reply, Reply::Err(_))
 }

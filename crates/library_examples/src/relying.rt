@@ -35,7 +35,7 @@ pub(crate) fn entries_made<W: BookName, R: Wait>(
     }
 }
 
-/// Closes a number. Whatever the answer, it isn't that memory was wanting.
+/// Closes a number. Whatever the answer, it isn't out of memory.
 pub(crate) fn close<W: BookName, R: Wait>(
     rt: &R,
     seat: &mut Seat<W, MemFile>,

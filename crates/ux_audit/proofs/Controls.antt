@@ -1,4 +1,4 @@
--- The numbers that a receive tells in its control buffer are those that it gave.
+-- The numbers that a receive reports in its control buffer are those that it gave.
 use Rattle.std.proofs.Common.{◌≡◌, ℕ, suc, ◌+◌, ◌^◌, ◌<◌, ◌≤◌, ◌==◌, Bool, true, false, not, if◌then◌else◌, List, [], ◌∷◌, ◌++◌, length, flat_map, Option, Some, None, option_map, refl, ap, sym, ◌∙◌, subst, arith}
 use Rattle.std.specs.Prelude.{IfSome}
 use Rattle.std.specs.List.{AllByRecursion}
@@ -69,7 +69,7 @@ are_bytes (Some c) ns = both (item_bytes (cred_item c)) (if length ns == 0 then 
     go true = tt
     go false = (omega arith, (omega arith, (omega arith, (omega arith, right_bytes ns))))
 
--- ---- credentials as far as their bytes tell them
+-- ---- credentials as far as their bytes report them
 
 abbrev cut : ℕ → ℕ
 cut n = from_le_bytes w32 (to_le_bytes w32 n)

@@ -1,4 +1,4 @@
--- What the entries of a legal history tell is what their calls did.
+-- What the entries of a legal history report is what their calls did.
 use Rattle.std.proofs.Common.{◌≡◌, ℕ, suc, ◌≤◌, ◌==◌, ◌&&◌, ◌||◌, List, length, take, Some, refl, ap, subst}
 use Rattle.std.specs.List.{slice_get, list_any}
 use Rattle.ux_model.specs.Types.{Request, Entry}

@@ -1,4 +1,4 @@
--- The close-on-exec flags of the numbers that are open, as entries tell them.
+-- The close-on-exec flags of the numbers that are open, as entries report them.
 use Rattle.std.specs.Prelude.{◌≡◌, ℕ, ◌≤◌, ◌^◌, length, All, Bool, ◌==◌, if◌then◌else◌, List, Option, Some, None, option_map}
 use Rattle.std.specs.List.{slice_get, list_any}
 use Rattle.std.specs.Global.{Vec}

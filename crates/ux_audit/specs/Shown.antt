@@ -1,4 +1,4 @@
--- What an entry tells of the numbers that it gave, without the state in which its call was made.
+-- What an entry reports of the numbers that it gave, without the state in which its call was made.
 use Rattle.std.specs.Prelude.{ℕ, Bool, ◌==◌, ◌&&◌, ◌||◌, List, []}
 use Rattle.std.specs.List.{list_any}
 use Rattle.ux_model.specs.Types.{Request, Reply, Entry}

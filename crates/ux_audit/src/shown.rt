@@ -1,4 +1,4 @@
-//! What an entry tells of the numbers that it gave.
+//! What an entry reports of the numbers that it gave.
 ghost use Rattle.std.specs.Prelude.{◌≡◌, map, IfOk};
 ghost use Rattle.ux_model.specs.ControlReading.{control_in};
 ghost use Rattle.ux_model.specs.Giving.{is_onto_itself, numbers_told, rights_in, sent_by};
@@ -52,7 +52,7 @@ fn rights_in(alloc: Global, control: &[u8]) -> Result<Vec<Fd>, AllocError>
     }
 }
 
-/// The numbers that a receive tells in its control buffer.
+/// The numbers that a receive reports in its control buffer.
 fn numbers_read(alloc: Global, reply: &Reply) -> Result<Vec<Fd>, AllocError>
     ensures { IfOk result (λ numbers. map (λ fd. fd.0) numbers.items ≡ numbers_read reply.now) }
 {
@@ -62,7 +62,7 @@ fn numbers_read(alloc: Global, reply: &Reply) -> Result<Vec<Fd>, AllocError>
     }
 }
 
-/// The numbers that the answer to a call tells that is no receive.
+/// The numbers that the answer to a call other than a receive reports.
 fn numbers_told(alloc: Global, request: &Request, reply: &Reply) -> Result<Vec<Fd>, AllocError>
     ensures { IfOk result (λ numbers. map (λ fd. fd.0) numbers.items ≡ numbers_told request.now reply.now) }
 {

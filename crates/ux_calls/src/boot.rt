@@ -72,7 +72,7 @@ impl Boot {
         self.object(path, ObjKind::Memory, bytes)
     }
 
-    /// Adds a counter at 0, as of eventfd(2).
+    /// Adds a counter at 0 (eventfd(2)).
     ///
     /// # Errors
     ///
@@ -84,7 +84,7 @@ impl Boot {
         self.object(path, ObjKind::Counter, b"")
     }
 
-    /// Adds an empty pipe, as of pipe(7).
+    /// Adds an empty pipe (pipe(7)).
     ///
     /// # Errors
     ///

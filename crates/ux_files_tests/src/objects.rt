@@ -69,7 +69,7 @@ fn close<O: FileObject>(rt: &impl Abort, mut object: O) {
     assert_eq!(rt; object.faults(), 0);
 }
 
-/// An error of a test's own, where memory is wanting.
+/// An error of a test's own, when out of memory.
 fn made<T>(answer: Result<T, ObjError>) -> Result<T, Fail> {
     Ok(answer?)
 }

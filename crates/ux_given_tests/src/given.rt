@@ -114,7 +114,7 @@ fn must_come_back<W: BookName>(
     }
 }
 
-/// Sends a short message to itself and receives it while no memory is left, and tells whether that was done. Only where
+/// Sends a short message to itself and receives it while no memory is left, and reports whether that was done. Only where
 /// the list of entries has to grow it isn't.
 fn exchange_without_memory<W: BookName>(
     rt: &impl Abort,

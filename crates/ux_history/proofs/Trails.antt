@@ -86,7 +86,7 @@ gives views by all h at =
     new_fits seat trail j [] same = ((λ k. absurd (off k)), (λ c. absurd (off c)))
     new_fits seat trail j (x ∷ xs) same = ((λ k. absurd (off k)), (λ _. subst (λ l. slice_get l (before_last (x ∷ xs)) ≡ Some (last_of (x ∷ xs))) same (at_last x xs)))
 
--- who knows a place tells another
+-- who knows a place knows another
 pub copies : (views : List Known) (by : ℕ) (v : Known) → AreKept views → get_elem? views by ≡ some v → AreKept (set views by v ++ place_of v ∷ [])
 copies views by v h at =
     let mine = h.2 by v at in (
@@ -98,7 +98,7 @@ copies views by v h at =
           (at_snoc (set views by v) (place_of v) u j e),
     )
 
--- who knows the whole is told a place
+-- who knows the whole knows a place
 pub takes_in : (views : List Known) (by : ℕ) (all : List Call) (other : ℕ) (u : Known) → AreKept views → get_elem? views by ≡ some (knower all) → ¬ (other ≡ by)
     → get_elem? (set views by (shown (knower all) u)) other ≡ some u → AreKept (set (set views by (shown (knower all) u)) other nobody)
 takes_in views by all other u h at apart there =

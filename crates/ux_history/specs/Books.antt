@@ -37,7 +37,7 @@ is_fork _ = false
 abbrev pub has_own_call : Request → Bool
 has_own_call request = is_last request || is_fork request
 
--- the entry of a call that a process makes in this state, which tells the message of which rights came with it
+-- the entry of a call that a process makes in this state, which reports the message of which rights came with it
 abbrev pub entry_of : State → Pid → ℕ → Request → Reply → List ℕ → Entry
 entry_of S pid k request reply released =
     record { pid = pid; k = k; request = request; reply = reply; released = released; delivered = delivered_by S pid.0 request reply }

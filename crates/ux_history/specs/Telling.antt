@@ -1,4 +1,4 @@
--- What accounts and witnesses tell of one history.
+-- What accounts and witnesses report of one history.
 use Rattle.std.specs.Prelude.{◌≡◌, ℕ, Bool, true, List, length, map, Some, if◌then◌else◌}
 use Rattle.std.specs.List.{slice_get}
 use Rattle.ux_model.specs.Types.{Entry}

@@ -508,7 +508,7 @@ impl<W: BookName, O: FileObject> Book<W, O> {
         Ok(Spent { share })
     }
 
-    /// Ends the share's process where it is a live one which has made so many calls, and tells whether it was,
+    /// Ends the share's process where it is a live one which has made so many calls, and reports whether it was,
     /// as `exit` does; the share is then spent. It takes no memory.
     pub(crate) fn end(&mut self, share: &mut Share<W>, retired: &mut RetiredList<O>) -> bool
         requires empty { retired.old ≡ [] }

@@ -198,7 +198,7 @@ pub trait CallBook<W: BookName, O: FileObject>: Drop {
         ensures kept { OnErr result (share.new ≡ share.old) }
         ensures none { OnErr result (retired.new ≡ []) };
 
-    /// Ends the share's process where it is a live one which has made so many calls, and tells whether it was;
+    /// Ends the share's process where it is a live one which has made so many calls, and reports whether it was;
     /// the share is then spent. It takes no memory.
     fn end(&mut self, share: &mut Share<W>, retired: &mut RetiredList<O>) -> bool
         requires empty { retired.old ≡ [] }

@@ -6,7 +6,7 @@ use std::mem;
 use std::snapshot::Snapshot;
 use ux_types::{Done, Pid, Released, Reply, Request};
 
-/// The calls so far, as `entries_of` tells them. Only clauses see them: it takes one byte, however many
+/// The calls so far, as `entries_of` reports them. Only clauses see them: it takes one byte, however many
 /// they are.
 #[cycle(past)]
 pub(crate) enum Past {

@@ -337,7 +337,7 @@ impl<W: Trailing, O: FileObject> RunningBook<W, O> {
         Ok(Some((reply, witness, child)))
     }
 
-    /// Ends the share's process where it is a live one which has made so many calls, and tells whether it
+    /// Ends the share's process where it is a live one which has made so many calls, and reports whether it
     /// was; the share is then spent. It takes no memory. The file objects that went with it are put into an
     /// empty list.
     pub fn end(&mut self, share: &mut Share<W>, retired: &mut RetiredList<O>) -> bool

@@ -8,7 +8,7 @@ use Rattle.ux_model.specs.Names.{is_valid_path}
 use Rattle.ux_model.specs.Boot.{are_distinct}
 use Rattle.ux_kernel.specs.declared.boot.BootFault.{BootFault}
 
--- the first fault of these file objects and processes, but for want of memory
+-- the first fault of these file objects and processes, other than out of memory
 abbrev pub fault_of : List (Name × View) → List ProcSpec → Option BootFault
 fault_of objects specs =
     if nat_lt object_limit (length objects) then Some BootFault.TooManyObjects else

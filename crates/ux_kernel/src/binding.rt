@@ -11,7 +11,7 @@ use ux_object::FileObject;
 use ux_types::{Addr, DescriptionId, Errno, Fd, Pid, Refusal, Reply};
 
 impl<O: FileObject> Kernel<O> {
-    /// bind(2). EINVAL where the socket has a name or the address can't be, EADDRINUSE where the name is
+    /// bind(2). EINVAL where the socket has a name or the address is invalid, EADDRINUSE where the name is
     /// there already, ENOSPC where autobind finds none that is free, in this order.
     #[tactic(auto, using(ux_model::proofs::Shows::socket_found), unfolding(ux_model::specs::Binding::bind))]
     pub(crate) fn bind(&mut self, pid: Pid, fd: Fd, addr: &Addr) -> Result<Reply, Refusal>

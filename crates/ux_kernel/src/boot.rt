@@ -13,7 +13,7 @@ use ux_object::FileObject;
 use ux_state::State;
 use ux_types::{Name, OBJECT_LIMIT, PROCESS_LIMIT, ProcSpec};
 
-/// Why no kernel could be made, with the number that a boot fault is told by.
+/// Why no kernel could be made, with the number that a boot fault is reported by.
 #[derive(Clone, Copy, Debug, PartialEq, Eq, Error)]
 pub enum BootFault {
     /// More than 64 file objects.
@@ -88,7 +88,7 @@ impl<O: FileObject> Kernel<O> {
     }
 }
 
-/// The first fault but for want of memory.
+/// The first fault other than out of memory.
 fn find_fault<O: FileObject>(objects: &[(Name, O)], procs: &[ProcSpec]) -> Option<BootFault>
     ensures { result ≡ fault_of (map (λ o. (o.0, O.view o.1)) objects.now) procs.now }
 {

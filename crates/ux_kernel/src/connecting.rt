@@ -54,7 +54,7 @@ impl<O: FileObject> Kernel<O> {
         Ok(Reply::Ok)
     }
 
-    /// connect(2). EINVAL for an address that can't be or names nothing, and of a socket that listens, EISCONN
+    /// connect(2). EINVAL for an invalid or unnamed address, and of a socket that listens, EISCONN
     /// of one that is connected; what the address leads to answers ENOENT, ECONNREFUSED or EPROTOTYPE; then
     /// ECONNREFUSED where that doesn't listen, EAGAIN where its backlog is full. A datagram socket is associated
     /// instead; the unnamed address ends its association.

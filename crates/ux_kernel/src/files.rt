@@ -15,7 +15,7 @@ use ux_types::{Errno, Fd, Mode, Name, OpenFlags, Pid, Refusal, Reply, Whence};
 const OFFSET_LIMIT: i128 = 9223372036854775807;
 
 impl<O: FileObject> Kernel<O> {
-    /// open(2). EINVAL for a path that can't be, ENOENT for one that isn't there, EOPNOTSUPP for one of a
+    /// open(2). EINVAL for an invalid path, ENOENT for one that isn't there, EOPNOTSUPP for one of a
     /// socket, EMFILE where no number is free, in this order.
     #[tactic(auto, unfolding(ux_model::specs::Opening::open_file))]
     pub(crate) fn open_file(

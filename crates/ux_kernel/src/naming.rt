@@ -8,7 +8,7 @@ use ux_object::FileObject;
 use ux_types::{Errno, Name, Refusal, Reply};
 
 impl<O: FileObject> Kernel<O> {
-    /// unlink(2). EINVAL for a path that can't be, else ENOENT for one that isn't there.
+    /// unlink(2). EINVAL for an invalid path, else ENOENT for one that isn't there.
     #[tactic(auto, unfolding(ux_model::specs::Naming::unlink))]
     pub(crate) fn unlink(&mut self, path: &Name) -> Result<Reply, Refusal>
         ensures { Gives self.old (model.unlink self.old path.now) result self.new }

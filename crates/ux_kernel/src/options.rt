@@ -10,7 +10,7 @@ use ux_object::FileObject;
 use ux_types::{Errno, Fd, GREATEST_QUEUE_LIMIT, Pid, Refusal, Reply, SockOpt, SockType};
 
 impl<O: FileObject> Kernel<O> {
-    /// getsockopt(2). SO_ERROR clears the pending error that it tells. ENOTCONN of SO_PEERCRED where no peer's
+    /// getsockopt(2). SO_ERROR clears the pending error that it reports. ENOTCONN of SO_PEERCRED where no peer's
     /// credentials were recorded. EOPNOTSUPP of the limit of a queue that isn't a stream's.
     #[tactic(auto, using(ux_model::proofs::Shows::socket_found), unfolding(ux_model::specs::Options::get_opt))]
     pub(crate) fn get_opt(&mut self, pid: Pid, fd: Fd, opt: SockOpt) -> Result<Reply, Refusal>
@@ -92,7 +92,7 @@ fn queue_limit_of(value: u64) -> Option<u32>
     }
 }
 
-/// What SO_TYPE tells: the number of SOCK_STREAM, SOCK_DGRAM or SOCK_SEQPACKET.
+/// What SO_TYPE reports: the number of SOCK_STREAM, SOCK_DGRAM or SOCK_SEQPACKET.
 fn type_number(kind: SockType) -> u64
     ensures { result ≡ model.type_number kind }
 {
@@ -103,7 +103,7 @@ fn type_number(kind: SockType) -> u64
     }
 }
 
-/// What SO_ERROR tells: the number of the pending error, or 0.
+/// What SO_ERROR reports: the number of the pending error, or 0.
 fn pending_error(socket: &Socket) -> u64
     ensures { result ≡ model.pending_error socket.now }
 {

@@ -420,7 +420,7 @@ impl Forked {
     }
 }
 
-/// What a fork's answer tells.
+/// What a fork's answer reports.
 fn outcome_of<W: BookName>(reply: Reply, child: Option<Share<W>>) -> Forked {
     let Some(share) = child else {
         if reply == Reply::Err(Errno::ENOMEM) {
@@ -465,8 +465,8 @@ fn counts<W: BookName>(shelf: &Shelf<W>) -> (u64, usize, usize) {
     )
 }
 
-/// Forks with no memory, and with more while that is refused, and tells how often it was. What is refused leaves book
-/// and share as they were, but for an entry that tells it.
+/// Forks with no memory, and with more while that is refused, and reports how often it was. What is refused leaves book
+/// and share as they were, but for an entry that reports it.
 fn fork_at_last<W: BookName>(
     rt: &impl Abort,
     alloc: Global,

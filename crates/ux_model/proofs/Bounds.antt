@@ -24,7 +24,7 @@ pub record IsBoundedMessage (m : Message) : Type 0 where
 abbrev pub AreBoundedMessages : List Message → Type 0
 AreBoundedMessages queue = AllByRecursion IsBoundedMessage queue
 
--- Of the parts of a socket that calls tell of. A limit that was lowered may be less than what waits, so both keep to the greatest limit.
+-- Of the parts of a socket that calls report. A limit that was lowered may be less than what waits, so both keep to the greatest limit.
 pub record HasBounds (kind : SockType) (name : Addr) (limit : ℕ) (queue : List Message) : Type 0 where
   pub short : name_bytes name ≤ name_limit
   pub each : AreBoundedMessages queue

@@ -26,7 +26,7 @@ use Rattle.ux_model.proofs.Shows.{socket_found, by_socket, by_receive}
 abbrev origin_tag : Option Origin → Option ℕ
 origin_tag o = option_map (λ (x : Origin). x.tag) o
 
--- the rights are those of a message of the queue, whose tag is told
+-- the rights are those of a message of the queue, whose tag is reported
 record AreOf (queue : List Message) (rights : List ℕ) (origin : Option Origin) : Type 0 where
   pub message : Message
   pub number : ℕ
@@ -107,7 +107,7 @@ front_are n s m ms some = go (is_stream s.kind) some
 
 -- ---- a call
 
--- what a call brings is of a message that waits, whose tag is told
+-- what a call brings is of a message that waits, whose tag is reported
 pub record Carries (S : State) (b : Brought) : Type 0 where
   pub message : Message
   pub waits : Waits S message
@@ -137,7 +137,7 @@ brought_carries S p n space fd flags some = go (find_socket S p fd) refl some
     go (Err e) h some = absurd (omega (arith, some))
     go (Ok w) h some = from_queue S w.0 n space w.1 (table_of S p) w.1.queue (socket_found S p w.0 fd w.1 h) refl some
 
--- a receive tells numbers and the tag of what it brings, or gives nothing
+-- a receive reports numbers and the tag of what it brings, or gives nothing
 abbrev Tells : State → ℕ → Request → Reply → Type 0
 Tells S p request reply = (given S p request reply ≡ []) ⊎ ((given S p request reply ≡ (brought S p request).numbers) × (delivered_by S p request reply ≡ tag_of (brought S p request)))
 

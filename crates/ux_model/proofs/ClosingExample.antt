@@ -77,7 +77,7 @@ held_open : is_open (place (replay boot before).objects 0) ≡ true
 unfolding computing
 held_open = (nothing_dangles boot before legal_so_far).descriptions_lead 0 0 _ refl refl
 
--- it was told once that it is closed, by the entry with which its last reference went
+-- it was reported once that it is closed, by the entry with which its last reference went
 told_once : times_released 0 (opening ∷ unlinking ∷ failing_close ∷ closing ∷ []) ≡ 1
 told_once = refl
 

@@ -72,7 +72,7 @@ associated_alone : play one_process 0 (
 unfolding computing
 associated_alone = refl
 
--- each receive of a record tells its end, also of an empty one; the end of input has none
+-- each receive of a record reports its end, also of an empty one; the end of input has none
 ends_of_records : play one_process 0 (
     (1, Request.SocketPair SockType.Seq (open_flags 0)) ∷
     (1, send 0 (codes "abc")) ∷

@@ -158,7 +158,7 @@ flying_told : (u : ℕ) (l : Option ℕ) (ds : List (Option Description)) → su
 flying_told u None ds = refl
 flying_told u (Some p) ds = flying_changed u (with_reset true) (λ s. refl) ds p
 
--- a description goes with its queue, and one other is told
+-- a description goes with its queue, and one other is notified
 pub flying_left : (u d : ℕ) (D : Description) (ds : List (Option Description)) → place ds d ≡ Some D →
     sum_by (flying_in u) (told (lost_peer D) (emptied ds d)) + flying_at u D.target ≡ sum_by (flying_in u) ds
 flying_left u d D ds here =

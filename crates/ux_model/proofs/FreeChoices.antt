@@ -1,4 +1,4 @@
--- The two free choices: which calls never lack memory, and what a failure tells.
+-- The two free choices: which calls never lack memory, and what a failure reports.
 use Rattle.std.proofs.Common.{◌≡◌, ◌⊎◌, inl, inr, ⊎_elim, ℕ, ◌+◌, ◌==◌, Bool, true, false, ◌&&◌, not, if◌then◌else◌, List, Option, Some, None, refl, ap, sym, subst, ◌∙◌, arith}
 use Rattle.std.specs.Prelude.{ℤ, pos, negsuc, ◌+ℤ◌, nat_lt, is_some, is_none}
 use Rattle.std.proofs.lemmas.Bool.{cases_eq, ne_eqb, and_right, or_parts}
@@ -35,7 +35,7 @@ use Rattle.ux_model.proofs.Calls.{each_obeys}
 use Rattle.ux_model.proofs.Closed.{drop_keeps}
 use Rattle.ux_model.proofs.HandingOut.{held_led}
 
--- ---- want of memory
+-- ---- out of memory
 
 abbrev IsSparing : Outcome → Type 0
 IsSparing o = o.may_lack_memory ≡ false

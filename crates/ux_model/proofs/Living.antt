@@ -301,7 +301,7 @@ fork_alone_makes S T p tag request reply gone s =
     let all = (step_keeps S T p tag request reply gone s).1 in
     omega (arith, new, old, all)
 
--- the reply of the outcome itself, or want of memory
+-- the reply of the outcome itself, or ENOMEM
 told_next : (S : State) (p : ℕ) (pid : Pid) → Reply.Child pid ≡ (fork S p).reply → pid.0 ≡ next_process S
 unfolding fork
 told_next S p pid = maybe Told (process_at S p) _ _ (λ h. absurd (cc h)) (λ P h. either Told (nat_le made_limit (length S.processes)) _ _ (λ b h. absurd (cc h)) (λ b h. let e : pid ≡ record { 0 = next_process S } = cc h in ap (λ (x : Pid). x.0) e))

@@ -22,7 +22,7 @@ failures x = option_map (λ view. View.faults view) x
 abbrev pub FailAlike : State → State → Type 0
 FailAlike S T = (o : ℕ) → failures (place T.objects o) ≡ failures (place S.objects o)
 
--- a reply that tells which of the two free choices was made
+-- a reply that reports which of the two free choices was made
 abbrev pub tells_choice : Reply → Bool
 tells_choice reply = lacks_memory reply || fails reply
 

@@ -1,4 +1,4 @@
--- One description goes: its place is emptied, and one other is told.
+-- One description goes: its place is emptied, and one other is notified.
 use Rattle.std.proofs.Common.{◌≡◌, ℕ, zero, suc, ◌+◌, ◌<◌, ◌≤◌, Bool, true, false, ◌&&◌, ◌||◌, ◌==◌, cond, List, [], ◌∷◌, length, get_or, map, Option, Some, None, is_some, option_map, option_and_then, sym, ◌∙◌, ap, subst, refl, zero-add, arith}
 use Rattle.std.specs.List.{sum_by, list_any, enumerate_from}
 use Rattle.std.proofs.lemmas.Bool.{eqb-true, eqb-false, eq-eqb, ne_eqb, and_parts}
@@ -18,7 +18,7 @@ use Rattle.ux_model.specs.Peers.{target_peer, peer_in, Paired, lost_peer, told}
 use Rattle.ux_model.proofs.AnyOrder.{live_in, fewer_live}
 use Rattle.ux_model.proofs.ChangedPlaces.{bool_cases, place_within, place-changed, length-changed, sum_by-changed}
 
--- ---- who is told
+-- ---- who is notified
 
 abbrev pub tells : Option ℕ → ℕ → Bool
 tells None i = false
@@ -33,7 +33,7 @@ length-told : (l : Option ℕ) (ds : List (Option Description)) → length (told
 length-told None ds = refl
 length-told (Some p) ds = length-changed ds p (changed (with_reset true))
 
--- what is told has this peer
+-- what is notified has this peer
 tells_peer : (D : Description) (i : ℕ) → tells (lost_peer D) i ≡ true → target_peer D.target ≡ Some i
 tells_peer D i = go (resets_peer (socket_of D.target)) (target_peer D.target)
   where
@@ -42,7 +42,7 @@ tells_peer D i = go (resets_peer (socket_of D.target)) (target_peer D.target)
     go true (Some p) h = ap Some (eqb-true p i h)
     go false l h = absurd (cc h)
 
--- where its peer is this one, it is told exactly if the loss resets
+-- where its peer is this one, it is notified exactly if the loss resets
 tells_where : (D : Description) (i : ℕ) → target_peer D.target ≡ Some i → tells (lost_peer D) i ≡ resets_peer (socket_of D.target)
 tells_where D i h = ap (λ l. tells (cond (resets_peer (socket_of D.target)) l None) i) h ∙ go (resets_peer (socket_of D.target))
   where
@@ -53,7 +53,7 @@ tells_where D i h = ap (λ l. tells (cond (resets_peer (socket_of D.target)) l N
 untold : (D : Description) (i : ℕ) → (target_peer D.target ≡ Some i → ⊥) → tells (lost_peer D) i ≡ false
 untold D i other = bool_cases (tells (lost_peer D) i) (λ h. absurd (other (tells_peer D i h))) (λ h. h)
 
--- a socket is reset by the loss of D exactly where it is told
+-- a socket is reset by the loss of D exactly where it is notified
 reset_as_told : (S : State) (d i : ℕ) (D : Description) (phase : Phase) → description_at S d ≡ Some D →
     (peer_of phase ≡ Some d → target_peer D.target ≡ Some i) → (target_peer D.target ≡ Some i → peer_of phase ≡ Some d) →
     is_reset_by_loss (λ n. n == d) S phase ≡ tells (lost_peer D) i
@@ -134,7 +134,7 @@ after_loss S d i D paired here inside = place-told (lost_peer D) (emptied S.desc
     nothing true = refl
     nothing false = refl
 
--- its place is emptied, and its peer told: that is the definitions' loss
+-- its place is emptied, and its peer notified: that is the definitions' loss
 pub one_goes : (S : State) (d : ℕ) (D : Description) → Paired S.descriptions → description_at S d ≡ Some D →
     told (lost_peer D) (emptied S.descriptions d) ≡ map (place_after_loss (λ n. n == d) S) (enumerate_from 0 S.descriptions)
 one_goes S d D paired here =

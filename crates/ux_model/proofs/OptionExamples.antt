@@ -21,7 +21,7 @@ own = record { pid = record { 0 = 1 }; uid = 1000; gid = 1000 }
 abbrev pass : ℕ → List ℕ → Request
 pass n rights = Request.SendMsg (fd n) None (codes "x") (control_bytes None rights) (flags 0)
 
--- an idle socket is hung up; a pair has room; a byte that waits is input; the loss of a peer is told once as an error
+-- an idle socket is hung up; a pair has room; a byte that waits is input; the loss of a peer is reported once as an error
 conditions : play one_process 0 (
     (1, a_socket SockType.Stream) ∷
     (1, poll_of 0) ∷

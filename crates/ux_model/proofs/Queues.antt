@@ -112,7 +112,7 @@ changed_waits S d i k change m h =
     (sym (ap (λ b. slice_get (queue_in (cond b (option_map (changed change) (description_at S i)) (description_at S i))) k) same) ∙ there)))
     (λ other. inl (sym (ap (λ b. slice_get (queue_in (cond b (option_map (changed change) (description_at S i)) (description_at S i))) k) other) ∙ there))
 
--- the message that is put into a queue tells what this request sends, if it has rights
+-- the message that is put into a queue reports what this request sends, if it has rights
 abbrev pub MayCarry : State → ℕ → ℕ → Request → Message → Type 0
 MayCarry S p tag request m = (m.tag ≡ tag) × (0 < length m.rights → descriptions_behind (table_of S p) (sent_by request) ≡ Some m.rights)
 

@@ -1,4 +1,4 @@
--- That poll tells of input and of room exactly where a receive, and a send, needn't wait: each case of readiness beside the same case of
+-- That poll reports input and room exactly where a receive, and a send, needn't wait: each case of readiness beside the same case of
 -- the call.
 use Rattle.std.proofs.Common.{◌≡◌, ℕ, Bool, true, false, not, ◌&&◌, ◌||◌, ◌==◌, if◌then◌else◌, List, [], ◌∷◌, length, Option, Some, None, Result, Ok, Err, refl, ap, sym, subst, arith}
 use Rattle.std.specs.Prelude.{◌↔◌, IsTrue, is_some}

@@ -111,7 +111,7 @@ room_of_rights space k some fits = go (nat_lt space 20) refl fits
     go true h fits = absurd (omega (arith, some, fits))
     go false h fits = let long = ltb-false space 20 h in omega (arith, long, fits)
 
--- where the credentials are told or not
+-- where the credentials are reported or not
 control_long : (told : Bool) (cred : Cred) (numbers : List ℕ) (space : ℕ) → (told ≡ true → 28 ≤ space) → length numbers ≤ rights_limit → length numbers ≤ rights_fit (if told then space - 32 else space) →
     length (control_bytes (if told then Some cred else None) numbers) ≤ min control_limit space
 control_long false cred [] space told few fits = omega arith

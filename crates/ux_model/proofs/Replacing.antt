@@ -33,7 +33,7 @@ live_process S p live = go (process_at S p) refl live
     go None e l = absurd (false≢true l)
     go (Some Q) e l = (Q, e)
 
--- T is S with this table of process p, as far as tables tell
+-- T is S with this table of process p, as far as tables show
 pub record Replaces (S : State) (p : ℕ) (table : List (Option Descriptor)) (T : State) : Type 0 where
   pub same : (n : ℕ) → held_at T p n ≡ place table n
   pub other : (q n : ℕ) → p ≢ q → held_at T q n ≡ held_at S q n
@@ -58,7 +58,7 @@ held_alike S T (suc i) n same = ap (λ (Ps : List Process). place (table_in (sli
 pub replaced_none : (S T : State) (p : ℕ) → T.processes ≡ S.processes → Replaces S p (table_of S p) T
 replaced_none S T p same = record { same = λ n. held_alike S T p n same; other = λ q n d. held_alike S T q n same }
 
--- tables tell what the processes do
+-- tables report what the processes do
 pub replaced_alike : (S T U : State) (p : ℕ) (table : List (Option Descriptor)) → U.processes ≡ T.processes → Replaces S p table T → Replaces S p table U
 replaced_alike S T U p table same r = record { same = λ n. held_alike T U p n same ∙ r.same n; other = λ q n d. held_alike T U q n same ∙ r.other q n d }
 
@@ -83,7 +83,7 @@ stays_to_others request reply held h = go (is_err reply)
     go true = refl
     go false = others_stay request held h
 
--- an answer that tells no number
+-- an answer that reports no number
 abbrev pub tells_number : Reply → Bool
 tells_number (Reply.Fd fd) = true
 tells_number (Reply.Fds first second) = true

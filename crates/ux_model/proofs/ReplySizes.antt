@@ -293,7 +293,7 @@ write_plain S p tag fd bytes = found Plain S p fd _ (plain refl) (λ e D g h. by
     (λ b. failing_within no_bytes S o view _ (write_answer_plain S e.description D o view (write_body view.body (write_place D view) bytes)))))))
     (λ s t. maybe Plain (process_at S p) _ _ (plain refl) (λ P here. from_plain S (flight_limit P) e.description s None _)))
 
--- ---- calls that tell a name
+-- ---- calls that report a name
 
 abbrev name_room : Size
 name_room = record no_bytes { name = name_limit }
@@ -355,7 +355,7 @@ bytes_fit : (n : ℕ) (bytes : List ℕ) → length bytes ≤ n → Fits (size_o
 unfolding size_of
 bytes_fit n bytes few = record { data_fits = few; control_fits = omega arith; name_fits = omega arith }
 
--- of a receive of n bytes, which read(2) makes too and tells the bytes alone of
+-- of a receive of n bytes, which read(2) makes too and reports the bytes alone of
 record Receives (n space : ℕ) (o : Outcome) : Type 0 where
   fits : Fits (size_of o.reply) (message_room n space)
   alone : Fits (size_of (bytes_alone o.reply)) (data_room n)

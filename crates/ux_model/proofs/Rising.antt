@@ -85,7 +85,7 @@ installed_other c (m ∷ ns) (d ∷ ds) t n h =
     let p = or_parts (m == n) (list_any (λ m. m == n) ns) h in
     installed_other c ns ds (filled t m (record { description = d; cloexec = c })) n p.1 ∙ place_other t m n (Some (record { description = d; cloexec = c })) p.0
 
--- what is told of a number at which a description was installed
+-- what is reported of a number at which a description was installed
 abbrev pub IsInstalled : Bool → List ℕ → List (Option Descriptor) → ℕ → ℕ → Type 0
 IsInstalled c ds table i n = (d : ℕ) × (slice_get ds i ≡ Some d) × (place table n ≡ Some (record { description = d; cloexec = c }))
 

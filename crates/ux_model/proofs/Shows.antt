@@ -562,7 +562,7 @@ from_shows S p tag request limit d s addr m plain may = either (Shows S p tag re
     (λ c. either (Shows S p tag request) s.write_shut _ _ (λ e. refuses plain.no_end) (λ e. send_by_shows S p tag request limit d s addr (record m { from = Some s.name }) plain may)))
     (λ b. by_stream_shows S p tag request limit s.write_shut (peer_of s.phase) addr m plain may)
 
--- want of memory and failures are no part of what is shown
+-- ENOMEM and failures are no part of what is shown
 shown_alike : {S : State} {p tag : ℕ} {request : Request} (o u : Outcome) → u.reply ≡ o.reply → u.next ≡ o.next → Shows S p tag request o → Shows S p tag request u
 shown_alike {S} {p} {tag} {request} o u r t shows = record {
   tables = subst (λ (x : Reply). ChangesTables S p request x u.next) (sym r) (subst (λ (T : State). ChangesTables S p request o.reply T) (sym t) shows.tables);

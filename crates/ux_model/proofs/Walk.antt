@@ -1,5 +1,5 @@
 -- How a call finds its way to an outcome. Each lemma goes one branching of the definitions down, for any property of outcomes, and
--- tells what was found there; so a property is proved of a call by naming the call's branchings in order.
+-- reports what was found there; so a property is proved of a call by naming the call's branchings in order.
 use Rattle.std.proofs.Common.{◌≡◌, ℕ, Bool, true, false, if◌then◌else◌, List, [], ◌∷◌, Option, Some, None, Result, Ok, Err, refl, ap}
 use Rattle.ux_model.specs.Types.{Errno, Fd, Addr, SockType}
 use Rattle.ux_model.specs.Names.{PathTarget, file, bound, named}

@@ -1,4 +1,4 @@
--- Laws: how a call changes the descriptor tables, told by its request and reply.
+-- Laws: how a call changes the descriptor tables, reported by its request and reply.
 use Rattle.std.specs.Prelude.{◌≡◌, ℕ, suc, ◌≤◌, Bool, true, false, ◌==◌, if◌then◌else◌, List, [], ◌∷◌, length, take, Option, Some, None, option_map, Ok, Err}
 use Rattle.std.specs.List.{slice_get, list_any}
 use Rattle.ux_model.specs.Types.{Fd, Request, Reply, Entry}
@@ -66,7 +66,7 @@ sources S p (Request.Dup2 fd to) = as_list (description_in (held_at S p fd.0))
 sources S p (Request.RecvMsg fd n space flags) = (brought S p (Request.RecvMsg fd n space flags)).rights
 sources S p _ = []
 
--- What a call of process p, from S to T, tells of the tables before it and after it.
+-- What a call of process p, from S to T, reports of the tables before it and after it.
 pub record ChangesTables (S : State) (p : ℕ) (request : Request) (reply : Reply) (T : State) : Type 0 where
   -- other processes keep their tables, but for a child, which has its parent's, and at the end of the layer
   pub others : (q n : ℕ) → (p == q) ≡ false → makes q request reply ≡ false → held_at T q n ≡ left_to_others request reply (held_at S q n)

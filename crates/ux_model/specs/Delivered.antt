@@ -43,7 +43,7 @@ brought S p _ = nothing_brought
 abbrev pub tag_of : Brought → Option ℕ
 tag_of b = if length b.numbers == 0 then None else option_map (λ (o : Origin). o.tag) b.origin
 
--- The same by a reply, which tells that something was received or not. A peek installs rights too; and where a receive joins the bytes of
+-- The same by a reply, which reports that something was received or not. A peek installs rights too; and where a receive joins the bytes of
 -- several messages of a stream, the tag is that of the one whose rights came along.
 abbrev pub told_of : Brought → Reply → Option ℕ
 told_of b (Reply.Received flags count bytes control from) = tag_of b

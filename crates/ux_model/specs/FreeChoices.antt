@@ -1,4 +1,4 @@
--- Laws of the two free choices, want of memory and a failure: which calls never make the first, and what the second tells.
+-- Laws of the two free choices, out of memory and a failure: which calls never make the first, and what the second reports.
 use Rattle.std.specs.Prelude.{◌≡◌, ◌↔◌, ℕ, Bool, true, false, List, Some}
 use Rattle.ux_model.specs.Types.{Errno, SockOpt, Request, Reply}
 use Rattle.ux_model.specs.Places.{place}
@@ -6,7 +6,7 @@ use Rattle.ux_model.specs.Object.{View, after_failure}
 use Rattle.ux_model.specs.State.{State}
 use Rattle.ux_model.specs.Step.{Step}
 
--- ---- want of memory
+-- ---- out of memory
 
 -- the calls that take none
 abbrev pub takes_no_memory : Request → Bool
@@ -39,7 +39,7 @@ HasFailed S T o = (view : View) × (place S.objects o ≡ Some view) × (place T
 abbrev pub FailedAsOften : State → State → ℕ → Type 0
 FailedAsOften S T o = (old new : View) → place S.objects o ≡ Some old → place T.objects o ≡ Some new → new.faults ≡ old.faults
 
--- what a reply tells of failures, where its call leads from S to T
+-- what a reply reports of failures, where its call leads from S to T
 pub record TellsFailure (S : State) (reply : Reply) (T : State) : Type 0 where
   -- EIO, exactly where a file object has failed once more
   pub told : (reply ≡ Reply.Err Errno.EIO) ↔ ((o : ℕ) × HasFailed S T o)

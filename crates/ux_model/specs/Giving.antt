@@ -34,7 +34,7 @@ abbrev pub is_onto_itself : Request → Bool
 is_onto_itself (Request.Dup2 fd to) = to.0 == fd.0
 is_onto_itself _ = false
 
--- the numbers that an answer tells; dup2(2) onto itself gives none
+-- the numbers that an answer reports; dup2(2) onto itself gives none
 abbrev pub numbers_told : Request → Reply → List ℕ
 numbers_told request (Reply.Fd fd) = if is_onto_itself request then [] else fd.0 ∷ []
 numbers_told request (Reply.Fds first second) = first.0 ∷ second.0 ∷ []

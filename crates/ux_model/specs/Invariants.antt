@@ -70,7 +70,7 @@ abbrev pub RefusalChangesNothing : Type 0
 RefusalChangesNothing = (S T : State) (p tag : ℕ) (request : Request) (error : Errno) (gone : List ℕ) → settled S ≡ S →
     Step S p tag request (Reply.Err error) gone T → LeftByRefusal S error T × (gone ≡ [])
 
--- so of an entry of a legal history that tells of an error
+-- so of an entry of a legal history that reports an error
 abbrev pub RefusedEntryChangesNothing : Type 0
 RefusedEntryChangesNothing = (boot : State) (before : List Entry) (e : Entry) (error : Errno) → IsLegal boot (before ++ e ∷ []) → e.reply ≡ Reply.Err error →
     LeftByRefusal (replay boot before) error (replay boot (before ++ e ∷ [])) × (e.released ≡ [])
@@ -115,7 +115,7 @@ NothingDangles = (boot : State) (entries : List Entry) → IsLegal boot entries 
 
 -- ---- closed once
 
--- how often the entries tell of a file object that it was closed
+-- how often the entries report that a file object was closed
 abbrev pub times_released : ℕ → List Entry → ℕ
 times_released o entries = sum_by (λ e. times o e.released) entries
 
@@ -123,7 +123,7 @@ times_released o entries = sum_by (λ e. times o e.released) entries
 abbrev pub LosesLast : State → List Entry → ℕ → ℕ → Type 0
 LosesLast boot entries i o = (orefs (replay boot (take (suc i) entries)) o ≡ 0) × ((n : ℕ) → n ≤ i → 0 < orefs (replay boot (take n entries)) o)
 
--- Of a file object: one entry at most tells that it was closed, that by which it loses its last reference; and it is there in no state after that.
+-- Of a file object: one entry at most reports that it was closed, that by which it loses its last reference; and it is there in no state after that.
 pub record IsClosedOnce (boot : State) (entries : List Entry) (o : ℕ) : Type 0 where
   pub once : times_released o entries ≤ 1
   pub only_at_the_last : (i : ℕ) (e : Entry) → slice_get entries i ≡ Some e → 0 < times o e.released → LosesLast boot entries i o

@@ -34,7 +34,7 @@ tell_cred S (Some cred) = answer (Reply.Cred cred) S
 abbrev pub tell_queue_limit : State → Socket → Outcome
 tell_queue_limit S s = if is_stream s.kind then answer (Reply.Opt s.queue_limit) S else refuse S Errno.EOPNOTSUPP
 
--- of the socket with this number. SO_ERROR clears what it tells.
+-- of the socket with this number. SO_ERROR clears what it reports.
 abbrev pub tell_option : State → ℕ → Socket → SockOpt → Outcome
 tell_option S d s SockOpt.Kind = answer (Reply.Opt (type_number s.kind)) S
 tell_option S d s SockOpt.Error = answer (Reply.Opt (pending_error s)) (with_socket_by S d (with_reset false))

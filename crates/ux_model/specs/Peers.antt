@@ -1,4 +1,4 @@
--- Connected sockets name one another, so whoever goes has one other to tell.
+-- Connected sockets name one another, so whoever goes has one other to notify.
 use Rattle.std.specs.Prelude.{◌≡◌, ℕ, true, ◌<◌, ◌==◌, if◌then◌else◌, List, length, map, Option, Some, None, is_some}
 use Rattle.std.specs.List.{enumerate_from}
 use Rattle.ux_model.specs.Places.{place, emptied, changed_place}
@@ -26,7 +26,7 @@ pub record Paired (ds : List (Option Description)) : Type 0 where
 abbrev pub lost_peer : Description → Option ℕ
 lost_peer D = if resets_peer (socket_of D.target) then target_peer D.target else None
 
--- one is told that it was reset
+-- one is notified that it was reset
 abbrev pub told : Option ℕ → List (Option Description) → List (Option Description)
 told None ds = ds
 told (Some p) ds = changed_place ds p (changed (with_reset true))
@@ -45,7 +45,7 @@ pub record HoldsNothing (D : Description) : Type 0 where
   pub refs : (d : ℕ) → ◌≡◌ {A = ℕ} (target_refs d D.target) 0
   pub peer : target_peer D.target ≡ None
 
--- where peers name one another, the loss of a description is told to one other at most
+-- where peers name one another, the loss of a description notifies one other at most
 abbrev pub OneGoes : Type 0
 OneGoes = (S : State) (d : ℕ) (D : Description) → Paired S.descriptions → description_at S d ≡ Some D →
     told (lost_peer D) (emptied S.descriptions d) ≡ map (place_after_loss (λ n. n == d) S) (enumerate_from 0 S.descriptions)

@@ -1,4 +1,4 @@
--- Which conditions poll(2) tells of a descriptor: all that hold now.
+-- Which conditions poll(2) reports of a descriptor: all that hold now.
 use Rattle.std.specs.Prelude.{ℕ, ◌+◌, Bool, true, false, not, ◌&&◌, ◌||◌, ◌==◌, if◌then◌else◌, length, Option, Some, None}
 use Rattle.ux_model.specs.Types.{Fd, Cred, PollFlags, Reply}
 use Rattle.ux_model.specs.Places.{place}
@@ -13,7 +13,7 @@ use Rattle.ux_model.specs.FileObjects.{is_open_for}
 use Rattle.ux_model.specs.Connecting.{listener_of}
 
 pub record Conditions : Type 0 where
-  -- POLLIN: a read has something to tell at once
+  -- POLLIN: a read has something to report at once
   pub readable : Bool
   -- POLLOUT: so has a write
   pub writable : Bool

@@ -1,4 +1,4 @@
--- Laws: poll(2) tells that a socket is ready exactly where a call needn't wait.
+-- Laws: poll(2) reports that a socket is ready exactly where a call needn't wait.
 use Rattle.std.specs.Prelude.{◌≡◌, ◌↔◌, ℕ, Bool, true, false, ◌||◌, IsTrue, [], ◌∷◌, None, Ok, is_some}
 use Rattle.ux_model.specs.Types.{Errno, Fd, Request, Reply}
 use Rattle.ux_model.specs.Flags.{no_flags}

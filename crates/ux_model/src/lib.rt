@@ -24,7 +24,7 @@ pub fn dropping_in_any_order()
     ensures { EndsAlike }
 {}
 
-/// Each reply shows whether memory was wanting, so the calls of a history lead to one state.
+/// Each reply shows whether memory ran out, so the calls of a history lead to one state.
 #[tactic(auto, using(crate::proofs::Replays::leads_to_one))]
 pub fn history_leads_to_one_state()
     ensures { LeadsToOne }
@@ -36,7 +36,7 @@ pub fn front_of_a_legal_history()
     ensures { FrontIsLegal }
 {}
 
-/// A process ends with its own exit, and begins with the fork that tells its number, and with nothing else.
+/// A process ends with its own exit, and begins with the fork that reports its number, and with nothing else.
 #[tactic(auto, using(crate::proofs::Living::exit_and_fork_alone))]
 pub fn exit_ends_and_fork_begins_a_process()
     ensures { ExitAndForkAlone }
@@ -55,7 +55,7 @@ pub fn fork_alone_makes_a_process()
     ensures { ForkAloneMakes }
 {}
 
-/// A fork tells the number that comes next.
+/// A fork reports the number that comes next.
 #[tactic(auto, using(crate::proofs::Living::fork_tells_the_next))]
 pub fn fork_tells_the_next_number()
     ensures { ForkTellsTheNext }
@@ -104,7 +104,7 @@ pub fn new_description_counts()
     ensures { NewCounts }
 {}
 
-/// Where connected sockets name one another, one description that goes has one other to tell.
+/// Where connected sockets name one another, one description that goes has one other to notify.
 #[tactic(auto, using(crate::proofs::OneGoes::one_goes))]
 pub fn one_description_goes()
     ensures { OneGoes }
@@ -155,7 +155,7 @@ pub fn refusal_changes_nothing()
     ensures { RefusalChangesNothing }
 {}
 
-/// So of each entry of a legal history that tells of an error.
+/// So of each entry of a legal history that reports an error.
 pub fn refused_entry_changes_nothing()
     ensures { RefusedEntryChangesNothing }
 {}
@@ -175,7 +175,7 @@ pub fn nothing_dangles()
     ensures { NothingDangles }
 {}
 
-/// One entry of a legal history at most tells of a file object that it was closed: the one by which its
+/// One entry of a legal history at most reports that a file object was closed: the one by which its
 /// last reference goes, and that one does. The file object is there in no state after that.
 pub fn objects_are_closed_once()
     ensures { ClosedOnce }
@@ -207,7 +207,7 @@ pub fn one_name_goes()
     ensures { NameGoes }
 {}
 
-/// On a socket to and from which messages go, poll(2) tells no input exactly where a receive of one byte would
+/// On a socket to and from which messages go, poll(2) reports no input exactly where a receive of one byte would
 /// wait.
 #[tactic(auto, using(crate::proofs::ReadyCalls::tells_input))]
 pub fn poll_tells_of_input()

@@ -90,7 +90,7 @@ received_told S p fd n space flags d k s r h same told =
     ap (λ r. elim r as (λ _. Brought) [ Err e ↦ nothing_brought | Ok w ↦ brought_from w.1 n space (table_of S p) w.1.queue ]) h in
     subst (λ (b : Brought). IfOk r (λ done. done.delivered ≡ told_of b done.reply)) (there ∙ sym call) told
 
--- read(2) tells the bytes alone
+-- read(2) reports the bytes alone
 pub read_gives : (S T : State) (p d n : ℕ) (bytes reply : Reply) → bytes ≡ bytes_alone reply → (reply ≡ (receive_at S p d n 0 no_flags).reply) × (T ≡ (receive_at S p d n 0 no_flags).next) →
     (bytes ≡ (read_socket_at S p d n).reply) × (T ≡ (read_socket_at S p d n).next)
 read_gives S T p d n bytes reply alone g = go (socket_at S d) g

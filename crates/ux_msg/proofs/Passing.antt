@@ -115,7 +115,7 @@ read_gives S T buffer o (Err Refusal.NoMemory) g = (wanted (not (length buffer =
     wanted true b h = refl
     wanted false b h = h
 
--- the credentials and the user that a message of process p tells, where these may be given, and the limit of rights in flight
+-- the credentials and the user that a message of process p reports, where these may be given, and the limit of rights in flight
 abbrev pub AreTold : State → ℕ → Option Cred → Cred → ℕ → Option ℕ → Process → Type 0
 AreTold S p given cred uid limit P = (given_refusal S p P given ≡ None) × (cred ≡ sent_cred p P given) × (uid ≡ P.uid) × (limit ≡ flight_limit P)
 

@@ -19,7 +19,7 @@ Gives S outcome answer T = MatchResult answer
 abbrev pub GivesOrFails : State → Outcome → Result Reply Refusal → State → Type 0
 GivesOrFails S outcome answer T = Gives S outcome answer T ⊎ ((answer ≡ Err (Refusal.Answer Errno.EIO)) × (outcome.failure ≡ Some T))
 
--- the reply of an answer that tells of rights besides
+-- the reply of an answer that reports rights besides
 abbrev pub reply_of : Result Done Refusal → Result Reply Refusal
 reply_of (Ok done) = Ok done.reply
 reply_of (Err refusal) = Err refusal

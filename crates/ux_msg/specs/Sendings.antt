@@ -23,6 +23,6 @@ send_with_at S p P tag d addr bytes control = elim (socket_at S d) [ None ↦ re
 abbrev pub write_socket_at : State → ℕ → ℕ → ℕ → List ℕ → Outcome
 write_socket_at S p tag d bytes = elim (socket_at S d) [ None ↦ refuse S Errno.EBADF | Some s ↦ as_process S p (λ P. write_socket S p P tag d s bytes) ]
 
--- a datagram of this socket, which tells its name
+-- a datagram of this socket, which reports its name
 abbrev pub named_message : Socket → ℕ → List ℕ → List ℕ → Cred → ℕ → Message
 named_message s tag bytes rights cred uid = message tag bytes rights cred uid (Some s.name)

@@ -14,7 +14,7 @@ use ux_rights::RefList;
 use ux_state::State;
 use ux_types::{Addr, DescriptionId, Errno, RECORD_BYTES_LIMIT, Refusal, Reply};
 
-/// Sends a datagram from the socket of this description to an address, or where it is associated. It tells the
+/// Sends a datagram from the socket of this description to an address, or where it is associated. It reports the
 /// name that the socket has now.
 pub(crate) fn send_datagram<O: FileObject>(
     state: &mut State<O>,
@@ -121,7 +121,7 @@ fn send_to_target<O: FileObject>(
     if is_over_limit(state, draft, &rights) {
         return Err(Refusal::Answer(Errno::ETOOMANYREFS));
     }
-    // A full queue comes before want of memory.
+    // A full queue comes before ENOMEM.
     if !other.has_room() {
         return Err(Refusal::Answer(Errno::EAGAIN));
     }

@@ -19,7 +19,7 @@ const CRED_LEN: usize = 28;
 /// The same up to where the next item begins (CMSG_SPACE).
 const CRED_SPACE: usize = 32;
 
-/// What a receive tells beside the bytes.
+/// What a receive reports beside the bytes.
 #[derive(Drop)]
 pub(crate) struct Delivered {
     /// The bytes of its control buffer.

@@ -14,7 +14,7 @@ pub(crate) struct Draft<'a> {
     /// The number of the call.
     pub(crate) tag: u64,
     pub(crate) bytes: &'a Bytes,
-    /// The credentials that it tells (SCM_CREDENTIALS).
+    /// The credentials that it reports (SCM_CREDENTIALS).
     pub(crate) cred: Cred,
     /// The user of the sending process, whatever the credentials say.
     pub(crate) uid: u32,

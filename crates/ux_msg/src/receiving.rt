@@ -71,7 +71,7 @@ pub fn read_socket<O: FileObject>(
     Ok(bytes_alone(done.reply))
 }
 
-/// What read(2) tells of a reply to recvmsg(2).
+/// What read(2) reports of a reply to recvmsg(2).
 fn bytes_alone(reply: Reply) -> Reply
     ensures { result ≡ model.bytes_alone reply }
 {
@@ -215,7 +215,7 @@ fn recv_nothing<O: FileObject>(
     }
 }
 
-/// The reply that tells what was received at a socket of this type by a call with these flags, and what was
+/// The reply that reports what was received at a socket of this type by a call with these flags, and what was
 /// delivered with it.
 fn received(kind: SockType, flags: MsgFlags, front: Received, delivery: Delivered) -> Reply
     ensures { result ≡ Reply.Received (received_flags (nat_lt (length front.bytes) front.whole) delivery.truncated (marks_records kind))
@@ -236,7 +236,7 @@ fn received(kind: SockType, flags: MsgFlags, front: Received, delivery: Delivere
     }
 }
 
-/// The flags that tell that data was cut off, that control data was left out, and that a record ends.
+/// The flags that report that data was cut off, that control data was left out, and that a record ends.
 fn flags_told(cut: bool, control_cut: bool, ends_record: bool) -> MsgFlags
     ensures { result ≡ received_flags cut control_cut ends_record }
 {
@@ -253,14 +253,14 @@ fn flags_told(cut: bool, control_cut: bool, ends_record: bool) -> MsgFlags
     told
 }
 
-/// Whether a receive at a socket of this type tells where a record ends (MSG_EOR).
+/// Whether a receive at a socket of this type reports where a record ends (MSG_EOR).
 fn marks_records(kind: SockType) -> bool
     ensures { result ≡ marks_records kind }
 {
     matches!(kind, SockType::Seq)
 }
 
-/// The answer that tells of nothing.
+/// The answer that reports nothing.
 fn nothing_received() -> Done
     ensures reply { result.reply ≡ model.nothing_received }
     ensures none { result.delivered ≡ None }

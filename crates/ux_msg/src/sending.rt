@@ -263,7 +263,7 @@ fn is_sendable_addr(addr: Option<&Addr>) -> bool
     }
 }
 
-/// The credentials that a message of a process tells: those that it gives, else its own. The process lives.
+/// The credentials that a message of a process reports: those that it gives, else its own. The process lives.
 ///
 /// # Errors
 ///

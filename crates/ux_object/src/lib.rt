@@ -1,5 +1,5 @@
 //! The interface of a file object, as the kernel sees it: bytes at fixed places, a counter as of
-//! eventfd(2), or a pipe as of pipe(7). Its meaning is a view: whether it is open, what is in it, and
+//! eventfd(2), or a pipe (pipe(7)). Its meaning is a view: whether it is open, what is in it, and
 //! how often it has failed.
 #![tactic(auto)]
 

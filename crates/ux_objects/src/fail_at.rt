@@ -43,7 +43,7 @@ impl FailAt {
         self.left
     }
 
-    /// Counts a read or a write, and tells whether it is the one that fails.
+    /// Counts a read or a write, and reports whether it is the one that fails.
     fn fails_now(&mut self) -> bool
         ensures tells { (result ≡ true) ↔ (self.old.left ≡ 1) }
         ensures counts { self.new.left ≡ self.old.left - 1 }

@@ -1,5 +1,5 @@
 //! The three kinds of file objects, which live in memory and never fail: memory files, counters as of
-//! eventfd(2), and pipes as of pipe(7). Beside them one that fails once, for those who want to see
+//! eventfd(2), and pipes (pipe(7)). Beside them one that fails once, for those who want to see
 //! what becomes of a failure.
 #![tactic(auto)]
 

@@ -152,7 +152,7 @@ fn the_seventeenth_is_refused(rt: HostRuntime) -> Result<(), AllocError> {
     Ok(())
 }
 
-/// Sends a message with 20 bytes, and tells whether it was queued.
+/// Sends a message with 20 bytes, and reports whether it was queued.
 fn is_queued<A: Allocator + Copy>(
     rt: &impl Abort,
     alloc: Global,

@@ -80,7 +80,7 @@ struct Both<A: Allocator + Copy> {
     alloc: Global,
     /// How many bytes were sent.
     sent: u64,
-    /// How many sends and receives were refused for want of memory.
+    /// How many sends and receives were refused as out of memory.
     refused_sends: u64,
     refused_receives: u64,
 }
@@ -278,7 +278,7 @@ fn refused_allocations_change_nothing(rt: HostRuntime) -> Result<(), AllocError>
     Ok(())
 }
 
-/// A receive that is refused for want of memory leaves the queue as before, as the next one shows.
+/// A receive that is refused as out of memory leaves the queue as before, as the next one shows.
 #[test]
 fn few_bytes_are_received_without_memory(rt: HostRuntime) -> Result<(), AllocError> {
     let alloc = rt.alloc();

@@ -9,7 +9,7 @@ use ux_types::PollFlags;
 /// The conditions of poll(2) that hold.
 #[derive(Clone, Copy)]
 pub(crate) struct Conditions {
-    /// POLLIN: a read has something to tell at once.
+    /// POLLIN: a read has something to report at once.
     pub(crate) readable: bool,
     /// POLLOUT: so has a write.
     pub(crate) writable: bool,
@@ -45,7 +45,7 @@ impl Conditions {
         }
     }
 
-    /// The flags that tell them.
+    /// The flags that report them.
     pub(crate) fn flags(self) -> PollFlags
         ensures { result ≡ model.poll_flags self }
     {

@@ -10,7 +10,7 @@ use ux_object::FileObject;
 use ux_state::State;
 use ux_types::{DescriptionId, PollFlags};
 
-/// What poll(2) tells of a description: NVAL alone where it isn't there. It takes no memory.
+/// What poll(2) reports of a description: NVAL alone where it isn't there. It takes no memory.
 pub fn readiness<O: FileObject>(state: &State<O>, id: DescriptionId) -> PollFlags
     ensures { result ≡ model.flags_at state.now id }
 {

@@ -1,4 +1,4 @@
-//! What poll(2) tells of an open file description: all conditions that hold now, by the table of readiness in
+//! What poll(2) reports of an open file description: all conditions that hold now, by the table of readiness in
 //! `docs/calls.md`. It takes no memory.
 #![tactic(auto)]
 

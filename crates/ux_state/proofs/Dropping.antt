@@ -50,7 +50,7 @@ told_opens : (allows : Mode → Bool) (o : ℕ) (l : Option ℕ) (ds : List (Opt
 told_opens allows o None ds = refl
 told_opens allows o (Some p) ds = sum_by-changed (opens allows o) (changed (with_reset true)) (same_opening (with_reset true) allows o) ds p
 
--- without d, which was D, and its peer told
+-- without d, which was D, and its peer notified
 left_opens : (allows : Mode → Bool) (o d : ℕ) (D : Description) (ds : List (Option Description)) → place ds d ≡ Some D →
     count_by (is_opening allows o) (told (lost_peer D) (emptied ds d)) + opens allows o (Some D) ≡ count_by (is_opening allows o) ds
 left_opens allows o d D ds here =

@@ -159,7 +159,7 @@ impl<O: FileObject> State<O> {
         let (Some(backlog), Some(listener_cred)) = (socket.backlog(), socket.listener_cred()) else {
             unreachable!();
         };
-        // A full backlog comes before want of memory.
+        // A full backlog comes before ENOMEM.
         if backlog.is_full() {
             return Err(PushError::Full);
         }

@@ -149,7 +149,7 @@ impl<O: FileObject> State<O> {
     }
 }
 
-/// Queues a message at a socket, or gives its rights back where memory is wanting.
+/// Queues a message at a socket, or gives its rights back when out of memory.
 fn push_message(
     slots: &mut Slots<Description>,
     id: DescriptionId,

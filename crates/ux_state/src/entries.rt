@@ -85,7 +85,7 @@ impl<O: FileObject> State<O> {
         ensures full { (result ≡ Err InstallError.Full) ↔ (lowest_free (table_of self.old pid.0) ≡ None) }
         ensures err { OnErr result (self.new ≡ self.old) }
     {
-        // A full table comes before want of memory.
+        // A full table comes before ENOMEM.
         if self.table(pid).lowest_free().is_none() {
             return Err(InstallError::Full);
         }

@@ -27,7 +27,7 @@ struct Files<O: FileObject> {
 impl<O: FileObject> State<O> {
     /// A state with these open file objects, each under its path, and these processes, numbered from 1
     /// on, in which nothing was made yet; its names are hashed by this seed. The objects come back where memory
-    /// is wanting.
+    /// runs out.
     pub fn new(
         alloc: Global,
         seed: Seed,

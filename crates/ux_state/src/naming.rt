@@ -53,7 +53,7 @@ impl<O: FileObject> State<O> {
         ensures taken { (result ≡ Err BindError.Taken) ↔ IsSome (named name.now self.old.paths) }
         ensures err { OnErr result (self.new ≡ self.old) }
     {
-        // A name that is taken comes before want of memory.
+        // A name that is taken comes before ENOMEM.
         if self.paths.find(name).is_some() {
             return Err(BindError::Taken);
         }

@@ -136,7 +136,7 @@ fn hand_out<O: FileObject>(retired: &mut RetiredList<O>, number: u32, object: Op
     }
 }
 
-/// One description is told that it was reset, if it is still there.
+/// One description is notified that it was reset, if it is still there.
 fn tell(slots: &mut Slots<Description>, peer: Option<DescriptionId>)
     ensures places { slots.new.places ≡ told peer slots.old.places }
     ensures counts { slots.new.counts ≡ slots.old.counts }

@@ -44,7 +44,7 @@ fn drain<A: Allocator>(rt: &impl Abort, backlog: &mut Backlog<A>, from: u32, to:
     }
 }
 
-/// Has ends wait until memory is wanting, or the backlog is full, and tells how many wait then.
+/// Has ends wait until memory runs out, or the backlog is full, and reports how many wait then.
 fn fill_up<A: Allocator>(rt: &impl Abort, backlog: &mut Backlog<A>) -> u32 {
     for number in 0..1000 {
         if let Err(error) = backlog.push(end(number)) {
@@ -106,7 +106,7 @@ fn listening_again_drops_nothing(rt: HostRuntime) {
     expect_pending(&rt, &backlog, 2, 4);
 }
 
-/// Has ends wait in a heap of so many blocks, and tells whether memory was wanting before the backlog was
+/// Has ends wait in a heap of so many blocks, and reports whether memory ran out before the backlog was
 /// full. Then it is as before, and its ends are taken in order.
 fn lacks_memory(rt: &impl Abort, alloc: Global, blocks: usize) -> Result<bool, Fail> {
     let heap = LocalHeap::new(alloc, blocks.saturating_mul(64))?;

@@ -196,7 +196,7 @@ fn hundred_rights(alloc: Global) -> Result<Control, AllocError> {
     Ok(Control::new(cred(), rights))
 }
 
-/// Reads in a heap of so many units of 16 bytes, and tells whether memory was wanting.
+/// Reads in a heap of so many units of 16 bytes, and reports whether memory ran out.
 fn read_lacks_memory(rt: &impl Abort, alloc: Global, units: usize) -> Result<bool, Fail> {
     let control = hundred_rights(alloc)?;
     let bytes = write(alloc, &control)?;
@@ -213,7 +213,7 @@ fn read_lacks_memory(rt: &impl Abort, alloc: Global, units: usize) -> Result<boo
     }
 }
 
-/// Writes in a heap of so many units of 16 bytes, and tells whether memory was wanting.
+/// Writes in a heap of so many units of 16 bytes, and reports whether memory ran out.
 fn write_lacks_memory(rt: &impl Abort, alloc: Global, units: usize) -> Result<bool, Fail> {
     let control = hundred_rights(alloc)?;
     let heap = LocalHeap::new(alloc, units.saturating_mul(16))?;

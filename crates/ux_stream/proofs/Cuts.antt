@@ -310,7 +310,7 @@ front_rest wants n reach (m ∷ ms) bs later reached queue is =
     let taken = reach_taken wants n reach.count m ms bs reached.1 queue in
     is ∙ cut_taken reach.count (m ∷ ms) bs (omega (arith, queue.whole)) ∙ ap (λ k. without_first k (cut_by (m ∷ ms) bs)) taken
 
--- an origin is told exactly where rights come
+-- an origin is reported exactly where rights come
 pub some_origin : (n : ℕ) (ms : List Stretch) (rights : List ℕ) (origin : Option Origin) → rights ≡ rights_among n ms → origin ≡ origin_among n ms → IsSome origin ↔ (0 < length rights)
 some_origin n ms rights origin r o = rw (r, o) (go n ms)
   where

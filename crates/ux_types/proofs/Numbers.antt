@@ -83,7 +83,7 @@ at_set_bit P (suc n) i bits all inside set =
       | inr away ↦ at_set_bit P n i bits parts.0 (omega (arith, inside, away)) set
     ]
 
--- the list tells the bits
+-- the list reports the bits
 bit_from : (n i a b : ℕ) → numbers_below n a ≡ numbers_below n b → i < n → bit_at a i ≡ 1 → bit_at b i ≡ 1
 unfolding numbers_below
 bit_from n i a b same inside set =

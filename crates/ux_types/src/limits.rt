@@ -28,7 +28,7 @@ pub const RECORD_BYTES_LIMIT: usize = 65536;
 /// The most descriptors that go in one message (SCM_MAX_FD of unix(7)).
 pub const RIGHTS_LIMIT: usize = 253;
 
-/// The longest control buffer that a receive tells: credentials, padding, and the most rights of a message.
+/// The longest control buffer that a receive reports: credentials, padding, and the most rights of a message.
 pub const CONTROL_LIMIT: usize = 32 + 16 + 4 * RIGHTS_LIMIT;
 
 /// The most bytes that one read asks for.

@@ -2,7 +2,7 @@
 ghost use Rattle.std.specs.Prelude.{◌≡◌};
 ghost use Rattle.ux_types.specs.Modes.{can_read, can_write};
 
-/// The type of a socket, as of socket(2).
+/// The type of a socket (socket(2)).
 #[derive(Clone, Copy, Debug, PartialEq, Eq)]
 pub enum SockType {
     /// A byte stream.

@@ -110,7 +110,7 @@ const ALSO_NAMED: &[Row] = &[(1, Asked::Bind(2, At::Abstract(b"n")), Told::Ok)];
 /// A further call that takes memory.
 const CONNECTED: &[Row] = &[(1, Asked::Connect(1, At::Path(b"p")), Told::Ok)];
 
-/// Calls that tell short names.
+/// Calls that report short names.
 const TOLD: &[Row] = &[
     (1, Asked::SockName(1), Told::Addr(At::Abstract(b"00000"))),
     (1, Asked::PeerName(1), Told::Addr(At::Path(b"p"))),

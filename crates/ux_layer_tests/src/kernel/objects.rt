@@ -14,7 +14,7 @@ pub(super) fn is_gone(machine: &Machine, number: u32) -> bool {
             .all(|r| r.number() == number && !r.object().is_open())
 }
 
-/// Paths that can't be, or aren't there.
+/// Invalid paths, and paths that aren't there.
 const NO_PATHS: &[Row] = &[
     (1, Asked::Unlink(b""), Told::Err(Errno::EINVAL)),
     (1, Asked::Unlink(b"c"), Told::Err(Errno::ENOENT)),

@@ -39,7 +39,7 @@ const LOST: &[Row] = &[
     (1, Asked::Close(1), Told::Ok),
 ];
 
-/// Options and conditions are told, and options that bind no name are set, without memory.
+/// Options and conditions are reported, and options that bind no name are set, without memory.
 const ASKED: &[Row] = &[
     (1, Asked::Poll(0), Told::Poll(0b01_1111)),
     (1, Asked::GetOpt(0, SockOpt::Error), Told::Opt(20)),

@@ -36,7 +36,7 @@ fn leaves_path(
     says_rows(rt, alloc, machine, CLOSE)
 }
 
-/// Takes a path away, or is told that it isn't there.
+/// Takes a path away, or finds that it isn't there.
 fn takes_path(
     rt: &impl Abort,
     alloc: Global,

@@ -57,7 +57,7 @@ const THREE_PAIRS: &[Row] = &[
     (1, Asked::PairOf(SockType::Seq), Told::Fds(4, 5)),
 ];
 
-/// What is told of limits, and what is refused, all without memory.
+/// What is reported of limits, and what is refused, all without memory.
 const SET_AND_TOLD: &[Row] = &[
     (1, Asked::GetOpt(0, LIMIT), Told::Opt(65536)),
     (1, Asked::SetOpt(0, LIMIT, 0), Told::Err(Errno::EINVAL)),

@@ -72,7 +72,7 @@ fn wait_all<W: BookName + Send + Sync, R: Threads + Wait + Abort + Sync>(
     Ok(())
 }
 
-/// Makes a pair, waits until it is told that all do, and exits. What was told leaves the seat as it was.
+/// Makes a pair, waits until the deadlock is reported, and exits. The report leaves the seat as it was.
 fn wait_in_vain<W: BookName, R: Wait>(
     rt: &R,
     mut seat: Seat<W, Counter>,

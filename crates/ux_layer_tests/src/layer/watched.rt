@@ -1,4 +1,4 @@
-//! What the threads do to the file objects, as objects of the tests' own tell it.
+//! What the threads do to the file objects, as objects of the tests' own report it.
 ghost use Rattle.std.specs.Prelude.{◌≡◌, false, IfOk};
 ghost use Rattle.ux_model.specs.Boot.{IsBootState};
 ghost use Rattle.ux_history.specs.Books.{has_own_call};
