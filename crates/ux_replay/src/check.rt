@@ -9,13 +9,13 @@ use ux_object::FileObject;
 use ux_state::{Retired, RetiredList};
 use ux_types::{Done, Entry, Errno, Reply, Request};
 
-/// Why a history wasn't made again to its end.
+/// Why the calls of a history weren't all made again.
 #[derive(Clone, Copy, Debug, PartialEq, Eq)]
 pub enum ReplayFault {
-    /// The call of the entry of this number may not be made, is answered otherwise, tells of rights of another
+    /// The call of the entry of this number may not be made, has another reply, receives the rights of another
     /// message, or releases other file objects.
     Differs(u64),
-    /// No memory was left at the entry of this number, which had it the first time.
+    /// Memory ran out at the entry of this number, whose call wasn't refused it the first time.
     NoMemory(u64),
 }
 
@@ -35,8 +35,8 @@ impl ReplayFault {
 ///
 /// # Errors
 ///
-/// The number of the first entry whose call may not be made, is answered otherwise, tells of rights of another
-/// message, or releases other file objects, or at which no memory is left.
+/// The number of the first entry whose call may not be made, has another reply, receives the rights of another
+/// message, or releases other file objects, or at which memory ran out.
 pub fn check_history<O: FileObject>(
     alloc: Global,
     history: &[Entry],
@@ -45,17 +45,15 @@ pub fn check_history<O: FileObject>(
     ensures all { IfOk result (λ n. n ≡ length history.now) }
     ensures first { IfErr result (λ n. n ≤ length history.now) }
 {
-    match replay(alloc, history, kernel) {
-        Ok(count) => Ok(count),
-        Err(fault) => Err(fault.entry()),
-    }
+    replay(alloc, history, kernel).map_err(|fault| fault.entry())
 }
 
-/// Makes the calls of a history as `check_history` does, and tells want of memory from a difference.
+/// Makes the calls of a history as `check_history` does, and reports whether a difference or a lack of memory
+/// ended it.
 ///
 /// # Errors
 ///
-/// `Differs` or `NoMemory` at the first entry that isn't made again as it was.
+/// `Differs` or `NoMemory` at the first entry whose call didn't have the same outcome.
 pub fn replay<O: FileObject>(
     alloc: Global,
     history: &[Entry],
@@ -72,7 +70,7 @@ pub fn replay<O: FileObject>(
     found
 }
 
-/// Makes the calls, up to the first that isn't as it was.
+/// Makes the calls, up to the first with another outcome.
 fn make_again<O: FileObject>(
     kernel: &mut Kernel<O>,
     history: &[Entry],
@@ -81,25 +79,27 @@ fn make_again<O: FileObject>(
     ensures all { IfOk result (λ n. n ≡ length history.now) }
     ensures first { IfErr result (λ f. entry_at f ≤ length history.now) }
 {
-    for number in 0..history.len() {
-        let entry = &history[number];
+    for (index, entry) in history.iter().enumerate() {
+        let number = index as u64;
         if is_left_out(&entry.reply) {
             continue;
         }
-        match repeat(kernel, number as u64, entry, retired) {
+        match repeat(kernel, number, entry, retired) {
             Repeated::Same => {}
-            Repeated::Otherwise => return Err(ReplayFault::Differs(number as u64)),
-            Repeated::NoMemory => return Err(ReplayFault::NoMemory(number as u64)),
+            Repeated::Different => return Err(ReplayFault::Differs(number)),
+            Repeated::NoMemory => return Err(ReplayFault::NoMemory(number)),
         }
     }
     Ok(history.len() as u64)
 }
 
-/// How a call goes that is made again.
+/// The outcome of a call that is made again, compared with its entry.
 #[derive(Clone, Copy)]
 enum Repeated {
+    /// It has the same outcome as the first time.
     Same,
-    Otherwise,
+    /// It may not be made, or has another outcome.
+    Different,
     /// It is refused for lack of memory, which it wasn't the first time.
     NoMemory,
 }
@@ -109,8 +109,8 @@ fn is_left_out(reply: &Reply) -> bool {
     matches!(reply, Reply::Err(Errno::EIO | Errno::ENOMEM))
 }
 
-/// Makes an entry's call, and tells whether it is answered as then, tells of rights of the same message, and
-/// releases the same file objects.
+/// Makes an entry's call, and compares its reply, the message whose rights it received, and the file objects that
+/// it released.
 fn repeat<O: FileObject>(
     kernel: &mut Kernel<O>,
     number: u64,
@@ -118,7 +118,7 @@ fn repeat<O: FileObject>(
     retired: &mut RetiredList<O>,
 ) -> Repeated {
     if !may_call(kernel, entry) {
-        return Repeated::Otherwise;
+        return Repeated::Different;
     }
     retired.clear();
     let done = kernel.step(entry.pid, number, &entry.request, retired);
@@ -127,7 +127,7 @@ fn repeat<O: FileObject>(
     if matches!(compared, Repeated::Same)
         && !are_these(retired.as_slice(), entry.released.numbers().as_slice())
     {
-        return Repeated::Otherwise;
+        return Repeated::Different;
     }
     compared
 }
@@ -142,14 +142,14 @@ fn may_call<O: FileObject>(kernel: &Kernel<O>, entry: &Entry) -> bool
     kernel.is_live(entry.pid)
 }
 
-/// An answer, and the message that it tells of, beside those of the first time.
+/// Compares a reply, and the message whose rights it received, with those of the first time.
 fn compare(again: &Done, first: &Entry) -> Repeated {
     if again.reply == first.reply && again.delivered == first.delivered {
         Repeated::Same
     } else if matches!(again.reply, Reply::Err(Errno::ENOMEM)) {
         Repeated::NoMemory
     } else {
-        Repeated::Otherwise
+        Repeated::Different
     }
 }
 

@@ -1,4 +1,4 @@
-//! Makes the calls of a history once more, and tells where the answers differ.
+//! Makes the calls of a history once more, and reports where the outcomes differ.
 #![tactic(auto)]
 
 mod check;

@@ -1,14 +1,13 @@
--- Bytes in pairs of digits, and a bit.
-use Rattle.std.proofs.Common.{◌≡◌, ℕ, ◌+◌, ◌*◌, ◌/◌, ◌%◌, ◌-◌, ◌<◌, ◌&&◌, leb, Bool, true, false, cond, List, [], ◌∷◌, length, Ok, Err, refl, ap, ◌∙◌, subst, arith, Decides}
+-- Bytes in pairs of digits.
+use Rattle.std.proofs.Common.{◌≡◌, ℕ, ◌+◌, ◌*◌, ◌/◌, ◌%◌, ◌-◌, ◌<◌, ◌&&◌, leb, Bool, true, false, cond, List, [], ◌∷◌, length, Ok, refl, ap, ◌∙◌, subst, arith, Decides}
 use Rattle.std.specs.List.{flat_map}
 use Rattle.std.specs.Fmt.{digit_glyph}
 use Rattle.std.specs.Str.{bytes_eq}
 use Rattle.std.proofs.lemmas.Bool.Decides.{nat_tests}
 use Rattle.std.proofs.lemmas.Slice.Eq.{bytes_eq-Decides}
-use Rattle.ux_syntax.specs.declared.fault.Fault.TheVariants.{BadLine}
 use Rattle.ux_syntax.specs.Trace.{dash, digit_pair, hex}
-use Rattle.ux_syntax.specs.Spelling.{AreBytes, bit}
-use Rattle.ux_syntax.specs.Reading.{◌>>=◌, digit_at, pairs_at, hex_at, bit_at}
+use Rattle.ux_syntax.specs.Spelling.{AreBytes}
+use Rattle.ux_syntax.specs.Reading.{◌>>=◌, digit_at, pairs_at, hex_at}
 use Rattle.ux_syntax.proofs.Texts.{hex_is}
 use Rattle.ux_syntax.proofs.Rows.{IsSolid, IsBadOrOk, IsKind, bind_ok, done, ok_is, guard_bad, either_bad, bind_bad}
 
@@ -98,26 +97,3 @@ hex_bad (c ∷ cs) = either_bad (bytes_eq (c ∷ cs) dash) (Ok []) (pairs_at (c 
 
 pub hex_kind : IsKind hex_at hex AreBytes
 hex_kind = record { takes = hex_takes; bad = hex_bad; again = hex_again; solid = hex_solid }
-
--- ---- a bit
-
-bit_chosen : (w : List ℕ) (b t u : Bool) → Decides t (w ≡ 48 ∷ []) → Decides u (w ≡ 49 ∷ []) → cond t (done false) (cond u (done true) (Err BadLine)) ≡ Ok b → (w ≡ bit b) × Unit {0}
-bit_chosen w b true u d f e = (d.0 refl ∙ ap bit (ok_is false b e), tt)
-bit_chosen w b false true d f e = (f.0 refl ∙ ap bit (ok_is true b e), tt)
-bit_chosen w b false false d f e = absurd cc
-
-bit_again : (b : Bool) → bit_at (bit b) ≡ Ok b
-bit_again true = refl
-bit_again false = refl
-
-bit_solid : (b : Bool) → IsSolid (bit b)
-bit_solid true = (omega arith, tt)
-bit_solid false = (omega arith, tt)
-
-pub bit_kind : IsKind bit_at bit (λ _. Unit {0})
-bit_kind = record {
-  takes = λ w b e. bit_chosen w b (bytes_eq w (48 ∷ [])) (bytes_eq w (49 ∷ [])) (bytes_eq-Decides w (48 ∷ [])) (bytes_eq-Decides w (49 ∷ [])) e;
-  bad = λ w. either_bad (bytes_eq w (48 ∷ [])) (Ok false) _ tt (guard_bad (bytes_eq w (49 ∷ [])) true);
-  again = λ b h. bit_again b;
-  solid = λ b h. bit_solid b;
-}

@@ -1,6 +1,7 @@
 -- Reading from left to right: a script, or the first line that is at fault.
-use Rattle.std.specs.Prelude.{ℕ, zero, suc, ◌+◌, ◌-◌, ◌*◌, ◌^◌, ℤ, pos, negsuc, Bool, true, false, List, [], ◌∷◌, ◌++◌, length, codes, Option, Some, None, Result, Ok, Err, nat_lt, nat_le, bit_or, ◌==◌, ◌&&◌, if◌then◌else◌, not}
+use Rattle.std.specs.Prelude.{ℕ, zero, suc, ◌+◌, ◌-◌, ◌*◌, ◌^◌, ℤ, pos, negsuc, Bool, true, false, List, [], ◌∷◌, ◌++◌, length, map, codes, Option, Some, None, Result, Ok, Err, nat_lt, nat_le, bit_or, ◌==◌, ◌&&◌, if◌then◌else◌, not}
 use Rattle.std.specs.List.{slice_split, find, list_all}
+use Rattle.std.specs.Option.{option_map}
 use Rattle.std.specs.Str.{bytes_eq}
 use Rattle.std.specs.Char.{is_ascii_digit}
 use Rattle.std.specs.Str.Parse.{digits_value, signed_digits_value}
@@ -19,7 +20,7 @@ use Rattle.ux_syntax.specs.declared.script.Act.{Act}
 use Rattle.ux_syntax.specs.Lines.{Line}
 use Rattle.ux_syntax.specs.declared.reading.Item.{Item}
 use Rattle.ux_syntax.specs.Trace.{dash, stands, word_text}
-use Rattle.ux_syntax.specs.Spelling.{Plan, open_path, read_fd, write_fd, seek, dup_fd, dup_onto, set_flags, close, unlink_path, socket, pair, bind, listen, connect, accept, shut, get_opt, set_opt, sock_name, peer_name, send, recv, poll, fork, exec, exit, meaning, mode_text, type_text, option_text, whence_text, kind_text, is_meant, asks_fork, known_count}
+use Rattle.ux_syntax.specs.Spelling.{Plan, open_path, read_fd, write_fd, seek, dup_fd, dup_onto, set_flags, close, unlink_path, socket, pair, bind, listen, connect, accept, shut, get_opt, set_opt, sock_name, peer_name, send, recv, poll, fork, exec, exit, meaning, bit, mode_text, type_text, option_text, whence_text, kind_text, is_meant, asks_fork, known_count}
 use Rattle.ux_syntax.specs.Turns.{has_exited, is_known, awaits_known}
 
 infixl 10 ◌>>=◌
@@ -54,16 +55,20 @@ unfoldable pub hex_at : List ℕ → Result (List ℕ) Fault
 hex_at [] = Err BadLine
 hex_at (c ∷ cs) = if bytes_eq (c ∷ cs) dash then Ok [] else pairs_at (c ∷ cs)
 
-abbrev pub bit_at : List ℕ → Result Bool Fault
-bit_at w = if bytes_eq w (48 ∷ []) then Ok false else if bytes_eq w (49 ∷ []) then Ok true else Err BadLine
-
 abbrev pub or_bad : {A : Type 0} → Option A → Result A Fault
 or_bad None = Err BadLine
 or_bad (Some x) = Ok x
 
+-- the value beside the word in a table of words and values
+abbrev pub beside_at : {A : Type 0} → List (List ℕ × A) → List ℕ → Result A Fault
+beside_at rows w = or_bad (option_map (λ row. row.1) (find (λ row. bytes_eq w row.0) rows))
+
 -- the one of these values whose text the word is
 abbrev pub chosen_at : {A : Type 0} → (A → List ℕ) → List A → List ℕ → Result A Fault
-chosen_at text all w = or_bad (find (λ x. bytes_eq w (text x)) all)
+chosen_at text all w = beside_at (map (λ x. (text x, x)) all) w
+
+abbrev pub bit_at : List ℕ → Result Bool Fault
+bit_at w = chosen_at bit (false ∷ true ∷ []) w
 
 unfoldable pub type_at : List ℕ → Result SockType Fault
 type_at w = chosen_at type_text (SockType.Stream ∷ SockType.Dgram ∷ SockType.Seq ∷ []) w

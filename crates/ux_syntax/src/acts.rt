@@ -6,7 +6,7 @@ ghost use Rattle.ux_syntax.specs.Results.{Gives};
 
 use crate::calls::{request_of, word_of};
 use crate::fault::LineError;
-use crate::row::{end, next, word};
+use crate::row::{next, row_of};
 use crate::script::Act;
 use std::alloc::Global;
 use ux_types::Pid;
@@ -16,9 +16,7 @@ use ux_types::Pid;
 fn wait_of(alloc: Global, words: &[&[u8]]) -> Result<Act, LineError>
     ensures { Gives (λ a. a) result (wait_at (map (λ w. w.now) words.now)) }
 {
-    let (pid, words) = word(alloc, words)?;
-    let (calls, words) = word(alloc, words)?;
-    end(words)?;
+    let (pid, (calls, ())) = row_of(alloc, words)?;
     Ok(Act::Wait(Pid(pid), calls))
 }
 

@@ -7,7 +7,7 @@ ghost use Rattle.ux_syntax.specs.Results.{Gives};
 
 use crate::control::ControlWord;
 use crate::fault::{BAD, LineError};
-use crate::row::{end, word};
+use crate::row::{end, row_of};
 use std::alloc::Global;
 use ux_types::{Fd, Request};
 
@@ -166,10 +166,7 @@ pub(crate) fn word_of(word: &[u8]) -> Result<CallWord, LineError>
 fn open_of(alloc: Global, words: &[&[u8]]) -> Result<Request, LineError>
     ensures { Gives (λ r. r) result (open_at (map (λ w. w.now) words.now)) }
 {
-    let (path, words) = word(alloc, words)?;
-    let (mode, words) = word(alloc, words)?;
-    let (flags, words) = word(alloc, words)?;
-    end(words)?;
+    let (path, (mode, (flags, ()))) = row_of(alloc, words)?;
     Ok(Request::Open { path, mode, flags })
 }
 
@@ -178,13 +175,8 @@ fn open_of(alloc: Global, words: &[&[u8]]) -> Result<Request, LineError>
 fn read_of(alloc: Global, words: &[&[u8]]) -> Result<Request, LineError>
     ensures { Gives (λ r. r) result (read_at (map (λ w. w.now) words.now)) }
 {
-    let (fd, words) = word(alloc, words)?;
-    let (n, words) = word::<u32>(alloc, words)?;
-    end(words)?;
-    Ok(Request::Read {
-        fd: Fd(fd),
-        n: n as usize,
-    })
+    let (fd, (n, ())) = row_of(alloc, words)?;
+    Ok(Request::Read { fd: Fd(fd), n })
 }
 
 /// `write FD HEX`.
@@ -192,9 +184,7 @@ fn read_of(alloc: Global, words: &[&[u8]]) -> Result<Request, LineError>
 fn write_of(alloc: Global, words: &[&[u8]]) -> Result<Request, LineError>
     ensures { Gives (λ r. r) result (write_at (map (λ w. w.now) words.now)) }
 {
-    let (fd, words) = word(alloc, words)?;
-    let (bytes, words) = word(alloc, words)?;
-    end(words)?;
+    let (fd, (bytes, ())) = row_of(alloc, words)?;
     Ok(Request::Write { fd: Fd(fd), bytes })
 }
 
@@ -203,10 +193,7 @@ fn write_of(alloc: Global, words: &[&[u8]]) -> Result<Request, LineError>
 fn lseek_of(alloc: Global, words: &[&[u8]]) -> Result<Request, LineError>
     ensures { Gives (λ r. r) result (lseek_at (map (λ w. w.now) words.now)) }
 {
-    let (fd, words) = word(alloc, words)?;
-    let (offset, words) = word(alloc, words)?;
-    let (whence, words) = word(alloc, words)?;
-    end(words)?;
+    let (fd, (offset, (whence, ()))) = row_of(alloc, words)?;
     Ok(Request::Lseek {
         fd: Fd(fd),
         offset,
@@ -219,8 +206,7 @@ fn lseek_of(alloc: Global, words: &[&[u8]]) -> Result<Request, LineError>
 fn dup_of(alloc: Global, words: &[&[u8]]) -> Result<Request, LineError>
     ensures { Gives (λ r. r) result (dup_at (map (λ w. w.now) words.now)) }
 {
-    let (fd, words) = word(alloc, words)?;
-    end(words)?;
+    let (fd, ()) = row_of(alloc, words)?;
     Ok(Request::Dup { fd: Fd(fd) })
 }
 
@@ -229,9 +215,7 @@ fn dup_of(alloc: Global, words: &[&[u8]]) -> Result<Request, LineError>
 fn dup2_of(alloc: Global, words: &[&[u8]]) -> Result<Request, LineError>
     ensures { Gives (λ r. r) result (dup2_at (map (λ w. w.now) words.now)) }
 {
-    let (fd, words) = word(alloc, words)?;
-    let (to, words) = word(alloc, words)?;
-    end(words)?;
+    let (fd, (to, ())) = row_of(alloc, words)?;
     Ok(Request::Dup2 {
         fd: Fd(fd),
         to: Fd(to),
@@ -243,9 +227,7 @@ fn dup2_of(alloc: Global, words: &[&[u8]]) -> Result<Request, LineError>
 fn set_flags_of(alloc: Global, words: &[&[u8]]) -> Result<Request, LineError>
     ensures { Gives (λ r. r) result (set_flags_at (map (λ w. w.now) words.now)) }
 {
-    let (fd, words) = word(alloc, words)?;
-    let (flags, words) = word(alloc, words)?;
-    end(words)?;
+    let (fd, (flags, ())) = row_of(alloc, words)?;
     Ok(Request::SetFlags { fd: Fd(fd), flags })
 }
 
@@ -254,8 +236,7 @@ fn set_flags_of(alloc: Global, words: &[&[u8]]) -> Result<Request, LineError>
 fn unlink_of(alloc: Global, words: &[&[u8]]) -> Result<Request, LineError>
     ensures { Gives (λ r. r) result (unlink_at (map (λ w. w.now) words.now)) }
 {
-    let (path, words) = word(alloc, words)?;
-    end(words)?;
+    let (path, ()) = row_of(alloc, words)?;
     Ok(Request::Unlink { path })
 }
 
@@ -264,9 +245,7 @@ fn unlink_of(alloc: Global, words: &[&[u8]]) -> Result<Request, LineError>
 fn socket_of(alloc: Global, words: &[&[u8]]) -> Result<Request, LineError>
     ensures { Gives (λ r. r) result (socket_at (map (λ w. w.now) words.now)) }
 {
-    let (kind, words) = word(alloc, words)?;
-    let (flags, words) = word(alloc, words)?;
-    end(words)?;
+    let (kind, (flags, ())) = row_of(alloc, words)?;
     Ok(Request::Socket { kind, flags })
 }
 
@@ -275,9 +254,7 @@ fn socket_of(alloc: Global, words: &[&[u8]]) -> Result<Request, LineError>
 fn pair_of(alloc: Global, words: &[&[u8]]) -> Result<Request, LineError>
     ensures { Gives (λ r. r) result (pair_at (map (λ w. w.now) words.now)) }
 {
-    let (kind, words) = word(alloc, words)?;
-    let (flags, words) = word(alloc, words)?;
-    end(words)?;
+    let (kind, (flags, ())) = row_of(alloc, words)?;
     Ok(Request::SocketPair { kind, flags })
 }
 
@@ -286,9 +263,7 @@ fn pair_of(alloc: Global, words: &[&[u8]]) -> Result<Request, LineError>
 fn bind_of(alloc: Global, words: &[&[u8]]) -> Result<Request, LineError>
     ensures { Gives (λ r. r) result (bind_at (map (λ w. w.now) words.now)) }
 {
-    let (fd, words) = word(alloc, words)?;
-    let (addr, words) = word(alloc, words)?;
-    end(words)?;
+    let (fd, (addr, ())) = row_of(alloc, words)?;
     Ok(Request::Bind { fd: Fd(fd), addr })
 }
 
@@ -297,9 +272,7 @@ fn bind_of(alloc: Global, words: &[&[u8]]) -> Result<Request, LineError>
 fn listen_of(alloc: Global, words: &[&[u8]]) -> Result<Request, LineError>
     ensures { Gives (λ r. r) result (listen_at (map (λ w. w.now) words.now)) }
 {
-    let (fd, words) = word(alloc, words)?;
-    let (backlog, words) = word(alloc, words)?;
-    end(words)?;
+    let (fd, (backlog, ())) = row_of(alloc, words)?;
     Ok(Request::Listen {
         fd: Fd(fd),
         backlog,
@@ -311,9 +284,7 @@ fn listen_of(alloc: Global, words: &[&[u8]]) -> Result<Request, LineError>
 fn connect_of(alloc: Global, words: &[&[u8]]) -> Result<Request, LineError>
     ensures { Gives (λ r. r) result (connect_at (map (λ w. w.now) words.now)) }
 {
-    let (fd, words) = word(alloc, words)?;
-    let (addr, words) = word(alloc, words)?;
-    end(words)?;
+    let (fd, (addr, ())) = row_of(alloc, words)?;
     Ok(Request::Connect { fd: Fd(fd), addr })
 }
 
@@ -322,9 +293,7 @@ fn connect_of(alloc: Global, words: &[&[u8]]) -> Result<Request, LineError>
 fn accept_of(alloc: Global, words: &[&[u8]]) -> Result<Request, LineError>
     ensures { Gives (λ r. r) result (accept_at (map (λ w. w.now) words.now)) }
 {
-    let (fd, words) = word(alloc, words)?;
-    let (flags, words) = word(alloc, words)?;
-    end(words)?;
+    let (fd, (flags, ())) = row_of(alloc, words)?;
     Ok(Request::Accept { fd: Fd(fd), flags })
 }
 
@@ -333,9 +302,7 @@ fn accept_of(alloc: Global, words: &[&[u8]]) -> Result<Request, LineError>
 fn shut_of(alloc: Global, words: &[&[u8]]) -> Result<Request, LineError>
     ensures { Gives (λ r. r) result (shut_at (map (λ w. w.now) words.now)) }
 {
-    let (fd, words) = word(alloc, words)?;
-    let (how, words) = word(alloc, words)?;
-    end(words)?;
+    let (fd, (how, ())) = row_of(alloc, words)?;
     Ok(Request::Shutdown { fd: Fd(fd), how })
 }
 
@@ -344,9 +311,7 @@ fn shut_of(alloc: Global, words: &[&[u8]]) -> Result<Request, LineError>
 fn get_opt_of(alloc: Global, words: &[&[u8]]) -> Result<Request, LineError>
     ensures { Gives (λ r. r) result (get_opt_at (map (λ w. w.now) words.now)) }
 {
-    let (fd, words) = word(alloc, words)?;
-    let (opt, words) = word(alloc, words)?;
-    end(words)?;
+    let (fd, (opt, ())) = row_of(alloc, words)?;
     Ok(Request::GetOpt { fd: Fd(fd), opt })
 }
 
@@ -355,14 +320,11 @@ fn get_opt_of(alloc: Global, words: &[&[u8]]) -> Result<Request, LineError>
 fn set_opt_of(alloc: Global, words: &[&[u8]]) -> Result<Request, LineError>
     ensures { Gives (λ r. r) result (set_opt_at (map (λ w. w.now) words.now)) }
 {
-    let (fd, words) = word(alloc, words)?;
-    let (opt, words) = word(alloc, words)?;
-    let (value, words) = word::<u32>(alloc, words)?;
-    end(words)?;
+    let (fd, (opt, (value, ()))) = row_of(alloc, words)?;
     Ok(Request::SetOpt {
         fd: Fd(fd),
         opt,
-        value: u64::from(value),
+        value,
     })
 }
 
@@ -371,8 +333,7 @@ fn set_opt_of(alloc: Global, words: &[&[u8]]) -> Result<Request, LineError>
 fn sock_name_of(alloc: Global, words: &[&[u8]]) -> Result<Request, LineError>
     ensures { Gives (λ r. r) result (sock_name_at (map (λ w. w.now) words.now)) }
 {
-    let (fd, words) = word(alloc, words)?;
-    end(words)?;
+    let (fd, ()) = row_of(alloc, words)?;
     Ok(Request::GetSockName { fd: Fd(fd) })
 }
 
@@ -381,8 +342,7 @@ fn sock_name_of(alloc: Global, words: &[&[u8]]) -> Result<Request, LineError>
 fn peer_name_of(alloc: Global, words: &[&[u8]]) -> Result<Request, LineError>
     ensures { Gives (λ r. r) result (peer_name_at (map (λ w. w.now) words.now)) }
 {
-    let (fd, words) = word(alloc, words)?;
-    end(words)?;
+    let (fd, ()) = row_of(alloc, words)?;
     Ok(Request::GetPeerName { fd: Fd(fd) })
 }
 
@@ -391,17 +351,12 @@ fn peer_name_of(alloc: Global, words: &[&[u8]]) -> Result<Request, LineError>
 fn send_of(alloc: Global, words: &[&[u8]]) -> Result<Request, LineError>
     ensures { Gives (λ r. r) result (send_at (map (λ w. w.now) words.now)) }
 {
-    let (fd, words) = word(alloc, words)?;
-    let (addr, words) = word(alloc, words)?;
-    let (bytes, words) = word(alloc, words)?;
-    let (control, words) = word::<ControlWord>(alloc, words)?;
-    let (flags, words) = word(alloc, words)?;
-    end(words)?;
+    let (fd, (addr, (bytes, (control, (flags, ()))))) = row_of(alloc, words)?;
     Ok(Request::SendMsg {
         fd: Fd(fd),
         addr,
         bytes,
-        control: control.into_buffer(alloc)?,
+        control: ControlWord::into_buffer(control, alloc)?,
         flags,
     })
 }
@@ -411,15 +366,11 @@ fn send_of(alloc: Global, words: &[&[u8]]) -> Result<Request, LineError>
 fn recv_of(alloc: Global, words: &[&[u8]]) -> Result<Request, LineError>
     ensures { Gives (λ r. r) result (recv_at (map (λ w. w.now) words.now)) }
 {
-    let (fd, words) = word(alloc, words)?;
-    let (n, words) = word::<u32>(alloc, words)?;
-    let (space, words) = word::<u32>(alloc, words)?;
-    let (flags, words) = word(alloc, words)?;
-    end(words)?;
+    let (fd, (n, (space, (flags, ())))) = row_of(alloc, words)?;
     Ok(Request::RecvMsg {
         fd: Fd(fd),
-        n: n as usize,
-        space: space as usize,
+        n,
+        space,
         flags,
     })
 }
@@ -429,8 +380,7 @@ fn recv_of(alloc: Global, words: &[&[u8]]) -> Result<Request, LineError>
 fn poll_of(alloc: Global, words: &[&[u8]]) -> Result<Request, LineError>
     ensures { Gives (λ r. r) result (poll_at (map (λ w. w.now) words.now)) }
 {
-    let (fd, words) = word(alloc, words)?;
-    end(words)?;
+    let (fd, ()) = row_of(alloc, words)?;
     Ok(Request::Poll { fd: Fd(fd) })
 }
 
@@ -439,8 +389,7 @@ fn poll_of(alloc: Global, words: &[&[u8]]) -> Result<Request, LineError>
 fn close_of(alloc: Global, words: &[&[u8]]) -> Result<Request, LineError>
     ensures { Gives (λ r. r) result (close_at (map (λ w. w.now) words.now)) }
 {
-    let (fd, words) = word(alloc, words)?;
-    end(words)?;
+    let (fd, ()) = row_of(alloc, words)?;
     Ok(Request::Close { fd: Fd(fd) })
 }
 

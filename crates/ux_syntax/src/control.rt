@@ -8,7 +8,7 @@ ghost use Rattle.ux_syntax.specs.Reading.{some_pairs_at, each_number_at, numbers
 ghost use Rattle.ux_syntax.specs.Results.{Gives};
 
 use crate::fault::{BAD, LineError};
-use crate::row::{end, word};
+use crate::row::row_of;
 use crate::words::{Word, pairs_of};
 use std::alloc::{AllocError, Global};
 use std::marker::Model;
@@ -161,10 +161,7 @@ fn cred_of(alloc: Global, text: &[u8]) -> Result<Cred, LineError>
     ensures { Gives (λ cred. cred) result (cred_at text.now) }
 {
     let words = split_numbers(alloc, text)?;
-    let (pid, words) = word(alloc, &words)?;
-    let (uid, words) = word(alloc, words)?;
-    let (gid, words) = word(alloc, words)?;
-    end(words)?;
+    let (pid, (uid, (gid, ()))) = row_of(alloc, &words)?;
     Ok(Cred {
         pid: Pid(pid),
         uid,

@@ -2,6 +2,7 @@
 
 ghost use Rattle.std.specs.Prelude.{◌≡◌};
 ghost use Rattle.ux_syntax.specs.declared.fault.LineError.TheVariants.{Memory};
+ghost use Rattle.ux_syntax.specs.declared.fault.ScriptFault.TheVariants.{NoMemory};
 ghost use Rattle.ux_syntax.specs.Results.{fault_at};
 
 use crate::waiting::Waiting;
@@ -40,7 +41,7 @@ pub enum ScriptFault {
     /// A line of more than 4,096 bytes.
     #[error("line {0}: too long")]
     TooLong(usize),
-    /// The script couldn't be opened, or read to its end.
+    /// The script couldn't be opened, or read to its end, or the machine gave no random keys for hash maps.
     #[error("reading failed")]
     Reading,
     /// The trace couldn't be written to its end.
@@ -70,6 +71,22 @@ impl<T: Drop> From<AllocFailed<T>> for LineError {
 
     fn from(_e: AllocFailed<T>) -> LineError {
         LineError::Memory
+    }
+}
+
+impl From<AllocError> for ScriptFault {
+    ghost from_gives = { λ _ e. e ≡ NoMemory };
+
+    fn from(_e: AllocError) -> ScriptFault {
+        ScriptFault::NoMemory
+    }
+}
+
+impl<T: Drop> From<AllocFailed<T>> for ScriptFault {
+    ghost from_gives = { λ _ e. e ≡ NoMemory };
+
+    fn from(_e: AllocFailed<T>) -> ScriptFault {
+        ScriptFault::NoMemory
     }
 }
 

@@ -5,7 +5,7 @@ ghost use Rattle.ux_syntax.specs.Reading.{fail_at, body_at, object_at, proc_at};
 ghost use Rattle.ux_syntax.specs.Results.{Gives};
 
 use crate::fault::{BAD, LineError};
-use crate::row::{end, word};
+use crate::row::{end, row_of, word};
 use crate::script::ObjectLine;
 use std::alloc::Global;
 use ux_object::ObjKind;
@@ -36,8 +36,7 @@ fn body_of(alloc: Global, kind: ObjKind, words: &[&[u8]]) -> Result<Bytes, LineE
 {
     match kind {
         ObjKind::Memory => {
-            let (bytes, words) = word(alloc, words)?;
-            end(words)?;
+            let (bytes, ()) = row_of(alloc, words)?;
             Ok(bytes)
         }
         ObjKind::Counter | ObjKind::Pipe => {
@@ -70,11 +69,7 @@ pub(crate) fn object_of(alloc: Global, words: &[&[u8]]) -> Result<ObjectLine, Li
 pub(crate) fn proc_of(alloc: Global, words: &[&[u8]]) -> Result<ProcSpec, LineError>
     ensures { Gives (λ p. p) result (proc_at (map (λ w. w.now) words.now)) }
 {
-    let (uid, words) = word(alloc, words)?;
-    let (gid, words) = word(alloc, words)?;
-    let (privileged, words) = word(alloc, words)?;
-    let (limit, words) = word(alloc, words)?;
-    end(words)?;
+    let (uid, (gid, (privileged, (limit, ())))) = row_of(alloc, words)?;
     Ok(ProcSpec {
         uid,
         gid,

@@ -15,11 +15,15 @@ use std::io::{ErrorKind, Read};
 /// The bytes that are read at once.
 const CHUNK: usize = 4096;
 
-/// How often is read, so that each line has a number.
+/// How many reads are made at most, so that each line's number fits.
 const TURNS: u64 = u64::MAX / 8192;
 
 /// The script that the bytes of a reader spell. It is read to its end, or until a line is at fault: no
-/// more is kept than the script and one line, and nothing is read after a line that is told.
+/// more is kept than the script and one line, and no read is made once a fault is found.
+///
+/// # Errors
+///
+/// `BadLine`, `UnknownProcess` or `TooLong` of the first line at fault; `Reading` where a read fails; `NoMemory`.
 pub fn read_script<R: Read>(alloc: Global, reader: &mut R) -> Result<Script, ScriptFault>
     // What is read is spelled so by the bytes that the reader had.
     ensures found { IfOk result (λ script. IfSome (R.remaining reader.old) (λ text. Spells (lines_of text) (plan_of script))) }

@@ -39,7 +39,7 @@ impl Progress {
     ///
     /// # Errors
     ///
-    /// The first line at fault, or want of memory.
+    /// The fault of the first line that has one, or `NoMemory`.
     pub(crate) fn take_bytes(&mut self, alloc: Global, bytes: &[u8]) -> Result<(), ScriptFault>
         requires marks { Marks (plan_of self.old.reader.script) self.old.reader.exited.items }
         requires numbers { self.old.number + length bytes.now < 2 ^ 64 }
@@ -72,9 +72,7 @@ impl Progress {
         if self.line.len() >= LINE_LIMIT {
             return Err(ScriptFault::TooLong(self.number));
         }
-        if self.line.push(byte).is_err() {
-            return Err(ScriptFault::NoMemory);
-        }
+        self.line.push(byte)?;
         Ok(())
     }
 

@@ -11,7 +11,7 @@ use crate::acts::act_of;
 use crate::fault::{BAD, Fault, LineError, ScriptFault};
 use crate::headers::{object_of, proc_of};
 use crate::row::{end, next};
-use crate::script::{Act, Header, Line, Script, asks_exit, asks_fork};
+use crate::script::{Act, Header, Line, Script};
 use crate::words::Word;
 use std::alloc::{AllocError, Global};
 use ux_types::{MADE_LIMIT, Pid};
@@ -174,7 +174,7 @@ impl Reader {
         ensures reads { Leaves (plan_of self.new.script) result (joined_by (plan_of self.old.script) (Item.Line line)) }
         ensures marks { OnOk result (Marks (plan_of self.new.script) self.new.exited.items) }
     {
-        if asks_fork(&line.act) {
+        if line.act.asks_fork() {
             return self.add_fork(line);
         }
         if !self.knows(line.pid) {
@@ -187,7 +187,7 @@ impl Reader {
         if !self.knows_awaited(&line.act) {
             return Err(LineError::Fault(Fault::UnknownProcess));
         }
-        if asks_exit(&line.act) {
+        if line.act.asks_exit() {
             self.exited[place] = true;
         }
         self.script.lines.push(line)?;
@@ -241,9 +241,7 @@ fn read_lines(alloc: Global, texts: &[&[u8]]) -> Result<Script, ScriptFault>
 fn read_text(alloc: Global, text: &[u8]) -> Result<Script, ScriptFault>
     ensures { GivesScript result (script_at (lines_of text.now)) }
 {
-    let Ok(texts) = split_lines(alloc, text) else {
-        return Err(ScriptFault::NoMemory);
-    };
+    let texts = split_lines(alloc, text)?;
     read_lines(alloc, &texts)
 }
 
@@ -262,9 +260,13 @@ fn read_text(alloc: Global, text: &[u8]) -> Result<Script, ScriptFault>
 /// which isn't a call: where processes are threads, the process goes on when that one has N entries or more, or has
 /// exited. Each `fork` makes one more process, whose number is the next: it is known to the lines behind that line,
 /// as their own process and as one that is waited for, and to none before. Process 1 alone may fork, and only where
-/// fewer than 1,024 processes are known: each other fork line is a bad line, and never told as an unknown process.
+/// fewer than 1,024 processes are known: each other fork line is a bad line, and never one of an unknown process.
 /// A line `off` may come last. A send's ADDR may be `-` for none; its CONTROL is `-` for no bytes, `x:HEX` for
 /// these, or items joined by `+`: `c:PID,UID,GID` for credentials and `r:N,N,..` for descriptor numbers.
+///
+/// # Errors
+///
+/// `BadLine`, `UnknownProcess` or `TooLong` of the first line at fault, and `NoMemory`.
 pub fn parse_script(alloc: Global, text: &[u8]) -> Result<Script, ScriptFault>
     // What is read is spelled so.
     ensures found { IfOk result (λ script. Spells (lines_of text.now) (plan_of script)) }

@@ -1,14 +1,15 @@
-//! The words of a line in a row. Each function takes the first of several words and gives those after
-//! it too.
+//! The words of a line in a row.
 
-ghost use Rattle.std.specs.Prelude.{map, Ok};
-ghost use Rattle.ux_syntax.specs.Reading.{one, ends};
+ghost use Rattle.std.specs.Prelude.{ℕ, List, Result, map, Ok};
+ghost use Rattle.ux_syntax.specs.declared.fault.Fault.{Fault};
+ghost use Rattle.ux_syntax.specs.Reading.{◌>>◌, one, ends};
 ghost use Rattle.ux_syntax.specs.Results.{Gives};
 
 use crate::fault::{BAD, LineError};
 use crate::words::Word;
 use std::alloc::Global;
 
+/// The first word, and those after it.
 pub(crate) fn next<'a>(words: &'a [&'a [u8]]) -> Result<(&'a [u8], &'a [&'a [u8]]), LineError>
     ensures { Gives (λ x. (x.0.now, map (λ w. w.now) x.1.now)) result (one (λ w. Ok w) (map (λ w. w.now) words.now)) }
 {
@@ -18,7 +19,7 @@ pub(crate) fn next<'a>(words: &'a [&'a [u8]]) -> Result<(&'a [u8], &'a [&'a [u8]
     }
 }
 
-/// Reads a word as a value of this type.
+/// Reads the first word as a value of this type, and gives the words after it.
 pub(crate) fn word<'a, T: Word>(
     alloc: Global,
     words: &'a [&'a [u8]],
@@ -29,8 +30,42 @@ pub(crate) fn word<'a, T: Word>(
     Ok((T::of(alloc, first)?, rest))
 }
 
+/// Checks that no word is left.
 pub(crate) fn end(words: &[&[u8]]) -> Result<(), LineError>
     ensures { Gives (λ x. x) result (ends (map (λ w. w.now) words.now)) }
 {
     if words.is_empty() { Ok(()) } else { Err(BAD) }
+}
+
+/// Values that all the words of a row spell, one word each: a pair of the first value and the row of the others,
+/// and `()` where no word is left.
+pub(crate) trait Row: Sized {
+    ghost at: { List (List ℕ) → Result Self Fault };
+
+    fn of(alloc: Global, words: &[&[u8]]) -> Result<Self, LineError>
+        ensures { Gives (λ x. x) result (at (map (λ w. w.now) words.now)) };
+}
+
+impl Row for () {
+    ghost at = { ends };
+
+    fn of(_alloc: Global, words: &[&[u8]]) -> Result<(), LineError> {
+        end(words)
+    }
+}
+
+impl<T: Word + Drop, Others: Row> Row for (T, Others) {
+    ghost at = { T.at >> Others.at };
+
+    fn of(alloc: Global, words: &[&[u8]]) -> Result<(T, Others), LineError> {
+        let (first, words) = word(alloc, words)?;
+        Ok((first, Others::of(alloc, words)?))
+    }
+}
+
+/// Reads all the words of a row.
+pub(crate) fn row_of<R: Row>(alloc: Global, words: &[&[u8]]) -> Result<R, LineError>
+    ensures { Gives (λ x. x) result (R.at (map (λ w. w.now) words.now)) }
+{
+    R::of(alloc, words)
 }

@@ -27,6 +27,22 @@ pub enum Act {
     Wait(Pid, u32),
 }
 
+impl Act {
+    /// Whether it is the process's exit.
+    pub fn asks_exit(&self) -> bool
+        ensures { result ≡ asks_exit self.now }
+    {
+        matches!(self, Act::Call(Request::Exit))
+    }
+
+    /// Whether it makes a further process.
+    pub fn asks_fork(&self) -> bool
+        ensures { result ≡ asks_fork self.now }
+    {
+        matches!(self, Act::Call(Request::Fork))
+    }
+}
+
 /// One line of a process: the process's number, and what it asks for.
 #[derive(Debug, Drop)]
 pub struct Line {
@@ -61,7 +77,7 @@ impl Script {
     pub fn process_count(&self) -> usize
         ensures { result ≡ known_count (plan_of self.now) }
     {
-        let forks = self.lines.iter().filter(|line| asks_fork(&line.act));
+        let forks = self.lines.iter().filter(|line| line.act.asks_fork());
         self.procs.len() + forks.count()
     }
 }
@@ -71,16 +87,4 @@ impl Script {
 pub(crate) enum Header {
     Object(ObjectLine),
     Proc(ProcSpec),
-}
-
-pub(crate) fn asks_exit(act: &Act) -> bool
-    ensures { result ≡ asks_exit act.now }
-{
-    matches!(act, Act::Call(Request::Exit))
-}
-
-pub(crate) fn asks_fork(act: &Act) -> bool
-    ensures { result ≡ asks_fork act.now }
-{
-    matches!(act, Act::Call(Request::Fork))
 }

@@ -23,7 +23,7 @@ impl Model for Waiting {
 }
 
 impl Waiting {
-    /// They are told in this order.
+    /// They are printed in this order.
     pub fn new(places: Vec<(Pid, usize)>) -> Waiting
         ensures { result ≡ places.items }
     {

@@ -1,10 +1,10 @@
 //! Words of a line: numbers, bytes, flags, and words from a small choice.
 
-ghost use Rattle.std.specs.Prelude.{◌≡◌, ◌<◌, ℕ, List, Result, IfOk, not};
+ghost use Rattle.std.specs.Prelude.{◌≡◌, ◌<◌, ℕ, List, Result, IfOk, map, not};
 ghost use Rattle.ux_syntax.specs.declared.fault.Fault.{Fault};
 ghost use Rattle.std.specs.List.{list_all};
 ghost use Rattle.std.specs.Char.{is_ascii_digit};
-ghost use Rattle.ux_syntax.specs.Reading.{is_plain, number_at, without_minus, offset_at, backlog_at, digit_at, pairs_at, hex_at, bit_at, mode_at, type_at, option_at, whence_at, kind_at, flag_at, open_flags_at, msg_flags_at};
+ghost use Rattle.ux_syntax.specs.Reading.{is_plain, number_at, without_minus, offset_at, backlog_at, digit_at, pairs_at, hex_at, beside_at, bit_at, mode_at, type_at, option_at, whence_at, kind_at, flag_at, open_flags_at, msg_flags_at};
 ghost use Rattle.ux_syntax.specs.Results.{Gives};
 
 use crate::fault::{BAD, LineError};
@@ -53,6 +53,24 @@ impl Word for u32 {
             Ok(number) => Ok(number),
             Err(_) => Err(BAD),
         }
+    }
+}
+
+/// A number of bytes, which is below 2^32, too.
+impl Word for usize {
+    ghost at = { number_at };
+
+    fn of(alloc: Global, word: &[u8]) -> Result<usize, LineError> {
+        Ok(u32::of(alloc, word)? as usize)
+    }
+}
+
+/// The value of an option, which is below 2^32, too.
+impl Word for u64 {
+    ghost at = { number_at };
+
+    fn of(alloc: Global, word: &[u8]) -> Result<u64, LineError> {
+        Ok(u64::from(u32::of(alloc, word)?))
     }
 }
 
@@ -139,19 +157,27 @@ impl Word for Bytes {
     }
 }
 
+/// The value that stands beside a word in a table of words and values.
+fn value_of<T: Copy>(table: &[(&str, T)], word: &[u8]) -> Result<T, LineError>
+    ensures { Gives (λ x. x) result (beside_at (map (λ row. (row.0.now, row.1)) table.now) word.now) }
+{
+    match table.iter().find(|row| word == row.0.as_bytes()) {
+        Some(row) => Ok(row.1),
+        None => Err(BAD),
+    }
+}
+
+const BITS: &[(&str, bool)] = &[("0", false), ("1", true)];
+
 impl Word for bool {
     ghost at = { bit_at };
 
     fn of(_alloc: Global, word: &[u8]) -> Result<bool, LineError> {
-        if word == b"0".as_slice() {
-            Ok(false)
-        } else if word == b"1".as_slice() {
-            Ok(true)
-        } else {
-            Err(BAD)
-        }
+        value_of(BITS, word)
     }
 }
+
+const MODES: &[(&str, Mode)] = &[("r", Mode::Read), ("w", Mode::Write), ("rw", Mode::Both)];
 
 /// What a file is to be open for.
 impl Word for Mode {
@@ -159,17 +185,15 @@ impl Word for Mode {
 
     #[tactic(auto, unfolding(crate::specs::Reading::mode_at))]
     fn of(_alloc: Global, word: &[u8]) -> Result<Mode, LineError> {
-        if word == b"r".as_slice() {
-            Ok(Mode::Read)
-        } else if word == b"w".as_slice() {
-            Ok(Mode::Write)
-        } else if word == b"rw".as_slice() {
-            Ok(Mode::Both)
-        } else {
-            Err(BAD)
-        }
+        value_of(MODES, word)
     }
 }
+
+const TYPES: &[(&str, SockType)] = &[
+    ("stream", SockType::Stream),
+    ("dgram", SockType::Dgram),
+    ("seq", SockType::Seq),
+];
 
 /// The type of a socket.
 impl Word for SockType {
@@ -177,17 +201,18 @@ impl Word for SockType {
 
     #[tactic(auto, unfolding(crate::specs::Reading::type_at))]
     fn of(_alloc: Global, word: &[u8]) -> Result<SockType, LineError> {
-        if word == b"stream".as_slice() {
-            Ok(SockType::Stream)
-        } else if word == b"dgram".as_slice() {
-            Ok(SockType::Dgram)
-        } else if word == b"seq".as_slice() {
-            Ok(SockType::Seq)
-        } else {
-            Err(BAD)
-        }
+        value_of(TYPES, word)
     }
 }
+
+const OPTIONS: &[(&str, SockOpt)] = &[
+    ("type", SockOpt::Kind),
+    ("error", SockOpt::Error),
+    ("passcred", SockOpt::PassCred),
+    ("peercred", SockOpt::PeerCred),
+    ("accept", SockOpt::AcceptConn),
+    ("qlimit", SockOpt::QueueLimit),
+];
 
 /// An option of a socket.
 impl Word for SockOpt {
@@ -195,55 +220,39 @@ impl Word for SockOpt {
 
     #[tactic(auto, unfolding(crate::specs::Reading::option_at))]
     fn of(_alloc: Global, word: &[u8]) -> Result<SockOpt, LineError> {
-        if word == b"type".as_slice() {
-            Ok(SockOpt::Kind)
-        } else if word == b"error".as_slice() {
-            Ok(SockOpt::Error)
-        } else if word == b"passcred".as_slice() {
-            Ok(SockOpt::PassCred)
-        } else if word == b"peercred".as_slice() {
-            Ok(SockOpt::PeerCred)
-        } else if word == b"accept".as_slice() {
-            Ok(SockOpt::AcceptConn)
-        } else if word == b"qlimit".as_slice() {
-            Ok(SockOpt::QueueLimit)
-        } else {
-            Err(BAD)
-        }
+        value_of(OPTIONS, word)
     }
 }
 
+const WHENCES: &[(&str, Whence)] = &[
+    ("set", Whence::Set),
+    ("cur", Whence::Cur),
+    ("end", Whence::End),
+];
+
+/// What an offset is counted from.
 impl Word for Whence {
     ghost at = { whence_at };
 
     #[tactic(auto, unfolding(crate::specs::Reading::whence_at))]
     fn of(_alloc: Global, word: &[u8]) -> Result<Whence, LineError> {
-        if word == b"set".as_slice() {
-            Ok(Whence::Set)
-        } else if word == b"cur".as_slice() {
-            Ok(Whence::Cur)
-        } else if word == b"end".as_slice() {
-            Ok(Whence::End)
-        } else {
-            Err(BAD)
-        }
+        value_of(WHENCES, word)
     }
 }
 
+const KINDS: &[(&str, ObjKind)] = &[
+    ("mem", ObjKind::Memory),
+    ("counter", ObjKind::Counter),
+    ("pipe", ObjKind::Pipe),
+];
+
+/// The kind of a file object.
 impl Word for ObjKind {
     ghost at = { kind_at };
 
     #[tactic(auto, unfolding(crate::specs::Reading::kind_at))]
     fn of(_alloc: Global, word: &[u8]) -> Result<ObjKind, LineError> {
-        if word == b"mem".as_slice() {
-            Ok(ObjKind::Memory)
-        } else if word == b"counter".as_slice() {
-            Ok(ObjKind::Counter)
-        } else if word == b"pipe".as_slice() {
-            Ok(ObjKind::Pipe)
-        } else {
-            Err(BAD)
-        }
+        value_of(KINDS, word)
     }
 }
 
