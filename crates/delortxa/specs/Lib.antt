@@ -1,0 +1,3 @@
+pub mod AnyObjects
+pub mod Answering
+pub mod Callers

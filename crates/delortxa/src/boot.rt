@@ -1,0 +1,198 @@
+//! What a layer starts with, put together step by step.
+ghost use Rattle.std.specs.Prelude.{◌≡◌, ◌<◌, ◌↔◌, ◌⊎◌, [], true, false, length, Err, IfOk, IfErr, IsErrAnd, MatchOption};
+ghost use Rattle.ux_model.specs.Limits.{file_limit};
+ghost use Rattle.ux_model.specs.Boot.{IsBootState, boot_state};
+ghost use Rattle.ux_object.specs.declared.ObjKind.{ObjKind};
+ghost use Rattle.ux_kernel.specs.Faults.{fault_of};
+ghost use Rattle.ux_calls.specs.Boots.{with_object, with_process};
+
+use crate::objects::AnyObject;
+use std::alloc::{AllocError, Global};
+use std::marker::Model;
+use ux_kernel::{BootFault, Kernel};
+use ux_object::{ObjError, ObjKind};
+use ux_types::{Name, ProcSpec};
+
+/// The file objects and the processes that a layer is to start with. Objects are numbered from 0 on and
+/// processes from 1 on, in the order in which they are given. Contracts see both lists.
+pub struct Boot {
+    alloc: Global,
+    objects: Vec<(Name, AnyObject)>,
+    processes: Vec<ProcSpec>,
+}
+
+// Written out, so that it is proved here and not in each function that drops one.
+impl Drop for Boot {
+    fn drop(self) {
+        let Boot {
+            alloc: _,
+            objects,
+            processes,
+        } = self;
+        drop(objects);
+        drop(processes);
+    }
+}
+
+impl Model for Boot {
+    ghost use Rattle.std.specs.Prelude.{map};
+    ghost use Rattle.ux_calls.specs.Boots.{Plan};
+    ghost use Rattle.delortxa.specs.AnyObjects.{any_view};
+
+    ghost Value = { Plan };
+
+    ghost view = { λ b. record { objects = map (λ o. (o.0, any_view o.1)) b.objects.items; processes = b.processes.items } };
+}
+
+impl Boot {
+    /// Nothing yet. All that follows is allocated here.
+    pub fn new(alloc: Global) -> Boot
+        ensures { result ≡ record { objects = []; processes = [] } }
+    {
+        Boot {
+            alloc,
+            objects: Vec::new(alloc),
+            processes: Vec::new(alloc),
+        }
+    }
+
+    /// Adds a memory file with a copy of these bytes.
+    ///
+    /// # Errors
+    ///
+    /// `Full` exactly for more than 1,048,576 bytes, else `NoMemory`.
+    pub fn file(self, path: &[u8], bytes: &[u8]) -> Result<Boot, ObjError>
+        ensures made { IfOk result (λ b. b ≡ with_object self path.now ObjKind.Memory bytes.now) }
+        ensures full { IsErrAnd result (λ e. e ≡ ObjError.Full) ↔ (file_limit < length bytes.now) }
+        ensures refused { IfErr result (λ e. (e ≡ ObjError.Full) ⊎ (e ≡ ObjError.NoMemory)) }
+    {
+        self.object(path, ObjKind::Memory, bytes, 0)
+    }
+
+    /// Adds a memory file as `file` does, of which the nth read or write fails with EIO, counted from 1.
+    ///
+    /// # Errors
+    ///
+    /// Those of `file`.
+    pub fn failing_file(self, path: &[u8], bytes: &[u8], n: u32) -> Result<Boot, ObjError>
+        ensures made { IfOk result (λ b. b ≡ with_object self path.now ObjKind.Memory bytes.now) }
+        ensures full { IsErrAnd result (λ e. e ≡ ObjError.Full) ↔ (file_limit < length bytes.now) }
+        ensures refused { IfErr result (λ e. (e ≡ ObjError.Full) ⊎ (e ≡ ObjError.NoMemory)) }
+    {
+        self.object(path, ObjKind::Memory, bytes, n)
+    }
+
+    /// Adds a counter at 0, as of eventfd(2).
+    ///
+    /// # Errors
+    ///
+    /// `NoMemory`.
+    pub fn counter(self, path: &[u8]) -> Result<Boot, ObjError>
+        ensures made { IfOk result (λ b. b ≡ with_object self path.now ObjKind.Counter []) }
+        ensures refused { IfErr result (λ e. e ≡ ObjError.NoMemory) }
+    {
+        self.object(path, ObjKind::Counter, b"", 0)
+    }
+
+    /// Adds an empty pipe, as of pipe(7).
+    ///
+    /// # Errors
+    ///
+    /// `NoMemory`.
+    pub fn pipe(self, path: &[u8]) -> Result<Boot, ObjError>
+        ensures made { IfOk result (λ b. b ≡ with_object self path.now ObjKind.Pipe []) }
+        ensures refused { IfErr result (λ e. e ≡ ObjError.NoMemory) }
+    {
+        self.object(path, ObjKind::Pipe, b"", 0)
+    }
+
+    /// Adds an object of this kind: a file with a copy of these bytes, a counter at 0, or an empty pipe. Its nth read
+    /// or write fails with EIO, counted from 1; for 0 none does.
+    ///
+    /// # Errors
+    ///
+    /// `Full` exactly for a file of more than 1,048,576 bytes, else `NoMemory`.
+    pub fn object(
+        mut self,
+        path: &[u8],
+        kind: ObjKind,
+        bytes: &[u8],
+        n: u32,
+    ) -> Result<Boot, ObjError>
+        ensures made { IfOk result (λ b. b ≡ with_object self path.now kind bytes.now) }
+        ensures full { IsErrAnd result (λ e. e ≡ ObjError.Full) ↔ ((kind ≡ ObjKind.Memory) × (file_limit < length bytes.now)) }
+        ensures refused { IfErr result (λ e. (e ≡ ObjError.Full) ⊎ (e ≡ ObjError.NoMemory)) }
+    {
+        let object = AnyObject::new(self.alloc, kind, bytes, n)?;
+        let Ok(name) = Name::from_slice(self.alloc, path) else {
+            return Err(ObjError::NoMemory);
+        };
+        match self.objects.push((name, object)) {
+            Ok(()) => Ok(self),
+            Err(_) => Err(ObjError::NoMemory),
+        }
+    }
+
+    /// Adds a process of this user and group, which may have so many descriptors (below 1 counts as 1, above
+    /// 4,096 as 4,096).
+    ///
+    /// # Errors
+    ///
+    /// Out of memory.
+    pub fn process(self, uid: u32, gid: u32, limit: u32) -> Result<Boot, AllocError>
+        ensures { IfOk result (λ b. b ≡ with_process self (record { uid = uid; gid = gid; privileged = false; limit = limit })) }
+    {
+        self.spec(ProcSpec {
+            uid,
+            gid,
+            privileged: false,
+            limit,
+        })
+    }
+
+    /// As `process`, of a process that may give credentials that aren't its own.
+    ///
+    /// # Errors
+    ///
+    /// Out of memory.
+    pub fn privileged(self, uid: u32, gid: u32, limit: u32) -> Result<Boot, AllocError>
+        ensures { IfOk result (λ b. b ≡ with_process self (record { uid = uid; gid = gid; privileged = true; limit = limit })) }
+    {
+        self.spec(ProcSpec {
+            uid,
+            gid,
+            privileged: true,
+            limit,
+        })
+    }
+
+    /// Adds a process.
+    fn spec(mut self, spec: ProcSpec) -> Result<Boot, AllocError>
+        ensures { IfOk result (λ b. b ≡ with_process self spec) }
+    {
+        self.processes.push(spec)?;
+        Ok(self)
+    }
+
+    /// A kernel with all of it, in which nothing was opened yet.
+    ///
+    /// # Errors
+    ///
+    /// The first of `TooManyObjects` (64), `TooManyProcesses` (64), `BadPath`, `NameTwice` and `NoMemory`.
+    pub fn start(self) -> Result<Kernel<AnyObject>, BootFault>
+        ensures state { IfOk result (λ kernel. kernel ≡ boot_state self.objects self.processes) }
+        ensures boots { IfOk result (λ kernel. IsBootState kernel) }
+        ensures fault { MatchOption (fault_of self.objects self.processes) (IfErr result (λ f. f ≡ BootFault.NoMemory)) (λ due. result ≡ Err due) }
+    {
+        let Boot {
+            alloc,
+            objects,
+            processes,
+        } = self;
+        match Kernel::boot(alloc, objects, &processes) {
+            Ok(kernel) => Ok(kernel),
+            // The objects come back with the fault.
+            Err((fault, _objects)) => Err(fault),
+        }
+    }
+}

@@ -1,0 +1,31 @@
+//! The local socket layer in few words: a program names its file objects and processes, and calls. This crate passes
+//! on what such a program names, and nothing else of the crates below.
+#![tactic(auto)]
+
+mod answers;
+mod boot;
+mod fault;
+mod objects;
+mod program;
+mod session;
+mod text;
+
+pub use answers::{Message, ReplyExt};
+pub use boot::Boot;
+pub use fault::CallError;
+pub use objects::AnyObject;
+pub use program::{BookProgram, with_book};
+pub use session::Session;
+pub use text::trace_text;
+pub use ux_audit::holdings;
+pub use ux_calls::call;
+pub use ux_cmsg::{Control, ControlError};
+pub use ux_history::{BookName, CallFault, NoMemory, OffFault};
+pub use ux_kernel::{BootFault, Kernel};
+pub use ux_object::{FileObject, ObjError, ObjKind};
+pub use ux_objects::{FailAt, Plain};
+pub use ux_syntax::entry_text;
+pub use ux_types::{
+    Addr, Bytes, Cred, Entry, Errno, Fd, Mode, MsgFlags, Name, OpenFlags, Pid, PollFlags, ProcSpec,
+    Reply, Request, SockOpt, SockType, Whence,
+};
