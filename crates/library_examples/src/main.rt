@@ -1,8 +1,12 @@
-//! The layer as a library: one process without threads, then two threads as processes, then a process that makes
-//! another.
+//! The layer as a library: a file that is written and read back, a test of a service manager and a parser without
+//! rights, by `delortxa`; then the crates below it: one process without threads, two threads as processes, and a
+//! process that makes another.
 #![tactic(auto)]
 
+mod activation;
+mod hello;
 mod one_process;
+mod parser;
 mod relying;
 mod service_manager;
 mod two_threads;
@@ -24,6 +28,9 @@ fn print_history<W: BookName, O: FileObject>(
 }
 
 fn main(rt: HostRuntime) -> Result<()> {
+    hello::run(&rt)?;
+    activation::run(&rt)?;
+    parser::run(&rt)?;
     one_process::run(&rt)?;
     two_threads::run(&rt)?;
     service_manager::run(&rt)
