@@ -4,7 +4,7 @@ use clap::error::ErrorKind;
 use clap::{Arg, ArgAction, Command, Error};
 use std::alloc::Global;
 
-/// What `--version` tells behind the program's name.
+/// What `--version` prints behind the program's name.
 const VERSION: &str = "0.3.0";
 
 /// What was asked for on the command line.
@@ -14,7 +14,7 @@ pub struct Args<'a> {
     pub threads: bool,
     /// Whether the history is made once more, and compared.
     pub check: bool,
-    /// Of how many of the first calls it is told who came to which descriptor through whom, if it is.
+    /// After how many calls the open descriptors are printed, each with the chain of processes that passed it.
     pub audit: Option<u32>,
     /// A path, or `-` for standard input.
     pub script: &'a str,

@@ -1,40 +1,32 @@
 //! Whether a history is that of a script.
 ghost use Rattle.std.specs.Prelude.{◌≡◌, ◌++◌, ◌∷◌, ◌≤◌, ◌↔◌, [], true, false, List, ℕ, map, filter, IsTrue, IfSome, IfNone};
 ghost use Rattle.ux_model.specs.Limits.{made_limit};
-ghost use Rattle.ux_syntax.specs.Spelling.{plan_of, known_count, asks_exit};
+ghost use Rattle.ux_syntax.specs.Spelling.{plan_of, known_count};
 ghost use Rattle.ux_syntax.specs.Turns.{has_exited};
 ghost use Rattle.ux_compare.specs.Runs.{requests_of, asked, ending, turns, MakesAll, MakesFirst, IsFront};
 
 use ux_syntax::{Act, Line, Script};
 use ux_types::{Entry, Request};
 
-/// Whether each of so many processes made the script's calls, in their order and no others, and the layer was
-/// ended where the script has it.
+/// Whether each of the processes 1 to `count` made the script's calls in this history, in their order and no others,
+/// and the layer was ended exactly where the script ends it. It takes time in proportion to `count` times the entries
+/// and lines.
 pub fn makes_all(script: &Script, entries: &[Entry], count: usize) -> bool
     requires count { count ≡ known_count (plan_of script.now) }
     requires few { count ≤ made_limit }
     ensures { IsTrue result ↔ MakesAll (plan_of script.now) entries.now }
 {
-    for pid in 0..count as u32 + 1 {
-        if !follows(script, entries, pid) {
-            return false;
-        }
-    }
-    true
+    (0..count as u32 + 1).all(|pid| follows(script, entries, pid))
 }
 
-/// Whether each of so many processes made the first of the script's calls, or all, in their order and no others.
+/// Whether each of the processes 1 to `count` made the first of the script's calls, or all, in their order and no
+/// others. It takes time as `makes_all` does.
 pub fn makes_first(script: &Script, entries: &[Entry], count: usize) -> bool
     requires count { count ≡ known_count (plan_of script.now) }
     requires few { count ≤ made_limit }
     ensures { IsTrue result ↔ MakesFirst (plan_of script.now) entries.now }
 {
-    for pid in 0..count as u32 + 1 {
-        if !begins(script, entries, pid) {
-            return false;
-        }
-    }
-    true
+    (0..count as u32 + 1).all(|pid| begins(script, entries, pid))
 }
 
 /// Whether this process made the first of the script's calls, or all, and no others.
@@ -49,10 +41,8 @@ fn is_front(lines: &[Line], entries: &[Entry], pid: u32) -> bool
     ensures front { result ≡ true → IsFront (requests_of pid entries.now) (asked pid lines.now) }
     ensures none { result ≡ false → (more : List Request) → ¬ (requests_of pid entries.now ++ more ≡ asked pid lines.now) }
 {
-    let mut left = lines;
     let mut rest = entries;
-    while let Some((line, more)) = left.split_first() {
-        left = more;
+    for line in lines {
         if line.pid.0 != pid {
             continue;
         }
@@ -86,36 +76,22 @@ fn ends(script: &Script, entries: &[Entry], pid: u32) -> bool
 {
     if pid == 0 {
         if script.off {
-            return is_off_alone(entries, pid);
+            return is_alone(entries, pid, &Request::Off);
         }
         return next_of(entries, pid).is_none();
     }
     if exits(&script.lines, pid) {
         return next_of(entries, pid).is_none();
     }
-    is_exit_alone(entries, pid)
+    is_alone(entries, pid, &Request::Exit)
 }
 
-/// Whether the process's one entry is an exit.
-fn is_exit_alone(entries: &[Entry], pid: u32) -> bool
-    ensures { IsTrue result ↔ (requests_of pid entries.now ≡ Request.Exit ∷ []) }
+/// Whether this is the process's one call.
+fn is_alone(entries: &[Entry], pid: u32, request: &Request) -> bool
+    ensures { IsTrue result ↔ (requests_of pid entries.now ≡ request.now ∷ []) }
 {
     match next_of(entries, pid) {
-        Some((entry, rest)) => {
-            matches!(entry.request, Request::Exit) && next_of(rest, pid).is_none()
-        }
-        None => false,
-    }
-}
-
-/// Whether the process's one entry is the end of the layer.
-fn is_off_alone(entries: &[Entry], pid: u32) -> bool
-    ensures { IsTrue result ↔ (requests_of pid entries.now ≡ Request.Off ∷ []) }
-{
-    match next_of(entries, pid) {
-        Some((entry, rest)) => {
-            matches!(entry.request, Request::Off) && next_of(rest, pid).is_none()
-        }
+        Some((entry, rest)) => { is_same(&entry.request, request) && next_of(rest, pid).is_none() }
         None => false,
     }
 }
@@ -124,14 +100,9 @@ fn is_off_alone(entries: &[Entry], pid: u32) -> bool
 fn exits(lines: &[Line], pid: u32) -> bool
     ensures { result ≡ has_exited lines.now pid }
 {
-    let mut left = lines;
-    while let Some((line, more)) = left.split_first() {
-        if line.pid.0 == pid && asks_exit(&line.act) {
-            return true;
-        }
-        left = more;
-    }
-    false
+    lines
+        .iter()
+        .any(|line| line.pid.0 == pid && line.act.asks_exit())
 }
 
 /// What is left of the entries after the process's calls of these lines, where it made them.
@@ -139,10 +110,8 @@ fn behind<'a>(lines: &[Line], entries: &'a [Entry], pid: u32) -> Option<&'a [Ent
     ensures some { IfSome result (λ rest. asked pid lines.now ++ requests_of pid rest.now ≡ requests_of pid entries.now) }
     ensures none { IfNone result ((more : List Request) → ¬ (asked pid lines.now ++ more ≡ requests_of pid entries.now)) }
 {
-    let mut left = lines;
     let mut rest = entries;
-    while let Some((line, more)) = left.split_first() {
-        left = more;
+    for line in lines {
         if line.pid.0 != pid {
             continue;
         }
@@ -173,12 +142,6 @@ fn next_of(entries: &[Entry], pid: u32) -> Option<(&Entry, &[Entry])>
         rest = more;
     }
     None
-}
-
-fn asks_exit(act: &Act) -> bool
-    ensures { result ≡ asks_exit act.now }
-{
-    matches!(act, Act::Call(Request::Exit))
 }
 
 /// Whether they are the same.

@@ -25,9 +25,13 @@ use ux_types::{Entry, Pid, Request};
 
 /// Makes the script's calls in order on a kernel that has just started with the script's processes,
 /// then an exit of each process that is left, and ends the layer where the script says so; and writes
-/// the trace. A file object that a call let go of is dropped before the next call. The bytes go out when
-/// all calls were made; a call that lacks memory in the kernel answers ENOMEM, and goes on, but a fork that makes
-/// no process ends the run as out of memory. Lines that wait for a process are skipped.
+/// the trace. A file object that a call released is dropped before the next call. The trace is written when
+/// all calls were made. A call for which the kernel has no memory is answered ENOMEM, and the run continues; a fork
+/// that makes no process ends it. Lines that wait for a process are skipped.
+///
+/// # Errors
+///
+/// `NoMemory`, also where a fork makes no process; `Stranger` where a line is of no live process; `Writing`.
 pub fn run_serial<O: FileObject, W: Write>(
     alloc: Global,
     script: &Script,
@@ -59,7 +63,11 @@ pub fn run_serial<O: FileObject, W: Write>(
     }
 }
 
-/// Writes the trace of a history, and sees that it goes out.
+/// Writes the trace of a history, and flushes the writer. After a fault a beginning of the trace was written.
+///
+/// # Errors
+///
+/// `Writing` where a write or the flush fails, and `NoMemory`.
 pub fn tell<W: Write>(alloc: Global, writer: &mut W, history: &[Entry]) -> Result<(), ScriptFault>
     ensures ok { OnOk result (Appends (W.contents writer.old) (W.contents writer.new) (trace history.now)) }
     ensures err { OnErr result (AppendsBeginning (W.contents writer.old) (W.contents writer.new) (trace history.now)) }

@@ -26,7 +26,7 @@ pub(crate) struct Serial<W: BookName, O: FileObject> {
     /// The share of each process at the place of its number, until its exit. No process has the number 0.
     /// There may be places without a process behind all others.
     shares: Vec<Option<Share<W>>>,
-    /// What the last call let go of.
+    /// What the last call released.
     retired: RetiredList<O>,
 }
 
@@ -100,7 +100,7 @@ impl<W: BookName, O: FileObject> Serial<W, O> {
     }
 
     /// Makes the next call of a process. It is a stranger where it doesn't live, or asks for the layer's end.
-    /// A fork that makes no process is told as want of memory. What the call before let go of is dropped first.
+    /// A fork that makes no process is refused as out of memory. What the call before released is dropped first.
     pub(crate) fn call(&mut self, pid: Pid, request: &Request) -> Result<(), CallFault>
         ensures entry { OnOk result (MakesOne self.old self.new pid request.now) }
         ensures made { OnOk result (processes self.new ≡ processes self.old + (if is_fork request.now then 1 else 0)) }
@@ -189,7 +189,7 @@ impl<W: BookName, O: FileObject> Serial<W, O> {
     }
 }
 
-/// Makes a call of the share's process, and lets go of the answer and of the receipt.
+/// Makes a call of the share's process, and drops the answer and the receipt.
 fn record<W: BookName, O: FileObject>(
     book: &mut Book<W, O>,
     share: &mut Share<W>,
@@ -213,8 +213,8 @@ fn record<W: BookName, O: FileObject>(
     }
 }
 
-/// Makes a fork of the share's process, gives the share of the process that it made, if it made one, and lets go
-/// of the answer and of the receipt.
+/// Makes a fork of the share's process, gives the share of the process that it made, if it made one, and drops
+/// the answer and the receipt.
 fn fork<W: BookName, O: FileObject>(
     book: &mut Book<W, O>,
     share: &mut Share<W>,

@@ -47,6 +47,10 @@ fn put_all<W: Write>(writer: &mut W, bytes: &[u8]) -> Result<(), ScriptFault>
 }
 
 /// Writes the lines of a history. After a fault a beginning of them was written.
+///
+/// # Errors
+///
+/// `Writing` where a write fails, and `NoMemory`.
 pub fn write_trace<W: Write>(
     alloc: Global,
     writer: &mut W,
@@ -57,9 +61,7 @@ pub fn write_trace<W: Write>(
     ensures fault { IfErr result (λ e. (e ≡ ScriptFault.Writing) ⊎ (e ≡ ScriptFault.NoMemory)) }
 {
     for (number, entry) in history.iter().enumerate() {
-        let Ok(text) = entry_text(alloc, number, entry) else {
-            return Err(ScriptFault::NoMemory);
-        };
+        let text = entry_text(alloc, number, entry)?;
         put_all(writer, text.as_bytes())?;
     }
     Ok(())

@@ -1,4 +1,4 @@
-use Rattle.std.proofs.Common.{◌≡◌, List, ◌++◌, length}
+use Rattle.std.proofs.Common.{◌≡◌, List, ◌++◌, drop}
 use Rattle.ux_model.specs.Types.{Request}
 use Rattle.ux_compare.specs.Runs.{asked, requests_of}
 use Rattle.ux_compare.proofs.check.behind.Given as goal
@@ -6,8 +6,5 @@ use Rattle.ux_compare.proofs.check.behind.Given as goal
 -- what follows the calls that are left follows all of them, and the other way round
 abbrev pub invariant-loop-line : goal.invariant-loop-line
 invariant-loop-line l =
-    ((more : List Request) → asked l.pid l.left ++ more ≡ requests_of l.pid l.rest → asked l.pid l.lines ++ more ≡ requests_of l.pid l.entries)
-    × ((more : List Request) → asked l.pid l.lines ++ more ≡ requests_of l.pid l.entries → asked l.pid l.left ++ more ≡ requests_of l.pid l.rest)
-
-abbrev pub decreases-loop-line : goal.decreases-loop-line
-decreases-loop-line l = length l.left
+    ((more : List Request) → asked l.pid (drop l.line-index l.lines) ++ more ≡ requests_of l.pid l.rest → asked l.pid l.lines ++ more ≡ requests_of l.pid l.entries)
+    × ((more : List Request) → asked l.pid l.lines ++ more ≡ requests_of l.pid l.entries → asked l.pid (drop l.line-index l.lines) ++ more ≡ requests_of l.pid l.rest)

@@ -1,4 +1,4 @@
-use Rattle.std.proofs.Common.{◌≡◌, [], ◌++◌, ap, rules}
+use Rattle.std.proofs.Common.{◌≡◌, [], ◌++◌, drop, ap, rules}
 use Rattle.ux_compare.specs.Runs.{requests_of, asked}
 use Rattle.ux_compare.proofs.check.is_front.Goals as goal
 
@@ -6,6 +6,6 @@ use Rattle.ux_compare.proofs.check.is_front.Goals as goal
 pub returns-in_default-next_of-clause-front : goal.returns-in_default-next_of-clause-front
 returns-in_default-next_of-clause-front c =
     let pid = c.args.pid in
-    let more = asked pid c.loop-line.left.now in
+    let more = asked pid (drop c.loop-line.line-index c.args.lines.now) in
     let none : requests_of pid c.loop-line.rest.now ≡ [] = search rules in
     λ _. (more, c.loop-line.invariant.0 more (ap (λ t. t ++ more) none))

@@ -1,4 +1,4 @@
-use Rattle.std.proofs.Common.{◌≡◌, List, ◌++◌, length}
+use Rattle.std.proofs.Common.{◌≡◌, List, ◌++◌, drop}
 use Rattle.ux_model.specs.Types.{Request}
 use Rattle.ux_compare.specs.Runs.{asked, requests_of}
 use Rattle.ux_compare.proofs.check.is_front.Given as goal
@@ -6,8 +6,5 @@ use Rattle.ux_compare.proofs.check.is_front.Given as goal
 -- what the calls that are left lack, all of them lack, and the other way round
 abbrev pub invariant-loop-line : goal.invariant-loop-line
 invariant-loop-line l =
-    ((more : List Request) → requests_of l.pid l.rest ++ more ≡ asked l.pid l.left → requests_of l.pid l.entries ++ more ≡ asked l.pid l.lines)
-    × ((more : List Request) → requests_of l.pid l.entries ++ more ≡ asked l.pid l.lines → requests_of l.pid l.rest ++ more ≡ asked l.pid l.left)
-
-abbrev pub decreases-loop-line : goal.decreases-loop-line
-decreases-loop-line l = length l.left
+    ((more : List Request) → requests_of l.pid l.rest ++ more ≡ asked l.pid (drop l.line-index l.lines) → requests_of l.pid l.entries ++ more ≡ asked l.pid l.lines)
+    × ((more : List Request) → requests_of l.pid l.entries ++ more ≡ asked l.pid l.lines → requests_of l.pid l.rest ++ more ≡ asked l.pid (drop l.line-index l.lines))

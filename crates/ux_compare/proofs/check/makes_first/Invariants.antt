@@ -1,8 +1,0 @@
-use Rattle.std.proofs.Common.{ℕ, ◌<◌}
-use Rattle.ux_syntax.specs.Spelling.{plan_of}
-use Rattle.ux_compare.specs.Runs.{requests_of, turns, IsFront}
-use Rattle.ux_compare.proofs.check.makes_first.Given as goal
-
--- the processes before this one have made the first of the script's calls
-abbrev pub invariant-loop-pid : goal.invariant-loop-pid
-invariant-loop-pid l = (p : ℕ) → p < l.pid → IsFront (requests_of p l.entries) (turns (plan_of l.script) p)
