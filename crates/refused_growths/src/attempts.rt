@@ -100,7 +100,7 @@ impl Attempt for Again<'_> {
     }
 }
 
-/// An entry whose line is told.
+/// An entry whose line is reported.
 #[derive(Clone, Copy)]
 struct Told<'a>(&'a Entry);
 
@@ -147,7 +147,7 @@ fn must_be_done<A: Attempt>(alloc: Global, purse: &mut Purse, what: &str, task: 
     Err(anyhow!("{what} is refused with ample memory"))
 }
 
-/// Reads and runs a script, makes its history again, copies it, and tells its first entry, with as little memory as each can
+/// Reads and runs a script, makes its history again, copies it, and reports its first entry, with as little memory as each can
 /// do with.
 pub fn bear_the_rest(
     alloc: Global,

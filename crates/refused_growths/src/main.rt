@@ -126,7 +126,7 @@ fn boot_at_last(alloc: Global, purse: &mut Purse, script: &Script) -> Result<usi
     Err(anyhow!("no boot"))
 }
 
-/// Whether an entry tells of a refused growth.
+/// Whether an entry reports a refused growth.
 fn is_refused(entry: &Entry) -> bool {
     matches!(entry.reply, Reply::Err(Errno::ENOMEM))
 }

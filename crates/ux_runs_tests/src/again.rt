@@ -104,7 +104,7 @@ const PASSING: &str = "proc 1000 1000 0 16
 1 recv 1 8 24 -
 ";
 
-/// The history of a process that passes itself a descriptor. The receive tells the number of the send.
+/// The history of a process that passes itself a descriptor. The receive reports the number of the send.
 fn passing(rt: &impl Abort, alloc: Global) -> Result<Vec<Entry>, Fail> {
     let script = parse_script(alloc, PASSING.as_bytes())?;
     let mut trace: Vec<u8> = Vec::new(alloc);

@@ -96,7 +96,7 @@ fn other_command_lines_are_refused(rt: HostRuntime) -> Result<(), Fail> {
 /// The steps in which more memory is left, of 16 bytes each.
 const STEPS: usize = 4600;
 
-/// Reads a command line with no memory, and with 16 bytes more while it is refused, and tells how often it was.
+/// Reads a command line with no memory, and with 16 bytes more while it is refused, and reports how often it was.
 fn refusals_of(rt: &impl Abort, alloc: Global, words: &[String]) -> Result<usize, Fail> {
     let mut purse = Purse::new(alloc)?;
     for step in 0..STEPS {

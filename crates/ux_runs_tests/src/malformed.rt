@@ -28,7 +28,7 @@ fn start(alloc: Global, text: &[u8]) -> Result<(), Fault> {
     }
 }
 
-/// Sees what is told of a text; nothing of one that starts a kernel.
+/// Sees what is reported of a text; nothing of one that starts a kernel.
 fn expect_told(rt: &impl Abort, alloc: Global, text: &[u8], told: &str) -> Result<(), AllocError> {
     let found = match start(alloc, text) {
         Ok(()) => String::new(alloc),
@@ -38,7 +38,7 @@ fn expect_told(rt: &impl Abort, alloc: Global, text: &[u8], told: &str) -> Resul
     Ok(())
 }
 
-/// Texts that are no scripts, and what is told of each.
+/// Texts that are no scripts, and what is reported of each.
 const FAULTS: &[(&str, &str)] = &[
     // A receive has flags, and a process is privileged or not.
     ("proc 0 0 1 16\n1 recv 0 8 64\n", "line 2: bad line"),
@@ -109,7 +109,7 @@ fn comment(alloc: Global, length: usize, end: &[u8]) -> Result<Vec<u8>, AllocErr
     Ok(text)
 }
 
-/// Lengths of a comment, what ends it, and what is told.
+/// Lengths of a comment, what ends it, and what is reported.
 const COMMENTS: &[(usize, &str, &str)] = &[
     (4096, "", ""),
     (4096, "\n", ""),
@@ -141,7 +141,7 @@ fn header(alloc: Global, objects: usize, procs: usize) -> Result<String, AllocEr
     Ok(text)
 }
 
-/// How many file objects and processes there are, and what is told.
+/// How many file objects and processes there are, and what is reported.
 const HEADERS: &[(usize, usize, &str)] = &[
     (64, 64, ""),
     (65, 1, "boot fault 1"),

@@ -225,7 +225,7 @@ fn expect_fault(rt: &impl Abort, alloc: Global, script: &str, text: &str) -> Res
     Ok(())
 }
 
-/// Faulty scripts, and what is told of each.
+/// Faulty scripts, and what is reported of each.
 const FAULTS: &[(&str, &str)] = &[
     ("1 read 0\n", "line 1: bad line"),
     ("1 read 0 4\n", "line 1: unknown process"),
@@ -241,7 +241,7 @@ fn a_faulty_script_runs_nothing(rt: HostRuntime) -> Result<(), Fail> {
     Ok(())
 }
 
-/// Sees that a run tells that a write failed.
+/// Sees that a run reports a failed write.
 fn expect_failure(rt: &impl Abort, alloc: Global, script: &str, writer: &mut Fake) {
     let told = run(alloc, script, writer);
     assert!(rt; matches!(told, Err(ScriptFault::Writing)));

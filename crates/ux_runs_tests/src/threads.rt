@@ -97,7 +97,7 @@ fn two_threads_wait_for_one_another(rt: HostRuntime) -> Result<(), Fail> {
     Ok(())
 }
 
-/// Scripts that come to where every process waits: what is told then, and the trace up to there.
+/// Scripts that come to where every process waits: what is reported then, and the trace up to there.
 const DEADLOCKS: [(&str, &str, &str); 4] = [
     (
         "object p:a counter

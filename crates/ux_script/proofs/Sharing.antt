@@ -99,7 +99,7 @@ first_shares book boot places boots new all = record {
     go zero = refl
     go (suc i) = behind i (cases_lt i n)
 
--- ---- what a share tells
+-- ---- what a share says
 
 -- a process without a share doesn't live
 pub no_share : (book : Held) (p : ℕ) → share_of book p ≡ None → is_live (state_of book) p ≡ false
@@ -312,7 +312,7 @@ wider book xs ys ok has is grown = subst (HasShares book) (sym (is ∙ ap (λ (b
 wide : (xs ys : List (Option Caller)) (ok : Bool) → ys ≡ (if ok then xs ++ None ∷ [] else xs) → ok ≡ true → length ys ≡ length xs + 1
 wide xs ys ok is grown = ap length (is ∙ ap (λ (b : Bool). if b then xs ++ None ∷ [] else xs) grown) ∙ length-append xs (None ∷ [])
 
--- what the share of a child tells of the answer
+-- what the share of a child says of the answer
 no_child : (reply : Reply) → None ≡ child_by Request.Fork reply → makes_one Request.Fork reply ≡ false
 no_child (Reply.Child pid) h = absurd (cc h)
 no_child reply h = refl
@@ -327,11 +327,11 @@ pub childless : (old new : Held) (xs left all : List (Option Caller)) (pid : Pid
 childless old new xs left all pid c d has was e f forked more =
     called old new xs left all pid Request.Fork c d has (taken old xs left all pid c d has was e f) forked.one (no_child _ forked.made) refl more
 
--- the number that a fork tells is the next
+-- the number that a fork reports is the next
 next_of : (S T : State) (p tag : ℕ) (pid : Pid) (reply : Reply) (gone : List ℕ) → reply ≡ Reply.Child pid → Step S p tag Request.Fork reply gone T → pid.0 ≡ suc (length S.processes)
 next_of S T p tag pid reply gone told step = fork_tells_the_next S T p tag pid gone (subst (λ (r : Reply). Step S p tag Request.Fork r gone T) told step)
 
--- what a fork tells that made a process
+-- what a fork that made a process reports
 pub record Child (old new : Held) (x : Caller) : Type 0 where
   pub next : x.pid.0 ≡ processes old + 1
   pub many : processes new ≡ processes old + 1

@@ -40,7 +40,7 @@ told n BadLine read h = h
 told n UnknownProcess read h = h
 told n TooLong read h = h
 
--- a line at fault tells, whatever follows
+-- a line at fault is reported, whatever follows
 pub line_fails : (s : Plan) (n : ℕ) (line rest : List ℕ) (e : LineError) → Fails e (line_at s line) → FailsAt (fault_at n e) (continued s n line (10 ∷ rest))
 line_fails s n line rest LineError.Memory h = tt
 line_fails s n line rest (LineError.Fault f) h = told n f _ (at_line s n line (λ u. lines_at (suc n) u (lines_of rest)) f h)
@@ -184,6 +184,6 @@ read_refuses known (Err f) (inl e) = inl cc
 read_refuses None (Err f) (inr found) = inr tt
 read_refuses (Some bytes) (Err f) (inr (text, e, h)) = inr (subst (λ t. Refuses (lines_of t) f) (sym e) (gives_fault (Err f) (lines_of text) h))
 
--- want of memory says nothing of the text
+-- a lack of memory says nothing of the text
 pub no_memory_found : (known left : Option (List ℕ)) (s : Plan) (n : ℕ) (line : List ℕ) → IsReadOn known left s n line → Found known (Err ScriptFault.NoMemory)
 no_memory_found known left s n line on = (on.seen ++ left_of left, whole_text known left on.seen on.consumed, tt)

@@ -26,7 +26,7 @@ abbrev pub Leaves : Plan → Result (Unit {0}) LineError → Result Plan Fault �
 Leaves new (Ok x) read = read ≡ Ok new
 Leaves new (Err e) read = Fails e read
 
--- a fault of the script is the one that reading gives; want of memory says nothing of the script
+-- a fault of the script is the one that reading gives; a lack of memory says nothing of the script
 abbrev pub FailsAt : ScriptFault → Result Plan ScriptFault → Type 0
 FailsAt (ScriptFault.BadLine n) read = read ≡ Err (ScriptFault.BadLine n)
 FailsAt (ScriptFault.UnknownProcess n) read = read ≡ Err (ScriptFault.UnknownProcess n)

@@ -1,4 +1,4 @@
-//! What is told of each call of a worker, in the worker's thread.
+//! What is reported of each call of a worker, in the worker's thread.
 
 use ux_types::Pid;
 

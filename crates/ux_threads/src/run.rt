@@ -29,7 +29,7 @@ use ux_types::{Entry, MADE_LIMIT, Pid};
 
 /// Runs the script on a kernel that has just started with its processes, one thread for each, and writes the
 /// trace. Each process makes its lines in their order, by calls that wait where they have to, and exits; a child's
-/// lines begin when its fork was answered. Then the layer is ended, where the script says so. The gate is told of
+/// lines begin when its fork was answered. Then the layer is ended, where the script says so. The gate hears of
 /// each call.
 ///
 /// # Errors
@@ -67,7 +67,7 @@ pub fn run_threads<O: FileObject + Send, G: Gate, Out: Write>(
             Ok(entries)
         }
         Ran::Begun(entries, waiting) => {
-            // The deadlock is what is told, also where the trace can't be written.
+            // The deadlock is what is reported, also where the trace can't be written.
             let _told = tell(alloc, writer, &entries);
             Err(ScriptFault::Deadlock(waiting))
         }
@@ -157,7 +157,7 @@ struct Brought<W: BookName> {
     waits: Vec<(Pid, usize)>,
 }
 
-/// What the workers brought back, where each either exited or waits with all others. Lack of memory is told
+/// What the workers brought back, where each either exited or waits with all others. Lack of memory is reported
 /// before all else, then a stranger.
 fn gather<W: BookName>(alloc: Global, done: Vec<Done<W>>) -> Result<Brought<W>, ScriptFault>
     ensures { IfErr result (λ f. (f ≡ ScriptFault.NoMemory) ⊎ (f ≡ ScriptFault.Stranger)) }

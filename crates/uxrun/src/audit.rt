@@ -8,7 +8,7 @@ use ux_types::{Entry, Fd, Pid};
 
 /// Tells each descriptor that is open after the first so many calls, or after all where there are fewer, and the
 /// chain of holdings through which its process came to it; and last, how many descriptors there are. Each chain
-/// is checked before it is told.
+/// is checked before it is reported.
 pub fn tell_audit<R: Print + AllocGlobal>(
     rt: &R,
     history: &[Entry],

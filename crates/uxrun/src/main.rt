@@ -35,7 +35,7 @@ fn script_of<R: Files + Input + AllocGlobal>(rt: &R, name: &str) -> Result<Scrip
 }
 
 /// Runs the script that was named, and prints its trace to standard output; where it is asked for, makes the
-/// calls once more, and tells how many entries there are, and who came to which descriptor through whom.
+/// calls once more, and reports how many entries there are, and who came to which descriptor through whom.
 fn run<R: Files + Input + Threads + Wait + Print + RandomSource + AllocGlobal + Sync>(
     rt: &R,
     args: &Args<'_>,
@@ -66,7 +66,7 @@ fn told<R: Print + Eprint>(rt: &R, error: &Error) -> ExitCode {
     ExitCode::from(error.exit_code() as u8)
 }
 
-/// Tells why the words of the command line can't be had.
+/// Reports why the command line has no valid words.
 fn no_words(rt: &impl Eprint, error: &io::Error) -> ExitCode {
     if error.kind() == io::ErrorKind::OutOfMemory {
         return failed(rt, &Fault::Script(ScriptFault::NoMemory));

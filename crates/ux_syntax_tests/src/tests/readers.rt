@@ -1,4 +1,4 @@
-//! Readers that end, fail, are interrupted or never end; want of memory; the texts of faults.
+//! Readers that end, fail, are interrupted or never end; out of memory; the texts of faults.
 use super::expect_told;
 use hoard::Hoard;
 use std::alloc::Global;
@@ -42,7 +42,7 @@ fn a_reader_is_read_to_its_end(rt: HostRuntime) -> Result<(), Fail> {
     Ok(())
 }
 
-/// Sees what is told where the reads behind so many bytes fail.
+/// Sees what is reported where the reads behind so many bytes fail.
 fn expect_reading(
     rt: &impl Abort,
     alloc: Global,

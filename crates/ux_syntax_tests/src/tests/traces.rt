@@ -142,7 +142,7 @@ fn receives_are_printed(rt: HostRuntime) -> Result<(), Fail> {
     Ok(())
 }
 
-/// Sees what a trace tells of these control bytes, whose receive lost some.
+/// Sees what a trace reports of these control bytes, whose receive lost some.
 fn expect_items(rt: &impl Abort, alloc: Global, control: &[u8], items: &str) -> Result<(), Fail> {
     let line = format!(in alloc; "5 1 7 recv = got 2 6869 CTRUNC {items} -\n")?;
     let got = Reply::Received {
@@ -215,7 +215,7 @@ fn items_are_printed(rt: HostRuntime) -> Result<(), Fail> {
     Ok(())
 }
 
-/// Sees how a trace tells whom a receive is from.
+/// Sees how a trace names whom a receive is from.
 fn expect_from(rt: &impl Abort, alloc: Global, from: Addr, text: &str) -> Result<(), Fail> {
     let line = format!(in alloc; "5 1 7 recv = got 0 - - - {text}\n")?;
     let got = Reply::Received {
@@ -344,7 +344,7 @@ fn entries_of_connections_are_printed(rt: HostRuntime) -> Result<(), Fail> {
     expect_rows(&rt, rt.alloc(), rows)
 }
 
-/// Sees the line of an accept that gave descriptor 4, and of a call that told a peer's name.
+/// Sees the line of an accept that gave descriptor 4, and of a call that reported a peer's name.
 fn expect_name(rt: &impl Abort, alloc: Global, addr: Addr, text: &str) -> Result<(), Fail> {
     let of_accept = format!(in alloc; "5 1 7 accept = accepted 4 {text}\n")?;
     let of_peer = format!(in alloc; "5 1 7 peername = addr {text}\n")?;
