@@ -1,5 +1,5 @@
 -- The numbers of the file objects that a call releases rise.
-use Rattle.std.proofs.Common.{◌≡◌, ℕ, ◌+◌, ◌<◌, List, [], ◌∷◌, map, length, get_or, refl, ap, sym, subst, ◌∙◌, arith}
+use Rattle.std.proofs.Common.{◌≡◌, ℕ, ◌+◌, ◌<◌, List, [], ◌∷◌, map, get_or, refl, ap, sym, subst, arith}
 use Rattle.std.specs.Prelude.{Option, option_map}
 use Rattle.std.specs.List.{enumerate_from, AllPairs}
 use Rattle.std.proofs.lemmas.List.{get_or-map, length-map}
