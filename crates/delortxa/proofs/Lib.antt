@@ -1,2 +1,3 @@
+pub mod Seatings
 pub mod Sittings
 pub mod Traces

@@ -1,3 +1,4 @@
 pub mod AnyObjects
 pub mod Answering
 pub mod Callers
+pub mod Happening

@@ -5,22 +5,26 @@
 mod answers;
 mod boot;
 mod fault;
+mod layered;
 mod objects;
 mod program;
+mod seat;
 mod session;
 mod text;
 
 pub use answers::{Message, ReplyExt};
 pub use boot::Boot;
 pub use fault::CallError;
+pub use layered::{LayerProgram, with_layer};
 pub use objects::AnyObject;
 pub use program::{BookProgram, with_book};
+pub use seat::{Layer, Seat};
 pub use session::Session;
 pub use text::trace_text;
 pub use ux_audit::holdings;
 pub use ux_calls::call;
 pub use ux_cmsg::{Control, ControlError};
-pub use ux_history::{BookName, CallFault, NoMemory, OffFault};
+pub use ux_history::{BookName, CallFault, NoMemory, OffFault, Receipt, Spent};
 pub use ux_kernel::{BootFault, Kernel};
 pub use ux_object::{FileObject, ObjError, ObjKind};
 pub use ux_objects::{FailAt, Plain};
