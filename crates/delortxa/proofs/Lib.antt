@@ -1,3 +1,4 @@
+pub mod Layers
 pub mod Seatings
 pub mod Sittings
 pub mod Traces

@@ -1,7 +1,6 @@
 //! A program that is run over a layer, with threads as its processes.
-ghost use Rattle.std.specs.Prelude.{◌≡◌, ⊤, length, IfOk};
+ghost use Rattle.std.specs.Prelude.{◌≡◌, ⊤, length, IfOk, All};
 ghost use Rattle.ux_model.specs.Boot.{IsBootState};
-ghost use Rattle.ux_history.specs.Shares.{fresh};
 
 use crate::objects::AnyObject;
 use crate::seat::{Layer, Seat};
@@ -9,58 +8,57 @@ use std::alloc::{AllocError, Global};
 use std::marker::Brand;
 use std::sync::Wait;
 use std::sync::ledger::Blank;
+use std::thread;
+use std::thread::Threads;
 use ux_history::{BookName, NoMemory, PARTS};
 use ux_kernel::Kernel;
 use ux_layer::start;
 
-/// What is done with a layer and a seat for each of its processes, by their numbers. `R` is the runtime, with the bounds
-/// that the program needs. `W` names the layer's book: values that speak of it don't leave.
-pub trait LayerProgram<R>: Drop {
-    /// What the program gives.
-    type Output: Drop;
+/// What each process of a layer does, in a thread of its own. `R` is the runtime, with the bounds that the program needs.
+/// `W` names the layer's book: values that speak of it don't leave.
+pub trait LayerProgram<R>: Drop + Sync {
+    /// What a process gives.
+    type Output: Drop + Send;
 
     /// What is known of it: nothing, unless the program says more.
     ghost promise: { Self → Self.Output → Type 0 } = { λ _ _. ⊤ };
 
-    /// Makes the program's calls. Nothing was called before.
-    fn run<W: BookName + Send + Sync>(
-        self,
-        rt: &R,
-        layer: &Layer<W>,
-        seats: Vec<Seat<W>>,
-    ) -> Self::Output
-        requires { seats.items ≡ fresh (length W.boot.processes) }
-        ensures { promise self result };
+    /// Makes the calls of one process.
+    fn run<W: BookName>(&self, rt: &R, layer: &Layer<W>, seat: Seat<W>) -> Self::Output
+        ensures { promise self.now result };
 }
 
-/// Runs the program over a layer at the start of this kernel.
+/// Runs the program for each process of a layer at the start of this kernel, at the same time: what each gives, by their
+/// numbers. Where no thread can be made, they run one after another.
 ///
 /// # Errors
 ///
-/// Out of memory, before the program is run.
-pub fn with_layer<R: Wait + AllocGlobal, P: LayerProgram<R>>(
+/// Out of memory.
+pub fn with_layer<R: Threads + Wait + AllocGlobal + Sync, P: LayerProgram<R>>(
     rt: &R,
     kernel: Kernel<AnyObject>,
     program: P,
-) -> Result<P::Output, NoMemory>
+) -> Result<Vec<P::Output>, NoMemory>
     requires { IsBootState kernel }
-    ensures { IfOk result (P.promise program) }
+    ensures all { IfOk result (λ outputs. length outputs.items ≡ length kernel.processes) }
+    ensures promised { IfOk result (λ outputs. All (P.promise program) outputs.items) }
 {
-    keep_layer::<Brand, R, P>(rt, Blank::new(PARTS), kernel, program)
+    keep_layer::<Brand, R, P>(rt, Blank::new(PARTS), kernel, &program)
 }
 
 /// Runs the program over a layer at this kernel, under a name that lives in here.
-fn keep_layer<W: BookName + Send + Sync, R: Wait + AllocGlobal, P: LayerProgram<R>>(
-    rt: &R,
-    blank: Blank,
-    kernel: Kernel<AnyObject>,
-    program: P,
-) -> Result<P::Output, NoMemory>
+#[tactic(auto, using(crate::proofs::Layers::all_fresh))]
+fn keep_layer<
+    W: BookName + Send + Sync,
+    R: Threads + Wait + AllocGlobal + Sync,
+    P: LayerProgram<R>,
+>(rt: &R, blank: Blank, kernel: Kernel<AnyObject>, program: &P) -> Result<Vec<P::Output>, NoMemory>
     requires name { blank.name ≡ W.name }
     requires parts { (blank.parts ≡ W.parts) × (blank.parts ≡ 1024) }
     requires boots { IsBootState kernel }
     requires named { kernel ≡ W.boot }
-    ensures { IfOk result (P.promise program) }
+    ensures all { IfOk result (λ outputs. length outputs.items ≡ length kernel.processes) }
+    ensures promised { IfOk result (λ outputs. All (P.promise program.now) outputs.items) }
 {
     let alloc = rt.alloc();
     let Ok((layer, places)) = start::<W, AnyObject, R>(rt, alloc, blank, kernel) else {
@@ -69,7 +67,23 @@ fn keep_layer<W: BookName + Send + Sync, R: Wait + AllocGlobal, P: LayerProgram<
     let Ok(seats) = seats_at(alloc, places) else {
         return Err(NoMemory);
     };
-    Ok(program.run(rt, &layer, seats))
+    let Ok(outputs) = run_all(rt, &layer, program, seats) else {
+        return Err(NoMemory);
+    };
+    Ok(outputs)
+}
+
+/// Runs the program by each seat, in a thread of its own.
+fn run_all<W: BookName + Send + Sync, R: Threads + Sync, P: LayerProgram<R>>(
+    rt: &R,
+    layer: &Layer<W>,
+    program: &P,
+    seats: Vec<Seat<W>>,
+) -> Result<Vec<P::Output>, AllocError>
+    ensures all { IfOk result (λ outputs. length outputs.items ≡ length seats.items) }
+    ensures promised { IfOk result (λ outputs. All (P.promise program.now) outputs.items) }
+{
+    thread::map_vec(rt, seats, &|seat| program.run(rt, layer, seat))
 }
 
 /// A seat at each of these places.
