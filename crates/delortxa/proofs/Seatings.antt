@@ -9,7 +9,7 @@ use Rattle.delortxa.specs.declared.fault.CallError.{CallError}
 use Rattle.delortxa.specs.Answering.{IsOther, other_error, is_child}
 use Rattle.delortxa.specs.Happening.{Happens, HappensOther, Refuses, Tells}
 
--- an error that is told of a reply is one of the call
+-- an error that is reported of a reply is one of the call
 pub tells : (wanted : Reply → Bool) (boot : State) (old new : Caller) (request : Request) (reply : Reply) (waits : Bool) (error : CallError) →
     Happens boot old new request reply waits → IsOther wanted reply error → Tells wanted boot old new request waits error
 tells wanted boot old new request reply waits (CallError.Refused errno) made is = subst (λ (r : Reply). Happens boot old new request r waits) is made

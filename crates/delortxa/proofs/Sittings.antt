@@ -246,9 +246,9 @@ fault_is book cs place c pid CallFault.NoMemory all inside here is stranger memo
 fault_is book cs place c pid CallFault.Full all inside here is stranger memory = let other = memory refl in cc
 fault_is book cs place c pid CallFault.Deadlock all inside here is stranger memory = let other = memory refl in cc
 
--- ---- what is told
+-- ---- what is reported
 
--- an error that is told of a reply is one of the call
+-- an error that is reported of a reply is one of the call
 pub fails : (wanted : Reply → Bool) (old new : Held) (pid : Pid) (request : Request) (reply : Reply) (error : CallError) →
     Answers old new pid request reply → IsOther wanted reply error → Fails wanted old new pid request error
 fails wanted old new pid request reply (CallError.Refused errno) made is = subst (λ (r : Reply). Answers old new pid request r) is made
@@ -275,7 +275,7 @@ pub fails_at : {T : Type 0} (wanted : Reply → Bool) (old new : Held) (pid : Pi
 fails_at wanted old new pid request reply (Ok x) made is = tt
 fails_at wanted old new pid request reply (Err error) made is = fails wanted old new pid request reply error made is
 
--- the child that a fork's reply tells
+-- the child that a fork's reply reports
 pub made_at : (old new : Held) (pid : Pid) (reply : Reply) (r : Result Pid CallError) →
     Answers old new pid Request.Fork reply → IfOk r (λ child. reply ≡ Reply.Child child) → IfOk r (λ child. Answers old new pid Request.Fork (Reply.Child child))
 made_at old new pid reply (Ok child) made is = subst (λ (x : Reply). Answers old new pid Request.Fork x) is made

@@ -1,4 +1,4 @@
--- What a call of a session did, and what is told of it.
+-- What a call of a session did, and what is reported of it.
 use Rattle.std.specs.Prelude.{◌≡◌, ℕ, Bool, true, false, List, ⊤}
 use Rattle.ux_model.specs.Types.{Pid, Request, Reply}
 use Rattle.ux_model.specs.State.{is_live}
@@ -69,7 +69,7 @@ abbrev pub other_error : Reply → CallError
 other_error (Reply.Err errno) = CallError.Refused errno
 other_error _ = CallError.Unlike
 
--- the error tells why the reply isn't of the kind that is wanted
+-- the error says why the reply isn't of the kind that is wanted
 abbrev pub IsOther : (Reply → Bool) → Reply → CallError → Type 0
 IsOther wanted reply (CallError.Refused errno) = reply ≡ Reply.Err errno
 IsOther wanted reply (CallError.Fault fault) = ⊥

@@ -1,4 +1,4 @@
--- What a call of a seat did, and what is told of it.
+-- What a call of a seat did, and what is reported of it.
 use Rattle.std.specs.Prelude.{◌≡◌, ℕ, Bool, true, false}
 use Rattle.ux_model.specs.Types.{Pid, Request, Reply}
 use Rattle.ux_model.specs.State.{State}

@@ -9,7 +9,7 @@ use std::alloc::Global;
 use ux_cmsg::{Control, ControlError, read_control};
 use ux_types::{Addr, Bytes, Cred, Fd, MsgFlags, Pid, PollFlags, Reply};
 
-/// What was received, as recvmsg(2) tells it.
+/// What was received, as recvmsg(2) reports it.
 #[derive(Debug, Drop, PartialEq, Eq)]
 pub struct Message {
     /// The flags that the receive set.
@@ -18,9 +18,9 @@ pub struct Message {
     pub count: usize,
     /// The bytes.
     pub bytes: Bytes,
-    /// The bytes of the control buffer, as of cmsg(3).
+    /// The bytes of the control buffer (cmsg(3)).
     pub control: Bytes,
-    /// The sender's name, where the receive tells one.
+    /// The sender's name, where the receive reports one.
     pub from: Option<Addr>,
 }
 
@@ -48,7 +48,7 @@ pub(crate) fn other_reply(reply: Reply) -> CallError
     }
 }
 
-/// What a reply tells, by the kind that is looked for.
+/// What a reply holds, by the kind that is looked for.
 pub trait ReplyExt: Sized {
     /// The reply.
     ghost told: { Self → Reply };
@@ -152,7 +152,7 @@ pub trait ReplyExt: Sized {
         ensures cred { IfOk result (λ cred. told self ≡ Reply.Cred cred) }
         ensures refused { IfErr result (IsOther is_cred (told self)) };
 
-    /// Which conditions hold, as poll(2) tells them.
+    /// Which conditions hold, as poll(2) reports them.
     ///
     /// # Errors
     ///

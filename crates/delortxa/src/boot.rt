@@ -82,7 +82,7 @@ impl Boot {
         self.object(path, ObjKind::Memory, bytes, n)
     }
 
-    /// Adds a counter at 0, as of eventfd(2).
+    /// Adds a counter at 0 (eventfd(2)).
     ///
     /// # Errors
     ///
@@ -94,7 +94,7 @@ impl Boot {
         self.object(path, ObjKind::Counter, b"", 0)
     }
 
-    /// Adds an empty pipe, as of pipe(7).
+    /// Adds an empty pipe (pipe(7)).
     ///
     /// # Errors
     ///

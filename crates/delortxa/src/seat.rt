@@ -26,7 +26,7 @@ use ux_types::{
 /// The layer as a whole, beside its seats.
 pub type Layer<W> = ux_layer::Layer<W, AnyObject>;
 
-/// The place of one process, by which one thread at a time makes its calls. Each waits where one of Linux would.
+/// The place of one process, by which one thread at a time makes its calls. Each waits where that call of Linux would.
 /// Contracts see the process, and how many calls it has made.
 pub struct Seat<W: BookName> {
     alloc: Global,
