@@ -1,9 +1,10 @@
-//! The layer as a library: a file that is written and read back, a test of a service manager and a parser without
-//! rights, by `delortxa`; then the crates below it: one process without threads, two threads as processes, and a
-//! process that makes another.
+//! The layer as a library: a file that is written and read back, a test of a service manager, a parser without rights
+//! and a display server with its clients in threads, by `delortxa`; then the crates below it: one process without
+//! threads, two threads as processes, and a process that makes another.
 #![tactic(auto)]
 
 mod activation;
+mod display;
 mod hello;
 mod one_process;
 mod parser;
@@ -31,6 +32,7 @@ fn main(rt: HostRuntime) -> Result<()> {
     hello::run(&rt)?;
     activation::run(&rt)?;
     parser::run(&rt)?;
+    display::run(&rt)?;
     one_process::run(&rt)?;
     two_threads::run(&rt)?;
     service_manager::run(&rt)
