@@ -1,4 +1,5 @@
 pub mod AnyObjects
 pub mod Answering
+pub mod Boots
 pub mod Callers
 pub mod Happening

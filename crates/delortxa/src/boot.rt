@@ -4,7 +4,7 @@ ghost use Rattle.ux_model.specs.Limits.{file_limit};
 ghost use Rattle.ux_model.specs.Boot.{IsBootState, boot_state};
 ghost use Rattle.ux_object.specs.declared.ObjKind.{ObjKind};
 ghost use Rattle.ux_kernel.specs.Faults.{fault_of};
-ghost use Rattle.ux_calls.specs.Boots.{with_object, with_process};
+ghost use Rattle.delortxa.specs.Boots.{with_object, with_process};
 
 use crate::objects::AnyObject;
 use std::alloc::{AllocError, Global};
@@ -14,7 +14,7 @@ use ux_object::{ObjError, ObjKind};
 use ux_types::{Name, ProcSpec};
 
 /// The file objects and the processes that a layer is to start with. Objects are numbered from 0 on and
-/// processes from 1 on, in the order in which they are given. Contracts see both lists.
+/// processes from 1 on, in the order in which they are given. Contracts see both lists, and which call of each object fails.
 pub struct Boot {
     alloc: Global,
     objects: Vec<(Name, AnyObject)>,
@@ -36,18 +36,18 @@ impl Drop for Boot {
 
 impl Model for Boot {
     ghost use Rattle.std.specs.Prelude.{map};
-    ghost use Rattle.ux_calls.specs.Boots.{Plan};
-    ghost use Rattle.delortxa.specs.AnyObjects.{any_view};
+    ghost use Rattle.delortxa.specs.AnyObjects.{any_view, calls_left};
+    ghost use Rattle.delortxa.specs.Boots.{Plan};
 
     ghost Value = { Plan };
 
-    ghost view = { λ b. record { objects = map (λ o. (o.0, any_view o.1)) b.objects.items; processes = b.processes.items } };
+    ghost view = { λ b. record { objects = map (λ o. (o.0, any_view o.1)) b.objects.items; failures = map (λ o. calls_left o.1) b.objects.items; processes = b.processes.items } };
 }
 
 impl Boot {
     /// Nothing yet. All that follows is allocated here.
     pub fn new(alloc: Global) -> Boot
-        ensures { result ≡ record { objects = []; processes = [] } }
+        ensures { result ≡ record { objects = []; failures = []; processes = [] } }
     {
         Boot {
             alloc,
@@ -62,7 +62,7 @@ impl Boot {
     ///
     /// `Full` exactly for more than 1,048,576 bytes, else `NoMemory`.
     pub fn file(self, path: &[u8], bytes: &[u8]) -> Result<Boot, ObjError>
-        ensures made { IfOk result (λ b. b ≡ with_object self path.now ObjKind.Memory bytes.now) }
+        ensures made { IfOk result (λ b. b ≡ with_object self path.now ObjKind.Memory bytes.now 0) }
         ensures full { IsErrAnd result (λ e. e ≡ ObjError.Full) ↔ (file_limit < length bytes.now) }
         ensures refused { IfErr result (λ e. (e ≡ ObjError.Full) ⊎ (e ≡ ObjError.NoMemory)) }
     {
@@ -75,7 +75,7 @@ impl Boot {
     ///
     /// Those of `file`.
     pub fn failing_file(self, path: &[u8], bytes: &[u8], n: u32) -> Result<Boot, ObjError>
-        ensures made { IfOk result (λ b. b ≡ with_object self path.now ObjKind.Memory bytes.now) }
+        ensures made { IfOk result (λ b. b ≡ with_object self path.now ObjKind.Memory bytes.now n) }
         ensures full { IsErrAnd result (λ e. e ≡ ObjError.Full) ↔ (file_limit < length bytes.now) }
         ensures refused { IfErr result (λ e. (e ≡ ObjError.Full) ⊎ (e ≡ ObjError.NoMemory)) }
     {
@@ -88,7 +88,7 @@ impl Boot {
     ///
     /// `NoMemory`.
     pub fn counter(self, path: &[u8]) -> Result<Boot, ObjError>
-        ensures made { IfOk result (λ b. b ≡ with_object self path.now ObjKind.Counter []) }
+        ensures made { IfOk result (λ b. b ≡ with_object self path.now ObjKind.Counter [] 0) }
         ensures refused { IfErr result (λ e. e ≡ ObjError.NoMemory) }
     {
         self.object(path, ObjKind::Counter, b"", 0)
@@ -100,7 +100,7 @@ impl Boot {
     ///
     /// `NoMemory`.
     pub fn pipe(self, path: &[u8]) -> Result<Boot, ObjError>
-        ensures made { IfOk result (λ b. b ≡ with_object self path.now ObjKind.Pipe []) }
+        ensures made { IfOk result (λ b. b ≡ with_object self path.now ObjKind.Pipe [] 0) }
         ensures refused { IfErr result (λ e. e ≡ ObjError.NoMemory) }
     {
         self.object(path, ObjKind::Pipe, b"", 0)
@@ -119,7 +119,7 @@ impl Boot {
         bytes: &[u8],
         n: u32,
     ) -> Result<Boot, ObjError>
-        ensures made { IfOk result (λ b. b ≡ with_object self path.now kind bytes.now) }
+        ensures made { IfOk result (λ b. b ≡ with_object self path.now kind bytes.now n) }
         ensures full { IsErrAnd result (λ e. e ≡ ObjError.Full) ↔ ((kind ≡ ObjKind.Memory) × (file_limit < length bytes.now)) }
         ensures refused { IfErr result (λ e. (e ≡ ObjError.Full) ⊎ (e ≡ ObjError.NoMemory)) }
     {

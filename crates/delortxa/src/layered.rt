@@ -29,11 +29,12 @@ pub trait LayerProgram<R>: Drop + Sync {
 }
 
 /// Runs the program for each process of a layer at the start of this kernel, at the same time: what each gives, by their
-/// numbers. Where no thread can be made, they run one after another.
+/// numbers. Where a thread can't be made, its process runs after another on that one's thread, and a process that waits
+/// for one that hasn't begun waits for good.
 ///
 /// # Errors
 ///
-/// Out of memory.
+/// Out of memory: before any process has begun, or for what they give, which is dropped then.
 pub fn with_layer<R: Threads + Wait + AllocGlobal + Sync, P: LayerProgram<R>>(
     rt: &R,
     kernel: Kernel<AnyObject>,

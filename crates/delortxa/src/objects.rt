@@ -3,7 +3,7 @@ ghost use Rattle.std.specs.Prelude.{◌≡◌, ◌<◌, ◌↔◌, ◌⊎◌, If
 ghost use Rattle.ux_model.specs.Limits.{file_limit};
 ghost use Rattle.ux_model.specs.Object.{new_view};
 ghost use Rattle.ux_objects.specs.Failing.{first_body};
-ghost use Rattle.delortxa.specs.AnyObjects.{any_view};
+ghost use Rattle.delortxa.specs.AnyObjects.{any_view, calls_left};
 
 use std::alloc::Global;
 use ux_object::{FileObject, ObjError, ObjKind};
@@ -27,6 +27,7 @@ impl AnyObject {
     /// `Full` exactly for a file of more than 1,048,576 bytes, else `NoMemory`.
     pub fn new(alloc: Global, kind: ObjKind, bytes: &[u8], n: u32) -> Result<AnyObject, ObjError>
         ensures made { IfOk result (λ o. any_view o ≡ new_view (first_body kind bytes.now)) }
+        ensures fails { IfOk result (λ o. calls_left o ≡ n) }
         ensures full { (result ≡ Err ObjError.Full) ↔ ((kind ≡ ObjKind.Memory) × (file_limit < length bytes.now)) }
         ensures refused { OnErr result ((result ≡ Err ObjError.Full) ⊎ (result ≡ Err ObjError.NoMemory)) }
     {

@@ -221,6 +221,8 @@ impl<W: BookName> Session<W> {
     /// `Alive` exactly where a process hasn't exited, else `Given` exactly where this was done before.
     pub fn off(&mut self) -> Result<(), OffFault>
         ensures made { OnOk result (Ends self.old self.new) }
+        ensures gone { OnOk result (has_live (state_of self.old) ≡ false) }
+        ensures first { OnOk result (ends_of self.old.entries ≡ 0) }
         ensures alive { IfErr result (λ fault. is_alive fault ≡ has_live (state_of self.old)) }
         ensures given { IfErr result (λ fault. is_alive fault ≡ false → ends_of self.old.entries ≡ 1) }
         ensures same { OnErr result (self.new ≡ self.old) }

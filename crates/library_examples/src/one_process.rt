@@ -6,29 +6,21 @@ ghost use Rattle.ux_model.specs.Boot.{IsBootState};
 
 use crate::print_history;
 use anyhow::{Result, anyhow};
+use delortxa::{AnyObject, Boot, call};
 use std::alloc::Global;
 use std::marker::Brand;
 use std::sync::ledger::Blank;
-use ux_calls::{Boot, call};
 use ux_history::{Account, Book, BookName, PARTS, Share, has_own_call, settle_accounts};
 use ux_kernel::Kernel;
-use ux_objects::Plain;
 use ux_state::RetiredList;
 use ux_types::{Fd, Mode, Request, Whence};
 
 /// A kernel with one memory file, at the path `notes`, and one process.
-fn start(alloc: Global) -> Result<Kernel<Plain>>
+fn start(alloc: Global) -> Result<Kernel<AnyObject>>
     ensures { IfOk result (λ kernel. IsBootState kernel) }
 {
-    let plan = Boot::new(alloc)
-        .file(b"notes", b"")?
-        .process(1000, 1000, 16)?;
-    let (objects, processes) = plan.into_parts();
-    match Kernel::boot(alloc, objects, &processes) {
-        Ok(kernel) => Ok(kernel),
-        // The file comes back with the fault.
-        Err((fault, _objects)) => Err(anyhow!("{fault}")),
-    }
+    let boot = Boot::new(alloc).file(b"notes", b"")?;
+    Ok(boot.process(1000, 1000, 16)?.start()?)
 }
 
 /// The calls that the process makes before it exits.
@@ -46,9 +38,9 @@ fn calls(alloc: Global) -> Result<Vec<Request>> {
 
 /// Makes these calls of the share's process.
 fn make_calls<W: BookName>(
-    book: &mut Book<W, Plain>,
+    book: &mut Book<W, AnyObject>,
     share: &mut Share<W>,
-    retired: &mut RetiredList<Plain>,
+    retired: &mut RetiredList<AnyObject>,
     requests: &[Request],
 ) -> Result<()> {
     for request in requests {
@@ -69,9 +61,9 @@ fn make_calls<W: BookName>(
 /// Ends the process, and compares what its share counted with the history.
 fn end<W: BookName>(
     alloc: Global,
-    book: &mut Book<W, Plain>,
+    book: &mut Book<W, AnyObject>,
     share: Share<W>,
-    retired: &mut RetiredList<Plain>,
+    retired: &mut RetiredList<AnyObject>,
 ) -> Result<Account> {
     retired.clear();
     let spents = match book.exit(share, retired) {
@@ -87,7 +79,7 @@ fn end<W: BookName>(
 /// Fills this book with the calls of its one process, and prints its history.
 fn fill<W: BookName>(
     rt: &(impl Print + AllocGlobal),
-    book: &mut Book<W, Plain>,
+    book: &mut Book<W, AnyObject>,
     mut shares: Vec<Share<W>>,
 ) -> Result<()> {
     let requests = calls(rt.alloc())?;
@@ -106,14 +98,14 @@ fn fill<W: BookName>(
 fn keep_book<W: BookName>(
     rt: &(impl Print + AllocGlobal),
     blank: Blank,
-    kernel: Kernel<Plain>,
+    kernel: Kernel<AnyObject>,
 ) -> Result<()>
     requires name { blank.name ≡ W.name }
     requires parts { (blank.parts ≡ W.parts) × (blank.parts ≡ 1024) }
     requires boots { IsBootState kernel }
     requires named { kernel ≡ W.boot }
 {
-    match Book::<W, Plain>::new(rt.alloc(), blank, kernel) {
+    match Book::<W, AnyObject>::new(rt.alloc(), blank, kernel) {
         Ok((mut book, shares)) => {
             let filled = fill(rt, &mut book, shares);
             // One drop for all ways out of `fill` keeps the proof short.

@@ -1,7 +1,4 @@
-//! What a program says to the layer in few words: its file objects and processes, and the requests of the calls.
+//! The requests of the calls, in few words.
 #![tactic(auto)]
 
-mod boot;
 pub mod call;
-
-pub use boot::Boot;

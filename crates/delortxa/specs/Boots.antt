@@ -5,14 +5,18 @@ use Rattle.ux_model.specs.Object.{View, new_view}
 use Rattle.ux_object.specs.declared.ObjKind.{ObjKind}
 use Rattle.ux_objects.specs.Failing.{first_body}
 
--- file objects, each under its path, and processes
+-- file objects, each under its path; which read or write of each fails, counted from 1, or 0; and processes
 pub record Plan : Type 0 where
   pub objects : List (List ℕ × View)
+  pub failures : List ℕ
   pub processes : List ProcSpec
 
--- with one more object of this kind, which was just made
-abbrev pub with_object : Plan → List ℕ → ObjKind → List ℕ → Plan
-with_object plan path kind bytes = record plan { objects = plan.objects ++ (path, new_view (first_body kind bytes)) ∷ [] }
+-- with one more object of this kind, which was just made, and whose nth read or write fails
+abbrev pub with_object : Plan → List ℕ → ObjKind → List ℕ → ℕ → Plan
+with_object plan path kind bytes n = record plan {
+  objects = plan.objects ++ (path, new_view (first_body kind bytes)) ∷ [];
+  failures = plan.failures ++ n ∷ [];
+}
 
 -- with one more process
 abbrev pub with_process : Plan → ProcSpec → Plan
