@@ -2,11 +2,13 @@
 //! from, how many of them a receiver gets, and why a queue takes none.
 #![tactic(auto)]
 
+mod draft;
 mod origin;
 mod plan;
 mod references;
 mod refusals;
 
+pub use draft::Draft;
 pub use origin::Origin;
 pub use plan::{Plan, plan_rights};
 pub use references::{INLINE, RefList, Reference};

@@ -17,6 +17,24 @@ use ux_fdtable::{Descriptor, Table};
 use ux_object::FileObject;
 use ux_types::{Cred, DescriptionId, Errno, Fd, Pid};
 
+/// A descriptor that is open, and the description that it leads to.
+#[derive(Clone, Copy)]
+pub struct FoundDescription<'a> {
+    /// What stands in the process's table.
+    pub descriptor: Descriptor,
+    /// Where it leads.
+    pub description: &'a Description,
+}
+
+/// A socket, and the handle of its description.
+#[derive(Clone, Copy)]
+pub struct FoundSocket<'a> {
+    /// The handle.
+    pub id: DescriptionId,
+    /// The socket.
+    pub socket: &'a Socket,
+}
+
 impl<O: FileObject> State<O> {
     /// How many processes were made, exited ones too.
     pub fn process_count(&self) -> usize
@@ -108,15 +126,18 @@ impl<O: FileObject> State<O> {
     /// # Errors
     ///
     /// EBADF where the number isn't open.
-    pub fn find_description(&self, pid: Pid, fd: Fd) -> Result<(Descriptor, &Description), Errno>
+    pub fn find_description(&self, pid: Pid, fd: Fd) -> Result<FoundDescription<'_>, Errno>
         requires { IsTrue (is_live self.now pid.0) }
-        ensures { MatchResult result (λ r. find_description self.now pid.0 fd ≡ Ok (r.0, r.1.now)) (λ e. find_description self.now pid.0 fd ≡ Err e) }
+        ensures { MatchResult result (λ r. find_description self.now pid.0 fd ≡ Ok (r.descriptor, r.description.now)) (λ e. find_description self.now pid.0 fd ≡ Err e) }
     {
-        let Some(e) = self.table(pid).get(fd) else {
+        let Some(descriptor) = self.table(pid).get(fd) else {
             return Err(Errno::EBADF);
         };
-        match self.description(e.description) {
-            Some(x) => Ok((e, x)),
+        match self.description(descriptor.description) {
+            Some(description) => Ok(FoundDescription {
+                descriptor,
+                description,
+            }),
             None => Err(Errno::EBADF),
         }
     }
@@ -126,16 +147,16 @@ impl<O: FileObject> State<O> {
     /// # Errors
     ///
     /// EBADF where the number isn't open, ENOTSOCK where it leads to no socket.
-    pub fn find_socket(&self, pid: Pid, fd: Fd) -> Result<(DescriptionId, &Socket), Errno>
+    pub fn find_socket(&self, pid: Pid, fd: Fd) -> Result<FoundSocket<'_>, Errno>
         requires { IsTrue (is_live self.now pid.0) }
-        ensures { MatchResult result (λ r. find_socket self.now pid.0 fd ≡ Ok (r.0, r.1.now)) (λ e. find_socket self.now pid.0 fd ≡ Err e) }
+        ensures { MatchResult result (λ r. find_socket self.now pid.0 fd ≡ Ok (r.id, r.socket.now)) (λ e. find_socket self.now pid.0 fd ≡ Err e) }
     {
-        let (e, x) = match self.find_description(pid, fd) {
-            Ok(found) => found,
-            Err(refusal) => return Err(refusal),
-        };
-        match x.socket() {
-            Some(s) => Ok((e.description, s)),
+        let found = self.find_description(pid, fd)?;
+        match found.description.socket() {
+            Some(socket) => Ok(FoundSocket {
+                id: found.descriptor.description,
+                socket,
+            }),
             None => Err(Errno::ENOTSOCK),
         }
     }

@@ -21,5 +21,6 @@ mod retired;
 mod slot;
 mod state;
 
+pub use finding::{FoundDescription, FoundSocket};
 pub use retired::{Retired, RetiredList};
 pub use state::State;

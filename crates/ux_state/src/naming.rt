@@ -9,6 +9,7 @@ ghost use Rattle.ux_names.specs.Targets.{target_of};
 ghost use Rattle.ux_state.specs.Keeping.{links_of, link_at, LosesLink};
 ghost use Rattle.ux_state.specs.Moves.{IsUnnamedAt};
 
+use crate::finding::FoundSocket;
 use crate::state::State;
 use std::alloc::AllocError;
 use ux_desc::{Description, Socket};
@@ -110,8 +111,8 @@ impl<O: FileObject> State<O> {
         &self,
         kind: SockType,
         addr: &Addr,
-    ) -> Result<(DescriptionId, &Socket), Errno>
-        ensures { MatchResult result (λ r. look_up self.now kind addr.now ≡ Ok (r.0, r.1.now)) (λ e. look_up self.now kind addr.now ≡ Err e) }
+    ) -> Result<FoundSocket<'_>, Errno>
+        ensures { MatchResult result (λ r. look_up self.now kind addr.now ≡ Ok (r.id, r.socket.now)) (λ e. look_up self.now kind addr.now ≡ Err e) }
     {
         match addr {
             Addr::Unnamed => Err(Errno::EINVAL),
@@ -121,8 +122,8 @@ impl<O: FileObject> State<O> {
     }
 
     /// The socket of this type that a path leads to.
-    fn socket_of_path(&self, kind: SockType, name: &Name) -> Result<(DescriptionId, &Socket), Errno>
-        ensures { MatchResult result (λ r. look_up_path self.now kind name.now ≡ Ok (r.0, r.1.now)) (λ e. look_up_path self.now kind name.now ≡ Err e) }
+    fn socket_of_path(&self, kind: SockType, name: &Name) -> Result<FoundSocket<'_>, Errno>
+        ensures { MatchResult result (λ r. look_up_path self.now kind name.now ≡ Ok (r.id, r.socket.now)) (λ e. look_up_path self.now kind name.now ≡ Err e) }
     {
         match self.path(name) {
             Some(target) => self.socket_of_target(kind, target),
@@ -135,8 +136,8 @@ impl<O: FileObject> State<O> {
         &self,
         kind: SockType,
         target: PathTarget,
-    ) -> Result<(DescriptionId, &Socket), Errno>
-        ensures { MatchResult result (λ r. socket_of_target self.now kind (target_of target) ≡ Ok (r.0, r.1.now)) (λ e. socket_of_target self.now kind (target_of target) ≡ Err e) }
+    ) -> Result<FoundSocket<'_>, Errno>
+        ensures { MatchResult result (λ r. socket_of_target self.now kind (target_of target) ≡ Ok (r.id, r.socket.now)) (λ e. socket_of_target self.now kind (target_of target) ≡ Err e) }
     {
         match target {
             PathTarget::Socket(id) => self.socket_of_kind(kind, id),
@@ -145,8 +146,8 @@ impl<O: FileObject> State<O> {
     }
 
     /// The socket of this type that a name of the abstract namespace leads to.
-    fn socket_of_name(&self, kind: SockType, name: &Name) -> Result<(DescriptionId, &Socket), Errno>
-        ensures { MatchResult result (λ r. look_up_abstract self.now kind name.now ≡ Ok (r.0, r.1.now)) (λ e. look_up_abstract self.now kind name.now ≡ Err e) }
+    fn socket_of_name(&self, kind: SockType, name: &Name) -> Result<FoundSocket<'_>, Errno>
+        ensures { MatchResult result (λ r. look_up_abstract self.now kind name.now ≡ Ok (r.id, r.socket.now)) (λ e. look_up_abstract self.now kind name.now ≡ Err e) }
     {
         match self.abstract_name(name) {
             Some(id) => self.socket_of_kind(kind, id),
@@ -159,14 +160,14 @@ impl<O: FileObject> State<O> {
         &self,
         kind: SockType,
         id: DescriptionId,
-    ) -> Result<(DescriptionId, &Socket), Errno>
-        ensures { MatchResult result (λ r. socket_of_kind self.now kind id ≡ Ok (r.0, r.1.now)) (λ e. socket_of_kind self.now kind id ≡ Err e) }
+    ) -> Result<FoundSocket<'_>, Errno>
+        ensures { MatchResult result (λ r. socket_of_kind self.now kind id ≡ Ok (r.id, r.socket.now)) (λ e. socket_of_kind self.now kind id ≡ Err e) }
     {
         let Some(socket) = self.socket(id) else {
             return Err(Errno::ECONNREFUSED);
         };
         if same_kind(kind, socket.kind()) {
-            Ok((id, socket))
+            Ok(FoundSocket { id, socket })
         } else {
             Err(Errno::EPROTOTYPE)
         }
