@@ -7,6 +7,7 @@ ghost use Rattle.ux_msg.specs.Answers.{Gives};
 use crate::kernel::Kernel;
 use std::alloc::AllocError;
 use ux_object::FileObject;
+use ux_state::FoundSocket;
 use ux_types::{Addr, DescriptionId, Errno, Fd, OpenFlags, Pid, Refusal, Reply};
 
 impl<O: FileObject> Kernel<O> {
@@ -18,22 +19,17 @@ impl<O: FileObject> Kernel<O> {
         requires { IsTrue (is_live self.old pid.0) }
         ensures { Gives self.old (model.accept self.old pid.0 fd flags) result self.new }
     {
-        let (id, socket) = match self.state.find_socket(pid, fd) {
-            Ok(found) => found,
-            Err(e) => return Err(Refusal::from(e)),
-        };
+        let FoundSocket { id, socket } = self.state.find_socket(pid, fd)?;
         if socket.is_datagram() {
-            return Err(Refusal::Answer(Errno::EOPNOTSUPP));
+            return Err(Errno::EOPNOTSUPP.into());
         }
         if !socket.is_listening() {
-            return Err(Refusal::Answer(Errno::EINVAL));
+            return Err(Errno::EINVAL.into());
         }
         if self.state.table(pid).lowest_free().is_none() {
-            return Err(Refusal::Answer(Errno::EMFILE));
+            return Err(Errno::EMFILE.into());
         }
-        let Some(end) = self.state.first_pending(id) else {
-            return Err(Refusal::Answer(Errno::EAGAIN));
-        };
+        let end = self.state.first_pending(id).ok_or(Errno::EAGAIN)?;
         let client = self.client_of(end)?;
         let number = self.state.accept(pid, id, flags)?;
         Ok(Reply::Accepted(number, client))

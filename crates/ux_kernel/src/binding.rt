@@ -8,6 +8,7 @@ ghost use Rattle.ux_state.specs.Moves.{IsUnnamedAt};
 use crate::kernel::Kernel;
 use ux_names::is_valid_addr;
 use ux_object::FileObject;
+use ux_state::FoundSocket;
 use ux_types::{Addr, DescriptionId, Errno, Fd, Pid, Refusal, Reply};
 
 impl<O: FileObject> Kernel<O> {
@@ -18,12 +19,9 @@ impl<O: FileObject> Kernel<O> {
         requires { IsTrue (is_live self.old pid.0) }
         ensures { Gives self.old (model.bind self.old pid.0 fd addr.now) result self.new }
     {
-        let (id, socket) = match self.state.find_socket(pid, fd) {
-            Ok(found) => found,
-            Err(e) => return Err(Refusal::from(e)),
-        };
+        let FoundSocket { id, socket } = self.state.find_socket(pid, fd)?;
         if !socket.is_unnamed() || !is_valid_addr(addr) {
-            return Err(Refusal::Answer(Errno::EINVAL));
+            return Err(Errno::EINVAL.into());
         }
         self.bind_to(id, addr)
     }
@@ -47,9 +45,7 @@ impl<O: FileObject> Kernel<O> {
         requires { IsTrue (is_live self.now pid.0) }
         ensures { Gives self.now (model.get_sock_name self.now pid.0 fd) result self.now }
     {
-        match self.state.find_socket(pid, fd) {
-            Ok((_, socket)) => Ok(Reply::Addr(socket.name().clone()?)),
-            Err(e) => Err(Refusal::from(e)),
-        }
+        let found = self.state.find_socket(pid, fd)?;
+        Ok(Reply::Addr(found.socket.name().clone()?))
     }
 }

@@ -15,9 +15,7 @@ impl<O: FileObject> Kernel<O> {
         requires { IsTrue (is_live self.old pid.0) }
         ensures { Gives self.old (model.close self.old pid.0 fd) result self.new }
     {
-        if let Err(e) = self.state.find_description(pid, fd) {
-            return Err(Refusal::from(e));
-        }
+        let _found = self.state.find_description(pid, fd)?;
         self.state.take_entry(pid, fd);
         Ok(Reply::Ok)
     }

@@ -9,6 +9,7 @@ ghost use Rattle.ux_state.specs.Moves.{IsUnconnectedAt, IsNoListenerAt};
 use crate::kernel::Kernel;
 use ux_names::{is_unnamed, is_valid_addr};
 use ux_object::FileObject;
+use ux_state::FoundSocket;
 use ux_types::{
     Addr, Cred, DescriptionId, Errno, Fd, Mode, OpenFlags, Pid, Refusal, Reply, SockType,
 };
@@ -36,18 +37,15 @@ impl<O: FileObject> Kernel<O> {
         requires { IsTrue (is_live self.old pid.0) }
         ensures { Gives self.old (model.listen self.old pid.0 fd backlog) result self.new }
     {
-        let (id, socket) = match self.state.find_socket(pid, fd) {
-            Ok(found) => found,
-            Err(e) => return Err(Refusal::from(e)),
-        };
+        let FoundSocket { id, socket } = self.state.find_socket(pid, fd)?;
         if socket.is_datagram() {
-            return Err(Refusal::Answer(Errno::EOPNOTSUPP));
+            return Err(Errno::EOPNOTSUPP.into());
         }
         if socket.is_connected() {
-            return Err(Refusal::Answer(Errno::EINVAL));
+            return Err(Errno::EINVAL.into());
         }
         if socket.is_unnamed() {
-            return Err(Refusal::Answer(Errno::EDESTADDRREQ));
+            return Err(Errno::EDESTADDRREQ.into());
         }
         let cred = self.state.credentials(pid);
         self.state.listen(id, backlog, cred);
@@ -64,19 +62,16 @@ impl<O: FileObject> Kernel<O> {
         ensures { Gives self.old (model.connect self.old pid.0 fd addr.now) result self.new }
     {
         let cred = self.state.credentials(pid);
-        let (id, socket) = match self.state.find_socket(pid, fd) {
-            Ok(found) => found,
-            Err(e) => return Err(Refusal::from(e)),
-        };
+        let FoundSocket { id, socket } = self.state.find_socket(pid, fd)?;
         let kind = socket.kind();
         if socket.is_datagram() {
             return self.connect_datagram(id, kind, addr);
         }
         if !is_valid_addr(addr) || is_unnamed(addr) || socket.is_listening() {
-            return Err(Refusal::Answer(Errno::EINVAL));
+            return Err(Errno::EINVAL.into());
         }
         if socket.is_connected() {
-            return Err(Refusal::Answer(Errno::EISCONN));
+            return Err(Errno::EISCONN.into());
         }
         self.connect_by(id, kind, addr, cred)
     }
@@ -92,20 +87,17 @@ impl<O: FileObject> Kernel<O> {
         ensures { Gives self.old (model.connect_datagram self.old id kind addr.now) result self.new }
     {
         if !is_valid_addr(addr) {
-            return Err(Refusal::Answer(Errno::EINVAL));
+            return Err(Errno::EINVAL.into());
         }
         if is_unnamed(addr) {
             self.state.set_association(id, None);
             return Ok(Reply::Ok);
         }
-        let (target, other) = match self.state.socket_named(kind, addr) {
-            Ok(found) => found,
-            Err(e) => return Err(Refusal::from(e)),
-        };
-        if !other.takes_from(id) {
-            return Err(Refusal::Answer(Errno::EPERM));
+        let target = self.state.socket_named(kind, addr)?;
+        if !target.socket.takes_from(id) {
+            return Err(Errno::EPERM.into());
         }
-        self.state.set_association(id, Some(target));
+        self.state.set_association(id, Some(target.id));
         Ok(Reply::Ok)
     }
 
@@ -121,14 +113,11 @@ impl<O: FileObject> Kernel<O> {
         requires no_listener { IsNoListenerAt self.old id }
         ensures { Gives self.old (model.connect_by self.old id kind addr.now cred) result self.new }
     {
-        let (listener, other) = match self.state.socket_named(kind, addr) {
-            Ok(found) => found,
-            Err(e) => return Err(Refusal::from(e)),
-        };
-        if !other.is_listening() {
-            return Err(Refusal::Answer(Errno::ECONNREFUSED));
+        let listener = self.state.socket_named(kind, addr)?;
+        if !listener.socket.is_listening() {
+            return Err(Errno::ECONNREFUSED.into());
         }
-        self.state.connect(id, listener, cred)?;
+        self.state.connect(id, listener.id, cred)?;
         Ok(Reply::Ok)
     }
 
@@ -138,12 +127,9 @@ impl<O: FileObject> Kernel<O> {
         requires { IsTrue (is_live self.old pid.0) }
         ensures { Gives self.old (model.shutdown self.old pid.0 fd how) result self.new }
     {
-        let (id, socket) = match self.state.find_socket(pid, fd) {
-            Ok(found) => found,
-            Err(e) => return Err(Refusal::from(e)),
-        };
+        let FoundSocket { id, socket } = self.state.find_socket(pid, fd)?;
         if socket.tied_socket().is_none() {
-            return Err(Refusal::Answer(Errno::ENOTCONN));
+            return Err(Errno::ENOTCONN.into());
         }
         self.state.shut_down(id, how);
         Ok(Reply::Ok)
@@ -155,13 +141,8 @@ impl<O: FileObject> Kernel<O> {
         requires { IsTrue (is_live self.now pid.0) }
         ensures { Gives self.now (model.get_peer_name self.now pid.0 fd) result self.now }
     {
-        let socket = match self.state.find_socket(pid, fd) {
-            Ok((_, socket)) => socket,
-            Err(e) => return Err(Refusal::from(e)),
-        };
-        match self.state.peer_name(socket) {
-            Ok(name) => Ok(Reply::Addr(name.clone()?)),
-            Err(e) => Err(Refusal::from(e)),
-        }
+        let found = self.state.find_socket(pid, fd)?;
+        let name = self.state.peer_name(found.socket)?;
+        Ok(Reply::Addr(name.clone()?))
     }
 }

@@ -17,11 +17,8 @@ impl<O: FileObject> Kernel<O> {
         requires { IsTrue (is_live self.old pid.0) }
         ensures { Gives self.old (model.dup self.old pid.0 fd) result self.new }
     {
-        let entry = match self.state.find_description(pid, fd) {
-            Ok((entry, _)) => entry,
-            Err(e) => return Err(Refusal::from(e)),
-        };
-        let number = self.state.put_lowest(pid, entry.duplicate())?;
+        let found = self.state.find_description(pid, fd)?;
+        let number = self.state.put_lowest(pid, found.descriptor.duplicate())?;
         Ok(Reply::Fd(number))
     }
 
@@ -32,15 +29,12 @@ impl<O: FileObject> Kernel<O> {
         requires { IsTrue (is_live self.old pid.0) }
         ensures { Gives self.old (model.dup2 self.old pid.0 fd to) result self.new }
     {
-        let entry = match self.state.find_description(pid, fd) {
-            Ok((entry, _)) => entry,
-            Err(e) => return Err(Refusal::from(e)),
-        };
+        let found = self.state.find_description(pid, fd)?;
         // Onto itself it changes nothing, close-on-exec neither.
         if to == fd {
             return Ok(Reply::Fd(to));
         }
-        self.state.put_copy_at(pid, to, entry)?;
+        self.state.put_copy_at(pid, to, found.descriptor)?;
         Ok(Reply::Fd(to))
     }
 
@@ -50,11 +44,8 @@ impl<O: FileObject> Kernel<O> {
         requires { IsTrue (is_live self.old pid.0) }
         ensures { Gives self.old (model.set_flags self.old pid.0 fd flags) result self.new }
     {
-        let description = match self.state.find_description(pid, fd) {
-            Ok((entry, _)) => entry.description,
-            Err(e) => return Err(Refusal::from(e)),
-        };
-        self.state.set_flags(description, flags);
+        let found = self.state.find_description(pid, fd)?;
+        self.state.set_flags(found.descriptor.description, flags);
         self.state
             .set_cloexec(pid, fd, flags.contains(OpenFlags::CLOEXEC));
         Ok(Reply::Ok)

@@ -12,7 +12,7 @@ use ux_object::{FileObject, ObjKind};
 use ux_types::{Errno, Fd, Mode, Name, OpenFlags, Pid, Refusal, Reply, Whence};
 
 /// The greatest offset: one of 63 bits (off_t of POSIX.1-2017, sys/types.h).
-const OFFSET_LIMIT: i128 = 9223372036854775807;
+const OFFSET_LIMIT: i128 = i64::MAX as i128;
 
 impl<O: FileObject> Kernel<O> {
     /// open(2). EINVAL for an invalid path, ENOENT for one that isn't there, EOPNOTSUPP for one of a
@@ -29,12 +29,12 @@ impl<O: FileObject> Kernel<O> {
         ensures { Gives self.old (opening.open_file self.old pid.0 path.now mode flags) result self.new }
     {
         if !is_valid_path(path) {
-            return Err(Refusal::Answer(Errno::EINVAL));
+            return Err(Errno::EINVAL.into());
         }
         let object = match self.state.path(path) {
             Some(PathTarget::File(object)) => object,
-            Some(PathTarget::Socket(_)) => return Err(Refusal::Answer(Errno::EOPNOTSUPP)),
-            None => return Err(Refusal::Answer(Errno::ENOENT)),
+            Some(PathTarget::Socket(_)) => return Err(Errno::EOPNOTSUPP.into()),
+            None => return Err(Errno::ENOENT.into()),
         };
         let fd = self.state.open_object(pid, object, mode, flags)?;
         Ok(Reply::Fd(fd))
@@ -53,26 +53,19 @@ impl<O: FileObject> Kernel<O> {
         requires { IsTrue (is_live self.old pid.0) }
         ensures { Gives self.old (seeking.lseek self.old pid.0 fd offset whence) result self.new }
     {
-        let (entry, description) = match self.state.find_description(pid, fd) {
-            Ok(found) => found,
-            Err(e) => return Err(Refusal::from(e)),
-        };
-        let Some(number) = description.object() else {
-            return Err(Refusal::Answer(Errno::ESPIPE));
-        };
-        let Some(object) = self.state.object(number) else {
-            return Err(Refusal::Answer(Errno::EBADF));
-        };
+        let found = self.state.find_description(pid, fd)?;
+        let number = found.description.object().ok_or(Errno::ESPIPE)?;
+        let object = self.state.object(number).ok_or(Errno::EBADF)?;
         if object.kind() != ObjKind::Memory {
-            return Err(Refusal::Answer(Errno::ESPIPE));
+            return Err(Errno::ESPIPE.into());
         }
         let base = match whence {
             Whence::Set => 0,
-            Whence::Cur => description.offset(),
+            Whence::Cur => found.description.offset(),
             Whence::End => object.size(),
         };
         let target = seek_target(base, offset).ok_or(Errno::EINVAL)?;
-        self.state.set_offset(entry.description, target);
+        self.state.set_offset(found.descriptor.description, target);
         Ok(Reply::At(target))
     }
 }

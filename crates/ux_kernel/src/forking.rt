@@ -16,11 +16,9 @@ impl<O: FileObject> Kernel<O> {
         ensures { Gives self.old (model.fork self.old pid.0) result self.new }
     {
         if self.state.process_count() >= MADE_LIMIT {
-            return Err(Refusal::Answer(Errno::EAGAIN));
+            return Err(Errno::EAGAIN.into());
         }
-        let Ok(child) = self.state.fork_process(pid) else {
-            return Err(Refusal::NoMemory);
-        };
+        let child = self.state.fork_process(pid)?;
         Ok(Reply::Child(child))
     }
 

@@ -11,7 +11,6 @@ mod descriptors;
 mod files;
 mod forking;
 mod kernel;
-mod naming;
 mod object_bytes;
 mod open_file;
 mod options;
@@ -19,6 +18,7 @@ mod pairing;
 mod polling;
 mod reading;
 mod step;
+mod unlinking;
 mod waiting;
 mod writing;
 

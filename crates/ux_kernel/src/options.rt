@@ -7,6 +7,7 @@ ghost use Rattle.ux_msg.specs.Answers.{Gives};
 use crate::kernel::Kernel;
 use ux_desc::Socket;
 use ux_object::FileObject;
+use ux_state::FoundSocket;
 use ux_types::{Errno, Fd, GREATEST_QUEUE_LIMIT, Pid, Refusal, Reply, SockOpt, SockType};
 
 impl<O: FileObject> Kernel<O> {
@@ -17,10 +18,7 @@ impl<O: FileObject> Kernel<O> {
         requires { IsTrue (is_live self.old pid.0) }
         ensures { Gives self.old (model.get_opt self.old pid.0 fd opt) result self.new }
     {
-        let (id, socket) = match self.state.find_socket(pid, fd) {
-            Ok(found) => found,
-            Err(e) => return Err(Refusal::from(e)),
-        };
+        let FoundSocket { id, socket } = self.state.find_socket(pid, fd)?;
         match opt {
             SockOpt::Kind => Ok(Reply::Opt(type_number(socket.kind()))),
             SockOpt::Error => {
@@ -31,13 +29,13 @@ impl<O: FileObject> Kernel<O> {
             SockOpt::PassCred => Ok(on_off(socket.passcred())),
             SockOpt::PeerCred => match socket.peer_cred() {
                 Some(cred) => Ok(Reply::Cred(cred)),
-                None => Err(Refusal::Answer(Errno::ENOTCONN)),
+                None => Err(Errno::ENOTCONN.into()),
             },
             SockOpt::AcceptConn => Ok(on_off(socket.is_listening())),
             SockOpt::QueueLimit if socket.is_stream() => Ok(Reply::Opt(
                 socket.queue_limit() as u64,
             )),
-            SockOpt::QueueLimit => Err(Refusal::Answer(Errno::EOPNOTSUPP)),
+            SockOpt::QueueLimit => Err(Errno::EOPNOTSUPP.into()),
         }
     }
 
@@ -55,10 +53,7 @@ impl<O: FileObject> Kernel<O> {
         requires { IsTrue (is_live self.old pid.0) }
         ensures { Gives self.old (model.set_opt self.old pid.0 fd opt value) result self.new }
     {
-        let (id, socket) = match self.state.find_socket(pid, fd) {
-            Ok(found) => found,
-            Err(e) => return Err(Refusal::from(e)),
-        };
+        let FoundSocket { id, socket } = self.state.find_socket(pid, fd)?;
         match opt {
             SockOpt::PassCred => {
                 let on = value != 0;
@@ -68,15 +63,13 @@ impl<O: FileObject> Kernel<O> {
                 self.state.set_passcred(id, on);
                 Ok(Reply::Ok)
             }
-            SockOpt::QueueLimit if !socket.is_stream() => Err(Refusal::Answer(Errno::EOPNOTSUPP)),
+            SockOpt::QueueLimit if !socket.is_stream() => Err(Errno::EOPNOTSUPP.into()),
             SockOpt::QueueLimit => {
-                let Some(limit) = queue_limit_of(value) else {
-                    return Err(Refusal::Answer(Errno::EINVAL));
-                };
+                let limit = queue_limit_of(value).ok_or(Errno::EINVAL)?;
                 self.state.set_queue_limit(id, limit);
                 Ok(Reply::Ok)
             }
-            _ => Err(Refusal::Answer(Errno::EINVAL)),
+            _ => Err(Errno::EINVAL.into()),
         }
     }
 }

@@ -26,11 +26,8 @@ impl<O: FileObject> Kernel<O> {
         requires { IsTrue (is_live self.old pid.0) }
         ensures { GivesOrFails self.old (model.read self.old pid.0 fd n) result self.new }
     {
-        let (entry, _) = match self.state.find_description(pid, fd) {
-            Ok(found) => found,
-            Err(e) => return Err(Refusal::from(e)),
-        };
-        self.read_at(pid, entry.description, n.min(READ_LIMIT))
+        let found = self.state.find_description(pid, fd)?;
+        self.read_at(pid, found.descriptor.description, n.min(READ_LIMIT))
     }
 
     /// Reads by this description.
@@ -39,9 +36,7 @@ impl<O: FileObject> Kernel<O> {
         requires few { n ≤ read_limit }
         ensures { GivesOrFails self.old (read_at self.old pid.0 id n) result self.new }
     {
-        let Some(description) = self.state.description(id) else {
-            return Err(Refusal::Answer(Errno::EBADF));
-        };
+        let description = self.state.description(id).ok_or(Errno::EBADF)?;
         match OpenFile::of(id, description) {
             Some(file) => self.read_file(file, n),
             None => read_socket(&mut self.state, self.alloc, pid, id, n),
@@ -54,15 +49,13 @@ impl<O: FileObject> Kernel<O> {
         requires few { n ≤ read_limit }
         ensures { GivesOrFails self.old (read_file self.old file n) result self.new }
     {
-        let Some(object) = self.state.object(file.object) else {
-            return Err(Refusal::Answer(Errno::EBADF));
-        };
+        let object = self.state.object(file.object).ok_or(Errno::EBADF)?;
         if !file.mode.can_read() {
-            return Err(Refusal::Answer(Errno::EBADF));
+            return Err(Errno::EBADF.into());
         }
         let kind = object.kind();
         if kind == ObjKind::Counter && n < COUNTER_BYTES {
-            return Err(Refusal::Answer(Errno::EINVAL));
+            return Err(Errno::EINVAL.into());
         }
         if kind != ObjKind::Counter && n == 0 {
             return Ok(Reply::Bytes(Bytes::empty()));
@@ -75,7 +68,7 @@ impl<O: FileObject> Kernel<O> {
         if kind == ObjKind::Pipe && !self.state.has_writer(file.object) {
             return Ok(Reply::Bytes(Bytes::empty()));
         }
-        Err(Refusal::Answer(Errno::EAGAIN))
+        Err(Errno::EAGAIN.into())
     }
 
     /// Reads of an open file object that has something to give, and moves the offset of a memory file.
@@ -104,7 +97,7 @@ impl<O: FileObject> Kernel<O> {
                 }
                 Ok(Reply::Bytes(bytes))
             }
-            Err(error) => Err(Refusal::Answer(errno_of(error))),
+            Err(error) => Err(errno_of(error).into()),
         }
     }
 }

@@ -109,13 +109,10 @@ impl<O: FileObject> Kernel<O> {
             Request::Exit => Ok(self.exit(pid)),
             Request::Off => Ok(self.off()),
         };
-        match answer {
-            Ok(reply) => Ok(Done {
-                reply,
-                delivered: None,
-            }),
-            Err(refusal) => Err(refusal),
-        }
+        Ok(Done {
+            reply: answer?,
+            delivered: None,
+        })
     }
 }
 

@@ -34,7 +34,7 @@ impl<O: FileObject> Kernel<O> {
         ensures { result ≡ is_blocking self.now pid.0 fd }
     {
         match self.state.find_description(pid, fd) {
-            Ok((_, description)) => !description.nonblock(),
+            Ok(found) => !found.description.nonblock(),
             Err(_) => false,
         }
     }

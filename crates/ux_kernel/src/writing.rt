@@ -26,11 +26,8 @@ impl<O: FileObject> Kernel<O> {
         requires { IsTrue (is_live self.old pid.0) }
         ensures { GivesOrFails self.old (model.write self.old pid.0 tag fd bytes.now) result self.new }
     {
-        let (entry, _) = match self.state.find_description(pid, fd) {
-            Ok(found) => found,
-            Err(e) => return Err(Refusal::from(e)),
-        };
-        self.write_at(pid, entry.description, tag, bytes)
+        let found = self.state.find_description(pid, fd)?;
+        self.write_at(pid, found.descriptor.description, tag, bytes)
     }
 
     /// Writes by this description.
@@ -44,9 +41,7 @@ impl<O: FileObject> Kernel<O> {
         requires { IsTrue (is_live self.old pid.0) }
         ensures { GivesOrFails self.old (write_at self.old pid.0 tag id bytes.now) result self.new }
     {
-        let Some(description) = self.state.description(id) else {
-            return Err(Refusal::Answer(Errno::EBADF));
-        };
+        let description = self.state.description(id).ok_or(Errno::EBADF)?;
         match (OpenFile::of(id, description), description.socket()) {
             (Some(file), _) => self.write_file(file, bytes),
             (None, Some(_)) => write_socket(&mut self.state, self.alloc, pid, id, tag, bytes),
@@ -59,11 +54,9 @@ impl<O: FileObject> Kernel<O> {
         requires { description_at self.old file.id ≡ Some (description_of file) }
         ensures { GivesOrFails self.old (write_file self.old file bytes.now) result self.new }
     {
-        let Some(object) = self.state.object(file.object) else {
-            return Err(Refusal::Answer(Errno::EBADF));
-        };
+        let object = self.state.object(file.object).ok_or(Errno::EBADF)?;
         if !file.mode.can_write() {
-            return Err(Refusal::Answer(Errno::EBADF));
+            return Err(Errno::EBADF.into());
         }
         let kind = object.kind();
         if kind != ObjKind::Counter && bytes.is_empty() {
@@ -75,7 +68,7 @@ impl<O: FileObject> Kernel<O> {
             file.offset
         };
         if kind == ObjKind::Pipe && !self.state.has_reader(file.object) {
-            return Err(Refusal::Answer(Errno::EPIPE));
+            return Err(Errno::EPIPE.into());
         }
         self.write_open(file, kind, place, bytes.as_slice())
     }
@@ -100,7 +93,7 @@ impl<O: FileObject> Kernel<O> {
                 Ok(Reply::Count(count))
             }
             Err(ObjError::NoMemory) => Err(Refusal::NoMemory),
-            Err(error) => Err(Refusal::Answer(errno_of(error))),
+            Err(error) => Err(errno_of(error).into()),
         }
     }
 }

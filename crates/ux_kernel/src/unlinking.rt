@@ -14,10 +14,10 @@ impl<O: FileObject> Kernel<O> {
         ensures { Gives self.old (model.unlink self.old path.now) result self.new }
     {
         if !is_valid_path(path) {
-            return Err(Refusal::Answer(Errno::EINVAL));
+            return Err(Errno::EINVAL.into());
         }
         if self.state.path(path).is_none() {
-            return Err(Refusal::Answer(Errno::ENOENT));
+            return Err(Errno::ENOENT.into());
         }
         self.state.unlink(path);
         Ok(Reply::Ok)
