@@ -2,8 +2,9 @@
 ghost use Rattle.std.specs.Prelude.{◌≡◌, ◌≤◌, ◌↔◌, [], length, drop, IsTrue, OnOk, OnErr, slice_get};
 ghost use Rattle.ux_model.specs.Backlog.{backlog_of, with_pending};
 ghost use Rattle.ux_backlog.specs.Refusals.{refusal_of};
+ghost use Rattle.ux_backlog.specs.declared.backlog.PushError.{PushError};
 
-use std::alloc::{Allocator, Global};
+use std::alloc::{AllocError, Allocator, Global};
 use std::collections::VecDeque;
 use std::marker::Model;
 use thiserror::Error;
@@ -21,6 +22,14 @@ pub enum PushError {
     /// The backlog was to grow, and found no memory (ENOMEM).
     #[error("out of memory")]
     NoMemory,
+}
+
+impl From<AllocError> for PushError {
+    ghost from_gives = { λ _ error. error ≡ PushError.NoMemory };
+
+    fn from(_error: AllocError) -> PushError {
+        PushError::NoMemory
+    }
 }
 
 impl From<PushError> for Refusal {

@@ -8,6 +8,8 @@ ghost use Rattle.ux_model.specs.References.{table_refs};
 ghost use Rattle.ux_model.specs.Delivery.{installed};
 ghost use Rattle.ux_fdtable.specs.Padded.{AreBelow, FindsFree, IsReaching, IsTable, padded};
 ghost use Rattle.ux_fdtable.specs.Refusals.{refusal_of_install, refusal_of_dup};
+ghost use Rattle.ux_fdtable.specs.declared.table.InstallError.{InstallError};
+ghost use Rattle.ux_fdtable.specs.declared.table.DupError.{DupError};
 
 use super::descriptor::Descriptor;
 use std::alloc::{AllocError, Global};
@@ -39,6 +41,14 @@ pub enum DupError {
     NoMemory,
 }
 
+impl From<AllocError> for InstallError {
+    ghost from_gives = { λ _ error. error ≡ InstallError.NoMemory };
+
+    fn from(_error: AllocError) -> InstallError {
+        InstallError::NoMemory
+    }
+}
+
 impl From<InstallError> for Refusal {
     ghost from_gives = { λ e refusal. refusal ≡ refusal_of_install e };
 
@@ -47,6 +57,14 @@ impl From<InstallError> for Refusal {
             InstallError::Full => Refusal::Answer(Errno::EMFILE),
             InstallError::NoMemory => Refusal::NoMemory,
         }
+    }
+}
+
+impl From<AllocError> for DupError {
+    ghost from_gives = { λ _ error. error ≡ DupError.NoMemory };
+
+    fn from(_error: AllocError) -> DupError {
+        DupError::NoMemory
     }
 }
 
@@ -169,10 +187,8 @@ impl Table {
         let Some(number) = self.free_from(0) else {
             return Err(InstallError::Full);
         };
-        match self.put(number, descriptor) {
-            Ok(()) => Ok(Fd(number as u32)),
-            Err(_) => Err(InstallError::NoMemory),
-        }
+        self.put(number, descriptor)?;
+        Ok(Fd(number as u32))
     }
 
     /// Opens the two lowest numbers that are free, and answers them, the lower first (socketpair(2)).
@@ -191,15 +207,11 @@ impl Table {
         ensures full { (result ≡ Err InstallError.Full) ↔ (two_lowest_free self.old ≡ None) }
         ensures err { OnErr result (self.new ≡ self.old) }
     {
-        let Some((low, high)) = self.two_lowest_free() else {
-            return Err(InstallError::Full);
-        };
-        if self.put(low.0 as usize, first).is_err() {
-            return Err(InstallError::NoMemory);
-        }
-        if self.put(high.0 as usize, second).is_err() {
+        let (low, high) = self.two_lowest_free().ok_or(InstallError::Full)?;
+        self.put(low.0 as usize, first)?;
+        if let Err(error) = self.put(high.0 as usize, second) {
             let _ = self.remove(low);
-            return Err(InstallError::NoMemory);
+            return Err(error.into());
         }
         Ok((low, high))
     }
@@ -273,10 +285,8 @@ impl Table {
             return Err(DupError::BadNumber);
         }
         let replaced = self.get(fd);
-        match self.put(fd.0 as usize, descriptor.duplicate()) {
-            Ok(()) => Ok(replaced),
-            Err(_) => Err(DupError::NoMemory),
-        }
+        self.put(fd.0 as usize, descriptor.duplicate())?;
+        Ok(replaced)
     }
 
     /// Closes a number, and answers what was open there.

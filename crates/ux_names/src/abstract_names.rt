@@ -141,13 +141,8 @@ impl AbstractNames {
         ensures none_free { (result ≡ Err AutobindError.NoneFree) ↔ (free_name self.old ≡ None) }
         ensures err { OnErr result (self.new ≡ self.old) }
     {
-        let Some(number) = self.lowest_free() else {
-            return Err(AutobindError::NoneFree);
-        };
-        match self.bind_number(number, id) {
-            Ok(name) => Ok(name),
-            Err(_) => Err(AutobindError::NoMemory),
-        }
+        let number = self.lowest_free().ok_or(AutobindError::NoneFree)?;
+        Ok(self.bind_number(number, id)?)
     }
 
     /// Takes a name away, and answers the description that it led to. The others keep their order.

@@ -1,8 +1,8 @@
 //! Why a name isn't bound.
 ghost use Rattle.std.specs.Prelude.{◌≡◌};
 ghost use Rattle.ux_names.specs.Refusals.{refusal_of_bind, refusal_of_autobind};
-ghost use Rattle.ux_names.specs.declared.refusals.BindError.TheVariants.{NoMemory as NoMemoryToBind};
-ghost use Rattle.ux_names.specs.declared.refusals.AutobindError.TheVariants.{NoMemory as NoMemoryToAutobind};
+ghost use Rattle.ux_names.specs.declared.refusals.BindError.{BindError};
+ghost use Rattle.ux_names.specs.declared.refusals.AutobindError.{AutobindError};
 
 use std::alloc::AllocError;
 use thiserror::Error;
@@ -20,7 +20,7 @@ pub enum BindError {
 }
 
 impl From<AllocError> for BindError {
-    ghost from_gives = { λ _ error. error ≡ NoMemoryToBind };
+    ghost from_gives = { λ _ error. error ≡ BindError.NoMemory };
 
     fn from(_error: AllocError) -> BindError {
         BindError::NoMemory
@@ -50,7 +50,7 @@ pub enum AutobindError {
 }
 
 impl From<AllocError> for AutobindError {
-    ghost from_gives = { λ _ error. error ≡ NoMemoryToAutobind };
+    ghost from_gives = { λ _ error. error ≡ AutobindError.NoMemory };
 
     fn from(_error: AllocError) -> AutobindError {
         AutobindError::NoMemory

@@ -6,10 +6,12 @@
 ghost use Rattle.std.specs.Prelude.{◌≡◌, ◌≤◌, ◌+◌, ◌↔◌, IsTrue, Err, IfOk, IfErr, length, take};
 ghost use Rattle.ux_model.specs.Object.{View, closed, size_of_body, ready};
 ghost use Rattle.ux_object.specs.Kind.{kind_of};
+ghost use Rattle.ux_object.specs.declared.ObjError.{ObjError};
 ghost use Rattle.ux_object.specs.Calls.{GivesRead, GivesWrite, RefusesRead, RefusesWrite};
 
 mod boxed;
 
+use std::alloc::AllocError;
 use thiserror::Error;
 
 /// What kind of object it is.
@@ -41,6 +43,14 @@ pub enum ObjError {
     /// What was asked has no meaning for this kind of object (EINVAL).
     #[error("invalid argument")]
     Invalid,
+}
+
+impl From<AllocError> for ObjError {
+    ghost from_gives = { λ _ error. error ≡ ObjError.NoMemory };
+
+    fn from(_error: AllocError) -> ObjError {
+        ObjError::NoMemory
+    }
 }
 
 /// A file object. Reading, writing and closing it ask that it is open.

@@ -41,13 +41,10 @@ impl MemFile {
         if bytes.len() > LIMIT {
             return Err(ObjError::Full);
         }
-        match bytes.to_vec(alloc) {
-            Ok(bytes) => Ok(MemFile {
-                bytes,
-                opened: true,
-            }),
-            Err(_) => Err(ObjError::NoMemory),
-        }
+        Ok(MemFile {
+            bytes: bytes.to_vec(alloc)?,
+            opened: true,
+        })
     }
 }
 
@@ -92,10 +89,8 @@ impl FileObject for MemFile {
         }
         let start = at as usize;
         let count = bytes.len().min(LIMIT - start);
-        match overwrite(&mut self.bytes, start, &bytes[..count]) {
-            Ok(()) => Ok(count),
-            Err(_) => Err(ObjError::NoMemory),
-        }
+        overwrite(&mut self.bytes, start, &bytes[..count])?;
+        Ok(count)
     }
 
     fn size(&self) -> u64 {

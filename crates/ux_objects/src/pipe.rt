@@ -40,13 +40,10 @@ impl Pipe {
         ensures made { IfOk result (λ p. p ≡ opened_with []) }
         ensures refused { IfErr result (λ e. e ≡ ObjError.NoMemory) }
     {
-        match HeapCircularBuffer::with_capacity(alloc, LIMIT) {
-            Ok(bytes) => Ok(Pipe {
-                bytes,
-                opened: true,
-            }),
-            Err(_) => Err(ObjError::NoMemory),
-        }
+        Ok(Pipe {
+            bytes: HeapCircularBuffer::with_capacity(alloc, LIMIT)?,
+            opened: true,
+        })
     }
 }
 

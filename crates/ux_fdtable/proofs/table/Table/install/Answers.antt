@@ -4,5 +4,5 @@ use Rattle.ux_fdtable.proofs.table.Table.install.Goals as goal
 pub returns-in_default-clause-full : goal.returns-in_default-clause-full
 returns-in_default-clause-full c = search rules
 
-pub returns-in-Ok-clause-lowest : goal.returns-in-Ok-clause-lowest
-returns-in-Ok-clause-lowest c = search rules
+pub returns-clause-lowest : goal.returns-clause-lowest
+returns-clause-lowest c = search rules
