@@ -1,5 +1,5 @@
 //! Further descriptors (dup(2), dup2(2)), and the flags of one (fcntl(2)).
-ghost use Rattle.std.specs.Prelude.{◌≡◌, IsTrue};
+ghost use Rattle.std.specs.Prelude.{IsTrue};
 ghost use Rattle.ux_model.specs.State.{is_live};
 ghost use Rattle.ux_msg.specs.Answers.{Gives};
 ghost use Rattle.ux_model.specs.Descriptors as model;

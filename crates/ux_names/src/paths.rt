@@ -1,5 +1,5 @@
 //! Paths, and what they name.
-ghost use Rattle.std.specs.Prelude.{◌≡◌, ◌+◌, ◌<◌, ◌≤◌, ◌↔◌, [], ◌∷◌, ◌++◌, length, IsTrue, IsSome, IsOk, None, Some, OnOk, OnErr, IfOk, map, option_map};
+ghost use Rattle.std.specs.Prelude.{◌≡◌, ◌+◌, ◌<◌, ◌≤◌, ◌↔◌, [], ◌∷◌, ◌++◌, length, IsTrue, IsSome, IsOk, Some, OnOk, OnErr, IfOk, map, option_map};
 ghost use Rattle.ux_model.specs.Names.{named, without_name};
 ghost use Rattle.ux_names.specs.Targets.{target_of};
 

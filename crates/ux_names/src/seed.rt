@@ -1,5 +1,4 @@
 //! What the hash of names begins with.
-ghost use Rattle.std.specs.Prelude.{◌≡◌};
 ghost use Rattle.ux_names.specs.Seeds.{hasher_by};
 
 use std::hash::{BuildHasher, DefaultHasher, RandomState};

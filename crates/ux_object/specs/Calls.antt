@@ -1,5 +1,5 @@
 -- What a read and a write of an object may answer, and the view that they leave.
-use Rattle.std.specs.Prelude.{◌≡◌, ℕ, IsTrue, List, Result, Ok, Err, is_ok}
+use Rattle.std.specs.Prelude.{◌≡◌, ◌+◌, ◌≤◌, ◌↔◌, ℕ, IsTrue, IfOk, IfErr, List, Result, Ok, Err, is_ok, take}
 use Rattle.ux_model.specs.Object.{Body, View, ObjectError, would_block, full, invalid, read_body, write_body, with_body, is_memory, can_fail, after_failure}
 use Rattle.ux_object.specs.declared.ObjError.{ObjError}
 use Rattle.ux_object.specs.declared.ObjError.TheVariants.{WouldBlock, Io, Full, NoMemory, Invalid}
@@ -45,3 +45,20 @@ RefusesWrite old at bytes Io new = IsFailure old new
 RefusesWrite old at bytes Full new = IsRefused (write_body old.body at bytes) full old new
 RefusesWrite old at bytes NoMemory new = LacksMemory (write_body old.body at bytes) old new
 RefusesWrite old at bytes Invalid new = IsRefused (write_body old.body at bytes) invalid old new
+
+-- the count of failures is one higher exactly where the answer is Io
+abbrev pub CountsFailures : Result ℕ ObjError → View → View → Type 0
+CountsFailures answer old new = (answer ≡ Err ObjError.Io) ↔ (new.faults ≡ old.faults + 1)
+
+-- what a read of n bytes at `at` answers, with the bytes in the front of the buffer, and the view that it leaves
+pub record Reads (old : View) (at n : ℕ) (answer : Result ℕ ObjError) (buffer : List ℕ) (new : View) : Type 0 where
+  pub fits : IfOk answer (λ count. count ≤ n)
+  pub gives : IfOk answer (λ count. GivesRead old at n (take count buffer) new)
+  pub refuses : IfErr answer (λ e. RefusesRead old at n e new)
+  pub counts : CountsFailures answer old new
+
+-- what a write of these bytes at `at` answers, and the view that it leaves
+pub record Writes (old : View) (at : ℕ) (bytes : List ℕ) (answer : Result ℕ ObjError) (new : View) : Type 0 where
+  pub gives : IfOk answer (λ count. GivesWrite old at bytes count new)
+  pub refuses : IfErr answer (λ e. RefusesWrite old at bytes e new)
+  pub counts : CountsFailures answer old new

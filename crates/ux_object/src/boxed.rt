@@ -1,5 +1,4 @@
 //! The interface at a box: each call goes to the object inside. Nothing else names the box.
-ghost use Rattle.std.specs.Prelude.{◌≡◌};
 
 use super::{FileObject, ObjError, ObjKind};
 

@@ -3,11 +3,11 @@
 //! how often it has failed.
 #![tactic(auto)]
 
-ghost use Rattle.std.specs.Prelude.{◌≡◌, ◌≤◌, ◌+◌, ◌↔◌, IsTrue, Err, IfOk, IfErr, length, take};
+ghost use Rattle.std.specs.Prelude.{◌≡◌, IsTrue, length};
 ghost use Rattle.ux_model.specs.Object.{View, closed, size_of_body, ready};
 ghost use Rattle.ux_object.specs.Kind.{kind_of};
 ghost use Rattle.ux_object.specs.declared.ObjError.{ObjError};
-ghost use Rattle.ux_object.specs.Calls.{GivesRead, GivesWrite, RefusesRead, RefusesWrite};
+ghost use Rattle.ux_object.specs.Calls.{Reads, Writes};
 
 mod boxed;
 
@@ -71,10 +71,7 @@ pub trait FileObject: Drop {
     /// pipe, or `Io` in place of any answer, but only while the count of failures can rise.
     fn read(&mut self, at: u64, buf: &mut [u8]) -> Result<usize, ObjError>
         requires { IsTrue (view self.old).opened }
-        ensures fits { IfOk result (λ n. n ≤ length buf.old) }
-        ensures gives { IfOk result (λ n. GivesRead (view self.old) at (length buf.old) (take n buf.new) (view self.new)) }
-        ensures refuses { IfErr result (λ e. RefusesRead (view self.old) at (length buf.old) e (view self.new)) }
-        ensures counts { (result ≡ Err ObjError.Io) ↔ ((view self.new).faults ≡ (view self.old).faults + 1) };
+        ensures reads { Reads (view self.old) at (length buf.old) result buf.new (view self.new) };
 
     /// Writes a front of `bytes`, and answers how many went: to a memory file at the place `at`, up to
     /// 1,048,576 bytes in all, with zeros in a gap; to a counter the first eight, the lowest first, as a
@@ -89,9 +86,7 @@ pub trait FileObject: Drop {
     /// failures can rise.
     fn write(&mut self, at: u64, bytes: &[u8]) -> Result<usize, ObjError>
         requires { IsTrue (view self.old).opened }
-        ensures gives { IfOk result (λ n. GivesWrite (view self.old) at bytes.now n (view self.new)) }
-        ensures refuses { IfErr result (λ e. RefusesWrite (view self.old) at bytes.now e (view self.new)) }
-        ensures counts { (result ≡ Err ObjError.Io) ↔ ((view self.new).faults ≡ (view self.old).faults + 1) };
+        ensures writes { Writes (view self.old) at bytes.now result (view self.new) };
 
     /// The length of a memory file in bytes, and 0 for every other object.
     fn size(&self) -> u64

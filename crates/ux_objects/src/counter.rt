@@ -1,7 +1,7 @@
 //! A counter, which a write adds to and a read takes whole.
-ghost use Rattle.std.specs.Prelude.{ℕ, ◌≡◌, ◌≢◌, ◌+◌, ◌≤◌, ◌↔◌, IfOk, IfErr, length, take};
+ghost use Rattle.std.specs.Prelude.{ℕ, ◌≡◌, ◌≢◌, ◌+◌, ◌≤◌, length};
 ghost use Rattle.ux_model.specs.Limits.{counter_limit};
-ghost use Rattle.ux_object.specs.Calls.{GivesRead, GivesWrite, RefusesRead, RefusesWrite};
+ghost use Rattle.ux_object.specs.Calls.{Reads, Writes};
 ghost use Rattle.ux_objects.specs.Faultless.{Faultless, opened_with, counter_view};
 
 use std::marker::Model;
@@ -45,10 +45,7 @@ impl FileObject for Counter {
     }
 
     fn read(&mut self, _at: u64, buf: &mut [u8]) -> Result<usize, ObjError>
-        ensures fits { IfOk result (λ n. n ≤ length buf.old) }
-        ensures gives { IfOk result (λ n. GivesRead (counter_view self.old) _at (length buf.old) (take n buf.new) (counter_view self.new)) }
-        ensures refuses { IfErr result (λ e. RefusesRead (counter_view self.old) _at (length buf.old) e (counter_view self.new)) }
-        ensures counts { (result ≡ Err ObjError.Io) ↔ ((counter_view self.new).faults ≡ (counter_view self.old).faults + 1) }
+        ensures reads { Reads (counter_view self.old) _at (length buf.old) result buf.new (counter_view self.new) }
         ensures works { result ≢ Err ObjError.Io }
     {
         if buf.len() < 8 {
@@ -63,9 +60,7 @@ impl FileObject for Counter {
     }
 
     fn write(&mut self, _at: u64, bytes: &[u8]) -> Result<usize, ObjError>
-        ensures gives { IfOk result (λ n. GivesWrite (counter_view self.old) _at bytes.now n (counter_view self.new)) }
-        ensures refuses { IfErr result (λ e. RefusesWrite (counter_view self.old) _at bytes.now e (counter_view self.new)) }
-        ensures counts { (result ≡ Err ObjError.Io) ↔ ((counter_view self.new).faults ≡ (counter_view self.old).faults + 1) }
+        ensures writes { Writes (counter_view self.old) _at bytes.now result (counter_view self.new) }
         ensures works { result ≢ Err ObjError.Io }
     {
         if bytes.len() < 8 {

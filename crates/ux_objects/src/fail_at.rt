@@ -1,6 +1,6 @@
 //! An object of which one call fails.
-ghost use Rattle.std.specs.Prelude.{true, false, ◌≡◌, ◌+◌, ◌-◌, ◌≤◌, ◌<◌, ◌↔◌, IfOk, IfErr, Err, length, take};
-ghost use Rattle.ux_object.specs.Calls.{GivesRead, GivesWrite, RefusesRead, RefusesWrite, IsFailure};
+ghost use Rattle.std.specs.Prelude.{true, false, ◌≡◌, ◌-◌, ◌<◌, ◌↔◌, Err, length};
+ghost use Rattle.ux_object.specs.Calls.{IsFailure, Reads, Writes};
 ghost use Rattle.ux_objects.specs.Failing.{Failing, failing, plain_view, with_faults};
 
 use crate::Plain;
@@ -67,10 +67,7 @@ impl FileObject for FailAt {
     }
 
     fn read(&mut self, at: u64, buf: &mut [u8]) -> Result<usize, ObjError>
-        ensures fits { IfOk result (λ n. n ≤ length buf.old) }
-        ensures gives { IfOk result (λ n. GivesRead self.old.seen at (length buf.old) (take n buf.new) self.new.seen) }
-        ensures refuses { IfErr result (λ e. RefusesRead self.old.seen at (length buf.old) e self.new.seen) }
-        ensures counts { (result ≡ Err ObjError.Io) ↔ (self.new.seen.faults ≡ self.old.seen.faults + 1) }
+        ensures reads { Reads self.old.seen at (length buf.old) result buf.new self.new.seen }
         // It fails at the call that was set, and at no other.
         ensures fails { (result ≡ Err ObjError.Io) ↔ (self.old.left ≡ 1) }
         ensures counts_down { self.new.left ≡ self.old.left - 1 }
@@ -82,9 +79,7 @@ impl FileObject for FailAt {
     }
 
     fn write(&mut self, at: u64, bytes: &[u8]) -> Result<usize, ObjError>
-        ensures gives { IfOk result (λ n. GivesWrite self.old.seen at bytes.now n self.new.seen) }
-        ensures refuses { IfErr result (λ e. RefusesWrite self.old.seen at bytes.now e self.new.seen) }
-        ensures counts { (result ≡ Err ObjError.Io) ↔ (self.new.seen.faults ≡ self.old.seen.faults + 1) }
+        ensures writes { Writes self.old.seen at bytes.now result self.new.seen }
         // It fails at the call that was set, and at no other.
         ensures fails { (result ≡ Err ObjError.Io) ↔ (self.old.left ≡ 1) }
         ensures counts_down { self.new.left ≡ self.old.left - 1 }

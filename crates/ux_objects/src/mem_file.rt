@@ -1,8 +1,8 @@
 //! A file in memory.
-ghost use Rattle.std.specs.Prelude.{ℕ, List, ◌≡◌, ◌≢◌, ◌+◌, ◌-◌, ◌<◌, ◌≤◌, ◌↔◌, ◌++◌, ◌⊎◌, IfOk, IfErr, OnOk, OnErr, length, take, drop, replicate, min};
+ghost use Rattle.std.specs.Prelude.{ℕ, List, ◌≡◌, ◌≢◌, ◌+◌, ◌-◌, ◌<◌, ◌≤◌, ◌↔◌, ◌++◌, ◌⊎◌, IfOk, OnOk, OnErr, length, take, drop, replicate, min};
 ghost use Rattle.ux_model.specs.Limits.{file_limit};
 ghost use Rattle.ux_model.specs.Object.{overwritten};
-ghost use Rattle.ux_object.specs.Calls.{GivesRead, GivesWrite, RefusesRead, RefusesWrite};
+ghost use Rattle.ux_object.specs.Calls.{Reads, Writes};
 ghost use Rattle.ux_objects.specs.Faultless.{Faultless, opened_with, memory_view};
 
 use std::alloc::{AllocError, Global};
@@ -56,10 +56,7 @@ impl FileObject for MemFile {
     }
 
     fn read(&mut self, at: u64, buf: &mut [u8]) -> Result<usize, ObjError>
-        ensures fits { IfOk result (λ n. n ≤ length buf.old) }
-        ensures gives { IfOk result (λ n. GivesRead (memory_view self.old) at (length buf.old) (take n buf.new) (memory_view self.new)) }
-        ensures refuses { IfErr result (λ e. RefusesRead (memory_view self.old) at (length buf.old) e (memory_view self.new)) }
-        ensures counts { (result ≡ Err ObjError.Io) ↔ ((memory_view self.new).faults ≡ (memory_view self.old).faults + 1) }
+        ensures reads { Reads (memory_view self.old) at (length buf.old) result buf.new (memory_view self.new) }
         ensures works { result ≢ Err ObjError.Io }
     {
         let len = self.bytes.len() as u64;
@@ -73,9 +70,7 @@ impl FileObject for MemFile {
     }
 
     fn write(&mut self, at: u64, bytes: &[u8]) -> Result<usize, ObjError>
-        ensures gives { IfOk result (λ n. GivesWrite (memory_view self.old) at bytes.now n (memory_view self.new)) }
-        ensures refuses { IfErr result (λ e. RefusesWrite (memory_view self.old) at bytes.now e (memory_view self.new)) }
-        ensures counts { (result ≡ Err ObjError.Io) ↔ ((memory_view self.new).faults ≡ (memory_view self.old).faults + 1) }
+        ensures writes { Writes (memory_view self.old) at bytes.now result (memory_view self.new) }
         ensures works { result ≢ Err ObjError.Io }
         // Only a file that is to grow takes memory.
         ensures has_data { result ≡ Err ObjError.NoMemory → 0 < length bytes.now }

@@ -1,7 +1,7 @@
 //! A pipe: a bounded queue of bytes.
-ghost use Rattle.std.specs.Prelude.{ℕ, List, [], ◌≡◌, ◌≢◌, ◌+◌, ◌≤◌, ◌↔◌, IfOk, IfErr, length, take};
+ghost use Rattle.std.specs.Prelude.{ℕ, List, [], ◌≡◌, ◌≢◌, IfOk, IfErr, length};
 ghost use Rattle.ux_model.specs.Limits.{pipe_limit};
-ghost use Rattle.ux_object.specs.Calls.{GivesRead, GivesWrite, RefusesRead, RefusesWrite};
+ghost use Rattle.ux_object.specs.Calls.{Reads, Writes};
 ghost use Rattle.ux_objects.specs.Faultless.{Faultless, opened_with, pipe_view};
 
 use circular_buffer::HeapCircularBuffer;
@@ -55,10 +55,7 @@ impl FileObject for Pipe {
     }
 
     fn read(&mut self, _at: u64, buf: &mut [u8]) -> Result<usize, ObjError>
-        ensures fits { IfOk result (λ n. n ≤ length buf.old) }
-        ensures gives { IfOk result (λ n. GivesRead (pipe_view self.old) _at (length buf.old) (take n buf.new) (pipe_view self.new)) }
-        ensures refuses { IfErr result (λ e. RefusesRead (pipe_view self.old) _at (length buf.old) e (pipe_view self.new)) }
-        ensures counts { (result ≡ Err ObjError.Io) ↔ ((pipe_view self.new).faults ≡ (pipe_view self.old).faults + 1) }
+        ensures reads { Reads (pipe_view self.old) _at (length buf.old) result buf.new (pipe_view self.new) }
         ensures works { result ≢ Err ObjError.Io }
     {
         if buf.is_empty() {
@@ -71,9 +68,7 @@ impl FileObject for Pipe {
     }
 
     fn write(&mut self, _at: u64, bytes: &[u8]) -> Result<usize, ObjError>
-        ensures gives { IfOk result (λ n. GivesWrite (pipe_view self.old) _at bytes.now n (pipe_view self.new)) }
-        ensures refuses { IfErr result (λ e. RefusesWrite (pipe_view self.old) _at bytes.now e (pipe_view self.new)) }
-        ensures counts { (result ≡ Err ObjError.Io) ↔ ((pipe_view self.new).faults ≡ (pipe_view self.old).faults + 1) }
+        ensures writes { Writes (pipe_view self.old) _at bytes.now result (pipe_view self.new) }
         ensures works { result ≢ Err ObjError.Io }
     {
         let room = LIMIT - self.bytes.len();

@@ -1,8 +1,8 @@
 //! An object of any of the three kinds.
-ghost use Rattle.std.specs.Prelude.{◌≡◌, ◌≢◌, ◌+◌, ◌<◌, ◌≤◌, ◌↔◌, ◌⊎◌, IfOk, IfErr, OnErr, Err, length, take};
+ghost use Rattle.std.specs.Prelude.{◌≡◌, ◌≢◌, ◌<◌, ◌↔◌, ◌⊎◌, IfOk, OnErr, Err, length};
 ghost use Rattle.ux_model.specs.Limits.{file_limit};
 ghost use Rattle.ux_model.specs.Object.{new_view};
-ghost use Rattle.ux_object.specs.Calls.{GivesRead, GivesWrite, RefusesRead, RefusesWrite};
+ghost use Rattle.ux_object.specs.Calls.{Reads, Writes};
 ghost use Rattle.ux_objects.specs.Failing.{plain_view, first_body};
 
 use crate::{Counter, MemFile, Pipe};
@@ -49,10 +49,7 @@ impl FileObject for Plain {
     }
 
     fn read(&mut self, at: u64, buf: &mut [u8]) -> Result<usize, ObjError>
-        ensures fits { IfOk result (λ n. n ≤ length buf.old) }
-        ensures gives { IfOk result (λ n. GivesRead (plain_view self.old) at (length buf.old) (take n buf.new) (plain_view self.new)) }
-        ensures refuses { IfErr result (λ e. RefusesRead (plain_view self.old) at (length buf.old) e (plain_view self.new)) }
-        ensures counts { (result ≡ Err ObjError.Io) ↔ ((plain_view self.new).faults ≡ (plain_view self.old).faults + 1) }
+        ensures reads { Reads (plain_view self.old) at (length buf.old) result buf.new (plain_view self.new) }
         ensures works { result ≢ Err ObjError.Io }
     {
         match self {
@@ -63,9 +60,7 @@ impl FileObject for Plain {
     }
 
     fn write(&mut self, at: u64, bytes: &[u8]) -> Result<usize, ObjError>
-        ensures gives { IfOk result (λ n. GivesWrite (plain_view self.old) at bytes.now n (plain_view self.new)) }
-        ensures refuses { IfErr result (λ e. RefusesWrite (plain_view self.old) at bytes.now e (plain_view self.new)) }
-        ensures counts { (result ≡ Err ObjError.Io) ↔ ((plain_view self.new).faults ≡ (plain_view self.old).faults + 1) }
+        ensures writes { Writes (plain_view self.old) at bytes.now result (plain_view self.new) }
         ensures works { result ≢ Err ObjError.Io }
     {
         match self {
