@@ -57,10 +57,8 @@ pub fn run_serial<O: FileObject, W: Write>(
         Err(CallFault::Stranger) => return Err(ScriptFault::Stranger),
         Err(_) => return Err(ScriptFault::NoMemory),
     };
-    match write_trace(alloc, writer, &entries) {
-        Ok(()) => Ok(entries),
-        Err(fault) => Err(fault),
-    }
+    finish_trace(alloc, writer, &entries)?;
+    Ok(entries)
 }
 
 /// Writes the trace of a history, and flushes the writer. After a fault a beginning of the trace was written.
@@ -68,7 +66,7 @@ pub fn run_serial<O: FileObject, W: Write>(
 /// # Errors
 ///
 /// `Writing` where a write or the flush fails, and `NoMemory`.
-pub fn write_trace<W: Write>(
+pub fn finish_trace<W: Write>(
     alloc: Global,
     writer: &mut W,
     history: &[Entry],
