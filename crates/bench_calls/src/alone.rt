@@ -1,5 +1,5 @@
 //! Threads that wait for nobody: each sends itself one byte over a pair of its own, and receives it.
-use crate::layers::{CALLER, Layer, must, must_all};
+use crate::layers::{CALLER, Layer, make_all, make_rows};
 use crate::rows::{PAIR, Requests, Row};
 use crate::seats::{TURNS, Way, Worker, each};
 use anyhow::Result;
@@ -23,7 +23,7 @@ pub(crate) fn measure_alone<R: Clock + Eprint, L: Layer>(
     what: &str,
     layer: &mut L,
 ) -> Result<()> {
-    must(alloc, layer, CALLER, PAIR)?;
+    make_rows(alloc, layer, CALLER, PAIR)?;
     let time = each(time_of(rt, alloc, layer)?, TURNS as usize);
     eprintln!(rt; "{what}: send and receive, 1 byte, 1 thread: {time} ns")?;
     Ok(())
@@ -34,7 +34,7 @@ fn time_of<R: Clock, L: Layer>(rt: &R, alloc: Global, layer: &mut L) -> Result<D
     let calls = Requests::of(alloc, EXCHANGE)?;
     let start = Instant::now(rt)?;
     for _ in 0..TURNS {
-        must_all(layer, CALLER, calls.as_slice())?;
+        make_all(layer, CALLER, calls.as_slice())?;
     }
     Ok(start.elapsed(rt)?)
 }

@@ -1,5 +1,5 @@
 //! What is measured: a few calls that leave the layer as it was.
-use crate::layers::{CALLER, Layer, must};
+use crate::layers::{CALLER, Layer, make_rows};
 use crate::rows::{PAIR, PAIR_AND_CLOSES, Requests, Row};
 use anyhow::{Result, anyhow};
 use std::alloc::Global;
@@ -217,11 +217,11 @@ fn time_of<R: Clock, L: Layer>(
     calls: &Calls,
     measured: &[Request],
 ) -> Result<Duration> {
-    must(alloc, layer, CALLER, calls.before)?;
+    make_rows(alloc, layer, CALLER, calls.before)?;
     let start = Instant::now(rt)?;
     let granted = repeat(layer, measured);
     let time = start.elapsed(rt)?;
-    must(alloc, layer, CALLER, calls.after)?;
+    make_rows(alloc, layer, CALLER, calls.after)?;
     if granted != measured.len().saturating_mul(TURNS as usize) {
         return Err(anyhow!("only {granted} calls were granted"));
     }

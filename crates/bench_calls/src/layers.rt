@@ -201,7 +201,7 @@ impl<W: BookName> Layer for Recorded<W> {
 }
 
 /// Makes these calls, each of which must be granted.
-pub(crate) fn must_all<L: Layer>(layer: &mut L, pid: Pid, requests: &[Request]) -> Result<()> {
+pub(crate) fn make_all<L: Layer>(layer: &mut L, pid: Pid, requests: &[Request]) -> Result<()> {
     for request in requests {
         if !layer.ask(pid, request) {
             return Err(anyhow!("a call was refused"));
@@ -211,16 +211,21 @@ pub(crate) fn must_all<L: Layer>(layer: &mut L, pid: Pid, requests: &[Request]) 
 }
 
 /// Makes the calls of these rows, each of which must be granted.
-pub(crate) fn must<L: Layer>(alloc: Global, layer: &mut L, pid: Pid, rows: &[Row]) -> Result<()> {
+pub(crate) fn make_rows<L: Layer>(
+    alloc: Global,
+    layer: &mut L,
+    pid: Pid,
+    rows: &[Row],
+) -> Result<()> {
     let calls = Requests::of(alloc, rows)?;
-    must_all(layer, pid, calls.as_slice())
+    make_all(layer, pid, calls.as_slice())
 }
 
 /// Opens the file in each process, with so many descriptors of it in all.
 pub(crate) fn fill<L: Layer>(alloc: Global, layer: &mut L, open: u32) -> Result<()> {
-    must(alloc, layer, CALLER, &[Row::Open])?;
+    make_rows(alloc, layer, CALLER, &[Row::Open])?;
     for pid in 2..=5 {
-        must(alloc, layer, Pid(pid), &[Row::Open])?;
+        make_rows(alloc, layer, Pid(pid), &[Row::Open])?;
         copy_first(alloc, layer, Pid(pid), open / 4)?;
     }
     Ok(())
@@ -229,7 +234,7 @@ pub(crate) fn fill<L: Layer>(alloc: Global, layer: &mut L, open: u32) -> Result<
 /// Copies the first descriptor of a process, until it has so many.
 fn copy_first<L: Layer>(alloc: Global, layer: &mut L, pid: Pid, open: u32) -> Result<()> {
     for _ in 1..open {
-        must(alloc, layer, pid, &[Row::Dup(0)])?;
+        make_rows(alloc, layer, pid, &[Row::Dup(0)])?;
     }
     Ok(())
 }
@@ -237,7 +242,7 @@ fn copy_first<L: Layer>(alloc: Global, layer: &mut L, pid: Pid, open: u32) -> Re
 /// Makes so many descriptions of sockets, and closes them.
 pub(crate) fn make_before<L: Layer>(alloc: Global, layer: &mut L, made: u32) -> Result<()> {
     for _ in 0..made / 2 {
-        must(alloc, layer, CALLER, PAIR_AND_CLOSES)?;
+        make_rows(alloc, layer, CALLER, PAIR_AND_CLOSES)?;
     }
     Ok(())
 }
@@ -271,5 +276,5 @@ fn hold<L: Layer>(alloc: Global, layer: &mut L, pid: Pid, number: u32, name: &[u
         Row::Bind(number, name),
         Row::Listen(number, 4),
     ];
-    must(alloc, layer, pid, &rows)
+    make_rows(alloc, layer, pid, &rows)
 }

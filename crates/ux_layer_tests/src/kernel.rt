@@ -393,7 +393,7 @@ fn case_of(alloc: Global, asked: &Asked, told: &Told) -> Result<Case, AllocError
 }
 
 /// Makes a call of this process, which is answered so.
-fn says(rt: &impl Abort, machine: &mut Machine, pid: u32, case: &Case) {
+fn expect_reply(rt: &impl Abort, machine: &mut Machine, pid: u32, case: &Case) {
     expect(rt, ask(machine, pid, &case.request), &case.reply);
 }
 
@@ -403,20 +403,20 @@ fn expect(rt: &impl Abort, answer: Option<Reply>, reply: &Reply) {
 }
 
 /// Makes the calls of these rows in order, each of which is answered as its row says.
-fn says_rows(
+fn expect_rows(
     rt: &impl Abort,
     alloc: Global,
     machine: &mut Machine,
     rows: &[Row],
 ) -> Result<(), AllocError> {
     for (pid, asked, told) in rows {
-        says(rt, machine, *pid, &case_of(alloc, asked, told)?);
+        expect_reply(rt, machine, *pid, &case_of(alloc, asked, told)?);
     }
     Ok(())
 }
 
 /// Makes the calls of these rows so many times.
-fn says_often(
+fn expect_rows_often(
     rt: &impl Abort,
     alloc: Global,
     machine: &mut Machine,
@@ -424,15 +424,20 @@ fn says_often(
     rows: &[Row],
 ) -> Result<(), AllocError> {
     for _ in 0..times {
-        says_rows(rt, alloc, machine, rows)?;
+        expect_rows(rt, alloc, machine, rows)?;
     }
     Ok(())
 }
 
 /// Makes the calls of these rows in order, over a kernel of one process with this descriptor limit.
-fn says_alone(rt: &impl Abort, alloc: Global, limit: u32, rows: &[Row]) -> Result<(), AllocError> {
+fn expect_rows_of_one_process(
+    rt: &impl Abort,
+    alloc: Global,
+    limit: u32,
+    rows: &[Row],
+) -> Result<(), AllocError> {
     let mut machine = bare(alloc, &[process(limit)])?;
-    says_rows(rt, alloc, &mut machine, rows)
+    expect_rows(rt, alloc, &mut machine, rows)
 }
 
 /// Makes a call while every allocation is refused.
@@ -449,7 +454,7 @@ fn ask_without_memory(
 }
 
 /// Makes each call of these rows while every allocation is refused, then again with memory.
-fn says_at_last(
+fn expect_refusals_then_rows(
     rt: &impl Abort,
     alloc: Global,
     machine: &mut Machine,
@@ -459,7 +464,7 @@ fn says_at_last(
         let case = case_of(alloc, asked, told)?;
         let first = ask_without_memory(alloc, machine, *pid, &case.request)?;
         expect(rt, first, &refused(Errno::ENOMEM));
-        says(rt, machine, *pid, &case);
+        expect_reply(rt, machine, *pid, &case);
     }
     Ok(())
 }
@@ -477,7 +482,7 @@ fn turns_off(machine: &mut Machine) -> bool {
 }
 
 /// Makes each call of these rows while every allocation is refused, and each is answered as its row says.
-fn says_without_memory(
+fn expect_rows_without_memory(
     rt: &impl Abort,
     alloc: Global,
     machine: &mut Machine,
@@ -492,7 +497,7 @@ fn says_without_memory(
 }
 
 /// Makes the call of a row, and answers whether its process may make it.
-fn makes(
+fn is_made(
     alloc: Global,
     machine: &mut Machine,
     pid: u32,

@@ -103,7 +103,12 @@ impl<W: BookName, O: FileObject> Worker<W, O> {
     }
 
     /// Makes a call that must be answered so, and keeps its receipt.
-    fn must<R: Wait>(&mut self, rt: &R, request: Request, answer: Reply) -> Result<(), Trouble>
+    fn expect_reply<R: Wait>(
+        &mut self,
+        rt: &R,
+        request: Request,
+        answer: Reply,
+    ) -> Result<(), Trouble>
         requires { has_own_call request ≡ false }
     {
         let called = self.seat.call_blocking(rt, &request);
@@ -179,15 +184,15 @@ fn serve<W: BookName, R: Wait>(
 ) -> Result<Done<W>, Trouble> {
     let mut worker = Worker::new(alloc, seat);
     let w = &mut worker;
-    w.must(rt, SOCKET, Reply::Fd(Fd(0)))?;
+    w.expect_reply(rt, SOCKET, Reply::Fd(Fd(0)))?;
     let addr = server(alloc)?;
-    w.must(rt, Request::Bind { fd: Fd(0), addr }, Reply::Ok)?;
+    w.expect_reply(rt, Request::Bind { fd: Fd(0), addr }, Reply::Ok)?;
     let backlog = 4;
-    w.must(rt, Request::Listen { fd: Fd(0), backlog }, Reply::Ok)?;
+    w.expect_reply(rt, Request::Listen { fd: Fd(0), backlog }, Reply::Ok)?;
     let flags = OpenFlags(0);
     let accepted = Reply::Accepted(Fd(1), Addr::Unnamed);
-    w.must(rt, Request::Accept { fd: Fd(0), flags }, accepted)?;
-    w.must(rt, send(alloc, 1, b"hi")?, Reply::Count(2))?;
+    w.expect_reply(rt, Request::Accept { fd: Fd(0), flags }, accepted)?;
+    w.expect_reply(rt, send(alloc, 1, b"hi")?, Reply::Count(2))?;
     worker.done(rt)
 }
 
@@ -201,9 +206,9 @@ fn ask<W: BookName, R: Wait>(
     let mut worker = Worker::new(alloc, seat);
     let w = &mut worker;
     layer.wait_for(rt, Pid(1), 3);
-    w.must(rt, SOCKET, Reply::Fd(Fd(0)))?;
+    w.expect_reply(rt, SOCKET, Reply::Fd(Fd(0)))?;
     let addr = server(alloc)?;
-    w.must(rt, Request::Connect { fd: Fd(0), addr }, Reply::Ok)?;
+    w.expect_reply(rt, Request::Connect { fd: Fd(0), addr }, Reply::Ok)?;
     let got = Reply::Received {
         count: 2,
         bytes: Bytes::from_slice(alloc, b"hi")?,
@@ -211,7 +216,7 @@ fn ask<W: BookName, R: Wait>(
         control: Bytes::empty(),
         from: None,
     };
-    w.must(rt, receive(0), got)?;
+    w.expect_reply(rt, receive(0), got)?;
     worker.done(rt)
 }
 

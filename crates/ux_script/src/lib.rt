@@ -5,5 +5,5 @@ mod run;
 mod serial;
 mod write;
 
-pub use run::{run_serial, tell};
+pub use run::{finish_trace, run_serial};
 pub use write::write_trace;

@@ -57,10 +57,8 @@ pub fn run_serial<O: FileObject, W: Write>(
         Err(CallFault::Stranger) => return Err(ScriptFault::Stranger),
         Err(_) => return Err(ScriptFault::NoMemory),
     };
-    match tell(alloc, writer, &entries) {
-        Ok(()) => Ok(entries),
-        Err(fault) => Err(fault),
-    }
+    finish_trace(alloc, writer, &entries)?;
+    Ok(entries)
 }
 
 /// Writes the trace of a history, and flushes the writer. After a fault a beginning of the trace was written.
@@ -68,7 +66,11 @@ pub fn run_serial<O: FileObject, W: Write>(
 /// # Errors
 ///
 /// `Writing` where a write or the flush fails, and `NoMemory`.
-pub fn tell<W: Write>(alloc: Global, writer: &mut W, history: &[Entry]) -> Result<(), ScriptFault>
+pub fn finish_trace<W: Write>(
+    alloc: Global,
+    writer: &mut W,
+    history: &[Entry],
+) -> Result<(), ScriptFault>
     ensures ok { OnOk result (Appends (W.contents writer.old) (W.contents writer.new) (trace history.now)) }
     ensures err { OnErr result (AppendsBeginning (W.contents writer.old) (W.contents writer.new) (trace history.now)) }
     ensures fault { IfErr result (λ f. (f ≡ ScriptFault.Writing) ⊎ (f ≡ ScriptFault.NoMemory)) }

@@ -23,7 +23,7 @@ use ux_history::{BookName, PARTS, Receipt, Spent};
 use ux_kernel::Kernel;
 use ux_layer::{Layer, start};
 use ux_object::FileObject;
-use ux_script::tell;
+use ux_script::finish_trace;
 use ux_syntax::{Script, ScriptFault, Waiting};
 use ux_types::{Entry, MADE_LIMIT, Pid};
 
@@ -63,12 +63,12 @@ pub fn run_threads<O: FileObject + Send, G: Gate, Out: Write>(
 {
     match run_named::<Brand, O, _, G>(rt, alloc, Blank::new(PARTS), script, kernel, gate)? {
         Ran::Whole(entries) => {
-            tell(alloc, writer, &entries)?;
+            finish_trace(alloc, writer, &entries)?;
             Ok(entries)
         }
         Ran::Begun(entries, waiting) => {
             // The deadlock is what is reported, also where the trace can't be written.
-            let _told = tell(alloc, writer, &entries);
+            let _written = finish_trace(alloc, writer, &entries);
             Err(ScriptFault::Deadlock(waiting))
         }
     }

@@ -1,5 +1,5 @@
 //! Kernels that can be booted, and those that can't.
-use super::{Asked, Row, Told, bare, counters, make_machine, process, says_rows};
+use super::{Asked, Row, Told, bare, counters, expect_rows, make_machine, process};
 use hoard::Hoard;
 use std::alloc::{AllocError, Global};
 use std::process::Abort;
@@ -175,7 +175,7 @@ const LIMITS: &[Row] = &[
 fn a_limit_of_0_counts_as_1(rt: HostRuntime) -> Result<(), AllocError> {
     let alloc = rt.alloc();
     let mut machine = bare(alloc, &[process(0), process(1), process(2)])?;
-    says_rows(&rt, alloc, &mut machine, LIMITS)
+    expect_rows(&rt, alloc, &mut machine, LIMITS)
 }
 
 #[test]
@@ -185,7 +185,7 @@ fn a_kernel_has_64_processes_at_most(rt: HostRuntime) -> Result<(), AllocError> 
     let mut machine = bare(alloc, &specs[..64])?;
     let k = &mut machine;
     for pid in 1..65 {
-        says_rows(&rt, alloc, k, &[(pid, Asked::Pair, Told::Fds(0, 1))])?;
+        expect_rows(&rt, alloc, k, &[(pid, Asked::Pair, Told::Fds(0, 1))])?;
     }
     assert!(rt; !k.kernel.is_live(Pid(0)));
     assert!(rt; !k.kernel.is_live(Pid(65)));

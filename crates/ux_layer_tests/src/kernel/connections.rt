@@ -1,8 +1,8 @@
 //! Connections: how many ends wait, and what a refused allocation leaves. What is answered to whom stands in
 //! the scripts of `examples/`.
 use super::{
-    Asked, At, Machine, Row, Told, bare, process, says_alone, says_at_last, says_rows,
-    says_without_memory,
+    Asked, At, Machine, Row, Told, bare, expect_refusals_then_rows, expect_rows,
+    expect_rows_of_one_process, expect_rows_without_memory, process,
 };
 use std::alloc::{AllocError, Global};
 use std::process::Abort;
@@ -38,7 +38,7 @@ fn connects(
         (1, Asked::Socket, Told::Fd(fd)),
         (1, Asked::Connect(fd, At::Abstract(b"l")), Told::Ok),
     ];
-    says_rows(rt, alloc, machine, &rows)
+    expect_rows(rt, alloc, machine, &rows)
 }
 
 #[test]
@@ -46,11 +46,11 @@ fn at_most_128_ends_wait(rt: HostRuntime) -> Result<(), AllocError> {
     let alloc = rt.alloc();
     let mut machine = bare(alloc, &[process(1024)])?;
     let k = &mut machine;
-    says_rows(&rt, alloc, k, LONGEST)?;
+    expect_rows(&rt, alloc, k, LONGEST)?;
     for fd in 1..129 {
         connects(&rt, alloc, k, fd)?;
     }
-    says_rows(&rt, alloc, k, ONE_MORE)
+    expect_rows(&rt, alloc, k, ONE_MORE)
 }
 
 const OF_107: &[u8] =
@@ -85,7 +85,7 @@ const NAMES: &[Row] = &[
 
 #[test]
 fn a_name_has_107_bytes_at_most(rt: HostRuntime) -> Result<(), AllocError> {
-    says_alone(&rt, rt.alloc(), 16, NAMES)
+    expect_rows_of_one_process(&rt, rt.alloc(), 16, NAMES)
 }
 
 /// The first socket, and its path.
@@ -169,12 +169,12 @@ fn a_connection_that_is_refused_memory_is_not_there(rt: HostRuntime) -> Result<(
     let alloc = rt.alloc();
     let mut machine = bare(alloc, &[process(16)])?;
     let k = &mut machine;
-    says_at_last(&rt, alloc, k, A_SERVER)?;
-    says_rows(&rt, alloc, k, CLIENTS)?;
-    says_at_last(&rt, alloc, k, NAMED)?;
-    says_rows(&rt, alloc, k, ALSO_NAMED)?;
-    says_at_last(&rt, alloc, k, CONNECTED)?;
-    says_rows(&rt, alloc, k, TOLD)?;
-    says_rows(&rt, alloc, k, AFTERWARDS)?;
-    says_without_memory(&rt, alloc, k, WITHOUT_MEMORY)
+    expect_refusals_then_rows(&rt, alloc, k, A_SERVER)?;
+    expect_rows(&rt, alloc, k, CLIENTS)?;
+    expect_refusals_then_rows(&rt, alloc, k, NAMED)?;
+    expect_rows(&rt, alloc, k, ALSO_NAMED)?;
+    expect_refusals_then_rows(&rt, alloc, k, CONNECTED)?;
+    expect_rows(&rt, alloc, k, TOLD)?;
+    expect_rows(&rt, alloc, k, AFTERWARDS)?;
+    expect_rows_without_memory(&rt, alloc, k, WITHOUT_MEMORY)
 }

@@ -1,7 +1,7 @@
 //! Datagrams and records: what is refused memory, and what is too long.
 use super::{
-    Asked, At, Row, Told, bare, process, says_alone, says_at_last, says_often, says_rows,
-    says_without_memory,
+    Asked, At, Row, Told, bare, expect_refusals_then_rows, expect_rows, expect_rows_of_one_process,
+    expect_rows_often, expect_rows_without_memory, process,
 };
 use std::alloc::AllocError;
 use ux_types::{Errno, SockType};
@@ -34,10 +34,10 @@ const SENT_ONCE: &[Row] = &[(1, Asked::Recv(0, 8, 0), Told::Err(Errno::EAGAIN))]
 fn a_datagram_that_is_refused_memory_is_not_sent(rt: HostRuntime) -> Result<(), AllocError> {
     let alloc = rt.alloc();
     let mut machine = bare(alloc, &[process(16)])?;
-    says_rows(&rt, alloc, &mut machine, MADE)?;
-    says_at_last(&rt, alloc, &mut machine, SENT)?;
-    says_rows(&rt, alloc, &mut machine, RECEIVED)?;
-    says_rows(&rt, alloc, &mut machine, SENT_ONCE)
+    expect_rows(&rt, alloc, &mut machine, MADE)?;
+    expect_refusals_then_rows(&rt, alloc, &mut machine, SENT)?;
+    expect_rows(&rt, alloc, &mut machine, RECEIVED)?;
+    expect_rows(&rt, alloc, &mut machine, SENT_ONCE)
 }
 
 /// An association takes no memory, and neither does its end.
@@ -57,8 +57,8 @@ const ASSOCIATED: &[Row] = &[
 fn a_lost_target_is_told_without_memory(rt: HostRuntime) -> Result<(), AllocError> {
     let alloc = rt.alloc();
     let mut machine = bare(alloc, &[process(16)])?;
-    says_rows(&rt, alloc, &mut machine, MADE)?;
-    says_without_memory(&rt, alloc, &mut machine, ASSOCIATED)
+    expect_rows(&rt, alloc, &mut machine, MADE)?;
+    expect_rows_without_memory(&rt, alloc, &mut machine, ASSOCIATED)
 }
 
 const SEND_ONE: &[Row] = &[(1, Asked::SendTo(1, TARGET, b"x"), Told::Count(1))];
@@ -70,10 +70,10 @@ const FULL: &[Row] = &[(1, Asked::SendTo(1, TARGET, b"x"), Told::Err(Errno::EAGA
 fn a_full_queue_comes_before_want_of_memory(rt: HostRuntime) -> Result<(), AllocError> {
     let alloc = rt.alloc();
     let mut machine = bare(alloc, &[process(16)])?;
-    says_rows(&rt, alloc, &mut machine, MADE)?;
-    says_often(&rt, alloc, &mut machine, 16, SEND_ONE)?;
-    says_without_memory(&rt, alloc, &mut machine, FULL)?;
-    says_rows(&rt, alloc, &mut machine, FULL)
+    expect_rows(&rt, alloc, &mut machine, MADE)?;
+    expect_rows_often(&rt, alloc, &mut machine, 16, SEND_ONE)?;
+    expect_rows_without_memory(&rt, alloc, &mut machine, FULL)?;
+    expect_rows(&rt, alloc, &mut machine, FULL)
 }
 
 /// The longest datagram and the longest record, and one byte more.
@@ -98,5 +98,5 @@ const LONGEST: &[Row] = &[
 
 #[test]
 fn a_message_has_65536_bytes_at_most(rt: HostRuntime) -> Result<(), AllocError> {
-    says_alone(&rt, rt.alloc(), 16, LONGEST)
+    expect_rows_of_one_process(&rt, rt.alloc(), 16, LONGEST)
 }

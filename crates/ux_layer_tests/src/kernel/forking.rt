@@ -2,8 +2,8 @@
 use super::memory::with_file;
 use super::objects::is_gone;
 use super::{
-    Asked, At, Case, FileCall, Machine, Row, Told, bare, process, refused, says, says_rows,
-    says_without_memory,
+    Asked, At, Case, FileCall, Machine, Row, Told, bare, expect_reply, expect_rows,
+    expect_rows_without_memory, process, refused,
 };
 use std::alloc::{AllocError, Global};
 use std::process::Abort;
@@ -36,9 +36,9 @@ fn a_program_keeps_what_has_no_close_on_exec(rt: HostRuntime) -> Result<(), Fail
     let alloc = rt.alloc();
     let mut machine = with_file(alloc, 16)?;
     let k = &mut machine;
-    says_rows(&rt, alloc, k, PROGRAM)?;
+    expect_rows(&rt, alloc, k, PROGRAM)?;
     assert!(rt; !is_gone(k, 0));
-    says_rows(&rt, alloc, k, CHILD_EXIT)?;
+    expect_rows(&rt, alloc, k, CHILD_EXIT)?;
     assert!(rt; is_gone(k, 0));
     Ok(())
 }
@@ -60,11 +60,11 @@ fn a_file_goes_with_the_last_exec(rt: HostRuntime) -> Result<(), Fail> {
     let alloc = rt.alloc();
     let mut machine = with_file(alloc, 16)?;
     let k = &mut machine;
-    says_rows(&rt, alloc, k, MARKED)?;
+    expect_rows(&rt, alloc, k, MARKED)?;
     assert!(rt; !is_gone(k, 0));
-    says_rows(&rt, alloc, k, CHILD_EXEC)?;
+    expect_rows(&rt, alloc, k, CHILD_EXEC)?;
     assert!(rt; is_gone(k, 0));
-    says_rows(&rt, alloc, k, CHILD_EXEC)?;
+    expect_rows(&rt, alloc, k, CHILD_EXEC)?;
     assert!(rt; k.retired.is_empty());
     Ok(())
 }
@@ -88,7 +88,7 @@ const FULL: &[Row] = &[
 fn a_child_has_a_table_of_its_own(rt: HostRuntime) -> Result<(), Fail> {
     let alloc = rt.alloc();
     let mut machine = bare(alloc, &[process(3)])?;
-    says_rows(&rt, alloc, &mut machine, FULL)?;
+    expect_rows(&rt, alloc, &mut machine, FULL)?;
     Ok(())
 }
 
@@ -132,10 +132,10 @@ fn what_a_parent_closes_stays_open_in_its_child(rt: HostRuntime) -> Result<(), F
     let alloc = rt.alloc();
     let mut machine = with_file(alloc, 16)?;
     let k = &mut machine;
-    says_rows(&rt, alloc, k, PARENT)?;
-    says_rows(&rt, alloc, k, CHILD)?;
+    expect_rows(&rt, alloc, k, PARENT)?;
+    expect_rows(&rt, alloc, k, CHILD)?;
     assert!(rt; k.retired.is_empty());
-    says_rows(&rt, alloc, k, CHILD_CLOSE)?;
+    expect_rows(&rt, alloc, k, CHILD_CLOSE)?;
     assert!(rt; is_gone(k, 0));
     Ok(())
 }
@@ -146,7 +146,7 @@ fn forks(rt: &impl Abort, machine: &mut Machine, pid: u32, reply: Reply) {
         request: Request::Fork,
         reply,
     };
-    says(rt, machine, pid, &case);
+    expect_reply(rt, machine, pid, &case);
 }
 
 /// Makes children of process 1 up to the last that there may be: each gets the next number.
@@ -172,6 +172,6 @@ fn no_process_is_made_beyond_1024(rt: HostRuntime) -> Result<(), Fail> {
     let k = &mut machine;
     makes_all(&rt, k);
     forks(&rt, k, 1024, refused(Errno::EAGAIN));
-    says_without_memory(&rt, alloc, k, NO_MORE)?;
+    expect_rows_without_memory(&rt, alloc, k, NO_MORE)?;
     Ok(())
 }

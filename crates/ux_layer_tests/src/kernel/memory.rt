@@ -1,8 +1,8 @@
 //! Calls that take no memory, made with none, and calls on files that are refused each of their growths.
 use super::objects::is_gone;
 use super::{
-    Asked, At, Case, FileCall, Machine, Row, Told, ask, case_of, expect, make_machine, process,
-    refused, says_rows, says_without_memory, turns_off,
+    Asked, At, Case, FileCall, Machine, Row, Told, ask, case_of, expect, expect_rows,
+    expect_rows_without_memory, make_machine, process, refused, turns_off,
 };
 use hoard::{Hoard, Purse};
 use std::alloc::Global;
@@ -94,11 +94,11 @@ fn eleven_calls_are_answered_without_memory(rt: HostRuntime) -> Result<(), Fail>
     let alloc = rt.alloc();
     let mut machine = with_file(alloc, 16)?;
     let k = &mut machine;
-    says_rows(&rt, alloc, k, MADE)?;
-    says_without_memory(&rt, alloc, k, NO_MEMORY)?;
+    expect_rows(&rt, alloc, k, MADE)?;
+    expect_rows_without_memory(&rt, alloc, k, NO_MEMORY)?;
     assert!(rt; is_gone(k, 0));
-    says_without_memory(&rt, alloc, k, CLOSED)?;
-    says_without_memory(&rt, alloc, k, EXIT)?;
+    expect_rows_without_memory(&rt, alloc, k, CLOSED)?;
+    expect_rows_without_memory(&rt, alloc, k, EXIT)?;
     let hoard = Hoard::take_all(alloc)?;
     let off = turns_off(k);
     drop(hoard);
@@ -118,8 +118,8 @@ fn few_bytes_are_read_without_memory(rt: HostRuntime) -> Result<(), Fail> {
     let alloc = rt.alloc();
     let mut machine = with_file(alloc, 16)?;
     let k = &mut machine;
-    says_rows(&rt, alloc, k, MADE)?;
-    says_without_memory(&rt, alloc, k, FEW_BYTES)?;
+    expect_rows(&rt, alloc, k, MADE)?;
+    expect_rows_without_memory(&rt, alloc, k, FEW_BYTES)?;
     Ok(())
 }
 
@@ -142,7 +142,7 @@ fn ask_with(
 
 /// Makes the call of a row with no memory, which is refused, and with 16 bytes more while it is. After each refusal
 /// these rows are answered as they say: nothing has changed.
-fn says_with_least(
+fn expect_row_with_least_memory(
     rt: &impl Abort,
     alloc: Global,
     machine: &mut Machine,
@@ -159,7 +159,7 @@ fn says_with_least(
             return Ok(());
         }
         drop(answer);
-        says_rows(rt, alloc, machine, same)?;
+        expect_rows(rt, alloc, machine, same)?;
     }
     Err(Fail::from("refused with 60 KiB"))
 }
@@ -242,8 +242,8 @@ const LEFT: &[Row] = &[
     (1, Asked::Exit, Told::Ok),
 ];
 
-/// Makes the calls of these rows in order, each as `says_with_least` has it.
-fn says_all_with_least(
+/// Makes the calls of these rows in order, each as `expect_row_with_least_memory` has it.
+fn expect_rows_with_least_memory(
     rt: &impl Abort,
     alloc: Global,
     machine: &mut Machine,
@@ -251,7 +251,7 @@ fn says_all_with_least(
     rows: &[(Asked, Told, &[Row])],
 ) -> Result<(), Fail> {
     for row in rows {
-        says_with_least(rt, alloc, machine, purse, row)?;
+        expect_row_with_least_memory(rt, alloc, machine, purse, row)?;
     }
     Ok(())
 }
@@ -263,10 +263,10 @@ fn each_growth_of_a_call_on_a_file_is_refused(rt: HostRuntime) -> Result<(), Fai
     let k = &mut machine;
     let mut purse = Purse::new(alloc)?;
     let p = &mut purse;
-    says_with_least(&rt, alloc, k, p, &FIRST_OPEN)?;
-    says_rows(&rt, alloc, k, OPENED)?;
-    says_all_with_least(&rt, alloc, k, p, GROWTHS)?;
-    says_rows(&rt, alloc, k, LEFT)?;
+    expect_row_with_least_memory(&rt, alloc, k, p, &FIRST_OPEN)?;
+    expect_rows(&rt, alloc, k, OPENED)?;
+    expect_rows_with_least_memory(&rt, alloc, k, p, GROWTHS)?;
+    expect_rows(&rt, alloc, k, LEFT)?;
     assert!(rt; is_gone(k, 0));
     Ok(())
 }
@@ -309,11 +309,11 @@ fn each_growth_of_a_fork_is_refused(rt: HostRuntime) -> Result<(), Fail> {
     let mut machine = with_file(alloc, 1024)?;
     let k = &mut machine;
     let mut purse = Purse::new(alloc)?;
-    says_rows(&rt, alloc, k, BEFORE_FORK)?;
-    says_with_least(&rt, alloc, k, &mut purse, &FORK)?;
-    says_rows(&rt, alloc, k, AFTER_FORK)?;
+    expect_rows(&rt, alloc, k, BEFORE_FORK)?;
+    expect_row_with_least_memory(&rt, alloc, k, &mut purse, &FORK)?;
+    expect_rows(&rt, alloc, k, AFTER_FORK)?;
     assert!(rt; !is_gone(k, 0));
-    says_rows(&rt, alloc, k, LAST_CLOSE)?;
+    expect_rows(&rt, alloc, k, LAST_CLOSE)?;
     assert!(rt; is_gone(k, 0));
     Ok(())
 }

@@ -1,5 +1,5 @@
 //! How file objects go.
-use super::{Asked, Machine, Row, Told, makes, says_rows, turns_off, with_counters};
+use super::{Asked, Machine, Row, Told, expect_rows, is_made, turns_off, with_counters};
 use std::alloc::AllocError;
 use ux_object::FileObject;
 use ux_types::Errno;
@@ -31,23 +31,11 @@ fn an_object_without_a_path_is_handed_out(rt: HostRuntime) -> Result<(), AllocEr
     let alloc = rt.alloc();
     let mut machine = with_counters(alloc, &[b"a", b"b"])?;
     let k = &mut machine;
-    says_rows(&rt, alloc, k, NO_PATHS)?;
-    assert!(rt; makes(alloc, k, 1, &Asked::Unlink(b"b"))?);
+    expect_rows(&rt, alloc, k, NO_PATHS)?;
+    assert!(rt; is_made(alloc, k, 1, &Asked::Unlink(b"b"))?);
     assert!(rt; is_gone(k, 1));
-    says_rows(&rt, alloc, k, GONE)?;
+    expect_rows(&rt, alloc, k, GONE)?;
     assert!(rt; turns_off(k));
     assert!(rt; k.retired.len() == 1);
-    Ok(())
-}
-
-/// A file object that is open.
-const OPENED: &[Row] = &[(1, Asked::Open(b"b"), Told::Fd(0))];
-
-#[test]
-fn a_kernel_goes_with_its_open_objects(rt: HostRuntime) -> Result<(), AllocError> {
-    let alloc = rt.alloc();
-    let mut machine = with_counters(alloc, &[b"a", b"b"])?;
-    says_rows(&rt, alloc, &mut machine, OPENED)?;
-    drop(machine);
     Ok(())
 }

@@ -1,5 +1,8 @@
 //! Options and readiness: what is refused memory, and what needs none.
-use super::{Asked, At, Row, Told, bare, process, says_at_last, says_rows, says_without_memory};
+use super::{
+    Asked, At, Row, Told, bare, expect_refusals_then_rows, expect_rows, expect_rows_without_memory,
+    process,
+};
 use std::alloc::AllocError;
 use ux_types::{Errno, SockOpt, SockType};
 
@@ -26,10 +29,10 @@ const NAMED: &[Row] = &[
 fn an_option_that_is_refused_memory_stays_off(rt: HostRuntime) -> Result<(), AllocError> {
     let alloc = rt.alloc();
     let mut machine = bare(alloc, &[process(16)])?;
-    says_rows(&rt, alloc, &mut machine, SOCKET)?;
-    says_without_memory(&rt, alloc, &mut machine, STILL_OFF)?;
-    says_at_last(&rt, alloc, &mut machine, ON)?;
-    says_rows(&rt, alloc, &mut machine, NAMED)
+    expect_rows(&rt, alloc, &mut machine, SOCKET)?;
+    expect_rows_without_memory(&rt, alloc, &mut machine, STILL_OFF)?;
+    expect_refusals_then_rows(&rt, alloc, &mut machine, ON)?;
+    expect_rows(&rt, alloc, &mut machine, NAMED)
 }
 
 /// A pair of which one end is lost with an unread byte.
@@ -67,6 +70,6 @@ const ASKED: &[Row] = &[
 fn options_and_conditions_are_told_without_memory(rt: HostRuntime) -> Result<(), AllocError> {
     let alloc = rt.alloc();
     let mut machine = bare(alloc, &[process(16)])?;
-    says_rows(&rt, alloc, &mut machine, LOST)?;
-    says_without_memory(&rt, alloc, &mut machine, ASKED)
+    expect_rows(&rt, alloc, &mut machine, LOST)?;
+    expect_rows_without_memory(&rt, alloc, &mut machine, ASKED)
 }

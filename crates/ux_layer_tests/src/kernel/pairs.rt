@@ -1,6 +1,7 @@
 //! Pairs of sockets, what is sent through them, and their further descriptors.
 use super::{
-    Asked, Row, Told, bare, process, says_alone, says_at_last, says_often, says_rows, turns_off,
+    Asked, Row, Told, bare, expect_refusals_then_rows, expect_rows, expect_rows_of_one_process,
+    expect_rows_often, process, turns_off,
 };
 use std::alloc::AllocError;
 use ux_types::{Errno, Pid};
@@ -28,7 +29,7 @@ const A_PAIR: &[Row] = &[
 fn a_pair_from_its_making_to_its_end(rt: HostRuntime) -> Result<(), AllocError> {
     let alloc = rt.alloc();
     let mut machine = bare(alloc, &[process(16)])?;
-    says_rows(&rt, alloc, &mut machine, A_PAIR)?;
+    expect_rows(&rt, alloc, &mut machine, A_PAIR)?;
     assert!(rt; !machine.kernel.is_live(Pid(1)));
     Ok(())
 }
@@ -61,10 +62,10 @@ fn a_call_that_is_refused_memory_changes_nothing(rt: HostRuntime) -> Result<(), 
     let alloc = rt.alloc();
     let mut machine = bare(alloc, &[process(16)])?;
     let k = &mut machine;
-    says_at_last(&rt, alloc, k, MADE_AND_SENT)?;
-    says_rows(&rt, alloc, k, SENT)?;
-    says_at_last(&rt, alloc, k, RECEIVED)?;
-    says_rows(&rt, alloc, k, AFTERWARDS)
+    expect_refusals_then_rows(&rt, alloc, k, MADE_AND_SENT)?;
+    expect_rows(&rt, alloc, k, SENT)?;
+    expect_refusals_then_rows(&rt, alloc, k, RECEIVED)?;
+    expect_rows(&rt, alloc, k, AFTERWARDS)
 }
 
 /// Flags that a send or a receive takes, and others.
@@ -89,7 +90,7 @@ const FLAGS: &[Row] = &[
 
 #[test]
 fn flags_are_checked_behind_the_descriptor(rt: HostRuntime) -> Result<(), AllocError> {
-    says_alone(&rt, rt.alloc(), 16, FLAGS)
+    expect_rows_of_one_process(&rt, rt.alloc(), 16, FLAGS)
 }
 
 /// A queue with room for one byte, between a send and a receive of many.
@@ -106,7 +107,7 @@ const ONE_BYTE: &[Row] = &[
 
 #[test]
 fn a_full_queue_takes_what_fits(rt: HostRuntime) -> Result<(), AllocError> {
-    says_alone(&rt, rt.alloc(), 16, ONE_BYTE)
+    expect_rows_of_one_process(&rt, rt.alloc(), 16, ONE_BYTE)
 }
 
 const PAIR: &[Row] = &[(1, Asked::Pair, Told::Fds(0, 1))];
@@ -126,9 +127,9 @@ fn a_queue_of_single_bytes_is_taken_at_once(rt: HostRuntime) -> Result<(), Alloc
     let alloc = rt.alloc();
     let mut machine = bare(alloc, &[process(16)])?;
     let k = &mut machine;
-    says_rows(&rt, alloc, k, PAIR)?;
-    says_often(&rt, alloc, k, 65536, SEND_ONE)?;
-    says_rows(&rt, alloc, k, FILLED)
+    expect_rows(&rt, alloc, k, PAIR)?;
+    expect_rows_often(&rt, alloc, k, 65536, SEND_ONE)?;
+    expect_rows(&rt, alloc, k, FILLED)
 }
 
 /// A queue that one send and one byte fill.
@@ -151,9 +152,9 @@ fn a_full_queue_is_taken_byte_by_byte(rt: HostRuntime) -> Result<(), AllocError>
     let alloc = rt.alloc();
     let mut machine = bare(alloc, &[process(16)])?;
     let k = &mut machine;
-    says_rows(&rt, alloc, k, FULL)?;
-    says_often(&rt, alloc, k, 65535, RECEIVE_ONE)?;
-    says_rows(&rt, alloc, k, LAST)
+    expect_rows(&rt, alloc, k, FULL)?;
+    expect_rows_often(&rt, alloc, k, 65535, RECEIVE_ONE)?;
+    expect_rows(&rt, alloc, k, LAST)
 }
 
 /// Two processes with a pair each, up to the exit of the first.
@@ -176,9 +177,9 @@ fn an_exit_leaves_the_pairs_of_others(rt: HostRuntime) -> Result<(), AllocError>
     let alloc = rt.alloc();
     let mut machine = bare(alloc, &[process(16), process(16)])?;
     let k = &mut machine;
-    says_rows(&rt, alloc, k, TWO_PAIRS)?;
+    expect_rows(&rt, alloc, k, TWO_PAIRS)?;
     assert!(rt; !k.kernel.is_live(Pid(1)));
-    says_rows(&rt, alloc, k, SECOND)?;
+    expect_rows(&rt, alloc, k, SECOND)?;
     assert!(rt; !k.kernel.has_live());
     assert!(rt; k.kernel.process_count() == 2);
     assert!(rt; turns_off(k));

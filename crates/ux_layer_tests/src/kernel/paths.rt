@@ -1,5 +1,5 @@
 //! Many paths of sockets that are gone, taken away from the oldest on.
-use super::{Asked, Case, Machine, Row, Told, bare, process, says, says_rows};
+use super::{Asked, Case, Machine, Row, Told, bare, expect_reply, expect_rows, process};
 use std::alloc::{AllocError, Global};
 use std::process::Abort;
 use ux_types::{Addr, Errno, Fd, Name, Reply, Request};
@@ -24,7 +24,7 @@ fn leaves_path(
     machine: &mut Machine,
     number: usize,
 ) -> Result<(), AllocError> {
-    says_rows(rt, alloc, machine, SOCKET)?;
+    expect_rows(rt, alloc, machine, SOCKET)?;
     let case = Case {
         request: Request::Bind {
             fd: Fd(0),
@@ -32,8 +32,8 @@ fn leaves_path(
         },
         reply: Reply::Ok,
     };
-    says(rt, machine, 1, &case);
-    says_rows(rt, alloc, machine, CLOSE)
+    expect_reply(rt, machine, 1, &case);
+    expect_rows(rt, alloc, machine, CLOSE)
 }
 
 /// Takes a path away, or finds that it isn't there.
@@ -50,7 +50,7 @@ fn takes_path(
         },
         reply,
     };
-    says(rt, machine, 1, &case);
+    expect_reply(rt, machine, 1, &case);
     Ok(())
 }
 

@@ -1,7 +1,7 @@
 //! The limit of a stream socket's queue, and tables of 4,096 descriptors.
 use super::{
-    Asked, At, Case, Machine, Row, Told, bare, pass, process, says, says_alone, says_rows,
-    says_without_memory, taken,
+    Asked, At, Case, Machine, Row, Told, bare, expect_reply, expect_rows,
+    expect_rows_of_one_process, expect_rows_without_memory, pass, process, taken,
 };
 use std::alloc::{AllocError, Global};
 use std::process::Abort;
@@ -21,7 +21,7 @@ const GREATEST: &[Row] = &[
 
 #[test]
 fn the_greatest_limit_takes_1048576_bytes(rt: HostRuntime) -> Result<(), AllocError> {
-    says_alone(&rt, rt.alloc(), 16, GREATEST)
+    expect_rows_of_one_process(&rt, rt.alloc(), 16, GREATEST)
 }
 
 /// A queue of messages with rights whose limit is lowered below what waits, and raised.
@@ -48,7 +48,7 @@ const WITH_RIGHTS: &[Row] = &[
 
 #[test]
 fn a_lowered_limit_drops_nothing(rt: HostRuntime) -> Result<(), AllocError> {
-    says_alone(&rt, rt.alloc(), 16, WITH_RIGHTS)
+    expect_rows_of_one_process(&rt, rt.alloc(), 16, WITH_RIGHTS)
 }
 
 const THREE_PAIRS: &[Row] = &[
@@ -94,8 +94,8 @@ const SET_AND_TOLD: &[Row] = &[
 fn limits_are_set_and_told_without_memory(rt: HostRuntime) -> Result<(), AllocError> {
     let alloc = rt.alloc();
     let mut machine = bare(alloc, &[process(16)])?;
-    says_rows(&rt, alloc, &mut machine, THREE_PAIRS)?;
-    says_without_memory(&rt, alloc, &mut machine, SET_AND_TOLD)
+    expect_rows(&rt, alloc, &mut machine, THREE_PAIRS)?;
+    expect_rows_without_memory(&rt, alloc, &mut machine, SET_AND_TOLD)
 }
 
 /// A listener has a limit too, set while it is idle and while it listens, and its servers' ends have the first one.
@@ -120,7 +120,7 @@ const LISTENER: &[Row] = &[
 
 #[test]
 fn a_servers_end_has_the_first_limit(rt: HostRuntime) -> Result<(), AllocError> {
-    says_alone(&rt, rt.alloc(), 16, LISTENER)
+    expect_rows_of_one_process(&rt, rt.alloc(), 16, LISTENER)
 }
 
 /// The most descriptors of a process, and of a message.
@@ -131,7 +131,7 @@ const PASSED: u32 = 253;
 /// A process that has opened all its numbers, the first two a pair.
 fn full_process(rt: &impl Abort, alloc: Global) -> Result<Machine, AllocError> {
     let mut machine = bare(alloc, &[process(5000)])?;
-    says_rows(
+    expect_rows(
         rt,
         alloc,
         &mut machine,
@@ -139,10 +139,10 @@ fn full_process(rt: &impl Abort, alloc: Global) -> Result<Machine, AllocError> {
     )?;
     for number in 2..MOST {
         let row = (1, Asked::Socket, Told::Fd(number));
-        says_rows(rt, alloc, &mut machine, &[row])?;
+        expect_rows(rt, alloc, &mut machine, &[row])?;
     }
     let full = (1, Asked::Socket, Told::Err(Errno::EMFILE));
-    says_rows(rt, alloc, &mut machine, &[full])?;
+    expect_rows(rt, alloc, &mut machine, &[full])?;
     Ok(machine)
 }
 
@@ -154,7 +154,7 @@ fn close_from(
     first: u32,
 ) -> Result<(), AllocError> {
     for number in first..first.saturating_add(PASSED) {
-        says_rows(rt, alloc, machine, &[(1, Asked::Close(number), Told::Ok)])?;
+        expect_rows(rt, alloc, machine, &[(1, Asked::Close(number), Told::Ok)])?;
     }
     Ok(())
 }
@@ -183,11 +183,11 @@ fn the_last_of_4096_descriptors_are_passed(rt: HostRuntime) -> Result<(), AllocE
     let first = MOST - PASSED;
     let request = pass(alloc, 0, &numbers_from(alloc, first)?)?;
     let reply = Reply::Count(1);
-    says(&rt, &mut machine, 1, &Case { request, reply });
+    expect_reply(&rt, &mut machine, 1, &Case { request, reply });
     close_from(&rt, alloc, &mut machine, first)?;
     let reply = taken(alloc, 0, &numbers_from(alloc, first)?)?;
     let request = RECEIVE;
-    says(&rt, &mut machine, 1, &Case { request, reply });
+    expect_reply(&rt, &mut machine, 1, &Case { request, reply });
     close_from(&rt, alloc, &mut machine, 1000)?;
-    says_rows(&rt, alloc, &mut machine, &[(1, Asked::Exit, Told::Ok)])
+    expect_rows(&rt, alloc, &mut machine, &[(1, Asked::Exit, Told::Ok)])
 }

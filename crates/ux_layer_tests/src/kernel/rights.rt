@@ -1,7 +1,8 @@
 //! Rights that messages pass: what is refused memory, and what is handed out.
 use super::{
-    Asked, Machine, Row, Told, bare, makes, process, says_alone, says_at_last, says_rows,
-    says_without_memory, turns_off, with_counters,
+    Asked, Machine, Row, Told, bare, expect_refusals_then_rows, expect_rows,
+    expect_rows_of_one_process, expect_rows_without_memory, is_made, process, turns_off,
+    with_counters,
 };
 use std::alloc::{AllocError, Global};
 use std::process::Abort;
@@ -33,9 +34,9 @@ const PASSED_ONCE: &[Row] = &[
 fn rights_that_are_refused_memory_stay(rt: HostRuntime) -> Result<(), AllocError> {
     let alloc = rt.alloc();
     let mut machine = bare(alloc, &[process(16)])?;
-    says_rows(&rt, alloc, &mut machine, PAIR)?;
-    says_at_last(&rt, alloc, &mut machine, PASSED)?;
-    says_rows(&rt, alloc, &mut machine, PASSED_ONCE)
+    expect_rows(&rt, alloc, &mut machine, PAIR)?;
+    expect_refusals_then_rows(&rt, alloc, &mut machine, PASSED)?;
+    expect_rows(&rt, alloc, &mut machine, PASSED_ONCE)
 }
 
 /// Refusals that come without memory too.
@@ -48,8 +49,8 @@ const REFUSED: &[Row] = &[
 fn a_number_that_is_not_open_needs_no_memory(rt: HostRuntime) -> Result<(), AllocError> {
     let alloc = rt.alloc();
     let mut machine = bare(alloc, &[process(16)])?;
-    says_rows(&rt, alloc, &mut machine, PAIR)?;
-    says_without_memory(&rt, alloc, &mut machine, REFUSED)
+    expect_rows(&rt, alloc, &mut machine, PAIR)?;
+    expect_rows_without_memory(&rt, alloc, &mut machine, REFUSED)
 }
 
 /// Two files in messages: of one the excess is closed, the other lies in the queue of a socket that nobody has.
@@ -77,7 +78,7 @@ fn count_gone(
 ) -> Result<usize, AllocError> {
     let mut gone: usize = 0;
     for (pid, asked, _) in rows {
-        assert!(rt; makes(alloc, machine, *pid, asked)?);
+        assert!(rt; is_made(alloc, machine, *pid, asked)?);
         gone = gone.saturating_add(machine.retired.len());
     }
     Ok(gone)
@@ -87,7 +88,7 @@ fn count_gone(
 fn each_file_object_is_handed_out_once(rt: HostRuntime) -> Result<(), AllocError> {
     let alloc = rt.alloc();
     let mut answered = with_counters(alloc, &[b"a", b"b"])?;
-    says_rows(&rt, alloc, &mut answered, LOST)?;
+    expect_rows(&rt, alloc, &mut answered, LOST)?;
     let mut machine = with_counters(alloc, &[b"a", b"b"])?;
     assert_eq!(rt; count_gone(&rt, alloc, &mut machine, LOST)?, 1);
     // The socket in its own queue, with the other file, stays until the layer ends.
@@ -106,5 +107,5 @@ const NO_ROOM: &[Row] = &[
 
 #[test]
 fn a_full_table_gets_no_rights(rt: HostRuntime) -> Result<(), AllocError> {
-    says_alone(&rt, rt.alloc(), 2, NO_ROOM)
+    expect_rows_of_one_process(&rt, rt.alloc(), 2, NO_ROOM)
 }

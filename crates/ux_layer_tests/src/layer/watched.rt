@@ -19,7 +19,8 @@ use ux_kernel::Kernel;
 use ux_layer::{Layer, Seat, start};
 use ux_object::{FileObject, ObjError, ObjKind};
 use ux_objects::Counter;
-use ux_types::{Bytes, Fd, Mode, Name, OpenFlags, ProcSpec, Reply, Request};
+use ux_state::RetiredList;
+use ux_types::{Bytes, Fd, Mode, Name, OpenFlags, Pid, ProcSpec, Reply, Request};
 
 /// How often a thread looks for what another is to do, before it gives up.
 const PATIENCE: u32 = 1_000_000;
@@ -159,6 +160,22 @@ fn watched_kernel<'a>(
 }
 
 #[test]
+fn a_kernel_goes_with_its_open_objects(rt: HostRuntime) -> Result<(), Fail> {
+    let alloc = rt.alloc();
+    let watch = Watch::new(0);
+    let mut kernel = watched_kernel(alloc, &[b"a", b"b"], &[USER], &watch)?;
+    let request = open(alloc, b"b")?;
+    let mut retired = RetiredList::new(alloc)?;
+    assert!(rt; kernel.is_live(Pid(1)));
+    let done = kernel.step(Pid(1), 0, &request, &mut retired);
+    assert_eq!(rt; done.reply, Reply::Fd(Fd(0)));
+    assert_eq!(rt; watch.begun.load(Ordering::SeqCst), 0);
+    drop(kernel);
+    assert_eq!(rt; watch.begun.load(Ordering::SeqCst), 2);
+    Ok(())
+}
+
+#[test]
 fn objects_are_dropped_outside_the_lock(rt: HostRuntime) -> Result<(), Fail> {
     let alloc = rt.alloc();
     let watch = Watch::new(PATIENCE);
@@ -209,7 +226,7 @@ fn let_go<W: BookName, R: Wait>(
     if !is_answered(rt, &mut w.seat, Request::Close { fd: Fd(0) }, Reply::Ok) {
         return Err(Trouble::Wrong);
     }
-    w.must(rt, Request::Close { fd: Fd(1) }, Reply::Ok)?;
+    w.expect_reply(rt, Request::Close { fd: Fd(1) }, Reply::Ok)?;
     drop(worker.done(rt)?);
     if layer.off(rt).is_ok() {
         Ok(())
@@ -226,9 +243,9 @@ fn own<W: BookName, R: Wait>(
     path: &[u8],
     fd: Fd,
 ) -> Result<(), Trouble> {
-    worker.must(rt, open(alloc, path)?, Reply::Fd(fd))?;
+    worker.expect_reply(rt, open(alloc, path)?, Reply::Fd(fd))?;
     let path = Name::from_slice(alloc, path)?;
-    worker.must(rt, Request::Unlink { path }, Reply::Ok)
+    worker.expect_reply(rt, Request::Unlink { path }, Reply::Ok)
 }
 
 /// Takes the lock once in each of four drops, and says whether there were so many.
@@ -292,9 +309,9 @@ fn read_five<W: BookName, R: Wait>(
     seat: Seat<W, Watched<'_>>,
 ) -> Result<Done<W>, Trouble> {
     let mut worker = Worker::new(alloc, seat);
-    worker.must(rt, open(alloc, b"a")?, Reply::Fd(Fd(0)))?;
+    worker.expect_reply(rt, open(alloc, b"a")?, Reply::Fd(Fd(0)))?;
     let five = Bytes::from_slice(alloc, &FIVE)?;
-    worker.must(rt, Request::Read { fd: Fd(0), n: 8 }, Reply::Bytes(five))?;
+    worker.expect_reply(rt, Request::Read { fd: Fd(0), n: 8 }, Reply::Bytes(five))?;
     worker.done(rt)
 }
 
@@ -306,10 +323,10 @@ fn write_five<W: BookName, R: Wait>(
     seat: Seat<W, Watched<'_>>,
 ) -> Result<Done<W>, Trouble> {
     let mut worker = Worker::new(alloc, seat);
-    worker.must(rt, open(alloc, b"a")?, Reply::Fd(Fd(0)))?;
+    worker.expect_reply(rt, open(alloc, b"a")?, Reply::Fd(Fd(0)))?;
     let waits = comes_to(&watch.empty, 1, PATIENCE);
     let bytes = Bytes::from_slice(alloc, &FIVE)?;
-    worker.must(rt, Request::Write { fd: Fd(0), bytes }, Reply::Count(8))?;
+    worker.expect_reply(rt, Request::Write { fd: Fd(0), bytes }, Reply::Count(8))?;
     if waits {
         worker.done(rt)
     } else {

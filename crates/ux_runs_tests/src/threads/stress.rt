@@ -5,12 +5,19 @@ use std::alloc::{AllocError, Global};
 use std::test::Fail;
 use ux_syntax::parse_script;
 use ux_threads::NoGate;
+use ux_types::{Entry, Reply, Request};
 
 /// How many processes there are.
 const PROCESSES: u32 = 8;
 
 /// How often two processes wait for one another.
 const TURNS: usize = 100;
+
+/// The calls of a process up to the end of its turns: two opens, and a write and a read in each turn.
+const TURN_CALLS: u64 = 2 + 2 * TURNS as u64;
+
+/// The number 1, as a counter gives it.
+const ONE: [u8; 8] = [1, 0, 0, 0, 0, 0, 0, 0];
 
 /// How many calls of all kinds each process makes after that.
 const CALLS: usize = 1796;
@@ -114,6 +121,21 @@ fn push_line(
     text.extend_from_slice(line.as_bytes())
 }
 
+/// Whether this is a read of a turn, which gave the one that the neighbour wrote.
+fn is_turn_read(entry: &Entry) -> bool {
+    match (&entry.request, &entry.reply) {
+        (Request::Read { .. }, Reply::Bytes(bytes)) => {
+            entry.k < TURN_CALLS && bytes.as_slice() == ONE.as_slice()
+        }
+        _ => false,
+    }
+}
+
+/// How many reads of turns there are.
+fn turns_read(entries: &[Entry]) -> usize {
+    entries.iter().filter(|entry| is_turn_read(entry)).count()
+}
+
 /// A script of all this.
 fn stress_script(alloc: Global) -> Result<Vec<u8>, AllocError> {
     let mut text = Vec::from_slice(alloc, b"object p:0 counter\nobject p:1 counter\n")?;
@@ -155,5 +177,6 @@ fn eight_threads_make_calls_of_all_kinds(rt: HostRuntime) -> Result<(), Fail> {
     let script = parse_script(alloc, &text)?;
     let mut trace = Vec::new(alloc);
     let entries = history_of(&rt, alloc, &script, &mut trace, &NoGate)?;
+    assert_eq!(rt; turns_read(&entries), PROCESSES as usize * TURNS);
     repeat(&rt, alloc, &script, &entries, 16_009)
 }

@@ -7,5 +7,5 @@ pub returns-in-Begun-clause-begun : goal.returns-in-Begun-clause-begun
 returns-in-Begun-clause-begun g c = λ _.
     let entries = c.in-Begun.entries.items in
     let begun : HasBegun c.args.kernel (plan_of c.args.script.now) entries = rw c.in-Begun.is at c.in_ok-entries.ensures.runs in
-    let told = begun_either c.tell-told.result _ _ _ c.tell-told.ensures.ok c.tell-told.ensures.err in
-    (entries, begun, rw c.deref-in-Begun.ensures.value at told)
+    let written = begun_either c.finish_trace-written.result _ _ _ c.finish_trace-written.ensures.ok c.finish_trace-written.ensures.err in
+    (entries, begun, rw c.deref-in-Begun.ensures.value at written)
