@@ -12,7 +12,7 @@ use ux_object::{FileObject, ObjKind};
 use ux_types::{Errno, Fd, Mode, Name, OpenFlags, Pid, Refusal, Reply, Whence};
 
 /// The greatest offset: one of 63 bits (off_t of POSIX.1-2017, sys/types.h).
-const OFFSET_LIMIT: i128 = 9223372036854775807;
+const OFFSET_LIMIT: i128 = i64::MAX as i128;
 
 impl<O: FileObject> Kernel<O> {
     /// open(2). EINVAL for an invalid path, ENOENT for one that isn't there, EOPNOTSUPP for one of a
