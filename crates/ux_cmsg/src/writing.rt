@@ -74,11 +74,7 @@ fn put_items<A: Allocator>(
 fn space_for(cred: Option<Cred>, rights: &[Fd]) -> usize
     ensures { cred ≡ None → rights.now ≡ [] → result ≡ 0 }
 {
-    let for_cred = if cred.is_some() {
-        CMSG_CRED_SPACE
-    } else {
-        0
-    };
+    let for_cred = if cred.is_some() { CMSG_CRED_SPACE } else { 0 };
     if rights.is_empty() {
         return for_cred;
     }
