@@ -15,7 +15,7 @@ use Rattle.ux_model.specs.Delivery.{delivery, rights_bytes, control_bytes}
 use Rattle.ux_model.specs.State.{State, table_of}
 use Rattle.ux_model.specs.Outcome.{Outcome, Chosen, own, lacking_memory, failing}
 use Rattle.ux_model.specs.Delivered.{Brought, brought}
-use Rattle.ux_model.specs.Receiving.{receive_front, recv_msg}
+use Rattle.ux_model.specs.Receiving.{Incoming, incoming, receive_front, recv_msg}
 use Rattle.ux_model.specs.Giving.{numbers_received, rights_in}
 use Rattle.ux_model.proofs.Walk.{either}
 use Rattle.ux_model.proofs.Rising.{Rise}
@@ -140,19 +140,19 @@ front_control : (wanted : Bool) (cred : Cred) (rights : List ℕ) (space : ℕ) 
 unfolding delivery
 front_control wanted cred rights space table small = rights_again _ _ (rise_item (length table) _ small (delivery_rise wanted cred rights space table))
 
-front_reads : (S : State) (p d n space : ℕ) (fd : Fd) (s : Socket) (flags : MsgFlags) (front : Front) → length (table_of S p) ≤ table_limit →
-    (brought S p (Request.RecvMsg fd n space flags)).numbers ≡ (delivery s.passcred front.cred front.rights space (table_of S p)).numbers →
-    Reads S p (Request.RecvMsg fd n space flags) (receive_front S p d s space flags front).reply
+front_reads : (S : State) (p d : ℕ) (fd : Fd) (s : Socket) (asked : Incoming) (front : Front) → length (table_of S p) ≤ table_limit →
+    (brought S p (Request.RecvMsg fd asked.n asked.space asked.flags)).numbers ≡ (delivery s.passcred front.cred front.rights asked.space (table_of S p)).numbers →
+    Reads S p (Request.RecvMsg fd asked.n asked.space asked.flags) (receive_front S p d s asked front).reply
 unfolding receive_front
-front_reads S p d n space fd s flags front small same = front_control s.passcred front.cred front.rights space (table_of S p) small ∙ sym same
+front_reads S p d fd s asked front small same = front_control s.passcred front.cred front.rights asked.space (table_of S p) small ∙ sym same
 
 receive_reads : (S : State) (p n space : ℕ) (fd : Fd) (flags : MsgFlags) → length (table_of S p) ≤ table_limit → Reads S p (Request.RecvMsg fd n space flags) (recv_msg S p fd n space flags).reply
 unfolding recv_msg
 receive_reads S p n space fd flags small = by_socket Q S p fd _ (λ e. refl)
     (λ d s h there. either Q (not (are_receive_flags flags)) _ _ (λ b. refl)
-    (λ b. by_receive Q S p d s n space flags (λ e. refl) refl
+    (λ b. by_receive Q S p d s (incoming n space flags) (λ e. refl) refl
     (λ none. nothing_spelled ∙ sym (ap (λ (b : Brought). b.numbers) (brought_is S p d n space fd flags s s.queue h refl) ∙ nothing_is_brought s n space (table_of S p) s.queue none))
-    (λ m ms q. front_reads S p d n space fd s flags (front_of n s m ms) small (ap (λ (b : Brought). b.numbers) (brought_is S p d n space fd flags s (m ∷ ms) h q)))))
+    (λ m ms q. front_reads S p d fd s (incoming n space flags) (front_of n s m ms) small (ap (λ (b : Brought). b.numbers) (brought_is S p d n space fd flags s (m ∷ ms) h q)))))
   where
     Q : Outcome → Type 0
     Q o = Reads S p (Request.RecvMsg fd n space flags) o.reply

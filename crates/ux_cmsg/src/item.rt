@@ -4,10 +4,7 @@ ghost use Rattle.std.specs.Int.{w32, w64};
 ghost use Rattle.ux_model.specs.ControlReading.{number_at, cred_in, item_of, item_behind, item_at};
 ghost use Rattle.ux_cmsg.specs.Items.{item_view};
 
-use ux_types::{Cred, Pid};
-
-/// The bytes of an item's head: its length in 8, its level and its type in 4 each.
-pub(crate) const HEAD_LEN: u64 = 16;
+use ux_types::{CMSG_FD_LEN, CMSG_HEAD_LEN, Cred, Pid};
 
 /// The level of all items (SOL_SOCKET).
 pub(crate) const LEVEL: u32 = 1;
@@ -71,7 +68,7 @@ fn item_with(kind: u32, payload: &[u8]) -> Option<Item<'_>>
     ensures { option_map item_view result ≡ item_of kind payload.now }
 {
     match kind {
-        RIGHTS_TYPE if payload.len() % 4 == 0 => Some(Item::Rights(payload)),
+        RIGHTS_TYPE if payload.len() % CMSG_FD_LEN == 0 => Some(Item::Rights(payload)),
         CRED_TYPE => Some(Item::Cred(cred_of(payload)?)),
         _ => None,
     }
@@ -97,7 +94,7 @@ fn item_behind(len: u64, level: u32, kind: u32, rest: &[u8]) -> Option<(Item<'_>
     if level != LEVEL {
         return None;
     }
-    let payload_len = len.checked_sub(HEAD_LEN)?;
+    let payload_len = len.checked_sub(CMSG_HEAD_LEN as u64)?;
     let (payload, behind) = rest.split_at_checked(payload_len as usize)?;
     let item = item_with(kind, payload)?;
     Some((item, behind_padding(len, behind)))

@@ -12,7 +12,7 @@ use crate::control::Control;
 use crate::item::{Item, first_item, u32_at};
 use std::alloc::{AllocError, Allocator};
 use thiserror::Error;
-use ux_types::{Cred, Errno, Fd, Refusal};
+use ux_types::{CMSG_FD_LEN, Cred, Errno, Fd, Refusal};
 
 /// Why a control buffer wasn't read.
 #[derive(Clone, Copy, Debug, PartialEq, Eq, Error)]
@@ -90,7 +90,7 @@ fn read_numbers<A: Allocator>(alloc: A, payload: &[u8]) -> Result<Vec<Fd, A>, Al
     ensures numbers { IfOk result (λ numbers. map (λ fd. fd.0) numbers.items ≡ numbers_in payload.now) }
     ensures none { numbers_in payload.now ≡ [] → IsOk result }
 {
-    let mut numbers = Vec::with_capacity(alloc, payload.len() / 4)?;
+    let mut numbers = Vec::with_capacity(alloc, payload.len() / CMSG_FD_LEN)?;
     let mut rest = payload;
     while let Some((number, behind)) = u32_at(rest) {
         numbers.push_reserved(Fd(number));

@@ -5,18 +5,12 @@ ghost use Rattle.ux_model.specs.Delivery.{control_bytes};
 ghost use Rattle.ux_cmsg.specs.Items.{head_bytes};
 
 use crate::control::Control;
-use crate::item::{CRED_TYPE, HEAD_LEN, LEVEL, RIGHTS_TYPE};
+use crate::item::{CRED_TYPE, LEVEL, RIGHTS_TYPE};
 use std::alloc::{AllocError, Allocator};
-use ux_types::{Cred, Fd};
+use ux_types::{CMSG_CRED_LEN, CMSG_CRED_SPACE, CMSG_FD_LEN, CMSG_HEAD_LEN, Cred, Fd};
 
-/// The bytes of pid, uid and gid.
-const CRED_LEN: u64 = 12;
-
-/// What stands between credentials and the next multiple of 8.
-const PADDING: [u8; 4] = [0; 4];
-
-/// The room of credentials with their padding, CMSG_SPACE of cmsg(3).
-const CRED_SPACE: usize = 32;
+/// What stands between credentials and the next item.
+const PADDING: [u8; CMSG_CRED_SPACE - CMSG_CRED_LEN] = [0; CMSG_CRED_SPACE - CMSG_CRED_LEN];
 
 /// Adds the head of an item of this length, its payload counted.
 fn put_head<A: Allocator>(out: &mut Vec<u8, A>, len: u64, kind: u32) -> Result<(), AllocError>
@@ -33,7 +27,7 @@ fn put_cred<A: Allocator>(out: &mut Vec<u8, A>, cred: Cred) -> Result<(), AllocE
     ensures written { OnOk result (out.new.items ≡ out.old.items ++ item_bytes (cred_item cred)) }
     ensures fits { IsItem (cred_item cred) }
 {
-    put_head(out, HEAD_LEN + CRED_LEN, CRED_TYPE)?;
+    put_head(out, CMSG_CRED_LEN as u64, CRED_TYPE)?;
     out.extend_from_slice(&cred.pid.0.to_le_bytes())?;
     out.extend_from_slice(&cred.uid.to_le_bytes())?;
     out.extend_from_slice(&cred.gid.to_le_bytes())?;
@@ -45,7 +39,8 @@ fn put_rights<A: Allocator>(out: &mut Vec<u8, A>, rights: &[Fd]) -> Result<(), A
     ensures written { OnOk result (out.new.items ≡ out.old.items ++ item_bytes (rights_item (map (λ fd. fd.0) rights.now))) }
     ensures fits { OnOk result (IsItem (rights_item (map (λ fd. fd.0) rights.now))) }
 {
-    put_head(out, HEAD_LEN + 4 * rights.len() as u64, RIGHTS_TYPE)?;
+    let len = CMSG_HEAD_LEN + CMSG_FD_LEN * rights.len();
+    put_head(out, len as u64, RIGHTS_TYPE)?;
     for fd in rights {
         out.extend_from_slice(&fd.0.to_le_bytes())?;
     }
@@ -79,11 +74,11 @@ fn put_items<A: Allocator>(
 fn space_for(cred: Option<Cred>, rights: &[Fd]) -> usize
     ensures { cred ≡ None → rights.now ≡ [] → result ≡ 0 }
 {
-    let for_cred = if cred.is_some() { CRED_SPACE } else { 0 };
+    let for_cred = if cred.is_some() { CMSG_CRED_SPACE } else { 0 };
     if rights.is_empty() {
         return for_cred;
     }
-    for_cred + HEAD_LEN as usize + 4 * rights.len()
+    for_cred + CMSG_HEAD_LEN + CMSG_FD_LEN * rights.len()
 }
 
 /// The control buffer of a recvmsg(2): credentials first, then descriptor numbers where there is at least one,

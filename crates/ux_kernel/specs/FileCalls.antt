@@ -11,7 +11,7 @@ use Rattle.ux_object.specs.declared.ObjError.{ObjError}
 use Rattle.ux_model.specs.Description.{Description, to_object, to_socket}
 use Rattle.ux_model.specs.State.{State, description_at}
 use Rattle.ux_model.specs.Outcome.{Outcome, refuse, as_process}
-use Rattle.ux_model.specs.Sending.{write_socket}
+use Rattle.ux_model.specs.Sending.{sending, write_socket}
 use Rattle.ux_model.specs.Receiving.{read_socket}
 use Rattle.ux_model.specs.FileObjects.{on_object, holds_bytes, is_open_for}
 use Rattle.ux_model.specs.Reading.{read_object, is_short_read}
@@ -71,7 +71,7 @@ write_file S f bytes = on_object S f.object (λ view. write_object S f.id (descr
 abbrev pub write_of : State → ℕ → ℕ → ℕ → Description → List ℕ → Outcome
 write_of S p tag d D bytes = elim D.target [
   | to_object o ↦ on_object S o (λ view. write_object S d D o view bytes)
-  | to_socket s ↦ as_process S p (λ P. write_socket S p P tag d s bytes)
+  | to_socket s ↦ as_process S p (λ P. write_socket S (sending tag p P None bytes) d s)
 ]
 
 abbrev pub write_at : State → ℕ → ℕ → ℕ → List ℕ → Outcome

@@ -19,8 +19,8 @@ use Rattle.ux_model.specs.References.{path_names, orefs}
 use Rattle.ux_model.specs.Outcome.{Outcome, Chosen, own, lacking_memory, failing, descriptor_at}
 use Rattle.ux_model.specs.Naming.{unlink}
 use Rattle.ux_model.specs.Pairing.{make_pair, with_pair}
-use Rattle.ux_model.specs.Sending.{message_of, flight_limit}
-use Rattle.ux_model.specs.Receiving.{bytes_alone}
+use Rattle.ux_model.specs.Sending.{sending, message_of, flight_limit}
+use Rattle.ux_model.specs.Receiving.{incoming, bytes_alone}
 use Rattle.ux_model.specs.FileObjects.{holds_bytes, is_open_for}
 use Rattle.ux_model.specs.Opening.{open_file, file_description}
 use Rattle.ux_model.specs.Reading.{read, read_answer, read_error, offset_after_read, is_short_read}
@@ -253,7 +253,7 @@ read_obeys S p fd n = found (Call S) S p fd _ (refuses refl refl) (λ e D g h. b
     (λ b. either (Call S) (is_short_read view.body (min read_limit n)) _ _ (λ b. refuses refl refl)
     (λ b. either (Call S) (holds_bytes view.body && (min read_limit n == 0)) _ _ (λ b. answers refl refl refl refl still)
     (λ b. let held : IsHeldOpen S o = held_by S p fd e D o g h t in may_fail S _ o view _ held there (read_answer_obeys S o held view (read_body view.body D.offset (min read_limit n)) there))))))
-    (λ s t. socket_read_obeys S _ (receive_obeys S p e.description s (min read_limit n) 0 no_flags (socket_at_is S e.description D s h t))))
+    (λ s t. socket_read_obeys S _ (receive_obeys S p e.description s (incoming (min read_limit n) 0 no_flags) (socket_at_is S e.description D s h t))))
 
 write_answer_obeys : (S : State) (o : ℕ) (held : IsHeldOpen S o) (view : View) (r : Result (ℕ × Body) ObjectError) → place S.objects o ≡ Some view →
     Call S (write_answer S held.entry.description held.description o view r)
@@ -272,7 +272,7 @@ write_obeys S p tag fd bytes = found (Call S) S p fd _ (refuses refl refl) (λ e
     (λ b. either (Call S) (is_pipe view.body && not (is_open_for can_read S o)) _ _ (λ b. refuses refl refl)
     (λ b. let held : IsHeldOpen S o = held_by S p fd e D o g h t in may_fail S _ o view _ held there (write_answer_obeys S o held view (write_body view.body (write_place D view) bytes) there))))))
     (λ s t. maybe (Call S) (process_at S p) _ _ (refuses refl refl)
-    (λ P here. from_obeys S (flight_limit P) e.description s None (message_of P tag (own_cred p P) bytes []) (socket_at_is S e.description D s h t) (λ sound k gone. refl, flight_limit_is S p P here, omega arith, λ bounded. omega arith))))
+    (λ P here. from_obeys S (flight_limit P) e.description s None (message_of (sending tag p P None bytes) (own_cred p P) []) (socket_at_is S e.description D s h t) (λ sound k gone. refl, flight_limit_is S p P here, omega arith, λ bounded. omega arith))))
 
 seek_to_obeys : (S : State) (d : ℕ) (D : Description) (to : ℤ) → description_at S d ≡ Some D → Call S (seek_to S d D to)
 seek_to_obeys S d D (pos n) h = either (Call S) (nat_lt offset_limit n) _ _ (λ b. refuses refl refl)

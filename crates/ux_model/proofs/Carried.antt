@@ -14,7 +14,7 @@ use Rattle.ux_model.specs.State.{State, socket_at, table_of}
 use Rattle.ux_model.specs.Sending.{descriptions_behind}
 use Rattle.ux_model.specs.Outcome.{Outcome, Chosen, own, lacking_memory, failing, find_socket}
 use Rattle.ux_model.specs.Delivered.{Brought, nothing_brought, brought_from, brought, tag_of, delivered_by}
-use Rattle.ux_model.specs.Receiving.{receive_front, recv_msg}
+use Rattle.ux_model.specs.Receiving.{Incoming, incoming, receive_front, recv_msg}
 use Rattle.ux_model.specs.Giving.{given, description_in}
 use Rattle.ux_model.proofs.Walk.{either}
 use Rattle.ux_model.proofs.FrontRights.{IsFront, cred_front}
@@ -141,15 +141,15 @@ brought_carries S p n space fd flags some = go (find_socket S p fd) refl some
 abbrev Tells : State → ℕ → Request → Reply → Type 0
 Tells S p request reply = (given S p request reply ≡ []) ⊎ ((given S p request reply ≡ (brought S p request).numbers) × (delivered_by S p request reply ≡ tag_of (brought S p request)))
 
-front_told : (S : State) (p d n space asked : ℕ) (fd : Fd) (s : Socket) (flags : MsgFlags) (front : Front) → Tells S p (Request.RecvMsg fd n space flags) (receive_front S p d s asked flags front).reply
+front_told : (S : State) (p d n space : ℕ) (fd : Fd) (s : Socket) (flags : MsgFlags) (asked : Incoming) (front : Front) → Tells S p (Request.RecvMsg fd n space flags) (receive_front S p d s asked front).reply
 unfolding receive_front
-front_told S p d n space asked fd s flags front = inr (refl, refl)
+front_told S p d n space fd s flags asked front = inr (refl, refl)
 
 receive_tells : (S : State) (p n space : ℕ) (fd : Fd) (flags : MsgFlags) → Tells S p (Request.RecvMsg fd n space flags) (recv_msg S p fd n space flags).reply
 unfolding recv_msg
 receive_tells S p n space fd flags = by_socket Q S p fd _ (λ e. inl refl)
     (λ d s h there. either Q (not (are_receive_flags flags)) _ _ (λ b. inl refl)
-    (λ b. by_receive Q S p d s n space flags (λ e. inl refl) (inl refl) (λ none. inr (refl, refl)) (λ m ms q. front_told S p d n space space fd s flags (front_of n s m ms))))
+    (λ b. by_receive Q S p d s (incoming n space flags) (λ e. inl refl) (inl refl) (λ none. inr (refl, refl)) (λ m ms q. front_told S p d n space fd s flags (incoming n space flags) (front_of n s m ms))))
   where
     Q : Outcome → Type 0
     Q o = Tells S p (Request.RecvMsg fd n space flags) o.reply

@@ -20,6 +20,7 @@ pub mod Bounds
 pub mod Reaching
 pub mod HeldOpen
 pub mod Obeying
+pub mod LeastNames
 pub mod NameCalls
 pub mod OptionCalls
 pub mod MessageCalls

@@ -18,8 +18,8 @@ use Rattle.ux_model.specs.Process.{Process, Descriptor, own_cred}
 use Rattle.ux_model.specs.State.{State, is_live, process_at, description_at, socket_at, table_of, with_socket_by}
 use Rattle.ux_model.specs.References.{times, queue_refs, refs}
 use Rattle.ux_model.specs.Outcome.{Outcome, refuse, answer}
-use Rattle.ux_model.specs.Sending.{descriptions_behind, message_of, flight_limit, is_over_limit, enqueue, is_too_long, send_to_peer, send_connected, send_stream, send_to_target, send_by_association, send_by, send_datagram, send_from, is_sendable_addr, is_sendable_control, given_refusal, sent_cred, send_given, send_with, send_read, reading_control, send_msg}
-use Rattle.ux_model.specs.Receiving.{recv_msg, receive, receive_from_peer, at_end, receive_nothing, receive_front, with_delivered}
+use Rattle.ux_model.specs.Sending.{Sending, sending, descriptions_behind, message_of, flight_limit, is_over_limit, enqueue, is_too_long, send_to_peer, send_connected, send_stream, send_to_target, send_by_association, send_by, send_datagram, send_from, is_sendable_addr, is_sendable_control, given_refusal, sent_cred, send_given, send_with, send_read, reading_control, send_msg}
+use Rattle.ux_model.specs.Receiving.{Incoming, incoming, recv_msg, receive, receive_from_peer, at_end, receive_nothing, receive_front, with_delivered}
 use Rattle.ux_model.specs.Flight.{of_user, rights_sent_by, in_flight}
 use Rattle.ux_model.specs.FlightLaws.{AreLimited}
 use Rattle.ux_model.specs.Invariants.{LeftByRefusal}
@@ -248,17 +248,18 @@ of_cred : (S : State) (e : Errno) → (e ≡ Errno.EPERM) ⊎ (e ≡ Errno.ESRCH
 of_cred S e (inl is) = subst (λ f. Call S (refuse S f)) (sym is) (refuses refl refl)
 of_cred S e (inr is) = subst (λ f. Call S (refuse S f)) (sym is) (refuses refl refl)
 
-given_obeys : (S : State) (p : ℕ) (P : Process) (tag d : ℕ) (s : Socket) (addr : Option Addr) (bytes : List ℕ) (given : Option Cred) (rights : List ℕ) → process_at S p ≡ Some P → socket_at S d ≡ Some s →
-    (IsSound S → NamesNoneGone S rights) → length rights ≤ rights_limit → Call S (send_given S p P tag d s addr bytes given rights)
-given_obeys S p P tag d s addr bytes given rights here h names few = by_refusal (given_refusal S p P given) (tells_refusal S p P given)
+given_obeys : (S : State) (k : Sending) (d : ℕ) (s : Socket) (given : Option Cred) (rights : List ℕ) → process_at S k.caller ≡ Some k.process → socket_at S d ≡ Some s →
+    (IsSound S → NamesNoneGone S rights) → length rights ≤ rights_limit → Call S (send_given S k d s given rights)
+given_obeys S k d s given rights here h names few = by_refusal (given_refusal S k.caller k.process given) (tells_refusal S k.caller k.process given)
   where
     by_refusal : (o : Option Errno) → ((e : Errno) → o ≡ Some e → (e ≡ Errno.EPERM) ⊎ (e ≡ Errno.ESRCH)) → Call S (elim o as (λ _. Outcome) [
       | Some e ↦ refuse S e
-      | None ↦ if not (is_sendable_addr addr) then refuse S Errno.EINVAL else send_from S (flight_limit P) d s addr (message_of P tag (sent_cred p P given) bytes rights)
+      | None ↦ if not (is_sendable_addr k.addr) then refuse S Errno.EINVAL else send_from S (flight_limit k.process) d s k.addr (message_of k (sent_cred k.caller k.process given) rights)
     ])
     by_refusal (Some e) told = of_cred S e (told e refl)
-    by_refusal None told = either (Call S) (not (is_sendable_addr addr)) _ _ (λ b. refuses refl refl)
-        (λ b. from_obeys S (flight_limit P) d s addr (message_of P tag (sent_cred p P given) bytes rights) h (names, flight_limit_is S p P here, few, λ bounded. omega arith))
+    by_refusal None told = either (Call S) (not (is_sendable_addr k.addr)) _ _ (λ b. refuses refl refl)
+        (λ b. from_obeys S (flight_limit k.process) d s k.addr (message_of k (sent_cred k.caller k.process given) rights) h
+        (names, flight_limit_is S k.caller k.process here, few, λ bounded. omega arith))
 
 -- as many as the numbers that were given
 behind_long : (table : List (Option Descriptor)) (ns ds : List ℕ) → descriptions_behind table ns ≡ Some ds → length ds ≡ length ns
@@ -288,19 +289,17 @@ sendable_few kind bytes control rights h same = go (nat_lt rights_limit (length 
     go true is h = absurd (cc h)
     go false is h = let few = ltb-false rights_limit (length control.rights) is in omega (arith, few, same)
 
-with_obeys : (S : State) (p : ℕ) (P : Process) (tag d : ℕ) (s : Socket) (addr : Option Addr) (bytes : List ℕ) (control : Control) → process_at S p ≡ Some P → socket_at S d ≡ Some s →
-    Call S (send_with S p P tag d s addr bytes control)
+with_obeys : (S : State) (k : Sending) (d : ℕ) (s : Socket) (control : Control) → process_at S k.caller ≡ Some k.process → socket_at S d ≡ Some s → Call S (send_with S k d s control)
 unfolding send_with
-with_obeys S p P tag d s addr bytes control here h = either (Call S) (not (is_sendable_control s.kind bytes control)) _ _ (λ b. refuses refl refl)
-    (λ b. maybe (Call S) (descriptions_behind (table_of S p) control.rights) _ _ (refuses refl refl)
-    (λ rights behind. given_obeys S p P tag d s addr bytes control.cred rights here h (λ sound. behind_there S p control.rights rights sound behind)
-    (sendable_few s.kind bytes control rights b (behind_long (table_of S p) control.rights rights behind))))
+with_obeys S k d s control here h = either (Call S) (not (is_sendable_control s.kind k.bytes control)) _ _ (λ b. refuses refl refl)
+    (λ b. maybe (Call S) (descriptions_behind (table_of S k.caller) control.rights) _ _ (refuses refl refl)
+    (λ rights behind. given_obeys S k d s control.cred rights here h (λ sound. behind_there S k.caller control.rights rights sound behind)
+    (sendable_few s.kind k.bytes control rights b (behind_long (table_of S k.caller) control.rights rights behind))))
 
-read_obeys : (S : State) (p : ℕ) (P : Process) (tag d : ℕ) (s : Socket) (addr : Option Addr) (bytes : List ℕ) (control : Option Control) → process_at S p ≡ Some P → socket_at S d ≡ Some s →
-    Call S (send_read S p P tag d s addr bytes control)
+read_obeys : (S : State) (k : Sending) (d : ℕ) (s : Socket) (control : Option Control) → process_at S k.caller ≡ Some k.process → socket_at S d ≡ Some s → Call S (send_read S k d s control)
 unfolding send_read
-read_obeys S p P tag d s addr bytes None here h = refuses refl refl
-read_obeys S p P tag d s addr bytes (Some control) here h = with_obeys S p P tag d s addr bytes control here h
+read_obeys S k d s None here h = refuses refl refl
+read_obeys S k d s (Some control) here h = with_obeys S k d s control here h
 
 reading_obeys : (S : State) (control : List ℕ) (o : Outcome) → Call S o → Call S (reading_control control o)
 reading_obeys S control o obeys = record { own_reply = obeys.own_reply; refused = obeys.refused; failed = obeys.failed; reached = obeys.reached; objects = obeys.objects; alike = obeys.alike }
@@ -310,7 +309,7 @@ unfolding send_msg
 send_obeys S p tag fd addr bytes control flags = maybe (Call S) (process_at S p) _ _ (refuses refl refl)
     (λ P here. found_socket (Call S) S p fd _ (refuses refl refl) (refuses refl refl)
     (λ d s h. either (Call S) (not (are_send_flags flags)) _ _ (λ b. refuses refl refl)
-    (λ b. reading_obeys S control _ (read_obeys S p P tag d s addr bytes (control_in control) here h))))
+    (λ b. reading_obeys S control _ (read_obeys S (sending tag p P addr bytes) d s (control_in control) here h))))
 
 -- ---- receiving
 
@@ -366,16 +365,16 @@ front_there S d n s m ms h q sound k gone =
     let none : refs S k ≡ 0 = sound.held.no_description_dangles k gone in
     omega (arith, counted, none)
 
-front_obeys : (S : State) (p d n : ℕ) (s : Socket) (space : ℕ) (flags : MsgFlags) (m : Message) (ms : List Message) → socket_at S d ≡ Some s → s.queue ≡ m ∷ ms →
-    Call S (receive_front S p d s space flags (front_of n s m ms))
+front_obeys : (S : State) (p d : ℕ) (s : Socket) (asked : Incoming) (m : Message) (ms : List Message) → socket_at S d ≡ Some s → s.queue ≡ m ∷ ms →
+    Call S (receive_front S p d s asked (front_of asked.n s m ms))
 unfolding receive_front
-front_obeys S p d n s space flags m ms h q = answers refl refl refl (same (asks_peek flags)) (peeked (asks_peek flags))
+front_obeys S p d s asked m ms h q = answers refl refl refl (same (asks_peek asked.flags)) (peeked (asks_peek asked.flags))
   where
     front : Front
-    front = front_of n s m ms
+    front = front_of asked.n s m ms
 
     T : State
-    T = with_delivered S p flags front (delivery s.passcred front.cred front.rights space (table_of S p))
+    T = with_delivered S p asked.flags front (delivery s.passcred front.cred front.rights asked.space (table_of S p))
 
     alike : T.descriptions ≡ S.descriptions
     alike = same_descriptions S p _
@@ -385,7 +384,7 @@ front_obeys S p d n s space flags m ms h q = answers refl refl refl (same (asks_
     same false = with_table_objects S p _
 
     delivered : Reaches S false T
-    delivered = with_table_reached S p _ still (λ sound. installed_names S (table_of S p) (table_of S p) (asks_cloexec_rights flags) _ front.rights (front_there S d n s m ms h q sound) (same_names S (table_of S p)))
+    delivered = with_table_reached S p _ still (λ sound. installed_names S (table_of S p) (table_of S p) (asks_cloexec_rights asked.flags) _ front.rights (front_there S d asked.n s m ms h q sound) (same_names S (table_of S p)))
 
     same_as : (t : Socket) → socket_at T d ≡ Some t → s ≡ t
     same_as t here =
@@ -395,12 +394,12 @@ front_obeys S p d n s space flags m ms h q = answers refl refl refl (same (asks_
     fewer : (t : Socket) → socket_at T d ≡ Some t → (k : ℕ) → queue_refs k front.rest ≤ queue_refs k t.queue
     fewer t here k =
         let all : queue_refs k t.queue ≡ queue_refs k (m ∷ ms) = ap (λ u. queue_refs k (Socket.queue u)) (sym (same_as t here)) ∙ ap (queue_refs k) q in
-        let parts = front_of_refs k n s m ms in
+        let parts = front_of_refs k asked.n s m ms in
         omega (arith, all, parts)
 
     fewer_flying : (t : Socket) → socket_at T d ≡ Some t → (u : ℕ) → rights_sent_by u front.rest ≤ rights_sent_by u t.queue
     fewer_flying t here u =
-        let parts = front_of_flying u n s m ms in
+        let parts = front_of_flying u asked.n s m ms in
         let all : rights_sent_by u t.queue ≡ rights_sent_by u (m ∷ ms) = ap (λ w. rights_sent_by u (Socket.queue w)) (sym (same_as t here)) ∙ ap (rights_sent_by u) q in
         omega (arith, all, parts)
 
@@ -408,23 +407,23 @@ front_obeys S p d n s space flags m ms h q = answers refl refl refl (same (asks_
     still_bounded t here own =
         let same : s ≡ t = same_as t here in
         let before : HasBounds s.kind s.name s.queue_limit (m ∷ ms) = subst (λ (l : List Message). HasBounds s.kind s.name s.queue_limit l) q (subst IsBounded (sym same) own) in
-        subst (λ (u : Socket). HasBounds u.kind u.name u.queue_limit front.rest) same (rest_bounded n s m ms before)
+        subst (λ (u : Socket). HasBounds u.kind u.name u.queue_limit front.rest) same (rest_bounded asked.n s m ms before)
 
     peeked : (b : Bool) → Reaches S false (if b then T else with_socket_by T d (with_queue front.rest))
     peeked true = delivered
     peeked false = with_socket_reached T d (with_queue front.rest) delivered (λ sound t here. queue_changed T d t front.rest t.reset (λ k gone. fewer t here k) (fewer_flying t here) (still_bounded t here))
 
-from_peer_obeys : (S : State) (p d : ℕ) (s : Socket) (n space : ℕ) (flags : MsgFlags) → socket_at S d ≡ Some s → Call S (receive_from_peer S p d s n space flags)
-from_peer_obeys S p d s n space flags h = maybe (Call S) (peer_of s.phase) _ _ (refuses refl refl)
-    (λ peer is. either (Call S) (is_stream s.kind && (n == 0)) _ _ (λ b. answers refl refl refl refl still)
-    (λ b. by_queue (Call S) s.queue _ _ (λ none. nothing_obeys S d s peer h) (λ m ms q. front_obeys S p d n s space flags m ms h q)))
+from_peer_obeys : (S : State) (p d : ℕ) (s : Socket) (asked : Incoming) → socket_at S d ≡ Some s → Call S (receive_from_peer S p d s asked)
+from_peer_obeys S p d s asked h = maybe (Call S) (peer_of s.phase) _ _ (refuses refl refl)
+    (λ peer is. either (Call S) (is_stream s.kind && (asked.n == 0)) _ _ (λ b. answers refl refl refl refl still)
+    (λ b. by_queue (Call S) s.queue _ _ (λ none. nothing_obeys S d s peer h) (λ m ms q. front_obeys S p d s asked m ms h q)))
 
-pub receive_obeys : (S : State) (p d : ℕ) (s : Socket) (n space : ℕ) (flags : MsgFlags) → socket_at S d ≡ Some s → Call S (receive S p d s n space flags)
-receive_obeys S p d s n space flags h = either (Call S) (is_dgram s.kind) _ _
-    (λ b. by_queue (Call S) s.queue _ _ (λ none. either (Call S) s.read_shut _ _ (λ c. answers refl refl refl refl still) (λ c. refuses refl refl)) (λ m ms q. front_obeys S p d n s space flags m ms h q))
-    (λ b. from_peer_obeys S p d s n space flags h)
+pub receive_obeys : (S : State) (p d : ℕ) (s : Socket) (asked : Incoming) → socket_at S d ≡ Some s → Call S (receive S p d s asked)
+receive_obeys S p d s asked h = either (Call S) (is_dgram s.kind) _ _
+    (λ b. by_queue (Call S) s.queue _ _ (λ none. either (Call S) s.read_shut _ _ (λ c. answers refl refl refl refl still) (λ c. refuses refl refl)) (λ m ms q. front_obeys S p d s asked m ms h q))
+    (λ b. from_peer_obeys S p d s asked h)
 
 pub recv_obeys : (S : State) (p : ℕ) (fd : Fd) (n space : ℕ) (flags : MsgFlags) → Call S (recv_msg S p fd n space flags)
 unfolding recv_msg
 recv_obeys S p fd n space flags = found_socket (Call S) S p fd _ (refuses refl refl) (refuses refl refl)
-    (λ d s h. either (Call S) (not (are_receive_flags flags)) _ _ (λ b. refuses refl refl) (λ b. receive_obeys S p d s n space flags h))
+    (λ d s h. either (Call S) (not (are_receive_flags flags)) _ _ (λ b. refuses refl refl) (λ b. receive_obeys S p d s (incoming n space flags) h))

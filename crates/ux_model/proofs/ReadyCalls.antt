@@ -14,8 +14,8 @@ use Rattle.ux_model.specs.Process.{Process, own_cred}
 use Rattle.ux_model.specs.State.{State, socket_at, process_at, with_socket_by}
 use Rattle.ux_model.specs.Outcome.{Outcome, refuse, answer, growing, find_socket}
 use Rattle.ux_model.specs.Connecting.{listener_of}
-use Rattle.ux_model.specs.Sending.{flight_limit, is_over_limit, enqueue, is_too_long, send_connected, send_to_target, send_by_association, send_datagram, send_stream, send_from, send_with, send_read, reading_control, send_msg}
-use Rattle.ux_model.specs.Receiving.{nothing_received, receive_front, receive_connected, receive_from_peer, receive_datagram, receive, recv_msg}
+use Rattle.ux_model.specs.Sending.{sending, flight_limit, is_over_limit, enqueue, is_too_long, send_connected, send_to_target, send_by_association, send_datagram, send_stream, send_from, send_with, send_read, reading_control, send_msg}
+use Rattle.ux_model.specs.Receiving.{incoming, nothing_received, receive_front, receive_connected, receive_from_peer, receive_datagram, receive, recv_msg}
 use Rattle.ux_model.specs.Readiness.{Conditions, by_peer, listener_conditions, stream_conditions, target_takes, sends_at_once, datagram_conditions, socket_conditions}
 use Rattle.ux_model.specs.Step.{outcome}
 use Rattle.ux_model.specs.ReadyCalls.{moves_data, TellsInput, TellsRoom}
@@ -36,7 +36,7 @@ surely S = (λ h. refl, λ h. refl)
 
 -- ---- receiving
 
-front_never : (S : State) (p d : ℕ) (s : Socket) (m : Message) (ms : List Message) → Waits true (receive_front S p d s 0 no_flags (front_of 1 s m ms))
+front_never : (S : State) (p d : ℕ) (s : Socket) (m : Message) (ms : List Message) → Waits true (receive_front S p d s (incoming 1 0 no_flags) (front_of 1 s m ms))
 unfolding receive_front
 front_never S p d s m ms = never _ refl
 
@@ -45,7 +45,7 @@ waiting m ms = ne_eqb (length (m ∷ ms)) 0 (λ e. absurd (omega (arith, e)))
 
 datagram_input : (S : State) (p d : ℕ) (s : Socket) (q : List Message) (shut : Bool) → Waits (not (length q == 0) || shut) (elim q as (λ _. Outcome) [
   | [] ↦ if shut then answer nothing_received S else refuse S Errno.EAGAIN
-  | m ∷ ms ↦ receive_front S p d s 0 no_flags (front_of 1 s m ms)
+  | m ∷ ms ↦ receive_front S p d s (incoming 1 0 no_flags) (front_of 1 s m ms)
 ])
 datagram_input S p d s [] true = never _ refl
 datagram_input S p d s [] false = surely S
@@ -59,7 +59,7 @@ connected_input : (S : State) (p d : ℕ) (s : Socket) (stream : Bool) (q : List
           if reset then answer (Reply.Err Errno.ECONNRESET) (with_socket_by S d (with_reset false)) else
           if over then answer nothing_received S else
           refuse S Errno.EAGAIN
-      | m ∷ ms ↦ receive_front S p d s 0 no_flags (front_of 1 s m ms)
+      | m ∷ ms ↦ receive_front S p d s (incoming 1 0 no_flags) (front_of 1 s m ms)
     ])
 connected_input S p d s true [] true over = never _ refl
 connected_input S p d s true [] false true = never _ refl
@@ -74,7 +74,7 @@ lost_input : (S : State) (p d : ℕ) (s : Socket) (stream : Bool) (q : List Mess
     if stream && (1 == 0) then answer nothing_received S else
     elim q as (λ _. Outcome) [
       | [] ↦ if reset then answer (Reply.Err Errno.ECONNRESET) (with_socket_by S d (with_reset false)) else answer nothing_received S
-      | m ∷ ms ↦ receive_front S p d s 0 no_flags (front_of 1 s m ms)
+      | m ∷ ms ↦ receive_front S p d s (incoming 1 0 no_flags) (front_of 1 s m ms)
     ])
 lost_input S p d s true [] true = never _ refl
 lost_input S p d s true [] false = never _ refl
@@ -90,23 +90,23 @@ peer_input : (S : State) (p d : ℕ) (s : Socket) (o : Option Socket) → Waits 
           if s.reset then answer (Reply.Err Errno.ECONNRESET) (with_socket_by S d (with_reset false)) else
           if (elim o as (λ _. Bool) [ None ↦ true | Some other ↦ s.read_shut || other.write_shut ]) then answer nothing_received S else
           refuse S Errno.EAGAIN
-      | m ∷ ms ↦ receive_front S p d s 0 no_flags (front_of 1 s m ms)
+      | m ∷ ms ↦ receive_front S p d s (incoming 1 0 no_flags) (front_of 1 s m ms)
     ])
 peer_input S p d s None = lost_input S p d s (is_stream s.kind) s.queue s.reset
 peer_input S p d s (Some other) = connected_input S p d s (is_stream s.kind) s.queue s.reset (s.read_shut || other.write_shut)
 
-socket_input : (S : State) (p d : ℕ) (s : Socket) → moves_data s ≡ true → Waits (socket_conditions S d s).readable (receive S p d s 1 0 no_flags)
+socket_input : (S : State) (p d : ℕ) (s : Socket) → moves_data s ≡ true → Waits (socket_conditions S d s).readable (receive S p d s (incoming 1 0 no_flags))
 unfolding socket_conditions
 socket_input S p d s h = by_kind (is_dgram s.kind) h
   where
     by_tie : (o : Option ℕ) → is_some o ≡ true →
         Waits (elim o as (λ _. Conditions) [ None ↦ listener_conditions (listener_of s.phase) | Some peer ↦ by_peer s (socket_at S peer) ]).readable
-        (elim o as (λ _. Outcome) [ None ↦ refuse S Errno.ENOTCONN | Some peer ↦ receive_connected S p d s peer 1 0 no_flags ])
+        (elim o as (λ _. Outcome) [ None ↦ refuse S Errno.ENOTCONN | Some peer ↦ receive_connected S p d s peer (incoming 1 0 no_flags) ])
     by_tie None h = absurd (cc h)
     by_tie (Some peer) h = peer_input S p d s (socket_at S peer)
 
     by_kind : (b : Bool) → (b || is_some (peer_of s.phase)) ≡ true → Waits (if b then datagram_conditions S d s else stream_conditions S s).readable
-        (if b then receive_datagram S p d s 1 0 no_flags else receive_from_peer S p d s 1 0 no_flags)
+        (if b then receive_datagram S p d s (incoming 1 0 no_flags) else receive_from_peer S p d s (incoming 1 0 no_flags))
     by_kind true h = datagram_input S p d s s.queue s.read_shut
     by_kind false h = by_tie (peer_of s.phase) h
 
@@ -114,7 +114,7 @@ pub tells_input : TellsInput
 unfolding outcome recv_msg
 tells_input S p tag fd d s found h = subst (λ (r : Result (ℕ × Socket) Errno). Waits (socket_conditions S d s).readable (elim r as (λ _. Outcome) [
   | Err e ↦ refuse S e
-  | Ok f ↦ if not (are_receive_flags no_flags) then refuse S Errno.EINVAL else receive S p f.0 f.1 1 0 no_flags
+  | Ok f ↦ if not (are_receive_flags no_flags) then refuse S Errno.EINVAL else receive S p f.0 f.1 (incoming 1 0 no_flags)
 ])) (sym found) (socket_input S p d s h)
 
 -- ---- sending
@@ -230,7 +230,7 @@ past true S o w = w
 past false S o w = w
 
 with_room : (S : State) (p : ℕ) (P : Process) (tag byte d : ℕ) (s : Socket) → moves_data s ≡ true → Waits (socket_conditions S d s).writable
-    (send_with S p P tag d s None (byte ∷ []) (record { cred = None; rights = [] }))
+    (send_with S (sending tag p P None (byte ∷ [])) d s (record { cred = None; rights = [] }))
 unfolding send_with
 with_room S p P tag byte d s h = past (is_stream s.kind) S _ (from_room S (flight_limit P) d s tag byte (own_cred p P) P.uid h)
 
@@ -244,7 +244,7 @@ tells_room S p tag fd byte d s live found h = by_process (process_at S p) live
     by_socket : Process → Result (ℕ × Socket) Errno → Outcome
     by_socket P r = elim r as (λ _. Outcome) [
       | Err e ↦ refuse S e
-      | Ok f ↦ if not (are_send_flags no_flags) then refuse S Errno.EINVAL else reading_control [] (send_with S p P tag f.0 f.1 None (byte ∷ []) nothing)
+      | Ok f ↦ if not (are_send_flags no_flags) then refuse S Errno.EINVAL else reading_control [] (send_with S (sending tag p P None (byte ∷ [])) f.0 f.1 nothing)
     ]
 
     by_process : (o : Option Process) → IsTrue (elim o as (λ _. Bool) [ Some P ↦ not P.exited | None ↦ false ]) → Waits (socket_conditions S d s).writable (elim o as (λ _. Outcome) [

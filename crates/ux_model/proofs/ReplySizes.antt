@@ -13,7 +13,7 @@ use Rattle.ux_model.specs.Names.{named, is_valid_path, is_valid_addr, is_unnamed
 use Rattle.ux_model.specs.Message.{Message}
 use Rattle.ux_model.specs.Control.{Control}
 use Rattle.ux_model.specs.ControlReading.{control_in}
-use Rattle.ux_model.specs.Front.{front_of}
+use Rattle.ux_model.specs.Front.{Front, front_of}
 use Rattle.ux_model.specs.Socket.{Socket, is_stream, is_dgram, peer_of, pending_ends, association_of, tied_socket, takes_from, has_room}
 use Rattle.ux_model.specs.Description.{Description, to_socket, socket_of, socket_in}
 use Rattle.ux_model.specs.Process.{Process, own_cred, lowest_free, two_lowest_free}
@@ -24,8 +24,8 @@ use Rattle.ux_model.specs.Pairing.{make_pair}
 use Rattle.ux_model.specs.Binding.{bind_to, bind, get_sock_name}
 use Rattle.ux_model.specs.Connecting.{make_socket, listener_of, listen, connect_stream, connect_datagram, connect, get_peer_name, shutdown}
 use Rattle.ux_model.specs.Accepting.{client_name, name_of_peer, present_name, accept_first, accept}
-use Rattle.ux_model.specs.Sending.{descriptions_behind, message_of, flight_limit, is_over_limit, enqueue, is_too_long, send_to_peer, send_stream, send_to_target, send_by_association, send_by, send_from, is_sendable_addr, is_sendable_control, given_refusal, sent_cred, send_given, send_with, send_read, reading_control, send_msg}
-use Rattle.ux_model.specs.Receiving.{at_end, receive_nothing, receive_front, receive, recv_msg, bytes_alone}
+use Rattle.ux_model.specs.Sending.{Sending, sending, descriptions_behind, message_of, flight_limit, is_over_limit, enqueue, is_too_long, send_to_peer, send_stream, send_to_target, send_by_association, send_by, send_from, is_sendable_addr, is_sendable_control, given_refusal, sent_cred, send_given, send_with, send_read, reading_control, send_msg}
+use Rattle.ux_model.specs.Receiving.{Incoming, incoming, at_end, receive_nothing, receive_front, receive, recv_msg, bytes_alone}
 use Rattle.ux_model.specs.FileObjects.{holds_bytes, is_open_for, or_failing}
 use Rattle.ux_model.specs.Opening.{open_file}
 use Rattle.ux_model.specs.Reading.{is_short_read, read_error, read_answer, read}
@@ -260,21 +260,21 @@ from_plain S limit d s addr m = either Plain (is_dgram s.kind) _ _
     (λ b. either Plain (nat_lt record_bytes_limit (length m.bytes)) _ _ (λ c. plain refl) (λ c. either Plain s.write_shut _ _ (λ e. plain refl) (λ e. by_plain S limit d s addr (record m { from = Some s.name }))))
     (λ b. to_stream_plain S limit s.write_shut (peer_of s.phase) addr m)
 
-given_plain : (S : State) (p : ℕ) (P : Process) (tag d : ℕ) (s : Socket) (addr : Option Addr) (bytes : List ℕ) (given : Option Cred) (rights : List ℕ) → Plain (send_given S p P tag d s addr bytes given rights)
-given_plain S p P tag d s addr bytes given rights = maybe_not (given_refusal S p P given)
+given_plain : (S : State) (k : Sending) (d : ℕ) (s : Socket) (given : Option Cred) (rights : List ℕ) → Plain (send_given S k d s given rights)
+given_plain S k d s given rights = maybe_not (given_refusal S k.caller k.process given)
   where
     maybe_not : (o : Option Errno) → Plain (elim o as (λ _. Outcome) [
       | Some e ↦ refuse S e
-      | None ↦ if not (is_sendable_addr addr) then refuse S Errno.EINVAL else send_from S (flight_limit P) d s addr (message_of P tag (sent_cred p P given) bytes rights)
+      | None ↦ if not (is_sendable_addr k.addr) then refuse S Errno.EINVAL else send_from S (flight_limit k.process) d s k.addr (message_of k (sent_cred k.caller k.process given) rights)
     ])
     maybe_not (Some e) = plain refl
-    maybe_not None = either Plain (not (is_sendable_addr addr)) _ _ (λ b. plain refl) (λ b. from_plain S (flight_limit P) d s addr _)
+    maybe_not None = either Plain (not (is_sendable_addr k.addr)) _ _ (λ b. plain refl) (λ b. from_plain S (flight_limit k.process) d s k.addr _)
 
-read_plain : (S : State) (p : ℕ) (P : Process) (tag d : ℕ) (s : Socket) (addr : Option Addr) (bytes : List ℕ) (control : Option Control) → Plain (send_read S p P tag d s addr bytes control)
+read_plain : (S : State) (k : Sending) (d : ℕ) (s : Socket) (control : Option Control) → Plain (send_read S k d s control)
 unfolding send_read send_with
-read_plain S p P tag d s addr bytes None = plain refl
-read_plain S p P tag d s addr bytes (Some control) = either Plain (not (is_sendable_control s.kind bytes control)) _ _ (λ b. plain refl)
-    (λ b. maybe Plain (descriptions_behind (table_of S p) control.rights) _ _ (plain refl) (λ rights behind. given_plain S p P tag d s addr bytes control.cred rights))
+read_plain S k d s None = plain refl
+read_plain S k d s (Some control) = either Plain (not (is_sendable_control s.kind k.bytes control)) _ _ (λ b. plain refl)
+    (λ b. maybe Plain (descriptions_behind (table_of S k.caller) control.rights) _ _ (plain refl) (λ rights behind. given_plain S k d s control.cred rights))
 
 reading_plain : (control : List ℕ) (o : Outcome) → Plain o → Plain (reading_control control o)
 reading_plain control o w = record { fits = w.fits }
@@ -282,7 +282,7 @@ reading_plain control o w = record { fits = w.fits }
 send_plain : (S : State) (p tag : ℕ) (fd : Fd) (addr : Option Addr) (bytes control : List ℕ) (flags : MsgFlags) → Plain (send_msg S p tag fd addr bytes control flags)
 unfolding send_msg
 send_plain S p tag fd addr bytes control flags = maybe Plain (process_at S p) _ _ (plain refl) (λ P here. found_socket Plain S p fd _ (plain refl) (plain refl)
-    (λ d s h. either Plain (not (are_send_flags flags)) _ _ (λ b. plain refl) (λ b. reading_plain control _ (read_plain S p P tag d s addr bytes (control_in control)))))
+    (λ d s h. either Plain (not (are_send_flags flags)) _ _ (λ b. plain refl) (λ b. reading_plain control _ (read_plain S (sending tag p P addr bytes) d s (control_in control)))))
 
 write_plain : (S : State) (p tag : ℕ) (fd : Fd) (bytes : List ℕ) → Plain (write S p tag fd bytes)
 unfolding write
@@ -375,27 +375,31 @@ received n space count bytes control flags from T grows few limited small short 
 nothing_received : {n space : ℕ} (S : State) → Receives n space (record { reply = Reply.Received no_flags 0 [] [] None; next = S; may_lack_memory = false; failure = None })
 nothing_received {n} {space} S = received n space 0 [] [] no_flags None S false (omega arith) (omega arith) (omega arith) (omega arith)
 
-front_within : (S : State) (p d : ℕ) (s : Socket) (n space : ℕ) (flags : MsgFlags) (m : Message) (ms : List Message) → HasBounds s.kind s.name s.queue_limit s.queue → s.queue ≡ m ∷ ms →
-    Receives n space (receive_front S p d s space flags (front_of n s m ms))
+front_within : (S : State) (p d : ℕ) (s : Socket) (asked : Incoming) (m : Message) (ms : List Message) → HasBounds s.kind s.name s.queue_limit s.queue → s.queue ≡ m ∷ ms →
+    Receives asked.n asked.space (receive_front S p d s asked (front_of asked.n s m ms))
 unfolding receive_front
-front_within S p d s n space flags m ms bounds q =
-    let small = front_small n s m ms (subst (λ (l : List Message). HasBounds s.kind s.name s.queue_limit l) q bounds) in
-    received n space _ _ _ _ _ _ true small.few small.limited (control_small s.passcred (front_of n s m ms).cred (front_of n s m ms).rights space (table_of S p) small.few_rights) small.short
+front_within S p d s asked m ms bounds q =
+    let front : Front = front_of asked.n s m ms in
+    let small = front_small asked.n s m ms (subst (λ (l : List Message). HasBounds s.kind s.name s.queue_limit l) q bounds) in
+    received asked.n asked.space _ _ _ _ _ _ true small.few small.limited (control_small s.passcred front.cred front.rights asked.space (table_of S p) small.few_rights) small.short
 
-receive_within : (S : State) (p d : ℕ) (s : Socket) (n space : ℕ) (flags : MsgFlags) → HasBounds s.kind s.name s.queue_limit s.queue → Receives n space (receive S p d s n space flags)
-receive_within S p d s n space flags bounds = either (Receives n space) (is_dgram s.kind) _ _
-    (λ b. by_queue (Receives n space) s.queue _ _ (λ none. either (Receives n space) s.read_shut _ _ (λ c. nothing_received S) (λ c. no_message refl refl)) (λ m ms q. front_within S p d s n space flags m ms bounds q))
-    (λ b. maybe (Receives n space) (peer_of s.phase) _ _ (no_message refl refl) (λ peer is. either (Receives n space) (is_stream s.kind && (n == 0)) _ _ (λ c. nothing_received S)
-    (λ c. by_queue (Receives n space) s.queue _ _ (λ none. nothing_within peer) (λ m ms q. front_within S p d s n space flags m ms bounds q))))
+receive_within : (S : State) (p d : ℕ) (s : Socket) (asked : Incoming) → HasBounds s.kind s.name s.queue_limit s.queue → Receives asked.n asked.space (receive S p d s asked)
+receive_within S p d s asked bounds = either Q (is_dgram s.kind) _ _
+    (λ b. by_queue Q s.queue _ _ (λ none. either Q s.read_shut _ _ (λ c. nothing_received S) (λ c. no_message refl refl)) (λ m ms q. front_within S p d s asked m ms bounds q))
+    (λ b. maybe Q (peer_of s.phase) _ _ (no_message refl refl) (λ peer is. either Q (is_stream s.kind && (asked.n == 0)) _ _ (λ c. nothing_received S)
+    (λ c. by_queue Q s.queue _ _ (λ none. nothing_within peer) (λ m ms q. front_within S p d s asked m ms bounds q))))
   where
-    nothing_within : (peer : ℕ) → Receives n space (receive_nothing S d s peer)
-    nothing_within peer = either (Receives n space) s.reset _ _ (λ b. no_message refl refl) (λ b. either (Receives n space) (at_end S s peer) _ _ (λ c. nothing_received S) (λ c. no_message refl refl))
+    Q : Outcome → Type 0
+    Q = Receives asked.n asked.space
+
+    nothing_within : (peer : ℕ) → Q (receive_nothing S d s peer)
+    nothing_within peer = either Q s.reset _ _ (λ b. no_message refl refl) (λ b. either Q (at_end S s peer) _ _ (λ c. nothing_received S) (λ c. no_message refl refl))
 
 recv_within : (S : State) (p : ℕ) (fd : Fd) (n space : ℕ) (flags : MsgFlags) → AreBounded S → Within (message_room n space) (recv_msg S p fd n space flags)
 unfolding recv_msg
 recv_within S p fd n space flags all = found_socket (Within (message_room n space)) S p fd _ (plain refl) (plain refl)
     (λ d s h. either (Within (message_room n space)) (not (are_receive_flags flags)) _ _ (λ b. plain refl)
-    (λ b. record { fits = (receive_within S p d s n space flags (socket_bounded S d s all h)).fits }))
+    (λ b. record { fits = (receive_within S p d s (incoming n space flags) (socket_bounded S d s all h)).fits }))
 
 -- ---- reads
 
@@ -442,7 +446,7 @@ read_within S p fd n all = found Q S p fd _ (plain refl) (λ e D g h. by_target 
     (λ o t. maybe Q (place S.objects o) _ _ (plain refl) (λ view there. either Q (not (can_read D.mode)) _ _ (λ b. plain refl)
     (λ b. either Q (is_short_read view.body most) _ _ (λ b. plain refl) (λ b. either Q (holds_bytes view.body && (most == 0)) _ _ (λ b. record { fits = bytes_fit most [] (omega arith) })
     (λ b. failing_within (data_room most) S o view _ (read_answer_within most S e.description D o view (read_body view.body D.offset most) (few_read view.body D.offset most)))))))
-    (λ s t. record { fits = (receive_within S p e.description s most 0 no_flags (socket_bounded S e.description s all (socket_is S e.description D s h t))).alone }))
+    (λ s t. record { fits = (receive_within S p e.description s (incoming most 0 no_flags) (socket_bounded S e.description s all (socket_is S e.description D s h t))).alone }))
   where
     most : ℕ
     most = min read_limit n

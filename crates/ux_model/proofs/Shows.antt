@@ -26,8 +26,8 @@ use Rattle.ux_model.specs.Pairing.{make_pair, with_pair, socket_description}
 use Rattle.ux_model.specs.Binding.{bind_to, bind, get_sock_name, with_name}
 use Rattle.ux_model.specs.Connecting.{make_socket, listener_of, with_listening, listen, connect_to, connect_stream, connect_datagram, connect, get_peer_name, shutdown, with_connection, server_end, tied, no_open_flags}
 use Rattle.ux_model.specs.Accepting.{accept_first, accept, with_accepted, without_first_end, as_accepted, accepted_with, client_name}
-use Rattle.ux_model.specs.Sending.{message_of, flight_limit, is_over_limit, enqueue, is_too_long, send_connected, send_stream, send_to_target, send_by_association, send_by, send_from, is_sendable_addr, is_sendable_control, given_refusal, sent_cred, send_given, send_with, send_read, send_msg, descriptions_behind}
-use Rattle.ux_model.specs.Receiving.{with_delivered, receive_front, nothing_received, at_end, receive, recv_msg, bytes_alone}
+use Rattle.ux_model.specs.Sending.{Sending, sending, message_of, flight_limit, is_over_limit, enqueue, is_too_long, send_connected, send_stream, send_to_target, send_by_association, send_by, send_from, is_sendable_addr, is_sendable_control, given_refusal, sent_cred, send_given, send_with, send_read, send_msg, descriptions_behind}
+use Rattle.ux_model.specs.Receiving.{Incoming, incoming, with_delivered, receive_front, nothing_received, at_end, receive, recv_msg, bytes_alone}
 use Rattle.ux_model.specs.FileObjects.{holds_bytes, is_open_for}
 use Rattle.ux_model.specs.Opening.{open_file, file_description}
 use Rattle.ux_model.specs.Reading.{read, read_answer, is_short_read, offset_after_read}
@@ -574,7 +574,7 @@ pub send_shows : (S : State) (p tag : ℕ) (fd : Fd) (addr : Option Addr) (bytes
 unfolding send_msg send_read send_with
 send_shows S p tag fd addr bytes control flags = maybe Q (process_at S p) _ _ (refuses refl) (λ P here. by_socket Q S p fd _ (λ e. refuses refl)
     (λ d s h there. either Q (not (are_send_flags flags)) _ _ (λ b. refuses refl)
-    (λ b. shown_alike (send_read S p P tag d s addr bytes (control_in control)) _ refl refl (by_control P d s (control_in control) refl))))
+    (λ b. shown_alike (send_read S (sending tag p P addr bytes) d s (control_in control)) _ refl refl (by_control P d s (control_in control) refl))))
   where
     Q : Outcome → Type 0
     Q o = Shows S p tag (Request.SendMsg fd addr bytes control flags) o
@@ -583,18 +583,18 @@ send_shows S p tag fd addr bytes control flags = maybe Q (process_at S p) _ _ (r
     plain = record { no_end = refl; keeps = λ n held. refl }
 
     by_given : (P : Process) (d : ℕ) (s : Socket) (given : Option Cred) (rights : List ℕ) → descriptions_behind (table_of S p) (sent_by (Request.SendMsg fd addr bytes control flags)) ≡ Some rights →
-        Shows S p tag (Request.SendMsg fd addr bytes control flags) (send_given S p P tag d s addr bytes given rights)
+        Shows S p tag (Request.SendMsg fd addr bytes control flags) (send_given S (sending tag p P addr bytes) d s given rights)
     by_given P d s given rights behind = by_refusal (given_refusal S p P given)
       where
         by_refusal : (o : Option Errno) → Shows S p tag (Request.SendMsg fd addr bytes control flags) (elim o as (λ _. Outcome) [
           | Some e ↦ refuse S e
-          | None ↦ if not (is_sendable_addr addr) then refuse S Errno.EINVAL else send_from S (flight_limit P) d s addr (message_of P tag (sent_cred p P given) bytes rights)
+          | None ↦ if not (is_sendable_addr addr) then refuse S Errno.EINVAL else send_from S (flight_limit P) d s addr (message_of (sending tag p P addr bytes) (sent_cred p P given) rights)
         ])
         by_refusal (Some e) = refuses refl
         by_refusal None = either Q (not (is_sendable_addr addr)) _ _ (λ b. refuses refl)
-            (λ b. from_shows S p tag (Request.SendMsg fd addr bytes control flags) (flight_limit P) d s addr (message_of P tag (sent_cred p P given) bytes rights) plain (refl, λ rich. behind))
+            (λ b. from_shows S p tag (Request.SendMsg fd addr bytes control flags) (flight_limit P) d s addr (message_of (sending tag p P addr bytes) (sent_cred p P given) rights) plain (refl, λ rich. behind))
 
-    by_control : (P : Process) (d : ℕ) (s : Socket) (o : Option Control) → control_in control ≡ o → Shows S p tag (Request.SendMsg fd addr bytes control flags) (send_read S p P tag d s addr bytes o)
+    by_control : (P : Process) (d : ℕ) (s : Socket) (o : Option Control) → control_in control ≡ o → Shows S p tag (Request.SendMsg fd addr bytes control flags) (send_read S (sending tag p P addr bytes) d s o)
     by_control P d s None h = refuses refl
     by_control P d s (Some c) h = either Q (not (is_sendable_control s.kind bytes c)) _ _ (λ b. refuses refl)
         (λ b. maybe Q (descriptions_behind (table_of S p) c.rights) _ _ (refuses refl)
@@ -606,13 +606,13 @@ send_shows S p tag fd addr bytes control flags = maybe Q (process_at S p) _ _ (r
 abbrev pub TakesNothing : Socket → ℕ → Type 0
 TakesNothing s n = (s.queue ≡ []) ⊎ ((is_stream s.kind && (n == 0)) ≡ true)
 
-pub by_receive : (Q : Outcome → Type 0) (S : State) (p d : ℕ) (s : Socket) (n space : ℕ) (flags : MsgFlags) → ((e : Errno) → Q (refuse S e)) →
-    Q (answer (Reply.Err Errno.ECONNRESET) (with_socket_by S d (with_reset false))) → (TakesNothing s n → Q (answer nothing_received S)) →
-    ((m : Message) (ms : List Message) → s.queue ≡ m ∷ ms → Q (receive_front S p d s space flags (front_of n s m ms))) → Q (receive S p d s n space flags)
-by_receive Q S p d s n space flags bad reset nothing front = either Q (is_dgram s.kind) _ _
+pub by_receive : (Q : Outcome → Type 0) (S : State) (p d : ℕ) (s : Socket) (asked : Incoming) → ((e : Errno) → Q (refuse S e)) →
+    Q (answer (Reply.Err Errno.ECONNRESET) (with_socket_by S d (with_reset false))) → (TakesNothing s asked.n → Q (answer nothing_received S)) →
+    ((m : Message) (ms : List Message) → s.queue ≡ m ∷ ms → Q (receive_front S p d s asked (front_of asked.n s m ms))) → Q (receive S p d s asked)
+by_receive Q S p d s asked bad reset nothing front = either Q (is_dgram s.kind) _ _
     (λ b. by_queue Q s.queue _ _ (λ none. either Q s.read_shut _ _ (λ c. nothing (inl none)) (λ c. bad Errno.EAGAIN)) front)
     (λ b. maybe Q (peer_of s.phase) _ _ (bad Errno.ENOTCONN)
-    (λ peer is. either Q (is_stream s.kind && (n == 0)) _ _ (λ c. nothing (inr c))
+    (λ peer is. either Q (is_stream s.kind && (asked.n == 0)) _ _ (λ c. nothing (inr c))
     (λ c. by_queue Q s.queue _ _ (λ none. either Q s.reset _ _ (λ e. reset) (λ e. either Q (at_end S s peer) _ _ (λ f. nothing (inl none)) (λ f. bad Errno.EAGAIN))) front)))
 
 pub delivery_rise : (wanted : Bool) (cred : Cred) (rights : List ℕ) (space : ℕ) (table : List (Option Descriptor)) → Rise 0 (length table) (delivery wanted cred rights space table).numbers
@@ -665,47 +665,50 @@ nothing_is_brought s n space table (m ∷ ms) (inr h) =
     few_of_none (front_of n s m ms).rights s n space table (front_of n s m ms).cred none
 
 -- a receive of the front: what it does to the table and to the queues
-front_replaces : (S : State) (p d space : ℕ) (s : Socket) (flags : MsgFlags) (front : Front) (Q : Process) → process_at S p ≡ Some Q →
-    Replaces S p (installed (asks_cloexec_rights flags) (delivery s.passcred front.cred front.rights space (table_of S p)).numbers front.rights (table_of S p)) (receive_front S p d s space flags front).next
+front_replaces : (S : State) (p d : ℕ) (s : Socket) (asked : Incoming) (front : Front) (Q : Process) → process_at S p ≡ Some Q →
+    Replaces S p (installed (asks_cloexec_rights asked.flags) (delivery s.passcred front.cred front.rights asked.space (table_of S p)).numbers front.rights (table_of S p)) (receive_front S p d s asked front).next
 unfolding receive_front
-front_replaces S p d space s flags front Q here = go (asks_peek flags)
+front_replaces S p d s asked front Q here = go (asks_peek asked.flags)
   where
     table : List (Option Descriptor)
-    table = installed (asks_cloexec_rights flags) (delivery s.passcred front.cred front.rights space (table_of S p)).numbers front.rights (table_of S p)
+    table = installed (asks_cloexec_rights asked.flags) (delivery s.passcred front.cred front.rights asked.space (table_of S p)).numbers front.rights (table_of S p)
 
     go : (b : Bool) → Replaces S p table (cond b (with_table S p table) (with_socket_by (with_table S p table) d (with_queue front.rest)))
     go true = replaced_table S p table Q here
     go false = replaced_alike S (with_table S p table) (with_socket_by (with_table S p table) d (with_queue front.rest)) p table refl (replaced_table S p table Q here)
 
-front_mail : (S : State) (p tag d n space : ℕ) (request : Request) (s : Socket) (flags : MsgFlags) (m : Message) (ms : List Message) → socket_at S d ≡ Some s → s.queue ≡ m ∷ ms →
-    Mail S p tag request (receive_front S p d s space flags (front_of n s m ms)).next
+front_mail : (S : State) (p tag d : ℕ) (request : Request) (s : Socket) (asked : Incoming) (m : Message) (ms : List Message) → socket_at S d ≡ Some s → s.queue ≡ m ∷ ms →
+    Mail S p tag request (receive_front S p d s asked (front_of asked.n s m ms)).next
 unfolding receive_front
-front_mail S p tag d n space request s flags m ms there q = go (asks_peek flags)
+front_mail S p tag d request s asked m ms there q = go (asks_peek asked.flags)
   where
+    front : Front
+    front = front_of asked.n s m ms
+
     T : State
-    T = with_delivered S p flags (front_of n s m ms) (delivery s.passcred (front_of n s m ms).cred (front_of n s m ms).rights space (table_of S p))
+    T = with_delivered S p asked.flags front (delivery s.passcred front.cred front.rights asked.space (table_of S p))
 
     quiet : Quiet S T
     quiet = quiet_table S p _
 
-    go : (b : Bool) → Mail S p tag request (cond b T (with_socket_by T d (with_queue (front_of n s m ms).rest)))
+    go : (b : Bool) → Mail S p tag request (cond b T (with_socket_by T d (with_queue front.rest)))
     go true = quiet_mail S T p tag request quiet
-    go false = taken_mail S T p tag d n request s m ms quiet there q
+    go false = taken_mail S T p tag d asked.n request s m ms quiet there q
 
-front_tells : (S : State) (p d space : ℕ) (s : Socket) (flags : MsgFlags) (front : Front) → tells_child (receive_front S p d s space flags front).reply ≡ false
+front_tells : (S : State) (p d : ℕ) (s : Socket) (asked : Incoming) (front : Front) → tells_child (receive_front S p d s asked front).reply ≡ false
 unfolding receive_front
-front_tells S p d space s flags front = refl
+front_tells S p d s asked front = refl
 
-front_gives : (S : State) (p d space : ℕ) (fd : Fd) (n : ℕ) (s : Socket) (flags asked : MsgFlags) (front : Front) →
-    given S p (Request.RecvMsg fd n space asked) (receive_front S p d s space flags front).reply ≡ (brought S p (Request.RecvMsg fd n space asked)).numbers
+front_gives : (S : State) (p d : ℕ) (fd : Fd) (s : Socket) (asked : Incoming) (front : Front) →
+    given S p (Request.RecvMsg fd asked.n asked.space asked.flags) (receive_front S p d s asked front).reply ≡ (brought S p (Request.RecvMsg fd asked.n asked.space asked.flags)).numbers
 unfolding receive_front
-front_gives S p d space fd n s flags asked front = refl
+front_gives S p d fd s asked front = refl
 
 pub recv_shows : (S : State) (p tag : ℕ) (fd : Fd) (n space : ℕ) (flags : MsgFlags) (P : Process) → process_at S p ≡ Some P → Shows S p tag (Request.RecvMsg fd n space flags) (recv_msg S p fd n space flags)
 unfolding recv_msg
 recv_shows S p tag fd n space flags P here = by_socket Q S p fd _ (λ e. refuses refl)
     (λ d s h there. either Q (not (are_receive_flags flags)) _ _ (λ b. refuses refl)
-    (λ b. by_receive Q S p d s n space flags (λ e. refuses refl) (answers plain refl refl refl (quiet_socket S d (with_reset false) (λ s. refl)))
+    (λ b. by_receive Q S p d s (incoming n space flags) (λ e. refuses refl) (answers plain refl refl refl (quiet_socket S d (with_reset false) (λ s. refl)))
     (λ none. answers plain refl (ap (λ (b : Brought). b.numbers) (brought_is S p d n space fd flags s s.queue h refl) ∙ nothing_is_brought s n space (table_of S p) s.queue none) refl (silent S))
     (λ m ms q. front d s h there m ms q)))
   where
@@ -716,7 +719,7 @@ recv_shows S p tag fd n space flags P here = by_socket Q S p fd _ (λ e. refuses
     plain = record { no_end = refl; keeps = λ n held. refl }
 
     front : (d : ℕ) (s : Socket) → find_socket S p fd ≡ Ok (d, s) → socket_at S d ≡ Some s → (m : Message) (ms : List Message) → s.queue ≡ m ∷ ms →
-        Shows S p tag (Request.RecvMsg fd n space flags) (receive_front S p d s space flags (front_of n s m ms))
+        Shows S p tag (Request.RecvMsg fd n space flags) (receive_front S p d s (incoming n space flags) (front_of n s m ms))
     front d s h there m ms q =
         let f : Front = front_of n s m ms in
         let ns : List ℕ = (delivery s.passcred f.cred f.rights space (table_of S p)).numbers in
@@ -724,37 +727,38 @@ recv_shows S p tag fd n space flags P here = by_socket Q S p fd _ (λ e. refuses
         let rights : (brought S p (Request.RecvMsg fd n space flags)).rights ≡ f.rights = ap (λ (b : Brought). b.rights) b in
         let few = delivery_few s.passcred f.cred f.rights space (table_of S p) in
         let same : length (brought S p (Request.RecvMsg fd n space flags)).rights ≡ length f.rights = ap (λ (r : List ℕ). length r) rights in
-        let o : Outcome = receive_front S p d s space flags f in
+        let asked : Incoming = incoming n space flags in
+        let o : Outcome = receive_front S p d s asked f in
         record {
           tables = installs S o.next p (Request.RecvMsg fd n space flags) o.reply ns plain
-              (subst (λ (ds : List ℕ). Replaces S p (installed (asks_cloexec_rights flags) ns ds (table_of S p)) o.next) (sym rights) (front_replaces S p d space s flags f P here))
+              (subst (λ (ds : List ℕ). Replaces S p (installed (asks_cloexec_rights flags) ns ds (table_of S p)) o.next) (sym rights) (front_replaces S p d s asked f P here))
               (delivery_rise s.passcred f.cred f.rights space (table_of S p)) (omega (arith, few, same))
-              (front_gives S p d space fd n s flags flags f ∙ ap (λ (b : Brought). b.numbers) b) (front_tells S p d space s flags f);
-          mail = front_mail S p tag d n space (Request.RecvMsg fd n space flags) s flags m ms there q;
+              (front_gives S p d fd s asked f ∙ ap (λ (b : Brought). b.numbers) b) (front_tells S p d s asked f);
+          mail = front_mail S p tag d (Request.RecvMsg fd n space flags) s asked m ms there q;
         }
 
 -- ---- files
 
 -- a read of a socket, which has no room for rights
 read_front_shows : (S : State) (p tag d n k : ℕ) (fd : Fd) (s : Socket) (m : Message) (ms : List Message) (P : Process) → process_at S p ≡ Some P → socket_at S d ≡ Some s → s.queue ≡ m ∷ ms →
-    Shows S p tag (Request.Read fd n) (record (receive_front S p d s 0 no_flags (front_of k s m ms)) { reply = bytes_alone (receive_front S p d s 0 no_flags (front_of k s m ms)).reply })
+    Shows S p tag (Request.Read fd n) (record (receive_front S p d s (incoming k 0 no_flags) (front_of k s m ms)) { reply = bytes_alone (receive_front S p d s (incoming k 0 no_flags) (front_of k s m ms)).reply })
 unfolding receive_front
 read_front_shows S p tag d n k fd s m ms P here there q =
     let f : Front = front_of k s m ms in
-    let T : State = (receive_front S p d s 0 no_flags f).next in
+    let T : State = (receive_front S p d s (incoming k 0 no_flags) f).next in
     record {
       tables = keeps_table S T p (Request.Read fd n) (Reply.Bytes f.bytes) (record { no_end = refl; keeps = λ n held. refl })
           (subst (λ (ns : List ℕ). Replaces S p (installed (asks_cloexec_rights no_flags) ns f.rights (table_of S p)) T) (delivery_none s.passcred f.cred f.rights (table_of S p))
-          (front_replaces S p d 0 s no_flags f P here)) refl refl;
-      mail = front_mail S p tag d k 0 (Request.Read fd n) s no_flags m ms there q;
+          (front_replaces S p d s (incoming k 0 no_flags) f P here)) refl refl;
+      mail = front_mail S p tag d (Request.Read fd n) s (incoming k 0 no_flags) m ms there q;
     }
 
 socket_is : (S : State) (d : ℕ) (D : Description) (s : Socket) → description_at S d ≡ Some D → D.target ≡ to_socket s → socket_at S d ≡ Some s
 socket_is S d D s h t = ap socket_in h ∙ ap socket_of t
 
 read_socket_shows : (S : State) (p tag d n k : ℕ) (fd : Fd) (s : Socket) (P : Process) → process_at S p ≡ Some P → socket_at S d ≡ Some s →
-    Shows S p tag (Request.Read fd n) (record (receive S p d s k 0 no_flags) { reply = bytes_alone (receive S p d s k 0 no_flags).reply })
-read_socket_shows S p tag d n k fd s P here there = by_receive Q S p d s k 0 no_flags (λ e. refuses refl) (answers plain refl refl refl (quiet_socket S d (with_reset false) (λ s. refl)))
+    Shows S p tag (Request.Read fd n) (record (receive S p d s (incoming k 0 no_flags)) { reply = bytes_alone (receive S p d s (incoming k 0 no_flags)).reply })
+read_socket_shows S p tag d n k fd s P here there = by_receive Q S p d s (incoming k 0 no_flags) (λ e. refuses refl) (answers plain refl refl refl (quiet_socket S d (with_reset false) (λ s. refl)))
     (λ none. answers plain refl refl refl (silent S)) (λ m ms q. read_front_shows S p tag d n k fd s m ms P here there q)
   where
     Q : Outcome → Type 0
@@ -796,7 +800,7 @@ write_shows S p tag fd bytes = found Q S p fd _ (refuses refl) (λ e D g h. by_t
     (λ b. shown_alike (write_answer S e.description D o view (write_body view.body (write_place D view) bytes)) _ refl refl
     (by_answer e.description D o view (write_body view.body (write_place D view) bytes) h))))))
     (λ s t. maybe Q (process_at S p) _ _ (refuses refl)
-    (λ P here. from_shows S p tag (Request.Write fd bytes) (flight_limit P) e.description s None (message_of P tag (own_cred p P) bytes []) plain (refl, λ rich. absurd (omega (arith, rich))))))
+    (λ P here. from_shows S p tag (Request.Write fd bytes) (flight_limit P) e.description s None (message_of (sending tag p P None bytes) (own_cred p P) []) plain (refl, λ rich. absurd (omega (arith, rich))))))
   where
     Q : Outcome → Type 0
     Q o = Shows S p tag (Request.Write fd bytes) o

@@ -1,13 +1,49 @@
 -- Control buffers (cmsg(3)): which bytes spell which credentials and rights.
 --
--- An item is an 8-byte length, a 4-byte level, a 4-byte type and data, all numbers with the lowest byte first. The length counts
--- the head's 16 bytes and the data. The level is 1 (SOL_SOCKET); type 1 is SCM_RIGHTS, type 2 SCM_CREDENTIALS.
+-- An item is a head and data. The head is an 8-byte length, which counts the head and the data, a 4-byte level and a 4-byte type, all
+-- numbers with the lowest byte first.
 use Rattle.std.specs.Prelude.{◌≡◌, ℕ, ◌+◌, ◌-◌, ◌*◌, ◌^◌, ◌%◌, ◌<◌, ◌≤◌, List, [], ◌∷◌, ◌++◌, length, flat_map, Option, Some, None}
 use Rattle.std.specs.List.{AllByRecursion}
 use Rattle.ux_model.specs.Types.{Cred}
 use Rattle.std.specs.Int.{w32, w64, to_le_bytes}
 
--- what a control buffer says
+-- ---- the layout
+
+-- the bytes of a head (CMSG_LEN(0))
+abbrev pub head_len : ℕ
+head_len = 16
+
+-- an item begins at a multiple of this many bytes
+abbrev pub alignment : ℕ
+alignment = 8
+
+-- the bytes of a descriptor's number
+abbrev pub number_len : ℕ
+number_len = 4
+
+-- the bytes of credentials with their head (CMSG_LEN), and those up to where the next item begins (CMSG_SPACE)
+abbrev pub cred_len : ℕ
+cred_len = 28
+
+abbrev pub cred_space : ℕ
+cred_space = 32
+
+-- the level of all items, and their types
+abbrev pub sol_socket : ℕ
+sol_socket = 1
+
+abbrev pub scm_rights : ℕ
+scm_rights = 1
+
+abbrev pub scm_credentials : ℕ
+scm_credentials = 2
+
+-- the bytes behind so many up to the next multiple of the alignment
+abbrev pub padding_behind : ℕ → ℕ
+padding_behind len = (alignment - len % alignment) % alignment
+
+-- ---- what a buffer says
+
 pub record Control : Type 0 where
   pub cred : Option Cred
   -- descriptor numbers, in order
@@ -24,20 +60,20 @@ payload (rights_item numbers) = flat_map (to_le_bytes w32) numbers
 payload (cred_item cred) = to_le_bytes w32 cred.pid.0 ++ to_le_bytes w32 cred.uid ++ to_le_bytes w32 cred.gid
 
 abbrev pub item_type : Item → ℕ
-item_type (rights_item numbers) = 1
-item_type (cred_item cred) = 2
+item_type (rights_item numbers) = scm_rights
+item_type (cred_item cred) = scm_credentials
 
 abbrev pub item_bytes : Item → List ℕ
-item_bytes item = to_le_bytes w64 (16 + length (payload item)) ++ to_le_bytes w32 1 ++ to_le_bytes w32 (item_type item) ++ payload item
+item_bytes item = to_le_bytes w64 (head_len + length (payload item)) ++ to_le_bytes w32 sol_socket ++ to_le_bytes w32 (item_type item) ++ payload item
 
 -- its numbers fit their bytes
 abbrev pub IsItem : Item → Type 0
-IsItem (rights_item numbers) = (16 + 4 * length numbers < 2 ^ 64) × AllByRecursion (λ n. n < 2 ^ 32) numbers
+IsItem (rights_item numbers) = (head_len + number_len * length numbers < 2 ^ 64) × AllByRecursion (λ n. n < 2 ^ 32) numbers
 IsItem (cred_item cred) = (cred.pid.0 < 2 ^ 32) × (cred.uid < 2 ^ 32) × (cred.gid < 2 ^ 32)
 
--- the bytes from an item's end up to the next multiple of 8
+-- the bytes from an item's end up to where a next one would stand
 abbrev pub padding : Item → ℕ
-padding item = (8 - length (item_bytes item) % 8) % 8
+padding item = padding_behind (length (item_bytes item))
 
 -- ---- a buffer
 

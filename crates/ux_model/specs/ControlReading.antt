@@ -3,7 +3,7 @@ use Rattle.std.specs.Prelude.{ℕ, zero, suc, ◌-◌, ◌%◌, ◌<◌, ◌==�
 use Rattle.std.specs.List.{AllByRecursion}
 use Rattle.std.specs.Int.{Width, w32, w64, byte_len, from_le_bytes}
 use Rattle.ux_model.specs.Types.{Cred}
-use Rattle.ux_model.specs.Control.{Control, Item, rights_item, cred_item, ReadsAs}
+use Rattle.ux_model.specs.Control.{head_len, number_len, sol_socket, scm_rights, scm_credentials, padding_behind, Control, Item, rights_item, cred_item, ReadsAs}
 
 infixl 10 ◌>>=◌
 abbrev pub ◌>>=◌ : {A B : Type 0} → Option A → (A → Option B) → Option B
@@ -29,8 +29,8 @@ cred_in payload = do
 -- the item with this type and data
 unfoldable pub item_of : ℕ → List ℕ → Option Item
 item_of kind payload =
-    if kind == 1 then (if length payload % 4 == 0 then Some (rights_item (numbers_in payload)) else None) else
-    if kind == 2 then (do
+    if kind == scm_rights then (if length payload % number_len == 0 then Some (rights_item (numbers_in payload)) else None) else
+    if kind == scm_credentials then (do
       cred ← cred_in payload
       Some (cred_item cred))
     else None
@@ -38,12 +38,12 @@ item_of kind payload =
 -- the item whose head has this length, level and type, and the bytes from where a next one would stand
 unfoldable pub item_behind : ℕ → ℕ → ℕ → List ℕ → Option (Item × List ℕ)
 item_behind len level kind bytes =
-    if level == 1 then
-    (if nat_lt len 16 then None else
-    if nat_lt (length bytes) (len - 16) then None else
+    if level == sol_socket then
+    (if nat_lt len head_len then None else
+    if nat_lt (length bytes) (len - head_len) then None else
     (do
-      item ← item_of kind (take (len - 16) bytes)
-      Some (item, drop ((8 - len % 8) % 8) (drop (len - 16) bytes))))
+      item ← item_of kind (take (len - head_len) bytes)
+      Some (item, drop (padding_behind len) (drop (len - head_len) bytes))))
     else None
 
 -- the item at the front, and the bytes from where a next one would stand

@@ -2,7 +2,7 @@
 use Rattle.std.specs.Prelude.{ℕ, ◌+◌, Bool, true, false, not, ◌&&◌, ◌||◌, ◌==◌, if◌then◌else◌, length, Option, Some, None}
 use Rattle.ux_model.specs.Types.{Fd, Cred, PollFlags, Reply}
 use Rattle.ux_model.specs.Places.{place}
-use Rattle.ux_model.specs.Flags.{can_read, can_write}
+use Rattle.ux_model.specs.Flags.{can_read, can_write, poll_in, poll_out, poll_rdhup, poll_hup, poll_err, poll_nval}
 use Rattle.ux_model.specs.Object.{View, ready, is_pipe}
 use Rattle.ux_model.specs.Backlog.{Backlog}
 use Rattle.ux_model.specs.Socket.{Socket, is_dgram, peer_of, association_of, takes_from, has_room}
@@ -28,11 +28,17 @@ abbrev pub no_conditions : Conditions
 no_conditions = record { readable = false; writable = false; read_hung = false; hung = false; failed = false }
 
 abbrev pub poll_flags : Conditions → PollFlags
-poll_flags c = record { 0 = (if c.readable then 1 else 0) + ((if c.writable then 2 else 0) + ((if c.read_hung then 4 else 0) + ((if c.hung then 8 else 0) + (if c.failed then 16 else 0)))) }
+poll_flags c = record {
+  0 = (if c.readable then poll_in else 0)
+      + ((if c.writable then poll_out else 0)
+      + ((if c.read_hung then poll_rdhup else 0)
+      + ((if c.hung then poll_hup else 0)
+      + (if c.failed then poll_err else 0))));
+}
 
--- POLLNVAL: the number isn't open
+-- the number isn't open
 abbrev pub not_open : PollFlags
-not_open = record { 0 = 32 }
+not_open = record { 0 = poll_nval }
 
 -- ---- sockets
 

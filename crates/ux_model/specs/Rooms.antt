@@ -2,6 +2,7 @@
 use Rattle.std.specs.Prelude.{ℕ, ◌≤◌, ◌+◌, ◌*◌, min, length, Option, Some, None}
 use Rattle.ux_model.specs.Types.{Addr, Request, Reply}
 use Rattle.ux_model.specs.Limits.{name_limit, read_limit, rights_limit, greatest_queue_limit}
+use Rattle.ux_model.specs.Control.{head_len, number_len, cred_space}
 
 -- ---- what a reply holds
 
@@ -32,9 +33,9 @@ size_of _ = no_bytes
 
 -- ---- the room that is enough for it
 
--- credentials, padding, and the most rights that a message passes
+-- credentials with their padding, and the most rights that a message passes
 abbrev pub control_limit : ℕ
-control_limit = 32 + (16 + 4 * rights_limit)
+control_limit = cred_space + (head_len + number_len * rights_limit)
 
 unfoldable pub room_for : Request → Size
 room_for (Request.Read fd n) = record no_bytes { data_bytes = min read_limit n }

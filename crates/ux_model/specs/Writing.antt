@@ -1,12 +1,12 @@
 -- write(2).
-use Rattle.std.specs.Prelude.{ℕ, ◌+◌, not, ◌&&◌, ◌==◌, if◌then◌else◌, List, length, Ok, Err, Result}
+use Rattle.std.specs.Prelude.{ℕ, ◌+◌, not, ◌&&◌, ◌==◌, if◌then◌else◌, List, length, None, Ok, Err, Result}
 use Rattle.ux_model.specs.Types.{Errno, Fd, Reply}
 use Rattle.ux_model.specs.Flags.{can_read, can_write}
 use Rattle.ux_model.specs.Object.{Body, View, ObjectError, write_body, size_of_body, is_memory, is_pipe, with_body}
 use Rattle.ux_model.specs.Description.{Description, to_object, to_socket}
 use Rattle.ux_model.specs.State.{State, with_object, with_description}
 use Rattle.ux_model.specs.Outcome.{Outcome, refuse, answer, on_descriptor, as_process}
-use Rattle.ux_model.specs.Sending.{write_socket}
+use Rattle.ux_model.specs.Sending.{sending, write_socket}
 use Rattle.ux_model.specs.FileObjects.{is_open_for, error_of, or_failing, holds_bytes, on_object}
 
 -- a memory file is written at the offset, or with `append` at its end
@@ -36,5 +36,5 @@ write_object S d D o view bytes =
 unfoldable pub write : State → ℕ → ℕ → Fd → List ℕ → Outcome
 write S p tag fd bytes = on_descriptor S p fd (λ e D. elim D.target [
   | to_object o ↦ on_object S o (λ view. write_object S e.description D o view bytes)
-  | to_socket s ↦ as_process S p (λ P. write_socket S p P tag e.description s bytes)
+  | to_socket s ↦ as_process S p (λ P. write_socket S (sending tag p P None bytes) e.description s)
 ])

@@ -3,6 +3,7 @@
 //! code; its functions have empty bodies, and their contracts are laws of the definitions.
 #![tactic(auto)]
 
+ghost use Rattle.ux_model.specs.Names.{FreeNameIsLeast};
 ghost use Rattle.ux_model.specs.Release.{EndsAlike};
 ghost use Rattle.ux_model.specs.HandingOut.{HandsOutWhatWasHeld};
 ghost use Rattle.ux_model.specs.FreeChoices.{NeverLacksMemory, FailsWhereAnObjectFailed};
@@ -16,6 +17,12 @@ ghost use Rattle.ux_model.specs.Changes.{StepChangesTables, TablesStaySmall};
 ghost use Rattle.ux_model.specs.PedigreeLaws.{MessagesAreSent, ChainIsOne, PedigreeIsOfOne, HoldsOnlyItsOwn};
 ghost use Rattle.ux_model.specs.Owning.{NameGoes};
 ghost use Rattle.ux_model.specs.Moves.{ProcessCounts, ChildCounts, SocketCounts, NewCounts, NewCountsAtObject, SameTargetCountsAlike, TakenPathCountsNot};
+
+/// The name that autobind gives is that of the least number whose name isn't in use.
+#[tactic(auto, using(crate::proofs::LeastNames::free_name_is_least))]
+pub fn autobind_gives_the_least_name()
+    ensures { FreeNameIsLeast }
+{}
 
 /// Descriptions without a reference may be dropped one at a time and in any order: the same state is
 /// left as when all go at once, again and again.

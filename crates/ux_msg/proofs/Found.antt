@@ -20,8 +20,8 @@ use Rattle.ux_model.proofs.Named.{entry_counts}
 use Rattle.ux_model.proofs.Shows.{socket_found}
 use Rattle.ux_model.specs.Outcome.{Outcome, refuse, descriptor_at, find_description, find_socket, on_socket, as_process}
 use Rattle.ux_msg.specs.Answers.{Gives}
-use Rattle.ux_model.specs.Receiving.{receive, recv_msg, bytes_alone, read_socket}
-use Rattle.ux_model.specs.Sending.{send_to_target, send_by_name, send_with, send_read, reading_control, send_msg}
+use Rattle.ux_model.specs.Receiving.{incoming, receive, recv_msg, bytes_alone, read_socket}
+use Rattle.ux_model.specs.Sending.{sending, send_to_target, send_by_name, send_with, send_read, reading_control, send_msg}
 use Rattle.ux_msg.specs.Receipts.{receive_at, read_socket_at, brought_at}
 use Rattle.ux_model.specs.Delivered.{Brought, nothing_brought, brought_from, brought, told_of, delivered_by}
 use Rattle.ux_msg.specs.Sendings.{send_with_at}
@@ -63,21 +63,21 @@ pub found_held : (S : State) (p : ℕ) (fd : Fd) (e : Descriptor) (D : Descripti
 found_held S p fd e D h = entry_counts S p fd.0 e (found S p fd e D h).entry
 
 pub received_at : (S : State) (p : ℕ) (fd : Fd) (n space : ℕ) (flags : MsgFlags) (d : ℕ) (s : Socket) → find_socket S p fd ≡ Ok (d, s) → are_receive_flags flags ≡ true →
-    receive_at S p d n space flags ≡ recv_msg S p fd n space flags
+    receive_at S p d (incoming n space flags) ≡ recv_msg S p fd n space flags
 unfolding recv_msg
 received_at S p fd n space flags d s h ok =
-    ap (λ o. elim o as (λ _. Outcome) [ None ↦ refuse S Errno.EBADF | Some s ↦ receive S p d s n space flags ]) (socket_found S p d fd s h)
-    ∙ ap (λ b. if not b then refuse S Errno.EINVAL else receive S p d s n space flags) (sym ok)
+    ap (λ o. elim o as (λ _. Outcome) [ None ↦ refuse S Errno.EBADF | Some s ↦ receive S p d s (incoming n space flags) ]) (socket_found S p d fd s h)
+    ∙ ap (λ b. if not b then refuse S Errno.EINVAL else receive S p d s (incoming n space flags)) (sym ok)
     ∙ sym (ap (λ r. elim r as (λ _. Outcome) [
       | Err e ↦ refuse S e
-      | Ok found ↦ if not (are_receive_flags flags) then refuse S Errno.EINVAL else receive S p found.0 found.1 n space flags
+      | Ok found ↦ if not (are_receive_flags flags) then refuse S Errno.EINVAL else receive S p found.0 found.1 (incoming n space flags)
     ]) h)
 
 pub received_gives : (S T : State) (p : ℕ) (fd : Fd) (n space : ℕ) (flags : MsgFlags) (d k : ℕ) (s : Socket) (r : Result Reply Refusal) → find_socket S p fd ≡ Ok (d, s) → are_receive_flags flags ≡ true →
-    Gives S (receive_at S p k n space flags) r T → k ≡ d → Gives S (recv_msg S p fd n space flags) r T
+    Gives S (receive_at S p k (incoming n space flags)) r T → k ≡ d → Gives S (recv_msg S p fd n space flags) r T
 received_gives S T p fd n space flags d k s r h ok g same =
     let P : Outcome → Type 0 = λ o. Gives S o r T in
-    subst P (ap (λ x. receive_at S p x n space flags) same ∙ received_at S p fd n space flags d s h ok) g
+    subst P (ap (λ x. receive_at S p x (incoming n space flags)) same ∙ received_at S p fd n space flags d s h ok) g
 
 -- and what it brings is what the call does
 pub received_told : (S : State) (p : ℕ) (fd : Fd) (n space : ℕ) (flags : MsgFlags) (d k : ℕ) (s : Socket) (r : Result Done Refusal) → find_socket S p fd ≡ Ok (d, s) → k ≡ d →
@@ -91,11 +91,11 @@ received_told S p fd n space flags d k s r h same told =
     subst (λ (b : Brought). IfOk r (λ done. done.delivered ≡ told_of b done.reply)) (there ∙ sym call) told
 
 -- read(2) reports the bytes alone
-pub read_gives : (S T : State) (p d n : ℕ) (bytes reply : Reply) → bytes ≡ bytes_alone reply → (reply ≡ (receive_at S p d n 0 no_flags).reply) × (T ≡ (receive_at S p d n 0 no_flags).next) →
+pub read_gives : (S T : State) (p d n : ℕ) (bytes reply : Reply) → bytes ≡ bytes_alone reply → (reply ≡ (receive_at S p d (incoming n 0 no_flags)).reply) × (T ≡ (receive_at S p d (incoming n 0 no_flags)).next) →
     (bytes ≡ (read_socket_at S p d n).reply) × (T ≡ (read_socket_at S p d n).next)
 read_gives S T p d n bytes reply alone g = go (socket_at S d) g
   where
-    go : (o : Option Socket) → let receives : Option Socket → Outcome = λ o. elim o as (λ _. Outcome) [ None ↦ refuse S Errno.EBADF | Some s ↦ receive S p d s n 0 no_flags ] in
+    go : (o : Option Socket) → let receives : Option Socket → Outcome = λ o. elim o as (λ _. Outcome) [ None ↦ refuse S Errno.EBADF | Some s ↦ receive S p d s (incoming n 0 no_flags) ] in
         let reads : Option Socket → Outcome = λ o. elim o as (λ _. Outcome) [ None ↦ refuse S Errno.EBADF | Some s ↦ read_socket S p d s n ] in
         (reply ≡ (receives o).reply) × (T ≡ (receives o).next) → (bytes ≡ (reads o).reply) × (T ≡ (reads o).next)
     go None g = (alone ∙ ap bytes_alone g.0, g.1)
@@ -149,16 +149,16 @@ named_gives S T limit d t k s u addr m r here found gives same =
 -- ---- sends
 
 pub sent_gives : (S T : State) (p tag : ℕ) (fd : Fd) (addr : Option Addr) (bytes buffer : List ℕ) (control : Control) (flags : MsgFlags) (d k : ℕ) (s : Socket) (r : Result Reply Refusal) → find_socket S p fd ≡ Ok (d, s) →
-    are_send_flags flags ≡ true → control_in buffer ≡ Some control → Gives S (as_process S p (λ P. reading_control buffer (send_with_at S p P tag k addr bytes control))) r T → k ≡ d →
+    are_send_flags flags ≡ true → control_in buffer ≡ Some control → Gives S (as_process S p (λ P. reading_control buffer (send_with_at S (sending tag p P addr bytes) k control))) r T → k ≡ d →
     Gives S (send_msg S p tag fd addr bytes buffer flags) r T
 unfolding send_msg send_read
 sent_gives S T p tag fd addr bytes buffer control flags d k s r h ok reads g same = go (process_at S p) g
   where
     at_socket : Process → ℕ → Option Socket → Outcome
-    at_socket P d o = reading_control buffer (elim o as (λ _. Outcome) [ None ↦ refuse S Errno.EBADF | Some s ↦ send_with S p P tag d s addr bytes control ])
+    at_socket P d o = reading_control buffer (elim o as (λ _. Outcome) [ None ↦ refuse S Errno.EBADF | Some s ↦ send_with S (sending tag p P addr bytes) d s control ])
 
     allowed : Process → ℕ → Socket → Bool → Outcome
-    allowed P d s b = if not b then refuse S Errno.EINVAL else reading_control buffer (send_read S p P tag d s addr bytes (control_in buffer))
+    allowed P d s b = if not b then refuse S Errno.EINVAL else reading_control buffer (send_read S (sending tag p P addr bytes) d s (control_in buffer))
 
     found_at : Process → Result (ℕ × Socket) Errno → Outcome
     found_at P x = elim x [ Err e ↦ refuse S e | Ok f ↦ allowed P f.0 f.1 (are_send_flags flags) ]
@@ -169,11 +169,11 @@ sent_gives S T p tag fd addr bytes buffer control flags d k s r h ok reads g sam
     go : (o : Option Process) → Gives S (elim o as (λ _. Outcome) [ None ↦ refuse S Errno.ESRCH | Some P ↦ at_socket P k (socket_at S k) ]) r T →
         Gives S (elim o as (λ _. Outcome) [
           | None ↦ refuse S Errno.ESRCH
-          | Some P ↦ on_socket S p fd (λ d s. if not (are_send_flags flags) then refuse S Errno.EINVAL else reading_control buffer (send_read S p P tag d s addr bytes (control_in buffer)))
+          | Some P ↦ on_socket S p fd (λ d s. if not (are_send_flags flags) then refuse S Errno.EINVAL else reading_control buffer (send_read S (sending tag p P addr bytes) d s (control_in buffer)))
         ]) r T
     go None g = g
     go (Some P) g =
         let at : Gives S (at_socket P d (Some s)) r T = subst (λ n. Gives S (at_socket P n (Some s)) r T) same (subst (λ o. Gives S (at_socket P k o) r T) here g) in
         subst (λ x. Gives S (found_at P x) r T) (sym h)
         (subst (λ b. Gives S (allowed P d s b) r T) (sym ok)
-        (subst (λ c. Gives S (reading_control buffer (send_read S p P tag d s addr bytes c)) r T) (sym reads) at))
+        (subst (λ c. Gives S (reading_control buffer (send_read S (sending tag p P addr bytes) d s c)) r T) (sym reads) at))

@@ -15,7 +15,7 @@ use Rattle.ux_model.specs.Process.{Process, Descriptor, free_numbers, own_cred}
 use Rattle.ux_model.specs.Outcome.{Outcome, refuse, as_process}
 use Rattle.ux_model.specs.State.{State, socket_at, process_at, table_of, is_live}
 use Rattle.ux_model.specs.References.{times}
-use Rattle.ux_model.specs.Sending.{descriptions_behind, message_of, flight_limit, is_sendable_addr, is_sendable_control, given_refusal, sent_cred, reading_control, send_from, send_with}
+use Rattle.ux_model.specs.Sending.{Sending, sending, descriptions_behind, message_of, flight_limit, is_sendable_addr, is_sendable_control, given_refusal, sent_cred, reading_control, send_from, send_with}
 use Rattle.ux_model.proofs.MessageCalls.{behind_counts, front_counts}
 use Rattle.ux_cmsg.proofs.Collecting.{has_bytes}
 use Rattle.ux_fdtable.proofs.Installing.{few_empty}
@@ -91,19 +91,19 @@ on_live S p rest Q live all = go (process_at S p) live
     go (Some P) live = all P
 
 -- a right that isn't open, or no memory for the references
-refused_at : (S : State) (p : ℕ) (P : Process) (tag d : ℕ) (s : Socket) (addr : Option Addr) (bytes buffer : List ℕ) (control : Control) (refusal : Refusal) → control_in buffer ≡ Some control →
-    is_sendable_control s.kind bytes control ≡ true → IsRefusedBehind (table_of S p) control.rights refusal → GivesRefusal S (reading_control buffer (send_with S p P tag d s addr bytes control)) refusal S
+refused_at : (S : State) (k : Sending) (d : ℕ) (s : Socket) (buffer : List ℕ) (control : Control) (refusal : Refusal) → control_in buffer ≡ Some control →
+    is_sendable_control s.kind k.bytes control ≡ true → IsRefusedBehind (table_of S k.caller) control.rights refusal → GivesRefusal S (reading_control buffer (send_with S k d s control)) refusal S
 unfolding send_with
-refused_at S p P tag d s addr bytes buffer control (Refusal.Answer e) reads ok (is, none) = rw (ok, none) (ap (λ x. Reply.Err x) is, refl)
-refused_at S p P tag d s addr bytes buffer control Refusal.NoMemory reads ok some = rw (needs_bytes buffer control reads some) (refl, refl)
+refused_at S k d s buffer control (Refusal.Answer e) reads ok (is, none) = rw (ok, none) (ap (λ x. Reply.Err x) is, refl)
+refused_at S k d s buffer control Refusal.NoMemory reads ok some = rw (needs_bytes buffer control reads some) (refl, refl)
 
-abbrev sending_at : State → ℕ → Process → ℕ → ℕ → Option Addr → List ℕ → List ℕ → Control → Option Socket → Outcome
-sending_at S p P tag d addr bytes buffer control o = reading_control buffer (elim o [ None ↦ refuse S Errno.EBADF | Some s ↦ send_with S p P tag d s addr bytes control ])
+abbrev sending_at : State → Sending → ℕ → List ℕ → Control → Option Socket → Outcome
+sending_at S k d buffer control o = reading_control buffer (elim o [ None ↦ refuse S Errno.EBADF | Some s ↦ send_with S k d s control ])
 
-pub refused_behind : (S : State) (p : ℕ) (P : Process) (tag d : ℕ) (s : Socket) (addr : Option Addr) (bytes buffer : List ℕ) (control : Control) (refusal : Refusal) → control_in buffer ≡ Some control → socket_at S d ≡ Some s →
-    is_sendable_control s.kind bytes control ≡ true → IsRefusedBehind (table_of S p) control.rights refusal → GivesRefusal S (reading_control buffer (send_with_at S p P tag d addr bytes control)) refusal S
-refused_behind S p P tag d s addr bytes buffer control refusal reads here ok refused =
-    subst (λ o. GivesRefusal S (sending_at S p P tag d addr bytes buffer control o) refusal S) (sym here) (refused_at S p P tag d s addr bytes buffer control refusal reads ok refused)
+pub refused_behind : (S : State) (k : Sending) (d : ℕ) (s : Socket) (buffer : List ℕ) (control : Control) (refusal : Refusal) → control_in buffer ≡ Some control → socket_at S d ≡ Some s →
+    is_sendable_control s.kind k.bytes control ≡ true → IsRefusedBehind (table_of S k.caller) control.rights refusal → GivesRefusal S (reading_control buffer (send_with_at S k d control)) refusal S
+refused_behind S k d s buffer control refusal reads here ok refused =
+    subst (λ o. GivesRefusal S (sending_at S k d buffer control o) refusal S) (sym here) (refused_at S k d s buffer control refusal reads ok refused)
 
 -- reading a control buffer may want memory besides
 read_gives : (S T : State) (buffer : List ℕ) (o : Outcome) (r : Result Reply Refusal) → Gives S o r T → Gives S (reading_control buffer o) r T
@@ -130,30 +130,30 @@ told S p given cred own limit may by most = go (process_at S p) may by most
     go (Some P) (may, is) by most = (may, is, ap Cred.uid by, most)
 
 -- what is sent, when nothing is refused before
-sent_at : (S T : State) (p : ℕ) (P : Process) (tag d : ℕ) (s : Socket) (addr : Option Addr) (bytes rights : List ℕ) (control : Control) (r : Result Reply Refusal) → is_sendable_control s.kind bytes control ≡ true →
-    descriptions_behind (table_of S p) control.rights ≡ Some rights → given_refusal S p P control.cred ≡ None → is_sendable_addr addr ≡ true →
-    Gives S (send_from S (flight_limit P) d s addr (message_of P tag (sent_cred p P control.cred) bytes rights)) r T → Gives S (send_with S p P tag d s addr bytes control) r T
+sent_at : (S T : State) (k : Sending) (d : ℕ) (s : Socket) (rights : List ℕ) (control : Control) (r : Result Reply Refusal) → is_sendable_control s.kind k.bytes control ≡ true →
+    descriptions_behind (table_of S k.caller) control.rights ≡ Some rights → given_refusal S k.caller k.process control.cred ≡ None → is_sendable_addr k.addr ≡ true →
+    Gives S (send_from S (flight_limit k.process) d s k.addr (message_of k (sent_cred k.caller k.process control.cred) rights)) r T → Gives S (send_with S k d s control) r T
 unfolding send_with
-sent_at S T p P tag d s addr bytes rights control r ok behind given sendable g = rw (ok, behind)
+sent_at S T k d s rights control r ok behind given sendable g = rw (ok, behind)
     (subst (λ (o : Option Errno). Gives S (elim o as (λ _. Outcome) [
       | Some e ↦ refuse S e
-      | None ↦ if not (is_sendable_addr addr) then refuse S Errno.EINVAL else send_from S (flight_limit P) d s addr (message_of P tag (sent_cred p P control.cred) bytes rights)
+      | None ↦ if not (is_sendable_addr k.addr) then refuse S Errno.EINVAL else send_from S (flight_limit k.process) d s k.addr (message_of k (sent_cred k.caller k.process control.cred) rights)
     ]) r T) (sym given) (rw sendable g))
 
 pub sent_behind : (S T : State) (p tag d : ℕ) (s : Socket) (cred : Cred) (uid : ℕ) (limit : Option ℕ) (addr : Option Addr) (bytes buffer rights : List ℕ) (control : Control) (r : Result Reply Refusal) → socket_at S d ≡ Some s →
     is_sendable_control s.kind bytes control ≡ true → descriptions_behind (table_of S p) control.rights ≡ Some rights → is_sendable_addr addr ≡ true → IsSomeAnd (process_at S p) (AreTold S p control.cred cred uid limit) →
-    Gives S (send_from_at S limit d addr (message tag bytes rights cred uid None)) r T → Gives S (as_process S p (λ P. reading_control buffer (send_with_at S p P tag d addr bytes control))) r T
+    Gives S (send_from_at S limit d addr (message tag bytes rights cred uid None)) r T → Gives S (as_process S p (λ P. reading_control buffer (send_with_at S (sending tag p P addr bytes) d control))) r T
 sent_behind S T p tag d s cred uid limit addr bytes buffer rights control r here ok behind sendable told g = go (process_at S p) told
   where
     sent : Gives S (send_from S limit d s addr (message tag bytes rights cred uid None)) r T
     sent = subst (λ o. Gives S (elim o as (λ _. Outcome) [ None ↦ refuse S Errno.EBADF | Some s ↦ send_from S limit d s addr (message tag bytes rights cred uid None) ]) r T) here g
 
     go : (o : Option Process) → IsSomeAnd o (AreTold S p control.cred cred uid limit) →
-        Gives S (elim o as (λ _. Outcome) [ None ↦ refuse S Errno.ESRCH | Some P ↦ sending_at S p P tag d addr bytes buffer control (socket_at S d) ]) r T
+        Gives S (elim o as (λ _. Outcome) [ None ↦ refuse S Errno.ESRCH | Some P ↦ sending_at S (sending tag p P addr bytes) d buffer control (socket_at S d) ]) r T
     go None told = absurd told
-    go (Some P) (may, is, by, most) = subst (λ o. Gives S (sending_at S p P tag d addr bytes buffer control o) r T) (sym here)
-        (read_gives S T buffer (send_with S p P tag d s addr bytes control) r
-        (sent_at S T p P tag d s addr bytes rights control r ok behind may sendable
+    go (Some P) (may, is, by, most) = subst (λ o. Gives S (sending_at S (sending tag p P addr bytes) d buffer control o) r T) (sym here)
+        (read_gives S T buffer (send_with S (sending tag p P addr bytes) d s control) r
+        (sent_at S T (sending tag p P addr bytes) d s rights control r ok behind may sendable
         (subst (λ (x : Cred × ℕ × Option ℕ). Gives S (send_from S x.2 d s addr (message tag bytes rights x.0 x.1 None)) r T) (λ j. (is j, by j, most j)) sent)))
 
 -- write(2) on a socket

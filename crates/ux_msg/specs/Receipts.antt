@@ -1,13 +1,13 @@
 -- A receive at the socket of a description, where that may be gone.
 use Rattle.std.specs.Prelude.{ℕ, Some, None}
-use Rattle.ux_model.specs.Types.{Errno, MsgFlags}
+use Rattle.ux_model.specs.Types.{Errno}
 use Rattle.ux_model.specs.State.{State, socket_at, table_of}
 use Rattle.ux_model.specs.Outcome.{Outcome, refuse}
 use Rattle.ux_model.specs.Delivered.{Brought, nothing_brought, brought_from}
-use Rattle.ux_model.specs.Receiving.{receive, receive_nothing, read_socket}
+use Rattle.ux_model.specs.Receiving.{Incoming, receive, receive_nothing, read_socket}
 
-abbrev pub receive_at : State → ℕ → ℕ → ℕ → ℕ → MsgFlags → Outcome
-receive_at S p d n space flags = elim (socket_at S d) [ None ↦ refuse S Errno.EBADF | Some s ↦ receive S p d s n space flags ]
+abbrev pub receive_at : State → ℕ → ℕ → Incoming → Outcome
+receive_at S p d asked = elim (socket_at S d) [ None ↦ refuse S Errno.EBADF | Some s ↦ receive S p d s asked ]
 
 abbrev pub receive_nothing_at : State → ℕ → ℕ → Outcome
 receive_nothing_at S d peer = elim (socket_at S d) [ None ↦ refuse S Errno.EBADF | Some s ↦ receive_nothing S d s peer ]

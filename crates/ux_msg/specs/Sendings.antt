@@ -4,10 +4,10 @@ use Rattle.ux_model.specs.Types.{Errno, Refusal, Cred, Addr}
 use Rattle.ux_model.specs.Message.{Message, message}
 use Rattle.ux_model.specs.Socket.{Socket}
 use Rattle.ux_model.specs.Control.{Control}
-use Rattle.ux_model.specs.Process.{Process, Descriptor}
+use Rattle.ux_model.specs.Process.{Descriptor}
 use Rattle.ux_model.specs.State.{State, socket_at}
 use Rattle.ux_model.specs.Outcome.{Outcome, refuse, as_process}
-use Rattle.ux_model.specs.Sending.{descriptions_behind, send_from, send_with, write_socket}
+use Rattle.ux_model.specs.Sending.{Sending, sending, descriptions_behind, send_from, send_with, write_socket}
 
 -- a number isn't open, or there was no memory for as many references as numbers
 abbrev pub IsRefusedBehind : List (Option Descriptor) → List ℕ → Refusal → Type 0
@@ -17,11 +17,11 @@ IsRefusedBehind table numbers Refusal.NoMemory = 0 < length numbers
 abbrev pub send_from_at : State → Option ℕ → ℕ → Option Addr → Message → Outcome
 send_from_at S limit d addr m = elim (socket_at S d) [ None ↦ refuse S Errno.EBADF | Some s ↦ send_from S limit d s addr m ]
 
-abbrev pub send_with_at : State → ℕ → Process → ℕ → ℕ → Option Addr → List ℕ → Control → Outcome
-send_with_at S p P tag d addr bytes control = elim (socket_at S d) [ None ↦ refuse S Errno.EBADF | Some s ↦ send_with S p P tag d s addr bytes control ]
+abbrev pub send_with_at : State → Sending → ℕ → Control → Outcome
+send_with_at S k d control = elim (socket_at S d) [ None ↦ refuse S Errno.EBADF | Some s ↦ send_with S k d s control ]
 
 abbrev pub write_socket_at : State → ℕ → ℕ → ℕ → List ℕ → Outcome
-write_socket_at S p tag d bytes = elim (socket_at S d) [ None ↦ refuse S Errno.EBADF | Some s ↦ as_process S p (λ P. write_socket S p P tag d s bytes) ]
+write_socket_at S p tag d bytes = elim (socket_at S d) [ None ↦ refuse S Errno.EBADF | Some s ↦ as_process S p (λ P. write_socket S (sending tag p P None bytes) d s) ]
 
 -- a datagram of this socket, which reports its name
 abbrev pub named_message : Socket → ℕ → List ℕ → List ℕ → Cred → ℕ → Message

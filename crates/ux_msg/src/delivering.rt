@@ -11,13 +11,7 @@ use ux_object::FileObject;
 use ux_record::Received;
 use ux_rights::plan_rights;
 use ux_state::State;
-use ux_types::{Bytes, Cred, Fd, Pid};
-
-/// The bytes of an item of credentials in a control buffer (CMSG_LEN of cmsg(3)).
-const CRED_LEN: usize = 28;
-
-/// The same up to where the next item begins (CMSG_SPACE).
-const CRED_SPACE: usize = 32;
+use ux_types::{Bytes, CMSG_CRED_LEN, CMSG_CRED_SPACE, Cred, Fd, Pid};
 
 /// What a receive reports beside the bytes.
 #[derive(Drop)]
@@ -100,7 +94,7 @@ fn find_numbers<O: FileObject>(
 fn cred_told(wanted: Wanted, cred: Cred) -> Option<Cred>
     ensures { result ≡ (if writes_cred wanted.cred wanted.space then Some cred else None) }
 {
-    if wanted.cred && wanted.space >= CRED_LEN {
+    if wanted.cred && wanted.space >= CMSG_CRED_LEN {
         Some(cred)
     } else {
         None
@@ -111,8 +105,8 @@ fn cred_told(wanted: Wanted, cred: Cred) -> Option<Cred>
 fn space_for_rights(wanted: Wanted) -> usize
     ensures { result ≡ space_for_rights wanted.cred wanted.space }
 {
-    if wanted.cred && wanted.space >= CRED_LEN {
-        wanted.space.saturating_sub(CRED_SPACE)
+    if wanted.cred && wanted.space >= CMSG_CRED_LEN {
+        wanted.space.saturating_sub(CMSG_CRED_SPACE)
     } else {
         wanted.space
     }

@@ -2,10 +2,7 @@
 ghost use Rattle.std.specs.Prelude.{◌≡◌, ◌-◌, ◌<◌, ◌↔◌, IsTrue};
 ghost use Rattle.ux_model.specs.Delivery.{install_count, rights_fit};
 
-/// The bytes of an item's head (CMSG_LEN(0) of cmsg(3)).
-const HEAD: usize = 16;
-/// The bytes of a descriptor's number.
-const NUMBER: usize = 4;
+use ux_types::{CMSG_FD_LEN, CMSG_HEAD_LEN};
 
 /// What becomes of the rights of a message at a receiver.
 #[derive(Clone, Copy, Debug, PartialEq, Eq)]
@@ -37,8 +34,8 @@ pub fn plan_rights(count: usize, space: usize, free: usize) -> Plan
 fn rights_fit(space: usize) -> usize
     ensures { result ≡ rights_fit space }
 {
-    if space < HEAD + NUMBER {
+    if space < CMSG_HEAD_LEN + CMSG_FD_LEN {
         return 0;
     }
-    (space - HEAD) / NUMBER
+    (space - CMSG_HEAD_LEN) / CMSG_FD_LEN
 }

@@ -1,6 +1,8 @@
 //! The limits of the layer, each where it is named in the calls' pages. What bounds one kind of file object alone
 //! stands with it.
 
+use crate::control_layout::{CMSG_CRED_SPACE, CMSG_FD_LEN, CMSG_HEAD_LEN};
+
 /// The most file objects that one kernel may have.
 pub const OBJECT_LIMIT: usize = 64;
 
@@ -28,8 +30,9 @@ pub const RECORD_BYTES_LIMIT: usize = 65536;
 /// The most descriptors that go in one message (SCM_MAX_FD of unix(7)).
 pub const RIGHTS_LIMIT: usize = 253;
 
-/// The longest control buffer that a receive reports: credentials, padding, and the most rights of a message.
-pub const CONTROL_LIMIT: usize = 32 + 16 + 4 * RIGHTS_LIMIT;
+/// The longest control buffer that a receive reports: credentials with their padding, and the most rights of a
+/// message.
+pub const CONTROL_LIMIT: usize = CMSG_CRED_SPACE + CMSG_HEAD_LEN + CMSG_FD_LEN * RIGHTS_LIMIT;
 
 /// The most bytes that one read asks for.
 pub const READ_LIMIT: usize = 1048576;
