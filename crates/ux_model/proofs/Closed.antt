@@ -9,7 +9,7 @@ use Rattle.ux_model.specs.Places.{place}
 use Rattle.ux_model.specs.Object.{View}
 use Rattle.ux_model.specs.State.{State}
 use Rattle.ux_model.specs.References.{times, orefs}
-use Rattle.ux_model.specs.Release.{without, drop_all, drop_rounds, drop_unreferenced, has_unreferenced, without_orphans, orphans, retired, released, settled}
+use Rattle.ux_model.specs.Release.{without, drop_all, drop_rounds, drop_unreferenced, has_unreferenced, without_orphans, orphans, released_objects, released, settled}
 use Rattle.ux_model.specs.Step.{Step}
 use Rattle.ux_model.specs.History.{replay, IsLegal}
 use Rattle.ux_model.specs.Invariants.{times_released, LosesLast, ClosedOnce}
@@ -98,7 +98,7 @@ either_way (Some x) true = refl
 either_way (Some x) false = refl
 
 released_there : (S : State) (o : ℕ) → times o (released S) + there (settled S) o ≡ there S o
-unfolding settled retired
+unfolding settled released_objects
 released_there S o =
     let D : State = drop_unreferenced S in
     let gone : times o (closed_numbers (orphans D)) ≡ cond (is_some (place D.objects o) && (orefs D o == 0)) 1 0 = gone_counts (λ n. orefs D n == 0) o 0 o D.objects (omega arith) in

@@ -7,7 +7,7 @@ use Rattle.ux_model.specs.Places.{place}
 use Rattle.ux_model.specs.Object.{memory}
 use Rattle.ux_model.specs.State.{State}
 use Rattle.ux_model.specs.References.{times}
-use Rattle.ux_model.specs.Release.{retired}
+use Rattle.ux_model.specs.Release.{released_objects}
 use Rattle.ux_model.specs.Outcome.{own}
 use Rattle.ux_model.specs.Step.{outcome}
 use Rattle.ux_model.specs.HandingOut.{IsHandedOut}
@@ -94,10 +94,10 @@ gone = (closed_once boot _ 0 is_legal).gone_for_good 3 4 closing refl some (omeg
 abbrev unsettled : State
 unsettled = (outcome (replay boot before) 1 3 (shut 0)).next
 
-one_goes : map (λ e. e.0) (retired unsettled) ≡ 0 ∷ []
+one_goes : map (λ e. e.0) (released_objects unsettled) ≡ 0 ∷ []
 unfolding computing
 one_goes = refl
 
-handed : AllByRecursion (IsHandedOut (replay boot before)) (retired unsettled)
+handed : AllByRecursion (IsHandedOut (replay boot before)) (released_objects unsettled)
 unfolding computing
 handed = handed_out (replay boot before) unsettled 1 3 (shut 0) Reply.Ok (own refl refl)

@@ -7,7 +7,7 @@ use Rattle.ux_model.specs.Places.{place}
 use Rattle.ux_model.specs.Object.{View, closed}
 use Rattle.ux_model.specs.State.{State, description_at, table_of}
 use Rattle.ux_model.specs.References.{refs, orefs}
-use Rattle.ux_model.specs.Release.{target_after_loss, description_after_loss, without, is_unreferenced, has_unreferenced, drop_all, drop_rounds, drop_unreferenced, retired}
+use Rattle.ux_model.specs.Release.{target_after_loss, description_after_loss, without, is_unreferenced, has_unreferenced, drop_all, drop_rounds, drop_unreferenced, released_objects}
 use Rattle.ux_model.specs.Step.{outcome}
 use Rattle.ux_model.specs.HandingOut.{IsHandedOut, HandsOutWhatWasHeld}
 use Rattle.ux_model.proofs.Reaching.{changes_lives}
@@ -90,8 +90,8 @@ each_closed P f k (x ∷ xs) each =
     at_head (Some view) true rest here all = (here view refl refl, all)
     at_head (Some view) false rest here all = all
 
-all_handed : (S T : State) → KeepsObjects S T → AllByRecursion (IsHandedOut S) (retired T)
-unfolding retired
+all_handed : (S T : State) → KeepsObjects S T → AllByRecursion (IsHandedOut S) (released_objects T)
+unfolding released_objects
 all_handed S T kept = each_closed (IsHandedOut S) (λ o. orefs (drop_unreferenced T) o == 0) 0 (drop_unreferenced T).objects
     (λ o i view e h none. let same : o ≡ i = omega (arith, e) in handed S T o view kept (ap (place (drop_unreferenced T).objects) same ∙ h) none)
 

@@ -132,8 +132,8 @@ listen_obeys S p fd backlog = maybe (Call S) (process_at S p) _ _ (refuses refl 
 connect_to_obeys : (S : State) (d : ℕ) (s : Socket) (cred : Cred) (l : ℕ) (other : Socket) → socket_at S d ≡ Some s → peer_of s.phase ≡ None → socket_at S l ≡ Some other →
     Call S (connect_to S d cred l other)
 connect_to_obeys S d s cred l other h free there = maybe (Call S) (listener_of other.phase) _ _ (refuses refl (inl refl))
-    (λ kept listens. either (Call S) (nat_le kept.0.limit (length kept.0.pending)) _ _ (λ b. refuses refl refl)
-    (λ b. answers refl refl refl refl (connection_made d l cred kept.1 s other still h free there)))
+    (λ kept listens. either (Call S) (nat_le kept.backlog.limit (length kept.backlog.pending)) _ _ (λ b. refuses refl refl)
+    (λ b. answers refl refl refl refl (connection_made d l cred kept.cred s other still h free there)))
 
 stream_obeys : (S : State) (d : ℕ) (s : Socket) (addr : Addr) (cred : Cred) → socket_at S d ≡ Some s → Call S (connect_stream S d s addr cred)
 stream_obeys S d s addr cred h = either (Call S) (not (is_valid_addr addr) || is_unnamed_addr addr || is_some (listener_of s.phase)) _ _ (λ b. refuses refl refl)

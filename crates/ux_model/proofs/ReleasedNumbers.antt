@@ -8,7 +8,7 @@ use Rattle.std.proofs.lemmas.List.Kept.{AllPairs-filter}
 use Rattle.ux_model.specs.Types.{Request, Reply}
 use Rattle.ux_model.specs.Object.{View, closed}
 use Rattle.ux_model.specs.State.{State}
-use Rattle.ux_model.specs.Release.{released, retired, orphans, is_orphan, drop_unreferenced}
+use Rattle.ux_model.specs.Release.{released, released_objects, orphans, is_orphan, drop_unreferenced}
 use Rattle.ux_model.specs.Step.{Step}
 
 -- an object before another
@@ -35,7 +35,7 @@ same_numbers [] = refl
 same_numbers (e ∷ es) = ap (λ ns. e.0 ∷ ns) (same_numbers es)
 
 pub released_rise : (T : State) → AllPairs (λ (a b : ℕ). a < b) (released T)
-unfolding retired
+unfolding released_objects
 released_rise T =
     let D = drop_unreferenced T in
     subst (AllPairs (λ (a b : ℕ). a < b)) (sym (same_numbers (orphans D)))

@@ -16,7 +16,7 @@ use Rattle.ux_model.specs.ControlReading.{control_in}
 use Rattle.ux_model.specs.Front.{Front, front_of}
 use Rattle.ux_model.specs.Socket.{Socket, is_stream, is_dgram, peer_of, pending_ends, association_of, tied_socket, takes_from, has_room}
 use Rattle.ux_model.specs.Description.{Description, to_socket, socket_of, socket_in}
-use Rattle.ux_model.specs.Process.{Process, own_cred, lowest_free, two_lowest_free}
+use Rattle.ux_model.specs.Process.{own_cred, lowest_free, two_lowest_free}
 use Rattle.ux_model.specs.State.{State, process_at, description_at, socket_at, table_of}
 use Rattle.ux_model.specs.Outcome.{Outcome, Chosen, own, lacking_memory, failing, refuse, descriptor_at}
 use Rattle.ux_model.specs.Naming.{unlink}
@@ -175,7 +175,7 @@ listen_plain S p fd backlog = maybe Plain (process_at S p) _ _ (plain refl) (λ 
 stream_plain : (S : State) (d : ℕ) (s : Socket) (addr : Addr) (cred : Cred) → Plain (connect_stream S d s addr cred)
 stream_plain S d s addr cred = either Plain (not (is_valid_addr addr) || is_unnamed_addr addr || is_some (listener_of s.phase)) _ _ (λ b. plain refl)
     (λ b. either Plain (is_some (peer_of s.phase)) _ _ (λ c. plain refl) (λ c. found_named Plain S s.kind addr _ (plain refl) (plain refl) (plain refl) (plain refl)
-    (λ l other there. maybe Plain (listener_of other.phase) _ _ (plain refl) (λ kept listens. either Plain (nat_le kept.0.limit (length kept.0.pending)) _ _ (λ e. plain refl) (λ e. plain refl)))))
+    (λ l other there. maybe Plain (listener_of other.phase) _ _ (plain refl) (λ kept listens. either Plain (nat_le kept.backlog.limit (length kept.backlog.pending)) _ _ (λ e. plain refl) (λ e. plain refl)))))
 
 datagram_plain : (S : State) (d : ℕ) (kind : SockType) (addr : Addr) → Plain (connect_datagram S d kind addr)
 datagram_plain S d kind addr = either Plain (not (is_valid_addr addr)) _ _ (λ b. plain refl) (λ b. either Plain (is_unnamed_addr addr) _ _ (λ c. plain refl)

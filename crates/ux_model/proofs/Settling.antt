@@ -10,7 +10,7 @@ use Rattle.ux_model.specs.Object.{View, closed}
 use Rattle.ux_model.specs.Names.{PathTarget, file}
 use Rattle.ux_model.specs.State.{State}
 use Rattle.ux_model.specs.References.{path_names, refs, orefs}
-use Rattle.ux_model.specs.Release.{is_unreferenced, has_unreferenced, drop_all, drop_rounds, drop_unreferenced, is_orphan, without_orphans, settled, released, retired, orphans}
+use Rattle.ux_model.specs.Release.{is_unreferenced, has_unreferenced, drop_all, drop_rounds, drop_unreferenced, is_orphan, without_orphans, settled, released, released_objects, orphans}
 use Rattle.ux_model.specs.Boot.{IsBootState}
 use Rattle.ux_model.specs.Step.{Step}
 use Rattle.ux_model.specs.History.{Chain, no_call, another_call}
@@ -210,7 +210,7 @@ orphans_gone S = none_orphaned (λ o. orefs S o == 0) 0 S.objects
 
 -- what nothing led to has gone, so nothing more goes
 settled_releases_none : (S : State) → released (settled S) ≡ []
-unfolding settled retired
+unfolding settled released_objects
 settled_releases_none S = ap (λ T. closed_numbers (orphans T)) (settled_drops_nothing S) ∙ ap closed_numbers (orphans_gone (drop_unreferenced S))
 
 pub releases_nothing : (S : State) → settled S ≡ S → released S ≡ []

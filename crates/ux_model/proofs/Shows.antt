@@ -26,7 +26,7 @@ use Rattle.ux_model.specs.Pairing.{make_pair, with_pair, socket_description}
 use Rattle.ux_model.specs.Binding.{bind_to, bind, get_sock_name, with_name}
 use Rattle.ux_model.specs.Connecting.{make_socket, listener_of, with_listening, listen, connect_to, connect_stream, connect_datagram, connect, get_peer_name, shutdown, with_connection, server_end, tied, no_open_flags}
 use Rattle.ux_model.specs.Accepting.{accept_first, accept, with_accepted, without_first_end, as_accepted, accepted_with, client_name}
-use Rattle.ux_model.specs.Sending.{Sending, sending, message_of, flight_limit, is_over_limit, enqueue, is_too_long, send_connected, send_stream, send_to_target, send_by_association, send_by, send_from, is_sendable_addr, is_sendable_control, given_refusal, sent_cred, send_given, send_with, send_read, send_msg, descriptions_behind}
+use Rattle.ux_model.specs.Sending.{sending, message_of, flight_limit, is_over_limit, enqueue, is_too_long, send_connected, send_stream, send_to_target, send_by_association, send_by, send_from, is_sendable_addr, is_sendable_control, given_refusal, sent_cred, send_given, send_with, send_read, send_msg, descriptions_behind}
 use Rattle.ux_model.specs.Receiving.{Incoming, incoming, with_delivered, receive_front, nothing_received, at_end, receive, recv_msg, bytes_alone}
 use Rattle.ux_model.specs.FileObjects.{holds_bytes, is_open_for}
 use Rattle.ux_model.specs.Opening.{open_file, file_description}
@@ -444,7 +444,7 @@ connect_shows S p tag fd addr = maybe Q (process_at S p) _ _ (refuses refl) (λ 
 
     connected_to : (d : ℕ) (cred : Cred) (l : ℕ) (other : Socket) → Shows S p tag (Request.Connect fd addr) (connect_to S d cred l other)
     connected_to d cred l other = maybe Q (listener_of other.phase) _ _ (refuses refl)
-        (λ kept h. either Q (nat_le kept.0.limit (length kept.0.pending)) _ _ (λ b. refuses refl) (λ b. answers plain refl refl refl (quiet_connection S d cred l other kept.1)))
+        (λ kept h. either Q (nat_le kept.backlog.limit (length kept.backlog.pending)) _ _ (λ b. refuses refl) (λ b. answers plain refl refl refl (quiet_connection S d cred l other kept.cred)))
 
     stream : (d : ℕ) (s : Socket) (cred : Cred) → Shows S p tag (Request.Connect fd addr) (connect_stream S d s addr cred)
     stream d s cred = either Q (not (is_valid_addr addr) || is_unnamed_addr addr || is_some (listener_of s.phase)) _ _ (λ b. refuses refl)

@@ -23,10 +23,15 @@ make_socket S p kind flags = elim (lowest_free (table_of S p)) [
 
 -- ---- listening
 
--- what a listener keeps: its backlog, and the credentials of the process that called listen
-abbrev pub listener_of : Phase → Option (Backlog × Cred)
+-- what a socket keeps while it listens
+pub record Listener : Type 0 where
+  pub backlog : Backlog
+  -- of the process that called listen
+  pub cred : Cred
+
+abbrev pub listener_of : Phase → Option Listener
 listener_of idle = None
-listener_of (listening backlog cred) = Some (backlog, cred)
+listener_of (listening backlog cred) = Some (record { backlog = backlog; cred = cred })
 listener_of (connected peer) = None
 listener_of (associated target) = None
 
@@ -62,10 +67,10 @@ with_connection S d cred l listener listener_cred =
     with_socket_by (with_new (with_socket_by S l (awaiting e)) (socket_description no_open_flags (server_end listener d cred))) d (tied e listener_cred)
 
 -- where a listener keeps this
-abbrev pub connect_to_listener : State → ℕ → Cred → ℕ → Socket → Backlog × Cred → Outcome
+abbrev pub connect_to_listener : State → ℕ → Cred → ℕ → Socket → Listener → Outcome
 connect_to_listener S d cred l listener kept =
-    if nat_le kept.0.limit (length kept.0.pending) then refuse S Errno.EAGAIN else
-    growing Reply.Ok (with_connection S d cred l listener kept.1)
+    if nat_le kept.backlog.limit (length kept.backlog.pending) then refuse S Errno.EAGAIN else
+    growing Reply.Ok (with_connection S d cred l listener kept.cred)
 
 -- a socket that doesn't listen refuses
 abbrev pub connect_to : State → ℕ → Cred → ℕ → Socket → Outcome

@@ -5,7 +5,7 @@ use Rattle.ux_model.specs.Types.{Request, Reply}
 use Rattle.ux_model.specs.Places.{place}
 use Rattle.ux_model.specs.Object.{View, closed}
 use Rattle.ux_model.specs.State.{State}
-use Rattle.ux_model.specs.Release.{retired}
+use Rattle.ux_model.specs.Release.{released_objects}
 use Rattle.ux_model.specs.Outcome.{Chosen}
 use Rattle.ux_model.specs.Step.{outcome}
 
@@ -16,4 +16,4 @@ IsHandedOut S r = IsSomeAnd (place S.objects r.0) (λ view. r.1 ≡ Some (closed
 -- so each that goes at the end of a call, of whatever state
 abbrev pub HandsOutWhatWasHeld : Type 0
 HandsOutWhatWasHeld = (S T : State) (p tag : ℕ) (request : Request) (reply : Reply) → Chosen S (outcome S p tag request) reply T →
-    AllByRecursion (IsHandedOut S) (retired T)
+    AllByRecursion (IsHandedOut S) (released_objects T)

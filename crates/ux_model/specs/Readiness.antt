@@ -1,16 +1,15 @@
 -- Which conditions poll(2) reports of a descriptor: all that hold now.
 use Rattle.std.specs.Prelude.{ℕ, ◌+◌, Bool, true, false, not, ◌&&◌, ◌||◌, ◌==◌, if◌then◌else◌, length, Option, Some, None}
-use Rattle.ux_model.specs.Types.{Fd, Cred, PollFlags, Reply}
+use Rattle.ux_model.specs.Types.{Fd, PollFlags, Reply}
 use Rattle.ux_model.specs.Places.{place}
 use Rattle.ux_model.specs.Flags.{can_read, can_write, poll_in, poll_out, poll_rdhup, poll_hup, poll_err, poll_nval}
 use Rattle.ux_model.specs.Object.{View, ready, is_pipe}
-use Rattle.ux_model.specs.Backlog.{Backlog}
 use Rattle.ux_model.specs.Socket.{Socket, is_dgram, peer_of, association_of, takes_from, has_room}
 use Rattle.ux_model.specs.Description.{Description, to_object, to_socket}
 use Rattle.ux_model.specs.State.{State, description_at, socket_at}
 use Rattle.ux_model.specs.Outcome.{Outcome, answer, descriptor_at}
 use Rattle.ux_model.specs.FileObjects.{is_open_for}
-use Rattle.ux_model.specs.Connecting.{listener_of}
+use Rattle.ux_model.specs.Connecting.{Listener, listener_of}
 
 pub record Conditions : Type 0 where
   -- POLLIN: a read has something to report at once
@@ -66,9 +65,9 @@ by_peer s None = lost_conditions s
 by_peer s (Some other) = connected_conditions s other
 
 -- one that isn't connected is readable where it listens and an end waits for accept; else it is hung up
-abbrev pub listener_conditions : Option (Backlog × Cred) → Conditions
+abbrev pub listener_conditions : Option Listener → Conditions
 listener_conditions None = record no_conditions { hung = true }
-listener_conditions (Some kept) = record no_conditions { readable = not (length kept.0.pending == 0) }
+listener_conditions (Some kept) = record no_conditions { readable = not (length kept.backlog.pending == 0) }
 
 abbrev pub stream_conditions : State → Socket → Conditions
 stream_conditions S s = elim (peer_of s.phase) [ None ↦ listener_conditions (listener_of s.phase) | Some peer ↦ by_peer s (socket_at S peer) ]
