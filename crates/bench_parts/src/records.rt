@@ -4,7 +4,7 @@ use anyhow::Result;
 use std::alloc::{AllocError, Global};
 use std::rt::Clock;
 use ux_record::RecordQueue;
-use ux_rights::RefList;
+use ux_rights::{Draft, RefList};
 use ux_types::{Bytes, Cred, Pid};
 
 /// How often a batch is measured.
@@ -41,9 +41,13 @@ struct Records {
 
 /// Sends a message.
 fn send(alloc: Global, queue: &mut RecordQueue, message: &Bytes) -> bool {
-    queue
-        .send(message, 1, RefList::new(alloc), CRED, 1000, None)
-        .is_ok()
+    let draft = Draft {
+        tag: 1,
+        bytes: message,
+        cred: CRED,
+        uid: 1000,
+    };
+    queue.send(draft, RefList::new(alloc), None).is_ok()
 }
 
 /// Takes a message of this length.

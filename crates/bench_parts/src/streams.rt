@@ -3,9 +3,9 @@ use crate::measuring::{Batch, nanos};
 use anyhow::Result;
 use std::alloc::{AllocError, Global};
 use std::rt::Clock;
-use ux_rights::RefList;
+use ux_rights::{Draft, RefList};
 use ux_stream::StreamQueue;
-use ux_types::{Cred, Pid};
+use ux_types::{Bytes, Cred, Pid};
 
 /// How often a batch is measured.
 const ROUNDS: u32 = 200;
@@ -39,7 +39,7 @@ enum Step {
 struct Stream {
     alloc: Global,
     queue: StreamQueue,
-    message: Vec<u8>,
+    message: Bytes,
     /// Where the plain copies go.
     copies: Vec<u8>,
     calls: u32,
@@ -47,11 +47,17 @@ struct Stream {
 }
 
 /// Sends a message.
-fn send(alloc: Global, queue: &mut StreamQueue, message: &[u8]) -> bool {
+fn send(alloc: Global, queue: &mut StreamQueue, message: &Bytes) -> bool {
     if message.is_empty() {
         return false;
     }
-    match queue.send(message, ROOM, 1, RefList::new(alloc), CRED, 1000) {
+    let draft = Draft {
+        tag: 1,
+        bytes: message,
+        cred: CRED,
+        uid: 1000,
+    };
+    match queue.send(draft, ROOM, RefList::new(alloc)) {
         Ok(count) => count == message.len(),
         Err(_) => false,
     }
@@ -89,7 +95,7 @@ impl Stream {
         Ok(Stream {
             alloc,
             queue: StreamQueue::new(alloc),
-            message: vec![in alloc; BYTE; length]?,
+            message: Bytes::new(vec![in alloc; BYTE; length]?)?,
             copies: Vec::with_capacity(alloc, ROOM)?,
             calls,
             step: Step::Send,
@@ -100,7 +106,7 @@ impl Stream {
     fn send_all(&mut self) -> u32 {
         let mut granted: u32 = 0;
         for _ in 0..self.calls {
-            let sent = send(self.alloc, &mut self.queue, self.message.as_slice());
+            let sent = send(self.alloc, &mut self.queue, &self.message);
             granted = granted.saturating_add(u32::from(sent));
         }
         granted

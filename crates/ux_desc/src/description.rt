@@ -1,6 +1,5 @@
 //! An open file description.
 ghost use Rattle.std.specs.Prelude.{◌≡◌, ◌↔◌, ◌<◌, false, Some, None, MatchOption, IsTrue, IsSomeAnd, IsErrAnd, IfOk, IfErr, OnOk, OnErr, length, option_map};
-ghost use Rattle.ux_model.specs.Message.{message};
 ghost use Rattle.ux_model.specs.Socket.{is_stream, has_room, sent_part, sent, with_queue, with_reset};
 ghost use Rattle.ux_model.specs.Front.{OnFront};
 ghost use Rattle.ux_model.specs.Description.{socket_of, object_of, changed};
@@ -8,14 +7,15 @@ ghost use Rattle.ux_model.specs.Pairing.{socket_description};
 ghost use Rattle.ux_model.specs.Opening.{file_description};
 ghost use Rattle.ux_model.specs.Descriptors.{with_flags};
 ghost use Rattle.ux_model.specs.Peers.{lost_peer};
+ghost use Rattle.ux_rights.specs.Drafts.{drafted};
 ghost use Rattle.ux_desc.specs.Targets.{target_of};
 
 use crate::socket::Socket;
 use bitflags::Flags;
 use std::marker::Model;
-use ux_rights::{RefList, SendError};
+use ux_rights::{Draft, RefList, SendError};
 use ux_stream::Refused;
-use ux_types::{Addr, Bytes, Cred, DescriptionId, Mode, OpenFlags};
+use ux_types::{Addr, DescriptionId, Mode, OpenFlags};
 
 /// What a description leads to.
 #[derive(Drop)]
@@ -158,23 +158,20 @@ impl Description {
     /// as before.
     pub fn send(
         &mut self,
-        bytes: &Bytes,
-        tag: u64,
+        draft: Draft<'_>,
         rights: RefList,
-        cred: Cred,
-        uid: u32,
         from: Option<Addr>,
     ) -> Result<usize, Refused>
-        requires some { IsSomeAnd (socket_of self.old.target) (λ s. IsTrue (is_stream s.kind) → 0 < length bytes.now) }
-        ensures count { IfOk result (λ count. IsSomeAnd (socket_of self.old.target) (λ s. count ≡ length (sent_part s (message tag bytes.now rights cred uid from)).bytes)) }
-        ensures ok { OnOk result (self.new ≡ changed (sent (message tag bytes.now rights cred uid from)) self.old) }
+        requires some { IsSomeAnd (socket_of self.old.target) (λ s. IsTrue (is_stream s.kind) → 0 < length draft.bytes.now) }
+        ensures count { IfOk result (λ count. IsSomeAnd (socket_of self.old.target) (λ s. count ≡ length (sent_part s (drafted draft.entry rights from)).bytes)) }
+        ensures ok { OnOk result (self.new ≡ changed (sent (drafted draft.entry rights from)) self.old) }
         ensures full { IsErrAnd result (λ e. e.error ≡ SendError.Full) ↔ IsSomeAnd (socket_of self.old.target) (λ s. has_room s ≡ false) }
         ensures given_back { IfErr result (λ e. e.rights ≡ rights) }
         ensures err { OnErr result (self.new ≡ self.old) }
     {
         match &mut self.target {
             Target::Object(_) => unreachable!(),
-            Target::Socket(s) => s.send(bytes, tag, rights, cred, uid, from),
+            Target::Socket(s) => s.send(draft, rights, from),
         }
     }
 

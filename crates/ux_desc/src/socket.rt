@@ -1,20 +1,21 @@
 //! A socket.
 ghost use Rattle.std.specs.Prelude.{◌≡◌, ◌↔◌, ◌==◌, ◌<◌, ◌≤◌, ◌-◌, [], ◌∷◌, ◌++◌, length, drop, false, Some, None, IsTrue, IfOk, IfErr, IsErrAnd, OnOk, OnErr, option_map, slice_get};
 ghost use Rattle.ux_model.specs.Limits.{record_limit};
-ghost use Rattle.ux_model.specs.Message.{message, queued_bytes};
+ghost use Rattle.ux_model.specs.Message.{queued_bytes};
 ghost use Rattle.ux_model.specs.Socket.{is_stream, is_dgram, new_socket, pair_end, peer_of, association_of, tied_socket, takes_from, pending_ends, has_room, sent_part, sent, with_queue, with_reset, with_passcred, with_queue_limit, with_association, shut_down};
 ghost use Rattle.ux_model.specs.Front.{OnStreamFront, OnRecordFront, OnFront};
 ghost use Rattle.ux_model.specs.Accepting.{without_first_end};
 ghost use Rattle.ux_model.specs.Release.{resets_peer};
+ghost use Rattle.ux_rights.specs.Drafts.{drafted};
 
 use crate::phase::Phase;
 use crate::queue::Queue;
 use std::alloc::{AllocError, Global};
 use std::marker::Model;
 use ux_record::{Received, RecordQueue};
-use ux_rights::{RefList, SendError};
+use ux_rights::{Draft, RefList, SendError};
 use ux_stream::{Refused, StreamQueue};
-use ux_types::{Addr, Bytes, Cred, DescriptionId, FIRST_QUEUE_LIMIT, Mode, SockType};
+use ux_types::{Addr, Cred, DescriptionId, FIRST_QUEUE_LIMIT, Mode, SockType};
 
 /// A socket, without what its descriptors and its description say (unix(7)).
 pub struct Socket {
@@ -264,16 +265,13 @@ impl Socket {
     /// before.
     pub fn send(
         &mut self,
-        bytes: &Bytes,
-        tag: u64,
+        draft: Draft<'_>,
         rights: RefList,
-        cred: Cred,
-        uid: u32,
         from: Option<Addr>,
     ) -> Result<usize, Refused>
-        requires some { IsTrue (is_stream self.old.kind) → 0 < length bytes.now }
-        ensures count { IfOk result (λ count. count ≡ length (sent_part self.old (message tag bytes.now rights cred uid from)).bytes) }
-        ensures ok { OnOk result (self.new ≡ sent (message tag bytes.now rights cred uid from) self.old) }
+        requires some { IsTrue (is_stream self.old.kind) → 0 < length draft.bytes.now }
+        ensures count { IfOk result (λ count. count ≡ length (sent_part self.old (drafted draft.entry rights from)).bytes) }
+        ensures ok { OnOk result (self.new ≡ sent (drafted draft.entry rights from) self.old) }
         ensures full { IsErrAnd result (λ e. e.error ≡ SendError.Full) ↔ (has_room self.old ≡ false) }
         ensures given_back { IfErr result (λ e. e.rights ≡ rights) }
         ensures err { OnErr result (self.new ≡ self.old) }
@@ -281,10 +279,10 @@ impl Socket {
         match &mut self.queue {
             Queue::Stream(queue) => {
                 let room = room_of(queue, self.queue_limit);
-                queue.send(bytes.as_slice(), room, tag, rights, cred, uid)
+                queue.send(draft, room, rights)
             }
-            Queue::Dgram(queue) => send_whole(queue, bytes, tag, rights, cred, uid, from),
-            Queue::Seq(queue) => send_whole(queue, bytes, tag, rights, cred, uid, from),
+            Queue::Dgram(queue) => send_whole(queue, draft, rights, from),
+            Queue::Seq(queue) => send_whole(queue, draft, rights, from),
         }
     }
 
@@ -404,21 +402,18 @@ fn room_of(queue: &StreamQueue, limit: u32) -> usize
 /// Queues a message whole, and says how many bytes it has.
 fn send_whole(
     queue: &mut RecordQueue,
-    bytes: &Bytes,
-    tag: u64,
+    draft: Draft<'_>,
     rights: RefList,
-    cred: Cred,
-    uid: u32,
     from: Option<Addr>,
 ) -> Result<usize, Refused>
-    ensures count { IfOk result (λ count. count ≡ length bytes.now) }
-    ensures ok { OnOk result (queue.new ≡ queue.old ++ message tag bytes.now rights cred uid from ∷ []) }
+    ensures count { IfOk result (λ count. count ≡ length draft.entry.bytes.now) }
+    ensures ok { OnOk result (queue.new ≡ queue.old ++ drafted draft.entry rights from ∷ []) }
     ensures full { IsErrAnd result (λ e. e.error ≡ SendError.Full) ↔ (record_limit ≤ length queue.old) }
     ensures given_back { IfErr result (λ e. e.rights ≡ rights) }
     ensures err { OnErr result (queue.new ≡ queue.old) }
 {
-    match queue.send(bytes, tag, rights, cred, uid, from) {
-        Ok(()) => Ok(bytes.len()),
+    match queue.send(draft, rights, from) {
+        Ok(()) => Ok(draft.bytes.len()),
         Err(refused) => Err(Refused {
             error: refused.error,
             rights: refused.rights,

@@ -9,7 +9,7 @@ ghost use Rattle.ux_model.specs.HandingOut.{IsHandedOut};
 ghost use Rattle.ux_kernel.specs.Calling.{IsCaller};
 
 use crate::kernel::Kernel;
-use ux_msg::{Outgoing, recv_msg, send_msg};
+use ux_msg::{Incoming, Outgoing, recv_msg, send_msg};
 use ux_object::FileObject;
 use ux_state::RetiredList;
 use ux_types::{Done, Errno, Pid, Refusal, Reply, Request};
@@ -102,7 +102,14 @@ impl<O: FileObject> Kernel<O> {
                 n,
                 space,
                 flags,
-            } => return recv_msg(&mut self.state, self.alloc, pid, *fd, *n, *space, *flags),
+            } => {
+                let asked = Incoming {
+                    n: *n,
+                    space: *space,
+                    flags: *flags,
+                };
+                return recv_msg(&mut self.state, self.alloc, pid, *fd, asked);
+            }
             Request::Poll { fd } => self.poll(pid, *fd),
             Request::Fork => self.fork(pid),
             Request::Exec => Ok(self.exec(pid)),

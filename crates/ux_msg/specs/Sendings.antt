@@ -1,7 +1,7 @@
 -- Why rights aren't sent; and a send from the socket of a description, where that may be gone.
 use Rattle.std.specs.Prelude.{◌≡◌, ℕ, ◌<◌, List, length, Option, Some, None}
-use Rattle.ux_model.specs.Types.{Errno, Refusal, Cred, Addr}
-use Rattle.ux_model.specs.Message.{Message, message}
+use Rattle.ux_model.specs.Types.{Errno, Refusal, Addr}
+use Rattle.ux_model.specs.Message.{Message}
 use Rattle.ux_model.specs.Socket.{Socket}
 use Rattle.ux_model.specs.Control.{Control}
 use Rattle.ux_model.specs.Process.{Descriptor}
@@ -22,7 +22,3 @@ send_with_at S k d control = elim (socket_at S d) [ None ↦ refuse S Errno.EBAD
 
 abbrev pub write_socket_at : State → ℕ → ℕ → ℕ → List ℕ → Outcome
 write_socket_at S p tag d bytes = elim (socket_at S d) [ None ↦ refuse S Errno.EBADF | Some s ↦ as_process S p (λ P. write_socket S (sending tag p P None bytes) d s) ]
-
--- a datagram of this socket, which reports its name
-abbrev pub named_message : Socket → ℕ → List ℕ → List ℕ → Cred → ℕ → Message
-named_message s tag bytes rights cred uid = message tag bytes rights cred uid (Some s.name)

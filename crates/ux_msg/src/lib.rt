@@ -5,9 +5,9 @@
 
 mod datagrams;
 mod delivering;
-mod draft;
+mod flight;
 mod receiving;
 mod sending;
 
-pub use receiving::{read_socket, recv_msg};
+pub use receiving::{Incoming, read_socket, recv_msg};
 pub use sending::{Outgoing, send_msg, write_socket};

@@ -20,7 +20,17 @@ use ux_rights::Origin;
 use ux_state::State;
 use ux_types::{Bytes, DescriptionId, Done, Errno, Fd, MsgFlags, Pid, Refusal, Reply, SockType};
 
-/// recvmsg(2) of at most n bytes, with room for `space` bytes of control. The process lives.
+/// What a recvmsg(2) asks for beside its descriptor.
+#[derive(Clone, Copy)]
+pub struct Incoming {
+    /// At most so many bytes.
+    pub n: usize,
+    /// Room for so many bytes of control.
+    pub space: usize,
+    pub flags: MsgFlags,
+}
+
+/// recvmsg(2). The process lives.
 ///
 /// # Errors
 ///
@@ -33,22 +43,20 @@ pub fn recv_msg<O: FileObject>(
     alloc: Global,
     pid: Pid,
     fd: Fd,
-    n: usize,
-    space: usize,
-    flags: MsgFlags,
+    asked: Incoming,
 ) -> Result<Done, Refusal>
     requires { IsTrue (is_live state.old pid.0) }
-    ensures gives { Gives state.old (model.recv_msg state.old pid.0 fd n space flags) (reply_of result) state.new }
-    ensures told { IfOk result (λ done. done.delivered ≡ delivered_by state.old pid.0 (Request.RecvMsg fd n space flags) done.reply) }
+    ensures gives { Gives state.old (model.recv_msg state.old pid.0 fd asked.n asked.space asked.flags) (reply_of result) state.new }
+    ensures told { IfOk result (λ done. done.delivered ≡ delivered_by state.old pid.0 (Request.RecvMsg fd asked.n asked.space asked.flags) done.reply) }
 {
     let id = match state.find_socket(pid, fd) {
-        Ok((id, _)) => id,
-        Err(e) => return Err(Refusal::from(e)),
+        Ok(found) => found.id,
+        Err(e) => return Err(e.into()),
     };
-    if !are_receive_flags(flags) {
-        return Err(Refusal::Answer(Errno::EINVAL));
+    if !are_receive_flags(asked.flags) {
+        return Err(Errno::EINVAL.into());
     }
-    recv_at(state, alloc, pid, id, n, space, flags)
+    recv_at(state, alloc, pid, id, asked)
 }
 
 /// Receives at the socket of this description without flags and without control space, for a process that
@@ -67,7 +75,12 @@ pub fn read_socket<O: FileObject>(
     requires { IsTrue (is_live state.old pid.0) }
     ensures { Gives state.old (read_socket_at state.old pid.0 id n) result state.new }
 {
-    let done = recv_at(state, alloc, pid, id, n, 0, MsgFlags(0))?;
+    let asked = Incoming {
+        n,
+        space: 0,
+        flags: MsgFlags(0),
+    };
+    let done = recv_at(state, alloc, pid, id, asked)?;
     Ok(bytes_alone(done.reply))
 }
 
@@ -87,28 +100,26 @@ fn recv_at<O: FileObject>(
     alloc: Global,
     pid: Pid,
     id: DescriptionId,
-    n: usize,
-    space: usize,
-    flags: MsgFlags,
+    asked: Incoming,
 ) -> Result<Done, Refusal>
     requires { IsTrue (is_live state.old pid.0) }
-    ensures gives { Gives state.old (receive_at state.old pid.0 id n space flags) (reply_of result) state.new }
-    ensures told { IfOk result (λ done. done.delivered ≡ told_of (brought_at state.old pid.0 id n space) done.reply) }
+    ensures gives { Gives state.old (receive_at state.old pid.0 id (model.incoming asked.n asked.space asked.flags)) (reply_of result) state.new }
+    ensures told { IfOk result (λ done. done.delivered ≡ told_of (brought_at state.old pid.0 id asked.n asked.space) done.reply) }
 {
     let Some(socket) = state.socket(id) else {
-        return Err(Refusal::Answer(Errno::EBADF));
+        return Err(Errno::EBADF.into());
     };
     if !socket.is_datagram() {
-        return recv_from_peer(state, alloc, pid, id, n, space, flags);
+        return recv_from_peer(state, alloc, pid, id, asked);
     }
     if socket.is_empty() {
         return if socket.is_read_shut() {
             Ok(nothing_received())
         } else {
-            Err(Refusal::Answer(Errno::EAGAIN))
+            Err(Errno::EAGAIN.into())
         };
     }
-    recv_front(state, alloc, pid, id, n, space, flags)
+    recv_front(state, alloc, pid, id, asked)
 }
 
 /// Receives at the stream or seqpacket socket of this description.
@@ -117,28 +128,26 @@ fn recv_from_peer<O: FileObject>(
     alloc: Global,
     pid: Pid,
     id: DescriptionId,
-    n: usize,
-    space: usize,
-    flags: MsgFlags,
+    asked: Incoming,
 ) -> Result<Done, Refusal>
     requires live { IsTrue (is_live state.old pid.0) }
     requires socket { IsSocketAt state.old id }
-    ensures gives { IsSomeAnd (socket_at state.old id) (λ s. Gives state.old (model.receive_from_peer state.old pid.0 id s n space flags) (reply_of result) state.new) }
-    ensures told { IfOk result (λ done. done.delivered ≡ told_of (brought_at state.old pid.0 id n space) done.reply) }
+    ensures gives { IsSomeAnd (socket_at state.old id) (λ s. Gives state.old (model.receive_from_peer state.old pid.0 id s (model.incoming asked.n asked.space asked.flags)) (reply_of result) state.new) }
+    ensures told { IfOk result (λ done. done.delivered ≡ told_of (brought_at state.old pid.0 id asked.n asked.space) done.reply) }
 {
     let Some(socket) = state.socket(id) else {
         unreachable!();
     };
     let Some(peer) = socket.peer() else {
-        return Err(Refusal::Answer(Errno::ENOTCONN));
+        return Err(Errno::ENOTCONN.into());
     };
-    if socket.is_stream() && n == 0 {
+    if socket.is_stream() && asked.n == 0 {
         return Ok(nothing_received());
     }
     if socket.is_empty() {
         return recv_nothing(state, id, peer);
     }
-    recv_front(state, alloc, pid, id, n, space, flags)
+    recv_front(state, alloc, pid, id, asked)
 }
 
 /// Receives the first bytes that wait at the socket of this description, or its first message, with what comes
@@ -149,33 +158,31 @@ fn recv_front<O: FileObject>(
     alloc: Global,
     pid: Pid,
     id: DescriptionId,
-    n: usize,
-    space: usize,
-    flags: MsgFlags,
+    asked: Incoming,
 ) -> Result<Done, Refusal>
     requires live { IsTrue (is_live state.old pid.0) }
     requires some { IsSomeAnd (socket_at state.old id) (λ s. 0 < length s.queue) }
-    ensures gives { IsSomeAnd (socket_at state.old id) (λ s. OnFront n s (λ front.
-        Gives state.old (model.receive_front state.old pid.0 id s space flags front) (reply_of result) state.new)) }
-    ensures told { IfOk result (λ done. done.delivered ≡ told_of (brought_at state.old pid.0 id n space) done.reply) }
+    ensures gives { IsSomeAnd (socket_at state.old id) (λ s. OnFront asked.n s (λ front.
+        Gives state.old (model.receive_front state.old pid.0 id s (model.incoming asked.n asked.space asked.flags) front) (reply_of result) state.new)) }
+    ensures told { IfOk result (λ done. done.delivered ≡ told_of (brought_at state.old pid.0 id asked.n asked.space) done.reply) }
 {
     let Some(socket) = state.socket(id) else {
         unreachable!();
     };
     let wanted = Wanted {
         cred: socket.passcred(),
-        space,
-        cloexec: flags.contains(MsgFlags::CMSG_CLOEXEC),
+        space: asked.space,
+        cloexec: asked.flags.contains(MsgFlags::CMSG_CLOEXEC),
     };
     let kind = socket.kind();
-    let front = socket.peek(alloc, n)?;
+    let front = socket.peek(alloc, asked.n)?;
     let delivery = deliver(state, alloc, pid, &front, wanted)?;
-    if !flags.contains(MsgFlags::PEEK) {
-        state.skip_front(id, n);
+    if !asked.flags.contains(MsgFlags::PEEK) {
+        state.skip_front(id, asked.n);
     }
     let delivered = tag_delivered(front.origin, delivery.installs);
     Ok(Done {
-        reply: received(kind, flags, front, delivery),
+        reply: received(kind, asked.flags, front, delivery),
         delivered,
     })
 }
@@ -201,15 +208,15 @@ fn recv_nothing<O: FileObject>(
     ensures none { IfOk result (λ done. done.delivered ≡ None) }
 {
     let Some(socket) = state.socket(id) else {
-        return Err(Refusal::Answer(Errno::EBADF));
+        return Err(Errno::EBADF.into());
     };
     if socket.reset() {
         state.set_reset(id, false);
-        return Err(Refusal::Answer(Errno::ECONNRESET));
+        return Err(Errno::ECONNRESET.into());
     }
     match state.socket(peer) {
         Some(other) if !socket.is_read_shut() && !other.is_write_shut() => {
-            Err(Refusal::Answer(Errno::EAGAIN))
+            Err(Errno::EAGAIN.into())
         }
         _ => Ok(nothing_received()),
     }

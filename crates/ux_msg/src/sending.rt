@@ -2,18 +2,18 @@
 ghost use Rattle.std.specs.Prelude.{◌≡◌, IsTrue, Some, None, IfOk, IfErr, IsSomeAnd, MatchResult, if◌then◌else◌, map, option_map};
 ghost use Rattle.ux_model.specs.Types.{Errno as ModelErrno};
 ghost use Rattle.ux_model.specs.Flags.{are_send_flags};
-ghost use Rattle.ux_model.specs.Message.{message};
 ghost use Rattle.ux_model.specs.State.{is_live, process_at};
 ghost use Rattle.ux_model.specs.Outcome.{as_process};
 ghost use Rattle.ux_model.specs.Control.{Control};
 ghost use Rattle.ux_model.specs.ControlReading.{control_in};
+ghost use Rattle.ux_rights.specs.Drafts.{drafted};
 ghost use Rattle.ux_state.specs.Moves.{AreReferenced};
 ghost use Rattle.ux_msg.specs.Answers.{Gives};
 ghost use Rattle.ux_msg.specs.Sendings.{IsRefusedBehind, send_from_at, send_with_at, write_socket_at};
 ghost use Rattle.ux_model.specs.Sending as model;
 
 use crate::datagrams::send_datagram;
-use crate::draft::{Draft, is_over_limit};
+use crate::flight::is_over_limit;
 use bitflags::Flags;
 use std::alloc::Global;
 use ux_cmsg::{Control, read_control};
@@ -22,7 +22,7 @@ use ux_desc::Socket;
 use ux_fdtable::Table;
 use ux_names::{is_unnamed, is_valid_addr};
 use ux_object::FileObject;
-use ux_rights::RefList;
+use ux_rights::{Draft, RefList};
 use ux_state::State;
 use ux_types::{
     Addr, Bytes, Cred, DescriptionId, Errno, Fd, MsgFlags, Pid, RECORD_BYTES_LIMIT, RIGHTS_LIMIT,
@@ -47,14 +47,14 @@ pub struct Outgoing<'a> {
 /// EBADF or ENOTSOCK where the number leads to no socket, EINVAL for flags that a send doesn't take, for a
 /// control buffer that isn't one, for more than 253 rights and for rights on a stream without data, EBADF for a
 /// right that isn't open, EPERM for credentials that aren't the own of an unprivileged process, ESRCH for those
-/// of no process that lives, EINVAL for a bad or unnamed address. Then of a datagram, EMSGSIZE above 65,536 bytes, EPIPE where the socket is shut down for writing, EDESTADDRREQ with neither
-/// address nor association, what the address leads to, ECONNREFUSED where the associated target is gone, which
-/// ends the association, EPERM where the target is associated with another, EPIPE where it is shut down for
-/// reading, ETOOMANYREFS where the user of an unprivileged process would have more rights in flight than the
-/// process may have descriptors, EAGAIN where its queue is full. Of others, EISCONN or EOPNOTSUPP for an address, ENOTCONN, EPIPE
-/// where the socket is shut down for writing, or the peer is gone or shut down for reading, EMSGSIZE of a
-/// record above 65,536 bytes, ETOOMANYREFS likewise, EAGAIN where the peer's queue is full. In this order; out of
-/// memory.
+/// of no process that lives, EINVAL for a bad or unnamed address. Then of a datagram, EMSGSIZE above 65,536
+/// bytes, EPIPE where the socket is shut down for writing, EDESTADDRREQ with neither address nor association, what
+/// the address leads to, ECONNREFUSED where the associated target is gone, which ends the association, EPERM where
+/// the target is associated with another, EPIPE where it is shut down for reading, ETOOMANYREFS where the user of
+/// an unprivileged process would have more rights in flight than the process may have descriptors, EAGAIN where
+/// its queue is full. Of others, EISCONN or EOPNOTSUPP for an address, ENOTCONN, EPIPE where the socket is shut
+/// down for writing, or the peer is gone or shut down for reading, EMSGSIZE of a record above 65,536 bytes,
+/// ETOOMANYREFS likewise, EAGAIN where the peer's queue is full. In this order; out of memory.
 #[tactic(auto, unfolding(ux_model::specs::Sending::send_msg, ux_model::specs::Sending::send_read))]
 pub fn send_msg<O: FileObject>(
     state: &mut State<O>,
@@ -69,16 +69,13 @@ pub fn send_msg<O: FileObject>(
         (model.send_msg state.old pid.0 tag fd (option_map (λ a. a.now) message.entry.addr) message.entry.bytes.now message.entry.control.now message.entry.flags) result state.new }
 {
     let id = match state.find_socket(pid, fd) {
-        Ok((id, _)) => id,
-        Err(e) => return Err(Refusal::from(e)),
+        Ok(found) => found.id,
+        Err(e) => return Err(e.into()),
     };
     if !are_send_flags(message.flags) {
-        return Err(Refusal::Answer(Errno::EINVAL));
+        return Err(Errno::EINVAL.into());
     }
-    let control = match read_control(alloc, message.control) {
-        Ok(control) => control,
-        Err(e) => return Err(Refusal::from(e)),
-    };
+    let control = read_control(alloc, message.control)?;
     send_with(state, alloc, pid, tag, id, message, &control)
 }
 
@@ -96,33 +93,27 @@ fn send_with<O: FileObject>(
     requires live { IsTrue (is_live state.old pid.0) }
     requires read { control_in message.control.now ≡ Some control.now }
     ensures { Gives state.old (as_process state.old pid.0 (λ P. model.reading_control message.entry.control.now
-        (send_with_at state.old pid.0 P tag id (option_map (λ a. a.now) message.entry.addr) message.entry.bytes.now control.now))) result state.new }
+        (send_with_at state.old (model.sending tag pid.0 P (option_map (λ a. a.now) message.entry.addr) message.entry.bytes.now) id control.now))) result state.new }
 {
     let Some(socket) = state.socket(id) else {
-        return Err(Refusal::Answer(Errno::EBADF));
+        return Err(Errno::EBADF.into());
     };
     if !is_sendable_control(socket, message.bytes, control) {
-        return Err(Refusal::Answer(Errno::EINVAL));
+        return Err(Errno::EINVAL.into());
     }
-    let rights = match rights_behind(state.table(pid), alloc, control.rights()) {
-        Ok(rights) => rights,
-        Err(refusal) => return Err(refusal),
-    };
-    let cred = match sent_cred(state, pid, control.cred()) {
-        Ok(cred) => cred,
-        Err(e) => return Err(Refusal::from(e)),
-    };
+    let rights = rights_behind(state.table(pid), alloc, control.rights())?;
+    let cred = sent_cred(state, pid, control.cred())?;
     if !is_sendable_addr(message.addr) {
-        return Err(Refusal::Answer(Errno::EINVAL));
+        return Err(Errno::EINVAL.into());
     }
     let draft = Draft {
         tag,
         bytes: message.bytes,
         cred,
         uid: state.credentials(pid).uid,
-        limit: flight_limit(state, pid),
     };
-    send_from(state, id, message.addr, draft, rights)
+    let limit = flight_limit(state, pid);
+    send_from(state, limit, id, message.addr, draft, rights)
 }
 
 /// Sends the bytes of a process that lives from the socket of this description, as the call with number `tag`:
@@ -148,79 +139,74 @@ pub fn write_socket<O: FileObject>(
         bytes,
         cred,
         uid: cred.uid,
-        limit: flight_limit(state, pid),
     };
-    send_from(state, id, None, draft, RefList::new(alloc))
+    let limit = flight_limit(state, pid);
+    send_from(state, limit, id, None, draft, RefList::new(alloc))
 }
 
 /// Sends bytes with rights from the socket of this description: a datagram to the address, where one is
-/// given, else where the socket is associated; a stream or a record to the peer.
+/// given, else where the socket is associated; a stream or a record to the peer. So many rights of the sender's
+/// user may be in flight, if that is limited.
 ///
 /// # Errors
 ///
 /// Those of `send_msg` after a bad address.
 fn send_from<O: FileObject>(
     state: &mut State<O>,
+    limit: Option<u32>,
     id: DescriptionId,
     addr: Option<&Addr>,
     draft: Draft<'_>,
     rights: RefList,
 ) -> Result<Reply, Refusal>
     requires { AreReferenced state.old rights }
-    ensures { Gives state.old (send_from_at state.old draft.entry.limit id (option_map (λ a. a.now) addr.entry) (message draft.entry.tag draft.entry.bytes.now rights draft.entry.cred draft.entry.uid None)) result state.new }
+    ensures { Gives state.old (send_from_at state.old limit id (option_map (λ a. a.now) addr.entry) (drafted draft.entry rights None)) result state.new }
 {
     let Some(socket) = state.socket(id) else {
-        return Err(Refusal::Answer(Errno::EBADF));
+        return Err(Errno::EBADF.into());
     };
     if socket.is_datagram() {
-        return send_datagram(state, id, addr, draft, rights);
+        return send_datagram(state, limit, id, addr, draft, rights);
     }
     let peer = socket.peer();
     if addr.is_some() {
-        return Err(Refusal::Answer(refusal_of_addr(peer.is_some())));
+        return Err(refusal_of_addr(peer.is_some()).into());
     }
     let shut = socket.is_write_shut();
-    send_connected(state, shut, peer, draft, rights)
+    send_connected(state, limit, shut, peer, draft, rights)
 }
 
 /// Sends bytes with rights to the peer of a stream or seqpacket socket, which is shut down for writing or not.
 fn send_connected<O: FileObject>(
     state: &mut State<O>,
+    limit: Option<u32>,
     shut: bool,
     peer: Option<DescriptionId>,
     draft: Draft<'_>,
     rights: RefList,
 ) -> Result<Reply, Refusal>
     requires { AreReferenced state.old rights }
-    ensures { Gives state.old (model.send_connected state.old draft.entry.limit shut peer (message draft.entry.tag draft.entry.bytes.now rights draft.entry.cred draft.entry.uid None)) result state.new }
+    ensures { Gives state.old (model.send_connected state.old limit shut peer (drafted draft.entry rights None)) result state.new }
 {
     let Some(peer) = peer else {
-        return Err(Refusal::Answer(Errno::ENOTCONN));
+        return Err(Errno::ENOTCONN.into());
     };
     let Some(other) = state.socket(peer) else {
-        return Err(Refusal::Answer(Errno::EPIPE));
+        return Err(Errno::EPIPE.into());
     };
     if shut || other.is_read_shut() {
-        return Err(Refusal::Answer(Errno::EPIPE));
+        return Err(Errno::EPIPE.into());
     }
     if !other.is_stream() && draft.bytes.len() > RECORD_BYTES_LIMIT {
-        return Err(Refusal::Answer(Errno::EMSGSIZE));
+        return Err(Errno::EMSGSIZE.into());
     }
     if other.is_stream() && draft.bytes.is_empty() {
         return Ok(Reply::Count(0));
     }
-    if is_over_limit(state, draft, &rights) {
-        return Err(Refusal::Answer(Errno::ETOOMANYREFS));
+    if is_over_limit(state, limit, draft, &rights) {
+        return Err(Errno::ETOOMANYREFS.into());
     }
-    let count = state.send(
-        peer,
-        draft.bytes,
-        draft.tag,
-        rights,
-        draft.cred,
-        draft.uid,
-        None,
-    )?;
+    let count = state.send(peer, draft, rights, None)?;
     Ok(Reply::Count(count))
 }
 
@@ -245,7 +231,7 @@ fn rights_behind(table: &Table, alloc: Global, numbers: &[Fd]) -> Result<RefList
     let mut left = numbers;
     while let Some((fd, behind)) = left.split_first() {
         let Some(entry) = table.get(*fd) else {
-            return Err(Refusal::Answer(Errno::EBADF));
+            return Err(Errno::EBADF.into());
         };
         rights.push(entry.description)?;
         left = behind;

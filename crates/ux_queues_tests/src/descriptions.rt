@@ -1,12 +1,14 @@
 //! A description of each kind, and what a socket does with what is sent to it. The helpers promise
 //! nothing, so that the proofs needn't follow a socket through a test.
+ghost use Rattle.std.specs.Prelude.{◌≡◌};
+
 use crate::values::{expect_references, path, references};
 use std::alloc::{AllocError, Global};
 use std::process::Abort;
 use ux_backlog::PushError;
 use ux_desc::{Description, Socket, Target};
 use ux_record::Received;
-use ux_rights::{RefList, SendError};
+use ux_rights::{Draft, RefList, SendError};
 use ux_types::{Addr, Bytes, Cred, DescriptionId, Mode, OpenFlags, Pid, SockType};
 
 fn user() -> Cred {
@@ -22,10 +24,22 @@ fn pair_end(alloc: Global) -> Socket {
     Socket::pair_end(alloc, SockType::Stream, DescriptionId::new(4), user())
 }
 
+/// What the user 1000 sends by a call.
+fn draft(tag: u64, bytes: &Bytes) -> Draft<'_>
+    ensures { result.bytes.now ≡ bytes.now }
+{
+    Draft {
+        tag,
+        bytes,
+        cred: user(),
+        uid: 1000,
+    }
+}
+
 /// Sends, of which so many bytes are taken.
 fn send(rt: &impl Abort, s: &mut Socket, bytes: &Bytes, rights: RefList, count: usize) {
     assert!(rt; !bytes.is_empty());
-    match s.send(bytes, 1, rights, user(), 1000, None) {
+    match s.send(draft(1, bytes), rights, None) {
         Ok(sent) => assert!(rt; sent == count),
         Err(_) => assert!(rt; false),
     }
@@ -40,7 +54,7 @@ fn expect_skip(rt: &impl Abort, skipped: (RefList, Option<u32>), numbers: &[u128
 
 /// Sends where there is no room, which gives these references back.
 fn expect_full(rt: &impl Abort, s: &mut Socket, rights: RefList, numbers: &[u128]) {
-    match s.send(&Bytes::short(b"z"), 3, rights, user(), 1000, None) {
+    match s.send(draft(3, &Bytes::short(b"z")), rights, None) {
         Ok(_) => assert!(rt; false),
         Err(refused) => {
             assert!(rt; refused.error == SendError::Full);
@@ -140,14 +154,7 @@ fn unread_messages_reset_the_peer(rt: HostRuntime) -> Result<(), AllocError> {
     let alloc = rt.alloc();
     let mut d = Description::of_socket(OpenFlags(0), pair_end(alloc));
     assert!(rt; d.object().is_none() && d.lost_peer().is_none());
-    let sent = d.send(
-        &Bytes::short(b"ab"),
-        1,
-        RefList::new(alloc),
-        user(),
-        1000,
-        None,
-    );
+    let sent = d.send(draft(1, &Bytes::short(b"ab")), RefList::new(alloc), None);
     assert!(rt; sent.is_ok_and(|count| count == 2));
     assert!(rt; d.lost_peer() == Some(DescriptionId::new(4)));
     assert!(rt; d.socket().is_some_and(|s| !s.is_empty()));
@@ -233,16 +240,9 @@ fn a_datagram_is_taken_whole(rt: HostRuntime) -> Result<(), AllocError> {
     let alloc = rt.alloc();
     let mut s = Socket::new(alloc, SockType::Dgram);
     let from = Some(path(alloc, b"a")?);
-    let sent = s.send(
-        &Bytes::short(b"abc"),
-        1,
-        RefList::new(alloc),
-        user(),
-        1000,
-        from,
-    );
+    let sent = s.send(draft(1, &Bytes::short(b"abc")), RefList::new(alloc), from);
     assert!(rt; sent.is_ok_and(|count| count == 3));
-    let sent = s.send(&Bytes::empty(), 2, RefList::new(alloc), user(), 1000, None);
+    let sent = s.send(draft(2, &Bytes::empty()), RefList::new(alloc), None);
     assert!(rt; sent.is_ok_and(|count| count == 0));
     take_message(&rt, alloc, &mut s, 2, b"ab", 3, Some(&path(alloc, b"a")?))?;
     take_message(&rt, alloc, &mut s, 2, b"", 0, None)?;
@@ -258,14 +258,7 @@ fn sixteen_records_wait(rt: HostRuntime) -> Result<(), AllocError> {
     let mut s = Socket::new(alloc, SockType::Seq);
     for _ in 0..16 {
         assert!(rt; s.has_room());
-        let sent = s.send(
-            &Bytes::short(b"x"),
-            1,
-            RefList::new(alloc),
-            user(),
-            1000,
-            None,
-        );
+        let sent = s.send(draft(1, &Bytes::short(b"x")), RefList::new(alloc), None);
         assert!(rt; sent.is_ok());
     }
     assert!(rt; !s.has_room());

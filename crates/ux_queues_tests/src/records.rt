@@ -5,7 +5,7 @@ use linked_list_allocator::LocalHeap;
 use std::alloc::{AllocError, Allocator, Global};
 use std::process::Abort;
 use ux_record::{Received, RecordQueue};
-use ux_rights::{Origin, RefList, SendError};
+use ux_rights::{Draft, Origin, RefList, SendError};
 use ux_types::{Addr, Bytes, Cred, Pid};
 
 const CRED: Cred = Cred {
@@ -47,7 +47,13 @@ fn send<A: Allocator + Copy>(
     rights: RefList,
     from: Option<Addr>,
 ) {
-    let sent = queue.send(bytes, tag, rights, CRED, 1000, from);
+    let draft = Draft {
+        tag,
+        bytes,
+        cred: CRED,
+        uid: 1000,
+    };
+    let sent = queue.send(draft, rights, from);
     assert!(rt; sent.is_ok());
 }
 
@@ -119,7 +125,14 @@ fn expect_full(
     from: &Option<Addr>,
 ) -> Result<(), AllocError> {
     let rights = references(alloc, RIGHTS)?;
-    match queue.send(&Bytes::short(b"y"), 16, rights, CRED, 5, from.clone()?) {
+    let bytes = Bytes::short(b"y");
+    let draft = Draft {
+        tag: 16,
+        bytes: &bytes,
+        cred: CRED,
+        uid: 5,
+    };
+    match queue.send(draft, rights, from.clone()?) {
         Ok(()) => assert!(rt; false),
         Err(refused) => {
             assert_eq!(rt; refused.error, SendError::Full);
@@ -163,7 +176,13 @@ fn is_queued<A: Allocator + Copy>(
     let name = from.clone()?;
     let rights = references(alloc, RIGHTS)?;
     let bytes = Bytes::from_slice(alloc, &[tag; 20])?;
-    match queue.send(&bytes, tag as u64, rights, CRED, 5, name) {
+    let draft = Draft {
+        tag: tag as u64,
+        bytes: &bytes,
+        cred: CRED,
+        uid: 5,
+    };
+    match queue.send(draft, rights, name) {
         Ok(()) => Ok(true),
         Err(refused) => {
             assert_eq!(rt; refused.error, SendError::NoMemory);

@@ -9,9 +9,9 @@ use linked_list_allocator::LocalHeap;
 use list_queue::{ListFront, ListMessage, ListQueue};
 use std::alloc::{AllocError, Allocator, Global};
 use std::process::Abort;
-use ux_rights::{Origin, SendError};
+use ux_rights::{Draft, Origin, SendError};
 use ux_stream::{Received, StreamQueue};
-use ux_types::{Cred, Pid, SHORT_BYTES};
+use ux_types::{Bytes, Cred, Pid, SHORT_BYTES};
 
 /// Pseudo-random numbers, by a linear congruence (Knuth's MMIX).
 #[derive(Drop)]
@@ -121,8 +121,14 @@ impl<A: Allocator + Copy> Both<A> {
             return Ok(());
         }
         let rights = references(self.alloc, &m.rights)?;
-        let Origin { tag, uid } = m.origin;
-        match self.queue.send(&m.bytes, room, tag, rights, m.cred, uid) {
+        let bytes = Bytes::from_slice(self.alloc, &m.bytes)?;
+        let draft = Draft {
+            tag: m.origin.tag,
+            bytes: &bytes,
+            cred: m.cred,
+            uid: m.origin.uid,
+        };
+        match self.queue.send(draft, room, rights) {
             Ok(count) => {
                 assert_eq!(rt; count, room.min(m.bytes.len()));
                 self.sent = self.sent.saturating_add(count as u64);
@@ -317,7 +323,14 @@ fn rights_move_where_they_cannot_be_copied(rt: HostRuntime) -> Result<(), AllocE
         uid: 2,
         gid: 3,
     };
-    let sent = queue.send(b"abc", 9, 7, references(alloc, &numbers)?, cred, 2);
+    let bytes = Bytes::short(b"abc");
+    let draft = Draft {
+        tag: 7,
+        bytes: &bytes,
+        cred,
+        uid: 2,
+    };
+    let sent = queue.send(draft, 9, references(alloc, &numbers)?);
     assert!(rt; sent.is_ok());
     let hoard = Hoard::take_all(alloc)?;
     let taken = take_alone(&rt, alloc, &mut queue);

@@ -2,13 +2,14 @@
 ghost use Rattle.std.specs.Prelude.{◌≡◌, ◌↔◌, ◌==◌, ◌<◌, ◌≤◌, [], ◌∷◌, ◌++◌, length, drop, slice_get, option_map, IsTrue, IsSome, IfOk, IfErr, IsErrAnd, OnOk, OnErr};
 ghost use Rattle.ux_model.specs.Limits.{record_limit};
 ghost use Rattle.ux_model.specs.Front.{OnRecordFront};
+ghost use Rattle.ux_rights.specs.Drafts.{drafted};
 
 use crate::record::{Received, Record};
 use std::alloc::{AllocError, Allocator, Global};
 use std::collections::VecDeque;
 use std::marker::Model;
-use ux_rights::{RefList, SendError};
-use ux_types::{Addr, Bytes, Cred, RECORD_LIMIT};
+use ux_rights::{Draft, RefList, SendError};
+use ux_types::{Addr, RECORD_LIMIT};
 
 /// A send that was refused.
 #[derive(Drop)]
@@ -86,14 +87,11 @@ impl<A: Allocator + Copy> RecordQueue<A> {
     /// queue stands as before.
     pub fn send(
         &mut self,
-        bytes: &Bytes,
-        tag: u64,
+        draft: Draft<'_>,
         rights: RefList,
-        cred: Cred,
-        uid: u32,
         from: Option<Addr>,
     ) -> Result<(), Refused>
-        ensures ok { OnOk result (self.new ≡ self.old ++ record { tag = tag; bytes = bytes.now; rights = rights; cred = cred; uid = uid; from = from } ∷ []) }
+        ensures ok { OnOk result (self.new ≡ self.old ++ drafted draft.entry rights from ∷ []) }
         ensures full { IsErrAnd result (λ e. e.error ≡ SendError.Full) ↔ (record_limit ≤ length self.old) }
         ensures rights_back { IfErr result (λ e. e.rights ≡ rights) }
         ensures name_back { IfErr result (λ e. e.from ≡ from) }
@@ -107,14 +105,14 @@ impl<A: Allocator + Copy> RecordQueue<A> {
             });
         }
         let error = SendError::NoMemory;
-        let Ok(bytes) = bytes.clone() else {
+        let Ok(bytes) = draft.bytes.clone() else {
             return Err(Refused {
                 error,
                 rights,
                 from,
             });
         };
-        let record = Record::new(tag, bytes, rights, cred, uid, from);
+        let record = Record::new(draft.tag, bytes, rights, draft.cred, draft.uid, from);
         if let Err(failed) = self.records.push_back(record) {
             let (rights, from) = failed.value.into_parts();
             return Err(Refused {

@@ -2,20 +2,20 @@
 ghost use Rattle.std.specs.Prelude.{◌≡◌, ◌↔◌, ◌<◌, true, false, Err, IfOk, IfErr, OnOk, OnErr, IsTrue, IsSomeAnd, length, option_map};
 ghost use Rattle.ux_model.specs.Places.{place, changed_place};
 ghost use Rattle.ux_model.specs.Description.{socket_in, changed};
-ghost use Rattle.ux_model.specs.Message.{message};
 ghost use Rattle.ux_model.specs.Socket.{is_stream, has_room, sent_part, sent, with_queue, with_reset, with_passcred, with_queue_limit, with_association, shut_down};
 ghost use Rattle.ux_model.specs.Front.{OnFront};
 ghost use Rattle.ux_model.specs.State.{socket_at, with_socket_by, with_description_by};
 ghost use Rattle.ux_model.specs.Descriptors.{with_flags};
+ghost use Rattle.ux_rights.specs.Drafts.{drafted};
 ghost use Rattle.ux_state.specs.Moves.{at_offset, IsSocketAt, AreReferenced};
 
 use crate::references::{have_room, release_all, retain_all};
 use crate::state::State;
 use ux_desc::Description;
 use ux_object::FileObject;
-use ux_rights::{RefList, SendError};
+use ux_rights::{Draft, RefList, SendError};
 use ux_slots::Slots;
-use ux_types::{Addr, Bytes, Cred, DescriptionId, Mode, OpenFlags};
+use ux_types::{Addr, DescriptionId, Mode, OpenFlags};
 
 impl<O: FileObject> State<O> {
     /// Queues a message at a socket, of a stream the bytes that there is room for, and says how many bytes
@@ -28,18 +28,15 @@ impl<O: FileObject> State<O> {
     pub fn send(
         &mut self,
         id: DescriptionId,
-        bytes: &Bytes,
-        tag: u64,
+        draft: Draft<'_>,
         rights: RefList,
-        cred: Cred,
-        uid: u32,
         from: Option<Addr>,
     ) -> Result<usize, SendError>
         requires socket { IsSocketAt self.old id }
-        requires some { IsSomeAnd (socket_at self.old id) (λ s. IsTrue (is_stream s.kind) → 0 < length bytes.now) }
+        requires some { IsSomeAnd (socket_at self.old id) (λ s. IsTrue (is_stream s.kind) → 0 < length draft.bytes.now) }
         requires held { AreReferenced self.old rights }
-        ensures count { IfOk result (λ count. IsSomeAnd (socket_at self.old id) (λ s. count ≡ length (sent_part s (message tag bytes.now rights cred uid from)).bytes)) }
-        ensures ok { OnOk result (self.new ≡ with_socket_by self.old id (sent (message tag bytes.now rights cred uid from))) }
+        ensures count { IfOk result (λ count. IsSomeAnd (socket_at self.old id) (λ s. count ≡ length (sent_part s (drafted draft.entry rights from)).bytes)) }
+        ensures ok { OnOk result (self.new ≡ with_socket_by self.old id (sent (drafted draft.entry rights from))) }
         ensures full { (result ≡ Err SendError.Full) ↔ IsSomeAnd (socket_at self.old id) (λ s. has_room s ≡ false) }
         ensures err { OnErr result (self.new ≡ self.old) }
     {
@@ -49,15 +46,15 @@ impl<O: FileObject> State<O> {
         if !have_room(&self.slots, rights.as_slice()) {
             return Err(SendError::NoMemory);
         }
-        if self.flights.count_in(uid, rights.len()).is_err() {
+        if self.flights.count_in(draft.uid, rights.len()).is_err() {
             return Err(SendError::NoMemory);
         }
         retain_all(&mut self.slots, rights.as_slice());
-        match push_message(&mut self.slots, id, bytes, tag, rights, cred, uid, from) {
+        match push_message(&mut self.slots, id, draft, rights, from) {
             Ok(count) => Ok(count),
             Err(rights) => {
                 release_all(&mut self.slots, rights.as_slice());
-                self.flights.count_out(uid, rights.len());
+                self.flights.count_out(draft.uid, rights.len());
                 Err(SendError::NoMemory)
             }
         }
@@ -153,23 +150,20 @@ impl<O: FileObject> State<O> {
 fn push_message(
     slots: &mut Slots<Description>,
     id: DescriptionId,
-    bytes: &Bytes,
-    tag: u64,
+    draft: Draft<'_>,
     rights: RefList,
-    cred: Cred,
-    uid: u32,
     from: Option<Addr>,
 ) -> Result<usize, RefList>
-    requires some { IsSomeAnd (socket_in (place slots.old.places id)) (λ s. IsTrue (is_stream s.kind) → 0 < length bytes.now) }
+    requires some { IsSomeAnd (socket_in (place slots.old.places id)) (λ s. IsTrue (is_stream s.kind) → 0 < length draft.bytes.now) }
     requires room { IsSomeAnd (socket_in (place slots.old.places id)) (λ s. has_room s ≡ true) }
-    ensures count { IfOk result (λ count. IsSomeAnd (socket_in (place slots.old.places id)) (λ s. count ≡ length (sent_part s (message tag bytes.now rights cred uid from)).bytes)) }
-    ensures places { OnOk result (slots.new.places ≡ changed_place slots.old.places id (changed (sent (message tag bytes.now rights cred uid from)))) }
+    ensures count { IfOk result (λ count. IsSomeAnd (socket_in (place slots.old.places id)) (λ s. count ≡ length (sent_part s (drafted draft.entry rights from)).bytes)) }
+    ensures places { OnOk result (slots.new.places ≡ changed_place slots.old.places id (changed (sent (drafted draft.entry rights from)))) }
     ensures counts { slots.new.counts ≡ slots.old.counts }
     ensures back { IfErr result (λ back. back ≡ rights) }
     ensures err { OnErr result (slots.new.places ≡ slots.old.places) }
 {
     match slots.get_mut(id) {
-        Some(x) => match x.send(bytes, tag, rights, cred, uid, from) {
+        Some(x) => match x.send(draft, rights, from) {
             Ok(count) => Ok(count),
             Err(refused) => Err(refused.rights),
         },

@@ -107,11 +107,7 @@ impl<O: FileObject> State<O> {
     ///
     /// EINVAL for the unnamed address, ENOENT for a path that isn't there, ECONNREFUSED for a name that isn't
     /// there, a path of a file object and a socket that is gone, EPROTOTYPE for a socket of another type.
-    pub fn socket_named(
-        &self,
-        kind: SockType,
-        addr: &Addr,
-    ) -> Result<FoundSocket<'_>, Errno>
+    pub fn socket_named(&self, kind: SockType, addr: &Addr) -> Result<FoundSocket<'_>, Errno>
         ensures { MatchResult result (λ r. look_up self.now kind addr.now ≡ Ok (r.id, r.socket.now)) (λ e. look_up self.now kind addr.now ≡ Err e) }
     {
         match addr {
@@ -132,11 +128,7 @@ impl<O: FileObject> State<O> {
     }
 
     /// The socket of this type that a path with this target leads to.
-    fn socket_of_target(
-        &self,
-        kind: SockType,
-        target: PathTarget,
-    ) -> Result<FoundSocket<'_>, Errno>
+    fn socket_of_target(&self, kind: SockType, target: PathTarget) -> Result<FoundSocket<'_>, Errno>
         ensures { MatchResult result (λ r. socket_of_target self.now kind (target_of target) ≡ Ok (r.id, r.socket.now)) (λ e. socket_of_target self.now kind (target_of target) ≡ Err e) }
     {
         match target {
@@ -156,11 +148,7 @@ impl<O: FileObject> State<O> {
     }
 
     /// The socket of a description, while it is there, if it is of this type.
-    fn socket_of_kind(
-        &self,
-        kind: SockType,
-        id: DescriptionId,
-    ) -> Result<FoundSocket<'_>, Errno>
+    fn socket_of_kind(&self, kind: SockType, id: DescriptionId) -> Result<FoundSocket<'_>, Errno>
         ensures { MatchResult result (λ r. socket_of_kind self.now kind id ≡ Ok (r.id, r.socket.now)) (λ e. socket_of_kind self.now kind id ≡ Err e) }
     {
         let Some(socket) = self.socket(id) else {

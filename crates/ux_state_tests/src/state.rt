@@ -1,5 +1,6 @@
 //! Each move of a state, and what comes out of it at the end of a call. The steps are functions that
 //! promise nothing, so that the proofs needn't follow a state through a test.
+ghost use Rattle.std.specs.Prelude.{◌≡◌};
 
 mod connections;
 mod files;
@@ -14,7 +15,7 @@ use ux_fdtable::InstallError;
 use ux_names::Seed;
 use ux_object::FileObject;
 use ux_objects::MemFile;
-use ux_rights::RefList;
+use ux_rights::{Draft, RefList};
 use ux_state::{RetiredList, State};
 use ux_types::{
     Bytes, Cred, DescriptionId, Errno, Fd, Mode, Name, OpenFlags, Pid, ProcSpec, SHORT_BYTES,
@@ -125,6 +126,18 @@ fn end<O: FileObject>(rt: &impl Abort, state: &mut State<O>, pid: u32) {
     assert!(rt; !state.is_live(Pid(pid)));
 }
 
+/// What the process of a user sends.
+fn draft(bytes: &Bytes, uid: u32) -> Draft<'_>
+    ensures { result.bytes.now ≡ bytes.now }
+{
+    Draft {
+        tag: 1,
+        bytes,
+        cred: user(),
+        uid,
+    }
+}
+
 /// Sends bytes to a socket.
 fn append<O: FileObject>(
     rt: &impl Abort,
@@ -138,7 +151,7 @@ fn append<O: FileObject>(
     assert!(rt; bytes.len() <= SHORT_BYTES);
     let bytes = Bytes::short(bytes);
     assert!(rt; state.socket(id).is_some());
-    let sent = state.send(id, &bytes, 1, RefList::new(alloc), user(), 1000, None);
+    let sent = state.send(id, draft(&bytes, 1000), RefList::new(alloc), None);
     assert!(rt; sent == Ok(bytes.len()));
 }
 
@@ -156,7 +169,7 @@ fn pass<O: FileObject>(
     assert!(rt; state.socket(id).is_some());
     assert!(rt; state.count(passed) > 0);
     let rights = RefList::from_slice(alloc, &[passed])?;
-    let sent = state.send(id, &Bytes::short(b"x"), 1, rights, user(), uid, None);
+    let sent = state.send(id, draft(&Bytes::short(b"x"), uid), rights, None);
     assert!(rt; sent == Ok(1));
     Ok(())
 }
@@ -170,8 +183,8 @@ fn expect_socket<O: FileObject>(
 ) {
     assert!(rt; state.is_live(Pid(1)));
     match state.find_socket(Pid(1), Fd(fd)) {
-        Ok((id, socket)) => match socket.peer() {
-            Some(peer) => assert!(rt; answer == Ok((id.number(), peer.number())), "{fd}"),
+        Ok(found) => match found.socket.peer() {
+            Some(peer) => assert!(rt; answer == Ok((found.id.number(), peer.number())), "{fd}"),
             None => assert!(rt; false, "{fd}"),
         },
         Err(refusal) => assert!(rt; answer == Err(refusal), "{fd}"),

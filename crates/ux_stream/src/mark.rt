@@ -5,7 +5,7 @@ ghost use Rattle.ux_stream.specs.Marks.{origin_at};
 
 use std::alloc::AllocError;
 use std::marker::Model;
-use ux_rights::{Origin, RefList};
+use ux_rights::{Draft, Origin, RefList};
 use ux_types::Cred;
 
 /// What is known of a message beside its bytes, which lie in the ring of its queue.
@@ -28,16 +28,16 @@ impl Model for Mark {
 }
 
 impl Mark {
-    /// The mark of a message with so many bytes.
-    pub fn new(tag: u64, count: usize, rights: RefList, cred: Cred, uid: u32) -> Mark
-        ensures { result ≡ record { tag = tag; count = count; rights = rights; cred = cred; uid = uid } }
+    /// The mark of a message with so many bytes of a draft, and these rights.
+    pub fn new(draft: Draft<'_>, count: usize, rights: RefList) -> Mark
+        ensures { result ≡ record { tag = draft.entry.tag; count = count; rights = rights; cred = draft.entry.cred; uid = draft.entry.uid } }
     {
         Mark {
-            tag,
+            tag: draft.tag,
             count,
             rights,
-            cred,
-            uid,
+            cred: draft.cred,
+            uid: draft.uid,
         }
     }
 

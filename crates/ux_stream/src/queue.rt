@@ -3,6 +3,7 @@ ghost use Rattle.std.specs.Prelude.{◌≡◌, ◌↔◌, ◌==◌, ◌<◌, [],
 ghost use Rattle.std.specs.List.{AllByRecursion};
 ghost use Rattle.ux_model.specs.Message.{queued_bytes};
 ghost use Rattle.ux_model.specs.Front.{OnStreamFront};
+ghost use Rattle.ux_rights.specs.Drafts.{drafted};
 
 use crate::byte_ring::ByteRing;
 use crate::mark::Mark;
@@ -10,7 +11,7 @@ use crate::marks::{copy_rights, reach_of, take_bytes};
 use std::alloc::{AllocError, Allocator, Global};
 use std::collections::VecDeque;
 use std::marker::Model;
-use ux_rights::{Origin, RefList, SendError};
+use ux_rights::{Draft, Origin, RefList, SendError};
 use ux_types::{Bytes, Cred};
 
 /// A send that was refused.
@@ -102,18 +103,10 @@ impl<A: Allocator + Copy> StreamQueue<A> {
     ///
     /// `Full` exactly where there is no room, else `NoMemory`. The rights come back, and the queue stands as
     /// before.
-    pub fn send(
-        &mut self,
-        bytes: &[u8],
-        room: usize,
-        tag: u64,
-        rights: RefList,
-        cred: Cred,
-        uid: u32,
-    ) -> Result<usize, Refused>
-        requires { 0 < length bytes.now }
-        ensures count { IfOk result (λ count. count ≡ min room (length bytes.now)) }
-        ensures ok { OnOk result (self.new ≡ self.old ++ record { tag = tag; bytes = take room bytes.now; rights = rights; cred = cred; uid = uid; from = None } ∷ []) }
+    pub fn send(&mut self, draft: Draft<'_>, room: usize, rights: RefList) -> Result<usize, Refused>
+        requires { 0 < length draft.bytes.now }
+        ensures count { IfOk result (λ count. count ≡ min room (length draft.entry.bytes.now)) }
+        ensures ok { OnOk result (self.new ≡ self.old ++ record (drafted draft.entry rights None) { bytes = take room draft.entry.bytes.now } ∷ []) }
         ensures full { IsErrAnd result (λ e. e.error ≡ SendError.Full) ↔ (room ≡ 0) }
         ensures given_back { IfErr result (λ e. e.rights ≡ rights) }
         ensures err { OnErr result (self.new ≡ self.old) }
@@ -123,11 +116,12 @@ impl<A: Allocator + Copy> StreamQueue<A> {
             return Err(Refused { error, rights });
         }
         let error = SendError::NoMemory;
+        let bytes = draft.bytes.as_slice();
         let count = room.min(bytes.len());
         if self.ring.reserve(self.alloc, count).is_err() {
             return Err(Refused { error, rights });
         }
-        let mark = Mark::new(tag, count, rights, cred, uid);
+        let mark = Mark::new(draft, count, rights);
         if let Err(failed) = self.marks.push_back(mark) {
             let rights = failed.value.into_rights();
             return Err(Refused { error, rights });

@@ -116,9 +116,9 @@ fn expect_flags<O: FileObject>(
 ) {
     assert!(rt; state.is_live(Pid(1)));
     match state.find_description(Pid(1), Fd(fd)) {
-        Ok((entry, description)) => {
-            assert!(rt; entry.cloexec == cloexec);
-            assert!(rt; description.nonblock() == nonblock);
+        Ok(found) => {
+            assert!(rt; found.descriptor.cloexec == cloexec);
+            assert!(rt; found.description.nonblock() == nonblock);
         }
         Err(_) => assert!(rt; false),
     }
@@ -133,7 +133,7 @@ fn expect_named<O: FileObject>(
     answer: Result<u128, Errno>,
 ) {
     match state.socket_named(kind, addr) {
-        Ok((id, _)) => assert!(rt; answer == Ok(id.number())),
+        Ok(found) => assert!(rt; answer == Ok(found.id.number())),
         Err(refusal) => assert!(rt; answer == Err(refusal)),
     }
 }

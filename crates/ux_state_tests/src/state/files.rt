@@ -57,7 +57,7 @@ fn expect_entry<O: FileObject>(
 ) {
     assert!(rt; state.is_live(Pid(1)));
     match state.find_description(Pid(1), Fd(fd)) {
-        Ok((found, _)) => assert!(rt; entry == Some(found), "{fd}"),
+        Ok(found) => assert!(rt; entry == Some(found.descriptor), "{fd}"),
         Err(refusal) => {
             assert!(rt; refusal == Errno::EBADF);
             assert!(rt; entry.is_none(), "{fd}");

@@ -1,6 +1,6 @@
 //! How many rights of each user are in messages that nobody has received.
 use super::{
-    append, close, end, expect_queue, open, open_pair, pass, settle, start_with_files, user,
+    append, close, draft, end, expect_queue, open, open_pair, pass, settle, start_with_files,
 };
 use hoard::Hoard;
 use std::alloc::{AllocError, Global};
@@ -25,7 +25,7 @@ fn pass_twice<O: FileObject>(
     assert!(rt; state.socket(id).is_some());
     assert!(rt; state.count(passed) > 0);
     let rights = RefList::from_slice(alloc, &[passed, passed])?;
-    let sent = state.send(id, &Bytes::short(b"x"), 1, rights, user(), uid, None);
+    let sent = state.send(id, draft(&Bytes::short(b"x"), uid), rights, None);
     assert!(rt; sent == Ok(1));
     Ok(())
 }
@@ -133,11 +133,11 @@ fn send_without_memory<O: FileObject>(
     assert!(rt; state.count(passed) > 0);
     let rights = RefList::from_slice(alloc, &[passed])?;
     let hoard = Hoard::take_all(alloc)?;
-    let with = state.send(id, &Bytes::short(b"x"), 1, rights, user(), 1001, None);
+    let with = state.send(id, draft(&Bytes::short(b"x"), 1001), rights, None);
     let socket_stays = state.socket(id).is_some();
     assert!(rt; socket_stays);
     let bytes = Bytes::short(b"y");
-    let without = state.send(id, &bytes, 1, RefList::new(alloc), user(), 1001, None);
+    let without = state.send(id, draft(&bytes, 1001), RefList::new(alloc), None);
     drop(hoard);
     Ok((with.is_ok(), without.is_ok()))
 }

@@ -23,5 +23,5 @@ invariant_of-self-in-Err g c =
     (λ u.
     let less = c.count_out.ensures u in
     let more = on_ok c.count_in.result c.count_in.ensures.ok c.if-is_err.ensures.negation u in
-    let same = ap (of_user u c.args.uid) (c.len-in-Err.ensures ∙ ap length c.in-Err.ensures.back ∙ sym c.len.ensures) in
+    let same = ap (of_user u c.args.draft.uid) (c.len-in-Err.ensures ∙ ap length c.in-Err.ensures.back ∙ sym c.len.ensures) in
     omega (arith, less, more, same))
