@@ -1,16 +1,19 @@
 //! Control buffers of sendmsg(2) and recvmsg(2): which credentials and which descriptor numbers their bytes
-//! spell, and the bytes that spell them (cmsg(3), SCM_RIGHTS and SCM_CREDENTIALS of unix(7)).
+//! spell, the bytes that spell them, and which credentials a sender may give (cmsg(3), SCM_RIGHTS and
+//! SCM_CREDENTIALS of unix(7)).
 #![tactic(auto)]
 
 ghost use Rattle.ux_model.specs.Control.{ReadsOnce};
 ghost use Rattle.ux_model.specs.ControlReading.{ReadsByGrammar};
 
 mod control;
+mod credentials;
 mod item;
 mod reading;
 mod writing;
 
 pub use control::Control;
+pub use credentials::{CredError, check_cred};
 pub use reading::{ControlError, read_control};
 pub use writing::write_control;
 

@@ -1,7 +1,7 @@
 //! Who may give which credentials.
 use std::process::Abort;
 use std::test::Fail;
-use ux_cred::{CredError, check_cred};
+use ux_cmsg::{CredError, check_cred};
 use ux_types::{Cred, Errno, Pid, Refusal};
 
 fn cred(pid: u32, uid: u32, gid: u32) -> Cred {

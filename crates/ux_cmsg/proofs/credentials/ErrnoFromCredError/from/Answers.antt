@@ -1,5 +1,5 @@
 use Rattle.std.proofs.Common.{rules}
-use Rattle.ux_cred.proofs.check.ErrnoFromCredError.from.Goals as goal
+use Rattle.ux_cmsg.proofs.credentials.ErrnoFromCredError.from.Goals as goal
 
 pub returns-in-NotOwn : goal.returns-in-NotOwn
 returns-in-NotOwn c = search rules

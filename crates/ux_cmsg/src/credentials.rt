@@ -2,7 +2,7 @@
 ghost use Rattle.std.specs.Prelude.{◌≡◌, ◌↔◌, false, IsTrue, IsOk, option_map};
 ghost use Rattle.std.specs.Result.{result_err};
 ghost use Rattle.ux_model.specs.Credentials.{cred_refusal};
-ghost use Rattle.ux_cred.specs.Refusals.{errno_of};
+ghost use Rattle.ux_cmsg.specs.Refusals.{errno_of};
 ghost use Rattle.ux_types.specs.declared.refusal.Refusal.TheVariants.{Answer};
 
 use thiserror::Error;

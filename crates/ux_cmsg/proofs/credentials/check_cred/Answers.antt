@@ -1,5 +1,5 @@
 use Rattle.std.proofs.Common.{rules}
-use Rattle.ux_cred.proofs.check.check_cred.Goals as goal
+use Rattle.ux_cmsg.proofs.credentials.check_cred.Goals as goal
 
 pub returns-else-lives-clause-refusal : goal.returns-else-lives-clause-refusal
 returns-else-lives-clause-refusal c = search rules
