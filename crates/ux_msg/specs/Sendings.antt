@@ -18,7 +18,7 @@ abbrev pub send_from_at : State → Option ℕ → ℕ → Option Addr → Messa
 send_from_at S limit d addr m = elim (socket_at S d) [ None ↦ refuse S Errno.EBADF | Some s ↦ send_from S limit d s addr m ]
 
 abbrev pub send_with_at : State → Sending → ℕ → Control → Outcome
-send_with_at S k d control = elim (socket_at S d) [ None ↦ refuse S Errno.EBADF | Some s ↦ send_with S k d s control ]
+send_with_at S msg d control = elim (socket_at S d) [ None ↦ refuse S Errno.EBADF | Some s ↦ send_with S msg d s control ]
 
 abbrev pub write_socket_at : State → ℕ → ℕ → ℕ → List ℕ → Outcome
 write_socket_at S p tag d bytes = elim (socket_at S d) [ None ↦ refuse S Errno.EBADF | Some s ↦ as_process S p (λ P. write_socket S (sending tag p P None bytes) d s) ]

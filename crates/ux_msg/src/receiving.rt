@@ -27,6 +27,7 @@ pub struct Incoming {
     pub n: usize,
     /// Room for so many bytes of control.
     pub space: usize,
+    /// The flags of the call.
     pub flags: MsgFlags,
 }
 

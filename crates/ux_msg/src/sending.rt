@@ -33,9 +33,11 @@ use ux_types::{
 pub struct Outgoing<'a> {
     /// Where it is to go, if not to the socket's peer.
     pub addr: Option<&'a Addr>,
+    /// The data.
     pub bytes: &'a Bytes,
     /// The bytes of a control buffer (cmsg(3)).
     pub control: &'a [u8],
+    /// The flags of the call.
     pub flags: MsgFlags,
 }
 

@@ -1,5 +1,6 @@
 use Rattle.std.proofs.Common.{◌≡◌, true, Some, sym, ◌∙◌, subst, rules}
 use Rattle.std.specs.Prelude.{IsSomeAnd}
+use Rattle.std.proofs.lemmas.Result.{err_from_is_err_and}
 use Rattle.ux_model.specs.State.{process_at, table_of}
 use Rattle.ux_model.specs.Outcome.{Outcome}
 use Rattle.ux_model.specs.Sending.{sending, descriptions_behind, is_sendable_control}
@@ -11,11 +12,12 @@ use Rattle.ux_msg.proofs.sending.send_with.Goals as goal
 pub returns-in_err-rights : goal.returns-in_err-rights
 returns-in_err-rights g c =
     let sendable : is_sendable_control c.in-Some.socket.now.kind c.args.message.bytes.now c.args.control.now ≡ true = search rules in
-    let refused : IsRefusedBehind (table_of c.args.state.now c.args.pid.0) c.args.control.now.rights c.in_err-rights.refusal =
-    subst (λ t. IsRefusedBehind t c.args.control.now.rights c.in_err-rights.refusal) c.table.ensures
-    (subst (λ ns. IsRefusedBehind c.table.result.now ns c.in_err-rights.refusal) c.rights.ensures c.in_err-rights.ensures.refused) in
-    on_live c.args.state.now c.args.pid.0 _ (λ (o : Outcome). GivesRefusal c.args.state.now o c.in_err-rights.refusal c.args.state.now) c.requires.live (λ P.
-    refused_behind c.args.state.now (sending c.args.tag c.args.pid.0 P _ c.args.message.bytes.now) c.args.id c.in-Some.socket.now c.args.message.control.now c.args.control.now c.in_err-rights.refusal c.requires.read (search rules) sendable refused)
+    let refused : IsRefusedBehind (table_of c.args.state.now c.args.pid.0) c.args.control.now.rights c.in_err-rights.field-0.0 =
+    subst (λ t. IsRefusedBehind t c.args.control.now.rights c.in_err-rights.field-0.0) c.table.ensures
+    (subst (λ ns. IsRefusedBehind c.table.result.now ns c.in_err-rights.field-0.0) c.rights.ensures c.in_err-rights.ensures.refused) in
+    let p = err_from_is_err_and c.from_residual.result c.from_residual.ensures.1 in
+    rw (p.1, p.2) (on_live c.args.state.now c.args.pid.0 _ (λ (o : Outcome). GivesRefusal c.args.state.now o c.in_err-rights.field-0.0 c.args.state.now) c.requires.live (λ P.
+    refused_behind c.args.state.now (sending c.args.tag c.args.pid.0 P _ c.args.message.bytes.now) c.args.id c.in-Some.socket.now c.args.message.control.now c.args.control.now c.in_err-rights.field-0.0 c.requires.read (search rules) sendable refused))
 
 pub send_from-requires : goal.send_from-requires
 send_from-requires g c =
