@@ -19,7 +19,10 @@ impl<O: FileObject> Kernel<O> {
         requires { IsTrue (is_live self.old pid.0) }
         ensures { Gives self.old (model.accept self.old pid.0 fd flags) result self.new }
     {
-        let FoundSocket { id, socket } = self.state.find_socket(pid, fd)?;
+        let FoundSocket { id, socket } = match self.state.find_socket(pid, fd) {
+            Ok(found) => found,
+            Err(e) => return Err(e.into()),
+        };
         if socket.is_datagram() {
             return Err(Errno::EOPNOTSUPP.into());
         }

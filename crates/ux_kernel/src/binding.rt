@@ -19,7 +19,10 @@ impl<O: FileObject> Kernel<O> {
         requires { IsTrue (is_live self.old pid.0) }
         ensures { Gives self.old (model.bind self.old pid.0 fd addr.now) result self.new }
     {
-        let FoundSocket { id, socket } = self.state.find_socket(pid, fd)?;
+        let FoundSocket { id, socket } = match self.state.find_socket(pid, fd) {
+            Ok(found) => found,
+            Err(e) => return Err(e.into()),
+        };
         if !socket.is_unnamed() || !is_valid_addr(addr) {
             return Err(Errno::EINVAL.into());
         }
@@ -45,7 +48,10 @@ impl<O: FileObject> Kernel<O> {
         requires { IsTrue (is_live self.now pid.0) }
         ensures { Gives self.now (model.get_sock_name self.now pid.0 fd) result self.now }
     {
-        let found = self.state.find_socket(pid, fd)?;
-        Ok(Reply::Addr(found.socket.name().clone()?))
+        let socket = match self.state.find_socket(pid, fd) {
+            Ok(found) => found.socket,
+            Err(e) => return Err(e.into()),
+        };
+        Ok(Reply::Addr(socket.name().clone()?))
     }
 }

@@ -15,7 +15,9 @@ impl<O: FileObject> Kernel<O> {
         requires { IsTrue (is_live self.old pid.0) }
         ensures { Gives self.old (model.close self.old pid.0 fd) result self.new }
     {
-        let _found = self.state.find_description(pid, fd)?;
+        if let Err(e) = self.state.find_description(pid, fd) {
+            return Err(e.into());
+        }
         self.state.take_entry(pid, fd);
         Ok(Reply::Ok)
     }

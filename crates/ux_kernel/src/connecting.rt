@@ -37,7 +37,10 @@ impl<O: FileObject> Kernel<O> {
         requires { IsTrue (is_live self.old pid.0) }
         ensures { Gives self.old (model.listen self.old pid.0 fd backlog) result self.new }
     {
-        let FoundSocket { id, socket } = self.state.find_socket(pid, fd)?;
+        let FoundSocket { id, socket } = match self.state.find_socket(pid, fd) {
+            Ok(found) => found,
+            Err(e) => return Err(e.into()),
+        };
         if socket.is_datagram() {
             return Err(Errno::EOPNOTSUPP.into());
         }
@@ -62,7 +65,10 @@ impl<O: FileObject> Kernel<O> {
         ensures { Gives self.old (model.connect self.old pid.0 fd addr.now) result self.new }
     {
         let cred = self.state.credentials(pid);
-        let FoundSocket { id, socket } = self.state.find_socket(pid, fd)?;
+        let FoundSocket { id, socket } = match self.state.find_socket(pid, fd) {
+            Ok(found) => found,
+            Err(e) => return Err(e.into()),
+        };
         let kind = socket.kind();
         if socket.is_datagram() {
             return self.connect_datagram(id, kind, addr);
@@ -93,11 +99,14 @@ impl<O: FileObject> Kernel<O> {
             self.state.set_association(id, None);
             return Ok(Reply::Ok);
         }
-        let target = self.state.socket_named(kind, addr)?;
-        if !target.socket.takes_from(id) {
+        let FoundSocket { id: target, socket } = match self.state.socket_named(kind, addr) {
+            Ok(found) => found,
+            Err(e) => return Err(e.into()),
+        };
+        if !socket.takes_from(id) {
             return Err(Errno::EPERM.into());
         }
-        self.state.set_association(id, Some(target.id));
+        self.state.set_association(id, Some(target));
         Ok(Reply::Ok)
     }
 
@@ -113,11 +122,17 @@ impl<O: FileObject> Kernel<O> {
         requires no_listener { IsNoListenerAt self.old id }
         ensures { Gives self.old (model.connect_by self.old id kind addr.now cred) result self.new }
     {
-        let listener = self.state.socket_named(kind, addr)?;
-        if !listener.socket.is_listening() {
+        let FoundSocket {
+            id: listener,
+            socket,
+        } = match self.state.socket_named(kind, addr) {
+            Ok(found) => found,
+            Err(e) => return Err(e.into()),
+        };
+        if !socket.is_listening() {
             return Err(Errno::ECONNREFUSED.into());
         }
-        self.state.connect(id, listener.id, cred)?;
+        self.state.connect(id, listener, cred)?;
         Ok(Reply::Ok)
     }
 
@@ -127,7 +142,10 @@ impl<O: FileObject> Kernel<O> {
         requires { IsTrue (is_live self.old pid.0) }
         ensures { Gives self.old (model.shutdown self.old pid.0 fd how) result self.new }
     {
-        let FoundSocket { id, socket } = self.state.find_socket(pid, fd)?;
+        let FoundSocket { id, socket } = match self.state.find_socket(pid, fd) {
+            Ok(found) => found,
+            Err(e) => return Err(e.into()),
+        };
         if socket.tied_socket().is_none() {
             return Err(Errno::ENOTCONN.into());
         }
@@ -141,8 +159,11 @@ impl<O: FileObject> Kernel<O> {
         requires { IsTrue (is_live self.now pid.0) }
         ensures { Gives self.now (model.get_peer_name self.now pid.0 fd) result self.now }
     {
-        let found = self.state.find_socket(pid, fd)?;
-        let name = self.state.peer_name(found.socket)?;
+        let socket = match self.state.find_socket(pid, fd) {
+            Ok(found) => found.socket,
+            Err(e) => return Err(e.into()),
+        };
+        let name = self.state.peer_name(socket)?;
         Ok(Reply::Addr(name.clone()?))
     }
 }

@@ -17,8 +17,11 @@ impl<O: FileObject> Kernel<O> {
         requires { IsTrue (is_live self.old pid.0) }
         ensures { Gives self.old (model.dup self.old pid.0 fd) result self.new }
     {
-        let found = self.state.find_description(pid, fd)?;
-        let number = self.state.put_lowest(pid, found.descriptor.duplicate())?;
+        let entry = match self.state.find_description(pid, fd) {
+            Ok(found) => found.descriptor,
+            Err(e) => return Err(e.into()),
+        };
+        let number = self.state.put_lowest(pid, entry.duplicate())?;
         Ok(Reply::Fd(number))
     }
 
@@ -29,12 +32,15 @@ impl<O: FileObject> Kernel<O> {
         requires { IsTrue (is_live self.old pid.0) }
         ensures { Gives self.old (model.dup2 self.old pid.0 fd to) result self.new }
     {
-        let found = self.state.find_description(pid, fd)?;
+        let entry = match self.state.find_description(pid, fd) {
+            Ok(found) => found.descriptor,
+            Err(e) => return Err(e.into()),
+        };
         // Onto itself it changes nothing, close-on-exec neither.
         if to == fd {
             return Ok(Reply::Fd(to));
         }
-        self.state.put_copy_at(pid, to, found.descriptor)?;
+        self.state.put_copy_at(pid, to, entry)?;
         Ok(Reply::Fd(to))
     }
 
@@ -44,8 +50,11 @@ impl<O: FileObject> Kernel<O> {
         requires { IsTrue (is_live self.old pid.0) }
         ensures { Gives self.old (model.set_flags self.old pid.0 fd flags) result self.new }
     {
-        let found = self.state.find_description(pid, fd)?;
-        self.state.set_flags(found.descriptor.description, flags);
+        let entry = match self.state.find_description(pid, fd) {
+            Ok(found) => found.descriptor,
+            Err(e) => return Err(e.into()),
+        };
+        self.state.set_flags(entry.description, flags);
         self.state
             .set_cloexec(pid, fd, flags.contains(OpenFlags::CLOEXEC));
         Ok(Reply::Ok)

@@ -9,6 +9,7 @@ ghost use Rattle.ux_kernel.specs.FileCalls.{seek_target};
 use crate::kernel::Kernel;
 use ux_names::{PathTarget, is_valid_path};
 use ux_object::{FileObject, ObjKind};
+use ux_state::FoundDescription;
 use ux_types::{Errno, Fd, Mode, Name, OpenFlags, Pid, Refusal, Reply, Whence};
 
 /// The greatest offset: one of 63 bits (off_t of POSIX.1-2017, sys/types.h).
@@ -53,19 +54,25 @@ impl<O: FileObject> Kernel<O> {
         requires { IsTrue (is_live self.old pid.0) }
         ensures { Gives self.old (seeking.lseek self.old pid.0 fd offset whence) result self.new }
     {
-        let found = self.state.find_description(pid, fd)?;
-        let number = found.description.object().ok_or(Errno::ESPIPE)?;
+        let FoundDescription {
+            descriptor,
+            description,
+        } = match self.state.find_description(pid, fd) {
+            Ok(found) => found,
+            Err(e) => return Err(e.into()),
+        };
+        let number = description.object().ok_or(Errno::ESPIPE)?;
         let object = self.state.object(number).ok_or(Errno::EBADF)?;
         if object.kind() != ObjKind::Memory {
             return Err(Errno::ESPIPE.into());
         }
         let base = match whence {
             Whence::Set => 0,
-            Whence::Cur => found.description.offset(),
+            Whence::Cur => description.offset(),
             Whence::End => object.size(),
         };
         let target = seek_target(base, offset).ok_or(Errno::EINVAL)?;
-        self.state.set_offset(found.descriptor.description, target);
+        self.state.set_offset(descriptor.description, target);
         Ok(Reply::At(target))
     }
 }

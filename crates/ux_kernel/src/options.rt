@@ -18,7 +18,10 @@ impl<O: FileObject> Kernel<O> {
         requires { IsTrue (is_live self.old pid.0) }
         ensures { Gives self.old (model.get_opt self.old pid.0 fd opt) result self.new }
     {
-        let FoundSocket { id, socket } = self.state.find_socket(pid, fd)?;
+        let FoundSocket { id, socket } = match self.state.find_socket(pid, fd) {
+            Ok(found) => found,
+            Err(e) => return Err(e.into()),
+        };
         match opt {
             SockOpt::Kind => Ok(Reply::Opt(type_number(socket.kind()))),
             SockOpt::Error => {
@@ -53,7 +56,10 @@ impl<O: FileObject> Kernel<O> {
         requires { IsTrue (is_live self.old pid.0) }
         ensures { Gives self.old (model.set_opt self.old pid.0 fd opt value) result self.new }
     {
-        let FoundSocket { id, socket } = self.state.find_socket(pid, fd)?;
+        let FoundSocket { id, socket } = match self.state.find_socket(pid, fd) {
+            Ok(found) => found,
+            Err(e) => return Err(e.into()),
+        };
         match opt {
             SockOpt::PassCred => {
                 let on = value != 0;

@@ -26,8 +26,11 @@ impl<O: FileObject> Kernel<O> {
         requires { IsTrue (is_live self.old pid.0) }
         ensures { GivesOrFails self.old (model.read self.old pid.0 fd n) result self.new }
     {
-        let found = self.state.find_description(pid, fd)?;
-        self.read_at(pid, found.descriptor.description, n.min(READ_LIMIT))
+        let entry = match self.state.find_description(pid, fd) {
+            Ok(found) => found.descriptor,
+            Err(e) => return Err(e.into()),
+        };
+        self.read_at(pid, entry.description, n.min(READ_LIMIT))
     }
 
     /// Reads by this description.

@@ -116,10 +116,13 @@ impl<O: FileObject> Kernel<O> {
             Request::Exit => Ok(self.exit(pid)),
             Request::Off => Ok(self.off()),
         };
-        Ok(Done {
-            reply: answer?,
-            delivered: None,
-        })
+        match answer {
+            Ok(reply) => Ok(Done {
+                reply,
+                delivered: None,
+            }),
+            Err(refusal) => Err(refusal),
+        }
     }
 }
 

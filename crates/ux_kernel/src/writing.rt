@@ -26,8 +26,11 @@ impl<O: FileObject> Kernel<O> {
         requires { IsTrue (is_live self.old pid.0) }
         ensures { GivesOrFails self.old (model.write self.old pid.0 tag fd bytes.now) result self.new }
     {
-        let found = self.state.find_description(pid, fd)?;
-        self.write_at(pid, found.descriptor.description, tag, bytes)
+        let entry = match self.state.find_description(pid, fd) {
+            Ok(found) => found.descriptor,
+            Err(e) => return Err(e.into()),
+        };
+        self.write_at(pid, entry.description, tag, bytes)
     }
 
     /// Writes by this description.
