@@ -88,6 +88,12 @@ process_at_is : (S : State) (p : ℕ) → 0 < p → process_at S p ≡ slice_get
 process_at_is S zero some = absurd (omega (arith, some))
 process_at_is S (suc i) some = let back : i ≡ suc i - 1 = omega arith in ap (slice_get S.processes) back
 
+-- a process that is found stands in its place, through the parts of a state
+pub stands_at : (V S : State) (p : ℕ) (P : Process) → V ≡ S → process_at S p ≡ Some P → P ≡ get_or V.processes (p - 1) P
+stands_at V S zero P same found = absurd (cc found)
+stands_at V S (suc i) P same found =
+    sym (get_or_from_slice_get V.processes (suc i - 1) P P (sym (process_at_is V (suc i) (omega arith)) ∙ ap (λ U. process_at U (suc i)) same ∙ found))
+
 pub live_is : (S : State) (p : ℕ) (P : Process) → 0 < p → slice_get S.processes (p - 1) ≡ Some P → not P.exited ≡ is_live S p
 live_is S p P some e = sym (ap (λ o. elim o as (λ _. Bool) [ Some P ↦ not P.exited | None ↦ false ]) (process_at_is S p some ∙ e))
 
