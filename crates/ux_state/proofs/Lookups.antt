@@ -52,10 +52,6 @@ found_process S p P live e =
     let at : IsAt S p (live_at S p live).0 = (live_at S p live).1 in
     at.found ∙ ap (λ x. Some x) (sym (e ∙ get_or_from_slice_get S.processes (p - 1) (live_at S p live).0 P at.here))
 
--- the same through the parts of a state
-pub found_through : (V S : State) (p : ℕ) (P : Process) → V ≡ S → is_live S p ≡ true → P ≡ get_or V.processes (p - 1) P → process_at S p ≡ Some P
-found_through V S p P same live here = sym (ap (λ U. process_at U p) same) ∙ found_process V p P (ap (λ U. is_live U p) same ∙ live) here
-
 pub with_process_is : (S : State) (p : ℕ) (P : Process) → 0 < p → record S { processes = set S.processes (p - 1) P } ≡ with_process S p P
 with_process_is S zero P h = absurd (omega (arith, h))
 with_process_is S (suc i) P h = let back : suc i - 1 ≡ i = omega arith in ap (λ n. record S { processes = set S.processes n P }) back
