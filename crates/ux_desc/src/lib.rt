@@ -2,11 +2,12 @@
 //! object or a socket with its queue.
 #![tactic(auto)]
 
-mod connecting;
 mod description;
+mod listening;
 mod phase;
 mod queue;
 mod socket;
+mod socket_changes;
 
 pub use description::{Description, Target};
 pub use phase::{Listener, Phase};

@@ -6,6 +6,7 @@ ghost use Rattle.ux_model.specs.Socket.{is_stream, is_dgram, new_socket, pair_en
 ghost use Rattle.ux_model.specs.Front.{OnStreamFront, OnRecordFront, OnFront};
 ghost use Rattle.ux_model.specs.Accepting.{without_first_end};
 ghost use Rattle.ux_model.specs.Release.{resets_peer};
+ghost use Rattle.ux_record.specs.Shown.{Shows};
 ghost use Rattle.ux_rights.specs.Drafts.{drafted};
 
 use crate::phase::Phase;
@@ -294,12 +295,7 @@ impl Socket {
     /// Out of memory.
     pub fn peek(&self, alloc: Global, n: usize) -> Result<Received, AllocError>
         requires some { 0 < length self.now.queue }
-        ensures bytes { IfOk result (λ r. OnFront n self.now (λ f. r.bytes ≡ f.bytes)) }
-        ensures whole { IfOk result (λ r. OnFront n self.now (λ f. r.whole ≡ f.whole)) }
-        ensures rights { IfOk result (λ r. OnFront n self.now (λ f. r.rights ≡ f.rights)) }
-        ensures origin { IfOk result (λ r. OnFront n self.now (λ f. r.origin ≡ f.origin)) }
-        ensures cred { IfOk result (λ r. OnFront n self.now (λ f. r.cred ≡ f.cred)) }
-        ensures from { IfOk result (λ r. OnFront n self.now (λ f. r.from ≡ f.from)) }
+        ensures { IfOk result (λ r. OnFront n self.now (λ f. Shows f r)) }
     {
         match &self.queue {
             Queue::Stream(queue) => peek_stream(queue, alloc, n, self.passcred),
@@ -429,12 +425,7 @@ fn peek_stream(
     wants_cred: bool,
 ) -> Result<Received, AllocError>
     requires { 0 < length queue.now }
-    ensures bytes { IfOk result (λ r. OnStreamFront wants_cred n queue.now (λ f. r.bytes ≡ f.bytes)) }
-    ensures whole { IfOk result (λ r. OnStreamFront wants_cred n queue.now (λ f. r.whole ≡ f.whole)) }
-    ensures rights { IfOk result (λ r. OnStreamFront wants_cred n queue.now (λ f. r.rights ≡ f.rights)) }
-    ensures origin { IfOk result (λ r. OnStreamFront wants_cred n queue.now (λ f. r.origin ≡ f.origin)) }
-    ensures cred { IfOk result (λ r. OnStreamFront wants_cred n queue.now (λ f. r.cred ≡ f.cred)) }
-    ensures from { IfOk result (λ r. r.from ≡ None) }
+    ensures { IfOk result (λ r. OnStreamFront wants_cred n queue.now (λ f. Shows f r)) }
 {
     let front = queue.peek(alloc, n, wants_cred)?;
     Ok(Received {

@@ -12,7 +12,7 @@ use Rattle.ux_model.specs.Socket.{Socket, is_stream, with_reset, pending_ends}
 use Rattle.ux_model.specs.Front.{Front, stream_front, record_front, front_of}
 use Rattle.ux_model.specs.Description.{Description, Target, to_object, to_socket, changed, changed_target}
 use Rattle.ux_model.specs.References.{times, queue_refs, target_refs}
-use Rattle.ux_model.specs.Peers.{lost_peer, told}
+use Rattle.ux_model.specs.Peers.{lost_peer, with_peer_reset}
 use Rattle.ux_model.specs.Flight.{of_user, of_sender, rights_sent_by, flying_at, flying_in}
 use Rattle.ux_model.proofs.ChangedPlaces.{place_within, sum_by-changed}
 use Rattle.ux_model.proofs.FrontRights.{run_front}
@@ -154,13 +154,13 @@ flying_changed u change stays ds n =
     let a = sum_by-changed (flying_in u) (changed change) (λ x. 0) (λ x. 0) (place_flying u change stays) ds n in
     omega (arith, a)
 
-flying_told : (u : ℕ) (l : Option ℕ) (ds : List (Option Description)) → sum_by (flying_in u) (told l ds) ≡ sum_by (flying_in u) ds
+flying_told : (u : ℕ) (l : Option ℕ) (ds : List (Option Description)) → sum_by (flying_in u) (with_peer_reset l ds) ≡ sum_by (flying_in u) ds
 flying_told u None ds = refl
 flying_told u (Some p) ds = flying_changed u (with_reset true) (λ s. refl) ds p
 
 -- a description goes with its queue, and one other is notified
 pub flying_left : (u d : ℕ) (D : Description) (ds : List (Option Description)) → place ds d ≡ Some D →
-    sum_by (flying_in u) (told (lost_peer D) (emptied ds d)) + flying_at u D.target ≡ sum_by (flying_in u) ds
+    sum_by (flying_in u) (with_peer_reset (lost_peer D) (emptied ds d)) + flying_at u D.target ≡ sum_by (flying_in u) ds
 flying_left u d D ds here =
     let a = flying_told u (lost_peer D) (emptied ds d) in
     let b = sum_by-set (flying_in u) ds d None None (place_within ds d D here) in

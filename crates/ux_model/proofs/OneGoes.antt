@@ -14,7 +14,7 @@ use Rattle.ux_model.specs.Description.{Description, Target, to_object, to_socket
 use Rattle.ux_model.specs.State.{State, description_at, socket_at}
 use Rattle.ux_model.specs.References.{refs, table_refs, target_refs, description_refs}
 use Rattle.ux_model.specs.Release.{resets_peer, is_reset_by_loss, target_after_loss, description_after_loss, place_after_loss, without, is_unreferenced, has_unreferenced}
-use Rattle.ux_model.specs.Peers.{target_peer, peer_in, Paired, lost_peer, told}
+use Rattle.ux_model.specs.Peers.{target_peer, peer_in, Paired, lost_peer, with_peer_reset}
 use Rattle.ux_model.proofs.AnyOrder.{live_in, fewer_live}
 use Rattle.ux_model.proofs.ChangedPlaces.{bool_cases, place_within, place-changed, length-changed, sum_by-changed}
 
@@ -25,11 +25,11 @@ tells None i = false
 tells (Some p) i = p == i
 
 place-told : (l : Option ℕ) (ds : List (Option Description)) (i : ℕ) →
-    place (told l ds) i ≡ cond (tells l i) (option_map (changed (with_reset true)) (place ds i)) (place ds i)
+    place (with_peer_reset l ds) i ≡ cond (tells l i) (option_map (changed (with_reset true)) (place ds i)) (place ds i)
 place-told None ds i = refl
 place-told (Some p) ds i = place-changed ds p i (changed (with_reset true))
 
-length-told : (l : Option ℕ) (ds : List (Option Description)) → length (told l ds) ≡ length ds
+length-told : (l : Option ℕ) (ds : List (Option Description)) → length (with_peer_reset l ds) ≡ length ds
 length-told None ds = refl
 length-told (Some p) ds = length-changed ds p (changed (with_reset true))
 
@@ -118,7 +118,7 @@ numbered : {X : Type 0} (xs : List X) (i : ℕ) (d : ℕ × X) → i < length xs
 numbered xs i d inside = get_or-enumerate_from 0 xs i d inside ∙ ap (λ n. (n, get_or xs i d.1)) (zero-add i)
 
 after_loss : (S : State) (d i : ℕ) (D : Description) → Paired S.descriptions → description_at S d ≡ Some D → d < length S.descriptions →
-    place (told (lost_peer D) (emptied S.descriptions d)) i ≡ place_after_loss (λ n. n == d) S (i, description_at S i)
+    place (with_peer_reset (lost_peer D) (emptied S.descriptions d)) i ≡ place_after_loss (λ n. n == d) S (i, description_at S i)
 after_loss S d i D paired here inside = place-told (lost_peer D) (emptied S.descriptions d) i ∙ bool_cases (i == d)
     (λ h.
     let gone : place (emptied S.descriptions d) i ≡ None = ap (place (emptied S.descriptions d)) (eqb-true i d h) ∙ get_or-set_same S.descriptions d None None inside in
@@ -136,10 +136,10 @@ after_loss S d i D paired here inside = place-told (lost_peer D) (emptied S.desc
 
 -- its place is emptied, and its peer notified: that is the definitions' loss
 pub one_goes : (S : State) (d : ℕ) (D : Description) → Paired S.descriptions → description_at S d ≡ Some D →
-    told (lost_peer D) (emptied S.descriptions d) ≡ map (place_after_loss (λ n. n == d) S) (enumerate_from 0 S.descriptions)
+    with_peer_reset (lost_peer D) (emptied S.descriptions d) ≡ map (place_after_loss (λ n. n == d) S) (enumerate_from 0 S.descriptions)
 one_goes S d D paired here =
     let inside : d < length S.descriptions = place_within S.descriptions d D here in
-    let long : length (told (lost_peer D) (emptied S.descriptions d)) ≡ length S.descriptions = length-told (lost_peer D) (emptied S.descriptions d) ∙ length-set S.descriptions d None in
+    let long : length (with_peer_reset (lost_peer D) (emptied S.descriptions d)) ≡ length S.descriptions = length-told (lost_peer D) (emptied S.descriptions d) ∙ length-set S.descriptions d None in
     let long' : length (map (place_after_loss (λ n. n == d) S) (enumerate_from 0 S.descriptions)) ≡ length S.descriptions = length-map (enumerate_from 0 S.descriptions) (place_after_loss (λ n. n == d) S) ∙ length-enumerate_from 0 S.descriptions in
     ext_get_or None _ _ (long ∙ sym long') (λ i h.
     let at : i < length S.descriptions = subst (λ n. i < n) long h in
@@ -158,12 +158,12 @@ reset_refs k (Some D) = by_target D.target
     by_target (to_object o) = refl
     by_target (to_socket s) = refl
 
-told_refs : (k : ℕ) (l : Option ℕ) (ds : List (Option Description)) → sum_by (description_refs k) (told l ds) ≡ sum_by (description_refs k) ds
+told_refs : (k : ℕ) (l : Option ℕ) (ds : List (Option Description)) → sum_by (description_refs k) (with_peer_reset l ds) ≡ sum_by (description_refs k) ds
 told_refs k None ds = refl
 told_refs k (Some p) ds = let e = sum_by-changed (description_refs k) (changed (with_reset true)) (λ x. 0) (λ x. 0) (λ x. let h = reset_refs k x in omega (arith, h)) ds p in omega (arith, e)
 
 -- the references that the lost one held go, and no others
-pub left_refs : (S T : State) (d k : ℕ) (D : Description) → description_at S d ≡ Some D → T.processes ≡ S.processes → T.descriptions ≡ told (lost_peer D) (emptied S.descriptions d) →
+pub left_refs : (S T : State) (d k : ℕ) (D : Description) → description_at S d ≡ Some D → T.processes ≡ S.processes → T.descriptions ≡ with_peer_reset (lost_peer D) (emptied S.descriptions d) →
     refs T k + target_refs k D.target ≡ refs S k
 unfolding refs
 left_refs S T d k D here same e =
@@ -242,7 +242,7 @@ paired-emptied ds d inside paired = record {
         (λ h. absurd (cc (e, ap peer_in (ap (place (emptied ds d)) (eqb-true i d h) ∙ get_or-set_same ds d None None inside))))
         (λ h. sym (ap peer_in (get_or-set_other ds d i None None (eqb-false i d h))) ∙ e)
 
-pub paired-told : (l : Option ℕ) (ds : List (Option Description)) → Paired ds → Paired (told l ds)
+pub paired-told : (l : Option ℕ) (ds : List (Option Description)) → Paired ds → Paired (with_peer_reset l ds)
 paired-told None ds paired = paired
 paired-told (Some p) ds paired = paired-changed ds p (changed (with_reset true)) peer-reset paired
 

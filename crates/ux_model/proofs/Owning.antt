@@ -12,7 +12,7 @@ use Rattle.ux_model.specs.Names.{same_name, named, without_name}
 use Rattle.ux_model.specs.Socket.{Socket, with_reset}
 use Rattle.ux_model.specs.Description.{Description, Target, to_object, to_socket, changed, changed_target}
 use Rattle.ux_model.specs.State.{description_at}
-use Rattle.ux_model.specs.Peers.{told}
+use Rattle.ux_model.specs.Peers.{with_peer_reset}
 use Rattle.ux_model.specs.Boot.{are_distinct}
 use Rattle.ux_model.specs.Owning.{target_name, name_in, AreOwned, is_number, without_shown, NameGoes}
 use Rattle.ux_model.proofs.ChangedPlaces.{bool_cases, place_within, place-changed}
@@ -244,22 +244,22 @@ names_given ds p f none d n e = ap name_in (place-changed ds p d f) ∙ go (p ==
     go true h = let a : None ≡ Some n = sym none ∙ ap (λ i. name_in (place ds i)) (eqb-true p d h) ∙ e in absurd (cc a)
     go false h = e
 
-names_told : (l : Option ℕ) (ds : List (Option Description)) → KeepNames ds (told l ds)
+names_told : (l : Option ℕ) (ds : List (Option Description)) → KeepNames ds (with_peer_reset l ds)
 names_told None ds d n e = e
 names_told (Some p) ds d n e = names_changed_socket ds p (with_reset true) (λ s. refl) d n e
 
 -- those of others stay where d goes
 shown_without : (ds : List (Option Description)) (d : ℕ) (l : Option ℕ) (es : List (Name × ℕ)) → AllByRecursion (λ e. name_in (place ds e.1) ≡ Some e.0) es →
-    AllByRecursion (λ e. name_in (place (told l (emptied ds d)) e.1) ≡ Some e.0) (filter (λ e. not (e.1 == d)) es)
+    AllByRecursion (λ e. name_in (place (with_peer_reset l (emptied ds d)) e.1) ≡ Some e.0) (filter (λ e. not (e.1 == d)) es)
 shown_without ds d l [] all = tt
 shown_without ds d l (e ∷ es) all = go (e.1 == d) refl (shown_without ds d l es all.1)
   where
-    go : (b : Bool) → (e.1 == d) ≡ b → AllByRecursion (λ e. name_in (place (told l (emptied ds d)) e.1) ≡ Some e.0) (filter (λ e. not (e.1 == d)) es) →
-        AllByRecursion (λ e. name_in (place (told l (emptied ds d)) e.1) ≡ Some e.0) (cond (not b) (e ∷ filter (λ e. not (e.1 == d)) es) (filter (λ e. not (e.1 == d)) es))
+    go : (b : Bool) → (e.1 == d) ≡ b → AllByRecursion (λ e. name_in (place (with_peer_reset l (emptied ds d)) e.1) ≡ Some e.0) (filter (λ e. not (e.1 == d)) es) →
+        AllByRecursion (λ e. name_in (place (with_peer_reset l (emptied ds d)) e.1) ≡ Some e.0) (cond (not b) (e ∷ filter (λ e. not (e.1 == d)) es) (filter (λ e. not (e.1 == d)) es))
     go true h rest = rest
     go false h rest = (names_told l (emptied ds d) e.1 e.0 (ap name_in (get_or-set_other ds d e.1 None None (eqb-false e.1 d h)) ∙ all.0), rest)
 
-pub owned_without : (ds : List (Option Description)) (d : ℕ) (l : Option ℕ) (es : List (Name × ℕ)) → AreOwned ds es → AreOwned (told l (emptied ds d)) (filter (λ e. not (e.1 == d)) es)
+pub owned_without : (ds : List (Option Description)) (d : ℕ) (l : Option ℕ) (es : List (Name × ℕ)) → AreOwned ds es → AreOwned (with_peer_reset l (emptied ds d)) (filter (λ e. not (e.1 == d)) es)
 owned_without ds d l es owned = record { once = once-filter (λ e. not (e.1 == d)) es owned.once; shown = shown_without ds d l es owned.shown }
 
 -- one more, whom it leads to shows it

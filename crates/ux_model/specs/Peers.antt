@@ -27,9 +27,9 @@ abbrev pub lost_peer : Description → Option ℕ
 lost_peer D = if resets_peer (socket_of D.target) then target_peer D.target else None
 
 -- one is notified that it was reset
-abbrev pub told : Option ℕ → List (Option Description) → List (Option Description)
-told None ds = ds
-told (Some p) ds = changed_place ds p (changed (with_reset true))
+abbrev pub with_peer_reset : Option ℕ → List (Option Description) → List (Option Description)
+with_peer_reset None ds = ds
+with_peer_reset (Some p) ds = changed_place ds p (changed (with_reset true))
 
 -- a number of the socket that is there, or 0
 abbrev pub at_target : (Socket → ℕ) → Target → ℕ
@@ -48,4 +48,4 @@ pub record HoldsNothing (D : Description) : Type 0 where
 -- where peers name one another, the loss of a description notifies one other at most
 abbrev pub OneGoes : Type 0
 OneGoes = (S : State) (d : ℕ) (D : Description) → Paired S.descriptions → description_at S d ≡ Some D →
-    told (lost_peer D) (emptied S.descriptions d) ≡ map (place_after_loss (λ n. n == d) S) (enumerate_from 0 S.descriptions)
+    with_peer_reset (lost_peer D) (emptied S.descriptions d) ≡ map (place_after_loss (λ n. n == d) S) (enumerate_from 0 S.descriptions)

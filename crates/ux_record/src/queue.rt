@@ -2,6 +2,7 @@
 ghost use Rattle.std.specs.Prelude.{◌≡◌, ◌↔◌, ◌==◌, ◌<◌, ◌≤◌, [], ◌∷◌, ◌++◌, length, drop, slice_get, option_map, IsTrue, IsSome, IfOk, IfErr, IsErrAnd, OnOk, OnErr};
 ghost use Rattle.ux_model.specs.Limits.{record_limit};
 ghost use Rattle.ux_model.specs.Front.{OnRecordFront};
+ghost use Rattle.ux_record.specs.Shown.{Shows};
 ghost use Rattle.ux_rights.specs.Drafts.{drafted};
 
 use crate::record::{Received, Record};
@@ -128,12 +129,7 @@ impl<A: Allocator + Copy> RecordQueue<A> {
     /// memory.
     pub fn take(&mut self, n: usize) -> Received
         requires { 0 < length self.old }
-        ensures bytes { OnRecordFront n self.old (λ f. result.bytes ≡ f.bytes) }
-        ensures whole { OnRecordFront n self.old (λ f. result.whole ≡ f.whole) }
-        ensures rights { OnRecordFront n self.old (λ f. result.rights ≡ f.rights) }
-        ensures origin { OnRecordFront n self.old (λ f. result.origin ≡ f.origin) }
-        ensures cred { OnRecordFront n self.old (λ f. result.cred ≡ f.cred) }
-        ensures from { OnRecordFront n self.old (λ f. result.from ≡ f.from) }
+        ensures shows { OnRecordFront n self.old (λ f. Shows f result) }
         ensures rest { OnRecordFront n self.old (λ f. self.new ≡ f.rest) }
         ensures some_origin { IsSome result.origin ↔ (0 < length result.rights) }
     {
@@ -148,12 +144,7 @@ impl<A: Allocator + Copy> RecordQueue<A> {
     /// Out of memory.
     pub fn peek(&self, n: usize) -> Result<Received, AllocError>
         requires { 0 < length self.now }
-        ensures bytes { IfOk result (λ r. OnRecordFront n self.now (λ f. r.bytes ≡ f.bytes)) }
-        ensures whole { IfOk result (λ r. OnRecordFront n self.now (λ f. r.whole ≡ f.whole)) }
-        ensures rights { IfOk result (λ r. OnRecordFront n self.now (λ f. r.rights ≡ f.rights)) }
-        ensures origin { IfOk result (λ r. OnRecordFront n self.now (λ f. r.origin ≡ f.origin)) }
-        ensures cred { IfOk result (λ r. OnRecordFront n self.now (λ f. r.cred ≡ f.cred)) }
-        ensures from { IfOk result (λ r. OnRecordFront n self.now (λ f. r.from ≡ f.from)) }
+        ensures shows { IfOk result (λ r. OnRecordFront n self.now (λ f. Shows f r)) }
         ensures some_origin { IfOk result (λ r. IsSome r.origin ↔ (0 < length r.rights)) }
     {
         self.records[0].copy_received(n)

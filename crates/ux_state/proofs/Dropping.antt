@@ -13,7 +13,7 @@ use Rattle.ux_model.specs.Process.{Process}
 use Rattle.ux_model.specs.References.{leads_to, target_refs}
 use Rattle.ux_model.specs.Release.{without, is_unreferenced, has_unreferenced}
 use Rattle.ux_model.specs.FileObjects.{is_opening}
-use Rattle.ux_model.specs.Peers.{lost_peer, told}
+use Rattle.ux_model.specs.Peers.{lost_peer, with_peer_reset}
 use Rattle.ux_model.specs.Flight.{flying_at, flying_in, in_flight}
 use Rattle.ux_model.specs.Owning.{target_name, name_in, without_shown}
 use Rattle.ux_model.proofs.AnyOrder.{live_in}
@@ -46,13 +46,13 @@ sum_by-changed g f same [] p = refl
 sum_by-changed g f same (x ∷ xs) zero = sum_by-cons g (option_map f x) xs ∙ ap (λ n. n + sum_by g xs) (same x) ∙ sym (sum_by-cons g x xs)
 sum_by-changed g f same (x ∷ xs) (suc p) = sum_by-cons g x (changed_place xs p f) ∙ ap (λ n. g x + n) (sum_by-changed g f same xs p) ∙ sym (sum_by-cons g x xs)
 
-told_opens : (allows : Mode → Bool) (o : ℕ) (l : Option ℕ) (ds : List (Option Description)) → count_by (is_opening allows o) (told l ds) ≡ count_by (is_opening allows o) ds
+told_opens : (allows : Mode → Bool) (o : ℕ) (l : Option ℕ) (ds : List (Option Description)) → count_by (is_opening allows o) (with_peer_reset l ds) ≡ count_by (is_opening allows o) ds
 told_opens allows o None ds = refl
 told_opens allows o (Some p) ds = sum_by-changed (opens allows o) (changed (with_reset true)) (same_opening (with_reset true) allows o) ds p
 
 -- without d, which was D, and its peer notified
 left_opens : (allows : Mode → Bool) (o d : ℕ) (D : Description) (ds : List (Option Description)) → place ds d ≡ Some D →
-    count_by (is_opening allows o) (told (lost_peer D) (emptied ds d)) + opens allows o (Some D) ≡ count_by (is_opening allows o) ds
+    count_by (is_opening allows o) (with_peer_reset (lost_peer D) (emptied ds d)) + opens allows o (Some D) ≡ count_by (is_opening allows o) ds
 left_opens allows o d D ds here =
     let a = told_opens allows o (lost_peer D) (emptied ds d) in
     let b = sum_by-set (opens allows o) ds d None None (place_within ds d D here) in
@@ -65,7 +65,7 @@ counted_among ds xs d D here counted = record {
   writers = λ o h. let a = counted.writers o h in let b = left_opens can_write o d D ds here in omega (arith, a, b);
 }
 
-pub counted_left : (ds : List (Option Description)) (xs ys : List Openings) (d : ℕ) (D : Description) → place ds d ≡ Some D → Counted ds xs → CountsOneMore D ys xs → Counted (told (lost_peer D) (emptied ds d)) ys
+pub counted_left : (ds : List (Option Description)) (xs ys : List Openings) (d : ℕ) (D : Description) → place ds d ≡ Some D → Counted ds xs → CountsOneMore D ys xs → Counted (with_peer_reset (lost_peer D) (emptied ds d)) ys
 counted_left ds xs ys d D here counted more = record {
   readers = λ o h.
       let inside : o < length xs = let long = more.long in omega (arith, long, h) in
@@ -95,7 +95,7 @@ module _ {fs : ℕ → ℕ} (xs : List Openings) (ls : List ℕ) (H : Held Descr
   left_names : (d : ℕ) (D : Description) (left : List (Name × ℕ)) → place H.places d ≡ Some D → left ≡ without_shown (target_name D.target) d names → left ≡ filter (λ e. not (e.1 == d)) names
   left_names d D left here shown = shown ∙ ap (λ x. without_shown (name_in x) d names) (sym here) ∙ name_goes (state_of os H ps paths names) d state.owned
 
-  pub left_kept : {gs : ℕ → ℕ} (ys : List Openings) (T K : Held Description) (left : List (Name × ℕ)) (d : ℕ) (D : Description) → place H.places d ≡ Some D → K.places ≡ told (lost_peer D) (emptied H.places d) → T.counts ≡ H.counts →
+  pub left_kept : {gs : ℕ → ℕ} (ys : List Openings) (T K : Held Description) (left : List (Name × ℕ)) (d : ℕ) (D : Description) → place H.places d ≡ Some D → K.places ≡ with_peer_reset (lost_peer D) (emptied H.places d) → T.counts ≡ H.counts →
       ((k : ℕ) → count_at T k ≡ count_at K k + target_refs k D.target) → ((u : ℕ) → fs u ≡ gs u + flying_at u D.target) → CountsOneMore D ys xs → left ≡ without_shown (target_name D.target) d names →
       IsState ys ls K gs (state_of os K ps paths left)
   unfolding in_flight
@@ -122,7 +122,7 @@ module _ {fs : ℕ → ℕ} (xs : List Openings) (ls : List ℕ) (H : Held Descr
     owned = rw (places, left_names d D left here shown) (owned_without H.places d (lost_peer D) names state.owned);
   }
 
-  pub is_without : (K : Held Description) (left : List (Name × ℕ)) (d : ℕ) (D : Description) → place H.places d ≡ Some D → K.places ≡ told (lost_peer D) (emptied H.places d) →
+  pub is_without : (K : Held Description) (left : List (Name × ℕ)) (d : ℕ) (D : Description) → place H.places d ≡ Some D → K.places ≡ with_peer_reset (lost_peer D) (emptied H.places d) →
       left ≡ without_shown (target_name D.target) d names → state_of os K ps paths left ≡ without (λ n. n == d) (state_of os H ps paths names)
   unfolding without
   is_without K left d D here places shown =

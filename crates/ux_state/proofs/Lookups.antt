@@ -52,10 +52,6 @@ found_process S p P live e =
     let at : IsAt S p (live_at S p live).0 = (live_at S p live).1 in
     at.found ∙ ap (λ x. Some x) (sym (e ∙ get_or_from_slice_get S.processes (p - 1) (live_at S p live).0 P at.here))
 
--- the same through the parts of a state
-pub found_through : (V S : State) (p : ℕ) (P : Process) → V ≡ S → is_live S p ≡ true → P ≡ get_or V.processes (p - 1) P → process_at S p ≡ Some P
-found_through V S p P same live here = sym (ap (λ U. process_at U p) same) ∙ found_process V p P (ap (λ U. is_live U p) same ∙ live) here
-
 pub with_process_is : (S : State) (p : ℕ) (P : Process) → 0 < p → record S { processes = set S.processes (p - 1) P } ≡ with_process S p P
 with_process_is S zero P h = absurd (omega (arith, h))
 with_process_is S (suc i) P h = let back : suc i - 1 ≡ i = omega arith in ap (λ n. record S { processes = set S.processes n P }) back
@@ -87,6 +83,12 @@ place_past xs i e = sym (unwrap_or-slice_get xs i None) ∙ ap (λ o. unwrap_or 
 process_at_is : (S : State) (p : ℕ) → 0 < p → process_at S p ≡ slice_get S.processes (p - 1)
 process_at_is S zero some = absurd (omega (arith, some))
 process_at_is S (suc i) some = let back : i ≡ suc i - 1 = omega arith in ap (slice_get S.processes) back
+
+-- a process that is found stands in its place, through the parts of a state
+pub stands_at : (V S : State) (p : ℕ) (P : Process) → V ≡ S → process_at S p ≡ Some P → P ≡ get_or V.processes (p - 1) P
+stands_at V S zero P same found = absurd (cc found)
+stands_at V S (suc i) P same found =
+    sym (get_or_from_slice_get V.processes (suc i - 1) P P (sym (process_at_is V (suc i) (omega arith)) ∙ ap (λ U. process_at U (suc i)) same ∙ found))
 
 pub live_is : (S : State) (p : ℕ) (P : Process) → 0 < p → slice_get S.processes (p - 1) ≡ Some P → not P.exited ≡ is_live S p
 live_is S p P some e = sym (ap (λ o. elim o as (λ _. Bool) [ Some P ↦ not P.exited | None ↦ false ]) (process_at_is S p some ∙ e))

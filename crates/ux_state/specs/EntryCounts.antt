@@ -1,5 +1,5 @@
 -- What one place of a table counts, and what is asked for before many references are counted.
-use Rattle.std.specs.Prelude.{ℕ, ◌+◌, ◌<◌, ◌^◌, cond, if◌then◌else◌, List, Option, Some, None}
+use Rattle.std.specs.Prelude.{◌≡◌, ℕ, ◌+◌, ◌<◌, ◌^◌, cond, if◌then◌else◌, List, length, Option, Some, None, slice_get}
 use Rattle.ux_model.specs.Process.{Descriptor}
 use Rattle.ux_model.specs.Description.{Description}
 use Rattle.ux_model.specs.References.{names_description, table_refs, times}
@@ -21,6 +21,6 @@ TableHasRoom held table = (d : ℕ) → 0 < table_refs d table → count_at held
 abbrev pub AreHeld : Held Description → List ℕ → Type 0
 AreHeld held numbers = (d : ℕ) → 0 < times d numbers → 0 < count_at held d
 
--- each of them can be counted as often as it stands there
+-- each of them can be counted once more for each of all
 abbrev pub HaveRoom : Held Description → List ℕ → Type 0
-HaveRoom held numbers = (d : ℕ) → 0 < times d numbers → count_at held d + times d numbers < 2 ^ 64
+HaveRoom held numbers = (k d : ℕ) → slice_get numbers k ≡ Some d → count_at held d + length numbers < 2 ^ 64

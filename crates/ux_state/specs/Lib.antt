@@ -5,3 +5,4 @@ pub mod Keeping
 pub mod Moves
 pub mod EntryCounts
 pub mod Releases
+pub mod Lends

@@ -5,6 +5,7 @@ ghost use Rattle.ux_model.specs.Delivery.{installed};
 ghost use Rattle.ux_model.specs.State.{is_live, table_of, with_table};
 ghost use Rattle.ux_state.specs.Moves.{AreReferenced};
 
+use crate::process::process_mut;
 use crate::references::{have_room, retain_all};
 use crate::state::State;
 use std::alloc::AllocError;
@@ -35,12 +36,12 @@ impl<O: FileObject> State<O> {
         ensures err { OnErr result (self.new ≡ self.old) }
     {
         let first = &rights[..numbers.len()];
-        if !have_room(&self.slots, first) {
+        if !have_room(&self.descriptions, first) {
             return Err(AllocError);
         }
-        let process = &mut self.processes[pid.0 as usize - 1];
+        let process = process_mut(&mut self.processes, pid);
         process.table.install_all(numbers, rights, cloexec)?;
-        retain_all(&mut self.slots, first);
+        retain_all(&mut self.descriptions, first);
         Ok(())
     }
 }

@@ -43,17 +43,17 @@ impl<O: FileObject> State<O> {
         if !self.has_room(id) {
             return Err(SendError::Full);
         }
-        if !have_room(&self.slots, rights.as_slice()) {
+        if !have_room(&self.descriptions, rights.as_slice()) {
             return Err(SendError::NoMemory);
         }
         if self.flights.count_in(draft.uid, rights.len()).is_err() {
             return Err(SendError::NoMemory);
         }
-        retain_all(&mut self.slots, rights.as_slice());
-        match push_message(&mut self.slots, id, draft, rights, from) {
+        retain_all(&mut self.descriptions, rights.as_slice());
+        match push_message(&mut self.descriptions, id, draft, rights, from) {
             Ok(count) => Ok(count),
             Err(rights) => {
-                release_all(&mut self.slots, rights.as_slice());
+                release_all(&mut self.descriptions, rights.as_slice());
                 self.flights.count_out(draft.uid, rights.len());
                 Err(SendError::NoMemory)
             }
@@ -77,8 +77,8 @@ impl<O: FileObject> State<O> {
         requires some { IsSomeAnd (socket_at self.old id) (λ s. 0 < length s.queue) }
         ensures rest { IsSomeAnd (socket_at self.old id) (λ s. OnFront n s (λ f. self.new ≡ with_socket_by self.old id (with_queue f.rest))) }
     {
-        let (rights, sender) = skip_message(&mut self.slots, id, n);
-        release_all(&mut self.slots, rights.as_slice());
+        let (rights, sender) = skip_message(&mut self.descriptions, id, n);
+        release_all(&mut self.descriptions, rights.as_slice());
         self.flights.count_out_sent(sender, rights.len());
     }
 
@@ -86,7 +86,7 @@ impl<O: FileObject> State<O> {
     pub fn set_association(&mut self, id: DescriptionId, target: Option<DescriptionId>)
         ensures { self.new ≡ with_socket_by self.old id (with_association target) }
     {
-        if let Some(x) = self.slots.get_mut(id) {
+        if let Some(x) = self.descriptions.get_mut(id) {
             x.set_association(target);
         }
     }
@@ -95,7 +95,7 @@ impl<O: FileObject> State<O> {
     pub fn shut_down(&mut self, id: DescriptionId, how: Mode)
         ensures { self.new ≡ with_socket_by self.old id (shut_down how) }
     {
-        if let Some(x) = self.slots.get_mut(id) {
+        if let Some(x) = self.descriptions.get_mut(id) {
             x.shut_down(how);
         }
     }
@@ -104,7 +104,7 @@ impl<O: FileObject> State<O> {
     pub fn set_passcred(&mut self, id: DescriptionId, on: bool)
         ensures { self.new ≡ with_socket_by self.old id (with_passcred on) }
     {
-        if let Some(x) = self.slots.get_mut(id) {
+        if let Some(x) = self.descriptions.get_mut(id) {
             x.set_passcred(on);
         }
     }
@@ -113,7 +113,7 @@ impl<O: FileObject> State<O> {
     pub fn set_queue_limit(&mut self, id: DescriptionId, limit: u32)
         ensures { self.new ≡ with_socket_by self.old id (with_queue_limit limit) }
     {
-        if let Some(x) = self.slots.get_mut(id) {
+        if let Some(x) = self.descriptions.get_mut(id) {
             x.set_queue_limit(limit);
         }
     }
@@ -122,7 +122,7 @@ impl<O: FileObject> State<O> {
     pub fn set_reset(&mut self, id: DescriptionId, on: bool)
         ensures { self.new ≡ with_socket_by self.old id (with_reset on) }
     {
-        if let Some(x) = self.slots.get_mut(id) {
+        if let Some(x) = self.descriptions.get_mut(id) {
             x.set_reset(on);
         }
     }
@@ -131,7 +131,7 @@ impl<O: FileObject> State<O> {
     pub fn set_offset(&mut self, id: DescriptionId, offset: u64)
         ensures { self.new ≡ with_description_by self.old id (at_offset offset) }
     {
-        if let Some(x) = self.slots.get_mut(id) {
+        if let Some(x) = self.descriptions.get_mut(id) {
             x.set_offset(offset);
         }
     }
@@ -140,7 +140,7 @@ impl<O: FileObject> State<O> {
     pub fn set_flags(&mut self, id: DescriptionId, flags: OpenFlags)
         ensures { self.new ≡ with_description_by self.old id (with_flags flags) }
     {
-        if let Some(x) = self.slots.get_mut(id) {
+        if let Some(x) = self.descriptions.get_mut(id) {
             x.set_flags(flags);
         }
     }

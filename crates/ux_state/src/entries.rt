@@ -11,6 +11,7 @@ ghost use Rattle.ux_model.specs.Peers.{HoldsNothing};
 ghost use Rattle.ux_model.specs.Closing as model;
 
 use crate::openings::count_in;
+use crate::process::process_mut;
 use crate::references::{release, release_table, retain};
 use crate::state::State;
 use bitflags::Flags;
@@ -89,16 +90,16 @@ impl<O: FileObject> State<O> {
         if self.table(pid).lowest_free().is_none() {
             return Err(InstallError::Full);
         }
-        if self.slots.reserve(1).is_err() {
+        if self.descriptions.reserve(1).is_err() {
             return Err(InstallError::NoMemory);
         }
-        let id = self.slots.next_id();
-        let process = &mut self.processes[pid.0 as usize - 1];
+        let id = self.descriptions.next_id();
+        let process = process_mut(&mut self.processes, pid);
         let Ok(fd) = process.table.install(new_entry(flags, id)) else {
             return Err(InstallError::NoMemory);
         };
         count_in(&mut self.openings, &description);
-        let _id = self.slots.insert_reserved(description);
+        let _id = self.descriptions.insert_reserved(description);
         Ok(fd)
     }
 
@@ -126,22 +127,22 @@ impl<O: FileObject> State<O> {
         if self.table(pid).two_lowest_free().is_none() {
             return Err(InstallError::Full);
         }
-        if self.slots.reserve(2).is_err() {
+        if self.descriptions.reserve(2).is_err() {
             return Err(InstallError::NoMemory);
         }
         let alloc = *self.processes.allocator();
-        let first = self.slots.next_id();
+        let first = self.descriptions.next_id();
         let second = DescriptionId::new(first.number() + 1);
-        let process = &mut self.processes[pid.0 as usize - 1];
+        let process = process_mut(&mut self.processes, pid);
         let entries = (new_entry(flags, first), new_entry(flags, second));
         let Ok(two) = process.table.install_two(entries.0, entries.1) else {
             return Err(InstallError::NoMemory);
         };
         let _first = self
-            .slots
+            .descriptions
             .insert_reserved(pair_end(alloc, kind, flags, second, cred));
         let _second = self
-            .slots
+            .descriptions
             .insert_reserved(pair_end(alloc, kind, flags, first, cred));
         Ok(two)
     }
@@ -165,12 +166,12 @@ impl<O: FileObject> State<O> {
         if self.table(pid).lowest_free().is_none() {
             return Err(InstallError::Full);
         }
-        if !self.slots.has_room(entry.description, 1) {
+        if !self.descriptions.has_room(entry.description, 1) {
             return Err(InstallError::NoMemory);
         }
-        let process = &mut self.processes[pid.0 as usize - 1];
+        let process = process_mut(&mut self.processes, pid);
         let fd = process.table.install(entry)?;
-        retain(&mut self.slots, entry.description);
+        retain(&mut self.descriptions, entry.description);
         Ok(fd)
     }
 
@@ -191,14 +192,14 @@ impl<O: FileObject> State<O> {
         if fd.0 >= self.table(pid).limit() {
             return Err(DupError::BadNumber);
         }
-        if !self.slots.has_room(entry.description, 1) {
+        if !self.descriptions.has_room(entry.description, 1) {
             return Err(DupError::NoMemory);
         }
-        let process = &mut self.processes[pid.0 as usize - 1];
+        let process = process_mut(&mut self.processes, pid);
         let replaced = process.table.dup_at(fd, entry)?;
         // Both may lead to one description, so the new entry counts before the old one no longer does.
-        retain(&mut self.slots, entry.description);
-        release(&mut self.slots, replaced);
+        retain(&mut self.descriptions, entry.description);
+        release(&mut self.descriptions, replaced);
         Ok(())
     }
 
@@ -207,9 +208,9 @@ impl<O: FileObject> State<O> {
         requires { IsTrue (is_live self.old pid.0) }
         ensures { self.new ≡ with_table self.old pid.0 (emptied (table_of self.old pid.0) fd.0) }
     {
-        let process = &mut self.processes[pid.0 as usize - 1];
+        let process = process_mut(&mut self.processes, pid);
         let removed = process.table.remove(fd);
-        release(&mut self.slots, removed);
+        release(&mut self.descriptions, removed);
     }
 
     /// Sets or clears close-on-exec of the entry at a number, if that is open (fcntl(2), F_SETFD).
@@ -218,7 +219,7 @@ impl<O: FileObject> State<O> {
         ensures { self.new ≡ with_table self.old pid.0
             (slice_set (table_of self.old pid.0) fd.0 (option_map (with_cloexec cloexec) (place (table_of self.old pid.0) fd.0))) }
     {
-        let process = &mut self.processes[pid.0 as usize - 1];
+        let process = process_mut(&mut self.processes, pid);
         process.table.set_cloexec(fd, cloexec);
     }
 
@@ -228,8 +229,8 @@ impl<O: FileObject> State<O> {
         requires { IsTrue (is_live self.old pid.0) }
         ensures { self.new ≡ (model.exit self.old pid.0).next }
     {
-        let process = &mut self.processes[pid.0 as usize - 1];
-        release_table(&mut self.slots, &process.table);
+        let process = process_mut(&mut self.processes, pid);
+        release_table(&mut self.descriptions, &process.table);
         process.exit();
     }
 }

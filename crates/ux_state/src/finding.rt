@@ -11,6 +11,7 @@ ghost use Rattle.ux_model.specs.Outcome.{find_description, find_socket};
 ghost use Rattle.ux_model.specs.FileObjects.{is_open_for};
 ghost use Rattle.ux_model.specs.History.{has_live};
 
+use crate::process::Process;
 use crate::state::State;
 use ux_desc::{Description, Socket};
 use ux_fdtable::{Descriptor, Table};
@@ -65,23 +66,30 @@ impl<O: FileObject> State<O> {
         self.processes.iter().any(|process| !process.exited)
     }
 
+    /// The process with this number, which lives.
+    #[tactic(auto, using(crate::proofs::Lookups::live_inside, crate::proofs::Lookups::live_positive, crate::proofs::Lookups::found_process))]
+    pub(crate) fn process(&self, pid: Pid) -> &Process
+        requires { IsTrue (is_live self.now pid.0) }
+        ensures { process_at self.now pid.0 ≡ Some result.now }
+    {
+        &self.processes[pid.0 as usize - 1]
+    }
+
     /// The descriptor table of a process.
-    #[tactic(auto, using(crate::proofs::Lookups::live_inside, crate::proofs::Lookups::live_positive, crate::proofs::Lookups::table_here))]
     pub fn table(&self, pid: Pid) -> &Table
         requires { IsTrue (is_live self.now pid.0) }
         ensures { result.now ≡ table_of self.now pid.0 }
     {
-        let process = &self.processes[pid.0 as usize - 1];
+        let process = self.process(pid);
         &process.table
     }
 
     /// The credentials of a process.
-    #[tactic(auto, using(crate::proofs::Lookups::live_inside, crate::proofs::Lookups::live_positive, crate::proofs::Lookups::found_process))]
     pub fn credentials(&self, pid: Pid) -> Cred
         requires { IsTrue (is_live self.now pid.0) }
         ensures { IsSomeAnd (process_at self.now pid.0) (λ P. result ≡ own_cred pid.0 P) }
     {
-        let process = &self.processes[pid.0 as usize - 1];
+        let process = self.process(pid);
         Cred {
             pid,
             uid: process.uid,
@@ -90,20 +98,18 @@ impl<O: FileObject> State<O> {
     }
 
     /// Whether a process has the privileges of the superuser.
-    #[tactic(auto, using(crate::proofs::Lookups::live_inside, crate::proofs::Lookups::live_positive, crate::proofs::Lookups::found_process))]
     pub fn is_privileged(&self, pid: Pid) -> bool
         requires { IsTrue (is_live self.now pid.0) }
         ensures { IsSomeAnd (process_at self.now pid.0) (λ P. result ≡ P.privileged) }
     {
-        let process = &self.processes[pid.0 as usize - 1];
-        process.privileged
+        self.process(pid).privileged
     }
 
     /// The description that a handle names, while it is there.
     pub fn description(&self, id: DescriptionId) -> Option<&Description>
         ensures { MatchOption result (description_at self.now id ≡ None) (λ x. description_at self.now id ≡ Some x.now) }
     {
-        self.slots.get(id)
+        self.descriptions.get(id)
     }
 
     /// How many references a description has: from descriptors, from rights in unread messages, and from
@@ -111,7 +117,7 @@ impl<O: FileObject> State<O> {
     pub fn count(&self, id: DescriptionId) -> u64
         ensures { result ≡ refs self.now id }
     {
-        self.slots.count(id)
+        self.descriptions.count(id)
     }
 
     /// How many rights of this user are in messages that nobody has received.

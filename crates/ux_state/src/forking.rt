@@ -5,6 +5,7 @@ ghost use Rattle.ux_model.specs.Process.{Process, kept_on_exec};
 ghost use Rattle.ux_model.specs.State.{is_live, process_at, table_of, with_table, with_child, next_process};
 ghost use Rattle.ux_model.specs.Forking.{child_of};
 
+use crate::process::process_mut;
 use crate::references::{release_marked, retain_table, table_has_room};
 use crate::state::State;
 use std::alloc::AllocError;
@@ -24,12 +25,12 @@ impl<O: FileObject> State<O> {
         ensures made { (P : Process) → process_at self.old parent.0 ≡ Some P → OnOk result (self.new ≡ with_child self.old (child_of P)) }
         ensures err { OnErr result (self.new ≡ self.old) }
     {
-        let child = self.processes[parent.0 as usize - 1].fork()?;
-        if !table_has_room(&self.slots, &child.table) {
+        let child = self.process(parent).fork()?;
+        if !table_has_room(&self.descriptions, &child.table) {
             return Err(AllocError);
         }
         self.processes.reserve(1)?;
-        retain_table(&mut self.slots, &child.table);
+        retain_table(&mut self.descriptions, &child.table);
         self.processes.push(child)?;
         Ok(Pid(self.processes.len() as u32))
     }
@@ -39,8 +40,8 @@ impl<O: FileObject> State<O> {
         requires { IsTrue (is_live self.old pid.0) }
         ensures { self.new ≡ with_table self.old pid.0 (map kept_on_exec (table_of self.old pid.0)) }
     {
-        let process = &mut self.processes[pid.0 as usize - 1];
-        release_marked(&mut self.slots, &process.table);
+        let process = process_mut(&mut self.processes, pid);
+        release_marked(&mut self.descriptions, &process.table);
         process.table.close_on_exec();
     }
 }

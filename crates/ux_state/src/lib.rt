@@ -3,7 +3,8 @@
 //! `settle` lets go of what nothing refers to any more. Whatever counts or refers lies behind it.
 #![tactic(auto)]
 
-mod connecting;
+mod binding;
+mod connections;
 mod delivering;
 mod descriptions;
 mod entries;
@@ -11,14 +12,14 @@ mod finding;
 mod flights;
 mod forking;
 mod making;
-mod naming;
+mod names;
+mod object_place;
 mod objects;
 mod openings;
 mod process;
 mod references;
 mod release;
 mod retired;
-mod slot;
 mod state;
 
 pub use finding::{FoundDescription, FoundSocket};

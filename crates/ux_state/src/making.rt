@@ -7,9 +7,9 @@ ghost use Rattle.ux_model.specs.Boot.{are_distinct, boot_state, new_process};
 ghost use Rattle.ux_state.specs.Counting.{none_open};
 
 use crate::flights::Flights;
+use crate::object_place::ObjectPlace;
 use crate::openings::Openings;
 use crate::process::Process;
-use crate::slot::Slot;
 use crate::state::State;
 use std::alloc::{AllocError, Global};
 use ux_names::{AbstractNames, BindError, PathTarget, Paths, Seed};
@@ -20,7 +20,7 @@ use ux_types::{Name, ProcSpec};
 /// The file objects of a state and their paths.
 #[derive(Drop)]
 struct Files<O: FileObject> {
-    objects: Vec<Slot<O>>,
+    objects: Vec<ObjectPlace<O>>,
     paths: Paths,
 }
 
@@ -61,7 +61,7 @@ impl<O: FileObject> State<O> {
         Ok(State {
             objects: files.objects,
             openings,
-            slots: Slots::new(alloc),
+            descriptions: Slots::new(alloc),
             processes,
             paths: files.paths,
             links,
@@ -123,14 +123,14 @@ fn filled<O: FileObject>(files: Files<O>, objects: Vec<(Name, O)>) -> Files<O>
     ensures objects { result.objects.items ≡ map (λ o. Some (O.view o.1)) objects.items }
     ensures paths { result.paths.names ≡ map (λ e. (e.1.0, file e.0)) (enumerate_from 0 objects.items) }
 {
-    let mut slots = files.objects;
+    let mut places = files.objects;
     let mut paths = files.paths;
     for (name, object) in objects {
-        bind_file(&mut paths, name, slots.len() as u32);
-        slots.push_reserved(Slot::new(object));
+        bind_file(&mut paths, name, places.len() as u32);
+        places.push_reserved(ObjectPlace::new(object));
     }
     Files {
-        objects: slots,
+        objects: places,
         paths,
     }
 }

@@ -14,7 +14,7 @@ impl<O: FileObject> State<O> {
         ensures { MatchOption result (place self.now.objects number ≡ None) (λ x. place self.now.objects number ≡ Some (O.view x.now)) }
     {
         match self.objects.get(number as usize) {
-            Some(slot) => slot.object(),
+            Some(place) => place.object(),
             None => None,
         }
     }
@@ -43,8 +43,8 @@ impl<O: FileObject> State<O> {
         ensures fits { IfOk result (λ n. n ≤ length buf.old) }
         ensures reads { ReadsObject self.old number at (length buf.old) (bytes_read result buf.new) self.new }
     {
-        let slot = &mut self.objects[number as usize];
-        slot.read(at, buf)
+        let place = &mut self.objects[number as usize];
+        place.read(at, buf)
     }
 
     /// Writes to a file object that is there, as the interface of file objects says.
@@ -52,7 +52,7 @@ impl<O: FileObject> State<O> {
         requires { IsTrue (is_some (place self.old.objects number)) }
         ensures { WritesObject self.old number at bytes.now result self.new }
     {
-        let slot = &mut self.objects[number as usize];
-        slot.write(at, bytes)
+        let place = &mut self.objects[number as usize];
+        place.write(at, bytes)
     }
 }

@@ -1,13 +1,15 @@
 //! A process and its descriptor table.
-ghost use Rattle.std.specs.Prelude.{◌≡◌, map, None, true, IfOk};
+ghost use Rattle.std.specs.Prelude.{◌≡◌, ◌-◌, ◌<◌, map, None, true, IfOk, length, slice_index_or};
+ghost use Rattle.std.specs.Borrow.{sem};
 ghost use Rattle.ux_model.specs.Boot.{new_process};
 ghost use Rattle.ux_model.specs.Closing.{with_nothing_open};
 ghost use Rattle.ux_model.specs.Forking.{child_of};
+ghost use Rattle.ux_state.specs.Lends.{lends_process};
 
 use std::alloc::{AllocError, Global};
 use std::marker::Model;
 use ux_fdtable::Table;
-use ux_types::ProcSpec;
+use ux_types::{Pid, ProcSpec};
 
 /// A process.
 #[derive(Drop)]
@@ -68,4 +70,14 @@ impl Process {
         self.exited = true;
         self.table.clear();
     }
+}
+
+/// The process with this number, for writing. Numbers start from 1.
+pub(crate) fn process_mut(processes: &mut Vec<Process>, pid: Pid) -> &mut Process
+    requires positive { 0 < pid.0 }
+    requires inside { pid.0 - 1 < length processes.old.items }
+    ensures* writes_back { sem 𝓛 (lends_process processes.entry pid.0 result) }
+    ensures value { result.now ≡ slice_index_or processes.old.items (pid.0 - 1) result.now }
+{
+    &mut processes[pid.0 as usize - 1]
 }

@@ -105,12 +105,7 @@ pub(crate) fn retain_table(slots: &mut Slots<Description>, table: &Table)
 pub(crate) fn have_room(slots: &Slots<Description>, references: &[Reference]) -> bool
     ensures { IsTrue result → HaveRoom slots.now references.now }
 {
-    for reference in references {
-        if !slots.has_room(reference.description(), references.len()) {
-            return false;
-        }
-    }
-    true
+    references.iter().all(|reference| slots.has_room(reference.description(), references.len()))
 }
 
 /// Counts one more reference of each.

@@ -7,13 +7,13 @@ ghost use Rattle.ux_model.specs.Places.{place, emptied};
 ghost use Rattle.ux_model.specs.References.{path_names, is_open_of, orefs};
 ghost use Rattle.ux_model.specs.Release.{is_unreferenced, has_unreferenced, without, drop_unreferenced, orphans, without_orphans, settled};
 ghost use Rattle.ux_model.specs.Release as release;
-ghost use Rattle.ux_model.specs.Peers.{told};
+ghost use Rattle.ux_model.specs.Peers.{with_peer_reset};
 ghost use Rattle.ux_model.specs.Closing.{with_nothing_open};
 ghost use Rattle.ux_model.specs.Closing as model;
 ghost use Rattle.ux_slots.specs.Held.{count_at};
 ghost use Rattle.ux_state.specs.Counting.{none_open};
 
-use crate::naming::{drop_name, unlink_all};
+use crate::binding::{drop_name, unlink_all};
 use crate::openings::{Openings, count_out};
 use crate::process::Process;
 use crate::references::release_held;
@@ -47,7 +47,7 @@ impl<O: FileObject> State<O> {
         unlink_all(&mut self.links);
         self.abstract_names.clear();
         clear_tables(&mut self.processes);
-        forget(&mut self.slots);
+        forget(&mut self.descriptions);
         uncount_all(&mut self.openings);
         self.flights.clear();
     }
@@ -66,13 +66,13 @@ impl<O: FileObject> State<O> {
             ((self.new ≡ self.old) × (has_unreferenced self.old ≡ false))
             (λ d. (is_unreferenced self.old d ≡ true) × (self.new ≡ without (λ n. n == d) self.old)) }
     {
-        let Some(gone) = self.slots.next_dead() else {
+        let Some(gone) = self.descriptions.next_dead() else {
             return None;
         };
-        tell(&mut self.slots, gone.1.lost_peer());
+        reset_peer(&mut self.descriptions, gone.1.lost_peer());
         count_out(&mut self.openings, &gone.1);
         drop_name(&mut self.abstract_names, &gone.1, gone.0);
-        release_held(&mut self.slots, &mut self.flights, gone.1);
+        release_held(&mut self.descriptions, &mut self.flights, gone.1);
         Some(gone.0)
     }
 
@@ -136,9 +136,9 @@ fn hand_out<O: FileObject>(retired: &mut RetiredList<O>, number: u32, object: Op
     }
 }
 
-/// One description is notified that it was reset, if it is still there.
-fn tell(slots: &mut Slots<Description>, peer: Option<DescriptionId>)
-    ensures places { slots.new.places ≡ told peer slots.old.places }
+/// ECONNRESET is pending at the peer of one that goes, if it is still there.
+fn reset_peer(slots: &mut Slots<Description>, peer: Option<DescriptionId>)
+    ensures places { slots.new.places ≡ with_peer_reset peer slots.old.places }
     ensures counts { slots.new.counts ≡ slots.old.counts }
 {
     if let Some(id) = peer {

@@ -1,8 +1,8 @@
 //! The whole state as one value.
 use crate::flights::Flights;
+use crate::object_place::ObjectPlace;
 use crate::openings::Openings;
 use crate::process::Process;
-use crate::slot::Slot;
 use std::marker::Model;
 use ux_desc::Description;
 use ux_names::{AbstractNames, Paths};
@@ -13,11 +13,11 @@ use ux_slots::Slots;
 /// definitions speak of; the counts of references and of rights in flight are in its invariant alone.
 pub struct State<O: FileObject> {
     /// By number.
-    pub(crate) objects: Vec<Slot<O>>,
+    pub(crate) objects: Vec<ObjectPlace<O>>,
     /// What the descriptions of each file object are open for, so that no call looks through them.
     pub(crate) openings: Vec<Openings>,
     /// By number, in order of making, each with a count of the references to it.
-    pub(crate) slots: Slots<Description>,
+    pub(crate) descriptions: Slots<Description>,
     /// The process with number 1 first.
     pub(crate) processes: Vec<Process>,
     pub(crate) paths: Paths,
@@ -35,7 +35,7 @@ impl<O: FileObject> Drop for State<O> {
         let State {
             objects,
             openings,
-            slots,
+            descriptions,
             processes,
             paths,
             links,
@@ -44,7 +44,7 @@ impl<O: FileObject> Drop for State<O> {
         } = self;
         drop(objects);
         drop(openings);
-        drop(slots);
+        drop(descriptions);
         drop(processes);
         drop(paths);
         drop(links);
@@ -60,7 +60,7 @@ impl<O: FileObject> Model for State<O> {
 
     ghost Value = { model.State };
 
-    ghost view = { λ s. state_of s.objects.items s.slots s.processes.items s.paths.names s.abstract_names };
+    ghost view = { λ s. state_of s.objects.items s.descriptions s.processes.items s.paths.names s.abstract_names };
 
-    ghost invariant = { λ s. IsState s.openings.items s.links.items s.slots (flights_of s.flights) (state_of s.objects.items s.slots s.processes.items s.paths.names s.abstract_names) };
+    ghost invariant = { λ s. IsState s.openings.items s.links.items s.descriptions (flights_of s.flights) (state_of s.objects.items s.descriptions s.processes.items s.paths.names s.abstract_names) };
 }

@@ -4,6 +4,7 @@ ghost use Rattle.std.specs.List.{AllByRecursion};
 ghost use Rattle.ux_model.specs.Message.{queued_bytes};
 ghost use Rattle.ux_model.specs.Front.{OnStreamFront};
 ghost use Rattle.ux_rights.specs.Drafts.{drafted};
+ghost use Rattle.ux_stream.specs.Shown.{Shows};
 
 use crate::byte_ring::ByteRing;
 use crate::mark::Mark;
@@ -143,10 +144,7 @@ impl<A: Allocator + Copy> StreamQueue<A> {
         wants_cred: bool,
     ) -> Result<Received, AllocError>
         requires { 0 < length self.old }
-        ensures bytes { IfOk result (λ r. OnStreamFront wants_cred n self.old (λ f. r.bytes ≡ f.bytes)) }
-        ensures rights { IfOk result (λ r. OnStreamFront wants_cred n self.old (λ f. r.rights ≡ f.rights)) }
-        ensures origin { IfOk result (λ r. OnStreamFront wants_cred n self.old (λ f. r.origin ≡ f.origin)) }
-        ensures cred { IfOk result (λ r. OnStreamFront wants_cred n self.old (λ f. r.cred ≡ f.cred)) }
+        ensures shows { IfOk result (λ r. OnStreamFront wants_cred n self.old (λ f. Shows f r)) }
         ensures rest { OnOk result (OnStreamFront wants_cred n self.old (λ f. self.new ≡ f.rest)) }
         ensures some_origin { IfOk result (λ r. IsSome r.origin ↔ (0 < length r.rights)) }
         ensures err { OnErr result (self.new ≡ self.old) }
@@ -184,10 +182,7 @@ impl<A: Allocator + Copy> StreamQueue<A> {
     /// Out of memory.
     pub fn peek(&self, alloc: Global, n: usize, wants_cred: bool) -> Result<Received, AllocError>
         requires { 0 < length self.now }
-        ensures bytes { IfOk result (λ r. OnStreamFront wants_cred n self.now (λ f. r.bytes ≡ f.bytes)) }
-        ensures rights { IfOk result (λ r. OnStreamFront wants_cred n self.now (λ f. r.rights ≡ f.rights)) }
-        ensures origin { IfOk result (λ r. OnStreamFront wants_cred n self.now (λ f. r.origin ≡ f.origin)) }
-        ensures cred { IfOk result (λ r. OnStreamFront wants_cred n self.now (λ f. r.cred ≡ f.cred)) }
+        ensures shows { IfOk result (λ r. OnStreamFront wants_cred n self.now (λ f. Shows f r)) }
         ensures some_origin { IfOk result (λ r. IsSome r.origin ↔ (0 < length r.rights)) }
     {
         let reach = reach_of(&self.marks, n, wants_cred);

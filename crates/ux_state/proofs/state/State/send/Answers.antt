@@ -9,7 +9,7 @@ use Rattle.ux_state.proofs.state.State.send.Goals as goal
 
 pub invariant_of-self : goal.invariant_of-self
 invariant_of-self g c =
-    same_kept _ _ _ _ _ _ _ c.self.invariant c.self.inside.slots refl (λ k. refl) (λ u. ap (λ fs. flights_of fs u) (on_err c.count_in.result c.count_in.ensures.err (sym c.if-is_err.ensures.value)))
+    same_kept _ _ _ _ _ _ _ c.self.invariant c.self.inside.descriptions refl (λ k. refl) (λ u. ap (λ fs. flights_of fs u) (on_err c.count_in.result c.count_in.ensures.err (sym c.if-is_err.ensures.value)))
 
 pub invariant_of-self-in-Ok : goal.invariant_of-self-in-Ok
 invariant_of-self-in-Ok g c =

@@ -30,7 +30,7 @@ impl<O: FileObject> State<O> {
         ensures { self.new ≡ with_socket_by self.old id (with_listening (backlog_of backlog) cred) }
     {
         let alloc = *self.processes.allocator();
-        start_listening(&mut self.slots, id, alloc, backlog, cred);
+        start_listening(&mut self.descriptions, id, alloc, backlog, cred);
     }
 
     /// Connects a socket, whose process has these credentials, to a new end, which waits at a listener
@@ -53,13 +53,13 @@ impl<O: FileObject> State<O> {
         ensures err { OnErr result (self.new ≡ self.old) }
     {
         let (end, listener_cred) = self.new_end(client, listener, cred)?;
-        if self.slots.reserve(1).is_err() {
+        if self.descriptions.reserve(1).is_err() {
             return Err(PushError::NoMemory);
         }
-        let id = self.slots.next_id();
-        push_pending(&mut self.slots, listener, id)?;
-        let _id = self.slots.insert_reserved(end);
-        tie(&mut self.slots, client, id, listener_cred);
+        let id = self.descriptions.next_id();
+        push_pending(&mut self.descriptions, listener, id)?;
+        let _id = self.descriptions.insert_reserved(end);
+        tie(&mut self.descriptions, client, id, listener_cred);
         Ok(())
     }
 
@@ -174,7 +174,7 @@ impl<O: FileObject> State<O> {
     fn set_accepted(&mut self, id: DescriptionId, flags: OpenFlags)
         ensures { self.new ≡ with_description_by self.old id (accepted_with flags) }
     {
-        if let Some(x) = self.slots.get_mut(id) {
+        if let Some(x) = self.descriptions.get_mut(id) {
             x.set_accepted(flags);
         }
     }
@@ -183,8 +183,8 @@ impl<O: FileObject> State<O> {
     fn pop_pending(&mut self, id: DescriptionId)
         ensures { self.new ≡ with_socket_by self.old id without_first_end }
     {
-        if let Some(end) = pop_first(&mut self.slots, id) {
-            self.slots.release_ref(end);
+        if let Some(end) = pop_first(&mut self.descriptions, id) {
+            self.descriptions.release_ref(end);
         }
     }
 }

@@ -8,11 +8,11 @@ use ux_object::{FileObject, ObjError};
 
 /// A place for a file object, which is open while it is there. Contracts see its view.
 #[derive(Drop)]
-pub(crate) struct Slot<O: FileObject> {
+pub(crate) struct ObjectPlace<O: FileObject> {
     object: Option<O>,
 }
 
-impl<O: FileObject> Model for Slot<O> {
+impl<O: FileObject> Model for ObjectPlace<O> {
     ghost use Rattle.std.specs.Prelude.{Option, option_map};
     ghost use Rattle.ux_model.specs.Object.{View};
     ghost use Rattle.ux_state.specs.ObjectCalls.{IsOpen};
@@ -24,13 +24,13 @@ impl<O: FileObject> Model for Slot<O> {
     ghost invariant = { λ s. IsOpen (option_map O.view s.object) };
 }
 
-impl<O: FileObject> Slot<O> {
+impl<O: FileObject> ObjectPlace<O> {
     /// A place that holds this object.
-    pub(crate) fn new(object: O) -> Slot<O>
+    pub(crate) fn new(object: O) -> ObjectPlace<O>
         requires { (O.view object).opened ≡ true }
         ensures { result ≡ Some (O.view object) }
     {
-        Slot {
+        ObjectPlace {
             object: Some(object),
         }
     }

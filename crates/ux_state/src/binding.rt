@@ -1,46 +1,21 @@
-//! Paths and names of the abstract namespace, and what they lead to.
-ghost use Rattle.std.specs.Prelude.{◌≡◌, ◌≤◌, ◌<◌, ◌↔◌, ℕ, None, Ok, Err, IsSome, IsSomeAnd, IfOk, OnOk, OnErr, MatchResult, length, map, option_map};
+//! Names that sockets get, and names that go.
+ghost use Rattle.std.specs.Prelude.{◌≡◌, ◌≤◌, ◌<◌, ◌↔◌, ℕ, None, Err, IsSome, IsSomeAnd, IfOk, OnOk, OnErr, length, map, option_map};
 ghost use Rattle.ux_model.specs.Places.{changed_place};
 ghost use Rattle.ux_model.specs.Names.{named, without_name, free_name};
 ghost use Rattle.ux_model.specs.Description.{changed};
-ghost use Rattle.ux_model.specs.Binding.{same_kind, socket_of_kind, socket_of_target, look_up_path, look_up_abstract, look_up, with_name, with_path, with_abstract};
+ghost use Rattle.ux_model.specs.Binding.{with_name, with_path, with_abstract};
 ghost use Rattle.ux_model.specs.Owning.{target_name, without_shown};
 ghost use Rattle.ux_names.specs.Targets.{target_of};
 ghost use Rattle.ux_state.specs.Keeping.{links_of, link_at, LosesLink};
 ghost use Rattle.ux_state.specs.Moves.{IsUnnamedAt};
 
-use crate::finding::FoundSocket;
 use crate::state::State;
 use std::alloc::AllocError;
-use ux_desc::{Description, Socket};
+use ux_desc::Description;
 use ux_names::{AbstractNames, AutobindError, BindError, PathTarget};
 use ux_object::FileObject;
 use ux_slots::Slots;
-use ux_types::{Addr, DescriptionId, Errno, Name, SockType};
-
-impl<O: FileObject> State<O> {
-    /// What a path names, if it is there.
-    pub fn path(&self, name: &Name) -> Option<PathTarget>
-        ensures { option_map target_of result ≡ named name.now self.now.paths }
-    {
-        self.paths.find(name)
-    }
-
-    /// The description whose socket a name of the abstract namespace leads to, if it is there.
-    pub fn abstract_name(&self, name: &Name) -> Option<DescriptionId>
-        ensures { result ≡ named name.now self.now.abstract_names }
-    {
-        self.abstract_names.find(name)
-    }
-
-    /// Takes away a path (unlink(2)).
-    pub fn unlink(&mut self, name: &Name)
-        ensures { self.new ≡ record self.old { paths = without_name name.now self.old.paths } }
-    {
-        let target = self.paths.unlink(name);
-        unlink_target(&mut self.links, target);
-    }
-}
+use ux_types::{Addr, DescriptionId, Name};
 
 impl<O: FileObject> State<O> {
     /// Gives a socket without a name a path (bind(2)). The path outlives the socket.
@@ -60,7 +35,7 @@ impl<O: FileObject> State<O> {
         }
         let (listed, shown) = two_copies(name)?;
         self.paths.bind(listed, PathTarget::Socket(id))?;
-        set_name(&mut self.slots, id, Addr::Path(shown));
+        set_name(&mut self.descriptions, id, Addr::Path(shown));
         Ok(())
     }
 
@@ -80,7 +55,7 @@ impl<O: FileObject> State<O> {
         }
         let (listed, shown) = two_copies(name)?;
         self.abstract_names.bind(listed, id)?;
-        set_name(&mut self.slots, id, Addr::Abstract(shown));
+        set_name(&mut self.descriptions, id, Addr::Abstract(shown));
         Ok(())
     }
 
@@ -97,68 +72,16 @@ impl<O: FileObject> State<O> {
         ensures err { OnErr result (self.new ≡ self.old) }
     {
         let name = self.abstract_names.autobind(id)?;
-        set_name(&mut self.slots, id, Addr::Abstract(name));
+        set_name(&mut self.descriptions, id, Addr::Abstract(name));
         Ok(())
     }
 
-    /// The socket of this type that an address leads to, and the handle of its description.
-    ///
-    /// # Errors
-    ///
-    /// EINVAL for the unnamed address, ENOENT for a path that isn't there, ECONNREFUSED for a name that isn't
-    /// there, a path of a file object and a socket that is gone, EPROTOTYPE for a socket of another type.
-    pub fn socket_named(&self, kind: SockType, addr: &Addr) -> Result<FoundSocket<'_>, Errno>
-        ensures { MatchResult result (λ r. look_up self.now kind addr.now ≡ Ok (r.id, r.socket.now)) (λ e. look_up self.now kind addr.now ≡ Err e) }
+    /// Takes away a path (unlink(2)).
+    pub fn unlink(&mut self, name: &Name)
+        ensures { self.new ≡ record self.old { paths = without_name name.now self.old.paths } }
     {
-        match addr {
-            Addr::Unnamed => Err(Errno::EINVAL),
-            Addr::Path(name) => self.socket_of_path(kind, name),
-            Addr::Abstract(name) => self.socket_of_name(kind, name),
-        }
-    }
-
-    /// The socket of this type that a path leads to.
-    fn socket_of_path(&self, kind: SockType, name: &Name) -> Result<FoundSocket<'_>, Errno>
-        ensures { MatchResult result (λ r. look_up_path self.now kind name.now ≡ Ok (r.id, r.socket.now)) (λ e. look_up_path self.now kind name.now ≡ Err e) }
-    {
-        match self.path(name) {
-            Some(target) => self.socket_of_target(kind, target),
-            None => Err(Errno::ENOENT),
-        }
-    }
-
-    /// The socket of this type that a path with this target leads to.
-    fn socket_of_target(&self, kind: SockType, target: PathTarget) -> Result<FoundSocket<'_>, Errno>
-        ensures { MatchResult result (λ r. socket_of_target self.now kind (target_of target) ≡ Ok (r.id, r.socket.now)) (λ e. socket_of_target self.now kind (target_of target) ≡ Err e) }
-    {
-        match target {
-            PathTarget::Socket(id) => self.socket_of_kind(kind, id),
-            PathTarget::File(_) => Err(Errno::ECONNREFUSED),
-        }
-    }
-
-    /// The socket of this type that a name of the abstract namespace leads to.
-    fn socket_of_name(&self, kind: SockType, name: &Name) -> Result<FoundSocket<'_>, Errno>
-        ensures { MatchResult result (λ r. look_up_abstract self.now kind name.now ≡ Ok (r.id, r.socket.now)) (λ e. look_up_abstract self.now kind name.now ≡ Err e) }
-    {
-        match self.abstract_name(name) {
-            Some(id) => self.socket_of_kind(kind, id),
-            None => Err(Errno::ECONNREFUSED),
-        }
-    }
-
-    /// The socket of a description, while it is there, if it is of this type.
-    fn socket_of_kind(&self, kind: SockType, id: DescriptionId) -> Result<FoundSocket<'_>, Errno>
-        ensures { MatchResult result (λ r. socket_of_kind self.now kind id ≡ Ok (r.id, r.socket.now)) (λ e. socket_of_kind self.now kind id ≡ Err e) }
-    {
-        let Some(socket) = self.socket(id) else {
-            return Err(Errno::ECONNREFUSED);
-        };
-        if same_kind(kind, socket.kind()) {
-            Ok(FoundSocket { id, socket })
-        } else {
-            Err(Errno::EPROTOTYPE)
-        }
+        let target = self.paths.unlink(name);
+        unlink_target(&mut self.links, target);
     }
 }
 
@@ -211,17 +134,5 @@ fn set_name(slots: &mut Slots<Description>, id: DescriptionId, name: Addr)
 {
     if let Some(x) = slots.get_mut(id) {
         x.set_name(name);
-    }
-}
-
-/// Whether these are one type.
-fn same_kind(a: SockType, b: SockType) -> bool
-    ensures { result ≡ same_kind a b }
-{
-    match (a, b) {
-        (SockType::Stream, SockType::Stream) => true,
-        (SockType::Dgram, SockType::Dgram) => true,
-        (SockType::Seq, SockType::Seq) => true,
-        _ => false,
     }
 }

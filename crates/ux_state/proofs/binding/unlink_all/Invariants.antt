@@ -1,5 +1,5 @@
 use Rattle.std.proofs.Common.{◌≡◌, ◌++◌, map, take, drop}
-use Rattle.ux_state.proofs.naming.unlink_all.Given as goal
+use Rattle.ux_state.proofs.binding.unlink_all.Given as goal
 
 -- those before the place are 0
 abbrev pub invariant-loop-count : goal.invariant-loop-count
