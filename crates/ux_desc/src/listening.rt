@@ -37,7 +37,7 @@ impl Socket {
 
     /// The ends that wait for accept(2), while it listens.
     pub fn backlog(&self) -> Option<&Backlog>
-        ensures { MatchOption result (listener_of self.now.phase ≡ None) (λ b. option_map (λ kept. kept.0) (listener_of self.now.phase) ≡ Some b.now) }
+        ensures { MatchOption result (listener_of self.now.phase ≡ None) (λ b. option_map (λ kept. kept.backlog) (listener_of self.now.phase) ≡ Some b.now) }
     {
         match &self.phase {
             Phase::Listening(listener) => Some(&listener.backlog),
@@ -47,7 +47,7 @@ impl Socket {
 
     /// The credentials of the process that called listen(2), while it listens.
     pub fn listener_cred(&self) -> Option<Cred>
-        ensures { result ≡ option_map (λ kept. kept.1) (listener_of self.now.phase) }
+        ensures { result ≡ option_map (λ kept. kept.cred) (listener_of self.now.phase) }
     {
         match &self.phase {
             Phase::Listening(listener) => Some(listener.cred),
@@ -108,7 +108,7 @@ impl Socket {
     pub fn push_pending(&mut self, end: DescriptionId) -> Result<(), PushError>
         requires { IsSome (listener_of self.old.phase) }
         ensures ok { OnOk result (self.new ≡ awaiting end self.old) }
-        ensures full { (result ≡ Err PushError.Full) ↔ IsSomeAnd (listener_of self.old.phase) (λ kept. kept.0.limit ≤ length kept.0.pending) }
+        ensures full { (result ≡ Err PushError.Full) ↔ IsSomeAnd (listener_of self.old.phase) (λ kept. kept.backlog.limit ≤ length kept.backlog.pending) }
         ensures err { OnErr result (self.new ≡ self.old) }
     {
         match &mut self.phase {

@@ -52,7 +52,7 @@ impl Description {
         requires { IsSomeAnd (socket_of self.old.target) (λ s. IsSome (listener_of s.phase)) }
         ensures ok { OnOk result (self.new ≡ changed (awaiting end) self.old) }
         ensures full { (result ≡ Err PushError.Full) ↔
-            IsSomeAnd (socket_of self.old.target) (λ s. IsSomeAnd (listener_of s.phase) (λ kept. kept.0.limit ≤ length kept.0.pending)) }
+            IsSomeAnd (socket_of self.old.target) (λ s. IsSomeAnd (listener_of s.phase) (λ kept. kept.backlog.limit ≤ length kept.backlog.pending)) }
         ensures err { OnErr result (self.new ≡ self.old) }
     {
         match &mut self.target {

@@ -9,7 +9,6 @@ use Rattle.ux_model.specs.Limits.{autobind_names}
 use Rattle.ux_model.specs.Names.{PathTarget, bound, named, is_unnamed_addr, autobind_name, lowest_from, free_name}
 use Rattle.ux_model.specs.Places.{place, changed_place}
 use Rattle.ux_model.specs.Object.{View}
-use Rattle.ux_model.specs.Backlog.{Backlog}
 use Rattle.ux_model.specs.Socket.{Socket, Phase, idle, listening, connected, associated, peer_of, pending_ends, awaiting, phase_with_pending}
 use Rattle.ux_model.specs.Description.{Description, Target, to_object, to_socket, socket_of, socket_in, changed, changed_target}
 use Rattle.ux_model.specs.Process.{Process}
@@ -21,7 +20,7 @@ use Rattle.ux_model.specs.Peers.{target_peer, Paired}
 use Rattle.ux_model.specs.Flight.{flying_at, flying_in, in_flight}
 use Rattle.ux_model.specs.Owning.{target_name, name_in}
 use Rattle.ux_model.specs.Binding.{with_name}
-use Rattle.ux_model.specs.Connecting.{listener_of, with_listening, server_end, no_open_flags, tied, with_connection}
+use Rattle.ux_model.specs.Connecting.{Listener, listener_of, with_listening, server_end, no_open_flags, tied, with_connection}
 use Rattle.ux_model.specs.Accepting.{accepted_with, as_accepted, without_first_end}
 use Rattle.ux_model.proofs.ChangedPlaces.{place-changed, length-changed, sum_by-changed}
 use Rattle.ux_model.proofs.Flying.{flying_at-changed, flying_changed}
@@ -115,7 +114,7 @@ place_left k (Some D) = by_target D.target
     by_target (to_socket s) = let a = phase_left k s.phase in omega (arith, a)
 
 -- a further end counts at a listener
-awaiting_refs : (k e : ℕ) (s : Socket) (kept : Backlog × Cred) → listener_of s.phase ≡ Some kept → socket_refs k (awaiting e s) ≡ socket_refs k s + one e k
+awaiting_refs : (k e : ℕ) (s : Socket) (kept : Listener) → listener_of s.phase ≡ Some kept → socket_refs k (awaiting e s) ≡ socket_refs k s + one e k
 awaiting_refs k e s kept = by_phase s.phase
   where
     by_phase : (p : Phase) → listener_of p ≡ Some kept → queue_refs k s.queue + times k (pending_ends (phase_with_pending e p)) ≡ queue_refs k s.queue + times k (pending_ends p) + one e k
@@ -190,10 +189,10 @@ places_tied hs rs us ks ms c l i lcred kcred E F r last u k m e creds =
     m ∙ ap (λ ds. changed_place ds c (changed (tied i lcred))) (k ∙ ap (λ ds. ds ++ Some E ∷ []) u)
     ∙ (λ j. changed_place (changed_place (r j) l (changed (awaiting (number j))) ++ Some (e j) ∷ []) c (changed (tied (number j) (creds j))))
 
-on_both : (T : State) (l : ℕ) (P Q R : Socket → Backlog × Cred → Type 0) → ((s : Socket) (kept : Backlog × Cred) → P s kept → Q s kept → R s kept) → OnListener T l P → OnListener T l Q → OnListener T l R
+on_both : (T : State) (l : ℕ) (P Q R : Socket → Listener → Type 0) → ((s : Socket) (kept : Listener) → P s kept → Q s kept → R s kept) → OnListener T l P → OnListener T l Q → OnListener T l R
 on_both T l P Q R both = go (socket_at T l)
   where
-    at : (s : Socket) (o : Option (Backlog × Cred)) → IsSomeAnd o (P s) → IsSomeAnd o (Q s) → IsSomeAnd o (R s)
+    at : (s : Socket) (o : Option Listener) → IsSomeAnd o (P s) → IsSomeAnd o (Q s) → IsSomeAnd o (R s)
     at s None p q = absurd p
     at s (Some kept) p q = both s kept p q
 
@@ -272,7 +271,7 @@ module _ {fs : ℕ → ℕ} (xs : List Openings) (ls : List ℕ) (H : Held Descr
       }
 
   -- one that waits at listener l is connected to c
-  module _ (c l : ℕ) (cred lcred : Cred) (s t : Socket) (kept : Backlog × Cred) (client : socket_in (place H.places c) ≡ Some s) (no_peer : peer_of s.phase ≡ None) (no_listener : listener_of s.phase ≡ None)
+  module _ (c l : ℕ) (cred lcred : Cred) (s t : Socket) (kept : Listener) (client : socket_in (place H.places c) ≡ Some s) (no_peer : peer_of s.phase ≡ None) (no_listener : listener_of s.phase ≡ None)
       (listener : socket_in (place H.places l) ≡ Some t) (listens : listener_of t.phase ≡ Some kept) where
     abbrev e : ℕ
     e = length H.places
@@ -375,14 +374,14 @@ module _ {fs : ℕ → ℕ} (xs : List Openings) (ls : List ℕ) (H : Held Descr
 
 -- the state that a connect leaves
 pub connection_made : (V T : State) (R P K M : Held Description) (c l i : ℕ) (cred lcred : Cred) (E : Description) → V ≡ T →
-    OnListener T l (λ t kept. E ≡ socket_description no_open_flags (server_end t c cred)) → OnListener T l (λ t kept. lcred ≡ kept.1) → R.places ≡ V.descriptions → i ≡ length R.places →
+    OnListener T l (λ t kept. E ≡ socket_description no_open_flags (server_end t c cred)) → OnListener T l (λ t kept. lcred ≡ kept.cred) → R.places ≡ V.descriptions → i ≡ length R.places →
     P.places ≡ changed_place R.places l (changed (awaiting i)) → Adds E P K → M.places ≡ changed_place K.places c (changed (tied i lcred)) →
-    OnListener T l (λ t kept. record V { descriptions = M.places } ≡ with_connection T c cred l t kept.1)
+    OnListener T l (λ t kept. record V { descriptions = M.places } ≡ with_connection T c cred l t kept.cred)
 connection_made V T R P K M c l i cred lcred E same end creds r_places last p_places adds m_places =
-    on_both T l (λ t kept. E ≡ socket_description no_open_flags (server_end t c cred)) (λ t kept. lcred ≡ kept.1) (λ t kept. record V { descriptions = M.places } ≡ with_connection T c cred l t kept.1)
+    on_both T l (λ t kept. E ≡ socket_description no_open_flags (server_end t c cred)) (λ t kept. lcred ≡ kept.cred) (λ t kept. record V { descriptions = M.places } ≡ with_connection T c cred l t kept.cred)
     (λ t kept is_end is_cred.
-    (λ j. record V { descriptions = places_tied V.descriptions R.places P.places K.places M.places c l i lcred kept.1 E _ r_places last p_places adds.places m_places is_end is_cred j })
-    ∙ ap (λ U. with_connection U c cred l t kept.1) same) end creds
+    (λ j. record V { descriptions = places_tied V.descriptions R.places P.places K.places M.places c l i lcred kept.cred E _ r_places last p_places adds.places m_places is_end is_cred j })
+    ∙ ap (λ U. with_connection U c cred l t kept.cred) same) end creds
 
 -- one description changed
 pub one_changed : (V T : State) (d : ℕ) (change : Description → Description) (ds : List (Option Description)) → V ≡ T → ds ≡ changed_place V.descriptions d change →

@@ -1,10 +1,8 @@
 -- What the moves of a state ask for, and changes of one description.
 use Rattle.std.specs.Prelude.{◌≡◌, ℕ, ◌<◌, true, false, IsSome, IsSomeAnd, List, Option, is_some, option_and_then, slice_get}
 use Rattle.ux_model.specs.Names.{is_unnamed_addr}
-use Rattle.ux_model.specs.Backlog.{Backlog}
 use Rattle.ux_model.specs.Socket.{Socket, peer_of, pending_ends}
-use Rattle.ux_model.specs.Types.{Cred}
-use Rattle.ux_model.specs.Connecting.{listener_of}
+use Rattle.ux_model.specs.Connecting.{Listener, listener_of}
 use Rattle.ux_model.specs.Description.{Description}
 use Rattle.ux_model.specs.State.{State, socket_at}
 use Rattle.ux_model.specs.References.{times, refs}
@@ -39,7 +37,7 @@ abbrev pub IsListenerAt : State → ℕ → Type 0
 IsListenerAt S d = IsSomeAnd (socket_at S d) (λ s. is_some (listener_of s.phase) ≡ true)
 
 -- a socket with this number listens, and this is so of it and of what it keeps
-abbrev pub OnListener : State → ℕ → (Socket → Backlog × Cred → Type 0) → Type 0
+abbrev pub OnListener : State → ℕ → (Socket → Listener → Type 0) → Type 0
 OnListener S d P = IsSomeAnd (socket_at S d) (λ s. IsSomeAnd (listener_of s.phase) (P s))
 
 -- the oldest end that waits at the socket with this number

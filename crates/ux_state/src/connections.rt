@@ -48,8 +48,8 @@ impl<O: FileObject> State<O> {
         requires client { IsUnconnectedAt self.old client }
         requires no_listener { IsNoListenerAt self.old client }
         requires listener { IsListenerAt self.old listener }
-        ensures ok { OnOk result (OnListener self.old listener (λ s kept. self.new ≡ with_connection self.old client cred listener s kept.1)) }
-        ensures full { (result ≡ Err PushError.Full) ↔ OnListener self.old listener (λ s kept. kept.0.limit ≤ length kept.0.pending) }
+        ensures ok { OnOk result (OnListener self.old listener (λ s kept. self.new ≡ with_connection self.old client cred listener s kept.cred)) }
+        ensures full { (result ≡ Err PushError.Full) ↔ OnListener self.old listener (λ s kept. kept.backlog.limit ≤ length kept.backlog.pending) }
         ensures err { OnErr result (self.new ≡ self.old) }
     {
         let (end, listener_cred) = self.new_end(client, listener, cred)?;
@@ -150,8 +150,8 @@ impl<O: FileObject> State<O> {
     ) -> Result<(Description, Cred), PushError>
         requires { IsListenerAt self.now listener }
         ensures end { IfOk result (λ r. OnListener self.now listener (λ s kept. r.0 ≡ socket_description no_open_flags (server_end s client cred))) }
-        ensures cred { IfOk result (λ r. OnListener self.now listener (λ s kept. r.1 ≡ kept.1)) }
-        ensures full { (result ≡ Err PushError.Full) ↔ OnListener self.now listener (λ s kept. kept.0.limit ≤ length kept.0.pending) }
+        ensures cred { IfOk result (λ r. OnListener self.now listener (λ s kept. r.1 ≡ kept.cred)) }
+        ensures full { (result ≡ Err PushError.Full) ↔ OnListener self.now listener (λ s kept. kept.backlog.limit ≤ length kept.backlog.pending) }
     {
         let Some(socket) = self.socket(listener) else {
             unreachable!();
@@ -214,7 +214,7 @@ fn push_pending(
     requires { IsSomeAnd (socket_in (place slots.old.places id)) (λ s. IsSome (listener_of s.phase)) }
     ensures places { OnOk result (slots.new.places ≡ changed_place slots.old.places id (changed (awaiting end))) }
     ensures full { (result ≡ Err PushError.Full) ↔
-        IsSomeAnd (socket_in (place slots.old.places id)) (λ s. IsSomeAnd (listener_of s.phase) (λ kept. kept.0.limit ≤ length kept.0.pending)) }
+        IsSomeAnd (socket_in (place slots.old.places id)) (λ s. IsSomeAnd (listener_of s.phase) (λ kept. kept.backlog.limit ≤ length kept.backlog.pending)) }
     ensures err { OnErr result (slots.new.places ≡ slots.old.places) }
     ensures counts { slots.new.counts ≡ slots.old.counts }
     ensures room { slots.new.room ≡ slots.old.room }
