@@ -1,15 +1,15 @@
 //! What seats ask of a book, whether it keeps its entries or not.
-ghost use Rattle.std.specs.Prelude.{◌≡◌, ◌+◌, ◌≤◌, [], true, false, not, length, map, sum_by, IfOk, IfErr, OnOk, OnErr, IfSome, IfNone, OnSome, IsTrue, if◌then◌else◌};
+ghost use Rattle.std.specs.Prelude.{◌≡◌, ◌+◌, ◌≤◌, [], true, false, length, map, sum_by, IfOk, IfErr, OnOk, OnErr, IfSome, IfNone, IsTrue, if◌then◌else◌};
 ghost use Rattle.std.specs.List.{AllByRecursion};
 ghost use Rattle.ux_model.specs.Limits.{made_limit};
 ghost use Rattle.ux_model.specs.State.{is_live};
-ghost use Rattle.ux_model.specs.Waiting.{should_wait};
 ghost use Rattle.ux_model.specs.History.{calls_of, has_live, IsLegal};
 ghost use Rattle.ux_model.specs.HandingOut.{IsHandedOut};
-ghost use Rattle.ux_history.specs.Books.{state_of, ends_of, has_own_call, Adds, Appends, MustWait};
-ghost use Rattle.ux_history.specs.Shares.{knows, once_more, call_by, child_by, processes, once_each};
-ghost use Rattle.ux_history.specs.Receipts.{next_slip, IsSlip};
-ghost use Rattle.ux_history.specs.Faults.{is_stranger, is_alive, is_deadlock};
+ghost use Rattle.ux_history.specs.Books.{state_of, ends_of, has_own_call, Appends};
+ghost use Rattle.ux_history.specs.Shares.{knows, once_more, child_by, processes, once_each};
+ghost use Rattle.ux_history.specs.Receipts.{IsSlip};
+ghost use Rattle.ux_history.specs.Faults.{is_alive, is_deadlock};
+ghost use Rattle.ux_history.specs.Recording.{IsMade, Waits, IsRefused};
 
 use crate::account::Account;
 use crate::book::Book;
@@ -99,16 +99,9 @@ pub trait CallBook<W: BookName, O: FileObject>: Drop {
     ) -> Result<(Reply, Self::Slip), CallFault>
         requires call { has_own_call request.now ≡ false }
         requires empty { retired.old ≡ [] }
-        ensures known { OnOk result (knows (held self.old) share.old ≡ true) }
-        ensures stranger { IfErr result (λ f. is_stranger f ≡ not (knows (held self.old) share.old)) }
-        ensures goes_on { IfErr result (λ f. is_deadlock f ≡ false) }
-        ensures entry { IfOk result (λ r. Adds (held self.old) (held self.new) (call_by (held self.old) share.old request.now r.0 (map (λ o. o.0) retired.new))) }
-        ensures slip { IfOk result (λ r. Self.Slip.slip r.1 ≡ next_slip (held self.old) share.old request.now r.0 false) }
-        ensures share { OnOk result (share.new ≡ once_more share.old) }
-        ensures handed_out { OnOk result (AllByRecursion (IsHandedOut (state_of (held self.old))) retired.new) }
-        ensures same { OnErr result (held self.new ≡ held self.old) }
-        ensures kept { OnErr result (share.new ≡ share.old) }
-        ensures none { OnErr result (retired.new ≡ []) };
+        ensures made { IfOk result (λ r. IsMade (held self.old) (held self.new) share.old share.new request.now r.0 false (Self.Slip.slip r.1) retired.new) }
+        ensures refused { IfErr result (λ f. IsRefused (held self.old) (held self.new) share.old share.new f retired.new) }
+        ensures goes_on { IfErr result (λ f. is_deadlock f ≡ false) };
 
     /// A request with what its call needs that doesn't depend on the book.
     ///
@@ -132,17 +125,10 @@ pub trait CallBook<W: BookName, O: FileObject>: Drop {
     ) -> Result<Self::Kept, (CallFault, Self::Prepared)>
         requires call { has_own_call (Self.Prepared.asked prepared) ≡ false }
         requires empty { retired.old ≡ [] }
-        ensures known { OnOk result (knows (held self.old) share.old ≡ true) }
-        ensures stranger { IfErr result (λ f. is_stranger f.0 ≡ not (knows (held self.old) share.old)) }
+        ensures made { IfOk result (λ r. IsMade (held self.old) (held self.new) share.old share.new (Self.Prepared.asked prepared) (Self.Kept.kept r).call.reply false (Self.Kept.kept r) retired.new) }
+        ensures refused { IfErr result (λ f. IsRefused (held self.old) (held self.new) share.old share.new f.0 retired.new) }
         ensures goes_on { IfErr result (λ f. is_deadlock f.0 ≡ false) }
-        ensures back { IfErr result (λ f. Self.Prepared.asked f.1 ≡ Self.Prepared.asked prepared) }
-        ensures entry { IfOk result (λ r. Adds (held self.old) (held self.new) (call_by (held self.old) share.old (Self.Prepared.asked prepared) (Self.Kept.kept r).call.reply (map (λ o. o.0) retired.new))) }
-        ensures receipt { IfOk result (λ r. Self.Kept.kept r ≡ next_slip (held self.old) share.old (Self.Prepared.asked prepared) (Self.Kept.kept r).call.reply false) }
-        ensures share { OnOk result (share.new ≡ once_more share.old) }
-        ensures handed_out { OnOk result (AllByRecursion (IsHandedOut (state_of (held self.old))) retired.new) }
-        ensures same { OnErr result (held self.new ≡ held self.old) }
-        ensures kept { OnErr result (share.new ≡ share.old) }
-        ensures none { OnErr result (retired.new ≡ []) };
+        ensures back { IfErr result (λ f. Self.Prepared.asked f.1 ≡ Self.Prepared.asked prepared) };
 
     /// As `record`; but where the call may wait, and would have to, the answer is `None`, and book and share
     /// are as before.
@@ -158,21 +144,10 @@ pub trait CallBook<W: BookName, O: FileObject>: Drop {
     ) -> Result<Option<(Reply, Self::Slip)>, CallFault>
         requires call { has_own_call request.now ≡ false }
         requires empty { retired.old ≡ [] }
-        ensures known { OnOk result (knows (held self.old) share.old ≡ true) }
-        ensures stranger { IfErr result (λ f. is_stranger f ≡ not (knows (held self.old) share.old)) }
-        ensures goes_on { IfErr result (λ f. is_deadlock f ≡ false) }
-        ensures entry { IfOk result (λ o. IfSome o (λ r. Adds (held self.old) (held self.new) (call_by (held self.old) share.old request.now r.0 (map (λ o. o.0) retired.new)))) }
-        ensures done { IfOk result (λ o. IfSome o (λ r. should_wait (state_of (held self.old)) share.old.pid.0 request.now r.0 ≡ false)) }
-        ensures slip { IfOk result (λ o. IfSome o (λ r. Self.Slip.slip r.1 ≡ next_slip (held self.old) share.old request.now r.0 true)) }
-        ensures share { IfOk result (λ o. OnSome o (share.new ≡ once_more share.old)) }
-        ensures handed_out { IfOk result (λ o. OnSome o (AllByRecursion (IsHandedOut (state_of (held self.old))) retired.new)) }
-        ensures waits { IfOk result (λ o. IfNone o (MustWait (held self.old) share.old.pid request.now)) }
-        ensures unchanged { IfOk result (λ o. IfNone o (held self.new ≡ held self.old)) }
-        ensures unspent { IfOk result (λ o. IfNone o (share.new ≡ share.old)) }
-        ensures nothing { IfOk result (λ o. IfNone o (retired.new ≡ [])) }
-        ensures same { OnErr result (held self.new ≡ held self.old) }
-        ensures kept { OnErr result (share.new ≡ share.old) }
-        ensures none { OnErr result (retired.new ≡ []) };
+        ensures made { IfOk result (λ o. IfSome o (λ r. IsMade (held self.old) (held self.new) share.old share.new request.now r.0 true (Self.Slip.slip r.1) retired.new)) }
+        ensures waits { IfOk result (λ o. IfNone o (Waits (held self.old) (held self.new) share.old share.new request.now retired.new)) }
+        ensures refused { IfErr result (λ f. IsRefused (held self.old) (held self.new) share.old share.new f retired.new) }
+        ensures goes_on { IfErr result (λ f. is_deadlock f ≡ false) };
 
     /// Makes a process that is a copy of the share's, as one more entry (fork(2)), and gives the new process's
     /// share, which has made no call yet. It is there exactly where the answer is `Child`.
@@ -186,17 +161,10 @@ pub trait CallBook<W: BookName, O: FileObject>: Drop {
         retired: &mut RetiredList<O>,
     ) -> Result<(Reply, Self::Slip, Option<Share<W>>), CallFault>
         requires empty { retired.old ≡ [] }
-        ensures known { OnOk result (knows (held self.old) share.old ≡ true) }
-        ensures stranger { IfErr result (λ f. is_stranger f ≡ not (knows (held self.old) share.old)) }
-        ensures goes_on { IfErr result (λ f. is_deadlock f ≡ false) }
-        ensures entry { IfOk result (λ r. Adds (held self.old) (held self.new) (call_by (held self.old) share.old Request.Fork r.0 (map (λ o. o.0) retired.new))) }
-        ensures slip { IfOk result (λ r. Self.Slip.slip r.1 ≡ next_slip (held self.old) share.old Request.Fork r.0 false) }
+        ensures made { IfOk result (λ r. IsMade (held self.old) (held self.new) share.old share.new Request.Fork r.0 false (Self.Slip.slip r.1) retired.new) }
         ensures child { IfOk result (λ r. r.2 ≡ child_by Request.Fork r.0) }
-        ensures share { OnOk result (share.new ≡ once_more share.old) }
-        ensures handed_out { OnOk result (AllByRecursion (IsHandedOut (state_of (held self.old))) retired.new) }
-        ensures same { OnErr result (held self.new ≡ held self.old) }
-        ensures kept { OnErr result (share.new ≡ share.old) }
-        ensures none { OnErr result (retired.new ≡ []) };
+        ensures refused { IfErr result (λ f. IsRefused (held self.old) (held self.new) share.old share.new f retired.new) }
+        ensures goes_on { IfErr result (λ f. is_deadlock f ≡ false) };
 
     /// Ends the share's process where it is a live one which has made so many calls, and reports whether it was;
     /// the share is then spent. It takes no memory.
