@@ -55,10 +55,10 @@ impl<W: BookName> Drop for Session<W> {
 }
 
 impl<W: BookName> Model for Session<W> {
-    ghost use Rattle.ux_history.specs.Books.{Held};
+    ghost use Rattle.ux_history.specs.Books.{KeptHistory};
     ghost use Rattle.delortxa.specs.Callers.{AreCallers};
 
-    ghost Value = { Held };
+    ghost Value = { KeptHistory };
 
     ghost view = { λ s. s.book };
 

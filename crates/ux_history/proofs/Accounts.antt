@@ -9,7 +9,7 @@ use Rattle.ux_model.specs.History.{is_off, makes_one, replay, IsLegal}
 use Rattle.ux_model.specs.State.{State}
 use Rattle.ux_model.proofs.Induction.{kept_throughout}
 use Rattle.ux_model.proofs.Living.{fork_alone_makes}
-use Rattle.ux_history.specs.Books.{Held, state_of, ends_of, Adds}
+use Rattle.ux_history.specs.Books.{KeptHistory, state_of, ends_of, Adds}
 use Rattle.ux_history.specs.Shares.{Caller, IsBook, fresh, times, once_each, processes}
 use Rattle.ux_history.proofs.Legal.{ends_push}
 
@@ -72,13 +72,13 @@ once_most n cs h = let all = found_once n cs h in let most = found_most n cs in 
 -- ---- a further entry
 
 -- a fork alone makes a process
-pub processes_after : (old new : Held) (e : Entry) → Adds old new e → processes new ≡ processes old + cond {A = ℕ} (makes_one e.request e.reply) 1 0
+pub processes_after : (old new : KeptHistory) (e : Entry) → Adds old new e → processes new ≡ processes old + cond {A = ℕ} (makes_one e.request e.reply) 1 0
 processes_after old new e adds =
-    ap (λ (b : Held). length (state_of b).processes) adds.appended
+    ap (λ (b : KeptHistory). length (state_of b).processes) adds.appended
     ∙ fork_alone_makes (state_of old) (replay old.boot (old.entries ++ e ∷ [])) e.pid.0 (length old.entries) e.request e.reply e.released adds.next.steps
 
 -- a part is there for a process that was made
-pub part_for_child : {old new : Held} {e : Entry} {parts total rest amount count : ℕ} → IsBook old parts total rest amount → Adds old new e → count ≡ processes new → count ≤ 1024 →
+pub part_for_child : {old new : KeptHistory} {e : Entry} {parts total rest amount count : ℕ} → IsBook old parts total rest amount → Adds old new e → count ≡ processes new → count ≤ 1024 →
     cond {A = ℕ} (makes_one e.request e.reply) 1 0 ≤ rest
 part_for_child {old} {new} {e} book adds is most =
     let more = processes_after old new e adds in
@@ -86,14 +86,14 @@ part_for_child {old} {new} {e} book adds is most =
     omega (arith, more, all, is, most)
 
 -- the entry is counted, unless it is the layer's end, and a process that was made has a part
-pub book_after : {old new : Held} {e : Entry} {parts total total' rest rest' amount amount' : ℕ} → IsBook old parts total rest amount → Adds old new e →
+pub book_after : {old new : KeptHistory} {e : Entry} {parts total total' rest rest' amount amount' : ℕ} → IsBook old parts total rest amount → Adds old new e →
     total' ≡ total + cond {A = ℕ} (is_off e.request) 0 1 → rest' + cond {A = ℕ} (makes_one e.request e.reply) 1 0 ≡ rest → amount' ≡ 0 → IsBook new parts total' rest' amount'
 book_after {old} {new} {e} {parts} {total} {total'} {rest} {rest'} {amount} {amount'} book adds counted given none =
     let more = processes_after old new e adds in
     let all = book.rest in
     let before = book.counted in
-    let longer : length new.entries ≡ length old.entries + 1 = ap (λ (b : Held). length b.entries) adds.appended ∙ length-append old.entries (e ∷ []) in
-    let ends : ends_of new.entries ≡ ends_of old.entries + cond {A = ℕ} (is_off e.request) 1 0 = ap (λ (b : Held). ends_of b.entries) adds.appended ∙ ends_push old.entries e in
+    let longer : length new.entries ≡ length old.entries + 1 = ap (λ (b : KeptHistory). length b.entries) adds.appended ∙ length-append old.entries (e ∷ []) in
+    let ends : ends_of new.entries ≡ ends_of old.entries + cond {A = ℕ} (is_off e.request) 1 0 = ap (λ (b : KeptHistory). ends_of b.entries) adds.appended ∙ ends_push old.entries e in
     let either = counted_or_end (is_off e.request) in
     record {
       whole = book.whole;
@@ -123,7 +123,7 @@ once_each_front m (suc n) cs few all =
     (eqb_tells m (suc n))
 
 -- the shares of all processes are those of the ones at the start, too
-pub first_each : (boot : State) (book : Held) (cs : List Caller) → book.boot ≡ boot → IsLegal boot book.entries → once_each (processes book) cs ≡ true → once_each (length boot.processes) cs ≡ true
+pub first_each : (boot : State) (book : KeptHistory) (cs : List Caller) → book.boot ≡ boot → IsLegal boot book.entries → once_each (processes book) cs ≡ true → once_each (length boot.processes) cs ≡ true
 first_each boot book cs begins legal all =
     once_each_front (length boot.processes) (processes book) cs
     (subst (λ (S : State). length boot.processes ≤ length (replay S book.entries).processes) (sym begins) (boot_within boot book.entries legal)) all

@@ -6,13 +6,13 @@ use Rattle.ux_model.specs.Object.{View}
 use Rattle.ux_model.specs.Waiting.{should_wait}
 use Rattle.ux_model.specs.HandingOut.{IsHandedOut}
 use Rattle.ux_history.specs.declared.fault.CallFault.{CallFault}
-use Rattle.ux_history.specs.Books.{Held, state_of, Adds, MustWait}
+use Rattle.ux_history.specs.Books.{KeptHistory, state_of, Adds, MustWait}
 use Rattle.ux_history.specs.Shares.{Caller, knows, once_more, call_by}
 use Rattle.ux_history.specs.Receipts.{Slip, next_slip}
 use Rattle.ux_history.specs.Faults.{is_stranger}
 
 -- The caller, a live process with so many calls before, made this one and got this reply: that is one more entry of the book, for which the slip is, and these file objects went with it. Where the call was tried, it isn't one that should have waited.
-pub record IsMade (old new : Held) (before after : Caller) (request : Request) (reply : Reply) (tried : Bool) (slip : Slip) (retired : List (ℕ × Option View)) : Type 0 where
+pub record IsMade (old new : KeptHistory) (before after : Caller) (request : Request) (reply : Reply) (tried : Bool) (slip : Slip) (retired : List (ℕ × Option View)) : Type 0 where
   pub known : knows old before ≡ true
   pub entry : Adds old new (call_by old before request reply (map (λ o. o.0) retired))
   pub done : tried ≡ true → should_wait (state_of old) before.pid.0 request reply ≡ false
@@ -21,7 +21,7 @@ pub record IsMade (old new : Held) (before after : Caller) (request : Request) (
   pub handed_out : AllByRecursion (IsHandedOut (state_of old)) retired
 
 -- The caller, a live process with so many calls before, would have to wait: nothing has changed.
-pub record Waits (old new : Held) (before after : Caller) (request : Request) (retired : List (ℕ × Option View)) : Type 0 where
+pub record Waits (old new : KeptHistory) (before after : Caller) (request : Request) (retired : List (ℕ × Option View)) : Type 0 where
   pub known : knows old before ≡ true
   pub waits : MustWait old before.pid request
   pub same : new ≡ old
@@ -29,7 +29,7 @@ pub record Waits (old new : Held) (before after : Caller) (request : Request) (r
   pub none : retired ≡ []
 
 -- The call is refused, as a stranger's exactly where the caller isn't a live process with so many calls before: nothing has changed.
-pub record IsRefused (old new : Held) (before after : Caller) (fault : CallFault) (retired : List (ℕ × Option View)) : Type 0 where
+pub record IsRefused (old new : KeptHistory) (before after : Caller) (fault : CallFault) (retired : List (ℕ × Option View)) : Type 0 where
   pub stranger : is_stranger fault ≡ not (knows old before)
   pub same : new ≡ old
   pub kept : after ≡ before

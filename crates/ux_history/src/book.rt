@@ -11,14 +11,14 @@ ghost use Rattle.ux_model.specs.History.{makes_one};
 ghost use Rattle.ux_history.specs.Books.{state_of, ends_of, is_last, has_own_call, Appends};
 ghost use Rattle.ux_history.specs.Shares.{knows, once_more, fresh, child_by, processes, once_each};
 ghost use Rattle.ux_history.specs.Receipts.{call_of};
-ghost use Rattle.ux_history.specs.Telling.{AllStand};
+ghost use Rattle.ux_history.specs.SettlingSlips.{AllStand};
 ghost use Rattle.ux_history.specs.Faults.{is_stranger, is_alive};
 ghost use Rattle.ux_history.specs.Recording.{IsMade, Waits, IsRefused};
 
 use crate::account::Account;
 use crate::fault::{CallFault, NoMemory, OffFault};
 use crate::log::Log;
-use crate::naming::BookName;
+use crate::book_name::BookName;
 use crate::prepared::Prepared;
 use crate::receipts::{Receipt, Recorded};
 use crate::shares::{Share, Spent};
@@ -65,10 +65,10 @@ impl<W: BookName, O: FileObject> Drop for Book<W, O> {
 }
 
 impl<W: BookName, O: FileObject> Model for Book<W, O> {
-    ghost use Rattle.ux_history.specs.Books.{Held};
+    ghost use Rattle.ux_history.specs.Books.{KeptHistory};
     ghost use Rattle.ux_history.specs.Shares.{IsBook};
 
-    ghost Value = { Held };
+    ghost Value = { KeptHistory };
 
     ghost view = { λ b. b.log.book };
 

@@ -2,7 +2,7 @@
 ghost use Rattle.std.specs.Prelude.{◌≡◌, ◌↔◌, IsTrue};
 ghost use Rattle.ux_history.specs.Receipts.{call_of, IsSlip};
 
-use crate::naming::BookName;
+use crate::book_name::BookName;
 use std::marker::{Model, PhantomData};
 use ux_types::{Entry, Pid, Reply, Request};
 

@@ -16,7 +16,7 @@ use crate::account::Account;
 use crate::book::{PARTS, child_share, cut, merge_all};
 use crate::call_book::CallBook;
 use crate::fault::{CallFault, NoMemory, OffFault};
-use crate::naming::Trailing;
+use crate::book_name::Trailing;
 use crate::running_log::RunningLog;
 use crate::shares::{Share, Spent};
 use crate::trail::Trail;
@@ -62,11 +62,11 @@ impl<W: Trailing, O: FileObject> Drop for RunningBook<W, O> {
 
 impl<W: Trailing, O: FileObject> Model for RunningBook<W, O> {
     ghost use Rattle.std.specs.Prelude.{◌≡◌, map};
-    ghost use Rattle.ux_history.specs.Books.{Held};
+    ghost use Rattle.ux_history.specs.Books.{KeptHistory};
     ghost use Rattle.ux_history.specs.Shares.{IsBook};
     ghost use Rattle.ux_history.specs.Receipts.{call_of};
 
-    ghost Value = { Held };
+    ghost Value = { KeptHistory };
 
     ghost view = { λ b. b.log };
 
@@ -383,7 +383,7 @@ impl<W: Trailing, O: FileObject> CallBook<W, O> for RunningBook<W, O> {
 
     type Kept = Witnessed<W>;
 
-    ghost held = { λ b. b };
+    ghost history = { λ b. b };
 
     fn into_kernel(self) -> Kernel<O> {
         RunningBook::into_kernel(self)

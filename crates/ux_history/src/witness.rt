@@ -3,7 +3,7 @@ ghost use Rattle.std.specs.Prelude.{◌≡◌};
 ghost use Rattle.ux_history.specs.Receipts.{IsSlip};
 
 use crate::call_book::{Keeps, Shows};
-use crate::naming::Trailing;
+use crate::book_name::Trailing;
 use crate::trail::Mark;
 use std::marker::{Model, PhantomData};
 use std::snapshot::Snapshot;

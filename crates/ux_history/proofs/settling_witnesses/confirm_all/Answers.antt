@@ -2,10 +2,10 @@ use Rattle.std.proofs.Common.{◌≡◌, ◌<◌, ◌≤◌, List, length, map, 
 use Rattle.std.specs.List.{slice_get}
 use Rattle.std.proofs.lemmas.List.{set-get_or}
 use Rattle.std.proofs.lemmas.Option.{slice_get_within}
-use Rattle.ux_history.specs.Books.{Held}
+use Rattle.ux_history.specs.Books.{KeptHistory}
 use Rattle.ux_history.specs.Receipts.{Slip, call_of}
 use Rattle.ux_history.proofs.Stands.{stands_more}
-use Rattle.ux_history.proofs.told.confirm_all.Goals as goal
+use Rattle.ux_history.proofs.settling_witnesses.confirm_all.Goals as goal
 
 pub loop-i-preserved : goal.loop-i-preserved
 loop-i-preserved g c =
@@ -14,7 +14,7 @@ loop-i-preserved g c =
     let slips = c.args.witnesses.now in (
       c.confirm.ensures.book ∙ i.0,
       ap (λ (x : Slip). set c.loop-i.witnesses c.loop-i.i x) c.confirm.ensures.witness ∙ (set-get_or c.loop-i.witnesses c.loop-i.i w ∙ i.1),
-      stands_more (map call_of c.args.book.now.entries) slips c.loop-i.i w (subst (λ (l : List Slip). w ≡ get_or l c.loop-i.i w) i.1 c.index-witnesses-i.is) (subst (λ (h : Held). slice_get (map call_of h.entries) w.number ≡ Some w.call) i.0 (subst (λ (x : Slip). slice_get (map call_of c.loop-i.book.entries) x.number ≡ Some x.call) (sym c.index-witnesses-i.is) c.confirm.ensures.stands)) i.2,
+      stands_more (map call_of c.args.book.now.entries) slips c.loop-i.i w (subst (λ (l : List Slip). w ≡ get_or l c.loop-i.i w) i.1 c.index-witnesses-i.is) (subst (λ (h : KeptHistory). slice_get (map call_of h.entries) w.number ≡ Some w.call) i.0 (subst (λ (x : Slip). slice_get (map call_of c.loop-i.book.entries) x.number ≡ Some x.call) (sym c.index-witnesses-i.is) c.confirm.ensures.stands)) i.2,
     )
 
 pub returns-clause-stand : goal.returns-clause-stand

@@ -1,7 +1,7 @@
 use Rattle.std.proofs.Common.{◌≡◌, ◌<◌, ℕ, Some, map}
 use Rattle.std.specs.List.{slice_get}
 use Rattle.ux_history.specs.Receipts.{Slip, call_of}
-use Rattle.ux_history.proofs.told.confirm_all.Given as goal
+use Rattle.ux_history.proofs.settling_witnesses.confirm_all.Given as goal
 
 -- those before were confirmed
 abbrev pub invariant-loop-i : goal.invariant-loop-i
