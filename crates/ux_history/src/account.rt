@@ -7,9 +7,9 @@ ghost use Rattle.ux_history.specs.Shares.{processes, times, once_each, all_count
 ghost use Rattle.ux_history.specs.Settling.{IsSettled, IsLacking};
 ghost use Rattle.ux_history.specs.Faults.{is_missing, is_unknown};
 
+use crate::book_name::BookName;
 use crate::call_book::CallBook;
 use crate::fault::SettleFault;
-use crate::book_name::BookName;
 use crate::shares::Spent;
 use ux_object::FileObject;
 use ux_types::Pid;
@@ -82,12 +82,7 @@ fn count_of<W: BookName>(spents: &[Spent<W>], pid: Pid) -> usize
 fn are_counted<W: BookName, O: FileObject, B: CallBook<W, O>>(book: &B, spents: &[Spent<W>]) -> bool
     ensures { result ≡ all_counted (B.history book.now).entries spents.now }
 {
-    for spent in spents {
-        if !is_counted(book, spent) {
-            return false;
-        }
-    }
-    true
+    spents.iter().all(|spent| is_counted(book, spent))
 }
 
 /// Whether it has counted its process's entries.

@@ -16,9 +16,9 @@ ghost use Rattle.ux_history.specs.Faults.{is_stranger, is_alive};
 ghost use Rattle.ux_history.specs.Recording.{IsMade, Waits, IsRefused};
 
 use crate::account::Account;
+use crate::book_name::BookName;
 use crate::fault::{CallFault, NoMemory, OffFault};
 use crate::log::Log;
-use crate::book_name::BookName;
 use crate::prepared::Prepared;
 use crate::receipts::{Receipt, Recorded};
 use crate::shares::{Share, Spent};
@@ -193,12 +193,7 @@ impl<W: BookName, O: FileObject> Book<W, O> {
     pub fn holds_all(&self, receipts: &[Receipt<W>]) -> bool
         ensures { IsTrue result ↔ AllStand self.now.entries receipts.now }
     {
-        for receipt in receipts {
-            if !self.holds(receipt) {
-                return false;
-            }
-        }
-        true
+        receipts.iter().all(|receipt| self.holds(receipt))
     }
 
     /// Makes a call of the share's process, and keeps it as one more entry. The file objects that went with

@@ -24,7 +24,7 @@ pub use book_name::{BookName, Trailing};
 pub use call_book::{Asks, CallBook, Keeps, Shows, exit_share};
 pub use fault::{CallFault, NoMemory, OffFault, SettleFault};
 pub use prepared::Prepared;
-pub use receipts::{Call, Receipt, Recorded};
+pub use receipts::{Call, Receipt, Recorded, is_same_request};
 pub use running_book::RunningBook;
 pub use settling_receipts::settle_with_receipts;
 pub use settling_witnesses::settle_with_witnesses;
