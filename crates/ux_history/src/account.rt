@@ -64,11 +64,7 @@ fn is_each_once<W: BookName>(spents: &[Spent<W>], count: usize) -> bool
     requires { count ≤ made_limit }
     ensures { result ≡ once_each count spents.now }
 {
-    let mut once = true;
-    for pid in 1..count as u32 + 1 {
-        once = once && count_of(spents, Pid(pid)) == 1;
-    }
-    once
+    (1..count as u32 + 1).all(|pid| count_of(spents, Pid(pid)) == 1)
 }
 
 /// How many of them are this process's.

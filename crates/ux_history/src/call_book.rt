@@ -13,8 +13,8 @@ ghost use Rattle.ux_history.specs.Recording.{IsMade, Waits, IsRefused};
 
 use crate::account::Account;
 use crate::book::Book;
-use crate::fault::{CallFault, OffFault};
 use crate::book_name::BookName;
+use crate::fault::{CallFault, OffFault};
 use crate::prepared::Prepared;
 use crate::receipts::Receipt;
 use crate::shares::{Share, Spent};
@@ -46,6 +46,10 @@ pub trait Keeps<W: BookName>: Drop {
     /// What was answered.
     fn reply(&self) -> &Reply
         ensures { result.now ≡ (kept self.now).call.reply };
+
+    /// What was answered, and nothing else of it.
+    fn into_reply(self) -> Reply
+        ensures { result ≡ (kept self).call.reply };
 
     /// Does nothing when it runs. Its contract is what it shows.
     fn show(&self)
@@ -232,6 +236,10 @@ impl<W: BookName> Keeps<W> for Receipt<W> {
 
     fn reply(&self) -> &Reply {
         Receipt::reply(self)
+    }
+
+    fn into_reply(self) -> Reply {
+        Receipt::into_reply(self)
     }
 
     fn show(&self) {

@@ -44,9 +44,9 @@ impl Call {
     }
 }
 
-/// Whether they are the same.
+/// Whether they are the same, as `==` says, whose own contract goes by kinds.
 #[tactic(auto, using(crate::proofs::SameRequests::same_request))]
-fn is_same_request(one: &Request, other: &Request) -> bool
+pub fn is_same_request(one: &Request, other: &Request) -> bool
     ensures { IsTrue result ↔ (one.now ≡ other.now) }
 {
     one == other
@@ -112,6 +112,25 @@ impl<W: BookName> Receipt<W> {
         ensures { result.now ≡ self.now.call.reply }
     {
         &self.call.reply
+    }
+
+    /// What was answered, and nothing else of it.
+    pub fn into_reply(self) -> Reply
+        ensures { result ≡ self.call.reply }
+    {
+        let Receipt {
+            number: _,
+            call,
+            tried: _,
+            of: _,
+        } = self;
+        let Call {
+            pid: _,
+            k: _,
+            request: _,
+            reply,
+        } = call;
+        reply
     }
 
     /// Whether `try_record` gave it.

@@ -14,9 +14,9 @@ ghost use Rattle.ux_history.specs.Recording.{IsMade, Waits, IsRefused};
 
 use crate::account::Account;
 use crate::book::{PARTS, child_share, cut, merge_all};
+use crate::book_name::Trailing;
 use crate::call_book::CallBook;
 use crate::fault::{CallFault, NoMemory, OffFault};
-use crate::book_name::Trailing;
 use crate::running_log::RunningLog;
 use crate::shares::{Share, Spent};
 use crate::trail::Trail;

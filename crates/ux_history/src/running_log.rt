@@ -11,8 +11,8 @@ ghost use Rattle.ux_model.specs.HandingOut.{IsHandedOut};
 ghost use Rattle.ux_history.specs.Books.{state_of, may_call, ends_of, is_last, entry_of, Adds};
 ghost use Rattle.ux_history.specs.Shares.{processes};
 
-use crate::log::{is_again, numbers_of, zeros};
 use crate::book_name::BookName;
+use crate::log::{is_again, numbers_of, zeros};
 use crate::past::Past;
 use std::alloc::Global;
 use std::marker::{Model, PhantomData};

@@ -7,8 +7,8 @@ ghost use Rattle.ux_history.specs.Faults.{is_missing, is_unknown};
 
 use crate::account::{Account, settle_accounts};
 use crate::book::Book;
-use crate::fault::SettleFault;
 use crate::book_name::BookName;
+use crate::fault::SettleFault;
 use crate::receipts::Receipt;
 use crate::shares::Spent;
 use ux_object::FileObject;

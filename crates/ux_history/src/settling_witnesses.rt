@@ -6,8 +6,8 @@ ghost use Rattle.ux_history.specs.Settling.{IsLacking};
 ghost use Rattle.ux_history.specs.SettlingSlips.{AllStand, IsSettledWith};
 
 use crate::account::{Account, settle_accounts};
-use crate::fault::SettleFault;
 use crate::book_name::Trailing;
+use crate::fault::SettleFault;
 use crate::running_book::RunningBook;
 use crate::shares::Spent;
 use crate::witness::Witness;
@@ -51,8 +51,7 @@ fn confirm_all<W: Trailing, O: FileObject>(
     ensures witnesses { witnesses.new ≡ witnesses.old }
     ensures book { book.new ≡ book.old }
 {
-    for i in 0..witnesses.len() {
-        let witness = &mut witnesses[i];
+    for witness in witnesses.iter_mut() {
         book.confirm(witness);
     }
 }
