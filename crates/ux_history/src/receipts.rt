@@ -42,6 +42,19 @@ impl Call {
             && is_same_request(&entry.request, &self.request)
             && is_same_reply(&entry.reply, &self.reply)
     }
+
+    /// What was answered, and nothing else of it.
+    fn into_reply(self) -> Reply
+        ensures { result ≡ self.reply }
+    {
+        let Self {
+            pid: _,
+            k: _,
+            request: _,
+            reply,
+        } = self;
+        reply
+    }
 }
 
 /// Whether they are the same, as `==` says, whose own contract goes by kinds.
@@ -124,13 +137,7 @@ impl<W: BookName> Receipt<W> {
             tried: _,
             of: _,
         } = self;
-        let Call {
-            pid: _,
-            k: _,
-            request: _,
-            reply,
-        } = call;
-        reply
+        call.into_reply()
     }
 
     /// Whether `try_record` gave it.
