@@ -78,7 +78,12 @@ fn count_of<W: BookName>(spents: &[Spent<W>], pid: Pid) -> usize
 fn are_counted<W: BookName, O: FileObject, B: CallBook<W, O>>(book: &B, spents: &[Spent<W>]) -> bool
     ensures { result ≡ all_counted (B.history book.now).entries spents.now }
 {
-    spents.iter().all(|spent| is_counted(book, spent))
+    for spent in spents {
+        if !is_counted(book, spent) {
+            return false;
+        }
+    }
+    true
 }
 
 /// Whether it has counted its process's entries.
