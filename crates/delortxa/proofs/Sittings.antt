@@ -15,7 +15,7 @@ use Rattle.ux_model.proofs.Living.{fork_alone_makes, fork_tells_the_next}
 use Rattle.ux_model.proofs.Numbering.{no_call_before_made}
 use Rattle.ux_history.specs.declared.fault.CallFault.{CallFault}
 use Rattle.ux_history.specs.Faults.{is_stranger}
-use Rattle.ux_history.specs.Books.{Held, state_of, has_own_call, entry_of, Adds, Appends}
+use Rattle.ux_history.specs.Books.{KeptHistory, state_of, has_own_call, entry_of, Adds, Appends}
 use Rattle.ux_history.specs.Shares.{Caller, once_more, fresh, call_by, child_by, knows}
 use Rattle.delortxa.specs.declared.fault.CallError.{CallError}
 use Rattle.delortxa.specs.Answering.{Answers, IsOther, Fails, IsFault, Exits, Ends}
@@ -108,11 +108,11 @@ some_is : {a b : Caller} → Some a ≡ Some b → a ≡ b
 some_is h = cc h
 
 -- a call that makes no process
-pub one_more : (old new : Held) (cs : List Caller) (i : ℕ) (c : Caller) (request : Request) (reply : Reply) (released : List ℕ) → i < length cs → c ≡ get_or cs i c → makes_one request reply ≡ false →
+pub one_more : (old new : KeptHistory) (cs : List Caller) (i : ℕ) (c : Caller) (request : Request) (reply : Reply) (released : List ℕ) → i < length cs → c ≡ get_or cs i c → makes_one request reply ≡ false →
     Adds old new (call_by old c request reply released) → AreCallers old cs → AreCallers new (set cs i (once_more c))
 one_more old new cs i c request reply released inside here none adds so_far =
     let e : Entry = call_by old c request reply released in
-    subst (λ (b : Held). AreCallers b (set cs i (once_more c))) (sym adds.appended) (record {
+    subst (λ (b : KeptHistory). AreCallers b (set cs i (once_more c))) (sym adds.appended) (record {
       all =
           let more = fork_alone_makes _ _ e.pid.0 _ e.request e.reply e.released adds.next.steps in
           let nothing : cond {A = ℕ} (makes_one request reply) 1 0 ≡ 0 = ap (λ (b : Bool). cond {A = ℕ} b 1 0) none in
@@ -127,20 +127,20 @@ own_makes_none Request.Fork reply h = absurd (false≢true (sym h))
 own_makes_none _ reply h = refl
 
 -- a call that is recorded
-pub recorded : (old new : Held) (cs : List Caller) (i : ℕ) (c : Caller) (request : Request) (reply : Reply) (released : List ℕ) → i < length cs → c ≡ get_or cs i c → has_own_call request ≡ false →
+pub recorded : (old new : KeptHistory) (cs : List Caller) (i : ℕ) (c : Caller) (request : Request) (reply : Reply) (released : List ℕ) → i < length cs → c ≡ get_or cs i c → has_own_call request ≡ false →
     Adds old new (call_by old c request reply released) → AreCallers old cs → AreCallers new (set cs i (once_more c))
 recorded old new cs i c request reply released inside here own = one_more old new cs i c request reply released inside here (own_makes_none request reply own)
 
 -- an exit
-pub exited : (old new : Held) (cs : List Caller) (i : ℕ) (c : Caller) (released : List ℕ) → i < length cs → c ≡ get_or cs i c →
+pub exited : (old new : KeptHistory) (cs : List Caller) (i : ℕ) (c : Caller) (released : List ℕ) → i < length cs → c ≡ get_or cs i c →
     Appends old new c.pid c.k Request.Exit released → AreCallers old cs → AreCallers new (set cs i (once_more c))
 exited old new cs i c released inside here made = one_more old new cs i c Request.Exit made.reply released inside here refl made.adds
 
 -- the end of the layer
-pub ended : (old new : Held) (cs : List Caller) (released : List ℕ) → Appends old new (record { 0 = 0 }) 0 Request.Off released → AreCallers old cs → AreCallers new cs
+pub ended : (old new : KeptHistory) (cs : List Caller) (released : List ℕ) → Appends old new (record { 0 = 0 }) 0 Request.Off released → AreCallers old cs → AreCallers new cs
 ended old new cs released made so_far =
     let e : Entry = entry_of (state_of old) (record { 0 = 0 }) 0 Request.Off made.reply released in
-    subst (λ (b : Held). AreCallers b cs) (sym made.adds.appended) (record {
+    subst (λ (b : KeptHistory). AreCallers b cs) (sym made.adds.appended) (record {
       all =
           let more = fork_alone_makes _ _ e.pid.0 _ e.request e.reply e.released made.adds.next.steps in
           let all = so_far.all in
@@ -149,21 +149,21 @@ ended old new cs released made so_far =
     })
 
 -- the end of the layer, or nothing
-pub ended_or_same : {T E : Type 0} (r : Result T E) (old new : Held) (cs : List Caller) (released : List ℕ) → OnOk r (Appends old new (record { 0 = 0 }) 0 Request.Off released) → OnErr r (new ≡ old) → AreCallers old cs → AreCallers new cs
+pub ended_or_same : {T E : Type 0} (r : Result T E) (old new : KeptHistory) (cs : List Caller) (released : List ℕ) → OnOk r (Appends old new (record { 0 = 0 }) 0 Request.Off released) → OnErr r (new ≡ old) → AreCallers old cs → AreCallers new cs
 ended_or_same (Ok x) old new cs released made same so_far = ended old new cs released made so_far
-ended_or_same (Err e) old new cs released made same so_far = subst (λ (b : Held). AreCallers b cs) (sym same) so_far
+ended_or_same (Err e) old new cs released made same so_far = subst (λ (b : KeptHistory). AreCallers b cs) (sym same) so_far
 
 -- a fork that made no process
 none_made : (reply : Reply) → child_by Request.Fork reply ≡ None → makes_one Request.Fork reply ≡ false
 none_made (Reply.Child pid) h = absurd (cc h)
 none_made _ h = refl
 
-pub unforked : (old new : Held) (cs : List Caller) (i : ℕ) (c : Caller) (reply : Reply) (released : List ℕ) → i < length cs → c ≡ get_or cs i c → child_by Request.Fork reply ≡ None →
+pub unforked : (old new : KeptHistory) (cs : List Caller) (i : ℕ) (c : Caller) (reply : Reply) (released : List ℕ) → i < length cs → c ≡ get_or cs i c → child_by Request.Fork reply ≡ None →
     Adds old new (call_by old c Request.Fork reply released) → AreCallers old cs → AreCallers new (set cs i (once_more c))
 unforked old new cs i c reply released inside here none = one_more old new cs i c Request.Fork reply released inside here (none_made reply none)
 
 -- a fork that made one
-pub forked : (old new : Held) (cs : List Caller) (i : ℕ) (c child : Caller) (reply : Reply) (released : List ℕ) → IsLegal old.boot old.entries → i < length cs → c ≡ get_or cs i c → child_by Request.Fork reply ≡ Some child →
+pub forked : (old new : KeptHistory) (cs : List Caller) (i : ℕ) (c child : Caller) (reply : Reply) (released : List ℕ) → IsLegal old.boot old.entries → i < length cs → c ≡ get_or cs i c → child_by Request.Fork reply ≡ Some child →
     Adds old new (call_by old c Request.Fork reply released) → AreCallers old cs → AreCallers new (set cs i (once_more c) ++ child ∷ [])
 forked old new cs i c child (Reply.Child pid) released legal inside here made adds so_far =
     let S = state_of old in
@@ -178,7 +178,7 @@ forked old new cs i c child (Reply.Child pid) released legal inside here made ad
     let other : e.pid.0 ≢ pid.0 = λ g. absurd (omega (arith, g, own, next, all, inside)) in
     let none : calls_of pid.0 (old.entries ++ e ∷ []) ≡ 0 = calls_other pid.0 old.entries e other ∙ quiet in
     let long = length-append (set cs i (once_more c)) (child ∷ []) in
-    subst (λ (b : Held). AreCallers b (set cs i (once_more c) ++ child ∷ [])) (sym adds.appended) (record {
+    subst (λ (b : KeptHistory). AreCallers b (set cs i (once_more c) ++ child ∷ [])) (sym adds.appended) (record {
       all = omega (arith, long, same, all, more);
       each = counts_child (old.entries ++ e ∷ []) (set cs i (once_more c)) child
           (ap (λ (x : Caller). x.pid.0) (sym is) ∙ next ∙ ap suc (sym (same ∙ all)))
@@ -199,9 +199,9 @@ fresh_counted (suc n) = counts_child [] (fresh n) (record { pid = record { 0 = s
 fresh_callers : (boot : State) → AreCallers (record { boot = boot; entries = [] }) (fresh (length boot.processes))
 fresh_callers boot = record { all = fresh_long (length boot.processes); each = fresh_counted (length boot.processes) }
 
-pub new_callers : (book : Held) (cs : List Caller) (boot : State) → book ≡ record { boot = boot; entries = [] } → cs ≡ fresh (length boot.processes) → AreCallers book cs
+pub new_callers : (book : KeptHistory) (cs : List Caller) (boot : State) → book ≡ record { boot = boot; entries = [] } → cs ≡ fresh (length boot.processes) → AreCallers book cs
 new_callers book cs boot at shares =
-    subst (λ (b : Held). AreCallers b cs) (sym at) (subst (λ (xs : List Caller). AreCallers (record { boot = boot; entries = [] }) xs) (sym shares) (fresh_callers boot))
+    subst (λ (b : KeptHistory). AreCallers b cs) (sym at) (subst (λ (xs : List Caller). AreCallers (record { boot = boot; entries = [] }) xs) (sym shares) (fresh_callers boot))
 
 -- ---- who lives
 
@@ -211,7 +211,7 @@ dead_zero S zero h = refl
 dead_zero S (suc p) h = absurd (h (omega arith))
 
 -- nobody has a number past the callers
-pub dead_past : (book : Held) (cs : List Caller) (p place : ℕ) → AreCallers book cs → p ≡ suc place → length cs ≤ place → is_live (state_of book) p ≡ false
+pub dead_past : (book : KeptHistory) (cs : List Caller) (p place : ℕ) → AreCallers book cs → p ≡ suc place → length cs ≤ place → is_live (state_of book) p ≡ false
 dead_past book cs p place all is past =
     let long = all.all in
     let beyond : length (state_of book).processes ≤ place = omega (arith, long, past) in
@@ -219,7 +219,7 @@ dead_past book cs p place all is past =
     ∙ ap (λ (P : Option Process). elim P as (λ (_ : Option Process). Bool) [ Some P ↦ not P.exited | None ↦ false ]) (slice_get_past (state_of book).processes place beyond)
 
 -- the book knows a caller exactly while its process lives
-pub known_lives : (book : Held) (cs : List Caller) (place : ℕ) (c : Caller) (pid : Pid) → AreCallers book cs → place < length cs → c ≡ get_or cs place c → pid.0 ≡ suc place → knows book c ≡ is_live (state_of book) pid.0
+pub known_lives : (book : KeptHistory) (cs : List Caller) (place : ℕ) (c : Caller) (pid : Pid) → AreCallers book cs → place < length cs → c ≡ get_or cs place c → pid.0 ≡ suc place → knows book c ≡ is_live (state_of book) pid.0
 known_lives book cs place c pid all inside here is =
     let own : c.pid.0 ≡ pid.0 = ap (λ (x : Caller). x.pid.0) here ∙ all.each.numbered place c inside ∙ sym is in
     let counted : calls_of c.pid.0 book.entries ≡ c.k = ap (λ n. calls_of n book.entries) (own ∙ is) ∙ sym (ap (λ (x : Caller). x.k) here ∙ all.each.counted place c inside) in
@@ -228,7 +228,7 @@ known_lives book cs place c pid all inside here is =
     ∙ ap (λ n. is_live (state_of book) n) own
 
 -- the caller at a process's place is that process
-pub caller_is : (book : Held) (cs : List Caller) (place : ℕ) (c : Caller) (pid : Pid) → AreCallers book cs → place < length cs → c ≡ get_or cs place c → pid.0 ≡ suc place → c.pid ≡ pid
+pub caller_is : (book : KeptHistory) (cs : List Caller) (place : ℕ) (c : Caller) (pid : Pid) → AreCallers book cs → place < length cs → c ≡ get_or cs place c → pid.0 ≡ suc place → c.pid ≡ pid
 caller_is book cs place c pid all inside here is =
     let own : c.pid.0 ≡ pid.0 = ap (λ (x : Caller). x.pid.0) here ∙ all.each.numbered place c inside ∙ sym is in
     ap (λ (n : ℕ). let p : Pid = record { 0 = n } in p) own
@@ -238,7 +238,7 @@ not_true true h = sym h
 not_true false h = refl
 
 -- why a call wasn't made
-pub fault_is : (book : Held) (cs : List Caller) (place : ℕ) (c : Caller) (pid : Pid) (f : CallFault) → AreCallers book cs → place < length cs → c ≡ get_or cs place c → pid.0 ≡ suc place →
+pub fault_is : (book : KeptHistory) (cs : List Caller) (place : ℕ) (c : Caller) (pid : Pid) (f : CallFault) → AreCallers book cs → place < length cs → c ≡ get_or cs place c → pid.0 ≡ suc place →
     is_stranger f ≡ not (knows book c) → (is_stranger f ≡ false → f ≡ CallFault.NoMemory) → IsFault book pid f
 fault_is book cs place c pid CallFault.Stranger all inside here is stranger memory =
     sym (known_lives book cs place c pid all inside here is) ∙ not_true (knows book c) (sym stranger)
@@ -249,34 +249,34 @@ fault_is book cs place c pid CallFault.Deadlock all inside here is stranger memo
 -- ---- what is reported
 
 -- an error that is reported of a reply is one of the call
-pub fails : (wanted : Reply → Bool) (old new : Held) (pid : Pid) (request : Request) (reply : Reply) (error : CallError) →
+pub fails : (wanted : Reply → Bool) (old new : KeptHistory) (pid : Pid) (request : Request) (reply : Reply) (error : CallError) →
     Answers old new pid request reply → IsOther wanted reply error → Fails wanted old new pid request error
 fails wanted old new pid request reply (CallError.Refused errno) made is = subst (λ (r : Reply). Answers old new pid request r) is made
 fails wanted old new pid request reply (CallError.Fault fault) made is = absurd is
 fails wanted old new pid request reply CallError.Unlike made is = record { reply = reply; other = is.0; done = is.1; made = made }
 
 -- the entry of a caller's call is one of its process
-pub answers : (old new : Held) (c : Caller) (pid : Pid) (request : Request) (reply : Reply) (released : List ℕ) → c.pid ≡ pid →
+pub answers : (old new : KeptHistory) (c : Caller) (pid : Pid) (request : Request) (reply : Reply) (released : List ℕ) → c.pid ≡ pid →
     Adds old new (call_by old c request reply released) → Answers old new pid request reply
 answers old new c pid request reply released is adds =
     subst (λ (p : Pid). Answers old new p request reply) is (record { k = c.k; released = released; adds = adds })
 
 -- the exit of a caller is one of its process
-pub exits : (old new : Held) (c : Caller) (pid : Pid) (released : List ℕ) → c.pid ≡ pid → Appends old new c.pid c.k Request.Exit released → Exits old new pid
+pub exits : (old new : KeptHistory) (c : Caller) (pid : Pid) (released : List ℕ) → c.pid ≡ pid → Appends old new c.pid c.k Request.Exit released → Exits old new pid
 exits old new c pid released is made =
     subst (λ (p : Pid). Exits old new p) is (record { k = c.k; released = released; appends = made })
 
 -- the end of the layer
-pub ends : (old new : Held) (released : List ℕ) → Appends old new (record { 0 = 0 }) 0 Request.Off released → Ends old new
+pub ends : (old new : KeptHistory) (released : List ℕ) → Appends old new (record { 0 = 0 }) 0 Request.Off released → Ends old new
 ends old new released made = record { released = released; appends = made }
 
-pub fails_at : {T : Type 0} (wanted : Reply → Bool) (old new : Held) (pid : Pid) (request : Request) (reply : Reply) (r : Result T CallError) →
+pub fails_at : {T : Type 0} (wanted : Reply → Bool) (old new : KeptHistory) (pid : Pid) (request : Request) (reply : Reply) (r : Result T CallError) →
     Answers old new pid request reply → IfErr r (IsOther wanted reply) → IfErr r (λ error. Fails wanted old new pid request error)
 fails_at wanted old new pid request reply (Ok x) made is = tt
 fails_at wanted old new pid request reply (Err error) made is = fails wanted old new pid request reply error made is
 
 -- the child that a fork's reply reports
-pub made_at : (old new : Held) (pid : Pid) (reply : Reply) (r : Result Pid CallError) →
+pub made_at : (old new : KeptHistory) (pid : Pid) (reply : Reply) (r : Result Pid CallError) →
     Answers old new pid Request.Fork reply → IfOk r (λ child. reply ≡ Reply.Child child) → IfOk r (λ child. Answers old new pid Request.Fork (Reply.Child child))
 made_at old new pid reply (Ok child) made is = subst (λ (x : Reply). Answers old new pid Request.Fork x) is made
 made_at old new pid reply (Err error) made is = tt

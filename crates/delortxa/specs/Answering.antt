@@ -3,7 +3,7 @@ use Rattle.std.specs.Prelude.{◌≡◌, ℕ, Bool, true, false, List, ⊤}
 use Rattle.ux_model.specs.Types.{Pid, Request, Reply}
 use Rattle.ux_model.specs.State.{is_live}
 use Rattle.ux_history.specs.declared.fault.CallFault.{CallFault}
-use Rattle.ux_history.specs.Books.{Held, state_of, entry_of, Adds, Appends}
+use Rattle.ux_history.specs.Books.{KeptHistory, state_of, entry_of, Adds, Appends}
 use Rattle.delortxa.specs.declared.fault.CallError.{CallError}
 
 -- ---- kinds of replies
@@ -78,38 +78,38 @@ IsOther wanted reply CallError.Unlike = (wanted reply ≡ false) × (is_refusal 
 -- ---- calls of a session
 
 -- the process made this call and got this reply, which is one more entry
-pub record Answers (old new : Held) (pid : Pid) (request : Request) (reply : Reply) : Type 0 where
+pub record Answers (old new : KeptHistory) (pid : Pid) (request : Request) (reply : Reply) : Type 0 where
   pub k : ℕ
   pub released : List ℕ
   pub adds : Adds old new (entry_of (state_of old) pid k request reply released)
 
 -- no call was made: there is no live process with this number, or no memory
-abbrev pub IsFault : Held → Pid → CallFault → Type 0
+abbrev pub IsFault : KeptHistory → Pid → CallFault → Type 0
 IsFault old pid CallFault.Stranger = is_live (state_of old) pid.0 ≡ false
 IsFault old pid CallFault.NoMemory = ⊤
 IsFault old pid CallFault.Full = ⊥
 IsFault old pid CallFault.Deadlock = ⊥
 
 -- a reply of another kind than was wanted
-pub record AnswersOther (wanted : Reply → Bool) (old new : Held) (pid : Pid) (request : Request) : Type 0 where
+pub record AnswersOther (wanted : Reply → Bool) (old new : KeptHistory) (pid : Pid) (request : Request) : Type 0 where
   pub reply : Reply
   pub other : wanted reply ≡ false
   pub done : is_refusal reply ≡ false
   pub made : Answers old new pid request reply
 
 -- what an error says of the call: it was made and refused, or it wasn't made and nothing changed, or its reply is another
-abbrev pub Fails : (Reply → Bool) → Held → Held → Pid → Request → CallError → Type 0
+abbrev pub Fails : (Reply → Bool) → KeptHistory → KeptHistory → Pid → Request → CallError → Type 0
 Fails wanted old new pid request (CallError.Refused errno) = Answers old new pid request (Reply.Err errno)
 Fails wanted old new pid request (CallError.Fault fault) = (new ≡ old) × IsFault old pid fault
 Fails wanted old new pid request CallError.Unlike = AnswersOther wanted old new pid request
 
 -- the process exits, which is one more entry
-pub record Exits (old new : Held) (pid : Pid) : Type 0 where
+pub record Exits (old new : KeptHistory) (pid : Pid) : Type 0 where
   pub k : ℕ
   pub released : List ℕ
   pub appends : Appends old new pid k Request.Exit released
 
 -- the layer ends, which is one more entry, of no process
-pub record Ends (old new : Held) : Type 0 where
+pub record Ends (old new : KeptHistory) : Type 0 where
   pub released : List ℕ
   pub appends : Appends old new (record { 0 = 0 }) 0 Request.Off released

@@ -209,7 +209,7 @@ fn is_right<W: BookName, O: FileObject, R: Wait + AllocGlobal>(
     spents: Vec<Spent<W>>,
     wanted: &[u8],
 ) -> Result<bool> {
-    let account = match layer.settle_held(rt, spents, receipts) {
+    let account = match layer.settle_with_receipts(rt, spents, receipts) {
         Ok(account) => account,
         Err((fault, _spents)) => return Err(anyhow!("{fault}")),
     };
@@ -262,7 +262,7 @@ pub fn goes_by_running_seats<W: Trailing, O: FileObject, R: Wait + AllocGlobal>(
         return Err(anyhow!("out of memory"));
     };
     let (mut witnesses, spents) = make_all(rt, &layer, seats, script, history)?;
-    match layer.settle_told(rt, spents, witnesses.as_mut_slice()) {
+    match layer.settle_with_witnesses(rt, spents, witnesses.as_mut_slice()) {
         Ok(account) => Ok(account.entries == history.len()),
         Err((fault, _spents)) => Err(anyhow!("{fault}")),
     }

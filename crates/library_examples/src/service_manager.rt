@@ -6,7 +6,7 @@ ghost use Rattle.ux_model.specs.Boot.{IsBootState};
 
 use crate::print_history;
 use crate::relying::entries_made;
-use crate::two_threads::{check, holds_all, make_calls};
+use crate::two_threads::{check, make_calls};
 use anyhow::{Result, anyhow};
 use std::alloc::Global;
 use std::marker::Brand;
@@ -203,7 +203,7 @@ fn settle<W: BookName, R: Wait + Print + AllocGlobal>(
 ) -> Result<()> {
     let entries = entries_made(rt, layer, spents);
     let guard = layer.book(rt);
-    let stands = holds_all(guard.book(), &receipts);
+    let stands = guard.book().holds_all(&receipts);
     drop(receipts);
     print_history(rt, guard.book())?;
     println!(rt; "{} entries settle", entries?)?;

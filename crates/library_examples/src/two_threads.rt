@@ -174,6 +174,8 @@ pub(crate) fn make_calls<W: BookName, R: Wait>(
         match seat.call_blocking(rt, request) {
             Ok((reply, receipt)) => {
                 drop(reply);
+                // That the call stands in some legal history needs no look.
+                stands(&receipt);
                 receipts.push(receipt)?;
             }
             Err(fault) => return Err(anyhow!("{fault}")),
@@ -225,17 +227,6 @@ fn worker<W: BookName, R: Wait>(
     exit(rt, seat, receipts)
 }
 
-/// Whether each of these receipts stands in the book. That its call stands in some legal history needs no look.
-pub(crate) fn holds_all<W: BookName>(book: &Book<W, MemFile>, receipts: &[Receipt<W>]) -> bool {
-    for receipt in receipts {
-        stands(receipt);
-        if !book.holds(receipt) {
-            return false;
-        }
-    }
-    true
-}
-
 /// Compares the history with what the processes have of it.
 fn settle<W: BookName, R: Wait + Print + AllocGlobal>(
     rt: &R,
@@ -247,7 +238,7 @@ fn settle<W: BookName, R: Wait + Print + AllocGlobal>(
     let (other, others) = worker.into_parts();
     let entries = settle_both(rt, layer, spent, other);
     let guard = layer.book(rt);
-    let stands = holds_all(guard.book(), &receipts) && holds_all(guard.book(), &others);
+    let stands = guard.book().holds_all(&receipts) && guard.book().holds_all(&others);
     drop(receipts);
     drop(others);
     print_history(rt, guard.book())?;

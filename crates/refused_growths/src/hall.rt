@@ -9,7 +9,7 @@ use hoard::Purse;
 use std::alloc::{AllocError, Global};
 use std::sync::Wait;
 use std::sync::ledger::Blank;
-use ux_history::{Book, BookName, CallFault, Receipt, Spent, has_own_call};
+use ux_history::{BookName, CallFault, Receipt, Spent, has_own_call};
 use ux_kernel::Kernel;
 use ux_layer::{Layer, Seat, start};
 use ux_objects::Plain;
@@ -260,7 +260,7 @@ impl<W: BookName> Hall<W> {
         drop(seats);
         let settled = layer.settle(rt, spents);
         let guard = layer.book(rt);
-        let held = holds_all(guard.book(), &receipts);
+        let held = guard.book().holds_all(&receipts);
         purse.open();
         let entries = guard.book().entries();
         match settled {
@@ -286,11 +286,6 @@ fn ask<W: BookName, R: Wait>(
         Ok((reply, receipt)) => Ok((reply, receipt, None)),
         Err(fault) => Err(fault),
     }
-}
-
-/// Whether each of these receipts stands in the book.
-fn holds_all<W: BookName>(book: &Book<W, Plain>, receipts: &[Receipt<W>]) -> bool {
-    receipts.iter().all(|receipt| book.holds(receipt))
 }
 
 /// Copies of a history's entries.

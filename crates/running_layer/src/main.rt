@@ -116,7 +116,7 @@ fn settle<W: Trailing, R: Wait + Print + AllocGlobal>(
     let mut witnesses = Vec::new(rt.alloc());
     put_all(before, &mut spents, &mut witnesses)?;
     put_all(after, &mut spents, &mut witnesses)?;
-    let account = match layer.settle_told(rt, spents, witnesses.as_mut_slice()) {
+    let account = match layer.settle_with_witnesses(rt, spents, witnesses.as_mut_slice()) {
         Ok(account) => account,
         Err((fault, _spents)) => return Err(anyhow!("{fault}")),
     };

@@ -5,6 +5,7 @@ ghost use Rattle.ux_syntax.specs.Spelling.{plan_of, known_count};
 ghost use Rattle.ux_syntax.specs.Turns.{has_exited};
 ghost use Rattle.ux_compare.specs.Runs.{requests_of, asked, ending, turns, MakesAll, MakesFirst, IsFront};
 
+use ux_history::is_same_request;
 use ux_syntax::{Act, Line, Script};
 use ux_types::{Entry, Request};
 
@@ -52,7 +53,7 @@ fn is_front(lines: &[Line], entries: &[Entry], pid: u32) -> bool
         let Some((made, after)) = next_of(rest, pid) else {
             return true;
         };
-        if !is_same(&made.request, request) {
+        if !is_same_request(&made.request, request) {
             return false;
         }
         rest = after;
@@ -91,7 +92,9 @@ fn is_alone(entries: &[Entry], pid: u32, request: &Request) -> bool
     ensures { IsTrue result ↔ (requests_of pid entries.now ≡ request.now ∷ []) }
 {
     match next_of(entries, pid) {
-        Some((entry, rest)) => { is_same(&entry.request, request) && next_of(rest, pid).is_none() }
+        Some((entry, rest)) => {
+            is_same_request(&entry.request, request) && next_of(rest, pid).is_none()
+        }
         None => false,
     }
 }
@@ -121,7 +124,7 @@ fn behind<'a>(lines: &[Line], entries: &'a [Entry], pid: u32) -> Option<&'a [Ent
         let Some((entry, after)) = next_of(rest, pid) else {
             return None;
         };
-        if !is_same(&entry.request, request) {
+        if !is_same_request(&entry.request, request) {
             return None;
         }
         rest = after;
@@ -142,12 +145,4 @@ fn next_of(entries: &[Entry], pid: u32) -> Option<(&Entry, &[Entry])>
         rest = more;
     }
     None
-}
-
-/// Whether they are the same.
-#[tactic(auto, using(ux_history::proofs::SameRequests::same_request))]
-fn is_same(one: &Request, other: &Request) -> bool
-    ensures { IsTrue result ↔ (one.now ≡ other.now) }
-{
-    one == other
 }

@@ -1,15 +1,18 @@
 -- Shares that are cut, and counted, and what a further entry does to them.
 use Rattle.std.proofs.Common.{◌≡◌, ◌≢◌, ℕ, zero, suc, ◌+◌, ◌-◌, ◌<◌, ◌≤◌, ◌==◌, ◌&&◌, List, [], ◌∷◌, ◌++◌, length, Bool, true, false, cond, refl, ap, sym, subst, ◌∙◌, arith, ⊎_elim}
-use Rattle.std.proofs.lemmas.Bool.{false≢true, eqb-true, and_parts}
+use Rattle.std.specs.Bool.{MatchBool}
+use Rattle.std.specs.List.{range_with_len, AllWithin, HoldsAt}
+use Rattle.std.proofs.lemmas.Bool.{false≢true, eq-eqb, eqb-true, and_parts}
 use Rattle.std.proofs.lemmas.Bool.Decides.{eqb_tells}
 use Rattle.std.proofs.lemmas.List.Sums.{sum_by-cons}
 use Rattle.std.proofs.lemmas.List.{length-append}
+use Rattle.std.proofs.lemmas.List.FromFn.{length-range_with_len, get_or-range_with_len}
 use Rattle.ux_model.specs.Types.{Entry}
 use Rattle.ux_model.specs.History.{is_off, makes_one, replay, IsLegal}
 use Rattle.ux_model.specs.State.{State}
 use Rattle.ux_model.proofs.Induction.{kept_throughout}
 use Rattle.ux_model.proofs.Living.{fork_alone_makes}
-use Rattle.ux_history.specs.Books.{Held, state_of, ends_of, Adds}
+use Rattle.ux_history.specs.Books.{KeptHistory, state_of, ends_of, Adds}
 use Rattle.ux_history.specs.Shares.{Caller, IsBook, fresh, times, once_each, processes}
 use Rattle.ux_history.proofs.Legal.{ends_push}
 
@@ -69,16 +72,48 @@ found_once (suc n) cs h =
 pub once_most : (n : ℕ) (cs : List Caller) → once_each n cs ≡ true → n ≤ length cs
 once_most n cs h = let all = found_once n cs h in let most = found_most n cs in omega arith
 
+-- ---- a look at each process
+
+each_from : (n : ℕ) (cs : List Caller) → ((k : ℕ) → k < n → times (1 + k) cs ≡ 1) → once_each n cs ≡ true
+each_from zero cs each = refl
+each_from (suc n) cs each =
+    let last : times (suc n) cs ≡ 1 = ap (λ m. times m cs) (let e : suc n ≡ 1 + n = omega arith in e) ∙ each n (omega arith) in
+    ap (λ (b : Bool). b && (times (suc n) cs == 1)) (each_from n cs (λ k h. each k (omega (arith, h)))) ∙ eq-eqb (times (suc n) cs) 1 last
+
+each_at : (n : ℕ) (cs : List Caller) → once_each n cs ≡ true → (k : ℕ) → k < n → times (1 + k) cs ≡ 1
+each_at zero cs all k h = absurd (omega (arith, h))
+each_at (suc n) cs all k h =
+    let parts = and_parts (once_each n cs) (times (suc n) cs == 1) all in
+    ⊎_elim {C = times (1 + k) cs ≡ 1}
+    (λ w. ap (λ m. times m cs) (let same = w.1 in let x : 1 + k ≡ suc n = omega (arith, same) in x) ∙ eqb-true (times (suc n) cs) 1 parts.1)
+    (λ w. each_at n cs parts.0 k (let other : k ≢ n = w.1 in omega (arith, h, other)))
+    (eqb_tells k n)
+
+-- it says yes exactly where each of the processes 1 to n stands once
+pub once_by : (n : ℕ) (r : Bool) (cs : List Caller)
+    → MatchBool r (AllWithin (λ p. times p cs ≡ 1) (range_with_len 1 n) 0 (length (range_with_len 1 n))) ((k : ℕ) × (k < length (range_with_len 1 n)) × HoldsAt (λ p. ¬ (times p cs ≡ 1)) (range_with_len 1 n) k)
+    → r ≡ once_each n cs
+once_by n true cs m =
+    sym (each_from n cs (λ k h. subst (λ p. times p cs ≡ 1) (get_or-range_with_len 1 n k 0 h) (m k 0 (omega arith) (let l = length-range_with_len 1 n in omega (arith, l, h)))))
+once_by n false cs m =
+    let h : m.0 < n = (let l = length-range_with_len 1 n in let b = m.1 in omega (arith, l, b)) in
+    let no : ¬ (times (1 + m.0) cs ≡ 1) = subst (λ x. ¬ (times x cs ≡ 1)) (get_or-range_with_len 1 n m.0 0 h) (m.2 0) in
+    not_true (once_each n cs) (λ e. no (each_at n cs e m.0 h))
+  where
+    not_true : (b : Bool) → ¬ (b ≡ true) → false ≡ b
+    not_true true not = absurd (not refl)
+    not_true false not = refl
+
 -- ---- a further entry
 
 -- a fork alone makes a process
-pub processes_after : (old new : Held) (e : Entry) → Adds old new e → processes new ≡ processes old + cond {A = ℕ} (makes_one e.request e.reply) 1 0
+pub processes_after : (old new : KeptHistory) (e : Entry) → Adds old new e → processes new ≡ processes old + cond {A = ℕ} (makes_one e.request e.reply) 1 0
 processes_after old new e adds =
-    ap (λ (b : Held). length (state_of b).processes) adds.appended
+    ap (λ (b : KeptHistory). length (state_of b).processes) adds.appended
     ∙ fork_alone_makes (state_of old) (replay old.boot (old.entries ++ e ∷ [])) e.pid.0 (length old.entries) e.request e.reply e.released adds.next.steps
 
 -- a part is there for a process that was made
-pub part_for_child : {old new : Held} {e : Entry} {parts total rest amount count : ℕ} → IsBook old parts total rest amount → Adds old new e → count ≡ processes new → count ≤ 1024 →
+pub part_for_child : {old new : KeptHistory} {e : Entry} {parts total rest amount count : ℕ} → IsBook old parts total rest amount → Adds old new e → count ≡ processes new → count ≤ 1024 →
     cond {A = ℕ} (makes_one e.request e.reply) 1 0 ≤ rest
 part_for_child {old} {new} {e} book adds is most =
     let more = processes_after old new e adds in
@@ -86,14 +121,14 @@ part_for_child {old} {new} {e} book adds is most =
     omega (arith, more, all, is, most)
 
 -- the entry is counted, unless it is the layer's end, and a process that was made has a part
-pub book_after : {old new : Held} {e : Entry} {parts total total' rest rest' amount amount' : ℕ} → IsBook old parts total rest amount → Adds old new e →
+pub book_after : {old new : KeptHistory} {e : Entry} {parts total total' rest rest' amount amount' : ℕ} → IsBook old parts total rest amount → Adds old new e →
     total' ≡ total + cond {A = ℕ} (is_off e.request) 0 1 → rest' + cond {A = ℕ} (makes_one e.request e.reply) 1 0 ≡ rest → amount' ≡ 0 → IsBook new parts total' rest' amount'
 book_after {old} {new} {e} {parts} {total} {total'} {rest} {rest'} {amount} {amount'} book adds counted given none =
     let more = processes_after old new e adds in
     let all = book.rest in
     let before = book.counted in
-    let longer : length new.entries ≡ length old.entries + 1 = ap (λ (b : Held). length b.entries) adds.appended ∙ length-append old.entries (e ∷ []) in
-    let ends : ends_of new.entries ≡ ends_of old.entries + cond {A = ℕ} (is_off e.request) 1 0 = ap (λ (b : Held). ends_of b.entries) adds.appended ∙ ends_push old.entries e in
+    let longer : length new.entries ≡ length old.entries + 1 = ap (λ (b : KeptHistory). length b.entries) adds.appended ∙ length-append old.entries (e ∷ []) in
+    let ends : ends_of new.entries ≡ ends_of old.entries + cond {A = ℕ} (is_off e.request) 1 0 = ap (λ (b : KeptHistory). ends_of b.entries) adds.appended ∙ ends_push old.entries e in
     let either = counted_or_end (is_off e.request) in
     record {
       whole = book.whole;
@@ -123,7 +158,7 @@ once_each_front m (suc n) cs few all =
     (eqb_tells m (suc n))
 
 -- the shares of all processes are those of the ones at the start, too
-pub first_each : (boot : State) (book : Held) (cs : List Caller) → book.boot ≡ boot → IsLegal boot book.entries → once_each (processes book) cs ≡ true → once_each (length boot.processes) cs ≡ true
+pub first_each : (boot : State) (book : KeptHistory) (cs : List Caller) → book.boot ≡ boot → IsLegal boot book.entries → once_each (processes book) cs ≡ true → once_each (length boot.processes) cs ≡ true
 first_each boot book cs begins legal all =
     once_each_front (length boot.processes) (processes book) cs
     (subst (λ (S : State). length boot.processes ≤ length (replay S book.entries).processes) (sym begins) (boot_within boot book.entries legal)) all

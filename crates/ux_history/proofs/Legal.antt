@@ -21,7 +21,7 @@ use Rattle.ux_model.proofs.Refusals.{refusal_changes_nothing}
 use Rattle.ux_model.proofs.Living.{live_ones_counted}
 use Rattle.ux_state.proofs.Lookups.{live_inside, live_positive}
 use Rattle.ux_kernel.specs.Calling.{IsCaller}
-use Rattle.ux_history.specs.Books.{Held, state_of, may_call, ends_of, is_last}
+use Rattle.ux_history.specs.Books.{KeptHistory, state_of, may_call, ends_of, is_last}
 use Rattle.ux_history.specs.Shares.{processes}
 use Rattle.ux_history.specs.Logs.{Kept, IsLog, last_entries}
 
@@ -310,7 +310,7 @@ room_when_last boot S es cs cap kept request log same last =
     let room = log.room in
     omega (arith, here, none, room))
 
-pub may_end : (book : Held) (live ended : Bool) → live ≡ false → live ≡ has_live (state_of book) → ended ≡ false → cond {A = ℕ} ended 1 0 ≡ ends_of book.entries → calls_of 0 book.entries ≡ ends_of book.entries →
+pub may_end : (book : KeptHistory) (live ended : Bool) → live ≡ false → live ≡ has_live (state_of book) → ended ≡ false → cond {A = ℕ} ended 1 0 ≡ ends_of book.entries → calls_of 0 book.entries ≡ ends_of book.entries →
     may_call book (record { 0 = 0 }) 0 Request.Off ≡ true
 may_end book live ended none is_live_is not_ended ends calls =
     let nobody : not (has_live (state_of book)) ≡ true = ap not (sym is_live_is ∙ none) in

@@ -13,7 +13,7 @@ use Rattle.ux_model.specs.Waiting.{may_wait, is_again}
 use Rattle.ux_model.specs.History.{calls_of, is_allowed, MayFollow, IsLegal}
 use Rattle.ux_model.proofs.Appending.{legal_push}
 use Rattle.ux_history.specs.declared.receipts.Call.{Call}
-use Rattle.ux_history.specs.Books.{Held, state_of, may_call, is_last, entry_of, Adds}
+use Rattle.ux_history.specs.Books.{KeptHistory, state_of, may_call, is_last, entry_of, Adds}
 use Rattle.ux_history.specs.Shares.{Caller}
 use Rattle.ux_history.specs.Logs.{Kept, last_entries}
 use Rattle.ux_history.specs.Receipts.{call_of}
@@ -37,7 +37,7 @@ pub record Ready (S : State) (es : List Entry) (cs : List ℕ) (pid : Pid) (k : 
   pub inside : pid.0 < length cs
   pub made : length S.processes ≤ made_limit
 
-pub ready : {boot S : State} {es : List Entry} {cs : List ℕ} {number : ℕ} {book : Held} (pid : Pid) (k : ℕ) (request : Request) → IsRunning boot es S cs number → record { boot = boot; entries = es } ≡ book →
+pub ready : {boot S : State} {es : List Entry} {cs : List ℕ} {number : ℕ} {book : KeptHistory} (pid : Pid) (k : ℕ) (request : Request) → IsRunning boot es S cs number → record { boot = boot; entries = es } ≡ book →
     length S.processes ≤ made_limit → may_call book pid k request ≡ true → (is_last request ≡ false → length book.entries < 2 ^ 62) → Ready S es cs pid k request
 ready {boot} {S} {es} {cs} {number} {book} pid k request run same most may few =
     record {
@@ -52,7 +52,7 @@ ready {boot} {S} {es} {cs} {number} {book} pid k request run same most may few =
     kept = record { book = book; room = 2 ^ 62 + 1026 }
 
     same_kept : record { book = record { boot = boot; entries = es }; room = 2 ^ 62 + 1026 } ≡ kept
-    same_kept = ap (λ (h : Held). record { book = h; room = 2 ^ 62 + 1026 }) same
+    same_kept = ap (λ (h : KeptHistory). record { book = h; room = 2 ^ 62 + 1026 }) same
 
     allowed : is_allowed S pid.0 k request ≡ true
     allowed = allowed_now boot S es cs (2 ^ 62 + 1026) kept pid k request run.log same_kept may
@@ -60,7 +60,7 @@ ready {boot} {S} {es} {cs} {number} {book} pid k request run same most may few =
     room : (b : Bool) → (b ≡ false → length book.entries < 2 ^ 62) → length es + last_entries S es + cond {A = ℕ} b 0 2 ≤ 2 ^ 62 + 1026
     room true h = let room = run.log.room in omega (arith, room)
     room false h =
-        let less : length es < 2 ^ 62 = subst (λ (b : Held). length b.entries < 2 ^ 62) (sym same) (h refl) in
+        let less : length es < 2 ^ 62 = subst (λ (b : KeptHistory). length b.entries < 2 ^ 62) (sym same) (h refl) in
         let live = few_live S in
         omega (arith, less, live, most)
 
@@ -87,25 +87,25 @@ few_entries {boot} {S} {es} {cs} {number} T e run may step =
     room_for_one boot S T es cs (2 ^ 62 + 1026) e number run.log may.allowed may.counted may.room step
 
 -- what the caller of the next call gets
-pub answered_next : (boot : State) (log old new : Held) (c : Caller) (pid : Pid) (k : ℕ) (request : Request) (waits tried : Bool) (number : ℕ) (reply : Reply) (call : Call) (released : List ℕ) →
+pub answered_next : (boot : State) (log old new : KeptHistory) (c : Caller) (pid : Pid) (k : ℕ) (request : Request) (waits tried : Bool) (number : ℕ) (reply : Reply) (call : Call) (released : List ℕ) →
     log ≡ old → pid ≡ c.pid → k ≡ c.k → Adds log new (entry_of (state_of log) pid k request reply released) → (waits ≡ true → is_again reply ≡ false) → number ≡ length log.entries →
     call ≡ record { pid = pid; k = k; request = request; reply = reply } → (tried ≡ true → waits ≡ may_wait (state_of log) pid.0 request) → log.boot ≡ boot → IsLegal log.boot log.entries →
     Answered boot old new c request tried number reply call released
 answered_next boot log old new c pid k request waits tried number reply call released same who count adds done number_is call_is waiting begins legal =
     answered boot log old new c pid k request request waits tried number reply call released same who count refl (record { reply = reply; adds = adds; done = done }) number_is
-    (said_at new.entries number e reply call at refl call_is) waiting (ap (λ (b : Held). b.boot) adds.appended ∙ begins)
-    (subst (λ (b : Held). IsLegal b.boot b.entries) (sym adds.appended) (legal_push log.boot log.entries e legal adds.next))
+    (said_at new.entries number e reply call at refl call_is) waiting (ap (λ (b : KeptHistory). b.boot) adds.appended ∙ begins)
+    (subst (λ (b : KeptHistory). IsLegal b.boot b.entries) (sym adds.appended) (legal_push log.boot log.entries e legal adds.next))
   where
     e : Entry
     e = entry_of (state_of log) pid k request reply released
 
     at : slice_get new.entries number ≡ Some e
-    at = ap (λ (b : Held). slice_get b.entries number) adds.appended ∙ ap (slice_get (log.entries ++ e ∷ [])) number_is ∙ get_at log.entries e
+    at = ap (λ (b : KeptHistory). slice_get b.entries number) adds.appended ∙ ap (slice_get (log.entries ++ e ∷ [])) number_is ∙ get_at log.entries e
 
 -- the calls of a trail with one more
-pub trail_after : {id : TableId} {old new : Held} {e : Entry} {t t' : Trailed} → t ≡ record { id = id; calls = map call_of old.entries } → t' ≡ record t { calls = t.calls ++ call_of e ∷ [] } → Adds old new e →
+pub trail_after : {id : TableId} {old new : KeptHistory} {e : Entry} {t t' : Trailed} → t ≡ record { id = id; calls = map call_of old.entries } → t' ≡ record t { calls = t.calls ++ call_of e ∷ [] } → Adds old new e →
     t' ≡ record { id = id; calls = map call_of new.entries }
 trail_after {id} {old} {new} {e} before more adds =
     more
     ∙ ap (λ (x : Trailed). record x { calls = x.calls ++ call_of e ∷ [] }) before
-    ∙ ap (λ cs. record { id = id; calls = cs }) (sym (map-append call_of old.entries (e ∷ [])) ∙ ap (λ (b : Held). map call_of b.entries) (sym adds.appended))
+    ∙ ap (λ cs. record { id = id; calls = cs }) (sym (map-append call_of old.entries (e ∷ [])) ∙ ap (λ (b : KeptHistory). map call_of b.entries) (sym adds.appended))

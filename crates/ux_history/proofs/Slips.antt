@@ -14,7 +14,7 @@ use Rattle.ux_room.proofs.Fitting.{fits_trans}
 use Rattle.ux_model.proofs.Fronts.{front_is_legal}
 use Rattle.ux_model.proofs.ReplySizes.{replies_fit}
 use Rattle.ux_history.specs.declared.receipts.Call.{Call}
-use Rattle.ux_history.specs.Books.{Held, Adds, Makes, entry_of, state_of}
+use Rattle.ux_history.specs.Books.{KeptHistory, Adds, Makes, entry_of, state_of}
 use Rattle.ux_history.specs.Shares.{Caller, call_by}
 use Rattle.ux_history.specs.Receipts.{call_of, next_slip, IsSlip}
 
@@ -23,7 +23,7 @@ get_at [] x = refl
 get_at (y ∷ xs) x = get_at xs x
 
 -- A call that was just made, against what its caller gets.
-pub record Answered (boot : State) (old new : Held) (c : Caller) (request : Request) (tried : Bool) (number : ℕ) (reply : Reply) (call : Call) (released : List ℕ) : Type 0 where
+pub record Answered (boot : State) (old new : KeptHistory) (c : Caller) (request : Request) (tried : Bool) (number : ℕ) (reply : Reply) (call : Call) (released : List ℕ) : Type 0 where
   pub slip : IsSlip boot (record { number = number; call = call; tried = tried })
   pub adds : Adds old new (call_by old c request reply released)
   pub done : tried ≡ true → should_wait (state_of old) c.pid.0 request reply ≡ false
@@ -33,7 +33,7 @@ both_no : (w m a : Bool) → w ≡ m → (w ≡ true → a ≡ false) → (m && 
 both_no w true a same refused = refused same
 both_no w false a same refused = refl
 
-pub answered : (boot : State) (log old new : Held) (c : Caller) (pid : Pid) (k : ℕ) (copy request : Request) (waits tried : Bool) (number : ℕ) (reply : Reply) (call : Call) (released : List ℕ) →
+pub answered : (boot : State) (log old new : KeptHistory) (c : Caller) (pid : Pid) (k : ℕ) (copy request : Request) (waits tried : Bool) (number : ℕ) (reply : Reply) (call : Call) (released : List ℕ) →
     log ≡ old → pid ≡ c.pid → k ≡ c.k → copy ≡ request → (made : Makes log new pid k copy waits released) → number ≡ length log.entries →
     IsSomeAnd (slice_get new.entries number) (λ e. (reply ≡ e.reply) × (call ≡ call_of e)) → (tried ≡ true → waits ≡ may_wait (state_of log) pid.0 request) →
     new.boot ≡ boot → IsLegal new.boot new.entries → Answered boot old new c request tried number reply call released
@@ -47,16 +47,16 @@ answered boot log old new c pid k copy request waits tried number reply call rel
         same = sym said.1;
         done = λ t. ap (λ (S : State). should_wait S pid.0 copy made.reply) come ∙ ap (λ (r : Request). should_wait (state_of log) pid.0 r made.reply) asked ∙ not_yet t;
       };
-      adds = subst (λ (x : Entry). Adds old new x) e_is (subst (λ (b : Held). Adds b new e) same made.adds);
+      adds = subst (λ (x : Entry). Adds old new x) e_is (subst (λ (b : KeptHistory). Adds b new e) same made.adds);
       done = λ t. sym (λ j. should_wait (state_of (same j)) (Pid.0 (who j)) request (sym said.0 j)) ∙ not_yet t;
-      receipt = λ j. record { number = (number_is ∙ ap (λ (b : Held). length b.entries) same) j; call = (said.1 ∙ (λ i. call_of (e_is i))) j; tried = tried };
+      receipt = λ j. record { number = (number_is ∙ ap (λ (b : KeptHistory). length b.entries) same) j; call = (said.1 ∙ (λ i. call_of (e_is i))) j; tried = tried };
     }
   where
     e : Entry
     e = entry_of (state_of log) pid k copy made.reply released
 
     at : slice_get new.entries number ≡ Some e
-    at = ap (λ (b : Held). slice_get b.entries number) made.adds.appended ∙ ap (slice_get (log.entries ++ e ∷ [])) number_is ∙ get_at log.entries e
+    at = ap (λ (b : KeptHistory). slice_get b.entries number) made.adds.appended ∙ ap (slice_get (log.entries ++ e ∷ [])) number_is ∙ get_at log.entries e
 
     said : (reply ≡ made.reply) × (call ≡ call_of e)
     said = subst (λ (o : Option Entry). IsSomeAnd o (λ x. (reply ≡ x.reply) × (call ≡ call_of x))) at there
@@ -67,7 +67,7 @@ answered boot log old new c pid k copy request waits tried number reply call rel
     come : replay boot (take number new.entries) ≡ state_of log
     come =
         ap (λ (S : State). replay S (take number new.entries)) (sym begins)
-        ∙ ap (λ (b : Held). replay b.boot (take number b.entries)) made.adds.appended
+        ∙ ap (λ (b : KeptHistory). replay b.boot (take number b.entries)) made.adds.appended
         ∙ ap (replay log.boot) (take_at log.entries (e ∷ []) number (sym number_is))
 
     not_yet : tried ≡ true → should_wait (state_of log) pid.0 request made.reply ≡ false

@@ -12,7 +12,7 @@ use Rattle.ux_history.specs.declared.account.Account.{Account}
 use Rattle.ux_history.specs.Books.{ends_of}
 use Rattle.ux_history.specs.Shares.{Caller, once_each, all_counted}
 use Rattle.ux_history.specs.Receipts.{Slip}
-use Rattle.ux_history.specs.Telling.{AllStand, IsTold}
+use Rattle.ux_history.specs.SettlingSlips.{AllStand, IsSettledWith}
 
 -- one more was confirmed
 pub stands_more : (calls : List Call) (slips : List Slip) (i : ℕ) (w : Slip) → w ≡ get_or slips i w → slice_get calls w.number ≡ Some w.call
@@ -25,8 +25,8 @@ stands_more calls slips i w is here before k s less at =
     (eqb_tells k i)
 
 -- an account of a history in which the witnesses' calls stand
-pub told_of : {E : Type 0} (boot : State) (es : List Entry) (cs : List Caller) (slips : List Slip) (r : Result Account E) → IsLegal boot es
+pub settled_with : {E : Type 0} (boot : State) (es : List Entry) (cs : List Caller) (slips : List Slip) (r : Result Account E) → IsLegal boot es
     → IfOk r (λ a. a.entries ≡ length es) → IfOk r (λ a. (if a.ended then 1 else 0) ≡ ends_of es) → IfOk r (λ a. all_counted es cs ≡ true)
-    → IfOk r (λ a. once_each (length (replay boot es).processes) cs ≡ true) → AllStand es slips → IfOk r (λ a. IsTold boot cs slips a.entries a.ended)
-told_of boot es cs slips (Ok a) legal long ends counted once stand = record { entries = es; legal = legal; long = sym long; counted = counted; ends = sym ends; once = once; stand = stand }
-told_of boot es cs slips (Err f) legal long ends counted once stand = tt
+    → IfOk r (λ a. once_each (length (replay boot es).processes) cs ≡ true) → AllStand es slips → IfOk r (λ a. IsSettledWith boot cs slips a.entries a.ended)
+settled_with boot es cs slips (Ok a) legal long ends counted once stand = record { entries = es; legal = legal; long = sym long; counted = counted; ends = sym ends; once = once; stand = stand }
+settled_with boot es cs slips (Err f) legal long ends counted once stand = tt

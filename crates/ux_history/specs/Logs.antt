@@ -4,11 +4,11 @@ use Rattle.ux_model.specs.Limits.{made_limit}
 use Rattle.ux_model.specs.Types.{Entry}
 use Rattle.ux_model.specs.State.{State}
 use Rattle.ux_model.specs.History.{calls_of, live_count, replay, IsLegal}
-use Rattle.ux_history.specs.Books.{Held, ends_of}
+use Rattle.ux_history.specs.Books.{KeptHistory, ends_of}
 
 -- a book, and how many entries there is room for
 pub record Kept : Type 0 where
-  pub book : Held
+  pub book : KeptHistory
   pub room : ℕ
 
 -- how many entries are still to come at least: each live process's exit, and the layer's end

@@ -6,7 +6,7 @@ use Rattle.ux_model.specs.State.{State}
 use Rattle.ux_model.specs.Waiting.{should_wait}
 use Rattle.ux_model.specs.History.{replay, IsLegal}
 use Rattle.ux_history.specs.declared.receipts.Call.{Call}
-use Rattle.ux_history.specs.Books.{Held}
+use Rattle.ux_history.specs.Books.{KeptHistory}
 use Rattle.ux_history.specs.Shares.{Caller}
 
 -- an entry but for the file objects that it released and the message of which rights came
@@ -20,7 +20,7 @@ pub record Slip : Type 0 where
   pub tried : Bool
 
 -- the receipt for the next entry of a book
-abbrev pub next_slip : Held → Caller → Request → Reply → Bool → Slip
+abbrev pub next_slip : KeptHistory → Caller → Request → Reply → Bool → Slip
 next_slip book c request reply tried = record { number = length book.entries; call = record { pid = c.pid; k = c.k; request = request; reply = reply }; tried = tried }
 
 -- Some legal history from this state has the call at its number; where it was tried, it isn't one that should have waited.

@@ -4,7 +4,7 @@ use Rattle.std.specs.List.{list_all}
 use Rattle.ux_model.specs.Types.{Pid, Request, Reply, Entry}
 use Rattle.ux_model.specs.State.{is_live}
 use Rattle.ux_model.specs.History.{calls_of}
-use Rattle.ux_history.specs.Books.{Held, state_of, ends_of, entry_of}
+use Rattle.ux_history.specs.Books.{KeptHistory, state_of, ends_of, entry_of}
 
 -- a process, and how many calls it has made
 pub record Caller : Type 0 where
@@ -12,7 +12,7 @@ pub record Caller : Type 0 where
   pub k : ℕ
 
 -- the process lives, and has as many entries
-abbrev pub knows : Held → Caller → Bool
+abbrev pub knows : KeptHistory → Caller → Bool
 knows book c = is_live (state_of book) c.pid.0 && (calls_of c.pid.0 book.entries == c.k)
 
 -- the caller after one more call
@@ -25,11 +25,11 @@ fresh zero = []
 fresh (suc n) = fresh n ++ record { pid = record { 0 = suc n }; k = 0 } ∷ []
 
 -- the entry of a call that this caller makes at the end of a book
-abbrev pub call_by : Held → Caller → Request → Reply → List ℕ → Entry
+abbrev pub call_by : KeptHistory → Caller → Request → Reply → List ℕ → Entry
 call_by book c request reply released = entry_of (state_of book) c.pid c.k request reply released
 
 -- how many processes were made, those that have exited too
-abbrev pub processes : Held → ℕ
+abbrev pub processes : KeptHistory → ℕ
 processes book = length (state_of book).processes
 
 -- the process that a call made, which has made no call yet
@@ -51,7 +51,7 @@ abbrev pub all_counted : List Entry → List Caller → Bool
 all_counted entries cs = list_all (λ c. calls_of c.pid.0 entries == c.k) cs
 
 -- Each entry is counted by a share but the layer's end, and the parts of the ledger that no process has count nothing.
-pub record IsBook (book : Held) (parts total rest_parts rest_amount : ℕ) : Type 0 where
+pub record IsBook (book : KeptHistory) (parts total rest_parts rest_amount : ℕ) : Type 0 where
   pub whole : parts ≡ 1024
   pub counted : total + ends_of book.entries ≡ length book.entries
   pub rest : rest_parts + processes book ≡ 1024

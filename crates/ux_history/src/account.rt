@@ -7,9 +7,9 @@ ghost use Rattle.ux_history.specs.Shares.{processes, times, once_each, all_count
 ghost use Rattle.ux_history.specs.Settling.{IsSettled, IsLacking};
 ghost use Rattle.ux_history.specs.Faults.{is_missing, is_unknown};
 
+use crate::book_name::BookName;
 use crate::call_book::CallBook;
 use crate::fault::SettleFault;
-use crate::naming::BookName;
 use crate::shares::Spent;
 use ux_object::FileObject;
 use ux_types::Pid;
@@ -34,18 +34,18 @@ pub fn settle_accounts<W: BookName, O: FileObject, B: CallBook<W, O>>(
     book: &mut B,
     mut spents: Vec<Spent<W>>,
 ) -> Result<Account, (SettleFault, Vec<Spent<W>>)>
-    ensures book { B.held book.new ≡ B.held book.old }
-    ensures once { IfOk result (λ a. once_each (processes (B.held book.old)) spents.items ≡ true) }
+    ensures book { B.history book.new ≡ B.history book.old }
+    ensures once { IfOk result (λ a. once_each (processes (B.history book.old)) spents.items ≡ true) }
     ensures first { IfOk result (λ a. once_each (length W.boot.processes) spents.items ≡ true) }
-    ensures missing { IfErr result (λ f. is_missing f.0 ≡ not (once_each (processes (B.held book.old)) spents.items)) }
+    ensures missing { IfErr result (λ f. is_missing f.0 ≡ not (once_each (processes (B.history book.old)) spents.items)) }
     ensures absent { IfErr result (λ f. once_each (length W.boot.processes) spents.items ≡ false → is_missing f.0 ≡ true) }
     ensures lacking { IfErr result (λ f. is_missing f.0 ≡ true → IsLacking W.boot spents.items) }
-    ensures boot { (B.held book.old).boot ≡ W.boot }
-    ensures counted { IfOk result (λ a. all_counted (B.held book.old).entries spents.items ≡ true) }
-    ensures miscounted { IfErr result (λ f. is_missing f.0 ≡ false → all_counted (B.held book.old).entries spents.items ≡ false) }
+    ensures boot { (B.history book.old).boot ≡ W.boot }
+    ensures counted { IfOk result (λ a. all_counted (B.history book.old).entries spents.items ≡ true) }
+    ensures miscounted { IfErr result (λ f. is_missing f.0 ≡ false → all_counted (B.history book.old).entries spents.items ≡ false) }
     ensures sum { IfOk result (λ a. a.entries ≡ sum_by (λ c. c.k) spents.items + (if a.ended then 1 else 0)) }
-    ensures entries { IfOk result (λ a. a.entries ≡ length (B.held book.old).entries) }
-    ensures ended { IfOk result (λ a. (if a.ended then 1 else 0) ≡ ends_of (B.held book.old).entries) }
+    ensures entries { IfOk result (λ a. a.entries ≡ length (B.history book.old).entries) }
+    ensures ended { IfOk result (λ a. (if a.ended then 1 else 0) ≡ ends_of (B.history book.old).entries) }
     ensures settled { IfOk result (λ a. IsSettled W.boot spents.items a.entries a.ended) }
     ensures known { IfErr result (λ f. is_unknown f.0 ≡ false) }
     ensures back { IfErr result (λ f. f.1.items ≡ spents.items) }
@@ -64,11 +64,7 @@ fn is_each_once<W: BookName>(spents: &[Spent<W>], count: usize) -> bool
     requires { count ≤ made_limit }
     ensures { result ≡ once_each count spents.now }
 {
-    let mut once = true;
-    for pid in 1..count as u32 + 1 {
-        once = once && count_of(spents, Pid(pid)) == 1;
-    }
-    once
+    (1..count as u32 + 1).all(|pid| count_of(spents, Pid(pid)) == 1)
 }
 
 /// How many of them are this process's.
@@ -80,7 +76,7 @@ fn count_of<W: BookName>(spents: &[Spent<W>], pid: Pid) -> usize
 
 /// Whether each of them has counted its process's entries.
 fn are_counted<W: BookName, O: FileObject, B: CallBook<W, O>>(book: &B, spents: &[Spent<W>]) -> bool
-    ensures { result ≡ all_counted (B.held book.now).entries spents.now }
+    ensures { result ≡ all_counted (B.history book.now).entries spents.now }
 {
     for spent in spents {
         if !is_counted(book, spent) {
@@ -92,7 +88,7 @@ fn are_counted<W: BookName, O: FileObject, B: CallBook<W, O>>(book: &B, spents: 
 
 /// Whether it has counted its process's entries.
 fn is_counted<W: BookName, O: FileObject, B: CallBook<W, O>>(book: &B, spent: &Spent<W>) -> bool
-    ensures { result ≡ (calls_of spent.now.pid.0 (B.held book.now).entries == spent.now.k) }
+    ensures { result ≡ (calls_of spent.now.pid.0 (B.history book.now).entries == spent.now.k) }
 {
     book.calls_of(spent.pid()) == spent.calls()
 }

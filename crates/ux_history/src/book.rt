@@ -1,24 +1,24 @@
 //! The book: a kernel with all that was called since it started, and the right to call as shares.
-ghost use Rattle.std.specs.Prelude.{◌≡◌, ◌+◌, ◌<◌, ◌≤◌, ◌&&◌, ◌↔◌, [], true, false, not, length, map, sum_by, Some, IfOk, IfErr, OnOk, OnErr, IfSome, IfNone, OnSome, IsTrue, if◌then◌else◌};
+ghost use Rattle.std.specs.Prelude.{◌≡◌, ◌+◌, ◌<◌, ◌≤◌, ◌&&◌, ◌↔◌, [], true, false, length, map, sum_by, Some, IfOk, IfErr, OnOk, OnErr, IfSome, IfNone, IsTrue, if◌then◌else◌};
 ghost use Rattle.std.specs.List.{slice_get, AllByRecursion};
 ghost use Rattle.ux_model.specs.Limits.{made_limit};
 ghost use Rattle.ux_model.specs.Rooms.{size_of, room_for, Fits};
 ghost use Rattle.ux_model.specs.Boot.{IsBootState};
 ghost use Rattle.ux_model.specs.State.{is_live};
-ghost use Rattle.ux_model.specs.Waiting.{should_wait};
 ghost use Rattle.ux_model.specs.History.{calls_of, has_live, IsLegal};
 ghost use Rattle.ux_model.specs.HandingOut.{IsHandedOut};
 ghost use Rattle.ux_model.specs.History.{makes_one};
-ghost use Rattle.ux_history.specs.Books.{state_of, ends_of, is_last, has_own_call, Adds, Appends, MustWait};
-ghost use Rattle.ux_history.specs.Shares.{knows, once_more, fresh, call_by, child_by, processes, once_each};
-ghost use Rattle.ux_history.specs.Receipts.{call_of, next_slip};
-ghost use Rattle.ux_history.specs.Telling.{AllStand};
+ghost use Rattle.ux_history.specs.Books.{state_of, ends_of, is_last, has_own_call, Appends};
+ghost use Rattle.ux_history.specs.Shares.{knows, once_more, fresh, child_by, processes, once_each};
+ghost use Rattle.ux_history.specs.Receipts.{call_of};
+ghost use Rattle.ux_history.specs.SettlingSlips.{AllStand};
 ghost use Rattle.ux_history.specs.Faults.{is_stranger, is_alive};
+ghost use Rattle.ux_history.specs.Recording.{IsMade, Waits, IsRefused};
 
 use crate::account::Account;
+use crate::book_name::BookName;
 use crate::fault::{CallFault, NoMemory, OffFault};
 use crate::log::Log;
-use crate::naming::BookName;
 use crate::prepared::Prepared;
 use crate::receipts::{Receipt, Recorded};
 use crate::shares::{Share, Spent};
@@ -65,10 +65,10 @@ impl<W: BookName, O: FileObject> Drop for Book<W, O> {
 }
 
 impl<W: BookName, O: FileObject> Model for Book<W, O> {
-    ghost use Rattle.ux_history.specs.Books.{Held};
+    ghost use Rattle.ux_history.specs.Books.{KeptHistory};
     ghost use Rattle.ux_history.specs.Shares.{IsBook};
 
-    ghost Value = { Held };
+    ghost Value = { KeptHistory };
 
     ghost view = { λ b. b.log.book };
 
@@ -193,12 +193,7 @@ impl<W: BookName, O: FileObject> Book<W, O> {
     pub fn holds_all(&self, receipts: &[Receipt<W>]) -> bool
         ensures { IsTrue result ↔ AllStand self.now.entries receipts.now }
     {
-        for receipt in receipts {
-            if !self.holds(receipt) {
-                return false;
-            }
-        }
-        true
+        receipts.iter().all(|receipt| self.holds(receipt))
     }
 
     /// Makes a call of the share's process, and keeps it as one more entry. The file objects that went with
@@ -217,16 +212,9 @@ impl<W: BookName, O: FileObject> Book<W, O> {
     ) -> Result<Recorded<W>, CallFault>
         requires call { has_own_call request.now ≡ false }
         requires empty { retired.old ≡ [] }
-        ensures known { OnOk result (knows self.old share.old ≡ true) }
-        ensures stranger { IfErr result (λ f. is_stranger f ≡ not (knows self.old share.old)) }
+        ensures made { IfOk result (λ r. IsMade self.old self.new share.old share.new request.now r.reply false r.receipt retired.new) }
+        ensures refused { IfErr result (λ f. IsRefused self.old self.new share.old share.new f retired.new) }
         ensures memory { IfErr result (λ f. is_stranger f ≡ false → f ≡ CallFault.NoMemory) }
-        ensures entry { IfOk result (λ r. Adds self.old self.new (call_by self.old share.old request.now r.reply (map (λ o. o.0) retired.new))) }
-        ensures receipt { IfOk result (λ r. r.receipt ≡ next_slip self.old share.old request.now r.reply false) }
-        ensures share { OnOk result (share.new ≡ once_more share.old) }
-        ensures handed_out { OnOk result (AllByRecursion (IsHandedOut (state_of self.old)) retired.new) }
-        ensures same { OnErr result (self.new ≡ self.old) }
-        ensures kept { OnErr result (share.new ≡ share.old) }
-        ensures none { OnErr result (retired.new ≡ []) }
     {
         match self.make_copy(share, request, false, retired) {
             Ok(Some((recorded, _))) => Ok(recorded),
@@ -248,17 +236,10 @@ impl<W: BookName, O: FileObject> Book<W, O> {
         retired: &mut RetiredList<O>,
     ) -> Result<(Recorded<W>, Option<Share<W>>), CallFault>
         requires empty { retired.old ≡ [] }
-        ensures known { OnOk result (knows self.old share.old ≡ true) }
-        ensures stranger { IfErr result (λ f. is_stranger f ≡ not (knows self.old share.old)) }
-        ensures memory { IfErr result (λ f. is_stranger f ≡ false → f ≡ CallFault.NoMemory) }
-        ensures entry { IfOk result (λ r. Adds self.old self.new (call_by self.old share.old Request.Fork r.0.reply (map (λ o. o.0) retired.new))) }
-        ensures receipt { IfOk result (λ r. r.0.receipt ≡ next_slip self.old share.old Request.Fork r.0.reply false) }
+        ensures made { IfOk result (λ r. IsMade self.old self.new share.old share.new Request.Fork r.0.reply false r.0.receipt retired.new) }
         ensures child { IfOk result (λ r. r.1 ≡ child_by Request.Fork r.0.reply) }
-        ensures share { OnOk result (share.new ≡ once_more share.old) }
-        ensures handed_out { OnOk result (AllByRecursion (IsHandedOut (state_of self.old)) retired.new) }
-        ensures same { OnErr result (self.new ≡ self.old) }
-        ensures kept { OnErr result (share.new ≡ share.old) }
-        ensures none { OnErr result (retired.new ≡ []) }
+        ensures refused { IfErr result (λ f. IsRefused self.old self.new share.old share.new f retired.new) }
+        ensures memory { IfErr result (λ f. is_stranger f ≡ false → f ≡ CallFault.NoMemory) }
     {
         match self.make_copy(share, &Request::Fork, false, retired) {
             Ok(Some(forked)) => Ok(forked),
@@ -281,21 +262,10 @@ impl<W: BookName, O: FileObject> Book<W, O> {
     ) -> Result<Option<Recorded<W>>, CallFault>
         requires call { has_own_call request.now ≡ false }
         requires empty { retired.old ≡ [] }
-        ensures known { OnOk result (knows self.old share.old ≡ true) }
-        ensures stranger { IfErr result (λ f. is_stranger f ≡ not (knows self.old share.old)) }
+        ensures made { IfOk result (λ o. IfSome o (λ r. IsMade self.old self.new share.old share.new request.now r.reply true r.receipt retired.new)) }
+        ensures waits { IfOk result (λ o. IfNone o (Waits self.old self.new share.old share.new request.now retired.new)) }
+        ensures refused { IfErr result (λ f. IsRefused self.old self.new share.old share.new f retired.new) }
         ensures memory { IfErr result (λ f. is_stranger f ≡ false → f ≡ CallFault.NoMemory) }
-        ensures entry { IfOk result (λ o. IfSome o (λ r. Adds self.old self.new (call_by self.old share.old request.now r.reply (map (λ o. o.0) retired.new)))) }
-        ensures done { IfOk result (λ o. IfSome o (λ r. should_wait (state_of self.old) share.old.pid.0 request.now r.reply ≡ false)) }
-        ensures receipt { IfOk result (λ o. IfSome o (λ r. r.receipt ≡ next_slip self.old share.old request.now r.reply true)) }
-        ensures share { IfOk result (λ o. OnSome o (share.new ≡ once_more share.old)) }
-        ensures handed_out { IfOk result (λ o. OnSome o (AllByRecursion (IsHandedOut (state_of self.old)) retired.new)) }
-        ensures waits { IfOk result (λ o. IfNone o (MustWait self.old share.old.pid request.now)) }
-        ensures unchanged { IfOk result (λ o. IfNone o (self.new ≡ self.old)) }
-        ensures unspent { IfOk result (λ o. IfNone o (share.new ≡ share.old)) }
-        ensures nothing { IfOk result (λ o. IfNone o (retired.new ≡ [])) }
-        ensures same { OnErr result (self.new ≡ self.old) }
-        ensures kept { OnErr result (share.new ≡ share.old) }
-        ensures none { OnErr result (retired.new ≡ []) }
     {
         match self.make_copy(share, request, true, retired) {
             Ok(Some((recorded, _))) => Ok(Some(recorded)),
@@ -317,17 +287,10 @@ impl<W: BookName, O: FileObject> Book<W, O> {
     ) -> Result<Receipt<W>, (CallFault, Prepared)>
         requires call { has_own_call prepared ≡ false }
         requires empty { retired.old ≡ [] }
-        ensures known { OnOk result (knows self.old share.old ≡ true) }
-        ensures stranger { IfErr result (λ f. is_stranger f.0 ≡ not (knows self.old share.old)) }
+        ensures made { IfOk result (λ r. IsMade self.old self.new share.old share.new prepared r.call.reply false r retired.new) }
+        ensures refused { IfErr result (λ f. IsRefused self.old self.new share.old share.new f.0 retired.new) }
         ensures memory { IfErr result (λ f. is_stranger f.0 ≡ false → f.0 ≡ CallFault.NoMemory) }
         ensures back { IfErr result (λ f. f.1 ≡ prepared) }
-        ensures entry { IfOk result (λ r. Adds self.old self.new (call_by self.old share.old prepared r.call.reply (map (λ o. o.0) retired.new))) }
-        ensures receipt { IfOk result (λ r. r ≡ next_slip self.old share.old prepared r.call.reply false) }
-        ensures share { OnOk result (share.new ≡ once_more share.old) }
-        ensures handed_out { OnOk result (AllByRecursion (IsHandedOut (state_of self.old)) retired.new) }
-        ensures same { OnErr result (self.new ≡ self.old) }
-        ensures kept { OnErr result (share.new ≡ share.old) }
-        ensures none { OnErr result (retired.new ≡ []) }
     {
         match self.make(share, prepared, false, retired) {
             Ok(Some((receipt, _))) => Ok(receipt),
@@ -349,17 +312,10 @@ impl<W: BookName, O: FileObject> Book<W, O> {
     ) -> Result<Receipt<W>, (CallFault, Request)>
         requires call { has_own_call request ≡ false }
         requires empty { retired.old ≡ [] }
-        ensures known { OnOk result (knows self.old share.old ≡ true) }
-        ensures stranger { IfErr result (λ f. is_stranger f.0 ≡ not (knows self.old share.old)) }
+        ensures made { IfOk result (λ r. IsMade self.old self.new share.old share.new request r.call.reply false r retired.new) }
+        ensures refused { IfErr result (λ f. IsRefused self.old self.new share.old share.new f.0 retired.new) }
         ensures memory { IfErr result (λ f. is_stranger f.0 ≡ false → f.0 ≡ CallFault.NoMemory) }
         ensures back { IfErr result (λ f. f.1 ≡ request) }
-        ensures entry { IfOk result (λ r. Adds self.old self.new (call_by self.old share.old request r.call.reply (map (λ o. o.0) retired.new))) }
-        ensures receipt { IfOk result (λ r. r ≡ next_slip self.old share.old request r.call.reply false) }
-        ensures share { OnOk result (share.new ≡ once_more share.old) }
-        ensures handed_out { OnOk result (AllByRecursion (IsHandedOut (state_of self.old)) retired.new) }
-        ensures same { OnErr result (self.new ≡ self.old) }
-        ensures kept { OnErr result (share.new ≡ share.old) }
-        ensures none { OnErr result (retired.new ≡ []) }
     {
         if !self.knows(share) {
             return Err((CallFault::Stranger, request));
@@ -386,23 +342,12 @@ impl<W: BookName, O: FileObject> Book<W, O> {
     ) -> Result<Option<(Recorded<W>, Option<Share<W>>)>, CallFault>
         requires call { is_last request.now ≡ false }
         requires empty { retired.old ≡ [] }
-        ensures known { OnOk result (knows self.old share.old ≡ true) }
-        ensures stranger { IfErr result (λ f. is_stranger f ≡ not (knows self.old share.old)) }
-        ensures memory { IfErr result (λ f. is_stranger f ≡ false → f ≡ CallFault.NoMemory) }
-        ensures entry { IfOk result (λ o. IfSome o (λ r. Adds self.old self.new (call_by self.old share.old request.now r.0.reply (map (λ o. o.0) retired.new)))) }
-        ensures done { IfOk result (λ o. IfSome o (λ r. tried ≡ true → should_wait (state_of self.old) share.old.pid.0 request.now r.0.reply ≡ false)) }
-        ensures receipt { IfOk result (λ o. IfSome o (λ r. r.0.receipt ≡ next_slip self.old share.old request.now r.0.reply tried)) }
+        ensures made { IfOk result (λ o. IfSome o (λ r. IsMade self.old self.new share.old share.new request.now r.0.reply tried r.0.receipt retired.new)) }
         ensures child { IfOk result (λ o. IfSome o (λ r. r.1 ≡ child_by request.now r.0.reply)) }
-        ensures share { IfOk result (λ o. OnSome o (share.new ≡ once_more share.old)) }
-        ensures handed_out { IfOk result (λ o. OnSome o (AllByRecursion (IsHandedOut (state_of self.old)) retired.new)) }
+        ensures waits { IfOk result (λ o. IfNone o (Waits self.old self.new share.old share.new request.now retired.new)) }
         ensures tried { IfOk result (λ o. IfNone o (tried ≡ true)) }
-        ensures waits { IfOk result (λ o. IfNone o (MustWait self.old share.old.pid request.now)) }
-        ensures unchanged { IfOk result (λ o. IfNone o (self.new ≡ self.old)) }
-        ensures unspent { IfOk result (λ o. IfNone o (share.new ≡ share.old)) }
-        ensures nothing { IfOk result (λ o. IfNone o (retired.new ≡ [])) }
-        ensures same { OnErr result (self.new ≡ self.old) }
-        ensures kept { OnErr result (share.new ≡ share.old) }
-        ensures none { OnErr result (retired.new ≡ []) }
+        ensures refused { IfErr result (λ f. IsRefused self.old self.new share.old share.new f retired.new) }
+        ensures memory { IfErr result (λ f. is_stranger f ≡ false → f ≡ CallFault.NoMemory) }
     {
         if !self.knows(share) {
             return Err(CallFault::Stranger);
@@ -431,25 +376,14 @@ impl<W: BookName, O: FileObject> Book<W, O> {
     ) -> Result<Option<(Receipt<W>, Option<Share<W>>)>, (CallFault, Prepared)>
         requires call { is_last prepared ≡ false }
         requires empty { retired.old ≡ [] }
-        ensures known { OnOk result (knows self.old share.old ≡ true) }
-        ensures stranger { IfErr result (λ f. is_stranger f.0 ≡ not (knows self.old share.old)) }
+        ensures made { IfOk result (λ o. IfSome o (λ r. IsMade self.old self.new share.old share.new prepared r.0.call.reply tried r.0 retired.new)) }
+        ensures child { IfOk result (λ o. IfSome o (λ r. r.1 ≡ child_by prepared r.0.call.reply)) }
+        ensures fits { IfOk result (λ o. IfSome o (λ r. Fits (size_of r.0.call.reply) (room_for prepared))) }
+        ensures waits { IfOk result (λ o. IfNone o (Waits self.old self.new share.old share.new prepared retired.new)) }
+        ensures tried { IfOk result (λ o. IfNone o (tried ≡ true)) }
+        ensures refused { IfErr result (λ f. IsRefused self.old self.new share.old share.new f.0 retired.new) }
         ensures memory { IfErr result (λ f. is_stranger f.0 ≡ false → f.0 ≡ CallFault.NoMemory) }
         ensures back { IfErr result (λ f. f.1 ≡ prepared) }
-        ensures entry { IfOk result (λ o. IfSome o (λ r. Adds self.old self.new (call_by self.old share.old prepared r.0.call.reply (map (λ o. o.0) retired.new)))) }
-        ensures done { IfOk result (λ o. IfSome o (λ r. tried ≡ true → should_wait (state_of self.old) share.old.pid.0 prepared r.0.call.reply ≡ false)) }
-        ensures receipt { IfOk result (λ o. IfSome o (λ r. r.0 ≡ next_slip self.old share.old prepared r.0.call.reply tried)) }
-        ensures fits { IfOk result (λ o. IfSome o (λ r. Fits (size_of r.0.call.reply) (room_for prepared))) }
-        ensures child { IfOk result (λ o. IfSome o (λ r. r.1 ≡ child_by prepared r.0.call.reply)) }
-        ensures share { IfOk result (λ o. OnSome o (share.new ≡ once_more share.old)) }
-        ensures handed_out { IfOk result (λ o. OnSome o (AllByRecursion (IsHandedOut (state_of self.old)) retired.new)) }
-        ensures tried { IfOk result (λ o. IfNone o (tried ≡ true)) }
-        ensures waits { IfOk result (λ o. IfNone o (MustWait self.old share.old.pid prepared)) }
-        ensures unchanged { IfOk result (λ o. IfNone o (self.new ≡ self.old)) }
-        ensures unspent { IfOk result (λ o. IfNone o (share.new ≡ share.old)) }
-        ensures nothing { IfOk result (λ o. IfNone o (retired.new ≡ [])) }
-        ensures same { OnErr result (self.new ≡ self.old) }
-        ensures kept { OnErr result (share.new ≡ share.old) }
-        ensures none { OnErr result (retired.new ≡ []) }
     {
         if !self.knows(share) {
             return Err((CallFault::Stranger, prepared));

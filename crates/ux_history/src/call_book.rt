@@ -1,20 +1,20 @@
 //! What seats ask of a book, whether it keeps its entries or not.
-ghost use Rattle.std.specs.Prelude.{◌≡◌, ◌+◌, ◌≤◌, [], true, false, not, length, map, sum_by, IfOk, IfErr, OnOk, OnErr, IfSome, IfNone, OnSome, IsTrue, if◌then◌else◌};
+ghost use Rattle.std.specs.Prelude.{◌≡◌, ◌+◌, ◌≤◌, [], true, false, length, map, sum_by, IfOk, IfErr, OnOk, OnErr, IfSome, IfNone, IsTrue, if◌then◌else◌};
 ghost use Rattle.std.specs.List.{AllByRecursion};
 ghost use Rattle.ux_model.specs.Limits.{made_limit};
 ghost use Rattle.ux_model.specs.State.{is_live};
-ghost use Rattle.ux_model.specs.Waiting.{should_wait};
 ghost use Rattle.ux_model.specs.History.{calls_of, has_live, IsLegal};
 ghost use Rattle.ux_model.specs.HandingOut.{IsHandedOut};
-ghost use Rattle.ux_history.specs.Books.{state_of, ends_of, has_own_call, Adds, Appends, MustWait};
-ghost use Rattle.ux_history.specs.Shares.{knows, once_more, call_by, child_by, processes, once_each};
-ghost use Rattle.ux_history.specs.Receipts.{next_slip, IsSlip};
-ghost use Rattle.ux_history.specs.Faults.{is_stranger, is_alive, is_deadlock};
+ghost use Rattle.ux_history.specs.Books.{state_of, ends_of, has_own_call, Appends};
+ghost use Rattle.ux_history.specs.Shares.{knows, once_more, child_by, processes, once_each};
+ghost use Rattle.ux_history.specs.Receipts.{IsSlip};
+ghost use Rattle.ux_history.specs.Faults.{is_alive, is_deadlock};
+ghost use Rattle.ux_history.specs.Recording.{IsMade, Waits, IsRefused};
 
 use crate::account::Account;
 use crate::book::Book;
+use crate::book_name::BookName;
 use crate::fault::{CallFault, OffFault};
-use crate::naming::BookName;
 use crate::prepared::Prepared;
 use crate::receipts::Receipt;
 use crate::shares::{Share, Spent};
@@ -47,6 +47,10 @@ pub trait Keeps<W: BookName>: Drop {
     fn reply(&self) -> &Reply
         ensures { result.now ≡ (kept self.now).call.reply };
 
+    /// What was answered, and nothing else of it.
+    fn into_reply(self) -> Reply
+        ensures { result ≡ (kept self).call.reply };
+
     /// Does nothing when it runs. Its contract is what it shows.
     fn show(&self)
         ensures { IsSlip W.boot (kept self.now) };
@@ -64,7 +68,7 @@ pub trait Asks: Drop {
         ensures { result ≡ asked self };
 }
 
-/// A book of a kernel's calls. `held` is its history: the kernel is at the end of it.
+/// A book of a kernel's calls, which are a history: the kernel is at the end of it.
 pub trait CallBook<W: BookName, O: FileObject>: Drop {
     /// What a call gives its caller beside the answer.
     type Slip: Shows<W>;
@@ -75,14 +79,14 @@ pub trait CallBook<W: BookName, O: FileObject>: Drop {
     /// What a call gives its caller that takes its request.
     type Kept: Keeps<W>;
 
-    ghost use Rattle.ux_history.specs.Books.{Held};
+    ghost use Rattle.ux_history.specs.Books.{KeptHistory};
 
     /// Where the history began, and its entries.
-    ghost held: { Self → Held };
+    ghost history: { Self → KeptHistory };
 
     /// The kernel, at the end of the history.
     fn into_kernel(self) -> Kernel<O>
-        ensures { result ≡ state_of (held self) };
+        ensures { result ≡ state_of (history self) };
 
     /// Makes a call of the share's process, which is one more entry. The file objects that went with it are
     /// put into an empty list by rising number, closed and otherwise as they were.
@@ -99,16 +103,9 @@ pub trait CallBook<W: BookName, O: FileObject>: Drop {
     ) -> Result<(Reply, Self::Slip), CallFault>
         requires call { has_own_call request.now ≡ false }
         requires empty { retired.old ≡ [] }
-        ensures known { OnOk result (knows (held self.old) share.old ≡ true) }
-        ensures stranger { IfErr result (λ f. is_stranger f ≡ not (knows (held self.old) share.old)) }
-        ensures goes_on { IfErr result (λ f. is_deadlock f ≡ false) }
-        ensures entry { IfOk result (λ r. Adds (held self.old) (held self.new) (call_by (held self.old) share.old request.now r.0 (map (λ o. o.0) retired.new))) }
-        ensures slip { IfOk result (λ r. Self.Slip.slip r.1 ≡ next_slip (held self.old) share.old request.now r.0 false) }
-        ensures share { OnOk result (share.new ≡ once_more share.old) }
-        ensures handed_out { OnOk result (AllByRecursion (IsHandedOut (state_of (held self.old))) retired.new) }
-        ensures same { OnErr result (held self.new ≡ held self.old) }
-        ensures kept { OnErr result (share.new ≡ share.old) }
-        ensures none { OnErr result (retired.new ≡ []) };
+        ensures made { IfOk result (λ r. IsMade (history self.old) (history self.new) share.old share.new request.now r.0 false (Self.Slip.slip r.1) retired.new) }
+        ensures refused { IfErr result (λ f. IsRefused (history self.old) (history self.new) share.old share.new f retired.new) }
+        ensures goes_on { IfErr result (λ f. is_deadlock f ≡ false) };
 
     /// A request with what its call needs that doesn't depend on the book.
     ///
@@ -132,17 +129,10 @@ pub trait CallBook<W: BookName, O: FileObject>: Drop {
     ) -> Result<Self::Kept, (CallFault, Self::Prepared)>
         requires call { has_own_call (Self.Prepared.asked prepared) ≡ false }
         requires empty { retired.old ≡ [] }
-        ensures known { OnOk result (knows (held self.old) share.old ≡ true) }
-        ensures stranger { IfErr result (λ f. is_stranger f.0 ≡ not (knows (held self.old) share.old)) }
+        ensures made { IfOk result (λ r. IsMade (history self.old) (history self.new) share.old share.new (Self.Prepared.asked prepared) (Self.Kept.kept r).call.reply false (Self.Kept.kept r) retired.new) }
+        ensures refused { IfErr result (λ f. IsRefused (history self.old) (history self.new) share.old share.new f.0 retired.new) }
         ensures goes_on { IfErr result (λ f. is_deadlock f.0 ≡ false) }
-        ensures back { IfErr result (λ f. Self.Prepared.asked f.1 ≡ Self.Prepared.asked prepared) }
-        ensures entry { IfOk result (λ r. Adds (held self.old) (held self.new) (call_by (held self.old) share.old (Self.Prepared.asked prepared) (Self.Kept.kept r).call.reply (map (λ o. o.0) retired.new))) }
-        ensures receipt { IfOk result (λ r. Self.Kept.kept r ≡ next_slip (held self.old) share.old (Self.Prepared.asked prepared) (Self.Kept.kept r).call.reply false) }
-        ensures share { OnOk result (share.new ≡ once_more share.old) }
-        ensures handed_out { OnOk result (AllByRecursion (IsHandedOut (state_of (held self.old))) retired.new) }
-        ensures same { OnErr result (held self.new ≡ held self.old) }
-        ensures kept { OnErr result (share.new ≡ share.old) }
-        ensures none { OnErr result (retired.new ≡ []) };
+        ensures back { IfErr result (λ f. Self.Prepared.asked f.1 ≡ Self.Prepared.asked prepared) };
 
     /// As `record`; but where the call may wait, and would have to, the answer is `None`, and book and share
     /// are as before.
@@ -158,21 +148,10 @@ pub trait CallBook<W: BookName, O: FileObject>: Drop {
     ) -> Result<Option<(Reply, Self::Slip)>, CallFault>
         requires call { has_own_call request.now ≡ false }
         requires empty { retired.old ≡ [] }
-        ensures known { OnOk result (knows (held self.old) share.old ≡ true) }
-        ensures stranger { IfErr result (λ f. is_stranger f ≡ not (knows (held self.old) share.old)) }
-        ensures goes_on { IfErr result (λ f. is_deadlock f ≡ false) }
-        ensures entry { IfOk result (λ o. IfSome o (λ r. Adds (held self.old) (held self.new) (call_by (held self.old) share.old request.now r.0 (map (λ o. o.0) retired.new)))) }
-        ensures done { IfOk result (λ o. IfSome o (λ r. should_wait (state_of (held self.old)) share.old.pid.0 request.now r.0 ≡ false)) }
-        ensures slip { IfOk result (λ o. IfSome o (λ r. Self.Slip.slip r.1 ≡ next_slip (held self.old) share.old request.now r.0 true)) }
-        ensures share { IfOk result (λ o. OnSome o (share.new ≡ once_more share.old)) }
-        ensures handed_out { IfOk result (λ o. OnSome o (AllByRecursion (IsHandedOut (state_of (held self.old))) retired.new)) }
-        ensures waits { IfOk result (λ o. IfNone o (MustWait (held self.old) share.old.pid request.now)) }
-        ensures unchanged { IfOk result (λ o. IfNone o (held self.new ≡ held self.old)) }
-        ensures unspent { IfOk result (λ o. IfNone o (share.new ≡ share.old)) }
-        ensures nothing { IfOk result (λ o. IfNone o (retired.new ≡ [])) }
-        ensures same { OnErr result (held self.new ≡ held self.old) }
-        ensures kept { OnErr result (share.new ≡ share.old) }
-        ensures none { OnErr result (retired.new ≡ []) };
+        ensures made { IfOk result (λ o. IfSome o (λ r. IsMade (history self.old) (history self.new) share.old share.new request.now r.0 true (Self.Slip.slip r.1) retired.new)) }
+        ensures waits { IfOk result (λ o. IfNone o (Waits (history self.old) (history self.new) share.old share.new request.now retired.new)) }
+        ensures refused { IfErr result (λ f. IsRefused (history self.old) (history self.new) share.old share.new f retired.new) }
+        ensures goes_on { IfErr result (λ f. is_deadlock f ≡ false) };
 
     /// Makes a process that is a copy of the share's, as one more entry (fork(2)), and gives the new process's
     /// share, which has made no call yet. It is there exactly where the answer is `Child`.
@@ -186,27 +165,20 @@ pub trait CallBook<W: BookName, O: FileObject>: Drop {
         retired: &mut RetiredList<O>,
     ) -> Result<(Reply, Self::Slip, Option<Share<W>>), CallFault>
         requires empty { retired.old ≡ [] }
-        ensures known { OnOk result (knows (held self.old) share.old ≡ true) }
-        ensures stranger { IfErr result (λ f. is_stranger f ≡ not (knows (held self.old) share.old)) }
-        ensures goes_on { IfErr result (λ f. is_deadlock f ≡ false) }
-        ensures entry { IfOk result (λ r. Adds (held self.old) (held self.new) (call_by (held self.old) share.old Request.Fork r.0 (map (λ o. o.0) retired.new))) }
-        ensures slip { IfOk result (λ r. Self.Slip.slip r.1 ≡ next_slip (held self.old) share.old Request.Fork r.0 false) }
+        ensures made { IfOk result (λ r. IsMade (history self.old) (history self.new) share.old share.new Request.Fork r.0 false (Self.Slip.slip r.1) retired.new) }
         ensures child { IfOk result (λ r. r.2 ≡ child_by Request.Fork r.0) }
-        ensures share { OnOk result (share.new ≡ once_more share.old) }
-        ensures handed_out { OnOk result (AllByRecursion (IsHandedOut (state_of (held self.old))) retired.new) }
-        ensures same { OnErr result (held self.new ≡ held self.old) }
-        ensures kept { OnErr result (share.new ≡ share.old) }
-        ensures none { OnErr result (retired.new ≡ []) };
+        ensures refused { IfErr result (λ f. IsRefused (history self.old) (history self.new) share.old share.new f retired.new) }
+        ensures goes_on { IfErr result (λ f. is_deadlock f ≡ false) };
 
     /// Ends the share's process where it is a live one which has made so many calls, and reports whether it was;
     /// the share is then spent. It takes no memory.
     fn end(&mut self, share: &mut Share<W>, retired: &mut RetiredList<O>) -> bool
         requires empty { retired.old ≡ [] }
-        ensures known { result ≡ knows (held self.old) share.old }
-        ensures entry { IsTrue result → Appends (held self.old) (held self.new) share.old.pid share.old.k Request.Exit (map (λ o. o.0) retired.new) }
+        ensures known { result ≡ knows (history self.old) share.old }
+        ensures entry { IsTrue result → Appends (history self.old) (history self.new) share.old.pid share.old.k Request.Exit (map (λ o. o.0) retired.new) }
         ensures spent { IsTrue result → share.new ≡ once_more share.old }
-        ensures handed_out { IsTrue result → AllByRecursion (IsHandedOut (state_of (held self.old))) retired.new }
-        ensures same { result ≡ false → held self.new ≡ held self.old }
+        ensures handed_out { IsTrue result → AllByRecursion (IsHandedOut (state_of (history self.old))) retired.new }
+        ensures same { result ≡ false → history self.new ≡ history self.old }
         ensures kept { result ≡ false → share.new ≡ share.old }
         ensures none { result ≡ false → retired.new ≡ [] };
 
@@ -218,37 +190,37 @@ pub trait CallBook<W: BookName, O: FileObject>: Drop {
     /// `Alive` exactly where a process hasn't exited, else `Given` exactly where this was done before.
     fn off(&mut self, retired: &mut RetiredList<O>) -> Result<(), OffFault>
         requires empty { retired.old ≡ [] }
-        ensures gone { OnOk result (has_live (state_of (held self.old)) ≡ false) }
-        ensures first { OnOk result (ends_of (held self.old).entries ≡ 0) }
-        ensures alive { IfErr result (λ f. is_alive f ≡ has_live (state_of (held self.old))) }
-        ensures given { IfErr result (λ f. is_alive f ≡ false → ends_of (held self.old).entries ≡ 1) }
-        ensures entry { OnOk result (Appends (held self.old) (held self.new) (record { 0 = 0 }) 0 Request.Off (map (λ o. o.0) retired.new)) }
-        ensures handed_out { OnOk result (AllByRecursion (IsHandedOut (state_of (held self.old))) retired.new) }
-        ensures same { OnErr result (held self.new ≡ held self.old) }
+        ensures gone { OnOk result (has_live (state_of (history self.old)) ≡ false) }
+        ensures first { OnOk result (ends_of (history self.old).entries ≡ 0) }
+        ensures alive { IfErr result (λ f. is_alive f ≡ has_live (state_of (history self.old))) }
+        ensures given { IfErr result (λ f. is_alive f ≡ false → ends_of (history self.old).entries ≡ 1) }
+        ensures entry { OnOk result (Appends (history self.old) (history self.new) (record { 0 = 0 }) 0 Request.Off (map (λ o. o.0) retired.new)) }
+        ensures handed_out { OnOk result (AllByRecursion (IsHandedOut (state_of (history self.old))) retired.new) }
+        ensures same { OnErr result (history self.new ≡ history self.old) }
         ensures none { OnErr result (retired.new ≡ []) };
 
     /// How many processes were made. The entries are a legal history.
     fn process_count(&self) -> usize
-        ensures count { result ≡ processes (held self.now) }
+        ensures count { result ≡ processes (history self.now) }
         ensures most { result ≤ made_limit }
-        ensures boot { (held self.now).boot ≡ W.boot }
-        ensures legal { IsLegal W.boot (held self.now).entries };
+        ensures boot { (history self.now).boot ≡ W.boot }
+        ensures legal { IsLegal W.boot (history self.now).entries };
 
     /// How many entries there are with this process's number; the end of the layer has the number 0.
     fn calls_of(&self, pid: Pid) -> u64
-        ensures { result ≡ calls_of pid.0 (held self.now).entries };
+        ensures { result ≡ calls_of pid.0 (history self.now).entries };
 
     /// Whether a process with this number was made, and hasn't exited.
     fn is_live(&self, pid: Pid) -> bool
-        ensures { result ≡ is_live (state_of (held self.now)) pid.0 };
+        ensures { result ≡ is_live (state_of (history self.now)) pid.0 };
 
     /// Merges the shares of all processes, which have then counted all entries but the end of the layer.
     fn audit(&mut self, spents: &mut Vec<Spent<W>>) -> Account
-        requires { once_each (processes (held self.old)) spents.old.items ≡ true }
-        ensures book { held self.new ≡ held self.old }
+        requires { once_each (processes (history self.old)) spents.old.items ≡ true }
+        ensures book { history self.new ≡ history self.old }
         ensures sum { result.entries ≡ sum_by (λ c. c.k) spents.old.items + (if result.ended then 1 else 0) }
-        ensures entries { result.entries ≡ length (held self.old).entries }
-        ensures ended { (if result.ended then 1 else 0) ≡ ends_of (held self.old).entries };
+        ensures entries { result.entries ≡ length (history self.old).entries }
+        ensures ended { (if result.ended then 1 else 0) ≡ ends_of (history self.old).entries };
 }
 
 impl<W: BookName> Shows<W> for Receipt<W> {
@@ -264,6 +236,10 @@ impl<W: BookName> Keeps<W> for Receipt<W> {
 
     fn reply(&self) -> &Reply {
         Receipt::reply(self)
+    }
+
+    fn into_reply(self) -> Reply {
+        Receipt::into_reply(self)
     }
 
     fn show(&self) {
@@ -295,7 +271,7 @@ impl<W: BookName, O: FileObject> CallBook<W, O> for Book<W, O> {
 
     type Kept = Receipt<W>;
 
-    ghost held = { λ b. b };
+    ghost history = { λ b. b };
 
     fn into_kernel(self) -> Kernel<O> {
         Book::into_kernel(self)
@@ -388,12 +364,12 @@ pub fn exit_share<W: BookName, O: FileObject, B: CallBook<W, O>>(
     retired: &mut RetiredList<O>,
 ) -> Result<Spent<W>, Share<W>>
     requires empty { retired.old ≡ [] }
-    ensures known { OnOk result (knows (B.held book.old) share ≡ true) }
-    ensures stranger { OnErr result (knows (B.held book.old) share ≡ false) }
-    ensures entry { OnOk result (Appends (B.held book.old) (B.held book.new) share.pid share.k Request.Exit (map (λ o. o.0) retired.new)) }
+    ensures known { OnOk result (knows (B.history book.old) share ≡ true) }
+    ensures stranger { OnErr result (knows (B.history book.old) share ≡ false) }
+    ensures entry { OnOk result (Appends (B.history book.old) (B.history book.new) share.pid share.k Request.Exit (map (λ o. o.0) retired.new)) }
     ensures spent { IfOk result (λ s. s ≡ once_more share) }
-    ensures handed_out { OnOk result (AllByRecursion (IsHandedOut (state_of (B.held book.old))) retired.new) }
-    ensures same { OnErr result (B.held book.new ≡ B.held book.old) }
+    ensures handed_out { OnOk result (AllByRecursion (IsHandedOut (state_of (B.history book.old))) retired.new) }
+    ensures same { OnErr result (B.history book.new ≡ B.history book.old) }
     ensures back { IfErr result (λ s. s ≡ share) }
     ensures none { OnErr result (retired.new ≡ []) }
 {

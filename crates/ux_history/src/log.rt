@@ -14,7 +14,7 @@ ghost use Rattle.ux_history.specs.Shares.{processes};
 ghost use Rattle.ux_history.specs.Logs.{last_entries};
 ghost use Rattle.ux_history.specs.Receipts.{call_of};
 
-use crate::naming::BookName;
+use crate::book_name::BookName;
 use crate::receipts::Call;
 use std::alloc::{AllocError, Global};
 use std::marker::{Model, PhantomData};

@@ -2,7 +2,7 @@
 ghost use Rattle.std.specs.Prelude.{◌≡◌, ◌↔◌, IsTrue};
 ghost use Rattle.ux_history.specs.Receipts.{call_of, IsSlip};
 
-use crate::naming::BookName;
+use crate::book_name::BookName;
 use std::marker::{Model, PhantomData};
 use ux_types::{Entry, Pid, Reply, Request};
 
@@ -42,11 +42,24 @@ impl Call {
             && is_same_request(&entry.request, &self.request)
             && is_same_reply(&entry.reply, &self.reply)
     }
+
+    /// What was answered, and nothing else of it.
+    fn into_reply(self) -> Reply
+        ensures { result ≡ self.reply }
+    {
+        let Self {
+            pid: _,
+            k: _,
+            request: _,
+            reply,
+        } = self;
+        reply
+    }
 }
 
-/// Whether they are the same.
+/// Whether they are the same, as `==` says, whose own contract goes by kinds.
 #[tactic(auto, using(crate::proofs::SameRequests::same_request))]
-fn is_same_request(one: &Request, other: &Request) -> bool
+pub fn is_same_request(one: &Request, other: &Request) -> bool
     ensures { IsTrue result ↔ (one.now ≡ other.now) }
 {
     one == other
@@ -112,6 +125,19 @@ impl<W: BookName> Receipt<W> {
         ensures { result.now ≡ self.now.call.reply }
     {
         &self.call.reply
+    }
+
+    /// What was answered, and nothing else of it.
+    pub fn into_reply(self) -> Reply
+        ensures { result ≡ self.call.reply }
+    {
+        let Receipt {
+            number: _,
+            call,
+            tried: _,
+            of: _,
+        } = self;
+        call.into_reply()
     }
 
     /// Whether `try_record` gave it.

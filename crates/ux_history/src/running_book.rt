@@ -1,22 +1,22 @@
 //! The book of which a program keeps no entry: a call takes the same room and time whatever came before.
-ghost use Rattle.std.specs.Prelude.{◌≡◌, ◌+◌, ◌^◌, ◌<◌, ◌≤◌, [], true, false, not, length, map, sum_by, Some, IfOk, IfErr, OnOk, OnErr, IfSome, IfNone, OnSome, IsTrue, if◌then◌else◌};
+ghost use Rattle.std.specs.Prelude.{◌≡◌, ◌+◌, ◌^◌, ◌<◌, ◌≤◌, [], true, false, length, map, sum_by, Some, IfOk, IfErr, OnOk, OnErr, IfSome, IfNone, IsTrue, if◌then◌else◌};
 ghost use Rattle.std.specs.List.{slice_get, AllByRecursion};
 ghost use Rattle.ux_model.specs.Limits.{made_limit};
 ghost use Rattle.ux_model.specs.Boot.{IsBootState};
 ghost use Rattle.ux_model.specs.State.{is_live};
-ghost use Rattle.ux_model.specs.Waiting.{should_wait};
 ghost use Rattle.ux_model.specs.History.{calls_of, has_live, IsLegal};
 ghost use Rattle.ux_model.specs.HandingOut.{IsHandedOut};
-ghost use Rattle.ux_history.specs.Books.{state_of, ends_of, is_last, has_own_call, Adds, Appends, MustWait};
-ghost use Rattle.ux_history.specs.Shares.{knows, once_more, fresh, call_by, child_by, processes, once_each};
-ghost use Rattle.ux_history.specs.Receipts.{call_of, next_slip};
+ghost use Rattle.ux_history.specs.Books.{state_of, ends_of, is_last, has_own_call, Appends};
+ghost use Rattle.ux_history.specs.Shares.{knows, once_more, fresh, child_by, processes, once_each};
+ghost use Rattle.ux_history.specs.Receipts.{call_of};
 ghost use Rattle.ux_history.specs.Faults.{is_stranger, is_alive};
+ghost use Rattle.ux_history.specs.Recording.{IsMade, Waits, IsRefused};
 
 use crate::account::Account;
 use crate::book::{PARTS, child_share, cut, merge_all};
+use crate::book_name::Trailing;
 use crate::call_book::CallBook;
 use crate::fault::{CallFault, NoMemory, OffFault};
-use crate::naming::Trailing;
 use crate::running_log::RunningLog;
 use crate::shares::{Share, Spent};
 use crate::trail::Trail;
@@ -62,11 +62,11 @@ impl<W: Trailing, O: FileObject> Drop for RunningBook<W, O> {
 
 impl<W: Trailing, O: FileObject> Model for RunningBook<W, O> {
     ghost use Rattle.std.specs.Prelude.{◌≡◌, map};
-    ghost use Rattle.ux_history.specs.Books.{Held};
+    ghost use Rattle.ux_history.specs.Books.{KeptHistory};
     ghost use Rattle.ux_history.specs.Shares.{IsBook};
     ghost use Rattle.ux_history.specs.Receipts.{call_of};
 
-    ghost Value = { Held };
+    ghost Value = { KeptHistory };
 
     ghost view = { λ b. b.log };
 
@@ -190,17 +190,10 @@ impl<W: Trailing, O: FileObject> RunningBook<W, O> {
     ) -> Result<(Reply, Witness<W>), CallFault>
         requires call { has_own_call request.now ≡ false }
         requires empty { retired.old ≡ [] }
-        ensures known { OnOk result (knows self.old share.old ≡ true) }
-        ensures stranger { IfErr result (λ f. is_stranger f ≡ not (knows self.old share.old)) }
+        ensures made { IfOk result (λ r. IsMade self.old self.new share.old share.new request.now r.0 false r.1 retired.new) }
+        ensures refused { IfErr result (λ f. IsRefused self.old self.new share.old share.new f retired.new) }
         ensures fault { IfErr result (λ f. is_stranger f ≡ false → f ≡ CallFault.Full) }
         ensures full { IfErr result (λ f. is_stranger f ≡ false → 2 ^ 62 ≤ length self.old.entries) }
-        ensures entry { IfOk result (λ r. Adds self.old self.new (call_by self.old share.old request.now r.0 (map (λ o. o.0) retired.new))) }
-        ensures witness { IfOk result (λ r. r.1 ≡ next_slip self.old share.old request.now r.0 false) }
-        ensures share { OnOk result (share.new ≡ once_more share.old) }
-        ensures handed_out { OnOk result (AllByRecursion (IsHandedOut (state_of self.old)) retired.new) }
-        ensures same { OnErr result (self.new ≡ self.old) }
-        ensures kept { OnErr result (share.new ≡ share.old) }
-        ensures none { OnErr result (retired.new ≡ []) }
     {
         match self.make(share, request, false, retired) {
             Ok(Some((reply, witness, _))) => Ok((reply, witness)),
@@ -221,18 +214,11 @@ impl<W: Trailing, O: FileObject> RunningBook<W, O> {
         retired: &mut RetiredList<O>,
     ) -> Result<(Reply, Witness<W>, Option<Share<W>>), CallFault>
         requires empty { retired.old ≡ [] }
-        ensures known { OnOk result (knows self.old share.old ≡ true) }
-        ensures stranger { IfErr result (λ f. is_stranger f ≡ not (knows self.old share.old)) }
+        ensures made { IfOk result (λ r. IsMade self.old self.new share.old share.new Request.Fork r.0 false r.1 retired.new) }
+        ensures child { IfOk result (λ r. r.2 ≡ child_by Request.Fork r.0) }
+        ensures refused { IfErr result (λ f. IsRefused self.old self.new share.old share.new f retired.new) }
         ensures fault { IfErr result (λ f. is_stranger f ≡ false → f ≡ CallFault.Full) }
         ensures full { IfErr result (λ f. is_stranger f ≡ false → 2 ^ 62 ≤ length self.old.entries) }
-        ensures entry { IfOk result (λ r. Adds self.old self.new (call_by self.old share.old Request.Fork r.0 (map (λ o. o.0) retired.new))) }
-        ensures witness { IfOk result (λ r. r.1 ≡ next_slip self.old share.old Request.Fork r.0 false) }
-        ensures child { IfOk result (λ r. r.2 ≡ child_by Request.Fork r.0) }
-        ensures share { OnOk result (share.new ≡ once_more share.old) }
-        ensures handed_out { OnOk result (AllByRecursion (IsHandedOut (state_of self.old)) retired.new) }
-        ensures same { OnErr result (self.new ≡ self.old) }
-        ensures kept { OnErr result (share.new ≡ share.old) }
-        ensures none { OnErr result (retired.new ≡ []) }
     {
         match self.make(share, &Request::Fork, false, retired) {
             Ok(Some(forked)) => Ok(forked),
@@ -255,22 +241,11 @@ impl<W: Trailing, O: FileObject> RunningBook<W, O> {
     ) -> Result<Option<(Reply, Witness<W>)>, CallFault>
         requires call { has_own_call request.now ≡ false }
         requires empty { retired.old ≡ [] }
-        ensures known { OnOk result (knows self.old share.old ≡ true) }
-        ensures stranger { IfErr result (λ f. is_stranger f ≡ not (knows self.old share.old)) }
+        ensures made { IfOk result (λ o. IfSome o (λ r. IsMade self.old self.new share.old share.new request.now r.0 true r.1 retired.new)) }
+        ensures waits { IfOk result (λ o. IfNone o (Waits self.old self.new share.old share.new request.now retired.new)) }
+        ensures refused { IfErr result (λ f. IsRefused self.old self.new share.old share.new f retired.new) }
         ensures fault { IfErr result (λ f. is_stranger f ≡ false → f ≡ CallFault.Full) }
         ensures full { IfErr result (λ f. is_stranger f ≡ false → 2 ^ 62 ≤ length self.old.entries) }
-        ensures entry { IfOk result (λ o. IfSome o (λ r. Adds self.old self.new (call_by self.old share.old request.now r.0 (map (λ o. o.0) retired.new)))) }
-        ensures done { IfOk result (λ o. IfSome o (λ r. should_wait (state_of self.old) share.old.pid.0 request.now r.0 ≡ false)) }
-        ensures witness { IfOk result (λ o. IfSome o (λ r. r.1 ≡ next_slip self.old share.old request.now r.0 true)) }
-        ensures share { IfOk result (λ o. OnSome o (share.new ≡ once_more share.old)) }
-        ensures handed_out { IfOk result (λ o. OnSome o (AllByRecursion (IsHandedOut (state_of self.old)) retired.new)) }
-        ensures waits { IfOk result (λ o. IfNone o (MustWait self.old share.old.pid request.now)) }
-        ensures unchanged { IfOk result (λ o. IfNone o (self.new ≡ self.old)) }
-        ensures unspent { IfOk result (λ o. IfNone o (share.new ≡ share.old)) }
-        ensures nothing { IfOk result (λ o. IfNone o (retired.new ≡ [])) }
-        ensures same { OnErr result (self.new ≡ self.old) }
-        ensures kept { OnErr result (share.new ≡ share.old) }
-        ensures none { OnErr result (retired.new ≡ []) }
     {
         match self.make(share, request, true, retired) {
             Ok(Some((reply, witness, _))) => Ok(Some((reply, witness))),
@@ -290,24 +265,13 @@ impl<W: Trailing, O: FileObject> RunningBook<W, O> {
     ) -> Result<Option<(Reply, Witness<W>, Option<Share<W>>)>, CallFault>
         requires call { is_last request.now ≡ false }
         requires empty { retired.old ≡ [] }
-        ensures known { OnOk result (knows self.old share.old ≡ true) }
-        ensures stranger { IfErr result (λ f. is_stranger f ≡ not (knows self.old share.old)) }
+        ensures made { IfOk result (λ o. IfSome o (λ r. IsMade self.old self.new share.old share.new request.now r.0 tried r.1 retired.new)) }
+        ensures child { IfOk result (λ o. IfSome o (λ r. r.2 ≡ child_by request.now r.0)) }
+        ensures waits { IfOk result (λ o. IfNone o (Waits self.old self.new share.old share.new request.now retired.new)) }
+        ensures tried { IfOk result (λ o. IfNone o (tried ≡ true)) }
+        ensures refused { IfErr result (λ f. IsRefused self.old self.new share.old share.new f retired.new) }
         ensures fault { IfErr result (λ f. is_stranger f ≡ false → f ≡ CallFault.Full) }
         ensures full { IfErr result (λ f. is_stranger f ≡ false → 2 ^ 62 ≤ length self.old.entries) }
-        ensures entry { IfOk result (λ o. IfSome o (λ r. Adds self.old self.new (call_by self.old share.old request.now r.0 (map (λ o. o.0) retired.new)))) }
-        ensures done { IfOk result (λ o. IfSome o (λ r. tried ≡ true → should_wait (state_of self.old) share.old.pid.0 request.now r.0 ≡ false)) }
-        ensures witness { IfOk result (λ o. IfSome o (λ r. r.1 ≡ next_slip self.old share.old request.now r.0 tried)) }
-        ensures child { IfOk result (λ o. IfSome o (λ r. r.2 ≡ child_by request.now r.0)) }
-        ensures share { IfOk result (λ o. OnSome o (share.new ≡ once_more share.old)) }
-        ensures handed_out { IfOk result (λ o. OnSome o (AllByRecursion (IsHandedOut (state_of self.old)) retired.new)) }
-        ensures tried { IfOk result (λ o. IfNone o (tried ≡ true)) }
-        ensures waits { IfOk result (λ o. IfNone o (MustWait self.old share.old.pid request.now)) }
-        ensures unchanged { IfOk result (λ o. IfNone o (self.new ≡ self.old)) }
-        ensures unspent { IfOk result (λ o. IfNone o (share.new ≡ share.old)) }
-        ensures nothing { IfOk result (λ o. IfNone o (retired.new ≡ [])) }
-        ensures same { OnErr result (self.new ≡ self.old) }
-        ensures kept { OnErr result (share.new ≡ share.old) }
-        ensures none { OnErr result (retired.new ≡ []) }
     {
         if !self.knows(share) {
             return Err(CallFault::Stranger);
@@ -419,7 +383,7 @@ impl<W: Trailing, O: FileObject> CallBook<W, O> for RunningBook<W, O> {
 
     type Kept = Witnessed<W>;
 
-    ghost held = { λ b. b };
+    ghost history = { λ b. b };
 
     fn into_kernel(self) -> Kernel<O> {
         RunningBook::into_kernel(self)

@@ -11,8 +11,8 @@ ghost use Rattle.ux_model.specs.HandingOut.{IsHandedOut};
 ghost use Rattle.ux_history.specs.Books.{state_of, may_call, ends_of, is_last, entry_of, Adds};
 ghost use Rattle.ux_history.specs.Shares.{processes};
 
+use crate::book_name::BookName;
 use crate::log::{is_again, numbers_of, zeros};
-use crate::naming::BookName;
 use crate::past::Past;
 use std::alloc::Global;
 use std::marker::{Model, PhantomData};
@@ -51,11 +51,11 @@ impl<W: BookName, O: FileObject> Drop for RunningLog<W, O> {
 }
 
 impl<W: BookName, O: FileObject> Model for RunningLog<W, O> {
-    ghost use Rattle.ux_history.specs.Books.{Held};
+    ghost use Rattle.ux_history.specs.Books.{KeptHistory};
     ghost use Rattle.ux_history.specs.Pasts.{entries_of};
     ghost use Rattle.ux_history.specs.Running.{IsRunning};
 
-    ghost Value = { Held };
+    ghost Value = { KeptHistory };
 
     ghost view = { λ l. record { boot = W.boot; entries = entries_of l.past } };
 

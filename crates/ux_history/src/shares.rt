@@ -1,7 +1,7 @@
 //! What a process holds of a book: the right to call, and what is left of it after its exit.
 ghost use Rattle.std.specs.Prelude.{◌≡◌};
 
-use crate::naming::BookName;
+use crate::book_name::BookName;
 use std::marker::Model;
 use std::sync::ledger;
 use ux_types::Pid;

@@ -2,8 +2,8 @@
 ghost use Rattle.std.specs.Prelude.{◌≡◌};
 ghost use Rattle.ux_history.specs.Receipts.{IsSlip};
 
+use crate::book_name::Trailing;
 use crate::call_book::{Keeps, Shows};
-use crate::naming::Trailing;
 use crate::trail::Mark;
 use std::marker::{Model, PhantomData};
 use std::snapshot::Snapshot;
@@ -115,6 +115,11 @@ impl<W: Trailing> Keeps<W> for Witnessed<W> {
 
     fn reply(&self) -> &Reply {
         &self.reply
+    }
+
+    fn into_reply(self) -> Reply {
+        let Witnessed { reply, witness: _ } = self;
+        reply
     }
 
     fn show(&self) {

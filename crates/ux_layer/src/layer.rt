@@ -5,7 +5,7 @@ ghost use Rattle.ux_model.specs.Boot.{IsBootState};
 ghost use Rattle.ux_history.specs.Books.{state_of};
 ghost use Rattle.ux_history.specs.Shares.{fresh, once_each};
 ghost use Rattle.ux_history.specs.Settling.{IsSettled, IsLacking};
-ghost use Rattle.ux_history.specs.Telling.{IsTold};
+ghost use Rattle.ux_history.specs.SettlingSlips.{IsSettledWith};
 ghost use Rattle.ux_history.specs.Faults.{is_missing, is_unknown};
 
 use crate::seat::{Seat, make_seat};
@@ -17,7 +17,7 @@ use std::sync::ledger::Blank;
 use std::sync::{Arc, Condvar, Mutex, MutexGuard, Wait};
 use ux_history::{
     Account, Book, BookName, CallBook, NoMemory, OffFault, Receipt, SettleFault, Share, Spent,
-    settle_accounts, settle_held,
+    settle_accounts, settle_with_receipts,
 };
 use ux_kernel::Kernel;
 use ux_object::FileObject;
@@ -192,20 +192,20 @@ impl<W: BookName, O: FileObject> Layer<W, O> {
     ///
     /// # Errors
     ///
-    /// Those of `settle_held`, with the shares.
-    pub fn settle_held<R: Wait>(
+    /// Those of `settle_with_receipts`, with the shares.
+    pub fn settle_with_receipts<R: Wait>(
         &self,
         rt: &R,
         spents: Vec<Spent<W>>,
         receipts: &[Receipt<W>],
     ) -> Result<Account, (SettleFault, Vec<Spent<W>>)>
-        ensures told { IfOk result (λ a. IsTold W.boot spents.items receipts.now a.entries a.ended) }
+        ensures settled { IfOk result (λ a. IsSettledWith W.boot spents.items receipts.now a.entries a.ended) }
         ensures missing { IfErr result (λ f. is_unknown f.0 ≡ false → once_each (length W.boot.processes) spents.items ≡ false → is_missing f.0 ≡ true) }
         ensures lacking { IfErr result (λ f. is_missing f.0 ≡ true → IsLacking W.boot spents.items) }
         ensures back { IfErr result (λ f. f.1.items ≡ spents.items) }
     {
         let mut guard = self.shared.desk.lock(rt);
-        settle_held(&mut desk_of(rt, &mut *guard).book, spents, receipts)
+        settle_with_receipts(&mut desk_of(rt, &mut *guard).book, spents, receipts)
     }
 }
 
@@ -243,7 +243,7 @@ pub fn start_book<W: BookName, O: FileObject, B: CallBook<W, O>, R: Wait>(
     shares: Vec<Share<W>>,
 ) -> Result<(Layer<W, O, B>, Vec<Seat<W, O, B>>), (Kernel<O>, NoMemory)>
     ensures seats { IfOk result (λ r. r.1.items ≡ shares.items) }
-    ensures back { IfErr result (λ f. f.0 ≡ state_of (B.held book)) }
+    ensures back { IfErr result (λ f. f.0 ≡ state_of (B.history book)) }
 {
     let Ok(mut seats) = Vec::with_capacity(alloc, shares.len()) else {
         return Err((book.into_kernel(), NoMemory));

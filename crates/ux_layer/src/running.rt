@@ -3,7 +3,7 @@ ghost use Rattle.std.specs.Prelude.{◌≡◌, ◌+◌, [], true, false, length,
 ghost use Rattle.ux_model.specs.Boot.{IsBootState};
 ghost use Rattle.ux_history.specs.Shares.{fresh, once_each};
 ghost use Rattle.ux_history.specs.Settling.{IsLacking};
-ghost use Rattle.ux_history.specs.Telling.{IsTold};
+ghost use Rattle.ux_history.specs.SettlingSlips.{IsSettledWith};
 ghost use Rattle.ux_history.specs.Faults.{is_missing};
 
 use crate::layer::{Layer, desk_of, start_book};
@@ -12,7 +12,7 @@ use std::alloc::Global;
 use std::sync::Wait;
 use std::sync::ledger::Blank;
 use ux_history::{
-    Account, NoMemory, RunningBook, SettleFault, Spent, Trail, Trailing, Witness, settle_told,
+    Account, NoMemory, RunningBook, SettleFault, Spent, Trail, Trailing, Witness, settle_with_witnesses,
 };
 use ux_kernel::Kernel;
 use ux_object::FileObject;
@@ -30,7 +30,7 @@ impl<W: Trailing, O: FileObject> Layer<W, O, RunningBook<W, O>> {
     /// # Errors
     ///
     /// Those of `settle`.
-    pub fn settle_told<R: Wait>(
+    pub fn settle_with_witnesses<R: Wait>(
         &self,
         rt: &R,
         spents: Vec<Spent<W>>,
@@ -40,12 +40,12 @@ impl<W: Trailing, O: FileObject> Layer<W, O, RunningBook<W, O>> {
         ensures missing { IfErr result (λ f. once_each (length W.boot.processes) spents.items ≡ false → is_missing f.0 ≡ true) }
         ensures lacking { IfErr result (λ f. is_missing f.0 ≡ true → IsLacking W.boot spents.items) }
         ensures sum { IfOk result (λ a. a.entries ≡ sum_by (λ c. c.k) spents.items + (if a.ended then 1 else 0)) }
-        ensures told { IfOk result (λ a. IsTold W.boot spents.items witnesses.old a.entries a.ended) }
+        ensures settled { IfOk result (λ a. IsSettledWith W.boot spents.items witnesses.old a.entries a.ended) }
         ensures witnesses { witnesses.new ≡ witnesses.old }
         ensures back { IfErr result (λ f. f.1.items ≡ spents.items) }
     {
         let mut guard = self.shared.desk.lock(rt);
-        settle_told(&mut desk_of(rt, &mut *guard).book, spents, witnesses)
+        settle_with_witnesses(&mut desk_of(rt, &mut *guard).book, spents, witnesses)
     }
 }
 

@@ -321,8 +321,7 @@ fn holds_all<W: BookName, O: FileObject, R: Wait>(
     layer: &Layer<W, O>,
     receipts: &[Receipt<W>],
 ) -> bool {
-    let guard = layer.book(rt);
-    receipts.iter().all(|receipt| guard.book().holds(receipt))
+    layer.book(rt).book().holds_all(receipts)
 }
 
 #[test]

@@ -16,7 +16,7 @@ use Rattle.ux_model.specs.History.{IsLegal, replay, is_off, has_live}
 use Rattle.ux_model.proofs.Living.{lives_until_exit, live_within}
 use Rattle.ux_model.proofs.Numbering.{numbered_from_one}
 use Rattle.ux_model.proofs.Appending.{legal_empty, legal_push}
-use Rattle.ux_history.specs.Books.{Held, state_of, ends_of}
+use Rattle.ux_history.specs.Books.{KeptHistory, state_of, ends_of}
 use Rattle.ux_history.specs.Shares as shares
 use Rattle.ux_history.specs.declared.fault.CallFault.{CallFault}
 use Rattle.ux_syntax.specs.declared.script.Act.{Act}
@@ -111,7 +111,7 @@ forks_all lines n =
     omega (arith, both, calls, exits)
 
 -- each fork line of a script has made its process
-pub all_known : (book : Held) (script : Script) (count : ℕ) → count ≡ shares.processes book → Makes book script (call_lines script.lines.items) → count ≡ known_count (plan_of script)
+pub all_known : (book : KeptHistory) (script : Script) (count : ℕ) → count ≡ shares.processes book → Makes book script (call_lines script.lines.items) → count ≡ known_count (plan_of script)
 all_known book script count is so_far = let made = so_far.made in let forks = forks_calls script.lines.items in omega (arith, is, made, forks)
 
 -- what is said of each line, beside the number of processes that it knows
@@ -127,7 +127,7 @@ known_at IsSo count (suc i) (x ∷ xs) line all inside item =
     subst (λ (n : ℕ). IsSo n line) sum (known_at IsSo (count + forks_of (x ∷ [])) i xs line all.1 (omega (arith, inside)) item)
 
 -- the process of a line lives when the lines before it were made
-pub line_lives : (book : Held) (script : Script) (i : ℕ) (line : Line) → Makes book script (call_lines (take i script.lines.items)) → IsOrderly (plan_of script) → i < length script.lines.items → line ≡ get_or script.lines.items i line →
+pub line_lives : (book : KeptHistory) (script : Script) (i : ℕ) (line : Line) → Makes book script (call_lines (take i script.lines.items)) → IsOrderly (plan_of script) → i < length script.lines.items → line ≡ get_or script.lines.items i line →
     is_live (state_of book) line.pid.0 ≡ true
 line_lives book script i line so_far orderly inside item =
     let lines = script.lines.items in
@@ -196,7 +196,7 @@ others_exits lines (suc n) p below =
     last false = ap (λ b. (b && true) || false) (ne_eqb (n + 1) p (λ h. omega (arith, h, below)))
 
 -- whether the next process has made its exit, after the script's calls and some of the missing exits
-pub exit_known : (book : Held) (script : Script) (n : ℕ) → Makes book script (call_lines script.lines.items ++ exits_of script.lines.items n) → n < known_count (plan_of script) →
+pub exit_known : (book : KeptHistory) (script : Script) (n : ℕ) → Makes book script (call_lines script.lines.items ++ exits_of script.lines.items n) → n < known_count (plan_of script) →
     is_live (state_of book) (n + 1) ≡ not (has_exited script.lines.items (n + 1))
 exit_known book script n so_far inside =
     let lines = script.lines.items in
@@ -241,7 +241,7 @@ nobody S gone = go S.processes gone
     go [] g = refl
     go (P ∷ Ps) g = λ j. g 0 j || go Ps (λ i. g (suc i)) j
 
-all_gone : (book : Held) (script : Script) → Makes book script (call_lines script.lines.items ++ exits_of script.lines.items (known_count (plan_of script))) → has_live (state_of book) ≡ false
+all_gone : (book : KeptHistory) (script : Script) → Makes book script (call_lines script.lines.items ++ exits_of script.lines.items (known_count (plan_of script))) → has_live (state_of book) ≡ false
 all_gone book script so_far = nobody (state_of book) (λ i. go i (cases_lt i count))
   where
     count : ℕ
@@ -292,28 +292,28 @@ not_ended (e ∷ es) all =
 -- ---- a run as far as it has come
 
 -- one more entry of a process
-pub makes_more : (old new : Held) (script : Script) (pid : Pid) (request : Request) (made : List Line) → MakesOne old new pid request → shares.processes new ≡ shares.processes old + cond {A = ℕ} (is_fork request) 1 0 → Makes old script made →
+pub makes_more : (old new : KeptHistory) (script : Script) (pid : Pid) (request : Request) (made : List Line) → MakesOne old new pid request → shares.processes new ≡ shares.processes old + cond {A = ℕ} (is_fork request) 1 0 → Makes old script made →
     Makes new script (made ++ record { pid = pid; act = Act.Call request } ∷ [])
 makes_more old new script pid request made one count so_far =
     let here : Line = record { pid = pid; act = Act.Call request } in
     let now = one.appended.adds.appended in
     record {
-      processes = ap (λ (h : Held). State.processes h.boot) now ∙ so_far.processes;
-      legal = subst (λ (h : Held). IsLegal h.boot h.entries) (sym now) (legal_push old.boot old.entries _ so_far.legal one.appended.adds.next);
-      calls = ap (λ (h : Held). map line_of_entry h.entries) now
+      processes = ap (λ (h : KeptHistory). State.processes h.boot) now ∙ so_far.processes;
+      legal = subst (λ (h : KeptHistory). IsLegal h.boot h.entries) (sym now) (legal_push old.boot old.entries _ so_far.legal one.appended.adds.next);
+      calls = ap (λ (h : KeptHistory). map line_of_entry h.entries) now
           ∙ map-append line_of_entry old.entries (_ ∷ [])
           ∙ ap (λ ls. ls ++ record { pid = pid; act = Act.Call request } ∷ []) so_far.calls;
       made = let before = so_far.made in let more = sum_by_push (λ (l : Line). cond {A = ℕ} (asks_fork l.act) 1 0) made here in omega (arith, count, before, more);
     }
 
-pub makes_same : (book : Held) (script : Script) (made more : List Line) → made ≡ more → Makes book script made → Makes book script more
+pub makes_same : (book : KeptHistory) (script : Script) (made more : List Line) → made ≡ more → Makes book script made → Makes book script more
 makes_same book script made more e so_far = record { processes = so_far.processes; legal = so_far.legal; calls = so_far.calls ∙ e; made = so_far.made ∙ ap (λ ls. length script.procs.items + forks_of ls) e }
 
-pub boot_kept : (old new : Held) (pid : Pid) (request : Request) → MakesOne old new pid request → new.boot ≡ old.boot
-boot_kept old new pid request one = ap Held.boot one.appended.adds.appended
+pub boot_kept : (old new : KeptHistory) (pid : Pid) (request : Request) → MakesOne old new pid request → new.boot ≡ old.boot
+boot_kept old new pid request one = ap KeptHistory.boot one.appended.adds.appended
 
 -- a call of an orderly script is no stranger's
-pub no_stranger : (book : Held) (script : Script) (i : ℕ) (line : Line) (request : Request) → IsOrderly (plan_of script) → Makes book script (call_lines (take i script.lines.items)) → i < length script.lines.items → line ≡ get_or script.lines.items i line → line.act ≡ Act.Call request →
+pub no_stranger : (book : KeptHistory) (script : Script) (i : ℕ) (line : Line) (request : Request) → IsOrderly (plan_of script) → Makes book script (call_lines (take i script.lines.items)) → i < length script.lines.items → line ≡ get_or script.lines.items i line → line.act ≡ Act.Call request →
     (is_off request ≡ false) × (is_live (state_of book) line.pid.0 ≡ true)
 no_stranger book script i line request orderly so_far inside item asks = (
   ap asks_off (sym asks) ∙ all_at IsCall i script.lines.items line orderly.calls inside item,
@@ -321,7 +321,7 @@ no_stranger book script i line request orderly so_far inside item asks = (
 )
 
 -- nor is the end of the layer behind all exits refused
-pub no_stranger_ends : (book : Held) (script : Script) (n : ℕ) → IsOrderly (plan_of script) → n ≡ known_count (plan_of script) → Makes book script (call_lines script.lines.items ++ exits_of script.lines.items n) →
+pub no_stranger_ends : (book : KeptHistory) (script : Script) (n : ℕ) → IsOrderly (plan_of script) → n ≡ known_count (plan_of script) → Makes book script (call_lines script.lines.items ++ exits_of script.lines.items n) →
     (has_live (state_of book) ≡ false → ends_of book.entries ≡ 1) → ⊥
 no_stranger_ends book script n orderly count so_far refused =
     let lines = script.lines.items in
@@ -343,8 +343,8 @@ with_end script n count end =
     ∙ ap (λ b. call_lines script.lines.items ++ (exits_of script.lines.items (known_count (plan_of script)) ++ (if b then off_line ∷ [] else []))) (sym end)
 
 -- a book that was just opened
-pub makes_none : (book : Held) (script : Script) (boot : State) → book ≡ record { boot = boot; entries = [] } → IsBootState boot → boot.processes ≡ map new_process script.procs.items → Makes book script []
-makes_none book script boot new boots same = subst (λ (h : Held). Makes h script []) (sym new) (record {
+pub makes_none : (book : KeptHistory) (script : Script) (boot : State) → book ≡ record { boot = boot; entries = [] } → IsBootState boot → boot.processes ≡ map new_process script.procs.items → Makes book script []
+makes_none book script boot new boots same = subst (λ (h : KeptHistory). Makes h script []) (sym new) (record {
   processes = same;
   legal = legal_empty boot boots;
   calls = refl;

@@ -17,7 +17,7 @@ use Rattle.ux_model.specs.History.{calls_of, is_exit, makes, makes_one, replay, 
 use Rattle.ux_model.proofs.Living.{exit_and_fork_alone, fork_tells_the_next, live_within}
 use Rattle.ux_model.proofs.Numbering.{no_call_before_made}
 use Rattle.ux_model.proofs.OnePlace.{same_at}
-use Rattle.ux_history.specs.Books.{Held, state_of, entry_of, is_fork}
+use Rattle.ux_history.specs.Books.{KeptHistory, state_of, entry_of, is_fork}
 use Rattle.ux_history.specs.Shares.{Caller, child_by, fresh, knows, once_more, processes}
 use Rattle.ux_history.proofs.Accounts.{processes_after}
 use Rattle.ux_script.specs.Runs.{MakesOne}
@@ -77,10 +77,10 @@ none_behind S i past = go S.processes i past
     go (P ∷ Ps) (suc i) h = go Ps i (omega (arith, h))
 
 -- a book that was just opened, and its shares
-pub first_shares : (book : Held) (boot : State) (places : List (Option Caller)) → IsBootState boot → book ≡ record { boot = boot; entries = [] } →
+pub first_shares : (book : KeptHistory) (boot : State) (places : List (Option Caller)) → IsBootState boot → book ≡ record { boot = boot; entries = [] } →
     places ≡ None ∷ map (λ (c : Caller). Some c) (fresh (length boot.processes)) → HasShares book places
 first_shares book boot places boots new all = record {
-  each = λ p. ap (λ (ps : List (Option Caller)). place ps p) all ∙ go p ∙ ap (λ (b : Held). share_of b p) (sym new);
+  each = λ p. ap (λ (ps : List (Option Caller)). place ps p) all ∙ go p ∙ ap (λ (b : KeptHistory). share_of b p) (sym new);
   long =
       let count : processes book ≡ n = ap processes new in
       let places_long : length places ≡ length (None ∷ map (λ (c : Caller). Some c) (fresh n)) = ap length all in
@@ -102,7 +102,7 @@ first_shares book boot places boots new all = record {
 -- ---- what a share says
 
 -- a process without a share doesn't live
-pub no_share : (book : Held) (p : ℕ) → share_of book p ≡ None → is_live (state_of book) p ≡ false
+pub no_share : (book : KeptHistory) (p : ℕ) → share_of book p ≡ None → is_live (state_of book) p ≡ false
 no_share book p = go (is_live (state_of book) p)
   where
     go : (b : Bool) → (given b p (calls_of p book.entries)) ≡ None → b ≡ false
@@ -110,7 +110,7 @@ no_share book p = go (is_live (state_of book) p)
     go false h = refl
 
 -- the share of a process is known to its book
-pub share_known : (book : Held) (p : ℕ) (c : Caller) → share_of book p ≡ Some c → (c.pid.0 ≡ p) × (knows book c ≡ true)
+pub share_known : (book : KeptHistory) (p : ℕ) (c : Caller) → share_of book p ≡ Some c → (c.pid.0 ≡ p) × (knows book c ≡ true)
 share_known book p c = go (is_live (state_of book) p) refl
   where
     go : (b : Bool) → is_live (state_of book) p ≡ b → (given b p (calls_of p book.entries)) ≡ Some c → (c.pid.0 ≡ p) × (knows book c ≡ true)
@@ -132,34 +132,34 @@ no_fork Request.Fork reply h = absurd (cc h)
 no_fork request reply h = refl
 
 -- where none was made, there are as many processes as before
-pub as_many : (old new : Held) (pid : Pid) (request : Request) (one : MakesOne old new pid request) → makes_one request one.appended.reply ≡ false → processes new ≡ processes old
+pub as_many : (old new : KeptHistory) (pid : Pid) (request : Request) (one : MakesOne old new pid request) → makes_one request one.appended.reply ≡ false → processes new ≡ processes old
 as_many old new pid request one none =
     let after = processes_after old new _ one.appended.adds in
     let more : processes new ≡ processes old + cond {A = ℕ} false 1 0 = after ∙ ap (λ (b : Bool). processes old + cond {A = ℕ} b 1 0) none in
     omega (arith, more)
 
-live_after : (old new : Held) (pid : Pid) (request : Request) (p : ℕ) → (one : MakesOne old new pid request) →
+live_after : (old new : KeptHistory) (pid : Pid) (request : Request) (p : ℕ) → (one : MakesOne old new pid request) →
     is_live (state_of new) p ≡ ((is_live (state_of old) p && not (is_exit request && (pid.0 == p))) || makes p request one.appended.reply)
 live_after old new pid request p one =
     let adds = one.appended.adds in
-    ap (λ (b : Held). is_live (state_of b) p) adds.appended
+    ap (λ (b : KeptHistory). is_live (state_of b) p) adds.appended
     ∙ exit_and_fork_alone (state_of old) _ pid.0 (length old.entries) p request one.appended.reply one.released adds.next.steps
 
 -- of a process that the call didn't make
-live_still : (old new : Held) (pid : Pid) (request : Request) (p : ℕ) → (one : MakesOne old new pid request) → makes p request one.appended.reply ≡ false →
+live_still : (old new : KeptHistory) (pid : Pid) (request : Request) (p : ℕ) → (one : MakesOne old new pid request) → makes p request one.appended.reply ≡ false →
     is_live (state_of new) p ≡ (is_live (state_of old) p && not (is_exit request && (pid.0 == p)))
 live_still old new pid request p one none =
     live_after old new pid request p one
     ∙ ap (λ (b : Bool). (is_live (state_of old) p && not (is_exit request && (pid.0 == p))) || b) none
     ∙ or-false (is_live (state_of old) p && not (is_exit request && (pid.0 == p)))
 
-calls_after : (old new : Held) (pid : Pid) (request : Request) (p : ℕ) → MakesOne old new pid request → calls_of p new.entries ≡ calls_of p old.entries + cond {A = ℕ} (pid.0 == p) 1 0
+calls_after : (old new : KeptHistory) (pid : Pid) (request : Request) (p : ℕ) → MakesOne old new pid request → calls_of p new.entries ≡ calls_of p old.entries + cond {A = ℕ} (pid.0 == p) 1 0
 calls_after old new pid request p one =
-    ap (λ (b : Held). calls_of p b.entries) one.appended.adds.appended
+    ap (λ (b : KeptHistory). calls_of p b.entries) one.appended.adds.appended
     ∙ sum_by_push (λ (x : Entry). cond {A = ℕ} (x.pid.0 == p) 1 0) old.entries _
 
 -- a call leaves the shares of all others
-pub other_share : (old new : Held) (pid : Pid) (request : Request) (p : ℕ) → (one : MakesOne old new pid request) → makes p request one.appended.reply ≡ false → pid.0 ≢ p → share_of new p ≡ share_of old p
+pub other_share : (old new : KeptHistory) (pid : Pid) (request : Request) (p : ℕ) → (one : MakesOne old new pid request) → makes p request one.appended.reply ≡ false → pid.0 ≢ p → share_of new p ≡ share_of old p
 other_share old new pid request p one none other =
     let who = ne_eqb pid.0 p other in
     let live : is_live (state_of new) p ≡ is_live (state_of old) p =
@@ -173,7 +173,7 @@ other_share old new pid request p one none other =
     λ j. given (live j) p (calls j)
 
 -- its own counts one more
-pub own_share : (old new : Held) (pid : Pid) (request : Request) (c : Caller) → (one : MakesOne old new pid request) → makes pid.0 request one.appended.reply ≡ false → is_exit request ≡ false → share_of old pid.0 ≡ Some c → share_of new pid.0 ≡ Some (once_more c)
+pub own_share : (old new : KeptHistory) (pid : Pid) (request : Request) (c : Caller) → (one : MakesOne old new pid request) → makes pid.0 request one.appended.reply ≡ false → is_exit request ≡ false → share_of old pid.0 ≡ Some c → share_of new pid.0 ≡ Some (once_more c)
 own_share old new pid request c one none stays was =
     (λ j. given (live j) pid.0 (calls j)) ∙ more (is_live (state_of old) pid.0) was
   where
@@ -191,7 +191,7 @@ own_share old new pid request c one none stays was =
     more false h = absurd (cc h)
 
 -- and is gone after the exit
-pub gone_share : (old new : Held) (pid : Pid) → MakesOne old new pid Request.Exit → share_of new pid.0 ≡ None
+pub gone_share : (old new : KeptHistory) (pid : Pid) → MakesOne old new pid Request.Exit → share_of new pid.0 ≡ None
 gone_share old new pid one =
     ap (λ (b : Bool). given b pid.0 (calls_of pid.0 new.entries))
     (live_still old new pid Request.Exit pid.0 one refl
@@ -210,7 +210,7 @@ pub place_there : (xs : List (Option Caller)) (i : ℕ) (c : Caller) (left : Lis
 place_there xs i c left h e = let inside = length_of_some xs i c (sym h) in let same : length left ≡ length xs = ap length e ∙ length-set xs i None in omega (arith, inside, same)
 
 -- the place of a process that called, and those of all others but of one that it made
-changed_at : (old new : Held) (xs : List (Option Caller)) (pid : Pid) (request : Request) (o : Option Caller) → HasShares old xs → (one : MakesOne old new pid request) → pid.0 < length xs → share_of new pid.0 ≡ o →
+changed_at : (old new : KeptHistory) (xs : List (Option Caller)) (pid : Pid) (request : Request) (o : Option Caller) → HasShares old xs → (one : MakesOne old new pid request) → pid.0 < length xs → share_of new pid.0 ≡ o →
     (p : ℕ) → makes p request one.appended.reply ≡ false → place (set xs pid.0 o) p ≡ share_of new p
 changed_at old new xs pid request o has one inside own p none =
     ⊎_elim {C = place (set xs pid.0 o) p ≡ share_of new p}
@@ -218,7 +218,7 @@ changed_at old new xs pid request o has one inside own p none =
     (λ w. get_or-set_other xs pid.0 p o None (λ e. w.1 (sym e)) ∙ has.each p ∙ sym (other_share old new pid request p one none w.1))
     (eqb_tells pid.0 p)
 
-changed : (old new : Held) (xs : List (Option Caller)) (pid : Pid) (request : Request) (o : Option Caller) → HasShares old xs → (one : MakesOne old new pid request) → makes_one request one.appended.reply ≡ false →
+changed : (old new : KeptHistory) (xs : List (Option Caller)) (pid : Pid) (request : Request) (o : Option Caller) → HasShares old xs → (one : MakesOne old new pid request) → makes_one request one.appended.reply ≡ false →
     pid.0 < length xs → share_of new pid.0 ≡ o → HasShares new (set xs pid.0 o)
 changed old new xs pid request o has one none inside own = record {
   each = λ p. changed_at old new xs pid request o has one inside own p (makes_not p request one.appended.reply none);
@@ -230,24 +230,24 @@ changed old new xs pid request o has one none inside own = record {
 }
 
 -- what stands in a place is put there
-put_back : (book : Held) (xs : List (Option Caller)) (i : ℕ) (o : Option Caller) → HasShares book xs → o ≡ place xs i → HasShares book (set xs i o)
+put_back : (book : KeptHistory) (xs : List (Option Caller)) (i : ℕ) (o : Option Caller) → HasShares book xs → o ≡ place xs i → HasShares book (set xs i o)
 put_back book xs i o has same = record {
   each = λ p. same_at (λ x. x) xs i p o same ∙ has.each p;
   long = let long = has.long in let as_long = length-set xs i o in omega (arith, long, as_long);
 }
 
 -- where the place of a process was empty
-pub keeps_empty : (book : Held) (xs left : List (Option Caller)) (i : ℕ) → HasShares book xs → None ≡ place xs i → left ≡ set xs i None → HasShares book left
+pub keeps_empty : (book : KeptHistory) (xs left : List (Option Caller)) (i : ℕ) → HasShares book xs → None ≡ place xs i → left ≡ set xs i None → HasShares book left
 keeps_empty book xs left i has none e = subst (HasShares book) (sym e) (put_back book xs i None has none)
 
 -- a share that is taken and put back again after its process called
-record Taken (old : Held) (xs left all : List (Option Caller)) (pid : Pid) (c d : Caller) : Type 0 where
+record Taken (old : KeptHistory) (xs left all : List (Option Caller)) (pid : Pid) (c d : Caller) : Type 0 where
   own : share_of old pid.0 ≡ Some c
   who : c.pid.0 ≡ pid.0
   inside : pid.0 < length xs
   whole : d.pid.0 ≡ c.pid.0 → all ≡ set xs pid.0 (Some d)
 
-taken : (old : Held) (xs left all : List (Option Caller)) (pid : Pid) (c d : Caller) → HasShares old xs → Some c ≡ place xs pid.0 → left ≡ set xs pid.0 None → all ≡ set left d.pid.0 (Some d) → Taken old xs left all pid c d
+taken : (old : KeptHistory) (xs left all : List (Option Caller)) (pid : Pid) (c d : Caller) → HasShares old xs → Some c ≡ place xs pid.0 → left ≡ set xs pid.0 None → all ≡ set left d.pid.0 (Some d) → Taken old xs left all pid c d
 taken old xs left all pid c d has was e f = record {
   own = own;
   who = who;
@@ -262,7 +262,7 @@ taken old xs left all pid c d has was e f = record {
     who = (share_known old pid.0 c own).0
 
 -- where a process made a call that made none, and where its call was refused
-called : (old new : Held) (xs left all : List (Option Caller)) (pid : Pid) (request : Request) (c d : Caller) → HasShares old xs → Taken old xs left all pid c d → (one : MakesOne old new c.pid request) →
+called : (old new : KeptHistory) (xs left all : List (Option Caller)) (pid : Pid) (request : Request) (c d : Caller) → HasShares old xs → Taken old xs left all pid c d → (one : MakesOne old new c.pid request) →
     makes_one request one.appended.reply ≡ false → is_exit request ≡ false → d ≡ once_more c → HasShares new all
 called old new xs left all pid request c d has t one none stays more =
     subst (HasShares new) (sym (t.whole (ap (λ (x : Caller). x.pid.0) more)))
@@ -278,15 +278,15 @@ called old new xs left all pid request c d has t one none stays more =
     none_here : makes_one request here.appended.reply ≡ false
     none_here = both.1
 
-pub refused_shares : (old new : Held) (xs left all : List (Option Caller)) (pid : Pid) (c d : Caller) → HasShares old xs → Some c ≡ place xs pid.0 → left ≡ set xs pid.0 None → all ≡ set left d.pid.0 (Some d) →
+pub refused_shares : (old new : KeptHistory) (xs left all : List (Option Caller)) (pid : Pid) (c d : Caller) → HasShares old xs → Some c ≡ place xs pid.0 → left ≡ set xs pid.0 None → all ≡ set left d.pid.0 (Some d) →
     new ≡ old → d ≡ c → HasShares new all
 refused_shares old new xs left all pid c d has was e f same kept =
     let t = taken old xs left all pid c d has was e f in
     subst (HasShares new) (sym (t.whole (ap (λ (x : Caller). x.pid.0) kept)))
-    (subst (λ (b : Held). HasShares b (set xs pid.0 (Some d))) (sym same) (put_back old xs pid.0 (Some d) has (ap (λ (x : Caller). Some x) kept ∙ was)))
+    (subst (λ (b : KeptHistory). HasShares b (set xs pid.0 (Some d))) (sym same) (put_back old xs pid.0 (Some d) has (ap (λ (x : Caller). Some x) kept ∙ was)))
 
 -- where a process called, or its call was refused
-pub keeps_shares : (old new : Held) (xs left all : List (Option Caller)) (pid : Pid) (request : Request) (c d : Caller) → {F : Type 0} (r : Result (Unit {0}) F) → HasShares old xs → is_exit request ≡ false → is_fork request ≡ false →
+pub keeps_shares : (old new : KeptHistory) (xs left all : List (Option Caller)) (pid : Pid) (request : Request) (c d : Caller) → {F : Type 0} (r : Result (Unit {0}) F) → HasShares old xs → is_exit request ≡ false → is_fork request ≡ false →
     Some c ≡ place xs pid.0 → left ≡ set xs pid.0 None → all ≡ set left d.pid.0 (Some d) →
     OnOk r (MakesOne old new c.pid request) → OnOk r (d ≡ once_more c) → OnErr r (new ≡ old) → OnErr r (d ≡ c) → HasShares new all
 keeps_shares old new xs left all pid request c d (Ok u) has stays none was e f entry more same kept =
@@ -303,7 +303,7 @@ place_more [] (suc p) = refl
 place_more (x ∷ xs) zero = refl
 place_more (x ∷ xs) (suc p) = place_more xs p
 
-pub wider : (book : Held) (xs ys : List (Option Caller)) (ok : Bool) → HasShares book xs → ys ≡ (if ok then xs ++ None ∷ [] else xs) → ok ≡ true → HasShares book ys
+pub wider : (book : KeptHistory) (xs ys : List (Option Caller)) (ok : Bool) → HasShares book xs → ys ≡ (if ok then xs ++ None ∷ [] else xs) → ok ≡ true → HasShares book ys
 wider book xs ys ok has is grown = subst (HasShares book) (sym (is ∙ ap (λ (b : Bool). if b then xs ++ None ∷ [] else xs) grown)) (record {
   each = λ p. place_more xs p ∙ has.each p;
   long = let longer = length-append xs (None ∷ []) in let long = has.long in omega (arith, longer, long);
@@ -322,7 +322,7 @@ child_told (Reply.Child pid) x h = let same : x ≡ record { pid = pid; k = 0 } 
 child_told reply x h = absurd (cc h)
 
 -- where no process was made
-pub childless : (old new : Held) (xs left all : List (Option Caller)) (pid : Pid) (c d : Caller) → HasShares old xs → Some c ≡ place xs pid.0 → left ≡ set xs pid.0 None → all ≡ set left d.pid.0 (Some d) →
+pub childless : (old new : KeptHistory) (xs left all : List (Option Caller)) (pid : Pid) (c d : Caller) → HasShares old xs → Some c ≡ place xs pid.0 → left ≡ set xs pid.0 None → all ≡ set left d.pid.0 (Some d) →
     Forks old new c.pid None → d ≡ once_more c → HasShares new all
 childless old new xs left all pid c d has was e f forked more =
     called old new xs left all pid Request.Fork c d has (taken old xs left all pid c d has was e f) forked.one (no_child _ forked.made) refl more
@@ -332,13 +332,13 @@ next_of : (S T : State) (p tag : ℕ) (pid : Pid) (reply : Reply) (gone : List �
 next_of S T p tag pid reply gone told step = fork_tells_the_next S T p tag pid gone (subst (λ (r : Reply). Step S p tag Request.Fork r gone T) told step)
 
 -- what a fork that made a process reports
-pub record Child (old new : Held) (x : Caller) : Type 0 where
+pub record Child (old new : KeptHistory) (x : Caller) : Type 0 where
   pub next : x.pid.0 ≡ processes old + 1
   pub many : processes new ≡ processes old + 1
   pub share : share_of new x.pid.0 ≡ Some x
   pub others : (p : ℕ) → p ≢ x.pid.0 → makes p Request.Fork (Reply.Child x.pid) ≡ false
 
-pub child_is : (old new : Held) (pid : Pid) (x : Caller) → IsLegal old.boot old.entries → pid.0 ≤ processes old → Forks old new pid (Some x) → Child old new x
+pub child_is : (old new : KeptHistory) (pid : Pid) (x : Caller) → IsLegal old.boot old.entries → pid.0 ≤ processes old → Forks old new pid (Some x) → Child old new x
 child_is old new pid x legal within forked = record {
   next = next;
   many = many;
@@ -373,19 +373,19 @@ child_is old new pid x legal within forked = record {
         omega (arith, before, after)
 
 -- whoever has a share was made
-pub caller_made : (old : Held) (xs : List (Option Caller)) (pid : Pid) (c : Caller) → HasShares old xs → Some c ≡ place xs pid.0 → c.pid.0 ≤ processes old
+pub caller_made : (old : KeptHistory) (xs : List (Option Caller)) (pid : Pid) (c : Caller) → HasShares old xs → Some c ≡ place xs pid.0 → c.pid.0 ≤ processes old
 caller_made old xs pid c has was =
     let own = sym (was ∙ has.each pid.0) in
     let known = share_known old pid.0 c own in
     live_within (state_of old) c.pid.0 (and_parts (is_live (state_of old) c.pid.0) _ known.1).0
 
 -- where a process was made, and its share is put at its place
-pub record Placed (old new : Held) (all : List (Option Caller)) (x : Caller) : Type 0 where
+pub record Placed (old new : KeptHistory) (all : List (Option Caller)) (x : Caller) : Type 0 where
   pub fits : x.pid.0 < length all
   pub shares : (done : List (Option Caller)) → done ≡ set all x.pid.0 (Some x) → HasShares new done
   pub many : processes new ≡ processes old + 1
 
-pub placed : (old new : Held) (before xs left all : List (Option Caller)) (ok : Bool) (pid : Pid) (c d x : Caller) → HasShares old before → xs ≡ (if ok then before ++ None ∷ [] else before) → ok ≡ true → IsLegal old.boot old.entries →
+pub placed : (old new : KeptHistory) (before xs left all : List (Option Caller)) (ok : Bool) (pid : Pid) (c d x : Caller) → HasShares old before → xs ≡ (if ok then before ++ None ∷ [] else before) → ok ≡ true → IsLegal old.boot old.entries →
     Some c ≡ place xs pid.0 → left ≡ set xs pid.0 None → all ≡ set left d.pid.0 (Some d) → Forks old new c.pid (Some x) → d ≡ once_more c → Placed old new all x
 placed old new before xs left all ok pid c d x first more_is grown legal was e f forked more = record {
   fits = fits;
@@ -437,19 +437,19 @@ placed old new before xs left all ok pid c d x first more_is grown legal was e f
     long = let many = child.many in let same = length-set all x.pid.0 (Some x) in omega (arith, many, same, as_long, room)
 
 -- what was made by the share of a process was made by it
-pub made_by : (old new : Held) (xs : List (Option Caller)) (pid : Pid) (request : Request) (c : Caller) → HasShares old xs → Some c ≡ place xs pid.0 → MakesOne old new c.pid request → MakesOne old new pid request
+pub made_by : (old new : KeptHistory) (xs : List (Option Caller)) (pid : Pid) (request : Request) (c : Caller) → HasShares old xs → Some c ≡ place xs pid.0 → MakesOne old new c.pid request → MakesOne old new pid request
 made_by old new xs pid request c has was entry =
     let own = sym (was ∙ has.each pid.0) in
     subst (λ (n : ℕ). MakesOne old new (record { 0 = n }) request) (share_known old pid.0 c own).0 entry
 
 -- where it exited
-pub exit_shares : (old new : Held) (xs left : List (Option Caller)) (pid : Pid) (c : Caller) → HasShares old xs → Some c ≡ place xs pid.0 → left ≡ set xs pid.0 None → MakesOne old new c.pid Request.Exit → HasShares new left
+pub exit_shares : (old new : KeptHistory) (xs left : List (Option Caller)) (pid : Pid) (c : Caller) → HasShares old xs → Some c ≡ place xs pid.0 → left ≡ set xs pid.0 None → MakesOne old new c.pid Request.Exit → HasShares new left
 exit_shares old new xs left pid c has was e entry =
     let one = made_by old new xs pid Request.Exit c has was entry in
     subst (HasShares new) (sym e) (changed old new xs pid Request.Exit None has one refl (length_of_some xs pid.0 c (sym was)) (gone_share old new pid one))
 
 -- where the layer was ended
-pub end_shares : (old new : Held) (xs : List (Option Caller)) → HasShares old xs → MakesOne old new (record { 0 = 0 }) Request.Off → HasShares new xs
+pub end_shares : (old new : KeptHistory) (xs : List (Option Caller)) → HasShares old xs → MakesOne old new (record { 0 = 0 }) Request.Off → HasShares new xs
 end_shares old new xs has one = record { each = go; long = let same = as_many old new (record { 0 = 0 }) Request.Off one refl in let long = has.long in omega (arith, same, long) }
   where
     go : (p : ℕ) → place xs p ≡ share_of new p
@@ -466,5 +466,5 @@ fork_is Request.Fork h = refl
 fork_is request h = absurd (cc h)
 
 -- no share that a book has is a stranger's
-pub share_of_known : (book : Held) (xs : List (Option Caller)) (pid : Pid) (c : Caller) → HasShares book xs → Some c ≡ place xs pid.0 → knows book c ≡ false → ⊥
+pub share_of_known : (book : KeptHistory) (xs : List (Option Caller)) (pid : Pid) (c : Caller) → HasShares book xs → Some c ≡ place xs pid.0 → knows book c ≡ false → ⊥
 share_of_known book xs pid c has was stranger = false≢true (sym stranger ∙ (share_known book pid.0 c (sym (was ∙ has.each pid.0))).1)

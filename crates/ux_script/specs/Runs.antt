@@ -5,7 +5,7 @@ use Rattle.std.specs.Io.KnownBytes.{Keeps}
 use Rattle.ux_model.specs.Types.{Pid, Request, Entry}
 use Rattle.ux_model.specs.State.{State}
 use Rattle.ux_model.specs.Boot.{new_process}
-use Rattle.ux_history.specs.Books.{Held, Appends}
+use Rattle.ux_history.specs.Books.{KeptHistory, Appends}
 use Rattle.ux_history.specs.Shares as shares
 use Rattle.ux_model.specs.History.{IsLegal}
 use Rattle.ux_syntax.specs.declared.fault.ScriptFault.{ScriptFault}
@@ -35,14 +35,14 @@ abbrev pub exits_of : List Line → ℕ → List Line
 exits_of lines n = map exit_line (filter (λ pid. not (has_exited lines pid)) (range_with_len 1 n))
 
 -- a book of the script's processes has come so far: these lines were made, and each fork among them made a process
-pub record Makes (book : Held) (script : Script) (lines : List Line) : Type 0 where
+pub record Makes (book : KeptHistory) (script : Script) (lines : List Line) : Type 0 where
   pub processes : book.boot.processes ≡ map new_process script.procs.items
   pub legal : IsLegal book.boot book.entries
   pub calls : map line_of_entry book.entries ≡ lines
   pub made : shares.processes book ≡ length script.procs.items + forks_of lines
 
 -- a book has one more entry, of this process and request
-pub record MakesOne (old new : Held) (pid : Pid) (request : Request) : Type 0 where
+pub record MakesOne (old new : KeptHistory) (pid : Pid) (request : Request) : Type 0 where
   pub k : ℕ
   pub released : List ℕ
   pub appended : Appends old new pid k request released

@@ -31,10 +31,10 @@ pub(crate) struct Serial<W: BookName, O: FileObject> {
 }
 
 impl<W: BookName, O: FileObject> Model for Serial<W, O> {
-    ghost use Rattle.ux_history.specs.Books.{Held};
+    ghost use Rattle.ux_history.specs.Books.{KeptHistory};
     ghost use Rattle.ux_script.specs.Shares.{HasShares};
 
-    ghost Value = { Held };
+    ghost Value = { KeptHistory };
 
     ghost view = { λ s. s.book };
 

@@ -3,7 +3,7 @@ ghost use Rattle.std.specs.Prelude.{◌≡◌, ◌≤◌, ◌⊎◌, ◌↔◌, 
 ghost use Rattle.std.specs.List.{AllByRecursion};
 ghost use Rattle.ux_model.specs.Limits.{made_limit};
 ghost use Rattle.ux_syntax.specs.Spelling.{plan_of, known_count};
-ghost use Rattle.ux_history.specs.Telling.{AllStand};
+ghost use Rattle.ux_history.specs.SettlingSlips.{AllStand};
 ghost use Rattle.ux_compare.specs.Runs.{Runs, HasBegun, MakesAll, MakesFirst};
 
 use std::alloc::{AllocError, Global};

@@ -200,10 +200,10 @@ fn children_of_a_running_seat_settle_alike(rt: HostRuntime) -> Result<(), Fail> 
     let alloc = rt.alloc();
     let kernel = one_process(alloc)?;
     let trail = Trail::new(alloc)?;
-    settle_told::<Brand, _>(&rt, alloc, Blank::new(PARTS), trail, kernel)
+    settle_with_witnesses::<Brand, _>(&rt, alloc, Blank::new(PARTS), trail, kernel)
 }
 
-fn settle_told<W: Trailing, R: Wait + Abort>(
+fn settle_with_witnesses<W: Trailing, R: Wait + Abort>(
     rt: &R,
     alloc: Global,
     blank: Blank,
@@ -225,7 +225,7 @@ fn settle_told<W: Trailing, R: Wait + Abort>(
         return Err(Fail::from("a call went wrong"));
     };
     let spents = all_but_one_are_too_few(rt, &layer, spents)?;
-    let entries = match layer.settle_told(rt, spents, witnesses.as_mut_slice()) {
+    let entries = match layer.settle_with_witnesses(rt, spents, witnesses.as_mut_slice()) {
         Ok(account) => account.entries,
         Err(_) => 0,
     };

@@ -4,4 +4,4 @@ use Rattle.ux_history.proofs.account.are_counted.Given as goal
 
 -- those before have
 abbrev pub invariant-loop-spent : goal.invariant-loop-spent
-invariant-loop-spent g l = all_counted (g.B.CallBook.held l.book).entries (take l.spent-index l.spents) ≡ true
+invariant-loop-spent g l = all_counted (g.B.CallBook.history l.book).entries (take l.spent-index l.spents) ≡ true

@@ -2,7 +2,7 @@ use Rattle.std.proofs.Common.{◌≡◌, true, ◌<◌, ◌+◌, take, length, a
 use Rattle.std.proofs.lemmas.Bool.{false≢true}
 use Rattle.std.proofs.lemmas.Result.{err_from_is_err_and}
 use Rattle.ux_model.specs.State.{is_live}
-use Rattle.ux_history.specs.Books.{Held, state_of}
+use Rattle.ux_history.specs.Books.{KeptHistory, state_of}
 use Rattle.ux_model.specs.Types.{Pid}
 use Rattle.ux_syntax.specs.Lines.{Line}
 use Rattle.ux_syntax.specs.Turns.{call_lines}
@@ -27,16 +27,16 @@ loop-line-preserved g c =
           let request = w.in-Call.request in
           let one = subst (λ (pid : Pid). MakesOne old w.call.new.self pid request) pid_is w.in_ok-call-in-Call.ensures.entry in
           record {
-            so_far = subst (λ (h : Held). Makes h script (call_lines (take (i + 1) lines))) (sym w.serial-is)
+            so_far = subst (λ (h : KeptHistory). Makes h script (call_lines (take (i + 1) lines))) (sym w.serial-is)
                 (makes_same _ script _ _ (call_made lines i line request inside item (act_is ∙ w.in-Call.is))
                 (makes_more old w.call.new.self script line.pid request (call_lines (take i lines)) one w.in_ok-call-in-Call.ensures.made c.loop-line.invariant.so_far));
-            same_boot = subst (λ (h : Held). h.boot ≡ c.args.serial.now.boot) (sym w.serial-is)
+            same_boot = subst (λ (h : KeptHistory). h.boot ≡ c.args.serial.now.boot) (sym w.serial-is)
                 (boot_kept old w.call.new.self line.pid request one ∙ c.loop-line.invariant.same_boot);
           }
       | in-Wait w ↦ record {
-        so_far = subst (λ (h : Held). Makes h script (call_lines (take (i + 1) lines))) (sym w.serial-is)
+        so_far = subst (λ (h : KeptHistory). Makes h script (call_lines (take (i + 1) lines))) (sym w.serial-is)
             (makes_same old script _ _ (wait_passed lines i line _ _ inside item (act_is ∙ w.in-Wait.is)) c.loop-line.invariant.so_far);
-        same_boot = subst (λ (h : Held). h.boot ≡ c.args.serial.now.boot) (sym w.serial-is) c.loop-line.invariant.same_boot;
+        same_boot = subst (λ (h : KeptHistory). h.boot ≡ c.args.serial.now.boot) (sym w.serial-is) c.loop-line.invariant.same_boot;
       }
     ]
 

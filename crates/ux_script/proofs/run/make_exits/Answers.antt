@@ -1,7 +1,7 @@
 use Rattle.std.proofs.Common.{◌≡◌, ◌<◌, ◌+◌, ◌++◌, length, refl, ap, sym, subst, ◌∙◌, arith}
 use Rattle.std.proofs.lemmas.Bool.{not-true, not-false}
 use Rattle.ux_model.specs.Types.{Request}
-use Rattle.ux_history.specs.Books.{Held}
+use Rattle.ux_history.specs.Books.{KeptHistory}
 use Rattle.ux_syntax.specs.Spelling.{plan_of, known_count}
 use Rattle.ux_syntax.specs.Turns.{call_lines}
 use Rattle.ux_script.specs.Runs.{exits_of, Makes}
@@ -23,16 +23,16 @@ loop-index-preserved g c =
       | then-is_live+in_ok-call w ↦
           let one = w.in_ok-call.ensures.entry in
           record {
-            so_far = subst (λ (h : Held). Makes h script (call_lines lines ++ exits_of lines (n + 1))) (sym w.serial-is)
+            so_far = subst (λ (h : KeptHistory). Makes h script (call_lines lines ++ exits_of lines (n + 1))) (sym w.serial-is)
                 (makes_same _ script _ _ (exit_made lines made n (not-true _ (sym known ∙ w.if-is_live.true)) refl)
                 (makes_more old w.call.new.self script (record { 0 = n + 1 }) Request.Exit made one w.in_ok-call.ensures.made so_far));
-            same_boot = subst (λ (h : Held). h.boot ≡ c.args.serial.now.boot) (sym w.serial-is)
+            same_boot = subst (λ (h : KeptHistory). h.boot ≡ c.args.serial.now.boot) (sym w.serial-is)
                 (boot_kept old w.call.new.self (record { 0 = n + 1 }) Request.Exit one ∙ c.loop-index.invariant.same_boot);
           }
       | else-is_live w ↦ record {
-        so_far = subst (λ (h : Held). Makes h script (call_lines lines ++ exits_of lines (n + 1))) (sym w.serial-is)
+        so_far = subst (λ (h : KeptHistory). Makes h script (call_lines lines ++ exits_of lines (n + 1))) (sym w.serial-is)
             (makes_same old script made _ (exit_there lines made n (not-false _ (sym known ∙ w.if-is_live.false)) refl) so_far);
-        same_boot = subst (λ (h : Held). h.boot ≡ c.args.serial.now.boot) (sym w.serial-is) c.loop-index.invariant.same_boot;
+        same_boot = subst (λ (h : KeptHistory). h.boot ≡ c.args.serial.now.boot) (sym w.serial-is) c.loop-index.invariant.same_boot;
       }
     ]
 

@@ -1,9 +1,9 @@
-use Rattle.std.proofs.Common.{◌≡◌, ℕ, ◌+◌, ◌≤◌, Bool, true, false, cond, map, ap, sym, subst, ◌∙◌}
+use Rattle.std.proofs.Common.{◌≡◌, ℕ, ◌+◌, ◌≤◌, Bool, true, false, cond, map, ap, sym, subst, ◌∙◌, rules}
 use Rattle.std.proofs.lemmas.Bool.{false≢true, or_parts}
 use Rattle.ux_model.specs.Waiting.{may_wait}
 use Rattle.ux_model.specs.Types.{Request}
 use Rattle.ux_model.specs.History.{is_exit, is_off, makes_one}
-use Rattle.ux_history.specs.Books.{Held, state_of}
+use Rattle.ux_history.specs.Books.{KeptHistory, state_of}
 use Rattle.ux_history.specs.Receipts.{Slip}
 use Rattle.ux_history.specs.Shares.{Caller, IsBook}
 use Rattle.ux_history.proofs.Accounts.{part_for_child, book_after}
@@ -30,17 +30,13 @@ made_here g c =
 pub invariant_of-receipt : goal.invariant_of-receipt
 invariant_of-receipt g c = (made_here g c.before).slip
 
-pub returns-clause-entry : goal.returns-clause-entry
-returns-clause-entry g c = (made_here g c.before).adds
-
-pub returns-clause-done : goal.returns-clause-done
-returns-clause-done g c = (made_here g c.before).done
-
-pub returns-clause-receipt : goal.returns-clause-receipt
-returns-clause-receipt g c = (made_here g c.before).receipt
+pub returns-clause-made : goal.returns-clause-made
+returns-clause-made g c =
+    let made = made_here g c.before in
+    record { known = search rules; entry = made.adds; done = made.done; receipt = made.receipt; share = search rules; handed_out = search rules }
 
 book_here : (g : Over) (c : goal.After-child_share-arg-3-1 g) → IsBook c.args.self.now g.W.Ledger.parts c.self.inside.ledger.total c.self.inside.rest.parts c.self.inside.rest.amount
-book_here g c = subst (λ (b : Held). IsBook b g.W.Ledger.parts c.self.inside.ledger.total c.self.inside.rest.parts c.self.inside.rest.amount) c.self.view_is c.self.invariant
+book_here g c = subst (λ (b : KeptHistory). IsBook b g.W.Ledger.parts c.self.inside.ledger.total c.self.inside.rest.parts c.self.inside.rest.amount) c.self.view_is c.self.invariant
 
 -- the receipt has the request that was prepared
 request_here : (g : Over) (c : goal.After-child_share-arg-3-1 g) → c.call-call.result.request ≡ c.args.prepared

@@ -8,7 +8,7 @@ use Rattle.ux_model.specs.State.{State}
 use Rattle.ux_model.specs.Step.{Step}
 use Rattle.ux_model.specs.History.{MayFollow}
 use Rattle.ux_model.proofs.ReleasedNumbers.{step_releases_rising}
-use Rattle.ux_history.specs.Books.{Held, state_of, entry_of}
+use Rattle.ux_history.specs.Books.{KeptHistory, state_of, entry_of}
 use Rattle.ux_history.specs.Logs.{Kept, IsLog}
 use Rattle.ux_history.proofs.Legal.{few_from, Pushed, Waited, log_push, waited, room_for_one, room_now, caller_inside, allowed_now, counted_now}
 use Rattle.ux_history.proofs.log.Log.append.Given.{Over}
@@ -107,7 +107,7 @@ returns-clause-entry g c =
         next = subst (λ (k : Kept). MayFollow k.book.boot k.book.entries (kept g c (state_of k.book))) c.self.view_is (subst (λ (S : State). MayFollow boot es (kept g c S)) at (grown g c).next);
         appended = (λ j. record { boot = boot; entries = appended_here g c j })
             ∙ (λ j. record { boot = boot; entries = es ++ kept g c (at j) ∷ [] })
-            ∙ (λ j. record { boot = Held.boot (Kept.book (c.self.view_is j)); entries = Held.entries (Kept.book (c.self.view_is j)) ++ kept g c (state_of (Kept.book (c.self.view_is j))) ∷ [] });
+            ∙ (λ j. record { boot = KeptHistory.boot (Kept.book (c.self.view_is j)); entries = KeptHistory.entries (Kept.book (c.self.view_is j)) ++ kept g c (state_of (Kept.book (c.self.view_is j))) ∷ [] });
       };
       done = elim c.else-waits.branch [
         | else-waits-via-then-waits+else-is_again w ↦ λ h. sym w.is_again.ensures ∙ w.if-is_again.false

@@ -1,4 +1,4 @@
-use Rattle.std.proofs.Common.{◌≡◌, ℕ, ◌+◌, Bool, true, false, cond, length, map, ap, sym, subst, ◌∙◌}
+use Rattle.std.proofs.Common.{◌≡◌, ℕ, ◌+◌, Bool, true, false, cond, length, map, ap, sym, subst, ◌∙◌, rules}
 use Rattle.std.proofs.lemmas.Bool.{false≢true, or_parts}
 use Rattle.std.proofs.lemmas.List.{length-map}
 use Rattle.ux_model.specs.Waiting.{may_wait}
@@ -36,14 +36,11 @@ invariant_of-witness g c = (
   ap (λ (m : Marked). m.number) c.push-mark.ensures.mark ∙ ap (λ (t : Trailed). length t.calls) c.self.invariant.1 ∙ length-map c.self.inside.log.entries call_of ∙ sym c.entry_count-number.ensures.count,
 )
 
-pub returns-clause-entry : goal.returns-clause-entry
-returns-clause-entry g c = (made_here g c).adds
-
-pub returns-clause-done : goal.returns-clause-done
-returns-clause-done g c = (made_here g c).done
-
-pub returns-clause-witness : goal.returns-clause-witness
-returns-clause-witness g c = (λ j. record { number = c.entry_count-number.result; call = c.push-mark.result.call; tried = c.of-tried.ensures j }) ∙ (made_here g c).receipt
+pub returns-clause-made : goal.returns-clause-made
+returns-clause-made g c =
+    let made = made_here g c in
+    let receipt = (λ j. record { number = c.entry_count-number.result; call = c.push-mark.result.call; tried = c.of-tried.ensures j }) ∙ made.receipt in
+    record { known = search rules; entry = made.adds; done = made.done; receipt = receipt; share = search rules; handed_out = search rules }
 
 pub child_share-child-requires-clause-parts : goal.child_share-child-requires-clause-parts
 child_share-child-requires-clause-parts g c =

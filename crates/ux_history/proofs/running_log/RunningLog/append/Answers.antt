@@ -8,7 +8,7 @@ use Rattle.ux_model.specs.State.{State}
 use Rattle.ux_model.specs.Step.{Step}
 use Rattle.ux_model.specs.History.{MayFollow}
 use Rattle.ux_model.proofs.ReleasedNumbers.{step_releases_rising}
-use Rattle.ux_history.specs.Books.{Held, state_of, entry_of}
+use Rattle.ux_history.specs.Books.{KeptHistory, state_of, entry_of}
 use Rattle.ux_history.specs.Pasts.{entries_of}
 use Rattle.ux_history.specs.Running.{IsRunning}
 use Rattle.ux_history.proofs.Legal.{few_from, Waited, waited}
@@ -30,7 +30,7 @@ invariant_of-self g c =
 
 pub returns-then-is_again-clause-again : goal.returns-then-is_again-clause-again
 returns-then-is_again-clause-again g c =
-    subst (λ (b : Held). Step (state_of b) c.args.pid.0 (length b.entries) c.args.request.now (Reply.Err Errno.EAGAIN) [] (state_of b)) c.self.view_is (idle g c).again
+    subst (λ (b : KeptHistory). Step (state_of b) c.args.pid.0 (length b.entries) c.args.request.now (Reply.Err Errno.EAGAIN) [] (state_of b)) c.self.view_is (idle g c).again
 
 pub returns-then-is_again-clause-none : goal.returns-then-is_again-clause-none
 returns-then-is_again-clause-none g c = nil_from_length c.step-done.new.retired (sym (length-map c.step-done.new.retired (λ r. r.0)) ∙ ap length (idle g c).none)
@@ -89,10 +89,10 @@ returns-clause-entry g c =
     let es = entries_of c.self.inside.past in
     let at = c.self.invariant.log.at_replay in
     record {
-      next = subst (λ (b : Held). MayFollow b.boot b.entries (counted g c (state_of b))) c.self.view_is (subst (λ (S : State). MayFollow boot es (counted g c S)) at (grown g c).next);
+      next = subst (λ (b : KeptHistory). MayFollow b.boot b.entries (counted g c (state_of b))) c.self.view_is (subst (λ (S : State). MayFollow boot es (counted g c S)) at (grown g c).next);
       appended = (λ j. record { boot = boot; entries = appended_here g c j })
           ∙ (λ j. record { boot = boot; entries = es ++ counted g c (at j) ∷ [] })
-          ∙ (λ j. record { boot = Held.boot (c.self.view_is j); entries = Held.entries (c.self.view_is j) ++ counted g c (state_of (c.self.view_is j)) ∷ [] });
+          ∙ (λ j. record { boot = KeptHistory.boot (c.self.view_is j); entries = KeptHistory.entries (c.self.view_is j) ++ counted g c (state_of (c.self.view_is j)) ∷ [] });
     }
 
 pub returns-clause-done : goal.returns-clause-done

@@ -1,7 +1,7 @@
 use Rattle.std.proofs.Common.{◌≡◌, ◌+◌, Option, true, not, ap, sym, subst, ◌∙◌}
 use Rattle.ux_model.specs.Types.{Request}
 use Rattle.ux_model.specs.State.{is_live}
-use Rattle.ux_history.specs.Books.{Held, state_of}
+use Rattle.ux_history.specs.Books.{KeptHistory, state_of}
 use Rattle.ux_history.specs.Shares.{Caller, processes}
 use Rattle.ux_script.specs.Runs.{MakesOne}
 use Rattle.ux_script.specs.Shares.{Forks}
@@ -26,12 +26,12 @@ returns-in-Ok-Some-clause-made g c =
     (placed c.self.inside.book c.fork-forked.new.book c.self.inside.shares.items c.push.new.self.items c.take.new.shares.items c.put.new.shares.items _ c.args.pid c.in-Some.share c.fork-forked.new.share c.in-Ok-Some.child
     c.self.invariant c.push.ensures.items (c.is_err.ensures.negation ∙ ap not c.if-is_err.false) c.fork-forked.ensures.legal c.in-Some.ensures.share c.take.ensures.left c.put.ensures
     (subst (λ (o : Option Caller). Forks c.self.inside.book c.fork-forked.new.book c.in-Some.share.pid o) c.in-Ok-Some.field-0-is c.in-Ok-Some.ensures.entry) c.in-Ok-Some.ensures.share).many
-    ∙ ap (λ (b : Held). processes b + 1) c.self.view_is
+    ∙ ap (λ (b : KeptHistory). processes b + 1) c.self.view_is
 
 pub returns-in-Ok-Some-clause-entry : goal.returns-in-Ok-Some-clause-entry
 returns-in-Ok-Some-clause-entry g c =
     let wide = wider c.self.inside.book c.self.inside.shares.items c.push.new.self.items _ c.self.invariant c.push.ensures.items (c.is_err.ensures.negation ∙ ap not c.if-is_err.false) in
-    subst (λ (b : Held). MakesOne b c.fork-forked.new.book c.args.pid Request.Fork) c.self.view_is
+    subst (λ (b : KeptHistory). MakesOne b c.fork-forked.new.book c.args.pid Request.Fork) c.self.view_is
     (made_by c.self.inside.book c.fork-forked.new.book c.push.new.self.items c.args.pid Request.Fork c.in-Some.share wide c.in-Some.ensures.share c.in-Ok-Some.ensures.entry.one)
 
 pub invariant_of-self-in-Ok-None : goal.invariant_of-self-in-Ok-None

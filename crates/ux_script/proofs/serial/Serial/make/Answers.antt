@@ -1,6 +1,6 @@
 use Rattle.std.proofs.Common.{ap, subst, ◌∙◌}
 use Rattle.std.proofs.lemmas.Bool.{or_parts}
-use Rattle.ux_history.specs.Books.{Held, is_last, is_fork}
+use Rattle.ux_history.specs.Books.{KeptHistory, is_last, is_fork}
 use Rattle.ux_history.specs.Shares.{processes}
 use Rattle.ux_model.specs.History.{is_exit, is_off}
 use Rattle.ux_script.specs.Runs.{MakesOne}
@@ -18,7 +18,7 @@ invariant_of-self-2 g c =
 pub returns-clause-entry : goal.returns-clause-entry
 returns-clause-entry g c =
     ok_then c.record-made.result
-    (λ entry. subst (λ (b : Held). MakesOne b c.record-made.new.book c.args.pid c.args.request.now) c.self.view_is
+    (λ entry. subst (λ (b : KeptHistory). MakesOne b c.record-made.new.book c.args.pid c.args.request.now) c.self.view_is
     (made_by c.self.inside.book c.record-made.new.book c.self.inside.shares.items c.args.pid c.args.request.now c.in-Some.share c.self.invariant c.in-Some.ensures.share entry))
     c.record-made.ensures.entry
 

@@ -3,11 +3,11 @@ ghost use Rattle.std.specs.Prelude.{◌≡◌, ◌+◌, ℕ, true, false, not, l
 ghost use Rattle.ux_history.specs.Shares.{processes, once_each};
 ghost use Rattle.ux_history.specs.Faults.{is_missing, is_unknown};
 ghost use Rattle.ux_history.specs.Settling.{IsLacking};
-ghost use Rattle.ux_history.specs.Telling.{AllStand, IsTold};
+ghost use Rattle.ux_history.specs.SettlingSlips.{AllStand, IsSettledWith};
 
 use crate::account::{Account, settle_accounts};
+use crate::book_name::Trailing;
 use crate::fault::SettleFault;
-use crate::naming::Trailing;
 use crate::running_book::RunningBook;
 use crate::shares::Spent;
 use crate::witness::Witness;
@@ -19,7 +19,7 @@ use ux_object::FileObject;
 /// # Errors
 ///
 /// Those of `settle_accounts`, with the shares.
-pub fn settle_told<W: Trailing, O: FileObject>(
+pub fn settle_with_witnesses<W: Trailing, O: FileObject>(
     book: &mut RunningBook<W, O>,
     spents: Vec<Spent<W>>,
     witnesses: &mut [Witness<W>],
@@ -30,7 +30,7 @@ pub fn settle_told<W: Trailing, O: FileObject>(
     ensures absent { IfErr result (λ f. once_each (length W.boot.processes) spents.items ≡ false → is_missing f.0 ≡ true) }
     ensures lacking { IfErr result (λ f. is_missing f.0 ≡ true → IsLacking W.boot spents.items) }
     ensures sum { IfOk result (λ a. a.entries ≡ sum_by (λ c. c.k) spents.items + (if a.ended then 1 else 0)) }
-    ensures told { IfOk result (λ a. IsTold W.boot spents.items witnesses.old a.entries a.ended) }
+    ensures settled { IfOk result (λ a. IsSettledWith W.boot spents.items witnesses.old a.entries a.ended) }
     ensures witnesses { witnesses.new ≡ witnesses.old }
     ensures book { book.new ≡ book.old }
     ensures known { IfErr result (λ f. is_unknown f.0 ≡ false) }
@@ -51,8 +51,7 @@ fn confirm_all<W: Trailing, O: FileObject>(
     ensures witnesses { witnesses.new ≡ witnesses.old }
     ensures book { book.new ≡ book.old }
 {
-    for i in 0..witnesses.len() {
-        let witness = &mut witnesses[i];
+    for witness in witnesses.iter_mut() {
         book.confirm(witness);
     }
 }

@@ -13,7 +13,7 @@ abbrev pub AllStand : List Entry → List Slip → Type 0
 AllStand entries slips = (i : ℕ) (s : Slip) → slice_get slips i ≡ Some s → slice_get (map call_of entries) s.number ≡ Some s.call
 
 -- One legal history from this state has so many entries, of each of the callers as many as it counted, the end of the layer or not, and each slip's call at its number, and each process that was made is once among the callers.
-pub record IsTold (boot : State) (cs : List Caller) (slips : List Slip) (count : ℕ) (ended : Bool) : Type 0 where
+pub record IsSettledWith (boot : State) (cs : List Caller) (slips : List Slip) (count : ℕ) (ended : Bool) : Type 0 where
   pub entries : List Entry
   pub legal : IsLegal boot entries
   pub long : length entries ≡ count
