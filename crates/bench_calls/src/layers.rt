@@ -10,7 +10,7 @@ use ux_history::{Book, BookName, Share, has_own_call};
 use ux_kernel::Kernel;
 use ux_object::ObjKind;
 use ux_objects::Plain;
-use ux_state::RetiredList;
+use ux_state::ReleasedObjects;
 use ux_types::{Done, Name, Pid, ProcSpec, Reply, Request, SockType};
 
 /// A user's process with the greatest table.
@@ -41,7 +41,7 @@ pub(crate) trait Layer {
 /// A kernel alone.
 pub(crate) struct Stepped {
     kernel: Kernel<Plain>,
-    retired: RetiredList<Plain>,
+    released: ReleasedObjects<Plain>,
     tag: u64,
 }
 
@@ -50,11 +50,11 @@ impl Drop for Stepped {
     fn drop(self) {
         let Stepped {
             kernel,
-            retired,
+            released,
             tag: _,
         } = self;
         drop(kernel);
-        drop(retired);
+        drop(released);
     }
 }
 
@@ -64,7 +64,7 @@ pub(crate) struct Recorded<W: BookName> {
     giving: Giving,
     book: Book<W, Plain>,
     shares: Vec<Share<W>>,
-    retired: RetiredList<Plain>,
+    released: ReleasedObjects<Plain>,
 }
 
 /// As of a kernel alone.
@@ -75,11 +75,11 @@ impl<W: BookName> Drop for Recorded<W> {
             giving: _,
             book,
             shares,
-            retired,
+            released,
         } = self;
         drop(book);
         drop(shares);
-        drop(retired);
+        drop(released);
     }
 }
 
@@ -106,10 +106,10 @@ pub(crate) fn boot(alloc: Global, processes: usize) -> Result<Kernel<Plain>>
 impl Stepped {
     /// A kernel with a file and a pipe.
     pub(crate) fn new(alloc: Global) -> Result<Stepped> {
-        let retired = RetiredList::new(alloc)?;
+        let released = ReleasedObjects::new(alloc)?;
         Ok(Stepped {
             kernel: boot(alloc, PROCESSES)?,
-            retired,
+            released,
             tag: 0,
         })
     }
@@ -128,14 +128,14 @@ impl<W: BookName> Recorded<W> {
         requires boots { IsBootState kernel }
         requires named { kernel ≡ W.boot }
     {
-        let retired = RetiredList::new(alloc)?;
+        let released = ReleasedObjects::new(alloc)?;
         match Book::new(alloc, blank, kernel) {
             Ok((book, shares)) => Ok(Recorded {
                 alloc,
                 giving,
                 book,
                 shares,
-                retired,
+                released,
             }),
             Err((kernel, error)) => {
                 drop(kernel);
@@ -155,14 +155,14 @@ fn is_recorded<W: BookName>(
     book: &mut Book<W, Plain>,
     share: &mut Share<W>,
     request: Request,
-    retired: &mut RetiredList<Plain>,
+    released: &mut ReleasedObjects<Plain>,
 ) -> bool
-    requires { retired.old ≡ [] }
+    requires { released.old ≡ [] }
 {
     if has_own_call(&request) {
         return false;
     }
-    match book.record_given(share, request, retired) {
+    match book.record_given(share, request, released) {
         Ok(receipt) => is_granted(receipt.reply()),
         Err(_) => false,
     }
@@ -175,11 +175,11 @@ impl Layer for Stepped {
         }
         let tag = self.tag;
         self.tag = tag.wrapping_add(1);
-        self.retired.clear();
+        self.released.clear();
         let Done {
             reply,
             delivered: _,
-        } = self.kernel.step(pid, tag, request, &mut self.retired);
+        } = self.kernel.step(pid, tag, request, &mut self.released);
         is_granted(&reply)
     }
 }
@@ -192,9 +192,9 @@ impl<W: BookName> Layer for Recorded<W> {
         let Some(share) = self.shares.get_mut(pid.0 as usize - 1) else {
             return false;
         };
-        self.retired.clear();
+        self.released.clear();
         match self.giving.give(self.alloc, request) {
-            Ok(request) => is_recorded(&mut self.book, share, request, &mut self.retired),
+            Ok(request) => is_recorded(&mut self.book, share, request, &mut self.released),
             Err(_) => false,
         }
     }

@@ -22,7 +22,7 @@ use ux_audit::holdings;
 use ux_calls::call;
 use ux_history::{Book, BookName, CallBook, CallFault, NoMemory, OffFault, Share};
 use ux_kernel::Kernel;
-use ux_state::RetiredList;
+use ux_state::ReleasedObjects;
 use ux_types::{
     Addr, Bytes, Cred, Entry, Fd, Mode, OpenFlags, Pid, PollFlags, Reply, Request, SockOpt,
     SockType, Whence,
@@ -36,7 +36,7 @@ pub struct Session<W: BookName> {
     /// That of each process that was made, in the order of their numbers.
     shares: Vec<Share<W>>,
     /// The file objects that went with the last call, until the next one.
-    retired: RetiredList<AnyObject>,
+    released: ReleasedObjects<AnyObject>,
 }
 
 // Written out, so that it is proved here and not in each function that drops one.
@@ -46,11 +46,11 @@ impl<W: BookName> Drop for Session<W> {
             alloc: _,
             book,
             shares,
-            retired,
+            released,
         } = self;
         drop(book);
         drop(shares);
-        drop(retired);
+        drop(released);
     }
 }
 
@@ -82,7 +82,7 @@ impl<W: BookName> Session<W> {
         requires named { kernel ≡ W.boot }
         ensures { IfOk result (λ session. session ≡ record { boot = kernel; entries = [] }) }
     {
-        let Ok(retired) = RetiredList::new(alloc) else {
+        let Ok(released) = ReleasedObjects::new(alloc) else {
             return Err(NoMemory);
         };
         match Book::<W, AnyObject>::new(alloc, blank, kernel) {
@@ -90,7 +90,7 @@ impl<W: BookName> Session<W> {
                 alloc,
                 book,
                 shares,
-                retired,
+                released,
             }),
             Err((_kernel, error)) => Err(error),
         }
@@ -158,13 +158,13 @@ impl<W: BookName> Session<W> {
             alloc: _,
             book,
             shares,
-            retired,
+            released,
         } = self;
         let Some(share) = shares.get_mut(place as usize) else {
             return Err(CallFault::Stranger);
         };
-        retired.clear();
-        match book.record_given(share, request, retired) {
+        released.clear();
+        match book.record_given(share, request, released) {
             Ok(receipt) => Ok(receipt.into_reply()),
             Err((fault, _request)) => Err(fault),
         }
@@ -186,7 +186,7 @@ impl<W: BookName> Session<W> {
             alloc: _,
             book,
             shares,
-            retired,
+            released,
         } = self;
         shares.reserve(1)?;
         // What this says of the entries is what the child's number rests on.
@@ -194,8 +194,8 @@ impl<W: BookName> Session<W> {
         let Some(share) = shares.get_mut(place as usize) else {
             return Err(CallError::Fault(CallFault::Stranger));
         };
-        retired.clear();
-        let (recorded, child) = book.fork(share, retired)?;
+        released.clear();
+        let (recorded, child) = book.fork(share, released)?;
         let Some(child) = child else {
             return recorded.reply.child();
         };
@@ -220,13 +220,13 @@ impl<W: BookName> Session<W> {
             alloc: _,
             book,
             shares,
-            retired,
+            released,
         } = self;
         let Some(share) = shares.get_mut(place as usize) else {
             return Err(CallFault::Stranger);
         };
-        retired.clear();
-        if !CallBook::end(book, share, retired) {
+        released.clear();
+        if !CallBook::end(book, share, released) {
             return Err(CallFault::Stranger);
         }
         Ok(())
@@ -245,8 +245,8 @@ impl<W: BookName> Session<W> {
         ensures given { IfErr result (λ fault. is_alive fault ≡ false → ends_of self.old.entries ≡ 1) }
         ensures same { OnErr result (self.new ≡ self.old) }
     {
-        self.retired.clear();
-        self.book.off(&mut self.retired)
+        self.released.clear();
+        self.book.off(&mut self.released)
     }
 
     /// open(2) of a file object by its path, without flags: the new descriptor.

@@ -12,7 +12,7 @@ use std::marker::Brand;
 use std::sync::ledger::Blank;
 use ux_history::{Account, Book, BookName, PARTS, Share, has_own_call, settle_accounts};
 use ux_kernel::Kernel;
-use ux_state::RetiredList;
+use ux_state::ReleasedObjects;
 use ux_types::{Fd, Mode, Request, Whence};
 
 /// A kernel with one memory file, at the path `notes`, and one process.
@@ -40,7 +40,7 @@ fn calls(alloc: Global) -> Result<Vec<Request>> {
 fn make_calls<W: BookName>(
     book: &mut Book<W, AnyObject>,
     share: &mut Share<W>,
-    retired: &mut RetiredList<AnyObject>,
+    released: &mut ReleasedObjects<AnyObject>,
     requests: &[Request],
 ) -> Result<()> {
     for request in requests {
@@ -49,8 +49,8 @@ fn make_calls<W: BookName>(
             return Err(anyhow!("a fork or an exit isn't recorded so"));
         }
         // The file objects that went with the call before, closed, are dropped here.
-        retired.clear();
-        match book.record(share, request, retired) {
+        released.clear();
+        match book.record(share, request, released) {
             Ok(recorded) => drop(recorded),
             Err(fault) => return Err(anyhow!("{fault}")),
         }
@@ -63,10 +63,10 @@ fn end<W: BookName>(
     alloc: Global,
     book: &mut Book<W, AnyObject>,
     share: Share<W>,
-    retired: &mut RetiredList<AnyObject>,
+    released: &mut ReleasedObjects<AnyObject>,
 ) -> Result<Account> {
-    retired.clear();
-    let spents = match book.exit(share, retired) {
+    released.clear();
+    let spents = match book.exit(share, released) {
         Ok(spent) => vec![in alloc; spent]?,
         Err(_share) => return Err(anyhow!("the process isn't known")),
     };
@@ -83,12 +83,12 @@ fn fill<W: BookName>(
     mut shares: Vec<Share<W>>,
 ) -> Result<()> {
     let requests = calls(rt.alloc())?;
-    let mut retired = RetiredList::new(rt.alloc())?;
+    let mut released = ReleasedObjects::new(rt.alloc())?;
     let Some(mut share) = shares.pop() else {
         return Err(anyhow!("no process"));
     };
-    make_calls(book, &mut share, &mut retired, &requests)?;
-    let account = end(rt.alloc(), book, share, &mut retired)?;
+    make_calls(book, &mut share, &mut released, &requests)?;
+    let account = end(rt.alloc(), book, share, &mut released)?;
     print_history(rt, book)?;
     print!(rt; "{} entries settle\n", account.entries)?;
     Ok(())

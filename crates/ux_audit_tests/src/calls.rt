@@ -8,7 +8,7 @@ use ux_cmsg::{Control, write_control};
 use ux_kernel::Kernel;
 use ux_object::ObjKind;
 use ux_objects::Plain;
-use ux_state::RetiredList;
+use ux_state::ReleasedObjects;
 use ux_types::{
     Addr, Bytes, Entry, Fd, Mode, MsgFlags, Name, OpenFlags, Pid, ProcSpec, Released, Request,
     SockType,
@@ -139,7 +139,7 @@ fn request_of(alloc: Global, call: Call) -> Result<Request, AllocError> {
 /// A kernel of one file and these processes, and what it was called so far.
 struct Recorder {
     kernel: Kernel<Plain>,
-    retired: RetiredList<Plain>,
+    released: ReleasedObjects<Plain>,
     entries: Vec<Entry>,
 }
 
@@ -147,11 +147,11 @@ impl Drop for Recorder {
     fn drop(self) {
         let Recorder {
             kernel,
-            retired,
+            released,
             entries,
         } = self;
         drop(kernel);
-        drop(retired);
+        drop(released);
         drop(entries);
     }
 }
@@ -162,11 +162,11 @@ fn make_recorder(alloc: Global, procs: &[ProcSpec]) -> Result<Recorder, AllocErr
     };
     let mut objects = Vec::new(alloc);
     objects.push((Name::from_slice(alloc, b"f")?, file))?;
-    let retired = RetiredList::new(alloc)?;
+    let released = ReleasedObjects::new(alloc)?;
     match Kernel::boot(alloc, objects, procs) {
         Ok(kernel) => Ok(Recorder {
             kernel,
-            retired,
+            released,
             entries: Vec::new(alloc),
         }),
         Err(_) => Err(AllocError),
@@ -183,11 +183,11 @@ fn record(recorder: &mut Recorder, pid: Pid, request: Request) -> Result<(), All
     if matches!(request, Request::Off) || !recorder.kernel.is_live(pid) {
         return Ok(());
     }
-    recorder.retired.clear();
+    recorder.released.clear();
     let tag = recorder.entries.len() as u64;
     let done = recorder
         .kernel
-        .step(pid, tag, &request, &mut recorder.retired);
+        .step(pid, tag, &request, &mut recorder.released);
     let k = count_of(recorder.entries.as_slice(), pid);
     recorder.entries.push(Entry {
         pid,

@@ -54,11 +54,11 @@ fn give<W: BookName>(
 ) -> Result<Receipt<W>, (CallFault, Request)>
     requires { has_own_call request ≡ false }
 {
-    shelf.retired.clear();
+    shelf.released.clear();
     shelf
         .kept
         .book
-        .record_given(&mut shelf.share, request, &mut shelf.retired)
+        .record_given(&mut shelf.share, request, &mut shelf.released)
 }
 
 /// Whether these bytes were received.

@@ -7,7 +7,7 @@ use std::sync::ledger::Blank;
 use ux_history::{Book, BookName, Share};
 use ux_kernel::Kernel;
 use ux_objects::Counter;
-use ux_state::RetiredList;
+use ux_state::ReleasedObjects;
 use ux_types::{OpenFlags, ProcSpec, Request, SockType};
 
 pub(crate) const ONE: [ProcSpec; 1] = [ProcSpec {
@@ -39,7 +39,7 @@ impl<W: BookName> Drop for Kept<W> {
 pub(crate) struct Shelf<W: BookName> {
     pub(crate) kept: Kept<W>,
     pub(crate) share: Share<W>,
-    pub(crate) retired: RetiredList<Counter>,
+    pub(crate) released: ReleasedObjects<Counter>,
 }
 
 /// A shelf at the start of a kernel.
@@ -53,7 +53,7 @@ pub(crate) fn make_shelf<W: BookName>(
     requires boots { IsBootState kernel }
     requires named { kernel ≡ W.boot }
 {
-    let retired = RetiredList::new(alloc)?;
+    let released = ReleasedObjects::new(alloc)?;
     let Ok((book, mut shares)) = Book::new(alloc, blank, kernel) else {
         return Err(AllocError);
     };
@@ -62,7 +62,7 @@ pub(crate) fn make_shelf<W: BookName>(
         Some(share) => Ok(Shelf {
             kept,
             share,
-            retired,
+            released,
         }),
         None => Err(AllocError),
     }

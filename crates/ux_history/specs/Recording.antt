@@ -12,25 +12,25 @@ use Rattle.ux_history.specs.Receipts.{Slip, next_slip}
 use Rattle.ux_history.specs.Faults.{is_stranger}
 
 -- The caller, a live process with so many calls before, made this one and got this reply: that is one more entry of the book, for which the slip is, and these file objects went with it. Where the call was tried, it isn't one that should have waited.
-pub record IsMade (old new : KeptHistory) (before after : Caller) (request : Request) (reply : Reply) (tried : Bool) (slip : Slip) (retired : List (ℕ × Option View)) : Type 0 where
+pub record IsMade (old new : KeptHistory) (before after : Caller) (request : Request) (reply : Reply) (tried : Bool) (slip : Slip) (released : List (ℕ × Option View)) : Type 0 where
   pub known : knows old before ≡ true
-  pub entry : Adds old new (call_by old before request reply (map (λ o. o.0) retired))
+  pub entry : Adds old new (call_by old before request reply (map (λ o. o.0) released))
   pub done : tried ≡ true → should_wait (state_of old) before.pid.0 request reply ≡ false
   pub receipt : slip ≡ next_slip old before request reply tried
   pub share : after ≡ once_more before
-  pub handed_out : AllByRecursion (IsHandedOut (state_of old)) retired
+  pub handed_out : AllByRecursion (IsHandedOut (state_of old)) released
 
 -- The caller, a live process with so many calls before, would have to wait: nothing has changed.
-pub record Waits (old new : KeptHistory) (before after : Caller) (request : Request) (retired : List (ℕ × Option View)) : Type 0 where
+pub record Waits (old new : KeptHistory) (before after : Caller) (request : Request) (released : List (ℕ × Option View)) : Type 0 where
   pub known : knows old before ≡ true
   pub waits : MustWait old before.pid request
   pub same : new ≡ old
   pub kept : after ≡ before
-  pub none : retired ≡ []
+  pub none : released ≡ []
 
 -- The call is refused, as a stranger's exactly where the caller isn't a live process with so many calls before: nothing has changed.
-pub record IsRefused (old new : KeptHistory) (before after : Caller) (fault : CallFault) (retired : List (ℕ × Option View)) : Type 0 where
+pub record IsRefused (old new : KeptHistory) (before after : Caller) (fault : CallFault) (released : List (ℕ × Option View)) : Type 0 where
   pub stranger : is_stranger fault ≡ not (knows old before)
   pub same : new ≡ old
   pub kept : after ≡ before
-  pub none : retired ≡ []
+  pub none : released ≡ []

@@ -29,7 +29,7 @@ use std::sync::ledger::Blank;
 use ux_kernel::Kernel;
 use ux_object::FileObject;
 use ux_room::ReplyRoom;
-use ux_state::RetiredList;
+use ux_state::ReleasedObjects;
 use ux_types::{Entry, Pid, Reply, Request};
 
 /// Into how many parts a book's ledger is cut: one for each process that is ever made.
@@ -208,15 +208,15 @@ impl<W: BookName, O: FileObject> Book<W, O> {
         &mut self,
         share: &mut Share<W>,
         request: &Request,
-        retired: &mut RetiredList<O>,
+        released: &mut ReleasedObjects<O>,
     ) -> Result<Recorded<W>, CallFault>
         requires call { has_own_call request.now ≡ false }
-        requires empty { retired.old ≡ [] }
-        ensures made { IfOk result (λ r. IsMade self.old self.new share.old share.new request.now r.reply false r.receipt retired.new) }
-        ensures refused { IfErr result (λ f. IsRefused self.old self.new share.old share.new f retired.new) }
+        requires empty { released.old ≡ [] }
+        ensures made { IfOk result (λ r. IsMade self.old self.new share.old share.new request.now r.reply false r.receipt released.new) }
+        ensures refused { IfErr result (λ f. IsRefused self.old self.new share.old share.new f released.new) }
         ensures memory { IfErr result (λ f. is_stranger f ≡ false → f ≡ CallFault.NoMemory) }
     {
-        match self.make_copy(share, request, false, retired) {
+        match self.make_copy(share, request, false, released) {
             Ok(Some((recorded, _))) => Ok(recorded),
             Ok(None) => unreachable!(),
             Err(fault) => Err(fault),
@@ -233,15 +233,15 @@ impl<W: BookName, O: FileObject> Book<W, O> {
     pub fn fork(
         &mut self,
         share: &mut Share<W>,
-        retired: &mut RetiredList<O>,
+        released: &mut ReleasedObjects<O>,
     ) -> Result<(Recorded<W>, Option<Share<W>>), CallFault>
-        requires empty { retired.old ≡ [] }
-        ensures made { IfOk result (λ r. IsMade self.old self.new share.old share.new Request.Fork r.0.reply false r.0.receipt retired.new) }
+        requires empty { released.old ≡ [] }
+        ensures made { IfOk result (λ r. IsMade self.old self.new share.old share.new Request.Fork r.0.reply false r.0.receipt released.new) }
         ensures child { IfOk result (λ r. r.1 ≡ child_by Request.Fork r.0.reply) }
-        ensures refused { IfErr result (λ f. IsRefused self.old self.new share.old share.new f retired.new) }
+        ensures refused { IfErr result (λ f. IsRefused self.old self.new share.old share.new f released.new) }
         ensures memory { IfErr result (λ f. is_stranger f ≡ false → f ≡ CallFault.NoMemory) }
     {
-        match self.make_copy(share, &Request::Fork, false, retired) {
+        match self.make_copy(share, &Request::Fork, false, released) {
             Ok(Some(forked)) => Ok(forked),
             Ok(None) => unreachable!(),
             Err(fault) => Err(fault),
@@ -258,16 +258,16 @@ impl<W: BookName, O: FileObject> Book<W, O> {
         &mut self,
         share: &mut Share<W>,
         request: &Request,
-        retired: &mut RetiredList<O>,
+        released: &mut ReleasedObjects<O>,
     ) -> Result<Option<Recorded<W>>, CallFault>
         requires call { has_own_call request.now ≡ false }
-        requires empty { retired.old ≡ [] }
-        ensures made { IfOk result (λ o. IfSome o (λ r. IsMade self.old self.new share.old share.new request.now r.reply true r.receipt retired.new)) }
-        ensures waits { IfOk result (λ o. IfNone o (Waits self.old self.new share.old share.new request.now retired.new)) }
-        ensures refused { IfErr result (λ f. IsRefused self.old self.new share.old share.new f retired.new) }
+        requires empty { released.old ≡ [] }
+        ensures made { IfOk result (λ o. IfSome o (λ r. IsMade self.old self.new share.old share.new request.now r.reply true r.receipt released.new)) }
+        ensures waits { IfOk result (λ o. IfNone o (Waits self.old self.new share.old share.new request.now released.new)) }
+        ensures refused { IfErr result (λ f. IsRefused self.old self.new share.old share.new f released.new) }
         ensures memory { IfErr result (λ f. is_stranger f ≡ false → f ≡ CallFault.NoMemory) }
     {
-        match self.make_copy(share, request, true, retired) {
+        match self.make_copy(share, request, true, released) {
             Ok(Some((recorded, _))) => Ok(Some(recorded)),
             Ok(None) => Ok(None),
             Err(fault) => Err(fault),
@@ -283,16 +283,16 @@ impl<W: BookName, O: FileObject> Book<W, O> {
         &mut self,
         share: &mut Share<W>,
         prepared: Prepared,
-        retired: &mut RetiredList<O>,
+        released: &mut ReleasedObjects<O>,
     ) -> Result<Receipt<W>, (CallFault, Prepared)>
         requires call { has_own_call prepared ≡ false }
-        requires empty { retired.old ≡ [] }
-        ensures made { IfOk result (λ r. IsMade self.old self.new share.old share.new prepared r.call.reply false r retired.new) }
-        ensures refused { IfErr result (λ f. IsRefused self.old self.new share.old share.new f.0 retired.new) }
+        requires empty { released.old ≡ [] }
+        ensures made { IfOk result (λ r. IsMade self.old self.new share.old share.new prepared r.call.reply false r released.new) }
+        ensures refused { IfErr result (λ f. IsRefused self.old self.new share.old share.new f.0 released.new) }
         ensures memory { IfErr result (λ f. is_stranger f.0 ≡ false → f.0 ≡ CallFault.NoMemory) }
         ensures back { IfErr result (λ f. f.1 ≡ prepared) }
     {
-        match self.make(share, prepared, false, retired) {
+        match self.make(share, prepared, false, released) {
             Ok(Some((receipt, _))) => Ok(receipt),
             Ok(None) => unreachable!(),
             Err(fault) => Err(fault),
@@ -308,12 +308,12 @@ impl<W: BookName, O: FileObject> Book<W, O> {
         &mut self,
         share: &mut Share<W>,
         request: Request,
-        retired: &mut RetiredList<O>,
+        released: &mut ReleasedObjects<O>,
     ) -> Result<Receipt<W>, (CallFault, Request)>
         requires call { has_own_call request ≡ false }
-        requires empty { retired.old ≡ [] }
-        ensures made { IfOk result (λ r. IsMade self.old self.new share.old share.new request r.call.reply false r retired.new) }
-        ensures refused { IfErr result (λ f. IsRefused self.old self.new share.old share.new f.0 retired.new) }
+        requires empty { released.old ≡ [] }
+        ensures made { IfOk result (λ r. IsMade self.old self.new share.old share.new request r.call.reply false r released.new) }
+        ensures refused { IfErr result (λ f. IsRefused self.old self.new share.old share.new f.0 released.new) }
         ensures memory { IfErr result (λ f. is_stranger f.0 ≡ false → f.0 ≡ CallFault.NoMemory) }
         ensures back { IfErr result (λ f. f.1 ≡ request) }
     {
@@ -324,7 +324,7 @@ impl<W: BookName, O: FileObject> Book<W, O> {
             Ok(prepared) => prepared,
             Err(request) => return Err((CallFault::NoMemory, request)),
         };
-        match self.record_prepared(share, prepared, retired) {
+        match self.record_prepared(share, prepared, released) {
             Ok(receipt) => Ok(receipt),
             Err((fault, prepared)) => Err((fault, prepared.into_request())),
         }
@@ -338,15 +338,15 @@ impl<W: BookName, O: FileObject> Book<W, O> {
         share: &mut Share<W>,
         request: &Request,
         tried: bool,
-        retired: &mut RetiredList<O>,
+        released: &mut ReleasedObjects<O>,
     ) -> Result<Option<(Recorded<W>, Option<Share<W>>)>, CallFault>
         requires call { is_last request.now ≡ false }
-        requires empty { retired.old ≡ [] }
-        ensures made { IfOk result (λ o. IfSome o (λ r. IsMade self.old self.new share.old share.new request.now r.0.reply tried r.0.receipt retired.new)) }
+        requires empty { released.old ≡ [] }
+        ensures made { IfOk result (λ o. IfSome o (λ r. IsMade self.old self.new share.old share.new request.now r.0.reply tried r.0.receipt released.new)) }
         ensures child { IfOk result (λ o. IfSome o (λ r. r.1 ≡ child_by request.now r.0.reply)) }
-        ensures waits { IfOk result (λ o. IfNone o (Waits self.old self.new share.old share.new request.now retired.new)) }
+        ensures waits { IfOk result (λ o. IfNone o (Waits self.old self.new share.old share.new request.now released.new)) }
         ensures tried { IfOk result (λ o. IfNone o (tried ≡ true)) }
-        ensures refused { IfErr result (λ f. IsRefused self.old self.new share.old share.new f retired.new) }
+        ensures refused { IfErr result (λ f. IsRefused self.old self.new share.old share.new f released.new) }
         ensures memory { IfErr result (λ f. is_stranger f ≡ false → f ≡ CallFault.NoMemory) }
     {
         if !self.knows(share) {
@@ -355,7 +355,7 @@ impl<W: BookName, O: FileObject> Book<W, O> {
         let Ok((prepared, room)) = copy_for_call(self.log.allocator(), request) else {
             return Err(CallFault::NoMemory);
         };
-        match self.make(share, prepared, tried, retired) {
+        match self.make(share, prepared, tried, released) {
             Ok(Some((receipt, child))) => {
                 let reply = room.copy(receipt.reply());
                 Ok(Some((Recorded { reply, receipt }, child)))
@@ -372,16 +372,16 @@ impl<W: BookName, O: FileObject> Book<W, O> {
         share: &mut Share<W>,
         prepared: Prepared,
         tried: bool,
-        retired: &mut RetiredList<O>,
+        released: &mut ReleasedObjects<O>,
     ) -> Result<Option<(Receipt<W>, Option<Share<W>>)>, (CallFault, Prepared)>
         requires call { is_last prepared ≡ false }
-        requires empty { retired.old ≡ [] }
-        ensures made { IfOk result (λ o. IfSome o (λ r. IsMade self.old self.new share.old share.new prepared r.0.call.reply tried r.0 retired.new)) }
+        requires empty { released.old ≡ [] }
+        ensures made { IfOk result (λ o. IfSome o (λ r. IsMade self.old self.new share.old share.new prepared r.0.call.reply tried r.0 released.new)) }
         ensures child { IfOk result (λ o. IfSome o (λ r. r.1 ≡ child_by prepared r.0.call.reply)) }
         ensures fits { IfOk result (λ o. IfSome o (λ r. Fits (size_of r.0.call.reply) (room_for prepared))) }
-        ensures waits { IfOk result (λ o. IfNone o (Waits self.old self.new share.old share.new prepared retired.new)) }
+        ensures waits { IfOk result (λ o. IfNone o (Waits self.old self.new share.old share.new prepared released.new)) }
         ensures tried { IfOk result (λ o. IfNone o (tried ≡ true)) }
-        ensures refused { IfErr result (λ f. IsRefused self.old self.new share.old share.new f.0 retired.new) }
+        ensures refused { IfErr result (λ f. IsRefused self.old self.new share.old share.new f.0 released.new) }
         ensures memory { IfErr result (λ f. is_stranger f.0 ≡ false → f.0 ≡ CallFault.NoMemory) }
         ensures back { IfErr result (λ f. f.1 ≡ prepared) }
     {
@@ -395,7 +395,7 @@ impl<W: BookName, O: FileObject> Book<W, O> {
         }
         let (request, copy) = prepared.into_parts();
         let waits = tried && self.log.waits(share.pid, &request);
-        let Some(number) = self.log.append(share.pid, share.k, request, waits, retired) else {
+        let Some(number) = self.log.append(share.pid, share.k, request, waits, released) else {
             drop(copy);
             return Ok(None);
         };
@@ -424,19 +424,19 @@ impl<W: BookName, O: FileObject> Book<W, O> {
     pub fn exit(
         &mut self,
         mut share: Share<W>,
-        retired: &mut RetiredList<O>,
+        released: &mut ReleasedObjects<O>,
     ) -> Result<Spent<W>, Share<W>>
-        requires empty { retired.old ≡ [] }
+        requires empty { released.old ≡ [] }
         ensures known { OnOk result (knows self.old share ≡ true) }
         ensures stranger { OnErr result (knows self.old share ≡ false) }
-        ensures entry { OnOk result (Appends self.old self.new share.pid share.k Request.Exit (map (λ o. o.0) retired.new)) }
+        ensures entry { OnOk result (Appends self.old self.new share.pid share.k Request.Exit (map (λ o. o.0) released.new)) }
         ensures spent { IfOk result (λ s. s ≡ once_more share) }
-        ensures handed_out { OnOk result (AllByRecursion (IsHandedOut (state_of self.old)) retired.new) }
+        ensures handed_out { OnOk result (AllByRecursion (IsHandedOut (state_of self.old)) released.new) }
         ensures same { OnErr result (self.new ≡ self.old) }
         ensures back { IfErr result (λ s. s ≡ share) }
-        ensures none { OnErr result (retired.new ≡ []) }
+        ensures none { OnErr result (released.new ≡ []) }
     {
-        if !self.end(&mut share, retired) {
+        if !self.end(&mut share, released) {
             return Err(share);
         }
         Ok(Spent { share })
@@ -444,21 +444,21 @@ impl<W: BookName, O: FileObject> Book<W, O> {
 
     /// Ends the share's process where it is a live one which has made so many calls, and reports whether it was,
     /// as `exit` does; the share is then spent. It takes no memory.
-    pub(crate) fn end(&mut self, share: &mut Share<W>, retired: &mut RetiredList<O>) -> bool
-        requires empty { retired.old ≡ [] }
+    pub(crate) fn end(&mut self, share: &mut Share<W>, released: &mut ReleasedObjects<O>) -> bool
+        requires empty { released.old ≡ [] }
         ensures known { result ≡ knows self.old share.old }
-        ensures entry { IsTrue result → Appends self.old self.new share.old.pid share.old.k Request.Exit (map (λ o. o.0) retired.new) }
+        ensures entry { IsTrue result → Appends self.old self.new share.old.pid share.old.k Request.Exit (map (λ o. o.0) released.new) }
         ensures spent { IsTrue result → share.new ≡ once_more share.old }
-        ensures handed_out { IsTrue result → AllByRecursion (IsHandedOut (state_of self.old)) retired.new }
+        ensures handed_out { IsTrue result → AllByRecursion (IsHandedOut (state_of self.old)) released.new }
         ensures same { result ≡ false → self.new ≡ self.old }
         ensures kept { result ≡ false → share.new ≡ share.old }
-        ensures none { result ≡ false → retired.new ≡ [] }
+        ensures none { result ≡ false → released.new ≡ [] }
     {
         if !self.knows(share) {
             return false;
         }
         self.log
-            .append_last(share.pid, share.k, Request::Exit, retired);
+            .append_last(share.pid, share.k, Request::Exit, released);
         self.ledger.add(&mut share.part, 1);
         share.k += 1;
         true
@@ -470,16 +470,16 @@ impl<W: BookName, O: FileObject> Book<W, O> {
     /// # Errors
     ///
     /// `Alive` exactly where a process hasn't exited, else `Given` exactly where this was done before.
-    pub fn off(&mut self, retired: &mut RetiredList<O>) -> Result<(), OffFault>
-        requires empty { retired.old ≡ [] }
+    pub fn off(&mut self, released: &mut ReleasedObjects<O>) -> Result<(), OffFault>
+        requires empty { released.old ≡ [] }
         ensures gone { OnOk result (has_live (state_of self.old) ≡ false) }
         ensures first { OnOk result (ends_of self.old.entries ≡ 0) }
         ensures alive { IfErr result (λ f. is_alive f ≡ has_live (state_of self.old)) }
         ensures given { IfErr result (λ f. is_alive f ≡ false → ends_of self.old.entries ≡ 1) }
-        ensures entry { OnOk result (Appends self.old self.new (record { 0 = 0 }) 0 Request.Off (map (λ o. o.0) retired.new)) }
-        ensures handed_out { OnOk result (AllByRecursion (IsHandedOut (state_of self.old)) retired.new) }
+        ensures entry { OnOk result (Appends self.old self.new (record { 0 = 0 }) 0 Request.Off (map (λ o. o.0) released.new)) }
+        ensures handed_out { OnOk result (AllByRecursion (IsHandedOut (state_of self.old)) released.new) }
         ensures same { OnErr result (self.new ≡ self.old) }
-        ensures none { OnErr result (retired.new ≡ []) }
+        ensures none { OnErr result (released.new ≡ []) }
     {
         if self.log.has_live() {
             return Err(OffFault::Alive);
@@ -487,7 +487,7 @@ impl<W: BookName, O: FileObject> Book<W, O> {
         if self.log.has_ended() {
             return Err(OffFault::Given);
         }
-        self.log.append_last(Pid(0), 0, Request::Off, retired);
+        self.log.append_last(Pid(0), 0, Request::Off, released);
         Ok(())
     }
 

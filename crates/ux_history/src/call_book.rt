@@ -20,7 +20,7 @@ use crate::receipts::Receipt;
 use crate::shares::{Share, Spent};
 use ux_kernel::Kernel;
 use ux_object::FileObject;
-use ux_state::RetiredList;
+use ux_state::ReleasedObjects;
 use ux_types::{Pid, Reply, Request};
 
 /// What a caller keeps of a call: it shows that some legal history from the book's boot state has the call at
@@ -99,12 +99,12 @@ pub trait CallBook<W: BookName, O: FileObject>: Drop {
         &mut self,
         share: &mut Share<W>,
         request: &Request,
-        retired: &mut RetiredList<O>,
+        released: &mut ReleasedObjects<O>,
     ) -> Result<(Reply, Self::Slip), CallFault>
         requires call { has_own_call request.now ≡ false }
-        requires empty { retired.old ≡ [] }
-        ensures made { IfOk result (λ r. IsMade (history self.old) (history self.new) share.old share.new request.now r.0 false (Self.Slip.slip r.1) retired.new) }
-        ensures refused { IfErr result (λ f. IsRefused (history self.old) (history self.new) share.old share.new f retired.new) }
+        requires empty { released.old ≡ [] }
+        ensures made { IfOk result (λ r. IsMade (history self.old) (history self.new) share.old share.new request.now r.0 false (Self.Slip.slip r.1) released.new) }
+        ensures refused { IfErr result (λ f. IsRefused (history self.old) (history self.new) share.old share.new f released.new) }
         ensures goes_on { IfErr result (λ f. is_deadlock f ≡ false) };
 
     /// A request with what its call needs that doesn't depend on the book.
@@ -125,12 +125,12 @@ pub trait CallBook<W: BookName, O: FileObject>: Drop {
         &mut self,
         share: &mut Share<W>,
         prepared: Self::Prepared,
-        retired: &mut RetiredList<O>,
+        released: &mut ReleasedObjects<O>,
     ) -> Result<Self::Kept, (CallFault, Self::Prepared)>
         requires call { has_own_call (Self.Prepared.asked prepared) ≡ false }
-        requires empty { retired.old ≡ [] }
-        ensures made { IfOk result (λ r. IsMade (history self.old) (history self.new) share.old share.new (Self.Prepared.asked prepared) (Self.Kept.kept r).call.reply false (Self.Kept.kept r) retired.new) }
-        ensures refused { IfErr result (λ f. IsRefused (history self.old) (history self.new) share.old share.new f.0 retired.new) }
+        requires empty { released.old ≡ [] }
+        ensures made { IfOk result (λ r. IsMade (history self.old) (history self.new) share.old share.new (Self.Prepared.asked prepared) (Self.Kept.kept r).call.reply false (Self.Kept.kept r) released.new) }
+        ensures refused { IfErr result (λ f. IsRefused (history self.old) (history self.new) share.old share.new f.0 released.new) }
         ensures goes_on { IfErr result (λ f. is_deadlock f.0 ≡ false) }
         ensures back { IfErr result (λ f. Self.Prepared.asked f.1 ≡ Self.Prepared.asked prepared) };
 
@@ -144,13 +144,13 @@ pub trait CallBook<W: BookName, O: FileObject>: Drop {
         &mut self,
         share: &mut Share<W>,
         request: &Request,
-        retired: &mut RetiredList<O>,
+        released: &mut ReleasedObjects<O>,
     ) -> Result<Option<(Reply, Self::Slip)>, CallFault>
         requires call { has_own_call request.now ≡ false }
-        requires empty { retired.old ≡ [] }
-        ensures made { IfOk result (λ o. IfSome o (λ r. IsMade (history self.old) (history self.new) share.old share.new request.now r.0 true (Self.Slip.slip r.1) retired.new)) }
-        ensures waits { IfOk result (λ o. IfNone o (Waits (history self.old) (history self.new) share.old share.new request.now retired.new)) }
-        ensures refused { IfErr result (λ f. IsRefused (history self.old) (history self.new) share.old share.new f retired.new) }
+        requires empty { released.old ≡ [] }
+        ensures made { IfOk result (λ o. IfSome o (λ r. IsMade (history self.old) (history self.new) share.old share.new request.now r.0 true (Self.Slip.slip r.1) released.new)) }
+        ensures waits { IfOk result (λ o. IfNone o (Waits (history self.old) (history self.new) share.old share.new request.now released.new)) }
+        ensures refused { IfErr result (λ f. IsRefused (history self.old) (history self.new) share.old share.new f released.new) }
         ensures goes_on { IfErr result (λ f. is_deadlock f ≡ false) };
 
     /// Makes a process that is a copy of the share's, as one more entry (fork(2)), and gives the new process's
@@ -162,25 +162,25 @@ pub trait CallBook<W: BookName, O: FileObject>: Drop {
     fn fork(
         &mut self,
         share: &mut Share<W>,
-        retired: &mut RetiredList<O>,
+        released: &mut ReleasedObjects<O>,
     ) -> Result<(Reply, Self::Slip, Option<Share<W>>), CallFault>
-        requires empty { retired.old ≡ [] }
-        ensures made { IfOk result (λ r. IsMade (history self.old) (history self.new) share.old share.new Request.Fork r.0 false (Self.Slip.slip r.1) retired.new) }
+        requires empty { released.old ≡ [] }
+        ensures made { IfOk result (λ r. IsMade (history self.old) (history self.new) share.old share.new Request.Fork r.0 false (Self.Slip.slip r.1) released.new) }
         ensures child { IfOk result (λ r. r.2 ≡ child_by Request.Fork r.0) }
-        ensures refused { IfErr result (λ f. IsRefused (history self.old) (history self.new) share.old share.new f retired.new) }
+        ensures refused { IfErr result (λ f. IsRefused (history self.old) (history self.new) share.old share.new f released.new) }
         ensures goes_on { IfErr result (λ f. is_deadlock f ≡ false) };
 
     /// Ends the share's process where it is a live one which has made so many calls, and reports whether it was;
     /// the share is then spent. It takes no memory.
-    fn end(&mut self, share: &mut Share<W>, retired: &mut RetiredList<O>) -> bool
-        requires empty { retired.old ≡ [] }
+    fn end(&mut self, share: &mut Share<W>, released: &mut ReleasedObjects<O>) -> bool
+        requires empty { released.old ≡ [] }
         ensures known { result ≡ knows (history self.old) share.old }
-        ensures entry { IsTrue result → Appends (history self.old) (history self.new) share.old.pid share.old.k Request.Exit (map (λ o. o.0) retired.new) }
+        ensures entry { IsTrue result → Appends (history self.old) (history self.new) share.old.pid share.old.k Request.Exit (map (λ o. o.0) released.new) }
         ensures spent { IsTrue result → share.new ≡ once_more share.old }
-        ensures handed_out { IsTrue result → AllByRecursion (IsHandedOut (state_of (history self.old))) retired.new }
+        ensures handed_out { IsTrue result → AllByRecursion (IsHandedOut (state_of (history self.old))) released.new }
         ensures same { result ≡ false → history self.new ≡ history self.old }
         ensures kept { result ≡ false → share.new ≡ share.old }
-        ensures none { result ≡ false → retired.new ≡ [] };
+        ensures none { result ≡ false → released.new ≡ [] };
 
     /// Ends the layer once every process has exited. The file objects that were still open are put into an
     /// empty list. It takes no memory.
@@ -188,16 +188,16 @@ pub trait CallBook<W: BookName, O: FileObject>: Drop {
     /// # Errors
     ///
     /// `Alive` exactly where a process hasn't exited, else `Given` exactly where this was done before.
-    fn off(&mut self, retired: &mut RetiredList<O>) -> Result<(), OffFault>
-        requires empty { retired.old ≡ [] }
+    fn off(&mut self, released: &mut ReleasedObjects<O>) -> Result<(), OffFault>
+        requires empty { released.old ≡ [] }
         ensures gone { OnOk result (has_live (state_of (history self.old)) ≡ false) }
         ensures first { OnOk result (ends_of (history self.old).entries ≡ 0) }
         ensures alive { IfErr result (λ f. is_alive f ≡ has_live (state_of (history self.old))) }
         ensures given { IfErr result (λ f. is_alive f ≡ false → ends_of (history self.old).entries ≡ 1) }
-        ensures entry { OnOk result (Appends (history self.old) (history self.new) (record { 0 = 0 }) 0 Request.Off (map (λ o. o.0) retired.new)) }
-        ensures handed_out { OnOk result (AllByRecursion (IsHandedOut (state_of (history self.old))) retired.new) }
+        ensures entry { OnOk result (Appends (history self.old) (history self.new) (record { 0 = 0 }) 0 Request.Off (map (λ o. o.0) released.new)) }
+        ensures handed_out { OnOk result (AllByRecursion (IsHandedOut (state_of (history self.old))) released.new) }
         ensures same { OnErr result (history self.new ≡ history self.old) }
-        ensures none { OnErr result (retired.new ≡ []) };
+        ensures none { OnErr result (released.new ≡ []) };
 
     /// How many processes were made. The entries are a legal history.
     fn process_count(&self) -> usize
@@ -281,9 +281,9 @@ impl<W: BookName, O: FileObject> CallBook<W, O> for Book<W, O> {
         &mut self,
         share: &mut Share<W>,
         request: &Request,
-        retired: &mut RetiredList<O>,
+        released: &mut ReleasedObjects<O>,
     ) -> Result<(Reply, Receipt<W>), CallFault> {
-        match Book::record(self, share, request, retired) {
+        match Book::record(self, share, request, released) {
             Ok(recorded) => Ok((recorded.reply, recorded.receipt)),
             Err(fault) => Err(fault),
         }
@@ -297,18 +297,18 @@ impl<W: BookName, O: FileObject> CallBook<W, O> for Book<W, O> {
         &mut self,
         share: &mut Share<W>,
         prepared: Prepared,
-        retired: &mut RetiredList<O>,
+        released: &mut ReleasedObjects<O>,
     ) -> Result<Receipt<W>, (CallFault, Prepared)> {
-        Book::record_prepared(self, share, prepared, retired)
+        Book::record_prepared(self, share, prepared, released)
     }
 
     fn try_record(
         &mut self,
         share: &mut Share<W>,
         request: &Request,
-        retired: &mut RetiredList<O>,
+        released: &mut ReleasedObjects<O>,
     ) -> Result<Option<(Reply, Receipt<W>)>, CallFault> {
-        match Book::try_record(self, share, request, retired) {
+        match Book::try_record(self, share, request, released) {
             Ok(Some(recorded)) => Ok(Some((recorded.reply, recorded.receipt))),
             Ok(None) => Ok(None),
             Err(fault) => Err(fault),
@@ -318,20 +318,20 @@ impl<W: BookName, O: FileObject> CallBook<W, O> for Book<W, O> {
     fn fork(
         &mut self,
         share: &mut Share<W>,
-        retired: &mut RetiredList<O>,
+        released: &mut ReleasedObjects<O>,
     ) -> Result<(Reply, Receipt<W>, Option<Share<W>>), CallFault> {
-        match Book::fork(self, share, retired) {
+        match Book::fork(self, share, released) {
             Ok((recorded, child)) => Ok((recorded.reply, recorded.receipt, child)),
             Err(fault) => Err(fault),
         }
     }
 
-    fn end(&mut self, share: &mut Share<W>, retired: &mut RetiredList<O>) -> bool {
-        Book::end(self, share, retired)
+    fn end(&mut self, share: &mut Share<W>, released: &mut ReleasedObjects<O>) -> bool {
+        Book::end(self, share, released)
     }
 
-    fn off(&mut self, retired: &mut RetiredList<O>) -> Result<(), OffFault> {
-        Book::off(self, retired)
+    fn off(&mut self, released: &mut ReleasedObjects<O>) -> Result<(), OffFault> {
+        Book::off(self, released)
     }
 
     fn process_count(&self) -> usize {
@@ -361,19 +361,19 @@ impl<W: BookName, O: FileObject> CallBook<W, O> for Book<W, O> {
 pub fn exit_share<W: BookName, O: FileObject, B: CallBook<W, O>>(
     book: &mut B,
     mut share: Share<W>,
-    retired: &mut RetiredList<O>,
+    released: &mut ReleasedObjects<O>,
 ) -> Result<Spent<W>, Share<W>>
-    requires empty { retired.old ≡ [] }
+    requires empty { released.old ≡ [] }
     ensures known { OnOk result (knows (B.history book.old) share ≡ true) }
     ensures stranger { OnErr result (knows (B.history book.old) share ≡ false) }
-    ensures entry { OnOk result (Appends (B.history book.old) (B.history book.new) share.pid share.k Request.Exit (map (λ o. o.0) retired.new)) }
+    ensures entry { OnOk result (Appends (B.history book.old) (B.history book.new) share.pid share.k Request.Exit (map (λ o. o.0) released.new)) }
     ensures spent { IfOk result (λ s. s ≡ once_more share) }
-    ensures handed_out { OnOk result (AllByRecursion (IsHandedOut (state_of (B.history book.old))) retired.new) }
+    ensures handed_out { OnOk result (AllByRecursion (IsHandedOut (state_of (B.history book.old))) released.new) }
     ensures same { OnErr result (B.history book.new ≡ B.history book.old) }
     ensures back { IfErr result (λ s. s ≡ share) }
-    ensures none { OnErr result (retired.new ≡ []) }
+    ensures none { OnErr result (released.new ≡ []) }
 {
-    if !book.end(&mut share, retired) {
+    if !book.end(&mut share, released) {
         return Err(share);
     }
     Ok(Spent { share })

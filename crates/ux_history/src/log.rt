@@ -21,7 +21,7 @@ use std::marker::{Model, PhantomData};
 use ux_kernel::Kernel;
 use ux_object::FileObject;
 use ux_room::ReplyRoom;
-use ux_state::{Retired, RetiredList};
+use ux_state::{ReleasedObject, ReleasedObjects};
 use ux_types::{Done, Entry, Errno, MADE_LIMIT, Pid, Released, Reply, Request};
 
 /// A kernel with all that was called since its boot state. Contracts see that state, the entries, and how
@@ -200,24 +200,24 @@ impl<W: BookName, O: FileObject> Log<W, O> {
         k: u64,
         request: Request,
         waits: bool,
-        retired: &mut RetiredList<O>,
+        released: &mut ReleasedObjects<O>,
     ) -> Option<usize>
         requires call { may_call self.old.book pid k request ≡ true }
-        requires empty { retired.old ≡ [] }
+        requires empty { released.old ≡ [] }
         requires room { length self.old.book.entries + last_entries (state_of self.old.book) self.old.book.entries + (if is_last request then 0 else 2) ≤ self.old.room }
-        ensures entry { OnSome result (Makes self.old.book self.new.book pid k request waits (map (λ r. r.0) retired.new)) }
+        ensures entry { OnSome result (Makes self.old.book self.new.book pid k request waits (map (λ r. r.0) released.new)) }
         ensures number { IfSome result (λ n. n ≡ length self.old.book.entries) }
         ensures fits { OnSome result (k + 1 < 2 ^ 64) }
-        ensures handed_out { OnSome result (AllByRecursion (IsHandedOut (state_of self.old.book)) retired.new) }
+        ensures handed_out { OnSome result (AllByRecursion (IsHandedOut (state_of self.old.book)) released.new) }
         ensures waits { IfNone result (waits ≡ true) }
         ensures again { IfNone result (Step (state_of self.old.book) pid.0 (length self.old.book.entries) request (Reply.Err Errno.EAGAIN) [] (state_of self.old.book)) }
-        ensures none { IfNone result (retired.new ≡ []) }
+        ensures none { IfNone result (released.new ≡ []) }
         ensures same { IfNone result (self.new ≡ self.old) }
     {
         let number = self.entries.len();
         // The kernel says that no more processes were made than are counted.
         let _made = self.kernel.process_count();
-        let done = self.kernel.step(pid, number as u64, &request, retired);
+        let done = self.kernel.step(pid, number as u64, &request, released);
         if waits && is_again(&done.reply) {
             drop(request);
             drop(done);
@@ -229,7 +229,7 @@ impl<W: BookName, O: FileObject> Log<W, O> {
             k,
             request,
             reply,
-            released: numbers_of(retired.as_slice()),
+            released: numbers_of(released.as_slice()),
             delivered,
         };
         note(&mut self.entries, &mut self.calls, entry);
@@ -242,17 +242,17 @@ impl<W: BookName, O: FileObject> Log<W, O> {
         pid: Pid,
         k: u64,
         request: Request,
-        retired: &mut RetiredList<O>,
+        released: &mut ReleasedObjects<O>,
     )
         requires call { may_call self.old.book pid k request ≡ true }
         requires last { is_last request ≡ true }
-        requires empty { retired.old ≡ [] }
-        ensures entry { Appends self.old.book self.new.book pid k request (map (λ r. r.0) retired.new) }
+        requires empty { released.old ≡ [] }
+        ensures entry { Appends self.old.book self.new.book pid k request (map (λ r. r.0) released.new) }
         ensures fits { k + 1 < 2 ^ 64 }
-        ensures handed_out { AllByRecursion (IsHandedOut (state_of self.old.book)) retired.new }
+        ensures handed_out { AllByRecursion (IsHandedOut (state_of self.old.book)) released.new }
     {
         let _ = &self.kernel;
-        match self.append(pid, k, request, false, retired) {
+        match self.append(pid, k, request, false, released) {
             Some(_) => {}
             None => unreachable!(),
         }
@@ -301,12 +301,12 @@ fn note(entries: &mut Vec<Entry>, calls: &mut Vec<u64>, entry: Entry)
 }
 
 /// The numbers of file objects.
-pub(crate) fn numbers_of<O: FileObject>(retired: &[Retired<O>]) -> Released
-    requires rising { AllPairs (λ a b. a < b) (map (λ r. r.0) retired.now) }
-    ensures { result ≡ map (λ r. r.0) retired.now }
+pub(crate) fn numbers_of<O: FileObject>(released: &[ReleasedObject<O>]) -> Released
+    requires rising { AllPairs (λ a b. a < b) (map (λ r. r.0) released.now) }
+    ensures { result ≡ map (λ r. r.0) released.now }
 {
     let mut numbers = Released::new();
-    for object in retired {
+    for object in released {
         numbers.push(object.number());
     }
     numbers

@@ -28,7 +28,7 @@ use std::sync::ledger;
 use std::sync::ledger::Blank;
 use ux_kernel::Kernel;
 use ux_object::FileObject;
-use ux_state::RetiredList;
+use ux_state::ReleasedObjects;
 use ux_types::{Pid, Reply, Request};
 
 /// A kernel and how often it was called since its boot state. Contracts see that state and the entries, of
@@ -186,16 +186,16 @@ impl<W: Trailing, O: FileObject> RunningBook<W, O> {
         &mut self,
         share: &mut Share<W>,
         request: &Request,
-        retired: &mut RetiredList<O>,
+        released: &mut ReleasedObjects<O>,
     ) -> Result<(Reply, Witness<W>), CallFault>
         requires call { has_own_call request.now ≡ false }
-        requires empty { retired.old ≡ [] }
-        ensures made { IfOk result (λ r. IsMade self.old self.new share.old share.new request.now r.0 false r.1 retired.new) }
-        ensures refused { IfErr result (λ f. IsRefused self.old self.new share.old share.new f retired.new) }
+        requires empty { released.old ≡ [] }
+        ensures made { IfOk result (λ r. IsMade self.old self.new share.old share.new request.now r.0 false r.1 released.new) }
+        ensures refused { IfErr result (λ f. IsRefused self.old self.new share.old share.new f released.new) }
         ensures fault { IfErr result (λ f. is_stranger f ≡ false → f ≡ CallFault.Full) }
         ensures full { IfErr result (λ f. is_stranger f ≡ false → 2 ^ 62 ≤ length self.old.entries) }
     {
-        match self.make(share, request, false, retired) {
+        match self.make(share, request, false, released) {
             Ok(Some((reply, witness, _))) => Ok((reply, witness)),
             Ok(None) => unreachable!(),
             Err(fault) => Err(fault),
@@ -211,16 +211,16 @@ impl<W: Trailing, O: FileObject> RunningBook<W, O> {
     pub fn fork(
         &mut self,
         share: &mut Share<W>,
-        retired: &mut RetiredList<O>,
+        released: &mut ReleasedObjects<O>,
     ) -> Result<(Reply, Witness<W>, Option<Share<W>>), CallFault>
-        requires empty { retired.old ≡ [] }
-        ensures made { IfOk result (λ r. IsMade self.old self.new share.old share.new Request.Fork r.0 false r.1 retired.new) }
+        requires empty { released.old ≡ [] }
+        ensures made { IfOk result (λ r. IsMade self.old self.new share.old share.new Request.Fork r.0 false r.1 released.new) }
         ensures child { IfOk result (λ r. r.2 ≡ child_by Request.Fork r.0) }
-        ensures refused { IfErr result (λ f. IsRefused self.old self.new share.old share.new f retired.new) }
+        ensures refused { IfErr result (λ f. IsRefused self.old self.new share.old share.new f released.new) }
         ensures fault { IfErr result (λ f. is_stranger f ≡ false → f ≡ CallFault.Full) }
         ensures full { IfErr result (λ f. is_stranger f ≡ false → 2 ^ 62 ≤ length self.old.entries) }
     {
-        match self.make(share, &Request::Fork, false, retired) {
+        match self.make(share, &Request::Fork, false, released) {
             Ok(Some(forked)) => Ok(forked),
             Ok(None) => unreachable!(),
             Err(fault) => Err(fault),
@@ -237,17 +237,17 @@ impl<W: Trailing, O: FileObject> RunningBook<W, O> {
         &mut self,
         share: &mut Share<W>,
         request: &Request,
-        retired: &mut RetiredList<O>,
+        released: &mut ReleasedObjects<O>,
     ) -> Result<Option<(Reply, Witness<W>)>, CallFault>
         requires call { has_own_call request.now ≡ false }
-        requires empty { retired.old ≡ [] }
-        ensures made { IfOk result (λ o. IfSome o (λ r. IsMade self.old self.new share.old share.new request.now r.0 true r.1 retired.new)) }
-        ensures waits { IfOk result (λ o. IfNone o (Waits self.old self.new share.old share.new request.now retired.new)) }
-        ensures refused { IfErr result (λ f. IsRefused self.old self.new share.old share.new f retired.new) }
+        requires empty { released.old ≡ [] }
+        ensures made { IfOk result (λ o. IfSome o (λ r. IsMade self.old self.new share.old share.new request.now r.0 true r.1 released.new)) }
+        ensures waits { IfOk result (λ o. IfNone o (Waits self.old self.new share.old share.new request.now released.new)) }
+        ensures refused { IfErr result (λ f. IsRefused self.old self.new share.old share.new f released.new) }
         ensures fault { IfErr result (λ f. is_stranger f ≡ false → f ≡ CallFault.Full) }
         ensures full { IfErr result (λ f. is_stranger f ≡ false → 2 ^ 62 ≤ length self.old.entries) }
     {
-        match self.make(share, request, true, retired) {
+        match self.make(share, request, true, released) {
             Ok(Some((reply, witness, _))) => Ok(Some((reply, witness))),
             Ok(None) => Ok(None),
             Err(fault) => Err(fault),
@@ -261,15 +261,15 @@ impl<W: Trailing, O: FileObject> RunningBook<W, O> {
         share: &mut Share<W>,
         request: &Request,
         tried: bool,
-        retired: &mut RetiredList<O>,
+        released: &mut ReleasedObjects<O>,
     ) -> Result<Option<(Reply, Witness<W>, Option<Share<W>>)>, CallFault>
         requires call { is_last request.now ≡ false }
-        requires empty { retired.old ≡ [] }
-        ensures made { IfOk result (λ o. IfSome o (λ r. IsMade self.old self.new share.old share.new request.now r.0 tried r.1 retired.new)) }
+        requires empty { released.old ≡ [] }
+        ensures made { IfOk result (λ o. IfSome o (λ r. IsMade self.old self.new share.old share.new request.now r.0 tried r.1 released.new)) }
         ensures child { IfOk result (λ o. IfSome o (λ r. r.2 ≡ child_by request.now r.0)) }
-        ensures waits { IfOk result (λ o. IfNone o (Waits self.old self.new share.old share.new request.now retired.new)) }
+        ensures waits { IfOk result (λ o. IfNone o (Waits self.old self.new share.old share.new request.now released.new)) }
         ensures tried { IfOk result (λ o. IfNone o (tried ≡ true)) }
-        ensures refused { IfErr result (λ f. IsRefused self.old self.new share.old share.new f retired.new) }
+        ensures refused { IfErr result (λ f. IsRefused self.old self.new share.old share.new f released.new) }
         ensures fault { IfErr result (λ f. is_stranger f ≡ false → f ≡ CallFault.Full) }
         ensures full { IfErr result (λ f. is_stranger f ≡ false → 2 ^ 62 ≤ length self.old.entries) }
     {
@@ -281,7 +281,7 @@ impl<W: Trailing, O: FileObject> RunningBook<W, O> {
         }
         let number = self.log.entry_count() as usize;
         let waits = tried && self.log.waits(share.pid, request);
-        let Some(reply) = self.log.append(share.pid, share.k, request, waits, retired) else {
+        let Some(reply) = self.log.append(share.pid, share.k, request, waits, released) else {
             return Ok(None);
         };
         // The log says that a process which was made has a part.
@@ -304,22 +304,22 @@ impl<W: Trailing, O: FileObject> RunningBook<W, O> {
     /// Ends the share's process where it is a live one which has made so many calls, and reports whether it
     /// was; the share is then spent. It takes no memory. The file objects that went with it are put into an
     /// empty list.
-    pub fn end(&mut self, share: &mut Share<W>, retired: &mut RetiredList<O>) -> bool
-        requires empty { retired.old ≡ [] }
+    pub fn end(&mut self, share: &mut Share<W>, released: &mut ReleasedObjects<O>) -> bool
+        requires empty { released.old ≡ [] }
         ensures known { result ≡ knows self.old share.old }
-        ensures entry { IsTrue result → Appends self.old self.new share.old.pid share.old.k Request.Exit (map (λ o. o.0) retired.new) }
+        ensures entry { IsTrue result → Appends self.old self.new share.old.pid share.old.k Request.Exit (map (λ o. o.0) released.new) }
         ensures spent { IsTrue result → share.new ≡ once_more share.old }
-        ensures handed_out { IsTrue result → AllByRecursion (IsHandedOut (state_of self.old)) retired.new }
+        ensures handed_out { IsTrue result → AllByRecursion (IsHandedOut (state_of self.old)) released.new }
         ensures same { result ≡ false → self.new ≡ self.old }
         ensures kept { result ≡ false → share.new ≡ share.old }
-        ensures none { result ≡ false → retired.new ≡ [] }
+        ensures none { result ≡ false → released.new ≡ [] }
     {
         if !self.knows(share) {
             return false;
         }
         let reply = self
             .log
-            .append_last(share.pid, share.k, &Request::Exit, retired);
+            .append_last(share.pid, share.k, &Request::Exit, released);
         self.trail.push(share.pid, share.k, &Request::Exit, &reply);
         self.ledger.add(&mut share.part, 1);
         share.k += 1;
@@ -332,16 +332,16 @@ impl<W: Trailing, O: FileObject> RunningBook<W, O> {
     /// # Errors
     ///
     /// `Alive` exactly where a process hasn't exited, else `Given` exactly where this was done before.
-    pub fn off(&mut self, retired: &mut RetiredList<O>) -> Result<(), OffFault>
-        requires empty { retired.old ≡ [] }
+    pub fn off(&mut self, released: &mut ReleasedObjects<O>) -> Result<(), OffFault>
+        requires empty { released.old ≡ [] }
         ensures gone { OnOk result (has_live (state_of self.old) ≡ false) }
         ensures first { OnOk result (ends_of self.old.entries ≡ 0) }
         ensures alive { IfErr result (λ f. is_alive f ≡ has_live (state_of self.old)) }
         ensures given { IfErr result (λ f. is_alive f ≡ false → ends_of self.old.entries ≡ 1) }
-        ensures entry { OnOk result (Appends self.old self.new (record { 0 = 0 }) 0 Request.Off (map (λ o. o.0) retired.new)) }
-        ensures handed_out { OnOk result (AllByRecursion (IsHandedOut (state_of self.old)) retired.new) }
+        ensures entry { OnOk result (Appends self.old self.new (record { 0 = 0 }) 0 Request.Off (map (λ o. o.0) released.new)) }
+        ensures handed_out { OnOk result (AllByRecursion (IsHandedOut (state_of self.old)) released.new) }
         ensures same { OnErr result (self.new ≡ self.old) }
-        ensures none { OnErr result (retired.new ≡ []) }
+        ensures none { OnErr result (released.new ≡ []) }
     {
         if self.log.has_live() {
             return Err(OffFault::Alive);
@@ -349,7 +349,7 @@ impl<W: Trailing, O: FileObject> RunningBook<W, O> {
         if self.log.has_ended() {
             return Err(OffFault::Given);
         }
-        let reply = self.log.append_last(Pid(0), 0, &Request::Off, retired);
+        let reply = self.log.append_last(Pid(0), 0, &Request::Off, released);
         self.trail.push(Pid(0), 0, &Request::Off, &reply);
         Ok(())
     }
@@ -393,9 +393,9 @@ impl<W: Trailing, O: FileObject> CallBook<W, O> for RunningBook<W, O> {
         &mut self,
         share: &mut Share<W>,
         request: &Request,
-        retired: &mut RetiredList<O>,
+        released: &mut ReleasedObjects<O>,
     ) -> Result<(Reply, Witness<W>), CallFault> {
-        RunningBook::record(self, share, request, retired)
+        RunningBook::record(self, share, request, released)
     }
 
     fn prepare(request: Request) -> Result<Request, Request> {
@@ -406,9 +406,9 @@ impl<W: Trailing, O: FileObject> CallBook<W, O> for RunningBook<W, O> {
         &mut self,
         share: &mut Share<W>,
         request: Request,
-        retired: &mut RetiredList<O>,
+        released: &mut ReleasedObjects<O>,
     ) -> Result<Witnessed<W>, (CallFault, Request)> {
-        match RunningBook::record(self, share, &request, retired) {
+        match RunningBook::record(self, share, &request, released) {
             Ok((reply, witness)) => Ok(Witnessed { reply, witness }),
             Err(fault) => Err((fault, request)),
         }
@@ -418,25 +418,25 @@ impl<W: Trailing, O: FileObject> CallBook<W, O> for RunningBook<W, O> {
         &mut self,
         share: &mut Share<W>,
         request: &Request,
-        retired: &mut RetiredList<O>,
+        released: &mut ReleasedObjects<O>,
     ) -> Result<Option<(Reply, Witness<W>)>, CallFault> {
-        RunningBook::try_record(self, share, request, retired)
+        RunningBook::try_record(self, share, request, released)
     }
 
     fn fork(
         &mut self,
         share: &mut Share<W>,
-        retired: &mut RetiredList<O>,
+        released: &mut ReleasedObjects<O>,
     ) -> Result<(Reply, Witness<W>, Option<Share<W>>), CallFault> {
-        RunningBook::fork(self, share, retired)
+        RunningBook::fork(self, share, released)
     }
 
-    fn end(&mut self, share: &mut Share<W>, retired: &mut RetiredList<O>) -> bool {
-        RunningBook::end(self, share, retired)
+    fn end(&mut self, share: &mut Share<W>, released: &mut ReleasedObjects<O>) -> bool {
+        RunningBook::end(self, share, released)
     }
 
-    fn off(&mut self, retired: &mut RetiredList<O>) -> Result<(), OffFault> {
-        RunningBook::off(self, retired)
+    fn off(&mut self, released: &mut ReleasedObjects<O>) -> Result<(), OffFault> {
+        RunningBook::off(self, released)
     }
 
     fn process_count(&self) -> usize {

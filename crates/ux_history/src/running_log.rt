@@ -18,7 +18,7 @@ use std::alloc::Global;
 use std::marker::{Model, PhantomData};
 use ux_kernel::Kernel;
 use ux_object::FileObject;
-use ux_state::RetiredList;
+use ux_state::ReleasedObjects;
 use ux_types::{Errno, MADE_LIMIT, Pid, Reply, Request};
 
 /// A kernel and how often it was called since its boot state. Contracts see that state and the entries, of
@@ -176,29 +176,29 @@ impl<W: BookName, O: FileObject> RunningLog<W, O> {
         k: u64,
         request: &Request,
         waits: bool,
-        retired: &mut RetiredList<O>,
+        released: &mut ReleasedObjects<O>,
     ) -> Option<Reply>
         requires call { may_call self.old pid k request.now ≡ true }
-        requires empty { retired.old ≡ [] }
+        requires empty { released.old ≡ [] }
         requires few { is_last request.now ≡ false → length self.old.entries < 2 ^ 62 }
-        ensures entry { IfSome result (λ r. Adds self.old self.new (entry_of (state_of self.old) pid k request.now r (map (λ o. o.0) retired.new))) }
+        ensures entry { IfSome result (λ r. Adds self.old self.new (entry_of (state_of self.old) pid k request.now r (map (λ o. o.0) released.new))) }
         ensures done { IfSome result (λ r. waits ≡ true → is_again r ≡ false) }
         ensures fits { OnSome result (k + 1 < 2 ^ 64) }
-        ensures handed_out { OnSome result (AllByRecursion (IsHandedOut (state_of self.old)) retired.new) }
+        ensures handed_out { OnSome result (AllByRecursion (IsHandedOut (state_of self.old)) released.new) }
         ensures waits { IfNone result (waits ≡ true) }
         ensures again { IfNone result (Step (state_of self.old) pid.0 (length self.old.entries) request.now (Reply.Err Errno.EAGAIN) [] (state_of self.old)) }
-        ensures none { IfNone result (retired.new ≡ []) }
+        ensures none { IfNone result (released.new ≡ []) }
         ensures same { IfNone result (self.new ≡ self.old) }
     {
         // The kernel says that no more processes were made than are counted.
         let _made = self.kernel.process_count();
-        let done = self.kernel.step(pid, self.number, request, retired);
+        let done = self.kernel.step(pid, self.number, request, released);
         if waits && is_again(&done.reply) {
             drop(done);
             return None;
         }
-        let released = numbers_of(retired.as_slice());
-        self.past.push(pid, k, request, &done, &released);
+        let numbers = numbers_of(released.as_slice());
+        self.past.push(pid, k, request, &done, &numbers);
         count(&mut self.number, &mut self.calls, pid, k);
         Some(done.reply)
     }
@@ -209,16 +209,16 @@ impl<W: BookName, O: FileObject> RunningLog<W, O> {
         pid: Pid,
         k: u64,
         request: &Request,
-        retired: &mut RetiredList<O>,
+        released: &mut ReleasedObjects<O>,
     ) -> Reply
         requires call { may_call self.old pid k request.now ≡ true }
         requires last { is_last request.now ≡ true }
-        requires empty { retired.old ≡ [] }
-        ensures entry { Adds self.old self.new (entry_of (state_of self.old) pid k request.now result (map (λ o. o.0) retired.new)) }
+        requires empty { released.old ≡ [] }
+        ensures entry { Adds self.old self.new (entry_of (state_of self.old) pid k request.now result (map (λ o. o.0) released.new)) }
         ensures fits { k + 1 < 2 ^ 64 }
-        ensures handed_out { AllByRecursion (IsHandedOut (state_of self.old)) retired.new }
+        ensures handed_out { AllByRecursion (IsHandedOut (state_of self.old)) released.new }
     {
-        match self.append(pid, k, request, false, retired) {
+        match self.append(pid, k, request, false, released) {
             Some(reply) => reply,
             None => unreachable!(),
         }

@@ -11,7 +11,7 @@ ghost use Rattle.ux_kernel.specs.Calling.{IsCaller};
 use crate::kernel::Kernel;
 use ux_msg::{Incoming, Outgoing, recv_msg, send_msg};
 use ux_object::FileObject;
-use ux_state::RetiredList;
+use ux_state::ReleasedObjects;
 use ux_types::{Done, Errno, Pid, Refusal, Reply, Request};
 
 impl<O: FileObject> Kernel<O> {
@@ -28,16 +28,16 @@ impl<O: FileObject> Kernel<O> {
         pid: Pid,
         tag: u64,
         request: &Request,
-        retired: &mut RetiredList<O>,
+        released: &mut ReleasedObjects<O>,
     ) -> Done
         requires caller { IsCaller self.old pid.0 request.now }
-        requires empty { retired.old ≡ [] }
-        ensures step { Step self.old pid.0 tag request.now result.reply (map (λ r. r.0) retired.new) self.new }
+        requires empty { released.old ≡ [] }
+        ensures step { Step self.old pid.0 tag request.now result.reply (map (λ r. r.0) released.new) self.new }
         ensures told { result.delivered ≡ delivered_by self.old pid.0 request.now result.reply }
-        ensures handed_out { AllByRecursion (IsHandedOut self.old) retired.new }
+        ensures handed_out { AllByRecursion (IsHandedOut self.old) released.new }
     {
         let done = self.call(pid, tag, request);
-        self.state.settle(retired);
+        self.state.settle(released);
         done
     }
 

@@ -21,7 +21,7 @@ use ux_history::{
 };
 use ux_kernel::Kernel;
 use ux_object::FileObject;
-use ux_state::RetiredList;
+use ux_state::ReleasedObjects;
 use ux_types::Pid;
 
 /// What stands under the lock: the book, and who waits for one more entry.
@@ -88,7 +88,7 @@ pub(crate) fn desk_of<'a, B: Drop, R: Wait>(
 pub struct Layer<W: BookName, O: FileObject, B: CallBook<W, O> = Book<W, O>> {
     pub(crate) shared: Arc<Shared<B>, Global>,
     /// Room for the file objects that the end of the layer closes.
-    retired: Mutex<RetiredList<O>>,
+    released: Mutex<ReleasedObjects<O>>,
     of: PhantomData<W>,
 }
 
@@ -97,11 +97,11 @@ impl<W: BookName, O: FileObject, B: CallBook<W, O>> Drop for Layer<W, O, B> {
     fn drop(self) {
         let Self {
             shared,
-            retired,
+            released,
             of: _,
         } = self;
         drop(shared);
-        drop(retired)
+        drop(released)
     }
 }
 
@@ -175,13 +175,13 @@ impl<W: BookName, O: FileObject, B: CallBook<W, O>> Layer<W, O, B> {
     ///
     /// Those of `Book::off`.
     pub fn off<R: Wait>(&self, rt: &R) -> Result<(), OffFault> {
-        let mut retired = self.retired.lock(rt);
-        retired.clear();
+        let mut released = self.released.lock(rt);
+        released.clear();
         let mut guard = self.shared.desk.lock(rt);
-        let ended = desk_of(rt, &mut *guard).book.off(&mut *retired);
+        let ended = desk_of(rt, &mut *guard).book.off(&mut *released);
         drop(guard);
         self.shared.changed.notify_all();
-        retired.clear();
+        released.clear();
         ended
     }
 }
@@ -248,7 +248,7 @@ pub fn start_book<W: BookName, O: FileObject, B: CallBook<W, O>, R: Wait>(
     let Ok(mut seats) = Vec::with_capacity(alloc, shares.len()) else {
         return Err((book.into_kernel(), NoMemory));
     };
-    let Ok((mut lists, retired)) = retired_lists::<O>(alloc, shares.len()) else {
+    let Ok((mut lists, released)) = released_lists::<O>(alloc, shares.len()) else {
         return Err((book.into_kernel(), NoMemory));
     };
     let shared = Shared {
@@ -269,24 +269,24 @@ pub fn start_book<W: BookName, O: FileObject, B: CallBook<W, O>, R: Wait>(
     }
     let layer = Layer {
         shared,
-        retired: Mutex::new(retired),
+        released: Mutex::new(released),
         of: PhantomData,
     };
     Ok((layer, seats))
 }
 
 /// So many empty lists, and one more.
-fn retired_lists<O: FileObject>(
+fn released_lists<O: FileObject>(
     alloc: Global,
     count: usize,
-) -> Result<(Vec<RetiredList<O>>, RetiredList<O>), AllocError>
+) -> Result<(Vec<ReleasedObjects<O>>, ReleasedObjects<O>), AllocError>
     ensures { IfOk result (λ r. length r.0.items ≡ count) }
 {
     let mut lists = Vec::with_capacity(alloc, count)?;
     for _n in 0..count {
-        lists.push_reserved(RetiredList::new(alloc)?);
+        lists.push_reserved(ReleasedObjects::new(alloc)?);
     }
-    Ok((lists, RetiredList::new(alloc)?))
+    Ok((lists, ReleasedObjects::new(alloc)?))
 }
 
 /// One more owner. No program makes so many that there is none left.

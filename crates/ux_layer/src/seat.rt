@@ -14,7 +14,7 @@ use ux_history::{
     Asks, Book, BookName, CallBook, CallFault, Keeps, Share, Shows, Spent, exit_share,
 };
 use ux_object::FileObject;
-use ux_state::RetiredList;
+use ux_state::ReleasedObjects;
 use ux_types::{Pid, Reply, Request};
 
 /// The place of one process, by which one thread at a time makes its calls. Contracts see the process, and
@@ -23,7 +23,7 @@ pub struct Seat<W: BookName, O: FileObject, B: CallBook<W, O> = Book<W, O>> {
     share: Share<W>,
     shared: Arc<Shared<B>, Global>,
     /// The file objects that went with a call, between the call and their drop.
-    retired: RetiredList<O>,
+    released: ReleasedObjects<O>,
 }
 
 // Written out, so that it is proved here and not in each function that drops one.
@@ -32,11 +32,11 @@ impl<W: BookName, O: FileObject, B: CallBook<W, O>> Drop for Seat<W, O, B> {
         let Seat {
             share,
             shared,
-            retired,
+            released,
         } = self;
         drop(share);
         drop(shared);
-        drop(retired)
+        drop(released)
     }
 }
 
@@ -48,7 +48,7 @@ impl<W: BookName, O: FileObject, B: CallBook<W, O>> Model for Seat<W, O, B> {
 
     ghost view = { λ s. s.share };
 
-    ghost invariant = { λ s. s.retired ≡ [] };
+    ghost invariant = { λ s. s.released ≡ [] };
 }
 
 impl<W: BookName, O: FileObject, B: CallBook<W, O>> Seat<W, O, B> {
@@ -89,17 +89,17 @@ impl<W: BookName, O: FileObject, B: CallBook<W, O>> Seat<W, O, B> {
         let Seat {
             share,
             shared,
-            retired,
+            released,
         } = self;
         let mut guard = shared.desk.lock(rt);
         let desk = desk_of(rt, &mut *guard);
-        let made = desk.book.record(share, request, retired);
+        let made = desk.book.record(share, request, released);
         if made.is_ok() {
             desk.waiters.entry_made();
         }
         drop(guard);
         shared.changed.notify_all();
-        retired.clear();
+        released.clear();
         let (reply, slip) = made?;
         slip.show();
         Ok((reply, slip))
@@ -128,7 +128,7 @@ impl<W: BookName, O: FileObject, B: CallBook<W, O>> Seat<W, O, B> {
         let Seat {
             share,
             shared,
-            retired,
+            released,
         } = self;
         let prepared = match B::prepare(request) {
             Ok(prepared) => prepared,
@@ -136,13 +136,13 @@ impl<W: BookName, O: FileObject, B: CallBook<W, O>> Seat<W, O, B> {
         };
         let mut guard = shared.desk.lock(rt);
         let desk = desk_of(rt, &mut *guard);
-        let made = desk.book.record_prepared(share, prepared, retired);
+        let made = desk.book.record_prepared(share, prepared, released);
         if made.is_ok() {
             desk.waiters.entry_made();
         }
         drop(guard);
         shared.changed.notify_all();
-        retired.clear();
+        released.clear();
         match made {
             Ok(kept) => {
                 kept.show();
@@ -173,7 +173,7 @@ impl<W: BookName, O: FileObject, B: CallBook<W, O>> Seat<W, O, B> {
         let Seat {
             share,
             shared,
-            retired,
+            released,
         } = self;
         let mut guard = shared.desk.lock(rt);
         let mut ticket = desk_of(rt, &mut *guard).waiters.ticket();
@@ -182,11 +182,11 @@ impl<W: BookName, O: FileObject, B: CallBook<W, O>> Seat<W, O, B> {
             if desk.waiters.is_over(ticket) {
                 return Err(CallFault::Deadlock);
             }
-            if let Some((reply, slip)) = desk.book.try_record(share, request, retired)? {
+            if let Some((reply, slip)) = desk.book.try_record(share, request, released)? {
                 desk.waiters.entry_made();
                 drop(guard);
                 shared.changed.notify_all();
-                retired.clear();
+                released.clear();
                 slip.show();
                 return Ok((reply, slip));
             }
@@ -220,21 +220,21 @@ impl<W: BookName, O: FileObject, B: CallBook<W, O>> Seat<W, O, B> {
         let Seat {
             share,
             shared,
-            retired,
+            released,
         } = self;
-        let Ok(list) = RetiredList::new(shared.alloc) else {
+        let Ok(list) = ReleasedObjects::new(shared.alloc) else {
             return Err(CallFault::NoMemory);
         };
         let owner = another(rt, shared);
         let mut guard = shared.desk.lock(rt);
         let desk = desk_of(rt, &mut *guard);
-        let made = desk.book.fork(share, retired);
+        let made = desk.book.fork(share, released);
         if let Ok((_, _, child)) = &made {
             desk.waiters.fork_made(child.is_some());
         }
         drop(guard);
         shared.changed.notify_all();
-        retired.clear();
+        released.clear();
         let (reply, slip, child) = made?;
         slip.show();
         let seat = match child {
@@ -285,24 +285,24 @@ impl<W: BookName, O: FileObject, B: CallBook<W, O>> Seat<W, O, B> {
         let Seat {
             share,
             shared,
-            mut retired,
+            mut released,
         } = self;
         let mut guard = shared.desk.lock(rt);
         let desk = desk_of(rt, &mut *guard);
-        let ended = exit_share(&mut desk.book, share, &mut retired);
+        let ended = exit_share(&mut desk.book, share, &mut released);
         if ended.is_ok() {
             desk.waiters.exit_made();
         }
         drop(guard);
         shared.changed.notify_all();
-        retired.clear();
+        released.clear();
         match ended {
             Ok(spent) => Ok(spent),
             Err(share) => {
                 let seat = Seat {
                     share,
                     shared,
-                    retired,
+                    released,
                 };
                 Err((CallFault::Stranger, seat))
             }
@@ -314,14 +314,14 @@ impl<W: BookName, O: FileObject, B: CallBook<W, O>> Seat<W, O, B> {
 pub(crate) fn make_seat<W: BookName, O: FileObject, B: CallBook<W, O>>(
     share: Share<W>,
     shared: Arc<Shared<B>, Global>,
-    mut retired: RetiredList<O>,
+    mut released: ReleasedObjects<O>,
 ) -> Seat<W, O, B>
     ensures { result ≡ share }
 {
-    retired.clear();
+    released.clear();
     Seat {
         share,
         shared,
-        retired,
+        released,
     }
 }

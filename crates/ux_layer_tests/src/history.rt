@@ -15,7 +15,7 @@ use ux_history::{
 };
 use ux_kernel::Kernel;
 use ux_objects::Counter;
-use ux_state::RetiredList;
+use ux_state::ReleasedObjects;
 use ux_types::{Errno, Fd, MsgFlags, Name, OpenFlags, Pid, ProcSpec, Reply, Request, SockType};
 
 const ONE: [ProcSpec; 1] = [ProcSpec {
@@ -59,7 +59,7 @@ impl<W: BookName> Drop for Kept<W> {
 struct Shelf<W: BookName> {
     kept: Kept<W>,
     share: Share<W>,
-    retired: RetiredList<Counter>,
+    released: ReleasedObjects<Counter>,
 }
 
 /// A shelf at the start of a kernel.
@@ -73,7 +73,7 @@ fn make_shelf<W: BookName>(
     requires boots { IsBootState kernel }
     requires named { kernel ≡ W.boot }
 {
-    let retired = RetiredList::new(alloc)?;
+    let released = ReleasedObjects::new(alloc)?;
     let Ok((book, mut shares)) = Book::new(alloc, blank, kernel) else {
         return Err(AllocError);
     };
@@ -82,7 +82,7 @@ fn make_shelf<W: BookName>(
         Some(share) => Ok(Shelf {
             kept,
             share,
-            retired,
+            released,
         }),
         None => Err(AllocError),
     }
@@ -97,11 +97,11 @@ fn answer_of<W: BookName>(
 ) -> Reply
     requires { has_own_call request ≡ false }
 {
-    shelf.retired.clear();
+    shelf.released.clear();
     let made = shelf
         .kept
         .book
-        .record(&mut shelf.share, &request, &mut shelf.retired);
+        .record(&mut shelf.share, &request, &mut shelf.released);
     drop(request);
     let Ok(Recorded { reply, receipt }) = made else {
         panic!(rt; "no entry");
@@ -116,11 +116,11 @@ fn answer_of<W: BookName>(
 fn would_wait<W: BookName>(shelf: &mut Shelf<W>, request: Request) -> bool
     requires { has_own_call request ≡ false }
 {
-    shelf.retired.clear();
+    shelf.released.clear();
     let tried = shelf
         .kept
         .book
-        .try_record(&mut shelf.share, &request, &mut shelf.retired);
+        .try_record(&mut shelf.share, &request, &mut shelf.released);
     drop(request);
     match tried {
         Ok(Some(recorded)) => {
@@ -136,11 +136,11 @@ fn would_wait<W: BookName>(shelf: &mut Shelf<W>, request: Request) -> bool
 fn lacks_memory<W: BookName>(shelf: &mut Shelf<W>, request: Request) -> bool
     requires { has_own_call request ≡ false }
 {
-    shelf.retired.clear();
+    shelf.released.clear();
     let made = shelf
         .kept
         .book
-        .record(&mut shelf.share, &request, &mut shelf.retired);
+        .record(&mut shelf.share, &request, &mut shelf.released);
     drop(request);
     match made {
         Ok(recorded) => {
@@ -155,11 +155,11 @@ fn lacks_memory<W: BookName>(shelf: &mut Shelf<W>, request: Request) -> bool
 fn lacks_memory_when_tried<W: BookName>(shelf: &mut Shelf<W>, request: Request) -> bool
     requires { has_own_call request ≡ false }
 {
-    shelf.retired.clear();
+    shelf.released.clear();
     let tried = shelf
         .kept
         .book
-        .try_record(&mut shelf.share, &request, &mut shelf.retired);
+        .try_record(&mut shelf.share, &request, &mut shelf.released);
     drop(request);
     match tried {
         Ok(Some(recorded)) => {
@@ -269,10 +269,10 @@ fn settle<W: BookName>(
     let Shelf {
         mut kept,
         share,
-        mut retired,
+        mut released,
     } = make_shelf::<W>(alloc, blank, kernel)?;
-    let spent = end_book(rt, &mut kept.book, share, &mut retired, 1)?;
-    drop(retired);
+    let spent = end_book(rt, &mut kept.book, share, &mut released, 1)?;
+    drop(released);
     settle_book(rt, alloc, &mut kept.book, spent)
 }
 
@@ -281,20 +281,20 @@ fn end_book<W: BookName>(
     rt: &impl Abort,
     book: &mut Book<W, Counter>,
     share: Share<W>,
-    retired: &mut RetiredList<Counter>,
+    released: &mut ReleasedObjects<Counter>,
     objects: usize,
 ) -> Result<Spent<W>, AllocError> {
-    retired.clear();
-    assert_eq!(rt; book.off(retired), Err(OffFault::Alive));
-    let Ok(spent) = book.exit(share, retired) else {
+    released.clear();
+    assert_eq!(rt; book.off(released), Err(OffFault::Alive));
+    let Ok(spent) = book.exit(share, released) else {
         return Err(AllocError);
     };
     assert_eq!(rt; spent.calls(), 1);
-    retired.clear();
-    assert_eq!(rt; book.off(retired), Ok(()));
-    assert_eq!(rt; retired.len(), objects);
-    retired.clear();
-    assert_eq!(rt; book.off(retired), Err(OffFault::Given));
+    released.clear();
+    assert_eq!(rt; book.off(released), Ok(()));
+    assert_eq!(rt; released.len(), objects);
+    released.clear();
+    assert_eq!(rt; book.off(released), Err(OffFault::Given));
     Ok(spent)
 }
 
@@ -347,11 +347,11 @@ fn end_without_memory<W: BookName>(
     let Shelf {
         mut kept,
         share,
-        mut retired,
+        mut released,
     } = shelf;
     assert_eq!(rt; (share.calls(), kept.book.entries().len()), (0, 0));
-    spents.push(end_book(rt, &mut kept.book, share, &mut retired, 0)?)?;
-    drop(retired);
+    spents.push(end_book(rt, &mut kept.book, share, &mut released, 0)?)?;
+    drop(released);
     let Ok(account) = settle_accounts(&mut kept.book, spents) else {
         return Err(AllocError);
     };
@@ -441,9 +441,9 @@ fn fork_with<W: BookName>(
     purse: &mut Purse,
     bytes: usize,
 ) -> Forked {
-    shelf.retired.clear();
+    shelf.released.clear();
     purse.leave(alloc, bytes);
-    let made = shelf.kept.book.fork(&mut shelf.share, &mut shelf.retired);
+    let made = shelf.kept.book.fork(&mut shelf.share, &mut shelf.released);
     purse.open();
     match made {
         Ok((Recorded { reply, receipt }, child)) => {

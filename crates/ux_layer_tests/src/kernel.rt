@@ -19,7 +19,7 @@ use std::alloc::{AllocError, Global};
 use std::process::Abort;
 use ux_kernel::Kernel;
 use ux_objects::{Counter, Plain};
-use ux_state::RetiredList;
+use ux_state::ReleasedObjects;
 use ux_types::{
     Addr, Bytes, Cred, Done, Errno, Fd, Mode, MsgFlags, Name, OpenFlags, Pid, PollFlags, ProcSpec,
     Reply, Request, SockOpt, SockType,
@@ -144,15 +144,15 @@ fn refused(e: Errno) -> Reply {
 /// A kernel, and a list for what its calls let go of.
 struct Machine {
     kernel: Kernel<Plain>,
-    retired: RetiredList<Plain>,
+    released: ReleasedObjects<Plain>,
 }
 
 /// Written out, a drop is a call, and not each of its parts in the proof of each test.
 impl Drop for Machine {
     fn drop(self) {
-        let Machine { kernel, retired } = self;
+        let Machine { kernel, released } = self;
         drop(kernel);
-        drop(retired);
+        drop(released);
     }
 }
 
@@ -162,9 +162,9 @@ fn make_machine(
     objects: Vec<(Name, Plain)>,
     procs: &[ProcSpec],
 ) -> Result<Machine, AllocError> {
-    let retired = RetiredList::new(alloc)?;
+    let released = ReleasedObjects::new(alloc)?;
     match Kernel::boot(alloc, objects, procs) {
-        Ok(kernel) => Ok(Machine { kernel, retired }),
+        Ok(kernel) => Ok(Machine { kernel, released }),
         Err(_) => Err(AllocError),
     }
 }
@@ -179,13 +179,13 @@ fn ask(machine: &mut Machine, pid: u32, request: &Request) -> Option<Reply> {
     if matches!(request, Request::Off) || !machine.kernel.is_live(Pid(pid)) {
         return None;
     }
-    machine.retired.clear();
+    machine.released.clear();
     let Done {
         reply,
         delivered: _,
     } = machine
         .kernel
-        .step(Pid(pid), 0, request, &mut machine.retired);
+        .step(Pid(pid), 0, request, &mut machine.released);
     Some(reply)
 }
 
@@ -474,10 +474,10 @@ fn turns_off(machine: &mut Machine) -> bool {
     if machine.kernel.has_live() {
         return false;
     }
-    machine.retired.clear();
+    machine.released.clear();
     let done = machine
         .kernel
-        .step(Pid(0), 0, &Request::Off, &mut machine.retired);
+        .step(Pid(0), 0, &Request::Off, &mut machine.released);
     done.reply == Reply::Ok
 }
 

@@ -6,7 +6,7 @@ ghost use Rattle.ux_kernel.specs.Calling.{IsCaller};
 use std::alloc::Global;
 use ux_kernel::Kernel;
 use ux_object::FileObject;
-use ux_state::{Retired, RetiredList};
+use ux_state::{ReleasedObject, ReleasedObjects};
 use ux_types::{Done, Entry, Errno, Reply, Request};
 
 /// Why the calls of a history weren't all made again.
@@ -62,8 +62,8 @@ pub fn replay<O: FileObject>(
     ensures all { IfOk result (λ n. n ≡ length history.now) }
     ensures first { IfErr result (λ f. entry_at f ≤ length history.now) }
 {
-    let found = match RetiredList::new(alloc) {
-        Ok(mut retired) => make_again(&mut kernel, history, &mut retired),
+    let found = match ReleasedObjects::new(alloc) {
+        Ok(mut released) => make_again(&mut kernel, history, &mut released),
         Err(_) => Err(ReplayFault::NoMemory(0)),
     };
     drop(kernel);
@@ -74,7 +74,7 @@ pub fn replay<O: FileObject>(
 fn make_again<O: FileObject>(
     kernel: &mut Kernel<O>,
     history: &[Entry],
-    retired: &mut RetiredList<O>,
+    released: &mut ReleasedObjects<O>,
 ) -> Result<u64, ReplayFault>
     ensures all { IfOk result (λ n. n ≡ length history.now) }
     ensures first { IfErr result (λ f. entry_at f ≤ length history.now) }
@@ -84,7 +84,7 @@ fn make_again<O: FileObject>(
         if is_left_out(&entry.reply) {
             continue;
         }
-        match repeat(kernel, number, entry, retired) {
+        match repeat(kernel, number, entry, released) {
             Repeated::Same => {}
             Repeated::Different => return Err(ReplayFault::Differs(number)),
             Repeated::NoMemory => return Err(ReplayFault::NoMemory(number)),
@@ -115,17 +115,17 @@ fn repeat<O: FileObject>(
     kernel: &mut Kernel<O>,
     number: u64,
     entry: &Entry,
-    retired: &mut RetiredList<O>,
+    released: &mut ReleasedObjects<O>,
 ) -> Repeated {
     if !may_call(kernel, entry) {
         return Repeated::Different;
     }
-    retired.clear();
-    let done = kernel.step(entry.pid, number, &entry.request, retired);
+    released.clear();
+    let done = kernel.step(entry.pid, number, &entry.request, released);
     let compared = compare(&done, entry);
     drop(done);
     if matches!(compared, Repeated::Same)
-        && !are_these(retired.as_slice(), entry.released.numbers().as_slice())
+        && !are_these(released.as_slice(), entry.released.numbers().as_slice())
     {
         return Repeated::Different;
     }
@@ -154,7 +154,7 @@ fn compare(again: &Done, first: &Entry) -> Repeated {
 }
 
 /// Whether these are the file objects with these numbers.
-fn are_these<O: FileObject>(objects: &[Retired<O>], numbers: &[u8]) -> bool {
+fn are_these<O: FileObject>(objects: &[ReleasedObject<O>], numbers: &[u8]) -> bool {
     objects.len() == numbers.len()
         && objects
             .iter()

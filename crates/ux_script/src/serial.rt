@@ -16,7 +16,7 @@ use std::sync::ledger::Blank;
 use ux_history::{Book, BookName, CallFault, NoMemory, Share};
 use ux_kernel::Kernel;
 use ux_object::FileObject;
-use ux_state::RetiredList;
+use ux_state::ReleasedObjects;
 use ux_types::{Entry, Pid, Request};
 
 /// A book with the share of each process that hasn't exited. Contracts see the book.
@@ -27,7 +27,7 @@ pub(crate) struct Serial<W: BookName, O: FileObject> {
     /// There may be places without a process behind all others.
     shares: Vec<Option<Share<W>>>,
     /// What the last call released.
-    retired: RetiredList<O>,
+    released: ReleasedObjects<O>,
 }
 
 impl<W: BookName, O: FileObject> Model for Serial<W, O> {
@@ -60,13 +60,13 @@ impl<W: BookName, O: FileObject> Serial<W, O> {
         let Ok(shares) = by_number(alloc, shares) else {
             return Err(NoMemory);
         };
-        let Ok(retired) = RetiredList::new(alloc) else {
+        let Ok(released) = ReleasedObjects::new(alloc) else {
             return Err(NoMemory);
         };
         Ok(Serial {
             book,
             shares,
-            retired,
+            released,
         })
     }
 
@@ -79,7 +79,7 @@ impl<W: BookName, O: FileObject> Serial<W, O> {
         let Serial {
             book,
             shares: _,
-            retired: _,
+            released: _,
         } = self;
         book.into_entries()
     }
@@ -124,8 +124,8 @@ impl<W: BookName, O: FileObject> Serial<W, O> {
         ensures made { OnOk result (processes self.new ≡ processes self.old) }
         ensures stranger { OnErr result (has_live (state_of self.old) ≡ false → ends_of self.old.entries ≡ 1) }
     {
-        self.retired.clear();
-        match self.book.off(&mut self.retired) {
+        self.released.clear();
+        match self.book.off(&mut self.released) {
             Ok(()) => Ok(()),
             Err(_) => Err(CallFault::Stranger),
         }
@@ -141,8 +141,8 @@ impl<W: BookName, O: FileObject> Serial<W, O> {
         let Some(mut share) = take(&mut self.shares, pid) else {
             return Err(CallFault::Stranger);
         };
-        self.retired.clear();
-        let made = record(&mut self.book, &mut share, request, &mut self.retired);
+        self.released.clear();
+        let made = record(&mut self.book, &mut share, request, &mut self.released);
         put(&mut self.shares, share);
         made
     }
@@ -159,8 +159,8 @@ impl<W: BookName, O: FileObject> Serial<W, O> {
         let Some(mut share) = take(&mut self.shares, pid) else {
             return Err(CallFault::Stranger);
         };
-        self.retired.clear();
-        let forked = fork(&mut self.book, &mut share, &mut self.retired);
+        self.released.clear();
+        let forked = fork(&mut self.book, &mut share, &mut self.released);
         put(&mut self.shares, share);
         match forked {
             Ok(Some(child)) => {
@@ -181,8 +181,8 @@ impl<W: BookName, O: FileObject> Serial<W, O> {
         let Some(share) = take(&mut self.shares, pid) else {
             return Err(CallFault::Stranger);
         };
-        self.retired.clear();
-        match self.book.exit(share, &mut self.retired) {
+        self.released.clear();
+        match self.book.exit(share, &mut self.released) {
             Ok(_) => Ok(()),
             Err(_) => unreachable!(),
         }
@@ -194,17 +194,17 @@ fn record<W: BookName, O: FileObject>(
     book: &mut Book<W, O>,
     share: &mut Share<W>,
     request: &Request,
-    retired: &mut RetiredList<O>,
+    released: &mut ReleasedObjects<O>,
 ) -> Result<(), CallFault>
     requires call { has_own_call request.now ≡ false }
-    requires empty { retired.old ≡ [] }
+    requires empty { released.old ≡ [] }
     ensures entry { OnOk result (MakesOne book.old book.new share.old.pid request.now) }
     ensures share { OnOk result (share.new ≡ once_more share.old) }
     ensures stranger { IfErr result (λ f. f ≡ CallFault.Stranger → knows book.old share.old ≡ false) }
     ensures same { OnErr result (book.new ≡ book.old) }
     ensures kept { OnErr result (share.new ≡ share.old) }
 {
-    match book.record(share, request, retired) {
+    match book.record(share, request, released) {
         Ok(recorded) => {
             drop(recorded);
             Ok(())
@@ -218,9 +218,9 @@ fn record<W: BookName, O: FileObject>(
 fn fork<W: BookName, O: FileObject>(
     book: &mut Book<W, O>,
     share: &mut Share<W>,
-    retired: &mut RetiredList<O>,
+    released: &mut ReleasedObjects<O>,
 ) -> Result<Option<Share<W>>, CallFault>
-    requires empty { retired.old ≡ [] }
+    requires empty { released.old ≡ [] }
     ensures legal { IsLegal book.old.boot book.old.entries }
     ensures entry { IfOk result (λ child. Forks book.old book.new share.old.pid child) }
     ensures share { OnOk result (share.new ≡ once_more share.old) }
@@ -230,7 +230,7 @@ fn fork<W: BookName, O: FileObject>(
 {
     // What this says of the entries is what `legal` says.
     let _entries = book.entries();
-    match book.fork(share, retired) {
+    match book.fork(share, released) {
         Ok((recorded, child)) => {
             drop(recorded);
             Ok(child)

@@ -19,9 +19,9 @@ mod openings;
 mod process;
 mod references;
 mod release;
-mod retired;
+mod released_objects;
 mod state;
 
 pub use finding::{FoundDescription, FoundSocket};
-pub use retired::{Retired, RetiredList};
+pub use released_objects::{ReleasedObject, ReleasedObjects};
 pub use state::State;

@@ -66,7 +66,7 @@ impl<O: FileObject> ObjectPlace<O> {
     }
 
     /// Takes out the object, closed.
-    pub(crate) fn retire(&mut self) -> Option<O>
+    pub(crate) fn take_closed(&mut self) -> Option<O>
         ensures object { option_map O.view result ≡ option_map closed self.old }
         ensures empty { self.new ≡ None }
     {

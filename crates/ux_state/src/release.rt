@@ -17,7 +17,7 @@ use crate::binding::{drop_name, unlink_all};
 use crate::openings::{Openings, count_out};
 use crate::process::Process;
 use crate::references::release_held;
-use crate::retired::{Retired, RetiredList};
+use crate::released_objects::{ReleasedObject, ReleasedObjects};
 use crate::state::State;
 use ux_desc::Description;
 use ux_object::FileObject;
@@ -28,14 +28,14 @@ impl<O: FileObject> State<O> {
     /// Drops each description that nothing refers to, again until none is left, then closes each file
     /// object that neither a path nor a description leads to, and puts these into an empty list by rising
     /// number. It takes no memory.
-    #[tactic(auto, unfolding(ux_model::specs::Release::settled, ux_model::specs::Release::retired))]
-    pub fn settle(&mut self, retired: &mut RetiredList<O>)
-        requires empty { retired.old ≡ [] }
-        ensures retired { retired.new ≡ release.retired self.old }
+    #[tactic(auto, unfolding(ux_model::specs::Release::settled, ux_model::specs::Release::released_objects))]
+    pub fn settle(&mut self, released: &mut ReleasedObjects<O>)
+        requires empty { released.old ≡ [] }
+        ensures released { released.new ≡ release.released_objects self.old }
         ensures settled { self.new ≡ settled self.old }
     {
         self.drop_unreferenced();
-        self.close_orphans(retired);
+        self.close_orphans(released);
     }
 
     /// Takes away all names, all descriptors and all descriptions (the end of the layer).
@@ -77,26 +77,26 @@ impl<O: FileObject> State<O> {
     }
 
     /// Closes each file object that neither a path nor a description leads to, and hands it out.
-    fn close_orphans(&mut self, retired: &mut RetiredList<O>)
-        requires empty { retired.old ≡ [] }
-        ensures retired { retired.new ≡ map (λ e. (e.0, option_map closed e.1)) (orphans self.old) }
+    fn close_orphans(&mut self, released: &mut ReleasedObjects<O>)
+        requires empty { released.old ≡ [] }
+        ensures released { released.new ≡ map (λ e. (e.0, option_map closed e.1)) (orphans self.old) }
         ensures state { self.new ≡ without_orphans self.old }
     {
         for o in 0..self.objects.len() {
             if self.is_orphan(o) {
-                let object = self.retire(o);
-                hand_out(retired, o as u32, object);
+                let object = self.take_closed(o);
+                hand_out(released, o as u32, object);
             }
         }
     }
 
     /// Takes the file object out of this place, closed.
-    fn retire(&mut self, o: usize) -> Option<O>
+    fn take_closed(&mut self, o: usize) -> Option<O>
         requires { o < length self.old.objects }
         ensures object { option_map O.view result ≡ option_map closed (place self.old.objects o) }
         ensures state { self.new ≡ record self.old { objects = emptied self.old.objects o } }
     {
-        self.objects[o].retire()
+        self.objects[o].take_closed()
     }
 
     /// Whether neither a path nor a description leads to the file object in this place.
@@ -126,13 +126,13 @@ impl<O: FileObject> State<O> {
 }
 
 /// Hands out a file object, if one is there, under its number.
-fn hand_out<O: FileObject>(retired: &mut RetiredList<O>, number: u32, object: Option<O>)
-    requires room { length retired.old < object_limit }
+fn hand_out<O: FileObject>(released: &mut ReleasedObjects<O>, number: u32, object: Option<O>)
+    requires room { length released.old < object_limit }
     requires small { number < object_limit }
-    ensures { retired.new ≡ retired.old ++ filter (λ e. is_some e.1) ((number, option_map O.view object) ∷ []) }
+    ensures { released.new ≡ released.old ++ filter (λ e. is_some e.1) ((number, option_map O.view object) ∷ []) }
 {
     if let Some(object) = object {
-        retired.push(Retired::new(number, object));
+        released.push(ReleasedObject::new(number, object));
     }
 }
 

@@ -16,7 +16,7 @@ use ux_names::Seed;
 use ux_object::FileObject;
 use ux_objects::MemFile;
 use ux_rights::{Draft, RefList};
-use ux_state::{RetiredList, State};
+use ux_state::{ReleasedObjects, State};
 use ux_types::{
     Bytes, Cred, DescriptionId, Errno, Fd, Mode, Name, OpenFlags, Pid, ProcSpec, SHORT_BYTES,
     SockType,
@@ -215,13 +215,13 @@ fn expect_queue<O: FileObject>(
 
 /// Ends a call, and sees which file objects come out, each closed and gone from the state.
 fn settle<O: FileObject>(rt: &(impl Abort + AllocGlobal), state: &mut State<O>, numbers: &[u32]) {
-    let Ok(mut retired) = RetiredList::new(rt.alloc()) else {
+    let Ok(mut released) = ReleasedObjects::new(rt.alloc()) else {
         assert!(rt; false);
         return;
     };
-    state.settle(&mut retired);
-    assert!(rt; retired.len() == numbers.len());
-    for (gone, number) in retired.as_slice().iter().zip(numbers) {
+    state.settle(&mut released);
+    assert!(rt; released.len() == numbers.len());
+    for (gone, number) in released.as_slice().iter().zip(numbers) {
         assert!(rt; gone.number() == *number);
         assert!(rt; state.object(*number).is_none());
         assert!(rt; !gone.object().is_open());

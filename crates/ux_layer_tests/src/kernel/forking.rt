@@ -65,7 +65,7 @@ fn a_file_goes_with_the_last_exec(rt: HostRuntime) -> Result<(), Fail> {
     expect_rows(&rt, alloc, k, CHILD_EXEC)?;
     assert!(rt; is_gone(k, 0));
     expect_rows(&rt, alloc, k, CHILD_EXEC)?;
-    assert!(rt; k.retired.is_empty());
+    assert!(rt; k.released.is_empty());
     Ok(())
 }
 
@@ -134,7 +134,7 @@ fn what_a_parent_closes_stays_open_in_its_child(rt: HostRuntime) -> Result<(), F
     let k = &mut machine;
     expect_rows(&rt, alloc, k, PARENT)?;
     expect_rows(&rt, alloc, k, CHILD)?;
-    assert!(rt; k.retired.is_empty());
+    assert!(rt; k.released.is_empty());
     expect_rows(&rt, alloc, k, CHILD_CLOSE)?;
     assert!(rt; is_gone(k, 0));
     Ok(())

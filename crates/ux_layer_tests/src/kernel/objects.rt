@@ -6,9 +6,9 @@ use ux_types::Errno;
 
 /// Whether this one file object was handed out, closed.
 pub(super) fn is_gone(machine: &Machine, number: u32) -> bool {
-    machine.retired.len() == 1
+    machine.released.len() == 1
         && machine
-            .retired
+            .released
             .as_slice()
             .iter()
             .all(|r| r.number() == number && !r.object().is_open())
@@ -36,6 +36,6 @@ fn an_object_without_a_path_is_handed_out(rt: HostRuntime) -> Result<(), AllocEr
     assert!(rt; is_gone(k, 1));
     expect_rows(&rt, alloc, k, GONE)?;
     assert!(rt; turns_off(k));
-    assert!(rt; k.retired.len() == 1);
+    assert!(rt; k.released.len() == 1);
     Ok(())
 }

@@ -79,7 +79,7 @@ fn count_gone(
     let mut gone: usize = 0;
     for (pid, asked, _) in rows {
         assert!(rt; is_made(alloc, machine, *pid, asked)?);
-        gone = gone.saturating_add(machine.retired.len());
+        gone = gone.saturating_add(machine.released.len());
     }
     Ok(gone)
 }
@@ -93,7 +93,7 @@ fn each_file_object_is_handed_out_once(rt: HostRuntime) -> Result<(), AllocError
     assert_eq!(rt; count_gone(&rt, alloc, &mut machine, LOST)?, 1);
     // The socket in its own queue, with the other file, stays until the layer ends.
     assert!(rt; turns_off(&mut machine));
-    assert_eq!(rt; machine.retired.len(), 1);
+    assert_eq!(rt; machine.released.len(), 1);
     Ok(())
 }
 

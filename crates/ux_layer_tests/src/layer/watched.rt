@@ -19,7 +19,7 @@ use ux_kernel::Kernel;
 use ux_layer::{Layer, Seat, start};
 use ux_object::{FileObject, ObjError, ObjKind};
 use ux_objects::Counter;
-use ux_state::RetiredList;
+use ux_state::ReleasedObjects;
 use ux_types::{Bytes, Fd, Mode, Name, OpenFlags, Pid, ProcSpec, Reply, Request};
 
 /// How often a thread looks for what another is to do, before it gives up.
@@ -165,9 +165,9 @@ fn a_kernel_goes_with_its_open_objects(rt: HostRuntime) -> Result<(), Fail> {
     let watch = Watch::new(0);
     let mut kernel = watched_kernel(alloc, &[b"a", b"b"], &[USER], &watch)?;
     let request = open(alloc, b"b")?;
-    let mut retired = RetiredList::new(alloc)?;
+    let mut released = ReleasedObjects::new(alloc)?;
     assert!(rt; kernel.is_live(Pid(1)));
-    let done = kernel.step(Pid(1), 0, &request, &mut retired);
+    let done = kernel.step(Pid(1), 0, &request, &mut released);
     assert_eq!(rt; done.reply, Reply::Fd(Fd(0)));
     assert_eq!(rt; watch.begun.load(Ordering::SeqCst), 0);
     drop(kernel);

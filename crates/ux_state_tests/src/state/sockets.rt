@@ -10,7 +10,7 @@ use std::test::Fail;
 use ux_object::FileObject;
 use ux_objects::Counter;
 use ux_rights::RefList;
-use ux_state::{RetiredList, State};
+use ux_state::{ReleasedObjects, State};
 use ux_types::{DescriptionId, Errno, Fd, Mode, Name, OpenFlags, Pid, SockType};
 
 /// Takes these bytes from a socket.
@@ -177,12 +177,12 @@ fn settle_without_memory<O: FileObject>(
     alloc: Global,
     state: &mut State<O>,
 ) -> Result<(usize, bool), AllocError> {
-    let mut retired = RetiredList::new(alloc)?;
+    let mut released = ReleasedObjects::new(alloc)?;
     let hoard = Hoard::take_all(alloc)?;
-    state.settle(&mut retired);
+    state.settle(&mut released);
     let opened = opens_pair(state);
     drop(hoard);
-    Ok((retired.len(), opened))
+    Ok((released.len(), opened))
 }
 
 #[test]

@@ -8,7 +8,7 @@ use Rattle.ux_history.proofs.log.numbers_of.Goals as goal
 
 pub push-requires-clause-above : goal.push-requires-clause-above
 push-requires-clause-above g c =
-    let rs = c.args.retired.now in
+    let rs = c.args.released.now in
     let i = c.loop-object.object-index in
     subst (AllByRecursion (λ (n : ℕ). n < c.number.result)) (sym c.loop-object.invariant)
     (below_later (λ (r : ℕ × Option View). r.0) rs i c.number.result c.requires.rising c.loop-object-test.true

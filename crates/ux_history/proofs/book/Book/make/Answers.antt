@@ -12,7 +12,7 @@ use Rattle.ux_history.proofs.book.Book.make.Given.{Over}
 use Rattle.ux_history.proofs.book.Book.make.Goals as goal
 use Rattle.ux_history.proofs.book.Book.make.Goals.{then-tried, else-tried}
 
-made_here : (g : Over) (c : goal.After-child_share-arg-3-1 g) → Answered g.W.BookName.boot c.args.self.now c.append.new.self.book c.args.share.now c.args.prepared c.args.tried c.in-Some.number c.call-call.result.reply c.call-call.result (map (λ o. o.0) c.append.new.retired)
+made_here : (g : Over) (c : goal.After-child_share-arg-3-1 g) → Answered g.W.BookName.boot c.args.self.now c.append.new.self.book c.args.share.now c.args.prepared c.args.tried c.in-Some.number c.call-call.result.reply c.call-call.result (map (λ o. o.0) c.append.new.released)
 made_here g c =
     let log = c.reserve.new.self.book in
     let asked : c.into_parts-request.result.0 ≡ c.args.prepared = ap (λ r. r.0) c.into_parts-request.ensures in
@@ -21,7 +21,7 @@ made_here g c =
       | else-tried w ↦ λ t. absurd (false≢true (sym w.if-tried.false ∙ t))
     ] in
     answered g.W.BookName.boot log c.args.self.now c.append.new.self.book c.args.share.now c.share.inside.pid c.share.inside.k c.into_parts-request.result.0 c.args.prepared c.if-tried.waits c.args.tried c.in-Some.number
-    c.call-call.result.reply c.call-call.result (map (λ o. o.0) c.append.new.retired)
+    c.call-call.result.reply c.call-call.result (map (λ o. o.0) c.append.new.released)
     (c.reserve.ensures.book ∙ c.self.view_is)
     (ap Caller.pid c.share.view_is)
     (c.share.invariant.0 ∙ ap Caller.k c.share.view_is)

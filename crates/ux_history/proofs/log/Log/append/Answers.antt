@@ -17,9 +17,9 @@ use Rattle.ux_history.proofs.log.Log.append.Goals.{else-waits-via-then-waits+els
 
 -- ---- where the call would have to wait
 
-idle : (g : Over) (c : goal.After-drop-then-is_again g) → Waited g.W.BookName.boot c.self.inside.kernel c.step-done.new.self c.self.inside.entries.items c.args.pid.0 c.args.request (map (λ r. r.0) c.step-done.new.retired)
+idle : (g : Over) (c : goal.After-drop-then-is_again g) → Waited g.W.BookName.boot c.self.inside.kernel c.step-done.new.self c.self.inside.entries.items c.args.pid.0 c.args.request (map (λ r. r.0) c.step-done.new.released)
 idle g c =
-    waited g.W.BookName.boot c.self.inside.kernel c.step-done.new.self c.self.inside.entries.items c.args.pid.0 c.len-number.result c.args.request c.step-done.result.reply (map (λ r. r.0) c.step-done.new.retired)
+    waited g.W.BookName.boot c.self.inside.kernel c.step-done.new.self c.self.inside.entries.items c.args.pid.0 c.len-number.result c.args.request c.step-done.result.reply (map (λ r. r.0) c.step-done.new.released)
     c.self.invariant.legal c.self.invariant.at_replay (sym c.is_again.ensures ∙ c.if-is_again.true)
     (omega (arith, c.len-number.ensures, c.self.inside.entries.ok.0)) c.step-done.ensures.step
 
@@ -32,7 +32,7 @@ returns-then-is_again-clause-again g c =
     subst (λ (k : Kept). Step (state_of k.book) c.args.pid.0 (length k.book.entries) c.args.request (Reply.Err Errno.EAGAIN) [] (state_of k.book)) c.self.view_is (idle g c).again
 
 pub returns-then-is_again-clause-none : goal.returns-then-is_again-clause-none
-returns-then-is_again-clause-none g c = nil_from_length c.step-done.new.retired (sym (length-map c.step-done.new.retired (λ r. r.0)) ∙ ap length (idle g c).none)
+returns-then-is_again-clause-none g c = nil_from_length c.step-done.new.released (sym (length-map c.step-done.new.released (λ r. r.0)) ∙ ap length (idle g c).none)
 
 -- ---- where it is an entry
 
@@ -54,7 +54,7 @@ note-requires-clause-room g c =
     let boot = g.W.BookName.boot in
     let view = c.self.view_is in
     let allowed = allowed_now _ _ _ _ _ c.args.self.now c.args.pid c.args.k c.args.request c.self.invariant view c.requires.call in
-    let e = entry_of old.kernel c.args.pid c.args.k c.args.request c.step-done.result.reply (map (λ r. r.0) c.step-done.new.retired) in
+    let e = entry_of old.kernel c.args.pid c.args.k c.args.request c.step-done.result.reply (map (λ r. r.0) c.step-done.new.released) in
     let one = room_for_one boot old.kernel c.step-done.new.self old.entries.items old.calls.items (vec_capacity old.entries) e c.len-number.result c.self.invariant allowed
     (counted_now _ _ _ c.args.self.now c.args.pid c.args.k c.args.request view c.requires.call)
     (room_now boot old.kernel old.entries.items old.calls.items _ c.args.self.now c.args.request c.self.invariant view c.requires.room) c.step-done.ensures.step in
@@ -63,17 +63,17 @@ note-requires-clause-room g c =
 pub numbers_of-requires : goal.numbers_of-requires
 numbers_of-requires g c = record {
   rising = subst (λ (ns : List ℕ). AllPairs (λ (a b : ℕ). a < b) ns) (ap (map (λ r. r.0)) (sym c.as_slice.ensures.objects))
-      (step_releases_rising c.self.inside.kernel c.step-done.new.self c.args.pid.0 c.len-number.result c.args.request c.step-done.result.reply (map (λ r. r.0) c.step-done.new.retired) c.step-done.ensures.step);
+      (step_releases_rising c.self.inside.kernel c.step-done.new.self c.args.pid.0 c.len-number.result c.args.request c.step-done.result.reply (map (λ r. r.0) c.step-done.new.released) c.step-done.ensures.step);
 }
 
 -- the entry that is kept
 kept : (g : Over) → goal.After-note g → State → Entry
-kept g c S = entry_of S c.args.pid c.args.k c.args.request c.step-done.result.reply (map (λ r. r.0) c.step-done.new.retired)
+kept g c S = entry_of S c.args.pid c.args.k c.args.request c.step-done.result.reply (map (λ r. r.0) c.step-done.new.released)
 
 appended_here : (g : Over) (c : goal.After-note g) → c.note.new.entries.items ≡ c.self.inside.entries.items ++ kept g c c.self.inside.kernel ∷ []
 unfolding kept
 appended_here g c =
-    let numbers : c.numbers_of.result ≡ map (λ r. r.0) c.step-done.new.retired = c.numbers_of.ensures ∙ ap (map (λ r. r.0)) c.as_slice.ensures.objects in
+    let numbers : c.numbers_of.result ≡ map (λ r. r.0) c.step-done.new.released = c.numbers_of.ensures ∙ ap (map (λ r. r.0)) c.as_slice.ensures.objects in
     c.note.ensures.entries
     ∙ (λ j. c.self.inside.entries.items ++ record { pid = c.args.pid; k = c.args.k; request = c.args.request; reply = c.step-done.result.reply; released = numbers j; delivered = c.step-done.ensures.told j } ∷ [])
 

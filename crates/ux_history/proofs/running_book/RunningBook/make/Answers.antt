@@ -14,7 +14,7 @@ use Rattle.ux_history.proofs.running_book.RunningBook.make.Given.{Over}
 use Rattle.ux_history.proofs.running_book.RunningBook.make.Goals as goal
 use Rattle.ux_history.proofs.running_book.RunningBook.make.Goals.{then-tried, else-tried}
 
-made_here : (g : Over) (c : goal.After-share-1 g) → Answered g.W.BookName.boot c.args.self.now c.append.new.self c.args.share.now c.args.request.now c.args.tried c.entry_count-number.result c.in-Some.reply c.push-mark.result.call (map (λ o. o.0) c.append.new.retired)
+made_here : (g : Over) (c : goal.After-share-1 g) → Answered g.W.BookName.boot c.args.self.now c.append.new.self c.args.share.now c.args.request.now c.args.tried c.entry_count-number.result c.in-Some.reply c.push-mark.result.call (map (λ o. o.0) c.append.new.released)
 made_here g c =
     let log = c.self.inside.log in
     let waits : c.args.tried ≡ true → c.if-tried.waits ≡ may_wait (state_of log) c.share.inside.pid.0 c.args.request.now = elim c.if-tried.branch [
@@ -22,7 +22,7 @@ made_here g c =
       | else-tried w ↦ λ t. absurd (false≢true (sym w.if-tried.false ∙ t))
     ] in
     answered_next g.W.BookName.boot log c.args.self.now c.append.new.self c.args.share.now c.share.inside.pid c.share.inside.k c.args.request.now c.if-tried.waits c.args.tried c.entry_count-number.result
-    c.in-Some.reply c.push-mark.result.call (map (λ o. o.0) c.append.new.retired)
+    c.in-Some.reply c.push-mark.result.call (map (λ o. o.0) c.append.new.released)
     c.self.view_is
     (ap Caller.pid c.share.view_is)
     (c.share.invariant.0 ∙ ap Caller.k c.share.view_is)

@@ -19,9 +19,9 @@ use Rattle.ux_history.proofs.running_log.RunningLog.append.Goals.{else-waits-via
 
 -- ---- where the call would have to wait
 
-idle : (g : Over) (c : goal.After-drop g) → Waited g.W.BookName.boot c.self.inside.kernel c.step-done.new.self (entries_of c.self.inside.past) c.args.pid.0 c.args.request.now (map (λ r. r.0) c.step-done.new.retired)
+idle : (g : Over) (c : goal.After-drop g) → Waited g.W.BookName.boot c.self.inside.kernel c.step-done.new.self (entries_of c.self.inside.past) c.args.pid.0 c.args.request.now (map (λ r. r.0) c.step-done.new.released)
 idle g c =
-    waited g.W.BookName.boot c.self.inside.kernel c.step-done.new.self (entries_of c.self.inside.past) c.args.pid.0 c.self.inside.number c.args.request.now c.step-done.result.reply (map (λ r. r.0) c.step-done.new.retired)
+    waited g.W.BookName.boot c.self.inside.kernel c.step-done.new.self (entries_of c.self.inside.past) c.args.pid.0 c.self.inside.number c.args.request.now c.step-done.result.reply (map (λ r. r.0) c.step-done.new.released)
     c.self.invariant.log.legal c.self.invariant.log.at_replay (sym c.is_again.ensures ∙ c.if-is_again.true) c.self.invariant.long c.step-done.ensures.step
 
 pub invariant_of-self : goal.invariant_of-self
@@ -33,7 +33,7 @@ returns-then-is_again-clause-again g c =
     subst (λ (b : KeptHistory). Step (state_of b) c.args.pid.0 (length b.entries) c.args.request.now (Reply.Err Errno.EAGAIN) [] (state_of b)) c.self.view_is (idle g c).again
 
 pub returns-then-is_again-clause-none : goal.returns-then-is_again-clause-none
-returns-then-is_again-clause-none g c = nil_from_length c.step-done.new.retired (sym (length-map c.step-done.new.retired (λ r. r.0)) ∙ ap length (idle g c).none)
+returns-then-is_again-clause-none g c = nil_from_length c.step-done.new.released (sym (length-map c.step-done.new.released (λ r. r.0)) ∙ ap length (idle g c).none)
 
 -- ---- where it is an entry
 
@@ -51,24 +51,24 @@ count-requires-clause-few g c =
 pub count-requires-clause-room : goal.count-requires-clause-room
 count-requires-clause-room g c =
     let may = ready c.args.pid c.args.k c.args.request.now c.self.invariant c.self.view_is (few_from c.process_count-made.ensures.count c.process_count-made.ensures.most) c.requires.call c.requires.few in
-    let e = entry_of c.self.inside.kernel c.args.pid c.args.k c.args.request.now c.step-done.result.reply (map (λ r. r.0) c.step-done.new.retired) in
+    let e = entry_of c.self.inside.kernel c.args.pid c.args.k c.args.request.now c.step-done.result.reply (map (λ r. r.0) c.step-done.new.released) in
     let few = few_entries c.step-done.new.self e c.self.invariant may c.step-done.ensures.step in
     omega (arith, few, c.self.invariant.long)
 
 pub numbers_of-released-requires : goal.numbers_of-released-requires
 numbers_of-released-requires g c = record {
   rising = subst (λ (ns : List ℕ). AllPairs (λ (a b : ℕ). a < b) ns) (ap (map (λ r. r.0)) (sym c.as_slice.ensures.objects))
-      (step_releases_rising c.self.inside.kernel c.step-done.new.self c.args.pid.0 c.self.inside.number c.args.request.now c.step-done.result.reply (map (λ r. r.0) c.step-done.new.retired) c.step-done.ensures.step);
+      (step_releases_rising c.self.inside.kernel c.step-done.new.self c.args.pid.0 c.self.inside.number c.args.request.now c.step-done.result.reply (map (λ r. r.0) c.step-done.new.released) c.step-done.ensures.step);
 }
 
 -- the entry that is counted
 counted : (g : Over) → goal.After-count g → State → Entry
-counted g c S = entry_of S c.args.pid c.args.k c.args.request.now c.step-done.result.reply (map (λ r. r.0) c.step-done.new.retired)
+counted g c S = entry_of S c.args.pid c.args.k c.args.request.now c.step-done.result.reply (map (λ r. r.0) c.step-done.new.released)
 
 appended_here : (g : Over) (c : goal.After-count g) → entries_of c.push.new.self ≡ entries_of c.self.inside.past ++ counted g c c.self.inside.kernel ∷ []
 unfolding counted
 appended_here g c =
-    let numbers : c.numbers_of-released.result ≡ map (λ r. r.0) c.step-done.new.retired = c.numbers_of-released.ensures ∙ ap (map (λ r. r.0)) c.as_slice.ensures.objects in
+    let numbers : c.numbers_of-released.result ≡ map (λ r. r.0) c.step-done.new.released = c.numbers_of-released.ensures ∙ ap (map (λ r. r.0)) c.as_slice.ensures.objects in
     c.push.ensures
     ∙ (λ j. entries_of c.self.inside.past ++ record { pid = c.args.pid; k = c.args.k; request = c.args.request.now; reply = c.step-done.result.reply; released = numbers j; delivered = c.step-done.ensures.told j } ∷ [])
 

@@ -6,4 +6,4 @@ invariant-loop g l =
     (goal.iterator-loop g).can_next l.iterator'
     × (goal.iterator-loop g).is_finite l.iterator'
     × (l.share ≡ l.initial.share)
-    × (l.retired ≡ [])
+    × (l.released ≡ [])

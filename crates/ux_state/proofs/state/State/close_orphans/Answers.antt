@@ -8,25 +8,25 @@ use Rattle.ux_state.proofs.state.State.close_orphans.Goals.{then-is_orphan, else
 pub is_orphan-requires : goal.is_orphan-requires
 is_orphan-requires g c =
     let long = ap (λ S. length (State.objects S)) c.self.view_is in
-    inside_then c.args.self.now c.loop-o.self c.loop-o.o c.loop-o.retired c.loop-o.invariant (omega (arith, long))
+    inside_then c.args.self.now c.loop-o.self c.loop-o.o c.loop-o.released c.loop-o.invariant (omega (arith, long))
 
-pub retire-object-requires : goal.retire-object-requires
-retire-object-requires g c =
+pub take_closed-object-requires : goal.take_closed-object-requires
+take_closed-object-requires g c =
     let long = ap (λ S. length (State.objects S)) c.self.view_is in
-    inside_then c.args.self.now c.loop-o.self c.loop-o.o c.loop-o.retired c.loop-o.invariant (omega (arith, long))
+    inside_then c.args.self.now c.loop-o.self c.loop-o.o c.loop-o.released c.loop-o.invariant (omega (arith, long))
 
 pub loop-o-preserved : goal.loop-o-preserved
 loop-o-preserved g c =
     let long = ap (λ S. length (State.objects S)) c.self.view_is in
     let inside : c.loop-o.o < length c.args.self.now.objects = omega (arith, long) in
     elim c.if-is_orphan.branch [
-      | then-is_orphan w ↦ Passed-gone c.args.self.now c.loop-o.self c.if-is_orphan.self c.loop-o.o c.loop-o.retired c.if-is_orphan.retired (option_map g.O.FileObject.view w.retire-object.result) c.loop-o.invariant inside
-          (sym c.is_orphan.ensures ∙ w.if-is_orphan.true) w.retire-object.ensures.object (w.self-is ∙ w.retire-object.ensures.state) (rw w.retired-is w.hand_out.ensures)
-      | else-is_orphan w ↦ rw (w.self-is, w.retired-is) (Passed-kept c.args.self.now c.loop-o.self c.loop-o.o c.loop-o.retired c.loop-o.invariant inside (sym c.is_orphan.ensures ∙ w.if-is_orphan.false))
+      | then-is_orphan w ↦ Passed-gone c.args.self.now c.loop-o.self c.if-is_orphan.self c.loop-o.o c.loop-o.released c.if-is_orphan.released (option_map g.O.FileObject.view w.take_closed-object.result) c.loop-o.invariant inside
+          (sym c.is_orphan.ensures ∙ w.if-is_orphan.true) w.take_closed-object.ensures.object (w.self-is ∙ w.take_closed-object.ensures.state) (rw w.released-is w.hand_out.ensures)
+      | else-is_orphan w ↦ rw (w.self-is, w.released-is) (Passed-kept c.args.self.now c.loop-o.self c.loop-o.o c.loop-o.released c.loop-o.invariant inside (sym c.is_orphan.ensures ∙ w.if-is_orphan.false))
     ]
 
-pub returns-clause-retired : goal.returns-clause-retired
-returns-clause-retired g c = grind (arith, common_steps)
+pub returns-clause-released : goal.returns-clause-released
+returns-clause-released g c = grind (arith, common_steps)
 
 pub returns-clause-state : goal.returns-clause-state
 returns-clause-state g c = grind (arith, common_steps)

@@ -10,12 +10,12 @@ use ux_types::OBJECT_LIMIT;
 /// A file object that was closed at the end of a call, with its number. Contracts see the number beside
 /// its view.
 #[derive(Drop)]
-pub struct Retired<O: FileObject> {
+pub struct ReleasedObject<O: FileObject> {
     number: u32,
     object: O,
 }
 
-impl<O: FileObject> Model for Retired<O> {
+impl<O: FileObject> Model for ReleasedObject<O> {
     ghost use Rattle.std.specs.Prelude.{ℕ, ◌<◌, Option, Some};
     ghost use Rattle.ux_model.specs.Limits.{object_limit};
     ghost use Rattle.ux_model.specs.Object.{View};
@@ -27,13 +27,13 @@ impl<O: FileObject> Model for Retired<O> {
     ghost invariant = { λ r. r.number < object_limit };
 }
 
-impl<O: FileObject> Retired<O> {
+impl<O: FileObject> ReleasedObject<O> {
     /// This object under its number.
-    pub(crate) fn new(number: u32, object: O) -> Retired<O>
+    pub(crate) fn new(number: u32, object: O) -> ReleasedObject<O>
         requires { number < object_limit }
         ensures { result ≡ (number, Some (O.view object)) }
     {
-        Retired { number, object }
+        ReleasedObject { number, object }
     }
 
     /// The number that the object had.
@@ -54,19 +54,19 @@ impl<O: FileObject> Retired<O> {
 
 /// The file objects that one call let go of, by rising number. Their room is made before, so a call that
 /// lets go of them takes no memory. Contracts see them as a list.
-pub struct RetiredList<O: FileObject> {
-    objects: Vec<Retired<O>>,
+pub struct ReleasedObjects<O: FileObject> {
+    objects: Vec<ReleasedObject<O>>,
 }
 
 // Written out, so that it is proved here and not in each function that drops one.
-impl<O: FileObject> Drop for RetiredList<O> {
+impl<O: FileObject> Drop for ReleasedObjects<O> {
     fn drop(self) {
-        let RetiredList { objects } = self;
+        let ReleasedObjects { objects } = self;
         drop(objects);
     }
 }
 
-impl<O: FileObject> Model for RetiredList<O> {
+impl<O: FileObject> Model for ReleasedObjects<O> {
     ghost use Rattle.std.specs.Prelude.{ℕ, ◌≤◌, List, Option, length, vec_capacity};
     ghost use Rattle.ux_model.specs.Limits.{object_limit};
     ghost use Rattle.ux_model.specs.Object.{View};
@@ -78,16 +78,16 @@ impl<O: FileObject> Model for RetiredList<O> {
     ghost invariant = { λ l. (length l.objects.items ≤ object_limit) × (object_limit ≤ vec_capacity l.objects) };
 }
 
-impl<O: FileObject> RetiredList<O> {
+impl<O: FileObject> ReleasedObjects<O> {
     /// An empty list, with room for all file objects of a kernel.
     ///
     /// # Errors
     ///
     /// Out of memory.
-    pub fn new(alloc: Global) -> Result<RetiredList<O>, AllocError>
+    pub fn new(alloc: Global) -> Result<ReleasedObjects<O>, AllocError>
         ensures { IfOk result (λ l. l ≡ []) }
     {
-        Ok(RetiredList {
+        Ok(ReleasedObjects {
             objects: Vec::with_capacity(alloc, OBJECT_LIMIT)?,
         })
     }
@@ -107,7 +107,7 @@ impl<O: FileObject> RetiredList<O> {
     }
 
     /// All of them.
-    pub fn as_slice(&self) -> &[Retired<O>]
+    pub fn as_slice(&self) -> &[ReleasedObject<O>]
         ensures objects { result.now ≡ self.now }
         ensures few { length self.now ≤ object_limit }
     {
@@ -122,10 +122,10 @@ impl<O: FileObject> RetiredList<O> {
     }
 
     /// One more.
-    pub(crate) fn push(&mut self, retired: Retired<O>)
+    pub(crate) fn push(&mut self, released: ReleasedObject<O>)
         requires { length self.old < object_limit }
-        ensures { self.new ≡ self.old ++ retired ∷ [] }
+        ensures { self.new ≡ self.old ++ released ∷ [] }
     {
-        self.objects.push_reserved(retired);
+        self.objects.push_reserved(released);
     }
 }
