@@ -1,6 +1,5 @@
 -- What a receive gives, as a whole.
-use Rattle.std.proofs.Common.{◌≡◌, ℕ, Bool, List, [], ◌∷◌, ◌∙◌}
-use Rattle.ux_model.specs.Types.{Cred}
+use Rattle.std.proofs.Common.{◌≡◌, ℕ, Bool, List, [], ◌∷◌}
 use Rattle.ux_model.specs.Message.{Message}
 use Rattle.ux_model.specs.Front.{OnStreamFront}
 use Rattle.ux_stream.specs.declared.marks.Reach.{Reach}
