@@ -135,22 +135,6 @@ impl<W: BookName> Session<W> {
         ensures fault { IfErr result (IsFault self.old pid) }
         ensures same { OnErr result (self.new ≡ self.old) }
     {
-        if !self.is_live(pid) {
-            return Err(CallFault::Stranger);
-        }
-        let Ok(request) = request.clone() else {
-            return Err(CallFault::NoMemory);
-        };
-        self.call_given(pid, request)
-    }
-
-    /// As `call`, but it takes the request.
-    fn call_given(&mut self, pid: Pid, request: Request) -> Result<Reply, CallFault>
-        requires own_call { has_own_call request ≡ false }
-        ensures made { IfOk result (λ reply. Answers self.old self.new pid request reply) }
-        ensures fault { IfErr result (IsFault self.old pid) }
-        ensures same { OnErr result (self.new ≡ self.old) }
-    {
         let Some(place) = pid.0.checked_sub(1) else {
             return Err(CallFault::Stranger);
         };
@@ -164,10 +148,8 @@ impl<W: BookName> Session<W> {
             return Err(CallFault::Stranger);
         };
         released.clear();
-        match book.record_given(share, request, released) {
-            Ok(receipt) => Ok(receipt.into_reply()),
-            Err((fault, _request)) => Err(fault),
-        }
+        let recorded = book.record(share, request, released)?;
+        Ok(recorded.reply)
     }
 
     /// fork(2): the number of the new process, which is a copy of this one.
@@ -260,7 +242,7 @@ impl<W: BookName> Session<W> {
         ensures refused { IfErr result (λ error. Fails is_fd self.old self.new pid (Request.Open path.now mode no_open_flags) error) }
     {
         let request = call::open(self.alloc, path, mode)?;
-        let reply = self.call_given(pid, request)?;
+        let reply = self.call(pid, &request)?;
         reply.fd()
     }
 
@@ -281,7 +263,7 @@ impl<W: BookName> Session<W> {
         ensures refused { IfErr result (λ error. Fails is_fd self.old self.new pid (Request.Open path.now mode flags) error) }
     {
         let request = call::open_with(self.alloc, path, mode, flags)?;
-        let reply = self.call_given(pid, request)?;
+        let reply = self.call(pid, &request)?;
         reply.fd()
     }
 
@@ -296,7 +278,7 @@ impl<W: BookName> Session<W> {
         ensures refused { IfErr result (λ error. Fails is_bytes self.old self.new pid (Request.Read fd n) error) }
     {
         let request = call::read(fd, n);
-        let reply = self.call_given(pid, request)?;
+        let reply = self.call(pid, &request)?;
         reply.bytes()
     }
 
@@ -311,7 +293,7 @@ impl<W: BookName> Session<W> {
         ensures refused { IfErr result (λ error. Fails is_count self.old self.new pid (Request.Write fd bytes.now) error) }
     {
         let request = call::write(self.alloc, fd, bytes)?;
-        let reply = self.call_given(pid, request)?;
+        let reply = self.call(pid, &request)?;
         reply.count()
     }
 
@@ -326,7 +308,7 @@ impl<W: BookName> Session<W> {
         ensures refused { IfErr result (λ error. Fails is_offset self.old self.new pid (Request.Lseek fd offset whence) error) }
     {
         let request = call::lseek(fd, offset, whence);
-        let reply = self.call_given(pid, request)?;
+        let reply = self.call(pid, &request)?;
         reply.offset()
     }
 
@@ -341,7 +323,7 @@ impl<W: BookName> Session<W> {
         ensures refused { IfErr result (λ error. Fails is_fd self.old self.new pid (Request.Dup fd) error) }
     {
         let request = call::dup(fd);
-        let reply = self.call_given(pid, request)?;
+        let reply = self.call(pid, &request)?;
         reply.fd()
     }
 
@@ -356,7 +338,7 @@ impl<W: BookName> Session<W> {
         ensures refused { IfErr result (λ error. Fails is_fd self.old self.new pid (Request.Dup2 fd to) error) }
     {
         let request = call::dup2(fd, to);
-        let reply = self.call_given(pid, request)?;
+        let reply = self.call(pid, &request)?;
         reply.fd()
     }
 
@@ -371,7 +353,7 @@ impl<W: BookName> Session<W> {
         ensures refused { IfErr result (λ error. Fails is_done self.old self.new pid (Request.SetFlags fd flags) error) }
     {
         let request = call::set_flags(fd, flags);
-        let reply = self.call_given(pid, request)?;
+        let reply = self.call(pid, &request)?;
         reply.done()
     }
 
@@ -386,7 +368,7 @@ impl<W: BookName> Session<W> {
         ensures refused { IfErr result (λ error. Fails is_done self.old self.new pid (Request.Close fd) error) }
     {
         let request = call::close(fd);
-        let reply = self.call_given(pid, request)?;
+        let reply = self.call(pid, &request)?;
         reply.done()
     }
 
@@ -401,7 +383,7 @@ impl<W: BookName> Session<W> {
         ensures refused { IfErr result (λ error. Fails is_done self.old self.new pid (Request.Unlink path.now) error) }
     {
         let request = call::unlink(self.alloc, path)?;
-        let reply = self.call_given(pid, request)?;
+        let reply = self.call(pid, &request)?;
         reply.done()
     }
 
@@ -416,7 +398,7 @@ impl<W: BookName> Session<W> {
         ensures refused { IfErr result (λ error. Fails is_fd self.old self.new pid (Request.Socket kind no_open_flags) error) }
     {
         let request = call::socket(kind);
-        let reply = self.call_given(pid, request)?;
+        let reply = self.call(pid, &request)?;
         reply.fd()
     }
 
@@ -436,7 +418,7 @@ impl<W: BookName> Session<W> {
         ensures refused { IfErr result (λ error. Fails is_fd self.old self.new pid (Request.Socket kind flags) error) }
     {
         let request = call::socket_with(kind, flags);
-        let reply = self.call_given(pid, request)?;
+        let reply = self.call(pid, &request)?;
         reply.fd()
     }
 
@@ -451,7 +433,7 @@ impl<W: BookName> Session<W> {
         ensures refused { IfErr result (λ error. Fails is_fds self.old self.new pid (Request.SocketPair kind no_open_flags) error) }
     {
         let request = call::pair(kind);
-        let reply = self.call_given(pid, request)?;
+        let reply = self.call(pid, &request)?;
         reply.fds()
     }
 
@@ -466,7 +448,7 @@ impl<W: BookName> Session<W> {
         ensures refused { IfErr result (λ error. Fails is_done self.old self.new pid (Request.Bind fd (Addr.Path path.now)) error) }
     {
         let request = call::bind_path(self.alloc, fd, path)?;
-        let reply = self.call_given(pid, request)?;
+        let reply = self.call(pid, &request)?;
         reply.done()
     }
 
@@ -481,7 +463,7 @@ impl<W: BookName> Session<W> {
         ensures refused { IfErr result (λ error. Fails is_done self.old self.new pid (Request.Bind fd (Addr.Abstract name.now)) error) }
     {
         let request = call::bind_abstract(self.alloc, fd, name)?;
-        let reply = self.call_given(pid, request)?;
+        let reply = self.call(pid, &request)?;
         reply.done()
     }
 
@@ -496,7 +478,7 @@ impl<W: BookName> Session<W> {
         ensures refused { IfErr result (λ error. Fails is_done self.old self.new pid (Request.Listen fd backlog) error) }
     {
         let request = call::listen(fd, backlog);
-        let reply = self.call_given(pid, request)?;
+        let reply = self.call(pid, &request)?;
         reply.done()
     }
 
@@ -511,7 +493,7 @@ impl<W: BookName> Session<W> {
         ensures refused { IfErr result (λ error. Fails is_done self.old self.new pid (Request.Connect fd (Addr.Path path.now)) error) }
     {
         let request = call::connect_path(self.alloc, fd, path)?;
-        let reply = self.call_given(pid, request)?;
+        let reply = self.call(pid, &request)?;
         reply.done()
     }
 
@@ -526,7 +508,7 @@ impl<W: BookName> Session<W> {
         ensures refused { IfErr result (λ error. Fails is_done self.old self.new pid (Request.Connect fd (Addr.Abstract name.now)) error) }
     {
         let request = call::connect_abstract(self.alloc, fd, name)?;
-        let reply = self.call_given(pid, request)?;
+        let reply = self.call(pid, &request)?;
         reply.done()
     }
 
@@ -541,7 +523,7 @@ impl<W: BookName> Session<W> {
         ensures refused { IfErr result (λ error. Fails is_accepted self.old self.new pid (Request.Accept fd no_open_flags) error) }
     {
         let request = call::accept(fd);
-        let reply = self.call_given(pid, request)?;
+        let reply = self.call(pid, &request)?;
         reply.accepted()
     }
 
@@ -561,7 +543,7 @@ impl<W: BookName> Session<W> {
         ensures refused { IfErr result (λ error. Fails is_accepted self.old self.new pid (Request.Accept fd flags) error) }
     {
         let request = call::accept_with(fd, flags);
-        let reply = self.call_given(pid, request)?;
+        let reply = self.call(pid, &request)?;
         reply.accepted()
     }
 
@@ -576,7 +558,7 @@ impl<W: BookName> Session<W> {
         ensures refused { IfErr result (λ error. Fails is_done self.old self.new pid (Request.Shutdown fd how) error) }
     {
         let request = call::shutdown(fd, how);
-        let reply = self.call_given(pid, request)?;
+        let reply = self.call(pid, &request)?;
         reply.done()
     }
 
@@ -591,7 +573,7 @@ impl<W: BookName> Session<W> {
         ensures refused { IfErr result (λ error. Fails is_value self.old self.new pid (Request.GetOpt fd opt) error) }
     {
         let request = call::getopt(fd, opt);
-        let reply = self.call_given(pid, request)?;
+        let reply = self.call(pid, &request)?;
         reply.value()
     }
 
@@ -606,7 +588,7 @@ impl<W: BookName> Session<W> {
         ensures refused { IfErr result (λ error. Fails is_cred self.old self.new pid (Request.GetOpt fd SockOpt.PeerCred) error) }
     {
         let request = call::getopt(fd, SockOpt::PeerCred);
-        let reply = self.call_given(pid, request)?;
+        let reply = self.call(pid, &request)?;
         reply.cred()
     }
 
@@ -621,7 +603,7 @@ impl<W: BookName> Session<W> {
         ensures refused { IfErr result (λ error. Fails is_done self.old self.new pid (Request.SetOpt fd opt value) error) }
     {
         let request = call::setopt(fd, opt, value);
-        let reply = self.call_given(pid, request)?;
+        let reply = self.call(pid, &request)?;
         reply.done()
     }
 
@@ -636,7 +618,7 @@ impl<W: BookName> Session<W> {
         ensures refused { IfErr result (λ error. Fails is_addr self.old self.new pid (Request.GetSockName fd) error) }
     {
         let request = call::getsockname(fd);
-        let reply = self.call_given(pid, request)?;
+        let reply = self.call(pid, &request)?;
         reply.addr()
     }
 
@@ -651,7 +633,7 @@ impl<W: BookName> Session<W> {
         ensures refused { IfErr result (λ error. Fails is_addr self.old self.new pid (Request.GetPeerName fd) error) }
     {
         let request = call::getpeername(fd);
-        let reply = self.call_given(pid, request)?;
+        let reply = self.call(pid, &request)?;
         reply.addr()
     }
 
@@ -666,7 +648,7 @@ impl<W: BookName> Session<W> {
         ensures refused { IfErr result (λ error. Fails is_count self.old self.new pid (Request.SendMsg fd None bytes.now [] no_msg_flags) error) }
     {
         let request = call::send(self.alloc, fd, bytes)?;
-        let reply = self.call_given(pid, request)?;
+        let reply = self.call(pid, &request)?;
         reply.count()
     }
 
@@ -687,7 +669,7 @@ impl<W: BookName> Session<W> {
         ensures refused { IfErr result (λ error. Fails is_count self.old self.new pid (Request.SendMsg fd None bytes.now (control_bytes None (map (λ right. right.0) rights.now)) no_msg_flags) error) }
     {
         let request = call::send_rights(self.alloc, fd, bytes, rights)?;
-        let reply = self.call_given(pid, request)?;
+        let reply = self.call(pid, &request)?;
         reply.count()
     }
 
@@ -702,7 +684,7 @@ impl<W: BookName> Session<W> {
         ensures refused { IfErr result (λ error. Fails is_message self.old self.new pid (Request.RecvMsg fd n 0 no_msg_flags) error) }
     {
         let request = call::recv(fd, n);
-        let reply = self.call_given(pid, request)?;
+        let reply = self.call(pid, &request)?;
         reply.message()
     }
 
@@ -724,7 +706,7 @@ impl<W: BookName> Session<W> {
         ensures refused { IfErr result (λ error. Fails is_message self.old self.new pid (Request.RecvMsg fd n (rights_space (min count rights_limit)) no_msg_flags) error) }
     {
         let request = call::recv_rights(fd, n, count);
-        let reply = self.call_given(pid, request)?;
+        let reply = self.call(pid, &request)?;
         reply.message()
     }
 
@@ -739,7 +721,7 @@ impl<W: BookName> Session<W> {
         ensures refused { IfErr result (λ error. Fails is_ready self.old self.new pid (Request.Poll fd) error) }
     {
         let request = call::poll(fd);
-        let reply = self.call_given(pid, request)?;
+        let reply = self.call(pid, &request)?;
         reply.ready()
     }
 
@@ -754,7 +736,7 @@ impl<W: BookName> Session<W> {
         ensures refused { IfErr result (λ error. Fails is_done self.old self.new pid Request.Exec error) }
     {
         let request = call::exec();
-        let reply = self.call_given(pid, request)?;
+        let reply = self.call(pid, &request)?;
         reply.done()
     }
 }
