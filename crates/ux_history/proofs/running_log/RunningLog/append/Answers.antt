@@ -55,8 +55,8 @@ count-requires-clause-room g c =
     let few = few_entries c.step-done.new.self e c.self.invariant may c.step-done.ensures.step in
     omega (arith, few, c.self.invariant.long)
 
-pub numbers_of-released-requires : goal.numbers_of-released-requires
-numbers_of-released-requires g c = record {
+pub numbers_of-numbers-requires : goal.numbers_of-numbers-requires
+numbers_of-numbers-requires g c = record {
   rising = subst (λ (ns : List ℕ). AllPairs (λ (a b : ℕ). a < b) ns) (ap (map (λ r. r.0)) (sym c.as_slice.ensures.objects))
       (step_releases_rising c.self.inside.kernel c.step-done.new.self c.args.pid.0 c.self.inside.number c.args.request.now c.step-done.result.reply (map (λ r. r.0) c.step-done.new.released) c.step-done.ensures.step);
 }
@@ -68,7 +68,7 @@ counted g c S = entry_of S c.args.pid c.args.k c.args.request.now c.step-done.re
 appended_here : (g : Over) (c : goal.After-count g) → entries_of c.push.new.self ≡ entries_of c.self.inside.past ++ counted g c c.self.inside.kernel ∷ []
 unfolding counted
 appended_here g c =
-    let numbers : c.numbers_of-released.result ≡ map (λ r. r.0) c.step-done.new.released = c.numbers_of-released.ensures ∙ ap (map (λ r. r.0)) c.as_slice.ensures.objects in
+    let numbers : c.numbers_of-numbers.result ≡ map (λ r. r.0) c.step-done.new.released = c.numbers_of-numbers.ensures ∙ ap (map (λ r. r.0)) c.as_slice.ensures.objects in
     c.push.ensures
     ∙ (λ j. entries_of c.self.inside.past ++ record { pid = c.args.pid; k = c.args.k; request = c.args.request.now; reply = c.step-done.result.reply; released = numbers j; delivered = c.step-done.ensures.told j } ∷ [])
 
