@@ -395,7 +395,10 @@ impl<W: BookName, O: FileObject> Book<W, O> {
         }
         let (request, copy) = prepared.into_parts();
         let waits = tried && self.log.waits(share.pid, &request);
-        let Some(number) = self.log.append(share.pid, share.k, request, waits, released) else {
+        let Some(number) = self
+            .log
+            .append(share.pid, share.k, request, waits, released)
+        else {
             drop(copy);
             return Ok(None);
         };

@@ -281,7 +281,10 @@ impl<W: Trailing, O: FileObject> RunningBook<W, O> {
         }
         let number = self.log.entry_count() as usize;
         let waits = tried && self.log.waits(share.pid, request);
-        let Some(reply) = self.log.append(share.pid, share.k, request, waits, released) else {
+        let Some(reply) = self
+            .log
+            .append(share.pid, share.k, request, waits, released)
+        else {
             return Ok(None);
         };
         // The log says that a process which was made has a part.

@@ -12,7 +12,8 @@ use std::alloc::Global;
 use std::sync::Wait;
 use std::sync::ledger::Blank;
 use ux_history::{
-    Account, NoMemory, RunningBook, SettleFault, Spent, Trail, Trailing, Witness, settle_with_witnesses,
+    Account, NoMemory, RunningBook, SettleFault, Spent, Trail, Trailing, Witness,
+    settle_with_witnesses,
 };
 use ux_kernel::Kernel;
 use ux_object::FileObject;
