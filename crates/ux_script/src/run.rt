@@ -57,8 +57,10 @@ pub fn run_serial<O: FileObject, W: Write>(
         Err(CallFault::Stranger) => return Err(ScriptFault::Stranger),
         Err(_) => return Err(ScriptFault::NoMemory),
     };
-    finish_trace(alloc, writer, &entries)?;
-    Ok(entries)
+    match finish_trace(alloc, writer, &entries) {
+        Ok(()) => Ok(entries),
+        Err(fault) => Err(fault),
+    }
 }
 
 /// Writes the trace of a history, and flushes the writer. After a fault a beginning of the trace was written.

@@ -33,15 +33,41 @@ pub(crate) struct Done<W: BookName> {
     pub(crate) stop: Option<Stop>,
 }
 
-/// What all workers of a run share.
+/// The threads that were started, and what was brought back without one.
 #[derive(Drop)]
-struct Shared<'a, R, G> {
-    rt: &'a R,
-    alloc: Global,
-    script: &'a Script,
-    gate: &'a G,
-    /// Set where a thread can't be started: no worker makes a further call then.
-    stop: &'a AtomicBool,
+struct Crew<W: BookName> {
+    threads: Vec<JoinHandle<Done<W>>>,
+    done: Vec<Done<W>>,
+}
+
+impl<W: BookName> Crew<W> {
+    /// Nobody yet, with room for so many.
+    fn new(alloc: Global, count: usize) -> Result<Self, AllocError> {
+        let threads = Vec::with_capacity(alloc, count)?;
+        let done = Vec::with_capacity(alloc, count)?;
+        Ok(Crew { threads, done })
+    }
+
+    /// Takes a thread, or what was brought back where it couldn't be started.
+    fn add(&mut self, started: Result<JoinHandle<Done<W>>, Done<W>>) {
+        match started {
+            Ok(thread) => {
+                let _ = self.threads.push(thread);
+            }
+            Err(done) => {
+                let _ = self.done.push(done);
+            }
+        }
+    }
+
+    /// Waits for all threads, and gives what all brought back.
+    fn join_all<R: Threads + Wait>(self, rt: &R) -> Vec<Done<W>> {
+        let Crew { threads, mut done } = self;
+        for thread in threads {
+            let _ = done.push(thread.join(rt));
+        }
+        done
+    }
 }
 
 /// Starts a thread for each seat but the first, which is that of process 1, makes the lines of process 1 here, with
@@ -59,53 +85,41 @@ pub(crate) fn work_all<
     seats: Vec<Seat<W, O>>,
     gate: &G,
 ) -> Result<Vec<Done<W>>, NoMemory> {
-    let stop = AtomicBool::new(false);
-    let shared = Shared {
-        rt,
-        alloc,
-        script,
-        gate,
-        stop: &stop,
-    };
-    let all = join_scope(&shared, seats);
-    if stop.load(Ordering::SeqCst) {
-        return Err(NoMemory);
-    }
-    all.map_err(|_| NoMemory)
-}
-
-/// As `work_all`, where all threads can be started.
-fn join_scope<W: BookName + Send + Sync, O: FileObject + Send, R: Threads + Wait + Sync, G: Gate>(
-    shared: &Shared<'_, R, G>,
-    seats: Vec<Seat<W, O>>,
-) -> Result<Vec<Done<W>>, AllocError> {
-    thread::scope(
+    let stopped = AtomicBool::new(false);
+    let stop = &stopped;
+    let all = thread::scope(
         thread::scope_env(),
-        shared.rt,
-        move |scope| -> Result<Vec<Done<W>>, AllocError> {
-            let count = shared.script.process_count();
-            let mut threads = Vec::with_capacity(shared.alloc, count)?;
-            let mut done = Vec::with_capacity(shared.alloc, count)?;
+        rt,
+        move |scope| -> Result<Vec<Done<W>>, NoMemory> {
+            let Ok(mut crew) = Crew::new(alloc, script.process_count()) else {
+                return Err(NoMemory);
+            };
             let mut seats = seats.into_iter();
             let first = seats.next();
             for seat in seats {
-                start_work(scope, shared, seat, &mut threads);
+                crew.add(start_work(scope, rt, alloc, script, seat, gate, stop));
             }
             if let Some(seat) = first {
-                done.push(lead(scope, shared, seat, &mut threads))?;
+                let started = Worker::new(alloc, seat);
+                let done = lead(scope, rt, alloc, script, started, gate, stop, &mut crew);
+                crew.add(Err(done));
             }
-            for thread in threads {
-                done.push(thread.join(shared.rt))?;
-            }
-            Ok(done)
+            Ok(crew.join_all(rt))
         },
-    )
+    );
+    if stopped.load(Ordering::SeqCst) {
+        return Err(NoMemory);
+    }
+    all
 }
 
-/// Starts a seat's thread. Where it can't be started, the seat is exited here, and no worker makes a further call.
+/// Starts a seat's thread. Where it can't be started, `stop` is set, and the seat is exited here.
 fn start_work<
     's,
     'a: 's,
+    'b: 's,
+    'c: 's,
+    'd: 's,
     E,
     W: BookName + Send + Sync + 's,
     O: FileObject + Send + 's,
@@ -113,20 +127,18 @@ fn start_work<
     G: Gate,
 >(
     scope: &Scope<'s, E>,
-    shared: &'a Shared<'a, R, G>,
+    rt: &'a R,
+    alloc: Global,
+    script: &'b Script,
     seat: Seat<W, O>,
-    threads: &mut Vec<JoinHandle<Done<W>>>,
-) {
-    if threads.reserve(1).is_err() {
-        shared.stop.store(true, Ordering::SeqCst);
-        let _exited = work(shared, seat);
-        return;
-    }
-    match scope.spawn(move || work(shared, seat)) {
-        Ok(thread) => threads.push_reserved(thread),
+    gate: &'c G,
+    stop: &'d AtomicBool,
+) -> Result<JoinHandle<Done<W>>, Done<W>> {
+    match scope.spawn(move || work(rt, alloc, script, seat, gate, stop)) {
+        Ok(thread) => Ok(thread),
         Err(refused) => {
-            shared.stop.store(true, Ordering::SeqCst);
-            let _exited = (refused.value)();
+            stop.store(true, Ordering::SeqCst);
+            Err((refused.value)())
         }
     }
 }
@@ -135,6 +147,9 @@ fn start_work<
 fn lead<
     's,
     'a: 's,
+    'b: 's,
+    'c: 's,
+    'd: 's,
     E,
     W: BookName + Send + Sync + 's,
     O: FileObject + Send + 's,
@@ -142,30 +157,37 @@ fn lead<
     G: Gate,
 >(
     scope: &Scope<'s, E>,
-    shared: &'a Shared<'a, R, G>,
-    seat: Seat<W, O>,
-    threads: &mut Vec<JoinHandle<Done<W>>>,
+    rt: &'a R,
+    alloc: Global,
+    script: &'b Script,
+    mut worker: Worker<W, O>,
+    gate: &'c G,
+    stop: &'d AtomicBool,
+    crew: &mut Crew<W>,
 ) -> Done<W> {
-    let mut worker = Worker::new(shared.alloc, seat);
-    let mut left = shared.script.lines.as_slice();
-    while let Some((child, more)) = worker.next_child(shared, left) {
-        start_work(scope, shared, child, threads);
+    let mut left = script.lines.as_slice();
+    while let Some((child, more)) = worker.next_child(rt, left, gate, stop) {
+        crew.add(start_work(scope, rt, alloc, script, child, gate, stop));
         left = more;
     }
-    worker.end(shared)
+    worker.end(rt, gate)
 }
 
 /// Makes the seat's lines, and exits it. A fork line is one of process 1 alone, which has no thread of its own.
 fn work<W: BookName, O: FileObject, R: Wait, G: Gate>(
-    shared: &Shared<'_, R, G>,
+    rt: &R,
+    alloc: Global,
+    script: &Script,
     seat: Seat<W, O>,
+    gate: &G,
+    stop: &AtomicBool,
 ) -> Done<W> {
-    let mut worker = Worker::new(shared.alloc, seat);
-    let left = worker.make_calls(shared, &shared.script.lines);
+    let mut worker = Worker::new(alloc, seat);
+    let left = worker.make_calls(rt, &script.lines, gate, stop);
     if !left.is_empty() {
         worker.stopped = Some(Stop::Stranger);
     }
-    worker.end(shared)
+    worker.end(rt, gate)
 }
 
 /// A seat whose lines are made, and the receipts of its calls so far.
@@ -191,14 +213,16 @@ impl<W: BookName, O: FileObject> Worker<W, O> {
     /// that are left.
     fn next_child<'a, R: Wait, G: Gate>(
         &mut self,
-        shared: &Shared<'_, R, G>,
+        rt: &R,
         lines: &'a [Line],
+        gate: &G,
+        stop: &AtomicBool,
     ) -> Option<(Seat<W, O>, &'a [Line])>
         ensures { IfSome result (λ next. length next.1.now < length lines.now) }
     {
-        let left = self.make_calls(shared, lines);
+        let left = self.make_calls(rt, lines, gate, stop);
         let (line, more) = left.split_first()?;
-        match self.fork(shared) {
+        match self.fork(rt, gate) {
             Ok(child) => Some((child, more)),
             Err(fault) => {
                 self.stopped = Some(stop_at(line, fault));
@@ -211,8 +235,10 @@ impl<W: BookName, O: FileObject> Worker<W, O> {
     /// processes. Gives the lines from that fork on, and none where it came to none.
     fn make_calls<'a, R: Wait, G: Gate>(
         &mut self,
-        shared: &Shared<'_, R, G>,
+        rt: &R,
         lines: &'a [Line],
+        gate: &G,
+        stop: &AtomicBool,
     ) -> &'a [Line]
         ensures { length result.now ≤ length lines.now }
     {
@@ -220,7 +246,7 @@ impl<W: BookName, O: FileObject> Worker<W, O> {
         let mut left = lines;
         while let Some((line, more)) = left.split_first() {
             if line.pid == pid {
-                match self.make_line(shared, line) {
+                match self.make_line(rt, line, gate, stop) {
                     Ok(Step::Made) => {}
                     Ok(Step::Fork) => return left,
                     Ok(Step::Last) => return &[],
@@ -238,17 +264,19 @@ impl<W: BookName, O: FileObject> Worker<W, O> {
     /// Makes a call, or waits for another process. A fork and an exit are not made here.
     fn make_line<R: Wait, G: Gate>(
         &mut self,
-        shared: &Shared<'_, R, G>,
+        rt: &R,
         line: &Line,
+        gate: &G,
+        stop: &AtomicBool,
     ) -> Result<Step, Stop> {
-        if shared.stop.load(Ordering::SeqCst) {
+        if stop.load(Ordering::SeqCst) {
             return Err(Stop::NoMemory);
         }
         let made = match &line.act {
-            Act::Wait(other, calls) => self.seat.wait_for(shared.rt, *other, u64::from(*calls)),
+            Act::Wait(other, calls) => self.seat.wait_for(rt, *other, u64::from(*calls)),
             Act::Call(Request::Fork) => return Ok(Step::Fork),
             Act::Call(request) if has_own_call(request) => return Ok(Step::Last),
-            Act::Call(request) => self.call(shared, request),
+            Act::Call(request) => self.call(rt, request, gate),
         };
         match made {
             Ok(()) => Ok(Step::Made),
@@ -259,8 +287,9 @@ impl<W: BookName, O: FileObject> Worker<W, O> {
     /// Makes one call, for whose receipt there is room before.
     fn call<R: Wait, G: Gate>(
         &mut self,
-        shared: &Shared<'_, R, G>,
+        rt: &R,
         request: &Request,
+        gate: &G,
     ) -> Result<(), CallFault>
         requires { has_own_call request.now ≡ false }
     {
@@ -268,9 +297,9 @@ impl<W: BookName, O: FileObject> Worker<W, O> {
             return Err(CallFault::NoMemory);
         }
         let (pid, k) = (self.seat.pid(), self.seat.calls());
-        shared.gate.before(pid, k);
-        let made = self.seat.call_blocking(shared.rt, request);
-        shared.gate.after(pid, k);
+        gate.before(pid, k);
+        let made = self.seat.call_blocking(rt, request);
+        gate.after(pid, k);
         match made {
             Ok((reply, receipt)) => {
                 drop(reply);
@@ -286,17 +315,14 @@ impl<W: BookName, O: FileObject> Worker<W, O> {
     /// # Errors
     ///
     /// Those of `Seat::fork`, and `NoMemory` also where the answer is that no process was made.
-    fn fork<R: Wait, G: Gate>(
-        &mut self,
-        shared: &Shared<'_, R, G>,
-    ) -> Result<Seat<W, O>, CallFault> {
+    fn fork<R: Wait, G: Gate>(&mut self, rt: &R, gate: &G) -> Result<Seat<W, O>, CallFault> {
         if self.receipts.reserve(1).is_err() {
             return Err(CallFault::NoMemory);
         }
         let (pid, k) = (self.seat.pid(), self.seat.calls());
-        shared.gate.before(pid, k);
-        let made = self.seat.fork(shared.rt);
-        shared.gate.after(pid, k);
+        gate.before(pid, k);
+        let made = self.seat.fork(rt);
+        gate.after(pid, k);
         match made {
             Ok((reply, receipt, child)) => {
                 drop(reply);
@@ -308,7 +334,7 @@ impl<W: BookName, O: FileObject> Worker<W, O> {
     }
 
     /// Exits the seat. Where every process waits the history ends there, without exits.
-    fn end<R: Wait, G: Gate>(self, shared: &Shared<'_, R, G>) -> Done<W> {
+    fn end<R: Wait, G: Gate>(self, rt: &R, gate: &G) -> Done<W> {
         let Worker {
             seat,
             receipts,
@@ -316,7 +342,7 @@ impl<W: BookName, O: FileObject> Worker<W, O> {
         } = self;
         let spent = match stopped {
             Some(Stop::Deadlock(..)) => None,
-            _ => exit(shared, seat),
+            _ => exit(rt, seat, gate),
         };
         Done {
             spent,
@@ -338,13 +364,14 @@ enum Step {
 
 /// Exits a seat.
 fn exit<W: BookName, O: FileObject, R: Wait, G: Gate>(
-    shared: &Shared<'_, R, G>,
+    rt: &R,
     seat: Seat<W, O>,
+    gate: &G,
 ) -> Option<Spent<W>> {
     let (pid, k) = (seat.pid(), seat.calls());
-    shared.gate.before(pid, k);
-    let spent = seat.exit(shared.rt).ok();
-    shared.gate.after(pid, k);
+    gate.before(pid, k);
+    let spent = seat.exit(rt).ok();
+    gate.after(pid, k);
     spent
 }
 
