@@ -164,7 +164,11 @@ fn a_kernel_goes_with_its_open_objects(rt: HostRuntime) -> Result<(), Fail> {
     let alloc = rt.alloc();
     let watch = Watch::new(0);
     let mut kernel = watched_kernel(alloc, &[b"a", b"b"], &[USER], &watch)?;
-    let request = open(alloc, b"b")?;
+    let request = Request::Open {
+        path: Name::from_slice(alloc, b"b")?,
+        mode: Mode::Both,
+        flags: OpenFlags(0),
+    };
     let mut released = ReleasedObjects::new(alloc)?;
     assert!(rt; kernel.is_live(Pid(1)));
     let done = kernel.step(Pid(1), 0, &request, &mut released);
