@@ -19,8 +19,7 @@ use ux_kernel::Kernel;
 use ux_layer::{Layer, Seat, start};
 use ux_object::{FileObject, ObjError, ObjKind};
 use ux_objects::Counter;
-use ux_state::ReleasedObjects;
-use ux_types::{Bytes, Fd, Mode, Name, OpenFlags, Pid, ProcSpec, Reply, Request};
+use ux_types::{Bytes, Fd, Mode, Name, OpenFlags, ProcSpec, Reply, Request};
 
 /// How often a thread looks for what another is to do, before it gives up.
 const PATIENCE: u32 = 1_000_000;
@@ -157,26 +156,6 @@ fn watched_kernel<'a>(
         Ok(kernel) => Ok(kernel),
         Err(_) => Err(Fail::from("no kernel")),
     }
-}
-
-#[test]
-fn a_kernel_goes_with_its_open_objects(rt: HostRuntime) -> Result<(), Fail> {
-    let alloc = rt.alloc();
-    let watch = Watch::new(0);
-    let mut kernel = watched_kernel(alloc, &[b"a", b"b"], &[USER], &watch)?;
-    let request = Request::Open {
-        path: Name::from_slice(alloc, b"b")?,
-        mode: Mode::Both,
-        flags: OpenFlags(0),
-    };
-    let mut released = ReleasedObjects::new(alloc)?;
-    assert!(rt; kernel.is_live(Pid(1)));
-    let done = kernel.step(Pid(1), 0, &request, &mut released);
-    assert_eq!(rt; done.reply, Reply::Fd(Fd(0)));
-    assert_eq!(rt; watch.begun.load(Ordering::SeqCst), 0);
-    drop(kernel);
-    assert_eq!(rt; watch.begun.load(Ordering::SeqCst), 2);
-    Ok(())
 }
 
 #[test]
