@@ -1,12 +1,11 @@
 -- Moves of sockets by which others connect: a name given, listening, a connection, an accept.
-use Rattle.std.proofs.Common.{◌≡◌, ℕ, zero, suc, ◌+◌, ◌<◌, ◌==◌, Bool, true, false, cond, List, [], ◌∷◌, ◌++◌, length, Option, Some, None, is_some, option_map, option_and_then, refl, ap, sym, ◌∙◌, arith}
+use Rattle.std.proofs.Common.{◌≡◌, ℕ, ◌+◌, ◌<◌, ◌==◌, Bool, true, false, cond, List, [], ◌∷◌, ◌++◌, length, Option, Some, None, is_some, option_map, option_and_then, refl, ap, sym, ◌∙◌, arith}
 use Rattle.std.specs.Prelude.{IsSome, IsSomeAnd, is_none, slice_get, sum_by}
 use Rattle.std.proofs.lemmas.Bool.{eq-eqb, ne_eqb}
 use Rattle.std.proofs.lemmas.List.{length_push}
 use Rattle.std.proofs.lemmas.List.Sums.{sum_by-set, sum_by_push}
 use Rattle.ux_model.specs.Types.{Name, Addr, Cred, Mode, OpenFlags}
-use Rattle.ux_model.specs.Limits.{autobind_names}
-use Rattle.ux_model.specs.Names.{PathTarget, bound, named, is_unnamed_addr, autobind_name, lowest_from, free_name}
+use Rattle.ux_model.specs.Names.{PathTarget, bound, named, is_unnamed_addr, autobind_name, IsFreeName, free_name}
 use Rattle.ux_model.specs.Places.{place, changed_place}
 use Rattle.ux_model.specs.Object.{View}
 use Rattle.ux_model.specs.Socket.{Socket, Phase, idle, listening, connected, associated, peer_of, pending_ends, awaiting, phase_with_pending}
@@ -23,6 +22,7 @@ use Rattle.ux_model.specs.Binding.{with_name}
 use Rattle.ux_model.specs.Connecting.{Listener, listener_of, with_listening, server_end, no_open_flags, tied, with_connection}
 use Rattle.ux_model.specs.Accepting.{accepted_with, as_accepted, without_first_end}
 use Rattle.ux_model.proofs.ChangedPlaces.{place-changed, length-changed, sum_by-changed}
+use Rattle.ux_model.proofs.LeastNames.{free_name_is_least}
 use Rattle.ux_model.proofs.Flying.{flying_at-changed, flying_changed}
 use Rattle.ux_model.proofs.Making.{place-push, paired-tied}
 use Rattle.ux_model.proofs.OneGoes.{paired-changed}
@@ -53,31 +53,19 @@ not_some (Some x) h = absurd (h refl)
 
 -- ---- names
 
-lowest_passes : (test : ℕ → Bool) (n k m : ℕ) → lowest_from test n k ≡ Some m → test m ≡ true
-lowest_passes test n zero m e = absurd (cc e)
-lowest_passes test n (suc k) m e = go (test n) refl e (lowest_passes test (suc n) k m)
-  where
-    go : (b : Bool) → test n ≡ b → (elim b as (λ _. Option ℕ) [ true ↦ Some n | false ↦ lowest_from test (suc n) k ]) ≡ Some m → (lowest_from test (suc n) k ≡ Some m → test m ≡ true) → test m ≡ true
-    go true h f later = let same : n ≡ m = cc f in ap test (sym same) ∙ h
-    go false h f later = later f
-
 -- the name that autobind gives isn't there
 pub free_unnamed : (names : List (Name × ℕ)) (name : Name) → free_name names ≡ Some name → named name names ≡ None
-unfolding free_name
-free_unnamed names name e = go (lowest_from test 0 autobind_names) refl e
+free_unnamed names name e = go (free_name names) (free_name_is_least names) e
   where
-    test : ℕ → Bool
-    test n = is_none (named (autobind_name n) names)
-
     none : (o : Option ℕ) → is_none o ≡ true → o ≡ None
     none None h = refl
     none (Some x) h = absurd (cc h)
 
-    go : (o : Option ℕ) → lowest_from test 0 autobind_names ≡ o → option_map autobind_name o ≡ Some name → named name names ≡ None
-    go None h f = absurd (cc f)
-    go (Some m) h f =
-        let same : autobind_name m ≡ name = cc f in
-        ap (λ n. named n names) (sym same) ∙ none (named (autobind_name m) names) (lowest_passes test 0 autobind_names m h)
+    go : (free : Option Name) → IsFreeName names free → free ≡ Some name → named name names ≡ None
+    go None least h = absurd (cc h)
+    go (Some found) least h =
+        let same : autobind_name least.0 ≡ name = cc (h, least.2) in
+        none (named name names) (ap (λ n. is_none (named n names)) (sym same) ∙ least.3)
 
 unnamed : (x : Option Description) (s : Socket) → socket_in x ≡ Some s → is_unnamed_addr s.name ≡ true → name_in x ≡ None
 unnamed None s e none = absurd (cc e)

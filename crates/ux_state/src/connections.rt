@@ -53,9 +53,7 @@ impl<O: FileObject> State<O> {
         ensures err { OnErr result (self.new ≡ self.old) }
     {
         let (end, listener_cred) = self.new_end(client, listener, cred)?;
-        if self.descriptions.reserve(1).is_err() {
-            return Err(PushError::NoMemory);
-        }
+        self.descriptions.reserve(1)?;
         let id = self.descriptions.next_id();
         push_pending(&mut self.descriptions, listener, id)?;
         let _id = self.descriptions.insert_reserved(end);
@@ -164,10 +162,8 @@ impl<O: FileObject> State<O> {
             return Err(PushError::Full);
         }
         let alloc = *self.processes.allocator();
-        match socket.server_end(alloc, client, cred) {
-            Ok(end) => Ok((Description::of_socket(OpenFlags(0), end), listener_cred)),
-            Err(_) => Err(PushError::NoMemory),
-        }
+        let end = socket.server_end(alloc, client, cred)?;
+        Ok((Description::of_socket(OpenFlags(0), end), listener_cred))
     }
 
     /// An accept has taken an end, and sets these flags.

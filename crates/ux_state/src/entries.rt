@@ -90,14 +90,10 @@ impl<O: FileObject> State<O> {
         if self.table(pid).lowest_free().is_none() {
             return Err(InstallError::Full);
         }
-        if self.descriptions.reserve(1).is_err() {
-            return Err(InstallError::NoMemory);
-        }
+        self.descriptions.reserve(1)?;
         let id = self.descriptions.next_id();
         let process = process_mut(&mut self.processes, pid);
-        let Ok(fd) = process.table.install(new_entry(flags, id)) else {
-            return Err(InstallError::NoMemory);
-        };
+        let fd = process.table.install(new_entry(flags, id))?;
         count_in(&mut self.openings, &description);
         let _id = self.descriptions.insert_reserved(description);
         Ok(fd)
@@ -127,17 +123,13 @@ impl<O: FileObject> State<O> {
         if self.table(pid).two_lowest_free().is_none() {
             return Err(InstallError::Full);
         }
-        if self.descriptions.reserve(2).is_err() {
-            return Err(InstallError::NoMemory);
-        }
+        self.descriptions.reserve(2)?;
         let alloc = *self.processes.allocator();
         let first = self.descriptions.next_id();
         let second = DescriptionId::new(first.number() + 1);
         let process = process_mut(&mut self.processes, pid);
         let entries = (new_entry(flags, first), new_entry(flags, second));
-        let Ok(two) = process.table.install_two(entries.0, entries.1) else {
-            return Err(InstallError::NoMemory);
-        };
+        let two = process.table.install_two(entries.0, entries.1)?;
         let _first = self
             .descriptions
             .insert_reserved(pair_end(alloc, kind, flags, second, cred));
