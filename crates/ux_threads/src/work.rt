@@ -33,42 +33,24 @@ pub(crate) struct Done<W: BookName> {
     pub(crate) stop: Option<Stop>,
 }
 
-/// The threads that were started, and what was brought back without one.
-#[derive(Drop)]
-struct Crew<W: BookName> {
-    threads: Vec<JoinHandle<Done<W>>>,
-    done: Vec<Done<W>>,
+/// What all workers of a run share.
+struct Shared<'a, R, G> {
+    rt: &'a R,
+    alloc: Global,
+    script: &'a Script,
+    gate: &'a G,
+    /// Set where a thread can't be started: no worker makes a further call then.
+    stop: &'a AtomicBool,
 }
 
-impl<W: BookName> Crew<W> {
-    /// Nobody yet, with room for so many.
-    fn new(alloc: Global, count: usize) -> Result<Self, AllocError> {
-        let threads = Vec::with_capacity(alloc, count)?;
-        let done = Vec::with_capacity(alloc, count)?;
-        Ok(Crew { threads, done })
-    }
-
-    /// Takes a thread, or what was brought back where it couldn't be started.
-    fn add(&mut self, started: Result<JoinHandle<Done<W>>, Done<W>>) {
-        match started {
-            Ok(thread) => {
-                let _ = self.threads.push(thread);
-            }
-            Err(done) => {
-                let _ = self.done.push(done);
-            }
-        }
-    }
-
-    /// Waits for all threads, and gives what all brought back.
-    fn join_all<R: Threads + Wait>(self, rt: &R) -> Vec<Done<W>> {
-        let Crew { threads, mut done } = self;
-        for thread in threads {
-            let _ = done.push(thread.join(rt));
-        }
-        done
+impl<R, G> Clone for Shared<'_, R, G> {
+    fn clone(&self) -> Result<Self, AllocError> {
+        Ok(*self)
     }
 }
+
+// Not derived, since it asks nothing of `R` and `G`.
+impl<R, G> Copy for Shared<'_, R, G> {}
 
 /// Starts a thread for each seat but the first, which is that of process 1, makes the lines of process 1 here, with
 /// a thread for each child that it forks, and joins them all. There is room for all processes of the script before
@@ -85,41 +67,53 @@ pub(crate) fn work_all<
     seats: Vec<Seat<W, O>>,
     gate: &G,
 ) -> Result<Vec<Done<W>>, NoMemory> {
-    let stopped = AtomicBool::new(false);
-    let stop = &stopped;
-    let all = thread::scope(
-        thread::scope_env(),
+    let stop = AtomicBool::new(false);
+    let shared = Shared {
         rt,
-        move |scope| -> Result<Vec<Done<W>>, NoMemory> {
-            let Ok(mut crew) = Crew::new(alloc, script.process_count()) else {
-                return Err(NoMemory);
-            };
+        alloc,
+        script,
+        gate,
+        stop: &stop,
+    };
+    let all = join_scope(shared, seats);
+    if stop.load(Ordering::SeqCst) {
+        return Err(NoMemory);
+    }
+    all.map_err(|_| NoMemory)
+}
+
+/// As `work_all`, where all threads can be started.
+fn join_scope<W: BookName + Send + Sync, O: FileObject + Send, R: Threads + Wait + Sync, G: Gate>(
+    shared: Shared<'_, R, G>,
+    seats: Vec<Seat<W, O>>,
+) -> Result<Vec<Done<W>>, AllocError> {
+    thread::scope(
+        thread::scope_env(),
+        shared.rt,
+        move |scope| -> Result<Vec<Done<W>>, AllocError> {
+            let count = shared.script.process_count();
+            let mut threads = Vec::with_capacity(shared.alloc, count)?;
+            let mut done = Vec::with_capacity(shared.alloc, count)?;
             let mut seats = seats.into_iter();
             let first = seats.next();
             for seat in seats {
-                crew.add(start_work(scope, rt, alloc, script, seat, gate, stop));
+                start_work(scope, shared, seat, &mut threads);
             }
             if let Some(seat) = first {
-                let started = Worker::new(alloc, seat);
-                let done = lead(scope, rt, alloc, script, started, gate, stop, &mut crew);
-                crew.add(Err(done));
+                done.push(lead(scope, shared, seat, &mut threads))?;
             }
-            Ok(crew.join_all(rt))
+            for thread in threads {
+                done.push(thread.join(shared.rt))?;
+            }
+            Ok(done)
         },
-    );
-    if stopped.load(Ordering::SeqCst) {
-        return Err(NoMemory);
-    }
-    all
+    )
 }
 
-/// Starts a seat's thread. Where it can't be started, `stop` is set, and the seat is exited here.
+/// Starts a seat's thread. Where it can't be started, the seat is exited here, and no worker makes a further call.
 fn start_work<
     's,
     'a: 's,
-    'b: 's,
-    'c: 's,
-    'd: 's,
     E,
     W: BookName + Send + Sync + 's,
     O: FileObject + Send + 's,
@@ -127,18 +121,20 @@ fn start_work<
     G: Gate,
 >(
     scope: &Scope<'s, E>,
-    rt: &'a R,
-    alloc: Global,
-    script: &'b Script,
+    shared: Shared<'a, R, G>,
     seat: Seat<W, O>,
-    gate: &'c G,
-    stop: &'d AtomicBool,
-) -> Result<JoinHandle<Done<W>>, Done<W>> {
-    match scope.spawn(move || work(rt, alloc, script, seat, gate, stop)) {
-        Ok(thread) => Ok(thread),
+    threads: &mut Vec<JoinHandle<Done<W>>>,
+) {
+    if threads.reserve(1).is_err() {
+        shared.stop.store(true, Ordering::SeqCst);
+        let _exited = work(shared, seat);
+        return;
+    }
+    match scope.spawn(move || work(shared, seat)) {
+        Ok(thread) => threads.push_reserved(thread),
         Err(refused) => {
-            stop.store(true, Ordering::SeqCst);
-            Err((refused.value)())
+            shared.stop.store(true, Ordering::SeqCst);
+            let _exited = (refused.value)();
         }
     }
 }
@@ -147,9 +143,6 @@ fn start_work<
 fn lead<
     's,
     'a: 's,
-    'b: 's,
-    'c: 's,
-    'd: 's,
     E,
     W: BookName + Send + Sync + 's,
     O: FileObject + Send + 's,
@@ -157,37 +150,30 @@ fn lead<
     G: Gate,
 >(
     scope: &Scope<'s, E>,
-    rt: &'a R,
-    alloc: Global,
-    script: &'b Script,
-    mut worker: Worker<W, O>,
-    gate: &'c G,
-    stop: &'d AtomicBool,
-    crew: &mut Crew<W>,
+    shared: Shared<'a, R, G>,
+    seat: Seat<W, O>,
+    threads: &mut Vec<JoinHandle<Done<W>>>,
 ) -> Done<W> {
-    let mut left = script.lines.as_slice();
-    while let Some((child, more)) = worker.next_child(rt, left, gate, stop) {
-        crew.add(start_work(scope, rt, alloc, script, child, gate, stop));
+    let mut worker = Worker::new(shared.alloc, seat);
+    let mut left = shared.script.lines.as_slice();
+    while let Some((child, more)) = worker.next_child(shared, left) {
+        start_work(scope, shared, child, threads);
         left = more;
     }
-    worker.end(rt, gate)
+    worker.end(shared)
 }
 
 /// Makes the seat's lines, and exits it. A fork line is one of process 1 alone, which has no thread of its own.
 fn work<W: BookName, O: FileObject, R: Wait, G: Gate>(
-    rt: &R,
-    alloc: Global,
-    script: &Script,
+    shared: Shared<'_, R, G>,
     seat: Seat<W, O>,
-    gate: &G,
-    stop: &AtomicBool,
 ) -> Done<W> {
-    let mut worker = Worker::new(alloc, seat);
-    let left = worker.make_calls(rt, &script.lines, gate, stop);
+    let mut worker = Worker::new(shared.alloc, seat);
+    let left = worker.make_calls(shared, &shared.script.lines);
     if !left.is_empty() {
         worker.stopped = Some(Stop::Stranger);
     }
-    worker.end(rt, gate)
+    worker.end(shared)
 }
 
 /// A seat whose lines are made, and the receipts of its calls so far.
@@ -213,16 +199,14 @@ impl<W: BookName, O: FileObject> Worker<W, O> {
     /// that are left.
     fn next_child<'a, R: Wait, G: Gate>(
         &mut self,
-        rt: &R,
+        shared: Shared<'_, R, G>,
         lines: &'a [Line],
-        gate: &G,
-        stop: &AtomicBool,
     ) -> Option<(Seat<W, O>, &'a [Line])>
         ensures { IfSome result (λ next. length next.1.now < length lines.now) }
     {
-        let left = self.make_calls(rt, lines, gate, stop);
+        let left = self.make_calls(shared, lines);
         let (line, more) = left.split_first()?;
-        match self.fork(rt, gate) {
+        match self.fork(shared) {
             Ok(child) => Some((child, more)),
             Err(fault) => {
                 self.stopped = Some(stop_at(line, fault));
@@ -235,10 +219,8 @@ impl<W: BookName, O: FileObject> Worker<W, O> {
     /// processes. Gives the lines from that fork on, and none where it came to none.
     fn make_calls<'a, R: Wait, G: Gate>(
         &mut self,
-        rt: &R,
+        shared: Shared<'_, R, G>,
         lines: &'a [Line],
-        gate: &G,
-        stop: &AtomicBool,
     ) -> &'a [Line]
         ensures { length result.now ≤ length lines.now }
     {
@@ -246,7 +228,7 @@ impl<W: BookName, O: FileObject> Worker<W, O> {
         let mut left = lines;
         while let Some((line, more)) = left.split_first() {
             if line.pid == pid {
-                match self.make_line(rt, line, gate, stop) {
+                match self.make_line(shared, line) {
                     Ok(Step::Made) => {}
                     Ok(Step::Fork) => return left,
                     Ok(Step::Last) => return &[],
@@ -264,19 +246,17 @@ impl<W: BookName, O: FileObject> Worker<W, O> {
     /// Makes a call, or waits for another process. A fork and an exit are not made here.
     fn make_line<R: Wait, G: Gate>(
         &mut self,
-        rt: &R,
+        shared: Shared<'_, R, G>,
         line: &Line,
-        gate: &G,
-        stop: &AtomicBool,
     ) -> Result<Step, Stop> {
-        if stop.load(Ordering::SeqCst) {
+        if shared.stop.load(Ordering::SeqCst) {
             return Err(Stop::NoMemory);
         }
         let made = match &line.act {
-            Act::Wait(other, calls) => self.seat.wait_for(rt, *other, u64::from(*calls)),
+            Act::Wait(other, calls) => self.seat.wait_for(shared.rt, *other, u64::from(*calls)),
             Act::Call(Request::Fork) => return Ok(Step::Fork),
             Act::Call(request) if has_own_call(request) => return Ok(Step::Last),
-            Act::Call(request) => self.call(rt, request, gate),
+            Act::Call(request) => self.call(shared, request),
         };
         match made {
             Ok(()) => Ok(Step::Made),
@@ -287,19 +267,16 @@ impl<W: BookName, O: FileObject> Worker<W, O> {
     /// Makes one call, for whose receipt there is room before.
     fn call<R: Wait, G: Gate>(
         &mut self,
-        rt: &R,
+        shared: Shared<'_, R, G>,
         request: &Request,
-        gate: &G,
     ) -> Result<(), CallFault>
         requires { has_own_call request.now ≡ false }
     {
-        if self.receipts.reserve(1).is_err() {
-            return Err(CallFault::NoMemory);
-        }
+        self.receipts.reserve(1)?;
         let (pid, k) = (self.seat.pid(), self.seat.calls());
-        gate.before(pid, k);
-        let made = self.seat.call_blocking(rt, request);
-        gate.after(pid, k);
+        shared.gate.before(pid, k);
+        let made = self.seat.call_blocking(shared.rt, request);
+        shared.gate.after(pid, k);
         match made {
             Ok((reply, receipt)) => {
                 drop(reply);
@@ -315,14 +292,15 @@ impl<W: BookName, O: FileObject> Worker<W, O> {
     /// # Errors
     ///
     /// Those of `Seat::fork`, and `NoMemory` also where the answer is that no process was made.
-    fn fork<R: Wait, G: Gate>(&mut self, rt: &R, gate: &G) -> Result<Seat<W, O>, CallFault> {
-        if self.receipts.reserve(1).is_err() {
-            return Err(CallFault::NoMemory);
-        }
+    fn fork<R: Wait, G: Gate>(
+        &mut self,
+        shared: Shared<'_, R, G>,
+    ) -> Result<Seat<W, O>, CallFault> {
+        self.receipts.reserve(1)?;
         let (pid, k) = (self.seat.pid(), self.seat.calls());
-        gate.before(pid, k);
-        let made = self.seat.fork(rt);
-        gate.after(pid, k);
+        shared.gate.before(pid, k);
+        let made = self.seat.fork(shared.rt);
+        shared.gate.after(pid, k);
         match made {
             Ok((reply, receipt, child)) => {
                 drop(reply);
@@ -334,7 +312,7 @@ impl<W: BookName, O: FileObject> Worker<W, O> {
     }
 
     /// Exits the seat. Where every process waits the history ends there, without exits.
-    fn end<R: Wait, G: Gate>(self, rt: &R, gate: &G) -> Done<W> {
+    fn end<R: Wait, G: Gate>(self, shared: Shared<'_, R, G>) -> Done<W> {
         let Worker {
             seat,
             receipts,
@@ -342,7 +320,7 @@ impl<W: BookName, O: FileObject> Worker<W, O> {
         } = self;
         let spent = match stopped {
             Some(Stop::Deadlock(..)) => None,
-            _ => exit(rt, seat, gate),
+            _ => exit(shared, seat),
         };
         Done {
             spent,
@@ -364,14 +342,13 @@ enum Step {
 
 /// Exits a seat.
 fn exit<W: BookName, O: FileObject, R: Wait, G: Gate>(
-    rt: &R,
+    shared: Shared<'_, R, G>,
     seat: Seat<W, O>,
-    gate: &G,
 ) -> Option<Spent<W>> {
     let (pid, k) = (seat.pid(), seat.calls());
-    gate.before(pid, k);
-    let spent = seat.exit(rt).ok();
-    gate.after(pid, k);
+    shared.gate.before(pid, k);
+    let spent = seat.exit(shared.rt).ok();
+    shared.gate.after(pid, k);
     spent
 }
 
