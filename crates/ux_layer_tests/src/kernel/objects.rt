@@ -39,15 +39,3 @@ fn an_object_without_a_path_is_handed_out(rt: HostRuntime) -> Result<(), AllocEr
     assert!(rt; k.released.len() == 1);
     Ok(())
 }
-
-/// A file object that is open.
-const OPENED: &[Row] = &[(1, Asked::Open(b"b"), Told::Fd(0))];
-
-#[test]
-fn a_kernel_goes_with_its_open_objects(rt: HostRuntime) -> Result<(), AllocError> {
-    let alloc = rt.alloc();
-    let mut machine = with_counters(alloc, &[b"a", b"b"])?;
-    expect_rows(&rt, alloc, &mut machine, OPENED)?;
-    drop(machine);
-    Ok(())
-}

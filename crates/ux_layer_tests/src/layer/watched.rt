@@ -159,6 +159,52 @@ fn watched_kernel<'a>(
 }
 
 #[test]
+fn a_kernel_goes_with_its_open_objects(rt: HostRuntime) -> Result<(), Fail> {
+    let alloc = rt.alloc();
+    let watch = Watch::new(0);
+    let kernel = watched_kernel(alloc, &[b"a", b"b"], &[USER], &watch)?;
+    abandon::<Brand, _>(&rt, alloc, Blank::new(PARTS), kernel, &watch)
+}
+
+fn abandon<'a, W: BookName + Send + Sync, R: Threads + Wait + Abort + Sync>(
+    rt: &R,
+    alloc: Global,
+    blank: Blank,
+    kernel: Kernel<Watched<'a>>,
+    watch: &'a Watch,
+) -> Result<(), Fail>
+    requires name { blank.name ≡ W.name }
+    requires parts { (blank.parts ≡ W.parts) × (blank.parts ≡ 1024) }
+    requires boots { IsBootState kernel }
+    requires named { kernel ≡ W.boot }
+{
+    let Ok((layer, mut seats)) = start::<W, Watched<'a>, R>(rt, alloc, blank, kernel) else {
+        return Err(Fail::from("no layer"));
+    };
+    let seat = seats.pop().ok_or("no seat")?;
+    let left = leave_open(rt, alloc, layer, seat, watch);
+    assert!(rt; left.is_ok());
+    assert_eq!(rt; watch.begun.load(Ordering::SeqCst), 2);
+    Ok(())
+}
+
+/// Opens an object, and drops its seat and the layer while nothing was dropped yet.
+fn leave_open<W: BookName, R: Wait>(
+    rt: &R,
+    alloc: Global,
+    layer: Layer<W, Watched<'_>>,
+    seat: Seat<W, Watched<'_>>,
+    watch: &Watch,
+) -> Result<(), Trouble> {
+    let mut worker = Worker::new(alloc, seat);
+    worker.expect_reply(rt, open(alloc, b"b")?, Reply::Fd(Fd(0)))?;
+    drop(worker);
+    let kept = watch.begun.load(Ordering::SeqCst) == 0;
+    drop(layer);
+    if kept { Ok(()) } else { Err(Trouble::Wrong) }
+}
+
+#[test]
 fn objects_are_dropped_outside_the_lock(rt: HostRuntime) -> Result<(), Fail> {
     let alloc = rt.alloc();
     let watch = Watch::new(PATIENCE);
