@@ -15,7 +15,8 @@ pub record Kept : Type 0 where
 abbrev pub last_entries : State → List Entry → ℕ
 last_entries S entries = live_count S + (1 - ends_of entries)
 
--- The entries are a legal history that leads to the kernel's state, those of each process that is ever made are counted, and those of none, which are the layer's end, once at most, and there is room for the last ones.
+-- The entries are a legal history that leads to the kernel's state, and there is room for the last ones.
+-- Those of each process that is ever made are counted, and those of number 0, which are the layer's end, of which there is one at most.
 pub record IsLog (boot : State) (entries : List Entry) (kernel : State) (calls : List ℕ) (capacity : ℕ) : Type 0 where
   pub legal : IsLegal boot entries
   pub at_replay : kernel ≡ replay boot entries

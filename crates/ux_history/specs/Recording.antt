@@ -11,7 +11,8 @@ use Rattle.ux_history.specs.Shares.{Caller, knows, once_more, call_by}
 use Rattle.ux_history.specs.Receipts.{Slip, next_slip}
 use Rattle.ux_history.specs.Faults.{is_stranger}
 
--- The caller, a live process with so many calls before, made this one and got this reply: that is one more entry of the book, for which the slip is, and these file objects went with it. Where the call was tried, it isn't one that should have waited.
+-- The caller, a live process with so many calls before, made this one and got this reply: one more entry of the book, for which the slip is.
+-- These file objects went with it. A call that was tried isn't one that should have waited.
 pub record IsMade (old new : KeptHistory) (before after : Caller) (request : Request) (reply : Reply) (tried : Bool) (slip : Slip) (released : List (ℕ × Option View)) : Type 0 where
   pub known : knows old before ≡ true
   pub entry : Adds old new (call_by old before request reply (map (λ o. o.0) released))

@@ -6,7 +6,8 @@ use Rattle.ux_model.specs.History.{replay, IsLegal}
 use Rattle.ux_history.specs.Books.{ends_of}
 use Rattle.ux_history.specs.Shares.{Caller, once_each, all_counted}
 
--- Some legal history from this state has so many entries, of each of the callers as many as it counted, and the layer's end or not, and each process that was made is once among the callers.
+-- Some legal history from this state has so many entries, of each caller as many as it counted, and the layer's end or not.
+-- Each process that was made is once among the callers.
 pub record IsSettled (boot : State) (cs : List Caller) (count : ℕ) (ended : Bool) : Type 0 where
   pub entries : List Entry
   pub legal : IsLegal boot entries

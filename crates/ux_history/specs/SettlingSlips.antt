@@ -12,7 +12,8 @@ use Rattle.ux_history.specs.Receipts.{Slip, call_of}
 abbrev pub AllStand : List Entry → List Slip → Type 0
 AllStand entries slips = (i : ℕ) (s : Slip) → slice_get slips i ≡ Some s → slice_get (map call_of entries) s.number ≡ Some s.call
 
--- One legal history from this state has so many entries, of each of the callers as many as it counted, the end of the layer or not, and each slip's call at its number, and each process that was made is once among the callers.
+-- One legal history from this state has so many entries, of each caller as many as it counted, and the layer's end or not.
+-- Each process that was made is once among the callers, and each slip's call stands in the history at its number.
 pub record IsSettledWith (boot : State) (cs : List Caller) (slips : List Slip) (count : ℕ) (ended : Bool) : Type 0 where
   pub entries : List Entry
   pub legal : IsLegal boot entries

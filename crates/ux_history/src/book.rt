@@ -352,9 +352,7 @@ impl<W: BookName, O: FileObject> Book<W, O> {
         if !self.knows(share) {
             return Err(CallFault::Stranger);
         }
-        let Ok((prepared, room)) = copy_for_call(self.log.allocator(), request) else {
-            return Err(CallFault::NoMemory);
-        };
+        let (prepared, room) = copy_for_call(self.log.allocator(), request)?;
         match self.make(share, prepared, tried, released) {
             Ok(Some((receipt, child))) => {
                 let reply = room.copy(receipt.reply());

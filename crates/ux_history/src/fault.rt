@@ -1,4 +1,8 @@
 //! Why something was refused.
+ghost use Rattle.std.specs.Prelude.{◌≡◌};
+ghost use Rattle.ux_history.specs.declared.fault.CallFault.{CallFault};
+
+use std::alloc::AllocError;
 use thiserror::Error;
 
 /// An allocation was refused.
@@ -21,6 +25,14 @@ pub enum CallFault {
     /// Every process that hasn't exited waits, so nobody is left to wake one.
     #[error("deadlock")]
     Deadlock,
+}
+
+impl From<AllocError> for CallFault {
+    ghost from_gives = { λ _ error. error ≡ CallFault.NoMemory };
+
+    fn from(_error: AllocError) -> CallFault {
+        CallFault::NoMemory
+    }
 }
 
 /// Why the layer can't be ended.

@@ -57,7 +57,7 @@ impl Call {
     }
 }
 
-/// Whether they are the same, as `==` says, whose own contract goes by kinds.
+/// Whether two requests are equal: `==`, with a contract that speaks of whole requests.
 #[tactic(auto, using(crate::proofs::SameRequests::same_request))]
 pub fn is_same_request(one: &Request, other: &Request) -> bool
     ensures { IsTrue result ↔ (one.now ≡ other.now) }
@@ -65,7 +65,7 @@ pub fn is_same_request(one: &Request, other: &Request) -> bool
     one == other
 }
 
-/// Whether they are the same.
+/// Whether two replies are equal.
 fn is_same_reply(one: &Reply, other: &Reply) -> bool
     ensures { IsTrue result ↔ (one.now ≡ other.now) }
 {

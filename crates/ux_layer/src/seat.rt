@@ -222,9 +222,7 @@ impl<W: BookName, O: FileObject, B: CallBook<W, O>> Seat<W, O, B> {
             shared,
             released,
         } = self;
-        let Ok(list) = ReleasedObjects::new(shared.alloc) else {
-            return Err(CallFault::NoMemory);
-        };
+        let list = ReleasedObjects::new(shared.alloc)?;
         let owner = another(rt, shared);
         let mut guard = shared.desk.lock(rt);
         let desk = desk_of(rt, &mut *guard);

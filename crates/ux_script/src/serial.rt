@@ -153,9 +153,7 @@ impl<W: BookName, O: FileObject> Serial<W, O> {
         ensures made { OnOk result (processes self.new ≡ processes self.old + 1) }
         ensures stranger { IfErr result (λ f. f ≡ CallFault.Stranger → is_live (state_of self.old) pid.0 ≡ false) }
     {
-        if self.shares.push(None).is_err() {
-            return Err(CallFault::NoMemory);
-        }
+        self.shares.push(None)?;
         let Some(mut share) = take(&mut self.shares, pid) else {
             return Err(CallFault::Stranger);
         };
