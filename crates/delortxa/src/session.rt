@@ -135,6 +135,24 @@ impl<W: BookName> Session<W> {
         ensures fault { IfErr result (IsFault self.old pid) }
         ensures same { OnErr result (self.new ≡ self.old) }
     {
+        if !self.is_live(pid) {
+            return Err(CallFault::Stranger);
+        }
+        let request = request.clone()?;
+        self.call_given(pid, request)
+    }
+
+    /// As `call`, but it takes the request, so nothing is copied.
+    ///
+    /// # Errors
+    ///
+    /// Those of `call`.
+    pub fn call_given(&mut self, pid: Pid, request: Request) -> Result<Reply, CallFault>
+        requires own_call { has_own_call request ≡ false }
+        ensures made { IfOk result (λ reply. Answers self.old self.new pid request reply) }
+        ensures fault { IfErr result (IsFault self.old pid) }
+        ensures same { OnErr result (self.new ≡ self.old) }
+    {
         let Some(place) = pid.0.checked_sub(1) else {
             return Err(CallFault::Stranger);
         };
@@ -148,8 +166,10 @@ impl<W: BookName> Session<W> {
             return Err(CallFault::Stranger);
         };
         released.clear();
-        let recorded = book.record(share, request, released)?;
-        Ok(recorded.reply)
+        match book.record_given(share, request, released) {
+            Ok(receipt) => Ok(receipt.into_reply()),
+            Err((fault, _request)) => Err(fault),
+        }
     }
 
     /// fork(2): the number of the new process, which is a copy of this one.
@@ -242,7 +262,7 @@ impl<W: BookName> Session<W> {
         ensures refused { IfErr result (λ error. Fails is_fd self.old self.new pid (Request.Open path.now mode no_open_flags) error) }
     {
         let request = call::open(self.alloc, path, mode)?;
-        let reply = self.call(pid, &request)?;
+        let reply = self.call_given(pid, request)?;
         reply.fd()
     }
 
@@ -263,7 +283,7 @@ impl<W: BookName> Session<W> {
         ensures refused { IfErr result (λ error. Fails is_fd self.old self.new pid (Request.Open path.now mode flags) error) }
     {
         let request = call::open_with(self.alloc, path, mode, flags)?;
-        let reply = self.call(pid, &request)?;
+        let reply = self.call_given(pid, request)?;
         reply.fd()
     }
 
@@ -277,8 +297,7 @@ impl<W: BookName> Session<W> {
         ensures made { IfOk result (λ got. Answers self.old self.new pid (Request.Read fd n) (Reply.Bytes got)) }
         ensures refused { IfErr result (λ error. Fails is_bytes self.old self.new pid (Request.Read fd n) error) }
     {
-        let request = call::read(fd, n);
-        let reply = self.call(pid, &request)?;
+        let reply = self.call_given(pid, call::read(fd, n))?;
         reply.bytes()
     }
 
@@ -293,7 +312,7 @@ impl<W: BookName> Session<W> {
         ensures refused { IfErr result (λ error. Fails is_count self.old self.new pid (Request.Write fd bytes.now) error) }
     {
         let request = call::write(self.alloc, fd, bytes)?;
-        let reply = self.call(pid, &request)?;
+        let reply = self.call_given(pid, request)?;
         reply.count()
     }
 
@@ -307,8 +326,7 @@ impl<W: BookName> Session<W> {
         ensures made { IfOk result (λ at. Answers self.old self.new pid (Request.Lseek fd offset whence) (Reply.At at)) }
         ensures refused { IfErr result (λ error. Fails is_offset self.old self.new pid (Request.Lseek fd offset whence) error) }
     {
-        let request = call::lseek(fd, offset, whence);
-        let reply = self.call(pid, &request)?;
+        let reply = self.call_given(pid, call::lseek(fd, offset, whence))?;
         reply.offset()
     }
 
@@ -322,8 +340,7 @@ impl<W: BookName> Session<W> {
         ensures made { IfOk result (λ new. Answers self.old self.new pid (Request.Dup fd) (Reply.Fd new)) }
         ensures refused { IfErr result (λ error. Fails is_fd self.old self.new pid (Request.Dup fd) error) }
     {
-        let request = call::dup(fd);
-        let reply = self.call(pid, &request)?;
+        let reply = self.call_given(pid, call::dup(fd))?;
         reply.fd()
     }
 
@@ -337,8 +354,7 @@ impl<W: BookName> Session<W> {
         ensures made { IfOk result (λ new. Answers self.old self.new pid (Request.Dup2 fd to) (Reply.Fd new)) }
         ensures refused { IfErr result (λ error. Fails is_fd self.old self.new pid (Request.Dup2 fd to) error) }
     {
-        let request = call::dup2(fd, to);
-        let reply = self.call(pid, &request)?;
+        let reply = self.call_given(pid, call::dup2(fd, to))?;
         reply.fd()
     }
 
@@ -352,8 +368,7 @@ impl<W: BookName> Session<W> {
         ensures made { OnOk result (Answers self.old self.new pid (Request.SetFlags fd flags) Reply.Ok) }
         ensures refused { IfErr result (λ error. Fails is_done self.old self.new pid (Request.SetFlags fd flags) error) }
     {
-        let request = call::set_flags(fd, flags);
-        let reply = self.call(pid, &request)?;
+        let reply = self.call_given(pid, call::set_flags(fd, flags))?;
         reply.done()
     }
 
@@ -367,8 +382,7 @@ impl<W: BookName> Session<W> {
         ensures made { OnOk result (Answers self.old self.new pid (Request.Close fd) Reply.Ok) }
         ensures refused { IfErr result (λ error. Fails is_done self.old self.new pid (Request.Close fd) error) }
     {
-        let request = call::close(fd);
-        let reply = self.call(pid, &request)?;
+        let reply = self.call_given(pid, call::close(fd))?;
         reply.done()
     }
 
@@ -383,7 +397,7 @@ impl<W: BookName> Session<W> {
         ensures refused { IfErr result (λ error. Fails is_done self.old self.new pid (Request.Unlink path.now) error) }
     {
         let request = call::unlink(self.alloc, path)?;
-        let reply = self.call(pid, &request)?;
+        let reply = self.call_given(pid, request)?;
         reply.done()
     }
 
@@ -397,8 +411,7 @@ impl<W: BookName> Session<W> {
         ensures made { IfOk result (λ new. Answers self.old self.new pid (Request.Socket kind no_open_flags) (Reply.Fd new)) }
         ensures refused { IfErr result (λ error. Fails is_fd self.old self.new pid (Request.Socket kind no_open_flags) error) }
     {
-        let request = call::socket(kind);
-        let reply = self.call(pid, &request)?;
+        let reply = self.call_given(pid, call::socket(kind))?;
         reply.fd()
     }
 
@@ -417,8 +430,7 @@ impl<W: BookName> Session<W> {
         ensures made { IfOk result (λ new. Answers self.old self.new pid (Request.Socket kind flags) (Reply.Fd new)) }
         ensures refused { IfErr result (λ error. Fails is_fd self.old self.new pid (Request.Socket kind flags) error) }
     {
-        let request = call::socket_with(kind, flags);
-        let reply = self.call(pid, &request)?;
+        let reply = self.call_given(pid, call::socket_with(kind, flags))?;
         reply.fd()
     }
 
@@ -432,8 +444,7 @@ impl<W: BookName> Session<W> {
         ensures made { IfOk result (λ fds. Answers self.old self.new pid (Request.SocketPair kind no_open_flags) (Reply.Fds fds.0 fds.1)) }
         ensures refused { IfErr result (λ error. Fails is_fds self.old self.new pid (Request.SocketPair kind no_open_flags) error) }
     {
-        let request = call::pair(kind);
-        let reply = self.call(pid, &request)?;
+        let reply = self.call_given(pid, call::pair(kind))?;
         reply.fds()
     }
 
@@ -448,7 +459,7 @@ impl<W: BookName> Session<W> {
         ensures refused { IfErr result (λ error. Fails is_done self.old self.new pid (Request.Bind fd (Addr.Path path.now)) error) }
     {
         let request = call::bind_path(self.alloc, fd, path)?;
-        let reply = self.call(pid, &request)?;
+        let reply = self.call_given(pid, request)?;
         reply.done()
     }
 
@@ -463,7 +474,7 @@ impl<W: BookName> Session<W> {
         ensures refused { IfErr result (λ error. Fails is_done self.old self.new pid (Request.Bind fd (Addr.Abstract name.now)) error) }
     {
         let request = call::bind_abstract(self.alloc, fd, name)?;
-        let reply = self.call(pid, &request)?;
+        let reply = self.call_given(pid, request)?;
         reply.done()
     }
 
@@ -477,8 +488,7 @@ impl<W: BookName> Session<W> {
         ensures made { OnOk result (Answers self.old self.new pid (Request.Listen fd backlog) Reply.Ok) }
         ensures refused { IfErr result (λ error. Fails is_done self.old self.new pid (Request.Listen fd backlog) error) }
     {
-        let request = call::listen(fd, backlog);
-        let reply = self.call(pid, &request)?;
+        let reply = self.call_given(pid, call::listen(fd, backlog))?;
         reply.done()
     }
 
@@ -493,7 +503,7 @@ impl<W: BookName> Session<W> {
         ensures refused { IfErr result (λ error. Fails is_done self.old self.new pid (Request.Connect fd (Addr.Path path.now)) error) }
     {
         let request = call::connect_path(self.alloc, fd, path)?;
-        let reply = self.call(pid, &request)?;
+        let reply = self.call_given(pid, request)?;
         reply.done()
     }
 
@@ -508,7 +518,7 @@ impl<W: BookName> Session<W> {
         ensures refused { IfErr result (λ error. Fails is_done self.old self.new pid (Request.Connect fd (Addr.Abstract name.now)) error) }
     {
         let request = call::connect_abstract(self.alloc, fd, name)?;
-        let reply = self.call(pid, &request)?;
+        let reply = self.call_given(pid, request)?;
         reply.done()
     }
 
@@ -522,8 +532,7 @@ impl<W: BookName> Session<W> {
         ensures made { IfOk result (λ a. Answers self.old self.new pid (Request.Accept fd no_open_flags) (Reply.Accepted a.0 a.1)) }
         ensures refused { IfErr result (λ error. Fails is_accepted self.old self.new pid (Request.Accept fd no_open_flags) error) }
     {
-        let request = call::accept(fd);
-        let reply = self.call(pid, &request)?;
+        let reply = self.call_given(pid, call::accept(fd))?;
         reply.accepted()
     }
 
@@ -542,8 +551,7 @@ impl<W: BookName> Session<W> {
         ensures made { IfOk result (λ a. Answers self.old self.new pid (Request.Accept fd flags) (Reply.Accepted a.0 a.1)) }
         ensures refused { IfErr result (λ error. Fails is_accepted self.old self.new pid (Request.Accept fd flags) error) }
     {
-        let request = call::accept_with(fd, flags);
-        let reply = self.call(pid, &request)?;
+        let reply = self.call_given(pid, call::accept_with(fd, flags))?;
         reply.accepted()
     }
 
@@ -557,8 +565,7 @@ impl<W: BookName> Session<W> {
         ensures made { OnOk result (Answers self.old self.new pid (Request.Shutdown fd how) Reply.Ok) }
         ensures refused { IfErr result (λ error. Fails is_done self.old self.new pid (Request.Shutdown fd how) error) }
     {
-        let request = call::shutdown(fd, how);
-        let reply = self.call(pid, &request)?;
+        let reply = self.call_given(pid, call::shutdown(fd, how))?;
         reply.done()
     }
 
@@ -572,8 +579,7 @@ impl<W: BookName> Session<W> {
         ensures made { IfOk result (λ got. Answers self.old self.new pid (Request.GetOpt fd opt) (Reply.Opt got)) }
         ensures refused { IfErr result (λ error. Fails is_value self.old self.new pid (Request.GetOpt fd opt) error) }
     {
-        let request = call::getopt(fd, opt);
-        let reply = self.call(pid, &request)?;
+        let reply = self.call_given(pid, call::getopt(fd, opt))?;
         reply.value()
     }
 
@@ -587,8 +593,7 @@ impl<W: BookName> Session<W> {
         ensures made { IfOk result (λ cred. Answers self.old self.new pid (Request.GetOpt fd SockOpt.PeerCred) (Reply.Cred cred)) }
         ensures refused { IfErr result (λ error. Fails is_cred self.old self.new pid (Request.GetOpt fd SockOpt.PeerCred) error) }
     {
-        let request = call::getopt(fd, SockOpt::PeerCred);
-        let reply = self.call(pid, &request)?;
+        let reply = self.call_given(pid, call::getopt(fd, SockOpt::PeerCred))?;
         reply.cred()
     }
 
@@ -602,8 +607,7 @@ impl<W: BookName> Session<W> {
         ensures made { OnOk result (Answers self.old self.new pid (Request.SetOpt fd opt value) Reply.Ok) }
         ensures refused { IfErr result (λ error. Fails is_done self.old self.new pid (Request.SetOpt fd opt value) error) }
     {
-        let request = call::setopt(fd, opt, value);
-        let reply = self.call(pid, &request)?;
+        let reply = self.call_given(pid, call::setopt(fd, opt, value))?;
         reply.done()
     }
 
@@ -617,8 +621,7 @@ impl<W: BookName> Session<W> {
         ensures made { IfOk result (λ addr. Answers self.old self.new pid (Request.GetSockName fd) (Reply.Addr addr)) }
         ensures refused { IfErr result (λ error. Fails is_addr self.old self.new pid (Request.GetSockName fd) error) }
     {
-        let request = call::getsockname(fd);
-        let reply = self.call(pid, &request)?;
+        let reply = self.call_given(pid, call::getsockname(fd))?;
         reply.addr()
     }
 
@@ -632,8 +635,7 @@ impl<W: BookName> Session<W> {
         ensures made { IfOk result (λ addr. Answers self.old self.new pid (Request.GetPeerName fd) (Reply.Addr addr)) }
         ensures refused { IfErr result (λ error. Fails is_addr self.old self.new pid (Request.GetPeerName fd) error) }
     {
-        let request = call::getpeername(fd);
-        let reply = self.call(pid, &request)?;
+        let reply = self.call_given(pid, call::getpeername(fd))?;
         reply.addr()
     }
 
@@ -648,7 +650,7 @@ impl<W: BookName> Session<W> {
         ensures refused { IfErr result (λ error. Fails is_count self.old self.new pid (Request.SendMsg fd None bytes.now [] no_msg_flags) error) }
     {
         let request = call::send(self.alloc, fd, bytes)?;
-        let reply = self.call(pid, &request)?;
+        let reply = self.call_given(pid, request)?;
         reply.count()
     }
 
@@ -669,7 +671,7 @@ impl<W: BookName> Session<W> {
         ensures refused { IfErr result (λ error. Fails is_count self.old self.new pid (Request.SendMsg fd None bytes.now (control_bytes None (map (λ right. right.0) rights.now)) no_msg_flags) error) }
     {
         let request = call::send_rights(self.alloc, fd, bytes, rights)?;
-        let reply = self.call(pid, &request)?;
+        let reply = self.call_given(pid, request)?;
         reply.count()
     }
 
@@ -683,8 +685,7 @@ impl<W: BookName> Session<W> {
         ensures made { IfOk result (λ m. Answers self.old self.new pid (Request.RecvMsg fd n 0 no_msg_flags) (Reply.Received m.flags m.count m.bytes m.control m.from)) }
         ensures refused { IfErr result (λ error. Fails is_message self.old self.new pid (Request.RecvMsg fd n 0 no_msg_flags) error) }
     {
-        let request = call::recv(fd, n);
-        let reply = self.call(pid, &request)?;
+        let reply = self.call_given(pid, call::recv(fd, n))?;
         reply.message()
     }
 
@@ -705,8 +706,7 @@ impl<W: BookName> Session<W> {
         ensures made { IfOk result (λ m. Answers self.old self.new pid (Request.RecvMsg fd n (rights_space (min count rights_limit)) no_msg_flags) (Reply.Received m.flags m.count m.bytes m.control m.from)) }
         ensures refused { IfErr result (λ error. Fails is_message self.old self.new pid (Request.RecvMsg fd n (rights_space (min count rights_limit)) no_msg_flags) error) }
     {
-        let request = call::recv_rights(fd, n, count);
-        let reply = self.call(pid, &request)?;
+        let reply = self.call_given(pid, call::recv_rights(fd, n, count))?;
         reply.message()
     }
 
@@ -720,8 +720,7 @@ impl<W: BookName> Session<W> {
         ensures made { IfOk result (λ flags. Answers self.old self.new pid (Request.Poll fd) (Reply.Poll flags)) }
         ensures refused { IfErr result (λ error. Fails is_ready self.old self.new pid (Request.Poll fd) error) }
     {
-        let request = call::poll(fd);
-        let reply = self.call(pid, &request)?;
+        let reply = self.call_given(pid, call::poll(fd))?;
         reply.ready()
     }
 
@@ -735,8 +734,7 @@ impl<W: BookName> Session<W> {
         ensures made { OnOk result (Answers self.old self.new pid Request.Exec Reply.Ok) }
         ensures refused { IfErr result (λ error. Fails is_done self.old self.new pid Request.Exec error) }
     {
-        let request = call::exec();
-        let reply = self.call(pid, &request)?;
+        let reply = self.call_given(pid, call::exec())?;
         reply.done()
     }
 }
