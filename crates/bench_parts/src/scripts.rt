@@ -4,7 +4,8 @@ use anyhow::{Result, anyhow};
 use std::alloc::{AllocError, Global};
 use std::rt::Clock;
 use std::time::Instant;
-use ux_syntax::{Act, Line, Script, entry_text, parse_script};
+use ux_syntax::{Act, Line, Script, parse_script};
+use ux_trace::entry_text;
 use ux_types::{Bytes, Entry, MsgFlags, Released, Reply};
 
 /// The processes of a script.

@@ -2,7 +2,7 @@
 use Rattle.std.proofs.Common.{◌≡◌, ℕ, ◌+◌, ◌<◌, List, [], ◌∷◌, ◌++◌, length, get_or, take, ap, sym, ◌∙◌, append_assoc, arith}
 use Rattle.std.proofs.lemmas.List.{append-nil, length-take, take_more}
 use Rattle.ux_model.specs.Types.{Entry}
-use Rattle.ux_syntax.specs.Trace.{entry_line, trace_from, trace}
+use Rattle.ux_trace.specs.Trace.{entry_line, trace_from, trace}
 
 trace_from-append : (n : ℕ) (xs ys : List Entry) → trace_from n (xs ++ ys) ≡ trace_from n xs ++ trace_from (n + length xs) ys
 trace_from-append n [] ys = ap (λ k. trace_from k ys) (omega arith)

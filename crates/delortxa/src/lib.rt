@@ -28,7 +28,7 @@ pub use ux_history::{BookName, CallFault, NoMemory, OffFault, Receipt, Spent};
 pub use ux_kernel::{BootFault, Kernel};
 pub use ux_object::{FileObject, ObjError, ObjKind};
 pub use ux_objects::{FailAt, Plain};
-pub use ux_syntax::entry_text;
+pub use ux_trace::entry_text;
 pub use ux_types::{
     Addr, Bytes, Cred, Entry, Errno, Fd, Mode, MsgFlags, Name, OpenFlags, Pid, PollFlags, ProcSpec,
     Reply, Request, SockOpt, SockType, Whence,

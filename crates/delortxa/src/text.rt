@@ -1,10 +1,10 @@
 //! A history as text.
 ghost use Rattle.std.specs.Prelude.{◌≡◌, IfOk};
 ghost use Rattle.std.specs.String.{string_bytes};
-ghost use Rattle.ux_syntax.specs.Trace.{trace};
+ghost use Rattle.ux_trace.specs.Trace.{trace};
 
 use std::alloc::{AllocError, Global};
-use ux_syntax::entry_text;
+use ux_trace::entry_text;
 use ux_types::Entry;
 
 /// The history as a trace, as `uxrun` prints it: a line for each call, in the words of `entry_text`.

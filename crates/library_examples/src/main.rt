@@ -15,7 +15,7 @@ mod two_threads;
 use anyhow::Result;
 use ux_history::{Book, BookName};
 use ux_object::FileObject;
-use ux_syntax::entry_text;
+use ux_trace::entry_text;
 
 /// Prints the history.
 fn print_history<W: BookName, O: FileObject>(

@@ -8,7 +8,8 @@ use hoard::Purse;
 use std::alloc::Global;
 use ux_replay::{ReplayFault, replay};
 use ux_script::run_serial;
-use ux_syntax::{Script, ScriptFault, entry_text, parse_script, read_script};
+use ux_syntax::{Script, ScriptFault, parse_script, read_script};
+use ux_trace::entry_text;
 use ux_types::Entry;
 
 /// How an attempt went.

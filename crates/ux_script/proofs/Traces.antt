@@ -4,7 +4,7 @@ use Rattle.std.specs.Prelude.{Option, Some, None}
 use Rattle.std.specs.Io.KnownBytes.{Appends, Keeps}
 use Rattle.std.proofs.lemmas.List.{append-nil, take-append-drop, length-take, take_more, take_all}
 use Rattle.ux_model.specs.Types.{Entry}
-use Rattle.ux_syntax.specs.Trace.{entry_line, trace_from, trace}
+use Rattle.ux_trace.specs.Trace.{entry_line, trace_from, trace}
 use Rattle.ux_script.specs.Writes.{AppendsBeginning}
 
 pub appends_then : (a b c : Option (List ℕ)) (x y z : List ℕ) → Appends a b x → Appends b c y → x ++ y ≡ z → Appends a c z

@@ -14,14 +14,15 @@ use Rattle.ux_syntax.specs.Lines.{Line}
 use Rattle.ux_syntax.specs.declared.script.Script.{Script}
 use Rattle.ux_syntax.specs.Spelling.{Plan, forks_of}
 use Rattle.ux_syntax.specs.Turns.{has_exited, exit_line, all_turns}
-use Rattle.ux_syntax.specs.Trace.{trace}
+use Rattle.ux_trace.specs.Trace.{trace}
 use Rattle.ux_script.specs.Writes.{AppendsBeginning}
 
 -- the line of a script that asks for an entry's call
 abbrev pub line_of_entry : Entry → Line
 line_of_entry e = record { pid = e.pid; act = Act.Call e.request }
 
--- nothing was written, or a beginning of the trace of a legal history from this state, which makes the script's calls in order, then the missing exits, and the end of the layer where the script has it
+-- nothing was written, or a beginning of the trace of a legal history from this state,
+-- which makes the script's calls in order, then the missing exits, and the end of the layer where the script has it
 abbrev pub WritesBeginning : State → Plan → Option (List ℕ) → Option (List ℕ) → Type 0
 WritesBeginning boot s old new = Keeps old new
     ⊎ ((history : List Entry) × IsLegal boot history × (map line_of_entry history ≡ all_turns s) × AppendsBeginning old new (trace history))

@@ -7,7 +7,7 @@ ghost use Rattle.ux_model.specs.History.{IsLegal};
 ghost use Rattle.ux_model.specs.Boot.{IsBootState, new_process};
 ghost use Rattle.ux_syntax.specs.Spelling.{plan_of, known_count, IsOrderly};
 ghost use Rattle.ux_syntax.specs.Turns.{all_turns, call_lines};
-ghost use Rattle.ux_syntax.specs.Trace.{trace};
+ghost use Rattle.ux_trace.specs.Trace.{trace};
 ghost use Rattle.ux_script.specs.Writes.{AppendsBeginning};
 ghost use Rattle.ux_script.specs.Runs.{line_of_entry, exits_of, Makes, IsRunFault, WritesBeginning};
 

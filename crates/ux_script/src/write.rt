@@ -2,12 +2,13 @@
 
 ghost use Rattle.std.specs.Prelude.{◌≡◌, ◌<◌, ◌≤◌, ◌⊎◌, length, take, IfOk, OnOk, OnErr, IfErr};
 ghost use Rattle.std.specs.Io.KnownBytes.{Appends, Keeps};
-ghost use Rattle.ux_syntax.specs.Trace.{trace};
+ghost use Rattle.ux_trace.specs.Trace.{trace};
 ghost use Rattle.ux_script.specs.Writes.{AppendsBeginning};
 
 use std::alloc::Global;
 use std::io::{ErrorKind, Write};
-use ux_syntax::{ScriptFault, entry_text};
+use ux_syntax::ScriptFault;
+use ux_trace::entry_text;
 use ux_types::Entry;
 
 /// How often a write that is interrupted is made again.

@@ -4,8 +4,8 @@ use Rattle.std.specs.List.{AllByRecursion, list_all}
 use Rattle.ux_model.specs.Types.{Request}
 use Rattle.ux_syntax.specs.declared.fault.Fault.{Fault}
 use Rattle.ux_syntax.specs.declared.fault.Fault.TheVariants.{BadLine}
-use Rattle.ux_syntax.specs.declared.calls.CallWord.{CallWord}
-use Rattle.ux_syntax.specs.Trace.{word_text, request_word}
+use Rattle.ux_trace.specs.declared.call_word.CallWord.{CallWord}
+use Rattle.ux_trace.specs.Trace.{word_text, request_word}
 use Rattle.ux_syntax.specs.Spelling.{Written, open_path, read_fd, write_fd, seek, dup_fd, dup_onto, set_flags, close, unlink_path, socket, pair, bind, listen, connect, accept, shut, get_opt, set_opt, sock_name, peer_name, send, recv, poll, fork, exec, exit, meaning, args_of, FitsCall}
 use Rattle.ux_syntax.specs.Reading.{◌>>=◌, open_at, read_at, write_at, lseek_at, dup_at, dup2_at, set_flags_at, close_at, unlink_at, socket_at, pair_at, bind_at, listen_at, connect_at, accept_at, shut_at, get_opt_at, set_opt_at, sock_name_at, peer_name_at, send_at, recv_at, poll_at, fork_at, exec_at, exit_at, all_words, word_at, args_at}
 use Rattle.ux_syntax.proofs.Rows.{IsSolid, IsBadOrOk, IsRow, solid_from, ends_row, row_then, number_kind}

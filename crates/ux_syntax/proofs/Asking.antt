@@ -7,7 +7,7 @@ use Rattle.ux_model.specs.Types.{Request}
 use Rattle.ux_syntax.specs.declared.fault.Fault.{Fault}
 use Rattle.ux_syntax.specs.declared.fault.Fault.TheVariants.{BadLine}
 use Rattle.ux_syntax.specs.declared.script.Act.{Act}
-use Rattle.ux_syntax.specs.Trace.{word_text, request_word}
+use Rattle.ux_trace.specs.Trace.{word_text, request_word}
 use Rattle.ux_syntax.specs.Spelling.{Written, meaning, Asked, call, wait, act_of, asked_words, FitsAsked}
 use Rattle.ux_syntax.specs.Reading.{◌>>=◌, number_at, ends, ◌>>◌, word_at, args_at, wait_at, call_at, act_at}
 use Rattle.ux_syntax.proofs.Rows.{IsSolid, solid_from, IsBadOrOk, either_bad, bind_bad, bind_ok, done, ok_is, number_kind, ends_row, row_then}

@@ -5,10 +5,10 @@ use Rattle.std.specs.Fmt.{digit_glyph}
 use Rattle.std.specs.Str.{bytes_eq}
 use Rattle.std.proofs.lemmas.Bool.Decides.{nat_tests}
 use Rattle.std.proofs.lemmas.Slice.Eq.{bytes_eq-Decides}
-use Rattle.ux_syntax.specs.Trace.{dash, digit_pair, hex}
+use Rattle.ux_trace.specs.Trace.{dash, digit_pair, hex}
 use Rattle.ux_syntax.specs.Spelling.{AreBytes}
 use Rattle.ux_syntax.specs.Reading.{◌>>=◌, digit_at, pairs_at, hex_at}
-use Rattle.ux_syntax.proofs.Texts.{hex_is}
+use Rattle.ux_trace.proofs.Texts.{hex_is}
 use Rattle.ux_syntax.proofs.Rows.{IsSolid, IsBadOrOk, IsKind, bind_ok, done, ok_is, guard_bad, either_bad, bind_bad}
 
 pub digit_takes : (c n : ℕ) → digit_at c ≡ Ok n → (c ≡ digit_glyph false n) × (n < 16)

@@ -12,7 +12,7 @@ use Rattle.ux_model.specs.Types.{Cred}
 use Rattle.ux_syntax.specs.declared.control.ControlItem.{ControlItem}
 use Rattle.ux_syntax.specs.declared.control.ControlWord.{ControlWord}
 use Rattle.ux_syntax.specs.declared.fault.Fault.TheVariants.{BadLine}
-use Rattle.ux_syntax.specs.Trace.{rights_text, cred_text}
+use Rattle.ux_trace.specs.Trace.{rights_text, cred_text}
 use Rattle.ux_syntax.specs.Spelling.{IsNumber, control_text, FitsRights, FitsCred, FitsControl}
 use Rattle.ux_syntax.specs.Reading.{◌>>=◌, ◌>>◌, ends, number_at, each_number_at, numbers_at, cred_at, control_item_at, alone, paired, each_item_at, control_items_at}
 use Rattle.ux_syntax.proofs.Numbers.{own}

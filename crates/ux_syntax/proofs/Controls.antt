@@ -7,13 +7,13 @@ use Rattle.std.proofs.lemmas.Slice.Eq.{bytes_eq-Decides}
 use Rattle.ux_model.specs.Types.{Addr}
 use Rattle.ux_syntax.specs.declared.control.ControlItem.{ControlItem}
 use Rattle.ux_syntax.specs.declared.control.ControlWord.{ControlWord}
-use Rattle.ux_syntax.specs.Trace.{dash, hex, addr_text, addr_or_dash, path_text, lettered}
+use Rattle.ux_trace.specs.Trace.{dash, hex, addr_text, addr_or_dash, path_text, lettered}
 use Rattle.ux_syntax.specs.Spelling.{AreBytes, control_text, FitsControl, FitsAddrOrDash}
 use Rattle.ux_syntax.specs.Reading.{◌>>=◌, addr_at, addr_or_dash_at, some_pairs_at, control_items_at, control_at}
 use Rattle.ux_syntax.proofs.Rows.{IsSolid, IsBadOrOk, IsKind, bind_ok, done, ok_is, either_bad, bind_bad}
 use Rattle.ux_syntax.proofs.Bytes.{pairs_takes, pairs_again, pairs_bad, pairs_long, no_dash, dash_solid, hex_kind}
 use Rattle.ux_syntax.proofs.Names.{addr_kind}
-use Rattle.ux_syntax.proofs.Texts.{hex_is}
+use Rattle.ux_trace.proofs.Texts.{hex_is}
 use Rattle.ux_syntax.proofs.ControlItems.{behind, item_solid, items_takes, items_bad, one_again, two_again, two_solid}
 
 -- ---- an address, or a dash for none

@@ -7,7 +7,7 @@ use Rattle.std.proofs.lemmas.Slice.Eq.{bytes_eq-Decides}
 use Rattle.ux_model.specs.Types.{OpenFlags, MsgFlags}
 use Rattle.ux_model.specs.Flags.{has_bits}
 use Rattle.ux_syntax.specs.declared.fault.Fault.TheVariants.{BadLine}
-use Rattle.ux_syntax.specs.Trace.{dash}
+use Rattle.ux_trace.specs.Trace.{dash}
 use Rattle.ux_syntax.specs.Spelling.{letter, or_dash, open_flags, msg_flags, FitsOpenFlags, FitsMsgFlags}
 use Rattle.ux_syntax.specs.Reading.{letter_at, open_flags_at, msg_flags_at}
 use Rattle.ux_syntax.proofs.Rows.{IsSolid, IsBadOrOk, IsKind, done, ok_is, guard_bad, either_bad}

@@ -11,7 +11,7 @@ use Rattle.ux_model.specs.Types.{ProcSpec}
 use Rattle.ux_object.specs.declared.ObjKind.{ObjKind}
 use Rattle.ux_syntax.specs.declared.script.ObjectLine.{ObjectLine}
 use Rattle.ux_syntax.specs.declared.script.Header.{Header}
-use Rattle.ux_syntax.specs.Trace.{hex, path_text}
+use Rattle.ux_trace.specs.Trace.{hex, path_text}
 use Rattle.ux_syntax.specs.Spelling.{bit, kind_text, fail_words, body_words, AreBytes, FitsFail, FitsBody, FitsHeader}
 use Rattle.ux_syntax.specs.Reading.{◌>>=◌, number_at, one, ends, ◌>>◌, hex_at, path_at, kind_at, fail_at, body_at, contents_at, described_at, object_at, proc_at}
 use Rattle.ux_syntax.proofs.Rows.{IsSolid, solid_from, IsBadOrOk, IsRow, either_bad, bind_ok, bind_bad, one_bad, ok_is, ends_row, row_then, number_kind}

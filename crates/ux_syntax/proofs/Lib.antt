@@ -1,4 +1,4 @@
-pub mod Texts
+pub mod WaitingTexts
 pub mod Pairs
 pub mod Numbers
 pub mod Rows

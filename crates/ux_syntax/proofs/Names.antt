@@ -1,17 +1,15 @@
 -- Names, paths and addresses.
-use Rattle.std.proofs.Common.{◌≡◌, codes, lit<, ℕ, zero, suc, ◌+◌, ◌-◌, ◌*◌, ◌/◌, ◌%◌, ◌<◌, ◌≤◌, ◌^◌, ◌&&◌, get_or, take, Bool, true, false, cond, eqb, leb, List, [], ◌∷◌, ◌++◌, length, Result, Ok, Err, refl, ap, sym, ◌∙◌, subst, not, arith}
-use Rattle.std.specs.Char.{encode_utf8}
-use Rattle.std.specs.Fmt.{digit_glyph, padded_integral, format_spec, digits}
+use Rattle.std.proofs.Common.{◌≡◌, codes, lit<, ℕ, zero, suc, ◌+◌, ◌-◌, ◌*◌, ◌/◌, ◌%◌, ◌<◌, ◌≤◌, ◌&&◌, Bool, true, false, cond, eqb, List, [], ◌∷◌, ◌++◌, length, Result, Ok, Err, refl, ap, sym, ◌∙◌, subst, not, arith}
+use Rattle.std.specs.Fmt.{digit_glyph}
 use Rattle.std.specs.Str.{bytes_eq}
-use Rattle.std.proofs.lemmas.Bool.{and_parts, leb-true, eqb-true, eq-eqb, not-true}
-use Rattle.std.proofs.lemmas.List.{append-nil, length-append, take_more, flat_map_more}
-use Rattle.std.proofs.lemmas.Fmt.{hex_byte}
-use Rattle.std.proofs.lemmas.Str.{encode_ascii}
+use Rattle.std.proofs.lemmas.Bool.{eqb-true, eq-eqb}
+use Rattle.std.proofs.lemmas.List.{append-nil, length-append}
 use Rattle.std.proofs.lemmas.Slice.Eq.{bytes_eq-Decides}
 use Rattle.ux_model.specs.Types.{Addr}
 use Rattle.ux_syntax.specs.declared.fault.Fault.{Fault}
 use Rattle.ux_syntax.specs.declared.fault.Fault.TheVariants.{BadLine}
-use Rattle.ux_syntax.specs.Trace.{digit_pair, stands, name_byte, name_text, lettered, path_text, addr_text}
+use Rattle.ux_trace.specs.Trace.{digit_pair, stands, name_byte, name_text, lettered, path_text, addr_text}
+use Rattle.ux_trace.proofs.Texts.{stands_means}
 use Rattle.ux_syntax.specs.Spelling.{AreBytes, FitsAddr}
 use Rattle.ux_syntax.specs.Reading.{◌>>=◌, digit_at, plain_at, escaped_at, byte_at, name_upto, name_at, lettered_at, path_at, letter_at, addr_at}
 use Rattle.ux_syntax.proofs.Rows.{IsSolid, IsBadOrOk, IsKind, bind_ok, done, ok_is, guard_bad, either_bad, bind_bad}
@@ -20,13 +18,6 @@ use Rattle.ux_syntax.proofs.Flags.{solid_append}
 use Rattle.ux_syntax.proofs.Pairs.{with_front, regroup}
 
 -- ---- a byte
-
--- what a byte is that stands for itself
-stands_means : (b : ℕ) → stands b ≡ true → (33 ≤ b) × (b ≤ 126) × (eqb b 37 ≡ false)
-stands_means b h =
-    let p = and_parts (leb 33 b && leb b 126) (not (eqb b 37)) h in
-    let q = and_parts (leb 33 b) (leb b 126) p.0 in
-    (leb-true 33 b q.0, leb-true b 126 q.1, not-true (eqb b 37) p.1)
 
 -- the byte's spelling stands before what follows
 abbrev Begins : List ℕ → ℕ × List ℕ → Type 0
@@ -267,15 +258,3 @@ pub name_shorter : (rest : List ℕ) (x : ℕ × List ℕ) → byte_at rest ≡ 
 name_shorter rest x e =
     let p = byte_takes rest x e in
     omega (arith, ap (λ (v : List ℕ). length v) p.0, length-append (name_byte x.0) x.1, byte_long x.0 (stands x.0))
-
--- ---- a name as a loop writes it
-
-pub text_more : (bytes : List ℕ) (i : ℕ) (text : List ℕ) → i < length bytes → name_byte (get_or bytes i 0) ≡ text → name_text (take i bytes) ++ text ≡ name_text (take (i + 1) bytes)
-text_more bytes i text lt e = rw (← e, take_more bytes i 0 lt) (flat_map_more name_byte [] (take i bytes) (get_or bytes i 0))
-
--- a byte that stands for itself is a character
-pub plain_text : (b : ℕ) → stands b ≡ true → name_byte b ≡ encode_utf8 b
-plain_text b s = rw s (sym (encode_ascii b (omega (arith, (stands_means b s).1))))
-
-pub escaped_text : (b : ℕ) → stands b ≡ false → b < 256 → name_byte b ≡ 37 ∷ padded_integral (format_spec 32 0 4 2 (2 ^ 64 - 1)) false [] (digits 16 false b)
-escaped_text b s small = rw (s, hex_byte false b small) refl

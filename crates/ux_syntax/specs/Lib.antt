@@ -1,5 +1,5 @@
 -- In the order in which they are read.
-pub mod Trace
+pub mod WaitingPlaces
 pub mod Lines
 pub mod Spelling
 pub mod Turns

@@ -11,7 +11,7 @@ use Rattle.ux_object.specs.declared.ObjKind.{ObjKind}
 use Rattle.ux_syntax.specs.declared.fault.Fault.{Fault}
 use Rattle.ux_syntax.specs.declared.fault.Fault.TheVariants.{BadLine, UnknownProcess, TooLong}
 use Rattle.ux_syntax.specs.declared.fault.ScriptFault.{ScriptFault}
-use Rattle.ux_syntax.specs.declared.calls.CallWord.{CallWord}
+use Rattle.ux_trace.specs.declared.call_word.CallWord.{CallWord}
 use Rattle.ux_syntax.specs.declared.control.ControlItem.{ControlItem}
 use Rattle.ux_syntax.specs.declared.control.ControlWord.{ControlWord}
 use Rattle.ux_syntax.specs.declared.script.ObjectLine.{ObjectLine}
@@ -19,7 +19,7 @@ use Rattle.ux_syntax.specs.declared.script.Header.{Header}
 use Rattle.ux_syntax.specs.declared.script.Act.{Act}
 use Rattle.ux_syntax.specs.Lines.{Line}
 use Rattle.ux_syntax.specs.declared.reading.Item.{Item}
-use Rattle.ux_syntax.specs.Trace.{dash, stands, word_text}
+use Rattle.ux_trace.specs.Trace.{dash, stands, word_text}
 use Rattle.ux_syntax.specs.Spelling.{Plan, open_path, read_fd, write_fd, seek, dup_fd, dup_onto, set_flags, close, unlink_path, socket, pair, bind, listen, connect, accept, shut, get_opt, set_opt, sock_name, peer_name, send, recv, poll, fork, exec, exit, meaning, bit, mode_text, type_text, option_text, whence_text, kind_text, is_meant, asks_fork, known_count}
 use Rattle.ux_syntax.specs.Turns.{has_exited, is_known, awaits_known}
 

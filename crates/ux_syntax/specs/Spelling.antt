@@ -17,7 +17,7 @@ use Rattle.ux_syntax.specs.declared.script.Header.{Header}
 use Rattle.ux_syntax.specs.declared.script.Act.{Act}
 use Rattle.ux_syntax.specs.Lines.{Line}
 use Rattle.ux_syntax.specs.declared.script.Script.{Script}
-use Rattle.ux_syntax.specs.Trace.{dash, hex, path_text, addr_text, addr_or_dash, raw_text, rights_text, cred_text, word_text, request_word}
+use Rattle.ux_trace.specs.Trace.{dash, hex, path_text, addr_text, addr_or_dash, raw_text, rights_text, cred_text, word_text, request_word}
 
 -- ---- what a script says
 
@@ -438,7 +438,8 @@ pub record IsOrderly (s : Plan) : Type 0 where
 
 -- ---- which lines spell which script
 
--- The lines spell the script: short ones, of which those that say something are the header's, then the processes' as they are written, and `off` at last where the script has it.
+-- The lines, which are short, spell the script: those that say something are the header's,
+-- then the processes' as they are written, and `off` at last where the script has it.
 pub record Spells (texts : List (List ℕ)) (s : Plan) : Type 0 where
   pub headers : List Header
   pub turns : List Turn

@@ -1,7 +1,6 @@
 //! The calls of a script: the word of each, and the words that stand behind it.
 
 ghost use Rattle.std.specs.Prelude.{◌≡◌, map};
-ghost use Rattle.ux_syntax.specs.Trace.{word_text, request_word};
 ghost use Rattle.ux_syntax.specs.Reading.{open_at, read_at, write_at, lseek_at, dup_at, dup2_at, set_flags_at, close_at, unlink_at, socket_at, pair_at, bind_at, listen_at, connect_at, accept_at, shut_at, get_opt_at, set_opt_at, sock_name_at, peer_name_at, send_at, recv_at, poll_at, fork_at, exec_at, exit_at, word_at, args_at};
 ghost use Rattle.ux_syntax.specs.Results.{Gives};
 
@@ -9,39 +8,8 @@ use crate::control::ControlWord;
 use crate::fault::{BAD, LineError};
 use crate::row::{end, row_of};
 use std::alloc::Global;
+use ux_trace::CallWord;
 use ux_types::{Fd, Request};
-
-/// The words that name calls. A script has no call of the last.
-#[derive(Clone, Copy, Debug, PartialEq, Eq)]
-pub enum CallWord {
-    Open,
-    Read,
-    Write,
-    Lseek,
-    Dup,
-    Dup2,
-    Flags,
-    Close,
-    Unlink,
-    Socket,
-    Pair,
-    Bind,
-    Listen,
-    Connect,
-    Accept,
-    Shut,
-    GetOpt,
-    SetOpt,
-    SockName,
-    PeerName,
-    Send,
-    Recv,
-    Poll,
-    Fork,
-    Exec,
-    Exit,
-    Off,
-}
 
 /// The words that a script may have behind a process's number.
 const CALL_WORDS: &[CallWord] = &[
@@ -72,78 +40,6 @@ const CALL_WORDS: &[CallWord] = &[
     CallWord::Exec,
     CallWord::Exit,
 ];
-
-impl CallWord {
-    /// The word that names a call, in a script and in a trace.
-    pub fn of(request: &Request) -> CallWord
-        ensures { result ≡ request_word request.now }
-    {
-        match request {
-            Request::Open { .. } => CallWord::Open,
-            Request::Read { .. } => CallWord::Read,
-            Request::Write { .. } => CallWord::Write,
-            Request::Lseek { .. } => CallWord::Lseek,
-            Request::Dup { .. } => CallWord::Dup,
-            Request::Dup2 { .. } => CallWord::Dup2,
-            Request::SetFlags { .. } => CallWord::Flags,
-            Request::Close { .. } => CallWord::Close,
-            Request::Unlink { .. } => CallWord::Unlink,
-            Request::Socket { .. } => CallWord::Socket,
-            Request::SocketPair { .. } => CallWord::Pair,
-            Request::Bind { .. } => CallWord::Bind,
-            Request::Listen { .. } => CallWord::Listen,
-            Request::Connect { .. } => CallWord::Connect,
-            Request::Accept { .. } => CallWord::Accept,
-            Request::Shutdown { .. } => CallWord::Shut,
-            Request::GetOpt { .. } => CallWord::GetOpt,
-            Request::SetOpt { .. } => CallWord::SetOpt,
-            Request::GetSockName { .. } => CallWord::SockName,
-            Request::GetPeerName { .. } => CallWord::PeerName,
-            Request::SendMsg { .. } => CallWord::Send,
-            Request::RecvMsg { .. } => CallWord::Recv,
-            Request::Poll { .. } => CallWord::Poll,
-            Request::Fork => CallWord::Fork,
-            Request::Exec => CallWord::Exec,
-            Request::Exit => CallWord::Exit,
-            Request::Off => CallWord::Off,
-        }
-    }
-
-    /// The word as it is written.
-    pub fn text(self) -> &'static str
-        ensures { result.now ≡ word_text self }
-    {
-        match self {
-            CallWord::Open => "open",
-            CallWord::Read => "read",
-            CallWord::Write => "write",
-            CallWord::Lseek => "lseek",
-            CallWord::Dup => "dup",
-            CallWord::Dup2 => "dup2",
-            CallWord::Flags => "flags",
-            CallWord::Close => "close",
-            CallWord::Unlink => "unlink",
-            CallWord::Socket => "socket",
-            CallWord::Pair => "pair",
-            CallWord::Bind => "bind",
-            CallWord::Listen => "listen",
-            CallWord::Connect => "connect",
-            CallWord::Accept => "accept",
-            CallWord::Shut => "shut",
-            CallWord::GetOpt => "getopt",
-            CallWord::SetOpt => "setopt",
-            CallWord::SockName => "sockname",
-            CallWord::PeerName => "peername",
-            CallWord::Send => "send",
-            CallWord::Recv => "recv",
-            CallWord::Poll => "poll",
-            CallWord::Fork => "fork",
-            CallWord::Exec => "exec",
-            CallWord::Exit => "exit",
-            CallWord::Off => "off",
-        }
-    }
-}
 
 /// The call that a word names.
 #[tactic(auto, unfolding(crate::specs::Reading::word_at))]

@@ -1,4 +1,4 @@
-//! Scripts of calls, which are read, and traces of histories, which are written.
+//! Scripts of calls, which are read.
 #![tactic(auto)]
 
 mod acts;
@@ -12,15 +12,12 @@ mod progress;
 mod reading;
 mod row;
 mod script;
-mod trace;
 mod waiting;
 mod words;
 
-pub use calls::CallWord;
 pub use control::items_are_spelled;
 pub use fault::{Fault, ScriptFault};
 pub use input::read_script;
 pub use reading::{one_script, parse_script};
 pub use script::{Act, Line, ObjectLine, Script};
-pub use trace::entry_text;
 pub use waiting::Waiting;

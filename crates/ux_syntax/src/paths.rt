@@ -2,21 +2,14 @@
 //! be printed, is written as `%` and two digits.
 
 ghost use Rattle.std.specs.Prelude.{◌≡◌};
-ghost use Rattle.ux_syntax.specs.Trace.{stands};
 ghost use Rattle.ux_syntax.specs.Reading.{byte_at, escaped_at, name_at, lettered_at, path_at, addr_at, addr_or_dash_at};
 ghost use Rattle.ux_syntax.specs.Results.{Gives};
 
 use crate::fault::{BAD, LineError};
 use crate::words::{Word, digit_of};
 use std::alloc::Global;
+use ux_trace::stands;
 use ux_types::{Addr, Bytes, Name};
-
-/// Whether a byte stands for itself in a name.
-pub(crate) fn stands(byte: u8) -> bool
-    ensures { result ≡ stands byte }
-{
-    (0x21..=0x7e).contains(&byte) && byte != b'%'
-}
 
 /// The byte that two digits spell, which must be one that doesn't stand for itself.
 fn escaped_of(high: u8, low: u8) -> Result<u8, LineError>

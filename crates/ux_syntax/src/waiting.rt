@@ -1,7 +1,7 @@
 //! Where processes wait for one another.
 
 ghost use Rattle.std.specs.Prelude.{◌≡◌, Some};
-ghost use Rattle.ux_syntax.specs.Trace.{place_text, waiting_text};
+ghost use Rattle.ux_syntax.specs.WaitingPlaces.{place_text, waiting_text};
 
 use std::fmt;
 use std::marker::Model;

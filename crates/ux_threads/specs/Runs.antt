@@ -4,7 +4,7 @@ use Rattle.std.specs.Io.KnownBytes.{Keeps}
 use Rattle.ux_model.specs.Types.{Entry}
 use Rattle.ux_model.specs.State.{State}
 use Rattle.ux_syntax.specs.Spelling.{Plan}
-use Rattle.ux_syntax.specs.Trace.{trace}
+use Rattle.ux_trace.specs.Trace.{trace}
 use Rattle.ux_script.specs.Writes.{AppendsBeginning}
 use Rattle.ux_syntax.specs.declared.fault.ScriptFault.{ScriptFault}
 use Rattle.ux_compare.specs.Runs.{Runs, HasBegun}

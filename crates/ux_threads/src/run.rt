@@ -5,7 +5,7 @@ ghost use Rattle.std.specs.Io.KnownBytes.{Appends};
 ghost use Rattle.ux_model.specs.Boot.{IsBootState, new_process};
 ghost use Rattle.ux_model.specs.History.{IsLegal};
 ghost use Rattle.ux_syntax.specs.Spelling.{plan_of, known_count};
-ghost use Rattle.ux_syntax.specs.Trace.{trace};
+ghost use Rattle.ux_trace.specs.Trace.{trace};
 ghost use Rattle.ux_script.specs.Runs.{IsRunFault};
 ghost use Rattle.ux_compare.specs.Runs.{requests_of, turns, Runs};
 ghost use Rattle.ux_threads.specs.Runs.{WritesBeginning, WritesBegun, IsOfScript, is_deadlock};

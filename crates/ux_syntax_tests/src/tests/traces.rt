@@ -3,7 +3,7 @@ use super::{addr_of, beside, request_in};
 use std::alloc::Global;
 use std::process::Abort;
 use std::test::*;
-use ux_syntax::entry_text;
+use ux_trace::entry_text;
 use ux_types::{Addr, Bytes, Entry, Errno, Fd, MsgFlags, Name, Pid, Released, Reply, Request};
 
 /// An entry's number in the history, and its number among its process's calls.

@@ -1,6 +1,6 @@
 use Rattle.std.proofs.Common.{◌≡◌, ◌∙◌, ◌++◌, ℕ, List, ap}
 use Rattle.std.specs.String.{string_bytes}
-use Rattle.ux_syntax.specs.Trace.{entry_line}
+use Rattle.ux_trace.specs.Trace.{entry_line}
 use Rattle.delortxa.proofs.Traces.{trace_more}
 use Rattle.delortxa.proofs.text.trace_text.Goals as goal
 

@@ -1,6 +1,6 @@
 use Rattle.std.proofs.Common.{◌≡◌, ◌∙◌}
 use Rattle.std.proofs.lemmas.Result.{err_from_is_err_and}
-use Rattle.ux_syntax.specs.Trace.{entry_line}
+use Rattle.ux_trace.specs.Trace.{entry_line}
 use Rattle.ux_script.proofs.Traces.{appends_then, trace_more, line_begun, line_unbegun}
 use Rattle.ux_script.proofs.write.write_trace.Goals as goal
 

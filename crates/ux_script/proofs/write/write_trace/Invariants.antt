@@ -1,6 +1,6 @@
 use Rattle.std.proofs.Common.{take}
 use Rattle.std.specs.Io.KnownBytes.{Appends}
-use Rattle.ux_syntax.specs.Trace.{trace}
+use Rattle.ux_trace.specs.Trace.{trace}
 use Rattle.ux_script.proofs.write.write_trace.Given as goal
 
 abbrev pub invariant-loop-number : goal.invariant-loop-number

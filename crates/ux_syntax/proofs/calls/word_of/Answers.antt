@@ -3,7 +3,7 @@ use Rattle.std.specs.Str.{bytes_eq}
 use Rattle.std.proofs.lemmas.Iterator.{YieldsList-from_slice}
 use Rattle.std.proofs.lemmas.Iterator.Search.{find_from_yields_List}
 use Rattle.std.specs.Option.{option_map}
-use Rattle.ux_syntax.specs.Trace.{word_text}
+use Rattle.ux_trace.specs.Trace.{word_text}
 use Rattle.ux_syntax.specs.Reading.{word_at, or_bad, all_words}
 use Rattle.ux_syntax.proofs.Choices.{chosen_found}
 use Rattle.ux_syntax.proofs.calls.word_of.Goals as goal

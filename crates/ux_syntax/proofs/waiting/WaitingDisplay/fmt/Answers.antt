@@ -1,6 +1,6 @@
 use Rattle.std.proofs.Common.{rules}
 use Rattle.std.proofs.Output.{has_written_append, has_written_of_eq}
-use Rattle.ux_syntax.proofs.Texts.{place_more}
+use Rattle.ux_syntax.proofs.WaitingTexts.{place_more}
 use Rattle.ux_syntax.proofs.waiting.WaitingDisplay.fmt.Goals as goal
 
 pub loop-further-preserved : goal.loop-further-preserved

@@ -1,6 +1,6 @@
 use Rattle.std.proofs.Common.{take}
 use Rattle.std.specs.Fmt.{HasWritten, IsPlainFormatter}
-use Rattle.ux_syntax.specs.Trace.{further_places}
+use Rattle.ux_syntax.specs.WaitingPlaces.{further_places}
 use Rattle.ux_syntax.proofs.waiting.WaitingDisplay.fmt.Given as goal
 
 abbrev pub invariant-loop-further : goal.invariant-loop-further

@@ -1,0 +1,110 @@
+//! The word that names a call.
+
+ghost use Rattle.std.specs.Prelude.{◌≡◌};
+ghost use Rattle.ux_trace.specs.Trace.{word_text, request_word};
+
+use ux_types::Request;
+
+/// The words that name calls. A script has no call of the last.
+#[derive(Clone, Copy, Debug, PartialEq, Eq)]
+pub enum CallWord {
+    Open,
+    Read,
+    Write,
+    Lseek,
+    Dup,
+    Dup2,
+    Flags,
+    Close,
+    Unlink,
+    Socket,
+    Pair,
+    Bind,
+    Listen,
+    Connect,
+    Accept,
+    Shut,
+    GetOpt,
+    SetOpt,
+    SockName,
+    PeerName,
+    Send,
+    Recv,
+    Poll,
+    Fork,
+    Exec,
+    Exit,
+    Off,
+}
+
+impl CallWord {
+    /// The word that names a call, in a script and in a trace.
+    pub fn of(request: &Request) -> CallWord
+        ensures { result ≡ request_word request.now }
+    {
+        match request {
+            Request::Open { .. } => CallWord::Open,
+            Request::Read { .. } => CallWord::Read,
+            Request::Write { .. } => CallWord::Write,
+            Request::Lseek { .. } => CallWord::Lseek,
+            Request::Dup { .. } => CallWord::Dup,
+            Request::Dup2 { .. } => CallWord::Dup2,
+            Request::SetFlags { .. } => CallWord::Flags,
+            Request::Close { .. } => CallWord::Close,
+            Request::Unlink { .. } => CallWord::Unlink,
+            Request::Socket { .. } => CallWord::Socket,
+            Request::SocketPair { .. } => CallWord::Pair,
+            Request::Bind { .. } => CallWord::Bind,
+            Request::Listen { .. } => CallWord::Listen,
+            Request::Connect { .. } => CallWord::Connect,
+            Request::Accept { .. } => CallWord::Accept,
+            Request::Shutdown { .. } => CallWord::Shut,
+            Request::GetOpt { .. } => CallWord::GetOpt,
+            Request::SetOpt { .. } => CallWord::SetOpt,
+            Request::GetSockName { .. } => CallWord::SockName,
+            Request::GetPeerName { .. } => CallWord::PeerName,
+            Request::SendMsg { .. } => CallWord::Send,
+            Request::RecvMsg { .. } => CallWord::Recv,
+            Request::Poll { .. } => CallWord::Poll,
+            Request::Fork => CallWord::Fork,
+            Request::Exec => CallWord::Exec,
+            Request::Exit => CallWord::Exit,
+            Request::Off => CallWord::Off,
+        }
+    }
+
+    /// The word as it is written.
+    pub fn text(self) -> &'static str
+        ensures { result.now ≡ word_text self }
+    {
+        match self {
+            CallWord::Open => "open",
+            CallWord::Read => "read",
+            CallWord::Write => "write",
+            CallWord::Lseek => "lseek",
+            CallWord::Dup => "dup",
+            CallWord::Dup2 => "dup2",
+            CallWord::Flags => "flags",
+            CallWord::Close => "close",
+            CallWord::Unlink => "unlink",
+            CallWord::Socket => "socket",
+            CallWord::Pair => "pair",
+            CallWord::Bind => "bind",
+            CallWord::Listen => "listen",
+            CallWord::Connect => "connect",
+            CallWord::Accept => "accept",
+            CallWord::Shut => "shut",
+            CallWord::GetOpt => "getopt",
+            CallWord::SetOpt => "setopt",
+            CallWord::SockName => "sockname",
+            CallWord::PeerName => "peername",
+            CallWord::Send => "send",
+            CallWord::Recv => "recv",
+            CallWord::Poll => "poll",
+            CallWord::Fork => "fork",
+            CallWord::Exec => "exec",
+            CallWord::Exit => "exit",
+            CallWord::Off => "off",
+        }
+    }
+}

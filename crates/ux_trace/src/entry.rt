@@ -1,0 +1,49 @@
+//! The line of an entry.
+
+ghost use Rattle.std.specs.Prelude.{◌≡◌, IfOk, Some, string_bytes};
+ghost use Rattle.ux_trace.specs.Trace.{closed_text, entry_line};
+
+use crate::call_word::CallWord;
+use crate::reply::{ReplyText, control_of};
+use std::alloc::{AllocError, Global};
+use std::fmt;
+use ux_types::Entry;
+
+/// The file objects that were closed at the end of a call, or nothing where none was.
+#[derive(Clone, Copy)]
+struct Closed<'a>(&'a [u8]);
+
+impl fmt::Display for Closed<'_> {
+    ghost output = { λ c. Some (closed_text c.0.now) };
+
+    fn fmt<W: fmt::Write>(&self, f: &mut fmt::Formatter<W>) -> fmt::Result {
+        if self.0.is_empty() {
+            return Ok(());
+        }
+        write!(f, " closed")?;
+        for number in self.0 {
+            let number = *number;
+            write!(f, " {number}")?;
+        }
+        Ok(())
+    }
+}
+
+/// The line of a history's entry, with its line feed: `N PID K WORD = REPLY`, and behind that ` closed`
+/// and their numbers where file objects were closed. The number is the entry's place in the history,
+/// counted from 0.
+pub fn entry_text(alloc: Global, number: usize, entry: &Entry) -> Result<String, AllocError>
+    ensures { IfOk result (λ text. string_bytes text ≡ entry_line number entry.now) }
+{
+    let pid = entry.pid.0;
+    let k = entry.k;
+    let word = CallWord::of(&entry.request).text();
+    let read = control_of(alloc, &entry.reply)?;
+    let reply = ReplyText {
+        reply: &entry.reply,
+        read: &read,
+    };
+    let numbers = entry.released.numbers();
+    let closed = Closed(numbers.as_slice());
+    format!(in alloc; "{number} {pid} {k} {word} = {reply}{closed}\n")
+}
