@@ -153,7 +153,9 @@ impl<W: BookName, O: FileObject> Serial<W, O> {
         ensures made { OnOk result (processes self.new ≡ processes self.old + 1) }
         ensures stranger { IfErr result (λ f. f ≡ CallFault.Stranger → is_live (state_of self.old) pid.0 ≡ false) }
     {
-        self.shares.push(None)?;
+        if self.shares.push(None).is_err() {
+            return Err(CallFault::NoMemory);
+        }
         let Some(mut share) = take(&mut self.shares, pid) else {
             return Err(CallFault::Stranger);
         };
