@@ -166,10 +166,11 @@ impl<W: BookName> Session<W> {
             return Err(CallFault::Stranger);
         };
         released.clear();
-        match book.record_given(share, request, released) {
-            Ok(receipt) => Ok(receipt.into_reply()),
-            Err((fault, _request)) => Err(fault),
-        }
+        let receipt = match book.record_given(share, request, released) {
+            Ok(receipt) => receipt,
+            Err((fault, _request)) => return Err(fault),
+        };
+        Ok(receipt.into_reply())
     }
 
     /// fork(2): the number of the new process, which is a copy of this one.
