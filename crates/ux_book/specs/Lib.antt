@@ -1,0 +1,10 @@
+pub mod Pasts
+pub mod Trails
+pub mod Books
+pub mod Receipts
+pub mod Recording
+pub mod Appending
+pub mod Keeping
+pub mod Faults
+pub mod Sitting
+pub mod Settling
