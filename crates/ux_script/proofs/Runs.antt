@@ -7,7 +7,7 @@ use Rattle.std.proofs.lemmas.Bool.{and_left, and_right, and_from, ne_eqb, eq-eqb
 use Rattle.std.proofs.lemmas.List.{append-nil, map-append, length-map, take_more}
 use Rattle.std.proofs.lemmas.List.Elements.{filter-append}
 use Rattle.std.proofs.lemmas.List.Sums.{sum_by-cons, sum_by-append, sum_by_push}
-use Rattle.ux_model.specs.Types.{Pid, ProcSpec, Request, Entry}
+use Rattle.ux_model.specs.Types.{Pid, Request, Entry}
 use Rattle.ux_model.specs.Process.{Process}
 use Rattle.ux_model.specs.State.{State, is_live}
 use Rattle.ux_model.specs.Boot.{IsBootState, new_process}
@@ -16,15 +16,16 @@ use Rattle.ux_model.specs.History.{IsLegal, replay, is_off, has_live}
 use Rattle.ux_model.proofs.Living.{lives_until_exit, live_within}
 use Rattle.ux_model.proofs.Numbering.{numbered_from_one}
 use Rattle.ux_model.proofs.Appending.{legal_empty, legal_push}
-use Rattle.ux_history.specs.Books.{KeptHistory, state_of, ends_of}
-use Rattle.ux_history.specs.Shares as shares
-use Rattle.ux_history.specs.declared.fault.CallFault.{CallFault}
+use Rattle.ux_book.specs.Books.{KeptHistory, state_of, ends_of}
+use Rattle.ux_book.specs.Books as books
+use Rattle.ux_book.specs.Sitting.{MakesOne}
+use Rattle.ux_book.specs.declared.fault.CallFault.{CallFault}
 use Rattle.ux_syntax.specs.declared.script.Act.{Act}
 use Rattle.ux_syntax.specs.Lines.{Line}
 use Rattle.ux_syntax.specs.declared.script.Script.{Script}
 use Rattle.ux_syntax.specs.Spelling.{plan_of, is_exit, is_fork, asks_exit, asks_fork, asks_off, forks_of, known_count, NamesProcesses, EachKnowing, IsQuiet, NoneAfterExit, IsCall, IsOrderly}
 use Rattle.ux_syntax.specs.Turns.{has_exited, exit_line, off_line, is_call, call_lines, all_turns}
-use Rattle.ux_script.specs.Runs.{line_of_entry, exits_of, Makes, MakesOne}
+use Rattle.ux_script.specs.Runs.{line_of_entry, exits_of, Makes}
 
 -- ---- who lives
 
@@ -111,7 +112,7 @@ forks_all lines n =
     omega (arith, both, calls, exits)
 
 -- each fork line of a script has made its process
-pub all_known : (book : KeptHistory) (script : Script) (count : ℕ) → count ≡ shares.processes book → Makes book script (call_lines script.lines.items) → count ≡ known_count (plan_of script)
+pub all_known : (book : KeptHistory) (script : Script) (count : ℕ) → count ≡ books.processes book → Makes book script (call_lines script.lines.items) → count ≡ known_count (plan_of script)
 all_known book script count is so_far = let made = so_far.made in let forks = forks_calls script.lines.items in omega (arith, is, made, forks)
 
 -- what is said of each line, beside the number of processes that it knows
@@ -292,14 +293,14 @@ not_ended (e ∷ es) all =
 -- ---- a run as far as it has come
 
 -- one more entry of a process
-pub makes_more : (old new : KeptHistory) (script : Script) (pid : Pid) (request : Request) (made : List Line) → MakesOne old new pid request → shares.processes new ≡ shares.processes old + cond {A = ℕ} (is_fork request) 1 0 → Makes old script made →
+pub makes_more : (old new : KeptHistory) (script : Script) (pid : Pid) (request : Request) (made : List Line) → MakesOne old new pid request → books.processes new ≡ books.processes old + cond {A = ℕ} (is_fork request) 1 0 → Makes old script made →
     Makes new script (made ++ record { pid = pid; act = Act.Call request } ∷ [])
 makes_more old new script pid request made one count so_far =
     let here : Line = record { pid = pid; act = Act.Call request } in
-    let now = one.appended.adds.appended in
+    let now = one.answers.adds.appended in
     record {
       processes = ap (λ (h : KeptHistory). State.processes h.boot) now ∙ so_far.processes;
-      legal = subst (λ (h : KeptHistory). IsLegal h.boot h.entries) (sym now) (legal_push old.boot old.entries _ so_far.legal one.appended.adds.next);
+      legal = subst (λ (h : KeptHistory). IsLegal h.boot h.entries) (sym now) (legal_push old.boot old.entries _ so_far.legal one.answers.adds.next);
       calls = ap (λ (h : KeptHistory). map line_of_entry h.entries) now
           ∙ map-append line_of_entry old.entries (_ ∷ [])
           ∙ ap (λ ls. ls ++ record { pid = pid; act = Act.Call request } ∷ []) so_far.calls;
@@ -310,7 +311,7 @@ pub makes_same : (book : KeptHistory) (script : Script) (made more : List Line) 
 makes_same book script made more e so_far = record { processes = so_far.processes; legal = so_far.legal; calls = so_far.calls ∙ e; made = so_far.made ∙ ap (λ ls. length script.procs.items + forks_of ls) e }
 
 pub boot_kept : (old new : KeptHistory) (pid : Pid) (request : Request) → MakesOne old new pid request → new.boot ≡ old.boot
-boot_kept old new pid request one = ap KeptHistory.boot one.appended.adds.appended
+boot_kept old new pid request one = ap KeptHistory.boot one.answers.adds.appended
 
 -- a call of an orderly script is no stranger's
 pub no_stranger : (book : KeptHistory) (script : Script) (i : ℕ) (line : Line) (request : Request) → IsOrderly (plan_of script) → Makes book script (call_lines (take i script.lines.items)) → i < length script.lines.items → line ≡ get_or script.lines.items i line → line.act ≡ Act.Call request →

@@ -1,3 +1,2 @@
 pub mod Writes
 pub mod Runs
-pub mod Shares

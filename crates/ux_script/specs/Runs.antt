@@ -2,11 +2,11 @@
 use Rattle.std.specs.Prelude.{◌≡◌, ◌⊎◌, ◌+◌, ℕ, not, List, length, map, filter, Option}
 use Rattle.std.specs.List.{range_with_len}
 use Rattle.std.specs.Io.KnownBytes.{Keeps}
-use Rattle.ux_model.specs.Types.{Pid, Request, Entry}
+use Rattle.ux_model.specs.Types.{Entry}
 use Rattle.ux_model.specs.State.{State}
 use Rattle.ux_model.specs.Boot.{new_process}
-use Rattle.ux_history.specs.Books.{KeptHistory, Appends}
-use Rattle.ux_history.specs.Shares as shares
+use Rattle.ux_book.specs.Books as books
+use Rattle.ux_book.specs.Books.{KeptHistory}
 use Rattle.ux_model.specs.History.{IsLegal}
 use Rattle.ux_syntax.specs.declared.fault.ScriptFault.{ScriptFault}
 use Rattle.ux_syntax.specs.declared.script.Act.{Act}
@@ -40,10 +40,4 @@ pub record Makes (book : KeptHistory) (script : Script) (lines : List Line) : Ty
   pub processes : book.boot.processes ≡ map new_process script.procs.items
   pub legal : IsLegal book.boot book.entries
   pub calls : map line_of_entry book.entries ≡ lines
-  pub made : shares.processes book ≡ length script.procs.items + forks_of lines
-
--- a book has one more entry, of this process and request
-pub record MakesOne (old new : KeptHistory) (pid : Pid) (request : Request) : Type 0 where
-  pub k : ℕ
-  pub released : List ℕ
-  pub appended : Appends old new pid k request released
+  pub made : books.processes book ≡ length script.procs.items + forks_of lines

@@ -2,7 +2,6 @@
 #![tactic(auto)]
 
 mod run;
-mod serial;
 mod write;
 
 pub use run::{finish_trace, run_serial};

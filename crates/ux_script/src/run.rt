@@ -1,9 +1,13 @@
 //! Making the calls of a script.
 
-ghost use Rattle.std.specs.Prelude.{◌≡◌, ◌≤◌, ◌⊎◌, ◌++◌, [], false, length, map, IfOk, OnOk, IfErr, OnErr};
+ghost use Rattle.std.specs.Prelude.{◌≡◌, ◌+◌, ◌≤◌, ◌⊎◌, ◌++◌, [], false, length, map, IfOk, OnOk, IfErr, OnErr, if◌then◌else◌};
 ghost use Rattle.std.specs.Io.KnownBytes.{Appends};
 ghost use Rattle.ux_model.specs.Limits.{made_limit};
-ghost use Rattle.ux_model.specs.History.{IsLegal};
+ghost use Rattle.ux_model.specs.State.{is_live};
+ghost use Rattle.ux_model.specs.History.{has_live, is_off, IsLegal};
+ghost use Rattle.ux_book.specs.declared.fault.CallFault.{CallFault};
+ghost use Rattle.ux_book.specs.Books.{state_of, processes, ends_of, has_own_call, is_fork};
+ghost use Rattle.ux_book.specs.Sitting.{MakesOne};
 ghost use Rattle.ux_model.specs.Boot.{IsBootState, new_process};
 ghost use Rattle.ux_syntax.specs.Spelling.{plan_of, known_count, IsOrderly};
 ghost use Rattle.ux_syntax.specs.Turns.{all_turns, call_lines};
@@ -11,17 +15,15 @@ ghost use Rattle.ux_trace.specs.Trace.{trace};
 ghost use Rattle.ux_script.specs.Writes.{AppendsBeginning};
 ghost use Rattle.ux_script.specs.Runs.{line_of_entry, exits_of, Makes, IsRunFault, WritesBeginning};
 
-use crate::serial::Serial;
 use crate::write::write_trace;
 use std::alloc::Global;
 use std::io::Write;
 use std::marker::Brand;
-use std::sync::ledger::Blank;
-use ux_history::{BookName, CallFault, PARTS};
+use ux_book::{BookName, CallFault, Serial, Trail};
 use ux_kernel::Kernel;
 use ux_object::FileObject;
 use ux_syntax::{Act, Script, ScriptFault};
-use ux_types::{Entry, Pid, Request};
+use ux_types::{Entry, Pid, Reply, Request};
 
 /// Makes the script's calls in order on a kernel that has just started with the script's processes,
 /// then an exit of each process that is left, and ends the layer where the script says so; and writes
@@ -52,7 +54,10 @@ pub fn run_serial<O: FileObject, W: Write>(
     // A script that a text spells has no stranger.
     ensures stranger { IfErr result (λ f. f ≡ ScriptFault.Stranger → ¬ IsOrderly (plan_of script.now)) }
 {
-    let entries = match run_calls::<Brand, O>(alloc, Blank::new(PARTS), script, kernel) {
+    let Ok(trail) = Trail::new(alloc) else {
+        return Err(ScriptFault::NoMemory);
+    };
+    let entries = match run_calls::<Brand, O>(alloc, trail, script, kernel) {
         Ok(entries) => entries,
         Err(CallFault::Stranger) => return Err(ScriptFault::Stranger),
         Err(_) => return Err(ScriptFault::NoMemory),
@@ -87,12 +92,11 @@ pub fn finish_trace<W: Write>(
 /// Makes all calls of a run.
 fn run_calls<W: BookName, O: FileObject>(
     alloc: Global,
-    blank: Blank,
+    trail: Trail,
     script: &Script,
     kernel: Kernel<O>,
 ) -> Result<Vec<Entry>, CallFault>
-    requires name { blank.name ≡ W.name }
-    requires parts { (blank.parts ≡ W.parts) × (blank.parts ≡ 1024) }
+    requires trail { trail ≡ record { id = W.trail; entries = []; given = 0 } }
     requires boots { IsBootState kernel }
     requires named { kernel ≡ W.boot }
     requires processes { kernel.processes ≡ map new_process script.now.procs.items }
@@ -100,7 +104,7 @@ fn run_calls<W: BookName, O: FileObject>(
     ensures calls { IfOk result (λ entries. map line_of_entry entries.items ≡ all_turns (plan_of script.now)) }
     ensures stranger { IfErr result (λ f. f ≡ CallFault.Stranger → ¬ IsOrderly (plan_of script.now)) }
 {
-    let Ok(mut serial) = Serial::<W, O>::new(alloc, blank, kernel) else {
+    let Ok(mut serial) = Serial::<W, O>::new(alloc, trail, kernel) else {
         return Err(CallFault::NoMemory);
     };
     make_all(&mut serial, script)?;
@@ -123,7 +127,7 @@ fn make_all<W: BookName, O: FileObject>(
     if !script.off {
         return Ok(());
     }
-    serial.end()
+    end(serial)
 }
 
 /// Makes the script's calls in order. Nobody waits in a run of one thread.
@@ -138,7 +142,7 @@ fn make_calls<W: BookName, O: FileObject>(
 {
     for line in &script.lines {
         match &line.act {
-            Act::Call(request) => serial.call(line.pid, request)?,
+            Act::Call(request) => make_call(serial, line.pid, request)?,
             Act::Wait(..) => {}
         }
     }
@@ -161,8 +165,69 @@ fn make_exits<W: BookName, O: FileObject>(
     for index in 0..count {
         let pid = Pid(index as u32 + 1);
         if serial.is_live(pid) {
-            serial.call(pid, &Request::Exit)?;
+            serial.exit(pid)?;
         }
     }
     Ok(())
+}
+
+/// Makes the call of a line. It is a stranger's where its process doesn't live, or where it asks for the layer's end. A
+/// fork that makes no process is refused as out of memory.
+fn make_call<W: BookName, O: FileObject>(
+    serial: &mut Serial<W, O>,
+    pid: Pid,
+    request: &Request,
+) -> Result<(), CallFault>
+    ensures entry { OnOk result (MakesOne serial.old serial.new pid request.now) }
+    ensures made { OnOk result (processes serial.new ≡ processes serial.old + (if is_fork request.now then 1 else 0)) }
+    ensures stranger { IfErr result (λ f. f ≡ CallFault.Stranger → is_off request.now ≡ false → is_live (state_of serial.old) pid.0 ≡ false) }
+{
+    match request {
+        Request::Off => Err(CallFault::Stranger),
+        Request::Exit => serial.exit(pid),
+        Request::Fork => fork(serial, pid),
+        _ => call(serial, pid, request),
+    }
+}
+
+/// Makes a fork, which makes a process.
+fn fork<W: BookName, O: FileObject>(serial: &mut Serial<W, O>, pid: Pid) -> Result<(), CallFault>
+    ensures entry { OnOk result (MakesOne serial.old serial.new pid Request.Fork) }
+    ensures made { OnOk result (processes serial.new ≡ processes serial.old + 1) }
+    ensures stranger { IfErr result (λ f. f ≡ CallFault.Stranger → is_live (state_of serial.old) pid.0 ≡ false) }
+{
+    match serial.fork(pid) {
+        Ok(Reply::Child(_)) => Ok(()),
+        Ok(_) => Err(CallFault::NoMemory),
+        Err(fault) => Err(fault),
+    }
+}
+
+/// Makes a call that is neither an exit nor a fork.
+fn call<W: BookName, O: FileObject>(
+    serial: &mut Serial<W, O>,
+    pid: Pid,
+    request: &Request,
+) -> Result<(), CallFault>
+    requires { has_own_call request.now ≡ false }
+    ensures entry { OnOk result (MakesOne serial.old serial.new pid request.now) }
+    ensures made { OnOk result (processes serial.new ≡ processes serial.old) }
+    ensures stranger { IfErr result (λ f. f ≡ CallFault.Stranger → is_live (state_of serial.old) pid.0 ≡ false) }
+{
+    match serial.call(pid, request) {
+        Ok(_reply) => Ok(()),
+        Err(fault) => Err(fault),
+    }
+}
+
+/// Ends the layer, when no process is left and it wasn't ended before.
+fn end<W: BookName, O: FileObject>(serial: &mut Serial<W, O>) -> Result<(), CallFault>
+    ensures entry { OnOk result (MakesOne serial.old serial.new (record { 0 = 0 }) Request.Off) }
+    ensures made { OnOk result (processes serial.new ≡ processes serial.old) }
+    ensures stranger { OnErr result (has_live (state_of serial.old) ≡ false → ends_of serial.old.entries ≡ 1) }
+{
+    match serial.off() {
+        Ok(()) => Ok(()),
+        Err(_) => Err(CallFault::Stranger),
+    }
 }

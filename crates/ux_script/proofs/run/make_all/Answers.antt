@@ -1,4 +1,4 @@
-use Rattle.std.proofs.Common.{◌++◌, ap, sym, subst, ◌∙◌, ◌≡◌, ◌+◌, arith}
+use Rattle.std.proofs.Common.{◌++◌, ◌∙◌, arith}
 use Rattle.std.proofs.lemmas.Result.{err_from_is_err_and}
 use Rattle.ux_model.specs.Types.{Request}
 use Rattle.ux_syntax.specs.Turns.{call_lines}
@@ -28,14 +28,14 @@ pub returns-clause-made : goal.returns-clause-made
 returns-clause-made g c =
     let script = c.args.script.now in
     ok_both c.end.result
-    (λ one. makes_same c.end.new.self script _ _ (with_end script c.process_count-count.result (all_known _ script _ c.process_count-count.ensures.count c.in_ok-make_calls.ensures.made) c.if-not-script.false)
-    (makes_more c.make_exits.new.serial c.end.new.self script (record { 0 = 0 }) Request.Off (call_lines script.lines.items ++ exits_of script.lines.items c.process_count-count.result) one.0 (let same = one.1 in omega (arith, same)) c.in_ok-make_exits.ensures.made))
+    (λ one. makes_same c.end.new.serial script _ _ (with_end script c.process_count-count.result (all_known _ script _ c.process_count-count.ensures.count c.in_ok-make_calls.ensures.made) c.if-not-script.false)
+    (makes_more c.make_exits.new.serial c.end.new.serial script (record { 0 = 0 }) Request.Off (call_lines script.lines.items ++ exits_of script.lines.items c.process_count-count.result) one.0 (let same = one.1 in omega (arith, same)) c.in_ok-make_exits.ensures.made))
     c.end.ensures.entry c.end.ensures.made
 
 pub returns-clause-boot : goal.returns-clause-boot
 returns-clause-boot g c =
     ok_then c.end.result
-    (λ one. boot_kept c.make_exits.new.serial c.end.new.self (record { 0 = 0 }) Request.Off one ∙ c.in_ok-make_exits.ensures.boot ∙ c.in_ok-make_calls.ensures.boot)
+    (λ one. boot_kept c.make_exits.new.serial c.end.new.serial (record { 0 = 0 }) Request.Off one ∙ c.in_ok-make_exits.ensures.boot ∙ c.in_ok-make_calls.ensures.boot)
     c.end.ensures.entry
 
 pub returns-clause-stranger : goal.returns-clause-stranger

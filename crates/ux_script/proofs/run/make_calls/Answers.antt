@@ -2,14 +2,15 @@ use Rattle.std.proofs.Common.{◌≡◌, true, ◌<◌, ◌+◌, take, length, a
 use Rattle.std.proofs.lemmas.Bool.{false≢true}
 use Rattle.std.proofs.lemmas.Result.{err_from_is_err_and}
 use Rattle.ux_model.specs.State.{is_live}
-use Rattle.ux_history.specs.Books.{KeptHistory, state_of}
+use Rattle.ux_book.specs.Books.{KeptHistory, state_of}
 use Rattle.ux_model.specs.Types.{Pid}
 use Rattle.ux_syntax.specs.Lines.{Line}
 use Rattle.ux_syntax.specs.Turns.{call_lines}
-use Rattle.ux_script.specs.Runs.{Makes, MakesOne}
+use Rattle.ux_script.specs.Runs.{Makes}
+use Rattle.ux_book.specs.Sitting.{MakesOne}
 use Rattle.ux_script.proofs.Runs.{makes_more, makes_same, boot_kept, call_made, wait_passed, no_stranger}
 use Rattle.ux_script.proofs.run.make_calls.Goals as goal
-use Rattle.ux_script.proofs.run.make_calls.Goals.{in-Call+in_ok-call-in-Call, in-Wait}
+use Rattle.ux_script.proofs.run.make_calls.Goals.{in-Call+in_ok-make_call-in-Call, in-Wait}
 
 pub loop-line-preserved : goal.loop-line-preserved
 loop-line-preserved g c =
@@ -23,15 +24,15 @@ loop-line-preserved g c =
     let act_is : line.act ≡ c.line.inside.act = ap (λ (l : Line). l.act) (sym c.line.view_is) in
     let pid_is : c.line.inside.pid ≡ line.pid = ap (λ (l : Line). l.pid) c.line.view_is in
     elim c.match-line.branch [
-      | in-Call+in_ok-call-in-Call w ↦
+      | in-Call+in_ok-make_call-in-Call w ↦
           let request = w.in-Call.request in
-          let one = subst (λ (pid : Pid). MakesOne old w.call.new.self pid request) pid_is w.in_ok-call-in-Call.ensures.entry in
+          let one = subst (λ (pid : Pid). MakesOne old w.make_call.new.serial pid request) pid_is w.in_ok-make_call-in-Call.ensures.entry in
           record {
             so_far = subst (λ (h : KeptHistory). Makes h script (call_lines (take (i + 1) lines))) (sym w.serial-is)
                 (makes_same _ script _ _ (call_made lines i line request inside item (act_is ∙ w.in-Call.is))
-                (makes_more old w.call.new.self script line.pid request (call_lines (take i lines)) one w.in_ok-call-in-Call.ensures.made c.loop-line.invariant.so_far));
+                (makes_more old w.make_call.new.serial script line.pid request (call_lines (take i lines)) one w.in_ok-make_call-in-Call.ensures.made c.loop-line.invariant.so_far));
             same_boot = subst (λ (h : KeptHistory). h.boot ≡ c.args.serial.now.boot) (sym w.serial-is)
-                (boot_kept old w.call.new.self line.pid request one ∙ c.loop-line.invariant.same_boot);
+                (boot_kept old w.make_call.new.serial line.pid request one ∙ c.loop-line.invariant.same_boot);
           }
       | in-Wait w ↦ record {
         so_far = subst (λ (h : KeptHistory). Makes h script (call_lines (take (i + 1) lines))) (sym w.serial-is)
@@ -41,8 +42,8 @@ loop-line-preserved g c =
     ]
 
 -- the process of a call of an orderly script lives when it is that line's turn
-pub returns-in_err-call-in-Call-clause-stranger : goal.returns-in_err-call-in-Call-clause-stranger
-returns-in_err-call-in-Call-clause-stranger g c =
+pub returns-in_err-make_call-in-Call-clause-stranger : goal.returns-in_err-make_call-in-Call-clause-stranger
+returns-in_err-make_call-in-Call-clause-stranger g c =
     let script = c.args.script.now in
     let i = c.loop-line.line-index in
     let line = c.line-item.result in
@@ -53,4 +54,4 @@ returns-in_err-call-in-Call-clause-stranger g c =
     rw (p.1, p.2) (λ stranger orderly.
     let here = no_stranger c.loop-line.serial script i line request orderly c.loop-line.invariant.so_far inside item (ap (λ (l : Line). l.act) (sym c.line.view_is) ∙ c.in-Call.is) in
     let lives = subst (λ (l : Line). is_live (state_of c.loop-line.serial) l.pid.0 ≡ true) (sym c.line.view_is) here.1 in
-    false≢true (sym (c.in_err-call-in-Call.ensures.stranger stranger here.0) ∙ lives))
+    false≢true (sym (c.in_err-make_call-in-Call.ensures.stranger stranger here.0) ∙ lives))
