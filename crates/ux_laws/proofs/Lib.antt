@@ -1,0 +1,6 @@
+pub mod Parts
+pub mod Acts
+pub mod Doing
+pub mod Flows
+pub mod Senders
+pub mod Makers

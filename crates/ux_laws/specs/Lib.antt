@@ -1,0 +1,4 @@
+pub mod Gathering
+pub mod Talking
+pub mod Streams
+pub mod Credentials
