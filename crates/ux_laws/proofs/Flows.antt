@@ -212,3 +212,48 @@ flow_waits S T p tag request reply d k m (taken t n s x xs a sh) h = bool_cases 
     let queue : waiting_at S d ≡ x ∷ xs = ap (λ (i : ℕ). waiting_at S i) (sym at) ∙ waiting_is S t s a.there ∙ a.waiting in
     inl (w.0, w.1, ap (λ q. slice_get q w.0) queue ∙ w.2, w.3))
     (λ e. inl (k, m, sym (ap (λ q. slice_get q k) (changed_waiting S t d (with_queue (front_of n s x xs).rest) s a.there ∙ ap (λ b. cond b (front_of n s x xs).rest (waiting_at S d)) e)) ∙ shrunk_waits _ T d k m sh h, of_itself m))
+
+-- ---- what stays of kinds
+
+pub kind_kept : (S : State) (t d : ℕ) (change : Socket → Socket) → ((s : Socket) → (change s).kind ≡ s.kind) → kind_at (with_socket_by S t change) d ≡ kind_at S d
+kind_kept S t d change kind = same_at (λ x. kind_in (glance x).0) S.descriptions t d (option_map (changed change) (description_at S t)) (at_place (description_at S t))
+  where
+    at_target : (mode : Mode) (t : Target) → kind_in (glance_target mode (changed_target change t)).0 ≡ kind_in (glance_target mode t).0
+    at_target mode (to_object o) = refl
+    at_target mode (to_socket s) = ap Some (kind s)
+
+    at_place : (x : Option Description) → kind_in (glance (option_map (changed change) x)).0 ≡ kind_in (glance x).0
+    at_place None = refl
+    at_place (Some D) = at_target D.mode D.target
+
+-- a socket of such a kind is there, or none was made yet
+abbrev pub IsAt : (SockType → Bool) → State → ℕ → Type 0
+IsAt of S d = ((k : SockType) × (kind_at S d ≡ Some k) × (of k ≡ true)) ⊎ (length S.descriptions ≤ d)
+
+pub at_socket : (of : SockType → Bool) (S : State) (d : ℕ) (s : Socket) → socket_at S d ≡ Some s → of s.kind ≡ true → IsAt of S d
+at_socket of S d s there h = inl (s.kind, ap (λ (g : Glance). kind_in g.0) (glance_socket S d s there), h)
+
+pub kind_there : (of : SockType → Bool) (S : State) (d : ℕ) (s : Socket) → socket_at S d ≡ Some s → IsAt of S d → of s.kind ≡ true
+kind_there of S d s there at = ⊎_elim {C = of s.kind ≡ true}
+    (λ w. let both : Some s.kind ≡ Some w.0 = sym (ap (λ (g : Glance). kind_in g.0) (glance_socket S d s there)) ∙ w.1 in let same : s.kind ≡ w.0 = cc both in ap of same ∙ w.2)
+    (λ new. let none : Some (socket_parts s) ≡ None = sym (ap (λ (g : Glance). g.0) (glance_socket S d s there)) ∙ ap (λ (g : Glance). g.0) (unmade S d new) in absurd (cc none)) at
+
+pub at_shrunk : (of : SockType → Bool) (V T : State) (d : ℕ) → Shrinks V T → IsAt of T d → IsAt of V d × (waiting_at T d ≡ waiting_at V d)
+at_shrunk of V T d sh at = ⊎_elim {C = IsAt of V d × (waiting_at T d ≡ waiting_at V d)}
+    (λ w. ⊎_elim {C = IsAt of V d × (waiting_at T d ≡ waiting_at V d)}
+    (λ same. (inl (w.0, sym (ap (λ (g : Glance). kind_in g.0) same) ∙ w.1, w.2), ap (λ (g : Glance). waiting_in g.0) same))
+    (λ none. let clash : None ≡ Some w.0 = sym (ap (λ (g : Glance). kind_in g.0) none) ∙ w.1 in absurd (cc clash)) (sh.each d))
+    (λ new.
+    let long = sh.long in
+    let before : length V.descriptions ≤ d = omega (arith, long, new) in
+    (inr before, ap (λ (g : Glance). waiting_in g.0) (unmade T d new) ∙ sym (ap (λ (g : Glance). waiting_in g.0) (unmade V d before)))) at
+
+pub at_calm : (of : SockType → Bool) (S V : State) (d : ℕ) → Calm S V → IsAt of V d → IsAt of S d
+at_calm of S V d c at = ⊎_elim {C = IsAt of S d}
+    (λ w. ⊎_elim {C = IsAt of S d} (λ same. inl (w.0, sym same ∙ w.1, w.2)) (λ new. inr new) (c.kind d))
+    (λ new. let m = c.more in inr (omega (arith, m, new))) at
+
+pub at_changed : (of : SockType → Bool) (S : State) (t d : ℕ) (change : Socket → Socket) → ((s : Socket) → (change s).kind ≡ s.kind) → IsAt of (with_socket_by S t change) d → IsAt of S d
+at_changed of S t d change kind at = ⊎_elim {C = IsAt of S d}
+    (λ w. inl (w.0, sym (kind_kept S t d change kind) ∙ w.1, w.2))
+    (λ new. let l = length-changed S.descriptions t (changed change) in inr (omega (arith, l, new))) at

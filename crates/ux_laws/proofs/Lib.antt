@@ -4,3 +4,5 @@ pub mod Doing
 pub mod Flows
 pub mod Senders
 pub mod Makers
+pub mod Gathers
+pub mod Delivering

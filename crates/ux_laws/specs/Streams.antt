@@ -18,10 +18,10 @@ received_now d S p request reply = if is_peek request then [] else if receives_t
 
 -- the same of all calls of a history, in order
 abbrev pub bytes_sent : State → ℕ → List Entry → List ℕ
-bytes_sent boot d entries = gathered (λ S e. sent_now d S e.pid.0 e.request e.reply) boot entries
+bytes_sent boot d entries = gathered (λ n S e. sent_now d S e.pid.0 e.request e.reply) boot entries
 
 abbrev pub bytes_received : State → ℕ → List Entry → List ℕ
-bytes_received boot d entries = gathered (λ S e. received_now d S e.pid.0 e.request e.reply) boot entries
+bytes_received boot d entries = gathered (λ n S e. received_now d S e.pid.0 e.request e.reply) boot entries
 
 -- What was sent to a stream socket is what was received from it, followed by what waits at it, as long as it is there.
 abbrev pub StreamsAreReliable : Type 0

@@ -4,6 +4,7 @@
 #![tactic(auto)]
 
 ghost use Rattle.ux_laws.specs.Credentials.{CredentialsAreTheSenders, PeersAreTheMakers};
+ghost use Rattle.ux_laws.specs.Streams.{StreamsAreReliable};
 
 /// Credentials that a receive or a peek reports (SCM_CREDENTIALS) are those that the sending process had at
 /// the time of its send, or that it gave while it was privileged; and each message of which the receive gives
@@ -17,4 +18,12 @@ pub fn nobody_forges_credentials()
 #[tactic(auto, using(crate::proofs::Makers::peers_are_the_makers))]
 pub fn peers_are_who_made_the_connection()
     ensures { PeersAreTheMakers }
+{}
+
+/// Streams are reliable: the bytes that sends and writes to a stream socket were answered to have taken, in
+/// order, are those that receives and reads were given by it, in order, and then those that wait at it, as
+/// long as it is there. Peeks take nothing.
+#[tactic(auto, using(crate::proofs::Delivering::streams_are_reliable))]
+pub fn streams_are_reliable()
+    ensures { StreamsAreReliable }
 {}
