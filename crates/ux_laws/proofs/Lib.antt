@@ -6,3 +6,7 @@ pub mod Senders
 pub mod Makers
 pub mod Gathers
 pub mod Delivering
+pub mod Ways
+pub mod Touching
+pub mod Opened
+pub mod NoWay

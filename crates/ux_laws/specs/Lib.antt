@@ -2,3 +2,4 @@ pub mod Gathering
 pub mod Talking
 pub mod Streams
 pub mod Credentials
+pub mod Files

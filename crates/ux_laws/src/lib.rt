@@ -4,6 +4,7 @@
 #![tactic(auto)]
 
 ghost use Rattle.ux_laws.specs.Credentials.{CredentialsAreTheSenders, PeersAreTheMakers};
+ghost use Rattle.ux_laws.specs.Files.{EachHoldingHasAPedigree, ChangesHaveAWay, ReadsHaveAWay, StrangersHaveNoWay, StrangersChangeNothing};
 ghost use Rattle.ux_laws.specs.Streams.{StreamsAreReliable};
 
 /// Credentials that a receive or a peek reports (SCM_CREDENTIALS) are those that the sending process had at
@@ -26,4 +27,34 @@ pub fn peers_are_who_made_the_connection()
 #[tactic(auto, using(crate::proofs::Delivering::streams_are_reliable))]
 pub fn streams_are_reliable()
     ensures { StreamsAreReliable }
+{}
+
+/// Each descriptor that a process holds has a pedigree: a chain of holdings leads to it from the call that made
+/// what it leads to.
+pub fn each_holding_has_a_pedigree()
+    ensures { EachHoldingHasAPedigree }
+{}
+
+/// What is in a file object changes by a write through a descriptor whose pedigree begins with an open of that
+/// object for writing, or, in a pipe or a counter, by a read through one for reading, which takes what it gives.
+/// No other call changes it.
+pub fn who_changes_a_file_has_a_way()
+    ensures { ChangesHaveAWay }
+{}
+
+/// A read that is answered with bytes of a file object is through a descriptor whose pedigree begins with an
+/// open of that object for reading.
+pub fn who_reads_a_file_has_a_way()
+    ensures { ReadsHaveAWay }
+{}
+
+/// Processes that never opened a path and were sent no descriptor, nor did or was any that made them by fork,
+/// have no descriptor that leads to its file object.
+pub fn strangers_have_no_way()
+    ensures { StrangersHaveNoWay }
+{}
+
+/// So they don't change what is in it.
+pub fn strangers_change_no_file()
+    ensures { StrangersChangeNothing }
 {}
