@@ -1,5 +1,5 @@
 -- What a call does to descriptions, as far as Parts sees them: one case a kind of change, and what is known of the call then.
-use Rattle.std.proofs.Common.{◌≡◌, ℕ, suc, ◌==◌, Bool, true, false, not, ◌&&◌, ◌||◌, if◌then◌else◌, List, [], ◌∷◌, ◌++◌, length, take, Option, Some, None, Ok, Err, refl, ap, sym, ◌∙◌}
+use Rattle.std.proofs.Common.{◌≡◌, ◌⊎◌, ℕ, suc, ◌==◌, Bool, true, false, not, ◌&&◌, ◌||◌, if◌then◌else◌, List, [], ◌∷◌, ◌++◌, length, take, Option, Some, None, Ok, Err, refl, ap, sym, ◌∙◌}
 use Rattle.std.specs.Prelude.{ℤ}
 use Rattle.std.proofs.lemmas.Bool.{eqb-true, false≢true}
 use Rattle.ux_model.specs.Types.{Fd, Cred, Name, Addr, SockType, Mode, OpenFlags, Request, Reply}
@@ -19,19 +19,11 @@ use Rattle.ux_model.specs.Giving.{sent_by}
 use Rattle.ux_model.proofs.ByPlace.{take_none}
 use Rattle.ux_laws.specs.Talking.{endpoint, offered_bytes, given_addr, is_peek, taken_count, given_bytes, socket_through, goes_to, destination, is_number, is_first, sends_to, receives_through}
 use Rattle.ux_laws.specs.Streams.{sent_now, received_now}
+use Rattle.ux_laws.specs.Records.{is_count, is_given}
 use Rattle.ux_laws.specs.Credentials.{MaySend}
 use Rattle.ux_laws.proofs.Parts.{Shrinks, shrunk_after}
 
 -- ---- nothing goes out or comes in
-
-abbrev pub is_count : Reply → Bool
-is_count (Reply.Count n) = true
-is_count _ = false
-
-abbrev pub is_given : Reply → Bool
-is_given (Reply.Bytes bytes) = true
-is_given (Reply.Received flags count bytes control from) = true
-is_given _ = false
 
 abbrev pub is_silent : Reply → Bool
 is_silent (Reply.Count n) = false
@@ -42,10 +34,10 @@ is_silent _ = true
 pub record MovesNothing (S : State) (p : ℕ) (request : Request) (reply : Reply) : Type 0 where
   pub bytes_out : (d : ℕ) → sent_now d S p request reply ≡ []
   pub bytes_in : (d : ℕ) → received_now d S p request reply ≡ []
-  -- and no record
-  pub record_out : (d : ℕ) (t : Socket) → socket_at S d ≡ Some t → is_stream t.kind ≡ false → sends_to S d p request ≡ true → is_count reply ≡ false
-  pub record_in : (d : ℕ) (s : Socket) → socket_at S d ≡ Some s → is_stream s.kind ≡ false → receives_through S d p request ≡ true → is_peek request ≡ false →
-      is_given reply ≡ true → s.queue ≡ []
+  -- What is taken all the same is nothing of a stream, and what is given where nothing waits.
+  pub record_out : (d : ℕ) → sends_to S d p request ≡ true → is_count reply ≡ true → (t : Socket) × (socket_at S d ≡ Some t) × (is_stream t.kind ≡ true)
+  pub record_in : (d : ℕ) → receives_through S d p request ≡ true → is_peek request ≡ false → is_given reply ≡ true →
+      (s : Socket) × (socket_through S p request ≡ Some (d, s)) × (socket_at S d ≡ Some s) × ((s.queue ≡ []) ⊎ (is_stream s.kind ≡ true))
 
 silent_count : (reply : Reply) → is_silent reply ≡ true → (taken_count reply ≡ 0) × (is_count reply ≡ false)
 silent_count (Reply.Count n) h = absurd (false≢true h)
@@ -71,8 +63,8 @@ silent {S} {p} {request} {reply} h =
     record {
       bytes_out = λ d. either_none (sends_to S d p request) (take (taken_count reply) (offered_bytes request)) (ap (λ n. take n (offered_bytes request)) counts.0 ∙ take_none (offered_bytes request));
       bytes_in = λ d. none_either (is_peek request) _ (either_none (receives_through S d p request) (given_bytes reply) gives.0);
-      record_out = λ d t there kind to. counts.1;
-      record_in = λ d s there kind by peek given. absurd (false≢true (sym gives.1 ∙ given));
+      record_out = λ d to count. absurd (false≢true (sym counts.1 ∙ count));
+      record_in = λ d by peek given. absurd (false≢true (sym gives.1 ∙ given));
     }
 
 -- what is no call at a socket
@@ -80,8 +72,8 @@ pub at_no_socket : {S : State} {p : ℕ} {request : Request} {reply : Reply} →
 at_no_socket {S} {p} {request} {reply} h = record {
   bytes_out = λ d. ap (λ b. if b then take (taken_count reply) (offered_bytes request) else []) (nowhere d);
   bytes_in = λ d. none_either (is_peek request) _ (ap (λ b. if b then given_bytes reply else []) (by_none d));
-  record_out = λ d t there kind to. absurd (false≢true (sym (nowhere d) ∙ to));
-  record_in = λ d s there kind by peek given. absurd (false≢true (sym (by_none d) ∙ by));
+  record_out = λ d to count. absurd (false≢true (sym (nowhere d) ∙ to));
+  record_in = λ d by peek given. absurd (false≢true (sym (by_none d) ∙ by));
 }
   where
     nowhere : (d : ℕ) → sends_to S d p request ≡ false

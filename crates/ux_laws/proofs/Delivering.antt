@@ -25,7 +25,8 @@ use Rattle.ux_model.proofs.Replays.{step_replay}
 use Rattle.ux_laws.specs.Talking.{offered_bytes, given_addr, is_peek, taken_count, given_bytes, socket_through, goes_to, destination, is_number, is_first, sends_to, receives_through}
 use Rattle.ux_laws.specs.Streams.{sent_now, received_now, bytes_sent, bytes_received, StreamsAreReliable}
 use Rattle.ux_laws.proofs.Parts.{Shrinks, glance}
-use Rattle.ux_laws.proofs.Acts.{is_given, either_none, none_either, IsSending, IsTaking}
+use Rattle.ux_laws.specs.Records.{is_given}
+use Rattle.ux_laws.proofs.Acts.{either_none, none_either, IsSending, IsTaking}
 use Rattle.ux_laws.proofs.Flows.{waiting_in, waiting_at, waiting_is, Flow, calm, put_in, taken, step_flow, IsAt, at_socket, kind_there, at_shrunk, at_calm, at_changed, changed_waiting}
 use Rattle.ux_laws.proofs.Gathers.{gathered_push}
 

@@ -51,7 +51,8 @@ use Rattle.ux_model.proofs.Calls.{each_obeys}
 use Rattle.ux_laws.specs.Talking.{endpoint, offered_bytes, given_addr, is_peek, taken_count, given_bytes, if_found, socket_through, named_target, goes_to, destination, is_number, is_first, sends_to, receives_through}
 use Rattle.ux_laws.specs.Credentials.{given_cred, cred_of_control, MaySend, its_own, others}
 use Rattle.ux_laws.proofs.Parts.{glance, Kept, kept_same, kept_after, kept_table, kept_put, kept_by, kept_socket, same_target, awaiting_parts, left_parts, Shrinks, kept_shrinks, shrunk_after, settled_shrinks}
-use Rattle.ux_laws.proofs.Acts.{is_count, is_given, is_silent, MovesNothing, either_none, none_either, silent, at_no_socket, IsSending, IsTaking, Did, quiet, opened, one_made, pair_made, listened, tied_to, connected as connecting, put, took, did_after}
+use Rattle.ux_laws.specs.Records.{is_count, is_given}
+use Rattle.ux_laws.proofs.Acts.{is_silent, MovesNothing, either_none, none_either, silent, at_no_socket, IsSending, IsTaking, Did, quiet, opened, one_made, pair_made, listened, tied_to, connected as connecting, put, took, did_after}
 
 -- ---- by what an outcome is made of
 
@@ -82,22 +83,22 @@ empty_handed : {S : State} {p : ℕ} {request : Request} {reply : Reply} (d n : 
 empty_handed {S} {p} {request} {reply} d n s through there none count bytes counts = record {
   bytes_out = λ d. either_none (sends_to S d p request) (take (taken_count reply) (offered_bytes request)) (ap (λ n. take n (offered_bytes request)) count ∙ take_none (offered_bytes request));
   bytes_in = λ d. none_either (is_peek request) _ (either_none (receives_through S d p request) (given_bytes reply) bytes);
-  record_out = λ d t there kind to. counts;
-  record_in = λ e u here kind by peek given.
-      let at : d ≡ e = found_is d e s u (socket_through S p request) through by in
-      let both : Some s ≡ Some u = sym there ∙ ap (λ (k : ℕ). socket_at S k) at ∙ here in
-      let same : s ≡ u = cc both in
-      ⊎_elim {C = u.queue ≡ []} (λ q. sym (ap (λ (w : Socket). w.queue) same) ∙ q)
-      (λ b. let parts = and_parts (is_stream s.kind) (n == 0) b in absurd (false≢true (sym kind ∙ sym (ap (λ (w : Socket). is_stream w.kind) same) ∙ parts.0)))
-      none;
+  record_out = λ d to count. absurd (false≢true (sym counts ∙ count));
+  record_in = λ e by peek given.
+      let at : d ≡ e = found_is d e s s (socket_through S p request) through by in (
+        s,
+        through ∙ ap (λ (k : ℕ). Some (k, s)) at,
+        ap (λ (k : ℕ). socket_at S k) (sym at) ∙ there,
+        ⊎_elim {C = (s.queue ≡ []) ⊎ (is_stream s.kind ≡ true)} (λ q. inl q) (λ b. inr (and_parts (is_stream s.kind) (n == 0) b).0) none,
+      );
 }
 
 peeked : {S : State} {p : ℕ} {request : Request} {reply : Reply} → is_peek request ≡ true → taken_count reply ≡ 0 → is_count reply ≡ false → MovesNothing S p request reply
 peeked {S} {p} {request} {reply} peek count counts = record {
   bytes_out = λ d. either_none (sends_to S d p request) (take (taken_count reply) (offered_bytes request)) (ap (λ n. take n (offered_bytes request)) count ∙ take_none (offered_bytes request));
   bytes_in = λ d. ap (λ b. if b then [] else if receives_through S d p request then given_bytes reply else []) peek;
-  record_out = λ d t there kind to. counts;
-  record_in = λ e u here kind by takes given. absurd (false≢true (sym takes ∙ peek));
+  record_out = λ d to count. absurd (false≢true (sym counts ∙ count));
+  record_in = λ e by takes given. absurd (false≢true (sym takes ∙ peek));
 }
 
 -- ---- descriptors and processes
@@ -412,12 +413,10 @@ nothing_offered : {S : State} {p t end : ℕ} {request : Request} {s other : Soc
 nothing_offered {S} {p} {t} {end} {request} {s} {other} through goes there streams = record {
   bytes_out = λ d. either_none (sends_to S d p request) (take 0 (offered_bytes request)) (take_none (offered_bytes request));
   bytes_in = λ d. none_either (is_peek request) _ (either_none (receives_through S d p request) [] refl);
-  record_out = λ d u here kind to.
+  record_out = λ d to count.
       let at : t ≡ d = eqb-true t d (sym (ap (is_number d) (goes_there S p t request end s through goes)) ∙ to) in
-      let both : Some other ≡ Some u = sym there ∙ ap (λ (k : ℕ). socket_at S k) at ∙ here in
-      let same : other ≡ u = cc both in
-      absurd (false≢true (sym kind ∙ sym (ap (λ (w : Socket). is_stream w.kind) same) ∙ streams));
-  record_in = λ d u here kind by takes given. absurd (false≢true given);
+      (other, ap (λ (k : ℕ). socket_at S k) (sym at) ∙ there, streams);
+  record_in = λ d by takes given. absurd (false≢true given);
 }
 
 enqueue_did : (S : State) (p tag : ℕ) (request : Request) (limit : Option ℕ) (t end : ℕ) (s other : Socket) (P : Process) (m : Message) → IsOffered S p tag request end s P m → IsFrom s m →
@@ -593,13 +592,13 @@ found_socket_is S p fd e D g h =
     ∙ ap (λ (x : Option Description). elim (elim x as (λ _. Result (Descriptor × Description) Errno) [ None ↦ Err Errno.EBADF | Some D ↦ Ok (e, D) ])
     as (λ _. Result (ℕ × Socket) Errno) [ Err x ↦ Err x | Ok w ↦ elim (socket_of w.1.target) as (λ _. Result (ℕ × Socket) Errno) [ None ↦ Err Errno.ENOTSOCK | Some s ↦ Ok (w.0.description, s) ] ]) h
 
-no_socket_at : (S : State) (p o : ℕ) (fd : Fd) (request : Request) (e : Descriptor) (D : Description) → endpoint request ≡ Some fd → descriptor_at S p fd ≡ Some e → description_at S e.description ≡ Some D → D.target ≡ to_object o →
+pub no_socket_at : (S : State) (p o : ℕ) (fd : Fd) (request : Request) (e : Descriptor) (D : Description) → endpoint request ≡ Some fd → descriptor_at S p fd ≡ Some e → description_at S e.description ≡ Some D → D.target ≡ to_object o →
     socket_through S p request ≡ None
 no_socket_at S p o fd request e D asked g h t =
     ap (λ (o : Option Fd). elim o as (λ _. Option (ℕ × Socket)) [ None ↦ None | Some fd ↦ if_found (find_socket S p fd) ]) asked
     ∙ ap if_found (found_socket_is S p fd e D g h ∙ ap (λ t. elim (socket_of t) as (λ _. Result (ℕ × Socket) Errno) [ None ↦ Err Errno.ENOTSOCK | Some s ↦ Ok (e.description, s) ]) t)
 
-found_at : (S : State) (p : ℕ) (fd : Fd) (e : Descriptor) (D : Description) (s : Socket) → descriptor_at S p fd ≡ Some e → description_at S e.description ≡ Some D → D.target ≡ to_socket s →
+pub found_at : (S : State) (p : ℕ) (fd : Fd) (e : Descriptor) (D : Description) (s : Socket) → descriptor_at S p fd ≡ Some e → description_at S e.description ≡ Some D → D.target ≡ to_socket s →
     find_socket S p fd ≡ Ok (e.description, s)
 found_at S p fd e D s g h t = found_socket_is S p fd e D g h ∙ ap (λ t. elim (socket_of t) as (λ _. Result (ℕ × Socket) Errno) [ None ↦ Err Errno.ENOTSOCK | Some s ↦ Ok (e.description, s) ]) t
 

@@ -10,3 +10,5 @@ pub mod Ways
 pub mod Touching
 pub mod Opened
 pub mod NoWay
+pub mod Packets
+pub mod Whole

@@ -3,3 +3,4 @@ pub mod Talking
 pub mod Streams
 pub mod Credentials
 pub mod Files
+pub mod Records

@@ -5,6 +5,7 @@
 
 ghost use Rattle.ux_laws.specs.Credentials.{CredentialsAreTheSenders, PeersAreTheMakers};
 ghost use Rattle.ux_laws.specs.Files.{EachHoldingHasAPedigree, ChangesHaveAWay, ReadsHaveAWay, StrangersHaveNoWay, StrangersChangeNothing};
+ghost use Rattle.ux_laws.specs.Records.{RecordsArriveInOrder, RecordsArriveOnce, RecordsArriveWhole, ReadRecordsArriveWhole};
 ghost use Rattle.ux_laws.specs.Streams.{StreamsAreReliable};
 
 /// Credentials that a receive or a peek reports (SCM_CREDENTIALS) are those that the sending process had at
@@ -57,4 +58,27 @@ pub fn strangers_have_no_way()
 /// So they don't change what is in it.
 pub fn strangers_change_no_file()
     ensures { StrangersChangeNothing }
+{}
+
+/// The packets that were sent to a datagram or seqpacket socket, in order, are those that receives and reads took
+/// from it, in order, and then those that wait at it, as long as it is there. Each has the bytes of its send, and
+/// the name that its sender had then.
+pub fn records_come_in_order()
+    ensures { RecordsArriveInOrder }
+{}
+
+/// No packet is taken twice.
+pub fn no_record_comes_twice()
+    ensures { RecordsArriveOnce }
+{}
+
+/// A receive or a peek gives the oldest packet that waits, cut to as many bytes as it asked for; MSG_TRUNC is told
+/// exactly where bytes were left out.
+pub fn records_come_whole()
+    ensures { RecordsArriveWhole }
+{}
+
+/// A read gives the bytes of the oldest packet that waits, cut to as many as it asked for.
+pub fn read_records_come_whole()
+    ensures { ReadRecordsArriveWhole }
 {}
