@@ -12,3 +12,5 @@ pub mod Opened
 pub mod NoWay
 pub mod Packets
 pub mod Whole
+pub mod Installing
+pub mod Spent

@@ -4,3 +4,4 @@ pub mod Streams
 pub mod Credentials
 pub mod Files
 pub mod Records
+pub mod Rights

@@ -6,6 +6,7 @@
 ghost use Rattle.ux_laws.specs.Credentials.{CredentialsAreTheSenders, PeersAreTheMakers};
 ghost use Rattle.ux_laws.specs.Files.{EachHoldingHasAPedigree, ChangesHaveAWay, ReadsHaveAWay, StrangersHaveNoWay, StrangersChangeNothing};
 ghost use Rattle.ux_laws.specs.Records.{RecordsArriveInOrder, RecordsArriveOnce, RecordsArriveWhole, ReadRecordsArriveWhole};
+ghost use Rattle.ux_laws.specs.Rights.{RightsComeOnce, RightsComeWithTheirMessage};
 ghost use Rattle.ux_laws.specs.Streams.{StreamsAreReliable};
 
 /// Credentials that a receive or a peek reports (SCM_CREDENTIALS) are those that the sending process had at
@@ -81,4 +82,15 @@ pub fn records_come_whole()
 /// A read gives the bytes of the oldest packet that waits, cut to as many as it asked for.
 pub fn read_records_come_whole()
     ensures { ReadRecordsArriveWhole }
+{}
+
+/// One call at most, peeks apart, installs rights of the message that one send made.
+pub fn rights_come_once()
+    ensures { RightsComeOnce }
+{}
+
+/// The rights that a receive or a peek installs are of one message: it gives a byte of that, at a stream, and none of
+/// a later one; those before have no rights.
+pub fn rights_come_with_their_message()
+    ensures { RightsComeWithTheirMessage }
 {}
