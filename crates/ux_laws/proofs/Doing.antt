@@ -280,7 +280,7 @@ look_up_there S kind addr d s h = by_addr addr h
     by_addr (Addr.Path name) f = by_path_target (named name S.paths) f
     by_addr (Addr.Abstract name) f = by_name (named name S.abstract_names) f
 
-by_addr : (Q : Outcome → Type 0) (S : State) (kind : SockType) (addr : Addr) (rest : ℕ → Socket → Outcome) → ((e : Errno) → Q (refuse S e)) →
+pub by_addr : (Q : Outcome → Type 0) (S : State) (kind : SockType) (addr : Addr) (rest : ℕ → Socket → Outcome) → ((e : Errno) → Q (refuse S e)) →
     ((d : ℕ) (s : Socket) → look_up S kind addr ≡ Ok (d, s) → socket_at S d ≡ Some s → Q (rest d s)) →
     Q (elim (look_up S kind addr) as (λ _. Outcome) [ Err e ↦ refuse S e | Ok w ↦ rest w.0 w.1 ])
 by_addr Q S kind addr rest bad rest_of = go (look_up S kind addr) refl

@@ -14,3 +14,5 @@ pub mod Packets
 pub mod Whole
 pub mod Installing
 pub mod Spent
+pub mod Near
+pub mod LeftAlone

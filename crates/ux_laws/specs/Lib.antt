@@ -5,3 +5,4 @@ pub mod Credentials
 pub mod Files
 pub mod Records
 pub mod Rights
+pub mod Reach

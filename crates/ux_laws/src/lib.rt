@@ -5,6 +5,7 @@
 
 ghost use Rattle.ux_laws.specs.Credentials.{CredentialsAreTheSenders, PeersAreTheMakers};
 ghost use Rattle.ux_laws.specs.Files.{EachHoldingHasAPedigree, ChangesHaveAWay, ReadsHaveAWay, StrangersHaveNoWay, StrangersChangeNothing};
+ghost use Rattle.ux_laws.specs.Reach.{CallsLeaveOthersAlone, CallsLeaveTablesAlone};
 ghost use Rattle.ux_laws.specs.Records.{RecordsArriveInOrder, RecordsArriveOnce, RecordsArriveWhole, ReadRecordsArriveWhole};
 ghost use Rattle.ux_laws.specs.Rights.{RightsComeOnce, RightsComeWithTheirMessage};
 ghost use Rattle.ux_laws.specs.Streams.{StreamsAreReliable};
@@ -93,4 +94,16 @@ pub fn rights_come_once()
 /// a later one; those before have no rights.
 pub fn rights_come_with_their_message()
     ensures { RightsComeWithTheirMessage }
+{}
+
+/// A call changes no description but those in its reach (that its process's descriptors lead to, their peers,
+/// targets and oldest waiting ends, and what the address that it gives leads to), those that it frees, and the
+/// peers of these, which are reset.
+pub fn calls_leave_others_alone()
+    ensures { CallsLeaveOthersAlone }
+{}
+
+/// A call changes no table but that of its process and of a child that it makes. The layer's end empties all.
+pub fn calls_leave_tables_alone()
+    ensures { CallsLeaveTablesAlone }
 {}
