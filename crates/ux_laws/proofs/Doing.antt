@@ -714,6 +714,12 @@ chosen_did S T p tag request reply o did obeys (failing e f) =
     let one = (obeys.failed T f).0 in
     subst (λ (r : Reply). Did S p tag request r T) (sym e) (answers refl (kept_same S T (ap (λ (U : State). U.descriptions) one.left)))
 
+-- what a step's call leaves, before anything goes
+pub step_between : (S T : State) (p tag : ℕ) (request : Request) (reply : Reply) (gone : List ℕ) → Step S p tag request reply gone T →
+    (U : State) × Chosen S (outcome S p tag request) reply U × Did S p tag request reply U × (T ≡ settled U)
+unfolding Step
+step_between S T p tag request reply gone s = (s.0, s.1, chosen_did S s.0 p tag request reply (outcome S p tag request) (each_did S p tag request) (each_obeys S p tag request) s.1, s.3)
+
 pub step_did : (S T : State) (p tag : ℕ) (request : Request) (reply : Reply) (gone : List ℕ) → Step S p tag request reply gone T → Did S p tag request reply T
 unfolding Step
 step_did S T p tag request reply gone s =

@@ -25,7 +25,8 @@ use Rattle.ux_laws.proofs.Near.{NearAt, stays, reached, new, gone as dropped, Ne
 pub data Lost (S T : State) (d : ℕ) : Type 0 where
   same : description_at T d ≡ description_at S d → Lost S T d
   lost : description_at T d ≡ None → Lost S T d
-  reset : LosesPeer S T d → Lost S T d
+  -- by the loss of its peer, which was there
+  reset : (r : LosesPeer S T d) → is_some (description_at S r.peer) ≡ true → Lost S T d
 
 or_none : (b : Bool) → (b || false) ≡ b
 or_none true = refl
@@ -35,11 +36,15 @@ or_one : (b : Bool) → (b || true) ≡ true
 or_one true = refl
 or_one false = refl
 
+was_there : (x : Option Description) → resets_peer (socket_in x) ≡ true → is_some x ≡ true
+was_there None h = absurd (false≢true h)
+was_there (Some D) h = refl
+
 -- whose loss resets a socket in this phase
-reset_by : (gone : ℕ → Bool) (S : State) (phase : Phase) → is_reset_by_loss gone S phase ≡ true → (peer : ℕ) × (peer_of phase ≡ Some peer) × (gone peer ≡ true)
+reset_by : (gone : ℕ → Bool) (S : State) (phase : Phase) → is_reset_by_loss gone S phase ≡ true → (peer : ℕ) × (peer_of phase ≡ Some peer) × (gone peer ≡ true) × (is_some (description_at S peer) ≡ true)
 reset_by gone S idle h = absurd (false≢true h)
 reset_by gone S (listening backlog cred) h = absurd (false≢true h)
-reset_by gone S (connected peer) h = (peer, refl, (and_parts (gone peer) (resets_peer (socket_at S peer)) h).0)
+reset_by gone S (connected peer) h = let parts = and_parts (gone peer) (resets_peer (socket_at S peer)) h in (peer, refl, parts.0, was_there (description_at S peer) parts.1)
 reset_by gone S (associated target) h = absurd (false≢true h)
 
 round_lost : (gone : ℕ → Bool) (S : State) (d : ℕ) → Lost S (without gone S) d
@@ -65,7 +70,7 @@ round_lost gone S d = go (gone d) refl (description_at S d) refl (description_at
           to = w.1;
           lost = there w.0 w.2;
           left = left ∙ ap (λ b. Some (record D { target = to_socket (with_reset (s.reset || b) s) })) e ∙ ap (λ b. Some (record D { target = to_socket (with_reset b s) })) (or_one s.reset) ∙ ap (λ (u : Target). Some (record D { target = changed_target (with_reset true) u })) (sym is);
-        }))
+        }) w.3)
         (λ e. same (left ∙ ap (λ b. Some (record D { target = to_socket (with_reset (s.reset || b) s) })) e ∙ ap (λ b. Some (record D { target = to_socket (with_reset b s) })) (or_none s.reset) ∙ ap (λ (u : Target). Some (record D { target = u })) (sym is) ∙ sym here))
 
     go : (b : Bool) → gone d ≡ b → (x : Option Description) → description_at S d ≡ x → description_at T d ≡ place_after_loss gone S (d, description_at S d) → Lost S T d
@@ -77,7 +82,7 @@ round_lost gone S d = go (gone d) refl (description_at S d) refl (description_at
 pub stays_gone : (S T : State) (d : ℕ) → Lost S T d → description_at S d ≡ None → description_at T d ≡ None
 stays_gone S T d (same e) h = e ∙ h
 stays_gone S T d (lost e) h = e
-stays_gone S T d (reset r) h = let clash : None ≡ Some r.description = sym h ∙ r.there in absurd (cc clash)
+stays_gone S T d (reset r had) h = let clash : None ≡ Some r.description = sym h ∙ r.there in absurd (cc clash)
 
 reset_twice : (D : Description) → changed (with_reset true) (changed (with_reset true) D) ≡ changed (with_reset true) D
 reset_twice D = ap (λ (t : Target). record D { target = t }) (at_target D.target)
@@ -86,14 +91,20 @@ reset_twice D = ap (λ (t : Target). record D { target = t }) (at_target D.targe
     at_target (to_object o) = refl
     at_target (to_socket s) = refl
 
-pub lost_after : (S T U : State) (d : ℕ) → ((e : ℕ) → Lost T U e) → Lost S T d → Lost T U d → Lost S U d
-lost_after S T U d all (same e) (same f) = same (f ∙ e)
-lost_after S T U d all (same e) (lost f) = lost f
-lost_after S T U d all (same e) (reset r) = reset (record { description = r.description; socket = r.socket; peer = r.peer; there = sym e ∙ r.there; connected = sym (ap socket_in e) ∙ r.connected; to = r.to; lost = r.lost; left = r.left })
-lost_after S T U d all (lost e) g = lost (stays_gone T U d g e)
-lost_after S T U d all (reset r) (same f) = reset (record { description = r.description; socket = r.socket; peer = r.peer; there = r.there; connected = r.connected; to = r.to; lost = stays_gone T U r.peer (all r.peer) r.lost; left = f ∙ r.left })
-lost_after S T U d all (reset r) (lost f) = lost f
-lost_after S T U d all (reset r) (reset q) =
+-- and what is there was there
+was_before : (S T : State) (d : ℕ) → Lost S T d → is_some (description_at T d) ≡ true → is_some (description_at S d) ≡ true
+was_before S T d (same e) h = sym (ap is_some e) ∙ h
+was_before S T d (lost e) h = absurd (false≢true (sym (ap is_some e) ∙ h))
+was_before S T d (reset r had) h = ap is_some r.there
+
+pub lost_after : (S T U : State) (d : ℕ) → ((e : ℕ) → Lost S T e) → ((e : ℕ) → Lost T U e) → Lost S T d → Lost T U d → Lost S U d
+lost_after S T U d first all (same e) (same f) = same (f ∙ e)
+lost_after S T U d first all (same e) (lost f) = lost f
+lost_after S T U d first all (same e) (reset r had) = reset (record { description = r.description; socket = r.socket; peer = r.peer; there = sym e ∙ r.there; connected = sym (ap socket_in e) ∙ r.connected; to = r.to; lost = r.lost; left = r.left }) (was_before S T r.peer (first r.peer) had)
+lost_after S T U d first all (lost e) g = lost (stays_gone T U d g e)
+lost_after S T U d first all (reset r had) (same f) = reset (record { description = r.description; socket = r.socket; peer = r.peer; there = r.there; connected = r.connected; to = r.to; lost = stays_gone T U r.peer (all r.peer) r.lost; left = f ∙ r.left }) had
+lost_after S T U d first all (reset r had) (lost f) = lost f
+lost_after S T U d first all (reset r had) (reset q also) =
     let both : Some q.description ≡ Some (changed (with_reset true) r.description) = sym q.there ∙ r.left in
     let is : q.description ≡ changed (with_reset true) r.description = cc both in
     reset (record {
@@ -105,7 +116,7 @@ lost_after S T U d all (reset r) (reset q) =
       to = r.to;
       lost = stays_gone T U r.peer (all r.peer) r.lost;
       left = q.left ∙ ap (λ (D : Description). Some (changed (with_reset true) D)) is ∙ ap (λ (D : Description). Some D) (reset_twice r.description);
-    })
+    }) had
 
 rounds_lost : (n : ℕ) (S : State) (d : ℕ) → Lost S (drop_rounds n S) d
 unfolding drop_rounds
@@ -113,14 +124,14 @@ rounds_lost zero S d = same refl
 rounds_lost (suc n) S d = go (λ e. rounds_lost n (drop_all S) e) (has_unreferenced S)
   where
     go : ((e : ℕ) → Lost (drop_all S) (drop_rounds n (drop_all S)) e) → (b : Bool) → Lost S (elim b as (λ _. State) [ true ↦ drop_rounds n (drop_all S) | false ↦ S ]) d
-    go rest true = lost_after S (drop_all S) (drop_rounds n (drop_all S)) d rest (round_lost (is_unreferenced S) S d) (rest d)
+    go rest true = lost_after S (drop_all S) (drop_rounds n (drop_all S)) d (λ e. round_lost (is_unreferenced S) S e) rest (round_lost (is_unreferenced S) S d) (rest d)
     go rest false = same refl
 
 -- where the descriptions are the same
 alike_lost : (S T U : State) (d : ℕ) → U.descriptions ≡ T.descriptions → Lost S T d → Lost S U d
 alike_lost S T U d h (same e) = same (ap (λ ds. place ds d) h ∙ e)
 alike_lost S T U d h (lost e) = lost (ap (λ ds. place ds d) h ∙ e)
-alike_lost S T U d h (reset r) = reset (record { description = r.description; socket = r.socket; peer = r.peer; there = r.there; connected = r.connected; to = r.to; lost = ap (λ ds. place ds r.peer) h ∙ r.lost; left = ap (λ ds. place ds d) h ∙ r.left })
+alike_lost S T U d h (reset r had) = reset (record { description = r.description; socket = r.socket; peer = r.peer; there = r.there; connected = r.connected; to = r.to; lost = ap (λ ds. place ds r.peer) h ∙ r.lost; left = ap (λ ds. place ds d) h ∙ r.left }) had
 
 pub settled_lost : (S : State) (d : ℕ) → Lost S (settled S) d
 unfolding settled drop_unreferenced
@@ -155,7 +166,7 @@ passed_left S T p request d w there = by_near (w.near.each d) (w.lost_then d)
     stayed : description_at U d ≡ description_at S d → Lost U T d → IsLeft S p request T d
     stayed is (same e) = alone (e ∙ is)
     stayed is (lost e) = freed e
-    stayed is (reset r) = loses_peer (record { description = r.description; socket = r.socket; peer = r.peer; there = sym is ∙ r.there; connected = sym (ap socket_in is) ∙ r.connected; to = r.to; lost = r.lost; left = r.left })
+    stayed is (reset r had) = loses_peer (record { description = r.description; socket = r.socket; peer = r.peer; there = sym is ∙ r.there; connected = sym (ap socket_in is) ∙ r.connected; to = r.to; lost = r.lost; left = r.left })
 
     by_near : NearAt S p request d (description_at U d) → Lost U T d → IsLeft S p request T d
     by_near (stays is) l = stayed is l

@@ -16,3 +16,5 @@ pub mod Installing
 pub mod Spent
 pub mod Near
 pub mod LeftAlone
+pub mod Ended
+pub mod Telling

@@ -130,7 +130,7 @@ did_more S T p tag request reply (connected fd addr P t l s other kept a b c e f
 did_more S T p tag request reply (put t m a k) = more_left S _ T k (more_changed S S t (sent m) (omega arith))
 did_more S T p tag request reply (took t n s m ms a k) = more_left S _ T k (more_changed S S t (with_queue _) (omega arith))
 
-did_at : (boot : State) (es : List Entry) (k : ℕ) (e : Entry) → IsLegal boot es → slice_get es k ≡ Some e → Did (before boot es k) e.pid.0 k e.request e.reply (before boot es (suc k))
+pub did_at : (boot : State) (es : List Entry) (k : ℕ) (e : Entry) → IsLegal boot es → slice_get es k ≡ Some e → Did (before boot es k) e.pid.0 k e.request e.reply (before boot es (suc k))
 did_at boot es k e legal at = step_did (before boot es k) (before boot es (suc k)) e.pid.0 k e.request e.reply e.released (moment boot es k e legal at).steps
 
 -- so no fewer were made when a later call is made

@@ -6,3 +6,4 @@ pub mod Files
 pub mod Records
 pub mod Rights
 pub mod Reach
+pub mod Ends

@@ -4,6 +4,7 @@
 #![tactic(auto)]
 
 ghost use Rattle.ux_laws.specs.Credentials.{CredentialsAreTheSenders, PeersAreTheMakers};
+ghost use Rattle.ux_laws.specs.Ends.{EndsAreForEver, ResetsAreOfLosses, SendsFindNobody, WritesBreak, ReadsTellTheEnd, ReceivesTellTheEnd};
 ghost use Rattle.ux_laws.specs.Files.{EachHoldingHasAPedigree, ChangesHaveAWay, ReadsHaveAWay, StrangersHaveNoWay, StrangersChangeNothing};
 ghost use Rattle.ux_laws.specs.Reach.{CallsLeaveOthersAlone, CallsLeaveTablesAlone};
 ghost use Rattle.ux_laws.specs.Records.{RecordsArriveInOrder, RecordsArriveOnce, RecordsArriveWhole, ReadRecordsArriveWhole};
@@ -106,4 +107,35 @@ pub fn calls_leave_others_alone()
 /// A call changes no table but that of its process and of a child that it makes. The layer's end empties all.
 pub fn calls_leave_tables_alone()
     ensures { CallsLeaveTablesAlone }
+{}
+
+/// Once its peer is gone, a connected socket stays without one, and no ECONNRESET comes to be pending.
+pub fn ends_are_for_ever()
+    ensures { EndsAreForEver }
+{}
+
+/// ECONNRESET comes to be pending at a connected socket only by the call that frees its peer.
+pub fn resets_are_of_losses()
+    ensures { ResetsAreOfLosses }
+{}
+
+/// A send or a write to a peer that is gone takes nothing.
+pub fn sends_find_nobody()
+    ensures { SendsFindNobody }
+{}
+
+/// A write to a peer that is gone is answered EPIPE.
+pub fn writes_break()
+    ensures { WritesBreak }
+{}
+
+/// A read at a socket whose peer is gone gives what is queued; then it is answered ECONNRESET where that is pending,
+/// which clears it; then no bytes. It never waits.
+pub fn reads_tell_the_end()
+    ensures { ReadsTellTheEnd }
+{}
+
+/// So does a receive.
+pub fn receives_tell_the_end()
+    ensures { ReceivesTellTheEnd }
 {}
