@@ -1,8 +1,8 @@
 -- What a call does to descriptions, as far as Parts sees them: one case a kind of change, and what is known of the call then.
-use Rattle.std.proofs.Common.{◌≡◌, ◌⊎◌, ℕ, suc, ◌==◌, Bool, true, false, not, ◌&&◌, ◌||◌, if◌then◌else◌, List, [], ◌∷◌, ◌++◌, length, take, Option, Some, None, Ok, Err, refl, ap, sym, ◌∙◌}
+use Rattle.std.proofs.Common.{◌≡◌, ◌⊎◌, ℕ, Bool, true, false, if◌then◌else◌, List, [], ◌∷◌, length, take, Option, Some, None, Ok, refl, ap, sym, ◌∙◌}
 use Rattle.std.specs.Prelude.{ℤ}
-use Rattle.std.proofs.lemmas.Bool.{eqb-true, false≢true}
-use Rattle.ux_model.specs.Types.{Fd, Cred, Name, Addr, SockType, Mode, OpenFlags, Request, Reply}
+use Rattle.std.proofs.lemmas.Bool.{false≢true}
+use Rattle.ux_model.specs.Types.{Fd, Name, Addr, SockType, Mode, OpenFlags, Request, Reply}
 use Rattle.ux_model.specs.Names.{file, named}
 use Rattle.ux_model.specs.Message.{Message}
 use Rattle.ux_model.specs.Front.{front_of}
@@ -17,7 +17,7 @@ use Rattle.ux_model.specs.Connecting.{Listener, listener_of, with_listening, wit
 use Rattle.ux_model.specs.Sending.{descriptions_behind}
 use Rattle.ux_model.specs.Giving.{sent_by}
 use Rattle.ux_model.proofs.ByPlace.{take_none}
-use Rattle.ux_laws.specs.Talking.{endpoint, offered_bytes, given_addr, is_peek, taken_count, given_bytes, socket_through, goes_to, destination, is_number, is_first, sends_to, receives_through}
+use Rattle.ux_laws.specs.Talking.{offered_bytes, given_addr, is_peek, taken_count, given_bytes, socket_through, goes_to, is_number, is_first, sends_to, receives_through}
 use Rattle.ux_laws.specs.Streams.{sent_now, received_now}
 use Rattle.ux_laws.specs.Records.{is_count, is_given}
 use Rattle.ux_laws.specs.Credentials.{MaySend}

@@ -1,30 +1,29 @@
 -- What was sent to a stream socket is what was received from it, and then what waits.
-use Rattle.std.proofs.Common.{◌≡◌, ◌⊎◌, ℕ, zero, suc, ◌+◌, ◌-◌, ◌≤◌, ◌<◌, ◌==◌, Bool, true, false, cond, if◌then◌else◌, List, [], ◌∷◌, ◌++◌, length, take, drop, min, Option, Some, None, refl, ap, sym, ◌∙◌, subst, inl, inr, ⊎_elim, arith}
+use Rattle.std.proofs.Common.{◌≡◌, ℕ, zero, suc, ◌+◌, ◌-◌, ◌==◌, Bool, true, false, cond, if◌then◌else◌, List, [], ◌∷◌, ◌++◌, length, take, drop, min, Option, Some, None, refl, ap, sym, ◌∙◌, subst, arith}
 use Rattle.std.specs.Prelude.{nat_le}
-use Rattle.std.proofs.lemmas.Bool.{eqb-true, eqb-false, false≢true, leb-true, leb-false}
-use Rattle.std.proofs.lemmas.List.{append-nil, append_assoc, take-append-drop, take-append-le, drop-append-le, length-take}
+use Rattle.std.proofs.lemmas.Bool.{eqb-true, false≢true, leb-true, leb-false}
+use Rattle.std.proofs.lemmas.List.{append-nil, append_assoc, take-append-drop, take-append-le, drop-append-le}
 use Rattle.std.proofs.lemmas.List.Concat.{length-flat_map}
 use Rattle.std.proofs.lemmas.Grind.{flat_map-append}
 use Rattle.std.proofs.Math.Seq.{take-length, drop-append-add}
 use Rattle.std.proofs.Math.Nat.{min-le_right}
-use Rattle.ux_model.specs.Types.{SockType, Request, Reply, Entry}
+use Rattle.ux_model.specs.Types.{Request, Reply, Entry}
 use Rattle.ux_model.specs.Message.{Message, queued_bytes, all_bytes}
 use Rattle.ux_model.specs.Stream.{joined_run, without_first}
 use Rattle.ux_model.specs.Front.{front_of, stream_front, record_front}
 use Rattle.ux_model.specs.Places.{place}
 use Rattle.ux_model.specs.Socket.{Socket, is_stream, stream_room, sent_part, sent, with_queue}
-use Rattle.ux_model.specs.State.{State, socket_at, with_socket_by}
-use Rattle.ux_model.specs.Boot.{IsBootState}
+use Rattle.ux_model.specs.State.{State, socket_at}
 use Rattle.ux_model.specs.Step.{Step}
-use Rattle.ux_model.specs.History.{replay, IsLegal}
-use Rattle.ux_model.proofs.FrontRights.{IsFront, run_front}
+use Rattle.ux_model.specs.History.{replay}
+use Rattle.ux_model.proofs.FrontRights.{run_front}
 use Rattle.ux_model.proofs.ByPlace.{take_none}
 use Rattle.ux_model.proofs.ChangedPlaces.{bool_cases}
 use Rattle.ux_model.proofs.Induction.{IsKept, kept_throughout}
 use Rattle.ux_model.proofs.Replays.{step_replay}
-use Rattle.ux_laws.specs.Talking.{offered_bytes, given_addr, is_peek, taken_count, given_bytes, socket_through, goes_to, destination, is_number, is_first, sends_to, receives_through}
+use Rattle.ux_laws.specs.Talking.{offered_bytes, given_addr, is_peek, taken_count, given_bytes, goes_to, is_number, is_first, sends_to, receives_through}
 use Rattle.ux_laws.specs.Streams.{sent_now, received_now, bytes_sent, bytes_received, StreamsAreReliable}
-use Rattle.ux_laws.proofs.Parts.{Shrinks, glance}
+use Rattle.ux_laws.proofs.Parts.{glance}
 use Rattle.ux_laws.specs.Records.{is_given}
 use Rattle.ux_laws.proofs.Acts.{either_none, none_either, IsSending, IsTaking}
 use Rattle.ux_laws.proofs.Flows.{waiting_in, waiting_at, waiting_is, Flow, calm, put_in, taken, step_flow, IsAt, at_socket, kind_there, at_shrunk, at_calm, at_changed, changed_waiting}

@@ -1,32 +1,32 @@
 -- Of each call: which kind of change it makes. One lemma a call, and one line of `each_did`, at the end.
-use Rattle.std.proofs.Common.{◌≡◌, ◌⊎◌, ℕ, zero, suc, ◌==◌, Bool, true, false, not, ◌&&◌, ◌||◌, if◌then◌else◌, cond, List, [], ◌∷◌, ◌++◌, length, map, take, min, Option, Some, None, Result, Ok, Err, option_map, refl, ap, sym, ◌∙◌, subst, inl, inr, ⊎_elim, slice_get}
+use Rattle.std.proofs.Common.{◌≡◌, ◌⊎◌, ℕ, zero, suc, ◌==◌, Bool, true, false, not, ◌&&◌, ◌||◌, if◌then◌else◌, List, [], ◌∷◌, ◌++◌, length, map, take, min, Option, Some, None, Result, Ok, Err, refl, ap, sym, ◌∙◌, subst, inl, inr, ⊎_elim, slice_get}
 use Rattle.std.specs.Prelude.{nat_le, nat_lt, ℤ, pos, negsuc, ◌+ℤ◌, is_some, is_none}
 use Rattle.std.proofs.lemmas.Bool.{eqb-true, false≢true, and_parts}
 use Rattle.std.proofs.lemmas.List.{length-map}
 use Rattle.ux_model.specs.Types.{Errno, Fd, Cred, Name, Addr, SockType, SockOpt, Mode, OpenFlags, MsgFlags, Whence, Request, Reply}
-use Rattle.ux_model.specs.Places.{place, filled, emptied, changed_place}
+use Rattle.ux_model.specs.Places.{place, filled, changed_place}
 use Rattle.ux_model.specs.Limits.{made_limit, read_limit, offset_limit, record_bytes_limit}
 use Rattle.ux_model.specs.Flags.{can_read, can_write, asks_peek, are_receive_flags, are_send_flags, no_flags}
 use Rattle.ux_model.specs.Object.{Body, View, ObjectError, would_block, full, invalid, read_body, write_body, is_memory, is_pipe}
 use Rattle.ux_model.specs.Names.{PathTarget, file, bound, named, is_valid_path, is_valid_addr, is_unnamed_addr, free_name}
 use Rattle.ux_model.specs.Message.{Message, same_cred}
-use Rattle.ux_model.specs.Front.{Front, front_of}
+use Rattle.ux_model.specs.Front.{front_of}
 use Rattle.ux_model.specs.Control.{Control}
 use Rattle.ux_model.specs.ControlReading.{control_in}
 use Rattle.ux_model.specs.Backlog.{backlog_of}
 use Rattle.ux_model.specs.Credentials.{cred_refusal}
-use Rattle.ux_model.specs.Socket.{Socket, Phase, idle, listening, connected, associated, new_socket, is_stream, is_dgram, pending_ends, peer_of, association_of, tied_socket, takes_from, has_room, sent_part, sent, with_reset, with_association, with_passcred, with_queue_limit, with_queue, shut_down}
+use Rattle.ux_model.specs.Socket.{Socket, new_socket, is_stream, is_dgram, pending_ends, peer_of, association_of, tied_socket, takes_from, has_room, with_reset, with_passcred, with_queue_limit, with_queue, shut_down}
 use Rattle.ux_model.specs.Description.{Description, to_object, to_socket, socket_of, socket_in, changed}
-use Rattle.ux_model.specs.Process.{Process, Descriptor, own_cred, lowest_free, two_lowest_free, descriptor, copy_of, kept_on_exec, with_cloexec, fd_of}
-use Rattle.ux_model.specs.State.{State, process_at, is_live, description_at, socket_at, table_of, next_description, with_child, with_description, with_socket_by, with_process, with_table, with_new}
-use Rattle.ux_model.specs.Outcome.{Outcome, Chosen, own, lacking_memory, failing, refuse, answer, growing, descriptor_at, find_socket}
+use Rattle.ux_model.specs.Process.{Process, Descriptor, own_cred, lowest_free, two_lowest_free, descriptor, kept_on_exec, fd_of}
+use Rattle.ux_model.specs.State.{State, process_at, is_live, description_at, socket_at, table_of, with_child, with_description, with_socket_by, with_process, with_table, with_new}
+use Rattle.ux_model.specs.Outcome.{Outcome, Chosen, own, lacking_memory, failing, refuse, descriptor_at, find_socket}
 use Rattle.ux_model.specs.Naming.{unlink}
 use Rattle.ux_model.specs.Pairing.{make_pair, with_pair, socket_description}
 use Rattle.ux_model.specs.Binding.{same_kind, socket_of_target, look_up, bind_to, bind, get_sock_name, with_name}
-use Rattle.ux_model.specs.Connecting.{make_socket, Listener, listener_of, with_listening, listen, connect_to, connect_stream, connect_datagram, connect, get_peer_name, shutdown, with_connection}
-use Rattle.ux_model.specs.Accepting.{accept_first, accept, with_accepted, without_first_end, as_accepted, accepted_with}
+use Rattle.ux_model.specs.Connecting.{make_socket, listener_of, listen, connect_to, connect_stream, connect_datagram, connect, get_peer_name, shutdown}
+use Rattle.ux_model.specs.Accepting.{accept_first, accept, without_first_end, as_accepted, accepted_with}
 use Rattle.ux_model.specs.Sending.{sending, message_of, flight_limit, is_over_limit, enqueue, is_too_long, send_connected, send_stream, send_to_target, send_by_association, send_by, send_from, is_sendable_addr, is_sendable_control, given_refusal, sent_cred, send_given, send_read, send_with, send_msg, descriptions_behind}
-use Rattle.ux_model.specs.Receiving.{Incoming, incoming, with_delivered, receive_front, nothing_received, receive, recv_msg, bytes_alone}
+use Rattle.ux_model.specs.Receiving.{Incoming, incoming, receive_front, receive, recv_msg, bytes_alone}
 use Rattle.ux_model.specs.FileObjects.{holds_bytes, is_open_for}
 use Rattle.ux_model.specs.Opening.{open_file, file_description}
 use Rattle.ux_model.specs.Reading.{read, read_answer, is_short_read, offset_after_read}
@@ -40,7 +40,7 @@ use Rattle.ux_model.specs.Closing.{close, exit, off}
 use Rattle.ux_model.specs.Release.{settled}
 use Rattle.ux_model.specs.Step.{Step, outcome}
 use Rattle.ux_model.specs.Giving.{sent_by, rights_in}
-use Rattle.ux_model.proofs.Walk.{either, maybe, by_target, by_path, by_queue, found, found_peer}
+use Rattle.ux_model.proofs.Walk.{either, maybe, by_target, by_path, found, found_peer}
 use Rattle.ux_model.proofs.ByPlace.{take_none}
 use Rattle.ux_model.proofs.Shows.{by_socket, by_receive}
 use Rattle.ux_model.proofs.NameCalls.{same_descriptions}
@@ -50,9 +50,9 @@ use Rattle.ux_model.proofs.Obeying.{Obeys}
 use Rattle.ux_model.proofs.Calls.{each_obeys}
 use Rattle.ux_laws.specs.Talking.{endpoint, offered_bytes, given_addr, is_peek, taken_count, given_bytes, if_found, socket_through, named_target, goes_to, destination, is_number, is_first, sends_to, receives_through}
 use Rattle.ux_laws.specs.Credentials.{given_cred, cred_of_control, MaySend, its_own, others}
-use Rattle.ux_laws.proofs.Parts.{glance, Kept, kept_same, kept_after, kept_table, kept_put, kept_by, kept_socket, same_target, awaiting_parts, left_parts, Shrinks, kept_shrinks, shrunk_after, settled_shrinks}
+use Rattle.ux_laws.proofs.Parts.{glance, Kept, kept_same, kept_after, kept_table, kept_put, kept_by, kept_socket, same_target, left_parts, Shrinks, kept_shrinks, settled_shrinks}
 use Rattle.ux_laws.specs.Records.{is_count, is_given}
-use Rattle.ux_laws.proofs.Acts.{is_silent, MovesNothing, either_none, none_either, silent, at_no_socket, IsSending, IsTaking, Did, quiet, opened, one_made, pair_made, listened, tied_to, connected as connecting, put, took, did_after}
+use Rattle.ux_laws.proofs.Acts.{is_silent, MovesNothing, either_none, none_either, silent, at_no_socket, Did, quiet, opened, one_made, pair_made, listened, tied_to, connected as connecting, put, took, did_after}
 
 -- ---- by what an outcome is made of
 

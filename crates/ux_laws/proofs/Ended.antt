@@ -1,48 +1,35 @@
 -- Once its peer is gone, a socket stays without one, sends find nobody, and receives tell what is queued and then the end.
-use Rattle.std.proofs.Common.{◌≡◌, ◌≢◌, ◌⊎◌, ℕ, zero, suc, ◌+◌, ◌≤◌, ◌<◌, ◌==◌, Bool, true, false, not, ◌&&◌, ◌||◌, if◌then◌else◌, cond, is_some, min, List, [], ◌∷◌, ◌++◌, length, take, Option, Some, None, Result, Ok, Err, option_map, refl, ap, sym, ◌∙◌, subst, inl, inr, ⊎_elim, arith, slice_get}
-use Rattle.std.specs.Prelude.{nat_lt, IsTrue}
-use Rattle.std.proofs.lemmas.Bool.{eqb-true, eqb-false, eq-eqb, false≢true, and_parts, ne_eqb, ltb-true, ltb-false}
+use Rattle.std.proofs.Common.{◌≡◌, ◌⊎◌, ℕ, zero, suc, ◌≤◌, ◌<◌, ◌==◌, Bool, true, false, ◌||◌, if◌then◌else◌, cond, is_some, List, length, take, Option, Some, None, option_map, refl, ap, sym, ◌∙◌, subst, inl, inr, ⊎_elim, arith}
+use Rattle.std.proofs.lemmas.Bool.{eqb-true, eqb-false, eq-eqb, false≢true}
 use Rattle.std.proofs.lemmas.List.{length_push}
-use Rattle.ux_model.specs.Types.{Errno, Fd, Addr, SockType, Mode, MsgFlags, Request, Reply, Entry}
-use Rattle.ux_model.specs.Places.{place}
-use Rattle.ux_model.specs.Limits.{read_limit}
-use Rattle.ux_model.specs.Flags.{are_receive_flags, no_flags}
-use Rattle.ux_model.specs.Message.{Message}
-use Rattle.ux_model.specs.Front.{Front, front_of}
-use Rattle.ux_model.specs.Socket.{Socket, Phase, idle, listening, connected as joined, associated, phase_with_association, awaiting, sent, with_queue, with_association, new_socket, pair_end, is_stream, is_dgram, peer_of, with_reset}
+use Rattle.ux_model.specs.Types.{Mode, Request, Reply, Entry}
+use Rattle.ux_model.specs.Socket.{Socket, Phase, idle, listening, connected as joined, associated, phase_with_association, awaiting, sent, with_queue, with_association, new_socket, pair_end, is_dgram, peer_of, with_reset}
 use Rattle.ux_model.specs.Description.{Description, Target, to_object, to_socket, socket_of, socket_in, changed, changed_target}
-use Rattle.ux_model.specs.Process.{Process, Descriptor, own_cred}
-use Rattle.ux_model.specs.State.{State, process_at, description_at, socket_at, table_of, next_description, with_socket_by, with_new}
-use Rattle.ux_model.specs.Outcome.{Outcome, Chosen, own, lacking_memory, failing, refuse, answer, descriptor_at, find_socket}
+use Rattle.ux_model.specs.Process.{own_cred}
+use Rattle.ux_model.specs.State.{State, description_at, socket_at, next_description, with_socket_by, with_new}
 use Rattle.ux_model.specs.Peers.{target_peer, peer_in}
-use Rattle.ux_model.specs.Release.{settled}
 use Rattle.ux_model.specs.Pairing.{socket_description}
 use Rattle.ux_model.specs.Opening.{file_description}
 use Rattle.ux_model.specs.Connecting.{with_listening, server_end, tied, no_open_flags}
-use Rattle.ux_model.specs.Sending.{Sending, sending, message_of, flight_limit, send_connected, send_stream, send_from, write_socket}
-use Rattle.ux_model.specs.Receiving.{Incoming, incoming, receive_front, nothing_received, at_end, receive_nothing, receive_connected, receive, recv_msg, bytes_alone}
-use Rattle.ux_model.specs.Reading.{read}
-use Rattle.ux_model.specs.Writing.{write}
-use Rattle.ux_model.specs.Step.{Step, outcome}
-use Rattle.ux_model.specs.History.{replay, IsLegal}
-use Rattle.ux_model.specs.Invariants.{IsWhole}
+use Rattle.ux_model.specs.Step.{Step}
+use Rattle.ux_model.specs.History.{IsLegal}
 use Rattle.ux_model.specs.Pedigree.{before}
-use Rattle.ux_model.proofs.ChangedPlaces.{bool_cases, place_within, changed_here, length-changed}
+use Rattle.ux_model.proofs.ChangedPlaces.{bool_cases, place_within, length-changed}
 use Rattle.ux_model.proofs.OnePlace.{same_at}
 use Rattle.ux_model.proofs.Fronts.{front_is_legal}
 use Rattle.ux_model.proofs.ByPlace.{get_within}
 use Rattle.ux_model.proofs.Dangling.{nothing_dangles}
 use Rattle.ux_model.proofs.Moments.{moment}
-use Rattle.ux_model.proofs.Walk.{by_target, found}
-use Rattle.ux_laws.specs.Talking.{endpoint, given_addr, given_bytes, if_found, socket_through, named_target, goes_to, destination, is_number, sends_to}
+use Rattle.ux_model.proofs.Walk.{found}
+use Rattle.ux_laws.specs.Talking.{given_addr, socket_through, named_target, goes_to, is_number, sends_to}
 use Rattle.ux_laws.specs.Records.{is_count, is_given}
-use Rattle.ux_laws.specs.Ends.{HasEnded, StaysEnded, EndsAreForEver, ResetsAreOfLosses, SendsFindNobody, WritesBreak, IsAtEnd, queued, lacking, reset as reset_told, ended as end_told, ReadsTellTheEnd, ReceivesTellTheEnd}
-use Rattle.ux_laws.proofs.Parts.{PhaseParts, phase_parts, SocketParts, socket_parts, socket_seen, Glance, glance, glance_target, glance_at, glance_socket, glance_new, Shrinks, settled_shrinks, Seen, seen_changed, seen_new, seen_shrunk, seen_socket, awaiting_parts}
-use Rattle.ux_laws.proofs.Acts.{is_silent, MovesNothing, IsSending, IsTaking, Did, quiet, opened, one_made, pair_made, listened, tied_to, connected, put, took}
-use Rattle.ux_laws.proofs.Doing.{step_between, step_did, through_is, no_socket_at, found_at}
-use Rattle.ux_laws.proofs.Near.{reset_of, reset_in, NearAt, stays, reached, new, gone as dropped, Near, chosen_near}
-use Rattle.ux_laws.proofs.LeftAlone.{Lost, same as unchanged, lost, reset, stays_gone, settled_lost, none_beyond}
-use Rattle.ux_laws.proofs.Opened.{did_more, did_at, made_more}
+use Rattle.ux_laws.specs.Ends.{HasEnded, StaysEnded, EndsAreForEver, ResetsAreOfLosses, SendsFindNobody}
+use Rattle.ux_laws.proofs.Parts.{PhaseParts, SocketParts, socket_parts, socket_seen, Glance, glance, glance_target, glance_at, glance_new, Shrinks, Seen, seen_changed, seen_new, seen_shrunk, seen_socket, awaiting_parts}
+use Rattle.ux_laws.proofs.Acts.{is_silent, Did, quiet, opened, one_made, pair_made, listened, tied_to, connected, put, took}
+use Rattle.ux_laws.proofs.Doing.{step_between, step_did}
+use Rattle.ux_laws.proofs.Near.{reset_of, reset_in, NearAt, stays, reached, new, gone as dropped, chosen_near}
+use Rattle.ux_laws.proofs.LeftAlone.{Lost, same as unchanged, lost, reset, settled_lost}
+use Rattle.ux_laws.proofs.Opened.{did_at, made_more}
 
 -- ---- what stays of a socket
 

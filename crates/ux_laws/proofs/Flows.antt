@@ -1,10 +1,10 @@
 -- What a call does to the messages that wait: it puts one behind all others, takes from the front of one queue, or leaves them, where some go with
 -- their sockets.
-use Rattle.std.proofs.Common.{◌≡◌, ◌⊎◌, ℕ, zero, suc, ◌+◌, ◌≤◌, ◌<◌, ◌==◌, Bool, true, false, cond, if◌then◌else◌, List, [], ◌∷◌, ◌++◌, length, Option, Some, None, option_map, refl, ap, sym, ◌∙◌, inl, inr, ⊎_elim, subst, slice_get, drop, min, ◌-◌, arith}
+use Rattle.std.proofs.Common.{◌≡◌, ◌⊎◌, ℕ, zero, suc, ◌≤◌, ◌==◌, Bool, true, false, cond, if◌then◌else◌, List, [], ◌∷◌, ◌++◌, length, Option, Some, None, option_map, refl, ap, sym, ◌∙◌, inl, inr, ⊎_elim, subst, slice_get, drop, min, ◌-◌, arith}
 use Rattle.std.specs.Prelude.{nat_le}
-use Rattle.std.proofs.lemmas.Bool.{eqb-true, eqb-false, false≢true}
+use Rattle.std.proofs.lemmas.Bool.{eqb-true}
 use Rattle.std.proofs.lemmas.List.{length_push}
-use Rattle.ux_model.specs.Types.{Cred, SockType, Mode, Request, Reply}
+use Rattle.ux_model.specs.Types.{SockType, Mode, Request, Reply}
 use Rattle.ux_model.specs.Places.{place}
 use Rattle.ux_model.specs.Message.{Message, queued_bytes}
 use Rattle.ux_model.specs.Stream.{joined_run, without_first}
@@ -20,7 +20,7 @@ use Rattle.ux_model.proofs.ChangedPlaces.{bool_cases, length-changed}
 use Rattle.ux_model.specs.Step.{Step}
 use Rattle.ux_model.proofs.OnePlace.{same_at}
 use Rattle.ux_model.proofs.Appending.{get_push}
-use Rattle.ux_laws.proofs.Parts.{SocketParts, socket_parts, Glance, glance_target, glance, glance_at, glance_socket, kept_socket, awaiting_parts, Kept, Shrinks, glance_changed, glance_new}
+use Rattle.ux_laws.proofs.Parts.{SocketParts, socket_parts, Glance, glance_target, glance, glance_at, glance_socket, Kept, Shrinks, glance_changed, glance_new}
 use Rattle.ux_laws.proofs.Acts.{is_silent, MovesNothing, silent, IsSending, IsTaking, Did, quiet, opened, one_made, pair_made, listened, tied_to, connected, put, took}
 use Rattle.ux_laws.proofs.Doing.{step_did}
 

@@ -1,47 +1,35 @@
 -- Rights are installed with bytes of their message, and by one receive alone.
-use Rattle.std.proofs.Common.{◌≡◌, ◌⊎◌, ℕ, zero, suc, ◌+◌, ◌-◌, ◌≤◌, ◌<◌, ◌==◌, Bool, true, false, not, ◌&&◌, cond, if◌then◌else◌, List, [], ◌∷◌, ◌++◌, length, drop, take, min, Option, Some, None, Result, Ok, Err, option_map, refl, ap, sym, ◌∙◌, subst, inl, inr, ⊎_elim, arith, slice_get}
-use Rattle.std.specs.Prelude.{nat_le, nat_lt}
-use Rattle.std.proofs.lemmas.Bool.{eqb-true, eqb-false, false≢true, leb-true, leb-false, and_parts, ne_eqb}
-use Rattle.std.proofs.lemmas.List.{append-nil, length-take, length-take-le, length_push}
+use Rattle.std.proofs.Common.{◌≡◌, ℕ, zero, suc, ◌+◌, ◌-◌, ◌≤◌, ◌<◌, ◌==◌, Bool, true, false, not, if◌then◌else◌, List, [], ◌∷◌, ◌++◌, length, drop, take, min, Option, Some, None, Ok, option_map, refl, ap, sym, ◌∙◌, subst, arith, slice_get}
+use Rattle.std.specs.Prelude.{nat_le}
+use Rattle.std.proofs.lemmas.Bool.{eqb-true, false≢true, leb-true, leb-false, ne_eqb}
+use Rattle.std.proofs.lemmas.List.{append-nil, length-take, length-take-le}
 use Rattle.std.proofs.lemmas.List.Concat.{length-flat_map}
 use Rattle.std.proofs.lemmas.List.Sums.{sum_by-cons}
 use Rattle.std.proofs.Math.Nat.{min-le_right}
-use Rattle.ux_model.specs.Types.{Errno, Fd, Cred, Addr, MsgFlags, Request, Reply, Entry}
-use Rattle.ux_model.specs.Places.{place, changed_place}
-use Rattle.ux_model.specs.Message.{Message, same_cred, queued_bytes, all_bytes}
+use Rattle.ux_model.specs.Types.{Fd, Cred, MsgFlags, Request, Reply}
+use Rattle.ux_model.specs.Places.{changed_place}
+use Rattle.ux_model.specs.Message.{Message, queued_bytes, all_bytes}
 use Rattle.ux_model.specs.Stream.{Origin, origin_of, front_with_cred, front_to_barrier, joined_run, rights_within, origin_within, without_first}
 use Rattle.ux_model.specs.Front.{Front, stream_front, record_front, front_of}
 use Rattle.ux_model.specs.Flags.{are_receive_flags, asks_peek}
-use Rattle.ux_model.specs.Socket.{Socket, is_stream, sent_part, sent, with_queue}
+use Rattle.ux_model.specs.Socket.{Socket, is_stream, with_queue}
 use Rattle.ux_model.specs.Description.{Description, changed}
 use Rattle.ux_model.specs.Process.{Descriptor, free_numbers}
 use Rattle.ux_model.specs.Delivery.{delivery, install_count, space_for_rights}
 use Rattle.ux_model.specs.State.{State, socket_at, table_of, with_socket_by, with_table}
 use Rattle.ux_model.specs.Outcome.{Outcome, Chosen, own, lacking_memory, failing, find_socket}
-use Rattle.ux_model.specs.Delivered.{Brought, nothing_brought, brought_from, brought, tag_of, told_of, delivered_by}
-use Rattle.ux_model.specs.Receiving.{Incoming, incoming, receive_front, nothing_received, recv_msg}
-use Rattle.ux_model.specs.Boot.{IsBootState}
+use Rattle.ux_model.specs.Delivered.{Brought, brought, tag_of, told_of, delivered_by}
+use Rattle.ux_model.specs.Receiving.{Incoming, incoming, receive_front, recv_msg}
 use Rattle.ux_model.specs.Step.{Step, outcome}
-use Rattle.ux_model.specs.History.{replay, is_allowed, IsLegal}
 use Rattle.ux_model.specs.Changes.{sources}
-use Rattle.ux_model.specs.Pedigree.{before, delivered}
 use Rattle.ux_model.proofs.Walk.{either}
-use Rattle.ux_model.proofs.ChangedPlaces.{bool_cases}
 use Rattle.ux_model.proofs.FrontRights.{IsFront, cred_front}
-use Rattle.ux_model.proofs.Appending.{get_push}
-use Rattle.ux_model.proofs.Fronts.{in_front}
-use Rattle.ux_model.proofs.ByPlace.{get_below, get_before, take_before, take_few, length_front}
-use Rattle.ux_model.proofs.Induction.{IsKept, kept_throughout, get_pushed, take_pushed}
+use Rattle.ux_model.proofs.ByPlace.{get_below, get_before, take_few}
 use Rattle.ux_model.proofs.NameCalls.{same_descriptions}
-use Rattle.ux_model.proofs.Replays.{step_replay}
-use Rattle.ux_model.proofs.Moments.{moment}
 use Rattle.ux_model.proofs.Shows.{by_socket, by_receive, brought_is, nothing_is_brought}
-use Rattle.ux_laws.specs.Talking.{is_peek, given_bytes, socket_through, given_addr, goes_to, destination}
-use Rattle.ux_laws.specs.Rights.{TakesRights, RightsComeOnce, AreOfMessage, RightsComeWithTheirMessage}
-use Rattle.ux_laws.proofs.Parts.{glance, kept_same, Shrinks, kept_shrinks, shrunk_after, settled_shrinks}
-use Rattle.ux_laws.proofs.Acts.{IsSending}
+use Rattle.ux_laws.specs.Talking.{is_peek, given_bytes, socket_through}
+use Rattle.ux_laws.proofs.Parts.{kept_same, Shrinks, kept_shrinks, shrunk_after, settled_shrinks}
 use Rattle.ux_laws.proofs.Doing.{through_is}
-use Rattle.ux_laws.proofs.Flows.{waiting_in, waiting_at, waiting_is, Flow, calm, put_in, taken, step_flow, IsOf, CameFrom, flow_waits, shrunk_waits, changed_waiting}
 
 -- ---- which message the rights within some bytes are of
 

@@ -1,22 +1,22 @@
 -- What goes at the end of a call, and what is left of the rest; so a call leaves alone what is not in its reach.
-use Rattle.std.proofs.Common.{◌≡◌, ◌≢◌, ◌⊎◌, ℕ, zero, suc, ◌≤◌, ◌<◌, ◌==◌, Bool, true, false, not, ◌&&◌, ◌||◌, if◌then◌else◌, cond, is_some, List, [], ◌∷◌, length, Option, Some, None, option_map, refl, ap, sym, ◌∙◌, subst, inl, inr, ⊎_elim, arith, slice_get}
+use Rattle.std.proofs.Common.{◌≡◌, ◌≢◌, ℕ, zero, suc, ◌≤◌, Bool, true, false, ◌||◌, if◌then◌else◌, is_some, List, [], ◌∷◌, length, Option, Some, None, option_map, refl, ap, sym, ◌∙◌, subst, arith}
 use Rattle.std.proofs.lemmas.Bool.{false≢true, and_parts, ne_eqb}
-use Rattle.ux_model.specs.Types.{Request, Reply, Entry}
+use Rattle.ux_model.specs.Types.{Request, Reply}
 use Rattle.ux_model.specs.Places.{place}
-use Rattle.ux_model.specs.Socket.{Socket, Phase, idle, listening, connected, associated, peer_of, with_reset}
+use Rattle.ux_model.specs.Socket.{Phase, idle, listening, connected, associated, peer_of, with_reset}
 use Rattle.ux_model.specs.Description.{Description, Target, to_object, to_socket, socket_of, socket_in, changed, changed_target}
 use Rattle.ux_model.specs.Process.{Descriptor}
 use Rattle.ux_model.specs.State.{State, description_at, socket_at}
 use Rattle.ux_model.specs.Release.{resets_peer, is_reset_by_loss, target_after_loss, description_after_loss, place_after_loss, without, is_unreferenced, drop_all, drop_rounds, drop_unreferenced, has_unreferenced, settled}
-use Rattle.ux_model.specs.Step.{Step, outcome}
-use Rattle.ux_model.specs.History.{is_off, makes, replay, IsLegal}
-use Rattle.ux_model.specs.Giving.{held_at, description_of}
+use Rattle.ux_model.specs.Step.{Step}
+use Rattle.ux_model.specs.History.{is_off}
+use Rattle.ux_model.specs.Giving.{held_at}
 use Rattle.ux_model.specs.Changes.{is_err, others_left_by, left_to_others}
 use Rattle.ux_model.specs.Pedigree.{before}
 use Rattle.ux_model.proofs.ReleaseLaws.{description_at-without}
 use Rattle.ux_model.proofs.ChangedPlaces.{bool_cases}
 use Rattle.ux_model.proofs.Moments.{moment}
-use Rattle.ux_laws.specs.Reach.{IsInReach, LosesPeer, IsLeft, alone, in_reach, freed, loses_peer, CallsLeaveOthersAlone, CallsLeaveTablesAlone}
+use Rattle.ux_laws.specs.Reach.{LosesPeer, IsLeft, alone, in_reach, freed, loses_peer, CallsLeaveOthersAlone, CallsLeaveTablesAlone}
 use Rattle.ux_laws.proofs.Near.{NearAt, stays, reached, new, gone as dropped, Near, chosen_near}
 
 -- ---- what goes at the end of a call

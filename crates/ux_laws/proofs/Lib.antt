@@ -18,3 +18,11 @@ pub mod Near
 pub mod LeftAlone
 pub mod Ended
 pub mod Telling
+mod Play
+mod StreamExample
+mod RecordExample
+mod RightsExample
+mod CredentialExample
+mod FileExample
+mod EndExample
+mod ReachExample

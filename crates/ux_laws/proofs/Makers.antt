@@ -1,14 +1,13 @@
 -- The credentials that a socket has of its peer, and a listening socket of who listens, are of the process that made the pair, connected or listened.
-use Rattle.std.proofs.Common.{◌≡◌, ◌⊎◌, ℕ, zero, suc, ◌≤◌, ◌<◌, List, [], ◌∷◌, ◌++◌, length, take, Option, Some, None, Result, Ok, Err, refl, ap, sym, ◌∙◌, subst, inl, inr, ⊎_elim, arith, slice_get}
-use Rattle.std.specs.Prelude.{ℤ}
+use Rattle.std.proofs.Common.{◌≡◌, ◌⊎◌, ℕ, suc, ◌≤◌, ◌<◌, List, [], ◌∷◌, ◌++◌, length, take, Option, Some, None, Result, Ok, refl, ap, sym, ◌∙◌, subst, inl, inr, ⊎_elim, arith, slice_get}
 use Rattle.std.proofs.lemmas.List.{length_push}
-use Rattle.ux_model.specs.Types.{Errno, Fd, Cred, Addr, SockType, SockOpt, OpenFlags, Request, Reply, Entry}
+use Rattle.ux_model.specs.Types.{Errno, Fd, Cred, SockType, SockOpt, Request, Reply, Entry}
 use Rattle.ux_model.specs.Places.{place}
 use Rattle.ux_model.specs.Socket.{Socket, Phase, idle, listening, connected as joined, associated, awaiting, sent, with_queue, phase_with_association, with_association, new_socket, pair_end}
 use Rattle.ux_model.specs.Description.{Description, changed}
 use Rattle.ux_model.specs.Process.{Process, own_cred}
 use Rattle.ux_model.specs.State.{State, process_at, socket_at, next_description, with_socket_by, with_new}
-use Rattle.ux_model.specs.Outcome.{Outcome, Chosen, own, lacking_memory, failing, find_socket}
+use Rattle.ux_model.specs.Outcome.{Chosen, own, lacking_memory, failing, find_socket}
 use Rattle.ux_model.specs.Pairing.{socket_description}
 use Rattle.ux_model.specs.Binding.{look_up}
 use Rattle.ux_model.specs.Opening.{file_description}
@@ -16,18 +15,18 @@ use Rattle.ux_model.specs.Connecting.{Listener, listener_of, with_listening, ser
 use Rattle.ux_model.specs.Options.{tell_cred, get_opt}
 use Rattle.ux_model.specs.Boot.{IsBootState}
 use Rattle.ux_model.specs.Step.{Step, outcome}
-use Rattle.ux_model.specs.History.{replay, is_allowed, IsLegal}
+use Rattle.ux_model.specs.History.{replay}
 use Rattle.ux_model.specs.Pedigree.{before}
 use Rattle.ux_model.proofs.ChangedPlaces.{length-changed}
 use Rattle.ux_model.proofs.Fronts.{front_is_legal, in_front}
-use Rattle.ux_model.proofs.ByPlace.{get_below, get_before, take_before, length_front}
+use Rattle.ux_model.proofs.ByPlace.{get_below, get_before, take_before}
 use Rattle.ux_model.proofs.Induction.{IsKept, kept_throughout, get_pushed, take_pushed}
 use Rattle.ux_model.proofs.Replays.{step_replay}
-use Rattle.ux_model.proofs.Moments.{Moment, moment}
+use Rattle.ux_model.proofs.Moments.{moment}
 use Rattle.ux_model.proofs.Shows.{by_socket}
 use Rattle.ux_laws.specs.Talking.{if_found}
-use Rattle.ux_laws.specs.Credentials.{listening_cred, socket_behind, IsCallBy, HasListened, IsConnected, IsPeersCred, of_maker, of_client, of_listener, TellsPeer, PeersAreTheMakers}
-use Rattle.ux_laws.proofs.Parts.{PhaseParts, phase_parts, SocketParts, socket_parts, awaiting_parts, glance, Shrinks, Seen, seen_changed, seen_new, seen_shrunk, seen_socket}
+use Rattle.ux_laws.specs.Credentials.{listening_cred, socket_behind, IsCallBy, HasListened, IsPeersCred, of_maker, of_client, of_listener, PeersAreTheMakers}
+use Rattle.ux_laws.proofs.Parts.{SocketParts, socket_parts, awaiting_parts, glance, Shrinks, Seen, seen_changed, seen_new, seen_shrunk, seen_socket}
 use Rattle.ux_laws.proofs.Acts.{Did, quiet, opened, one_made, pair_made, listened, tied_to, connected, put, took}
 use Rattle.ux_laws.proofs.Doing.{step_did}
 

@@ -1,14 +1,14 @@
 -- Of each call: that it changes only what is in its reach, and resets no socket. One lemma a call, and one line of `each_near`.
-use Rattle.std.proofs.Common.{◌≡◌, ◌≢◌, ◌⊎◌, ℕ, zero, suc, ◌≤◌, ◌<◌, ◌==◌, Bool, true, false, not, ◌&&◌, ◌||◌, if◌then◌else◌, cond, List, [], ◌∷◌, ◌++◌, length, map, min, Option, Some, None, Result, Ok, Err, option_map, refl, ap, sym, ◌∙◌, subst, inl, inr, ⊎_elim, slice_get, arith}
+use Rattle.std.proofs.Common.{◌≡◌, ◌≢◌, ◌⊎◌, ℕ, zero, suc, ◌≤◌, ◌==◌, Bool, true, false, not, ◌&&◌, ◌||◌, if◌then◌else◌, cond, List, [], ◌∷◌, ◌++◌, length, min, Option, Some, None, Result, Ok, Err, option_map, refl, ap, sym, ◌∙◌, subst, inl, inr, slice_get, arith}
 use Rattle.std.specs.Prelude.{nat_le, nat_lt, ℤ, pos, negsuc, ◌+ℤ◌, is_some, is_none}
 use Rattle.std.proofs.lemmas.Bool.{eqb-true, eqb-false, false≢true}
 use Rattle.std.proofs.lemmas.List.{get_or-set_other, length_push}
 use Rattle.ux_model.specs.Types.{Errno, Fd, Cred, Name, Addr, SockType, SockOpt, Mode, OpenFlags, MsgFlags, Whence, Request, Reply}
-use Rattle.ux_model.specs.Places.{place, filled, changed_place}
+use Rattle.ux_model.specs.Places.{place, filled}
 use Rattle.ux_model.specs.Limits.{made_limit, read_limit, offset_limit, record_bytes_limit}
 use Rattle.ux_model.specs.Flags.{can_read, can_write, asks_peek, are_receive_flags, are_send_flags, no_flags}
 use Rattle.ux_model.specs.Object.{Body, View, ObjectError, would_block, full, invalid, read_body, write_body, is_memory, is_pipe}
-use Rattle.ux_model.specs.Names.{PathTarget, file, bound, named as named_in, is_valid_path, is_valid_addr, is_unnamed_addr, free_name}
+use Rattle.ux_model.specs.Names.{named as named_in, is_valid_path, is_valid_addr, is_unnamed_addr, free_name}
 use Rattle.ux_model.specs.Message.{Message}
 use Rattle.ux_model.specs.Front.{Front, front_of}
 use Rattle.ux_model.specs.Control.{Control}
@@ -16,8 +16,8 @@ use Rattle.ux_model.specs.ControlReading.{control_in}
 use Rattle.ux_model.specs.Backlog.{backlog_of}
 use Rattle.ux_model.specs.Socket.{Socket, Phase, idle, listening, connected, associated, is_stream, is_dgram, pending_ends, peer_of, association_of, tied_socket, takes_from, has_room, awaiting, sent, with_queue, with_reset, with_association, with_passcred, with_queue_limit, shut_down, new_socket, pair_end}
 use Rattle.ux_model.specs.Description.{Description, Target, to_object, to_socket, socket_of, socket_in, changed, changed_target}
-use Rattle.ux_model.specs.Process.{Process, Descriptor, own_cred, lowest_free, two_lowest_free, descriptor, kept_on_exec}
-use Rattle.ux_model.specs.State.{State, process_at, description_at, socket_at, table_of, next_description, with_child, with_description, with_description_by, with_socket_by, with_process, with_table, with_new}
+use Rattle.ux_model.specs.Process.{Process, Descriptor, own_cred, lowest_free, two_lowest_free, descriptor}
+use Rattle.ux_model.specs.State.{State, process_at, description_at, socket_at, table_of, next_description, with_description, with_description_by, with_socket_by, with_process, with_table, with_new}
 use Rattle.ux_model.specs.Outcome.{Outcome, Chosen, own, lacking_memory, failing, refuse, descriptor_at, find_socket}
 use Rattle.ux_model.specs.Naming.{unlink}
 use Rattle.ux_model.specs.Pairing.{make_pair, with_pair, socket_description}
@@ -25,29 +25,27 @@ use Rattle.ux_model.specs.Binding.{look_up, bind_to, bind, get_sock_name, with_n
 use Rattle.ux_model.specs.Connecting.{make_socket, listener_of, with_listening, listen, connect_to, connect_stream, connect_datagram, connect, get_peer_name, shutdown, server_end, tied as tied_by, no_open_flags}
 use Rattle.ux_model.specs.Accepting.{accept_first, accept, without_first_end, as_accepted, accepted_with}
 use Rattle.ux_model.specs.Sending.{sending, message_of, flight_limit, is_over_limit, enqueue, is_too_long, send_connected, send_stream, send_to_target, send_by_association, send_by, send_from, is_sendable_addr, is_sendable_control, given_refusal, sent_cred, send_given, send_read, send_with, send_msg, descriptions_behind}
-use Rattle.ux_model.specs.Receiving.{Incoming, incoming, receive_front, receive, recv_msg, bytes_alone}
+use Rattle.ux_model.specs.Receiving.{Incoming, incoming, receive_front, receive, recv_msg}
 use Rattle.ux_model.specs.FileObjects.{holds_bytes, is_open_for}
 use Rattle.ux_model.specs.Opening.{open_file, file_description}
 use Rattle.ux_model.specs.Reading.{read, read_answer, is_short_read, offset_after_read}
 use Rattle.ux_model.specs.Writing.{write, write_answer, offset_after_write, write_place}
 use Rattle.ux_model.specs.Seeking.{lseek, seek_to, seek_base}
-use Rattle.ux_model.specs.Options.{tell_cred, tell_option, get_opt, pass_cred_on, may_limit, change_option, set_opt}
+use Rattle.ux_model.specs.Options.{tell_cred, tell_option, get_opt, may_limit, change_option, set_opt}
 use Rattle.ux_model.specs.Readiness.{poll}
 use Rattle.ux_model.specs.Descriptors.{dup, dup2, set_flags, with_flags}
-use Rattle.ux_model.specs.Forking.{fork, exec, child_of}
+use Rattle.ux_model.specs.Forking.{fork, exec}
 use Rattle.ux_model.specs.Closing.{close, exit, off}
-use Rattle.ux_model.specs.Step.{Step, outcome}
+use Rattle.ux_model.specs.Step.{outcome}
 use Rattle.ux_model.specs.Giving.{description_in, description_of}
-use Rattle.ux_model.proofs.Walk.{either, maybe, by_target, by_path, by_queue, found, found_peer}
+use Rattle.ux_model.proofs.Walk.{either, maybe, by_target, by_path, found, found_peer}
 use Rattle.ux_model.proofs.ChangedPlaces.{bool_cases, place-changed, length-changed}
 use Rattle.ux_model.proofs.NameCalls.{same_descriptions}
 use Rattle.ux_model.proofs.Rising.{place_mapped}
 use Rattle.ux_model.proofs.Shows.{by_receive, socket_found}
-use Rattle.ux_model.proofs.Reaching.{changes_lives}
-use Rattle.ux_model.proofs.Obeying.{Obeys}
 use Rattle.ux_model.proofs.Calls.{each_obeys}
 use Rattle.ux_laws.specs.Reach.{asked_addr, IsInReach, held, tied, pending, named}
-use Rattle.ux_laws.proofs.Doing.{look_up_there, by_addr}
+use Rattle.ux_laws.proofs.Doing.{by_addr}
 
 -- ---- one description
 

@@ -1,37 +1,31 @@
 -- Who changes a file object, and who reads it, has a way to it; and strangers have none.
-use Rattle.std.proofs.Common.{◌≡◌, ◌≢◌, ◌⊎◌, ℕ, zero, suc, ◌+◌, ◌≤◌, ◌<◌, ◌==◌, Bool, true, false, not, ◌&&◌, if◌then◌else◌, min, List, [], ◌∷◌, ◌++◌, length, take, map, Option, Some, None, Result, Ok, Err, refl, ap, sym, ◌∙◌, subst, inl, inr, ⊎_elim, arith, slice_get}
+use Rattle.std.proofs.Common.{◌≡◌, ◌⊎◌, ℕ, zero, suc, ◌+◌, Bool, true, false, not, if◌then◌else◌, List, [], ◌∷◌, ◌++◌, length, take, map, Option, Some, None, Result, Ok, Err, refl, ap, sym, ◌∙◌, subst, inl, inr, ⊎_elim, arith, slice_get}
 use Rattle.std.specs.List.{enumerate_from}
 use Rattle.std.proofs.lemmas.Bool.{false≢true}
 use Rattle.ux_model.specs.Types.{Errno, Fd, Name, Mode, OpenFlags, Request, Reply, Entry, How, Link}
 use Rattle.ux_model.specs.Places.{place}
-use Rattle.ux_model.specs.Limits.{read_limit}
-use Rattle.ux_model.specs.Flags.{can_read, can_write, no_flags}
-use Rattle.ux_model.specs.Object.{Body, View, ObjectError, would_block, full, invalid, read_body, is_memory, is_pipe}
+use Rattle.ux_model.specs.Flags.{can_read, can_write}
+use Rattle.ux_model.specs.Object.{View, is_memory}
 use Rattle.ux_model.specs.Names.{PathTarget, file, bound, same_name, named}
 use Rattle.ux_model.specs.Description.{Description, Target, to_object, to_socket, object_of}
 use Rattle.ux_model.specs.Process.{Descriptor}
 use Rattle.ux_model.specs.State.{State, description_at}
-use Rattle.ux_model.specs.Outcome.{Outcome, Chosen, own, lacking_memory, failing, descriptor_at, find_description}
-use Rattle.ux_model.specs.Receiving.{incoming, receive, bytes_alone}
-use Rattle.ux_model.specs.FileObjects.{holds_bytes, is_open_for}
-use Rattle.ux_model.specs.Reading.{read, read_answer, is_short_read}
+use Rattle.ux_model.specs.Outcome.{Outcome, Chosen, own, lacking_memory, failing, descriptor_at}
+use Rattle.ux_model.specs.Reading.{read}
 use Rattle.ux_model.specs.Boot.{IsBootState}
 use Rattle.ux_model.specs.Step.{Step, outcome}
-use Rattle.ux_model.specs.History.{replay, makes, is_allowed, IsLegal}
-use Rattle.ux_model.specs.Giving.{how_of, given, gives}
-use Rattle.ux_model.specs.Pedigree.{before, delivered, Stands, IsGiven, IsFrom, IsChain, first, onward, IsPedigree}
-use Rattle.ux_model.specs.PedigreeLaws.{WasSentNothing}
+use Rattle.ux_model.specs.History.{replay, makes, IsLegal}
+use Rattle.ux_model.specs.Pedigree.{before, delivered, IsFrom, IsChain, first, onward}
 use Rattle.ux_model.proofs.Walk.{either, maybe, by_target, found}
 use Rattle.ux_model.proofs.Fronts.{front_is_legal, in_front}
-use Rattle.ux_model.proofs.ByPlace.{get_below}
 use Rattle.ux_model.proofs.Induction.{IsKept, kept_throughout}
 use Rattle.ux_model.proofs.Replays.{step_replay}
 use Rattle.ux_model.proofs.Moments.{moment, given_cases}
-use Rattle.ux_model.proofs.Passing.{own_number, how_receives, receive_no_fork}
+use Rattle.ux_model.proofs.Passing.{how_receives}
 use Rattle.ux_laws.specs.Talking.{if_found}
-use Rattle.ux_laws.specs.Files.{body_in, body_at, object_behind, IsOpening, HasWay, IsChange, by_write, by_read, ChangesHaveAWay, ReadsHaveAWay, AreStrangers, StrangersHaveNoWay, StrangersChangeNothing}
+use Rattle.ux_laws.specs.Files.{body_in, body_at, object_behind, HasWay, IsChange, by_write, by_read, ChangesHaveAWay, ReadsHaveAWay, AreStrangers, StrangersHaveNoWay, StrangersChangeNothing}
 use Rattle.ux_laws.proofs.Opened.{Begins, chain_begins, way_there}
-use Rattle.ux_laws.proofs.Touching.{Touches, untouched, written, read_from, NamesNoMore, names_equal, Files, step_files}
+use Rattle.ux_laws.proofs.Touching.{Touches, untouched, written, read_from, NamesNoMore, names_equal, step_files}
 
 -- ---- what a descriptor leads to
 

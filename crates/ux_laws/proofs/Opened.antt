@@ -1,54 +1,39 @@
 -- What a description leads to is what its open named, and so a number that leads to a file object has a way to it.
-use Rattle.std.proofs.Common.{◌≡◌, ◌≢◌, ◌⊎◌, ℕ, zero, suc, ◌≤◌, ◌<◌, ◌==◌, Bool, true, false, cond, is_some, not, ◌&&◌, if◌then◌else◌, min, List, [], ◌∷◌, ◌++◌, length, take, map, Option, Some, None, Result, Ok, Err, option_map, refl, ap, sym, ◌∙◌, subst, inl, inr, ⊎_elim, arith, slice_get}
-use Rattle.std.specs.List.{enumerate_from}
+use Rattle.std.proofs.Common.{◌≡◌, ◌≢◌, ◌⊎◌, ℕ, zero, suc, ◌≤◌, ◌<◌, ◌==◌, Bool, true, cond, is_some, List, [], ◌∷◌, ◌++◌, length, take, Option, Some, None, Result, Ok, Err, option_map, refl, ap, sym, ◌∙◌, subst, inl, inr, ⊎_elim, arith, slice_get}
 use Rattle.std.proofs.lemmas.Bool.{eqb-true, eqb-false, false≢true}
 use Rattle.std.proofs.lemmas.List.{length_push, take_all}
 use Rattle.ux_model.specs.Types.{Errno, Fd, Name, Mode, OpenFlags, Request, Reply, Entry, How, Link}
-use Rattle.ux_model.specs.Places.{place}
-use Rattle.ux_model.specs.Limits.{read_limit}
-use Rattle.ux_model.specs.Flags.{can_read, can_write, no_flags}
-use Rattle.ux_model.specs.Object.{Body, View, ObjectError, would_block, full, invalid, read_body, is_memory, is_pipe}
-use Rattle.ux_model.specs.Names.{PathTarget, file, bound, same_name, named}
+use Rattle.ux_model.specs.Names.{file, named}
 use Rattle.ux_model.specs.Socket.{Socket, pending_ends, awaiting, sent, with_queue, with_association, new_socket, pair_end}
-use Rattle.ux_model.specs.Description.{Description, Target, to_object, to_socket, socket_of, object_of, changed, changed_target}
+use Rattle.ux_model.specs.Description.{Description, Target, to_object, to_socket, changed, changed_target}
 use Rattle.ux_model.specs.Process.{Descriptor, own_cred}
-use Rattle.ux_model.specs.State.{State, description_at, socket_at, table_of, next_description, with_socket_by, with_new}
-use Rattle.ux_model.specs.Outcome.{Outcome, Chosen, own, lacking_memory, failing, descriptor_at, find_description, find_socket}
+use Rattle.ux_model.specs.State.{State, description_at, next_description, with_socket_by, with_new}
+use Rattle.ux_model.specs.Outcome.{descriptor_at, find_socket}
 use Rattle.ux_model.specs.Pairing.{socket_description}
 use Rattle.ux_model.specs.Opening.{file_description}
 use Rattle.ux_model.specs.Connecting.{with_listening, server_end, tied, no_open_flags}
-use Rattle.ux_model.specs.Receiving.{incoming, receive, bytes_alone}
-use Rattle.ux_model.specs.FileObjects.{holds_bytes, is_open_for}
-use Rattle.ux_model.specs.Reading.{read, read_answer, is_short_read}
-use Rattle.ux_model.specs.Boot.{IsBootState}
-use Rattle.ux_model.specs.Step.{Step, outcome}
-use Rattle.ux_model.specs.History.{replay, makes, is_allowed, IsLegal}
+use Rattle.ux_model.specs.History.{replay, IsLegal}
 use Rattle.ux_model.specs.Invariants.{IsWhole}
-use Rattle.ux_model.specs.Giving.{held_at, is_held, description_in, description_of, given, gives, how_of, how_received, IsReceive}
-use Rattle.ux_model.specs.Changes.{sources, oldest_end}
-use Rattle.ux_model.specs.Pedigree.{before, delivered, Stands, IsGiven, IsFrom, IsChain, first, onward, IsPedigree}
-use Rattle.ux_model.specs.PedigreeLaws.{LeadsTo, WasSentNothing}
-use Rattle.ux_model.proofs.Walk.{either, maybe, by_target, found}
+use Rattle.ux_model.specs.Giving.{held_at, is_held, description_in, description_of, how_of, how_received}
+use Rattle.ux_model.specs.Changes.{sources}
+use Rattle.ux_model.specs.Pedigree.{before, delivered, IsGiven, IsChain, first, onward, IsPedigree}
+use Rattle.ux_model.specs.PedigreeLaws.{LeadsTo}
+use Rattle.ux_model.proofs.Walk.{found}
 use Rattle.ux_model.proofs.ChangedPlaces.{bool_cases, place_within, length-changed}
 use Rattle.ux_model.proofs.OnePlace.{same_at}
-use Rattle.ux_model.proofs.Appending.{get_push}
 use Rattle.ux_model.proofs.Fronts.{front_is_legal}
-use Rattle.ux_model.proofs.ByPlace.{get_below, get_within, take_none, take_within}
-use Rattle.ux_model.proofs.Induction.{IsKept, kept_throughout, take_next}
-use Rattle.ux_model.proofs.Replays.{step_replay}
+use Rattle.ux_model.proofs.ByPlace.{get_below, get_within}
 use Rattle.ux_model.proofs.Dangling.{nothing_dangles}
-use Rattle.ux_model.proofs.Moments.{Moment, moment, held_leads, leads_held, given_cases}
-use Rattle.ux_model.proofs.Passing.{given_there, own_number, how_fork, how_forked, how_receives, receive_no_fork}
+use Rattle.ux_model.proofs.Moments.{moment}
+use Rattle.ux_model.proofs.Passing.{given_there, own_number, how_fork}
 use Rattle.ux_model.proofs.OneDescription.{pedigree_is_of_one}
-use Rattle.ux_model.proofs.Shows.{by_receive, socket_found}
-use Rattle.ux_laws.specs.Talking.{if_found}
-use Rattle.ux_laws.specs.Files.{body_in, body_at, object_behind, IsOpening, HasWay, IsChange, by_write, by_read, ChangesHaveAWay, ReadsHaveAWay, AreStrangers, StrangersHaveNoWay, StrangersChangeNothing}
+use Rattle.ux_model.proofs.Shows.{socket_found}
+use Rattle.ux_laws.specs.Files.{IsOpening, HasWay}
 use Rattle.ux_laws.proofs.Parts.{Glance, glance, glance_target, glance_at, glance_socket, glance_new, Shrinks}
 use Rattle.ux_laws.proofs.Acts.{Did, quiet, opened, one_made, pair_made, listened, tied_to, connected, put, took}
 use Rattle.ux_laws.proofs.Doing.{step_did}
 use Rattle.ux_laws.proofs.Flows.{unmade}
 use Rattle.ux_laws.proofs.Ways.{every_holding_has_a_pedigree}
-use Rattle.ux_laws.proofs.Touching.{Touches, untouched, written, read_from, NamesNoMore, names_equal, Files, step_files}
 
 -- ---- the file object of a description
 

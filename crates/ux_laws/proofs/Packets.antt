@@ -1,35 +1,23 @@
 -- What was sent to a socket of records was taken from it, once and in order, or waits; and what a receive gives of a message.
-use Rattle.std.proofs.Common.{◌≡◌, ◌⊎◌, ℕ, zero, suc, ◌+◌, ◌≤◌, ◌<◌, ◌==◌, Bool, true, false, not, ◌&&◌, cond, if◌then◌else◌, List, [], ◌∷◌, ◌++◌, length, map, take, min, Option, Some, None, refl, ap, sym, ◌∙◌, subst, inl, inr, ⊎_elim, arith, slice_get}
-use Rattle.std.specs.Prelude.{nat_lt}
-use Rattle.std.proofs.lemmas.Bool.{eqb-true, eqb-false, false≢true, and_parts}
-use Rattle.std.proofs.lemmas.List.{append-nil, append_assoc, length-take}
-use Rattle.ux_model.specs.Types.{Errno, Fd, Addr, SockType, MsgFlags, Request, Reply, Entry}
+use Rattle.std.proofs.Common.{◌≡◌, ℕ, zero, suc, ◌+◌, ◌≤◌, ◌<◌, ◌==◌, Bool, true, false, not, ◌&&◌, cond, if◌then◌else◌, List, [], ◌∷◌, ◌++◌, length, map, take, Option, Some, None, refl, ap, sym, ◌∙◌, subst, ⊎_elim, arith, slice_get}
+use Rattle.std.proofs.lemmas.Bool.{eqb-true, false≢true, and_parts}
+use Rattle.std.proofs.lemmas.List.{append-nil, append_assoc}
+use Rattle.ux_model.specs.Types.{Addr, SockType, Request, Reply, Entry}
 use Rattle.ux_model.specs.Places.{place}
-use Rattle.ux_model.specs.Limits.{read_limit}
-use Rattle.ux_model.specs.Flags.{has_bits, msg_trunc, received_flags, are_receive_flags, asks_peek, asks_real_length, no_flags}
 use Rattle.ux_model.specs.Message.{Message}
-use Rattle.ux_model.specs.Front.{Front, front_of, stream_front, record_front}
-use Rattle.ux_model.specs.Socket.{Socket, is_stream, is_dgram, marks_records, sent_part, stream_room, sent, with_queue}
-use Rattle.ux_model.specs.Description.{Description, to_object, to_socket, socket_of, socket_in}
-use Rattle.ux_model.specs.Process.{Descriptor}
-use Rattle.ux_model.specs.Delivery.{Delivery}
-use Rattle.ux_model.specs.State.{State, socket_at, with_socket_by}
-use Rattle.ux_model.specs.Outcome.{Outcome, Chosen, own, lacking_memory, failing}
-use Rattle.ux_model.specs.Receiving.{Incoming, incoming, receive_front, nothing_received, receive, recv_msg, bytes_alone}
-use Rattle.ux_model.specs.Reading.{read}
-use Rattle.ux_model.specs.Boot.{IsBootState}
-use Rattle.ux_model.specs.Step.{Step, outcome, after}
-use Rattle.ux_model.specs.History.{replay, IsLegal}
-use Rattle.ux_model.specs.Pedigree.{before}
+use Rattle.ux_model.specs.Front.{front_of, stream_front, record_front}
+use Rattle.ux_model.specs.Socket.{is_stream, sent_part, stream_room, sent, with_queue}
+use Rattle.ux_model.specs.State.{State, socket_at}
+use Rattle.ux_model.specs.Step.{Step, after}
+use Rattle.ux_model.specs.History.{replay}
 use Rattle.ux_model.proofs.ChangedPlaces.{bool_cases}
 use Rattle.ux_model.proofs.Induction.{IsKept, kept_throughout}
 use Rattle.ux_model.proofs.Replays.{step_replay}
-use Rattle.ux_model.proofs.Moments.{moment}
-use Rattle.ux_laws.specs.Gathering.{gather_from, gathered}
+use Rattle.ux_laws.specs.Gathering.{gather_from}
 use Rattle.ux_laws.specs.Talking.{offered_bytes, is_peek, socket_through, sends_to, receives_through}
 use Rattle.ux_laws.specs.Records.{Packet, packet_of, name_of_sender, packet_sent, is_count, is_given, oldest_at, sent_packet, taken_packet, packets_sent, packets_taken, RecordsArriveInOrder, RecordsArriveOnce}
-use Rattle.ux_laws.proofs.Parts.{Shrinks, glance}
-use Rattle.ux_laws.proofs.Acts.{either_none, none_either, MovesNothing, IsSending, IsTaking}
+use Rattle.ux_laws.proofs.Parts.{glance}
+use Rattle.ux_laws.proofs.Acts.{either_none, none_either, MovesNothing, IsSending}
 use Rattle.ux_laws.proofs.Flows.{waiting_in, waiting_at, waiting_is, Flow, calm, put_in, taken, step_flow, IsAt, at_socket, kind_there, at_shrunk, at_calm, at_changed, changed_waiting}
 use Rattle.ux_laws.proofs.Gathers.{gathered_push}
 use Rattle.ux_laws.proofs.Delivering.{sends_there, receives_there}

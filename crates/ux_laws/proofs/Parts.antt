@@ -1,15 +1,15 @@
 -- What a call may leave as it was of a description: what a socket is, has waiting and is tied to, and which file object it leads to. Names, options,
 -- offsets, flags and what is pending are no part of it.
-use Rattle.std.proofs.Common.{◌≡◌, ◌≢◌, ◌⊎◌, ℕ, zero, suc, ◌+◌, ◌==◌, Bool, true, false, cond, if◌then◌else◌, List, [], ◌∷◌, ◌++◌, length, map, Option, Some, None, option_map, refl, ap, sym, ◌∙◌, subst, inl, inr, ⊎_elim, arith}
+use Rattle.std.proofs.Common.{◌≡◌, ◌≢◌, ◌⊎◌, ℕ, zero, suc, ◌+◌, ◌==◌, Bool, true, false, cond, if◌then◌else◌, List, [], ◌∷◌, ◌++◌, length, Option, Some, None, option_map, refl, ap, sym, ◌∙◌, inl, inr, ⊎_elim}
 use Rattle.std.specs.List.{enumerate_from}
 use Rattle.std.proofs.lemmas.Bool.{eqb-true, eqb-false}
-use Rattle.std.proofs.lemmas.List.{length-map, length-set, length-append}
+use Rattle.std.proofs.lemmas.List.{length-map, length-set}
 use Rattle.ux_model.specs.Types.{Cred, SockType, Mode}
-use Rattle.ux_model.specs.Places.{place, changed_place}
+use Rattle.ux_model.specs.Places.{place}
 use Rattle.ux_model.specs.Message.{Message}
 use Rattle.ux_model.specs.Socket.{Socket, Phase, idle, listening, connected, associated, peer_of, association_of, phase_with_pending, awaiting}
 use Rattle.ux_model.specs.Description.{Description, Target, to_object, to_socket, socket_of, socket_in, changed, changed_target}
-use Rattle.ux_model.specs.Process.{Process, Descriptor}
+use Rattle.ux_model.specs.Process.{Descriptor}
 use Rattle.ux_model.specs.State.{State, description_at, socket_at, with_description, with_description_by, with_socket_by, with_table, with_new}
 use Rattle.ux_model.specs.Accepting.{phase_without_first_end, without_first_end}
 use Rattle.ux_model.specs.Release.{target_after_loss, description_after_loss, place_after_loss, without, is_unreferenced, drop_all, drop_rounds, drop_unreferenced, has_unreferenced, settled}

@@ -1,39 +1,38 @@
 -- Each message that waits was sent with its credentials, and what a receive reports of them is that of all the bytes that it gives.
-use Rattle.std.proofs.Common.{◌≡◌, ◌⊎◌, ℕ, zero, suc, ◌+◌, ◌≤◌, ◌<◌, ◌==◌, Bool, true, false, not, ◌&&◌, if◌then◌else◌, List, [], ◌∷◌, ◌++◌, length, take, min, Option, Some, None, Result, Ok, Err, refl, ap, sym, ◌∙◌, subst, inl, inr, ⊎_elim, arith, slice_get}
-use Rattle.std.specs.Prelude.{nat_lt, sum_by}
-use Rattle.std.proofs.lemmas.Bool.{eqb-true, and_parts, false≢true}
+use Rattle.std.proofs.Common.{◌≡◌, ℕ, zero, suc, ◌+◌, ◌≤◌, ◌<◌, ◌==◌, Bool, true, false, not, if◌then◌else◌, List, [], ◌∷◌, ◌++◌, length, take, min, Option, Some, None, refl, ap, sym, ◌∙◌, subst, ⊎_elim, arith, slice_get}
+use Rattle.std.proofs.lemmas.Bool.{and_parts, false≢true}
 use Rattle.std.proofs.lemmas.List.{length-take}
 use Rattle.std.proofs.lemmas.List.Sums.{sum_by-cons}
-use Rattle.ux_model.specs.Types.{Errno, Fd, Cred, Addr, MsgFlags, Request, Reply, Entry}
+use Rattle.ux_model.specs.Types.{Fd, Cred, MsgFlags, Request, Reply, Entry}
 use Rattle.ux_model.specs.Places.{place}
 use Rattle.ux_model.specs.Message.{Message, same_cred, queued_bytes, all_bytes}
-use Rattle.ux_model.specs.Stream.{front_with_cred, front_to_barrier, joined_run, first_bytes}
-use Rattle.ux_model.specs.Front.{Front, front_of, stream_front, record_front}
-use Rattle.ux_model.specs.Flags.{are_receive_flags, asks_peek}
+use Rattle.ux_model.specs.Stream.{front_with_cred, front_to_barrier, joined_run}
+use Rattle.ux_model.specs.Front.{front_of, stream_front, record_front}
+use Rattle.ux_model.specs.Flags.{are_receive_flags}
 use Rattle.ux_model.specs.Socket.{Socket, is_stream}
-use Rattle.ux_model.specs.Process.{Process, Descriptor, own_cred}
+use Rattle.ux_model.specs.Process.{Descriptor}
 use Rattle.ux_model.specs.Delivery.{delivery, writes_cred, control_bytes}
 use Rattle.ux_model.specs.State.{State, process_at, socket_at, table_of}
 use Rattle.ux_model.specs.Outcome.{Outcome, Chosen, own, lacking_memory, failing}
-use Rattle.ux_model.specs.Receiving.{Incoming, incoming, receive_front, nothing_received, recv_msg}
+use Rattle.ux_model.specs.Receiving.{Incoming, incoming, receive_front, recv_msg}
 use Rattle.ux_model.specs.Boot.{IsBootState}
 use Rattle.ux_model.specs.Step.{Step, outcome}
-use Rattle.ux_model.specs.History.{replay, is_allowed, IsLegal}
+use Rattle.ux_model.specs.History.{replay, IsLegal}
 use Rattle.ux_model.specs.Pedigree.{before}
 use Rattle.ux_model.proofs.Walk.{either}
-use Rattle.ux_model.proofs.FrontRights.{IsFront, run_front}
+use Rattle.ux_model.proofs.FrontRights.{run_front}
 use Rattle.ux_model.proofs.Fronts.{front_is_legal, in_front}
 use Rattle.ux_model.proofs.ByPlace.{get_below, get_before, take_before, take_few, length_front}
 use Rattle.ux_model.proofs.Induction.{IsKept, kept_throughout, get_pushed, take_pushed}
 use Rattle.ux_model.proofs.Replays.{step_replay}
-use Rattle.ux_model.proofs.Moments.{Moment, moment}
+use Rattle.ux_model.proofs.Moments.{moment}
 use Rattle.ux_model.proofs.Shows.{by_socket, by_receive}
 use Rattle.ux_laws.specs.Talking.{socket_through}
-use Rattle.ux_laws.specs.Credentials.{MaySend, SentWith, IsOfSender, IsHonest, no_cred, of_sender, CredentialsAreTheSenders}
+use Rattle.ux_laws.specs.Credentials.{SentWith, IsHonest, no_cred, of_sender, CredentialsAreTheSenders}
 use Rattle.ux_laws.proofs.Doing.{through_is, same_creds}
 use Rattle.ux_laws.proofs.Acts.{IsSending}
 use Rattle.ux_laws.proofs.Parts.{glance}
-use Rattle.ux_laws.proofs.Flows.{waiting_in, waiting_at, waiting_is, step_flow, flow_waits, IsOf, CameFrom}
+use Rattle.ux_laws.proofs.Flows.{waiting_in, waiting_at, waiting_is, step_flow, flow_waits, IsOf}
 
 -- ---- each message that waits
 

@@ -1,32 +1,31 @@
 -- Once a receive has installed rights of a message, no message that waits has those rights.
-use Rattle.std.proofs.Common.{◌≡◌, ◌⊎◌, ℕ, zero, suc, ◌+◌, ◌-◌, ◌≤◌, ◌<◌, ◌==◌, Bool, true, false, cond, if◌then◌else◌, List, [], ◌∷◌, ◌++◌, length, drop, take, min, Option, Some, None, refl, ap, sym, ◌∙◌, subst, inl, inr, ⊎_elim, arith, slice_get}
+use Rattle.std.proofs.Common.{◌≡◌, ◌⊎◌, ℕ, zero, suc, ◌-◌, ◌≤◌, ◌<◌, ◌==◌, Bool, true, false, cond, if◌then◌else◌, List, [], ◌∷◌, ◌++◌, length, drop, take, min, Option, Some, None, refl, ap, sym, ◌∙◌, subst, inl, inr, ⊎_elim, arith, slice_get}
 use Rattle.std.specs.Prelude.{nat_le, nat_lt}
-use Rattle.std.proofs.lemmas.Bool.{eqb-true, eqb-false, false≢true, ltb-true, ltb-false}
+use Rattle.std.proofs.lemmas.Bool.{eqb-true, eqb-false, ltb-true, ltb-false}
 use Rattle.std.proofs.lemmas.List.{length_push}
-use Rattle.ux_model.specs.Types.{Fd, Addr, MsgFlags, Request, Reply, Entry}
+use Rattle.ux_model.specs.Types.{Request, Reply, Entry}
 use Rattle.ux_model.specs.Places.{place}
 use Rattle.ux_model.specs.Message.{Message, queued_bytes}
 use Rattle.ux_model.specs.Stream.{joined_run, without_first}
-use Rattle.ux_model.specs.Front.{Front, stream_front, record_front, front_of}
+use Rattle.ux_model.specs.Front.{stream_front, record_front, front_of}
 use Rattle.ux_model.specs.Socket.{Socket, is_stream, sent_part, sent, with_queue}
-use Rattle.ux_model.specs.State.{State, socket_at, with_socket_by}
+use Rattle.ux_model.specs.State.{State, with_socket_by}
 use Rattle.ux_model.specs.Boot.{IsBootState}
 use Rattle.ux_model.specs.Step.{Step}
-use Rattle.ux_model.specs.History.{replay, is_allowed, IsLegal}
-use Rattle.ux_model.specs.Changes.{sources}
+use Rattle.ux_model.specs.History.{replay}
 use Rattle.ux_model.specs.Pedigree.{before, delivered}
 use Rattle.ux_model.proofs.ChangedPlaces.{bool_cases}
 use Rattle.ux_model.proofs.Appending.{get_push}
-use Rattle.ux_model.proofs.ByPlace.{get_below, get_before, take_before, length_front}
+use Rattle.ux_model.proofs.ByPlace.{get_below, get_before, take_before}
 use Rattle.ux_model.proofs.Induction.{IsKept, kept_throughout, get_pushed, take_pushed}
 use Rattle.ux_model.proofs.Replays.{step_replay}
 use Rattle.ux_model.proofs.Moments.{moment}
-use Rattle.ux_laws.specs.Talking.{is_peek, given_bytes, socket_through, given_addr, goes_to, destination}
-use Rattle.ux_laws.specs.Rights.{TakesRights, RightsComeOnce, AreOfMessage, RightsComeWithTheirMessage}
+use Rattle.ux_laws.specs.Talking.{is_peek, given_bytes, given_addr, goes_to, destination}
+use Rattle.ux_laws.specs.Rights.{TakesRights, RightsComeOnce, RightsComeWithTheirMessage}
 use Rattle.ux_laws.proofs.Parts.{glance, Shrinks}
 use Rattle.ux_laws.proofs.Acts.{IsSending}
-use Rattle.ux_laws.proofs.Flows.{waiting_in, waiting_at, waiting_is, Flow, calm, put_in, taken, step_flow, IsOf, CameFrom, flow_waits, shrunk_waits, changed_waiting}
-use Rattle.ux_laws.proofs.Installing.{Carries, Installs, rest_rich, step_installs}
+use Rattle.ux_laws.proofs.Flows.{waiting_in, waiting_at, waiting_is, Flow, calm, put_in, taken, step_flow, flow_waits, shrunk_waits, changed_waiting}
+use Rattle.ux_laws.proofs.Installing.{Installs, rest_rich, step_installs}
 
 -- ---- the tags of a queue rise
 

@@ -1,26 +1,25 @@
 -- What a write, a read and a receive are answered at a socket whose peer is gone.
-use Rattle.std.proofs.Common.{◌≡◌, ◌≢◌, ℕ, zero, suc, ◌<◌, ◌==◌, Bool, true, false, not, ◌&&◌, ◌||◌, if◌then◌else◌, cond, is_some, min, List, [], ◌∷◌, length, Option, Some, None, Result, Ok, Err, option_map, refl, ap, sym, ◌∙◌, subst, arith, slice_get}
+use Rattle.std.proofs.Common.{◌≡◌, ℕ, suc, ◌<◌, ◌==◌, Bool, true, false, not, ◌&&◌, ◌||◌, if◌then◌else◌, cond, min, List, [], ◌∷◌, Option, Some, None, Result, Ok, Err, option_map, refl, ap, sym, ◌∙◌, subst, arith}
 use Rattle.std.specs.Prelude.{IsTrue}
 use Rattle.std.proofs.lemmas.Bool.{false≢true, ne_eqb}
-use Rattle.ux_model.specs.Types.{Errno, Fd, Addr, MsgFlags, Request, Reply, Entry}
+use Rattle.ux_model.specs.Types.{Errno, Fd, MsgFlags, Request, Reply}
 use Rattle.ux_model.specs.Places.{place}
 use Rattle.ux_model.specs.Limits.{read_limit}
 use Rattle.ux_model.specs.Flags.{are_receive_flags, no_flags}
 use Rattle.ux_model.specs.Message.{Message}
 use Rattle.ux_model.specs.Front.{Front, front_of}
-use Rattle.ux_model.specs.Socket.{Socket, is_stream, is_dgram, peer_of, with_reset}
+use Rattle.ux_model.specs.Socket.{Socket, is_stream, peer_of, with_reset}
 use Rattle.ux_model.specs.Description.{Description, Target, to_object, to_socket, socket_of, socket_in, changed, changed_target}
 use Rattle.ux_model.specs.Process.{Process, Descriptor, own_cred}
-use Rattle.ux_model.specs.State.{State, process_at, description_at, socket_at, table_of, with_socket_by}
-use Rattle.ux_model.specs.Outcome.{Outcome, Chosen, own, lacking_memory, failing, refuse, answer, descriptor_at, find_description, find_socket, as_process}
+use Rattle.ux_model.specs.State.{State, process_at, description_at, socket_at, with_socket_by}
+use Rattle.ux_model.specs.Outcome.{Outcome, Chosen, own, lacking_memory, failing, refuse, answer, find_description, find_socket, as_process}
 use Rattle.ux_model.specs.Release.{settled}
-use Rattle.ux_model.specs.Sending.{sending, message_of, flight_limit, send_connected, send_stream, send_datagram, send_from, write_socket, is_too_long, enqueue}
+use Rattle.ux_model.specs.Sending.{sending, message_of, flight_limit, send_connected, send_stream, send_datagram, write_socket, is_too_long, enqueue}
 use Rattle.ux_model.specs.FileObjects.{on_object}
 use Rattle.ux_model.specs.Receiving.{Incoming, incoming, receive_front, nothing_received, at_end, receive_nothing, receive_connected, receive_from_peer, receive_datagram, receive, recv_msg, bytes_alone, read_socket}
 use Rattle.ux_model.specs.Reading.{read, read_object}
 use Rattle.ux_model.specs.Writing.{write, write_object}
 use Rattle.ux_model.specs.Step.{Step, outcome}
-use Rattle.ux_model.specs.History.{IsLegal}
 use Rattle.ux_model.specs.Pedigree.{before}
 use Rattle.ux_model.proofs.ChangedPlaces.{bool_cases, changed_here, place-changed}
 use Rattle.ux_model.proofs.Moments.{moment}

@@ -1,16 +1,16 @@
 -- Each number that a process holds has a pedigree: a chain leads to it from the call that made what it leads to.
-use Rattle.std.proofs.Common.{◌≡◌, ◌≢◌, ◌⊎◌, ℕ, zero, suc, ◌≤◌, ◌<◌, ◌==◌, Bool, true, false, not, ◌&&◌, is_some, List, [], ◌∷◌, ◌++◌, length, take, replicate, map, Option, Some, None, refl, ap, sym, ◌∙◌, subst, ⊎_elim, arith, slice_get}
+use Rattle.std.proofs.Common.{◌≡◌, ◌≢◌, ℕ, zero, suc, ◌≤◌, ◌==◌, Bool, true, false, not, ◌&&◌, is_some, List, [], ◌∷◌, ◌++◌, length, take, replicate, map, Option, Some, None, refl, ap, sym, ◌∙◌, subst, ⊎_elim, arith, slice_get}
 use Rattle.std.proofs.lemmas.Bool.{false≢true, eqb-true, eqb-false}
 use Rattle.std.proofs.lemmas.List.{take_all}
-use Rattle.ux_model.specs.Types.{Fd, MsgFlags, Request, Reply, Entry, How, Link}
+use Rattle.ux_model.specs.Types.{Request, Entry, How, Link}
 use Rattle.ux_model.specs.Places.{place}
 use Rattle.ux_model.specs.Process.{Process, Descriptor}
 use Rattle.ux_model.specs.State.{State}
 use Rattle.ux_model.specs.Boot.{IsBootState}
-use Rattle.ux_model.specs.History.{replay, makes, IsLegal}
+use Rattle.ux_model.specs.History.{replay, IsLegal}
 use Rattle.ux_model.specs.Giving.{held_at, is_held, description_in, description_of, given, gives, how_of, copied, IsReceive, receive}
 use Rattle.ux_model.specs.Changes.{as_list, sources}
-use Rattle.ux_model.specs.Pedigree.{before, delivered, Stands, IsGiven, IsFrom, IsChain, first, onward, IsPedigree}
+use Rattle.ux_model.specs.Pedigree.{before, delivered, Stands, IsFrom, IsChain, first, onward, IsPedigree}
 use Rattle.ux_model.proofs.Named.{table_in}
 use Rattle.ux_model.proofs.ChangedPlaces.{bool_cases}
 use Rattle.ux_model.proofs.ByPlace.{get_within, take_none, member_place}

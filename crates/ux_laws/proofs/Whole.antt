@@ -1,25 +1,21 @@
 -- What a receive or a read gives of a record: its bytes, cut to as many as were asked for, and told so.
-use Rattle.std.proofs.Common.{◌≡◌, ◌⊎◌, ℕ, zero, suc, ◌<◌, ◌==◌, Bool, true, false, not, ◌&&◌, if◌then◌else◌, List, [], ◌∷◌, length, take, min, Option, Some, None, Ok, Err, refl, ap, sym, ◌∙◌, subst, inl, inr, ⊎_elim, arith, slice_get}
+use Rattle.std.proofs.Common.{◌≡◌, ◌⊎◌, ℕ, suc, ◌==◌, Bool, true, false, not, ◌&&◌, if◌then◌else◌, List, [], ◌∷◌, length, take, min, Option, Some, None, refl, ap, sym, ◌∙◌, subst, inl, inr, arith, slice_get}
 use Rattle.std.specs.Prelude.{nat_lt}
 use Rattle.std.proofs.lemmas.Bool.{false≢true, and_parts, ltb-true, ltb-false, lt-ltb, le-ltb}
 use Rattle.std.proofs.lemmas.List.{length-take}
-use Rattle.ux_model.specs.Types.{Errno, Fd, Addr, MsgFlags, Request, Reply, Entry}
-use Rattle.ux_model.specs.Places.{place}
+use Rattle.ux_model.specs.Types.{Errno, Fd, Addr, MsgFlags, Request, Reply}
 use Rattle.ux_model.specs.Limits.{read_limit}
-use Rattle.ux_model.specs.Flags.{can_read, has_bits, msg_trunc, received_flags, are_receive_flags, asks_real_length, no_flags}
+use Rattle.ux_model.specs.Flags.{has_bits, msg_trunc, received_flags, are_receive_flags, asks_real_length, no_flags}
 use Rattle.ux_model.specs.Message.{Message}
 use Rattle.ux_model.specs.Front.{Front, front_of, stream_front, record_front}
 use Rattle.ux_model.specs.Socket.{Socket, is_stream}
-use Rattle.ux_model.specs.Description.{Description, to_object, to_socket}
-use Rattle.ux_model.specs.Process.{Descriptor}
-use Rattle.ux_model.specs.State.{State, description_at, socket_at}
-use Rattle.ux_model.specs.Outcome.{Outcome, Chosen, own, lacking_memory, failing, descriptor_at}
-use Rattle.ux_model.specs.Receiving.{Incoming, incoming, receive_front, nothing_received, receive, recv_msg, bytes_alone}
+use Rattle.ux_model.specs.State.{State}
+use Rattle.ux_model.specs.Outcome.{Outcome, Chosen, own, lacking_memory, failing}
+use Rattle.ux_model.specs.Receiving.{Incoming, incoming, receive_front, receive, recv_msg, bytes_alone}
 use Rattle.ux_model.specs.Reading.{read}
 use Rattle.ux_model.specs.Step.{Step, outcome}
-use Rattle.ux_model.specs.History.{replay, IsLegal}
 use Rattle.ux_model.specs.Pedigree.{before}
-use Rattle.ux_model.proofs.Walk.{either, maybe, by_target, found}
+use Rattle.ux_model.proofs.Walk.{either, by_target, found}
 use Rattle.ux_model.proofs.ChangedPlaces.{bool_cases}
 use Rattle.ux_model.proofs.Moments.{moment}
 use Rattle.ux_model.proofs.Shows.{by_socket, by_receive}

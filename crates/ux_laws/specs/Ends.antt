@@ -1,15 +1,15 @@
 -- The end of a connection: what a socket is answered once its peer is gone (unix(7), ECONNRESET and EPIPE; POSIX.1-2017, recv and send).
-use Rattle.std.specs.Prelude.{◌≡◌, ◌≢◌, ◌⊎◌, ℕ, suc, ◌≤◌, ◌<◌, min, Bool, true, false, not, ◌&&◌, ◌==◌, if◌then◌else◌, List, [], ◌∷◌, length, Option, Some, None}
+use Rattle.std.specs.Prelude.{◌≡◌, ◌≢◌, ◌⊎◌, ℕ, suc, ◌≤◌, ◌<◌, min, true, false, List, [], ◌∷◌, length, Some, None}
 use Rattle.std.specs.List.{slice_get}
-use Rattle.ux_model.specs.Types.{Errno, Fd, Addr, MsgFlags, Request, Reply, Entry}
+use Rattle.ux_model.specs.Types.{Errno, Fd, MsgFlags, Request, Reply, Entry}
 use Rattle.ux_model.specs.Flags.{are_receive_flags}
 use Rattle.ux_model.specs.Limits.{read_limit}
 use Rattle.ux_model.specs.Message.{Message}
 use Rattle.ux_model.specs.Front.{front_of}
-use Rattle.ux_model.specs.Socket.{Socket, is_stream, is_dgram, peer_of}
+use Rattle.ux_model.specs.Socket.{Socket, is_dgram, peer_of}
 use Rattle.ux_model.specs.State.{State, description_at, socket_at}
 use Rattle.ux_model.specs.Receiving.{nothing_received}
-use Rattle.ux_model.specs.History.{replay, IsLegal}
+use Rattle.ux_model.specs.History.{IsLegal}
 use Rattle.ux_model.specs.Pedigree.{before}
 use Rattle.ux_laws.specs.Talking.{socket_through, given_bytes}
 use Rattle.ux_laws.specs.Records.{is_count, is_given}

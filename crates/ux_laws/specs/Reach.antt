@@ -1,5 +1,5 @@
 -- What a call leaves alone: descriptions and tables that its process has no way to.
-use Rattle.std.specs.Prelude.{◌≡◌, ◌≢◌, ℕ, suc, ◌<◌, Bool, true, false, List, Option, Some, None, Ok}
+use Rattle.std.specs.Prelude.{◌≡◌, ◌≢◌, ℕ, suc, true, false, List, Option, Some, None, Ok}
 use Rattle.std.specs.List.{slice_get}
 use Rattle.ux_model.specs.Types.{Addr, SockType, Request, Entry}
 use Rattle.ux_model.specs.Socket.{Socket, pending_ends, peer_of, tied_socket, with_reset}
