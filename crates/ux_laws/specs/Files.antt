@@ -51,8 +51,8 @@ pub record HasWay (boot : State) (entries : List Entry) (allows : Mode → Bool)
 
 -- each number that a process holds has a pedigree
 abbrev pub EachHoldingHasAPedigree : Type 0
-EachHoldingHasAPedigree = (boot : State) (entries : List Entry) (p n : ℕ) → IsLegal boot entries → is_held (replay boot entries) p n ≡ true →
-    (chain : List Link) × IsPedigree boot entries chain p n
+EachHoldingHasAPedigree = (boot : State) (entries : List Entry) (p n : ℕ) → IsLegal boot entries →
+    is_held (replay boot entries) p n ≡ true → (chain : List Link) × IsPedigree boot entries chain p n
 
 -- ---- changes
 
@@ -78,7 +78,8 @@ ChangesHaveAWay = (boot : State) (entries : List Entry) (j o : ℕ) (e : Entry) 
 -- a read of a file object that is answered its bytes is by a number that leads to an open for reading
 abbrev pub ReadsHaveAWay : Type 0
 ReadsHaveAWay = (boot : State) (entries : List Entry) (j o n : ℕ) (e : Entry) (fd : Fd) (bytes : List ℕ) → IsLegal boot entries →
-    slice_get entries j ≡ Some e → e.request ≡ Request.Read fd n → object_behind (before boot entries j) e.pid.0 fd ≡ Some o → e.reply ≡ Reply.Bytes bytes →
+    slice_get entries j ≡ Some e → e.request ≡ Request.Read fd n → object_behind (before boot entries j) e.pid.0 fd ≡ Some o →
+    e.reply ≡ Reply.Bytes bytes →
     HasWay boot (take j entries) can_read o e.pid.0 fd.0
 
 -- ---- strangers
@@ -88,15 +89,18 @@ pub record AreStrangers (boot : State) (entries : List Entry) (path : Name) (are
   pub makers : (j q : ℕ) (e : Entry) → slice_get entries j ≡ Some e → makes q e.request e.reply ≡ true → are q ≡ true →
       are e.pid.0 ≡ true
   pub sent_nothing : (q : ℕ) → are q ≡ true → WasSentNothing boot entries q
-  pub never_opened : (j : ℕ) (e : Entry) (mode : Mode) (flags : OpenFlags) → slice_get entries j ≡ Some e → are e.pid.0 ≡ true → e.request ≢ Request.Open path mode flags
+  pub never_opened : (j : ℕ) (e : Entry) (mode : Mode) (flags : OpenFlags) → slice_get entries j ≡ Some e → are e.pid.0 ≡ true →
+      e.request ≢ Request.Open path mode flags
 
 -- No number of theirs leads to the file object that this path names at the start.
 abbrev pub StrangersHaveNoWay : Type 0
 StrangersHaveNoWay = (boot : State) (entries : List Entry) (path : Name) (are : ℕ → Bool) (j o q : ℕ) (fd : Fd) →
-    IsLegal boot entries → named path boot.paths ≡ Some (file o) → AreStrangers boot entries path are → are q ≡ true → object_behind (before boot entries j) q fd ≢ Some o
+    IsLegal boot entries → named path boot.paths ≡ Some (file o) → AreStrangers boot entries path are → are q ≡ true →
+    object_behind (before boot entries j) q fd ≢ Some o
 
 -- So they don't change what is in it.
 abbrev pub StrangersChangeNothing : Type 0
 StrangersChangeNothing = (boot : State) (entries : List Entry) (path : Name) (are : ℕ → Bool) (j o : ℕ) (e : Entry) (old new : Body) →
-    IsLegal boot entries → named path boot.paths ≡ Some (file o) → AreStrangers boot entries path are → slice_get entries j ≡ Some e → are e.pid.0 ≡ true → body_at (before boot entries j) o ≡ Some old →
+    IsLegal boot entries → named path boot.paths ≡ Some (file o) → AreStrangers boot entries path are →
+    slice_get entries j ≡ Some e → are e.pid.0 ≡ true → body_at (before boot entries j) o ≡ Some old →
     body_at (before boot entries (suc j)) o ≡ Some new → new ≡ old

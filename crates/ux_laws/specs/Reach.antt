@@ -23,12 +23,14 @@ pub data IsInReach (S : State) (p : ℕ) (request : Request) (d : ℕ) : Type 0 
   -- A descriptor of its own leads there,
   held : (n : ℕ) → description_of S p n ≡ Some d → IsInReach S p request d
   -- or to a socket that is connected to it, or associated with it;
-  tied : (n e : ℕ) (s : Socket) → description_of S p n ≡ Some e → socket_at S e ≡ Some s → tied_socket s.phase ≡ Some d → IsInReach S p request d
+  tied : (n e : ℕ) (s : Socket) → description_of S p n ≡ Some e → socket_at S e ≡ Some s → tied_socket s.phase ≡ Some d →
+      IsInReach S p request d
   -- or to a listening socket at which it is the oldest end that waits;
   pending : (n e : ℕ) (s : Socket) → description_of S p n ≡ Some e → socket_at S e ≡ Some s → slice_get (pending_ends s.phase) 0 ≡ Some d →
       IsInReach S p request d
   -- or it is a socket that the address leads to, which the call gives.
-  named : (kind : SockType) (addr : Addr) (s : Socket) → asked_addr request ≡ Some addr → look_up S kind addr ≡ Ok (d, s) → IsInReach S p request d
+  named : (kind : SockType) (addr : Addr) (s : Socket) → asked_addr request ≡ Some addr → look_up S kind addr ≡ Ok (d, s) →
+      IsInReach S p request d
 
 -- ---- what happens to others
 
@@ -57,6 +59,6 @@ CallsLeaveOthersAlone = (boot : State) (entries : List Entry) (j d : ℕ) (e : E
 
 -- It changes no table but its process's own and that of a child that it makes; the end of the layer empties all.
 abbrev pub CallsLeaveTablesAlone : Type 0
-CallsLeaveTablesAlone = (boot : State) (entries : List Entry) (j q n : ℕ) (e : Entry) → IsLegal boot entries → slice_get entries j ≡ Some e →
-    is_off e.request ≡ false → e.pid.0 ≢ q → makes q e.request e.reply ≡ false →
+CallsLeaveTablesAlone = (boot : State) (entries : List Entry) (j q n : ℕ) (e : Entry) → IsLegal boot entries →
+    slice_get entries j ≡ Some e → is_off e.request ≡ false → e.pid.0 ≢ q → makes q e.request e.reply ≡ false →
     held_at (before boot entries (suc j)) q n ≡ held_at (before boot entries j) q n

@@ -53,7 +53,9 @@ abbrev pub sent_packet : ℕ → ℕ → State → ℕ → Request → Reply →
 sent_packet d n S p request reply = if sends_to S d p request && is_count reply then packet_sent n S p request ∷ [] else []
 
 abbrev pub taken_packet : ℕ → State → ℕ → Request → Reply → List Packet
-taken_packet d S p request reply = if is_peek request then [] else if receives_through S d p request && is_given reply then oldest_at (socket_through S p request) else []
+taken_packet d S p request reply =
+    if is_peek request then [] else
+    if receives_through S d p request && is_given reply then oldest_at (socket_through S p request) else []
 
 -- the same of all calls of a history, in order
 abbrev pub packets_sent : State → ℕ → List Entry → List Packet

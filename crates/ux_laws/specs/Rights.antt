@@ -21,7 +21,8 @@ pub record TakesRights (entries : List Entry) (i tag : ℕ) : Type 0 where
 
 -- one call at most does, of the rights of one send
 abbrev pub RightsComeOnce : Type 0
-RightsComeOnce = (boot : State) (entries : List Entry) (i j tag : ℕ) → IsLegal boot entries → TakesRights entries i tag → TakesRights entries j tag → i ≡ j
+RightsComeOnce = (boot : State) (entries : List Entry) (i j tag : ℕ) → IsLegal boot entries → TakesRights entries i tag →
+    TakesRights entries j tag → i ≡ j
 
 -- ---- with their message
 

@@ -26,4 +26,5 @@ bytes_received boot d entries = gathered (λ n S e. received_now d S e.pid.0 e.r
 -- What was sent to a stream socket is what was received from it, followed by what waits at it, as long as it is there.
 abbrev pub StreamsAreReliable : Type 0
 StreamsAreReliable = (boot : State) (entries : List Entry) (d : ℕ) (s : Socket) → IsLegal boot entries →
-    socket_at (replay boot entries) d ≡ Some s → is_stream s.kind ≡ true → bytes_sent boot d entries ≡ bytes_received boot d entries ++ all_bytes s.queue
+    socket_at (replay boot entries) d ≡ Some s → is_stream s.kind ≡ true →
+    bytes_sent boot d entries ≡ bytes_received boot d entries ++ all_bytes s.queue
