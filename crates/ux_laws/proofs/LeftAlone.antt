@@ -118,7 +118,7 @@ lost_after S T U d first all (reset r had) (reset q also) =
       left = q.left ∙ ap (λ (D : Description). Some (changed (with_reset true) D)) is ∙ ap (λ (D : Description). Some D) (reset_twice r.description);
     }) had
 
-rounds_lost : (n : ℕ) (S : State) (d : ℕ) → Lost S (drop_rounds n S) d
+pub rounds_lost : (n : ℕ) (S : State) (d : ℕ) → Lost S (drop_rounds n S) d
 unfolding drop_rounds
 rounds_lost zero S d = same refl
 rounds_lost (suc n) S d = go (λ e. rounds_lost n (drop_all S) e) (has_unreferenced S)

@@ -18,6 +18,7 @@ pub mod Near
 pub mod LeftAlone
 pub mod Ended
 pub mod Telling
+pub mod Resetting
 mod Play
 mod StreamExample
 mod RecordExample

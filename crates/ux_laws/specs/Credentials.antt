@@ -1,5 +1,5 @@
 -- Nobody forges credentials (unix(7), SCM_CREDENTIALS and SO_PEERCRED).
-use Rattle.std.specs.Prelude.{◌≡◌, ◌⊎◌, ℕ, suc, ◌<◌, true, ℤ, List, ◌∷◌, length, take, Option, Some, None, Ok}
+use Rattle.std.specs.Prelude.{◌≡◌, ◌⊎◌, ℕ, suc, ◌<◌, Bool, true, false, ℤ, List, ◌∷◌, length, take, Option, Some, None, Ok}
 use Rattle.std.specs.List.{slice_get}
 use Rattle.ux_model.specs.Types.{Fd, Cred, Addr, SockType, SockOpt, OpenFlags, MsgFlags, Request, Reply, Entry}
 use Rattle.ux_model.specs.Message.{Message, queued_bytes}
@@ -13,7 +13,7 @@ use Rattle.ux_model.specs.Binding.{look_up}
 use Rattle.ux_model.specs.Outcome.{find_socket}
 use Rattle.ux_model.specs.History.{IsLegal}
 use Rattle.ux_model.specs.Pedigree.{before}
-use Rattle.ux_laws.specs.Talking.{if_found, socket_through}
+use Rattle.ux_laws.specs.Talking.{if_found, socket_through, is_number}
 
 -- ---- what may be sent
 
@@ -94,7 +94,12 @@ pub record IsCallBy (boot : State) (entries : List Entry) (at : ℕ) (request : 
   pub caller : process_at (before boot entries at) call.pid.0 ≡ Some process
   pub own : cred ≡ own_cred call.pid.0 process
 
--- a process with these credentials called listen on socket l, before call until
+-- a call of process p is a listen on socket l, and wasn't refused
+abbrev pub listens_on : State → ℕ → ℕ → Request → Reply → Bool
+listens_on S l p (Request.Listen fd backlog) Reply.Ok = is_number l (socket_behind S p fd)
+listens_on S l p _ _ = false
+
+-- a process with these credentials called listen on socket l, as the last before call until
 pub record HasListened (boot : State) (entries : List Entry) (l until : ℕ) (cred : Cred) : Type 0 where
   pub at : ℕ
   pub fd : Fd
@@ -102,6 +107,8 @@ pub record HasListened (boot : State) (entries : List Entry) (l until : ℕ) (cr
   pub called : IsCallBy boot entries at (Request.Listen fd backlog) Reply.Ok cred
   pub on : socket_behind (before boot entries at) called.call.pid.0 fd ≡ Some l
   pub earlier : at < until
+  pub last : (j : ℕ) (e : Entry) → at < j → j < until → slice_get entries j ≡ Some e →
+      listens_on (before boot entries j) l e.pid.0 e.request e.reply ≡ false
 
 -- the client, socket d, was connected to a socket that somebody listened on
 pub record IsConnected (boot : State) (entries : List Entry) (d : ℕ) (cred : Cred) : Type 0 where

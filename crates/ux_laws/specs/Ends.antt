@@ -1,5 +1,5 @@
 -- The end of a connection: what a socket is answered once its peer is gone (unix(7), ECONNRESET and EPIPE; POSIX.1-2017, recv and send).
-use Rattle.std.specs.Prelude.{◌≡◌, ◌≢◌, ◌⊎◌, ℕ, suc, ◌≤◌, ◌<◌, min, true, false, List, [], ◌∷◌, length, Some, None}
+use Rattle.std.specs.Prelude.{◌≡◌, ◌≢◌, ◌⊎◌, ℕ, suc, ◌≤◌, ◌<◌, ◌==◌, min, Bool, true, false, not, ◌||◌, List, [], ◌∷◌, length, Some, None}
 use Rattle.std.specs.List.{slice_get}
 use Rattle.ux_model.specs.Types.{Errno, Fd, MsgFlags, Request, Reply, Entry}
 use Rattle.ux_model.specs.Flags.{are_receive_flags}
@@ -38,6 +38,21 @@ abbrev pub ResetsAreOfLosses : Type 0
 ResetsAreOfLosses = (boot : State) (entries : List Entry) (j d : ℕ) (e : Entry) (s t : Socket) → IsLegal boot entries →
     slice_get entries j ≡ Some e → socket_at (before boot entries j) d ≡ Some s → socket_at (before boot entries (suc j)) d ≡ Some t →
     s.reset ≡ false → t.reset ≡ true → HasEnded (before boot entries (suc j)) d t ⊎ (is_dgram t.kind ≡ true)
+
+-- calls that close descriptors and do nothing else
+abbrev pub is_closing : Request → Bool
+is_closing (Request.Close fd) = true
+is_closing (Request.Dup2 fd to) = true
+is_closing Request.Exec = true
+is_closing Request.Exit = true
+is_closing _ = false
+
+-- By such a call that frees the peer it does exactly where the peer had messages that nobody had read, or where no accept had taken it.
+abbrev pub LossesReset : Type 0
+LossesReset = (boot : State) (entries : List Entry) (j d peer : ℕ) (e : Entry) (s t u : Socket) → IsLegal boot entries →
+    slice_get entries j ≡ Some e → is_closing e.request ≡ true → socket_at (before boot entries j) d ≡ Some s → peer_of s.phase ≡ Some peer →
+    socket_at (before boot entries j) peer ≡ Some u → description_at (before boot entries (suc j)) peer ≡ None →
+    socket_at (before boot entries (suc j)) d ≡ Some t → t.reset ≡ (s.reset || (not (length u.queue == 0) || not u.accepted))
 
 -- ---- sends
 

@@ -4,7 +4,7 @@
 #![tactic(auto)]
 
 ghost use Rattle.ux_laws.specs.Credentials.{CredentialsAreTheSenders, PeersAreTheMakers};
-ghost use Rattle.ux_laws.specs.Ends.{EndsAreForEver, ResetsAreOfLosses, SendsFindNobody, WritesBreak, ReadsTellTheEnd, ReceivesTellTheEnd};
+ghost use Rattle.ux_laws.specs.Ends.{EndsAreForEver, ResetsAreOfLosses, LossesReset, SendsFindNobody, WritesBreak, ReadsTellTheEnd, ReceivesTellTheEnd};
 ghost use Rattle.ux_laws.specs.Files.{EachHoldingHasAPedigree, ChangesHaveAWay, ReadsHaveAWay, StrangersHaveNoWay, StrangersChangeNothing};
 ghost use Rattle.ux_laws.specs.Reach.{CallsLeaveOthersAlone, CallsLeaveTablesAlone};
 ghost use Rattle.ux_laws.specs.Records.{RecordsArriveInOrder, RecordsArriveOnce, RecordsArriveWhole, ReadRecordsArriveWhole};
@@ -18,8 +18,8 @@ pub fn nobody_forges_credentials()
     ensures { CredentialsAreTheSenders }
 {}
 
-/// SO_PEERCRED reports the process that made the pair; at a server's end the one that connected, at a client
-/// one that called listen; with the credentials that it had then.
+/// SO_PEERCRED reports the process that made the pair; at a server's end the one that connected, at a client the
+/// one that called listen last before that; with the credentials that it had then.
 #[tactic(auto, using(crate::proofs::Makers::peers_are_the_makers))]
 pub fn peers_are_who_made_the_connection()
     ensures { PeersAreTheMakers }
@@ -117,6 +117,12 @@ pub fn ends_are_for_ever()
 /// ECONNRESET comes to be pending at a connected socket only by the call that frees its peer.
 pub fn resets_are_of_losses()
     ensures { ResetsAreOfLosses }
+{}
+
+/// A close, a dup2, an exec or an exit that frees the peer makes ECONNRESET pending exactly where the peer had
+/// messages that nobody had read, or where no accept had taken it.
+pub fn losses_reset()
+    ensures { LossesReset }
 {}
 
 /// A send or a write to a peer that is gone takes nothing.
