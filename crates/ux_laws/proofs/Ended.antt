@@ -34,7 +34,7 @@ use Rattle.ux_laws.proofs.Opened.{did_at, made_more}
 -- ---- what stays of a socket
 
 -- A socket was of the same kind before, and connected to the same peer if it was to one; or it is new.
-abbrev Was : State → ℕ → SocketParts → Type 0
+abbrev pub Was : State → ℕ → SocketParts → Type 0
 Was S d q = ((r : SocketParts) × Seen S d r × (q.kind ≡ r.kind) × ((peer : ℕ) → r.tie.peer ≡ Some peer → q.tie.peer ≡ Some peer)) ⊎ (length S.descriptions ≤ d)
 
 was_itself : (S : State) (d : ℕ) (q : SocketParts) → Seen S d q → Was S d q
@@ -58,7 +58,7 @@ keeps_associated target (listening backlog cred) peer h = h
 keeps_associated target (joined x) peer h = h
 keeps_associated target (associated old) peer h = absurd (cc h)
 
-did_was : (S T : State) (p tag : ℕ) (request : Request) (reply : Reply) (d : ℕ) (q : SocketParts) → Did S p tag request reply T → Seen T d q → Was S d q
+pub did_was : (S T : State) (p tag : ℕ) (request : Request) (reply : Reply) (d : ℕ) (q : SocketParts) → Did S p tag request reply T → Seen T d q → Was S d q
 did_was S T p tag request reply d q (quiet k moves) h = was_itself S d q (seen_shrunk S T d q k h)
 did_was S T p tag request reply d q (opened path mode flags o a b c k) h = was_new S S (file_description o mode flags) d q (omega arith) (λ r g. was_itself S d r g) (seen_shrunk _ T d q k h)
 did_was S T p tag request reply d q (one_made kind flags a k) h = was_new S S (socket_description flags (new_socket kind)) d q (omega arith) (λ r g. was_itself S d r g) (seen_shrunk _ T d q k h)
@@ -192,7 +192,7 @@ gone_after S T p tag request reply d did known none = go (description_at T d) re
 -- ---- a peer that is gone
 
 -- a peer has a number that was given before
-peer_known : (boot : State) (es : List Entry) (j d peer : ℕ) (s : Socket) → IsLegal boot es → socket_at (before boot es j) d ≡ Some s → peer_of s.phase ≡ Some peer → peer < length (before boot es j).descriptions
+pub peer_known : (boot : State) (es : List Entry) (j d peer : ℕ) (s : Socket) → IsLegal boot es → socket_at (before boot es j) d ≡ Some s → peer_of s.phase ≡ Some peer → peer < length (before boot es j).descriptions
 peer_known boot es j d peer s legal there is = (nothing_dangles boot (take j es) (front_is_legal boot es j legal)).connections_mutual.known d peer (at_place (description_at (before boot es j) d) there)
   where
     at_target : (t : Target) → socket_of t ≡ Some s → target_peer t ≡ Some peer
@@ -203,7 +203,7 @@ peer_known boot es j d peer s legal there is = (nothing_dangles boot (take j es)
     at_place None h = absurd (cc h)
     at_place (Some D) h = at_target D.target h
 
-socket_known : (S : State) (d : ℕ) (s : Socket) → socket_at S d ≡ Some s → d < length S.descriptions
+pub socket_known : (S : State) (d : ℕ) (s : Socket) → socket_at S d ≡ Some s → d < length S.descriptions
 socket_known S d s there = at_place (description_at S d) refl there
   where
     at_place : (x : Option Description) → description_at S d ≡ x → socket_in x ≡ Some s → d < length S.descriptions
@@ -263,7 +263,7 @@ ended_step S T p tag d request reply gone u t step e known there =
 
     by_near : {x : Option Description} → d < length S.descriptions → NearAt S p request d x → reset_in x ≡ true → reset_in (description_at S d) ≡ true
     by_near here (stays is) h = sym (ap reset_in is) ∙ h
-    by_near here (reached r still) h = still h
+    by_near here (reached r still) h = still.0 h
     by_near here (new more still) h = absurd (omega (arith, here, more))
     by_near here (dropped is) h = absurd (false≢true (sym (ap reset_in is) ∙ h))
 
@@ -323,8 +323,8 @@ resets_are_of_losses boot es j d e s t legal at there left clear pending =
       where
         by_near : {x : Option Description} → NearAt (before boot es j) e.pid.0 e.request d x → reset_in x ≡ true → reset_in (description_at (before boot es j) d) ≡ true
         by_near (stays is) h = sym (ap reset_in is) ∙ h
-        by_near (reached r still) h = still h
-        by_near (new more still) h = still h
+        by_near (reached r still) h = still.0 h
+        by_near (new more still) h = still.0 h
         by_near (dropped is) h = absurd (false≢true (sym (ap reset_in is) ∙ h))
 
     by_lost : (U : State) → Lost U (before boot es (suc j)) d → NearAt (before boot es j) e.pid.0 e.request d (description_at U d) → HasEnded (before boot es (suc j)) d t ⊎ (is_dgram t.kind ≡ true)

@@ -19,6 +19,7 @@ pub mod LeftAlone
 pub mod Ended
 pub mod Telling
 pub mod Resetting
+pub mod WaitEnds
 mod Play
 mod StreamExample
 mod RecordExample
@@ -27,3 +28,4 @@ mod CredentialExample
 mod FileExample
 mod EndExample
 mod ReachExample
+mod WaitExample

@@ -190,7 +190,7 @@ listener_cred (listening backlog cred) kept h = ap (λ (o : Option Listener). el
 listener_cred (joined peer) kept h = absurd (cc h)
 listener_cred (associated old) kept h = absurd (cc h)
 
-behind_is : (S : State) (p d : ℕ) (fd : Fd) (s : Socket) → find_socket S p fd ≡ Ok (d, s) → socket_behind S p fd ≡ Some d
+pub behind_is : (S : State) (p d : ℕ) (fd : Fd) (s : Socket) → find_socket S p fd ≡ Ok (d, s) → socket_behind S p fd ≡ Some d
 behind_is S p d fd s h = ap (λ (r : Result (ℕ × Socket) Errno). elim (if_found r) as (λ _. Option ℕ) [ None ↦ None | Some found ↦ Some found.0 ]) h
 
 -- a change that touches neither

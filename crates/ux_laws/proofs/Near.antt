@@ -58,11 +58,28 @@ abbrev pub reset_in : Option Description → Bool
 reset_in None = false
 reset_in (Some D) = reset_of D.target
 
+-- what is shut down, for reading and for writing
+abbrev pub shut_of : Target → Bool × Bool
+shut_of (to_object o) = (false, false)
+shut_of (to_socket s) = (s.read_shut, s.write_shut)
+
+abbrev pub shut_in : Option Description → Bool × Bool
+shut_in None = (false, false)
+shut_in (Some D) = shut_of D.target
+
+abbrev pub is_shutdown : Request → Bool
+is_shutdown (Request.Shutdown fd how) = true
+is_shutdown _ = false
+
+-- the call resets nothing, and if it is no shutdown shuts nothing down
+abbrev pub Keeps : Request → Option Description → Option Description → Type 0
+Keeps request old x = (reset_in x ≡ true → reset_in old ≡ true) × (is_shutdown request ≡ false → shut_in x ≡ shut_in old)
+
 -- what becomes of one: it stays, it is in reach and not reset by the call, or it is gone
 pub data NearAt (S : State) (p : ℕ) (request : Request) (d : ℕ) (x : Option Description) : Type 0 where
   stays : x ≡ description_at S d → NearAt S p request d x
-  reached : IsInReach S p request d → (reset_in x ≡ true → reset_in (description_at S d) ≡ true) → NearAt S p request d x
-  new : length S.descriptions ≤ d → (reset_in x ≡ true → reset_in (description_at S d) ≡ true) → NearAt S p request d x
+  reached : IsInReach S p request d → Keeps request (description_at S d) x → NearAt S p request d x
+  new : length S.descriptions ≤ d → Keeps request (description_at S d) x → NearAt S p request d x
   gone : x ≡ None → NearAt S p request d x
 
 pub record Near (S : State) (p : ℕ) (request : Request) (U : State) : Type 0 where
@@ -73,7 +90,7 @@ near_same {S} same = record { each = λ d. stays (ap (λ (ds : List (Option Desc
 
 -- a change of one that is in reach, or was made by this call
 near_by : {S : State} {p : ℕ} {request : Request} (T : State) (t : ℕ) (change : Description → Description) → Near S p request T → (IsInReach S p request t ⊎ (length S.descriptions ≤ t)) →
-    ((D : Description) → reset_of (change D).target ≡ true → reset_of D.target ≡ true) → Near S p request (with_description_by T t change)
+    ((D : Description) → Keeps request (Some D) (Some (change D))) → Near S p request (with_description_by T t change)
 near_by {S} {p} {request} T t change near reach resets = record {
   each = λ d. bool_cases (t == d)
       (λ e.
@@ -83,47 +100,49 @@ near_by {S} {p} {request} T t change near reach resets = record {
       (λ e. subst (NearAt S p request d) (sym (place-changed T.descriptions t d change ∙ ap (λ b. cond b (option_map change (description_at T d)) (description_at T d)) e)) (near.each d));
 }
   where
-    kept : (x : Option Description) → reset_in (option_map change x) ≡ true → reset_in x ≡ true
-    kept None h = h
-    kept (Some D) h = resets D h
+    kept : (x : Option Description) → Keeps request x (option_map change x)
+    kept None = (λ h. h, λ elsewhere. refl)
+    kept (Some D) = resets D
 
-    both : (d : ℕ) (x : Option Description) → (reset_in x ≡ true → reset_in (description_at S d) ≡ true) → IsInReach S p request d ⊎ (length S.descriptions ≤ d) → NearAt S p request d (option_map change x)
-    both d x still (inl r) = reached r (λ h. still (kept x h))
-    both d x still (inr more) = new more (λ h. still (kept x h))
+    keeps_on : (old x y : Option Description) → Keeps request old x → Keeps request x y → Keeps request old y
+    keeps_on old x y a b = (λ h. a.0 (b.0 h), λ elsewhere. b.1 elsewhere ∙ a.1 elsewhere)
+
+    both : (d : ℕ) (x : Option Description) → Keeps request (description_at S d) x → IsInReach S p request d ⊎ (length S.descriptions ≤ d) → NearAt S p request d (option_map change x)
+    both d x still (inl r) = reached r (keeps_on (description_at S d) x (option_map change x) still (kept x))
+    both d x still (inr more) = new more (keeps_on (description_at S d) x (option_map change x) still (kept x))
 
     at_place : (d : ℕ) {x : Option Description} → NearAt S p request d x → IsInReach S p request d ⊎ (length S.descriptions ≤ d) → NearAt S p request d (option_map change x)
-    at_place d {x} (stays is) r = both d x (λ h. sym (ap reset_in is) ∙ h) r
+    at_place d {x} (stays is) r = both d x (λ h. sym (ap reset_in is) ∙ h, λ elsewhere. ap shut_in is) r
     at_place d {x} (reached q still) r = both d x still r
     at_place d {x} (new more still) r = both d x still r
     at_place d {x} (gone is) r = gone (ap (λ y. option_map change y) is)
 
 -- of a socket
 near_socket : {S : State} {p : ℕ} {request : Request} (T : State) (t : ℕ) (change : Socket → Socket) → Near S p request T → (IsInReach S p request t ⊎ (length S.descriptions ≤ t)) →
-    ((s : Socket) → (change s).reset ≡ true → s.reset ≡ true) → Near S p request (with_socket_by T t change)
-near_socket T t change near reach resets = near_by T t (changed change) near reach (λ D. at_target D.target)
+    ((s : Socket) → ((change s).reset ≡ true → s.reset ≡ true) × (is_shutdown request ≡ false → shut_of (to_socket (change s)) ≡ shut_of (to_socket s))) → Near S p request (with_socket_by T t change)
+near_socket {S} {p} {request} T t change near reach resets = near_by T t (changed change) near reach (λ D. at_target D.target)
   where
-    at_target : (u : Target) → reset_of (changed_target change u) ≡ true → reset_of u ≡ true
-    at_target (to_object o) h = h
-    at_target (to_socket s) h = resets s h
+    at_target : (u : Target) → (reset_of (changed_target change u) ≡ true → reset_of u ≡ true) × (is_shutdown request ≡ false → shut_of (changed_target change u) ≡ shut_of u)
+    at_target (to_object o) = (λ h. h, λ elsewhere. refl)
+    at_target (to_socket s) = resets s
 
--- one that is put in the place of one in reach
-near_put : {S : State} {p : ℕ} {request : Request} (d : ℕ) (D E : Description) → description_at S d ≡ Some D → reset_of E.target ≡ reset_of D.target → IsInReach S p request d → Near S p request (with_description S d E)
+-- one that is put in the place of one in reach, and leads to the same
+near_put : {S : State} {p : ℕ} {request : Request} (d : ℕ) (D E : Description) → description_at S d ≡ Some D → E.target ≡ D.target → IsInReach S p request d → Near S p request (with_description S d E)
 near_put {S} {p} {request} d D E here same reach = record {
   each = λ i. bool_cases (d == i)
       (λ e.
       let at : d ≡ i = eqb-true d i e in
+      let is : description_at (with_description S d E) i ≡ Some E = ap (λ (k : ℕ). place (filled S.descriptions d E) k) (sym at) ∙ put_there S.descriptions d here in
+      let was : description_at S i ≡ Some D = ap (λ (k : ℕ). description_at S k) (sym at) ∙ here in
       reached (subst (IsInReach S p request) at reach)
-      (λ h. ap (λ (k : ℕ). reset_in (description_at S k)) (sym at) ∙ ap reset_in here ∙ sym same ∙ sym (put_reset S.descriptions d i at D here) ∙ h))
+      (λ h. ap reset_in was ∙ sym (ap reset_of same) ∙ sym (ap reset_in is) ∙ h, λ elsewhere. ap shut_in is ∙ ap shut_of same ∙ sym (ap shut_in was)))
       (λ e. stays (get_or-set_other S.descriptions d i (Some E) None (λ k. eqb-false d i e (sym k))));
 }
   where
-    put_reset : (ds : List (Option Description)) (d i : ℕ) → d ≡ i → (D : Description) → place ds d ≡ Some D → reset_in (place (filled ds d E) i) ≡ reset_of E.target
-    put_reset ds d i at D h = ap (λ (k : ℕ). reset_in (place (filled ds d E) k)) (sym at) ∙ there ds d h
-      where
-        there : (ds : List (Option Description)) (d : ℕ) → place ds d ≡ Some D → reset_in (place (filled ds d E) d) ≡ reset_of E.target
-        there [] d h = absurd (cc h)
-        there (x ∷ xs) zero h = refl
-        there (x ∷ xs) (suc d) h = there xs d h
+    put_there : (ds : List (Option Description)) (d : ℕ) → place ds d ≡ Some D → place (filled ds d E) d ≡ Some E
+    put_there [] d h = absurd (cc h)
+    put_there (x ∷ xs) zero h = refl
+    put_there (x ∷ xs) (suc d) h = put_there xs d h
 
 pushed_here : (ds : List (Option Description)) (x : Option Description) → place (ds ++ x ∷ []) (length ds) ≡ x
 pushed_here [] x = refl
@@ -135,14 +154,20 @@ pushed_other [] x (suc d) h = refl
 pushed_other (y ∷ ds) x zero h = refl
 pushed_other (y ∷ ds) x (suc d) h = pushed_other ds x d (λ e. h (ap suc e))
 
+none_past : (ds : List (Option Description)) (d : ℕ) → length ds ≤ d → place ds d ≡ None
+none_past [] d h = refl
+none_past (x ∷ ds) zero h = absurd (omega (arith, h))
+none_past (x ∷ ds) (suc d) h = none_past ds d (omega (arith, h))
+
 -- one more, of which none is pending
-near_new : {S : State} {p : ℕ} {request : Request} (T : State) (D : Description) → Near S p request T → length S.descriptions ≤ length T.descriptions → reset_of D.target ≡ false → Near S p request (with_new T D)
-near_new {S} {p} {request} T D near more none = record {
+near_new : {S : State} {p : ℕ} {request : Request} (T : State) (D : Description) → Near S p request T → length S.descriptions ≤ length T.descriptions → reset_of D.target ≡ false → shut_of D.target ≡ (false, false) → Near S p request (with_new T D)
+near_new {S} {p} {request} T D near more none open_both = record {
   each = λ d. bool_cases (length T.descriptions == d)
       (λ e.
       let at : length T.descriptions ≡ d = eqb-true (length T.descriptions) d e in
       let is : description_at (with_new T D) d ≡ Some D = ap (λ (k : ℕ). description_at (with_new T D) k) (sym at) ∙ pushed_here T.descriptions (Some D) in
-      new (omega (arith, more, at)) (λ h. absurd (false≢true (sym none ∙ sym (ap reset_in is) ∙ h))))
+      let beyond : length S.descriptions ≤ d = omega (arith, more, at) in
+      new beyond (λ h. absurd (false≢true (sym none ∙ sym (ap reset_in is) ∙ h)), λ elsewhere. ap shut_in is ∙ open_both ∙ sym (ap shut_in (none_past S.descriptions d beyond))))
       (λ e. subst (NearAt S p request d) (sym (pushed_other T.descriptions (Some D) d (eqb-false (length T.descriptions) d e))) (near.each d));
 }
 
@@ -232,7 +257,7 @@ unfolding open_file
 open_near S p path mode flags = either Q (not (is_valid_path path)) _ _ (λ b. still)
     (λ b. maybe Q (named_in path S.paths) _ _ still
     (λ t is. by_path Q t _ _
-    (λ o led. maybe Q (lowest_free (table_of S p)) _ _ still (λ n low. near_table (with_new S (file_description o mode flags)) p _ (near_new S (file_description o mode flags) still (omega arith) refl)))
+    (λ o led. maybe Q (lowest_free (table_of S p)) _ _ still (λ n low. near_table (with_new S (file_description o mode flags)) p _ (near_new S (file_description o mode flags) still (omega arith) refl refl)))
     (λ d led. still)))
   where
     Q : Outcome → Type 0
@@ -241,7 +266,7 @@ open_near S p path mode flags = either Q (not (is_valid_path path)) _ _ (λ b. s
 socket_near : (S : State) (p : ℕ) (kind : SockType) (flags : OpenFlags) → Near S p (Request.Socket kind flags) (make_socket S p kind flags).next
 unfolding make_socket
 socket_near S p kind flags = maybe (λ o. Near S p (Request.Socket kind flags) o.next) (lowest_free (table_of S p)) _ _ still
-    (λ n low. near_table (with_new S (socket_description flags (new_socket kind))) p _ (near_new S (socket_description flags (new_socket kind)) still (omega arith) refl))
+    (λ n low. near_table (with_new S (socket_description flags (new_socket kind))) p _ (near_new S (socket_description flags (new_socket kind)) still (omega arith) refl refl))
 
 pair_near : (S : State) (p : ℕ) (kind : SockType) (flags : OpenFlags) → Near S p (Request.SocketPair kind flags) (make_pair S p kind flags).next
 unfolding make_pair
@@ -250,7 +275,7 @@ pair_near S p kind flags = maybe Q (process_at S p) _ _ still (λ P h. maybe Q (
     let one : Description = socket_description flags (pair_end kind (suc (next_description S)) (own_cred p P)) in
     let two : Description = socket_description flags (pair_end kind (next_description S) (own_cred p P)) in
     let long = length_push S.descriptions (Some one) in
-    near_table (with_pair S kind flags (own_cred p P)) p _ (near_new (with_new S one) two (near_new S one still (omega arith) refl) (omega (arith, long)) refl)))
+    near_table (with_pair S kind flags (own_cred p P)) p _ (near_new (with_new S one) two (near_new S one still (omega arith) refl refl) (omega (arith, long)) refl refl)))
   where
     Q : Outcome → Type 0
     Q o = Near S p (Request.SocketPair kind flags) o.next
@@ -274,7 +299,7 @@ bind_near S p fd addr = by_own Q S p (Request.Bind fd addr) fd _ (λ e. still) (
     Q o = Near S p (Request.Bind fd addr) o.next
 
     called : (d : ℕ) (name : Addr) → description_of S p fd.0 ≡ Some d → Near S p (Request.Bind fd addr) (with_socket_by S d (with_name name))
-    called d name mine = near_socket S d (with_name name) still (inl (held fd.0 mine)) (λ s h. h)
+    called d name mine = near_socket S d (with_name name) still (inl (held fd.0 mine)) (λ s. (λ h. h, λ elsewhere. refl))
 
     to : (d : ℕ) → description_of S p fd.0 ≡ Some d → (name : Addr) → Near S p (Request.Bind fd addr) (bind_to S d name).next
     to d mine Addr.Unnamed = maybe Q (free_name S.abstract_names) _ _ still (λ name h. alike _ refl (called d (Addr.Abstract name) mine))
@@ -297,7 +322,7 @@ unfolding listen
 listen_near S p fd backlog = maybe Q (process_at S p) _ _ still (λ P here. by_own Q S p (Request.Listen fd backlog) fd _ (λ e. still)
     (λ d s mine there. either Q (is_dgram s.kind) _ _ (λ b. still)
     (λ b. either Q (is_some (peer_of s.phase)) _ _ (λ c. still)
-    (λ c. either Q (is_unnamed_addr s.name) _ _ (λ f. still) (λ f. near_socket S d (with_listening (backlog_of backlog) (own_cred p P)) still (inl (held fd.0 mine)) (λ s h. h))))))
+    (λ c. either Q (is_unnamed_addr s.name) _ _ (λ f. still) (λ f. near_socket S d (with_listening (backlog_of backlog) (own_cred p P)) still (inl (held fd.0 mine)) (λ s. (λ h. h, λ elsewhere. refl)))))))
   where
     Q : Outcome → Type 0
     Q o = Near S p (Request.Listen fd backlog) o.next
@@ -305,7 +330,7 @@ listen_near S p fd backlog = maybe Q (process_at S p) _ _ still (λ P here. by_o
 shutdown_near : (S : State) (p : ℕ) (fd : Fd) (how : Mode) → Near S p (Request.Shutdown fd how) (shutdown S p fd how).next
 unfolding shutdown
 shutdown_near S p fd how = by_own Q S p (Request.Shutdown fd how) fd _ (λ e. still)
-    (λ d s mine there. either Q (is_none (tied_socket s.phase)) _ _ (λ b. still) (λ b. near_socket S d (shut_down how) still (inl (held fd.0 mine)) (λ s h. h)))
+    (λ d s mine there. either Q (is_none (tied_socket s.phase)) _ _ (λ b. still) (λ b. near_socket S d (shut_down how) still (inl (held fd.0 mine)) (λ s. (λ h. h, λ on. absurd (false≢true (sym on))))))
   where
     Q : Outcome → Type 0
     Q o = Near S p (Request.Shutdown fd how) o.next
@@ -319,7 +344,7 @@ connect_near S p fd addr = maybe Q (process_at S p) _ _ still (λ P here. by_own
     Q o = Near S p (Request.Connect fd addr) o.next
 
     associates : (d : ℕ) (target : Option ℕ) → description_of S p fd.0 ≡ Some d → Near S p (Request.Connect fd addr) (with_socket_by S d (with_association target))
-    associates d target mine = near_socket S d (with_association target) still (inl (held fd.0 mine)) (λ s h. h)
+    associates d target mine = near_socket S d (with_association target) still (inl (held fd.0 mine)) (λ s. (λ h. h, λ elsewhere. refl))
 
     datagram : (d : ℕ) → description_of S p fd.0 ≡ Some d → (kind : SockType) → Near S p (Request.Connect fd addr) (connect_datagram S d kind addr).next
     datagram d mine kind = either Q (not (is_valid_addr addr)) _ _ (λ b. still) (λ b. either Q (is_unnamed_addr addr) _ _ (λ c. associates d None mine)
@@ -333,7 +358,7 @@ connect_near S p fd addr = maybe Q (process_at S p) _ _ still (λ P here. by_own
         let U : State = with_socket_by S l (awaiting e) in
         let D : Description = socket_description no_open_flags (server_end other d cred) in
         let long = length-changed S.descriptions l (changed (awaiting e)) in
-        near_socket (with_new U D) d (tied_by e kept.cred) (near_new U D (near_socket S l (awaiting e) still (inl (named kind addr other refl is)) (λ s h. h)) (omega (arith, long)) refl) (inl (held fd.0 mine)) (λ s h. h)))
+        near_socket (with_new U D) d (tied_by e kept.cred) (near_new U D (near_socket S l (awaiting e) still (inl (named kind addr other refl is)) (λ s. (λ h. h, λ elsewhere. refl))) (omega (arith, long)) refl refl) (inl (held fd.0 mine)) (λ s. (λ h. h, λ elsewhere. refl))))
 
     stream : (d : ℕ) → description_of S p fd.0 ≡ Some d → (s : Socket) (cred : Cred) → Near S p (Request.Connect fd addr) (connect_stream S d s addr cred).next
     stream d mine s cred = either Q (not (is_valid_addr addr) || is_unnamed_addr addr || is_some (listener_of s.phase)) _ _ (λ b. still)
@@ -354,11 +379,11 @@ accept_near S p fd flags = by_own Q S p (Request.Accept fd flags) fd _ (λ e. st
     oldest d s mine there n (Some e) first =
         let T : State = with_table S p (filled (table_of S p) n (descriptor flags e)) in
         let U : State = with_socket_by T d without_first_end in
-        near_by U e (accepted_with flags) (near_socket T d without_first_end (near_table S p _ still) (inl (held fd.0 mine)) (λ s h. h)) (inl (pending fd.0 d s mine there first)) (λ D. at_target D.target)
+        near_by U e (accepted_with flags) (near_socket T d without_first_end (near_table S p _ still) (inl (held fd.0 mine)) (λ s. (λ h. h, λ elsewhere. refl))) (inl (pending fd.0 d s mine there first)) (λ D. at_target D.target)
       where
-        at_target : (u : Target) → reset_of (changed_target as_accepted u) ≡ true → reset_of u ≡ true
-        at_target (to_object o) h = h
-        at_target (to_socket s) h = h
+        at_target : (u : Target) → (reset_of (changed_target as_accepted u) ≡ true → reset_of u ≡ true) × (is_shutdown (Request.Accept fd flags) ≡ false → shut_of (changed_target as_accepted u) ≡ shut_of u)
+        at_target (to_object o) = (λ h. h, λ elsewhere. refl)
+        at_target (to_socket s) = (λ h. h, λ elsewhere. refl)
 
 -- ---- options and readiness
 
@@ -374,7 +399,7 @@ get_opt_near S p fd opt = by_own (λ o. Near S p (Request.GetOpt fd opt) o.next)
     by_option d mine s SockOpt.PeerCred = by_cred s.peer_cred
     by_option d mine s SockOpt.QueueLimit = either (λ o. Near S p (Request.GetOpt fd opt) o.next) (is_stream s.kind) _ _ (λ b. still) (λ b. still)
     by_option d mine s SockOpt.Kind = still
-    by_option d mine s SockOpt.Error = near_socket S d (with_reset false) still (inl (held fd.0 mine)) (λ s h. absurd (false≢true h))
+    by_option d mine s SockOpt.Error = near_socket S d (with_reset false) still (inl (held fd.0 mine)) (λ s. (λ h. absurd (false≢true h), λ elsewhere. refl))
     by_option d mine s SockOpt.PassCred = still
     by_option d mine s SockOpt.AcceptConn = still
 
@@ -386,7 +411,7 @@ set_opt_near S p fd opt value = by_own Q S p (Request.SetOpt fd opt value) fd _ 
     Q o = Near S p (Request.SetOpt fd opt value) o.next
 
     passing : (T : State) (d : ℕ) (on : Bool) → description_of S p fd.0 ≡ Some d → Near S p (Request.SetOpt fd opt value) T → Near S p (Request.SetOpt fd opt value) (with_socket_by T d (with_passcred on))
-    passing T d on mine near = near_socket T d (with_passcred on) near (inl (held fd.0 mine)) (λ s h. h)
+    passing T d on mine near = near_socket T d (with_passcred on) near (inl (held fd.0 mine)) (λ s. (λ h. h, λ elsewhere. refl))
 
     by_option : (d : ℕ) → description_of S p fd.0 ≡ Some d → (s : Socket) (o : SockOpt) → Near S p (Request.SetOpt fd opt value) (change_option S d s value o).next
     by_option d mine s SockOpt.Kind = still
@@ -395,11 +420,11 @@ set_opt_near S p fd opt value = by_own Q S p (Request.SetOpt fd opt value) fd _ 
         (λ b. maybe Q (free_name S.abstract_names) _ _ still
         (λ name free.
         let T : State = record (with_socket_by S d (with_name (Addr.Abstract name))) { abstract_names = S.abstract_names ++ (name, d) ∷ [] } in
-        passing T d true mine (alike T refl (near_socket S d (with_name (Addr.Abstract name)) still (inl (held fd.0 mine)) (λ s h. h))))))
+        passing T d true mine (alike T refl (near_socket S d (with_name (Addr.Abstract name)) still (inl (held fd.0 mine)) (λ s. (λ h. h, λ elsewhere. refl)))))))
     by_option d mine s SockOpt.PeerCred = still
     by_option d mine s SockOpt.AcceptConn = still
     by_option d mine s SockOpt.QueueLimit = either Q (not (is_stream s.kind)) _ _ (λ b. still) (λ b. either Q (not (may_limit value)) _ _ (λ c. still)
-        (λ c. near_socket S d (with_queue_limit value) still (inl (held fd.0 mine)) (λ s h. h)))
+        (λ c. near_socket S d (with_queue_limit value) still (inl (held fd.0 mine)) (λ s. (λ h. h, λ elsewhere. refl))))
 
 poll_near : (S : State) (p : ℕ) (fd : Fd) → Near S p (Request.Poll fd) (poll S p fd).next
 unfolding poll
@@ -409,7 +434,7 @@ poll_near S p fd = maybe (λ o. Near S p (Request.Poll fd) o.next) (descriptor_a
 
 enqueue_near : (S : State) (p : ℕ) (request : Request) (limit : Option ℕ) (t : ℕ) (other : Socket) (m : Message) → IsInReach S p request t → Near S p request (enqueue S limit t other m).next
 enqueue_near S p request limit t other m reach = either Q (is_stream other.kind && (length m.bytes == 0)) _ _ (λ b. still)
-    (λ b. either Q (is_over_limit S limit m) _ _ (λ c. still) (λ c. either Q (not (has_room other)) _ _ (λ f. still) (λ f. near_socket S t (sent m) still (inl reach) (λ s h. h))))
+    (λ b. either Q (is_over_limit S limit m) _ _ (λ c. still) (λ c. either Q (not (has_room other)) _ _ (λ f. still) (λ f. near_socket S t (sent m) still (inl reach) (λ s. (λ h. h, λ elsewhere. refl)))))
   where
     Q : Outcome → Type 0
     Q o = Near S p request o.next
@@ -443,7 +468,7 @@ from_near S p i request limit d s m mine here = either Q (is_dgram s.kind) _ _
 
     by_association : (target : Option ℕ) → association_of s.phase ≡ target → (m : Message) → Near S p request (send_by_association S limit d target m).next
     by_association None is m = still
-    by_association (Some t) is m = maybe Q (socket_at S t) _ _ (near_socket S d (with_association None) still (inl (held i mine)) (λ s h. h))
+    by_association (Some t) is m = maybe Q (socket_at S t) _ _ (near_socket S d (with_association None) still (inl (held i mine)) (λ s. (λ h. h, λ elsewhere. refl)))
         (λ target h. to_target t target m (tied_to t (of_association s.phase t is)))
 
     by_address : (addr : Option Addr) → asked_addr request ≡ addr → (m : Message) → Near S p request (send_by S limit d s addr m).next
@@ -491,10 +516,10 @@ front_near S p d request s asked front reach = go (asks_peek asked.flags) _ (nea
   where
     go : (b : Bool) (T : State) → Near S p request T → Near S p request (cond b T (with_socket_by T d (with_queue front.rest)))
     go true T near = near
-    go false T near = near_socket T d (with_queue front.rest) near (inl reach) (λ s h. h)
+    go false T near = near_socket T d (with_queue front.rest) near (inl reach) (λ s. (λ h. h, λ elsewhere. refl))
 
 receive_near : (S : State) (p d : ℕ) (request : Request) (s : Socket) (asked : Incoming) → IsInReach S p request d → Near S p request (receive S p d s asked).next
-receive_near S p d request s asked reach = by_receive (λ o. Near S p request o.next) S p d s asked (λ e. still) (near_socket S d (with_reset false) still (inl reach) (λ s h. absurd (false≢true h))) (λ none. still)
+receive_near S p d request s asked reach = by_receive (λ o. Near S p request o.next) S p d s asked (λ e. still) (near_socket S d (with_reset false) still (inl reach) (λ s. (λ h. absurd (false≢true h), λ elsewhere. refl))) (λ none. still)
     (λ m ms q. front_near S p d request s asked (front_of asked.n s m ms) reach)
 
 recv_near : (S : State) (p : ℕ) (fd : Fd) (n space : ℕ) (flags : MsgFlags) → Near S p (Request.RecvMsg fd n space flags) (recv_msg S p fd n space flags).next

@@ -38,11 +38,11 @@ use Rattle.ux_laws.proofs.Ways.{every_holding_has_a_pedigree}
 -- ---- the file object of a description
 
 -- description d leads to the file object, and in this mode
-abbrev Leads : State → ℕ → ℕ × Mode → Type 0
+abbrev pub Leads : State → ℕ → ℕ × Mode → Type 0
 Leads S d x = (glance_at S d).1 ≡ Some x
 
 -- it did before, or the call opened it
-abbrev OrOpened : State → Request → ℕ → ℕ × Mode → Type 0
+abbrev pub OrOpened : State → Request → ℕ → ℕ × Mode → Type 0
 OrOpened S request d x = Leads S d x ⊎ ((path : Name) × (mode : Mode) × (flags : OpenFlags) × (o : ℕ) × (request ≡ Request.Open path mode flags) × (named path S.paths ≡ Some (file o)) × (x ≡ (o, mode)) × (d ≡ length S.descriptions))
 
 shrunk_leads : (V T : State) (d : ℕ) (x : ℕ × Mode) → Shrinks V T → Leads T d x → Leads V d x
@@ -69,7 +69,7 @@ new_leads S D d x h = bool_cases (length S.descriptions == d)
 socket_leads : (S : State) (D : Description) (d : ℕ) (x : ℕ × Mode) → (glance (Some D)).1 ≡ None → Leads (with_new S D) d x → Leads S d x
 socket_leads S D d x none h = ⊎_elim {C = Leads S d x} (λ old. old) (λ w. let nowhere : None ≡ Some x = sym none ∙ w.1 in absurd (cc nowhere)) (new_leads S D d x h)
 
-did_leads : (S T : State) (p tag : ℕ) (request : Request) (reply : Reply) (d : ℕ) (x : ℕ × Mode) → Did S p tag request reply T → Leads T d x → OrOpened S request d x
+pub did_leads : (S T : State) (p tag : ℕ) (request : Request) (reply : Reply) (d : ℕ) (x : ℕ × Mode) → Did S p tag request reply T → Leads T d x → OrOpened S request d x
 did_leads S T p tag request reply d x (quiet k moves) h = inl (shrunk_leads S T d x k h)
 did_leads S T p tag request reply d x (opened path mode flags o a b c k) h =
     ⊎_elim {C = OrOpened S request d x} (λ old. inl old) (λ w. let same : (o, mode) ≡ x = cc (w.1) in inr (path, mode, flags, o, a, b, sym same, w.0)) (new_leads S (file_description o mode flags) d x (shrunk_leads _ T d x k h))

@@ -8,6 +8,7 @@ use Rattle.ux_model.specs.Release.{without, drop_rounds, drop_unreferenced, rele
 use Rattle.ux_model.specs.Outcome.{Outcome}
 use Rattle.ux_model.specs.Pairing.{make_pair}
 use Rattle.ux_model.specs.Names.{free_name}
+use Rattle.ux_model.specs.Connecting.{shutdown}
 use Rattle.ux_model.specs.Options.{get_opt, set_opt}
 use Rattle.ux_model.specs.Flight.{in_flight}
 use Rattle.ux_model.specs.ControlReading.{cred_in, item_of, item_behind, item_at, with_items, control_in}
@@ -25,7 +26,7 @@ use Rattle.ux_model.specs.Boot.{boot_state}
 
 -- `unfolding computing` opens all that the calls of the examples are made of
 unfoldable pub computing : Unit {0}
-unfolding refs orefs without drop_rounds drop_unreferenced released_objects settled open_file read write make_pair get_opt set_opt in_flight free_name cred_in item_of item_behind item_at with_items control_in send_with send_read send_msg delivery receive_front recv_msg fork close exit outcome after
+unfolding refs orefs without drop_rounds drop_unreferenced released_objects settled open_file read write make_pair shutdown get_opt set_opt in_flight free_name cred_in item_of item_behind item_at with_items control_in send_with send_read send_msg delivery receive_front recv_msg fork close exit outcome after
 computing = tt
 
 -- a process and its request

@@ -33,14 +33,14 @@ use Rattle.ux_laws.proofs.Ended.{reset_is, lost_reset}
 -- ---- what a descriptor leads to
 
 -- the socket that was found, by its descriptor and description
-record LeadsToSocket (S : State) (p : ℕ) (fd : Fd) (d : ℕ) (s : Socket) : Type 0 where
+pub record LeadsToSocket (S : State) (p : ℕ) (fd : Fd) (d : ℕ) (s : Socket) : Type 0 where
   pub entry : Descriptor
   pub description : Description
   pub found : find_description S p fd ≡ Ok (entry, description)
   pub number : entry.description ≡ d
   pub leads : description.target ≡ to_socket s
 
-socket_is_found : (S : State) (p d : ℕ) (fd : Fd) (s : Socket) (request : Request) → endpoint request ≡ Some fd → socket_through S p request ≡ Some (d, s) → find_socket S p fd ≡ Ok (d, s)
+pub socket_is_found : (S : State) (p d : ℕ) (fd : Fd) (s : Socket) (request : Request) → endpoint request ≡ Some fd → socket_through S p request ≡ Some (d, s) → find_socket S p fd ≡ Ok (d, s)
 socket_is_found S p d fd s request asked through = go (find_socket S p fd)
     (sym (ap (λ (o : Option Fd). elim o as (λ _. Option (ℕ × Socket)) [ None ↦ None | Some fd ↦ if_found (find_socket S p fd) ]) asked) ∙ through)
   where
@@ -48,7 +48,7 @@ socket_is_found S p d fd s request asked through = go (find_socket S p fd)
     go (Err e) h = absurd (cc h)
     go (Ok w) h = let same : w ≡ (d, s) = cc h in ap (λ (x : ℕ × Socket). Ok x) same
 
-leads_to_socket : (S : State) (p d : ℕ) (fd : Fd) (s : Socket) → find_socket S p fd ≡ Ok (d, s) → LeadsToSocket S p fd d s
+pub leads_to_socket : (S : State) (p d : ℕ) (fd : Fd) (s : Socket) → find_socket S p fd ≡ Ok (d, s) → LeadsToSocket S p fd d s
 leads_to_socket S p d fd s h = go (find_description S p fd) refl h
   where
     at_target : (e : Descriptor) (D : Description) (t : Target) → D.target ≡ t → find_description S p fd ≡ Ok (e, D) →
@@ -261,7 +261,7 @@ receives_tell_the_end boot es j n space d e fd asked s legal at request some fin
 
 -- ---- read(2)
 
-read_is : (S : State) (p n d : ℕ) (fd : Fd) (s : Socket) → LeadsToSocket S p fd d s → read S p fd n ≡ read_socket S p d s (min read_limit n)
+pub read_is : (S : State) (p n d : ℕ) (fd : Fd) (s : Socket) → LeadsToSocket S p fd d s → read S p fd n ≡ read_socket S p d s (min read_limit n)
 unfolding read
 read_is S p n d fd s l =
     ap (λ (r : Result (Descriptor × Description) Errno). elim r as (λ _. Outcome) [ Err x ↦ refuse S x | Ok w ↦ by_target w.0 w.1 w.1.target ]) l.found

@@ -7,3 +7,4 @@ pub mod Records
 pub mod Rights
 pub mod Reach
 pub mod Ends
+pub mod Waits

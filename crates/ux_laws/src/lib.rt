@@ -3,6 +3,7 @@
 //! bodies, and their contracts are the laws, each over every legal history.
 #![tactic(auto)]
 
+ghost use Rattle.ux_laws.specs.Waits.{ReceivesWait, ReadsWait, WaitsEnd};
 ghost use Rattle.ux_laws.specs.Credentials.{CredentialsAreTheSenders, PeersAreTheMakers};
 ghost use Rattle.ux_laws.specs.Ends.{EndsAreForEver, ResetsAreOfLosses, LossesReset, SendsFindNobody, WritesBreak, ReadsTellTheEnd, ReceivesTellTheEnd};
 ghost use Rattle.ux_laws.specs.Files.{EachHoldingHasAPedigree, ChangesHaveAWay, ReadsHaveAWay, StrangersHaveNoWay, StrangersChangeNothing};
@@ -144,4 +145,20 @@ pub fn reads_tell_the_end()
 /// So does a receive.
 pub fn receives_tell_the_end()
     ensures { ReceivesTellTheEnd }
+{}
+
+/// A receive that is answered EAGAIN finds nothing at its socket, whose input isn't over.
+pub fn receives_wait()
+    ensures { ReceivesWait }
+{}
+
+/// So does a read.
+pub fn reads_wait()
+    ensures { ReadsWait }
+{}
+
+/// A wait to receive ends by a send to the socket, by a shutdown of it or of its peer, or by a call that frees the
+/// peer. After any other call a receive there would still wait.
+pub fn what_ends_a_wait_to_receive()
+    ensures { WaitsEnd }
 {}

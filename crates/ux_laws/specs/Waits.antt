@@ -1,0 +1,44 @@
+-- What ends a wait to receive (recv(2), read(2), shutdown(2)).
+use Rattle.std.specs.Prelude.{◌≡◌, ◌⊎◌, ℕ, suc, true, false, List, [], Some, None}
+use Rattle.std.specs.List.{slice_get}
+use Rattle.ux_model.specs.Types.{Errno, Fd, Mode, MsgFlags, Request, Reply, Entry}
+use Rattle.ux_model.specs.Socket.{Socket, is_dgram, peer_of}
+use Rattle.ux_model.specs.State.{State, description_at, socket_at}
+use Rattle.ux_model.specs.History.{IsLegal}
+use Rattle.ux_model.specs.Pedigree.{before}
+use Rattle.ux_laws.specs.Talking.{socket_through, sends_to}
+use Rattle.ux_laws.specs.Records.{is_count}
+use Rattle.ux_laws.specs.Credentials.{socket_behind}
+
+-- A receive at socket d, which is s, finds nothing, and its input isn't over.
+pub data IsWaiting (S : State) (d : ℕ) (s : Socket) : Type 0 where
+  for_peer : (peer : ℕ) (other : Socket) → is_dgram s.kind ≡ false → peer_of s.phase ≡ Some peer → socket_at S peer ≡ Some other → s.queue ≡ [] →
+      s.reset ≡ false → s.read_shut ≡ false → other.write_shut ≡ false → IsWaiting S d s
+  for_datagram : is_dgram s.kind ≡ true → s.queue ≡ [] → s.read_shut ≡ false → IsWaiting S d s
+
+-- so where one is answered EAGAIN
+abbrev pub ReceivesWait : Type 0
+ReceivesWait = (boot : State) (entries : List Entry) (j n space d : ℕ) (e : Entry) (fd : Fd) (flags : MsgFlags) (s : Socket) →
+    IsLegal boot entries → slice_get entries j ≡ Some e → e.request ≡ Request.RecvMsg fd n space flags →
+    socket_through (before boot entries j) e.pid.0 e.request ≡ Some (d, s) → e.reply ≡ Reply.Err Errno.EAGAIN → IsWaiting (before boot entries j) d s
+
+abbrev pub ReadsWait : Type 0
+ReadsWait = (boot : State) (entries : List Entry) (j n d : ℕ) (e : Entry) (fd : Fd) (s : Socket) → IsLegal boot entries →
+    slice_get entries j ≡ Some e → e.request ≡ Request.Read fd n → socket_through (before boot entries j) e.pid.0 e.request ≡ Some (d, s) →
+    e.reply ≡ Reply.Err Errno.EAGAIN → IsWaiting (before boot entries j) d s
+
+-- What a call has to be, from S to T, for such a wait to end.
+pub data EndsWait (S : State) (e : Entry) (d : ℕ) (s : Socket) (T : State) : Type 0 where
+  -- a send to this socket, which went out
+  by_send : sends_to S d e.pid.0 e.request ≡ true → is_count e.reply ≡ true → EndsWait S e d s T
+  -- a shutdown of it or of its peer, by who has a descriptor that leads there
+  by_shutdown : (n : ℕ) (fd : Fd) (how : Mode) → e.request ≡ Request.Shutdown fd how → socket_behind S e.pid.0 fd ≡ Some n →
+      (n ≡ d) ⊎ (peer_of s.phase ≡ Some n) → EndsWait S e d s T
+  -- one by which the peer is freed
+  by_loss : (peer : ℕ) → peer_of s.phase ≡ Some peer → description_at T peer ≡ None → EndsWait S e d s T
+
+-- After any other a receive there would still wait.
+abbrev pub WaitsEnd : Type 0
+WaitsEnd = (boot : State) (entries : List Entry) (j d : ℕ) (e : Entry) (s t : Socket) → IsLegal boot entries → slice_get entries j ≡ Some e →
+    socket_at (before boot entries j) d ≡ Some s → IsWaiting (before boot entries j) d s → socket_at (before boot entries (suc j)) d ≡ Some t →
+    IsWaiting (before boot entries (suc j)) d t ⊎ EndsWait (before boot entries j) e d s (before boot entries (suc j))
