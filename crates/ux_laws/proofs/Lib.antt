@@ -16,6 +16,7 @@ pub mod Installing
 pub mod Spent
 pub mod Near
 pub mod LeftAlone
+pub mod NamesLeft
 pub mod Ended
 pub mod Telling
 pub mod Resetting

@@ -183,7 +183,7 @@ by_fd : {S : State} {p : ℕ} {request : Request} (fd : Fd) (e : Descriptor) →
 by_fd fd e g = held fd.0 (ap description_in g)
 
 -- the socket, and that it is in reach
-by_own : (Q : Outcome → Type 0) (S : State) (p : ℕ) (request : Request) (fd : Fd) (rest : ℕ → Socket → Outcome) → ((e : Errno) → Q (refuse S e)) →
+pub by_own : (Q : Outcome → Type 0) (S : State) (p : ℕ) (request : Request) (fd : Fd) (rest : ℕ → Socket → Outcome) → ((e : Errno) → Q (refuse S e)) →
     ((d : ℕ) (s : Socket) → description_of S p fd.0 ≡ Some d → socket_at S d ≡ Some s → Q (rest d s)) →
     Q (elim (find_socket S p fd) as (λ _. Outcome) [ Err e ↦ refuse S e | Ok w ↦ rest w.0 w.1 ])
 by_own Q S p request fd rest bad rest_of = go (find_socket S p fd) refl

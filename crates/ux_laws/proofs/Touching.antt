@@ -54,212 +54,229 @@ use Rattle.ux_laws.specs.Files.{body_in, body_at}
 pub record Alike (S U : State) : Type 0 where
   pub objects : U.objects ≡ S.objects
   pub paths : U.paths ≡ S.paths
+  pub abstracts : U.abstract_names ≡ S.abstract_names
 
-alike : {S U : State} → U.objects ≡ S.objects → U.paths ≡ S.paths → Alike S U
-alike h k = record { objects = h; paths = k }
+alike : {S U : State} → U.objects ≡ S.objects → U.paths ≡ S.paths → U.abstract_names ≡ S.abstract_names → Alike S U
+alike h k m = record { objects = h; paths = k; abstracts = m }
+
+-- where names of the abstract namespace may differ
+record FilesAlike (S U : State) : Type 0 where
+  objects : U.objects ≡ S.objects
+  paths : U.paths ≡ S.paths
+
+files_alike : {S U : State} → U.objects ≡ S.objects → U.paths ≡ S.paths → FilesAlike S U
+files_alike h k = record { objects = h; paths = k }
+
+with_process_abstracts : (S : State) (p : ℕ) (P : Process) → (with_process S p P).abstract_names ≡ S.abstract_names
+with_process_abstracts S zero P = refl
+with_process_abstracts S (suc i) P = refl
 
 with_process_paths : (S : State) (p : ℕ) (P : Process) → (with_process S p P).paths ≡ S.paths
 with_process_paths S zero P = refl
 with_process_paths S (suc i) P = refl
 
 table_alike : (S : State) (p : ℕ) (table : List (Option Descriptor)) → Alike S (with_table S p table)
-table_alike S p table = record { objects = with_table_objects S p table; paths = go (process_at S p) }
+table_alike S p table = record { objects = with_table_objects S p table; paths = go (process_at S p); abstracts = names (process_at S p) }
   where
+    names : (x : Option Process) → (elim x as (λ _. State) [ Some P ↦ with_process S p (record P { table = table }) | None ↦ S ]).abstract_names ≡ S.abstract_names
+    names None = refl
+    names (Some P) = with_process_abstracts S p (record P { table = table })
+
     go : (x : Option Process) → (elim x as (λ _. State) [ Some P ↦ with_process S p (record P { table = table }) | None ↦ S ]).paths ≡ S.paths
     go None = refl
     go (Some P) = with_process_paths S p (record P { table = table })
 
 dup_alike : (S : State) (p : ℕ) (fd : Fd) → Alike S (dup S p fd).next
 unfolding dup
-dup_alike S p fd = found (λ o. Alike S o.next) S p fd _ (alike refl refl) (λ e D g h. maybe (λ o. Alike S o.next) (lowest_free (table_of S p)) _ _ (alike refl refl) (λ n low. table_alike S p _))
+dup_alike S p fd = found (λ o. Alike S o.next) S p fd _ (alike refl refl refl) (λ e D g h. maybe (λ o. Alike S o.next) (lowest_free (table_of S p)) _ _ (alike refl refl refl) (λ n low. table_alike S p _))
 
 dup2_alike : (S : State) (p : ℕ) (fd to : Fd) → Alike S (dup2 S p fd to).next
 unfolding dup2
-dup2_alike S p fd to = found (λ o. Alike S o.next) S p fd _ (alike refl refl) (λ e D g h. either (λ o. Alike S o.next) (nat_le (length (table_of S p)) to.0) _ _ (λ b. alike refl refl)
-    (λ b. either (λ o. Alike S o.next) (to.0 == fd.0) _ _ (λ b. alike refl refl) (λ b. table_alike S p _)))
+dup2_alike S p fd to = found (λ o. Alike S o.next) S p fd _ (alike refl refl refl) (λ e D g h. either (λ o. Alike S o.next) (nat_le (length (table_of S p)) to.0) _ _ (λ b. alike refl refl refl)
+    (λ b. either (λ o. Alike S o.next) (to.0 == fd.0) _ _ (λ b. alike refl refl refl) (λ b. table_alike S p _)))
 
 flags_alike : (S : State) (p : ℕ) (fd : Fd) (flags : OpenFlags) → Alike S (set_flags S p fd flags).next
 unfolding set_flags
-flags_alike S p fd flags = found (λ o. Alike S o.next) S p fd _ (alike refl refl) (λ e D g h. let t = table_alike (with_description S e.description _) p _ in record { objects = t.objects; paths = t.paths })
+flags_alike S p fd flags = found (λ o. Alike S o.next) S p fd _ (alike refl refl refl) (λ e D g h. let t = table_alike (with_description S e.description _) p _ in record { objects = t.objects; paths = t.paths; abstracts = t.abstracts })
 
 close_alike : (S : State) (p : ℕ) (fd : Fd) → Alike S (close S p fd).next
 unfolding close
-close_alike S p fd = found (λ o. Alike S o.next) S p fd _ (alike refl refl) (λ e D g h. table_alike S p _)
+close_alike S p fd = found (λ o. Alike S o.next) S p fd _ (alike refl refl refl) (λ e D g h. table_alike S p _)
 
 exit_alike : (S : State) (p : ℕ) → Alike S (exit S p).next
 unfolding exit
-exit_alike S p = maybe (λ o. Alike S o.next) (process_at S p) _ _ (alike refl refl) (λ P h. record { objects = with_process_objects S p _; paths = with_process_paths S p _ })
+exit_alike S p = maybe (λ o. Alike S o.next) (process_at S p) _ _ (alike refl refl refl) (λ P h. record { objects = with_process_objects S p _; paths = with_process_paths S p _; abstracts = with_process_abstracts S p _ })
 
 fork_alike : (S : State) (p : ℕ) → Alike S (fork S p).next
 unfolding fork
-fork_alike S p = maybe (λ o. Alike S o.next) (process_at S p) _ _ (alike refl refl) (λ P h. either (λ o. Alike S o.next) (nat_le made_limit (length S.processes)) _ _ (λ b. alike refl refl) (λ b. alike refl refl))
+fork_alike S p = maybe (λ o. Alike S o.next) (process_at S p) _ _ (alike refl refl refl) (λ P h. either (λ o. Alike S o.next) (nat_le made_limit (length S.processes)) _ _ (λ b. alike refl refl refl) (λ b. alike refl refl refl))
 
 exec_alike : (S : State) (p : ℕ) → Alike S (exec S p).next
 unfolding exec
-exec_alike S p = maybe (λ o. Alike S o.next) (process_at S p) _ _ (alike refl refl) (λ P h. table_alike S p (map kept_on_exec P.table))
+exec_alike S p = maybe (λ o. Alike S o.next) (process_at S p) _ _ (alike refl refl refl) (λ P h. table_alike S p (map kept_on_exec P.table))
 
 open_alike : (S : State) (p : ℕ) (path : Name) (mode : Mode) (flags : OpenFlags) → Alike S (open_file S p path mode flags).next
 unfolding open_file
-open_alike S p path mode flags = either Q (not (is_valid_path path)) _ _ (λ b. alike refl refl)
-    (λ b. maybe Q (named path S.paths) _ _ (alike refl refl)
+open_alike S p path mode flags = either Q (not (is_valid_path path)) _ _ (λ b. alike refl refl refl)
+    (λ b. maybe Q (named path S.paths) _ _ (alike refl refl refl)
     (λ t is. by_path Q t _ _
-    (λ o led. maybe Q (lowest_free (table_of S p)) _ _ (alike refl refl) (λ n low. let t = table_alike (with_new S (file_description o mode flags)) p _ in record { objects = t.objects; paths = t.paths }))
-    (λ d led. alike refl refl)))
+    (λ o led. maybe Q (lowest_free (table_of S p)) _ _ (alike refl refl refl) (λ n low. let t = table_alike (with_new S (file_description o mode flags)) p _ in record { objects = t.objects; paths = t.paths; abstracts = t.abstracts }))
+    (λ d led. alike refl refl refl)))
   where
     Q : Outcome → Type 0
     Q o = Alike S o.next
 
 socket_alike : (S : State) (p : ℕ) (kind : SockType) (flags : OpenFlags) → Alike S (make_socket S p kind flags).next
 unfolding make_socket
-socket_alike S p kind flags = maybe (λ o. Alike S o.next) (lowest_free (table_of S p)) _ _ (alike refl refl) (λ n low. let t = table_alike (with_new S _) p _ in record { objects = t.objects; paths = t.paths })
+socket_alike S p kind flags = maybe (λ o. Alike S o.next) (lowest_free (table_of S p)) _ _ (alike refl refl refl) (λ n low. let t = table_alike (with_new S _) p _ in record { objects = t.objects; paths = t.paths; abstracts = t.abstracts })
 
 pair_alike : (S : State) (p : ℕ) (kind : SockType) (flags : OpenFlags) → Alike S (make_pair S p kind flags).next
 unfolding make_pair
-pair_alike S p kind flags = maybe (λ o. Alike S o.next) (process_at S p) _ _ (alike refl refl) (λ P h. maybe (λ o. Alike S o.next) (two_lowest_free P.table) _ _ (alike refl refl)
-    (λ n low. let t = table_alike (with_pair S kind flags (own_cred p P)) p _ in record { objects = t.objects; paths = t.paths }))
+pair_alike S p kind flags = maybe (λ o. Alike S o.next) (process_at S p) _ _ (alike refl refl refl) (λ P h. maybe (λ o. Alike S o.next) (two_lowest_free P.table) _ _ (alike refl refl refl)
+    (λ n low. let t = table_alike (with_pair S kind flags (own_cred p P)) p _ in record { objects = t.objects; paths = t.paths; abstracts = t.abstracts }))
 
 sock_name_alike : (S : State) (p : ℕ) (fd : Fd) → Alike S (get_sock_name S p fd).next
 unfolding get_sock_name
-sock_name_alike S p fd = found_socket (λ o. Alike S o.next) S p fd _ (alike refl refl) (alike refl refl) (λ d s there. alike refl refl)
+sock_name_alike S p fd = found_socket (λ o. Alike S o.next) S p fd _ (alike refl refl refl) (alike refl refl refl) (λ d s there. alike refl refl refl)
 
 peer_name_alike : (S : State) (p : ℕ) (fd : Fd) → Alike S (get_peer_name S p fd).next
 unfolding get_peer_name
-peer_name_alike S p fd = found_socket (λ o. Alike S o.next) S p fd _ (alike refl refl) (alike refl refl) (λ d s there. found_peer (λ o. Alike S o.next) S s.phase _ (alike refl refl) (λ peer other there. alike refl refl))
+peer_name_alike S p fd = found_socket (λ o. Alike S o.next) S p fd _ (alike refl refl refl) (alike refl refl refl) (λ d s there. found_peer (λ o. Alike S o.next) S s.phase _ (alike refl refl refl) (λ peer other there. alike refl refl refl))
 
 listen_alike : (S : State) (p : ℕ) (fd : Fd) (backlog : ℤ) → Alike S (listen S p fd backlog).next
 unfolding listen
-listen_alike S p fd backlog = maybe Q (process_at S p) _ _ (alike refl refl) (λ P here. found_socket Q S p fd _ (alike refl refl) (alike refl refl)
-    (λ d s there. either Q (is_dgram s.kind) _ _ (λ b. alike refl refl) (λ b. either Q (is_some (peer_of s.phase)) _ _ (λ c. alike refl refl) (λ c. either Q (is_unnamed_addr s.name) _ _ (λ f. alike refl refl) (λ f. alike refl refl)))))
+listen_alike S p fd backlog = maybe Q (process_at S p) _ _ (alike refl refl refl) (λ P here. found_socket Q S p fd _ (alike refl refl refl) (alike refl refl refl)
+    (λ d s there. either Q (is_dgram s.kind) _ _ (λ b. alike refl refl refl) (λ b. either Q (is_some (peer_of s.phase)) _ _ (λ c. alike refl refl refl) (λ c. either Q (is_unnamed_addr s.name) _ _ (λ f. alike refl refl refl) (λ f. alike refl refl refl)))))
   where
     Q : Outcome → Type 0
     Q o = Alike S o.next
 
 shutdown_alike : (S : State) (p : ℕ) (fd : Fd) (how : Mode) → Alike S (shutdown S p fd how).next
 unfolding shutdown
-shutdown_alike S p fd how = found_socket (λ o. Alike S o.next) S p fd _ (alike refl refl) (alike refl refl) (λ d s there. either (λ o. Alike S o.next) (is_none (tied_socket s.phase)) _ _ (λ b. alike refl refl) (λ b. alike refl refl))
+shutdown_alike S p fd how = found_socket (λ o. Alike S o.next) S p fd _ (alike refl refl refl) (alike refl refl refl) (λ d s there. either (λ o. Alike S o.next) (is_none (tied_socket s.phase)) _ _ (λ b. alike refl refl refl) (λ b. alike refl refl refl))
 
 connect_alike : (S : State) (p : ℕ) (fd : Fd) (addr : Addr) → Alike S (connect S p fd addr).next
 unfolding connect
-connect_alike S p fd addr = maybe Q (process_at S p) _ _ (alike refl refl) (λ P here. found_socket Q S p fd _ (alike refl refl) (alike refl refl)
+connect_alike S p fd addr = maybe Q (process_at S p) _ _ (alike refl refl refl) (λ P here. found_socket Q S p fd _ (alike refl refl refl) (alike refl refl refl)
     (λ d s there. either Q (is_dgram s.kind) _ _ (λ b. datagram d s.kind) (λ b. stream d s (own_cred p P))))
   where
     Q : Outcome → Type 0
     Q o = Alike S o.next
 
     datagram : (d : ℕ) (kind : SockType) → Alike S (connect_datagram S d kind addr).next
-    datagram d kind = either Q (not (is_valid_addr addr)) _ _ (λ b. alike refl refl) (λ b. either Q (is_unnamed_addr addr) _ _ (λ c. alike refl refl)
-        (λ c. found_named Q S kind addr _ (alike refl refl) (alike refl refl) (alike refl refl) (alike refl refl) (λ t target there. either Q (takes_from d target.phase) _ _ (λ e. alike refl refl) (λ e. alike refl refl))))
+    datagram d kind = either Q (not (is_valid_addr addr)) _ _ (λ b. alike refl refl refl) (λ b. either Q (is_unnamed_addr addr) _ _ (λ c. alike refl refl refl)
+        (λ c. found_named Q S kind addr _ (alike refl refl refl) (alike refl refl refl) (alike refl refl refl) (alike refl refl refl) (λ t target there. either Q (takes_from d target.phase) _ _ (λ e. alike refl refl refl) (λ e. alike refl refl refl))))
 
     connected_to : (d : ℕ) (cred : Cred) (l : ℕ) (other : Socket) → Alike S (connect_to S d cred l other).next
-    connected_to d cred l other = maybe Q (listener_of other.phase) _ _ (alike refl refl) (λ kept h. either Q (nat_le kept.backlog.limit (length kept.backlog.pending)) _ _ (λ b. alike refl refl) (λ b. alike refl refl))
+    connected_to d cred l other = maybe Q (listener_of other.phase) _ _ (alike refl refl refl) (λ kept h. either Q (nat_le kept.backlog.limit (length kept.backlog.pending)) _ _ (λ b. alike refl refl refl) (λ b. alike refl refl refl))
 
     stream : (d : ℕ) (s : Socket) (cred : Cred) → Alike S (connect_stream S d s addr cred).next
-    stream d s cred = either Q (not (is_valid_addr addr) || is_unnamed_addr addr || is_some (listener_of s.phase)) _ _ (λ b. alike refl refl)
-        (λ b. either Q (is_some (peer_of s.phase)) _ _ (λ c. alike refl refl) (λ c. found_named Q S s.kind addr _ (alike refl refl) (alike refl refl) (alike refl refl) (alike refl refl) (λ l other there. connected_to d cred l other)))
+    stream d s cred = either Q (not (is_valid_addr addr) || is_unnamed_addr addr || is_some (listener_of s.phase)) _ _ (λ b. alike refl refl refl)
+        (λ b. either Q (is_some (peer_of s.phase)) _ _ (λ c. alike refl refl refl) (λ c. found_named Q S s.kind addr _ (alike refl refl refl) (alike refl refl refl) (alike refl refl refl) (alike refl refl refl) (λ l other there. connected_to d cred l other)))
 
 accept_alike : (S : State) (p : ℕ) (fd : Fd) (flags : OpenFlags) → Alike S (accept S p fd flags).next
 unfolding accept
-accept_alike S p fd flags = found_socket Q S p fd _ (alike refl refl) (alike refl refl)
-    (λ d s there. either Q (is_dgram s.kind) _ _ (λ a. alike refl refl)
-    (λ a. either Q (is_none (listener_of s.phase)) _ _ (λ b. alike refl refl)
-    (λ b. maybe Q (lowest_free (table_of S p)) _ _ (alike refl refl) (λ n low. oldest d n (slice_get (pending_ends s.phase) 0)))))
+accept_alike S p fd flags = found_socket Q S p fd _ (alike refl refl refl) (alike refl refl refl)
+    (λ d s there. either Q (is_dgram s.kind) _ _ (λ a. alike refl refl refl)
+    (λ a. either Q (is_none (listener_of s.phase)) _ _ (λ b. alike refl refl refl)
+    (λ b. maybe Q (lowest_free (table_of S p)) _ _ (alike refl refl refl) (λ n low. oldest d n (slice_get (pending_ends s.phase) 0)))))
   where
     Q : Outcome → Type 0
     Q o = Alike S o.next
 
     oldest : (d n : ℕ) (o : Option ℕ) → Alike S (accept_first S p n d flags o).next
-    oldest d n None = alike refl refl
-    oldest d n (Some e) = let t = table_alike S p (filled (table_of S p) n (descriptor flags e)) in record { objects = t.objects; paths = t.paths }
+    oldest d n None = alike refl refl refl
+    oldest d n (Some e) = let t = table_alike S p (filled (table_of S p) n (descriptor flags e)) in record { objects = t.objects; paths = t.paths; abstracts = t.abstracts }
 
 get_opt_alike : (S : State) (p : ℕ) (fd : Fd) (opt : SockOpt) → Alike S (get_opt S p fd opt).next
 unfolding get_opt
-get_opt_alike S p fd opt = found_socket (λ o. Alike S o.next) S p fd _ (alike refl refl) (alike refl refl) (λ d s there. by_option d s opt)
+get_opt_alike S p fd opt = found_socket (λ o. Alike S o.next) S p fd _ (alike refl refl refl) (alike refl refl refl) (λ d s there. by_option d s opt)
   where
     by_cred : (cred : Option Cred) → Alike S (tell_cred S cred).next
-    by_cred None = alike refl refl
-    by_cred (Some c) = alike refl refl
+    by_cred None = alike refl refl refl
+    by_cred (Some c) = alike refl refl refl
 
     by_option : (d : ℕ) (s : Socket) (o : SockOpt) → Alike S (tell_option S d s o).next
     by_option d s SockOpt.PeerCred = by_cred s.peer_cred
-    by_option d s SockOpt.QueueLimit = either (λ o. Alike S o.next) (is_stream s.kind) _ _ (λ b. alike refl refl) (λ b. alike refl refl)
-    by_option d s SockOpt.Kind = alike refl refl
-    by_option d s SockOpt.Error = alike refl refl
-    by_option d s SockOpt.PassCred = alike refl refl
-    by_option d s SockOpt.AcceptConn = alike refl refl
+    by_option d s SockOpt.QueueLimit = either (λ o. Alike S o.next) (is_stream s.kind) _ _ (λ b. alike refl refl refl) (λ b. alike refl refl refl)
+    by_option d s SockOpt.Kind = alike refl refl refl
+    by_option d s SockOpt.Error = alike refl refl refl
+    by_option d s SockOpt.PassCred = alike refl refl refl
+    by_option d s SockOpt.AcceptConn = alike refl refl refl
 
-set_opt_alike : (S : State) (p : ℕ) (fd : Fd) (opt : SockOpt) (value : ℕ) → Alike S (set_opt S p fd opt value).next
+set_opt_files : (S : State) (p : ℕ) (fd : Fd) (opt : SockOpt) (value : ℕ) → FilesAlike S (set_opt S p fd opt value).next
 unfolding set_opt
-set_opt_alike S p fd opt value = found_socket Q S p fd _ (alike refl refl) (alike refl refl) (λ d s there. by_option d s opt)
+set_opt_files S p fd opt value = found_socket Q S p fd _ (files_alike refl refl) (files_alike refl refl) (λ d s there. by_option d s opt)
   where
     Q : Outcome → Type 0
-    Q o = Alike S o.next
+    Q o = FilesAlike S o.next
 
-    by_option : (d : ℕ) (s : Socket) (o : SockOpt) → Alike S (change_option S d s value o).next
-    by_option d s SockOpt.Kind = alike refl refl
-    by_option d s SockOpt.Error = alike refl refl
-    by_option d s SockOpt.PassCred = either Q (value == 0) _ _ (λ b. alike refl refl) (λ b. either Q (not (is_unnamed_addr s.name) || is_some (tied_socket s.phase)) _ _ (λ b. alike refl refl)
-        (λ b. maybe Q (free_name S.abstract_names) _ _ (alike refl refl) (λ name free. alike refl refl)))
-    by_option d s SockOpt.PeerCred = alike refl refl
-    by_option d s SockOpt.AcceptConn = alike refl refl
-    by_option d s SockOpt.QueueLimit = either Q (not (is_stream s.kind)) _ _ (λ b. alike refl refl) (λ b. either Q (not (may_limit value)) _ _ (λ c. alike refl refl) (λ c. alike refl refl))
+    by_option : (d : ℕ) (s : Socket) (o : SockOpt) → FilesAlike S (change_option S d s value o).next
+    by_option d s SockOpt.Kind = files_alike refl refl
+    by_option d s SockOpt.Error = files_alike refl refl
+    by_option d s SockOpt.PassCred = either Q (value == 0) _ _ (λ b. files_alike refl refl) (λ b. either Q (not (is_unnamed_addr s.name) || is_some (tied_socket s.phase)) _ _ (λ b. files_alike refl refl)
+        (λ b. maybe Q (free_name S.abstract_names) _ _ (files_alike refl refl) (λ name free. files_alike refl refl)))
+    by_option d s SockOpt.PeerCred = files_alike refl refl
+    by_option d s SockOpt.AcceptConn = files_alike refl refl
+    by_option d s SockOpt.QueueLimit = either Q (not (is_stream s.kind)) _ _ (λ b. files_alike refl refl) (λ b. either Q (not (may_limit value)) _ _ (λ c. files_alike refl refl) (λ c. files_alike refl refl))
 
 poll_alike : (S : State) (p : ℕ) (fd : Fd) → Alike S (poll S p fd).next
 unfolding poll
-poll_alike S p fd = maybe (λ o. Alike S o.next) (descriptor_at S p fd) _ _ (alike refl refl) (λ e h. alike refl refl)
+poll_alike S p fd = maybe (λ o. Alike S o.next) (descriptor_at S p fd) _ _ (alike refl refl refl) (λ e h. alike refl refl refl)
 
 lseek_alike : (S : State) (p : ℕ) (fd : Fd) (offset : ℤ) (whence : Whence) → Alike S (lseek S p fd offset whence).next
 unfolding lseek
-lseek_alike S p fd offset whence = found Q S p fd _ (alike refl refl) (λ e D g h. by_target Q D.target _ _
-    (λ o t. maybe Q (place S.objects o) _ _ (alike refl refl) (λ view there. either Q (not (is_memory view.body)) _ _ (λ b. alike refl refl) (λ b. seek e.description D (pos (seek_base whence D view) +ℤ offset))))
-    (λ s t. alike refl refl))
+lseek_alike S p fd offset whence = found Q S p fd _ (alike refl refl refl) (λ e D g h. by_target Q D.target _ _
+    (λ o t. maybe Q (place S.objects o) _ _ (alike refl refl refl) (λ view there. either Q (not (is_memory view.body)) _ _ (λ b. alike refl refl refl) (λ b. seek e.description D (pos (seek_base whence D view) +ℤ offset))))
+    (λ s t. alike refl refl refl))
   where
     Q : Outcome → Type 0
     Q o = Alike S o.next
 
     seek : (d : ℕ) (D : Description) (to : ℤ) → Alike S (seek_to S d D to).next
-    seek d D (pos n) = either Q (nat_lt offset_limit n) _ _ (λ b. alike refl refl) (λ b. alike refl refl)
-    seek d D (negsuc n) = alike refl refl
+    seek d D (pos n) = either Q (nat_lt offset_limit n) _ _ (λ b. alike refl refl refl) (λ b. alike refl refl refl)
+    seek d D (negsuc n) = alike refl refl refl
 
 -- ---- messages
 
 enqueue_alike : (S : State) (limit : Option ℕ) (t : ℕ) (other : Socket) (m : Message) → Alike S (enqueue S limit t other m).next
-enqueue_alike S limit t other m = either Q (is_stream other.kind && (length m.bytes == 0)) _ _ (λ b. alike refl refl)
-    (λ b. either Q (is_over_limit S limit m) _ _ (λ c. alike refl refl) (λ c. either Q (not (has_room other)) _ _ (λ f. alike refl refl) (λ f. alike refl refl)))
+enqueue_alike S limit t other m = either Q (is_stream other.kind && (length m.bytes == 0)) _ _ (λ b. alike refl refl refl)
+    (λ b. either Q (is_over_limit S limit m) _ _ (λ c. alike refl refl refl) (λ c. either Q (not (has_room other)) _ _ (λ f. alike refl refl refl) (λ f. alike refl refl refl)))
   where
     Q : Outcome → Type 0
     Q o = Alike S o.next
 
 from_alike : (S : State) (limit : Option ℕ) (d : ℕ) (s : Socket) (addr : Option Addr) (m : Message) → Alike S (send_from S limit d s addr m).next
 from_alike S limit d s addr m = either Q (is_dgram s.kind) _ _
-    (λ b. either Q (nat_lt record_bytes_limit (length m.bytes)) _ _ (λ c. alike refl refl) (λ c. either Q s.write_shut _ _ (λ e. alike refl refl) (λ e. by_addr addr (record m { from = Some s.name }))))
+    (λ b. either Q (nat_lt record_bytes_limit (length m.bytes)) _ _ (λ c. alike refl refl refl) (λ c. either Q s.write_shut _ _ (λ e. alike refl refl refl) (λ e. by_addr addr (record m { from = Some s.name }))))
     (λ b. stream addr)
   where
     Q : Outcome → Type 0
     Q o = Alike S o.next
 
     to_target : (t : ℕ) (target : Socket) (m : Message) → Alike S (send_to_target S limit d t target m).next
-    to_target t target m = either Q (not (takes_from d target.phase)) _ _ (λ b. alike refl refl) (λ b. either Q target.read_shut _ _ (λ c. alike refl refl) (λ c. enqueue_alike S limit t target m))
+    to_target t target m = either Q (not (takes_from d target.phase)) _ _ (λ b. alike refl refl refl) (λ b. either Q target.read_shut _ _ (λ c. alike refl refl refl) (λ c. enqueue_alike S limit t target m))
 
     by_association : (target : Option ℕ) (m : Message) → Alike S (send_by_association S limit d target m).next
-    by_association None m = alike refl refl
-    by_association (Some t) m = maybe Q (socket_at S t) _ _ (alike refl refl) (λ target h. to_target t target m)
+    by_association None m = alike refl refl refl
+    by_association (Some t) m = maybe Q (socket_at S t) _ _ (alike refl refl refl) (λ target h. to_target t target m)
 
     by_addr : (addr : Option Addr) (m : Message) → Alike S (send_by S limit d s addr m).next
     by_addr None m = by_association (association_of s.phase) m
-    by_addr (Some a) m = found_named Q S s.kind a _ (alike refl refl) (alike refl refl) (alike refl refl) (alike refl refl) (λ t target there. to_target t target m)
+    by_addr (Some a) m = found_named Q S s.kind a _ (alike refl refl refl) (alike refl refl refl) (alike refl refl refl) (alike refl refl refl) (λ t target there. to_target t target m)
 
     to_peer : (peer : Option ℕ) → Alike S (send_connected S limit s.write_shut peer m).next
-    to_peer None = alike refl refl
-    to_peer (Some t) = maybe Q (socket_at S t) _ _ (alike refl refl) (λ other h. either Q (s.write_shut || other.read_shut) _ _ (λ b. alike refl refl) (λ b. either Q (is_too_long other m) _ _ (λ c. alike refl refl) (λ c. enqueue_alike S limit t other m)))
+    to_peer None = alike refl refl refl
+    to_peer (Some t) = maybe Q (socket_at S t) _ _ (alike refl refl refl) (λ other h. either Q (s.write_shut || other.read_shut) _ _ (λ b. alike refl refl refl) (λ b. either Q (is_too_long other m) _ _ (λ c. alike refl refl refl) (λ c. enqueue_alike S limit t other m)))
 
     stream : (addr : Option Addr) → Alike S (send_stream S limit s.write_shut (peer_of s.phase) addr m).next
     stream None = to_peer (peer_of s.phase)
-    stream (Some a) = alike refl refl
+    stream (Some a) = alike refl refl refl
 
 send_alike : (S : State) (p tag : ℕ) (fd : Fd) (addr : Option Addr) (bytes control : List ℕ) (flags : MsgFlags) → Alike S (send_msg S p tag fd addr bytes control flags).next
 unfolding send_msg send_read send_with
-send_alike S p tag fd addr bytes control flags = maybe Q (process_at S p) _ _ (alike refl refl) (λ P here. found_socket Q S p fd _ (alike refl refl) (alike refl refl)
-    (λ d s there. either Q (not (are_send_flags flags)) _ _ (λ b. alike refl refl) (λ b. by_control P d s (control_in control))))
+send_alike S p tag fd addr bytes control flags = maybe Q (process_at S p) _ _ (alike refl refl refl) (λ P here. found_socket Q S p fd _ (alike refl refl refl) (alike refl refl refl)
+    (λ d s there. either Q (not (are_send_flags flags)) _ _ (λ b. alike refl refl refl) (λ b. by_control P d s (control_in control))))
   where
     Q : Outcome → Type 0
     Q o = Alike S o.next
@@ -271,13 +288,13 @@ send_alike S p tag fd addr bytes control flags = maybe Q (process_at S p) _ _ (a
           | Some e ↦ refuse S e
           | None ↦ if not (is_sendable_addr addr) then refuse S Errno.EINVAL else send_from S (flight_limit P) d s addr (message_of (sending tag p P addr bytes) (sent_cred p P given) rights)
         ])
-        go (Some e) = alike refl refl
-        go None = either Q (not (is_sendable_addr addr)) _ _ (λ b. alike refl refl) (λ b. from_alike S (flight_limit P) d s addr _)
+        go (Some e) = alike refl refl refl
+        go None = either Q (not (is_sendable_addr addr)) _ _ (λ b. alike refl refl refl) (λ b. from_alike S (flight_limit P) d s addr _)
 
     by_control : (P : Process) (d : ℕ) (s : Socket) (o : Option Control) → Alike S (send_read S (sending tag p P addr bytes) d s o).next
-    by_control P d s None = alike refl refl
-    by_control P d s (Some c) = either Q (not (is_sendable_control s.kind bytes c)) _ _ (λ b. alike refl refl)
-        (λ b. maybe Q (descriptions_behind (table_of S p) c.rights) _ _ (alike refl refl) (λ rights behind. by_given P d s c.cred rights))
+    by_control P d s None = alike refl refl refl
+    by_control P d s (Some c) = either Q (not (is_sendable_control s.kind bytes c)) _ _ (λ b. alike refl refl refl)
+        (λ b. maybe Q (descriptions_behind (table_of S p) c.rights) _ _ (alike refl refl refl) (λ rights behind. by_given P d s c.cred rights))
 
 front_alike : (S : State) (p d : ℕ) (s : Socket) (asked : Incoming) (front : Front) → Alike S (receive_front S p d s asked front).next
 unfolding receive_front
@@ -285,15 +302,15 @@ front_alike S p d s asked front = go (asks_peek asked.flags) _ (table_alike S p 
   where
     go : (b : Bool) (T : State) → Alike S T → Alike S (cond b T (with_socket_by T d (with_queue front.rest)))
     go true T k = k
-    go false T k = record { objects = k.objects; paths = k.paths }
+    go false T k = record { objects = k.objects; paths = k.paths; abstracts = k.abstracts }
 
 receive_alike : (S : State) (p d : ℕ) (s : Socket) (asked : Incoming) → Alike S (receive S p d s asked).next
-receive_alike S p d s asked = by_receive (λ o. Alike S o.next) S p d s asked (λ e. alike refl refl) (alike refl refl) (λ none. alike refl refl) (λ m ms q. front_alike S p d s asked (front_of asked.n s m ms))
+receive_alike S p d s asked = by_receive (λ o. Alike S o.next) S p d s asked (λ e. alike refl refl refl) (alike refl refl refl) (λ none. alike refl refl refl) (λ m ms q. front_alike S p d s asked (front_of asked.n s m ms))
 
 recv_alike : (S : State) (p : ℕ) (fd : Fd) (n space : ℕ) (flags : MsgFlags) → Alike S (recv_msg S p fd n space flags).next
 unfolding recv_msg
-recv_alike S p fd n space flags = found_socket (λ o. Alike S o.next) S p fd _ (alike refl refl) (alike refl refl)
-    (λ d s there. either (λ o. Alike S o.next) (not (are_receive_flags flags)) _ _ (λ b. alike refl refl) (λ b. receive_alike S p d s (incoming n space flags)))
+recv_alike S p fd n space flags = found_socket (λ o. Alike S o.next) S p fd _ (alike refl refl refl) (alike refl refl refl)
+    (λ d s there. either (λ o. Alike S o.next) (not (are_receive_flags flags)) _ _ (λ b. alike refl refl refl) (λ b. receive_alike S p d s (incoming n space flags)))
 
 -- ---- what is in a file object
 
@@ -373,41 +390,51 @@ write_touches S p tag fd bytes o = found Q S p fd _ (untouched refl) (λ e D g h
     by_answer k e D view g h t there may (Err full) = untouched refl
     by_answer k e D view g h t there may (Err invalid) = untouched refl
 
-read_paths : (S : State) (p : ℕ) (fd : Fd) (n : ℕ) → (read S p fd n).next.paths ≡ S.paths
+pub record NamesSame (S U : State) : Type 0 where
+  pub paths : U.paths ≡ S.paths
+  pub abstracts : U.abstract_names ≡ S.abstract_names
+
+same_names : {S U : State} → U.paths ≡ S.paths → U.abstract_names ≡ S.abstract_names → NamesSame S U
+same_names h k = record { paths = h; abstracts = k }
+
+alike_names : {S U : State} → Alike S U → NamesSame S U
+alike_names a = record { paths = a.paths; abstracts = a.abstracts }
+
+read_paths : (S : State) (p : ℕ) (fd : Fd) (n : ℕ) → NamesSame S (read S p fd n).next
 unfolding read
-read_paths S p fd n = found Q S p fd _ refl (λ e D g h. by_target Q D.target _ _
-    (λ k t. maybe Q (place S.objects k) _ _ refl (λ view there. either Q (not (can_read D.mode)) _ _ (λ b. refl)
-    (λ b. either Q (is_short_read view.body (min read_limit n)) _ _ (λ c. refl)
-    (λ c. either Q (holds_bytes view.body && (min read_limit n == 0)) _ _ (λ c. refl)
+read_paths S p fd n = found Q S p fd _ (same_names refl refl) (λ e D g h. by_target Q D.target _ _
+    (λ k t. maybe Q (place S.objects k) _ _ (same_names refl refl) (λ view there. either Q (not (can_read D.mode)) _ _ (λ b. same_names refl refl)
+    (λ b. either Q (is_short_read view.body (min read_limit n)) _ _ (λ c. same_names refl refl)
+    (λ c. either Q (holds_bytes view.body && (min read_limit n == 0)) _ _ (λ c. same_names refl refl)
     (λ c. by_answer k e D view (read_body view.body D.offset (min read_limit n)))))))
-    (λ s t. (receive_alike S p e.description s (incoming (min read_limit n) 0 no_flags)).paths))
+    (λ s t. alike_names (receive_alike S p e.description s (incoming (min read_limit n) 0 no_flags))))
   where
     Q : Outcome → Type 0
-    Q x = x.next.paths ≡ S.paths
+    Q x = NamesSame S x.next
 
     by_answer : (k : ℕ) (e : Descriptor) (D : Description) (view : View) (r : Result (List ℕ × Body) ObjectError) → Q (read_answer S e.description D k view r)
-    by_answer k e D view (Ok found) = refl
-    by_answer k e D view (Err would_block) = either Q (is_pipe view.body && not (is_open_for can_write S k)) _ _ (λ b. refl) (λ b. refl)
-    by_answer k e D view (Err full) = refl
-    by_answer k e D view (Err invalid) = refl
+    by_answer k e D view (Ok found) = same_names refl refl
+    by_answer k e D view (Err would_block) = either Q (is_pipe view.body && not (is_open_for can_write S k)) _ _ (λ b. same_names refl refl) (λ b. same_names refl refl)
+    by_answer k e D view (Err full) = same_names refl refl
+    by_answer k e D view (Err invalid) = same_names refl refl
 
-write_paths : (S : State) (p tag : ℕ) (fd : Fd) (bytes : List ℕ) → (write S p tag fd bytes).next.paths ≡ S.paths
+write_paths : (S : State) (p tag : ℕ) (fd : Fd) (bytes : List ℕ) → NamesSame S (write S p tag fd bytes).next
 unfolding write
-write_paths S p tag fd bytes = found Q S p fd _ refl (λ e D g h. by_target Q D.target _ _
-    (λ k t. maybe Q (place S.objects k) _ _ refl (λ view there. either Q (not (can_write D.mode)) _ _ (λ b. refl)
-    (λ b. either Q (holds_bytes view.body && (length bytes == 0)) _ _ (λ c. refl)
-    (λ c. either Q (is_pipe view.body && not (is_open_for can_read S k)) _ _ (λ c. refl)
+write_paths S p tag fd bytes = found Q S p fd _ (same_names refl refl) (λ e D g h. by_target Q D.target _ _
+    (λ k t. maybe Q (place S.objects k) _ _ (same_names refl refl) (λ view there. either Q (not (can_write D.mode)) _ _ (λ b. same_names refl refl)
+    (λ b. either Q (holds_bytes view.body && (length bytes == 0)) _ _ (λ c. same_names refl refl)
+    (λ c. either Q (is_pipe view.body && not (is_open_for can_read S k)) _ _ (λ c. same_names refl refl)
     (λ c. by_answer k e D view (write_body view.body (write_place D view) bytes))))))
-    (λ s t. maybe Q (process_at S p) _ _ refl (λ P here. (from_alike S (flight_limit P) e.description s None _).paths)))
+    (λ s t. maybe Q (process_at S p) _ _ (same_names refl refl) (λ P here. alike_names (from_alike S (flight_limit P) e.description s None _))))
   where
     Q : Outcome → Type 0
-    Q x = x.next.paths ≡ S.paths
+    Q x = NamesSame S x.next
 
     by_answer : (k : ℕ) (e : Descriptor) (D : Description) (view : View) (r : Result (ℕ × Body) ObjectError) → Q (write_answer S e.description D k view r)
-    by_answer k e D view (Ok made) = refl
-    by_answer k e D view (Err would_block) = refl
-    by_answer k e D view (Err full) = refl
-    by_answer k e D view (Err invalid) = refl
+    by_answer k e D view (Ok made) = same_names refl refl
+    by_answer k e D view (Err would_block) = same_names refl refl
+    by_answer k e D view (Err full) = same_names refl refl
+    by_answer k e D view (Err invalid) = same_names refl refl
 
 -- ---- paths
 
@@ -499,14 +526,17 @@ pub record Files (S : State) (p : ℕ) (request : Request) (U : State) : Type 0 
 by_alike : {S : State} {p : ℕ} {request : Request} {U : State} → Alike S U → Files S p request U
 by_alike {S} {p} {request} {U} a = record { bodies = λ o. untouched (same_body S U o a.objects); paths = no_more a.paths }
 
+by_files : {S : State} {p : ℕ} {request : Request} {U : State} → FilesAlike S U → Files S p request U
+by_files {S} {p} {request} {U} a = record { bodies = λ o. untouched (same_body S U o a.objects); paths = no_more a.paths }
+
 by_names : {S : State} {p : ℕ} {request : Request} {U : State} → (U.objects ≡ S.objects) × NamesNoMore S.paths U.paths → Files S p request U
 by_names {S} {p} {request} {U} a = record { bodies = λ o. untouched (same_body S U o a.0); paths = a.1 }
 
 each_files : (S : State) (p tag : ℕ) (request : Request) → Files S p request (outcome S p tag request).next
 unfolding outcome
 each_files S p tag (Request.Open path mode flags) = by_alike (open_alike S p path mode flags)
-each_files S p tag (Request.Read fd n) = record { bodies = λ o. read_touches S p fd n o; paths = no_more (read_paths S p fd n) }
-each_files S p tag (Request.Write fd bytes) = record { bodies = λ o. write_touches S p tag fd bytes o; paths = no_more (write_paths S p tag fd bytes) }
+each_files S p tag (Request.Read fd n) = record { bodies = λ o. read_touches S p fd n o; paths = no_more (read_paths S p fd n).paths }
+each_files S p tag (Request.Write fd bytes) = record { bodies = λ o. write_touches S p tag fd bytes o; paths = no_more (write_paths S p tag fd bytes).paths }
 each_files S p tag (Request.Lseek fd offset whence) = by_alike (lseek_alike S p fd offset whence)
 each_files S p tag (Request.Dup fd) = by_alike (dup_alike S p fd)
 each_files S p tag (Request.Dup2 fd to) = by_alike (dup2_alike S p fd to)
@@ -521,7 +551,7 @@ each_files S p tag (Request.Connect fd addr) = by_alike (connect_alike S p fd ad
 each_files S p tag (Request.Accept fd flags) = by_alike (accept_alike S p fd flags)
 each_files S p tag (Request.Shutdown fd how) = by_alike (shutdown_alike S p fd how)
 each_files S p tag (Request.GetOpt fd opt) = by_alike (get_opt_alike S p fd opt)
-each_files S p tag (Request.SetOpt fd opt value) = by_alike (set_opt_alike S p fd opt value)
+each_files S p tag (Request.SetOpt fd opt value) = by_files (set_opt_files S p fd opt value)
 each_files S p tag (Request.GetSockName fd) = by_alike (sock_name_alike S p fd)
 each_files S p tag (Request.GetPeerName fd) = by_alike (peer_name_alike S p fd)
 each_files S p tag (Request.SendMsg fd addr bytes control flags) = by_alike (send_alike S p tag fd addr bytes control flags)
@@ -532,9 +562,44 @@ each_files S p tag Request.Exec = by_alike (exec_alike S p)
 each_files S p tag Request.Exit = by_alike (exit_alike S p)
 each_files S p tag Request.Off = by_names (off_names S)
 
+-- calls that bind a name, or take one away
+abbrev pub changes_names : Request → Bool
+changes_names (Request.Bind fd addr) = true
+changes_names (Request.Unlink path) = true
+changes_names (Request.SetOpt fd opt value) = true
+changes_names Request.Off = true
+changes_names _ = false
+
+pub each_names : (S : State) (p tag : ℕ) (request : Request) → changes_names request ≡ false → NamesSame S (outcome S p tag request).next
+unfolding outcome
+each_names S p tag (Request.Open path mode flags) h = alike_names (open_alike S p path mode flags)
+each_names S p tag (Request.Lseek fd offset whence) h = alike_names (lseek_alike S p fd offset whence)
+each_names S p tag (Request.Dup fd) h = alike_names (dup_alike S p fd)
+each_names S p tag (Request.Dup2 fd to) h = alike_names (dup2_alike S p fd to)
+each_names S p tag (Request.SetFlags fd flags) h = alike_names (flags_alike S p fd flags)
+each_names S p tag (Request.Close fd) h = alike_names (close_alike S p fd)
+each_names S p tag (Request.Socket kind flags) h = alike_names (socket_alike S p kind flags)
+each_names S p tag (Request.SocketPair kind flags) h = alike_names (pair_alike S p kind flags)
+each_names S p tag (Request.Listen fd backlog) h = alike_names (listen_alike S p fd backlog)
+each_names S p tag (Request.Connect fd addr) h = alike_names (connect_alike S p fd addr)
+each_names S p tag (Request.Accept fd flags) h = alike_names (accept_alike S p fd flags)
+each_names S p tag (Request.Shutdown fd how) h = alike_names (shutdown_alike S p fd how)
+each_names S p tag (Request.GetOpt fd opt) h = alike_names (get_opt_alike S p fd opt)
+each_names S p tag (Request.GetSockName fd) h = alike_names (sock_name_alike S p fd)
+each_names S p tag (Request.GetPeerName fd) h = alike_names (peer_name_alike S p fd)
+each_names S p tag (Request.SendMsg fd addr bytes control flags) h = alike_names (send_alike S p tag fd addr bytes control flags)
+each_names S p tag (Request.RecvMsg fd n space flags) h = alike_names (recv_alike S p fd n space flags)
+each_names S p tag (Request.Poll fd) h = alike_names (poll_alike S p fd)
+each_names S p tag Request.Fork h = alike_names (fork_alike S p)
+each_names S p tag Request.Exec h = alike_names (exec_alike S p)
+each_names S p tag Request.Exit h = alike_names (exit_alike S p)
+each_names S p tag (Request.Read fd n) h = read_paths S p fd n
+each_names S p tag (Request.Write fd bytes) h = write_paths S p tag fd bytes
+each_names S p tag request h = absurd (false≢true (sym h))
+
 chosen_files : (S T : State) (p : ℕ) (request : Request) (reply : Reply) (o : Outcome) → Files S p request o.next → Obeys S (changes_lives request) o → Chosen S o reply T → Files S p request T
 chosen_files S T p request reply o files obeys (own e f) = subst (Files S p request) (sym f) files
-chosen_files S T p request reply o files obeys (lacking_memory e may f) = subst (Files S p request) (sym f) (by_alike (alike refl refl))
+chosen_files S T p request reply o files obeys (lacking_memory e may f) = subst (Files S p request) (sym f) (by_alike (alike refl refl refl))
 chosen_files S T p request reply o files obeys (failing e f) =
     let one = (obeys.failed T f).0 in
     record {
@@ -544,14 +609,14 @@ chosen_files S T p request reply o files obeys (failing e f) =
 
 -- ---- what goes at the end of a call
 
-rounds_alike : (n : ℕ) (S : State) → Alike S (drop_rounds n S)
+rounds_alike : (n : ℕ) (S : State) → FilesAlike S (drop_rounds n S)
 unfolding drop_rounds without
-rounds_alike zero S = alike refl refl
+rounds_alike zero S = files_alike refl refl
 rounds_alike (suc n) S = go (rounds_alike n (drop_all S)) (has_unreferenced S)
   where
-    go : Alike (drop_all S) (drop_rounds n (drop_all S)) → (b : Bool) → Alike S (elim b as (λ _. State) [ true ↦ drop_rounds n (drop_all S) | false ↦ S ])
-    go rest true = alike rest.objects rest.paths
-    go rest false = alike refl refl
+    go : FilesAlike (drop_all S) (drop_rounds n (drop_all S)) → (b : Bool) → FilesAlike S (elim b as (λ _. State) [ true ↦ drop_rounds n (drop_all S) | false ↦ S ])
+    go rest true = files_alike rest.objects rest.paths
+    go rest false = files_alike refl refl
 
 settled_paths : (S : State) → (settled S).paths ≡ S.paths
 unfolding settled drop_unreferenced

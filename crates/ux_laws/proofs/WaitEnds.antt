@@ -1,19 +1,17 @@
 -- A wait to receive ends by a send, a shutdown or the loss of the peer, and by nothing else.
-use Rattle.std.proofs.Common.{◌≡◌, ◌⊎◌, ℕ, suc, ◌<◌, ◌==◌, Bool, true, false, not, ◌&&◌, ◌||◌, if◌then◌else◌, cond, is_some, min, List, [], ◌∷◌, length, Option, Some, None, Result, Ok, Err, option_map, refl, ap, sym, ◌∙◌, subst, inl, inr, ⊎_elim, arith, slice_get}
+use Rattle.std.proofs.Common.{◌≡◌, ◌⊎◌, ℕ, suc, ◌==◌, Bool, true, false, not, ◌&&◌, ◌||◌, if◌then◌else◌, cond, is_some, min, List, [], ◌∷◌, Option, Some, None, Result, Ok, Err, option_map, refl, ap, sym, ◌∙◌, subst, inl, inr, ⊎_elim, arith}
 use Rattle.std.specs.Prelude.{is_none}
-use Rattle.std.proofs.lemmas.Bool.{eqb-true, false≢true, or_parts, eq-eqb}
-use Rattle.ux_model.specs.Types.{Errno, Fd, Mode, MsgFlags, Request, Reply, Entry}
-use Rattle.ux_model.specs.Places.{place}
+use Rattle.std.proofs.lemmas.Bool.{eqb-true, false≢true, or_parts}
+use Rattle.ux_model.specs.Types.{Errno, Fd, Mode, MsgFlags, Request, Reply}
 use Rattle.ux_model.specs.Limits.{read_limit}
 use Rattle.ux_model.specs.Flags.{are_receive_flags, no_flags}
-use Rattle.ux_model.specs.Message.{Message}
 use Rattle.ux_model.specs.Front.{Front, front_of}
 use Rattle.ux_model.specs.Socket.{Socket, is_stream, is_dgram, peer_of, tied_socket, sent, with_queue, with_reset, shut_down}
 use Rattle.ux_model.specs.Description.{Description, Target, to_object, to_socket, socket_of, socket_in, changed, changed_target}
 use Rattle.ux_model.specs.State.{State, description_at, socket_at, with_socket_by}
-use Rattle.ux_model.specs.Outcome.{Outcome, Chosen, own, lacking_memory, failing, refuse, answer, find_socket}
+use Rattle.ux_model.specs.Outcome.{Outcome, Chosen, own, lacking_memory, failing, refuse, find_socket}
 use Rattle.ux_model.specs.Connecting.{shutdown}
-use Rattle.ux_model.specs.Receiving.{Incoming, incoming, receive_front, nothing_received, at_end, receive, recv_msg, bytes_alone}
+use Rattle.ux_model.specs.Receiving.{Incoming, incoming, receive_front, at_end, receive, recv_msg, bytes_alone}
 use Rattle.ux_model.specs.Reading.{read}
 use Rattle.ux_model.specs.Release.{settled}
 use Rattle.ux_model.specs.Step.{Step, outcome}
@@ -23,20 +21,20 @@ use Rattle.ux_model.proofs.ChangedPlaces.{bool_cases, place-changed}
 use Rattle.ux_model.proofs.Calls.{each_obeys}
 use Rattle.ux_model.proofs.Moments.{moment}
 use Rattle.ux_model.proofs.Shows.{by_socket}
-use Rattle.ux_laws.specs.Talking.{socket_through, sends_to, is_number, if_found}
+use Rattle.ux_laws.specs.Talking.{socket_through, sends_to, is_number}
 use Rattle.ux_laws.specs.Records.{is_count}
 use Rattle.ux_laws.specs.Credentials.{socket_behind}
 use Rattle.ux_laws.specs.Waits.{IsWaiting, for_peer, for_datagram, ReceivesWait, ReadsWait, EndsWait, by_send, by_shutdown, by_loss, WaitsEnd}
-use Rattle.ux_laws.proofs.Parts.{SocketParts, socket_parts, Glance, glance_socket, glance_target, glance, Shrinks, seen_socket, Seen}
-use Rattle.ux_laws.proofs.Acts.{Did, IsSending, IsTaking}
+use Rattle.ux_laws.proofs.Parts.{SocketParts, socket_parts, Glance, glance_socket, glance_target, glance, Shrinks, seen_socket}
+use Rattle.ux_laws.proofs.Acts.{Did}
 use Rattle.ux_laws.proofs.Doing.{step_between, step_did}
 use Rattle.ux_laws.proofs.Delivering.{sends_there}
 use Rattle.ux_laws.proofs.Flows.{waiting_in, waiting_at, waiting_is, Flow, calm, put_in, taken, step_flow, changed_waiting}
-use Rattle.ux_laws.proofs.Near.{reset_in, shut_of, shut_in, is_shutdown, NearAt, stays, reached, new, gone as dropped, Near, chosen_near}
-use Rattle.ux_laws.proofs.LeftAlone.{Lost, same, lost, reset, stays_gone, settled_lost}
+use Rattle.ux_laws.proofs.Near.{reset_in, shut_of, shut_in, is_shutdown, NearAt, stays, reached, new, gone as dropped, chosen_near}
+use Rattle.ux_laws.proofs.LeftAlone.{Lost, same, lost, reset, settled_lost}
 use Rattle.ux_laws.proofs.Makers.{behind_is}
-use Rattle.ux_laws.proofs.Opened.{Leads, OrOpened, did_leads}
-use Rattle.ux_laws.proofs.Ended.{Was, did_was, reset_is, socket_known, peer_known}
+use Rattle.ux_laws.proofs.Opened.{Leads, did_leads}
+use Rattle.ux_laws.proofs.Ended.{did_was, reset_is, socket_known}
 use Rattle.ux_laws.proofs.Telling.{LeadsToSocket, socket_is_found, leads_to_socket, read_is}
 
 -- ---- which receives wait

@@ -1,6 +1,6 @@
 -- A worked example, evaluated: a receive that would wait, until something is sent, and until the peer is shut down.
 use Rattle.std.specs.Prelude.{◌≡◌, List, [], ◌∷◌, refl, codes}
-use Rattle.ux_model.specs.Types.{Errno, Fd, SockType, Mode, Request, Reply, Entry}
+use Rattle.ux_model.specs.Types.{Errno, SockType, Mode, Request, Reply, Entry}
 use Rattle.ux_laws.proofs.Play.{computing, made, replies, one_process, pair_of, send, fd}
 
 abbrev calls : List Entry

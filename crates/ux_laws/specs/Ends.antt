@@ -50,8 +50,9 @@ is_closing _ = false
 -- By such a call that frees the peer it does exactly where the peer had messages that nobody had read, or where no accept had taken it.
 abbrev pub LossesReset : Type 0
 LossesReset = (boot : State) (entries : List Entry) (j d peer : ℕ) (e : Entry) (s t u : Socket) → IsLegal boot entries →
-    slice_get entries j ≡ Some e → is_closing e.request ≡ true → socket_at (before boot entries j) d ≡ Some s → peer_of s.phase ≡ Some peer →
-    socket_at (before boot entries j) peer ≡ Some u → description_at (before boot entries (suc j)) peer ≡ None →
+    slice_get entries j ≡ Some e → is_closing e.request ≡ true → socket_at (before boot entries j) d ≡ Some s →
+    peer_of s.phase ≡ Some peer → socket_at (before boot entries j) peer ≡ Some u →
+    description_at (before boot entries (suc j)) peer ≡ None →
     socket_at (before boot entries (suc j)) d ≡ Some t → t.reset ≡ (s.reset || (not (length u.queue == 0) || not u.accepted))
 
 -- ---- sends

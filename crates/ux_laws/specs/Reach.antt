@@ -1,7 +1,8 @@
--- What a call leaves alone: descriptions and tables that its process has no way to.
-use Rattle.std.specs.Prelude.{◌≡◌, ◌≢◌, ℕ, suc, true, false, List, Option, Some, None, Ok}
+-- What a call leaves alone: descriptions, tables and names that its process has no way to.
+use Rattle.std.specs.Prelude.{◌≡◌, ◌≢◌, ◌⊎◌, ℕ, suc, Bool, true, false, List, Option, Some, None, Ok}
 use Rattle.std.specs.List.{slice_get}
-use Rattle.ux_model.specs.Types.{Addr, SockType, Request, Entry}
+use Rattle.ux_model.specs.Types.{Name, Addr, SockType, Request, Entry}
+use Rattle.ux_model.specs.Names.{same_name, named as named_in}
 use Rattle.ux_model.specs.Socket.{Socket, pending_ends, peer_of, tied_socket, with_reset}
 use Rattle.ux_model.specs.Description.{Description, changed}
 use Rattle.ux_model.specs.State.{State, description_at, socket_at}
@@ -62,3 +63,35 @@ abbrev pub CallsLeaveTablesAlone : Type 0
 CallsLeaveTablesAlone = (boot : State) (entries : List Entry) (j q n : ℕ) (e : Entry) → IsLegal boot entries →
     slice_get entries j ≡ Some e → is_off e.request ≡ false → e.pid.0 ≢ q → makes q e.request e.reply ≡ false →
     held_at (before boot entries (suc j)) q n ≡ held_at (before boot entries j) q n
+
+-- ---- names
+
+abbrev pub is_path : Addr → Name → Bool
+is_path (Addr.Path name) path = same_name name path
+is_path _ path = false
+
+-- the call binds this path, or takes it away; the end of the layer takes all
+abbrev pub names_path : Request → Name → Bool
+names_path (Request.Bind fd addr) path = is_path addr path
+names_path (Request.Unlink name) path = same_name name path
+names_path Request.Off path = true
+names_path _ path = false
+
+-- Each other path names what it named, or nothing still.
+abbrev pub CallsLeavePathsAlone : Type 0
+CallsLeavePathsAlone = (boot : State) (entries : List Entry) (j : ℕ) (e : Entry) (path : Name) → IsLegal boot entries →
+    slice_get entries j ≡ Some e → names_path e.request path ≡ false →
+    named_in path (before boot entries (suc j)).paths ≡ named_in path (before boot entries j).paths
+
+-- A name of the abstract namespace goes only with its socket.
+abbrev pub AbstractNamesStay : Type 0
+AbstractNamesStay = (boot : State) (entries : List Entry) (j d : ℕ) (e : Entry) (name : Name) → IsLegal boot entries →
+    slice_get entries j ≡ Some e → named_in name (before boot entries j).abstract_names ≡ Some d →
+    (named_in name (before boot entries (suc j)).abstract_names ≡ Some d) ⊎ (description_at (before boot entries (suc j)) d ≡ None)
+
+-- One that leads to no socket gets one of the caller's own.
+abbrev pub AbstractNamesAreBound : Type 0
+AbstractNamesAreBound = (boot : State) (entries : List Entry) (j d : ℕ) (e : Entry) (name : Name) → IsLegal boot entries →
+    slice_get entries j ≡ Some e → named_in name (before boot entries j).abstract_names ≡ None →
+    named_in name (before boot entries (suc j)).abstract_names ≡ Some d →
+    (n : ℕ) × (description_of (before boot entries j) e.pid.0 n ≡ Some d)

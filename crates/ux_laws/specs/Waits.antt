@@ -12,15 +12,16 @@ use Rattle.ux_laws.specs.Credentials.{socket_behind}
 
 -- A receive at socket d, which is s, finds nothing, and its input isn't over.
 pub data IsWaiting (S : State) (d : ℕ) (s : Socket) : Type 0 where
-  for_peer : (peer : ℕ) (other : Socket) → is_dgram s.kind ≡ false → peer_of s.phase ≡ Some peer → socket_at S peer ≡ Some other → s.queue ≡ [] →
-      s.reset ≡ false → s.read_shut ≡ false → other.write_shut ≡ false → IsWaiting S d s
+  for_peer : (peer : ℕ) (other : Socket) → is_dgram s.kind ≡ false → peer_of s.phase ≡ Some peer → socket_at S peer ≡ Some other →
+      s.queue ≡ [] → s.reset ≡ false → s.read_shut ≡ false → other.write_shut ≡ false → IsWaiting S d s
   for_datagram : is_dgram s.kind ≡ true → s.queue ≡ [] → s.read_shut ≡ false → IsWaiting S d s
 
 -- so where one is answered EAGAIN
 abbrev pub ReceivesWait : Type 0
 ReceivesWait = (boot : State) (entries : List Entry) (j n space d : ℕ) (e : Entry) (fd : Fd) (flags : MsgFlags) (s : Socket) →
     IsLegal boot entries → slice_get entries j ≡ Some e → e.request ≡ Request.RecvMsg fd n space flags →
-    socket_through (before boot entries j) e.pid.0 e.request ≡ Some (d, s) → e.reply ≡ Reply.Err Errno.EAGAIN → IsWaiting (before boot entries j) d s
+    socket_through (before boot entries j) e.pid.0 e.request ≡ Some (d, s) → e.reply ≡ Reply.Err Errno.EAGAIN →
+    IsWaiting (before boot entries j) d s
 
 abbrev pub ReadsWait : Type 0
 ReadsWait = (boot : State) (entries : List Entry) (j n d : ℕ) (e : Entry) (fd : Fd) (s : Socket) → IsLegal boot entries →
@@ -39,6 +40,7 @@ pub data EndsWait (S : State) (e : Entry) (d : ℕ) (s : Socket) (T : State) : T
 
 -- After any other a receive there would still wait.
 abbrev pub WaitsEnd : Type 0
-WaitsEnd = (boot : State) (entries : List Entry) (j d : ℕ) (e : Entry) (s t : Socket) → IsLegal boot entries → slice_get entries j ≡ Some e →
-    socket_at (before boot entries j) d ≡ Some s → IsWaiting (before boot entries j) d s → socket_at (before boot entries (suc j)) d ≡ Some t →
+WaitsEnd = (boot : State) (entries : List Entry) (j d : ℕ) (e : Entry) (s t : Socket) → IsLegal boot entries →
+    slice_get entries j ≡ Some e → socket_at (before boot entries j) d ≡ Some s → IsWaiting (before boot entries j) d s →
+    socket_at (before boot entries (suc j)) d ≡ Some t →
     IsWaiting (before boot entries (suc j)) d t ⊎ EndsWait (before boot entries j) e d s (before boot entries (suc j))

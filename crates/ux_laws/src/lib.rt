@@ -5,9 +5,11 @@
 
 ghost use Rattle.ux_laws.specs.Waits.{ReceivesWait, ReadsWait, WaitsEnd};
 ghost use Rattle.ux_laws.specs.Credentials.{CredentialsAreTheSenders, PeersAreTheMakers};
-ghost use Rattle.ux_laws.specs.Ends.{EndsAreForEver, ResetsAreOfLosses, LossesReset, SendsFindNobody, WritesBreak, ReadsTellTheEnd, ReceivesTellTheEnd};
+ghost use Rattle.ux_laws.specs.Ends.{EndsAreForEver, ResetsAreOfLosses, LossesReset, SendsFindNobody, WritesBreak};
+ghost use Rattle.ux_laws.specs.Ends.{ReadsTellTheEnd, ReceivesTellTheEnd};
 ghost use Rattle.ux_laws.specs.Files.{EachHoldingHasAPedigree, ChangesHaveAWay, ReadsHaveAWay, StrangersHaveNoWay, StrangersChangeNothing};
-ghost use Rattle.ux_laws.specs.Reach.{CallsLeaveOthersAlone, CallsLeaveTablesAlone};
+ghost use Rattle.ux_laws.specs.Reach.{CallsLeaveOthersAlone, CallsLeaveTablesAlone, CallsLeavePathsAlone};
+ghost use Rattle.ux_laws.specs.Reach.{AbstractNamesStay, AbstractNamesAreBound};
 ghost use Rattle.ux_laws.specs.Records.{RecordsArriveInOrder, RecordsArriveOnce, RecordsArriveWhole, ReadRecordsArriveWhole};
 ghost use Rattle.ux_laws.specs.Rights.{RightsComeOnce, RightsComeWithTheirMessage};
 ghost use Rattle.ux_laws.specs.Streams.{StreamsAreReliable};
@@ -108,6 +110,21 @@ pub fn calls_leave_others_alone()
 /// A call changes no table but that of its process and of a child that it makes. The layer's end empties all.
 pub fn calls_leave_tables_alone()
     ensures { CallsLeaveTablesAlone }
+{}
+
+/// A call leaves each path that it doesn't itself bind or take away: it names what it named, or nothing still.
+pub fn calls_leave_paths_alone()
+    ensures { CallsLeavePathsAlone }
+{}
+
+/// A name of the abstract namespace goes only with its socket.
+pub fn abstract_names_stay()
+    ensures { AbstractNamesStay }
+{}
+
+/// One that no socket has is given only to a socket that the caller has a descriptor of.
+pub fn abstract_names_are_bound()
+    ensures { AbstractNamesAreBound }
 {}
 
 /// Once its peer is gone, a connected socket stays without one, and no ECONNRESET comes to be pending.
