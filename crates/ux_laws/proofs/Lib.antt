@@ -21,6 +21,7 @@ pub mod Ended
 pub mod Telling
 pub mod Resetting
 pub mod WaitEnds
+pub mod AcceptWaits
 mod Play
 mod StreamExample
 mod RecordExample

@@ -1,5 +1,5 @@
 -- Of each call: that it changes only what is in its reach, and resets no socket. One lemma a call, and one line of `each_near`.
-use Rattle.std.proofs.Common.{◌≡◌, ◌≢◌, ◌⊎◌, ℕ, zero, suc, ◌≤◌, ◌==◌, Bool, true, false, not, ◌&&◌, ◌||◌, if◌then◌else◌, cond, List, [], ◌∷◌, ◌++◌, length, min, Option, Some, None, Result, Ok, Err, option_map, refl, ap, sym, ◌∙◌, subst, inl, inr, slice_get, arith}
+use Rattle.std.proofs.Common.{◌≡◌, ◌≢◌, ◌⊎◌, ℕ, zero, suc, ◌≤◌, ◌==◌, Bool, true, false, not, ◌&&◌, ◌||◌, if◌then◌else◌, cond, List, [], ◌∷◌, ◌++◌, length, min, drop, Option, Some, None, Result, Ok, Err, option_map, refl, ap, sym, ◌∙◌, subst, inl, inr, slice_get, arith}
 use Rattle.std.specs.Prelude.{nat_le, nat_lt, ℤ, pos, negsuc, ◌+ℤ◌, is_some, is_none}
 use Rattle.std.proofs.lemmas.Bool.{eqb-true, eqb-false, false≢true}
 use Rattle.std.proofs.lemmas.List.{get_or-set_other, length_push}
@@ -14,7 +14,7 @@ use Rattle.ux_model.specs.Front.{Front, front_of}
 use Rattle.ux_model.specs.Control.{Control}
 use Rattle.ux_model.specs.ControlReading.{control_in}
 use Rattle.ux_model.specs.Backlog.{backlog_of}
-use Rattle.ux_model.specs.Socket.{Socket, Phase, idle, listening, connected, associated, is_stream, is_dgram, pending_ends, peer_of, association_of, tied_socket, takes_from, has_room, awaiting, sent, with_queue, with_reset, with_association, with_passcred, with_queue_limit, shut_down, new_socket, pair_end}
+use Rattle.ux_model.specs.Socket.{Socket, Phase, idle, listening, connected, associated, is_stream, is_dgram, pending_ends, peer_of, association_of, tied_socket, takes_from, has_room, awaiting, sent, with_queue, with_reset, with_association, phase_with_association, with_passcred, with_queue_limit, shut_down, new_socket, pair_end}
 use Rattle.ux_model.specs.Description.{Description, Target, to_object, to_socket, socket_of, socket_in, changed, changed_target}
 use Rattle.ux_model.specs.Process.{Process, Descriptor, own_cred, lowest_free, two_lowest_free, descriptor}
 use Rattle.ux_model.specs.State.{State, process_at, description_at, socket_at, table_of, next_description, with_description, with_description_by, with_socket_by, with_process, with_table, with_new}
@@ -23,7 +23,7 @@ use Rattle.ux_model.specs.Naming.{unlink}
 use Rattle.ux_model.specs.Pairing.{make_pair, with_pair, socket_description}
 use Rattle.ux_model.specs.Binding.{look_up, bind_to, bind, get_sock_name, with_name}
 use Rattle.ux_model.specs.Connecting.{make_socket, listener_of, with_listening, listen, connect_to, connect_stream, connect_datagram, connect, get_peer_name, shutdown, server_end, tied as tied_by, no_open_flags}
-use Rattle.ux_model.specs.Accepting.{accept_first, accept, without_first_end, as_accepted, accepted_with}
+use Rattle.ux_model.specs.Accepting.{accept_first, accept, phase_without_first_end, without_first_end, as_accepted, accepted_with}
 use Rattle.ux_model.specs.Sending.{sending, message_of, flight_limit, is_over_limit, enqueue, is_too_long, send_connected, send_stream, send_to_target, send_by_association, send_by, send_from, is_sendable_addr, is_sendable_control, given_refusal, sent_cred, send_given, send_read, send_with, send_msg, descriptions_behind}
 use Rattle.ux_model.specs.Receiving.{Incoming, incoming, receive_front, receive, recv_msg}
 use Rattle.ux_model.specs.FileObjects.{holds_bytes, is_open_for}
@@ -71,9 +71,54 @@ abbrev pub is_shutdown : Request → Bool
 is_shutdown (Request.Shutdown fd how) = true
 is_shutdown _ = false
 
--- the call resets nothing, and if it is no shutdown shuts nothing down
+abbrev pub none_in : List ℕ → Bool
+none_in [] = true
+none_in (e ∷ es) = false
+
+-- it listens, and no end waits there
+abbrev pub awaits : Phase → Bool
+awaits idle = false
+awaits (listening backlog cred) = none_in backlog.pending
+awaits (connected peer) = false
+awaits (associated target) = false
+
+abbrev pub awaits_of : Target → Bool
+awaits_of (to_object o) = false
+awaits_of (to_socket s) = awaits s.phase
+
+abbrev pub awaits_in : Option Description → Bool
+awaits_in None = false
+awaits_in (Some D) = awaits_of D.target
+
+abbrev pub is_connect : Request → Bool
+is_connect (Request.Connect fd addr) = true
+is_connect _ = false
+
+awaits_again : (limit : ℕ) (cred : Cred) (phase : Phase) → awaits phase ≡ true → none_in (pending_ends phase) ≡ true
+awaits_again limit cred idle h = refl
+awaits_again limit cred (listening backlog by) h = h
+awaits_again limit cred (connected peer) h = refl
+awaits_again limit cred (associated target) h = refl
+
+awaits_first : (phase : Phase) → awaits phase ≡ true → awaits (phase_without_first_end phase) ≡ true
+awaits_first idle h = h
+awaits_first (listening backlog cred) h = of_list backlog.pending h
+  where
+    of_list : (es : List ℕ) → none_in es ≡ true → none_in (drop 1 es) ≡ true
+    of_list [] h = h
+    of_list (e ∷ es) h = absurd (false≢true h)
+awaits_first (connected peer) h = h
+awaits_first (associated target) h = h
+
+pub awaits_on : (target : Option ℕ) (phase : Phase) → awaits phase ≡ true → awaits (phase_with_association target phase) ≡ true
+awaits_on target idle h = absurd (false≢true h)
+awaits_on target (listening backlog cred) h = h
+awaits_on target (connected peer) h = h
+awaits_on target (associated old) h = absurd (false≢true h)
+
+-- the call resets nothing, shuts nothing down if it is no shutdown, and ends no wait for ends if it is no connect
 abbrev pub Keeps : Request → Option Description → Option Description → Type 0
-Keeps request old x = (reset_in x ≡ true → reset_in old ≡ true) × (is_shutdown request ≡ false → shut_in x ≡ shut_in old)
+Keeps request old x = (reset_in x ≡ true → reset_in old ≡ true) × (is_shutdown request ≡ false → shut_in x ≡ shut_in old) × (is_connect request ≡ false → awaits_in old ≡ true → awaits_in x ≡ true)
 
 -- what becomes of one: it stays, it is in reach and not reset by the call, or it is gone
 pub data NearAt (S : State) (p : ℕ) (request : Request) (d : ℕ) (x : Option Description) : Type 0 where
@@ -101,29 +146,29 @@ near_by {S} {p} {request} T t change near reach resets = record {
 }
   where
     kept : (x : Option Description) → Keeps request x (option_map change x)
-    kept None = (λ h. h, λ elsewhere. refl)
+    kept None = (λ h. h, λ elsewhere. refl, λ other h. h)
     kept (Some D) = resets D
 
     keeps_on : (old x y : Option Description) → Keeps request old x → Keeps request x y → Keeps request old y
-    keeps_on old x y a b = (λ h. a.0 (b.0 h), λ elsewhere. b.1 elsewhere ∙ a.1 elsewhere)
+    keeps_on old x y a b = (λ h. a.0 (b.0 h), λ elsewhere. b.1 elsewhere ∙ a.1 elsewhere, λ other h. b.2 other (a.2 other h))
 
     both : (d : ℕ) (x : Option Description) → Keeps request (description_at S d) x → IsInReach S p request d ⊎ (length S.descriptions ≤ d) → NearAt S p request d (option_map change x)
     both d x still (inl r) = reached r (keeps_on (description_at S d) x (option_map change x) still (kept x))
     both d x still (inr more) = new more (keeps_on (description_at S d) x (option_map change x) still (kept x))
 
     at_place : (d : ℕ) {x : Option Description} → NearAt S p request d x → IsInReach S p request d ⊎ (length S.descriptions ≤ d) → NearAt S p request d (option_map change x)
-    at_place d {x} (stays is) r = both d x (λ h. sym (ap reset_in is) ∙ h, λ elsewhere. ap shut_in is) r
+    at_place d {x} (stays is) r = both d x (λ h. sym (ap reset_in is) ∙ h, λ elsewhere. ap shut_in is, λ other h. ap awaits_in is ∙ h) r
     at_place d {x} (reached q still) r = both d x still r
     at_place d {x} (new more still) r = both d x still r
     at_place d {x} (gone is) r = gone (ap (λ y. option_map change y) is)
 
 -- of a socket
 near_socket : {S : State} {p : ℕ} {request : Request} (T : State) (t : ℕ) (change : Socket → Socket) → Near S p request T → (IsInReach S p request t ⊎ (length S.descriptions ≤ t)) →
-    ((s : Socket) → ((change s).reset ≡ true → s.reset ≡ true) × (is_shutdown request ≡ false → shut_of (to_socket (change s)) ≡ shut_of (to_socket s))) → Near S p request (with_socket_by T t change)
+    ((s : Socket) → ((change s).reset ≡ true → s.reset ≡ true) × (is_shutdown request ≡ false → shut_of (to_socket (change s)) ≡ shut_of (to_socket s)) × (is_connect request ≡ false → awaits s.phase ≡ true → awaits (change s).phase ≡ true)) → Near S p request (with_socket_by T t change)
 near_socket {S} {p} {request} T t change near reach resets = near_by T t (changed change) near reach (λ D. at_target D.target)
   where
-    at_target : (u : Target) → (reset_of (changed_target change u) ≡ true → reset_of u ≡ true) × (is_shutdown request ≡ false → shut_of (changed_target change u) ≡ shut_of u)
-    at_target (to_object o) = (λ h. h, λ elsewhere. refl)
+    at_target : (u : Target) → (reset_of (changed_target change u) ≡ true → reset_of u ≡ true) × (is_shutdown request ≡ false → shut_of (changed_target change u) ≡ shut_of u) × (is_connect request ≡ false → awaits_of u ≡ true → awaits_of (changed_target change u) ≡ true)
+    at_target (to_object o) = (λ h. h, λ elsewhere. refl, λ other h. h)
     at_target (to_socket s) = resets s
 
 -- one that is put in the place of one in reach, and leads to the same
@@ -135,7 +180,7 @@ near_put {S} {p} {request} d D E here same reach = record {
       let is : description_at (with_description S d E) i ≡ Some E = ap (λ (k : ℕ). place (filled S.descriptions d E) k) (sym at) ∙ put_there S.descriptions d here in
       let was : description_at S i ≡ Some D = ap (λ (k : ℕ). description_at S k) (sym at) ∙ here in
       reached (subst (IsInReach S p request) at reach)
-      (λ h. ap reset_in was ∙ sym (ap reset_of same) ∙ sym (ap reset_in is) ∙ h, λ elsewhere. ap shut_in is ∙ ap shut_of same ∙ sym (ap shut_in was)))
+      (λ h. ap reset_in was ∙ sym (ap reset_of same) ∙ sym (ap reset_in is) ∙ h, λ elsewhere. ap shut_in is ∙ ap shut_of same ∙ sym (ap shut_in was), λ other h. ap awaits_in is ∙ ap awaits_of same ∙ sym (ap awaits_in was) ∙ h))
       (λ e. stays (get_or-set_other S.descriptions d i (Some E) None (λ k. eqb-false d i e (sym k))));
 }
   where
@@ -144,17 +189,17 @@ near_put {S} {p} {request} d D E here same reach = record {
     put_there (x ∷ xs) zero h = refl
     put_there (x ∷ xs) (suc d) h = put_there xs d h
 
-pushed_here : (ds : List (Option Description)) (x : Option Description) → place (ds ++ x ∷ []) (length ds) ≡ x
+pub pushed_here : (ds : List (Option Description)) (x : Option Description) → place (ds ++ x ∷ []) (length ds) ≡ x
 pushed_here [] x = refl
 pushed_here (y ∷ ds) x = pushed_here ds x
 
-pushed_other : (ds : List (Option Description)) (x : Option Description) (d : ℕ) → length ds ≢ d → place (ds ++ x ∷ []) d ≡ place ds d
+pub pushed_other : (ds : List (Option Description)) (x : Option Description) (d : ℕ) → length ds ≢ d → place (ds ++ x ∷ []) d ≡ place ds d
 pushed_other [] x zero h = absurd (h refl)
 pushed_other [] x (suc d) h = refl
 pushed_other (y ∷ ds) x zero h = refl
 pushed_other (y ∷ ds) x (suc d) h = pushed_other ds x d (λ e. h (ap suc e))
 
-none_past : (ds : List (Option Description)) (d : ℕ) → length ds ≤ d → place ds d ≡ None
+pub none_past : (ds : List (Option Description)) (d : ℕ) → length ds ≤ d → place ds d ≡ None
 none_past [] d h = refl
 none_past (x ∷ ds) zero h = absurd (omega (arith, h))
 none_past (x ∷ ds) (suc d) h = none_past ds d (omega (arith, h))
@@ -167,7 +212,7 @@ near_new {S} {p} {request} T D near more none open_both = record {
       let at : length T.descriptions ≡ d = eqb-true (length T.descriptions) d e in
       let is : description_at (with_new T D) d ≡ Some D = ap (λ (k : ℕ). description_at (with_new T D) k) (sym at) ∙ pushed_here T.descriptions (Some D) in
       let beyond : length S.descriptions ≤ d = omega (arith, more, at) in
-      new beyond (λ h. absurd (false≢true (sym none ∙ sym (ap reset_in is) ∙ h)), λ elsewhere. ap shut_in is ∙ open_both ∙ sym (ap shut_in (none_past S.descriptions d beyond))))
+      new beyond (λ h. absurd (false≢true (sym none ∙ sym (ap reset_in is) ∙ h)), λ elsewhere. ap shut_in is ∙ open_both ∙ sym (ap shut_in (none_past S.descriptions d beyond)), λ other h. absurd (false≢true (sym (ap awaits_in (none_past S.descriptions d beyond)) ∙ h))))
       (λ e. subst (NearAt S p request d) (sym (pushed_other T.descriptions (Some D) d (eqb-false (length T.descriptions) d e))) (near.each d));
 }
 
@@ -299,7 +344,7 @@ bind_near S p fd addr = by_own Q S p (Request.Bind fd addr) fd _ (λ e. still) (
     Q o = Near S p (Request.Bind fd addr) o.next
 
     called : (d : ℕ) (name : Addr) → description_of S p fd.0 ≡ Some d → Near S p (Request.Bind fd addr) (with_socket_by S d (with_name name))
-    called d name mine = near_socket S d (with_name name) still (inl (held fd.0 mine)) (λ s. (λ h. h, λ elsewhere. refl))
+    called d name mine = near_socket S d (with_name name) still (inl (held fd.0 mine)) (λ s. (λ h. h, λ elsewhere. refl, λ other h. h))
 
     to : (d : ℕ) → description_of S p fd.0 ≡ Some d → (name : Addr) → Near S p (Request.Bind fd addr) (bind_to S d name).next
     to d mine Addr.Unnamed = maybe Q (free_name S.abstract_names) _ _ still (λ name h. alike _ refl (called d (Addr.Abstract name) mine))
@@ -322,7 +367,7 @@ unfolding listen
 listen_near S p fd backlog = maybe Q (process_at S p) _ _ still (λ P here. by_own Q S p (Request.Listen fd backlog) fd _ (λ e. still)
     (λ d s mine there. either Q (is_dgram s.kind) _ _ (λ b. still)
     (λ b. either Q (is_some (peer_of s.phase)) _ _ (λ c. still)
-    (λ c. either Q (is_unnamed_addr s.name) _ _ (λ f. still) (λ f. near_socket S d (with_listening (backlog_of backlog) (own_cred p P)) still (inl (held fd.0 mine)) (λ s. (λ h. h, λ elsewhere. refl)))))))
+    (λ c. either Q (is_unnamed_addr s.name) _ _ (λ f. still) (λ f. near_socket S d (with_listening (backlog_of backlog) (own_cred p P)) still (inl (held fd.0 mine)) (λ s. (λ h. h, λ elsewhere. refl, λ other h. awaits_again (backlog_of backlog) (own_cred p P) s.phase h)))))))
   where
     Q : Outcome → Type 0
     Q o = Near S p (Request.Listen fd backlog) o.next
@@ -330,7 +375,7 @@ listen_near S p fd backlog = maybe Q (process_at S p) _ _ still (λ P here. by_o
 shutdown_near : (S : State) (p : ℕ) (fd : Fd) (how : Mode) → Near S p (Request.Shutdown fd how) (shutdown S p fd how).next
 unfolding shutdown
 shutdown_near S p fd how = by_own Q S p (Request.Shutdown fd how) fd _ (λ e. still)
-    (λ d s mine there. either Q (is_none (tied_socket s.phase)) _ _ (λ b. still) (λ b. near_socket S d (shut_down how) still (inl (held fd.0 mine)) (λ s. (λ h. h, λ on. absurd (false≢true (sym on))))))
+    (λ d s mine there. either Q (is_none (tied_socket s.phase)) _ _ (λ b. still) (λ b. near_socket S d (shut_down how) still (inl (held fd.0 mine)) (λ s. (λ h. h, λ on. absurd (false≢true (sym on)), λ other h. h))))
   where
     Q : Outcome → Type 0
     Q o = Near S p (Request.Shutdown fd how) o.next
@@ -344,7 +389,7 @@ connect_near S p fd addr = maybe Q (process_at S p) _ _ still (λ P here. by_own
     Q o = Near S p (Request.Connect fd addr) o.next
 
     associates : (d : ℕ) (target : Option ℕ) → description_of S p fd.0 ≡ Some d → Near S p (Request.Connect fd addr) (with_socket_by S d (with_association target))
-    associates d target mine = near_socket S d (with_association target) still (inl (held fd.0 mine)) (λ s. (λ h. h, λ elsewhere. refl))
+    associates d target mine = near_socket S d (with_association target) still (inl (held fd.0 mine)) (λ s. (λ h. h, λ elsewhere. refl, λ other h. absurd (false≢true (sym other))))
 
     datagram : (d : ℕ) → description_of S p fd.0 ≡ Some d → (kind : SockType) → Near S p (Request.Connect fd addr) (connect_datagram S d kind addr).next
     datagram d mine kind = either Q (not (is_valid_addr addr)) _ _ (λ b. still) (λ b. either Q (is_unnamed_addr addr) _ _ (λ c. associates d None mine)
@@ -358,7 +403,7 @@ connect_near S p fd addr = maybe Q (process_at S p) _ _ still (λ P here. by_own
         let U : State = with_socket_by S l (awaiting e) in
         let D : Description = socket_description no_open_flags (server_end other d cred) in
         let long = length-changed S.descriptions l (changed (awaiting e)) in
-        near_socket (with_new U D) d (tied_by e kept.cred) (near_new U D (near_socket S l (awaiting e) still (inl (named kind addr other refl is)) (λ s. (λ h. h, λ elsewhere. refl))) (omega (arith, long)) refl refl) (inl (held fd.0 mine)) (λ s. (λ h. h, λ elsewhere. refl))))
+        near_socket (with_new U D) d (tied_by e kept.cred) (near_new U D (near_socket S l (awaiting e) still (inl (named kind addr other refl is)) (λ s. (λ h. h, λ elsewhere. refl, λ other h. absurd (false≢true (sym other))))) (omega (arith, long)) refl refl) (inl (held fd.0 mine)) (λ s. (λ h. h, λ elsewhere. refl, λ other h. absurd (false≢true (sym other))))))
 
     stream : (d : ℕ) → description_of S p fd.0 ≡ Some d → (s : Socket) (cred : Cred) → Near S p (Request.Connect fd addr) (connect_stream S d s addr cred).next
     stream d mine s cred = either Q (not (is_valid_addr addr) || is_unnamed_addr addr || is_some (listener_of s.phase)) _ _ (λ b. still)
@@ -379,11 +424,11 @@ accept_near S p fd flags = by_own Q S p (Request.Accept fd flags) fd _ (λ e. st
     oldest d s mine there n (Some e) first =
         let T : State = with_table S p (filled (table_of S p) n (descriptor flags e)) in
         let U : State = with_socket_by T d without_first_end in
-        near_by U e (accepted_with flags) (near_socket T d without_first_end (near_table S p _ still) (inl (held fd.0 mine)) (λ s. (λ h. h, λ elsewhere. refl))) (inl (pending fd.0 d s mine there first)) (λ D. at_target D.target)
+        near_by U e (accepted_with flags) (near_socket T d without_first_end (near_table S p _ still) (inl (held fd.0 mine)) (λ s. (λ h. h, λ elsewhere. refl, λ other h. awaits_first s.phase h))) (inl (pending fd.0 d s mine there first)) (λ D. at_target D.target)
       where
-        at_target : (u : Target) → (reset_of (changed_target as_accepted u) ≡ true → reset_of u ≡ true) × (is_shutdown (Request.Accept fd flags) ≡ false → shut_of (changed_target as_accepted u) ≡ shut_of u)
-        at_target (to_object o) = (λ h. h, λ elsewhere. refl)
-        at_target (to_socket s) = (λ h. h, λ elsewhere. refl)
+        at_target : (u : Target) → (reset_of (changed_target as_accepted u) ≡ true → reset_of u ≡ true) × (is_shutdown (Request.Accept fd flags) ≡ false → shut_of (changed_target as_accepted u) ≡ shut_of u) × (is_connect (Request.Accept fd flags) ≡ false → awaits_of u ≡ true → awaits_of (changed_target as_accepted u) ≡ true)
+        at_target (to_object o) = (λ h. h, λ elsewhere. refl, λ other h. h)
+        at_target (to_socket s) = (λ h. h, λ elsewhere. refl, λ other h. h)
 
 -- ---- options and readiness
 
@@ -399,7 +444,7 @@ get_opt_near S p fd opt = by_own (λ o. Near S p (Request.GetOpt fd opt) o.next)
     by_option d mine s SockOpt.PeerCred = by_cred s.peer_cred
     by_option d mine s SockOpt.QueueLimit = either (λ o. Near S p (Request.GetOpt fd opt) o.next) (is_stream s.kind) _ _ (λ b. still) (λ b. still)
     by_option d mine s SockOpt.Kind = still
-    by_option d mine s SockOpt.Error = near_socket S d (with_reset false) still (inl (held fd.0 mine)) (λ s. (λ h. absurd (false≢true h), λ elsewhere. refl))
+    by_option d mine s SockOpt.Error = near_socket S d (with_reset false) still (inl (held fd.0 mine)) (λ s. (λ h. absurd (false≢true h), λ elsewhere. refl, λ other h. h))
     by_option d mine s SockOpt.PassCred = still
     by_option d mine s SockOpt.AcceptConn = still
 
@@ -411,7 +456,7 @@ set_opt_near S p fd opt value = by_own Q S p (Request.SetOpt fd opt value) fd _ 
     Q o = Near S p (Request.SetOpt fd opt value) o.next
 
     passing : (T : State) (d : ℕ) (on : Bool) → description_of S p fd.0 ≡ Some d → Near S p (Request.SetOpt fd opt value) T → Near S p (Request.SetOpt fd opt value) (with_socket_by T d (with_passcred on))
-    passing T d on mine near = near_socket T d (with_passcred on) near (inl (held fd.0 mine)) (λ s. (λ h. h, λ elsewhere. refl))
+    passing T d on mine near = near_socket T d (with_passcred on) near (inl (held fd.0 mine)) (λ s. (λ h. h, λ elsewhere. refl, λ other h. h))
 
     by_option : (d : ℕ) → description_of S p fd.0 ≡ Some d → (s : Socket) (o : SockOpt) → Near S p (Request.SetOpt fd opt value) (change_option S d s value o).next
     by_option d mine s SockOpt.Kind = still
@@ -420,11 +465,11 @@ set_opt_near S p fd opt value = by_own Q S p (Request.SetOpt fd opt value) fd _ 
         (λ b. maybe Q (free_name S.abstract_names) _ _ still
         (λ name free.
         let T : State = record (with_socket_by S d (with_name (Addr.Abstract name))) { abstract_names = S.abstract_names ++ (name, d) ∷ [] } in
-        passing T d true mine (alike T refl (near_socket S d (with_name (Addr.Abstract name)) still (inl (held fd.0 mine)) (λ s. (λ h. h, λ elsewhere. refl)))))))
+        passing T d true mine (alike T refl (near_socket S d (with_name (Addr.Abstract name)) still (inl (held fd.0 mine)) (λ s. (λ h. h, λ elsewhere. refl, λ other h. h)))))))
     by_option d mine s SockOpt.PeerCred = still
     by_option d mine s SockOpt.AcceptConn = still
     by_option d mine s SockOpt.QueueLimit = either Q (not (is_stream s.kind)) _ _ (λ b. still) (λ b. either Q (not (may_limit value)) _ _ (λ c. still)
-        (λ c. near_socket S d (with_queue_limit value) still (inl (held fd.0 mine)) (λ s. (λ h. h, λ elsewhere. refl))))
+        (λ c. near_socket S d (with_queue_limit value) still (inl (held fd.0 mine)) (λ s. (λ h. h, λ elsewhere. refl, λ other h. h))))
 
 poll_near : (S : State) (p : ℕ) (fd : Fd) → Near S p (Request.Poll fd) (poll S p fd).next
 unfolding poll
@@ -434,7 +479,7 @@ poll_near S p fd = maybe (λ o. Near S p (Request.Poll fd) o.next) (descriptor_a
 
 enqueue_near : (S : State) (p : ℕ) (request : Request) (limit : Option ℕ) (t : ℕ) (other : Socket) (m : Message) → IsInReach S p request t → Near S p request (enqueue S limit t other m).next
 enqueue_near S p request limit t other m reach = either Q (is_stream other.kind && (length m.bytes == 0)) _ _ (λ b. still)
-    (λ b. either Q (is_over_limit S limit m) _ _ (λ c. still) (λ c. either Q (not (has_room other)) _ _ (λ f. still) (λ f. near_socket S t (sent m) still (inl reach) (λ s. (λ h. h, λ elsewhere. refl)))))
+    (λ b. either Q (is_over_limit S limit m) _ _ (λ c. still) (λ c. either Q (not (has_room other)) _ _ (λ f. still) (λ f. near_socket S t (sent m) still (inl reach) (λ s. (λ h. h, λ elsewhere. refl, λ other h. h)))))
   where
     Q : Outcome → Type 0
     Q o = Near S p request o.next
@@ -468,7 +513,7 @@ from_near S p i request limit d s m mine here = either Q (is_dgram s.kind) _ _
 
     by_association : (target : Option ℕ) → association_of s.phase ≡ target → (m : Message) → Near S p request (send_by_association S limit d target m).next
     by_association None is m = still
-    by_association (Some t) is m = maybe Q (socket_at S t) _ _ (near_socket S d (with_association None) still (inl (held i mine)) (λ s. (λ h. h, λ elsewhere. refl)))
+    by_association (Some t) is m = maybe Q (socket_at S t) _ _ (near_socket S d (with_association None) still (inl (held i mine)) (λ s. (λ h. h, λ elsewhere. refl, λ other h. awaits_on None s.phase h)))
         (λ target h. to_target t target m (tied_to t (of_association s.phase t is)))
 
     by_address : (addr : Option Addr) → asked_addr request ≡ addr → (m : Message) → Near S p request (send_by S limit d s addr m).next
@@ -516,10 +561,10 @@ front_near S p d request s asked front reach = go (asks_peek asked.flags) _ (nea
   where
     go : (b : Bool) (T : State) → Near S p request T → Near S p request (cond b T (with_socket_by T d (with_queue front.rest)))
     go true T near = near
-    go false T near = near_socket T d (with_queue front.rest) near (inl reach) (λ s. (λ h. h, λ elsewhere. refl))
+    go false T near = near_socket T d (with_queue front.rest) near (inl reach) (λ s. (λ h. h, λ elsewhere. refl, λ other h. h))
 
 receive_near : (S : State) (p d : ℕ) (request : Request) (s : Socket) (asked : Incoming) → IsInReach S p request d → Near S p request (receive S p d s asked).next
-receive_near S p d request s asked reach = by_receive (λ o. Near S p request o.next) S p d s asked (λ e. still) (near_socket S d (with_reset false) still (inl reach) (λ s. (λ h. absurd (false≢true h), λ elsewhere. refl))) (λ none. still)
+receive_near S p d request s asked reach = by_receive (λ o. Near S p request o.next) S p d s asked (λ e. still) (near_socket S d (with_reset false) still (inl reach) (λ s. (λ h. absurd (false≢true h), λ elsewhere. refl, λ other h. h))) (λ none. still)
     (λ m ms q. front_near S p d request s asked (front_of asked.n s m ms) reach)
 
 recv_near : (S : State) (p : ℕ) (fd : Fd) (n space : ℕ) (flags : MsgFlags) → Near S p (Request.RecvMsg fd n space flags) (recv_msg S p fd n space flags).next

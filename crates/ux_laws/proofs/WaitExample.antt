@@ -1,6 +1,9 @@
--- A worked example, evaluated: a receive that would wait, until something is sent, and until the peer is shut down.
-use Rattle.std.specs.Prelude.{◌≡◌, List, [], ◌∷◌, refl, codes}
-use Rattle.ux_model.specs.Types.{Errno, SockType, Mode, Request, Reply, Entry}
+-- Worked examples, evaluated: a receive that would wait, until something is sent, and until the peer is shut down; an accept, until one connects.
+use Rattle.std.specs.Prelude.{◌≡◌, pos, List, [], ◌∷◌, refl, codes}
+use Rattle.ux_model.specs.Types.{Errno, Addr, SockType, Mode, Request, Reply, Entry}
+use Rattle.ux_model.specs.Binding.{bind}
+use Rattle.ux_model.specs.Connecting.{make_socket, listen, connect}
+use Rattle.ux_model.specs.Accepting.{accept}
 use Rattle.ux_laws.proofs.Play.{computing, made, replies, one_process, pair_of, send, fd}
 
 abbrev calls : List Entry
@@ -17,3 +20,17 @@ what_was_answered : replies calls
     ≡ Reply.Fds (fd 0) (fd 1) ∷ Reply.Err Errno.EAGAIN ∷ Reply.Count 2 ∷ Reply.Bytes (codes "hi") ∷ Reply.Err Errno.EAGAIN ∷ Reply.Ok ∷ Reply.Bytes [] ∷ []
 unfolding computing
 what_was_answered = refl
+
+abbrev connecting : List Entry
+connecting = made one_process 0 (
+    (1, Request.Socket SockType.Stream (record { 0 = 0 })) ∷
+    (1, Request.Bind (fd 0) (Addr.Abstract (codes "door"))) ∷
+    (1, Request.Listen (fd 0) (pos 5)) ∷
+    (1, Request.Accept (fd 0) (record { 0 = 0 })) ∷
+    (1, Request.Socket SockType.Stream (record { 0 = 0 })) ∷
+    (1, Request.Connect (fd 1) (Addr.Abstract (codes "door"))) ∷
+    (1, Request.Accept (fd 0) (record { 0 = 0 })) ∷ [])
+
+an_accept_waits : replies connecting ≡ Reply.Fd (fd 0) ∷ Reply.Ok ∷ Reply.Ok ∷ Reply.Err Errno.EAGAIN ∷ Reply.Fd (fd 1) ∷ Reply.Ok ∷ Reply.Accepted (fd 2) Addr.Unnamed ∷ []
+unfolding computing bind make_socket listen connect accept
+an_accept_waits = refl

@@ -1,9 +1,12 @@
--- What ends a wait to receive (recv(2), read(2), shutdown(2)).
-use Rattle.std.specs.Prelude.{◌≡◌, ◌⊎◌, ℕ, suc, true, false, List, [], Some, None}
+-- What ends a wait to receive (recv(2), read(2), shutdown(2)), and one to accept (accept(2), connect(2)).
+use Rattle.std.specs.Prelude.{◌≡◌, ◌≢◌, ◌⊎◌, ℕ, suc, true, false, List, [], Some, None, Ok}
 use Rattle.std.specs.List.{slice_get}
-use Rattle.ux_model.specs.Types.{Errno, Fd, Mode, MsgFlags, Request, Reply, Entry}
-use Rattle.ux_model.specs.Socket.{Socket, is_dgram, peer_of}
+use Rattle.ux_model.specs.Types.{Errno, Fd, Addr, SockType, Mode, OpenFlags, MsgFlags, Request, Reply, Entry}
+use Rattle.ux_model.specs.Socket.{Socket, is_dgram, pending_ends, peer_of}
 use Rattle.ux_model.specs.State.{State, description_at, socket_at}
+use Rattle.ux_model.specs.Outcome.{find_socket}
+use Rattle.ux_model.specs.Binding.{look_up}
+use Rattle.ux_model.specs.Connecting.{listener_of}
 use Rattle.ux_model.specs.History.{IsLegal}
 use Rattle.ux_model.specs.Pedigree.{before}
 use Rattle.ux_laws.specs.Talking.{socket_through, sends_to}
@@ -44,3 +47,32 @@ WaitsEnd = (boot : State) (entries : List Entry) (j d : ℕ) (e : Entry) (s t : 
     slice_get entries j ≡ Some e → socket_at (before boot entries j) d ≡ Some s → IsWaiting (before boot entries j) d s →
     socket_at (before boot entries (suc j)) d ≡ Some t →
     IsWaiting (before boot entries (suc j)) d t ⊎ EndsWait (before boot entries j) e d s (before boot entries (suc j))
+
+-- ---- accept(2)
+
+-- Socket s listens, and no end waits at it.
+pub record AwaitsEnds (s : Socket) : Type 0 where
+  pub listens : listener_of s.phase ≢ None
+  pub none : pending_ends s.phase ≡ []
+
+-- so where an accept is answered EAGAIN
+abbrev pub AcceptsWait : Type 0
+AcceptsWait = (boot : State) (entries : List Entry) (j d : ℕ) (e : Entry) (fd : Fd) (flags : OpenFlags) (s : Socket) →
+    IsLegal boot entries → slice_get entries j ≡ Some e → e.request ≡ Request.Accept fd flags →
+    find_socket (before boot entries j) e.pid.0 fd ≡ Ok (d, s) → e.reply ≡ Reply.Err Errno.EAGAIN → AwaitsEnds s
+
+-- A connect that is answered 0, by an address that leads to socket d.
+pub record ConnectsTo (S : State) (e : Entry) (d : ℕ) : Type 0 where
+  pub fd : Fd
+  pub addr : Addr
+  pub kind : SockType
+  pub listener : Socket
+  pub asked : e.request ≡ Request.Connect fd addr
+  pub answered : e.reply ≡ Reply.Ok
+  pub led : look_up S kind addr ≡ Ok (d, listener)
+
+-- After any other call none waits still.
+abbrev pub AcceptWaitsEnd : Type 0
+AcceptWaitsEnd = (boot : State) (entries : List Entry) (j d : ℕ) (e : Entry) (s t : Socket) → IsLegal boot entries →
+    slice_get entries j ≡ Some e → socket_at (before boot entries j) d ≡ Some s → AwaitsEnds s →
+    socket_at (before boot entries (suc j)) d ≡ Some t → AwaitsEnds t ⊎ ConnectsTo (before boot entries j) e d

@@ -3,7 +3,7 @@
 //! bodies, and their contracts are the laws, each over every legal history.
 #![tactic(auto)]
 
-ghost use Rattle.ux_laws.specs.Waits.{ReceivesWait, ReadsWait, WaitsEnd};
+ghost use Rattle.ux_laws.specs.Waits.{ReceivesWait, ReadsWait, WaitsEnd, AcceptsWait, AcceptWaitsEnd};
 ghost use Rattle.ux_laws.specs.Credentials.{CredentialsAreTheSenders, PeersAreTheMakers};
 ghost use Rattle.ux_laws.specs.Ends.{EndsAreForEver, ResetsAreOfLosses, LossesReset, SendsFindNobody, WritesBreak};
 ghost use Rattle.ux_laws.specs.Ends.{ReadsTellTheEnd, ReceivesTellTheEnd};
@@ -178,4 +178,14 @@ pub fn reads_wait()
 /// peer. After any other call a receive there would still wait.
 pub fn what_ends_a_wait_to_receive()
     ensures { WaitsEnd }
+{}
+
+/// An accept is answered EAGAIN only where no end waits at the listening socket that it is called on.
+pub fn accepts_wait()
+    ensures { AcceptsWait }
+{}
+
+/// A wait to accept ends by a connect to the listener alone: after any other call no end waits still.
+pub fn what_ends_a_wait_to_accept()
+    ensures { AcceptWaitsEnd }
 {}
