@@ -1,8 +1,8 @@
 -- A wait to accept ends by a connect to the listener, and by nothing else.
-use Rattle.std.proofs.Common.{◌≡◌, ◌≢◌, ◌⊎◌, ℕ, zero, suc, ◌==◌, Bool, true, false, not, ◌||◌, if◌then◌else◌, cond, is_some, List, [], ◌∷◌, length, Option, Some, None, Result, Ok, Err, option_map, refl, ap, sym, ◌∙◌, subst, inl, inr, ⊎_elim, slice_get, arith}
+use Rattle.std.proofs.Common.{◌≡◌, ◌≢◌, ◌⊎◌, ℕ, suc, ◌==◌, Bool, true, false, not, ◌||◌, if◌then◌else◌, cond, is_some, List, [], ◌∷◌, length, Option, Some, None, Result, Ok, Err, option_map, refl, ap, sym, ◌∙◌, subst, inl, inr, ⊎_elim, slice_get, arith}
 use Rattle.std.specs.Prelude.{nat_le, is_none}
 use Rattle.std.proofs.lemmas.Bool.{eqb-true, eqb-false, false≢true}
-use Rattle.ux_model.specs.Types.{Errno, Fd, Cred, Addr, SockType, OpenFlags, Request, Reply, Entry}
+use Rattle.ux_model.specs.Types.{Errno, Fd, Cred, Addr, SockType, OpenFlags, Request, Reply}
 use Rattle.ux_model.specs.Names.{is_valid_addr, is_unnamed_addr}
 use Rattle.ux_model.specs.Socket.{Socket, Phase, idle, listening, connected, associated, is_dgram, pending_ends, peer_of, takes_from, awaiting, with_reset, with_association}
 use Rattle.ux_model.specs.Description.{Description, Target, to_object, to_socket, socket_of, socket_in, changed, changed_target}
@@ -14,8 +14,6 @@ use Rattle.ux_model.specs.Pairing.{socket_description}
 use Rattle.ux_model.specs.Connecting.{listener_of, connect_to, connect_stream, connect_datagram, connect, server_end, tied as tied_by, no_open_flags}
 use Rattle.ux_model.specs.Accepting.{accept_first, accept}
 use Rattle.ux_model.specs.Step.{Step, outcome}
-use Rattle.ux_model.specs.Release.{settled}
-use Rattle.ux_model.specs.History.{IsLegal}
 use Rattle.ux_model.specs.Pedigree.{before}
 use Rattle.ux_model.proofs.Walk.{either, maybe}
 use Rattle.ux_model.proofs.ChangedPlaces.{bool_cases, place-changed}
@@ -24,7 +22,8 @@ use Rattle.ux_model.proofs.Moments.{moment}
 use Rattle.ux_model.proofs.Shows.{by_socket}
 use Rattle.ux_laws.specs.Waits.{AwaitsEnds, AcceptsWait, ConnectsTo, AcceptWaitsEnd}
 use Rattle.ux_laws.proofs.Doing.{by_addr}
-use Rattle.ux_laws.proofs.Near.{none_in, awaits, awaits_of, awaits_in, awaits_on, is_connect, pushed_here, pushed_other, none_past, NearAt, stays, reached, new, gone as dropped, chosen_near}
+use Rattle.ux_laws.proofs.Near.{none_in, awaits, awaits_of, awaits_in, awaits_on, is_connect, pushed_other, none_past, NearAt, stays, reached, new, gone as dropped, chosen_near}
+use Rattle.ux_laws.proofs.WaitEnds.{chosen_again}
 use Rattle.ux_laws.proofs.LeftAlone.{Lost, same, lost, reset, settled_lost}
 
 -- ---- as a test
@@ -226,11 +225,6 @@ accept_waits_here S p d fd flags s found h =
     at_socket = either Q (is_dgram s.kind) _ _ (λ a g. absurd (cc g))
         (λ a. either Q (is_none (listener_of s.phase)) _ _ (λ b g. absurd (cc g))
         (λ b. maybe Q (lowest_free (table_of S p)) _ _ (λ g. absurd (cc g)) (λ n low. oldest n (slice_get (pending_ends s.phase) 0) refl b)))
-
-chosen_again : (S T : State) (o : Outcome) (reply : Reply) → Chosen S o reply T → reply ≡ Reply.Err Errno.EAGAIN → o.reply ≡ Reply.Err Errno.EAGAIN
-chosen_again S T o reply (own e f) h = sym e ∙ h
-chosen_again S T o reply (lacking_memory e may f) h = let clash : Reply.Err Errno.ENOMEM ≡ Reply.Err Errno.EAGAIN = sym e ∙ h in absurd (cc clash)
-chosen_again S T o reply (failing e f) h = let clash : Reply.Err Errno.EIO ≡ Reply.Err Errno.EAGAIN = sym e ∙ h in absurd (cc clash)
 
 step_accept_waits : (S T : State) (p tag d : ℕ) (fd : Fd) (flags : OpenFlags) (s : Socket) (reply : Reply) (gone : List ℕ) → find_socket S p fd ≡ Ok (d, s) → Step S p tag (Request.Accept fd flags) reply gone T → reply ≡ Reply.Err Errno.EAGAIN → AwaitsEnds s
 unfolding Step outcome

@@ -22,6 +22,7 @@ pub mod Telling
 pub mod Resetting
 pub mod WaitEnds
 pub mod AcceptWaits
+pub mod SendWaits
 mod Play
 mod StreamExample
 mod RecordExample

@@ -65,7 +65,7 @@ leads_to_socket S p d fd s h = go (find_description S p fd) refl h
     go (Ok w) is h = at_target w.0 w.1 w.1.target refl is h
 
 -- whoever has a descriptor is a process
-has_process : (S : State) (p : ℕ) (fd : Fd) (e : Descriptor) (D : Description) → find_description S p fd ≡ Ok (e, D) → (P : Process) × (process_at S p ≡ Some P)
+pub has_process : (S : State) (p : ℕ) (fd : Fd) (e : Descriptor) (D : Description) → find_description S p fd ≡ Ok (e, D) → (P : Process) × (process_at S p ≡ Some P)
 has_process S p fd e D h = go (process_at S p) refl h
   where
     by_table : (o : Option Process) → List (Option Descriptor)

@@ -61,11 +61,11 @@ receive_waits S p d s asked = either Q (is_dgram s.kind) _ _
     for_other k peer is none r None at h = absurd (false≢true (sym h))
     for_other k peer is none r (Some other) at h = let parts = or_parts s.read_shut other.write_shut h in for_peer peer other k is at none r parts.0 parts.1
 
-alone_error : (r : Reply) (e : Errno) → bytes_alone r ≡ Reply.Err e → r ≡ Reply.Err e
+pub alone_error : (r : Reply) (e : Errno) → bytes_alone r ≡ Reply.Err e → r ≡ Reply.Err e
 alone_error (Reply.Received flags count bytes control from) e h = absurd (cc h)
 alone_error r e h = h
 
-chosen_again : (S T : State) (o : Outcome) (reply : Reply) → Chosen S o reply T → reply ≡ Reply.Err Errno.EAGAIN → o.reply ≡ Reply.Err Errno.EAGAIN
+pub chosen_again : (S T : State) (o : Outcome) (reply : Reply) → Chosen S o reply T → reply ≡ Reply.Err Errno.EAGAIN → o.reply ≡ Reply.Err Errno.EAGAIN
 chosen_again S T o reply (own e f) h = sym e ∙ h
 chosen_again S T o reply (lacking_memory e may f) h = let clash : Reply.Err Errno.ENOMEM ≡ Reply.Err Errno.EAGAIN = sym e ∙ h in absurd (cc clash)
 chosen_again S T o reply (failing e f) h = let clash : Reply.Err Errno.EIO ≡ Reply.Err Errno.EAGAIN = sym e ∙ h in absurd (cc clash)
@@ -150,7 +150,7 @@ chosen_shutdown S U p tag k fd how reply other (lacking_memory e may f) = ap (λ
 chosen_shutdown S U p tag k fd how reply other (failing e f) = ap (λ (V : State). description_at V k) ((each_obeys S p tag (Request.Shutdown fd how)).failed U f).0.left
 
 -- of the calls that aren't a shutdown of this socket
-abbrev Elsewhere : State → ℕ → ℕ → Request → Type 0
+abbrev pub Elsewhere : State → ℕ → ℕ → Request → Type 0
 Elsewhere S p k request = (fd : Fd) (how : Mode) → request ≡ Request.Shutdown fd how → is_number k (socket_behind S p fd) ≡ false
 
 is_one : (request : Request) → is_shutdown request ≡ true → (fd : Fd) × (how : Mode) × (request ≡ Request.Shutdown fd how)
@@ -186,7 +186,7 @@ shut_kept S U T p tag k request reply chosen is elsewhere there = by_lost (subst
     by_lost (lost e) = absurd (false≢true (sym (ap is_some e) ∙ there))
     by_lost (reset r had) = ap shut_in r.left ∙ reset_shut r.description ∙ sym (ap shut_in r.there) ∙ before_end (ap is_some r.there)
 
-there_of : (S : State) (d : ℕ) (s : Socket) → socket_at S d ≡ Some s → is_some (description_at S d) ≡ true
+pub there_of : (S : State) (d : ℕ) (s : Socket) → socket_at S d ≡ Some s → is_some (description_at S d) ≡ true
 there_of S d s h = go (description_at S d) h
   where
     go : (x : Option Description) → socket_in x ≡ Some s → is_some x ≡ true
@@ -196,7 +196,7 @@ there_of S d s h = go (description_at S d) h
 -- ---- the law
 
 -- kind and peer stay
-parts_stay : (S T : State) (p tag d : ℕ) (request : Request) (reply : Reply) (s t : Socket) → Did S p tag request reply T → socket_at S d ≡ Some s → socket_at T d ≡ Some t → (t.kind ≡ s.kind) × ((peer : ℕ) → peer_of s.phase ≡ Some peer → peer_of t.phase ≡ Some peer)
+pub parts_stay : (S T : State) (p tag d : ℕ) (request : Request) (reply : Reply) (s t : Socket) → Did S p tag request reply T → socket_at S d ≡ Some s → socket_at T d ≡ Some t → (t.kind ≡ s.kind) × ((peer : ℕ) → peer_of s.phase ≡ Some peer → peer_of t.phase ≡ Some peer)
 parts_stay S T p tag d request reply s t did here there = ⊎_elim {C = (t.kind ≡ s.kind) × ((peer : ℕ) → peer_of s.phase ≡ Some peer → peer_of t.phase ≡ Some peer)}
     (λ w.
     let mine : Some w.0 ≡ Some (socket_parts s) = sym w.1 ∙ seen_socket S d s here in
@@ -205,7 +205,7 @@ parts_stay S T p tag d request reply s t did here there = ⊎_elim {C = (t.kind 
     (λ more. let known = socket_known S d s here in absurd (omega (arith, known, more))) (did_was S T p tag request reply d (socket_parts t) did (seen_socket T d t there))
 
 -- a socket that stays is one still
-socket_stays : (S T : State) (p tag d : ℕ) (request : Request) (reply : Reply) (s : Socket) (D : Description) → Did S p tag request reply T → socket_at S d ≡ Some s → description_at T d ≡ Some D → (t : Socket) × (socket_at T d ≡ Some t)
+pub socket_stays : (S T : State) (p tag d : ℕ) (request : Request) (reply : Reply) (s : Socket) (D : Description) → Did S p tag request reply T → socket_at S d ≡ Some s → description_at T d ≡ Some D → (t : Socket) × (socket_at T d ≡ Some t)
 socket_stays S T p tag d request reply s D did here there = go D.target refl
   where
     go : (t : Target) → D.target ≡ t → (t : Socket) × (socket_at T d ≡ Some t)
@@ -215,6 +215,29 @@ socket_stays S T p tag d request reply s D did here there = go D.target refl
         ⊎_elim {C = (t : Socket) × (socket_at T d ≡ Some t)}
         (λ old. let clash : None ≡ Some (o, D.mode) = sym (ap (λ (g : Glance). g.1) (glance_socket S d s here)) ∙ old in absurd (cc clash))
         (λ w. let known = socket_known S d s here in let at = w.7 in absurd (omega (arith, known, at))) (did_leads S T p tag request reply d (o, D.mode) did leads)
+
+-- a shutdown of this socket, or none of it
+pub by_shutting : (S : State) (p k : ℕ) (request : Request) (Goal : Type 0) → ((fd : Fd) (how : Mode) → request ≡ Request.Shutdown fd how → socket_behind S p fd ≡ Some k → Goal) → (Elsewhere S p k request → Goal) → Goal
+by_shutting S p k request Goal shuts rest = bool_cases (is_shutdown request)
+    (λ b. let w = is_one request b in on w.0 w.1 w.2 (socket_behind S p w.0) refl (is_number k (socket_behind S p w.0)) refl)
+    (λ b. rest (λ fd how is. absurd (false≢true (sym b ∙ ap is_shutdown is))))
+  where
+    on : (fd : Fd) (how : Mode) → request ≡ Request.Shutdown fd how → (o : Option ℕ) → socket_behind S p fd ≡ o → (b : Bool) → is_number k o ≡ b → Goal
+    on fd how is o behind false h = rest (λ f g also. let one : fd ≡ f = fd_same (sym is ∙ also) in ap (λ (x : Fd). is_number k (socket_behind S p x)) (sym one) ∙ ap (is_number k) behind ∙ h)
+      where
+        fd_same : {a b : Fd} {x y : Mode} → Request.Shutdown a x ≡ Request.Shutdown b y → a ≡ b
+        fd_same h = cc h
+    on fd how is None behind true h = absurd (false≢true h)
+    on fd how is (Some n) behind true h = shuts fd how is (behind ∙ ap Some (eqb-true n k h))
+
+-- what is shut down, where nothing is shut down now
+pub flags_kept : (S T : State) (p tag k : ℕ) (request : Request) (reply : Reply) (gone : List ℕ) (u v : Socket) → Step S p tag request reply gone T → Elsewhere S p k request → socket_at S k ≡ Some u → socket_at T k ≡ Some v →
+    (v.read_shut ≡ u.read_shut) × (v.write_shut ≡ u.write_shut)
+flags_kept S T p tag k request reply gone u v step elsewhere here there =
+    let b = step_between S T p tag request reply gone step in
+    let kept : shut_in (description_at T k) ≡ shut_in (description_at S k) = shut_kept S b.0 T p tag k request reply b.1 b.3 elsewhere (there_of T k v there) in
+    let pairs : (v.read_shut, v.write_shut) ≡ (u.read_shut, u.write_shut) = sym (shut_is T k v there) ∙ kept ∙ shut_is S k u here in
+    (ap (λ (x : Bool × Bool). x.0) pairs, ap (λ (x : Bool × Bool). x.1) pairs)
 
 pub waits_end : WaitsEnd
 waits_end boot es j d e s t legal at here waiting there = by_waiting waiting
@@ -234,30 +257,13 @@ waits_end boot es j d e s t legal at here waiting there = by_waiting waiting
     did : Did S e.pid.0 j e.request e.reply T
     did = step_did S T e.pid.0 j e.request e.reply e.released step
 
-    kept : (k : ℕ) → Elsewhere S e.pid.0 k e.request → is_some (description_at T k) ≡ true → shut_in (description_at T k) ≡ shut_in (description_at S k)
-    kept k elsewhere there = let b = step_between S T e.pid.0 j e.request e.reply e.released step in shut_kept S b.0 T e.pid.0 j k e.request e.reply b.1 b.3 elsewhere there
-
     -- a shutdown of one of these, or of neither
     by_place : (k : ℕ) → ((k ≡ d) ⊎ (peer_of s.phase ≡ Some k)) → (Elsewhere S e.pid.0 k e.request → Goal) → Goal
-    by_place k which rest = bool_cases (is_shutdown e.request)
-        (λ b. let w = is_one e.request b in on w.0 w.1 w.2 (socket_behind S e.pid.0 w.0) refl (is_number k (socket_behind S e.pid.0 w.0)) refl)
-        (λ b. rest (λ fd how is. absurd (false≢true (sym b ∙ ap is_shutdown is))))
-      where
-        on : (fd : Fd) (how : Mode) → e.request ≡ Request.Shutdown fd how → (o : Option ℕ) → socket_behind S e.pid.0 fd ≡ o → (b : Bool) → is_number k o ≡ b → Goal
-        on fd how is o behind false h = rest (λ f g also. let one : fd ≡ f = fd_same (sym is ∙ also) in ap (λ (x : Fd). is_number k (socket_behind S e.pid.0 x)) (sym one) ∙ ap (is_number k) behind ∙ h)
-          where
-            fd_same : {a b : Fd} {x y : Mode} → Request.Shutdown a x ≡ Request.Shutdown b y → a ≡ b
-            fd_same h = cc h
-        on fd how is None behind true h = absurd (false≢true h)
-        on fd how is (Some n) behind true h =
-            let number : n ≡ k = eqb-true n k h in
-            inr (by_shutdown n fd how is behind (⊎_elim {C = (n ≡ d) ⊎ (peer_of s.phase ≡ Some n)} (λ at_d. inl (number ∙ at_d)) (λ peer. inr (peer ∙ ap Some (sym number))) which))
+    by_place k which rest = by_shutting S e.pid.0 k e.request Goal (λ fd how is behind. inr (by_shutdown k fd how is behind which)) rest
 
     -- what is shut down, where nothing was shut down now
     flags_stay : (k : ℕ) (u v : Socket) → Elsewhere S e.pid.0 k e.request → socket_at S k ≡ Some u → socket_at T k ≡ Some v → (v.read_shut ≡ u.read_shut) × (v.write_shut ≡ u.write_shut)
-    flags_stay k u v elsewhere here there =
-        let pairs : (v.read_shut, v.write_shut) ≡ (u.read_shut, u.write_shut) = sym (shut_is T k v there) ∙ kept k elsewhere (there_of T k v there) ∙ shut_is S k u here in
-        (ap (λ (x : Bool × Bool). x.0) pairs, ap (λ (x : Bool × Bool). x.1) pairs)
+    flags_stay k u v = flags_kept S T e.pid.0 j k e.request e.reply e.released u v step
 
     -- nothing is queued, or the call sent it
     by_queue_left : s.queue ≡ [] → (t.queue ≡ [] → Goal) → Goal

@@ -1,6 +1,7 @@
--- Worked examples, evaluated: a receive that would wait, until something is sent, and until the peer is shut down; an accept, until one connects.
+-- Worked examples, evaluated: a receive that would wait, until something is sent, and until the peer is shut down; an accept, until one connects; a send to a full
+-- queue, until something is read from it.
 use Rattle.std.specs.Prelude.{◌≡◌, pos, List, [], ◌∷◌, refl, codes}
-use Rattle.ux_model.specs.Types.{Errno, Addr, SockType, Mode, Request, Reply, Entry}
+use Rattle.ux_model.specs.Types.{Errno, Addr, SockType, SockOpt, Mode, Request, Reply, Entry}
 use Rattle.ux_model.specs.Binding.{bind}
 use Rattle.ux_model.specs.Connecting.{make_socket, listen, connect}
 use Rattle.ux_model.specs.Accepting.{accept}
@@ -34,3 +35,16 @@ connecting = made one_process 0 (
 an_accept_waits : replies connecting ≡ Reply.Fd (fd 0) ∷ Reply.Ok ∷ Reply.Ok ∷ Reply.Err Errno.EAGAIN ∷ Reply.Fd (fd 1) ∷ Reply.Ok ∷ Reply.Accepted (fd 2) Addr.Unnamed ∷ []
 unfolding computing bind make_socket listen connect accept
 an_accept_waits = refl
+
+abbrev filling : List Entry
+filling = made one_process 0 (
+    (1, pair_of SockType.Stream) ∷
+    (1, Request.SetOpt (fd 1) SockOpt.QueueLimit 2) ∷
+    (1, send 0 (codes "abc")) ∷
+    (1, send 0 (codes "d")) ∷
+    (1, Request.Read (fd 1) 8) ∷
+    (1, send 0 (codes "d")) ∷ [])
+
+a_send_waits : replies filling ≡ Reply.Fds (fd 0) (fd 1) ∷ Reply.Ok ∷ Reply.Count 2 ∷ Reply.Err Errno.EAGAIN ∷ Reply.Bytes (codes "ab") ∷ Reply.Count 1 ∷ []
+unfolding computing
+a_send_waits = refl

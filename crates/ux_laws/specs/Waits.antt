@@ -1,16 +1,16 @@
--- What ends a wait to receive (recv(2), read(2), shutdown(2)), and one to accept (accept(2), connect(2)).
-use Rattle.std.specs.Prelude.{◌≡◌, ◌≢◌, ◌⊎◌, ℕ, suc, true, false, List, [], Some, None, Ok}
+-- What ends a wait to receive, to accept and to send (recv(2), read(2), accept(2), connect(2), send(2), write(2), shutdown(2)).
+use Rattle.std.specs.Prelude.{◌≡◌, ◌≢◌, ◌⊎◌, ℕ, suc, true, false, List, [], Option, Some, None, Ok}
 use Rattle.std.specs.List.{slice_get}
-use Rattle.ux_model.specs.Types.{Errno, Fd, Addr, SockType, Mode, OpenFlags, MsgFlags, Request, Reply, Entry}
-use Rattle.ux_model.specs.Socket.{Socket, is_dgram, pending_ends, peer_of}
+use Rattle.ux_model.specs.Types.{Errno, Fd, Addr, SockType, SockOpt, Mode, OpenFlags, MsgFlags, Request, Reply, Entry}
+use Rattle.ux_model.specs.Socket.{Socket, is_dgram, pending_ends, peer_of, has_room}
 use Rattle.ux_model.specs.State.{State, description_at, socket_at}
 use Rattle.ux_model.specs.Outcome.{find_socket}
 use Rattle.ux_model.specs.Binding.{look_up}
 use Rattle.ux_model.specs.Connecting.{listener_of}
 use Rattle.ux_model.specs.History.{IsLegal}
 use Rattle.ux_model.specs.Pedigree.{before}
-use Rattle.ux_laws.specs.Talking.{socket_through, sends_to}
-use Rattle.ux_laws.specs.Records.{is_count}
+use Rattle.ux_laws.specs.Talking.{is_peek, socket_through, sends_to, receives_through}
+use Rattle.ux_laws.specs.Records.{is_count, is_given}
 use Rattle.ux_laws.specs.Credentials.{socket_behind}
 
 -- A receive at socket d, which is s, finds nothing, and its input isn't over.
@@ -71,8 +71,55 @@ pub record ConnectsTo (S : State) (e : Entry) (d : ℕ) : Type 0 where
   pub answered : e.reply ≡ Reply.Ok
   pub led : look_up S kind addr ≡ Ok (d, listener)
 
--- After any other call none waits still.
+-- After any other call no end waits there still.
 abbrev pub AcceptWaitsEnd : Type 0
 AcceptWaitsEnd = (boot : State) (entries : List Entry) (j d : ℕ) (e : Entry) (s t : Socket) → IsLegal boot entries →
     slice_get entries j ≡ Some e → socket_at (before boot entries j) d ≡ Some s → AwaitsEnds s →
     socket_at (before boot entries (suc j)) d ≡ Some t → AwaitsEnds t ⊎ ConnectsTo (before boot entries j) e d
+
+-- ---- send(2) and write(2), of stream and seqpacket sockets
+
+-- The queue of the peer of socket s has no room, and neither is shut down there.
+pub record AwaitsRoom (S : State) (s : Socket) : Type 0 where
+  pub peer : ℕ
+  pub other : Socket
+  pub to : peer_of s.phase ≡ Some peer
+  pub there : socket_at S peer ≡ Some other
+  pub full : has_room other ≡ false
+  pub writes : s.write_shut ≡ false
+  pub reads : other.read_shut ≡ false
+
+-- so where one is answered EAGAIN
+abbrev pub SendsWait : Type 0
+SendsWait = (boot : State) (entries : List Entry) (j d : ℕ) (e : Entry) (fd : Fd) (addr : Option Addr) (bytes control : List ℕ)
+    (flags : MsgFlags) (s : Socket) →
+    IsLegal boot entries → slice_get entries j ≡ Some e → e.request ≡ Request.SendMsg fd addr bytes control flags →
+    find_socket (before boot entries j) e.pid.0 fd ≡ Ok (d, s) → is_dgram s.kind ≡ false → e.reply ≡ Reply.Err Errno.EAGAIN →
+    AwaitsRoom (before boot entries j) s
+
+abbrev pub WritesWait : Type 0
+WritesWait = (boot : State) (entries : List Entry) (j d : ℕ) (e : Entry) (fd : Fd) (bytes : List ℕ) (s : Socket) →
+    IsLegal boot entries → slice_get entries j ≡ Some e → e.request ≡ Request.Write fd bytes →
+    socket_through (before boot entries j) e.pid.0 e.request ≡ Some (d, s) → is_dgram s.kind ≡ false → e.reply ≡ Reply.Err Errno.EAGAIN →
+    AwaitsRoom (before boot entries j) s
+
+-- What a call has to be, from S to T, for the wait of a sender d, which is s, to end.
+pub data GivesRoom (S : State) (e : Entry) (d : ℕ) (s : Socket) (T : State) : Type 0 where
+  -- a receive that took something at the peer
+  by_receive : (peer : ℕ) → peer_of s.phase ≡ Some peer → receives_through S peer e.pid.0 e.request ≡ true → is_peek e.request ≡ false →
+      is_given e.reply ≡ true → GivesRoom S e d s T
+  -- a new limit of the peer's queue, by who has a descriptor that leads there
+  by_limit : (peer : ℕ) (fd : Fd) (value : ℕ) → peer_of s.phase ≡ Some peer → e.request ≡ Request.SetOpt fd SockOpt.QueueLimit value →
+      socket_behind S e.pid.0 fd ≡ Some peer → GivesRoom S e d s T
+  -- a shutdown of it or of its peer, likewise
+  by_shut : (n : ℕ) (fd : Fd) (how : Mode) → e.request ≡ Request.Shutdown fd how → socket_behind S e.pid.0 fd ≡ Some n →
+      (n ≡ d) ⊎ (peer_of s.phase ≡ Some n) → GivesRoom S e d s T
+  -- one by which the peer is freed
+  by_end : (peer : ℕ) → peer_of s.phase ≡ Some peer → description_at T peer ≡ None → GivesRoom S e d s T
+
+-- After any other the queue is full still.
+abbrev pub SendWaitsEnd : Type 0
+SendWaitsEnd = (boot : State) (entries : List Entry) (j d : ℕ) (e : Entry) (s t : Socket) → IsLegal boot entries →
+    slice_get entries j ≡ Some e → socket_at (before boot entries j) d ≡ Some s → AwaitsRoom (before boot entries j) s →
+    socket_at (before boot entries (suc j)) d ≡ Some t →
+    AwaitsRoom (before boot entries (suc j)) t ⊎ GivesRoom (before boot entries j) e d s (before boot entries (suc j))

@@ -3,7 +3,7 @@
 //! bodies, and their contracts are the laws, each over every legal history.
 #![tactic(auto)]
 
-ghost use Rattle.ux_laws.specs.Waits.{ReceivesWait, ReadsWait, WaitsEnd, AcceptsWait, AcceptWaitsEnd};
+ghost use Rattle.ux_laws.specs.Waits.{ReceivesWait, ReadsWait, WaitsEnd, AcceptsWait, AcceptWaitsEnd, SendsWait, WritesWait, SendWaitsEnd};
 ghost use Rattle.ux_laws.specs.Credentials.{CredentialsAreTheSenders, PeersAreTheMakers};
 ghost use Rattle.ux_laws.specs.Ends.{EndsAreForEver, ResetsAreOfLosses, LossesReset, SendsFindNobody, WritesBreak};
 ghost use Rattle.ux_laws.specs.Ends.{ReadsTellTheEnd, ReceivesTellTheEnd};
@@ -188,4 +188,20 @@ pub fn accepts_wait()
 /// A wait to accept ends by a connect to the listener alone: after any other call no end waits still.
 pub fn what_ends_a_wait_to_accept()
     ensures { AcceptWaitsEnd }
+{}
+
+/// A send of a stream or seqpacket socket is answered EAGAIN only where the peer's queue has no room.
+pub fn sends_wait()
+    ensures { SendsWait }
+{}
+
+/// So is a write.
+pub fn writes_wait()
+    ensures { WritesWait }
+{}
+
+/// A wait to send ends by a receive that takes something at the peer, by a new limit of its queue, by a shutdown of
+/// it or of the sender, or by a call that frees it. After any other call the queue has no room still.
+pub fn what_ends_a_wait_to_send()
+    ensures { SendWaitsEnd }
 {}
