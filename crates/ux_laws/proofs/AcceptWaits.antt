@@ -180,7 +180,7 @@ still_awaits U T d t gone there h = sym (awaits_is T d t there) ∙ by_lost gone
     by_lost (lost e) = let clash : None ≡ Some t = sym (ap socket_in e) ∙ there in absurd (cc clash)
     by_lost (reset r had) = ap awaits_in r.left ∙ reset_awaits r.description ∙ sym (ap awaits_in r.there) ∙ h
 
-still_there : (U T : State) (d : ℕ) (t : Socket) → Lost U T d → socket_at T d ≡ Some t → description_at U d ≢ None
+pub still_there : (U T : State) (d : ℕ) (t : Socket) → Lost U T d → socket_at T d ≡ Some t → description_at U d ≢ None
 still_there U T d t (same e) there none = let clash : None ≡ Some t = sym (ap socket_in (e ∙ none)) ∙ there in cc clash
 still_there U T d t (lost e) there none = let clash : None ≡ Some t = sym (ap socket_in e) ∙ there in cc clash
 still_there U T d t (reset r had) there none = let clash : None ≡ Some r.description = sym none ∙ r.there in cc clash

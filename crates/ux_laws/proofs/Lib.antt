@@ -23,6 +23,7 @@ pub mod Resetting
 pub mod WaitEnds
 pub mod AcceptWaits
 pub mod SendWaits
+pub mod ConnectWaits
 mod Play
 mod StreamExample
 mod RecordExample

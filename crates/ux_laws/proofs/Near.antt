@@ -125,13 +125,42 @@ abbrev pub limit_in : Option Description → ℕ
 limit_in None = first_queue_limit
 limit_in (Some D) = limit_of D.target
 
+-- it listens, and its backlog has no place
+abbrev pub is_full : Phase → Bool
+is_full idle = false
+is_full (listening backlog cred) = nat_le backlog.limit (length backlog.pending)
+is_full (connected peer) = false
+is_full (associated target) = false
+
+abbrev pub full_of : Target → Bool
+full_of (to_object o) = false
+full_of (to_socket s) = is_full s.phase
+
+abbrev pub full_in : Option Description → Bool
+full_in None = false
+full_in (Some D) = full_of D.target
+
+-- and calls that may give one, or connect the listener itself
+abbrev pub may_give_place : Request → Bool
+may_give_place (Request.Connect fd addr) = true
+may_give_place (Request.Accept fd flags) = true
+may_give_place (Request.Listen fd backlog) = true
+may_give_place _ = false
+
+pub full_on : (target : Option ℕ) (phase : Phase) → is_full phase ≡ true → is_full (phase_with_association target phase) ≡ true
+full_on target idle h = absurd (false≢true h)
+full_on target (listening backlog cred) h = h
+full_on target (connected peer) h = h
+full_on target (associated old) h = absurd (false≢true h)
+
 abbrev pub sets_option : Request → Bool
 sets_option (Request.SetOpt fd opt value) = true
 sets_option _ = false
 
--- the call resets nothing, shuts nothing down if it is no shutdown, ends no wait for ends if it is no connect, and sets no limit if it is no setsockopt
+-- the call resets nothing, shuts nothing down if it is no shutdown, ends no wait for ends if it is no connect, sets no limit if it is no setsockopt, and gives no place in
+-- a backlog but by the calls that may
 abbrev pub Keeps : Request → Option Description → Option Description → Type 0
-Keeps request old x = (reset_in x ≡ true → reset_in old ≡ true) × (is_shutdown request ≡ false → shut_in x ≡ shut_in old) × (is_connect request ≡ false → awaits_in old ≡ true → awaits_in x ≡ true) × (sets_option request ≡ false → limit_in x ≡ limit_in old)
+Keeps request old x = (reset_in x ≡ true → reset_in old ≡ true) × (is_shutdown request ≡ false → shut_in x ≡ shut_in old) × (is_connect request ≡ false → awaits_in old ≡ true → awaits_in x ≡ true) × (sets_option request ≡ false → limit_in x ≡ limit_in old) × (may_give_place request ≡ false → full_in old ≡ true → full_in x ≡ true)
 
 -- what becomes of one: it stays, it is in reach and not reset by the call, or it is gone
 pub data NearAt (S : State) (p : ℕ) (request : Request) (d : ℕ) (x : Option Description) : Type 0 where
@@ -159,29 +188,29 @@ near_by {S} {p} {request} T t change near reach resets = record {
 }
   where
     kept : (x : Option Description) → Keeps request x (option_map change x)
-    kept None = (λ h. h, λ elsewhere. refl, λ other h. h, λ set. refl)
+    kept None = (λ h. h, λ elsewhere. refl, λ other h. h, λ set. refl, λ apart h. h)
     kept (Some D) = resets D
 
     keeps_on : (old x y : Option Description) → Keeps request old x → Keeps request x y → Keeps request old y
-    keeps_on old x y a b = (λ h. a.0 (b.0 h), λ elsewhere. b.1 elsewhere ∙ a.1 elsewhere, λ other h. b.2 other (a.2 other h), λ set. b.3 set ∙ a.3 set)
+    keeps_on old x y a b = (λ h. a.0 (b.0 h), λ elsewhere. b.1 elsewhere ∙ a.1 elsewhere, λ other h. b.2 other (a.2 other h), λ set. b.3 set ∙ a.3 set, λ apart h. b.4 apart (a.4 apart h))
 
     both : (d : ℕ) (x : Option Description) → Keeps request (description_at S d) x → IsInReach S p request d ⊎ (length S.descriptions ≤ d) → NearAt S p request d (option_map change x)
     both d x still (inl r) = reached r (keeps_on (description_at S d) x (option_map change x) still (kept x))
     both d x still (inr more) = new more (keeps_on (description_at S d) x (option_map change x) still (kept x))
 
     at_place : (d : ℕ) {x : Option Description} → NearAt S p request d x → IsInReach S p request d ⊎ (length S.descriptions ≤ d) → NearAt S p request d (option_map change x)
-    at_place d {x} (stays is) r = both d x (λ h. sym (ap reset_in is) ∙ h, λ elsewhere. ap shut_in is, λ other h. ap awaits_in is ∙ h, λ set. ap limit_in is) r
+    at_place d {x} (stays is) r = both d x (λ h. sym (ap reset_in is) ∙ h, λ elsewhere. ap shut_in is, λ other h. ap awaits_in is ∙ h, λ set. ap limit_in is, λ apart h. ap full_in is ∙ h) r
     at_place d {x} (reached q still) r = both d x still r
     at_place d {x} (new more still) r = both d x still r
     at_place d {x} (gone is) r = gone (ap (λ y. option_map change y) is)
 
 -- of a socket
 near_socket : {S : State} {p : ℕ} {request : Request} (T : State) (t : ℕ) (change : Socket → Socket) → Near S p request T → (IsInReach S p request t ⊎ (length S.descriptions ≤ t)) →
-    ((s : Socket) → ((change s).reset ≡ true → s.reset ≡ true) × (is_shutdown request ≡ false → shut_of (to_socket (change s)) ≡ shut_of (to_socket s)) × (is_connect request ≡ false → awaits s.phase ≡ true → awaits (change s).phase ≡ true) × (sets_option request ≡ false → (change s).queue_limit ≡ s.queue_limit)) → Near S p request (with_socket_by T t change)
+    ((s : Socket) → ((change s).reset ≡ true → s.reset ≡ true) × (is_shutdown request ≡ false → shut_of (to_socket (change s)) ≡ shut_of (to_socket s)) × (is_connect request ≡ false → awaits s.phase ≡ true → awaits (change s).phase ≡ true) × (sets_option request ≡ false → (change s).queue_limit ≡ s.queue_limit) × (may_give_place request ≡ false → is_full s.phase ≡ true → is_full (change s).phase ≡ true)) → Near S p request (with_socket_by T t change)
 near_socket {S} {p} {request} T t change near reach resets = near_by T t (changed change) near reach (λ D. at_target D.target)
   where
-    at_target : (u : Target) → (reset_of (changed_target change u) ≡ true → reset_of u ≡ true) × (is_shutdown request ≡ false → shut_of (changed_target change u) ≡ shut_of u) × (is_connect request ≡ false → awaits_of u ≡ true → awaits_of (changed_target change u) ≡ true) × (sets_option request ≡ false → limit_of (changed_target change u) ≡ limit_of u)
-    at_target (to_object o) = (λ h. h, λ elsewhere. refl, λ other h. h, λ set. refl)
+    at_target : (u : Target) → (reset_of (changed_target change u) ≡ true → reset_of u ≡ true) × (is_shutdown request ≡ false → shut_of (changed_target change u) ≡ shut_of u) × (is_connect request ≡ false → awaits_of u ≡ true → awaits_of (changed_target change u) ≡ true) × (sets_option request ≡ false → limit_of (changed_target change u) ≡ limit_of u) × (may_give_place request ≡ false → full_of u ≡ true → full_of (changed_target change u) ≡ true)
+    at_target (to_object o) = (λ h. h, λ elsewhere. refl, λ other h. h, λ set. refl, λ apart h. h)
     at_target (to_socket s) = resets s
 
 -- one that is put in the place of one in reach, and leads to the same
@@ -193,7 +222,7 @@ near_put {S} {p} {request} d D E here same reach = record {
       let is : description_at (with_description S d E) i ≡ Some E = ap (λ (k : ℕ). place (filled S.descriptions d E) k) (sym at) ∙ put_there S.descriptions d here in
       let was : description_at S i ≡ Some D = ap (λ (k : ℕ). description_at S k) (sym at) ∙ here in
       reached (subst (IsInReach S p request) at reach)
-      (λ h. ap reset_in was ∙ sym (ap reset_of same) ∙ sym (ap reset_in is) ∙ h, λ elsewhere. ap shut_in is ∙ ap shut_of same ∙ sym (ap shut_in was), λ other h. ap awaits_in is ∙ ap awaits_of same ∙ sym (ap awaits_in was) ∙ h, λ set. ap limit_in is ∙ ap limit_of same ∙ sym (ap limit_in was)))
+      (λ h. ap reset_in was ∙ sym (ap reset_of same) ∙ sym (ap reset_in is) ∙ h, λ elsewhere. ap shut_in is ∙ ap shut_of same ∙ sym (ap shut_in was), λ other h. ap awaits_in is ∙ ap awaits_of same ∙ sym (ap awaits_in was) ∙ h, λ set. ap limit_in is ∙ ap limit_of same ∙ sym (ap limit_in was), λ apart h. ap full_in is ∙ ap full_of same ∙ sym (ap full_in was) ∙ h))
       (λ e. stays (get_or-set_other S.descriptions d i (Some E) None (λ k. eqb-false d i e (sym k))));
 }
   where
@@ -225,7 +254,7 @@ near_new {S} {p} {request} T D near more none open_both first = record {
       let at : length T.descriptions ≡ d = eqb-true (length T.descriptions) d e in
       let is : description_at (with_new T D) d ≡ Some D = ap (λ (k : ℕ). description_at (with_new T D) k) (sym at) ∙ pushed_here T.descriptions (Some D) in
       let beyond : length S.descriptions ≤ d = omega (arith, more, at) in
-      new beyond (λ h. absurd (false≢true (sym none ∙ sym (ap reset_in is) ∙ h)), λ elsewhere. ap shut_in is ∙ open_both ∙ sym (ap shut_in (none_past S.descriptions d beyond)), λ other h. absurd (false≢true (sym (ap awaits_in (none_past S.descriptions d beyond)) ∙ h)), λ set. ap limit_in is ∙ first ∙ sym (ap limit_in (none_past S.descriptions d beyond))))
+      new beyond (λ h. absurd (false≢true (sym none ∙ sym (ap reset_in is) ∙ h)), λ elsewhere. ap shut_in is ∙ open_both ∙ sym (ap shut_in (none_past S.descriptions d beyond)), λ other h. absurd (false≢true (sym (ap awaits_in (none_past S.descriptions d beyond)) ∙ h)), λ set. ap limit_in is ∙ first ∙ sym (ap limit_in (none_past S.descriptions d beyond)), λ apart h. absurd (false≢true (sym (ap full_in (none_past S.descriptions d beyond)) ∙ h))))
       (λ e. subst (NearAt S p request d) (sym (pushed_other T.descriptions (Some D) d (eqb-false (length T.descriptions) d e))) (near.each d));
 }
 
@@ -357,7 +386,7 @@ bind_near S p fd addr = by_own Q S p (Request.Bind fd addr) fd _ (λ e. still) (
     Q o = Near S p (Request.Bind fd addr) o.next
 
     called : (d : ℕ) (name : Addr) → description_of S p fd.0 ≡ Some d → Near S p (Request.Bind fd addr) (with_socket_by S d (with_name name))
-    called d name mine = near_socket S d (with_name name) still (inl (held fd.0 mine)) (λ s. (λ h. h, λ elsewhere. refl, λ other h. h, λ set. refl))
+    called d name mine = near_socket S d (with_name name) still (inl (held fd.0 mine)) (λ s. (λ h. h, λ elsewhere. refl, λ other h. h, λ set. refl, λ apart h. h))
 
     to : (d : ℕ) → description_of S p fd.0 ≡ Some d → (name : Addr) → Near S p (Request.Bind fd addr) (bind_to S d name).next
     to d mine Addr.Unnamed = maybe Q (free_name S.abstract_names) _ _ still (λ name h. alike _ refl (called d (Addr.Abstract name) mine))
@@ -380,7 +409,7 @@ unfolding listen
 listen_near S p fd backlog = maybe Q (process_at S p) _ _ still (λ P here. by_own Q S p (Request.Listen fd backlog) fd _ (λ e. still)
     (λ d s mine there. either Q (is_dgram s.kind) _ _ (λ b. still)
     (λ b. either Q (is_some (peer_of s.phase)) _ _ (λ c. still)
-    (λ c. either Q (is_unnamed_addr s.name) _ _ (λ f. still) (λ f. near_socket S d (with_listening (backlog_of backlog) (own_cred p P)) still (inl (held fd.0 mine)) (λ s. (λ h. h, λ elsewhere. refl, λ other h. awaits_again (backlog_of backlog) (own_cred p P) s.phase h, λ set. refl)))))))
+    (λ c. either Q (is_unnamed_addr s.name) _ _ (λ f. still) (λ f. near_socket S d (with_listening (backlog_of backlog) (own_cred p P)) still (inl (held fd.0 mine)) (λ s. (λ h. h, λ elsewhere. refl, λ other h. awaits_again (backlog_of backlog) (own_cred p P) s.phase h, λ set. refl, λ apart h. absurd (false≢true (sym apart)))))))))
   where
     Q : Outcome → Type 0
     Q o = Near S p (Request.Listen fd backlog) o.next
@@ -388,7 +417,7 @@ listen_near S p fd backlog = maybe Q (process_at S p) _ _ still (λ P here. by_o
 shutdown_near : (S : State) (p : ℕ) (fd : Fd) (how : Mode) → Near S p (Request.Shutdown fd how) (shutdown S p fd how).next
 unfolding shutdown
 shutdown_near S p fd how = by_own Q S p (Request.Shutdown fd how) fd _ (λ e. still)
-    (λ d s mine there. either Q (is_none (tied_socket s.phase)) _ _ (λ b. still) (λ b. near_socket S d (shut_down how) still (inl (held fd.0 mine)) (λ s. (λ h. h, λ on. absurd (false≢true (sym on)), λ other h. h, λ set. refl))))
+    (λ d s mine there. either Q (is_none (tied_socket s.phase)) _ _ (λ b. still) (λ b. near_socket S d (shut_down how) still (inl (held fd.0 mine)) (λ s. (λ h. h, λ on. absurd (false≢true (sym on)), λ other h. h, λ set. refl, λ apart h. h))))
   where
     Q : Outcome → Type 0
     Q o = Near S p (Request.Shutdown fd how) o.next
@@ -402,7 +431,7 @@ connect_near S p fd addr = maybe Q (process_at S p) _ _ still (λ P here. by_own
     Q o = Near S p (Request.Connect fd addr) o.next
 
     associates : (d : ℕ) (target : Option ℕ) → description_of S p fd.0 ≡ Some d → Near S p (Request.Connect fd addr) (with_socket_by S d (with_association target))
-    associates d target mine = near_socket S d (with_association target) still (inl (held fd.0 mine)) (λ s. (λ h. h, λ elsewhere. refl, λ other h. absurd (false≢true (sym other)), λ set. refl))
+    associates d target mine = near_socket S d (with_association target) still (inl (held fd.0 mine)) (λ s. (λ h. h, λ elsewhere. refl, λ other h. absurd (false≢true (sym other)), λ set. refl, λ apart h. absurd (false≢true (sym apart))))
 
     datagram : (d : ℕ) → description_of S p fd.0 ≡ Some d → (kind : SockType) → Near S p (Request.Connect fd addr) (connect_datagram S d kind addr).next
     datagram d mine kind = either Q (not (is_valid_addr addr)) _ _ (λ b. still) (λ b. either Q (is_unnamed_addr addr) _ _ (λ c. associates d None mine)
@@ -416,7 +445,7 @@ connect_near S p fd addr = maybe Q (process_at S p) _ _ still (λ P here. by_own
         let U : State = with_socket_by S l (awaiting e) in
         let D : Description = socket_description no_open_flags (server_end other d cred) in
         let long = length-changed S.descriptions l (changed (awaiting e)) in
-        near_socket (with_new U D) d (tied_by e kept.cred) (near_new U D (near_socket S l (awaiting e) still (inl (named kind addr other refl is)) (λ s. (λ h. h, λ elsewhere. refl, λ other h. absurd (false≢true (sym other)), λ set. refl))) (omega (arith, long)) refl refl refl) (inl (held fd.0 mine)) (λ s. (λ h. h, λ elsewhere. refl, λ other h. absurd (false≢true (sym other)), λ set. refl))))
+        near_socket (with_new U D) d (tied_by e kept.cred) (near_new U D (near_socket S l (awaiting e) still (inl (named kind addr other refl is)) (λ s. (λ h. h, λ elsewhere. refl, λ other h. absurd (false≢true (sym other)), λ set. refl, λ apart h. absurd (false≢true (sym apart))))) (omega (arith, long)) refl refl refl) (inl (held fd.0 mine)) (λ s. (λ h. h, λ elsewhere. refl, λ other h. absurd (false≢true (sym other)), λ set. refl, λ apart h. absurd (false≢true (sym apart))))))
 
     stream : (d : ℕ) → description_of S p fd.0 ≡ Some d → (s : Socket) (cred : Cred) → Near S p (Request.Connect fd addr) (connect_stream S d s addr cred).next
     stream d mine s cred = either Q (not (is_valid_addr addr) || is_unnamed_addr addr || is_some (listener_of s.phase)) _ _ (λ b. still)
@@ -437,11 +466,11 @@ accept_near S p fd flags = by_own Q S p (Request.Accept fd flags) fd _ (λ e. st
     oldest d s mine there n (Some e) first =
         let T : State = with_table S p (filled (table_of S p) n (descriptor flags e)) in
         let U : State = with_socket_by T d without_first_end in
-        near_by U e (accepted_with flags) (near_socket T d without_first_end (near_table S p _ still) (inl (held fd.0 mine)) (λ s. (λ h. h, λ elsewhere. refl, λ other h. awaits_first s.phase h, λ set. refl))) (inl (pending fd.0 d s mine there first)) (λ D. at_target D.target)
+        near_by U e (accepted_with flags) (near_socket T d without_first_end (near_table S p _ still) (inl (held fd.0 mine)) (λ s. (λ h. h, λ elsewhere. refl, λ other h. awaits_first s.phase h, λ set. refl, λ apart h. absurd (false≢true (sym apart))))) (inl (pending fd.0 d s mine there first)) (λ D. at_target D.target)
       where
-        at_target : (u : Target) → (reset_of (changed_target as_accepted u) ≡ true → reset_of u ≡ true) × (is_shutdown (Request.Accept fd flags) ≡ false → shut_of (changed_target as_accepted u) ≡ shut_of u) × (is_connect (Request.Accept fd flags) ≡ false → awaits_of u ≡ true → awaits_of (changed_target as_accepted u) ≡ true) × (sets_option (Request.Accept fd flags) ≡ false → limit_of (changed_target as_accepted u) ≡ limit_of u)
-        at_target (to_object o) = (λ h. h, λ elsewhere. refl, λ other h. h, λ set. refl)
-        at_target (to_socket s) = (λ h. h, λ elsewhere. refl, λ other h. h, λ set. refl)
+        at_target : (u : Target) → (reset_of (changed_target as_accepted u) ≡ true → reset_of u ≡ true) × (is_shutdown (Request.Accept fd flags) ≡ false → shut_of (changed_target as_accepted u) ≡ shut_of u) × (is_connect (Request.Accept fd flags) ≡ false → awaits_of u ≡ true → awaits_of (changed_target as_accepted u) ≡ true) × (sets_option (Request.Accept fd flags) ≡ false → limit_of (changed_target as_accepted u) ≡ limit_of u) × (may_give_place (Request.Accept fd flags) ≡ false → full_of u ≡ true → full_of (changed_target as_accepted u) ≡ true)
+        at_target (to_object o) = (λ h. h, λ elsewhere. refl, λ other h. h, λ set. refl, λ apart h. h)
+        at_target (to_socket s) = (λ h. h, λ elsewhere. refl, λ other h. h, λ set. refl, λ apart h. h)
 
 -- ---- options and readiness
 
@@ -457,7 +486,7 @@ get_opt_near S p fd opt = by_own (λ o. Near S p (Request.GetOpt fd opt) o.next)
     by_option d mine s SockOpt.PeerCred = by_cred s.peer_cred
     by_option d mine s SockOpt.QueueLimit = either (λ o. Near S p (Request.GetOpt fd opt) o.next) (is_stream s.kind) _ _ (λ b. still) (λ b. still)
     by_option d mine s SockOpt.Kind = still
-    by_option d mine s SockOpt.Error = near_socket S d (with_reset false) still (inl (held fd.0 mine)) (λ s. (λ h. absurd (false≢true h), λ elsewhere. refl, λ other h. h, λ set. refl))
+    by_option d mine s SockOpt.Error = near_socket S d (with_reset false) still (inl (held fd.0 mine)) (λ s. (λ h. absurd (false≢true h), λ elsewhere. refl, λ other h. h, λ set. refl, λ apart h. h))
     by_option d mine s SockOpt.PassCred = still
     by_option d mine s SockOpt.AcceptConn = still
 
@@ -469,7 +498,7 @@ set_opt_near S p fd opt value = by_own Q S p (Request.SetOpt fd opt value) fd _ 
     Q o = Near S p (Request.SetOpt fd opt value) o.next
 
     passing : (T : State) (d : ℕ) (on : Bool) → description_of S p fd.0 ≡ Some d → Near S p (Request.SetOpt fd opt value) T → Near S p (Request.SetOpt fd opt value) (with_socket_by T d (with_passcred on))
-    passing T d on mine near = near_socket T d (with_passcred on) near (inl (held fd.0 mine)) (λ s. (λ h. h, λ elsewhere. refl, λ other h. h, λ set. refl))
+    passing T d on mine near = near_socket T d (with_passcred on) near (inl (held fd.0 mine)) (λ s. (λ h. h, λ elsewhere. refl, λ other h. h, λ set. refl, λ apart h. h))
 
     by_option : (d : ℕ) → description_of S p fd.0 ≡ Some d → (s : Socket) (o : SockOpt) → Near S p (Request.SetOpt fd opt value) (change_option S d s value o).next
     by_option d mine s SockOpt.Kind = still
@@ -478,11 +507,11 @@ set_opt_near S p fd opt value = by_own Q S p (Request.SetOpt fd opt value) fd _ 
         (λ b. maybe Q (free_name S.abstract_names) _ _ still
         (λ name free.
         let T : State = record (with_socket_by S d (with_name (Addr.Abstract name))) { abstract_names = S.abstract_names ++ (name, d) ∷ [] } in
-        passing T d true mine (alike T refl (near_socket S d (with_name (Addr.Abstract name)) still (inl (held fd.0 mine)) (λ s. (λ h. h, λ elsewhere. refl, λ other h. h, λ set. refl)))))))
+        passing T d true mine (alike T refl (near_socket S d (with_name (Addr.Abstract name)) still (inl (held fd.0 mine)) (λ s. (λ h. h, λ elsewhere. refl, λ other h. h, λ set. refl, λ apart h. h)))))))
     by_option d mine s SockOpt.PeerCred = still
     by_option d mine s SockOpt.AcceptConn = still
     by_option d mine s SockOpt.QueueLimit = either Q (not (is_stream s.kind)) _ _ (λ b. still) (λ b. either Q (not (may_limit value)) _ _ (λ c. still)
-        (λ c. near_socket S d (with_queue_limit value) still (inl (held fd.0 mine)) (λ s. (λ h. h, λ elsewhere. refl, λ other h. h, λ set. absurd (false≢true (sym set))))))
+        (λ c. near_socket S d (with_queue_limit value) still (inl (held fd.0 mine)) (λ s. (λ h. h, λ elsewhere. refl, λ other h. h, λ set. absurd (false≢true (sym set)), λ apart h. h))))
 
 poll_near : (S : State) (p : ℕ) (fd : Fd) → Near S p (Request.Poll fd) (poll S p fd).next
 unfolding poll
@@ -492,7 +521,7 @@ poll_near S p fd = maybe (λ o. Near S p (Request.Poll fd) o.next) (descriptor_a
 
 enqueue_near : (S : State) (p : ℕ) (request : Request) (limit : Option ℕ) (t : ℕ) (other : Socket) (m : Message) → IsInReach S p request t → Near S p request (enqueue S limit t other m).next
 enqueue_near S p request limit t other m reach = either Q (is_stream other.kind && (length m.bytes == 0)) _ _ (λ b. still)
-    (λ b. either Q (is_over_limit S limit m) _ _ (λ c. still) (λ c. either Q (not (has_room other)) _ _ (λ f. still) (λ f. near_socket S t (sent m) still (inl reach) (λ s. (λ h. h, λ elsewhere. refl, λ other h. h, λ set. refl)))))
+    (λ b. either Q (is_over_limit S limit m) _ _ (λ c. still) (λ c. either Q (not (has_room other)) _ _ (λ f. still) (λ f. near_socket S t (sent m) still (inl reach) (λ s. (λ h. h, λ elsewhere. refl, λ other h. h, λ set. refl, λ apart h. h)))))
   where
     Q : Outcome → Type 0
     Q o = Near S p request o.next
@@ -526,7 +555,7 @@ from_near S p i request limit d s m mine here = either Q (is_dgram s.kind) _ _
 
     by_association : (target : Option ℕ) → association_of s.phase ≡ target → (m : Message) → Near S p request (send_by_association S limit d target m).next
     by_association None is m = still
-    by_association (Some t) is m = maybe Q (socket_at S t) _ _ (near_socket S d (with_association None) still (inl (held i mine)) (λ s. (λ h. h, λ elsewhere. refl, λ other h. awaits_on None s.phase h, λ set. refl)))
+    by_association (Some t) is m = maybe Q (socket_at S t) _ _ (near_socket S d (with_association None) still (inl (held i mine)) (λ s. (λ h. h, λ elsewhere. refl, λ other h. awaits_on None s.phase h, λ set. refl, λ apart h. full_on None s.phase h)))
         (λ target h. to_target t target m (tied_to t (of_association s.phase t is)))
 
     by_address : (addr : Option Addr) → asked_addr request ≡ addr → (m : Message) → Near S p request (send_by S limit d s addr m).next
@@ -574,10 +603,10 @@ front_near S p d request s asked front reach = go (asks_peek asked.flags) _ (nea
   where
     go : (b : Bool) (T : State) → Near S p request T → Near S p request (cond b T (with_socket_by T d (with_queue front.rest)))
     go true T near = near
-    go false T near = near_socket T d (with_queue front.rest) near (inl reach) (λ s. (λ h. h, λ elsewhere. refl, λ other h. h, λ set. refl))
+    go false T near = near_socket T d (with_queue front.rest) near (inl reach) (λ s. (λ h. h, λ elsewhere. refl, λ other h. h, λ set. refl, λ apart h. h))
 
 receive_near : (S : State) (p d : ℕ) (request : Request) (s : Socket) (asked : Incoming) → IsInReach S p request d → Near S p request (receive S p d s asked).next
-receive_near S p d request s asked reach = by_receive (λ o. Near S p request o.next) S p d s asked (λ e. still) (near_socket S d (with_reset false) still (inl reach) (λ s. (λ h. absurd (false≢true h), λ elsewhere. refl, λ other h. h, λ set. refl))) (λ none. still)
+receive_near S p d request s asked reach = by_receive (λ o. Near S p request o.next) S p d s asked (λ e. still) (near_socket S d (with_reset false) still (inl reach) (λ s. (λ h. absurd (false≢true h), λ elsewhere. refl, λ other h. h, λ set. refl, λ apart h. h))) (λ none. still)
     (λ m ms q. front_near S p d request s asked (front_of asked.n s m ms) reach)
 
 recv_near : (S : State) (p : ℕ) (fd : Fd) (n space : ℕ) (flags : MsgFlags) → Near S p (Request.RecvMsg fd n space flags) (recv_msg S p fd n space flags).next

@@ -85,7 +85,7 @@ given_no_wait S p P (Some c) e is h = by_kind P.privileged (is_live S c.pid.0) (
     by_kind false lives true k = cc k
     by_kind false lives false k = let clash : Reply.Err Errno.EPERM ≡ Reply.Err Errno.EAGAIN = ap (λ (o : Option Errno). elim o as (λ _. Reply) [ None ↦ Reply.Ok | Some x ↦ Reply.Err x ]) k ∙ h in cc clash
 
-at_found : (Q : Outcome → Type 0) (S : State) (p d : ℕ) (fd : Fd) (s : Socket) (rest : ℕ → Socket → Outcome) → find_socket S p fd ≡ Ok (d, s) → Q (rest d s) →
+pub at_found : (Q : Outcome → Type 0) (S : State) (p d : ℕ) (fd : Fd) (s : Socket) (rest : ℕ → Socket → Outcome) → find_socket S p fd ≡ Ok (d, s) → Q (rest d s) →
     Q (elim (find_socket S p fd) as (λ _. Outcome) [ Err e ↦ refuse S e | Ok w ↦ rest w.0 w.1 ])
 at_found Q S p d fd s rest found h = subst (λ (r : Result (ℕ × Socket) Errno). Q (elim r as (λ _. Outcome) [ Err e ↦ refuse S e | Ok w ↦ rest w.0 w.1 ])) (sym found) h
 

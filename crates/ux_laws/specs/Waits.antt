@@ -1,12 +1,12 @@
--- What ends a wait to receive, to accept and to send (recv(2), read(2), accept(2), connect(2), send(2), write(2), shutdown(2)).
-use Rattle.std.specs.Prelude.{◌≡◌, ◌≢◌, ◌⊎◌, ℕ, suc, true, false, List, [], Option, Some, None, Ok}
+-- What ends a wait to receive, to accept, to connect and to send (recv(2), read(2), accept(2), connect(2), send(2), write(2), shutdown(2)).
+use Rattle.std.specs.Prelude.{◌≡◌, ◌≢◌, ◌⊎◌, ℕ, suc, ◌≤◌, true, false, ℤ, List, [], length, Option, Some, None, Ok}
 use Rattle.std.specs.List.{slice_get}
 use Rattle.ux_model.specs.Types.{Errno, Fd, Addr, SockType, SockOpt, Mode, OpenFlags, MsgFlags, Request, Reply, Entry}
 use Rattle.ux_model.specs.Socket.{Socket, is_dgram, pending_ends, peer_of, has_room}
 use Rattle.ux_model.specs.State.{State, description_at, socket_at}
 use Rattle.ux_model.specs.Outcome.{find_socket}
 use Rattle.ux_model.specs.Binding.{look_up}
-use Rattle.ux_model.specs.Connecting.{listener_of}
+use Rattle.ux_model.specs.Connecting.{Listener, listener_of}
 use Rattle.ux_model.specs.History.{IsLegal}
 use Rattle.ux_model.specs.Pedigree.{before}
 use Rattle.ux_laws.specs.Talking.{is_peek, socket_through, sends_to, receives_through}
@@ -123,3 +123,37 @@ SendWaitsEnd = (boot : State) (entries : List Entry) (j d : ℕ) (e : Entry) (s 
     slice_get entries j ≡ Some e → socket_at (before boot entries j) d ≡ Some s → AwaitsRoom (before boot entries j) s →
     socket_at (before boot entries (suc j)) d ≡ Some t →
     AwaitsRoom (before boot entries (suc j)) t ⊎ GivesRoom (before boot entries j) e d s (before boot entries (suc j))
+
+-- ---- connect(2), of stream and seqpacket sockets
+
+-- Socket s listens, and its backlog has no place.
+pub record AwaitsPlace (s : Socket) : Type 0 where
+  pub kept : Listener
+  pub listens : listener_of s.phase ≡ Some kept
+  pub full : kept.backlog.limit ≤ length kept.backlog.pending
+
+-- such a one is what the address leads to
+pub record FindsNoPlace (S : State) (s : Socket) (addr : Addr) : Type 0 where
+  pub number : ℕ
+  pub listener : Socket
+  pub led : look_up S s.kind addr ≡ Ok (number, listener)
+  pub none : AwaitsPlace listener
+
+-- where a connect is answered EAGAIN
+abbrev pub ConnectsWait : Type 0
+ConnectsWait = (boot : State) (entries : List Entry) (j d : ℕ) (e : Entry) (fd : Fd) (addr : Addr) (s : Socket) → IsLegal boot entries →
+    slice_get entries j ≡ Some e → e.request ≡ Request.Connect fd addr → find_socket (before boot entries j) e.pid.0 fd ≡ Ok (d, s) →
+    is_dgram s.kind ≡ false → e.reply ≡ Reply.Err Errno.EAGAIN → FindsNoPlace (before boot entries j) s addr
+
+-- What a call has to be for a place to come at listener d, by who has a descriptor that leads there: an accept, or a new listen.
+pub data GivesPlace (S : State) (e : Entry) (d : ℕ) : Type 0 where
+  by_accept : (fd : Fd) (flags : OpenFlags) (n : Fd) (name : Addr) → e.request ≡ Request.Accept fd flags → e.reply ≡ Reply.Accepted n name →
+      socket_behind S e.pid.0 fd ≡ Some d → GivesPlace S e d
+  by_listen : (fd : Fd) (backlog : ℤ) → e.request ≡ Request.Listen fd backlog → e.reply ≡ Reply.Ok →
+      socket_behind S e.pid.0 fd ≡ Some d → GivesPlace S e d
+
+-- After any other it has none still, as long as it is there.
+abbrev pub ConnectWaitsEnd : Type 0
+ConnectWaitsEnd = (boot : State) (entries : List Entry) (j d : ℕ) (e : Entry) (s t : Socket) → IsLegal boot entries →
+    slice_get entries j ≡ Some e → socket_at (before boot entries j) d ≡ Some s → AwaitsPlace s →
+    socket_at (before boot entries (suc j)) d ≡ Some t → AwaitsPlace t ⊎ GivesPlace (before boot entries j) e d

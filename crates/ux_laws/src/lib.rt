@@ -3,7 +3,8 @@
 //! bodies, and their contracts are the laws, each over every legal history.
 #![tactic(auto)]
 
-ghost use Rattle.ux_laws.specs.Waits.{ReceivesWait, ReadsWait, WaitsEnd, AcceptsWait, AcceptWaitsEnd, SendsWait, WritesWait, SendWaitsEnd};
+ghost use Rattle.ux_laws.specs.Waits.{ReceivesWait, ReadsWait, WaitsEnd, SendsWait, WritesWait, SendWaitsEnd};
+ghost use Rattle.ux_laws.specs.Waits.{AcceptsWait, AcceptWaitsEnd, ConnectsWait, ConnectWaitsEnd};
 ghost use Rattle.ux_laws.specs.Credentials.{CredentialsAreTheSenders, PeersAreTheMakers};
 ghost use Rattle.ux_laws.specs.Ends.{EndsAreForEver, ResetsAreOfLosses, LossesReset, SendsFindNobody, WritesBreak};
 ghost use Rattle.ux_laws.specs.Ends.{ReadsTellTheEnd, ReceivesTellTheEnd};
@@ -204,4 +205,16 @@ pub fn writes_wait()
 /// it or of the sender, or by a call that frees it. After any other call the queue has no room still.
 pub fn what_ends_a_wait_to_send()
     ensures { SendWaitsEnd }
+{}
+
+/// A connect of a stream or seqpacket socket is answered EAGAIN only where its address leads to a listening socket
+/// whose backlog has no place.
+pub fn connects_wait()
+    ensures { ConnectsWait }
+{}
+
+/// A wait to connect ends by an accept at the listener or a listen on it: after any other call its backlog has no
+/// place still, as long as the listener is there.
+pub fn what_ends_a_wait_to_connect()
+    ensures { ConnectWaitsEnd }
 {}
