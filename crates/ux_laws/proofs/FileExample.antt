@@ -1,0 +1,37 @@
+-- A worked example, evaluated: one process opens a file for reading, and another, which doesn't, has no way to it.
+use Rattle.std.specs.Prelude.{◌≡◌, List, [], ◌∷◌, Some, None, refl, codes}
+use Rattle.ux_model.specs.Types.{Errno, SockType, Mode, Request, Reply, Entry}
+use Rattle.ux_model.specs.Object.{memory}
+use Rattle.ux_model.specs.State.{State}
+use Rattle.ux_model.specs.History.{replay}
+use Rattle.ux_laws.specs.Files.{body_at, object_behind}
+use Rattle.ux_laws.proofs.Play.{computing, made, replies, with_files, pair_of, fd}
+
+abbrev boot : State
+boot = with_files ((codes "f", memory (codes "abc")) ∷ [])
+
+-- a write by the reader is refused, one by the stranger goes to a socket of its own
+abbrev calls : List Entry
+calls = made boot 0 (
+    (1, Request.Open (codes "f") Mode.Read (record { 0 = 0 })) ∷
+    (1, Request.Write (fd 0) (codes "x")) ∷
+    (1, Request.Read (fd 0) 2) ∷
+    (2, pair_of SockType.Stream) ∷
+    (2, Request.Write (fd 0) (codes "x")) ∷ [])
+
+what_was_answered : replies calls ≡ Reply.Fd (fd 0) ∷ Reply.Err Errno.EBADF ∷ Reply.Bytes (codes "ab") ∷ Reply.Fds (fd 0) (fd 1) ∷ Reply.Count 1 ∷ []
+unfolding computing
+what_was_answered = refl
+
+the_file_stays : body_at (replay boot calls) 0 ≡ Some (memory (codes "abc"))
+unfolding computing
+the_file_stays = refl
+
+-- the reader's number leads to it, the stranger's to no file object
+who_has_a_way : object_behind (replay boot calls) 1 (fd 0) ≡ Some 0
+unfolding computing
+who_has_a_way = refl
+
+who_has_none : object_behind (replay boot calls) 2 (fd 0) ≡ None
+unfolding computing
+who_has_none = refl

@@ -1,0 +1,35 @@
+pub mod Parts
+pub mod Acts
+pub mod Doing
+pub mod Flows
+pub mod Senders
+pub mod Makers
+pub mod Gathers
+pub mod Delivering
+pub mod Ways
+pub mod Touching
+pub mod Opened
+pub mod NoWay
+pub mod Packets
+pub mod Whole
+pub mod Installing
+pub mod Spent
+pub mod Near
+pub mod LeftAlone
+pub mod NamesLeft
+pub mod Ended
+pub mod Telling
+pub mod Resetting
+pub mod WaitEnds
+pub mod AcceptWaits
+pub mod SendWaits
+pub mod ConnectWaits
+mod Play
+mod StreamExample
+mod RecordExample
+mod RightsExample
+mod CredentialExample
+mod FileExample
+mod EndExample
+mod ReachExample
+mod WaitExample

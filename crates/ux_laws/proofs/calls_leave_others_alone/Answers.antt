@@ -1,0 +1,5 @@
+use Rattle.ux_laws.proofs.LeftAlone.{calls_leave_others_alone}
+use Rattle.ux_laws.proofs.calls_leave_others_alone.Goals as goal
+
+pub returns : goal.returns
+returns c = calls_leave_others_alone

@@ -1,0 +1,220 @@
+//! Laws of the definitions that a program can rely on: that nobody forges credentials, and so on. They
+//! are stated in `specs/`, one file a subject. This crate has no program code; its functions have empty
+//! bodies, and their contracts are the laws, each over every legal history.
+#![tactic(auto)]
+
+ghost use Rattle.ux_laws.specs.Waits.{ReceivesWait, ReadsWait, WaitsEnd, SendsWait, WritesWait, SendWaitsEnd};
+ghost use Rattle.ux_laws.specs.Waits.{AcceptsWait, AcceptWaitsEnd, ConnectsWait, ConnectWaitsEnd};
+ghost use Rattle.ux_laws.specs.Credentials.{CredentialsAreTheSenders, PeersAreTheMakers};
+ghost use Rattle.ux_laws.specs.Ends.{EndsAreForEver, ResetsAreOfLosses, LossesReset, SendsFindNobody, WritesBreak};
+ghost use Rattle.ux_laws.specs.Ends.{ReadsTellTheEnd, ReceivesTellTheEnd};
+ghost use Rattle.ux_laws.specs.Files.{EachHoldingHasAPedigree, ChangesHaveAWay, ReadsHaveAWay, StrangersHaveNoWay, StrangersChangeNothing};
+ghost use Rattle.ux_laws.specs.Reach.{CallsLeaveOthersAlone, CallsLeaveTablesAlone, CallsLeavePathsAlone};
+ghost use Rattle.ux_laws.specs.Reach.{AbstractNamesStay, AbstractNamesAreBound};
+ghost use Rattle.ux_laws.specs.Records.{RecordsArriveInOrder, RecordsArriveOnce, RecordsArriveWhole, ReadRecordsArriveWhole};
+ghost use Rattle.ux_laws.specs.Rights.{RightsComeOnce, RightsComeWithTheirMessage};
+ghost use Rattle.ux_laws.specs.Streams.{StreamsAreReliable};
+
+/// Credentials that a receive or a peek reports (SCM_CREDENTIALS) are those that the sending process had at
+/// the time of its send, or that it gave while it was privileged; and each message of which the receive gives
+/// a byte was sent with them.
+pub fn nobody_forges_credentials()
+    ensures { CredentialsAreTheSenders }
+{}
+
+/// SO_PEERCRED reports the process that made the pair; at a server's end the one that connected, at a client the
+/// one that called listen last before that; with the credentials that it had then.
+#[tactic(auto, using(crate::proofs::Makers::peers_are_the_makers))]
+pub fn peers_are_who_made_the_connection()
+    ensures { PeersAreTheMakers }
+{}
+
+/// Streams are reliable: the bytes that sends and writes to a stream socket were answered to have taken, in
+/// order, are those that receives and reads were given by it, in order, and then those that wait at it, as
+/// long as it is there. Peeks take nothing.
+#[tactic(auto, using(crate::proofs::Delivering::streams_are_reliable))]
+pub fn streams_are_reliable()
+    ensures { StreamsAreReliable }
+{}
+
+/// Each descriptor that a process holds has a pedigree: a chain of holdings leads to it from the call that made
+/// what it leads to.
+pub fn each_holding_has_a_pedigree()
+    ensures { EachHoldingHasAPedigree }
+{}
+
+/// What is in a file object changes by a write through a descriptor whose pedigree begins with an open of that
+/// object for writing, or, in a pipe or a counter, by a read through one for reading, which takes what it gives.
+/// No other call changes it.
+pub fn who_changes_a_file_has_a_way()
+    ensures { ChangesHaveAWay }
+{}
+
+/// A read that is answered with bytes of a file object is through a descriptor whose pedigree begins with an
+/// open of that object for reading.
+pub fn who_reads_a_file_has_a_way()
+    ensures { ReadsHaveAWay }
+{}
+
+/// Processes that never opened a path and were sent no descriptor, nor did or was any that made them by fork,
+/// have no descriptor that leads to its file object.
+pub fn strangers_have_no_way()
+    ensures { StrangersHaveNoWay }
+{}
+
+/// So they don't change what is in it.
+pub fn strangers_change_no_file()
+    ensures { StrangersChangeNothing }
+{}
+
+/// The packets that were sent to a datagram or seqpacket socket, in order, are those that receives and reads took
+/// from it, in order, and then those that wait at it, as long as it is there. Each has the bytes of its send, and
+/// the name that its sender had then.
+pub fn records_come_in_order()
+    ensures { RecordsArriveInOrder }
+{}
+
+/// No packet is taken twice.
+pub fn no_record_comes_twice()
+    ensures { RecordsArriveOnce }
+{}
+
+/// A receive or a peek gives the oldest packet that waits, cut to as many bytes as it asked for; MSG_TRUNC is told
+/// exactly where bytes were left out.
+pub fn records_come_whole()
+    ensures { RecordsArriveWhole }
+{}
+
+/// A read gives the bytes of the oldest packet that waits, cut to as many as it asked for.
+pub fn read_records_come_whole()
+    ensures { ReadRecordsArriveWhole }
+{}
+
+/// One call at most, peeks apart, installs rights of the message that one send made.
+pub fn rights_come_once()
+    ensures { RightsComeOnce }
+{}
+
+/// The rights that a receive or a peek installs are of one message: it gives a byte of that, at a stream, and none of
+/// a later one; those before have no rights.
+pub fn rights_come_with_their_message()
+    ensures { RightsComeWithTheirMessage }
+{}
+
+/// A call changes no description but those in its reach (that its process's descriptors lead to, their peers,
+/// targets and oldest waiting ends, and what the address that it gives leads to), those that it frees, and the
+/// peers of these, which are reset.
+pub fn calls_leave_others_alone()
+    ensures { CallsLeaveOthersAlone }
+{}
+
+/// A call changes no table but that of its process and of a child that it makes. The layer's end empties all.
+pub fn calls_leave_tables_alone()
+    ensures { CallsLeaveTablesAlone }
+{}
+
+/// A call leaves each path that it doesn't itself bind or take away: it names what it named, or nothing still.
+pub fn calls_leave_paths_alone()
+    ensures { CallsLeavePathsAlone }
+{}
+
+/// A name of the abstract namespace goes only with its socket.
+pub fn abstract_names_stay()
+    ensures { AbstractNamesStay }
+{}
+
+/// One that no socket has is given only to a socket that the caller has a descriptor of.
+pub fn abstract_names_are_bound()
+    ensures { AbstractNamesAreBound }
+{}
+
+/// Once its peer is gone, a connected socket stays without one, and no ECONNRESET comes to be pending.
+pub fn ends_are_for_ever()
+    ensures { EndsAreForEver }
+{}
+
+/// ECONNRESET comes to be pending at a connected socket only by the call that frees its peer.
+pub fn resets_are_of_losses()
+    ensures { ResetsAreOfLosses }
+{}
+
+/// A close, a dup2, an exec or an exit that frees the peer makes ECONNRESET pending exactly where the peer had
+/// messages that nobody had read, or where no accept had taken it.
+pub fn losses_reset()
+    ensures { LossesReset }
+{}
+
+/// A send or a write to a peer that is gone takes nothing.
+pub fn sends_find_nobody()
+    ensures { SendsFindNobody }
+{}
+
+/// A write to a peer that is gone is answered EPIPE.
+pub fn writes_break()
+    ensures { WritesBreak }
+{}
+
+/// A read at a socket whose peer is gone gives what is queued; then it is answered ECONNRESET where that is pending,
+/// which clears it; then no bytes. It never waits.
+pub fn reads_tell_the_end()
+    ensures { ReadsTellTheEnd }
+{}
+
+/// So does a receive.
+pub fn receives_tell_the_end()
+    ensures { ReceivesTellTheEnd }
+{}
+
+/// A receive that is answered EAGAIN finds nothing at its socket, whose input isn't over.
+pub fn receives_wait()
+    ensures { ReceivesWait }
+{}
+
+/// So does a read.
+pub fn reads_wait()
+    ensures { ReadsWait }
+{}
+
+/// A wait to receive ends by a send to the socket, by a shutdown of it or of its peer, or by a call that frees the
+/// peer. After any other call a receive there would still wait.
+pub fn what_ends_a_wait_to_receive()
+    ensures { WaitsEnd }
+{}
+
+/// An accept is answered EAGAIN only where no end waits at the listening socket that it is called on.
+pub fn accepts_wait()
+    ensures { AcceptsWait }
+{}
+
+/// A wait to accept ends by a connect to the listener alone: after any other call no end waits still.
+pub fn what_ends_a_wait_to_accept()
+    ensures { AcceptWaitsEnd }
+{}
+
+/// A send of a stream or seqpacket socket is answered EAGAIN only where the peer's queue has no room.
+pub fn sends_wait()
+    ensures { SendsWait }
+{}
+
+/// So is a write.
+pub fn writes_wait()
+    ensures { WritesWait }
+{}
+
+/// A wait to send ends by a receive that takes something at the peer, by a new limit of its queue, by a shutdown of
+/// it or of the sender, or by a call that frees it. After any other call the queue has no room still.
+pub fn what_ends_a_wait_to_send()
+    ensures { SendWaitsEnd }
+{}
+
+/// A connect of a stream or seqpacket socket is answered EAGAIN only where its address leads to a listening socket
+/// whose backlog has no place.
+pub fn connects_wait()
+    ensures { ConnectsWait }
+{}
+
+/// A wait to connect ends by an accept at the listener or a listen on it: after any other call its backlog has no
+/// place still, as long as the listener is there.
+pub fn what_ends_a_wait_to_connect()
+    ensures { ConnectWaitsEnd }
+{}
