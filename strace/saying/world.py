@@ -1,0 +1,362 @@
+"""Follows a log call by call: which process has which descriptor, and what the script says of each call."""
+import re
+from collections import Counter
+from types import SimpleNamespace
+
+from reading.calls import Call, End
+from reading.effects import MAKES_OPAQUE, OUTSIDE_ERRORS
+from reading.words import Descriptor, Unreadable
+from . import handover
+from .model import Block, Description, How, Kind, Process, Role, Seat, Slot, Step, Thing, mark
+from .names import Names
+
+HIGHEST = 4095
+MOST_HEADER = 64
+MOST_OBJECTS = 64
+OUTSIDE = "p:~outside"
+WAITS = frozenset("""accept accept4 recvfrom recvmsg recvmmsg read readv poll ppoll select pselect6 epoll_wait epoll_pwait
+epoll_pwait2 execve execveat""".split())
+AUTOMATIC = re.compile(r'\[(\d+)(?:->\d+)?,@"([0-9a-f]{5})"\]')
+UNIX_NOTE = re.compile(r"UNIX(-\w+)?:\[(\d+)(?:->(\d+))?")
+SAYS = {}
+
+
+def says(*names):
+    """Marks what says the calls of these names."""
+    def mark(handler):
+        for name in names:
+            SAYS[name] = handler
+        return handler
+    return mark
+
+
+def kind_of(note):
+    """The kind of description that a note of strace's -yy tells."""
+    found = UNIX_NOTE.match(note)
+    if found:
+        return {None: Kind.DATAGRAM, "-STREAM": Kind.STREAM, "-SEQPACKET": Kind.RECORDS}.get(found[1], Kind.DATAGRAM)
+    if note.startswith("pipe:["):
+        return Kind.PIPE
+    return Kind.COUNTER if "[eventfd]" in note else Kind.OPAQUE
+
+
+def inode_of(note):
+    """What tells the file or socket behind a note from others: an inode's number, or a path."""
+    found = UNIX_NOTE.match(note)
+    if found:
+        return f"socket:[{found[2]}]"
+    found = re.match(r"(?:\w+:)?\[?(\d+)\]?$", note)
+    return note if not found or note.startswith("pipe:") else f"socket:[{found[1]}]"
+
+
+class World:
+    """All that is known while the calls of a log are said."""
+
+    def __init__(self, log, inherited=None):
+        self.log = log
+        self.inherited = log.head.inherited if inherited is None else inherited
+        self.names = Names()
+        self.blocks = []
+        self.threads = {}
+        self.processes = []
+        self.seats = []
+        self.things = []
+        self.by_inode = {}
+        self.uses = {}
+        self.missing = {}
+        self.unknown_names = Counter()
+        self.notes = Counter()
+        self.births = {}
+        self.orphans = []
+        self.cut_texts = 0
+        self.endings = {}
+        self.automatic = {}
+        self.object_count = 1
+        self.current = None
+        self.in_flight = []
+        self.executed = []
+        self.closes = {}
+        self.pids = {}
+
+    # ---- the order in which the log is read ----
+
+    def prepare(self):
+        """What is looked up in the whole log before its first call is said."""
+        for end in self.log.ends:
+            self.endings.setdefault(end.thread, []).append(end)
+        for call in self.log.calls:
+            if ',@"' in call.text:
+                for inode, name in AUTOMATIC.findall(call.text):
+                    self.automatic.setdefault(inode, name)
+
+    def place_of(self, event):
+        if isinstance(event, End):
+            return event.line
+        return event.end if event.name in WAITS else event.begin
+
+    def run(self):
+        """Says the whole log."""
+        self.prepare()
+        events = sorted([*self.log.calls, *self.log.ends], key=self.place_of)
+        replaced = list(reversed(self.log.replaced))
+        for event in events:
+            while replaced and replaced[-1][0] <= self.place_of(event):
+                self.replace(*replaced.pop()[1:])
+            if isinstance(event, End):
+                self.end_thread(event)
+            else:
+                self.say(event)
+        return self
+
+    def replace(self, first, other):
+        process = self.threads.pop(other, None)
+        if process:
+            process.threads = {first}
+            self.threads[first] = process
+
+    def process_of(self, thread):
+        """The process of a thread; one that no fork made is a root."""
+        process = self.threads.get(thread)
+        if process is None:
+            process = self.adopt(thread)
+        return process
+
+    def adopt(self, thread):
+        if self.orphans:
+            block, parent = self.orphans.pop(0)
+            return handover.fork(self, block, parent, thread)
+        head = self.log.head
+        first = not self.processes
+        user = head.user if head.user is not None else 0
+        group = head.group if head.group is not None else 0
+        process = Process(thread, None, {}, head.folder, "?", user=user, group=group)
+        self.enter(process, thread)
+        process.seat = self.new_seat(user, group, process)
+        if process.seat is None:
+            process.unsaid = "more than 64 processes"
+        block = Block(None, process, 0, 0, 0, program=process.label())
+        self.blocks.append(block)
+        if first or not head.recorded:
+            self.start(block, process)
+        return process
+
+    def start(self, block, process):
+        """Opens what the first program was given."""
+        for one in sorted(self.inherited, key=lambda one: one.number):
+            description = Description(Kind.OPAQUE, one.target, nonblocking=one.nonblocking, inode=one.target)
+            self.make(block, process, one.number, description, False, role=Role.START)
+
+    def enter(self, process, thread):
+        self.processes.append(process)
+        self.pids[process.pid] = process
+        process.threads.add(thread)
+        self.threads[thread] = process
+
+    def new_seat(self, user, group, process, forked=False):
+        """A process of the layer, or None where there can be no more."""
+        if not forked and sum(not seat.forked for seat in self.seats) >= MOST_HEADER or len(self.seats) >= 1000:
+            return None
+        seat = Seat(len(self.seats), user, group, forked, process=process)
+        self.seats.append(seat)
+        process.first_seat = process.first_seat or seat
+        return seat
+
+    # ---- the lines of the script ----
+
+    def step(self, block, seat, words, expect=None, description=None, role=Role.CALL, asked=None, makes=None):
+        """A further line of a block. A process that has no seat has no lines."""
+        if seat is None:
+            return
+        step = Step(seat, words, expect, role, description.state() if description else "-", asked, block, makes)
+        block.steps.append(step)
+
+    def make(self, block, process, wanted, description, on_exec, words=None, form="fd {}", role=Role.CALL):
+        """A call that gives a new number. Where the log has another than the lowest, it is moved there."""
+        process.table.pop(wanted, None) if wanted in process.table and not self.gone(block, process, wanted) else None
+        lowest = process.lowest()
+        letters = self.letters(description, on_exec)
+        words = words or f"open {OUTSIDE} rw {letters}"
+        if wanted > HIGHEST:
+            block.not_at_all("a descriptor above 4,095")
+            return
+        self.step(block, process.seat, words, form.format(lowest), role=role, makes={lowest: description})
+        self.move(block, process, lowest, wanted, description, on_exec)
+        description.made_by = description.made_by or block
+        process.table[wanted] = Slot(description, on_exec)
+
+    def move(self, block, process, number, wanted, description, on_exec):
+        if number == wanted:
+            return
+        self.step(block, process.seat, f"dup2 {number} {wanted}", f"fd {wanted}", role=Role.MOVE)
+        self.step(block, process.seat, f"close {number}", "ok", role=Role.MOVE)
+        if on_exec:
+            self.step(block, process.seat, f"flags {wanted} {self.letters(description, True)}", "ok", role=Role.MOVE)
+        block.otherwise("a number other than the lowest free one")
+
+    def gone(self, block, process, number):
+        """A number that the log gives anew was closed by what the log doesn't show."""
+        self.step(block, process.seat, f"close {number}", None, role=Role.MOVE)
+        self.notes["a descriptor that the log doesn't show closed"] += 1
+        return False
+
+    @staticmethod
+    def letters(description, on_exec):
+        text = ("a" if description.append else "") + ("n" if description.nonblocking else "") + ("x" if on_exec else "")
+        return text or "-"
+
+    def slot(self, block, process, number, note=""):
+        """The slot of a number; one whose origin the log doesn't show is opened as an opaque object. None: not open."""
+        found = process.table.get(number)
+        if found is None and note and number >= 0:
+            root = process
+            while root.parent:
+                root = root.parent
+            self.missing.setdefault((root.pid, number), note)
+            self.notes["a descriptor whose origin the log doesn't show"] += 1
+            description = self.by_inode.get(inode_of(note)) or Description(kind_of(note), note, inode=inode_of(note))
+            description.unknown = description.unknown or "its origin isn't in the log"
+            self.make(block, process, number, description, False, role=Role.START)
+            found = process.table.get(number)
+        return found
+
+    def thing(self, kind):
+        """A new file object, or None where there are 64."""
+        if self.object_count >= MOST_OBJECTS:
+            return None
+        self.object_count += 1
+        thing = thing_of(len(self.things), kind)
+        self.things.append(thing)
+        return thing
+
+    # ---- one call ----
+
+    def say(self, call):
+        process = self.process_of(call.thread)
+        at = self.place_of(call)
+        if process.birth is not None and process.birth.end >= call.begin:
+            process.birth.end = max(process.birth.begin, call.begin - 0.5)
+        block = Block(call, process, call.begin, call.end, at, program=process.label())
+        self.current = block
+        try:
+            args, result = call.read()
+        except (Unreadable, ValueError, RecursionError) as fault:
+            block.not_at_all(f"can't be read: {fault}")
+            self.log.bad.append((call.begin, f"{call.name}: {fault}"))
+            self.blocks.append(block)
+            return
+        if process.unsaid:
+            block.not_at_all(process.unsaid)
+        self.note_uses(process, call, args)
+        self.dispatch(block, process, args, result)
+        if process.unsaid:
+            block.not_at_all(process.unsaid)
+        self.blocks.append(block)
+
+    def dispatch(self, block, process, args, result):
+        call = block.call
+        handler = SAYS.get(call.name)
+        try:
+            if handler:
+                handler(self, block, process, args, result)
+            else:
+                self.say_other(block, process, args, result)
+        except (IndexError, KeyError, TypeError, AttributeError, ValueError) as fault:
+            block.not_at_all("arguments of another form")
+            self.log.bad.append((call.begin, f"{call.name}: arguments of another form ({fault})"))
+
+    def say_other(self, block, process, args, result):
+        """A call that nobody has told what to do with."""
+        name = block.call.name
+        if result.error or result.value is None:
+            block.leave_out(f"{name} that failed" if result.error else f"{name} without an answer")
+        elif name in MAKES_OPAQUE or result.note:
+            description = Description(Kind.OPAQUE, result.note or name, inode=result.note)
+            on_exec = any("CLOEXEC" in str(value) or "NONBLOCK" in str(value) and "CLOEXEC" in str(value) for value in args)
+            self.make(block, process, result.value, description, on_exec or name in ("pidfd_open", "pidfd_getfd"))
+            block.otherwise("an opaque object" if name in MAKES_OPAQUE else f"a new number by {name}: an opaque object")
+        else:
+            self.unknown_effect(block, process, args)
+
+    def unknown_effect(self, block, process, args):
+        """A call that isn't known: what it does to sockets, pipes and files of the layer isn't known from here on."""
+        name = block.call.name
+        self.unknown_names[name] += 1
+        hit = False
+        for descriptor in descriptors_in(args):
+            slot = process.table.get(descriptor.number)
+            if slot and slot.description.kind is not Kind.OPAQUE:
+                self.make_unknown(slot.description, f"{name} has an effect that isn't known")
+                block.unix = block.unix or slot.description.kind.is_socket
+                hit = True
+        if hit:
+            block.not_at_all(f"{name}, of an effect that isn't known")
+        else:
+            block.leave_out(f"{name}, which isn't known, of nothing here")
+
+    def make_unknown(self, description, why):
+        """Later replies of a description, and of its peer, aren't compared."""
+        for one in (description, description.peer):
+            if one is not None and not one.unknown:
+                one.unknown = why
+        if description.thing is not None:
+            description.thing.unknown = description.thing.unknown or why
+
+    def note_uses(self, process, call, args):
+        if call.name in ("close_range", "clone", "clone3", "vfork", "fork"):
+            return
+        kept = self.closes if call.name == "close" else self.uses
+        for descriptor in descriptors_in(args):
+            kept.setdefault((id(process), descriptor.number), []).append((call.begin, call.name))
+
+    def end_thread(self, end):
+        process = self.threads.pop(end.thread, None)
+        if process is None:
+            return
+        process.threads.discard(end.thread)
+        if not process.threads and not process.over:
+            block = Block(end, process, end.begin, end.line, end.line, program=process.label())
+            block.how, block.why = (How.OTHERWISE, "ended by a signal") if end.signal else (How.AS_IT_IS, "")
+            self.finish(block, process)
+            self.blocks.append(block)
+
+    def finish(self, block, process):
+        """The process ends: all its numbers are closed."""
+        process.over = True
+        block.snapshot = {number: slot.description for number, slot in process.table.items()}
+        self.step(block, process.seat, "exit", "ok")
+        for number in list(process.table):
+            self.drop(process, number)
+
+    def person(self, pid, strictly=False):
+        """A process of the log as a script's words and replies tell it: ? where the log doesn't have it."""
+        process = self.pids.get(pid)
+        if process is None or process.seat is None:
+            return "0" if strictly else "?"
+        return mark(process.seat if strictly else process.first_seat)
+
+    def drop(self, process, number):
+        slot = process.table.pop(number, None)
+        if slot and slot.description.thing is not None:
+            slot.description.thing.ends -= 1
+
+
+def thing_of(count, kind):
+    """A file object with a name that no log has."""
+    return Thing(f"p:~{kind.value}{count}", kind)
+
+
+def descriptors_in(value):
+    """All descriptors in a call's arguments that have a note, and a bare number that comes first."""
+    if isinstance(value, Descriptor):
+        yield value
+    elif isinstance(value, dict):
+        for one in value.values():
+            yield from descriptors_in(one)
+        if isinstance(value.get("fd"), int):
+            yield SimpleNamespace(number=value["fd"])
+    elif isinstance(value, (list, tuple)):
+        for place, one in enumerate(value):
+            if place == 0 and isinstance(one, int) and not isinstance(one, bool):
+                yield SimpleNamespace(number=one)
+            else:
+                yield from descriptors_in(one)
