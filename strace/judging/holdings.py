@@ -20,7 +20,7 @@ class Holding:
 
 def holdings(world, script, runner, calls):
     """The audit after so many calls of a script, by rising process and number."""
-    trace = runner.run(script.text(), audit=calls)
+    trace = runner.run(script.text(calls), audit=calls)
     seats = {seat.number: seat for seat in world.seats}
     found = []
     for held in trace.held:

@@ -14,6 +14,7 @@ MOST_TRIED = 24
 class Order:
     """An order: the blocks, the script, the verdicts on its replies, which calls were moved, and whether time ran out."""
     blocks: list
+    rules: list
     script: object = None
     verdicts: list = field(default_factory=list)
     moved: set = field(default_factory=set)
@@ -44,7 +45,7 @@ class Search:
 
     def run(self):
         """The best order that was found; all of it is judged at the end."""
-        order = Order(by_place(self.world.blocks))
+        order = Order(by_place(self.world.blocks), self.judge.rules)
         order.script, order.verdicts = self.verdicts(order.blocks)
         while True:
             place = first_difference(order.verdicts, self.settled)

@@ -36,7 +36,8 @@ BLANK = re.compile(r"(?:\s|/\*.*?\*/)+", re.S)
 STRING = re.compile(r'(@?)"((?:[^"\\]|\\.)*)"(\.\.\.)?', re.S)
 NUMBER = re.compile(r"(-?(?:0x[0-9a-fA-F]+|\d+))(?![\w|*.<])(?!\s*<<)")
 NOTED = re.compile(r"(-?\d+|AT_FDCWD)" + NOTE, re.S)
-WORD = re.compile(r"[^\s,\[\]{}()\"=<>|]+(?:(?:\||\s?<<\s?)[^\s,\[\]{}()\"=<>|]+)*")
+WORD = re.compile(r"[^\s,\[\]{}()\"=<>|]+(?:(?:\||\s?<<\s?)[^\s,\[\]{}()\"=<>|]+)*\|?")
+ODD = re.compile(r"[^\s,\[\]{}()\"]+")
 KEY = re.compile(r"([A-Za-z_][\w.]*)=(?!>)")
 MOST_NESTED = 40
 
@@ -130,7 +131,7 @@ class Reader:
 
     def word(self):
         """A symbol, or the call of a macro as htons(80), which stays a text."""
-        found = WORD.match(self.text, self.at)
+        found = WORD.match(self.text, self.at) or ODD.match(self.text, self.at)
         if not found:
             raise Unreadable(f"'{self.text[self.at:self.at + 20]}' is no word")
         self.at = found.end()

@@ -5,6 +5,8 @@ from .world import HIGHEST, inode_of, says
 
 FLAG_REQUESTS = {"FIONBIO", "FIOCLEX", "FIONCLEX"}
 QUERY_REQUESTS = {"FIONREAD", "TIOCOUTQ", "SIOCINQ", "SIOCOUTQ", "FIOASYNC", "TIOCINQ"}
+MAKES_NUMBER = {"TIOCGPTPEER", "SIOCUNIXFILE", "NS_GET_USERNS", "NS_GET_PARENT", "SECCOMP_IOCTL_NOTIF_ADDFD"}
+O_CLOEXEC = 0o2000000
 DUPLICATES = {"F_DUPFD": False, "F_DUPFD_CLOEXEC": True}
 FORGETS = 4294967295
 
@@ -183,9 +185,9 @@ def say_ioctl(world, block, process, args, result):
             slot.on_exec = request == "FIOCLEX"
         set_flags(world, block, process, number, slot)
         block.otherwise(f"{request} as flags")
-    elif result.note:
-        description = Description(Kind.OPAQUE, result.note, inode=inode_of(result.note))
-        world.make(block, process, result.value, description, "O_CLOEXEC" in block.call.text)
+    elif result.note or request in MAKES_NUMBER:
+        description = Description(Kind.OPAQUE, result.note or request, inode=result.note)
+        world.make(block, process, result.value, description, "O_CLOEXEC" in block.call.text or bool(number_of(args[2], 0) & O_CLOEXEC))
         block.otherwise(f"a new number by ioctl {request}: an opaque object")
     elif block.unix and request not in QUERY_REQUESTS:
         world.unknown_effect(block, process, args)

@@ -116,6 +116,7 @@ class Process:
     unsaid: str = ""
     over: bool = False
     execs: int = 0
+    last: int = 0
 
     def lowest(self):
         """The lowest number that is free."""

@@ -75,13 +75,9 @@ def part(world, block, process):
 
 @says("exit_group", "exit")
 def say_exit(world, block, process, args, result):
-    thread = block.call.thread
-    others = process.threads - {thread}
-    if block.call.name == "exit" and others or thread in process.shared:
+    """The process ends behind its last thread's last call, which the log's line of its end tells."""
+    if block.call.name == "exit" and len(process.threads) > 1:
         block.leave_out("the end of a thread")
-        return
-    block.end = next((end.line for end in world.endings.get(thread, ()) if end.line > block.begin), block.end)
-    world.finish(block, process)
 
 
 @says("setuid", "setgid", "setreuid", "setregid", "setresuid", "setresgid", "setfsuid", "setfsgid", "setgroups")

@@ -1,11 +1,10 @@
 """Follows a log call by call: which process has which descriptor, and what the script says of each call."""
 import re
 from collections import Counter
-from types import SimpleNamespace
 
-from reading.calls import Call, End
-from reading.effects import MAKES_OPAQUE, OUTSIDE_ERRORS
-from reading.words import Descriptor, Unreadable
+from reading.calls import End
+from reading.effects import MAKES_OPAQUE
+from reading.words import Change, Descriptor, Unreadable
 from . import handover
 from .model import Block, Description, How, Kind, Process, Role, Seat, Slot, Step, Thing, mark
 from .names import Names
@@ -18,6 +17,8 @@ WAITS = frozenset("""accept accept4 recvfrom recvmsg recvmmsg read readv poll pp
 epoll_pwait2 execve execveat""".split())
 AUTOMATIC = re.compile(r'\[(\d+)(?:->\d+)?,@"([0-9a-f]{5})"\]')
 UNIX_NOTE = re.compile(r"UNIX(-\w+)?:\[(\d+)(?:->(\d+))?")
+NOTED = re.compile(r"\d<[^>]*>")
+MOST_LOOKED_AT = 1000
 SAYS = {}
 
 
@@ -76,6 +77,7 @@ class World:
         self.in_flight = []
         self.executed = []
         self.closes = {}
+        self.plain = False
         self.pids = {}
 
     # ---- the order in which the log is read ----
@@ -84,6 +86,7 @@ class World:
         """What is looked up in the whole log before its first call is said."""
         for end in self.log.ends:
             self.endings.setdefault(end.thread, []).append(end)
+        self.plain = not any(NOTED.search(call.text) for call in self.log.calls[:MOST_LOOKED_AT])
         for call in self.log.calls:
             if ',@"' in call.text:
                 for inode, name in AUTOMATIC.findall(call.text):
@@ -163,11 +166,11 @@ class World:
 
     # ---- the lines of the script ----
 
-    def step(self, block, seat, words, expect=None, description=None, role=Role.CALL, asked=None, makes=None):
+    def step(self, block, seat, words, expect=None, description=None, role=Role.CALL, asked=None, makes=None, state="-"):
         """A further line of a block. A process that has no seat has no lines."""
         if seat is None:
             return
-        step = Step(seat, words, expect, role, description.state() if description else "-", asked, block, makes)
+        step = Step(seat, words, expect, role, description.state() if description else state, asked, block, makes)
         block.steps.append(step)
 
     def make(self, block, process, wanted, description, on_exec, words=None, form="fd {}", role=Role.CALL):
@@ -217,6 +220,9 @@ class World:
             description.unknown = description.unknown or "its origin isn't in the log"
             self.make(block, process, number, description, False, role=Role.START)
             found = process.table.get(number)
+        if found is not None and note and not found.description.inode:
+            found.description.inode = inode_of(note)
+            found.description.what = found.description.what if found.description.kind is not Kind.OPAQUE else note
         return found
 
     def thing(self, kind):
@@ -246,6 +252,7 @@ class World:
             return
         if process.unsaid:
             block.not_at_all(process.unsaid)
+        process.last = max(process.last, call.begin if call.name in ("exit", "exit_group") else min(call.end, self.log.lines))
         self.note_uses(process, call, args)
         self.dispatch(block, process, args, result)
         if process.unsaid:
@@ -282,7 +289,7 @@ class World:
         name = block.call.name
         self.unknown_names[name] += 1
         hit = False
-        for descriptor in descriptors_in(args):
+        for descriptor in descriptors_in(args, self.plain):
             slot = process.table.get(descriptor.number)
             if slot and slot.description.kind is not Kind.OPAQUE:
                 self.make_unknown(slot.description, f"{name} has an effect that isn't known")
@@ -305,7 +312,7 @@ class World:
         if call.name in ("close_range", "clone", "clone3", "vfork", "fork"):
             return
         kept = self.closes if call.name == "close" else self.uses
-        for descriptor in descriptors_in(args):
+        for descriptor in descriptors_in(args, self.plain):
             kept.setdefault((id(process), descriptor.number), []).append((call.begin, call.name))
 
     def end_thread(self, end):
@@ -314,7 +321,8 @@ class World:
             return
         process.threads.discard(end.thread)
         if not process.threads and not process.over:
-            block = Block(end, process, end.begin, end.line, end.line, program=process.label())
+            at = end.line if end.signal else process.last + 0.5
+            block = Block(end, process, process.last + 0.1, end.line, at, program=process.label())
             block.how, block.why = (How.OTHERWISE, "ended by a signal") if end.signal else (How.AS_IT_IS, "")
             self.finish(block, process)
             self.blocks.append(block)
@@ -345,18 +353,17 @@ def thing_of(count, kind):
     return Thing(f"p:~{kind.value}{count}", kind)
 
 
-def descriptors_in(value):
-    """All descriptors in a call's arguments that have a note, and a bare number that comes first."""
+def descriptors_in(value, plain=False):
+    """All descriptors in a call's arguments; of a log without notes a bare number that comes first."""
     if isinstance(value, Descriptor):
         yield value
+    elif isinstance(value, Change):
+        yield from descriptors_in(value.before, plain)
     elif isinstance(value, dict):
         for one in value.values():
-            yield from descriptors_in(one)
-        if isinstance(value.get("fd"), int):
-            yield SimpleNamespace(number=value["fd"])
+            yield from descriptors_in(one, plain)
     elif isinstance(value, (list, tuple)):
-        for place, one in enumerate(value):
-            if place == 0 and isinstance(one, int) and not isinstance(one, bool):
-                yield SimpleNamespace(number=one)
-            else:
-                yield from descriptors_in(one)
+        if plain and value and isinstance(value[0], int):
+            yield Descriptor(value[0])
+        for one in value:
+            yield from descriptors_in(one, plain)

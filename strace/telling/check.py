@@ -1,0 +1,39 @@
+"""The table of strace/check."""
+from saying.model import How
+
+COLUMNS = ("program", "calls", "on AF_UNIX", "not said", "compared", "agree", "under a rule", "differ", "moved", "moments", "same",
+           "not told", "different")
+
+
+def heading():
+    return ["| " + " | ".join(COLUMNS) + " |", "|" + "---|" * len(COLUMNS)]
+
+
+def cells_of(row):
+    calls, replies, audit = row["calls"], row["replies"], row["audit"]
+    unix = calls["on AF_UNIX"]
+    return [row["program"], calls["made"], sum(unix.values()), unix[How.NOT_AT_ALL.value], replies["compared"], replies["agree"],
+            replies["under a rule"], replies["differ"], row["moved"], audit["moments"], audit["same"], audit["not told"],
+            audit["different"]]
+
+
+def row_of(row):
+    if "fault" in row:
+        return f"| {row['program']} | {row['fault']} |"
+    return "| " + " | ".join(str(cell) for cell in cells_of(row)) + " |"
+
+
+def table_of(rows):
+    """The sum, and the differences behind the table."""
+    good = [row for row in rows if "fault" not in row]
+    sums = [sum(column) for column in zip(*(cells_of(row)[1:] for row in good))]
+    lines = ["| all | " + " | ".join(map(str, sums)) + " |", ""] if good else []
+    for row in good:
+        for one in row["differences"]:
+            lines.append(f"{row['program']}: line {one['line']}: {one['call']} | {one['reply']} | the kernel: {one['kernel']}"[:240])
+        lines += [f"{row['program']}: {example}" for example in row["audit"]["examples"]]
+        lines += [f"{row['program']}: not said: {count} {reason}" for reason, count in row["calls"]["reasons"][How.NOT_AT_ALL.value].items()]
+        if "mistakes" in row:
+            lines.append(f"{row['program']}: {row['mistakes']['noticed']} of {row['mistakes']['planted']} mistakes noticed; "
+                         f"not: {', '.join(row['mistakes']['not noticed'])}")
+    return "\n".join(lines)
