@@ -17,7 +17,7 @@ def plant(world, order, runner):
     for place in chosen:
         lines = script.lines[:place] + script.lines[place + 1:]
         steps = script.steps[:place] + script.steps[place + 1:]
-        changed = Script(script.header, lines, steps)
+        changed = Script(script.header, lines, steps, script.seats)
         verdicts = Judge(world, order.rules).judge(changed, runner.run(changed.text()))
         if outcomes(verdicts) == before[:place] + before[place + 1:]:
             missed.append(script.steps[place].words.split(" ")[0])

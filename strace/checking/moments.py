@@ -1,29 +1,45 @@
 """Compares the audit with /proc at quiet moments: the same processes, numbers, and files or sockets."""
 import re
-from bisect import bisect_left
+from bisect import bisect_right
 
 from judging.holdings import calls_up_to, holdings
+from saying.world import WAITS
 
-MARGIN = 0.005
+MARGIN = 0.001
 MOST_TOLD = 5
 
 
 def quiet_moments(log, samples, most):
-    """Samples during which the log has no call, with the last line before them; spread over the run, each table once."""
-    times = sorted(time for call in log.calls for time in (call.time, call.ended) if time is not None)
-    times += [end.time for end in log.ends if end.time is not None]
-    times.sort()
+    """Samples during which the log has no call, with the last line before them; spread over the run, each with
+    other calls before it."""
+    busy = busy_times(log)
+    starts = [begin for begin, _ in busy]
     quiet, seen = [], set()
     for sample in samples:
-        first = bisect_left(times, sample["begin"] - MARGIN)
-        between = first < len(times) and times[first] <= sample["end"] + MARGIN
-        key = repr(sample["tables"])
-        if not between and sample["tables"] and key not in seen:
-            seen.add(key)
-            quiet.append((line_before(log, sample["begin"]), sample["tables"]))
+        last = bisect_right(starts, sample["end"] + MARGIN) - 1
+        if last >= 0 and busy[last][1] >= sample["begin"] - MARGIN or not sample["tables"]:
+            continue
+        line = line_before(log, sample["begin"])
+        if line not in seen:
+            seen.add(line)
+            quiet.append((line, sample["tables"]))
     if len(quiet) <= most:
         return quiet
     return [quiet[place * (len(quiet) - 1) // (most - 1)] for place in range(most)]
+
+
+def busy_times(log):
+    """The stretches of time in which a call that may change a table runs, joined where they overlap."""
+    times = [(call.time, call.ended) for call in log.calls if call.name not in WAITS and None not in (call.time, call.ended)]
+    times += [(call.ended, call.ended) for call in log.calls if call.name in WAITS and call.ended is not None]
+    times += [(end.time, end.time) for end in log.ends if end.time is not None]
+    joined = []
+    for begin, end in sorted(times):
+        if joined and begin <= joined[-1][1]:
+            joined[-1][1] = max(joined[-1][1], end)
+        else:
+            joined.append([begin, end])
+    return joined
 
 
 def line_before(log, time):

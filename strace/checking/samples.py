@@ -1,4 +1,4 @@
-"""Records a program and reads /proc beside it: which process has which descriptor, every few hundredths of a second."""
+"""Records a program and reads /proc beside it: which process has which descriptor, some forty times a second."""
 import json
 import os
 import signal
@@ -8,7 +8,7 @@ import tempfile
 import time
 from pathlib import Path
 
-PAUSE = 0.03
+PAUSE = 0.015
 LONGEST_RUN = 60
 
 

@@ -56,7 +56,7 @@ class Judge:
             return Verdict(step, call, ours, "", Outcome.NOT_COMPARED)
         kernel = numbered(step.expect, self.seats)
         if step.asked is not None:
-            ours = masked(ours, step.asked)
+            kernel = with_unasked(kernel, ours, step.asked)
         kernel = filled(kernel, ours, self.by_length)
         if ours == kernel:
             return Verdict(step, call, ours, kernel, Outcome.AGREES)
@@ -66,16 +66,22 @@ class Judge:
         return Verdict(step, call, ours, kernel, Outcome.RULE, rule.name, rule.parts)
 
 
-def masked(ours, asked):
-    """Of a poll's conditions those that the program asked for; of a select's the two that it can be told."""
+def with_unasked(kernel, ours, asked):
+    """The kernel's conditions of a poll, and of ours those that the program didn't ask for; a select's as a poll's."""
     if not ours.startswith("poll "):
-        return ours
-    there = set(ours[5:].split("|")) - {"-"}
-    if "SELECT" in asked:
-        there = {bit for bit, group in (("IN", READABLE), ("OUT", WRITABLE)) if bit in asked and there & group}
-    else:
-        there &= asked
-    return "poll " + ("|".join(bit for bit in ORDER if bit in there) or "-")
+        return kernel
+    mine, theirs = set(ours[5:].split("|")) - {"-"}, set(kernel[5:].split("|")) - {"-"}
+    if "SELECT" not in asked:
+        return told(theirs | (mine - asked))
+    result = set(mine)
+    for bit, group in (("IN", READABLE), ("OUT", WRITABLE)):
+        if bit in asked and bool(mine & group) != (bit in theirs):
+            result = result | {bit} if bit in theirs else result - group
+    return told(result)
+
+
+def told(conditions):
+    return "poll " + ("|".join(bit for bit in ORDER if bit in conditions) or "-")
 
 
 def filled(kernel, ours, by_length):

@@ -8,6 +8,7 @@ from .run import Fault
 
 WINDOW = 200
 MOST_TRIED = 24
+STEP = 0.001
 
 
 @dataclass
@@ -57,44 +58,57 @@ class Search:
             if not self.improve(order, place):
                 self.settled.add(order.verdicts[place].step)
 
+    def reach(self, order, moves, place):
+        """How far the replies agree after these moves; and whether that is as far as was looked."""
+        before = [block.at for block, _ in moves]
+        for block, at in moves:
+            block.at = at
+        _, verdicts = self.verdicts(by_place(order.blocks), place + WINDOW)
+        for (block, _), at in zip(moves, before):
+            block.at = at
+        found = first_difference(verdicts, self.settled)
+        return (len(verdicts), True) if found is None else (found, False)
+
     def improve(self, order, place):
         """Tries the moves that may mend a difference, and keeps the best; the answer is whether one was better."""
         step = order.verdicts[place].step
         best = None
-        for block, at in candidates(order.blocks, step.block)[:MOST_TRIED]:
-            old, block.at = block.at, at
-            blocks = by_place(order.blocks)
-            _, verdicts = self.verdicts(blocks, place + WINDOW)
-            found = first_difference(verdicts, self.settled)
-            block.at = old
-            reach = len(verdicts) if found is None else found
-            if reach > place + len(block.steps) and (best is None or reach > best[0]):
-                best = (reach, block, at)
-            if found is None or time.monotonic() > self.deadline:
+        for moves in candidates(order.blocks, step.block)[:MOST_TRIED]:
+            reach, done = self.reach(order, moves, place)
+            if reach > place + sum(len(block.steps) for block, _ in moves) and (best is None or reach > best[0]):
+                best = (reach, moves)
+            if done or time.monotonic() > self.deadline:
                 break
         if best is None:
             return False
-        _, block, block.at = best
-        block.moved = True
-        order.moved.add(block)
+        for block, at in best[1]:
+            block.at = at
+            order.moved.add(block)
         order.blocks = by_place(order.blocks)
         order.script, order.verdicts = self.verdicts(order.blocks)
         return True
 
 
 def candidates(blocks, block):
-    """Moves of one call that change its order with this one: each as a call and its new place, nearest first."""
+    """Ways to change the order of this call and one that overlaps it: each a list of calls with new places, nearest first."""
     found = []
     for other in blocks:
-        if other is block or other.call is None or not other.steps:
+        if other is block or other.call is None or block.call is None or not other.steps:
             continue
-        if block.at <= other.at and other.begin < block.at:
-            found.append((other.at - block.at, other, block.at - 0.001))
-        if other.at <= block.at and other.end > block.at:
-            found.append((block.at - other.at, other, block.at + 0.001))
-        if block.call is not None and block.at < other.at < block.end:
-            found.append((other.at - block.at, block, other.at + 0.001))
-        if block.call is not None and block.begin < other.at < block.at:
-            found.append((block.at - other.at, block, other.at - 0.001))
+        if max(other.begin, block.begin) > min(other.end, block.end):
+            continue
+        first, second = (other, block) if block.at <= other.at else (block, other)
+        found += [(abs(other.at - block.at), moves) for moves in exchanges(first, second)]
     found.sort(key=lambda one: one[0])
-    return [(one[1], one[2]) for one in found]
+    return [moves for _, moves in found]
+
+
+def exchanges(first, second):
+    """The ways to place the first call before the second, behind which it stands now."""
+    if first.begin < second.at:
+        yield [(first, second.at - STEP)]
+    if second.end > first.at:
+        yield [(second, first.at + STEP)]
+    if first.begin >= second.at and second.end <= first.at:
+        place = max(first.begin, second.begin)
+        yield [(first, place), (second, place + STEP)]

@@ -9,8 +9,8 @@ from .head import Head
 from .lines import Kind, read_line
 
 RESULT = re.compile(r"\s*= (-?0x[0-9a-f]+|-?\d+|\?)(?:" + words.NOTE + r")?(?: (E[A-Z0-9_]+))?(?: (\(.*\)))?", re.S)
+TOOK = re.compile(r" <(\d+\.\d+)>$")
 OUTER = re.compile(r"(\d+)[<,)]")
-LONGEST_LINE = 64 << 20
 
 
 @dataclass(slots=True)
@@ -128,7 +128,9 @@ class Joiner:
             if found:
                 self.log.touched.setdefault(line.thread, []).append((line.number, int(found[1])))
             return
-        self.log.calls.append(Call(line.thread, name, text, begin, line.number, time, line.time))
+        took = TOOK.search(text[-24:])
+        ended = time + float(took[1]) if took and time is not None else line.time
+        self.log.calls.append(Call(line.thread, name, text, begin, line.number, time, ended))
 
     def end(self, line):
         killed = line.rest.split()[3] if line.name == "killed" else ""

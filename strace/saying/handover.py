@@ -6,6 +6,7 @@ Where the layer forks from any process, `fork` is all that changes here."""
 from .model import Process, Role, Slot, mark
 
 MOST_RIGHTS = 253
+HEADER_FORKS = 40
 
 
 def chunks(values, size):
@@ -29,7 +30,7 @@ def fork(world, block, parent, thread):
         if child.seat:
             world.step(block, parent.seat, "fork", f"child {mark(child.seat)}")
     else:
-        child.seat = world.new_seat(parent.user, parent.group, child)
+        child.seat = seat_for(world, block, parent, child)
         if child.seat:
             hand_over(world, block, parent.seat, child.seat, table)
             block.otherwise("a fork by another process than the first: its table is handed over")
@@ -37,6 +38,21 @@ def fork(world, block, parent, thread):
         child.unsaid = "more processes than a script has"
         block.not_at_all(child.unsaid)
     return child
+
+
+def seat_for(world, block, parent, child):
+    """A process of the header; where that has many already, one that process 1 forks, and that closes all it got."""
+    first = world.seats[0]
+    owner = first.process
+    headers = sum(not seat.forked for seat in world.seats)
+    if headers < HEADER_FORKS or owner.over or owner.seat is not first or (first.user, first.group) != (parent.user, parent.group):
+        return world.new_seat(parent.user, parent.group, child)
+    seat = world.new_seat(parent.user, parent.group, child, forked=True)
+    if seat:
+        world.step(block, first, "fork", f"child {mark(seat)}", role=Role.HAND_OVER)
+        for number in sorted(owner.table):
+            world.step(block, seat, f"close {number}", role=Role.HAND_OVER)
+    return seat
 
 
 def change_user(world, block, process, user, group):

@@ -76,7 +76,8 @@ def put(world, block, process, number, description, data, result, words_of):
     for piece in pieces:
         count = 8 if description.kind is Kind.COUNTER else len(piece)
         world.step(block, process.seat, words_of(hexadecimal(piece)), f"n {count}", description)
-    description.sent += len(data)
+    if description.kind is Kind.STREAM:
+        description.unread.append(len(data))
 
 
 @says("read", "readv")
@@ -102,9 +103,12 @@ def shortened(description, data):
 
 
 def taken(description, count):
-    """Keeps how many bytes of what a peer sent are unread."""
-    if description.peer is not None:
-        description.peer.sent = max(0, description.peer.sent - count)
+    """Keeps which messages of a peer are unread."""
+    unread = description.peer.unread if description.peer is not None else []
+    while unread and count >= unread[0]:
+        count -= unread.pop(0)
+    if unread:
+        unread[0] -= count
 
 
 def control_of(world, block, process, items):

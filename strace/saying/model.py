@@ -36,7 +36,8 @@ class Role(Enum):
 
 @dataclass(slots=True, eq=False)
 class Description:
-    """An open file description as the log shows it. `unknown` says why its later replies aren't compared."""
+    """An open file description as the log shows it. `unknown` says why its later replies aren't compared;
+    `unread` has the lengths of what was sent and not yet received."""
     kind: Kind
     what: str
     nonblocking: bool = False
@@ -49,7 +50,7 @@ class Description:
     unknown: str = ""
     thing: object = None
     watched: dict = None
-    sent: int = 0
+    unread: list = field(default_factory=list)
     family: str = ""
     listens: bool = False
     made_by: object = None
@@ -58,11 +59,13 @@ class Description:
         """What differences.txt calls the kind of a descriptor."""
         if not self.kind.is_socket:
             return self.kind.value if self.kind is not Kind.OPAQUE else "mem"
-        filled = "/filled" if self.kind is Kind.STREAM and self.phase == "tied" and self.sent >= FILLED else ""
+        memory = sum(count + MESSAGE_COST for count in self.unread)
+        filled = "/filled" if self.kind is Kind.STREAM and self.phase == "tied" and memory >= FILLED else ""
         return f"{self.kind.value}/{self.phase}{filled}"
 
 
 FILLED = 1 << 15
+MESSAGE_COST = 768
 
 
 @dataclass(slots=True, eq=False)

@@ -56,16 +56,15 @@ def ended_early(block, result):
 def say_poll(world, block, process, args, result):
     if ended_early(block, result):
         return
-    found = {}
-    for one in reported(result.detail):
-        found[number_of(one.get("fd"))] = conditions(flags_of(one.get("revents")))
-    said = False
+    asked, found = {}, {}
     for one in after(args[0]) if isinstance(after(args[0]), list) else []:
-        if not isinstance(one, dict):
-            continue
-        number = number_of(one.get("fd"), -1)
-        if number >= 0:
-            said |= ask(world, block, process, number, conditions(flags_of(one.get("events"))), found.get(number, set()))
+        if isinstance(one, dict) and number_of(one.get("fd"), -1) >= 0:
+            asked.setdefault(number_of(one["fd"]), set()).update(conditions(flags_of(one.get("events"))))
+    for one in reported(result.detail):
+        found.setdefault(number_of(one.get("fd")), set()).update(conditions(flags_of(one.get("revents"))))
+    said = False
+    for number, events in asked.items():
+        said |= ask(world, block, process, number, events, found.get(number, set()))
     conclude(block, said, "poll")
 
 

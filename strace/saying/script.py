@@ -7,6 +7,7 @@ from .world import OUTSIDE
 
 MARK = re.compile("\0(\\d+)\0")
 LIMIT = 4096
+LONGEST_LINE = 4096
 
 
 @dataclass
@@ -15,6 +16,7 @@ class Script:
     header: list
     lines: list
     steps: list
+    seats: dict
 
     def text(self, count=None):
         lines = self.lines if count is None else self.lines[:count]
@@ -25,7 +27,7 @@ class Script:
         parts = list(self.header)
         for line, step in zip(self.lines, self.steps):
             if step.expect is not None:
-                parts.append(f"# {step.expect}"[:4000])
+                parts.append(f"# {numbered(step.expect, self.seats)}"[:LONGEST_LINE])
             parts.append(line)
         return "\n".join(parts) + "\n"
 
@@ -55,7 +57,7 @@ def write_script(world, blocks):
                 child.number = count
             lines.append(f"{step.seat.number} {numbered(step.words, by_key)}")
             steps.append(step)
-    return Script(header, lines, steps)
+    return Script(header, lines, steps, by_key)
 
 
 def numbered(text, by_key):

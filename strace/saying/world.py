@@ -14,7 +14,7 @@ MOST_HEADER = 64
 MOST_OBJECTS = 64
 OUTSIDE = "p:~outside"
 WAITS = frozenset("""accept accept4 recvfrom recvmsg recvmmsg read readv poll ppoll select pselect6 epoll_wait epoll_pwait
-epoll_pwait2 execve execveat""".split())
+epoll_pwait2""".split())
 AUTOMATIC = re.compile(r'\[(\d+)(?:->\d+)?,@"([0-9a-f]{5})"\]')
 UNIX_NOTE = re.compile(r"UNIX(-\w+)?:\[(\d+)(?:->(\d+))?")
 NOTED = re.compile(r"\d<[^>]*>")

@@ -33,6 +33,8 @@ def table_of(rows):
             lines.append(f"{row['program']}: line {one['line']}: {one['call']} | {one['reply']} | the kernel: {one['kernel']}"[:240])
         lines += [f"{row['program']}: {example}" for example in row["audit"]["examples"]]
         lines += [f"{row['program']}: not said: {count} {reason}" for reason, count in row["calls"]["reasons"][How.NOT_AT_ALL.value].items()]
+        if row["out of time"]:
+            lines.append(f"{row['program']}: the search for an order ran out of time")
         if "mistakes" in row:
             lines.append(f"{row['program']}: {row['mistakes']['noticed']} of {row['mistakes']['planted']} mistakes noticed; "
                          f"not: {', '.join(row['mistakes']['not noticed'])}")
