@@ -5,7 +5,7 @@ import sys
 from judging.order import Search
 from judging.rules import read_rules
 from judging.run import Fault, Runner, find_uxrun
-from reading.calls import read_log
+from reading.calls import MOST_BYTES, read_log
 from reading.head import Inherited
 from saying import descriptors, files, messages, processes, readiness, sockets  # noqa: F401  (each tells what it says)
 from saying.world import World
@@ -21,13 +21,14 @@ def parser(description, **options):
     found.add_argument("--uxrun", metavar="PATH", help="the program uxrun, where it isn't built in this repository")
     found.add_argument("--seconds", type=float, default=60, metavar="N",
                        help="how long to look for an order of calls that overlap (60)")
+    found.add_argument("--megabytes", type=int, default=MOST_BYTES >> 20, metavar="N", help="read no larger log (200)")
     return found
 
 
-def load(path):
+def load(path, most=MOST_BYTES):
     """The log, or a fault that says in one line what is wrong."""
     try:
-        log = read_log(path)
+        log = read_log(path, most)
     except OSError as error:
         raise Fault(f"{path}: {error.strerror or error}") from error
     if not log.calls:

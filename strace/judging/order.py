@@ -58,8 +58,10 @@ class Search:
             if not self.improve(order, place):
                 self.settled.add(order.verdicts[place].step)
 
-    def reach(self, order, moves, place):
-        """How far the replies agree after these moves; and whether that is as far as was looked."""
+    def reach(self, order, moves, differing, place):
+        """How far the replies agree after these moves; and whether that is as far as was looked.
+
+        A difference in one of the calls that were exchanged is no further than before."""
         before = [block.at for block, _ in moves]
         for block, at in moves:
             block.at = at
@@ -67,15 +69,18 @@ class Search:
         for (block, _), at in zip(moves, before):
             block.at = at
         found = first_difference(verdicts, self.settled)
-        return (len(verdicts), True) if found is None else (found, False)
+        if found is None:
+            return len(verdicts) + 1, True
+        concerned = [differing, *(block for block, _ in moves)]
+        return (place if verdicts[found].step.block in concerned else found), False
 
     def improve(self, order, place):
         """Tries the moves that may mend a difference, and keeps the best; the answer is whether one was better."""
         step = order.verdicts[place].step
         best = None
         for moves in candidates(order.blocks, step.block)[:MOST_TRIED]:
-            reach, done = self.reach(order, moves, place)
-            if reach > place + sum(len(block.steps) for block, _ in moves) and (best is None or reach > best[0]):
+            reach, done = self.reach(order, moves, step.block, place)
+            if reach > place and (best is None or reach > best[0]):
                 best = (reach, moves)
             if done or time.monotonic() > self.deadline:
                 break

@@ -9,6 +9,8 @@ from .head import Head
 from .lines import Kind, read_line
 
 RESULT = re.compile(r"\s*= (-?0x[0-9a-f]+|-?\d+|\?)(?:" + words.NOTE + r")?(?: (E[A-Z0-9_]+))?(?: (\(.*\)))?", re.S)
+MOST_BYTES = 200 << 20
+LONGEST_LINE = 16 << 20
 TOOK = re.compile(r" <(\d+\.\d+)>$")
 OUTER = re.compile(r"(\d+)[<,)]")
 
@@ -32,14 +34,11 @@ class Call:
     end: int
     time: float
     ended: float
-    parsed: tuple = None
 
     def read(self):
         """Arguments and result, or the fault Unreadable."""
-        if self.parsed is None:
-            values, rest = words.arguments(self.text)
-            self.parsed = ([after_name(value) for value in values], read_result(rest))
-        return self.parsed
+        values, rest = words.arguments(self.text)
+        return [after_name(value) for value in values], read_result(rest)
 
 
 @dataclass(slots=True)
@@ -157,12 +156,20 @@ class Joiner:
         return self.log
 
 
-def read_log(path):
-    """The log of a file; a fault of the file itself is an OSError."""
-    joiner = Joiner()
-    number = 0
+class TooLarge(ValueError):
+    """A log of more bytes than are read."""
+
+
+def read_log(path, most=MOST_BYTES):
+    """The log of a file; a fault of the file itself is an OSError, one of more than so many bytes TooLarge."""
+    joiner, number, total = Joiner(), 0, 0
     with open(path, encoding="latin-1", newline="\n") as file:
-        for number, text in enumerate(file, 1):
+        while text := file.readline(LONGEST_LINE):
+            number += 1
+            total += len(text)
+            if total > most:
+                raise TooLarge(f"{path}: more than {most >> 20} MB: record a shorter run, or give --megabytes N and the memory for "
+                               "it, nine times the log's")
             joiner.log.cut = not text.endswith("\n")
             joiner.add(number, text.rstrip("\r\n"))
     return joiner.close()

@@ -3,6 +3,9 @@ import shutil
 from dataclasses import dataclass, field
 
 
+PAUSE = "pause() { sleep 0.12; }"
+
+
 @dataclass
 class Program:
     """A program of the list: what it needs, where that comes from, whether the superuser has to run it, and its lines."""
@@ -13,7 +16,7 @@ class Program:
     lines: list = field(default_factory=list)
 
     def script(self):
-        return "\n".join(self.lines) + "\n"
+        return "\n".join([PAUSE, *self.lines]) + "\n"
 
     def lacks(self):
         """The commands that aren't installed."""

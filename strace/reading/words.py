@@ -58,25 +58,27 @@ def _escaped(match):
 
 
 class Reader:
-    """Reads one list of arguments from its opening bracket to its closing one."""
+    """Reads one list of arguments from its opening bracket to its closing one. Each method is led by the next character."""
 
     def __init__(self, text, at=0):
         self.text = text
         self.at = at
         self.depth = 0
 
-    def blank(self):
-        found = BLANK.match(self.text, self.at)
-        if found:
-            self.at = found.end()
-
-    def take(self, mark):
-        """Whether this mark comes next, which is read then."""
-        self.blank()
-        if self.text.startswith(mark, self.at):
-            self.at += len(mark)
-            return True
-        return False
+    def next(self):
+        """The next character that is neither blank nor of a comment, or no text at the end."""
+        text, at = self.text, self.at
+        mark = text[at:at + 1]
+        while mark and mark in " \t/":
+            if mark != "/":
+                self.at = at = at + 1
+            else:
+                found = BLANK.match(text, at)
+                if not found:
+                    break
+                self.at = at = found.end()
+            mark = text[at:at + 1]
+        return mark
 
     def sequence(self, end):
         """Values up to a closing bracket; commas may be missing, as in the sets of select(2)."""
@@ -84,11 +86,16 @@ class Reader:
         if self.depth > MOST_NESTED:
             raise Unreadable("brackets in too many others")
         values = []
-        while not self.take(end):
-            if self.at >= len(self.text):
+        while (mark := self.next()) != end:
+            if mark == "":
                 raise Unreadable(f"no {end}")
-            if not self.take("...") and not self.take(","):
-                values.append(self.value())
+            if mark == ",":
+                self.at += 1
+            elif mark == "." and self.text.startswith("...", self.at):
+                self.at += 3
+            else:
+                values.append(self.value(mark))
+        self.at += 1
         self.depth -= 1
         return values
 
@@ -102,31 +109,30 @@ class Reader:
                 fields[place] = value
         return fields
 
-    def value(self):
-        """The next value, with the one that it changed to."""
-        before = self.single()
-        if self.take("=>"):
-            return Change(before, self.value())
+    def value(self, mark):
+        """The next value, which begins with this character, with the one that it changed to."""
+        before = self.single(mark)
+        if self.next() == "=" and self.text.startswith("=>", self.at):
+            self.at += 2
+            return Change(before, self.value(self.next()))
         return before
 
-    def single(self):
-        self.blank()
-        text, at = self.text, self.at
-        if text.startswith("~[", at):
+    def single(self, mark):
+        if mark == "~" and self.text.startswith("~[", self.at):
             self.at += 1
-        if self.take("["):
-            return self.sequence("]")
-        if self.take("{"):
-            return self.structure()
-        for pattern, make in ((STRING, _string), (NOTED, _noted), (NUMBER, _number)):
-            found = pattern.match(text, self.at)
+            mark = "["
+        if mark in BRACKETS:
+            self.at += 1
+            return self.sequence("]") if mark == "[" else self.structure()
+        for pattern, make in FIRST.get(mark, ()):
+            found = pattern.match(self.text, self.at)
             if found:
                 self.at = found.end()
                 return make(found)
-        found = KEY.match(text, self.at)
+        found = KEY.match(self.text, self.at)
         if found:
             self.at = found.end()
-            return (found[1], self.value())
+            return (found[1], self.value(self.next()))
         return self.word()
 
     def word(self):
@@ -153,6 +159,11 @@ def _noted(found):
 
 def _number(found):
     return int(found[1], 16 if "x" in found[1] else 10)
+
+
+BRACKETS = ("[", "{")
+FIRST = {**dict.fromkeys('"@', ((STRING, _string),)), **dict.fromkeys("-0123456789", ((NOTED, _noted), (NUMBER, _number))),
+         "A": ((NOTED, _noted),)}
 
 
 def arguments(text):

@@ -311,8 +311,9 @@ class World:
     def note_uses(self, process, call, args):
         if call.name in ("close_range", "clone", "clone3", "vfork", "fork"):
             return
-        kept = self.closes if call.name == "close" else self.uses
-        for descriptor in descriptors_in(args, self.plain):
+        overwrites = call.name in ("dup2", "dup3")
+        for place, descriptor in enumerate(descriptors_in(args, self.plain)):
+            kept = self.closes if call.name == "close" or overwrites and place == 1 else self.uses
             kept.setdefault((id(process), descriptor.number), []).append((call.begin, call.name))
 
     def end_thread(self, end):

@@ -28,15 +28,16 @@ def tell(world, block, one):
 
 
 def uses_of(world, block, number):
-    """The names of calls on a number from a program's beginning to its end or its next exec, or `closed` alone."""
+    """The names of calls on a number from a program's beginning until it is closed; `closed` where nothing comes before."""
     process = block.process
     until = min((other.call.begin for other in world.executed
                  if other.process is process and other.call.begin > block.call.begin), default=float("inf"))
+    closes = [line for line, _ in world.closes.get((id(process), number), ()) if block.call.end < line < until]
+    until = min([until, *closes])
     calls = [name for line, name in world.uses.get((id(process), number), ()) if block.call.end < line < until]
-    if any(block.call.end < line < until for line, touched in touches(world, process) if touched == number):
+    if any(block.call.end < line < until and touched == number for line, touched in touches(world, process)):
         calls.append("a query")
-    closes = any(line for line in world.closes.get((id(process), number), ()) if block.call.end < line < until)
-    return calls[:3] or (["closed"] if closes else [])
+    return list(dict.fromkeys(calls))[:3] or (["closed"] if closes else [])
 
 
 def touches(world, process):

@@ -54,6 +54,8 @@ def report_of(log, world, order, runner):
         "calls": calls_of(world),
         "unknown calls": dict(world.unknown_names),
         "notes": dict(world.notes),
+        "unknown": [{"line": block.call.begin, "process": block.program, "call": block.call.name, "why": block.unknown}
+                    for block in world.blocks if block.unknown],
         "replies": replies_of(order),
         "moved": len(order.moved),
         "out of time": order.out_of_time,
@@ -86,6 +88,10 @@ def text_of(report, every=False):
     lines.append(f"replies: {replies['compared']} compared, {replies['agree']} agree, {replies['under a rule']} under a rule, "
                  f"{replies['differ']} differ; {report['moved']} calls that overlap were moved")
     lines += reasons(replies["rules"], "rules of compare/differences.txt")
+    if report["unknown"]:
+        lines.append(f"  {len(report['unknown'])} calls are of descriptors whose state isn't known: their replies are ? (--all lists them)")
+    if every:
+        lines += [f"  line {one['line']}: {one['process']}: {one['call']} = ?, {one['why']}" for one in report["unknown"]]
     if report["out of time"]:
         lines.append("  the search for an order ended before its time was enough: see --seconds")
     for one in report["differences"][:None if every else 1]:
