@@ -102,6 +102,6 @@ def like(pattern, word):
 
 
 def first_difference(verdicts, settled=()):
-    """The place of the first difference that isn't settled, or None."""
+    """The place of the first difference that isn't settled, or None. One whose rule says that the states part counts."""
     return next((place for place, verdict in enumerate(verdicts)
-                 if verdict.outcome is Outcome.DIFFERS and verdict.step not in settled), None)
+                 if (verdict.outcome is Outcome.DIFFERS or verdict.parts) and verdict.step not in settled), None)

@@ -113,7 +113,13 @@ def exchanges(first, second):
     if first.begin < second.at:
         yield [(first, second.at - STEP)]
     if second.end > first.at:
-        yield [(second, first.at + STEP)]
+        yield with_following(second, first.at + STEP)
     if first.begin >= second.at and second.end <= first.at:
         place = max(first.begin, second.begin)
-        yield [(first, place), (second, place + STEP)]
+        yield [(first, place), *with_following(second, place + STEP)]
+
+
+def with_following(block, at):
+    """A call's part at a new place, and the parts of the same call behind it."""
+    later = [one for one in block.following if one.at <= at]
+    return [(block, at), *((one, at + STEP * (place + 1) / (len(later) + 1)) for place, one in enumerate(later))]

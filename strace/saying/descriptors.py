@@ -59,6 +59,7 @@ def say_close_range(world, block, process, args, result):
                 slot.on_exec = True
                 set_flags(world, block, process, number, slot)
             else:
+                world.closes.setdefault((id(process), number), []).append((block.call.begin, "close_range"))
                 close(world, block, process, number, slot)
     if block.steps:
         block.otherwise("close_range as several closes")

@@ -73,9 +73,10 @@ def put(world, block, process, number, description, data, result, words_of):
     pieces = [data[at:at + PIECE] for at in range(0, len(data), PIECE)] or [b""]
     if len(pieces) > 1:
         block.otherwise("in pieces: too long for a line")
-    for piece in pieces:
+    parts = world.parts(block, len(pieces)) if block.call.begin < block.call.end else [block] * len(pieces)
+    for piece, part in zip(pieces, parts):
         count = 8 if description.kind is Kind.COUNTER else len(piece)
-        world.step(block, process.seat, words_of(hexadecimal(piece)), f"n {count}", description)
+        world.step(part, process.seat, words_of(hexadecimal(piece)), f"n {count}", description)
     if description.kind is Kind.STREAM:
         description.unread.append(len(data))
 

@@ -160,7 +160,8 @@ class Block:
     program: str = ""
     unknown: str = ""
     snapshot: dict = None
-    moved: bool = False
+    is_part: bool = False
+    following: list = field(default_factory=list)
 
     def otherwise(self, why):
         """The call is said by other words."""

@@ -173,6 +173,16 @@ class World:
         step = Step(seat, words, expect, role, description.state() if description else state, asked, block, makes)
         block.steps.append(step)
 
+    def parts(self, block, count):
+        """Blocks for the pieces of a call that others interrupted: each may stand elsewhere, in their order."""
+        made = [Block(block.call, block.process, block.begin, block.end, block.at + place * 1e-6, block.how, block.why,
+                      unix=block.unix, program=block.program, is_part=True) for place in range(1, count)]
+        whole = [block, *made]
+        for place, one in enumerate(whole):
+            one.following = whole[place + 1:]
+        self.blocks += made
+        return whole
+
     def make(self, block, process, wanted, description, on_exec, words=None, form="fd {}", role=Role.CALL):
         """A call that gives a new number. Where the log has another than the lowest, it is moved there."""
         process.table.pop(wanted, None) if wanted in process.table and not self.gone(block, process, wanted) else None

@@ -1,4 +1,6 @@
 """The report of found-open: what each program had open behind its exec, and what looks wrong."""
+from collections import Counter
+
 from judging.holdings import holdings
 from judging.run import Fault
 
@@ -58,17 +60,34 @@ def judge(one, used, block):
 
 
 def text_of(report, every=False):
-    """The report as lines: first what looks wrong, then each program."""
+    """The report as lines: what looks wrong, each once with how often, and then each program that found something."""
     wrong = [(program, one) for program in report["programs"] for one in program["found"] if one["wrong"]]
-    lines = [f"{len(report['programs'])} programs; {len(wrong)} descriptors look wrong"]
+    lines = [f"{len(report['programs'])} programs were executed; {len(wrong)} descriptors look wrong"]
+    counts = Counter((name_of(program), one["wrong"], one["chain"][0]) for program, one in wrong)
+    for (name, why, origin), count in sorted(counts.items(), key=lambda item: weight(item[0][1])):
+        lines.append(f"  {name}{f' ({count} times)' if count > 1 else ''}: {why}: {origin}")
+    told = set()
     for program in report["programs"]:
         rows = [one for one in program["found"] if every or one["number"] >= STREAMS]
+        key = (name_of(program), tuple((one["number"], one["wrong"]) for one in rows))
+        if key in told and not every:
+            continue
+        told.add(key)
         if rows or every or program["unknown"]:
             lines.append(f"{program['program']}, line {program['line']}:")
         if program["unknown"]:
             lines.append(f"  not known: {program['unknown']}")
         lines += [row_of(one) for one in rows]
     return "\n".join(lines)
+
+
+def name_of(program):
+    return program["program"].split(" (pid ")[0]
+
+
+def weight(why):
+    """Listeners first, then connections, then the rest."""
+    return 0 if "listens" in why else 1 if "connection" in why else 2
 
 
 def row_of(one):

@@ -9,7 +9,7 @@ MOST_TOLD = 12
 
 def calls_of(world):
     """How the log's calls were said, all of them and those on AF_UNIX sockets."""
-    blocks = [block for block in world.blocks if block.call is not None and hasattr(block.call, "name")]
+    blocks = [block for block in world.blocks if block.call is not None and hasattr(block.call, "name") and not block.is_part]
     return {
         "made": len(blocks) + sum(world.log.quiet.values()),
         **{how.value: sum(block.how is how for block in blocks) for how in How},
