@@ -95,7 +95,9 @@ class Search:
 
 
 def candidates(blocks, block):
-    """Ways to change the order of this call and one that overlaps it: each a list of calls with new places, nearest first."""
+    """Ways to change the order of this call and one that overlaps it: each a list of calls with new places.
+
+    Calls that concern the same socket, pipe or file come first, and of those the nearest."""
     found = []
     for other in blocks:
         if other is block or other.call is None or block.call is None or not other.steps:
@@ -103,7 +105,7 @@ def candidates(blocks, block):
         if max(other.begin, block.begin) > min(other.end, block.end):
             continue
         first, second = (other, block) if block.at <= other.at else (block, other)
-        found += [(abs(other.at - block.at), moves) for moves in exchanges(first, second)]
+        found += [((not block.is_related(other), abs(other.at - block.at)), moves) for moves in exchanges(first, second)]
     found.sort(key=lambda one: one[0])
     return [moves for _, moves in found]
 

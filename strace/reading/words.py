@@ -132,7 +132,8 @@ class Reader:
         found = KEY.match(self.text, self.at)
         if found:
             self.at = found.end()
-            return (found[1], self.value(self.next()))
+            mark = self.next()
+            return (found[1], None if mark in ENDS else self.value(mark))
         return self.word()
 
     def word(self):
@@ -162,6 +163,7 @@ def _number(found):
 
 
 BRACKETS = ("[", "{")
+ENDS = (",", "}", "]", ")", "")
 FIRST = {**dict.fromkeys('"@', ((STRING, _string),)), **dict.fromkeys("-0123456789", ((NOTED, _noted), (NUMBER, _number))),
          "A": ((NOTED, _noted),)}
 

@@ -5,7 +5,7 @@ from reading.words import Text, after, flags_of, number_of
 from .descriptors import note_of
 from .messages import hexadecimal, sayable
 from .model import Description, Kind, Slot
-from .sockets import make_two
+from .sockets import two_numbers
 from .world import HIGHEST, OUTSIDE, inode_of, says
 
 WHENCES = {"SEEK_SET": "set", "SEEK_CUR": "cur", "SEEK_END": "end"}
@@ -39,7 +39,7 @@ def say_open(world, block, process, args, result):
         return
     how = args[2] if at else args[1] if block.call.name == "open" else "O_WRONLY"
     flags = flags_of(how["flags"]) if isinstance(how, dict) else flags_of(how)
-    shown = path.decode("utf-8", "replace")
+    shown = path.decode("utf-8", "replace") or result.note
     description = Description(Kind.OPAQUE, f"opened {shown}", "O_NONBLOCK" in flags, "O_APPEND" in flags)
     description.inode = result.note or shown
     world.make(block, process, result.value, description, "O_CLOEXEC" in flags)
@@ -51,7 +51,7 @@ def say_pipe(world, block, process, args, result):
     if result.error:
         block.leave_out("pipe that failed")
         return
-    ends = after(args[0])
+    ends = two_numbers(process, args[0])
     flags = flags_of(args[1]) if len(args) > 1 else set()
     on_exec = "O_CLOEXEC" in flags
     thing = None if "O_DIRECT" in flags else pipe_thing(world, block, process)

@@ -23,7 +23,9 @@ def data_of(world, value, length=None):
     if isinstance(value, list):
         return b"".join(data_of(world, one.get("iov_base"), number_of(one.get("iov_len"), 0)) for one in value if isinstance(one, dict))
     if not isinstance(value, Text):
-        return b""
+        length = max(length or 0, 0)
+        world.cut_texts += length > 0
+        return bytes(length)
     if value.cut:
         world.cut_texts += 1
         return value.data + bytes(max(0, (length or 0) - len(value.data)))
@@ -193,9 +195,16 @@ def say_sendmsg(world, block, process, args, result):
     send_message(world, block, process, number_of(args[0]), slot, after(args[1]), flags_of(args[2]), result)
 
 
+def hidden(world, block, slot, why):
+    """A call whose arguments strace couldn't read, as those of a program that forbids it: an effect that isn't known."""
+    world.make_unknown(slot.description, why)
+    block.unknown = why
+    block.not_at_all(why)
+
+
 def send_message(world, block, process, number, slot, message, flags, result):
     if not isinstance(message, dict):
-        block.not_at_all("a message that the log doesn't show")
+        hidden(world, block, slot, "a message that the log doesn't show")
         return
     data = data_of(world, message.get("msg_iov"))
     send(world, block, process, number, slot, data, message.get("msg_name"), message.get("msg_control"), flags, result)
@@ -239,7 +248,10 @@ def sender_of(world, process, value, length):
 @says("recvmsg")
 def say_recvmsg(world, block, process, args, result):
     slot = sayable(world, block, process, args[0], "recvmsg")
-    if slot is None or outside(block, result):
+    if slot is None:
+        put_down(world, block, process, after(args[1]), flags_of(args[2]), result)
+        return
+    if outside(block, result):
         return
     receive_message(world, block, process, number_of(args[0]), slot, after(args[1]), flags_of(args[2]), result)
 
@@ -247,7 +259,10 @@ def say_recvmsg(world, block, process, args, result):
 def receive_message(world, block, process, number, slot, message, flags, result):
     """One message, whose space for control data is guessed from what came: strace shows what is left of it alone."""
     if not isinstance(message, dict):
-        receive(world, block, process, number, slot, PIECE, 0, b"", flags, result, ("?", "?", "?"), [])
+        if result.error:
+            receive(world, block, process, number, slot, PIECE, 0, b"", flags, result, ("?", "?", "?"), [])
+        else:
+            hidden(world, block, slot, "a message that the log doesn't show")
         return
     told = flags_of(message.get("msg_flags"))
     items, numbers, notes = items_of(world, message.get("msg_control"))
@@ -259,6 +274,17 @@ def receive_message(world, block, process, number, slot, message, flags, result)
     data = data_of(world, message.get("msg_iov"), result.value)
     receive(world, block, process, number, slot, room_of(message.get("msg_iov")), space, data, flags, result,
             (words, items, sender), list(zip(numbers, notes)))
+
+
+def put_down(world, block, process, message, flags, result):
+    """Descriptors that came with a message that isn't said: the numbers are taken, by opens of an opaque object."""
+    if not isinstance(message, dict) or result.error:
+        return
+    _, numbers, notes = items_of(world, message.get("msg_control"))
+    for number, note in zip(numbers, notes):
+        description = Description(kind_of(note), note or "a descriptor that came in a message", inode=inode_of(note))
+        description.unknown = "it came in a message that isn't said"
+        world.make(block, process, number, description, "MSG_CMSG_CLOEXEC" in flags)
 
 
 def items_of(world, value):
@@ -346,7 +372,11 @@ def landed(world, note, take=False):
 @says("recvmmsg")
 def say_recvmmsg(world, block, process, args, result):
     slot = sayable(world, block, process, args[0], "recvmmsg")
-    if slot is None or outside(block, result):
+    if slot is None:
+        for one in after(args[1]) if isinstance(after(args[1]), list) else []:
+            put_down(world, block, process, one.get("msg_hdr", one), flags_of(args[3]), result)
+        return
+    if outside(block, result):
         return
     flags = flags_of(args[3])
     if result.error:

@@ -161,7 +161,16 @@ class Block:
     unknown: str = ""
     snapshot: dict = None
     is_part: bool = False
+    concerns: set = field(default_factory=set)
     following: list = field(default_factory=list)
+
+    def concern(self, description):
+        """Keeps what this call may depend on: a description, its peer and its object."""
+        self.concerns.update(id(one) for one in (description, description.peer, description.thing) if one is not None)
+
+    def is_related(self, other):
+        """Whether two calls concern the same; a call without a description of its own may concern all."""
+        return not self.concerns or not other.concerns or not self.concerns.isdisjoint(other.concerns)
 
     def otherwise(self, why):
         """The call is said by other words."""

@@ -98,7 +98,7 @@ def say_pair(world, block, process, args, result):
     if result.error or kind is None:
         block.leave_out(f"socketpair that failed: {result.error}")
         return
-    ends = after(args[3])
+    ends = two_numbers(process, args[3])
     if args[0] not in ("AF_UNIX", "AF_LOCAL"):
         for end in ends:
             description = Description(Kind.OPAQUE, str(args[0]), inode=inode_of(note_of(end)))
@@ -111,6 +111,15 @@ def say_pair(world, block, process, args, result):
     first.phase = second.phase = "tied"
     first.what = second.what = "an end of a socketpair"
     make_two(world, block, process, f"pair {kind.value}", (first, second), [number_of(end) for end in ends], "SOCK_CLOEXEC" in flags)
+
+
+def two_numbers(process, value):
+    """Both descriptors that a call made; where strace couldn't read them, the two lowest free numbers."""
+    value = after(value)
+    if isinstance(value, list) and len(value) == 2:
+        return value
+    low = [number for number in range(len(process.table) + 2) if number not in process.table]
+    return [Descriptor(number) for number in low[:2]]
 
 
 def make_two(world, block, process, words, made, numbers, on_exec):
@@ -143,7 +152,7 @@ def say_bind(world, block, process, args, result):
         return
     word = bind_word(world, block, process, args[1], description, result)
     if word is None:
-        block.leave_out("bind of an address of another family")
+        unseen_address(world, block, description, result)
         return
     if result.error == "EADDRINUSE" and word.startswith("p:") and word not in world.names.bound:
         world.names.files.append(word)
@@ -151,6 +160,16 @@ def say_bind(world, block, process, args, result):
     world.step(block, process.seat, f"bind {number} {word}", f"err {result.error}" if result.error else "ok", description)
     if not result.error:
         description.name = word
+
+
+def unseen_address(world, block, description, result):
+    """An address of another family, or one that strace couldn't read: where the call went well, its effect isn't known."""
+    if result.error:
+        block.leave_out(f"{block.call.name} that failed, to an address that the log doesn't show")
+        return
+    why = f"{block.call.name} to an address that the log doesn't show"
+    world.make_unknown(description, why)
+    block.not_at_all(why)
 
 
 def bind_word(world, block, process, value, description, result):
@@ -200,7 +219,7 @@ def say_connect(world, block, process, args, result):
     ends = isinstance(value, dict) and value.get("sa_family") == "AF_UNSPEC"
     word = "u" if ends else address(world, process, args[1])
     if word is None:
-        block.leave_out("connect to an address of another family")
+        unseen_address(world, block, description, result)
         return
     target = world.names.bound.get(word)
     if not result.error and not ends and target is None:
@@ -212,6 +231,8 @@ def say_connect(world, block, process, args, result):
         world.names.files.append(word)
         world.names.bound[word] = None
     world.step(block, process.seat, f"connect {number} {word}", f"err {result.error}" if result.error else "ok", description)
+    if target is not None:
+        block.concern(target)
     if not result.error:
         tie(description, target, ends)
 
@@ -233,17 +254,17 @@ def say_accept(world, block, process, args, result):
         say_accept_elsewhere(world, block, process, args, result)
         return
     listener, number = slot.description, number_of(args[0])
-    if outside(block, result) or skipped(block, listener, number):
-        return
     flags = flags_of(args[3]) if len(args) > 3 else set()
+    if outside(block, result) or result.error and skipped(block, listener, number):
+        return
     if result.error:
         world.step(block, process.seat, f"accept {number} -", f"err {result.error}", listener)
         return
     made = new_socket(world, listener.kind, flags, result.note)
     made.phase, made.name, made.what = "tied", listener.name, f"a connection accepted at {listener.name[2:] or 'a listener'}"
     on_exec = "SOCK_CLOEXEC" in flags
-    if not listener.waiting:
-        made.unknown = "its peer is outside of the log"
+    if listener.unknown or not listener.waiting:
+        made.unknown = listener.unknown or "its peer is outside of the log"
         world.make(block, process, result.value, made, on_exec)
         block.not_at_all(made.unknown)
         return

@@ -170,6 +170,8 @@ class World:
         """A further line of a block. A process that has no seat has no lines."""
         if seat is None:
             return
+        if description is not None:
+            block.concern(description)
         step = Step(seat, words, expect, role, description.state() if description else state, asked, block, makes)
         block.steps.append(step)
 

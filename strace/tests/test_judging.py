@@ -3,7 +3,6 @@ import sys
 import tempfile
 import unittest
 from pathlib import Path
-from types import SimpleNamespace
 
 TOP = Path(__file__).resolve().parents[1]
 sys.path.insert(0, str(TOP))
@@ -11,6 +10,7 @@ from judging.compare import filled, with_unasked
 from judging.order import candidates, exchanges
 from judging.rules import RULES, Case, read_rules, rule_of
 from saying.handover import placing
+from saying.model import Block
 from saying.names import Names, spell
 
 SMALL = """# a comment
@@ -102,7 +102,7 @@ class Replies(unittest.TestCase):
 
 
 def block(begin, end, at):
-    return SimpleNamespace(begin=begin, end=end, at=at, steps=[1], call=object())
+    return Block(object(), None, begin, end, at, steps=[1])
 
 
 def in_order(moves, first, second):

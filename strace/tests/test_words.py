@@ -47,6 +47,9 @@ class Structures(unittest.TestCase):
     def test_nested(self):
         self.assertEqual(values("{a=[{b=1}, {b=-2}], c=NULL})"), [{"a": [{"b": 1}, {"b": -2}], "c": "NULL"}])
 
+    def test_a_field_may_be_empty(self):
+        self.assertEqual(values("{a=, b=2, c=})"), [{"a": None, "b": 2, "c": None}])
+
     def test_changes(self):
         self.assertEqual(values("[110 => 0], {n=4 => 5})"), [[Change(110, 0)], {"n": Change(4, 5)}])
         self.assertEqual(after(Change(1, Change(2, 3))), 3)
