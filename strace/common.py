@@ -39,17 +39,21 @@ def load(path, most=MOST_BYTES):
 
 
 def say(log):
-    """The log said in a script's words. What a first program had open, but the log doesn't tell, is found by a second pass."""
+    """The log said in a script's words.
+
+    What a first program had open, but the log doesn't tell, and what peers outside of the log sent, is found by further passes."""
     inherited = list(log.head.inherited)
     if not log.head.recorded:
         inherited = [Inherited(number, False, "a standard stream") for number in range(3)]
+    learnt = None
     for _ in range(MOST_PASSES):
-        world = World(log, inherited).run()
+        world = World(log, inherited, learnt).run()
         wanted = {number: note for (_, number), note in world.missing.items() if number < 4096}
         known = {one.number for one in inherited}
         new = [Inherited(number, False, note) for number, note in wanted.items() if number not in known]
-        if log.head.recorded or not new:
+        if (log.head.recorded or not new) and (learnt is not None or not world.outside.count):
             break
+        learnt = world.outside.learnt
         inherited += new
     return world
 

@@ -2,6 +2,7 @@
 from dataclasses import dataclass, field
 
 from saying.model import Role
+from saying.outside import LABEL
 
 
 @dataclass
@@ -25,7 +26,7 @@ def holdings(world, script, runner, calls):
     found = []
     for held in trace.held:
         seat = seats.get(held.process)
-        if seat is None:
+        if seat is None or seat.process.program == LABEL:
             continue
         description, chain = tell_chain(script, held.links)
         found.append(Holding(seat.process, held.number, description, chain, description.unknown if description else ""))

@@ -39,7 +39,7 @@ def say_open(world, block, process, args, result):
         return
     how = args[2] if at else args[1] if block.call.name == "open" else "O_WRONLY"
     flags = flags_of(how["flags"]) if isinstance(how, dict) else flags_of(how)
-    shown = path.decode("utf-8", "replace") or result.note
+    shown = path.decode("utf-8", "replace") or result.note or "a file that the log doesn't name"
     description = Description(Kind.OPAQUE, f"opened {shown}", "O_NONBLOCK" in flags, "O_APPEND" in flags)
     description.inode = result.note or shown
     world.make(block, process, result.value, description, "O_CLOEXEC" in flags)

@@ -1,7 +1,10 @@
 """Says sends and receives, reads and writes, of sockets, pipes, counters and memory files."""
+import re
+
 from reading.words import Descriptor, Text, after, flags_of, number_of
 from .descriptors import FORGETS, note_of, on_unix
 from .model import Description, Kind, Slot
+from .outside import Arrival
 from .sockets import address, outside, skipped, told_address
 from .world import HIGHEST, inode_of, kind_of, says
 
@@ -63,9 +66,11 @@ def say_write(world, block, process, args, result):
     put(world, block, process, number_of(args[0]), slot.description, data, result, lambda piece: f"write {number_of(args[0])} {piece}")
 
 
-def put(world, block, process, number, description, data, result, words_of):
+def put(world, block, process, number, description, data, result, words_of, target=None):
     """Sends bytes, in pieces where a line of a script can't hold them."""
     if result.error:
+        if result.error == "EPIPE" and description.outer is not None:
+            world.outside.close(block, description.outer)
         world.step(block, process.seat, words_of(hexadecimal(data[:PIECE])), f"err {result.error}", description)
         return
     data = data[:result.value] if description.kind is Kind.STREAM or not description.kind.is_socket else data
@@ -79,7 +84,12 @@ def put(world, block, process, number, description, data, result, words_of):
     for piece, part in zip(pieces, parts):
         count = 8 if description.kind is Kind.COUNTER else len(piece)
         world.step(part, process.seat, words_of(hexadecimal(piece)), f"n {count}", description)
-    if description.kind is Kind.STREAM:
+    reached = target or description.peer
+    if reached is not None:
+        reached.pending += 1
+    if description.outer is not None:
+        world.outside.drain(block, description.outer, len(pieces))
+    elif description.kind is Kind.STREAM:
         description.unread.append(len(data))
 
 
@@ -95,10 +105,29 @@ def say_read(world, block, process, args, result):
         block.otherwise("readv as read")
     told = f"err {result.error}"
     if not result.error:
+        arrive(world, block, description, data_of(world, args[1], result.value)[:result.value], length)
         data = shortened(description, data_of(world, args[1], result.value)[:result.value])
         told = f"bytes {hexadecimal(data)}"
         taken(description, len(data))
     world.step(block, process.seat, f"read {number} {min(length, FORGETS)}", told, description)
+
+
+def arrive(world, block, description, data, length, items="-", came=0, peek=False, sender="u"):
+    """What a peer outside of the log sent comes before the receive that takes it."""
+    if description.kind is Kind.DATAGRAM and description.outer is None:
+        if description.pending or not description.name:
+            description.pending -= not peek and description.pending > 0
+            return
+    elif description.outer is None:
+        return
+    credentials = re.search(r"c:[^,]*,(\d+),(\d+)", items)
+    person = (int(credentials[1]), int(credentials[2])) if credentials else None
+    is_end = not data and length > 0 and description.kind is Kind.STREAM
+    arrival = Arrival(shortened(description, data), came, person, is_end)
+    if description.outer is None:
+        world.outside.datagram(block, description, sender, arrival, peek)
+    else:
+        world.outside.received(block, description, arrival, peek)
 
 
 def shortened(description, data):
@@ -164,18 +193,21 @@ def send(world, block, process, number, slot, data, where, items, flags, result)
         block.leave_out("a send to an address of another family")
         return
     if word not in ("-", "u") and not result.error and world.names.bound.get(word) is None:
-        block.not_at_all("a peer outside of the log")
-        return
+        if world.outside.meet(block, slot.description.kind, word) is None:
+            block.not_at_all("a peer outside of the log")
+            return
     letters = "d" if "MSG_DONTWAIT" in flags else "-"
     first = [control]
 
     def words_of(piece):
         return f"send {number} {word} {piece} {first.pop() if first else '-'} {letters}"
-    put(world, block, process, number, slot.description, data, result, words_of)
+    target = world.names.bound.get(word)
+    put(world, block, process, number, slot.description, data, result, words_of, target)
+    if not result.error and target is not None and target.outer is not None:
+        world.outside.drain(block, target.outer, 1)
     if not result.error:
         fly(world, process, rights)
-        if rights and len(data) > PIECE:
-            slot.description.watched = {"split": True}
+        slot.description.is_split = slot.description.is_split or bool(rights) and len(data) > PIECE
 
 
 @says("sendto", "send")
@@ -313,12 +345,13 @@ def receive(world, block, process, number, slot, length, space, data, flags, res
     if result.error:
         world.step(block, process.seat, f"recv {number} {length} {space} {letters}", f"err {result.error}", description)
         return
+    arrive(world, block, description, data[:result.value], length, told[1], len(came), "p" in letters, told[2])
     data = shortened(description, data[:result.value])
     count = result.value if "MSG_TRUNC" in flags else len(data)
     low = lowest_numbers(process, len(came))
     items = told[1].replace("r:" + ",".join(str(one) for one, _ in came), "r:" + ",".join(map(str, low))) if came else told[1]
     rest = None
-    if came and description.peer is not None and description.peer.watched and len(data) > PIECE and "p" not in letters:
+    if came and description.peer is not None and description.peer.is_split and len(data) > PIECE and "p" not in letters:
         data, rest = data[:PIECE], data[PIECE:]
         count, length = len(data), PIECE
     world.step(block, process.seat, f"recv {number} {length} {space} {letters}",

@@ -54,6 +54,9 @@ class Description:
     family: str = ""
     listens: bool = False
     made_by: object = None
+    outer: object = None
+    pending: int = 0
+    is_split: bool = False
 
     def state(self):
         """What differences.txt calls the kind of a descriptor."""
@@ -94,6 +97,7 @@ class Seat:
     forked: bool = False
     number: int = 0
     process: object = None
+    privileged: bool = False
 
 
 def mark(seat):

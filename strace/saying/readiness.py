@@ -10,6 +10,7 @@ BITS = {"POLLIN": "IN", "POLLOUT": "OUT", "POLLRDHUP": "RDHUP", "POLLHUP": "HUP"
         "EPOLLIN": "IN", "EPOLLOUT": "OUT", "EPOLLRDHUP": "RDHUP", "EPOLLHUP": "HUP", "EPOLLERR": "ERR",
         "POLLRDNORM": "IN", "EPOLLRDNORM": "IN", "POLLWRNORM": "OUT", "EPOLLWRNORM": "OUT"}
 ORDER = ("IN", "OUT", "RDHUP", "HUP", "ERR", "NVAL")
+GIVES = {"IN", "HUP", "RDHUP"}
 ALWAYS = {"HUP", "ERR", "NVAL"}
 
 
@@ -31,6 +32,8 @@ def ask(world, block, process, number, asked, found):
     if description.unknown or description.thing is not None and description.thing.unknown:
         block.unknown = description.unknown or description.thing.unknown
         return False
+    if found & GIVES and (description.outer is not None or description.phase == "listening" or description.kind is Kind.DATAGRAM):
+        world.outside.told(block, description, "HUP" in found)
     world.step(block, process.seat, f"poll {number}", tell(found), description, asked=frozenset(asked | ALWAYS))
     return True
 

@@ -40,7 +40,7 @@ def header_of(world):
     seats = [seat for seat in world.seats if not seat.forked]
     for number, seat in enumerate(seats, 1):
         seat.number = number
-        lines.append(f"proc {seat.user} {seat.group} {1 if seat.user == 0 else 0} {LIMIT}")
+        lines.append(f"proc {seat.user} {seat.group} {1 if seat.user == 0 or seat.privileged else 0} {LIMIT}")
     return lines, len(seats)
 
 

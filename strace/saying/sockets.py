@@ -9,6 +9,7 @@ from .world import HIGHEST, inode_of, says
 TYPES = {"SOCK_STREAM": Kind.STREAM, "SOCK_DGRAM": Kind.DATAGRAM, "SOCK_RAW": Kind.DATAGRAM, "SOCK_SEQPACKET": Kind.RECORDS}
 WAYS = {"SHUT_RD": "r", "SHUT_WR": "w", "SHUT_RDWR": "rw"}
 OPTIONS = {"SO_TYPE": "type", "SO_ERROR": "error", "SO_PASSCRED": "passcred", "SO_PEERCRED": "peercred", "SO_ACCEPTCONN": "accept"}
+PLAYED = "a peer outside of the log, which another process of the script plays"
 NUMBERS = {"SOCK_STREAM": 1, "SOCK_DGRAM": 2, "SOCK_SEQPACKET": 5, "ECONNRESET": 20, "104": 20}
 
 
@@ -223,6 +224,9 @@ def say_connect(world, block, process, args, result):
         return
     target = world.names.bound.get(word)
     if not result.error and not ends and target is None:
+        target = world.outside.meet(block, description.kind, word)
+        block.otherwise(PLAYED)
+    if not result.error and not ends and target is None:
         description.unknown = "its peer is outside of the log"
         description.phase = "tied"
         block.not_at_all(description.unknown)
@@ -235,6 +239,19 @@ def say_connect(world, block, process, args, result):
         block.concern(target)
     if not result.error:
         tie(description, target, ends)
+        if target is not None and target.outer is not None:
+            connect_outside(world, block, description, target)
+
+
+def connect_outside(world, block, description, target):
+    """The peer outside of a socket that was just connected."""
+    description.what += ", outside of the log"
+    if description.kind is Kind.DATAGRAM:
+        description.outer = target.outer
+    else:
+        target.waiting.clear()
+        world.outside.accept(block, target, description)
+    block.otherwise(PLAYED)
 
 
 def tie(description, target, ends):
@@ -263,14 +280,19 @@ def say_accept(world, block, process, args, result):
     made = new_socket(world, listener.kind, flags, result.note)
     made.phase, made.name, made.what = "tied", listener.name, f"a connection accepted at {listener.name[2:] or 'a listener'}"
     on_exec = "SOCK_CLOEXEC" in flags
-    if listener.unknown or not listener.waiting:
+    told = told_address(world, process, args[1])
+    if not listener.unknown and not listener.waiting:
+        made.outer = world.outside.client_of(block, listener, told)
+        made.what += ", its client outside of the log"
+    if listener.unknown or not listener.waiting and made.outer is None:
         made.unknown = listener.unknown or "its peer is outside of the log"
         world.make(block, process, result.value, made, on_exec)
         block.not_at_all(made.unknown)
         return
-    made.peer = listener.waiting.pop(0)
-    made.peer.peer = made
-    form = "accepted {} " + told_address(world, process, args[1])
+    if made.outer is None:
+        made.peer = listener.waiting.pop(0)
+        made.peer.peer = made
+    form = "accepted {} " + told
     world.make(block, process, result.value, made, on_exec, f"accept {number} {world.letters(made, on_exec)}", form)
 
 
@@ -328,6 +350,8 @@ def say_getsockopt(world, block, process, args, result):
         told = f"err {result.error}"
     elif option == "peercred":
         told = f"cred {world.person(value.get('pid'))} {value.get('uid')} {value.get('gid')}"
+        if slot.description.outer is not None:
+            world.outside.learnt.people[slot.description.outer.ordinal] = (value.get("uid"), value.get("gid"))
     else:
         answer = value[0] if isinstance(value, list) and value else value
         told = f"opt {NUMBERS.get(str(answer), answer)}"

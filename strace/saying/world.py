@@ -1,13 +1,15 @@
 """Follows a log call by call: which process has which descriptor, and what the script says of each call."""
+import heapq
 import re
 from collections import Counter
 
 from reading.calls import End
 from reading.effects import MAKES_OPAQUE
-from reading.words import Change, Descriptor, Unreadable
+from reading.words import Change, Descriptor, Unreadable, after, number_of
 from . import handover
 from .model import Block, Description, How, Kind, Process, Role, Seat, Slot, Step, Thing, mark
 from .names import Names
+from .outside import Outside
 
 HIGHEST = 4095
 MOST_HEADER = 64
@@ -19,6 +21,9 @@ AUTOMATIC = re.compile(r'\[(\d+)(?:->\d+)?,@"([0-9a-f]{5})"\]')
 UNIX_NOTE = re.compile(r"UNIX(-\w+)?:\[(\d+)(?:->(\d+))?")
 NOTED = re.compile(r"\d<[^>]*>")
 MOST_LOOKED_AT = 1000
+GIVES_NUMBERS = {**dict.fromkeys("""socket accept accept4 open openat openat2 creat dup fcntl ioctl eventfd eventfd2 memfd_create
+epoll_create epoll_create1 timerfd_create signalfd4 inotify_init inotify_init1 pidfd_open""".split()), "pipe": 0, "pipe2": 0,
+                 "socketpair": 3}
 SAYS = {}
 
 
@@ -53,7 +58,7 @@ def inode_of(note):
 class World:
     """All that is known while the calls of a log are said."""
 
-    def __init__(self, log, inherited=None):
+    def __init__(self, log, inherited=None, learnt=None):
         self.log = log
         self.inherited = log.head.inherited if inherited is None else inherited
         self.names = Names()
@@ -78,6 +83,8 @@ class World:
         self.executed = []
         self.closes = {}
         self.plain = False
+        self.late = []
+        self.outside = Outside(self, learnt)
         self.pids = {}
 
     # ---- the order in which the log is read ----
@@ -103,13 +110,31 @@ class World:
         events = sorted([*self.log.calls, *self.log.ends], key=self.place_of)
         replaced = list(reversed(self.log.replaced))
         for event in events:
-            while replaced and replaced[-1][0] <= self.place_of(event):
+            place = self.place_of(event)
+            while self.late and self.late[0][0] < place:
+                _, _, call = heapq.heappop(self.late)
+                self.say(call, call.end)
+            while replaced and replaced[-1][0] <= place:
                 self.replace(*replaced.pop()[1:])
             if isinstance(event, End):
                 self.end_thread(event)
             else:
-                self.say(event)
+                self.say(event, place)
+        while self.late:
+            _, _, call = heapq.heappop(self.late)
+            self.say(call, call.end)
         return self
+
+    def is_too_early(self, process, call, args, result, at):
+        """Whether a call gives a number that is still open: then another closes it before this one ends, where it stands."""
+        if at >= call.end or call.name not in GIVES_NUMBERS or result.error:
+            return False
+        pairs = after(args[GIVES_NUMBERS[call.name]]) if GIVES_NUMBERS[call.name] is not None else None
+        numbers = [number_of(one) for one in pairs] if isinstance(pairs, list) else [result.value]
+        if call.name in ("fcntl", "ioctl") and not result.note or not any(number in process.table for number in numbers):
+            return False
+        heapq.heappush(self.late, (call.end, call.begin, call))
+        return True
 
     def replace(self, first, other):
         process = self.threads.pop(other, None)
@@ -248,9 +273,8 @@ class World:
 
     # ---- one call ----
 
-    def say(self, call):
+    def say(self, call, at):
         process = self.process_of(call.thread)
-        at = self.place_of(call)
         if process.birth is not None and process.birth.end >= call.begin:
             process.birth.end = max(process.birth.begin, call.begin - 0.5)
         block = Block(call, process, call.begin, call.end, at, program=process.label())
@@ -261,6 +285,8 @@ class World:
             block.not_at_all(f"can't be read: {fault}")
             self.log.bad.append((call.begin, f"{call.name}: {fault}"))
             self.blocks.append(block)
+            return
+        if self.is_too_early(process, call, args, result, at):
             return
         if process.unsaid:
             block.not_at_all(process.unsaid)
