@@ -7,7 +7,6 @@ from judging.rules import read_rules
 from judging.run import Fault, Runner, find_uxrun
 from reading.calls import MOST_BYTES, read_log
 from reading.head import Inherited
-from saying import descriptors, files, messages, processes, readiness, sockets  # noqa: F401  (each tells what it says)
 from saying.world import World
 
 MOST_PASSES = 3

@@ -1,7 +1,7 @@
 """Says the calls on descriptor tables: close, close_range, dup, dup2, dup3, fcntl and ioctl."""
 from reading.words import Descriptor, flags_of, number_of
 from .model import Description, Kind, Slot
-from .world import HIGHEST, inode_of, says
+from .world import HIGHEST, says
 
 FLAG_REQUESTS = {"FIONBIO", "FIOCLEX", "FIONCLEX"}
 QUERY_REQUESTS = {"FIONREAD", "TIOCOUTQ", "SIOCINQ", "SIOCOUTQ", "FIOASYNC", "TIOCINQ"}

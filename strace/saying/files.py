@@ -3,10 +3,11 @@ import struct
 
 from reading.words import Text, after, flags_of, number_of
 from .descriptors import note_of
-from .messages import hexadecimal, sayable
-from .model import Description, Kind, Slot
+from .contents import hexadecimal, sayable
+from .model import Description, Kind
+from .notes import inode_of
 from .sockets import two_numbers
-from .world import HIGHEST, OUTSIDE, inode_of, says
+from .world import says
 
 WHENCES = {"SEEK_SET": "set", "SEEK_CUR": "cur", "SEEK_END": "end"}
 

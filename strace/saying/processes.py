@@ -2,10 +2,10 @@
 import posixpath
 import re
 
-from reading.words import after, flags_of, number_of
+from reading.words import number_of
 from . import handover
 from .files import path_of
-from .model import Slot
+from .model import Description, Kind
 from .world import says
 
 NEVER = (-1, 4294967295, None)
@@ -41,7 +41,6 @@ def say_fork(world, block, process, args, result):
 
 
 def make_pidfd(world, block, process, number):
-    from .model import Description, Kind
     world.make(block, process, number, Description(Kind.OPAQUE, "a process's descriptor", inode="anon_inode:[pidfd]"), True)
 
 

@@ -1,7 +1,7 @@
 """Says poll, select and epoll as several polls of one descriptor each."""
 import re
 
-from reading.words import Descriptor, after, arguments, flags_of, number_of
+from reading.words import after, arguments, flags_of, number_of
 from .descriptors import on_unix
 from .model import Kind
 from .world import HIGHEST, says

@@ -2,7 +2,6 @@
 import re
 from dataclasses import dataclass
 
-from .model import Step
 from .world import OUTSIDE
 
 MARK = re.compile("\0(\\d+)\0")

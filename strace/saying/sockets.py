@@ -4,7 +4,8 @@ from reading.words import Descriptor, Text, after, flags_of, number_of
 from .descriptors import note_of, on_unix
 from .model import Description, Kind, Slot
 from .names import spell
-from .world import HIGHEST, inode_of, says
+from .notes import inode_of
+from .world import HIGHEST, says
 
 TYPES = {"SOCK_STREAM": Kind.STREAM, "SOCK_DGRAM": Kind.DATAGRAM, "SOCK_RAW": Kind.DATAGRAM, "SOCK_SEQPACKET": Kind.RECORDS}
 WAYS = {"SHUT_RD": "r", "SHUT_WR": "w", "SHUT_RDWR": "rw"}

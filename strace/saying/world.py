@@ -5,10 +5,11 @@ from collections import Counter
 
 from reading.calls import End
 from reading.effects import MAKES_OPAQUE
-from reading.words import Change, Descriptor, Unreadable, after, number_of
+from reading.words import Unreadable, after, number_of
 from . import handover
 from .model import Block, Description, How, Kind, Process, Role, Seat, Slot, Step, Thing, mark
 from .names import Names
+from .notes import descriptors_in, inode_of, kind_of
 from .outside import Outside
 
 HIGHEST = 4095
@@ -18,7 +19,6 @@ OUTSIDE = "p:~outside"
 WAITS = frozenset("""accept accept4 recvfrom recvmsg recvmmsg read readv poll ppoll select pselect6 epoll_wait epoll_pwait
 epoll_pwait2""".split())
 AUTOMATIC = re.compile(r'\[(\d+)(?:->\d+)?,@"([0-9a-f]{5})"\]')
-UNIX_NOTE = re.compile(r"UNIX(-\w+)?:\[(\d+)(?:->(\d+))?")
 NOTED = re.compile(r"\d<[^>]*>")
 MOST_LOOKED_AT = 1000
 GIVES_NUMBERS = {**dict.fromkeys("""socket accept accept4 open openat openat2 creat dup fcntl ioctl eventfd eventfd2 memfd_create
@@ -34,25 +34,6 @@ def says(*names):
             SAYS[name] = handler
         return handler
     return mark
-
-
-def kind_of(note):
-    """The kind of description that a note of strace's -yy tells."""
-    found = UNIX_NOTE.match(note)
-    if found:
-        return {None: Kind.DATAGRAM, "-STREAM": Kind.STREAM, "-SEQPACKET": Kind.RECORDS}.get(found[1], Kind.DATAGRAM)
-    if note.startswith("pipe:["):
-        return Kind.PIPE
-    return Kind.COUNTER if "[eventfd]" in note else Kind.OPAQUE
-
-
-def inode_of(note):
-    """What tells the file or socket behind a note from others: an inode's number, or a path."""
-    found = UNIX_NOTE.match(note)
-    if found:
-        return f"socket:[{found[2]}]"
-    found = re.match(r"(?:\w+:)?\[?(\d+)\]?$", note)
-    return note if not found or note.startswith("pipe:") else f"socket:[{found[1]}]"
 
 
 class World:
@@ -267,7 +248,7 @@ class World:
         if self.object_count >= MOST_OBJECTS:
             return None
         self.object_count += 1
-        thing = thing_of(len(self.things), kind)
+        thing = Thing(f"p:~{kind.value}{len(self.things)}", kind)
         self.things.append(thing)
         return thing
 
@@ -385,24 +366,3 @@ class World:
         slot = process.table.pop(number, None)
         if slot and slot.description.thing is not None:
             slot.description.thing.ends -= 1
-
-
-def thing_of(count, kind):
-    """A file object with a name that no log has."""
-    return Thing(f"p:~{kind.value}{count}", kind)
-
-
-def descriptors_in(value, plain=False):
-    """All descriptors in a call's arguments; of a log without notes a bare number that comes first."""
-    if isinstance(value, Descriptor):
-        yield value
-    elif isinstance(value, Change):
-        yield from descriptors_in(value.before, plain)
-    elif isinstance(value, dict):
-        for one in value.values():
-            yield from descriptors_in(one, plain)
-    elif isinstance(value, (list, tuple)):
-        if plain and value and isinstance(value[0], int):
-            yield Descriptor(value[0])
-        for one in value:
-            yield from descriptors_in(one, plain)

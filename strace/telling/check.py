@@ -32,7 +32,8 @@ def table_of(rows):
         for one in row["differences"]:
             lines.append(f"{row['program']}: line {one['line']}: {one['call']} | {one['reply']} | the kernel: {one['kernel']}"[:240])
         lines += [f"{row['program']}: {example}" for example in row["audit"]["examples"]]
-        lines += [f"{row['program']}: not said: {count} {reason}" for reason, count in row["calls"]["reasons"][How.NOT_AT_ALL.value].items()]
+        unsaid = row["calls"]["reasons"][How.NOT_AT_ALL.value]
+        lines += [f"{row['program']}: not said: {count} {reason}" for reason, count in unsaid.items()]
         if row["out of time"]:
             lines.append(f"{row['program']}: the search for an order ran out of time")
         if "mistakes" in row:

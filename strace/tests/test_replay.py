@@ -93,15 +93,16 @@ LEAK = HEAD + """9 1.01 socket(AF_UNIX, SOCK_STREAM, 0) = 0<UNIX-STREAM:[7]>
 9 1.05 openat(AT_FDCWD</>, "/etc/shadow", O_RDONLY) = 1</etc/shadow>
 9 1.06 socketpair(AF_UNIX, SOCK_DGRAM, 0, [2<UNIX:[8]>, 3<UNIX:[9]>]) = 0
 9 1.07 fork() = 10
-9 1.08 sendmsg(2<UNIX:[8]>, {msg_name=NULL, msg_namelen=0, msg_iov=[{iov_base="x", iov_len=1}], msg_iovlen=1, msg_control=[{cmsg_len=20, cmsg_level=SOL_SOCKET, cmsg_type=SCM_RIGHTS, cmsg_data=[1</etc/shadow>]}], msg_controllen=24, msg_flags=0}, 0) = 1
-10 1.09 recvmsg(3<UNIX:[9]>, {msg_name=NULL, msg_namelen=0, msg_iov=[{iov_base="x", iov_len=1}], msg_iovlen=1, msg_control=[{cmsg_len=20, cmsg_level=SOL_SOCKET, cmsg_type=SCM_RIGHTS, cmsg_data=[4</etc/shadow>]}], msg_controllen=24, msg_flags=0}, 0) = 1
+9 1.08 sendmsg(2<UNIX:[8]>, MESSAGE cmsg_data=[1</etc/shadow>]}], msg_controllen=24, msg_flags=0}, 0) = 1
+10 1.09 recvmsg(3<UNIX:[9]>, MESSAGE cmsg_data=[4</etc/shadow>]}], msg_controllen=24, msg_flags=0}, 0) = 1
 10 1.10 fork() = 11
 11 1.11 execve("/bin/helper", ["helper"], 0x7f /* 1 var */) = 0
 11 1.12 read(4</etc/shadow>, ""..., 9) = 9
 11 1.13 close(2<UNIX:[8]>) = 0
 11 1.14 exit_group(0) = ?
 11 1.15 +++ exited with 0 +++
-"""
+""".replace("MESSAGE", '{msg_name=NULL, msg_namelen=0, msg_iov=[{iov_base="x", iov_len=1}], msg_iovlen=1, '
+            'msg_control=[{cmsg_len=20, cmsg_level=SOL_SOCKET, cmsg_type=SCM_RIGHTS,')
 
 
 @unittest.skipUnless(UXRUN, "there is no uxrun: build it, or name it by the variable UXRUN")
