@@ -50,7 +50,7 @@ def line_before(log, time):
     return max(lines, default=0)
 
 
-def compare(log, world, order, runner, moments):
+def compare(world, order, runner, moments):
     """How many descriptors were the same, of how many the log doesn't tell where they lead, and which were others."""
     report = {"moments": len(moments), "same": 0, "not told": 0, "different": 0, "examples": []}
     for line, tables in moments:

@@ -118,7 +118,7 @@ class Joiner:
         elif line.kind is Kind.REPLACED:
             self.replace(line)
         elif line.kind is Kind.BAD and line.rest.strip():
-            self.log.bad.append((line.number, line.rest[:60]))
+            self.log.bad.append((line.number, words.shown(line.rest[:60])))
 
     def finish(self, line, name, text, begin, time):
         if name in WITHOUT_EFFECT:

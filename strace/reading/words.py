@@ -192,6 +192,12 @@ def after(value):
     return value
 
 
+def shown(data):
+    """Bytes, or a text of a log, as a report shows them: in one line, with ? for what can't be printed."""
+    text = data.decode("utf-8", "replace") if isinstance(data, bytes) else data
+    return "".join(letter if letter.isprintable() else "?" for letter in text)
+
+
 def flags_of(value):
     """The names of a value's flags."""
     value = after(value)

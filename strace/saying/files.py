@@ -1,7 +1,7 @@
 """Says opens of files, pipes, counters and memory files, and calls on paths."""
 import struct
 
-from reading.words import Text, after, flags_of, number_of
+from reading.words import Text, after, flags_of, number_of, shown
 from .descriptors import note_of
 from .contents import hexadecimal, sayable
 from .model import Description, Kind
@@ -40,9 +40,9 @@ def say_open(world, block, process, args, result):
         return
     how = args[2] if at else args[1] if block.call.name == "open" else "O_WRONLY"
     flags = flags_of(how["flags"]) if isinstance(how, dict) else flags_of(how)
-    shown = path.decode("utf-8", "replace") or result.note or "a file that the log doesn't name"
-    description = Description(Kind.OPAQUE, f"opened {shown}", "O_NONBLOCK" in flags, "O_APPEND" in flags)
-    description.inode = result.note or shown
+    name = shown(path) or result.note or "a file that the log doesn't name"
+    description = Description(Kind.OPAQUE, f"opened {name}", "O_NONBLOCK" in flags, "O_APPEND" in flags)
+    description.inode = result.note or name
     world.make(block, process, result.value, description, "O_CLOEXEC" in flags)
     block.otherwise("a file as an opaque object")
 
@@ -110,7 +110,7 @@ def say_memfd(world, block, process, args, result):
         return
     thing = world.thing(Kind.MEMORY)
     on_exec = "MFD_CLOEXEC" in flags_of(args[1])
-    description = Description(Kind.MEMORY if thing else Kind.OPAQUE, f"memory {path_of(args[0]).decode('utf-8', 'replace')}",
+    description = Description(Kind.MEMORY if thing else Kind.OPAQUE, f"memory {shown(path_of(args[0]))}",
                               inode=result.note, thing=thing)
     words = f"open {thing.name} rw {'x' if on_exec else '-'}" if thing else None
     world.make(block, process, result.value, description, on_exec, words)

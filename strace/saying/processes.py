@@ -2,7 +2,7 @@
 import posixpath
 import re
 
-from reading.words import number_of
+from reading.words import number_of, shown
 from . import handover
 from .files import path_of
 from .model import Description, Kind
@@ -52,7 +52,7 @@ def say_exec(world, block, process, args, result):
     if block.call.thread in process.shared:
         process = part(world, block, process)
     path = path_of(args[1] if block.call.name == "execveat" else args[0])
-    process.program = posixpath.basename(path).decode("utf-8", "replace") or process.program
+    process.program = shown(posixpath.basename(path)) or process.program
     process.execs += 1
     block.program = process.label()
     for number in [number for number, slot in process.table.items() if slot.on_exec]:

@@ -37,6 +37,7 @@ def table_of(rows):
         if row["out of time"]:
             lines.append(f"{row['program']}: the search for an order ran out of time")
         if "mistakes" in row:
-            lines.append(f"{row['program']}: {row['mistakes']['noticed']} of {row['mistakes']['planted']} mistakes noticed; "
-                         f"not: {', '.join(row['mistakes']['not noticed'])}")
+            found = row["mistakes"]
+            lines.append(f"{row['program']}: of {found['planted']} mistakes a reply showed {found['by a reply']}, the audit "
+                         f"{found['by the audit']}; nothing: {', '.join(found['not noticed']) or 'none'}"[:400])
     return "\n".join(lines)

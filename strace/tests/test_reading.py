@@ -79,13 +79,13 @@ class Malformed(unittest.TestCase):
 
     def test_programs_tell_faults_in_one_line(self):
         with tempfile.TemporaryDirectory() as folder:
-            for name, data in (("empty", b""), ("binary", os.urandom(5000)), ("other", b"hello\nworld\n")):
+            for name, data in (("empty", b""), ("binary", bytes(range(256)) * 20), ("random", os.urandom(5000)), ("other", b"hello\nworld\n")):
                 path = Path(folder) / name
                 path.write_bytes(data)
                 for program in ("replay", "holds", "found-open"):
                     done = subprocess.run([sys.executable, TOP / program, path], capture_output=True, text=True, check=False)
                     self.assertEqual(done.returncode, 2, (program, name))
-                    self.assertEqual(done.stderr.count("\n"), 1, done.stderr)
+                    self.assertEqual(len(done.stderr.splitlines()), 1, done.stderr)
                     self.assertNotIn("Traceback", done.stderr)
 
     def test_no_such_file(self):
