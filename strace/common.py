@@ -68,12 +68,14 @@ def main(program, run, arguments):
     """Runs a program; a fault is told in one line, and no trace of Python is shown."""
     try:
         return run(arguments)
-    except (Fault, OSError, ValueError) as fault:
+    except BrokenPipeError:
+        sys.stderr.close()
+    except OSError as fault:
+        print(f"{program}: {fault.filename or 'input or output'}: {fault.strerror}", file=sys.stderr)
+    except (Fault, ValueError) as fault:
         print(f"{program}: {fault}", file=sys.stderr)
     except MemoryError:
         print(f"{program}: the log needs more memory than there is: record a shorter run", file=sys.stderr)
     except KeyboardInterrupt:
         print(f"{program}: interrupted", file=sys.stderr)
-    except BrokenPipeError:
-        sys.stderr.close()
     return 2

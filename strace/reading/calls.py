@@ -12,6 +12,7 @@ RESULT = re.compile(r"\s*= (-?0x[0-9a-f]+|-?\d+|\?)(?:" + words.NOTE + r")?(?: (
 MOST_BYTES = 200 << 20
 LONGEST_LINE = 16 << 20
 TOOK = re.compile(r" <(\d+\.\d+)>$")
+ELSEWHERE = re.compile(r"\s*= \d+ /\* (\d+) in strace's PID NS \*/")
 OUTER = re.compile(r"(\d+)[<,)]")
 
 
@@ -74,9 +75,13 @@ def after_name(value):
 
 
 def read_result(text):
+    """What a call answered; a process of another namespace by its number in strace's."""
     found = RESULT.match(text)
     if not found:
         return Result()
+    elsewhere = ELSEWHERE.match(text)
+    if elsewhere:
+        return Result(int(elsewhere[1]))
     value = None if found[1] == "?" else int(found[1], 16 if "x" in found[1] else 10)
     return Result(value, found[2] or "", found[3] or "", found[4] or "")
 
