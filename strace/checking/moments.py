@@ -80,6 +80,5 @@ def same(description, target):
 
 def plain(text):
     """A target without what strace and /proc add each in its own way."""
-    text = re.sub(r"<(?:char|block) [^>]*>$", "", text)
     text = re.sub(r"\\(x[0-9a-f]{2}|[0-7]{1,3})", lambda found: chr(int(found[1].lstrip("x"), 16 if found[1][0] == "x" else 8)), text)
     return text.removesuffix(" (deleted)")

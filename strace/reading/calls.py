@@ -83,7 +83,7 @@ def read_result(text):
     if elsewhere:
         return Result(int(elsewhere[1]))
     value = None if found[1] == "?" else int(found[1], 16 if "x" in found[1] else 10)
-    return Result(value, found[2] or "", found[3] or "", found[4] or "")
+    return Result(value, words.without_device(found[2] or ""), found[3] or "", found[4] or "")
 
 
 class Joiner:

@@ -32,6 +32,7 @@ class Change:
 ESCAPE = re.compile(rb'\\(x[0-9a-fA-F]{1,2}|[0-7]{1,3}|.)', re.S)
 LETTERS = {b"n": b"\n", b"t": b"\t", b"r": b"\r", b"v": b"\v", b"f": b"\f"}
 NOTE = r'<((?:"(?:[^"\\]|\\.)*"|->|<[^<>]*>|[^<>"])*)>(?:\(deleted\))?'
+DEVICE = re.compile(r"<(?:char|block) [^<>]*>$")
 BLANK = re.compile(r"(?:\s|/\*.*?\*/)+", re.S)
 STRING = re.compile(r'(@?)"((?:[^"\\]|\\.)*)"(\.\.\.)?', re.S)
 NUMBER = re.compile(r"(-?(?:0x[0-9a-fA-F]+|\d+))(?![\w|*.<])(?!\s*<<)")
@@ -155,7 +156,12 @@ def _string(found):
 
 def _noted(found):
     number = -100 if found[1] == "AT_FDCWD" else int(found[1])
-    return Descriptor(number, found[2] + (" (deleted)" if found[0].endswith("(deleted)") else ""))
+    return Descriptor(number, without_device(found[2]) + (" (deleted)" if found[0].endswith("(deleted)") else ""))
+
+
+def without_device(note):
+    """A note without the numbers of a device, which stand behind its path."""
+    return DEVICE.sub("", note) if note.endswith(">") else note
 
 
 def _number(found):

@@ -184,7 +184,7 @@ def install(world, block, process, low, came, on_exec):
 def landed(world, note, take=False):
     """The description that arrived, by what its note says; one that nobody is known to have sent is opaque."""
     inode = inode_of(note)
-    for place, description in enumerate(world.in_flight):
+    for place, (description, _) in enumerate(world.in_flight):
         if description.inode == inode:
             if take:
                 world.in_flight.pop(place)

@@ -73,12 +73,13 @@ def right(world, block, process, value):
     return number if 0 <= number <= HIGHEST else FORGETS
 
 
-def fly(world, process, rights):
-    """Keeps which descriptions are on their way in messages."""
+def fly(world, block, process, rights, goes_outside):
+    """Keeps which descriptions are on their way in messages to processes of the log."""
     for number in rights:
         slot = process.table.get(number)
         if slot:
-            world.in_flight.append(slot.description)
+            if not goes_outside:
+                world.in_flight.append((slot.description, block))
             if slot.description.thing is not None:
                 slot.description.thing.sent = True
 
@@ -110,7 +111,8 @@ def send(world, block, process, number, slot, data, where, items, flags, result)
     if not result.error and target is not None and target.outer is not None:
         world.outside.drain(block, target.outer, 1)
     if not result.error:
-        fly(world, process, rights)
+        goes_outside = any(one is not None and one.outer is not None for one in (target, slot.description))
+        fly(world, block, process, rights, goes_outside)
         slot.description.is_split = slot.description.is_split or bool(rights) and len(data) > PIECE
 
 

@@ -26,13 +26,19 @@ def lost_rights(order):
             if verdict.outcome is not Outcome.NOT_COMPARED and verdict.call.startswith("recv ") and "CTRUNC" in verdict.ours]
 
 
+def never_received(world):
+    """Rights that were sent and that nobody got as a descriptor: they were read over, cut, or left unread."""
+    return [{"line": block.call.begin, "process": block.program, "what": description.what, "leads to": description.inode}
+            for description, block in world.in_flight]
+
+
 def value_of(one):
     return {"process": one.process.label(), "pid": one.process.pid, "number": one.number, "chain": one.chain,
             "what": one.description.what if one.description else "", "leads to": one.description.inode if one.description else "",
             "unknown": one.unknown}
 
 
-def report_of(line, found, left, lost, pid, world, order):
+def report_of(line, found, left, lost, pid, world, order, at_end):
     """All that holds says, as a value."""
     def wanted(one):
         return pid is None or one.process.pid == pid
@@ -42,6 +48,7 @@ def report_of(line, found, left, lost, pid, world, order):
         "held": [value_of(one) for one in found if wanted(one)],
         "left at exit": [value_of(one) for one in left if wanted(one)],
         "rights dropped": lost,
+        "rights never received": never_received(world) if at_end else [],
         "not said": [process.label() for process in world.processes if process.unsaid],
         "first difference": differing.step.block.call.begin if differing and differing.step.block.call else None,
     }
@@ -61,6 +68,8 @@ def text_of(report):
         lines += ["left open at an exit, standard streams aside:", *("  " + line_of(one) for one in report["left at exit"])]
     for one in report["rights dropped"]:
         lines.append(f"rights that arrived and were dropped: line {one['line']}, {one['process']}: {one['call']} = {one['reply']}"[:300])
+    for one in report["rights never received"]:
+        lines.append(f"a right that nobody got as a descriptor: line {one['line']}, {one['process']} sent {one['what']}")
     for name in report["not said"]:
         lines.append(f"{name}: its descriptors aren't known: more processes than a script has")
     if report["first difference"] is not None:

@@ -121,6 +121,14 @@ class Holders(unittest.TestCase):
         _, report = run("holds", LEAK)
         self.assertEqual([(one["pid"], one["number"]) for one in report["left at exit"]], [(11, 3), (11, 4), (11, 5)])
 
+    def test_rights_that_nobody_got(self):
+        lost = LEAK.replace("10 1.09 recvmsg(3<UNIX:[9]>, ", "10 1.09 read(3<UNIX:[9]>, \"x\", 9) = 1\n10 1.095 getpid(").replace(
+            "read(4</etc/shadow>", "read(9</etc/shadow>")
+        _, report = run("holds", lost)
+        self.assertEqual([(one["line"], one["what"]) for one in report["rights never received"]], [(11, "opened /etc/shadow")])
+        _, report = run("holds", LEAK)
+        self.assertEqual(report["rights never received"], [])
+
     def test_a_helper_that_holds_a_listener_looks_wrong(self):
         status, report = run("found-open", LEAK)
         self.assertEqual(status, 1)

@@ -30,8 +30,11 @@ class Strings(unittest.TestCase):
 
 class Descriptors(unittest.TestCase):
     def test_notes(self):
-        for note in ("/etc/passwd", "UNIX-STREAM:[1->2,\"/run/a>b\"]", "/dev/pts/0<char 136:0>", "pipe:[7]", "/tmp/a->"):
+        for note in ("/etc/passwd", "UNIX-STREAM:[1->2,\"/run/a>b\"]", "pipe:[7]", "/tmp/a->"):
             self.assertEqual(values(f"3<{note}>, 1)"), [Descriptor(3, note), 1])
+
+    def test_a_device_is_its_path(self):
+        self.assertEqual(values("3</dev/pts/0<char 136:0>>, 1)"), [Descriptor(3, "/dev/pts/0"), 1])
 
     def test_a_deleted_file(self):
         self.assertEqual(values("3</tmp/x>(deleted), 1)"), [Descriptor(3, "/tmp/x (deleted)"), 1])
