@@ -79,7 +79,8 @@ class Malformed(unittest.TestCase):
 
     def test_programs_tell_faults_in_one_line(self):
         with tempfile.TemporaryDirectory() as folder:
-            for name, data in (("empty", b""), ("binary", bytes(range(256)) * 20), ("random", os.urandom(5000)), ("other", b"hello\nworld\n")):
+            files = {"empty": b"", "binary": bytes(range(256)) * 20, "random": os.urandom(5000), "other": b"hello\nworld\n"}
+            for name, data in files.items():
                 path = Path(folder) / name
                 path.write_bytes(data)
                 for program in ("replay", "holds", "found-open"):
