@@ -9,6 +9,7 @@ from .rules import Case, rule_of
 READABLE = {"IN", "HUP", "ERR", "RDHUP"}
 WRITABLE = {"OUT", "ERR"}
 PERSON = re.compile(r"((?:^|\+| )c:|^cred )(\d+)(?=[, ])")
+CONTENTS = {"bytes": 1, "got": 2}
 ORDER = ("IN", "OUT", "RDHUP", "HUP", "ERR", "NVAL")
 
 
@@ -92,7 +93,7 @@ def filled(kernel, ours, by_length):
     for place, word in enumerate(theirs):
         if word == "?" or "?" in word and like(word, mine[place]):
             theirs[place] = mine[place]
-        elif by_length and place == len(theirs[:{"bytes": 1, "got": 2}.get(theirs[0], 0)]) and place and len(word) == len(mine[place]):
+        elif by_length and place == CONTENTS.get(theirs[0]) and len(word) == len(mine[place]):
             theirs[place] = mine[place]
     return " ".join(theirs)
 

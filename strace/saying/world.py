@@ -193,7 +193,8 @@ class World:
 
     def make(self, block, process, wanted, description, on_exec, words=None, form="fd {}", role=Role.CALL):
         """A call that gives a new number. Where the log has another than the lowest, it is moved there."""
-        process.table.pop(wanted, None) if wanted in process.table and not self.gone(block, process, wanted) else None
+        if wanted in process.table:
+            self.gone(block, process, wanted)
         lowest = process.lowest()
         letters = self.letters(description, on_exec)
         words = words or f"open {OUTSIDE} rw {letters}"
@@ -218,7 +219,7 @@ class World:
         """A number that the log gives anew was closed by what the log doesn't show."""
         self.step(block, process.seat, f"close {number}", None, role=Role.MOVE)
         self.notes["a descriptor that the log doesn't show closed"] += 1
-        return False
+        self.drop(process, number)
 
     @staticmethod
     def letters(description, on_exec):
