@@ -3,7 +3,7 @@ import re
 from bisect import bisect_right
 
 from judging.holdings import calls_up_to, holdings
-from saying.world import WAITS
+from saying.waiting import WAITS
 
 MARGIN = 0.001
 MOST_TOLD = 5

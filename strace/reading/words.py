@@ -198,6 +198,11 @@ def after(value):
     return value
 
 
+def room_of(value):
+    """How many bytes a list of buffers has room for."""
+    return sum(number_of(one.get("iov_len"), 0) for one in after(value) or [] if isinstance(one, dict))
+
+
 def shown(data):
     """Bytes, or a text of a log, as a report shows them: in one line, with ? for what can't be printed."""
     text = data.decode("utf-8", "replace") if isinstance(data, bytes) else data

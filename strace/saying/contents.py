@@ -26,11 +26,6 @@ def data_of(world, value, length=None):
     return value.data
 
 
-def room_of(value):
-    """How many bytes a list of buffers has room for."""
-    return sum(number_of(one.get("iov_len"), 0) for one in after(value) or [] if isinstance(one, dict))
-
-
 def sayable(world, block, process, value, name):
     """The slot of a descriptor that reads and writes are said of, or None; the block knows why."""
     number = number_of(value, -1)
@@ -51,7 +46,9 @@ def shortened(description, data):
 
 
 def taken(description, count):
-    """Keeps which messages of a peer are unread."""
+    """Keeps which messages of a peer, or how many bytes of a pipe, are unread."""
+    if description.thing is not None:
+        description.thing.level = max(0, description.thing.level - count)
     unread = description.peer.unread if description.peer is not None else []
     while unread and count >= unread[0]:
         count -= unread.pop(0)

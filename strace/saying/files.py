@@ -79,7 +79,7 @@ def pipe_thing(world, block, process):
             number = process.lowest()
             for words in (f"open {thing.name} r n", f"read {number} 1048576", f"close {number}"):
                 world.step(block, process.seat, words)
-            thing.unknown = ""
+            thing.unknown, thing.level = "", 0
             return thing
     return world.thing(Kind.PIPE)
 

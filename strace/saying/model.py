@@ -79,6 +79,7 @@ class Thing:
     unknown: str = ""
     ends: int = 0
     sent: bool = False
+    level: int = 0
 
 
 @dataclass(slots=True)

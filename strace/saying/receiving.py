@@ -1,8 +1,8 @@
 """Says receives and reads, of sockets, pipes, counters and memory files, and the rights that come with them."""
 import re
 
-from reading.words import after, flags_of, number_of
-from .contents import PIECE, data_of, hexadecimal, hidden, room_of, sayable, shortened, taken
+from reading.words import after, flags_of, number_of, room_of
+from .contents import PIECE, data_of, hexadecimal, hidden, sayable, shortened, taken
 from .descriptors import FORGETS, note_of
 from .model import Description, Kind, Slot
 from .notes import inode_of, kind_of

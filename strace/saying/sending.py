@@ -45,6 +45,8 @@ def put(world, block, process, number, description, data, result, words_of, targ
         world.outside.drain(block, description.outer, len(pieces))
     elif description.kind is Kind.STREAM:
         description.unread.append(len(data))
+    elif description.thing is not None:
+        description.thing.level += len(data)
 
 
 def control_of(world, block, process, items):

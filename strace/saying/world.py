@@ -11,13 +11,12 @@ from .model import Block, Description, How, Kind, Process, Role, Seat, Slot, Ste
 from .names import Names
 from .notes import descriptors_in, inode_of, kind_of
 from .outside import Outside
+from .waiting import POLLS, must_wait
 
 HIGHEST = 4095
 MOST_HEADER = 64
 MOST_OBJECTS = 64
 OUTSIDE = "p:~outside"
-WAITS = frozenset("""accept accept4 recvfrom recvmsg recvmmsg read readv poll ppoll select pselect6 epoll_wait epoll_pwait
-epoll_pwait2""".split())
 AUTOMATIC = re.compile(r'\[(\d+)(?:->\d+)?,@"([0-9a-f]{5})"\]')
 NOTED = re.compile(r"\d<[^>]*>")
 MOST_LOOKED_AT = 1000
@@ -83,7 +82,7 @@ class World:
     def place_of(self, event):
         if isinstance(event, End):
             return event.line
-        return event.end if event.name in WAITS else event.begin
+        return event.end if event.name in POLLS else event.begin
 
     def run(self):
         """Says the whole log."""
@@ -106,16 +105,14 @@ class World:
             self.say(call, call.end)
         return self
 
-    def is_too_early(self, process, call, args, result, at):
+    @staticmethod
+    def is_too_early(process, call, args, result):
         """Whether a call gives a number that is still open: then another closes it before this one ends, where it stands."""
-        if at >= call.end or call.name not in GIVES_NUMBERS or result.error:
+        if call.name not in GIVES_NUMBERS or result.error:
             return False
         pairs = after(args[GIVES_NUMBERS[call.name]]) if GIVES_NUMBERS[call.name] is not None else None
         numbers = [number_of(one) for one in pairs] if isinstance(pairs, list) else [result.value]
-        if call.name in ("fcntl", "ioctl") and not result.note or not any(number in process.table for number in numbers):
-            return False
-        heapq.heappush(self.late, (call.end, call.begin, call))
-        return True
+        return not (call.name in ("fcntl", "ioctl") and not result.note) and any(number in process.table for number in numbers)
 
     def replace(self, first, other):
         process = self.threads.pop(other, None)
@@ -268,7 +265,8 @@ class World:
             self.log.bad.append((call.begin, f"{call.name}: {fault}"))
             self.blocks.append(block)
             return
-        if self.is_too_early(process, call, args, result, at):
+        if at < call.end and (self.is_too_early(process, call, args, result) or must_wait(process, call, args, result)):
+            heapq.heappush(self.late, (call.end, call.begin, call))
             return
         if process.unsaid:
             block.not_at_all(process.unsaid)
