@@ -51,7 +51,7 @@ def record_with_samples(program, folder, record):
     log, kept = folder / f"{program.name}.log", folder / f"{program.name}.proc"
     if log.is_file() and kept.is_file():
         return log, load_samples(kept)
-    with tempfile.TemporaryDirectory(dir="/tmp", prefix="d") as place:
+    with tempfile.TemporaryDirectory(prefix="d") as place:
         pid_file = Path(place) / "~pid"
         runs = Path(place) / "~run"
         runs.write_text(program.script(), "utf-8")
