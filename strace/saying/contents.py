@@ -49,6 +49,7 @@ def taken(description, count):
     """Keeps which messages of a peer, or how many bytes of a pipe, are unread."""
     if description.thing is not None:
         description.thing.level = max(0, description.thing.level - count)
+    description.pending = max(0, description.pending - 1)
     unread = description.peer.unread if description.peer is not None else []
     while unread and count >= unread[0]:
         count -= unread.pop(0)

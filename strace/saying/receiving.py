@@ -39,7 +39,6 @@ def arrive(world, block, description, data, length, items="-", came=0, peek=Fals
     """What a peer outside of the log sent comes before the receive that takes it."""
     if description.kind is Kind.DATAGRAM and description.outer is None:
         if description.pending or not description.name:
-            description.pending -= not peek and description.pending > 0
             return
     elif description.outer is None:
         return
