@@ -1,0 +1,1 @@
+"""Records real programs, and compares what is said of them with /proc."""

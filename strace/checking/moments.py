@@ -1,0 +1,84 @@
+"""Compares the audit with /proc at quiet moments: the same processes, numbers, and files or sockets."""
+import re
+from bisect import bisect_right
+
+from judging.holdings import calls_up_to, holdings
+from saying.waiting import WAITS
+
+MARGIN = 0.001
+MOST_TOLD = 5
+
+
+def quiet_moments(log, samples, most):
+    """Samples during which the log has no call, with the last line before them; spread over the run, each with
+    other calls before it."""
+    busy = busy_times(log)
+    starts = [begin for begin, _ in busy]
+    quiet, seen = [], set()
+    for sample in samples:
+        last = bisect_right(starts, sample["end"] + MARGIN) - 1
+        if last >= 0 and busy[last][1] >= sample["begin"] - MARGIN or not sample["tables"]:
+            continue
+        line = line_before(log, sample["begin"])
+        if line not in seen:
+            seen.add(line)
+            quiet.append((line, sample["tables"]))
+    if len(quiet) <= most:
+        return quiet
+    return [quiet[place * (len(quiet) - 1) // (most - 1)] for place in range(most)]
+
+
+def busy_times(log):
+    """The stretches of time in which a call that may change a table runs, joined where they overlap."""
+    times = [(call.time, call.ended) for call in log.calls if call.name not in WAITS and None not in (call.time, call.ended)]
+    times += [(call.ended, call.ended) for call in log.calls if call.name in WAITS and call.ended is not None]
+    times += [(end.time, end.time) for end in log.ends if end.time is not None]
+    joined = []
+    for begin, end in sorted(times):
+        if joined and begin <= joined[-1][1]:
+            joined[-1][1] = max(joined[-1][1], end)
+        else:
+            joined.append([begin, end])
+    return joined
+
+
+def line_before(log, time):
+    """The last line of the log that was written before a time."""
+    lines = [call.begin for call in log.calls if call.time is not None and call.time <= time]
+    lines += [call.end for call in log.calls if call.ended is not None and call.ended <= time]
+    lines += [end.line for end in log.ends if end.time is not None and end.time <= time]
+    return max(lines, default=0)
+
+
+def compare(world, order, runner, moments):
+    """How many descriptors were the same, of how many the log doesn't tell where they lead, and which were others."""
+    report = {"moments": len(moments), "same": 0, "not told": 0, "different": 0, "examples": []}
+    for line, tables in moments:
+        held, _ = holdings(world, order.script, runner, calls_up_to(order.script, line))
+        ours = {(one.process.pid, one.number): one.description for one in held}
+        theirs = {(process, number): target for process, table in tables.items() for number, target in table.items()}
+        for key in sorted(set(ours) | set(theirs)):
+            verdict = same(ours.get(key), theirs.get(key)) if key in ours and key in theirs else "different"
+            report[verdict] += 1
+            if verdict == "different" and len(report["examples"]) < MOST_TOLD:
+                mine = ours[key].inode if ours.get(key) else "held" if key in ours else "nothing"
+                report["examples"].append(f"line {line}: process {key[0]}, {key[1]}: {mine}, /proc: {theirs.get(key, 'nothing')}")
+    return report
+
+
+def same(description, target):
+    """Whether a description is what /proc says: `same`, `different`, or `not told`."""
+    if description is None or not description.inode:
+        return "not told"
+    mine, theirs = plain(description.inode), plain(target)
+    if mine == theirs:
+        return "same"
+    if not re.match(r"(/|socket:|pipe:|anon_inode:)", mine):
+        return "not told"
+    return "different"
+
+
+def plain(text):
+    """A target without what strace and /proc add each in its own way."""
+    text = re.sub(r"\\(x[0-9a-f]{2}|[0-7]{1,3})", lambda found: chr(int(found[1].lstrip("x"), 16 if found[1][0] == "x" else 8)), text)
+    return text.removesuffix(" (deleted)")

@@ -1,0 +1,196 @@
+"""Says the calls on descriptor tables: close, close_range, dup, dup2, dup3, fcntl and ioctl."""
+from reading.words import Descriptor, flags_of, number_of
+from .model import Description, Kind, Slot
+from .world import HIGHEST, says
+
+FLAG_REQUESTS = {"FIONBIO", "FIOCLEX", "FIONCLEX"}
+QUERY_REQUESTS = {"FIONREAD", "TIOCOUTQ", "SIOCINQ", "SIOCOUTQ", "FIOASYNC", "TIOCINQ"}
+MAKES_NUMBER = {"TIOCGPTPEER", "SIOCUNIXFILE", "NS_GET_USERNS", "NS_GET_PARENT", "SECCOMP_IOCTL_NOTIF_ADDFD"}
+O_CLOEXEC = 0o2000000
+DUPLICATES = {"F_DUPFD": False, "F_DUPFD_CLOEXEC": True}
+FORGETS = 4294967295
+
+
+def note_of(value):
+    return value.note if isinstance(value, Descriptor) else ""
+
+
+def on_unix(block, slot):
+    """Marks the call as one on a socket of the layer."""
+    block.unix = block.unix or bool(slot and slot.description.kind.is_socket)
+
+
+@says("close")
+def say_close(world, block, process, args, result):
+    number = number_of(args[0])
+    if result.error and result.error != "EBADF":
+        block.leave_out("close that failed with another error")
+        return
+    if result.error:
+        word = number if 0 <= number <= HIGHEST else FORGETS
+        world.step(block, process.seat, f"close {word}", f"err {result.error}", state="closed")
+        return
+    slot = world.slot(block, process, number, note_of(args[0]))
+    if slot is None:
+        world.notes["a close of a descriptor whose origin the log doesn't show"] += 1
+        block.leave_out("close of a descriptor that the log doesn't show opened")
+        return
+    close(world, block, process, number, slot)
+
+
+def close(world, block, process, number, slot):
+    on_unix(block, slot)
+    if number <= HIGHEST:
+        world.step(block, process.seat, f"close {number}", "ok", slot.description)
+    world.drop(process, number)
+
+
+@says("close_range")
+def say_close_range(world, block, process, args, result):
+    if result.error:
+        block.leave_out("close_range that failed")
+        return
+    first, last = number_of(args[0], 0), number_of(args[1], 1 << 32)
+    marks = "CLOSE_RANGE_CLOEXEC" in flags_of(args[2])
+    for number in sorted(process.table):
+        if first <= number <= last:
+            slot = process.table[number]
+            if marks:
+                slot.on_exec = True
+                set_flags(world, block, process, number, slot)
+            else:
+                world.closes.setdefault((id(process), number), []).append((block.call.begin, "close_range"))
+                close(world, block, process, number, slot)
+    if block.steps:
+        block.otherwise("close_range as several closes")
+    else:
+        block.leave_out("close_range of no open descriptor")
+
+
+def set_flags(world, block, process, number, slot):
+    letters = world.letters(slot.description, slot.on_exec)
+    world.step(block, process.seat, f"flags {number} {letters}", "ok", slot.description)
+
+
+@says("dup")
+def say_dup(world, block, process, args, result):
+    duplicate(world, block, process, args[0], result, 0, False)
+
+
+@says("dup2", "dup3")
+def say_dup2(world, block, process, args, result):
+    source, target = number_of(args[0]), number_of(args[1])
+    if result.error:
+        refuse(world, block, process, f"dup2 {source} {target}", result, "EBADF", source, target)
+        return
+    slot = world.slot(block, process, source, note_of(args[0]) or result.note)
+    if slot is None or max(source, target) > HIGHEST:
+        block.not_at_all("a descriptor that isn't known")
+        return
+    on_unix(block, slot)
+    put_at(world, block, process, source, target, slot, "O_CLOEXEC" in flags_of(args[2]) if len(args) > 2 else False)
+    if block.call.name == "dup3":
+        block.otherwise("dup3 as dup2 and flags")
+
+
+def refuse(world, block, process, words, result, known, *numbers):
+    """A call that failed: said where the layer knows its error."""
+    if result.error == known and all(0 <= number <= HIGHEST for number in numbers):
+        world.step(block, process.seat, words, f"err {result.error}")
+    else:
+        block.leave_out(f"{block.call.name} that failed: {result.error}")
+
+
+def put_at(world, block, process, source, target, slot, on_exec):
+    """dup2, and the flag where it is wanted."""
+    world.step(block, process.seat, f"dup2 {source} {target}", f"fd {target}", slot.description)
+    if source == target:
+        return
+    if target in process.table:
+        world.drop(process, target)
+    copy = Slot(slot.description, on_exec)
+    process.table[target] = copy
+    if slot.description.thing is not None:
+        slot.description.thing.ends += 1
+    if on_exec:
+        set_flags(world, block, process, target, copy)
+
+
+def duplicate(world, block, process, value, result, least, on_exec):
+    """dup and F_DUPFD: dup where the lowest free number is the one given, else dup2."""
+    source = number_of(value)
+    if result.error:
+        refuse(world, block, process, f"dup {source}", result, "EBADF", source)
+        return
+    slot = world.slot(block, process, source, note_of(value) or result.note)
+    if slot is None or max(source, result.value) > HIGHEST:
+        block.not_at_all("a descriptor that isn't known")
+        return
+    on_unix(block, slot)
+    if least <= process.lowest() and result.value == process.lowest():
+        world.step(block, process.seat, f"dup {source}", f"fd {result.value}", slot.description)
+        process.table[result.value] = copy = Slot(slot.description, on_exec)
+        if slot.description.thing is not None:
+            slot.description.thing.ends += 1
+        if on_exec:
+            set_flags(world, block, process, result.value, copy)
+    else:
+        put_at(world, block, process, source, result.value, slot, on_exec)
+        block.otherwise("dup to a number that isn't the lowest: dup2")
+
+
+@says("fcntl", "fcntl64")
+def say_fcntl(world, block, process, args, result):
+    number, request = number_of(args[0]), str(args[1])
+    if request in DUPLICATES:
+        duplicate(world, block, process, args[0], result, number_of(args[2], 0), DUPLICATES[request])
+        block.otherwise(f"{request} as dup or dup2")
+    elif request in ("F_SETFD", "F_SETFL") and not result.error:
+        slot = world.slot(block, process, number, note_of(args[0]))
+        if slot is None or number > HIGHEST:
+            block.not_at_all("a descriptor that isn't known")
+            return
+        on_unix(block, slot)
+        take_flags(slot, request, args[2])
+        set_flags(world, block, process, number, slot)
+        block.otherwise("fcntl as flags")
+    else:
+        on_unix(block, process.table.get(number))
+        block.leave_out(f"fcntl {request}")
+
+
+def take_flags(slot, request, value):
+    flags = flags_of(value)
+    if request == "F_SETFD":
+        slot.on_exec = "FD_CLOEXEC" in flags or value == 1
+    else:
+        slot.description.nonblocking = bool(flags & {"O_NONBLOCK", "O_NDELAY"})
+        slot.description.append = "O_APPEND" in flags
+
+
+@says("ioctl")
+def say_ioctl(world, block, process, args, result):
+    number, request = number_of(args[0]), str(args[1])
+    slot = process.table.get(number)
+    on_unix(block, slot)
+    if result.error:
+        block.leave_out(f"ioctl {request} that failed" if block.unix else "ioctl that failed")
+    elif request in FLAG_REQUESTS:
+        slot = world.slot(block, process, number, note_of(args[0]))
+        if slot is None or number > HIGHEST:
+            block.not_at_all("a descriptor that isn't known")
+            return
+        if request == "FIONBIO":
+            slot.description.nonblocking = bool(number_of(args[2], 0))
+        else:
+            slot.on_exec = request == "FIOCLEX"
+        set_flags(world, block, process, number, slot)
+        block.otherwise(f"{request} as flags")
+    elif result.note or request in MAKES_NUMBER:
+        description = Description(Kind.OPAQUE, result.note or request, inode=result.note)
+        world.make(block, process, result.value, description, "O_CLOEXEC" in block.call.text or bool(number_of(args[2], 0) & O_CLOEXEC))
+        block.otherwise(f"a new number by ioctl {request}: an opaque object")
+    elif block.unix and request not in QUERY_REQUESTS:
+        world.unknown_effect(block, process, args)
+    else:
+        block.leave_out(f"ioctl {request}" if block.unix else "ioctl of an opaque object")

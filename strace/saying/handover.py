@@ -1,0 +1,111 @@
+"""Makes processes: process 1 of the layer forks; any other hands its table to a process of the header in a message.
+
+A script's fork is for process 1 alone. So a child of another process stands in the header, and gets its parent's
+descriptors by a datagram with rights; the same way a process that changes its user goes on as another of the header.
+Where the layer forks from any process, `fork` is all that changes here."""
+from .model import Process, Role, Slot, mark
+
+MOST_RIGHTS = 253
+HEADER_FORKS = 40
+
+
+def chunks(values, size):
+    return [values[at:at + size] for at in range(0, len(values), size)]
+
+
+def fork(world, block, parent, thread):
+    """The child of a process, with a copy of its table."""
+    table = {number: Slot(slot.description, slot.on_exec) for number, slot in parent.table.items()}
+    child = Process(thread, parent, table, parent.folder, parent.program, user=parent.user, group=parent.group)
+    world.enter(child, thread)
+    child.birth = block
+    for slot in table.values():
+        if slot.description.thing is not None:
+            slot.description.thing.ends += 1
+    if parent.unsaid or parent.seat is None:
+        child.unsaid = parent.unsaid
+        return child
+    if parent.seat.key == 0:
+        child.seat = world.new_seat(parent.user, parent.group, child, forked=True)
+        if child.seat:
+            world.step(block, parent.seat, "fork", f"child {mark(child.seat)}")
+    else:
+        child.seat = seat_for(world, block, parent, child)
+        if child.seat:
+            hand_over(world, block, parent.seat, child.seat, table)
+            block.otherwise("a fork by another process than the first: its table is handed over")
+    if child.seat is None:
+        child.unsaid = "more processes than a script has"
+        block.not_at_all(child.unsaid)
+    return child
+
+
+def seat_for(world, block, parent, child):
+    """A process of the header; where that has many already, one that process 1 forks, and that closes all it got."""
+    first = world.seats[0]
+    owner = first.process
+    headers = sum(not seat.forked for seat in world.seats)
+    if headers < HEADER_FORKS or owner.over or owner.seat is not first or (first.user, first.group) != (parent.user, parent.group):
+        return world.new_seat(parent.user, parent.group, child)
+    seat = world.new_seat(parent.user, parent.group, child, forked=True)
+    if seat:
+        world.step(block, first, "fork", f"child {mark(seat)}", role=Role.HAND_OVER)
+        for number in sorted(owner.table):
+            world.step(block, seat, f"close {number}", role=Role.HAND_OVER)
+    return seat
+
+
+def change_user(world, block, process, user, group):
+    """The process goes on as another one of the header, with another user."""
+    if (user, group) == (process.user, process.group):
+        block.leave_out("a change of ids that changes none")
+        return
+    process.user, process.group = user, group
+    seat = world.new_seat(user, group, process) if process.seat else None
+    if seat is None:
+        block.not_at_all("a change of user")
+        return
+    hand_over(world, block, process.seat, seat, process.table)
+    world.step(block, process.seat, "exit", role=Role.HAND_OVER)
+    process.seat = seat
+    block.otherwise("a change of user: another process of the script gets the table")
+
+
+def hand_over(world, block, giver, taker, table):
+    """The lines by which one process gets the descriptors of another under the same numbers."""
+    numbers = sorted(table)
+
+    def line(seat, words):
+        world.step(block, seat, words, role=Role.HAND_OVER)
+
+    if not numbers:
+        return
+    free = next(number for number in range(len(numbers) + 1) if number not in table)
+    line(taker, "socket dgram -")
+    line(taker, f"bind 0 a:~{taker.key}")
+    line(giver, "socket dgram -")
+    for part in chunks(numbers, MOST_RIGHTS):
+        line(giver, f"send {free} a:~{taker.key} - r:{','.join(map(str, part))} -")
+        line(taker, "recv 0 0 2048 -")
+    line(giver, f"close {free}")
+    for words in placing(numbers):
+        line(taker, words)
+    for number in numbers:
+        if table[number].on_exec:
+            line(taker, f"flags {number} {world.letters(table[number].description, True)}")
+
+
+def placing(numbers):
+    """Moves descriptors that came as 1, 2, .. to the numbers wanted, which rise; 0 is the socket that they came over."""
+    lines = []
+    count = len(numbers)
+    kept = sum(number == place for place, number in enumerate(numbers))
+    for place in range(count - 1, kept - 1, -1):
+        if numbers[place] != place + 1:
+            lines += [f"dup2 {place + 1} {numbers[place]}", f"close {place + 1}"]
+    for place in range(kept):
+        lines.append(f"dup2 {place + 1} {place}")
+    last = kept if kept else 0
+    if last not in numbers:
+        lines.append(f"close {last}")
+    return lines

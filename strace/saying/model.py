@@ -1,0 +1,192 @@
+"""The types that a log is said in: descriptions, tables, processes, seats of the layer, and blocks of a script's lines."""
+from dataclasses import dataclass, field
+from enum import Enum
+
+
+class Kind(Enum):
+    """What a description is in the layer."""
+    STREAM = "stream"
+    DATAGRAM = "dgram"
+    RECORDS = "seq"
+    PIPE = "pipe"
+    COUNTER = "counter"
+    MEMORY = "mem"
+    OPAQUE = "opaque"
+
+    @property
+    def is_socket(self):
+        return self in (Kind.STREAM, Kind.DATAGRAM, Kind.RECORDS)
+
+
+class How(Enum):
+    """How a call of the log was said."""
+    AS_IT_IS = "as it is"
+    OTHERWISE = "by other words"
+    LEFT_OUT = "left out"
+    NOT_AT_ALL = "not at all"
+
+
+class Role(Enum):
+    """What a line of the script is there for."""
+    CALL = "call"
+    START = "start"
+    HAND_OVER = "hand over"
+    MOVE = "move"
+
+
+@dataclass(slots=True, eq=False)
+class Description:
+    """An open file description as the log shows it. `unknown` says why its later replies aren't compared;
+    `unread` has the lengths of what was sent and not yet received."""
+    kind: Kind
+    what: str
+    nonblocking: bool = False
+    append: bool = False
+    phase: str = "idle"
+    peer: object = None
+    waiting: list = field(default_factory=list)
+    name: str = ""
+    inode: str = ""
+    unknown: str = ""
+    thing: object = None
+    watched: dict = None
+    unread: list = field(default_factory=list)
+    family: str = ""
+    listens: bool = False
+    made_by: object = None
+    outer: object = None
+    pending: int = 0
+    is_split: bool = False
+
+    def state(self):
+        """What differences.txt calls the kind of a descriptor."""
+        if not self.kind.is_socket:
+            return self.kind.value if self.kind is not Kind.OPAQUE else "mem"
+        memory = sum(count + MESSAGE_COST for count in self.unread)
+        filled = "/filled" if self.kind is Kind.STREAM and self.phase == "tied" and memory >= FILLED else ""
+        return f"{self.kind.value}/{self.phase}{filled}"
+
+
+FILLED = 1 << 15
+MESSAGE_COST = 768
+
+
+@dataclass(slots=True, eq=False)
+class Thing:
+    """A file object of the layer that a log makes at run time: its name, and why its contents aren't known, if so."""
+    name: str
+    kind: Kind
+    unknown: str = ""
+    ends: int = 0
+    sent: bool = False
+    level: int = 0
+
+
+@dataclass(slots=True)
+class Slot:
+    """A descriptor: where it leads, close-on-exec, and how it came into this table in the log's words."""
+    description: Description
+    on_exec: bool = False
+
+
+@dataclass(slots=True, eq=False)
+class Seat:
+    """A process of the layer. `forked` says that process 1's fork makes it; else the header has it."""
+    key: int
+    user: int
+    group: int
+    forked: bool = False
+    number: int = 0
+    process: object = None
+    privileged: bool = False
+
+
+def mark(seat):
+    """What stands for a seat's number in a script's words until all seats have theirs."""
+    return f"\0{seat.key}\0"
+
+
+@dataclass(eq=False)
+class Process:
+    """A process of the log, with all its threads."""
+    pid: int
+    parent: object
+    table: dict
+    folder: str
+    program: str
+    seat: Seat = None
+    first_seat: Seat = None
+    birth: object = None
+    threads: set = field(default_factory=set)
+    shared: set = field(default_factory=set)
+    user: int = 0
+    group: int = 0
+    unsaid: str = ""
+    over: bool = False
+    execs: int = 0
+    last: int = 0
+
+    def lowest(self):
+        """The lowest number that is free."""
+        number = 0
+        while number in self.table:
+            number += 1
+        return number
+
+    def label(self):
+        return f"{self.program} (pid {self.pid})"
+
+
+@dataclass(slots=True, eq=False)
+class Step:
+    """A line of the script: whose, its words, the kernel's reply (None where there is none to compare), and its place."""
+    seat: Seat
+    words: str
+    expect: str = None
+    role: Role = Role.CALL
+    state: str = "-"
+    asked: frozenset = None
+    block: object = None
+    makes: dict = None
+
+
+@dataclass(slots=True, eq=False)
+class Block:
+    """The lines that one call is said by, and the lines of the log within which it may stand."""
+    call: object
+    process: Process
+    begin: float
+    end: float
+    at: float
+    how: How = How.AS_IT_IS
+    why: str = ""
+    steps: list = field(default_factory=list)
+    unix: bool = False
+    program: str = ""
+    unknown: str = ""
+    snapshot: dict = None
+    is_part: bool = False
+    concerns: set = field(default_factory=set)
+    following: list = field(default_factory=list)
+
+    def concern(self, description):
+        """Keeps what this call may depend on: a description, its peer and its object."""
+        self.concerns.update(id(one) for one in (description, description.peer, description.thing) if one is not None)
+
+    def is_related(self, other):
+        """Whether two calls concern the same; a call without a description of its own may concern all."""
+        return not self.concerns or not other.concerns or not self.concerns.isdisjoint(other.concerns)
+
+    def otherwise(self, why):
+        """The call is said by other words."""
+        if self.how is How.AS_IT_IS:
+            self.how, self.why = How.OTHERWISE, why
+
+    def leave_out(self, why):
+        """The call changes nothing that the layer has."""
+        if not self.steps:
+            self.how, self.why = How.LEFT_OUT, why
+
+    def not_at_all(self, why):
+        """The call has an effect that can't be said."""
+        self.how, self.why = How.NOT_AT_ALL, why

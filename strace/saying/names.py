@@ -1,0 +1,87 @@
+"""Names of sockets: a log's paths and abstract names become a script's, whatever folder they were given in."""
+import posixpath
+
+LONGEST = 107
+
+
+def spell(data):
+    """Bytes as a script writes a name."""
+    return "".join(chr(byte) if 0x21 <= byte <= 0x7e and byte != 0x25 else f"%{byte:02x}" for byte in data)
+
+
+class Names:
+    """Which path of the log is which path of the script. A renamed path keeps its name in the script: an alias."""
+
+    def __init__(self):
+        self.aliases = {}
+        self.given = {}
+        self.used = set()
+        self.bound = {}
+        self.files = []
+        self.automatic = {}
+
+    def canonical(self, folder, path):
+        """A path from the root, without dots; links aren't followed, since a log doesn't show them."""
+        return posixpath.normpath(posixpath.join(folder.encode("latin-1"), path))
+
+    def word_of_path(self, folder, path):
+        """The script's word for a path, which is made where it has none."""
+        whole = self.canonical(folder, path)
+        if whole not in self.aliases:
+            self.aliases[whole] = self.fresh(whole)
+        return self.aliases[whole]
+
+    def fresh(self, whole):
+        wanted = whole if len(whole) <= LONGEST else b"~/" + posixpath.basename(whole)[-80:]
+        word, count = "p:" + spell(wanted), 1
+        while word in self.used:
+            count += 1
+            word = f"p:{spell(wanted[-80:])}~{count}"
+        self.used.add(word)
+        return word
+
+    def known(self, folder, path):
+        """The word of a path that a socket was bound to and that is still there, or None."""
+        word = self.aliases.get(self.canonical(folder, path))
+        return word if word in self.bound else None
+
+    def bind(self, folder, path, description):
+        word = self.word_of_path(folder, path)
+        self.given[path] = word
+        self.bound[word] = description
+        return word
+
+    def unlink(self, folder, path):
+        """The word to unlink, or None where no socket is at the path or another path leads to it still."""
+        whole = self.canonical(folder, path)
+        word = self.aliases.get(whole)
+        if word not in self.bound:
+            return None
+        del self.aliases[whole]
+        if word in self.aliases.values():
+            return None
+        del self.bound[word]
+        self.used.discard(word)
+        return word
+
+    def rename(self, old_folder, old, new_folder, new):
+        """Moves a path; the answer is the word of a socket that was at the new one, or None."""
+        source, target = self.canonical(old_folder, old), self.canonical(new_folder, new)
+        word = self.aliases.get(source)
+        if word not in self.bound or source == target:
+            return None
+        over = self.unlink(new_folder, new)
+        del self.aliases[source]
+        self.aliases[target] = word
+        return over
+
+    def link(self, old_folder, old, new_folder, new):
+        """A further path for a socket; the answer is whether there is one."""
+        word = self.known(old_folder, old)
+        if word:
+            self.aliases[self.canonical(new_folder, new)] = word
+        return word is not None
+
+    def told(self, folder, path):
+        """The word of a path as a reply tells it: as it was given at its bind."""
+        return self.given.get(path) or self.word_of_path(folder, path)

@@ -1,0 +1,109 @@
+"""Says the calls that make, change and end processes."""
+import posixpath
+import re
+
+from reading.words import number_of, shown
+from . import handover
+from .files import path_of
+from .model import Description, Kind
+from .world import says
+
+NEVER = (-1, 4294967295, None)
+PIDFD = re.compile(r"(?:pidfd|parent_tid)=(?:0x[0-9a-f]+ => )?\{?\[(\d+)[<\]]")
+
+
+@says("fork", "vfork", "clone", "clone3")
+def say_fork(world, block, process, args, result):
+    name = block.call.name
+    if result.error:
+        block.leave_out(f"{name} that failed")
+        return
+    text = block.call.text
+    thread = "CLONE_THREAD" in text
+    if result.value is None:
+        if not thread:
+            world.orphans.append((block, process))
+        block.leave_out(f"{name} without an answer")
+        return
+    if thread or "CLONE_FILES" in text:
+        process.threads.add(result.value)
+        world.threads[result.value] = process
+        if thread:
+            block.otherwise("a thread is the same process")
+        else:
+            process.shared.add(result.value)
+            block.otherwise("a process that shares its table is the same until it executes a program")
+    else:
+        handover.fork(world, block, process, result.value)
+    pidfd = PIDFD.search(text) if "CLONE_PIDFD" in text else None
+    if pidfd:
+        make_pidfd(world, block, process, int(pidfd[1]))
+
+
+def make_pidfd(world, block, process, number):
+    world.make(block, process, number, Description(Kind.OPAQUE, "a process's descriptor", inode="anon_inode:[pidfd]"), True)
+
+
+@says("execve", "execveat")
+def say_exec(world, block, process, args, result):
+    if result.error or result.value is None:
+        block.leave_out("an exec that failed")
+        return
+    if block.call.thread in process.shared:
+        process = part(world, block, process)
+    path = path_of(args[1] if block.call.name == "execveat" else args[0])
+    process.program = shown(posixpath.basename(path)) or process.program
+    process.execs += 1
+    block.program = process.label()
+    for number in [number for number, slot in process.table.items() if slot.on_exec]:
+        world.drop(process, number)
+    world.step(block, process.seat, "exec", "ok")
+    block.snapshot = dict(process.table)
+    world.executed.append(block)
+
+
+def part(world, block, process):
+    """A process that shared its table executes a program, and has a copy from now on."""
+    thread = block.call.thread
+    process.threads.discard(thread)
+    process.shared.discard(thread)
+    child = handover.fork(world, block, process, thread)
+    block.process = child
+    return child
+
+
+@says("exit_group", "exit")
+def say_exit(world, block, process, args, result):
+    """The process ends behind its last thread's last call, which the log's line of its end tells."""
+    if block.call.name == "exit" and len(process.threads) > 1:
+        block.leave_out("the end of a thread")
+
+
+@says("setuid", "setgid", "setreuid", "setregid", "setresuid", "setresgid", "setfsuid", "setfsgid", "setgroups")
+def say_ids(world, block, process, args, result):
+    name = block.call.name
+    if result.error or result.value is None:
+        block.leave_out("a change of ids that failed")
+        return
+    if name == "setgroups":
+        block.leave_out("setgroups")
+        return
+    chosen = args[1] if name in ("setreuid", "setregid", "setresuid", "setresgid") else args[0]
+    value = number_of(chosen)
+    if value in NEVER or name.startswith("setfs"):
+        block.leave_out("a change of ids that changes none")
+    elif "uid" in name:
+        handover.change_user(world, block, process, value, process.group)
+    else:
+        handover.change_user(world, block, process, process.user, value)
+
+
+@says("unshare", "setns")
+def say_unshare(world, block, process, args, result):
+    if result.error:
+        block.leave_out(f"{block.call.name} that failed")
+    elif block.call.thread in process.shared and "CLONE_FILES" in block.call.text:
+        part(world, block, process)
+        block.otherwise("a table that was shared is copied")
+    else:
+        block.not_at_all(f"{block.call.name}: namespaces")

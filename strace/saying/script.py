@@ -1,0 +1,66 @@
+"""Writes a script: the blocks in their order, the processes numbered, and the header that they need."""
+import re
+from dataclasses import dataclass
+
+from .world import OUTSIDE
+
+MARK = re.compile("\0(\\d+)\0")
+LIMIT = 4096
+LONGEST_LINE = 4096
+
+
+@dataclass
+class Script:
+    """A script with the step behind each of its calls, in the order of the trace."""
+    header: list
+    lines: list
+    steps: list
+    seats: dict
+
+    def text(self, count=None):
+        lines = self.lines if count is None else self.lines[:count]
+        return "\n".join([*self.header, *lines]) + "\n"
+
+    def with_expectations(self):
+        """The script with the kernel's replies as comments, which uxrun skips."""
+        parts = list(self.header)
+        for line, step in zip(self.lines, self.steps):
+            if step.expect is not None:
+                parts.append(f"# {numbered(step.expect, self.seats)}"[:LONGEST_LINE])
+            parts.append(line)
+        return "\n".join(parts) + "\n"
+
+
+def header_of(world):
+    lines = [f"object {OUTSIDE} mem -"]
+    lines += [f"object {thing.name} {thing.kind.value}{' -' if thing.kind.value == 'mem' else ''}" for thing in world.things]
+    room = 64 - len(lines)
+    lines += [f"object {word} mem -" for word in dict.fromkeys(world.names.files[:room])]
+    seats = [seat for seat in world.seats if not seat.forked]
+    for number, seat in enumerate(seats, 1):
+        seat.number = number
+        lines.append(f"proc {seat.user} {seat.group} {1 if seat.user == 0 or seat.privileged else 0} {LIMIT}")
+    return lines, len(seats)
+
+
+def write_script(world, blocks):
+    """The script of blocks in this order."""
+    header, count = header_of(world)
+    by_key = {seat.key: seat for seat in world.seats}
+    lines, steps = [], []
+    for block in blocks:
+        for step in block.steps:
+            if step.words == "fork":
+                count += 1
+                child = by_key[int(MARK.search(step.expect)[1])]
+                child.number = count
+            lines.append(f"{step.seat.number} {numbered(step.words, by_key)}")
+            steps.append(step)
+    return Script(header, lines, steps, by_key)
+
+
+def numbered(text, by_key):
+    """A text in which each process has its number in the script."""
+    if "\0" not in text:
+        return text
+    return MARK.sub(lambda found: str(by_key[int(found[1])].number), text)

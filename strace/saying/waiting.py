@@ -1,0 +1,43 @@
+"""Tells whether a call that may wait has to: a call that needs not stands where it began, another where it ended."""
+from reading.words import after, number_of, room_of
+from .model import Kind
+
+POLLS = frozenset("poll ppoll select pselect6 epoll_wait epoll_pwait epoll_pwait2".split())
+RECEIVES = frozenset("recv recvfrom recvmsg recvmmsg read readv".split())
+ACCEPTS = frozenset("accept accept4".split())
+WAITS = POLLS | RECEIVES | ACCEPTS
+
+
+def must_wait(process, call, args, result):
+    """Whether a receive or an accept has what it answers only later, as far as is known where it began."""
+    if call.name not in RECEIVES and call.name not in ACCEPTS:
+        return False
+    slot = process.table.get(number_of(args[0], -1))
+    if slot is None or slot.description.kind is Kind.OPAQUE:
+        return True
+    description = slot.description
+    if call.name in ACCEPTS:
+        return not description.waiting
+    if result.error or not result.value:
+        return True
+    if description.kind in (Kind.DATAGRAM, Kind.RECORDS):
+        return not description.pending
+    there = waiting_bytes(description)
+    return not (result.value == there or result.value == asked(call, args) < there)
+
+
+def waiting_bytes(description):
+    """How many bytes wait to be received by a stream or a pipe."""
+    if description.thing is not None:
+        return description.thing.level
+    return sum(description.peer.unread) if description.peer is not None else 0
+
+
+def asked(call, args):
+    """How many bytes a receive asks for."""
+    if call.name == "readv":
+        return room_of(args[1])
+    if call.name == "recvmsg":
+        message = after(args[1])
+        return room_of(message.get("msg_iov")) if isinstance(message, dict) else 0
+    return number_of(args[2], 0) if len(args) > 2 else 0

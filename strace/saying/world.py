@@ -1,0 +1,367 @@
+"""Follows a log call by call: which process has which descriptor, and what the script says of each call."""
+import heapq
+import re
+from collections import Counter
+
+from reading.calls import End
+from reading.effects import MAKES_OPAQUE
+from reading.words import Unreadable, after, number_of
+from . import handover
+from .model import Block, Description, How, Kind, Process, Role, Seat, Slot, Step, Thing, mark
+from .names import Names
+from .notes import descriptors_in, inode_of, kind_of
+from .outside import Outside
+from .waiting import POLLS, must_wait
+
+HIGHEST = 4095
+MOST_HEADER = 64
+MOST_OBJECTS = 64
+OUTSIDE = "p:~outside"
+AUTOMATIC = re.compile(r'\[(\d+)(?:->\d+)?,@"([0-9a-f]{5})"\]')
+NOTED = re.compile(r"\d<[^>]*>")
+MOST_LOOKED_AT = 1000
+GIVES_NUMBERS = {**dict.fromkeys("""socket accept accept4 open openat openat2 creat dup fcntl ioctl eventfd eventfd2 memfd_create
+epoll_create epoll_create1 timerfd_create signalfd4 inotify_init inotify_init1 pidfd_open""".split()), "pipe": 0, "pipe2": 0,
+                 "socketpair": 3}
+SAYS = {}
+
+
+def says(*names):
+    """Marks what says the calls of these names."""
+    def mark(handler):
+        for name in names:
+            SAYS[name] = handler
+        return handler
+    return mark
+
+
+class World:
+    """All that is known while the calls of a log are said."""
+
+    def __init__(self, log, inherited=None, learnt=None):
+        self.log = log
+        self.inherited = log.head.inherited if inherited is None else inherited
+        self.names = Names()
+        self.blocks = []
+        self.threads = {}
+        self.processes = []
+        self.seats = []
+        self.things = []
+        self.by_inode = {}
+        self.uses = {}
+        self.missing = {}
+        self.unknown_names = Counter()
+        self.notes = Counter()
+        self.births = {}
+        self.orphans = []
+        self.cut_texts = 0
+        self.endings = {}
+        self.automatic = {}
+        self.object_count = 1
+        self.current = None
+        self.in_flight = []
+        self.executed = []
+        self.closes = {}
+        self.plain = False
+        self.late = []
+        self.outside = Outside(self, learnt)
+        self.pids = {}
+
+    # ---- the order in which the log is read ----
+
+    def prepare(self):
+        """What is looked up in the whole log before its first call is said."""
+        for end in self.log.ends:
+            self.endings.setdefault(end.thread, []).append(end)
+        self.plain = not any(NOTED.search(call.text) for call in self.log.calls[:MOST_LOOKED_AT])
+        for call in self.log.calls:
+            if ',@"' in call.text:
+                for inode, name in AUTOMATIC.findall(call.text):
+                    self.automatic.setdefault(inode, name)
+
+    def place_of(self, event):
+        if isinstance(event, End):
+            return event.line
+        return event.end if event.name in POLLS else event.begin
+
+    def run(self):
+        """Says the whole log."""
+        self.prepare()
+        events = sorted([*self.log.calls, *self.log.ends], key=self.place_of)
+        replaced = list(reversed(self.log.replaced))
+        for event in events:
+            place = self.place_of(event)
+            while self.late and self.late[0][0] < place:
+                _, _, call = heapq.heappop(self.late)
+                self.say(call, call.end)
+            while replaced and replaced[-1][0] <= place:
+                self.replace(*replaced.pop()[1:])
+            if isinstance(event, End):
+                self.end_thread(event)
+            else:
+                self.say(event, place)
+        while self.late:
+            _, _, call = heapq.heappop(self.late)
+            self.say(call, call.end)
+        return self
+
+    @staticmethod
+    def is_too_early(process, call, args, result):
+        """Whether a call gives a number that is still open: then another closes it before this one ends, where it stands."""
+        if call.name not in GIVES_NUMBERS or result.error:
+            return False
+        pairs = after(args[GIVES_NUMBERS[call.name]]) if GIVES_NUMBERS[call.name] is not None else None
+        numbers = [number_of(one) for one in pairs] if isinstance(pairs, list) else [result.value]
+        return not (call.name in ("fcntl", "ioctl") and not result.note) and any(number in process.table for number in numbers)
+
+    def replace(self, first, other):
+        process = self.threads.pop(other, None)
+        if process:
+            process.threads = {first}
+            self.threads[first] = process
+
+    def process_of(self, thread):
+        """The process of a thread; one that no fork made is a root."""
+        process = self.threads.get(thread)
+        if process is None:
+            process = self.adopt(thread)
+        return process
+
+    def adopt(self, thread):
+        if self.orphans:
+            block, parent = self.orphans.pop(0)
+            return handover.fork(self, block, parent, thread)
+        head = self.log.head
+        first = not self.processes
+        user = head.user if head.user is not None else 0
+        group = head.group if head.group is not None else 0
+        process = Process(thread, None, {}, head.folder, "?", user=user, group=group)
+        self.enter(process, thread)
+        process.seat = self.new_seat(user, group, process)
+        if process.seat is None:
+            process.unsaid = "more than 64 processes"
+        block = Block(None, process, 0, 0, 0, program=process.label())
+        self.blocks.append(block)
+        if first or not head.recorded:
+            self.start(block, process)
+        return process
+
+    def start(self, block, process):
+        """Opens what the first program was given."""
+        for one in sorted(self.inherited, key=lambda one: one.number):
+            description = Description(Kind.OPAQUE, one.target, nonblocking=one.nonblocking, inode=one.target)
+            self.make(block, process, one.number, description, False, role=Role.START)
+
+    def enter(self, process, thread):
+        self.processes.append(process)
+        self.pids[process.pid] = process
+        process.threads.add(thread)
+        self.threads[thread] = process
+
+    def new_seat(self, user, group, process, forked=False):
+        """A process of the layer, or None where there can be no more."""
+        if not forked and sum(not seat.forked for seat in self.seats) >= MOST_HEADER or len(self.seats) >= 1000:
+            return None
+        seat = Seat(len(self.seats), user, group, forked, process=process)
+        self.seats.append(seat)
+        process.first_seat = process.first_seat or seat
+        return seat
+
+    # ---- the lines of the script ----
+
+    def step(self, block, seat, words, expect=None, description=None, role=Role.CALL, asked=None, makes=None, state="-"):
+        """A further line of a block. A process that has no seat has no lines."""
+        if seat is None:
+            return
+        if description is not None:
+            block.concern(description)
+        step = Step(seat, words, expect, role, description.state() if description else state, asked, block, makes)
+        block.steps.append(step)
+
+    def parts(self, block, count):
+        """Blocks for the pieces of a call that others interrupted: each may stand elsewhere, in their order."""
+        made = [Block(block.call, block.process, block.begin, block.end, block.at + place * 1e-6, block.how, block.why,
+                      unix=block.unix, program=block.program, is_part=True) for place in range(1, count)]
+        whole = [block, *made]
+        for place, one in enumerate(whole):
+            one.following = whole[place + 1:]
+        self.blocks += made
+        return whole
+
+    def make(self, block, process, wanted, description, on_exec, words=None, form="fd {}", role=Role.CALL):
+        """A call that gives a new number. Where the log has another than the lowest, it is moved there."""
+        if wanted in process.table:
+            self.gone(block, process, wanted)
+        lowest = process.lowest()
+        letters = self.letters(description, on_exec)
+        words = words or f"open {OUTSIDE} rw {letters}"
+        if wanted > HIGHEST:
+            block.not_at_all("a descriptor above 4,095")
+            return
+        self.step(block, process.seat, words, form.format(lowest), role=role, makes={lowest: description})
+        self.move(block, process, lowest, wanted, description, on_exec)
+        description.made_by = description.made_by or block
+        process.table[wanted] = Slot(description, on_exec)
+
+    def move(self, block, process, number, wanted, description, on_exec):
+        if number == wanted:
+            return
+        self.step(block, process.seat, f"dup2 {number} {wanted}", f"fd {wanted}", role=Role.MOVE)
+        self.step(block, process.seat, f"close {number}", "ok", role=Role.MOVE)
+        if on_exec:
+            self.step(block, process.seat, f"flags {wanted} {self.letters(description, True)}", "ok", role=Role.MOVE)
+        block.otherwise("a number other than the lowest free one")
+
+    def gone(self, block, process, number):
+        """A number that the log gives anew was closed by what the log doesn't show."""
+        self.step(block, process.seat, f"close {number}", None, role=Role.MOVE)
+        self.notes["a descriptor that the log doesn't show closed"] += 1
+        self.drop(process, number)
+
+    @staticmethod
+    def letters(description, on_exec):
+        text = ("a" if description.append else "") + ("n" if description.nonblocking else "") + ("x" if on_exec else "")
+        return text or "-"
+
+    def slot(self, block, process, number, note=""):
+        """The slot of a number; one whose origin the log doesn't show is opened as an opaque object. None: not open."""
+        found = process.table.get(number)
+        if found is None and note and number >= 0:
+            root = process
+            while root.parent:
+                root = root.parent
+            self.missing.setdefault((root.pid, number), note)
+            self.notes["a descriptor whose origin the log doesn't show"] += 1
+            description = self.by_inode.get(inode_of(note)) or Description(kind_of(note), note, inode=inode_of(note))
+            description.unknown = description.unknown or "its origin isn't in the log"
+            self.make(block, process, number, description, False, role=Role.START)
+            found = process.table.get(number)
+        if found is not None and note and not found.description.inode:
+            found.description.inode = inode_of(note)
+            found.description.what = found.description.what if found.description.kind is not Kind.OPAQUE else note
+        return found
+
+    def thing(self, kind):
+        """A new file object, or None where there are 64."""
+        if self.object_count >= MOST_OBJECTS:
+            return None
+        self.object_count += 1
+        thing = Thing(f"p:~{kind.value}{len(self.things)}", kind)
+        self.things.append(thing)
+        return thing
+
+    # ---- one call ----
+
+    def say(self, call, at):
+        process = self.process_of(call.thread)
+        if process.birth is not None and process.birth.end >= call.begin:
+            process.birth.end = max(process.birth.begin, call.begin - 0.5)
+        block = Block(call, process, call.begin, call.end, at, program=process.label())
+        self.current = block
+        try:
+            args, result = call.read()
+        except (Unreadable, ValueError, RecursionError) as fault:
+            block.not_at_all(f"can't be read: {fault}")
+            self.log.bad.append((call.begin, f"{call.name}: {fault}"))
+            self.blocks.append(block)
+            return
+        if at < call.end and (self.is_too_early(process, call, args, result) or must_wait(process, call, args, result)):
+            heapq.heappush(self.late, (call.end, call.begin, call))
+            return
+        if process.unsaid:
+            block.not_at_all(process.unsaid)
+        process.last = max(process.last, call.begin if call.name in ("exit", "exit_group") else min(call.end, self.log.lines))
+        self.note_uses(process, call, args)
+        self.dispatch(block, process, args, result)
+        if process.unsaid:
+            block.not_at_all(process.unsaid)
+        self.blocks.append(block)
+
+    def dispatch(self, block, process, args, result):
+        call = block.call
+        handler = SAYS.get(call.name)
+        try:
+            if handler:
+                handler(self, block, process, args, result)
+            else:
+                self.say_other(block, process, args, result)
+        except (IndexError, KeyError, TypeError, AttributeError, ValueError) as fault:
+            block.not_at_all("arguments of another form")
+            self.log.bad.append((call.begin, f"{call.name}: arguments of another form ({fault})"))
+
+    def say_other(self, block, process, args, result):
+        """A call that nobody has told what to do with."""
+        name = block.call.name
+        if result.error or result.value is None:
+            block.leave_out(f"{name} that failed" if result.error else f"{name} without an answer")
+        elif name in MAKES_OPAQUE or result.note:
+            description = Description(Kind.OPAQUE, result.note or name, inode=result.note)
+            on_exec = any("CLOEXEC" in str(value) or "NONBLOCK" in str(value) and "CLOEXEC" in str(value) for value in args)
+            self.make(block, process, result.value, description, on_exec or name in ("pidfd_open", "pidfd_getfd"))
+            block.otherwise("an opaque object" if name in MAKES_OPAQUE else f"a new number by {name}: an opaque object")
+        else:
+            self.unknown_effect(block, process, args)
+
+    def unknown_effect(self, block, process, args):
+        """A call that isn't known: what it does to sockets, pipes and files of the layer isn't known from here on."""
+        name = block.call.name
+        self.unknown_names[name] += 1
+        hit = False
+        for descriptor in descriptors_in(args, self.plain):
+            slot = process.table.get(descriptor.number)
+            if slot and slot.description.kind is not Kind.OPAQUE:
+                self.make_unknown(slot.description, f"{name} has an effect that isn't known")
+                block.unix = block.unix or slot.description.kind.is_socket
+                hit = True
+        if hit:
+            block.not_at_all(f"{name}, of an effect that isn't known")
+        else:
+            block.leave_out(f"{name}, which isn't known, of nothing here")
+
+    def make_unknown(self, description, why):
+        """Later replies of a description, and of its peer, aren't compared."""
+        for one in (description, description.peer):
+            if one is not None and not one.unknown:
+                one.unknown = why
+        if description.thing is not None:
+            description.thing.unknown = description.thing.unknown or why
+
+    def note_uses(self, process, call, args):
+        if call.name in ("close_range", "clone", "clone3", "vfork", "fork"):
+            return
+        overwrites = call.name in ("dup2", "dup3")
+        for place, descriptor in enumerate(descriptors_in(args, self.plain)):
+            kept = self.closes if call.name == "close" or overwrites and place == 1 else self.uses
+            kept.setdefault((id(process), descriptor.number), []).append((call.begin, call.name))
+
+    def end_thread(self, end):
+        process = self.threads.pop(end.thread, None)
+        if process is None:
+            return
+        process.threads.discard(end.thread)
+        if not process.threads and not process.over:
+            at = end.line if end.signal else process.last + 0.5
+            block = Block(end, process, process.last + 0.1, end.line, at, program=process.label())
+            block.how, block.why = (How.OTHERWISE, "ended by a signal") if end.signal else (How.AS_IT_IS, "")
+            self.finish(block, process)
+            self.blocks.append(block)
+
+    def finish(self, block, process):
+        """The process ends: all its numbers are closed."""
+        process.over = True
+        block.snapshot = {number: slot.description for number, slot in process.table.items()}
+        self.step(block, process.seat, "exit", "ok")
+        for number in list(process.table):
+            self.drop(process, number)
+
+    def person(self, pid, strictly=False):
+        """A process of the log as a script's words and replies tell it: ? where the log doesn't have it."""
+        process = self.pids.get(pid)
+        if process is None or process.seat is None:
+            return "0" if strictly else "?"
+        return mark(process.seat if strictly else process.first_seat)
+
+    def drop(self, process, number):
+        slot = process.table.pop(number, None)
+        if slot and slot.description.thing is not None:
+            slot.description.thing.ends -= 1

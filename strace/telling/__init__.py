@@ -1,0 +1,1 @@
+"""Tells what was found: reports as values, which --json prints, and as text."""

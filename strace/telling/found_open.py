@@ -1,0 +1,96 @@
+"""The report of found-open: what each program had open behind its exec, and what looks wrong."""
+from collections import Counter
+
+from judging.holdings import holdings
+from judging.run import Fault
+
+STREAMS = 3
+
+
+def report_of(world, order, runner):
+    """Each program that was executed with what it found open."""
+    programs = []
+    places = {step.block: place + 1 for place, step in enumerate(order.script.steps) if step.words == "exec"}
+    for block in sorted(world.executed, key=lambda block: block.call.begin):
+        if block not in places:
+            programs.append({"program": block.program, "line": block.call.begin, "found": [], "unknown": block.process.unsaid})
+            continue
+        held, fault = holdings(world, order.script, runner, places[block])
+        if fault:
+            raise Fault(f"uxrun ended with: {fault}")
+        found = [tell(world, block, one) for one in held if one.process is block.process]
+        programs.append({"program": block.program, "line": block.call.begin, "found": found, "unknown": ""})
+    return {"programs": programs}
+
+
+def tell(world, block, one):
+    used = uses_of(world, block, one.number)
+    return {"number": one.number, "chain": one.chain, "leads to": one.description.inode if one.description else "",
+            "used": used, "wrong": judge(one, used, block), "unknown": one.unknown}
+
+
+def uses_of(world, block, number):
+    """The names of calls on a number from a program's beginning until it is closed; `closed` where nothing comes before."""
+    process = block.process
+    until = min((other.call.begin for other in world.executed
+                 if other.process is process and other.call.begin > block.call.begin), default=float("inf"))
+    closes = [line for line, _ in world.closes.get((id(process), number), ()) if block.call.end < line < until]
+    until = min([until, *closes])
+    calls = [name for line, name in world.uses.get((id(process), number), ()) if block.call.end < line < until]
+    if any(block.call.end < line < until and touched == number for line, touched in touches(world, process)):
+        calls.append("a query")
+    return list(dict.fromkeys(calls))[:3] or (["closed"] if closes else [])
+
+
+def touches(world, process):
+    return world.log.touched.get(process.pid, ())
+
+
+def judge(one, used, block):
+    """What looks wrong about a descriptor that a program found open, or no text."""
+    if one.number < STREAMS or used and used != ["closed"]:
+        return ""
+    description = one.description
+    closed = ", though the program closes it" if used else ""
+    if description is not None and description.listens:
+        return "a socket that listens, which the program never uses" + closed
+    if description is not None and description.phase == "tied":
+        return "a connection that the program never uses" + closed
+    return "" if used else "never used: not close-on-exec"
+
+
+def text_of(report, every=False):
+    """The report as lines: what looks wrong, each once with how often, and then each program that found something."""
+    wrong = [(program, one) for program in report["programs"] for one in program["found"] if one["wrong"]]
+    lines = [f"{len(report['programs'])} programs were executed; {len(wrong)} descriptors look wrong"]
+    counts = Counter((name_of(program), one["wrong"], one["chain"][0]) for program, one in wrong)
+    for (name, why, origin), count in sorted(counts.items(), key=lambda item: weight(item[0][1])):
+        lines.append(f"  {name}{f' ({count} times)' if count > 1 else ''}: {why}: {origin}")
+    told = set()
+    for program in report["programs"]:
+        rows = [one for one in program["found"] if every or one["number"] >= STREAMS]
+        key = (name_of(program), tuple((one["number"], one["wrong"]) for one in rows))
+        if key in told and not every:
+            continue
+        told.add(key)
+        if rows or every or program["unknown"]:
+            lines.append(f"{program['program']}, line {program['line']}:")
+        if program["unknown"]:
+            lines.append(f"  not known: {program['unknown']}")
+        lines += [row_of(one) for one in rows]
+    return "\n".join(lines)
+
+
+def name_of(program):
+    return program["program"].split(" (pid ")[0]
+
+
+def weight(why):
+    """Listeners first, then connections, then the rest."""
+    return 0 if "listens" in why else 1 if "connection" in why else 2
+
+
+def row_of(one):
+    mark = f"\n      LOOKS WRONG: {one['wrong']}" if one["wrong"] else ""
+    use = f"; used by {', '.join(one['used'])}" if one["used"] and not one["wrong"] else ""
+    return f"  {one['number']}: {', '.join(one['chain'])}{use}{mark}"

@@ -1,0 +1,113 @@
+"""The report of replay: how the calls were said, and how the replies stand to the kernel's."""
+from collections import Counter
+
+from judging.compare import Outcome
+from saying.model import How
+
+MOST_TOLD = 12
+
+
+def calls_of(world):
+    """How the log's calls were said, all of them and those on AF_UNIX sockets."""
+    blocks = [block for block in world.blocks if block.call is not None and hasattr(block.call, "name") and not block.is_part]
+    return {
+        "made": len(blocks) + sum(world.log.quiet.values()),
+        **{how.value: sum(block.how is how for block in blocks) for how in How},
+        "without effect": sum(world.log.quiet.values()),
+        "on AF_UNIX": {how.value: sum(block.unix and block.how is how for block in blocks) for how in How},
+        "reasons": {how.value: dict(Counter(f"{block.call.name}: {block.why}" for block in blocks if block.how is how).most_common())
+                    for how in How if how is not How.AS_IT_IS},
+        "without effect by name": dict(world.log.quiet.most_common()),
+    }
+
+
+def replies_of(order):
+    verdicts = order.verdicts
+    rules = Counter(verdict.rule for verdict in verdicts if verdict.outcome is Outcome.RULE)
+    compared = [verdict for verdict in verdicts if verdict.outcome is not Outcome.NOT_COMPARED]
+    return {
+        "compared": len(compared),
+        "agree": sum(verdict.outcome is Outcome.AGREES for verdict in compared),
+        "under a rule": sum(rules.values()),
+        "rules": dict(rules.most_common()),
+        "differ": sum(verdict.outcome is Outcome.DIFFERS for verdict in compared),
+        "before the first difference": before_first(compared),
+    }
+
+
+def before_first(compared):
+    return next((place for place, verdict in enumerate(compared) if verdict.outcome is Outcome.DIFFERS), len(compared))
+
+
+def difference_of(verdict):
+    block = verdict.step.block
+    return {"line": block.call.begin if block.call is not None else None, "process": block.program, "call": verdict.call,
+            "reply": verdict.ours, "kernel": verdict.kernel, "descriptor": verdict.step.state}
+
+
+def report_of(log, world, order, runner):
+    """All that replay says, as a value."""
+    return {
+        "log": {"lines": log.lines, "recorded": log.head.recorded, "threads": len(world.pids), "cut": log.cut,
+                "unfinished": log.unfinished, "unreadable": len(log.bad), "first unreadable": log.bad[:3],
+                "strings cut": world.cut_texts},
+        "calls": calls_of(world),
+        "unknown calls": dict(world.unknown_names),
+        "notes": dict(world.notes),
+        "unknown": [{"line": block.call.begin, "process": block.program, "call": block.call.name, "why": block.unknown}
+                    for block in world.blocks if block.unknown],
+        "replies": replies_of(order),
+        "moved": len(order.moved),
+        "out of time": order.out_of_time,
+        "runs": runner.runs,
+        "differences": [difference_of(verdict) for verdict in order.verdicts if verdict.outcome is Outcome.DIFFERS],
+    }
+
+
+def reasons(counts, heading):
+    lines = [f"  {heading}:"] if counts else []
+    for reason, count in list(counts.items())[:MOST_TOLD]:
+        lines.append(f"    {count:6d} {reason}")
+    if len(counts) > MOST_TOLD:
+        lines.append(f"    {sum(list(counts.values())[MOST_TOLD:]):6d} for {len(counts) - MOST_TOLD} further reasons (--json has all)")
+    return lines
+
+
+def text_of(report, every=False):
+    """The report as lines."""
+    log, calls, replies = report["log"], report["calls"], report["replies"]
+    lines = [f"{log['lines']} lines, {log['threads']} processes, {calls['made']} calls"]
+    lines += faults_of(log)
+    said = ", ".join(f"{calls[how.value]} {how.value}" for how in How)
+    unix = ", ".join(f"{calls['on AF_UNIX'][how.value]} {how.value}" for how in How)
+    lines += [f"calls: {said}, {calls['without effect']} of names without effect", f"  on AF_UNIX sockets: {unix}"]
+    for how in (How.OTHERWISE, How.LEFT_OUT, How.NOT_AT_ALL):
+        lines += reasons(calls["reasons"][how.value], how.value)
+    lines += reasons(report["unknown calls"], "calls that this program doesn't know")
+    lines += reasons(report["notes"], "the log doesn't show")
+    lines.append(f"replies: {replies['compared']} compared, {replies['agree']} agree, {replies['under a rule']} under a rule, "
+                 f"{replies['differ']} differ; {report['moved']} calls that overlap were moved")
+    lines += reasons(replies["rules"], "rules of compare/differences.txt")
+    if report["unknown"]:
+        lines.append(f"  {len(report['unknown'])} calls are of descriptors whose state isn't known: their replies are ? (--all lists them)")
+    if every:
+        lines += [f"  line {one['line']}: {one['process']}: {one['call']} = ?, {one['why']}" for one in report["unknown"]]
+    if report["out of time"]:
+        lines.append("  the search for an order ended before its time was enough: see --seconds")
+    for one in report["differences"][:None if every else 1]:
+        lines.append(f"  line {one['line']}: {one['process']}: {one['call']} | {one['reply']} | the kernel: {one['kernel']}"[:400])
+    return "\n".join(lines)
+
+
+def faults_of(log):
+    lines = []
+    if not log["recorded"]:
+        lines.append("  strace/record didn't write it: what was open at the start is guessed from what was used")
+    if log["cut"] or log["unfinished"]:
+        lines.append(f"  its last line is {'cut' if log['cut'] else 'whole'}; {log['unfinished']} calls have no end")
+    if log["unreadable"]:
+        number, text = log["first unreadable"][0]
+        lines.append(f"  {log['unreadable']} lines can't be read; the first is line {number}: {text}")
+    if log["strings cut"]:
+        lines.append(f"  {log['strings cut']} strings were cut by strace: contents are compared by their length")
+    return lines

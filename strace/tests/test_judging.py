@@ -1,0 +1,169 @@
+"""Rules, replies side by side, and the order of calls that overlap."""
+import sys
+import tempfile
+import unittest
+from pathlib import Path
+
+TOP = Path(__file__).resolve().parents[1]
+sys.path.insert(0, str(TOP))
+from judging.compare import filled, with_unasked
+from judging.order import candidates, exchanges
+from judging.rules import RULES, Case, read_rules, rule_of
+from saying.handover import placing
+from saying.model import Block
+from saying.names import Names, spell
+
+SMALL = """# a comment
+rule: words
+on: stream/.*
+call: recv .*
+ours: got .*
+linux: got .*
+differ: 6
+state: same
+what: text
+
+rule: bits
+call: poll .*
+differ: OUT HUP
+state: same
+
+rule: later
+call: send .*
+after: close 0 = ok
+state: parts
+
+rule: other
+call: x .*
+unlike: 2
+state: same
+"""
+
+
+def rule_for(on, call, ours, linux, past=()):
+    with tempfile.NamedTemporaryFile("w", suffix=".txt") as file:
+        file.write(SMALL)
+        file.flush()
+        rule = rule_of(read_rules(file.name), Case(on, call, ours, linux, list(past)))
+    return rule.name if rule else None
+
+
+class Rules(unittest.TestCase):
+    def test_all_blocks_of_the_repository_are_read(self):
+        blocks = sum(line.startswith("rule: ") for line in RULES.read_text("utf-8").splitlines())
+        self.assertEqual(len(read_rules()), blocks)
+
+    def test_answers_that_differ_in_one_word_alone(self):
+        self.assertEqual(rule_for("stream/tied", "recv 1 9 0 -", "got 1 61 - - -", "got 1 61 - - a:x"), "words")
+        self.assertIsNone(rule_for("stream/tied", "recv 1 9 0 -", "got 1 61 - - -", "got 1 62 - - a:x"))
+        self.assertIsNone(rule_for("dgram/tied", "recv 1 9 0 -", "got 1 61 - - -", "got 1 61 - - a:x"))
+
+    def test_conditions(self):
+        self.assertEqual(rule_for("-", "poll 1", "poll IN|OUT", "poll IN|HUP"), "bits")
+        self.assertIsNone(rule_for("-", "poll 1", "poll IN", "poll OUT"))
+
+    def test_after_an_earlier_call(self):
+        self.assertEqual(rule_for("-", "send 1", "n 1", "n 2", ["dup 0 = fd 1", "close 0 = ok"]), "later")
+        self.assertIsNone(rule_for("-", "send 1", "n 1", "n 2", ["close 0 = err EBADF"]))
+
+    def test_a_word_that_must_differ(self):
+        self.assertEqual(rule_for("-", "x 1", "n 1", "n 2"), "other")
+        self.assertIsNone(rule_for("-", "x 1", "n 1 a", "n 1 b"))
+
+    def test_a_file_of_something_else(self):
+        with tempfile.NamedTemporaryFile("w") as file:
+            file.write("hello: world\n")
+            file.flush()
+            with self.assertRaises(ValueError):
+                read_rules(file.name)
+
+
+class Replies(unittest.TestCase):
+    def test_what_was_not_asked_is_not_compared(self):
+        asked = frozenset({"IN", "HUP", "ERR", "NVAL"})
+        self.assertEqual(with_unasked("poll IN", "poll IN|OUT", asked), "poll IN|OUT")
+        self.assertEqual(with_unasked("poll -", "poll IN|OUT", asked), "poll OUT")
+
+    def test_a_select_is_told_readable_and_writable(self):
+        asked = frozenset({"IN", "OUT", "SELECT"})
+        self.assertEqual(with_unasked("poll IN", "poll HUP", asked), "poll HUP")
+        self.assertEqual(with_unasked("poll IN|OUT", "poll HUP", asked), "poll OUT|HUP")
+        self.assertEqual(with_unasked("poll -", "poll IN|HUP", asked), "poll -")
+
+    def test_what_the_log_does_not_have_is_ours(self):
+        self.assertEqual(filled("got 1 61 ? ? ?", "got 1 61 EOR r:3 a:x", False), "got 1 61 EOR r:3 a:x")
+        self.assertEqual(filled("got 1 61 - c:?,0,0+r:4 -", "got 1 61 - c:7,0,0+r:4 -", False), "got 1 61 - c:7,0,0+r:4 -")
+        self.assertEqual(filled("got 1 61 - c:?,0,0 -", "got 1 61 - c:7,0,5 -", False), "got 1 61 - c:?,0,0 -")
+
+    def test_contents_by_length_where_strings_were_cut(self):
+        self.assertEqual(filled("bytes 0000", "bytes 6162", True), "bytes 6162")
+        self.assertEqual(filled("bytes 0000", "bytes 61", True), "bytes 0000")
+        self.assertEqual(filled("bytes 0000", "bytes 6162", False), "bytes 0000")
+
+
+def block(begin, end, at):
+    return Block(object(), None, begin, end, at, steps=[1])
+
+
+def in_order(moves, first, second):
+    places = {id(first): first.at, id(second): second.at}
+    places.update({id(one): at for one, at in moves})
+    self_begin = all(one.begin <= at <= one.end + 0.01 for one, at in moves)
+    return places[id(first)] < places[id(second)] and self_begin
+
+
+class Order(unittest.TestCase):
+    def test_calls_that_do_not_overlap_stay(self):
+        self.assertEqual(candidates([block(1, 2, 1), block(3, 4, 4)], block(5, 5, 5)), [])
+
+    def test_an_exchange_keeps_both_within_their_lines(self):
+        for first, second in ((block(2, 9, 9), block(5, 5, 5)), (block(7, 7, 7), block(2, 9, 2)), (block(3, 9, 9), block(1, 5, 1))):
+            found = list(exchanges(first, second))
+            self.assertTrue(found)
+            for moves in found:
+                self.assertTrue(in_order(moves, first, second))
+
+
+class HandOver(unittest.TestCase):
+    def end(self, numbers):
+        """Where the descriptors are after the lines that place them: each as the number it had in the other table."""
+        table = {0: "socket", **{place + 1: number for place, number in enumerate(numbers)}}
+        for line in placing(numbers):
+            words = line.split()
+            if words[0] == "dup2":
+                table[int(words[2])] = table[int(words[1])]
+            else:
+                del table[int(words[1])]
+        return table
+
+    def test_each_descriptor_has_its_number_and_nothing_is_left(self):
+        for numbers in ([0], [1], [5], [0, 1, 2], [0, 2], [1, 2, 3], [0, 1, 3, 4, 9], [2, 3, 7], list(range(40)), [0, 300]):
+            self.assertEqual(self.end(numbers), {number: number for number in numbers}, numbers)
+
+
+class NamesOfSockets(unittest.TestCase):
+    def test_spelling(self):
+        self.assertEqual(spell(b"a b%\0~\xff"), "a%20b%25%00~%ff")
+
+    def test_a_name_used_again_after_a_rename_is_another(self):
+        names = Names()
+        first = names.bind("/", b"/s", "one")
+        names.rename("/", b"/s", "/", b"/t")
+        self.assertNotEqual(names.bind("/", b"/s", "two"), first)
+        self.assertEqual(names.known("/", b"/t"), first)
+
+    def test_a_socket_with_two_paths_goes_with_the_last(self):
+        names = Names()
+        word = names.bind("/", b"/s", "one")
+        self.assertTrue(names.link("/", b"/s", "/", b"/t"))
+        self.assertIsNone(names.unlink("/", b"/s"))
+        self.assertEqual(names.unlink("/", b"/t"), word)
+
+    def test_a_path_too_long_for_a_script_gets_another_name(self):
+        word = Names().word_of_path("/" + "d" * 200, b"socket")
+        self.assertLessEqual(len(word), 109)
+        self.assertTrue(word.endswith("socket"))
+
+
+if __name__ == "__main__":
+    unittest.main()

@@ -1,0 +1,152 @@
+"""Replays by uxrun: the small logs agree, calls out of order are moved, mistakes are noticed, and holders are told.
+
+These need uxrun, built in this repository or named by the variable UXRUN; without it they are skipped, which is told."""
+import json
+import os
+import subprocess
+import sys
+import tempfile
+import unittest
+from pathlib import Path
+
+HERE = Path(__file__).resolve().parent
+TOP = HERE.parent
+sys.path.insert(0, str(TOP))
+from judging.run import Fault, find_uxrun
+
+try:
+    UXRUN = find_uxrun()
+except Fault:
+    UXRUN = None
+HEAD = "# recorded 1\n# folder /\n# user 1000 100\n"
+
+
+def log_in(text):
+    """The log of a file of logs/."""
+    return text.partition("--- log\n")[2].partition("--- script\n")[0]
+
+
+def run(program, log, *options):
+    """A program's status and its report."""
+    with tempfile.NamedTemporaryFile("w", encoding="latin-1", suffix=".log") as file:
+        file.write(log)
+        file.flush()
+        done = subprocess.run([sys.executable, TOP / program, "--json", file.name, *options], capture_output=True, text=True,
+                              env={**os.environ, "UXRUN": UXRUN}, check=False)
+    return done.returncode, json.loads(done.stdout) if done.stdout else done.stderr
+
+
+@unittest.skipUnless(UXRUN, "there is no uxrun: build it, or name it by the variable UXRUN")
+class Replay(unittest.TestCase):
+    def test_the_small_logs_agree(self):
+        for path in sorted((HERE / "logs").glob("*.txt")):
+            with self.subTest(path.stem):
+                status, report = run("replay", log_in(path.read_text("latin-1")))
+                self.assertEqual(report["differences"], [])
+                self.assertEqual(status, 0)
+
+    def test_a_reply_that_is_not_the_kernels_is_told_with_its_line(self):
+        log = HEAD + ('9 1.1 socketpair(AF_UNIX, SOCK_STREAM, 0, [0<UNIX-STREAM:[7->8]>, 1<UNIX-STREAM:[8->7]>]) = 0\n'
+                      '9 1.2 write(0<UNIX-STREAM:[7->8]>, "hi", 2) = 2\n9 1.3 read(1<UNIX-STREAM:[8->7]>, "ho", 9) = 2\n')
+        status, report = run("replay", log)
+        self.assertEqual(status, 1)
+        self.assertEqual(report["replies"]["differ"], 1)
+        self.assertEqual(report["differences"][0]["line"], 6)
+        self.assertEqual((report["differences"][0]["reply"], report["differences"][0]["kernel"]), ("bytes 6869", "bytes 686f"))
+
+    def test_calls_that_overlap_are_exchanged(self):
+        """The write began first, and the read, which began while it ran, didn't see it."""
+        log = HEAD + ('9 1.1 socketpair(AF_UNIX, SOCK_STREAM, 0, [0<UNIX-STREAM:[7->8]>, 1<UNIX-STREAM:[8->7]>]) = 0\n'
+                      '9 1.2 fork() = 10\n9 1.3 write(0<UNIX-STREAM:[7->8]>, "a", 1) = 1\n'
+                      '9 1.4 write(0<UNIX-STREAM:[7->8]>, "b", 1 <unfinished ...>\n10 1.5 read(1<UNIX-STREAM:[8->7]>,  <unfinished ...>\n'
+                      '9 1.6 <... write resumed>) = 1\n10 1.7 <... read resumed>"a", 9) = 1\n'
+                      '10 1.8 read(1<UNIX-STREAM:[8->7]>, "b", 9) = 1\n')
+        status, report = run("replay", log)
+        self.assertEqual((status, report["replies"]["differ"]), (0, 0))
+        self.assertEqual(report["moved"], 2)
+
+    def test_no_order_helps_where_calls_do_not_overlap(self):
+        log = HEAD + ('9 1.1 socketpair(AF_UNIX, SOCK_STREAM, 0, [0<UNIX-STREAM:[7->8]>, 1<UNIX-STREAM:[8->7]>]) = 0\n'
+                      '9 1.2 fork() = 10\n10 1.3 read(1<UNIX-STREAM:[8->7]>, "a", 9) = 1\n9 1.4 write(0<UNIX-STREAM:[7->8]>, "a", 1) = 1\n')
+        status, report = run("replay", log)
+        self.assertEqual((status, report["moved"], report["replies"]["differ"]), (1, 0, 1))
+
+    def test_a_known_difference_falls_under_its_rule(self):
+        log = HEAD + ('9 1.1 socketpair(AF_UNIX, SOCK_SEQPACKET, 0, [0<UNIX-SEQPACKET:[7->8]>, 1<UNIX-SEQPACKET:[8->7]>]) = 0\n'
+                      '9 1.2 write(0<UNIX-SEQPACKET:[7->8]>, "a", 1) = 1\n'
+                      '9 1.3 recvmsg(1<UNIX-SEQPACKET:[8->7]>, {msg_name=NULL, msg_namelen=0, msg_iov=[{iov_base="a", iov_len=9}], '
+                      'msg_iovlen=1, msg_controllen=0, msg_flags=0}, 0) = 1\n')
+        status, report = run("replay", log)
+        self.assertEqual((status, report["replies"]["rules"]), (0, {"record-end": 1}))
+
+    def test_unknown_calls_are_counted_by_name(self):
+        _, report = run("replay", log_in((HERE / "logs/unknown_calls.txt").read_text("latin-1")))
+        self.assertEqual(report["unknown calls"], {"newcall": 1, "takecall": 1})
+        self.assertEqual([one["line"] for one in report["unknown"]], [9, 10])
+        self.assertIn("opencall: a new number by opencall: an opaque object", report["calls"]["reasons"]["by other words"])
+
+
+LEAK = HEAD + """9 1.01 socket(AF_UNIX, SOCK_STREAM, 0) = 0<UNIX-STREAM:[7]>
+9 1.02 dup2(0<UNIX-STREAM:[7]>, 5) = 5<UNIX-STREAM:[7]>
+9 1.03 bind(5<UNIX-STREAM:[7]>, {sa_family=AF_UNIX, sun_path="s"}, 4) = 0
+9 1.04 listen(5<UNIX-STREAM:[7,"s"]>, 5) = 0
+9 1.05 openat(AT_FDCWD</>, "/etc/shadow", O_RDONLY) = 1</etc/shadow>
+9 1.06 socketpair(AF_UNIX, SOCK_DGRAM, 0, [2<UNIX:[8]>, 3<UNIX:[9]>]) = 0
+9 1.07 fork() = 10
+9 1.08 sendmsg(2<UNIX:[8]>, MESSAGE cmsg_data=[1</etc/shadow>]}], msg_controllen=24, msg_flags=0}, 0) = 1
+10 1.09 recvmsg(3<UNIX:[9]>, MESSAGE cmsg_data=[4</etc/shadow>]}], msg_controllen=24, msg_flags=0}, 0) = 1
+10 1.10 fork() = 11
+11 1.11 execve("/bin/helper", ["helper"], 0x7f /* 1 var */) = 0
+11 1.12 read(4</etc/shadow>, ""..., 9) = 9
+11 1.13 close(2<UNIX:[8]>) = 0
+11 1.14 exit_group(0) = ?
+11 1.15 +++ exited with 0 +++
+""".replace("MESSAGE", '{msg_name=NULL, msg_namelen=0, msg_iov=[{iov_base="x", iov_len=1}], msg_iovlen=1, '
+            'msg_control=[{cmsg_len=20, cmsg_level=SOL_SOCKET, cmsg_type=SCM_RIGHTS,')
+
+
+@unittest.skipUnless(UXRUN, "there is no uxrun: build it, or name it by the variable UXRUN")
+class Holders(unittest.TestCase):
+    def test_who_holds_what_through_whom(self):
+        status, report = run("holds", LEAK, "15")
+        self.assertEqual(status, 0)
+        chains = {(one["pid"], one["number"]): one["chain"] for one in report["held"]}
+        self.assertEqual(chains[11, 4], [
+            "opened /etc/shadow by ? (pid 9) (line 8)",
+            "passed by ? (pid 9) over its 2 (line 11) and received by ? (pid 10) as 4 (line 12)",
+            "inherited at fork from ? (pid 10) (line 13)"])
+        self.assertEqual(set(number for pid, number in chains if pid == 9), {0, 1, 2, 3, 5})
+
+    def test_what_is_left_at_an_exit(self):
+        _, report = run("holds", LEAK)
+        self.assertEqual([(one["pid"], one["number"]) for one in report["left at exit"]], [(11, 3), (11, 4), (11, 5)])
+
+    def test_rights_that_nobody_got(self):
+        lost = LEAK.replace("10 1.09 recvmsg(3<UNIX:[9]>, ", "10 1.09 read(3<UNIX:[9]>, \"x\", 9) = 1\n10 1.095 getpid(").replace(
+            "read(4</etc/shadow>", "read(9</etc/shadow>")
+        _, report = run("holds", lost)
+        self.assertEqual([(one["line"], one["what"]) for one in report["rights never received"]], [(11, "opened /etc/shadow")])
+        _, report = run("holds", LEAK)
+        self.assertEqual(report["rights never received"], [])
+
+    def test_a_helper_that_holds_a_listener_looks_wrong(self):
+        status, report = run("found-open", LEAK)
+        self.assertEqual(status, 1)
+        program, = report["programs"]
+        self.assertEqual(program["program"], "helper (pid 11)")
+        wrong = {one["number"]: one["wrong"] for one in program["found"] if one["wrong"]}
+        self.assertEqual(wrong, {3: "a connection that the program never uses", 5: "a socket that listens, which the program never uses"})
+
+    def test_close_on_exec_is_not_found_open(self):
+        status, report = run("found-open", LEAK.replace("dup2(0<UNIX-STREAM:[7]>, 5)", "dup3(0<UNIX-STREAM:[7]>, 5, O_CLOEXEC)")
+                             .replace("SOCK_DGRAM, 0, [2", "SOCK_DGRAM|SOCK_CLOEXEC, 0, [2"))
+        self.assertEqual(status, 0)
+        self.assertEqual([one["number"] for one in report["programs"][0]["found"]], [0, 1, 4])
+
+    def test_a_moment_that_is_none(self):
+        status, text = run("holds", LEAK, "yesterday")
+        self.assertEqual(status, 2)
+
+
+if __name__ == "__main__":
+    unittest.main()
