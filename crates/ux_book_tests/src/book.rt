@@ -8,9 +8,7 @@ use std::alloc::{AllocError, Global};
 use std::marker::Brand;
 use std::process::Abort;
 use std::test::Fail;
-use ux_book::{
-    Account, Book, BookName, CallFault, Missing, OffFault, Share, Spent, Trail,
-};
+use ux_book::{Account, Book, BookName, CallFault, Missing, OffFault, Share, Spent, Trail};
 use ux_kernel::Kernel;
 use ux_objects::Counter;
 use ux_state::ReleasedObjects;
