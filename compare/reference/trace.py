@@ -114,42 +114,43 @@ def state_of(process: Process, words: list[str]) -> str:
 
 # ---- what the replay doesn't try
 
-def check_path(words: list[str]) -> None:
-    """Paths that no file of the machine can have."""
+def path_not_tried(words: list[str]) -> str:
+    """Why the replay can't try a call by its path, or nothing."""
     place = ADDRESS_PLACE.get(words[0]) or PATH_PLACE.get(words[0])
     if place is None or not words[place].startswith("p:"):
-        return
+        return ""
     path = name_in(words[place][2:])
     if 0 in path:
-        raise Refusal("not tried: a path with a NUL")
+        return "a path with a NUL"
     if 1 in path or path in (b".", b".."):
-        raise Refusal("not tried: a path that no file can have")
-    if not path and words[0] in ADDRESS_PLACE:
-        raise Refusal("not tried: an empty path")
+        return "a path that no file can have"
+    return "an empty path" if not path and words[0] in ADDRESS_PLACE else ""
 
 
-def check_privilege(process: Process, words: list[str]) -> None:
-    """Credentials that only a privileged process may give."""
+def wants_privilege(process: Process, words: list[str]) -> bool:
+    """Whether a send gives credentials that only a privileged process may give."""
     if words[0] != "send" or not process.privileged:
-        return
+        return False
     buffer, at = buffer_in(words[4]), 0
     while at + 16 <= len(buffer):
         length = int.from_bytes(buffer[at:at + 8], "little")
         if not 16 <= length <= len(buffer) - at:
-            return
+            return False
         given = tuple(int.from_bytes(buffer[at + place:at + place + 4], "little") for place in (16, 20, 24))
         kind = int.from_bytes(buffer[at + 12:at + 16], "little")
         if kind == SCM_CREDENTIALS and length == 28 and given != process.credentials:
-            raise Refusal("not tried: privilege")
+            return True
         at += (length + 7) // 8 * 8
+    return False
 
 
 def check_tried(kernel: Kernel, process: Process, words: list[str]) -> None:
     """What Linux has no call for, and the replay says so before it makes one."""
-    if Rule.PATH_OF_NO_FILE in kernel.rules:
-        check_path(words)
-    if Rule.PRIVILEGE in kernel.rules:
-        check_privilege(process, words)
+    why = path_not_tried(words)
+    if why and kernel.follows(Rule.PATH_OF_NO_FILE):
+        raise Refusal(f"not tried: {why}")
+    if wants_privilege(process, words) and kernel.follows(Rule.PRIVILEGE):
+        raise Refusal("not tried: privilege")
 
 
 # ---- a run

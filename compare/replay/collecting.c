@@ -4,8 +4,10 @@
 #include <poll.h>
 #include <string.h>
 #include <sys/resource.h>
-#include <sys/wait.h>
+#include <time.h>
 #include <unistd.h>
+
+pid_t probe_pid;
 
 enum { ROUNDS = 3, TURNS = 400, TURN = 5 };
 
@@ -44,9 +46,59 @@ static void close_a_socket(void) {
     if (number >= 0) close(number);
 }
 
-/* Waits until what could be collected now is. What that frees is found in the next rounds. */
+/* Whether this user has rights in flight: then a process that may have no descriptors passes none (unix(7)). */
+static int is_refused(const int *pair) {
+    char byte;
+    if (!pass(pair[0], pair, 1)) return 1;
+    return recv(pair[1], &byte, 1, MSG_DONTWAIT) == 1 ? 0 : 2;
+}
+
+/* A process of the user that may have no descriptors. It answers each byte with whether rights are in flight. */
+static void __attribute__((noreturn)) probe(int channel) {
+    struct rlimit none = {0, 0};
+    int pair[2];
+    char byte;
+    end_child_mode();
+    become_ordinary();
+    if (socketpair(AF_UNIX, SOCK_DGRAM, 0, pair) < 0 || setrlimit(RLIMIT_NOFILE, &none) < 0) _exit(2);
+    while (recv(channel, &byte, 1, 0) == 1) {
+        byte = (char)is_refused(pair);
+        if (byte > 1 || send(channel, &byte, 1, MSG_NOSIGNAL) != 1) _exit(2);
+    }
+    _exit(0);
+}
+
+static int probe_channel = -1, had_some_before;
+
+void start_probe(void) {
+    int ends[2];
+    if (socketpair(AF_UNIX, SOCK_SEQPACKET | SOCK_CLOEXEC, 0, ends) < 0) fail("socketpair");
+    probe_pid = fork();
+    if (probe_pid < 0) fail("fork");
+    if (probe_pid == 0) {
+        close(ends[0]);
+        probe(ends[1]);
+    }
+    close(ends[1]);
+    probe_channel = ends[0];
+    had_some_before = has_rights_in_flight();
+}
+
+int has_rights_in_flight(void) {
+    char byte = 0;
+    if (send(probe_channel, &byte, 1, MSG_NOSIGNAL) != 1 || wait_on(probe_channel, POLLIN, 1000L * SECONDS) <= 0 ||
+        recv(probe_channel, &byte, 1, 0) != 1) give_up("rights in flight can't be asked for");
+    return byte;
+}
+
+/* Waits until what could be collected now is. What that frees is found in the next rounds. Files that were collected are
+ * closed a little later than they are counted, so a call behind which nothing is in flight any more waits too. */
 void await_collection(void) {
-    if (!shared->has_passed_socket) return;
+    static int was_in_flight;
+    int is_in_flight = shared->has_passed_socket && has_rights_in_flight();
+    int may_collect = was_in_flight || is_in_flight;
+    was_in_flight = is_in_flight;
+    if (!may_collect) return;
     for (int round = 0; round < ROUNDS; round++) {
         int end = lay_rubbish(), ready = 0;
         if (end < 0) continue;
@@ -59,21 +111,19 @@ void await_collection(void) {
     }
 }
 
-/* Whether this user has rights in flight: then a process that may have no descriptors passes none (unix(7)). */
-static int probe(void) {
-    struct rlimit none = {0, 0};
-    int pair[2];
-    become_ordinary();
-    if (socketpair(AF_UNIX, SOCK_DGRAM, 0, pair) < 0 || setrlimit(RLIMIT_NOFILE, &none) < 0) return 2;
-    return pass(pair[0], pair, 1) ? 0 : 1;
+/* Has the kernel collect what a run that was broken off leaves, without waiting for an answer. */
+void collect_what_is_left(void) {
+    struct timespec pause = {.tv_nsec = 10000000};
+    for (int turn = 0; turn < ROUNDS; turn++) {
+        close_a_socket();
+        nanosleep(&pause, NULL);
+    }
 }
 
-/* By a process of its own, since what it passes goes with it, and has no limit of its own any more. It answers 1 or 0. */
-int has_rights_in_flight(void) {
-    int status = 0;
-    pid_t child = fork();
-    if (child < 0) fail("fork");
-    if (child == 0) _exit(probe());
-    if (waitpid(child, &status, 0) < 0 || !WIFEXITED(status) || WEXITSTATUS(status) > 1) give_up("rights in flight can't be asked for");
-    return WEXITSTATUS(status);
+/* Ends the run where rights of its user are in flight still, though all its processes have exited. Of a user that had
+ * some before, nobody can tell. */
+void check_nothing_in_flight(void) {
+    if (had_some_before) return;
+    for (int turn = 0; turn < TURNS && has_rights_in_flight(); turn++) collect_what_is_left();
+    if (has_rights_in_flight()) give_up("rights are left in flight");
 }

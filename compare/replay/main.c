@@ -120,6 +120,8 @@ static void run_script(char *text) {
     }
     if (!has_begun) begin();
     exit_all();
+    check_nothing_in_flight();
+    check_no_name_is_left();
     if (has_end) end_layer();
 }
 
@@ -156,6 +158,7 @@ int main(int count, char **words) {
     catch_signals();
     atexit(clean_up);
     enter_folder();
+    start_probe();
     run(what, text);
     return fflush(stdout) == 0 ? 0 : 2;
 }

@@ -107,6 +107,7 @@ void say_address(const struct address *address);
 void learn_name(int number);
 void note_bound_name(const char *word);
 void forget_names(void);
+void check_no_name_is_left(void);
 
 /* control.c: control buffers */
 unsigned char *control_bytes(void);
@@ -141,7 +142,11 @@ void all_paths_are_gone(void);
 unsigned see_what_goes(int *gone);
 
 /* collecting.c: what the kernel collects of sockets in one another's queues */
+extern pid_t probe_pid;
 void await_collection(void);
+void start_probe(void);
+void collect_what_is_left(void);
+void check_nothing_in_flight(void);
 int has_rights_in_flight(void);
 
 /* machine.c: what answers depend on */

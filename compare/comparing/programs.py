@@ -1,0 +1,117 @@
+"""Finds uxrun, builds the replay, and runs both so that a signal ends all that was begun."""
+from __future__ import annotations
+
+import os
+import shutil
+import signal
+import subprocess
+import sys
+import tempfile
+import threading
+from pathlib import Path
+
+COMPARE = Path(__file__).resolve().parent.parent
+TOP = COMPARE.parent
+PATIENCE = 120
+
+
+class Trouble(Exception):
+    """Something without which nothing can be compared, said with what to do about it."""
+
+
+class Stopped(Exception):
+    """A signal asked the program to end."""
+
+
+def find_uxrun() -> Path:
+    """The program named by UXRUN, or the one that the crate has built."""
+    path = Path(os.environ.get("UXRUN") or TOP / "crates/uxrun/out/uxrun")
+    if not os.access(path, os.X_OK):
+        raise Trouble(f"there is no program {path}: build it by `rt run` in crates/uxrun, or name one by the variable UXRUN")
+    return path.resolve()
+
+
+class Programs:
+    """The programs that a run of the comparison has begun, in a folder that goes with it."""
+
+    def __init__(self) -> None:
+        self.folder = Path(tempfile.mkdtemp(prefix="compare."))
+        self.running: set[subprocess.Popen] = set()
+        self.lock = threading.Lock()
+        self.is_stopped = False
+
+    def run(self, words: list[str]) -> tuple[int, str, str]:
+        """Runs a program to its end, and answers its status, output and errors."""
+        with self.lock:
+            if self.is_stopped:
+                raise Stopped
+            program = subprocess.Popen(words, stdin=subprocess.DEVNULL, stdout=subprocess.PIPE, stderr=subprocess.PIPE,
+                                       env={**os.environ, "TMPDIR": str(self.folder), "LC_ALL": "C"}, text=True,
+                                       encoding="latin-1", start_new_session=True)
+            self.running.add(program)
+        try:
+            output, errors = program.communicate(timeout=PATIENCE)
+        except subprocess.TimeoutExpired:
+            program.terminate()
+            output, errors = program.communicate()
+            errors += f"ended after {PATIENCE} seconds"
+        finally:
+            with self.lock:
+                self.running.discard(program)
+        if self.is_stopped:
+            raise Stopped
+        return program.returncode, output, errors
+
+    def build_replay(self) -> Path:
+        """Compiles the replay, or takes the one that the variable REPLAY names."""
+        if os.environ.get("REPLAY"):
+            return Path(os.environ["REPLAY"]).resolve()
+        path = self.folder / "linux_replay"
+        flags = os.environ.get("CFLAGS", "-O2 -Wall -Wextra").split()
+        sources = sorted(map(str, (COMPARE / "replay").glob("*.c")))
+        status, _, errors = self.run([os.environ.get("CC", "cc"), "-std=gnu11", *flags, "-o", str(path), *sources])
+        if status != 0:
+            raise Trouble(f"the replay can't be compiled: install a C compiler, or name one by the variable CC\n{errors}")
+        path.chmod(0o755)
+        return path
+
+    def stop(self) -> None:
+        """Ends all programs, and waits until they have tidied up."""
+        with self.lock:
+            self.is_stopped = True
+            running = list(self.running)
+        for program in running:
+            try:
+                os.killpg(program.pid, signal.SIGTERM)
+            except ProcessLookupError:
+                continue
+        for program in running:
+            try:
+                program.wait(timeout=5)
+            except subprocess.TimeoutExpired:
+                program.kill()
+
+    def close(self) -> list[str]:
+        """Ends what runs, takes the folder away, and tells which files a replay left there."""
+        self.stop()
+        left = [path.name for path in self.folder.glob("linux_replay.*")]
+        shutil.rmtree(self.folder, ignore_errors=True)
+        return left
+
+
+def raise_stopped(number: int, _frame: object) -> None:
+    """What a signal does: the program ends with 128 and its number, once it has tidied up."""
+    for caught in (signal.SIGINT, signal.SIGTERM, signal.SIGHUP):
+        signal.signal(caught, signal.SIG_IGN)
+    raise SystemExit(128 + number)
+
+
+def catch_signals() -> None:
+    """Has the signals that end a program end this one in order."""
+    for number in (signal.SIGINT, signal.SIGTERM, signal.SIGHUP):
+        signal.signal(number, raise_stopped)
+
+
+def complain(text: str) -> None:
+    """Says what is wrong on standard error."""
+    print(f"compare: {text}", file=sys.stderr, flush=True)

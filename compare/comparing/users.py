@@ -1,0 +1,83 @@
+"""The users as whom a run's processes act: fresh ones for the superuser, so that nothing counts against them before."""
+from __future__ import annotations
+
+import os
+import pwd
+import random
+from pathlib import Path
+
+from .programs import Programs, Trouble
+
+LEAST, MOST = 500_000_000, 2_000_000_000
+TRIES = 50
+
+
+def mapped_ranges() -> list[range]:
+    """The numbers that this name space of users has."""
+    try:
+        rows = Path("/proc/self/uid_map").read_text().splitlines()
+    except OSError:
+        return [range(1, 1 << 32)]
+    return [range(int(row.split()[0]), int(row.split()[0]) + int(row.split()[2])) for row in rows]
+
+
+def users_of_processes() -> set[int]:
+    """The users that have a process."""
+    found = set()
+    for status in Path("/proc").glob("[0-9]*/status"):
+        try:
+            rows = status.read_text().splitlines()
+        except OSError:
+            continue
+        found |= {int(number) for row in rows if row.startswith("Uid:") for number in row.split()[1:]}
+    return found
+
+
+def is_known(user: int) -> bool:
+    """Whether the system has a name for the user."""
+    try:
+        pwd.getpwuid(user)
+    except KeyError:
+        return False
+    return True
+
+
+def choose(count: int) -> list[int]:
+    """Users in a row that nobody is and no process has; an ordinary user acts as itself."""
+    if os.geteuid() != 0:
+        return [0]
+    ranges, taken = mapped_ranges(), users_of_processes()
+    for _ in range(TRIES):
+        whole = max(ranges, key=len)
+        least = random.randrange(max(whole.start + 1, min(LEAST, whole.stop - count - 1)), min(MOST, whole.stop - count))
+        wanted = range(least, least + count)
+        if not any(user in taken or is_known(user) for user in wanted):
+            return list(wanted)
+    raise Trouble("no user number is free: run the comparison as an ordinary user")
+
+
+def user_words(user: int) -> list[str]:
+    """The words by which the replay is told its user."""
+    return ["--user", str(user)] if user else []
+
+
+def look_before(programs: Programs, replay: Path, users: list[int]) -> None:
+    """Says where a user has rights in flight already, which count against its limit (unix(7), ETOOMANYREFS)."""
+    for user in users:
+        status, output, errors = programs.run([str(replay), *user_words(user), "--in-flight"])
+        if status != 0:
+            raise Trouble(f"the replay can't look at its user: {errors.strip()}")
+        if output.strip() != "0":
+            raise Trouble("this user has rights in flight: end the programs that pass descriptors, or run this as the superuser")
+
+
+def look_after(programs: Programs, replay: Path, users: list[int]) -> list[str]:
+    """What is left of the run: rights in flight, or processes of a user that nobody else has."""
+    left = []
+    for user in users:
+        _, output, _ = programs.run([str(replay), *user_words(user), "--in-flight"])
+        if output.strip() != "0":
+            left.append(f"rights of the user {user or os.geteuid()} are in flight")
+    if users != [0]:
+        left += [f"a process of the user {user} is left" for user in sorted(users_of_processes() & set(users))]
+    return left
