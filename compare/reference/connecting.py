@@ -7,6 +7,8 @@ from .rules import Rule
 from .sockets import takes_address
 from .state import Description, Process, Refusal, Socket
 
+LONGEST_COPIED = 125  # of a name whose address has 128 bytes, which is what move_addr_to_kernel copies
+
 
 def check_own_state(socket: Socket) -> None:
     """A socket that listens or is connected connects no more."""
@@ -76,9 +78,13 @@ def leave_target(kernel: Kernel, socket: Socket, former: Socket) -> None:
 
 def call_connect(kernel: Kernel, process: Process, words: list[str]) -> str:
     """connect(2)."""
+    address = address_in(words[2])
+    kernel.descriptor(process, int(words[1]))
+    if len(address.name) > LONGEST_COPIED and kernel.follows(Rule.LONG_PATH):
+        raise Refusal("EINVAL")
     socket = kernel.socket(process, int(words[1]))
     if socket.is_datagram:
-        connect_datagram(kernel, socket, address_in(words[2]))
+        connect_datagram(kernel, socket, address)
     else:
-        connect_stream(kernel, process, socket, address_in(words[2]))
+        connect_stream(kernel, process, socket, address)
     return "ok"
