@@ -14,6 +14,12 @@ from .users import user_words
 
 MOST_RESYNCS = 20
 NO_LINE = "no line"
+LONGEST_TOLD = 160
+
+
+def shortened(text: str) -> str:
+    """The text, with its middle left out where it is long."""
+    return text if len(text) <= LONGEST_TOLD else f"{text[:LONGEST_TOLD // 2]}[..]{text[-LONGEST_TOLD // 2:]}"
 
 
 @dataclass
@@ -27,7 +33,8 @@ class Difference:
     expected: str
 
     def __str__(self) -> str:
-        return f"{self.state}: {self.text} | {self.whose}: {self.answer} | reference: {self.expected}"
+        text, answer, expected = map(shortened, (self.text, self.answer, self.expected))
+        return f"{self.state}: {text} | {self.whose}: {answer} | reference: {expected}"
 
 
 @dataclass

@@ -5,6 +5,8 @@
 void do_send(char **word) {
     struct address address = {.length = 0};
     size_t length = 0;
+    unsigned known = shared->alias_count;
+    int number = descriptor_in(word[2]), flags = message_flags_in(word[6]) | MSG_NOSIGNAL;
     if (word[3][0] != '-' && !address_in(word[3], &address)) return;
     if (!control_in(word[5], &length)) return;
     struct iovec bytes = {data, bytes_in(word[4], data)};
@@ -12,8 +14,12 @@ void do_send(char **word) {
     if (address.length > 0) message.msg_name = &address;
     if (length > 0) message.msg_control = control_bytes();
     message.msg_controllen = length;
-    say_count("n", sendmsg(descriptor_in(word[2]), &message, message_flags_in(word[6]) | MSG_NOSIGNAL));
-    learn_name(descriptor_in(word[2]));
+    ssize_t sent = sendmsg(number, &message, flags);
+    if (has_named_itself(number, known, sent) && address.length > 0 && address_in(word[3], &address)) {
+        message.msg_namelen = address.length;
+        sent = sendmsg(number, &message, flags);
+    }
+    say_count("n", sent);
 }
 
 static void say_message_flags(int flags) {

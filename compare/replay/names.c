@@ -1,5 +1,6 @@
 /* Names and addresses: the script's, and those that stand for them on this machine. */
 #include "replay.h"
+#include <errno.h>
 #include <stdio.h>
 #include <string.h>
 #include <unistd.h>
@@ -150,6 +151,15 @@ void say_address(const struct address *address) {
     else if (address->length <= head) say("u");
     else if (path[0] == 0) say_abstract(path + 1, address->length - head - 1);
     else say_name('p', path, strnlen(path, address->length - head));
+}
+
+/* Whether a call that was refused has itself given its socket a name by autobind: then its address, which may be the
+ * number of that name, is another one now, and the call is made again. */
+int has_named_itself(int number, unsigned known, long answer) {
+    int error = errno;
+    learn_name(number);
+    errno = error;
+    return answer < 0 && error == ECONNREFUSED && shared->alias_count > known;
 }
 
 /* Has a name that the kernel gave in this call known by its number, before another call asks for it. */

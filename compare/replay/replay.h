@@ -105,6 +105,7 @@ int file_in(const char *word, char *file);
 int address_in(const char *word, struct address *address);
 void say_address(const struct address *address);
 void learn_name(int number);
+int has_named_itself(int number, unsigned known, long answer);
 void note_bound_name(const char *word);
 void forget_names(void);
 void check_no_name_is_left(void);

@@ -36,10 +36,14 @@ static int type_of(int number) {
 void do_connect(char **word) {
     struct address address;
     int number = descriptor_in(word[2]);
+    unsigned known = shared->alias_count;
     if (!address_in(word[3], &address)) return;
     if (word[3][0] == 'u' && type_of(number) == SOCK_DGRAM) address.un.sun_family = AF_UNSPEC;
-    say_done(connect(number, &address.head, address.length));
-    learn_name(number);
+    int answer = connect(number, &address.head, address.length);
+    if (has_named_itself(number, known, answer) && address_in(word[3], &address)) {
+        answer = connect(number, &address.head, address.length);
+    }
+    say_done(answer);
 }
 
 void do_accept(char **word) {
