@@ -67,7 +67,7 @@ class Session:
         pool = ThreadPoolExecutor(self.jobs)
         try:
             yield from pool.map(make_one, paths)
-        except BaseException:
+        except (Exception, KeyboardInterrupt, SystemExit):
             self.programs.stop()
             raise
         finally:
