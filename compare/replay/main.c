@@ -77,12 +77,16 @@ static char *read_whole(const char *path) {
     size_t length = 0, room = 1 << 16;
     char *text = malloc(room);
     FILE *file = strcmp(path, "-") ? fopen(path, "re") : stdin;
-    if (file == NULL) fail(path);
-    for (size_t count; text && (count = fread(text + length, 1, room - length - 1, file)) > 0;) {
+    if (file == NULL || text == NULL) fail(path);
+    for (size_t count; (count = fread(text + length, 1, room - length - 1, file)) > 0;) {
         length += count;
-        if (room - length == 1) text = realloc(text, room *= 2);
+        if (room - length > 1) continue;
+        char *longer = realloc(text, room *= 2);
+        if (longer == NULL) fail(path);
+        text = longer;
     }
-    if (text == NULL || ferror(file)) fail(path);
+    if (ferror(file)) fail(path);
+    fclose(file);
     text[length] = 0;
     return text;
 }
@@ -152,7 +156,8 @@ int main(int count, char **words) {
     if ((count != 2 && count != 4) || (count == 4 && user == 0)) return usage();
     const char *what = words[count - 1];
     if (geteuid() == 0 && user == 0 && strcmp(what, "--machine")) return usage();
-    char *text = what[0] == '-' && what[1] ? NULL : read_whole(what);
+    static char *text;
+    if (what[0] != '-' || what[1] == 0) text = read_whole(what);
     raise_limits();
     make_shared();
     catch_signals();

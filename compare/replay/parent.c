@@ -106,7 +106,6 @@ static void hear_end(struct process *process) {
 /* The process that forks says that it is ready, and is handed the channel of its child, which says a line when it has it. */
 static void make_fork(struct process *process, const char *line) {
     struct process *child = &shared->processes[shared->process_count + 1];
-    char told[LINE];
     int ends[2];
     if (shared->process_count == MOST_PROCESSES) give_up("too many processes");
     if (socketpair(AF_UNIX, SOCK_SEQPACKET | SOCK_CLOEXEC, 0, ends) < 0) fail("socketpair");
@@ -122,10 +121,11 @@ static void make_fork(struct process *process, const char *line) {
         close(ends[0]);
         return;
     }
-    snprintf(told, sizeof told, "%s", reply);
+    unsigned number = number_in(reply + 6);
     hear_reply(child);
     shared->process_count++;
-    strcpy(reply, told);
+    reply_length = 0;
+    say("child %u", number);
 }
 
 /* How many words a call has behind its process, and which of them are bytes. */
