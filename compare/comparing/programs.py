@@ -1,6 +1,7 @@
 """Finds uxrun, builds the replay, and runs both so that a signal ends all that was begun."""
 from __future__ import annotations
 
+import atexit
 import os
 import shutil
 import signal
@@ -8,11 +9,15 @@ import subprocess
 import sys
 import tempfile
 import threading
+import time
 from pathlib import Path
 
 COMPARE = Path(__file__).resolve().parent.parent
 TOP = COMPARE.parent
 PATIENCE = 120
+PATIENCE_AT_THE_END = 5
+TURNS_AT_THE_END = 10
+ENDING = (signal.SIGINT, signal.SIGTERM, signal.SIGHUP)
 
 
 class Trouble(Exception):
@@ -35,10 +40,13 @@ class Programs:
     """The programs that a run of the comparison has begun, in a folder that goes with it."""
 
     def __init__(self) -> None:
-        self.folder = Path(tempfile.mkdtemp(prefix="compare."))
         self.running: set[subprocess.Popen] = set()
         self.lock = threading.Lock()
         self.is_stopped = False
+        signal.pthread_sigmask(signal.SIG_BLOCK, ENDING)
+        self.folder = Path(tempfile.mkdtemp(prefix="compare."))
+        atexit.register(self.close)
+        signal.pthread_sigmask(signal.SIG_UNBLOCK, ENDING)
 
     def run(self, words: list[str]) -> tuple[int, str, str]:
         """Runs a program to its end, and answers its status, output and errors."""
@@ -81,34 +89,44 @@ class Programs:
             self.is_stopped = True
             running = list(self.running)
         for program in running:
-            try:
-                os.killpg(program.pid, signal.SIGTERM)
-            except ProcessLookupError:
-                continue
+            send_group(program, signal.SIGTERM)
         for program in running:
             try:
-                program.wait(timeout=5)
+                program.wait(timeout=PATIENCE_AT_THE_END)
             except subprocess.TimeoutExpired:
                 program.kill()
+            send_group(program, signal.SIGKILL)
 
     def close(self) -> list[str]:
         """Ends what runs, takes the folder away, and tells which files a replay left there."""
         self.stop()
         left = [path.name for path in self.folder.glob("linux_replay.*")]
-        shutil.rmtree(self.folder, ignore_errors=True)
+        for _ in range(TURNS_AT_THE_END):
+            shutil.rmtree(self.folder, ignore_errors=True)
+            if not self.folder.exists():
+                break
+            time.sleep(0.02)
         return left
+
+
+def send_group(program: subprocess.Popen, number: int) -> None:
+    """Sends a program and what it has begun a signal."""
+    try:
+        os.killpg(program.pid, number)
+    except (ProcessLookupError, PermissionError):
+        return
 
 
 def raise_stopped(number: int, _frame: object) -> None:
     """What a signal does: the program ends with 128 and its number, once it has tidied up."""
-    for caught in (signal.SIGINT, signal.SIGTERM, signal.SIGHUP):
+    for caught in ENDING:
         signal.signal(caught, signal.SIG_IGN)
     raise SystemExit(128 + number)
 
 
 def catch_signals() -> None:
     """Has the signals that end a program end this one in order."""
-    for number in (signal.SIGINT, signal.SIGTERM, signal.SIGHUP):
+    for number in ENDING:
         signal.signal(number, raise_stopped)
 
 

@@ -45,9 +45,11 @@ class Session:
         return self
 
     def __exit__(self, kind: object, value: object, trace: object) -> None:
-        if kind is None:
-            self.left += users.look_after(self.programs, self.bench.replay, self.users)
-        self.left += [f"the folder {name} is left" for name in self.programs.close()]
+        try:
+            if kind is None:
+                self.left += users.look_after(self.programs, self.bench.replay, self.users)
+        finally:
+            self.left += [f"the folder {name} is left" for name in self.programs.close()]
         for text in self.left:
             complain(text)
 
