@@ -6,14 +6,14 @@ from dataclasses import dataclass, field
 
 @dataclass
 class Machine:
-    """Figures of a machine, as `linux_replay --machine` measures and prints them."""
+    """Figures of a machine, as `linux_replay --machine` measures and prints them; those given here are of x86-64 and ext4."""
     send_buffer: int = 212992
     datagrams: int = 10
     backlog: int = 4096
-    greatest_offset: int = (1 << 63) - 1
+    greatest_offset: int = 17592186040320
     page: int = 4096
     pipe_pages: int = 16
-    costs: list[tuple[int, int]] = field(default_factory=lambda: [(0, 768)])
+    costs: list[tuple[int, int]] = field(default_factory=lambda: [(0, 768), (193, 1280), (705, 2304), (1729, 4352)])
 
     def cost(self, length: int) -> int:
         """The memory that a message of so many bytes is charged to its sender."""
@@ -22,12 +22,6 @@ class Machine:
             if least <= length:
                 found = cost
         return found
-
-    def spell(self) -> str:
-        """The figures in the form in which `read` takes them."""
-        lines = [f"{name} {getattr(self, name)}" for name in
-                 ("send_buffer", "datagrams", "backlog", "greatest_offset", "page", "pipe_pages")]
-        return "\n".join(lines + [f"cost {least} {cost}" for least, cost in self.costs]) + "\n"
 
 
 def read(text: str) -> Machine:

@@ -38,7 +38,10 @@ void do_read(char **word) {
     say_bytes(data, (size_t)count);
 }
 
-void do_write(char **word) { say_count("n", write(descriptor_in(word[2]), data, bytes_in(word[3], data))); }
+void do_write(char **word) {
+    say_count("n", write(descriptor_in(word[2]), data, bytes_in(word[3], data)));
+    learn_name(descriptor_in(word[2]));
+}
 
 void do_lseek(char **word) {
     int from = word[4][0] == 's' ? SEEK_SET : word[4][0] == 'c' ? SEEK_CUR : SEEK_END;
