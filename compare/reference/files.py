@@ -51,7 +51,7 @@ def call_open(kernel: Kernel, process: Process, words: list[str]) -> str:
         kernel.free_number(process)
     target = opened_at(kernel, path)
     number = kernel.free_number(process)
-    description = Description(target, mode, "a" in flags)
+    description = Description(target, mode, "a" in flags, "n" in flags)
     target.opened += 1
     if mode == "r" and target.writers == 0:
         description.writers_seen = target.writers_ever
@@ -227,6 +227,7 @@ def call_flags(kernel: Kernel, process: Process, words: list[str]) -> str:
     """fcntl(2), F_SETFL and F_SETFD."""
     found = kernel.descriptor(process, int(words[1]))
     found.description.append = "a" in words[2]
+    found.description.nonblocking = "n" in words[2]
     found.cloexec = "x" in words[2]
     return "ok"
 

@@ -13,7 +13,8 @@ AUTOBIND_NAMES = 1 << 20
 
 
 class Kernel:
-    """The state. `rules` are the switches that are on, `used` those that a call asked for."""
+    """The state. `rules` are the switches that are on, `used` those that a call asked for. `waits` says that the call which
+    is made now would wait on Linux: there some calls that wait end otherwise than those that don't."""
 
     def __init__(self, script: Script, rules: frozenset[Rule], machine: Machine):
         self.rules = rules
@@ -29,6 +30,7 @@ class Kernel:
         self.descriptions: dict[Description, None] = {}
         self.unreferenced: list[Description] = []
         self.closed: list[int] = []
+        self.waits = False
 
     def follows(self, rule: Rule) -> bool:
         """Whether this rule's switch is on, so that the answer is Linux's."""

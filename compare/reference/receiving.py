@@ -179,7 +179,7 @@ def receive_datagram(kernel: Kernel, process: Process, socket: Socket, asked: As
         check_error(socket)
     if socket.queue:
         return receive_front(kernel, process, socket, asked)
-    if "r" in socket.shut and not kernel.follows(Rule.DATAGRAM_SOCKET_SHUT_FOR_READING):
+    if "r" in socket.shut and (kernel.waits or not kernel.follows(Rule.DATAGRAM_SOCKET_SHUT_FOR_READING)):
         return "got 0 - - - -"
     raise Refusal("EAGAIN")
 

@@ -82,6 +82,7 @@ class Description:
     target: Socket | FileObject
     mode: str = "rw"
     append: bool = False
+    nonblocking: bool = False
     offset: int = 0
     references: int = 0
     is_gone: bool = False

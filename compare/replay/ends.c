@@ -110,11 +110,15 @@ void catch_signals(void) {
     sigprocmask(SIG_BLOCK, &blocked, &before);
 }
 
-/* Waits until a descriptor is ready, so long at most; a signal ends the run. It answers what poll does. */
-int wait_on(int number, short events, long milliseconds) {
+/* Waits until one of some descriptors is ready, so long at most; a signal ends the run. It answers what poll does. */
+int wait_on_any(struct pollfd *asked, unsigned count, long milliseconds) {
     struct timespec patience = {milliseconds / 1000, milliseconds % 1000 * 1000000};
-    struct pollfd asked = {.fd = number, .events = events};
-    int ready = ppoll(&asked, 1, &patience, &before);
+    int ready = ppoll(asked, count, &patience, &before);
     if (stopped) give_up("interrupted");
     return ready;
+}
+
+int wait_on(int number, short events, long milliseconds) {
+    struct pollfd asked = {.fd = number, .events = events};
+    return wait_on_any(&asked, 1, milliseconds);
 }

@@ -10,9 +10,13 @@
 unsigned char data[MOST_BYTES + CHUNK];
 int passed = -1;
 
+/* An open never waits, also not one of a pipe. */
 void do_open(char **word) {
     char file[LINE + 1];
-    if (file_in(word[2], file)) say_count("fd", open(file, mode_in(word[3]) | open_flags_in(word[4])));
+    if (!file_in(word[2], file)) return;
+    int flags = mode_in(word[3]) | open_flags_in(word[4]), number = open(file, flags | O_NONBLOCK);
+    if (number >= 0 && !(flags & O_NONBLOCK) && fcntl(number, F_SETFL, flags & O_APPEND) < 0) _exit(2);
+    say_count("fd", number);
 }
 
 /* An open of a counter: its descriptor came with the line, as many opens of one eventfd are one description. */

@@ -108,9 +108,17 @@ static void read_header(const char *line) {
     else give_up("a bad line of the header");
 }
 
+/* A call of a script: made now, or kept for the process that makes it by itself. */
+static void take_line(const char *line, unsigned row) {
+    if (shared->waits) keep_line(line, row);
+    else run_line(line);
+}
+
 static void run_script(char *text) {
     int has_begun = 0, has_end = 0;
+    unsigned row = 0;
     for (char *line; (line = strsep(&text, "\n"));) {
+        row++;
         if (line[0] == 0 || line[0] == '#') continue;
         int is_header = strncmp(line, "object ", 7) == 0 || strncmp(line, "proc ", 5) == 0;
         if (is_header && has_begun) give_up("a bad line");
@@ -120,9 +128,13 @@ static void run_script(char *text) {
         }
         if (!has_begun++) begin();
         if (strcmp(line, "off") == 0) has_end = 1;
-        else run_line(line);
+        else take_line(line, row);
     }
     if (!has_begun) begin();
+    if (shared->waits) {
+        run_threads();
+        return;
+    }
     exit_all();
     check_nothing_in_flight();
     check_no_name_is_left();
@@ -130,7 +142,7 @@ static void run_script(char *text) {
 }
 
 static int usage(void) {
-    fprintf(stderr, "usage: linux_replay [--user N] SCRIPT | --machine | --in-flight\n"
+    fprintf(stderr, "usage: linux_replay [--user N] [--threads] SCRIPT | --machine | --in-flight\n"
                     "N is the user as whom the superuser's processes act: a number that nobody uses\n");
     return 2;
 }
@@ -151,15 +163,23 @@ static void run(const char *what, char *text) {
 }
 
 int main(int count, char **words) {
-    if (count == 3 && strcmp(words[1], GO_ON) == 0) go_on(number_in(words[2]));
-    if (count == 4 && strcmp(words[1], "--user") == 0) user = number_in(words[2]);
-    if ((count != 2 && count != 4) || (count == 4 && user == 0)) return usage();
-    const char *what = words[count - 1];
-    if (geteuid() == 0 && user == 0 && strcmp(what, "--machine")) return usage();
     static char *text;
+    int at = 1, waits = 0;
+    if (count == 3 && strcmp(words[1], GO_ON) == 0) go_on(number_in(words[2]));
+    if (at + 1 < count && strcmp(words[at], "--user") == 0) {
+        user = number_in(words[at + 1]);
+        at += 2;
+    }
+    if (at < count && strcmp(words[at], "--threads") == 0) {
+        waits = 1;
+        at++;
+    }
+    const char *what = at == count - 1 ? words[at] : NULL;
+    if (what == NULL || (geteuid() == 0 && user == 0 && strcmp(what, "--machine"))) return usage();
     if (what[0] != '-' || what[1] == 0) text = read_whole(what);
     raise_limits();
     make_shared();
+    shared->waits = waits;
     catch_signals();
     atexit(clean_up);
     enter_folder();

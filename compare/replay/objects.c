@@ -47,7 +47,7 @@ static void make_file(struct object *object) {
 /* A counter is an eventfd, which an epoll lists as long as anything refers to it; its file only holds its path. */
 static void make_counter(struct object *object) {
     struct epoll_event event = {.events = 0};
-    object->counter = eventfd(0, EFD_NONBLOCK | EFD_CLOEXEC);
+    object->counter = eventfd(0, (shared->waits ? 0 : EFD_NONBLOCK) | EFD_CLOEXEC);
     if (object->counter < 0 || epoll_ctl(held, EPOLL_CTL_ADD, object->counter, &event) < 0) fail("eventfd");
     object->is_held = 1;
 }

@@ -47,7 +47,7 @@ static void wait_for(const struct process *process) {
 }
 
 /* Reads the reply to its line feed. */
-static void hear_reply(const struct process *process) {
+void hear_reply(const struct process *process) {
     reply_length = 0;
     do {
         if (sizeof reply - reply_length <= CHUNK) give_up("a reply is too long");
@@ -150,10 +150,21 @@ void check_call(char **word, size_t count) {
     give_up("a bad line");
 }
 
+static void check_line(char *copy, char **word, const char *line) {
+    snprintf(copy, LINE + 1, "%s", line);
+    check_call(word, words_in(copy, word));
+}
+
+/* Hands a process a line, and doesn't wait for its reply. */
+void begin_line(const struct process *process, const char *line) {
+    char copy[LINE + 1], *word[MOST_WORDS];
+    check_line(copy, word, line);
+    tell(process, line, -1);
+}
+
 void make_call(struct process *process, const char *line) {
     char copy[LINE + 1], *word[MOST_WORDS];
-    snprintf(copy, sizeof copy, "%s", line);
-    check_call(word, words_in(copy, word));
+    check_line(copy, word, line);
     if (strcmp(word[1], "open") == 0) {
         make_open(process, line, word);
     } else if (strcmp(word[1], "unlink") == 0) {

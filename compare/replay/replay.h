@@ -34,7 +34,7 @@ struct shared {
     struct process processes[MOST_PROCESSES + 1];
     pid_t pids[MOST_PROCESSES + 1];
     struct alias aliases[MOST_ALIASES];
-    int has_bound_digits, has_passed_socket;
+    int has_bound_digits, has_passed_socket, waits;
     unsigned char key[16];
 };
 
@@ -74,7 +74,9 @@ void empty_folder(void);
 void catch_signals(void);
 void clean_up(void);
 void end_child_mode(void);
+struct pollfd;
 int wait_on(int number, short events, long milliseconds);
+int wait_on_any(struct pollfd *asked, unsigned count, long milliseconds);
 
 /* reply.c: the reply, as it is written */
 extern char reply[3 * MOST_BYTES];
@@ -133,6 +135,12 @@ void become_ordinary(void);
 void begin(void);
 void check_call(char **word, size_t count);
 void make_call(struct process *process, const char *line);
+void begin_line(const struct process *process, const char *line);
+void hear_reply(const struct process *process);
+
+/* threads.c: a run in which calls wait */
+void keep_line(const char *text, unsigned row);
+void run_threads(void);
 
 /* objects.c: file objects, and which are gone */
 void add_object(char **word, size_t count);
