@@ -4,12 +4,14 @@ from __future__ import annotations
 import os
 import pwd
 import random
+import time
 from pathlib import Path
 
-from .programs import Programs, Trouble
+from .programs import Programs, Trouble, complain
 
 LEAST, MOST = 500_000_000, 2_000_000_000
 TRIES = 50
+LOOKS, PAUSE = 10, 0.1
 
 
 def mapped_ranges() -> list[range]:
@@ -64,19 +66,28 @@ def user_words(user: int) -> list[str]:
 def look_before(programs: Programs, replay: Path, users: list[int]) -> None:
     """Says where a user has rights in flight already, which count against its limit (unix(7), ETOOMANYREFS)."""
     for user in users:
+        if has_rights_in_flight(programs, replay, user):
+            complain("this user has rights in flight, which count against its limit: limit-of-rights-in-flight may differ; "
+                     "end the programs that pass descriptors, or run this as the superuser")
+
+
+def has_rights_in_flight(programs: Programs, replay: Path, user: int) -> bool:
+    """Whether a user has some, and keeps them for a while."""
+    for _ in range(LOOKS):
         status, output, errors = programs.run([str(replay), *user_words(user), "--in-flight"])
         if status != 0:
             raise Trouble(f"the replay can't look at its user: {errors.strip()}")
-        if output.strip() != "0":
-            raise Trouble("this user has rights in flight: end the programs that pass descriptors, or run this as the superuser")
+        if output.strip() == "0":
+            return False
+        time.sleep(PAUSE)
+    return True
 
 
 def look_after(programs: Programs, replay: Path, users: list[int]) -> list[str]:
     """What is left of the run: rights in flight, or processes of a user that nobody else has."""
     left = []
     for user in users:
-        _, output, _ = programs.run([str(replay), *user_words(user), "--in-flight"])
-        if output.strip() != "0":
+        if has_rights_in_flight(programs, replay, user):
             left.append(f"rights of the user {user or os.geteuid()} are in flight")
     if users != [0]:
         left += [f"a process of the user {user} is left" for user in sorted(users_of_processes() & set(users))]

@@ -122,7 +122,7 @@ def path_not_tried(words: list[str]) -> str:
     path = name_in(words[place][2:])
     if 0 in path:
         return "a path with a NUL"
-    if 1 in path or path in (b".", b".."):
+    if 1 in path or path[:1] == b"\2":
         return "a path that no file can have"
     return "an empty path" if not path and words[0] in ADDRESS_PLACE else ""
 

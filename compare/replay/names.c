@@ -5,14 +5,19 @@
 #include <string.h>
 #include <unistd.h>
 
-enum { DIGITS = 5 };
+enum { DIGITS = 5, SLASH = 1, BEFORE_DOTS = 2 };
 
-/* A path of the script as a file of the folder, a slash as the byte 1. It answers 0 where there can be no such file. */
+/* A path of the script as a file of the folder, a slash as the byte 1, and `.` and `..` behind the byte 2. It answers 0
+ * where there can be no such file. */
 int file_in(const char *word, char *file) {
     size_t length = name_in(word + 2, file);
     if (strlen(file) != length) return not_tried("a path with a NUL");
-    if (strchr(file, 1) || !strcmp(file, ".") || !strcmp(file, "..")) return not_tried("a path that no file can have");
-    for (char *slash = file; (slash = strchr(slash, '/')); *slash = 1) continue;
+    if (strchr(file, SLASH) || file[0] == BEFORE_DOTS) return not_tried("a path that no file can have");
+    for (char *slash = file; (slash = strchr(slash, '/')); *slash = SLASH) continue;
+    if (strcmp(file, ".") == 0 || strcmp(file, "..") == 0) {
+        memmove(file + 1, file, length + 1);
+        file[0] = BEFORE_DOTS;
+    }
     return 1;
 }
 
@@ -124,9 +129,9 @@ void forget_names(void) {
 
 static void say_name(char kind, const char *name, size_t length) {
     say("%c:", kind);
-    for (size_t i = 0; i < length; i++) {
+    for (size_t i = kind == 'p' && length > 0 && name[0] == BEFORE_DOTS; i < length; i++) {
         unsigned char byte = (unsigned char)name[i];
-        if (kind == 'p' && byte == 1) byte = '/';
+        if (kind == 'p' && byte == SLASH) byte = '/';
         if (byte > 0x20 && byte < 0x7f && byte != '%') say("%c", byte);
         else say("%%%02x", byte);
     }
