@@ -48,7 +48,7 @@ class Programs:
         atexit.register(self.close)
         signal.pthread_sigmask(signal.SIG_UNBLOCK, ENDING)
 
-    def run(self, words: list[str]) -> tuple[int, str, str]:
+    def run(self, words: list[str], patience: int = PATIENCE) -> tuple[int, str, str]:
         """Runs a program to its end, and answers its status, output and errors."""
         with self.lock:
             if self.is_stopped:
@@ -58,11 +58,11 @@ class Programs:
                                        encoding="latin-1", start_new_session=True)
             self.running.add(program)
         try:
-            output, errors = program.communicate(timeout=PATIENCE)
+            output, errors = program.communicate(timeout=patience)
         except subprocess.TimeoutExpired:
             program.terminate()
             output, errors = program.communicate()
-            errors += f"ended after {PATIENCE} seconds"
+            errors += f"ended after {patience} seconds"
         finally:
             with self.lock:
                 self.running.discard(program)

@@ -78,6 +78,8 @@ def read_object(kernel: Kernel, description: Description, target: FileObject, wa
         raise Refusal("EINVAL")
     if target.kind != "counter" and wanted == 0:
         return b""
+    if target.kind == "mem":
+        check_place(kernel, description, wanted)
     if target.kind == "counter" and target.value == 0:
         raise Refusal("EAGAIN")
     if target.kind == "pipe" and not target.data:
@@ -112,9 +114,16 @@ def taken_from(description: Description, target: FileObject, wanted: int) -> byt
     return data
 
 
-def write_memory(description: Description, target: FileObject, data: bytes) -> int:
+def check_place(kernel: Kernel, description: Description, count: int) -> None:
+    """On Linux no read or write goes beyond the greatest offset (rw_verify_area)."""
+    if description.offset + count > OFFSET_LIMIT and kernel.follows(Rule.FAR_OFFSET):
+        raise Refusal("EINVAL")
+
+
+def write_memory(kernel: Kernel, description: Description, target: FileObject, data: bytes) -> int:
     """Writes at the offset, or at the end; a gap is filled with zeros."""
     at = len(target.data) if description.append else description.offset
+    check_place(kernel, description, len(data))
     if at >= FILE_LIMIT:
         raise Refusal("EFBIG")
     count = min(len(data), FILE_LIMIT - at)
@@ -168,7 +177,7 @@ def write_object(kernel: Kernel, description: Description, target: FileObject, d
     if fails_now(kernel, target):
         raise Refusal("EIO")
     if target.kind == "mem":
-        return write_memory(description, target, data)
+        return write_memory(kernel, description, target, data)
     return write_counter(kernel, target, data) if target.kind == "counter" else write_pipe(kernel, target, data)
 
 

@@ -6,13 +6,17 @@ from dataclasses import dataclass, field
 
 @dataclass
 class Machine:
-    """Figures of a machine, as `linux_replay --machine` measures and prints them; those given here are of x86-64 and ext4."""
+    """Figures of a machine, as `linux_replay --machine` measures and prints them; those given here are of x86-64 and ext4.
+
+    `peer_first` says that a datagram without an address finds no peer before all else is looked at, as before Linux 6.14.
+    """
     send_buffer: int = 212992
     datagrams: int = 10
     backlog: int = 4096
     greatest_offset: int = 17592186040320
     page: int = 4096
     pipe_pages: int = 16
+    peer_first: int = 0
     costs: list[tuple[int, int]] = field(default_factory=lambda: [(0, 768), (193, 1280), (705, 2304), (1729, 4352)])
 
     def cost(self, length: int) -> int:

@@ -197,13 +197,18 @@ def send_tied(kernel: Kernel, sending: Sending) -> int:
     return enqueue(kernel, sending, peer)
 
 
+def check_destination(kernel: Kernel, sending: Sending) -> None:
+    """Without an address there must be a target."""
+    if sending.address is None and sending.socket.peer is None:
+        raise Refusal("ENOTCONN" if kernel.follows(Rule.DESTINATION_REQUIRED) else "EDESTADDRREQ")
+
+
 def target_of(kernel: Kernel, sending: Sending) -> Socket:
     """Where a datagram goes; a target that is gone ends the association."""
     socket = sending.socket
     if sending.address is not None:
         return kernel.look_up("dgram", sending.address)
-    if socket.peer is None:
-        raise Refusal("ENOTCONN" if kernel.follows(Rule.DESTINATION_REQUIRED) else "EDESTADDRREQ")
+    check_destination(kernel, sending)
     if socket.peer.is_gone:
         end_association(kernel, socket)
         raise Refusal("ECONNREFUSED")
@@ -222,6 +227,8 @@ def end_association(kernel: Kernel, socket: Socket) -> None:
 def send_datagram(kernel: Kernel, sending: Sending) -> int:
     """To the address that was given, or to the target."""
     early = kernel.follows(Rule.ORDER_OF_SEND)
+    if early and kernel.machine.peer_first:
+        check_destination(kernel, sending)
     kernel.name_if_asked(sending.socket)
     check_record_error(kernel, sending.socket)
     if "w" in sending.socket.shut:

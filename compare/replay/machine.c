@@ -61,6 +61,15 @@ static int send_buffer(void) {
     return value;
 }
 
+/* Whether a datagram without an address finds no peer before it finds that the socket is shut for writing. */
+static int looks_for_peer_first(void) {
+    int number = socket(AF_UNIX, SOCK_DGRAM | SOCK_CLOEXEC, 0);
+    if (number < 0 || shutdown(number, SHUT_WR) < 0) fail("shutdown");
+    int is_first = send(number, "", 0, MSG_NOSIGNAL | MSG_DONTWAIT) < 0 && errno == ENOTCONN;
+    close(number);
+    return is_first;
+}
+
 /* The greatest offset that a file of the run's folder may have, by halves. */
 static long long greatest_offset(void) {
     long long taken = 0, refused = LLONG_MAX;
@@ -88,5 +97,6 @@ void tell_machine(void) {
     printf("greatest_offset %lld\n", greatest_offset());
     printf("page %ld\n", page);
     printf("pipe_pages %ld\n", fcntl(ends[0], F_GETPIPE_SZ) / page);
+    printf("peer_first %d\n", looks_for_peer_first());
     tell_costs();
 }
