@@ -6,7 +6,7 @@ from dataclasses import dataclass
 from typing import Any, Callable, Iterator
 from unittest import mock
 
-from reference import connecting, files, kernel, readiness, receiving, sending, sockets, trace
+from reference import connecting, files, sending, sockets, trace
 from reference.kernel import Kernel
 from reference.names import UNNAMED
 from reference.state import FileObject, Process, Refusal, Socket

@@ -10,6 +10,7 @@ from reference.rules import ALL_RULES, Rule
 from reference.script import read_script
 
 from .generator import write_scripts
+from .kernels import read_kernels
 from .lines import reference_lines, rules_needed
 from .programs import COMPARE, TOP
 from .texts import read_texts
@@ -19,11 +20,11 @@ HEAD = """# Where Linux answers otherwise
 Each rule of [differences.txt](differences.txt) is a row: what this layer does, what Linux does, what POSIX.1-2017 or a manual
 page says, and why it is so here. A rule is a switch of the reference in [reference/](reference), which with it on gives Linux's
 answer and leaves Linux's state. The last columns say how many scripts need the rule: of `examples/`, of `compare/further/`, and
-of {count:,} random ones, `compare/scripts {count} {seed}`. `compare/table {count} {seed}` prints this page;
-[LINUX.md](../docs/LINUX.md) says how to compare.
+of {count:,} random ones, `compare/scripts {count} {seed}`; and which other kernels follow it, as `compare/kernel` found
+([kernels.txt](kernels.txt)). `compare/table {count} {seed}` prints this page; [LINUX.md](../docs/LINUX.md) says how to compare.
 
-| Rule | Here | Linux | POSIX.1-2017, manual pages | Why so | Examples | Further | Random |
-|---|---|---|---|---|---|---|---|"""
+| Rule | Here | Linux | POSIX.1-2017, manual pages | Why so | Examples | Further | Random | {kernels} |
+|---|---|---|---|---|---|---|---|{rules}|"""
 
 
 def count_needs(scripts: list[Path], machine: Machine) -> Counter[Rule]:
@@ -41,9 +42,12 @@ def print_page(count: int, seed: int) -> int:
         kinds = (list((TOP / "examples").glob("*.ux")), list((COMPARE / "further").glob("*.ux")),
                  write_scripts(count, seed, Path(place)))
         needs = [count_needs(scripts, Machine()) for scripts in kinds]
-    print(HEAD.format(count=count, seed=seed))
+    kernels = read_kernels()
+    print(HEAD.format(count=count, seed=seed, kernels=" | ".join(kernel.release for kernel in kernels),
+                      rules="|".join("---" for _ in kernels)))
     for text in read_texts():
         name = text.rule.value
         cells = [text.texts[key] for key in ("what", "answers", "posix", "why")] + [str(need[text.rule]) for need in needs]
+        cells += ["no" if text.rule in kernel.without else "yes" for kernel in kernels]
         print(f'| <a id="{name}"></a>{name} | ' + " | ".join(cells) + " |")
     return 0

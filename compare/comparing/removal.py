@@ -6,7 +6,7 @@ from pathlib import Path
 from reference.rules import ALL_RULES
 from reference.script import read_script
 
-from .lines import Bench, compare_script, first_difference, reference_lines
+from .lines import Bench, first_difference, reference_lines
 from .programs import TOP, Stopped, Trouble, complain
 from .session import Session
 from .texts import RuleText, read_texts

@@ -16,7 +16,8 @@ LONGEST = 1900
 def odd_name(random: Random) -> str:
     """A name at or beyond a limit, or with bytes that names seldom have."""
     length = random.choice([90, 106, 107, 108, 109, 255, 256])
-    return random.choice(["p:", "p:a%00b", "p:.", "p:..", "p:/", "p:d/s", "p:a%01", "p:%02", "a:%00", "a:%00%00x", "a:fffff", "p:" + "l" * length, "a:" + "l" * length])
+    return random.choice(["p:", "p:a%00b", "p:.", "p:..", "p:/", "p:d/s", "p:a%01", "p:%02",
+                          "a:%00", "a:%00%00x", "a:fffff", "p:" + "l" * length, "a:" + "l" * length])
 
 
 def any_name(random: Random) -> str:

@@ -7,7 +7,6 @@ from dataclasses import dataclass, field
 from .control import CREDENTIALS_LENGTH, CREDENTIALS_SPACE, HEAD, SCM_CREDENTIALS, SOL_SOCKET
 from .files import READ_LIMIT
 from .kernel import Kernel
-from .names import Address
 from .rules import Rule
 from .state import Description, Message, Process, Refusal, Socket
 

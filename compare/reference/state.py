@@ -58,7 +58,6 @@ class Socket:
     queue_limit: int = FIRST_QUEUE_LIMIT
     backlog: int = 0
     pending: list[Description] = field(default_factory=list)
-    listener: Socket | None = None
     charged: int = 0
 
     @property

@@ -69,7 +69,7 @@ void clean_up(void) {
         kill(shared->pids[i], SIGKILL);
         waitpid(shared->pids[i], NULL, 0);
     }
-    if (stopped) collect_what_is_left();
+    if (stopped || shared->waits) collect_what_is_left();
     if (probe_pid > 0) {
         kill(probe_pid, SIGKILL);
         waitpid(probe_pid, NULL, 0);
