@@ -2,13 +2,10 @@
 #include "replay.h"
 #include <fcntl.h>
 #include <grp.h>
-#include <sched.h>
 #include <stdio.h>
 #include <string.h>
 #include <sys/mman.h>
-#include <sys/prctl.h>
 #include <sys/resource.h>
-#include <sys/syscall.h>
 #include <unistd.h>
 
 /* Sets how many descriptors this process may have. */
@@ -56,10 +53,10 @@ static void do_fork(char **word) {
     say_to_parent();
     reply_length = 0;
     if (!hear(line) || passed < 0) _exit(2);
-    pid_t child = (pid_t)syscall(SYS_clone, CLONE_PARENT | SIGCHLD, 0, 0, 0, 0);
+    pid_t child = fork_beside();
     if (child == 0) {
         me = number;
-        if (dup2(passed, CHANNEL) < 0 || prctl(PR_SET_PDEATHSIG, SIGKILL) < 0) _exit(2);
+        if (dup2(passed, CHANNEL) < 0 || end_with_parent(0) < 0) _exit(2);
         reply_length = 0;
     } else if (child > 0) {
         shared->pids[number] = child;
@@ -77,7 +74,7 @@ static void do_exec(char **word) {
     (void)word;
     snprintf(number, sizeof number, "%u", me);
     set_limit(HANDED + 1);
-    execl("/proc/self/exe", "linux_replay", GO_ON, number, NULL);
+    execute_again(GO_ON, number);
     perror("linux_replay: this program can't be executed again");
     _exit(2);
 }
@@ -144,9 +141,9 @@ void go_on(unsigned number) {
 void live(int channel, pid_t parent) {
     struct rlimit longest = {MOST_BYTES, MOST_BYTES};
     become_ordinary();
-    if (prctl(PR_SET_PDEATHSIG, SIGKILL) < 0 || getppid() != parent) _exit(2);
+    if (end_with_parent(parent) < 0) _exit(2);
     if (dup2(channel, CHANNEL) < 0 || dup2(memory, MEMORY) < 0) _exit(2);
-    if (close_range(0, CHANNEL - 1, 0) < 0 || close_range(MEMORY + 1, ~0u, 0) < 0) _exit(2);
+    if (close_from_to(0, CHANNEL - 1) < 0 || close_from_to(MEMORY + 1, ~0u) < 0) _exit(2);
     signal(SIGPIPE, SIG_IGN);
     signal(SIGXFSZ, SIG_IGN);
     if (setrlimit(RLIMIT_FSIZE, &longest) < 0) _exit(2);

@@ -8,7 +8,6 @@
 #include <stdlib.h>
 #include <string.h>
 #include <sys/mman.h>
-#include <sys/random.h>
 #include <sys/stat.h>
 #include <sys/wait.h>
 #include <time.h>
@@ -44,11 +43,11 @@ void set_prefix(void) {
 }
 
 void make_shared(void) {
-    memory = memfd_create("linux_replay", 0);
-    if (memory < 0 || ftruncate(memory, sizeof *shared) < 0) fail("memfd_create");
+    memory = make_memory(sizeof *shared);
+    if (memory < 0) fail("the shared memory");
     shared = mmap(NULL, sizeof *shared, PROT_READ | PROT_WRITE, MAP_SHARED, memory, 0);
     if (shared == MAP_FAILED) fail("mmap");
-    if (getrandom(shared->key, sizeof shared->key, 0) != sizeof shared->key) fail("getrandom");
+    if (fill_at_random(shared->key, sizeof shared->key) < 0) fail("random bytes");
     set_prefix();
 }
 

@@ -2,29 +2,20 @@
 #include "replay.h"
 #include <errno.h>
 #include <fcntl.h>
-#include <linux/sockios.h>
 #include <stdio.h>
 #include <stdlib.h>
 #include <string.h>
-#include <sys/ioctl.h>
 #include <unistd.h>
 
-enum { LONGEST = LINE / 2, SOMAXCONN_IF_UNKNOWN = 4096 };
-
-/* The figure in a file of /proc/sys, or another where there is no such file. */
-static long figure_in(const char *path, long otherwise) {
-    FILE *file = fopen(path, "re");
-    if (file == NULL) return otherwise;
-    if (fscanf(file, "%ld", &otherwise) != 1) give_up("a figure of /proc/sys can't be read");
-    fclose(file);
-    return otherwise;
-}
+enum { LONGEST = LINE / 2 };
 
 /* The memory that a sender is charged for a message of so many bytes. */
 static int cost_of(size_t length) {
-    int pair[2], cost = 0;
+    int pair[2];
     if (socketpair(AF_UNIX, SOCK_DGRAM | SOCK_CLOEXEC, 0, pair) < 0) fail("socketpair");
-    if (send(pair[0], data, length, MSG_DONTWAIT) < 0 || ioctl(pair[0], SIOCOUTQ, &cost) < 0) fail("SIOCOUTQ");
+    if (send(pair[0], data, length, MSG_DONTWAIT) < 0) fail("send");
+    int cost = charged_to(pair[0]);
+    if (cost < 0) fail("what a message costs");
     close(pair[0]);
     close(pair[1]);
     return cost;
@@ -93,10 +84,10 @@ void tell_machine(void) {
     if (pipe2(ends, O_CLOEXEC) < 0) fail("pipe");
     printf("send_buffer %d\n", send_buffer());
     printf("datagrams %ld\n", datagrams());
-    printf("backlog %ld\n", figure_in("/proc/sys/net/core/somaxconn", SOMAXCONN_IF_UNKNOWN));
+    printf("backlog %ld\n", most_backlog());
     printf("greatest_offset %lld\n", greatest_offset());
     printf("page %ld\n", page);
-    printf("pipe_pages %ld\n", fcntl(ends[0], F_GETPIPE_SZ) / page);
+    printf("pipe_pages %ld\n", bytes_of_pipe(ends[0]) / page);
     printf("peer_first %d\n", looks_for_peer_first());
     tell_costs();
 }

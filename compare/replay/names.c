@@ -177,13 +177,7 @@ void learn_name(int number) {
 
 /* Ends the run where a name of its own is bound still, though all its processes have exited. */
 void check_no_name_is_left(void) {
-    char line[LINE], sought[PREFIX + 3];
-    FILE *names = fopen("/proc/net/unix", "re");
-    snprintf(sought, sizeof sought, " @%s", prefix);
-    while (names && fgets(line, sizeof line, names)) {
-        if (strstr(line, sought)) give_up("an abstract name is left");
-    }
-    if (names) fclose(names);
+    if (is_name_bound(prefix)) give_up("an abstract name is left");
     forget_names();
     for (unsigned i = 0; i < shared->alias_count; i++) {
         if (shared->aliases[i].is_used) give_up("a name of autobind is left");

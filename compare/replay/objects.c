@@ -1,18 +1,14 @@
-/* The script's file objects: a memory file is a file, a pipe a FIFO, a counter an eventfd; and which are gone. */
+/* The script's file objects: a memory file is a file, a pipe a FIFO, a counter one of the kernel; and which are gone. */
 #include "replay.h"
 #include <fcntl.h>
 #include <stdio.h>
 #include <stdlib.h>
 #include <string.h>
-#include <sys/epoll.h>
-#include <sys/eventfd.h>
-#include <sys/inotify.h>
 #include <sys/stat.h>
 #include <unistd.h>
 
 struct object objects[MOST_OBJECTS];
 unsigned object_count;
-static int watches = -1, held = -1;
 
 /* A line `object p:NAME [fail N] KIND [HEX]`. That a call of it fails can't be had, and is left out. */
 void add_object(char **word, size_t count) {
@@ -40,25 +36,19 @@ static void make_file(struct object *object) {
     if (geteuid() == 0 && fchown(number, user, user) < 0) fail(object->name);
     close(number);
     if (object->kind == 'c') return;
-    object->watch = inotify_add_watch(watches, object->name, IN_DELETE_SELF);
-    if (object->watch < 0) fail("inotify_add_watch");
+    object->watch = watch_file(object->name);
+    if (object->watch < 0) fail("a file can't be watched");
 }
 
-/* A counter is an eventfd, which an epoll lists as long as anything refers to it; its file only holds its path. */
-static void make_counter(struct object *object) {
-    struct epoll_event event = {.events = 0};
-    object->counter = eventfd(0, (shared->waits ? 0 : EFD_NONBLOCK) | EFD_CLOEXEC);
-    if (object->counter < 0 || epoll_ctl(held, EPOLL_CTL_ADD, object->counter, &event) < 0) fail("eventfd");
-    object->is_held = 1;
-}
-
+/* Files stand for the paths of all objects; a counter is handed to who opens it. */
 void make_objects(void) {
-    watches = inotify_init1(IN_NONBLOCK | IN_CLOEXEC);
-    held = epoll_create1(EPOLL_CLOEXEC);
-    if (watches < 0 || held < 0) fail("linux_replay");
+    if (start_watching() < 0) fail("linux_replay");
     for (unsigned i = 0; i < object_count; i++) {
         make_file(&objects[i]);
-        if (objects[i].kind == 'c') make_counter(&objects[i]);
+        if (objects[i].kind != 'c') continue;
+        objects[i].counter = make_counter();
+        objects[i].is_held = 1;
+        if (objects[i].counter < 0) fail("a counter");
     }
 }
 
@@ -79,32 +69,10 @@ void all_paths_are_gone(void) {
     for (unsigned i = 0; i < object_count; i++) objects[i].has_path = 0;
 }
 
-static void see_files_go(int *gone) {
-    union {
-        char bytes[CHUNK];
-        struct inotify_event aligned;
-    } events;
-    for (ssize_t count; (count = read(watches, events.bytes, sizeof events)) > 0;) {
-        for (char *at = events.bytes; at < events.bytes + count;) {
-            struct inotify_event *event = (struct inotify_event *)at;
-            for (unsigned i = 0; i < object_count; i++) {
-                if (event->wd == objects[i].watch && event->mask & IN_DELETE_SELF) gone[i] = 1;
-            }
-            at += sizeof *event + event->len;
-        }
+static void see_file_go(int watch, int *gone) {
+    for (unsigned i = 0; i < object_count; i++) {
+        if (watch == objects[i].watch) gone[i] = 1;
     }
-}
-
-/* Whether the epoll still lists this descriptor, so that something refers to what it led to. */
-static int is_listed(int number) {
-    char path[64], line[256];
-    int listed = 0, told;
-    snprintf(path, sizeof path, "/proc/self/fdinfo/%d", held);
-    FILE *lines = fopen(path, "re");
-    if (lines == NULL) fail(path);
-    while (fgets(line, sizeof line, lines)) listed |= sscanf(line, "tfd: %d", &told) == 1 && told == number;
-    fclose(lines);
-    return listed;
 }
 
 static void see_counters_go(int *gone) {
@@ -114,13 +82,13 @@ static void see_counters_go(int *gone) {
             close(objects[i].counter);
             objects[i].is_held = 0;
         }
-        if (!objects[i].is_held && !is_listed(objects[i].counter)) gone[i] = 1;
+        if (!objects[i].is_held && !is_counter_held(objects[i].counter)) gone[i] = 1;
     }
 }
 
 unsigned see_what_goes(int *gone) {
     unsigned count = 0;
-    see_files_go(gone);
+    see_watched_go(see_file_go, gone);
     see_counters_go(gone);
     for (unsigned i = 0; i < object_count; i++) count += objects[i].is_gone || gone[i];
     return count;

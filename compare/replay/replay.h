@@ -158,6 +158,24 @@ void collect_what_is_left(void);
 void check_nothing_in_flight(void);
 int has_rights_in_flight(void);
 
+/* linux.c: what is Linux's own */
+int make_memory(size_t size);
+int fill_at_random(void *bytes, size_t size);
+pid_t fork_beside(void);
+int end_with_parent(pid_t parent);
+void execute_again(const char *option, const char *word);
+int close_from_to(unsigned first, unsigned last);
+const char *name_of_error(int error);
+int start_watching(void);
+int watch_file(const char *name);
+void see_watched_go(void (*see)(int watch, int *gone), int *gone);
+int make_counter(void);
+int is_counter_held(int number);
+int is_name_bound(const char *beginning);
+int charged_to(int number);
+long bytes_of_pipe(int number);
+long most_backlog(void);
+
 /* machine.c: what answers depend on */
 void tell_machine(void);
 #endif

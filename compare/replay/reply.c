@@ -29,7 +29,7 @@ void say_bytes(const unsigned char *bytes, size_t length) {
 }
 
 void say_error(void) {
-    const char *name = strerrorname_np(errno);
+    const char *name = name_of_error(errno);
     say("err %s", name ? name : "?");
 }
 
