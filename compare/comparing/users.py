@@ -12,6 +12,7 @@ from .programs import Programs, Trouble, complain
 LEAST, MOST = 500_000_000, 2_000_000_000
 TRIES = 50
 LOOKS, PAUSE = 10, 0.1
+USERS_OF_A_RUN = 64
 
 
 def mapped_ranges() -> list[range]:
@@ -45,16 +46,17 @@ def is_known(user: int) -> bool:
 
 
 def choose(count: int) -> list[int]:
-    """Users in a row that nobody is and no process has; an ordinary user acts as itself."""
+    """For each of so many runs the first of users in a row that nobody is and no process has; an ordinary user is itself."""
     if os.geteuid() != 0:
         return [0]
     ranges, taken = mapped_ranges(), users_of_processes()
     for _ in range(TRIES):
         whole = max(ranges, key=len)
-        least = random.randrange(max(whole.start + 1, min(LEAST, whole.stop - count - 1)), min(MOST, whole.stop - count))
-        wanted = range(least, least + count)
+        wide = count * USERS_OF_A_RUN
+        least = random.randrange(max(whole.start + 1, min(LEAST, whole.stop - wide - 1)), min(MOST, whole.stop - wide))
+        wanted = range(least, least + wide)
         if not any(user in taken or is_known(user) for user in wanted):
-            return list(wanted)
+            return list(wanted)[::USERS_OF_A_RUN]
     raise Trouble("no user number is free: run the comparison as an ordinary user")
 
 
@@ -88,7 +90,8 @@ def look_after(programs: Programs, replay: Path, users: list[int]) -> list[str]:
     left = []
     for user in users:
         if has_rights_in_flight(programs, replay, user):
-            left.append(f"rights of the user {user or os.geteuid()} are in flight")
+            left.append(f"rights of the user {user or os.geteuid()}, or of those behind it, are in flight")
     if users != [0]:
-        left += [f"a process of the user {user} is left" for user in sorted(users_of_processes() & set(users))]
+        wanted = {user + place for user in users for place in range(USERS_OF_A_RUN)}
+        left += [f"a process of the user {user} is left" for user in sorted(users_of_processes() & wanted)]
     return left

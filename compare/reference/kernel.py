@@ -154,8 +154,8 @@ class Kernel:
         return bool(gone.queue)
 
     def rights_in_flight(self, uid: int) -> int:
-        """How many rights this user's unread messages have; the replay's processes are all one user's."""
-        together = self.follows(Rule.LIMIT_OF_RIGHTS_IN_FLIGHT)
+        """How many rights this user's unread messages have; an ordinary user's replay has processes of one user alone."""
+        together = not self.machine.users_apart and self.follows(Rule.LIMIT_OF_RIGHTS_IN_FLIGHT)
         return sum(len(message.rights) for description in self.descriptions if isinstance(description.target, Socket)
                    for message in description.target.queue if together or message.uid == uid)
 

@@ -6,6 +6,7 @@
 #include <string.h>
 #include <sys/mman.h>
 #include <sys/resource.h>
+#include <sys/stat.h>
 #include <unistd.h>
 
 /* Sets how many descriptors this process may have. */
@@ -106,10 +107,16 @@ static void answer(char *line) {
     say("\n");
 }
 
-/* A process of the superuser acts as the user that was given, so that no privilege of its own changes an answer. */
-void become_ordinary(void) {
+/* The machine's user with this number from 0: of the superuser one in a row, else who runs this. */
+unsigned real_user(unsigned number) { return user ? user + number : getuid(); }
+
+/* A process of the superuser acts as one of the users that were given, so that no privilege of its own changes an answer.
+ * They have one group, whose the folder and its files are. */
+void become_ordinary(unsigned number) {
+    unsigned own = user + number;
+    umask(S_IRWXO);
     if (geteuid() != 0) return;
-    if (setgroups(0, NULL) < 0 || setresgid(user, user, user) < 0 || setresuid(user, user, user) < 0) {
+    if (setgroups(0, NULL) < 0 || setresgid(user, user, user) < 0 || setresuid(own, own, own) < 0) {
         perror("linux_replay: the user that was given can't be had");
         _exit(2);
     }
@@ -140,7 +147,7 @@ void go_on(unsigned number) {
 
 void live(int channel, pid_t parent) {
     struct rlimit longest = {MOST_BYTES, MOST_BYTES};
-    become_ordinary();
+    become_ordinary(shared->processes[me].user);
     if (end_with_parent(parent) < 0) _exit(2);
     if (dup2(channel, CHANNEL) < 0 || dup2(memory, MEMORY) < 0) _exit(2);
     if (close_from_to(0, CHANNEL - 1) < 0 || close_from_to(MEMORY + 1, ~0u) < 0) _exit(2);

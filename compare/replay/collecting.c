@@ -4,10 +4,9 @@
 #include <poll.h>
 #include <string.h>
 #include <sys/resource.h>
+#include <sys/wait.h>
 #include <time.h>
 #include <unistd.h>
-
-pid_t probe_pid;
 
 enum { ROUNDS = 3, TURNS = 400, TURN = 5 };
 
@@ -53,13 +52,13 @@ static int is_refused(const int *pair) {
     return recv(pair[1], &byte, 1, MSG_DONTWAIT) == 1 ? 0 : 2;
 }
 
-/* A process of the user that may have no descriptors. It answers each byte with whether rights are in flight. */
-static void __attribute__((noreturn)) probe(int channel) {
+/* A process of a user that may have no descriptors. It answers each byte with whether rights are in flight. */
+static void __attribute__((noreturn)) probe(unsigned number, int channel) {
     struct rlimit none = {0, 0};
     int pair[2];
     char byte;
     end_child_mode();
-    become_ordinary();
+    become_ordinary(number);
     if (socketpair(AF_UNIX, SOCK_DGRAM, 0, pair) < 0 || setrlimit(RLIMIT_NOFILE, &none) < 0) _exit(2);
     while (recv(channel, &byte, 1, 0) == 1) {
         byte = (char)is_refused(pair);
@@ -68,27 +67,51 @@ static void __attribute__((noreturn)) probe(int channel) {
     _exit(0);
 }
 
-static int probe_channel = -1, had_some_before;
+static struct {
+    pid_t pid;
+    int channel;
+} probes[MOST_USERS];
+static unsigned probe_count;
+static int had_some_before;
 
-void start_probe(void) {
+static void start_probe(unsigned number) {
     int ends[2];
     if (socketpair(AF_UNIX, SOCK_SEQPACKET | SOCK_CLOEXEC, 0, ends) < 0) fail("socketpair");
-    probe_pid = fork();
-    if (probe_pid < 0) fail("fork");
-    if (probe_pid == 0) {
+    pid_t pid = fork();
+    if (pid < 0) fail("fork");
+    if (pid == 0) {
         close(ends[0]);
-        probe(ends[1]);
+        probe(number, ends[1]);
     }
     close(ends[1]);
-    probe_channel = ends[0];
+    probes[probe_count].pid = pid;
+    probes[probe_count++].channel = ends[0];
+}
+
+/* A process for each user of the run; without processes of a script for the first. */
+void start_probes(void) {
+    do start_probe(probe_count);
+    while (probe_count < shared->user_count);
     had_some_before = has_rights_in_flight();
 }
 
+void end_probes(void) {
+    for (unsigned i = 0; i < probe_count; i++) {
+        kill(probes[i].pid, SIGKILL);
+        waitpid(probes[i].pid, NULL, 0);
+    }
+}
+
 int has_rights_in_flight(void) {
-    char byte = 0;
-    if (send(probe_channel, &byte, 1, MSG_NOSIGNAL) != 1 || wait_on(probe_channel, POLLIN, 1000L * SECONDS) <= 0 ||
-        recv(probe_channel, &byte, 1, 0) != 1) give_up("rights in flight can't be asked for");
-    return byte;
+    int has_some = 0;
+    for (unsigned i = 0; i < probe_count; i++) {
+        int channel = probes[i].channel;
+        char byte = 0;
+        if (send(channel, &byte, 1, MSG_NOSIGNAL) != 1 || wait_on(channel, POLLIN, 1000L * SECONDS) <= 0 ||
+            recv(channel, &byte, 1, 0) != 1) give_up("rights in flight can't be asked for");
+        has_some |= byte;
+    }
+    return has_some;
 }
 
 /* Waits until what could be collected now is. What that frees is found in the next rounds. Files that were collected are

@@ -33,7 +33,7 @@ static int begin_alike(const void *one, const void *other, size_t length) { retu
 /* Turns the first bytes of credentials into the script's, as far as there are any. */
 static void translate(struct ucred *credentials, size_t length) {
     for (unsigned i = 1; i <= shared->process_count; i++) {
-        struct ucred real = {.pid = shared->pids[i], .uid = getuid(), .gid = getgid()};
+        struct ucred real = {.pid = shared->pids[i], .uid = real_user(shared->processes[i].user), .gid = getgid()};
         if (!begin_alike(&real, credentials, length)) continue;
         *credentials = (struct ucred){(pid_t)i, shared->processes[i].uid, shared->processes[i].gid};
         return;

@@ -69,10 +69,7 @@ void clean_up(void) {
         waitpid(shared->pids[i], NULL, 0);
     }
     if (stopped || shared->waits) collect_what_is_left();
-    if (probe_pid > 0) {
-        kill(probe_pid, SIGKILL);
-        waitpid(probe_pid, NULL, 0);
-    }
+    end_probes();
     empty_folder();
     unlinkat(home, folder, AT_REMOVEDIR);
 }
@@ -82,6 +79,7 @@ void enter_folder(void) {
     if (place == NULL || *place == 0) place = "/tmp";
     if (snprintf(folder, sizeof folder, "%s/linux_replay.XXXXXX", place) >= PATH_MAX) give_up("TMPDIR is too long");
     int from = open(".", O_RDONLY | O_DIRECTORY | O_CLOEXEC);
+    umask(S_IRWXO);
     if (from < 0 || mkdtemp(folder) == NULL) fail(folder);
     home = from;
     if (chdir(folder) < 0) fail(folder);
@@ -90,7 +88,7 @@ void enter_folder(void) {
 /* The folder becomes the user's when all is in it that the superuser makes there. */
 void give_folder(void) {
     int number = open(".", O_RDONLY | O_DIRECTORY | O_CLOEXEC);
-    if (number < 0 || (geteuid() == 0 && fchown(number, user, user) < 0)) fail(folder);
+    if (number < 0 || (geteuid() == 0 && fchown(number, user, user) < 0) || fchmod(number, S_IRWXU | S_IRWXG) < 0) fail(folder);
     close(number);
 }
 

@@ -89,5 +89,6 @@ void tell_machine(void) {
     printf("page %ld\n", page);
     printf("pipe_pages %ld\n", bytes_of_pipe(ends[0]) / page);
     printf("peer_first %d\n", looks_for_peer_first());
+    printf("users_apart %d\n", geteuid() == 0);
     tell_costs();
 }

@@ -91,12 +91,23 @@ static char *read_whole(const char *path) {
     return text;
 }
 
+/* Which of the machine's users stands for a script's: each has its own, of the superuser's run. */
+static unsigned user_of(unsigned uid) {
+    for (unsigned i = 1; i < shared->process_count; i++) {
+        if (shared->processes[i].uid == uid) return shared->processes[i].user;
+    }
+    if (user == 0) return 0;
+    if (shared->user_count == MOST_USERS) give_up("too many users");
+    return shared->user_count++;
+}
+
 static void add_process(char **word) {
     if (shared->process_count == MOST_PROCESSES) give_up("too many processes");
     struct process *made = &shared->processes[++shared->process_count];
     unsigned limit = number_in(word[4]);
     *made = (struct process){.uid = number_in(word[1]), .gid = number_in(word[2]), .privileged = word[3][0] == '1'};
     made->limit = limit < 1 ? 1 : limit > MOST_DESCRIPTORS ? MOST_DESCRIPTORS : limit;
+    made->user = user_of(made->uid);
 }
 
 static void read_header(const char *line) {
@@ -143,7 +154,7 @@ static void run_script(char *text) {
 
 static int usage(void) {
     fprintf(stderr, "usage: linux_replay [--user N] [--threads] SCRIPT | --machine | --in-flight\n"
-                    "N is the user as whom the superuser's processes act: a number that nobody uses\n");
+                    "N is the first of 64 users as whom the superuser's processes act: numbers that nobody uses\n");
     return 2;
 }
 
@@ -159,7 +170,11 @@ static void raise_limits(void) {
 static void run(const char *what, char *text) {
     if (text) run_script(text);
     else if (strcmp(what, "--machine") == 0) tell_machine();
-    else printf("%d\n", has_rights_in_flight());
+    else {
+        shared->user_count = user ? MOST_USERS : 1;
+        start_probes();
+        printf("%d\n", has_rights_in_flight());
+    }
 }
 
 int main(int count, char **words) {
@@ -183,7 +198,6 @@ int main(int count, char **words) {
     catch_signals();
     atexit(clean_up);
     enter_folder();
-    start_probe();
     run(what, text);
     return fflush(stdout) == 0 ? 0 : 2;
 }

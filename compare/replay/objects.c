@@ -28,9 +28,9 @@ void add_object(char **word, size_t count) {
 /* The folder is the superuser's own still, so nobody else changes what a path leads to. */
 static void make_file(struct object *object) {
     int is_pipe = object->kind == 'p';
-    if (is_pipe && mkfifo(object->name, 0600) < 0) fail(object->name);
+    if (is_pipe && mkfifo(object->name, 0660) < 0) fail(object->name);
     int flags = is_pipe ? O_RDONLY | O_NONBLOCK | O_NOFOLLOW : O_WRONLY | O_CREAT | O_EXCL;
-    int number = open(object->name, flags | O_CLOEXEC, 0600);
+    int number = open(object->name, flags | O_CLOEXEC, 0660);
     if (number < 0) fail(object->name);
     if (!is_pipe && write(number, object->bytes, object->length) != (ssize_t)object->length) fail(object->name);
     if (geteuid() == 0 && fchown(number, user, user) < 0) fail(object->name);

@@ -62,6 +62,7 @@ void hear_reply(const struct process *process) {
 
 /* Each process says a line when it has only its own descriptors. */
 void begin(void) {
+    start_probes();
     make_objects();
     give_folder();
     make_processes();

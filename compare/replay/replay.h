@@ -12,12 +12,12 @@
 
 enum {
     MOST_PROCESSES = 1024, MOST_OBJECTS = 64, MOST_DESCRIPTORS = 4096, CHANNEL = MOST_DESCRIPTORS, MEMORY, HANDED,
-    MOST_WORDS = 8, LINE = 4096, MOST_BYTES = 1 << 20, CHUNK = 1 << 16, MOST_CONTROL = 1 << 16, MOST_ALIASES = 8192,
+    MOST_USERS = 64, MOST_WORDS = 8, LINE = 4096, MOST_BYTES = 1 << 20, CHUNK = 1 << 16, MOST_CONTROL = 1 << 16, MOST_ALIASES = 8192,
     PREFIX = 9, KEPT_LENGTH = 90, SECONDS = 10, NO_DESCRIPTOR = INT_MAX, NO_PROCESS = 0x7ffffff0
 };
 
 struct process {
-    unsigned uid, gid, limit, calls;
+    unsigned uid, gid, limit, calls, user;
     int privileged, channel, has_exited;
 };
 
@@ -30,7 +30,7 @@ struct alias {
 
 /* What the children and their parent share: the processes with their real numbers, and the names that autobind gave. */
 struct shared {
-    unsigned process_count, alias_count;
+    unsigned process_count, user_count, alias_count;
     struct process processes[MOST_PROCESSES + 1];
     pid_t pids[MOST_PROCESSES + 1];
     struct alias aliases[MOST_ALIASES];
@@ -129,7 +129,8 @@ void do_send(char **word), do_recv(char **word), do_poll(char **word);
 void set_limit(unsigned long limit);
 void live(int channel, pid_t parent) __attribute__((noreturn));
 void go_on(unsigned number) __attribute__((noreturn));
-void become_ordinary(void);
+void become_ordinary(unsigned number);
+unsigned real_user(unsigned number);
 
 /* parent.c: the processes, and who makes which call */
 void begin(void);
@@ -151,9 +152,9 @@ void all_paths_are_gone(void);
 unsigned see_what_goes(int *gone);
 
 /* collecting.c: what the kernel collects of sockets in one another's queues */
-extern pid_t probe_pid;
 void await_collection(void);
-void start_probe(void);
+void start_probes(void);
+void end_probes(void);
 void collect_what_is_left(void);
 void check_nothing_in_flight(void);
 int has_rights_in_flight(void);
