@@ -71,7 +71,7 @@ class Bench:
         """A program's lines, or what it complains of."""
         status, output, errors = self.programs.run(words)
         if status != 0:
-            raise ValueError(f"{Path(words[0]).name}: {errors.strip() or f'ended with {status}'}")
+            raise ValueError(errors.strip() or f"{Path(words[0]).name} ended with {status}")
         return output.splitlines()
 
 
@@ -136,8 +136,10 @@ def compare_script(bench: Bench, path: Path, user: int) -> Outcome:
             shorter = bench.programs.folder / f"{path.stem}.{user}.ux"
             shorter.write_bytes(text.encode("latin-1"))
             row = compare_once(bench, shorter, text, user, outcome)
-    except (ValueError, OSError, KeyError, IndexError) as error:
-        outcome.trouble = str(error) or repr(error)
+    except OSError as error:
+        outcome.trouble = f"the script can't be read: {error.strerror}"
+    except (ValueError, KeyError, IndexError) as error:
+        outcome.trouble = f"the script can't be made: {error}"
     return outcome
 
 

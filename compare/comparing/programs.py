@@ -11,6 +11,7 @@ import tempfile
 import threading
 import time
 from pathlib import Path
+from typing import Callable
 
 COMPARE = Path(__file__).resolve().parent.parent
 TOP = COMPARE.parent
@@ -128,6 +129,18 @@ def catch_signals() -> None:
     """Has the signals that end a program end this one in order."""
     for number in ENDING:
         signal.signal(number, raise_stopped)
+
+
+def run_main(main: Callable[[], int]) -> None:
+    """Runs a program's main function and ends with its status; who reads no more of the output ends it too."""
+    catch_signals()
+    try:
+        status = main()
+        sys.stdout.flush()
+    except BrokenPipeError:
+        os.dup2(os.open(os.devnull, os.O_WRONLY), sys.stdout.fileno())
+        status = 1
+    sys.exit(status)
 
 
 def complain(text: str) -> None:
