@@ -1,7 +1,6 @@
 """Finds uxrun, builds the replay, and runs both so that a signal ends all that was begun."""
 from __future__ import annotations
 
-import atexit
 import os
 import shutil
 import signal
@@ -37,8 +36,18 @@ def find_uxrun() -> Path:
     return path.resolve()
 
 
+class Interrupted(BaseException):
+    """A signal ends the program, with 128 and its number as the status."""
+
+    def __init__(self, number: int):
+        super().__init__()
+        self.status = 128 + number
+
+
 class Programs:
     """The programs that a run of the comparison has begun, in a folder that goes with it."""
+
+    open_ones: list[Programs] = []
 
     def __init__(self) -> None:
         self.running: set[subprocess.Popen] = set()
@@ -46,7 +55,7 @@ class Programs:
         self.is_stopped = False
         signal.pthread_sigmask(signal.SIG_BLOCK, ENDING)
         self.folder = Path(tempfile.mkdtemp(prefix="compare."))
-        atexit.register(self.close)
+        self.open_ones.append(self)
         signal.pthread_sigmask(signal.SIG_UNBLOCK, ENDING)
 
     def run(self, words: list[str], patience: int = PATIENCE) -> tuple[int, str, str]:
@@ -118,21 +127,24 @@ def send_group(program: subprocess.Popen, number: int) -> None:
         return
 
 
-def raise_stopped(number: int, _frame: object) -> None:
-    """What a signal does: the program ends with 128 and its number, once it has tidied up."""
+def raise_interrupted(number: int, _frame: object) -> None:
+    """What a signal does: the program ends once it has tidied up."""
     for caught in ENDING:
         signal.signal(caught, signal.SIG_IGN)
-    raise SystemExit(128 + number)
+    raise Interrupted(number)
 
 
 def catch_signals() -> None:
     """Has the signals that end a program end this one in order."""
     for number in ENDING:
-        signal.signal(number, raise_stopped)
+        signal.signal(number, raise_interrupted)
 
 
 def run_main(main: Callable[[], int]) -> None:
-    """Runs a program's main function and ends with its status; who reads no more of the output ends it too."""
+    """Runs a program's main function and ends with its status; who reads no more of the output ends it too.
+
+    Where it is interrupted, nobody waits for a thread that reckons on.
+    """
     catch_signals()
     try:
         status = main()
@@ -140,6 +152,10 @@ def run_main(main: Callable[[], int]) -> None:
     except BrokenPipeError:
         os.dup2(os.open(os.devnull, os.O_WRONLY), sys.stdout.fileno())
         status = 1
+    except Interrupted as interrupted:
+        for programs in Programs.open_ones:
+            programs.close()
+        os._exit(interrupted.status)
     sys.exit(status)
 
 

@@ -14,7 +14,7 @@ from reference.script import read_script
 
 from . import users
 from .lines import Bench, Outcome, compare_script, rules_needed
-from .programs import Programs, Stopped, Trouble, complain, find_uxrun
+from .programs import Interrupted, Programs, Stopped, Trouble, complain, find_uxrun
 
 JOBS_OF_THE_SUPERUSER = 4
 Made = TypeVar("Made")
@@ -69,11 +69,11 @@ class Session:
         pool = ThreadPoolExecutor(self.jobs)
         try:
             yield from pool.map(make_one, paths)
-        except (Exception, KeyboardInterrupt, SystemExit):
+        except (Exception, Interrupted):
             self.programs.stop()
             raise
         finally:
-            pool.shutdown(cancel_futures=True)
+            pool.shutdown(wait=not self.programs.is_stopped, cancel_futures=True)
 
     def compare(self, paths: Iterable[Path]) -> Iterable[Outcome]:
         """Compares scripts."""
