@@ -162,7 +162,7 @@ static void raise_limits(void) {
     struct rlimit most;
     if (getrlimit(RLIMIT_NOFILE, &most) < 0) fail("linux_replay");
     most.rlim_cur = most.rlim_max;
-    if (most.rlim_max <= HANDED + 2) give_up("too few descriptors are allowed: raise the hard limit, ulimit -Hn, above 4101");
+    if (most.rlim_max <= HANDED + 2) give_up("too few descriptors are allowed: raise the hard limit, ulimit -Hn, above 4100");
     if (setrlimit(RLIMIT_NOFILE, &most) < 0) fail("RLIMIT_NOFILE");
 }
 
