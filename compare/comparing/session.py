@@ -34,7 +34,7 @@ class Session:
             uxrun = find_uxrun()
             replay = self.programs.build_replay()
             self.users = users.choose(self.jobs)
-            users.look_before(self.programs, replay, self.users)
+            self.had_some = users.look_before(self.programs, replay, self.users)
             status, output, errors = self.programs.run([str(replay), "--machine"])
             if status != 0:
                 raise Trouble(f"the machine can't be measured: {errors.strip()}")
@@ -47,7 +47,7 @@ class Session:
     def __exit__(self, kind: object, value: object, trace: object) -> None:
         try:
             if kind is None:
-                self.left += users.look_after(self.programs, self.bench.replay, self.users)
+                self.left += users.look_after(self.programs, self.bench.replay, self.users, self.had_some)
         finally:
             self.left += [f"the folder {name} is left" for name in self.programs.close()]
         for text in self.left:

@@ -65,12 +65,13 @@ def user_words(user: int) -> list[str]:
     return ["--user", str(user)] if user else []
 
 
-def look_before(programs: Programs, replay: Path, users: list[int]) -> None:
-    """Says where a user has rights in flight already, which count against its limit (unix(7), ETOOMANYREFS)."""
-    for user in users:
-        if has_rights_in_flight(programs, replay, user):
-            complain("this user has rights in flight, which count against its limit: limit-of-rights-in-flight may differ; "
-                     "end the programs that pass descriptors, or run this as the superuser")
+def look_before(programs: Programs, replay: Path, users: list[int]) -> set[int]:
+    """Says which users have rights in flight already, which count against their limit (unix(7), ETOOMANYREFS)."""
+    found = {user for user in users if has_rights_in_flight(programs, replay, user)}
+    if found:
+        complain("this user has rights in flight, which count against its limit: limit-of-rights-in-flight may differ; "
+                 "end the programs that pass descriptors, or run this as the superuser")
+    return found
 
 
 def has_rights_in_flight(programs: Programs, replay: Path, user: int) -> bool:
@@ -85,11 +86,11 @@ def has_rights_in_flight(programs: Programs, replay: Path, user: int) -> bool:
     return True
 
 
-def look_after(programs: Programs, replay: Path, users: list[int]) -> list[str]:
-    """What is left of the run: rights in flight, or processes of a user that nobody else has."""
+def look_after(programs: Programs, replay: Path, users: list[int], had_some: set[int]) -> list[str]:
+    """What is left of the run: rights in flight that weren't there before, or processes of a user that nobody else has."""
     left = []
     for user in users:
-        if has_rights_in_flight(programs, replay, user):
+        if user not in had_some and has_rights_in_flight(programs, replay, user):
             left.append(f"rights of the user {user or os.geteuid()}, or of those behind it, are in flight")
     if users != [0]:
         wanted = {user + place for user in users for place in range(USERS_OF_A_RUN)}
