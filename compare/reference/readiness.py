@@ -1,0 +1,139 @@
+"""poll of one descriptor (poll(2); unix_poll and unix_dgram_poll, pipe_poll of Linux)."""
+from __future__ import annotations
+
+from .files import COUNTER_LIMIT, PIPE_LIMIT, PIPE_WHOLE
+from .kernel import Kernel
+from .rules import Rule
+from .sending import RECORD_LIMIT, is_queue_full
+from .state import Description, FileObject, Process, Socket
+
+CONDITIONS = ("IN", "OUT", "RDHUP", "HUP", "ERR", "NVAL")
+
+
+def has_memory(kernel: Kernel, socket: Socket) -> bool:
+    """Whether Linux tells a socket as writable (unix_writable): what it is charged is a quarter at most."""
+    return (socket.charged + 1) * 4 <= kernel.machine.send_buffer
+
+
+def has_room(target: Socket) -> bool:
+    """Whether the layer's queue takes one more message, of a stream one more byte."""
+    if target.kind == "stream":
+        return sum(len(message.data) for message in target.queue) < target.queue_limit
+    return len(target.queue) < RECORD_LIMIT
+
+
+def can_send(kernel: Kernel, socket: Socket) -> bool:
+    """OUT of a connected socket."""
+    if kernel.follows(Rule.ROOM_OF_A_STREAM if socket.kind == "stream" else Rule.MESSAGES_IN_A_QUEUE):
+        return has_memory(kernel, socket)
+    return socket.peer.is_gone or socket.is_shut("w") or has_room(socket.peer)
+
+
+def tied_conditions(kernel: Kernel, socket: Socket) -> set[str]:
+    """Of a stream or seqpacket socket that is connected."""
+    found: set[str] = set()
+    is_lost = socket.peer.is_gone
+    over = socket.is_shut("r") or is_lost
+    if socket.queue or socket.is_reset or over:
+        found.add("IN")
+    if can_send(kernel, socket):
+        found.add("OUT")
+    if over:
+        found.add("RDHUP")
+    if is_lost or {"r", "w"} <= socket.shut:
+        found.add("HUP")
+    elif socket.is_shut("r") and socket.is_shut("w") and kernel.follows(Rule.POLL_OF_TWO_HALF_CLOSES):
+        found.add("HUP")
+    if socket.is_reset:
+        found.add("ERR")
+    return found
+
+
+def untied_conditions(kernel: Kernel, socket: Socket) -> set[str]:
+    """Of a stream or seqpacket socket that isn't connected; only Linux has such ones that are shut down."""
+    found: set[str] = set()
+    if "r" in socket.shut:
+        found |= {"IN", "RDHUP"}
+    if {"r", "w"} <= socket.shut:
+        found.add("HUP")
+    if socket.listens:
+        return found | ({"IN"} if socket.pending else set())
+    if kernel.follows(Rule.POLL_OF_AN_IDLE_SOCKET):
+        found.add("OUT")
+    return found | {"HUP"}
+
+
+def sends_at_once(kernel: Kernel, socket: Socket) -> bool:
+    """OUT of a datagram socket."""
+    target = socket.peer
+    if kernel.follows(Rule.MESSAGES_IN_A_QUEUE):
+        waits = target is not None and not target.is_gone and is_queue_full(kernel, socket, target)
+        return has_memory(kernel, socket) and not waits
+    if target is None or target.is_gone or "w" in socket.shut:
+        return True
+    return target.peer not in (None, socket) or "r" in target.shut or has_room(target)
+
+
+def datagram_conditions(kernel: Kernel, socket: Socket) -> set[str]:
+    """Of a datagram socket."""
+    found: set[str] = set()
+    if socket.queue or "r" in socket.shut:
+        found.add("IN")
+    if sends_at_once(kernel, socket):
+        found.add("OUT")
+    if socket.is_reset:
+        found.add("ERR")
+    if "r" in socket.shut and kernel.follows(Rule.POLL_OF_A_DATAGRAM_SOCKET):
+        found.add("RDHUP")
+        if "w" in socket.shut:
+            found.add("HUP")
+    return found
+
+
+def pipe_conditions(kernel: Kernel, description: Description, target: FileObject) -> set[str]:
+    """Of a pipe: without a writer it hangs up its readers, without a reader it fails its writers."""
+    found: set[str] = set()
+    if "r" in description.mode:
+        if target.data:
+            found.add("IN")
+        not_yet = description.writers_seen == target.writers_ever
+        if not target.writers and not (not_yet and kernel.follows(Rule.PIPE_NOT_YET_WRITTEN)):
+            found.add("HUP")
+    if "w" in description.mode:
+        if kernel.follows(Rule.ROOM_OF_A_PIPE):
+            has_space = len(target.pages) < kernel.machine.pipe_pages
+        else:
+            has_space = len(target.data) + PIPE_WHOLE <= PIPE_LIMIT
+        found |= {"OUT"} if has_space else set()
+        found |= set() if target.readers else {"ERR"}
+    return found
+
+
+def file_conditions(kernel: Kernel, description: Description, target: FileObject) -> set[str]:
+    """Of a file object."""
+    if target.kind == "pipe":
+        return pipe_conditions(kernel, description, target)
+    if target.kind == "mem" and kernel.follows(Rule.POLL_OF_A_FILE):
+        return {"IN", "OUT"}
+    found: set[str] = set()
+    if "r" in description.mode and (target.kind == "mem" or target.value > 0):
+        found.add("IN")
+    if "w" in description.mode and (target.kind == "mem" or target.value < COUNTER_LIMIT):
+        found.add("OUT")
+    return found
+
+
+def call_poll(kernel: Kernel, process: Process, words: list[str]) -> str:
+    """poll(2) of one descriptor, without waiting."""
+    number = int(words[1])
+    if number not in process.table:
+        return "poll NVAL"
+    description = process.table[number].description
+    target = description.target
+    if isinstance(target, FileObject):
+        found = file_conditions(kernel, description, target)
+    elif target.is_datagram:
+        found = datagram_conditions(kernel, target)
+    else:
+        found = tied_conditions(kernel, target) if target.peer is not None else untied_conditions(kernel, target)
+    return "poll " + ("|".join(name for name in CONDITIONS if name in found) or "-")

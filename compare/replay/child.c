@@ -1,0 +1,162 @@
+/* A child: one process of the script, which answers the lines that its parent hands it. */
+#include "replay.h"
+#include <fcntl.h>
+#include <grp.h>
+#include <stdio.h>
+#include <string.h>
+#include <sys/mman.h>
+#include <sys/resource.h>
+#include <sys/stat.h>
+#include <unistd.h>
+
+/* Sets how many descriptors this process may have. */
+void set_limit(unsigned long limit) {
+    struct rlimit both;
+    if (getrlimit(RLIMIT_NOFILE, &both) < 0) _exit(2);
+    both.rlim_cur = limit;
+    if (setrlimit(RLIMIT_NOFILE, &both) < 0) _exit(2);
+}
+
+/* A line from the parent, with the descriptor that came with it, at the lowest free number. It answers 0 at the end. */
+static int hear(char *line) {
+    union {
+        char bytes[CMSG_SPACE(sizeof(int))];
+        struct cmsghdr aligned;
+    } beside;
+    struct iovec bytes = {line, LINE + 64};
+    struct msghdr message = {.msg_iov = &bytes, .msg_iovlen = 1, .msg_control = &beside};
+    message.msg_controllen = sizeof beside;
+    ssize_t count = recvmsg(CHANNEL, &message, 0);
+    if (count <= 0) return 0;
+    line[count] = 0;
+    passed = -1;
+    struct cmsghdr *item = CMSG_FIRSTHDR(&message);
+    if (item) memcpy(&passed, CMSG_DATA(item), sizeof passed);
+    return 1;
+}
+
+static void say_to_parent(void) {
+    for (size_t from = 0; from < reply_length; from += CHUNK) {
+        size_t rest = reply_length - from;
+        if (send(CHANNEL, reply + from, rest < CHUNK ? rest : CHUNK, MSG_NOSIGNAL) < 0) _exit(2);
+    }
+}
+
+/* The child is one of this process's parent, which so hears of its end, and answers by the channel that comes now, under
+ * a higher limit, so that a full table takes it too. */
+static void do_fork(char **word) {
+    static char line[LINE + 128];
+    unsigned number = shared->process_count + 1;
+    (void)word;
+    set_limit(HANDED + 1);
+    reply_length = 0;
+    say("ready\n");
+    say_to_parent();
+    reply_length = 0;
+    if (!hear(line) || passed < 0) _exit(2);
+    pid_t child = fork_beside();
+    if (child == 0) {
+        me = number;
+        if (dup2(passed, CHANNEL) < 0 || end_with_parent(0) < 0) _exit(2);
+        reply_length = 0;
+    } else if (child > 0) {
+        shared->pids[number] = child;
+        say("child %u", number);
+    } else {
+        say_error();
+    }
+    close(passed);
+    set_limit(shared->processes[me].limit);
+}
+
+/* This program once more, which finds in the memory who it is. It needs descriptors of its own to begin. */
+static void do_exec(char **word) {
+    char number[16];
+    (void)word;
+    snprintf(number, sizeof number, "%u", me);
+    set_limit(HANDED + 1);
+    execute_again(GO_ON, number);
+    perror("linux_replay: this program can't be executed again");
+    _exit(2);
+}
+
+static void do_exit(char **word) {
+    (void)word;
+    _exit(0);
+}
+
+static const struct {
+    const char *word;
+    void (*make)(char **);
+} calls[] = {
+    {"open", do_open}, {"counter", do_counter}, {"read", do_read}, {"write", do_write}, {"lseek", do_lseek},
+    {"dup", do_dup}, {"dup2", do_dup2}, {"flags", do_flags}, {"close", do_close}, {"unlink", do_unlink},
+    {"socket", do_socket}, {"pair", do_pair}, {"bind", do_bind}, {"listen", do_listen}, {"connect", do_connect},
+    {"accept", do_accept}, {"shut", do_shut}, {"getopt", do_getopt}, {"setopt", do_setopt}, {"sockname", do_name},
+    {"peername", do_name}, {"send", do_send}, {"recv", do_recv}, {"poll", do_poll}, {"fork", do_fork},
+    {"exec", do_exec}, {"exit", do_exit},
+};
+
+static void answer(char *line) {
+    char *words[MOST_WORDS];
+    size_t count = words_in(line, words);
+    reply_length = 0;
+    for (size_t i = 0; i < sizeof calls / sizeof *calls; i++) {
+        if (count >= 2 && strcmp(calls[i].word, words[1]) == 0) calls[i].make(words);
+    }
+    say("\n");
+}
+
+/* The machine's user with this number from 0: of the superuser one in a row, else who runs this. */
+unsigned real_user(unsigned number) { return user ? user + number : getuid(); }
+
+/* A process of the superuser acts as one of the users that were given, so that no privilege of its own changes an answer.
+ * They have one group, whose the folder and its files are. */
+void become_ordinary(unsigned number) {
+    unsigned own = user + number;
+    umask(S_IRWXO);
+    if (geteuid() != 0) return;
+    if (setgroups(0, NULL) < 0 || setresgid(user, user, user) < 0 || setresuid(own, own, own) < 0) {
+        perror("linux_replay: the user that was given can't be had");
+        _exit(2);
+    }
+}
+
+static void __attribute__((noreturn)) answer_all(void) {
+    static char line[LINE + 128];
+    while (hear(line)) {
+        answer(line);
+        say_to_parent();
+    }
+    _exit(0);
+}
+
+/* A process behind its exec: its limit is its own again. */
+void go_on(unsigned number) {
+    shared = mmap(NULL, sizeof *shared, PROT_READ | PROT_WRITE, MAP_SHARED, MEMORY, 0);
+    if (shared == MAP_FAILED) _exit(2);
+    me = number;
+    end_child_mode();
+    set_prefix();
+    set_limit(shared->processes[me].limit);
+    reply_length = 0;
+    say("ok\n");
+    say_to_parent();
+    answer_all();
+}
+
+void live(int channel, pid_t parent) {
+    struct rlimit longest = {MOST_BYTES, MOST_BYTES};
+    become_ordinary(shared->processes[me].user);
+    if (end_with_parent(parent) < 0) _exit(2);
+    if (dup2(channel, CHANNEL) < 0 || dup2(memory, MEMORY) < 0) _exit(2);
+    if (close_from_to(0, CHANNEL - 1) < 0 || close_from_to(MEMORY + 1, ~0u) < 0) _exit(2);
+    signal(SIGPIPE, SIG_IGN);
+    signal(SIGXFSZ, SIG_IGN);
+    if (setrlimit(RLIMIT_FSIZE, &longest) < 0) _exit(2);
+    set_limit(shared->processes[me].limit);
+    reply_length = 0;
+    say("\n");
+    say_to_parent();
+    answer_all();
+}

@@ -1,0 +1,88 @@
+/* Calls on files and descriptors, each by its words: the process, the call and what it is given. */
+#include "replay.h"
+#include <errno.h>
+#include <fcntl.h>
+#include <poll.h>
+#include <stdlib.h>
+#include <string.h>
+#include <unistd.h>
+
+unsigned char data[MOST_BYTES + CHUNK];
+int passed = -1;
+
+/* An open never waits, also not one of a pipe. */
+void do_open(char **word) {
+    char file[LINE + 1];
+    if (!file_in(word[2], file)) return;
+    int flags = mode_in(word[3]) | open_flags_in(word[4]), number = open(file, flags | O_NONBLOCK);
+    if (number >= 0 && !(flags & O_NONBLOCK) && fcntl(number, F_SETFL, flags & O_APPEND) < 0) _exit(2);
+    say_count("fd", number);
+}
+
+/* An open of a counter: its descriptor came with the line, as many opens of one eventfd are one description. */
+void do_counter(char **word) {
+    if (mode_in(word[3]) != O_RDWR) {
+        if (passed >= 0) close(passed);
+        not_tried("a counter of one direction");
+        return;
+    }
+    if (passed >= 0 && fcntl(passed, F_SETFD, strchr(word[4], 'x') ? FD_CLOEXEC : 0) < 0) _exit(2);
+    errno = EMFILE;
+    say_count("fd", passed);
+}
+
+void do_read(char **word) {
+    size_t wanted = number_in(word[3]);
+    ssize_t count = read(descriptor_in(word[2]), data, wanted < MOST_BYTES ? wanted : MOST_BYTES);
+    if (count < 0) {
+        say_error();
+        return;
+    }
+    say("bytes ");
+    say_bytes(data, (size_t)count);
+}
+
+void do_write(char **word) {
+    say_count("n", write(descriptor_in(word[2]), data, bytes_in(word[3], data)));
+    learn_name(descriptor_in(word[2]));
+}
+
+void do_lseek(char **word) {
+    int from = word[4][0] == 's' ? SEEK_SET : word[4][0] == 'c' ? SEEK_CUR : SEEK_END;
+    say_count("at", lseek(descriptor_in(word[2]), strtoll(word[3], NULL, 10), from));
+}
+
+void do_dup(char **word) { say_count("fd", dup(descriptor_in(word[2]))); }
+
+void do_dup2(char **word) { say_count("fd", dup2(descriptor_in(word[2]), descriptor_in(word[3]))); }
+
+void do_flags(char **word) {
+    int number = descriptor_in(word[2]);
+    int answer = fcntl(number, F_SETFL, open_flags_in(word[3]) & ~O_CLOEXEC);
+    say_done(answer < 0 ? answer : fcntl(number, F_SETFD, strchr(word[3], 'x') ? FD_CLOEXEC : 0));
+}
+
+void do_close(char **word) { say_done(close(descriptor_in(word[2]))); }
+
+void do_unlink(char **word) {
+    char file[LINE + 1];
+    if (file_in(word[2], file)) say_done(unlink(file));
+}
+
+void do_poll(char **word) {
+    static const struct { int flag; const char *name; } conditions[] = {
+        {POLLIN, "IN"}, {POLLOUT, "OUT"}, {POLLRDHUP, "RDHUP"}, {POLLHUP, "HUP"}, {POLLERR, "ERR"}, {POLLNVAL, "NVAL"},
+    };
+    struct pollfd asked = {.fd = descriptor_in(word[2]), .events = POLLIN | POLLOUT | POLLRDHUP};
+    const char *joint = "poll ";
+    if (poll(&asked, 1, 0) < 0) {
+        say_error();
+        return;
+    }
+    if (asked.revents == 0) say("poll -");
+    for (size_t i = 0; i < sizeof conditions / sizeof *conditions; i++) {
+        if (!(asked.revents & conditions[i].flag)) continue;
+        say("%s%s", joint, conditions[i].name);
+        joint = "|";
+    }
+}

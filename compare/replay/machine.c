@@ -1,0 +1,94 @@
+/* What answers of this machine depend on, measured: its limits, and the memory that a message costs its sender. */
+#include "replay.h"
+#include <errno.h>
+#include <fcntl.h>
+#include <stdio.h>
+#include <stdlib.h>
+#include <string.h>
+#include <unistd.h>
+
+enum { LONGEST = LINE / 2 };
+
+/* The memory that a sender is charged for a message of so many bytes. */
+static int cost_of(size_t length) {
+    int pair[2];
+    if (socketpair(AF_UNIX, SOCK_DGRAM | SOCK_CLOEXEC, 0, pair) < 0) fail("socketpair");
+    if (send(pair[0], data, length, MSG_DONTWAIT) < 0) fail("send");
+    int cost = charged_to(pair[0]);
+    if (cost < 0) fail("what a message costs");
+    close(pair[0]);
+    close(pair[1]);
+    return cost;
+}
+
+static void tell_costs(void) {
+    int last = -1;
+    for (size_t length = 0; length <= LONGEST; length++) {
+        int cost = cost_of(length);
+        if (cost != last) printf("cost %zu %d\n", length, cost);
+        last = cost;
+    }
+}
+
+/* How many datagrams a socket takes of others. */
+static long datagrams(void) {
+    struct sockaddr_un address = {.sun_family = AF_UNIX};
+    socklen_t length = sizeof address;
+    int target = socket(AF_UNIX, SOCK_DGRAM | SOCK_CLOEXEC, 0), from = socket(AF_UNIX, SOCK_DGRAM | SOCK_CLOEXEC, 0);
+    long count = 0;
+    if (target < 0 || from < 0 || bind(target, (struct sockaddr *)&address, sizeof address.sun_family) < 0) fail("bind");
+    if (getsockname(target, (struct sockaddr *)&address, &length) < 0) fail("getsockname");
+    while (sendto(from, "", 0, MSG_DONTWAIT, (struct sockaddr *)&address, length) == 0) count++;
+    close(target);
+    close(from);
+    return count - 1;
+}
+
+static int send_buffer(void) {
+    int number = socket(AF_UNIX, SOCK_STREAM | SOCK_CLOEXEC, 0), value = 0;
+    socklen_t length = sizeof value;
+    if (number < 0 || getsockopt(number, SOL_SOCKET, SO_SNDBUF, &value, &length) < 0) fail("SO_SNDBUF");
+    close(number);
+    return value;
+}
+
+/* Whether a datagram without an address finds no peer before it finds that the socket is shut for writing. */
+static int looks_for_peer_first(void) {
+    int number = socket(AF_UNIX, SOCK_DGRAM | SOCK_CLOEXEC, 0);
+    if (number < 0 || shutdown(number, SHUT_WR) < 0) fail("shutdown");
+    int is_first = send(number, "", 0, MSG_NOSIGNAL | MSG_DONTWAIT) < 0 && errno == ENOTCONN;
+    close(number);
+    return is_first;
+}
+
+/* The greatest offset that a file of the run's folder may have, by halves. */
+static long long greatest_offset(void) {
+    long long taken = 0, refused = LLONG_MAX;
+    int number = open("offset", O_RDWR | O_CREAT | O_EXCL | O_CLOEXEC, 0600);
+    if (number < 0) fail("offset");
+    if (lseek(number, refused, SEEK_SET) == refused) taken = refused;
+    while (taken < refused - 1) {
+        long long middle = taken + (refused - taken) / 2;
+        if (lseek(number, middle, SEEK_SET) == middle) taken = middle;
+        else refused = middle;
+    }
+    close(number);
+    unlink("offset");
+    return taken;
+}
+
+/* Prints the figures, each by its name. */
+void tell_machine(void) {
+    int ends[2];
+    long page = sysconf(_SC_PAGESIZE);
+    if (pipe2(ends, O_CLOEXEC) < 0) fail("pipe");
+    printf("send_buffer %d\n", send_buffer());
+    printf("datagrams %ld\n", datagrams());
+    printf("backlog %ld\n", most_backlog());
+    printf("greatest_offset %lld\n", greatest_offset());
+    printf("page %ld\n", page);
+    printf("pipe_pages %ld\n", bytes_of_pipe(ends[0]) / page);
+    printf("peer_first %d\n", looks_for_peer_first());
+    printf("users_apart %d\n", geteuid() == 0);
+    tell_costs();
+}

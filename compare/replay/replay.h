@@ -1,0 +1,182 @@
+/* What the files of the replay share. A child is one process of the script, its parent hands it the script's lines. */
+#ifndef REPLAY_H
+#define REPLAY_H
+#define _GNU_SOURCE
+#include <limits.h>
+#include <signal.h>
+#include <stddef.h>
+#include <stdint.h>
+#include <sys/socket.h>
+#include <sys/types.h>
+#include <sys/un.h>
+
+enum {
+    MOST_PROCESSES = 1024, MOST_OBJECTS = 64, MOST_DESCRIPTORS = 4096, CHANNEL = MOST_DESCRIPTORS, MEMORY, HANDED,
+    MOST_USERS = 64, MOST_WORDS = 8, LINE = 4096, MOST_BYTES = 1 << 20, CHUNK = 1 << 16, MOST_CONTROL = 1 << 16, MOST_ALIASES = 8192,
+    PREFIX = 9, KEPT_LENGTH = 90, SECONDS = 10, NO_DESCRIPTOR = INT_MAX, NO_PROCESS = 0x7ffffff0
+};
+
+struct process {
+    unsigned uid, gid, limit, calls, user;
+    int privileged, channel, has_exited;
+};
+
+/* A name that the kernel gave by autobind, and the number by which the script knows it. */
+struct alias {
+    char real[6];
+    unsigned number;
+    int is_used;
+};
+
+/* What the children and their parent share: the processes with their real numbers, and the names that autobind gave. */
+struct shared {
+    unsigned process_count, user_count, alias_count;
+    struct process processes[MOST_PROCESSES + 1];
+    pid_t pids[MOST_PROCESSES + 1];
+    struct alias aliases[MOST_ALIASES];
+    int has_bound_digits, has_passed_socket, waits;
+    unsigned char key[16];
+};
+
+struct object {
+    char name[LINE + 1];
+    char kind;
+    unsigned char *bytes;
+    size_t length;
+    int counter, watch, is_held, has_path, is_gone;
+};
+
+struct address {
+    union {
+        struct sockaddr head;
+        struct sockaddr_un un;
+        char bytes[2 * LINE];
+    };
+    socklen_t length;
+};
+
+extern struct object objects[MOST_OBJECTS];
+extern unsigned object_count, me, user;
+extern struct shared *shared;
+extern int memory, passed;
+extern char prefix[PREFIX + 1];
+extern const char GO_ON[];
+extern unsigned char data[MOST_BYTES + CHUNK];
+
+/* ends.c: how a run begins and ends */
+void fail(const char *what);
+void give_up(const char *what) __attribute__((noreturn));
+void make_shared(void);
+void set_prefix(void);
+void enter_folder(void);
+void give_folder(void);
+void empty_folder(void);
+void catch_signals(void);
+void clean_up(void);
+void end_child_mode(void);
+struct pollfd;
+int wait_on(int number, short events, long milliseconds);
+int wait_on_any(struct pollfd *asked, unsigned count, long milliseconds);
+
+/* reply.c: the reply, as it is written */
+extern char reply[3 * MOST_BYTES];
+extern size_t reply_length;
+void say(const char *format, ...) __attribute__((format(printf, 1, 2)));
+void say_bytes(const unsigned char *bytes, size_t length);
+void say_error(void);
+void say_done(int answer);
+void say_count(const char *word, long answer);
+int not_tried(const char *why);
+
+/* words.c: the words of a script */
+unsigned number_in(const char *word);
+int descriptor_in(const char *word);
+size_t bytes_in(const char *hex, unsigned char *bytes);
+size_t name_in(const char *word, char *name);
+int open_flags_in(const char *word);
+int socket_flags_in(const char *word);
+int message_flags_in(const char *word);
+int mode_in(const char *word);
+int type_in(const char *word);
+size_t words_in(char *line, char **words);
+int is_number(const char *word);
+int is_hex(const char *word);
+
+/* names.c: names and addresses */
+int file_in(const char *word, char *file);
+int address_in(const char *word, struct address *address);
+void say_address(const struct address *address);
+void learn_name(int number);
+int has_named_itself(int number, unsigned known, long answer);
+void note_bound_name(const char *word);
+void forget_names(void);
+void check_no_name_is_left(void);
+
+/* control.c: control buffers */
+unsigned char *control_bytes(void);
+int control_in(char *word, size_t *length);
+void say_credentials(const struct ucred *real);
+void say_items(struct msghdr *message);
+
+/* file_calls.c, socket_calls.c, message_calls.c: the calls, each by its words */
+void do_open(char **word), do_counter(char **word), do_read(char **word), do_write(char **word), do_lseek(char **word);
+void do_dup(char **word), do_dup2(char **word), do_flags(char **word), do_close(char **word), do_unlink(char **word);
+void do_socket(char **word), do_pair(char **word), do_bind(char **word), do_listen(char **word), do_connect(char **word);
+void do_accept(char **word), do_shut(char **word), do_getopt(char **word), do_setopt(char **word), do_name(char **word);
+void do_send(char **word), do_recv(char **word), do_poll(char **word);
+
+/* child.c: one process of the script */
+void set_limit(unsigned long limit);
+void live(int channel, pid_t parent) __attribute__((noreturn));
+void go_on(unsigned number) __attribute__((noreturn));
+void become_ordinary(unsigned number);
+unsigned real_user(unsigned number);
+
+/* parent.c: the processes, and who makes which call */
+void begin(void);
+void check_call(char **word, size_t count);
+void make_call(struct process *process, const char *line);
+void begin_line(const struct process *process, const char *line);
+void hear_reply(const struct process *process);
+
+/* threads.c: a run in which calls wait */
+void keep_line(const char *text, unsigned row);
+void run_threads(void);
+
+/* objects.c: file objects, and which are gone */
+void add_object(char **word, size_t count);
+void make_objects(void);
+struct object *object_at(const char *file);
+void path_is_gone(const char *file);
+void all_paths_are_gone(void);
+unsigned see_what_goes(int *gone);
+
+/* collecting.c: what the kernel collects of sockets in one another's queues */
+void await_collection(void);
+void start_probes(void);
+void end_probes(void);
+void collect_what_is_left(void);
+void check_nothing_in_flight(void);
+int has_rights_in_flight(void);
+
+/* linux.c: what is Linux's own */
+int make_memory(size_t size);
+int fill_at_random(void *bytes, size_t size);
+pid_t fork_beside(void);
+int end_with_parent(pid_t parent);
+void execute_again(const char *option, const char *word);
+int close_from_to(unsigned first, unsigned last);
+const char *name_of_error(int error);
+int start_watching(void);
+int watch_file(const char *name);
+void see_watched_go(void (*see)(int watch, int *gone), int *gone);
+int make_counter(void);
+int is_counter_held(int number);
+int is_name_bound(const char *beginning);
+int charged_to(int number);
+long bytes_of_pipe(int number);
+long most_backlog(void);
+
+/* machine.c: what answers depend on */
+void tell_machine(void);
+#endif

@@ -1,0 +1,108 @@
+/* Calls on sockets but for messages, each by its words. */
+#include "replay.h"
+#include <errno.h>
+#include <fcntl.h>
+#include <stdlib.h>
+#include <string.h>
+
+enum { LAYERS_ECONNRESET = 20 };
+
+void do_socket(char **word) { say_count("fd", socket(AF_UNIX, type_in(word[2]) | socket_flags_in(word[3]), 0)); }
+
+void do_pair(char **word) {
+    int pair[2];
+    if (socketpair(AF_UNIX, type_in(word[2]) | socket_flags_in(word[3]), 0, pair) < 0) say_error();
+    else say("fds %d %d", pair[0], pair[1]);
+}
+
+void do_bind(char **word) {
+    struct address address;
+    int number = descriptor_in(word[2]);
+    if (!address_in(word[3], &address)) return;
+    note_bound_name(word[3]);
+    say_done(bind(number, &address.head, address.length));
+    learn_name(number);
+}
+
+void do_listen(char **word) { say_done(listen(descriptor_in(word[2]), (int)strtol(word[3], NULL, 10))); }
+
+static int type_of(int number) {
+    int type = 0;
+    socklen_t length = sizeof type;
+    return getsockopt(number, SOL_SOCKET, SO_TYPE, &type, &length) == 0 ? type : 0;
+}
+
+/* The unnamed address is AF_UNSPEC to a datagram socket, whose association it ends. */
+void do_connect(char **word) {
+    struct address address;
+    int number = descriptor_in(word[2]);
+    unsigned known = shared->alias_count;
+    if (!address_in(word[3], &address)) return;
+    if (word[3][0] == 'u' && type_of(number) == SOCK_DGRAM) address.un.sun_family = AF_UNSPEC;
+    int answer = connect(number, &address.head, address.length);
+    if (has_named_itself(number, known, answer) && address_in(word[3], &address)) {
+        answer = connect(number, &address.head, address.length);
+    }
+    say_done(answer);
+}
+
+void do_accept(char **word) {
+    struct address address = {.length = sizeof address.bytes};
+    int made = accept4(descriptor_in(word[2]), &address.head, &address.length, socket_flags_in(word[3]));
+    say_count("accepted", made);
+    if (made < 0) return;
+    say(" ");
+    say_address(&address);
+}
+
+void do_shut(char **word) {
+    int mode = mode_in(word[3]);
+    say_done(shutdown(descriptor_in(word[2]), mode == O_RDWR ? SHUT_RDWR : mode == O_RDONLY ? SHUT_RD : SHUT_WR));
+}
+
+static int option_in(const char *word) {
+    switch (word[0]) {
+    case 't': return SO_TYPE;
+    case 'e': return SO_ERROR;
+    case 'a': return SO_ACCEPTCONN;
+    case 'q': return -1;
+    default: return word[1] == 'a' ? SO_PASSCRED : SO_PEERCRED;
+    }
+}
+
+static void say_peer(const struct ucred *credentials) {
+    say("cred ");
+    size_t start = reply_length;
+    say_credentials(credentials);
+    for (size_t i = start; i < reply_length; i++) reply[i] = reply[i] == ',' ? ' ' : reply[i];
+}
+
+void do_getopt(char **word) {
+    struct ucred credentials;
+    int option = option_in(word[3]), number = descriptor_in(word[2]), value = 0;
+    void *place = option == SO_PEERCRED ? (void *)&credentials : &value;
+    socklen_t length = option == SO_PEERCRED ? sizeof credentials : sizeof value;
+    if (option < 0) not_tried("qlimit");
+    else if (getsockopt(number, SOL_SOCKET, option, place, &length) < 0) say_error();
+    else if (option == SO_PEERCRED) say_peer(&credentials);
+    else say("opt %d", option == SO_ERROR && value == ECONNRESET ? LAYERS_ECONNRESET : value);
+}
+
+void do_setopt(char **word) {
+    int option = option_in(word[3]), value = (int)number_in(word[4]);
+    if (option < 0) not_tried("qlimit");
+    else say_done(setsockopt(descriptor_in(word[2]), SOL_SOCKET, option, &value, sizeof value));
+}
+
+void do_name(char **word) {
+    struct address address = {.length = sizeof address.bytes};
+    int number = descriptor_in(word[2]);
+    int answer = word[1][0] == 's' ? getsockname(number, &address.head, &address.length)
+                                   : getpeername(number, &address.head, &address.length);
+    if (answer < 0) {
+        say_error();
+        return;
+    }
+    say("addr ");
+    say_address(&address);
+}
