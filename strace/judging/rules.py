@@ -1,9 +1,9 @@
-"""Reads compare/differences.txt, the rules of where this layer answers otherwise than Linux. Nothing else here knows its form."""
+"""Reads strace/rules.txt: how a log shows where this layer answers otherwise than Linux. Nothing else here knows its form."""
 import re
 from dataclasses import dataclass, field
 from pathlib import Path
 
-RULES = Path(__file__).resolve().parents[2] / "compare/differences.txt"
+RULES = Path(__file__).resolve().parents[1] / "rules.txt"
 PATTERNS = ("on", "call", "after", "ours", "linux")
 
 

@@ -53,6 +53,11 @@ class Rules(unittest.TestCase):
         blocks = sum(line.startswith("rule: ") for line in RULES.read_text("utf-8").splitlines())
         self.assertEqual(len(read_rules()), blocks)
 
+    def test_rules_have_their_texts_where_all_rules_have_them(self):
+        lines = (TOP.parent / "compare/differences.txt").read_text("utf-8").splitlines()
+        there = {line.removeprefix("rule: ") for line in lines if line.startswith("rule: ")}
+        self.assertEqual({rule.name for rule in read_rules()} - there, {"autobind-number"})
+
     def test_answers_that_differ_in_one_word_alone(self):
         self.assertEqual(rule_for("stream/tied", "recv 1 9 0 -", "got 1 61 - - -", "got 1 61 - - a:x"), "words")
         self.assertIsNone(rule_for("stream/tied", "recv 1 9 0 -", "got 1 61 - - -", "got 1 62 - - a:x"))
