@@ -30,14 +30,14 @@ class Strings(unittest.TestCase):
 
 class Descriptors(unittest.TestCase):
     def test_notes(self):
-        for note in ("/etc/passwd", "UNIX-STREAM:[1->2,\"/run/a>b\"]", "pipe:[7]", "/tmp/a->"):
+        for note in ("/etc/passwd", "UNIX-STREAM:[1->2,\"/run/a>b\"]", "pipe:[7]", "/srv/a->"):
             self.assertEqual(values(f"3<{note}>, 1)"), [Descriptor(3, note), 1])
 
     def test_a_device_is_its_path(self):
         self.assertEqual(values("3</dev/pts/0<char 136:0>>, 1)"), [Descriptor(3, "/dev/pts/0"), 1])
 
     def test_a_deleted_file(self):
-        self.assertEqual(values("3</tmp/x>(deleted), 1)"), [Descriptor(3, "/tmp/x (deleted)"), 1])
+        self.assertEqual(values("3</srv/x>(deleted), 1)"), [Descriptor(3, "/srv/x (deleted)"), 1])
 
     def test_the_current_folder(self):
         self.assertEqual(values("AT_FDCWD</home>, 1)"), [Descriptor(-100, "/home"), 1])
