@@ -9,8 +9,8 @@ use std::sync::Wait;
 use std::thread;
 use std::thread::Threads;
 use std::time::{Duration, Instant};
-use ux_history::{BookName, CallBook, Trailing};
-use ux_layer::{RunningSeat, Seat};
+use ux_book::{BookName, Keeper, Nothing};
+use ux_layer::Seat;
 use ux_objects::Plain;
 
 /// One byte over a pair at the numbers 0 and 1.
@@ -51,10 +51,10 @@ pub(crate) fn time_apart<W: BookName + Send + Sync, R: Threads + Wait + Clock + 
 }
 
 /// As `time_apart`, over a book that keeps no entry.
-pub(crate) fn time_running<W: Trailing + Send + Sync, R: Threads + Wait + Clock + Sync>(
+pub(crate) fn time_running<W: BookName + Send + Sync, R: Threads + Wait + Clock + Sync>(
     rt: &R,
     alloc: Global,
-    seats: Vec<RunningSeat<W, Plain>>,
+    seats: Vec<Seat<W, Plain, Nothing>>,
 ) -> Result<Duration> {
     let start = Instant::now(rt)?;
     let all = thread::map_vec(rt, seats, &|seat| exchange(rt, alloc, seat))?;
@@ -71,12 +71,12 @@ fn time_since<R: Clock>(rt: &R, start: Instant, all: Vec<Result<()>>) -> Result<
 }
 
 /// Makes the calls of one process.
-fn exchange<W: BookName, B: CallBook<W, Plain>, R: Wait>(
+fn exchange<W: BookName, K: Keeper, R: Wait>(
     rt: &R,
     alloc: Global,
-    seat: Seat<W, Plain, B>,
+    seat: Seat<W, Plain, K>,
 ) -> Result<()> {
-    let mut worker = Worker::new(alloc, seat, Way::Call);
+    let mut worker = Worker::new(seat, Way::Call);
     worker.call_rows(rt, alloc, PAIR)?;
     let calls = Requests::of(alloc, EXCHANGE)?;
     worker.repeat(rt, &calls)

@@ -5,8 +5,7 @@ ghost use Rattle.ux_model.specs.Boot.{IsBootState};
 use crate::rows::{FILE, Giving, PAIR_AND_CLOSES, PIPE, Requests, Row};
 use anyhow::{Result, anyhow};
 use std::alloc::Global;
-use std::sync::ledger::Blank;
-use ux_history::{Book, BookName, Share, has_own_call};
+use ux_book::{Book, BookName, Share, Trail, has_own_call};
 use ux_kernel::Kernel;
 use ux_object::ObjKind;
 use ux_objects::Plain;
@@ -120,16 +119,15 @@ impl<W: BookName> Recorded<W> {
     pub(crate) fn new(
         alloc: Global,
         giving: Giving,
-        blank: Blank,
+        trail: Trail,
         kernel: Kernel<Plain>,
     ) -> Result<Recorded<W>>
-        requires name { blank.name ≡ W.name }
-        requires parts { (blank.parts ≡ W.parts) × (blank.parts ≡ 1024) }
+        requires trail { trail ≡ record { id = W.trail; entries = []; given = 0 } }
         requires boots { IsBootState kernel }
         requires named { kernel ≡ W.boot }
     {
         let released = ReleasedObjects::new(alloc)?;
-        match Book::new(alloc, blank, kernel) {
+        match Book::new(alloc, trail, kernel) {
             Ok((book, shares)) => Ok(Recorded {
                 alloc,
                 giving,
@@ -154,16 +152,16 @@ pub(crate) fn is_granted(reply: &Reply) -> bool {
 fn is_recorded<W: BookName>(
     book: &mut Book<W, Plain>,
     share: &mut Share<W>,
-    request: Request,
+    request: &Request,
     released: &mut ReleasedObjects<Plain>,
 ) -> bool
     requires { released.old ≡ [] }
 {
-    if has_own_call(&request) {
+    if has_own_call(request) {
         return false;
     }
-    match book.record_given(share, request, released) {
-        Ok(receipt) => is_granted(receipt.reply()),
+    match book.record(share, request, released) {
+        Ok((reply, _receipt)) => is_granted(&reply),
         Err(_) => false,
     }
 }
@@ -194,7 +192,7 @@ impl<W: BookName> Layer for Recorded<W> {
         };
         self.released.clear();
         match self.giving.give(self.alloc, request) {
-            Ok(request) => is_recorded(&mut self.book, share, request, &mut self.released),
+            Ok(request) => is_recorded(&mut self.book, share, &request, &mut self.released),
             Err(_) => false,
         }
     }

@@ -25,12 +25,11 @@ use std::alloc::Global;
 use std::marker::Brand;
 use std::rt::Clock;
 use std::sync::Wait;
-use std::sync::ledger::Blank;
 use std::thread::Threads;
 use std::time::Duration;
-use ux_history::{BookName, PARTS, Trail, Trailing};
+use ux_book::{BookName, Trail};
 use ux_kernel::Kernel;
-use ux_layer::{start, start_running};
+use ux_layer::{start, start_counting};
 use ux_objects::Plain;
 
 /// What is measured on a layer that isn't shared.
@@ -98,7 +97,7 @@ fn by_record<R: Clock + Eprint>(
     measured: Measured,
 ) -> Result<()> {
     let kernel = boot(alloc, PROCESSES)?;
-    record_named::<Brand, R>(rt, alloc, giving, Blank::new(PARTS), kernel, measured)
+    record_named::<Brand, R>(rt, alloc, giving, Trail::new(alloc)?, kernel, measured)
 }
 
 /// So, under a name that lives in here.
@@ -106,16 +105,15 @@ fn record_named<W: BookName, R: Clock + Eprint>(
     rt: &R,
     alloc: Global,
     giving: Giving,
-    blank: Blank,
+    trail: Trail,
     kernel: Kernel<Plain>,
     measured: Measured,
 ) -> Result<()>
-    requires name { blank.name ≡ W.name }
-    requires parts { (blank.parts ≡ W.parts) × (blank.parts ≡ 1024) }
+    requires trail { trail ≡ record { id = W.trail; entries = []; given = 0 } }
     requires boots { IsBootState kernel }
     requires named { kernel ≡ W.boot }
 {
-    let mut layer = Recorded::<W>::new(alloc, giving, blank, kernel)?;
+    let mut layer = Recorded::<W>::new(alloc, giving, trail, kernel)?;
     measure_on(rt, alloc, giving.title(), &mut layer, measured)
 }
 
@@ -135,22 +133,21 @@ fn by_seats<R: Threads + Wait + Clock + AllocGlobal + Sync>(
     work: Work,
 ) -> Result<Duration> {
     let kernel = boot(rt.alloc(), threads)?;
-    seats_named::<Brand, R>(rt, Blank::new(PARTS), kernel, work)
+    seats_named::<Brand, R>(rt, Trail::new(rt.alloc())?, kernel, work)
 }
 
 /// So, under a name that lives in here.
 fn seats_named<W: BookName + Send + Sync, R: Threads + Wait + Clock + AllocGlobal + Sync>(
     rt: &R,
-    blank: Blank,
+    trail: Trail,
     kernel: Kernel<Plain>,
     work: Work,
 ) -> Result<Duration>
-    requires name { blank.name ≡ W.name }
-    requires parts { (blank.parts ≡ W.parts) × (blank.parts ≡ 1024) }
+    requires trail { trail ≡ record { id = W.trail; entries = []; given = 0 } }
     requires boots { IsBootState kernel }
     requires named { kernel ≡ W.boot }
 {
-    let Ok((layer, seats)) = start::<W, Plain, R>(rt, rt.alloc(), blank, kernel) else {
+    let Ok((layer, seats)) = start::<W, Plain, R>(rt, rt.alloc(), trail, kernel) else {
         return Err(anyhow!("out of memory"));
     };
     let time = match work {
@@ -168,24 +165,21 @@ fn by_running<R: Threads + Wait + Clock + AllocGlobal + Sync>(
 ) -> Result<Duration> {
     let kernel = boot(rt.alloc(), threads)?;
     let trail = Trail::new(rt.alloc())?;
-    running_named::<Brand, R>(rt, Blank::new(PARTS), trail, kernel)
+    running_named::<Brand, R>(rt, trail, kernel)
 }
 
 /// So, under a name that lives in here.
-fn running_named<W: Trailing + Send + Sync, R: Threads + Wait + Clock + AllocGlobal + Sync>(
+fn running_named<W: BookName + Send + Sync, R: Threads + Wait + Clock + AllocGlobal + Sync>(
     rt: &R,
-    blank: Blank,
     trail: Trail,
     kernel: Kernel<Plain>,
 ) -> Result<Duration>
-    requires name { blank.name ≡ W.name }
-    requires parts { (blank.parts ≡ W.parts) × (blank.parts ≡ 1024) }
-    requires trail { trail ≡ record { id = W.trail; calls = [] } }
+    requires trail { trail ≡ record { id = W.trail; entries = []; given = 0 } }
     requires boots { IsBootState kernel }
     requires named { kernel ≡ W.boot }
 {
     let alloc = rt.alloc();
-    let Ok((layer, seats)) = start_running::<W, Plain, R>(rt, alloc, blank, trail, kernel) else {
+    let Ok((layer, seats)) = start_counting::<W, Plain, R>(rt, alloc, trail, kernel) else {
         return Err(anyhow!("out of memory"));
     };
     let time = time_running(rt, alloc, seats);

@@ -1,11 +1,11 @@
 //! Calls by seats, each of which must be granted.
 use crate::layers::is_granted;
-use crate::rows::{Giving, Requests, Row};
+use crate::rows::{Requests, Row};
 use anyhow::{Result, anyhow};
 use std::alloc::Global;
 use std::sync::Wait;
 use std::time::Duration;
-use ux_history::{Book, BookName, CallBook, Keeps, has_own_call};
+use ux_book::{BookName, Entries, Keeper, has_own_call};
 use ux_layer::Seat;
 use ux_objects::Plain;
 use ux_types::Request;
@@ -23,45 +23,40 @@ pub(crate) enum Way {
 }
 
 /// A seat, and how it makes calls.
-pub(crate) struct Worker<W: BookName, B: CallBook<W, Plain> = Book<W, Plain>> {
-    alloc: Global,
-    seat: Seat<W, Plain, B>,
+pub(crate) struct Worker<W: BookName, K: Keeper = Entries> {
+    seat: Seat<W, Plain, K>,
     way: Way,
 }
 
 /// As of a layer that isn't shared.
-impl<W: BookName, B: CallBook<W, Plain>> Drop for Worker<W, B> {
+impl<W: BookName, K: Keeper> Drop for Worker<W, K> {
     fn drop(self) {
-        let Worker {
-            alloc: _,
-            seat,
-            way: _,
-        } = self;
+        let Worker { seat, way: _ } = self;
         drop(seat);
     }
 }
 
-impl<W: BookName, B: CallBook<W, Plain>> Worker<W, B> {
-    pub(crate) fn new(alloc: Global, seat: Seat<W, Plain, B>, way: Way) -> Worker<W, B> {
-        Worker { alloc, seat, way }
+impl<W: BookName, K: Keeper> Worker<W, K> {
+    pub(crate) fn new(seat: Seat<W, Plain, K>, way: Way) -> Worker<W, K> {
+        Worker { seat, way }
     }
 
     /// Makes a call, and answers whether it was granted.
     fn call<R: Wait>(&mut self, rt: &R, request: &Request) -> Result<bool> {
         match self.way {
-            Way::Call => self.call_at_once(rt, Giving::Again.give(self.alloc, request)?),
+            Way::Call => self.call_at_once(rt, request),
             Way::Blocking => self.call_when_done(rt, request),
         }
     }
 
-    /// Makes a call that is given, and answers whether it was granted.
-    fn call_at_once<R: Wait>(&mut self, rt: &R, request: Request) -> Result<bool> {
-        if has_own_call(&request) {
+    /// Makes a call, and answers whether it was granted.
+    fn call_at_once<R: Wait>(&mut self, rt: &R, request: &Request) -> Result<bool> {
+        if has_own_call(request) {
             return Err(anyhow!("a fork or an exit isn't measured by a seat's call"));
         }
-        match self.seat.call_given(rt, request) {
-            Ok(kept) => Ok(is_granted(kept.reply())),
-            Err((fault, _request)) => Err(anyhow!("{fault}")),
+        match self.seat.call(rt, request) {
+            Ok((reply, _receipt)) => Ok(is_granted(&reply)),
+            Err(fault) => Err(anyhow!("{fault}")),
         }
     }
 

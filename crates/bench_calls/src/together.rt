@@ -8,7 +8,7 @@ use std::sync::Wait;
 use std::thread;
 use std::thread::Threads;
 use std::time::{Duration, Instant};
-use ux_history::BookName;
+use ux_book::BookName;
 use ux_layer::{Layer, Seat};
 use ux_objects::Plain;
 use ux_types::{Pid, SockType};
@@ -48,7 +48,7 @@ pub(crate) fn time_in_turns<W: BookName + Send + Sync, R: Threads + Wait + Clock
 
 /// Listens for the other, and answers each byte by one.
 fn serve<W: BookName, R: Wait>(rt: &R, alloc: Global, seat: Seat<W, Plain>) -> Result<()> {
-    let mut worker = Worker::new(alloc, seat, Way::Blocking);
+    let mut worker = Worker::new(seat, Way::Blocking);
     worker.call_rows(rt, alloc, ACCEPTED)?;
     let calls = Requests::of(alloc, &[Row::Receive(1, 1), Row::Send(1, 1)])?;
     worker.repeat(rt, &calls)
@@ -61,7 +61,7 @@ fn ask<W: BookName, R: Wait + Clock>(
     layer: &Layer<W, Plain>,
     seat: Seat<W, Plain>,
 ) -> Result<Duration> {
-    let mut worker = Worker::new(alloc, seat, Way::Blocking);
+    let mut worker = Worker::new(seat, Way::Blocking);
     // The other listens.
     layer.wait_for(rt, SERVER, 3);
     worker.call_rows(rt, alloc, CONNECTED)?;

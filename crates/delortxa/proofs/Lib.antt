@@ -1,3 +1,4 @@
+pub mod Calling
 pub mod Layers
 pub mod Seatings
 pub mod Sittings

@@ -1,9 +1,7 @@
--- What a call of a session did, and what is reported of it.
-use Rattle.std.specs.Prelude.{◌≡◌, ℕ, Bool, true, false, List, ⊤}
-use Rattle.ux_model.specs.Types.{Pid, Request, Reply}
-use Rattle.ux_model.specs.State.{is_live}
-use Rattle.ux_history.specs.declared.fault.CallFault.{CallFault}
-use Rattle.ux_history.specs.Books.{KeptHistory, state_of, entry_of, Adds, Appends}
+-- What is reported of a call.
+use Rattle.std.specs.Prelude.{◌≡◌, ◌⊎◌, Bool, true, false}
+use Rattle.ux_model.specs.Types.{Request, Reply}
+use Rattle.ux_book.specs.declared.fault.CallFault.{CallFault}
 use Rattle.delortxa.specs.declared.fault.CallError.{CallError}
 
 -- ---- kinds of replies
@@ -75,41 +73,22 @@ IsOther wanted reply (CallError.Refused errno) = reply ≡ Reply.Err errno
 IsOther wanted reply (CallError.Fault fault) = ⊥
 IsOther wanted reply CallError.Unlike = (wanted reply ≡ false) × (is_refusal reply ≡ false)
 
--- ---- calls of a session
+-- ---- calls
 
--- the process made this call and got this reply, which is one more entry
-pub record Answers (old new : KeptHistory) (pid : Pid) (request : Request) (reply : Reply) : Type 0 where
-  pub k : ℕ
-  pub released : List ℕ
-  pub adds : Adds old new (entry_of (state_of old) pid k request reply released)
-
--- no call was made: there is no live process with this number, or no memory
-abbrev pub IsFault : KeptHistory → Pid → CallFault → Type 0
-IsFault old pid CallFault.Stranger = is_live (state_of old) pid.0 ≡ false
-IsFault old pid CallFault.NoMemory = ⊤
-IsFault old pid CallFault.Full = ⊥
-IsFault old pid CallFault.Deadlock = ⊥
-
--- a reply of another kind than was wanted
-pub record AnswersOther (wanted : Reply → Bool) (old new : KeptHistory) (pid : Pid) (request : Request) : Type 0 where
+-- the call was made, with a reply of another kind than was wanted
+pub record IsUnlike (wanted : Reply → Bool) (did : Reply → Type 0) : Type 0 where
   pub reply : Reply
   pub other : wanted reply ≡ false
   pub done : is_refusal reply ≡ false
-  pub made : Answers old new pid request reply
+  pub made : did reply
 
--- what an error says of the call: it was made and refused, or it wasn't made and nothing changed, or its reply is another
-abbrev pub Fails : (Reply → Bool) → KeptHistory → KeptHistory → Pid → Request → CallError → Type 0
-Fails wanted old new pid request (CallError.Refused errno) = Answers old new pid request (Reply.Err errno)
-Fails wanted old new pid request (CallError.Fault fault) = (new ≡ old) × IsFault old pid fault
-Fails wanted old new pid request CallError.Unlike = AnswersOther wanted old new pid request
+-- What an error says of a call: it was made and refused, or it wasn't made and nothing has changed, or its reply is of another kind.
+abbrev pub Tells : {S : Type 0} → (Reply → Bool) → (Reply → Type 0) → (CallFault → Type 0) → S → S → CallError → Type 0
+Tells wanted did unmade old new (CallError.Refused errno) = did (Reply.Err errno)
+Tells wanted did unmade old new (CallError.Fault fault) = (new ≡ old) × unmade fault
+Tells wanted did unmade old new CallError.Unlike = IsUnlike wanted did
 
--- the process exits, which is one more entry
-pub record Exits (old new : KeptHistory) (pid : Pid) : Type 0 where
-  pub k : ℕ
-  pub released : List ℕ
-  pub appends : Appends old new pid k Request.Exit released
-
--- the layer ends, which is one more entry, of no process
-pub record Ends (old new : KeptHistory) : Type 0 where
-  pub released : List ℕ
-  pub appends : Appends old new (record { 0 = 0 }) 0 Request.Off released
+-- So of a call by its name: where it wasn't made there is no memory for its request, or it can't be made.
+abbrev pub Fails : {C S : Type 0} → (C → S → S → Request → Reply → Type 0) → (C → S → Request → CallFault → Type 0) → (Reply → Bool) → C → S → S → Request → CallError → Type 0
+Fails did unmade wanted who old new request error =
+    Tells wanted (did who old new request) (λ (fault : CallFault). (fault ≡ CallFault.NoMemory) ⊎ unmade who old request fault) old new error

@@ -1,5 +1,5 @@
 pub mod AnyObjects
 pub mod Answering
 pub mod Boots
-pub mod Callers
 pub mod Happening
+pub mod Promising

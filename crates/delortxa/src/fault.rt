@@ -1,7 +1,7 @@
 //! Why a call gave no value.
 use std::alloc::AllocError;
 use thiserror::Error;
-use ux_history::CallFault;
+use ux_book::CallFault;
 use ux_types::Errno;
 
 /// Why a call gave no value.
@@ -31,7 +31,7 @@ impl From<CallFault> for CallError {
 
 impl From<AllocError> for CallError {
     ghost use Rattle.std.specs.Prelude.{◌≡◌};
-    ghost use Rattle.ux_history.specs.declared.fault.CallFault.{CallFault};
+    ghost use Rattle.ux_book.specs.declared.fault.CallFault.{CallFault};
     ghost use Rattle.delortxa.specs.declared.fault.CallError.{CallError};
 
     ghost from_gives = { λ _ error. error ≡ CallError.Fault CallFault.NoMemory };

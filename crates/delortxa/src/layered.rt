@@ -1,16 +1,19 @@
 //! A program that is run over a layer, with threads as its processes.
-ghost use Rattle.std.specs.Prelude.{◌≡◌, ⊤, length, IfOk, All};
+ghost use Rattle.std.specs.Prelude.{◌≡◌, [], ⊤, length, IfOk};
 ghost use Rattle.ux_model.specs.Boot.{IsBootState};
+ghost use Rattle.ux_model.specs.State.{State};
+ghost use Rattle.ux_model.specs.Types.{Pid};
+ghost use Rattle.ux_book.specs.Pasts.{fresh};
+ghost use Rattle.delortxa.specs.Promising.{EachPromises};
 
 use crate::objects::AnyObject;
 use crate::seat::{Layer, Seat};
 use std::alloc::{AllocError, Global};
 use std::marker::Brand;
 use std::sync::Wait;
-use std::sync::ledger::Blank;
 use std::thread;
 use std::thread::Threads;
-use ux_history::{BookName, NoMemory, PARTS};
+use ux_book::{BookName, NoMemory, Trail};
 use ux_kernel::Kernel;
 use ux_layer::start;
 
@@ -20,17 +23,20 @@ pub trait LayerProgram<R>: Drop + Sync {
     /// What a process gives.
     type Output: Drop + Send;
 
-    /// What is known of it: nothing, unless the program says more.
-    ghost promise: { Self → Self.Output → Type 0 } = { λ _ _. ⊤ };
+    /// What is known of what this process gives, over the kernel that the layer is started with: nothing, unless the
+    /// program says more.
+    ghost promise: { State → Pid → Self → Self.Output → Type 0 } = { λ _ _ _ _. ⊤ };
 
-    /// Makes the calls of one process.
-    fn run<W: BookName>(&self, rt: &R, layer: &Layer<W>, seat: Seat<W>) -> Self::Output
-        ensures { promise self.now result };
+    /// Makes the calls of one process, which has made none before. It exits when this returns.
+    fn run<W: BookName>(&self, rt: &R, layer: &Layer<W>, seat: &mut Seat<W>) -> Self::Output
+        requires { seat.old.past ≡ [] }
+        ensures { promise W.boot seat.old.pid self.now result };
 }
 
 /// Runs the program for each process of a layer at the start of this kernel, at the same time: what each gives, by their
-/// numbers. Where a thread can't be made, its process runs after another on that one's thread, and a process that waits
-/// for one that hasn't begun waits for good.
+/// numbers. Each process exits once its run is over, also where that ends early by `?`, so that no other waits for it.
+/// Where a thread can't be made, its process runs after another on that one's thread, and a process that waits for one
+/// that hasn't begun waits for good.
 ///
 /// # Errors
 ///
@@ -42,49 +48,68 @@ pub fn with_layer<R: Threads + Wait + AllocGlobal + Sync, P: LayerProgram<R>>(
 ) -> Result<Vec<P::Output>, NoMemory>
     requires { IsBootState kernel }
     ensures all { IfOk result (λ outputs. length outputs.items ≡ length kernel.processes) }
-    ensures promised { IfOk result (λ outputs. All (P.promise program) outputs.items) }
+    ensures promised { IfOk result (λ outputs. EachPromises (P.promise kernel) program outputs.items) }
 {
-    keep_layer::<Brand, R, P>(rt, Blank::new(PARTS), kernel, &program)
+    keep_layer::<Brand, R, P>(rt, Trail::new(rt.alloc())?, kernel, &program)
 }
 
 /// Runs the program over a layer at this kernel, under a name that lives in here.
-#[tactic(auto, using(crate::proofs::Layers::all_fresh))]
+#[tactic(auto, using(crate::proofs::Layers::all_fresh, crate::proofs::Layers::are_fresh, crate::proofs::Sittings::promised_at))]
 fn keep_layer<
     W: BookName + Send + Sync,
     R: Threads + Wait + AllocGlobal + Sync,
     P: LayerProgram<R>,
->(rt: &R, blank: Blank, kernel: Kernel<AnyObject>, program: &P) -> Result<Vec<P::Output>, NoMemory>
-    requires name { blank.name ≡ W.name }
-    requires parts { (blank.parts ≡ W.parts) × (blank.parts ≡ 1024) }
+>(rt: &R, trail: Trail, kernel: Kernel<AnyObject>, program: &P) -> Result<Vec<P::Output>, NoMemory>
+    requires trail { trail ≡ record { id = W.trail; entries = []; given = 0 } }
     requires boots { IsBootState kernel }
     requires named { kernel ≡ W.boot }
     ensures all { IfOk result (λ outputs. length outputs.items ≡ length kernel.processes) }
-    ensures promised { IfOk result (λ outputs. All (P.promise program.now) outputs.items) }
+    ensures promised { IfOk result (λ outputs. EachPromises (P.promise kernel) program.now outputs.items) }
 {
     let alloc = rt.alloc();
-    let Ok((layer, places)) = start::<W, AnyObject, R>(rt, alloc, blank, kernel) else {
+    let Ok((layer, places)) = start::<W, AnyObject, R>(rt, alloc, trail, kernel) else {
         return Err(NoMemory);
     };
-    let Ok(seats) = seats_at(alloc, places) else {
-        return Err(NoMemory);
-    };
-    let Ok(outputs) = run_all(rt, &layer, program, seats) else {
-        return Err(NoMemory);
-    };
+    let seats = seats_at(alloc, places)?;
+    let outputs = run_all(rt, &layer, program, seats)?;
     Ok(outputs)
 }
 
 /// Runs the program by each seat, in a thread of its own.
-fn run_all<W: BookName + Send + Sync, R: Threads + Sync, P: LayerProgram<R>>(
+fn run_all<W: BookName + Send + Sync, R: Threads + Wait + Sync, P: LayerProgram<R>>(
     rt: &R,
     layer: &Layer<W>,
     program: &P,
     seats: Vec<Seat<W>>,
 ) -> Result<Vec<P::Output>, AllocError>
+    requires fresh { seats.items ≡ fresh (length seats.items) }
     ensures all { IfOk result (λ outputs. length outputs.items ≡ length seats.items) }
-    ensures promised { IfOk result (λ outputs. All (P.promise program.now) outputs.items) }
+    ensures promised { IfOk result (λ outputs. EachPromises (P.promise W.boot) program.now outputs.items) }
 {
-    thread::map_vec(rt, seats, &|seat| program.run(rt, layer, seat))
+    thread::map_vec(
+        rt,
+        seats,
+        &|seat: Seat<W>|
+            requires { seat.past ≡ [] }
+            ensures { P.promise W.boot seat.pid program.entry.now result }
+        { run_one(rt, layer, program, seat) },
+    )
+}
+
+/// Runs the program by this seat, and has its process exit.
+fn run_one<W: BookName, R: Wait, P: LayerProgram<R>>(
+    rt: &R,
+    layer: &Layer<W>,
+    program: &P,
+    seat: Seat<W>,
+) -> P::Output
+    requires { seat.past ≡ [] }
+    ensures { P.promise W.boot seat.pid program.now result }
+{
+    let mut seat = seat;
+    let output = program.run(rt, layer, &mut seat);
+    drop(seat.exit(rt));
+    output
 }
 
 /// A seat at each of these places.

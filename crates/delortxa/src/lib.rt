@@ -4,6 +4,7 @@
 
 mod answers;
 mod boot;
+mod calls;
 mod fault;
 mod layered;
 mod objects;
@@ -14,6 +15,7 @@ mod text;
 
 pub use answers::{Message, ReplyExt};
 pub use boot::Boot;
+pub use calls::Calls;
 pub use fault::CallError;
 pub use layered::{LayerProgram, with_layer};
 pub use objects::AnyObject;
@@ -22,9 +24,9 @@ pub use seat::{Layer, Seat};
 pub use session::Session;
 pub use text::trace_text;
 pub use ux_audit::holdings;
+pub use ux_book::{BookName, CallFault, NoMemory, OffFault, Receipt, Spent};
 pub use ux_calls::call;
 pub use ux_cmsg::{Control, ControlError};
-pub use ux_history::{BookName, CallFault, NoMemory, OffFault, Receipt, Spent};
 pub use ux_kernel::{BootFault, Kernel};
 pub use ux_object::{FileObject, ObjError, ObjKind};
 pub use ux_objects::{FailAt, Plain};

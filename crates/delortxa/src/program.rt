@@ -1,30 +1,33 @@
 //! A program that is run over a book of its own.
 ghost use Rattle.std.specs.Prelude.{◌≡◌, [], ⊤, IfOk};
 ghost use Rattle.ux_model.specs.Boot.{IsBootState};
+ghost use Rattle.ux_model.specs.History.{IsLegal};
+ghost use Rattle.ux_model.specs.State.{State};
 
 use crate::objects::AnyObject;
 use crate::session::Session;
 use std::alloc::Global;
 use std::marker::Brand;
-use std::sync::ledger::Blank;
-use ux_history::{BookName, NoMemory, PARTS};
+use ux_book::{BookName, NoMemory, Trail};
 use ux_kernel::Kernel;
+use ux_types::Entry;
 
 /// What is done with a session. `W` names its book: values that speak of it don't leave.
 pub trait BookProgram: Drop {
     /// What the program gives.
     type Output: Drop;
 
-    /// What is known of it: nothing, unless the program says more.
-    ghost promise: { Self → Self.Output → Type 0 } = { λ _ _. ⊤ };
+    /// What is known of it, over the kernel that it is started with: nothing, unless the program says more.
+    ghost promise: { State → Self → Self.Output → Type 0 } = { λ _ _ _. ⊤ };
 
     /// Makes the program's calls. Nothing was called before.
     fn run<W: BookName>(self, session: &mut Session<W>) -> Self::Output
         requires { session.old ≡ record { boot = W.boot; entries = [] } }
-        ensures { promise self result };
+        ensures { promise W.boot self result };
 }
 
-/// Runs the program over a book that begins with this kernel.
+/// Runs the program over a book that begins with this kernel: what it gives, and the history of its calls, which is
+/// legal.
 ///
 /// # Errors
 ///
@@ -33,28 +36,29 @@ pub fn with_book<P: BookProgram>(
     alloc: Global,
     kernel: Kernel<AnyObject>,
     program: P,
-) -> Result<P::Output, NoMemory>
+) -> Result<(P::Output, Vec<Entry>), NoMemory>
     requires { IsBootState kernel }
-    ensures { IfOk result (P.promise program) }
+    ensures promised { IfOk result (λ r. P.promise kernel program r.0) }
+    ensures legal { IfOk result (λ r. IsLegal kernel r.1.items) }
 {
-    keep_book::<Brand, P>(alloc, Blank::new(PARTS), kernel, program)
+    keep_book::<Brand, P>(alloc, Trail::new(alloc)?, kernel, program)
 }
 
 /// Runs the program over a book at this kernel, under a name that lives in here.
+#[tactic(auto, using(crate::proofs::Sittings::legal_at, crate::proofs::Sittings::promised_at))]
 fn keep_book<W: BookName, P: BookProgram>(
     alloc: Global,
-    blank: Blank,
+    trail: Trail,
     kernel: Kernel<AnyObject>,
     program: P,
-) -> Result<P::Output, NoMemory>
-    requires name { blank.name ≡ W.name }
-    requires parts { (blank.parts ≡ W.parts) × (blank.parts ≡ 1024) }
+) -> Result<(P::Output, Vec<Entry>), NoMemory>
+    requires trail { trail ≡ record { id = W.trail; entries = []; given = 0 } }
     requires boots { IsBootState kernel }
     requires named { kernel ≡ W.boot }
-    ensures { IfOk result (P.promise program) }
+    ensures promised { IfOk result (λ r. P.promise kernel program r.0) }
+    ensures legal { IfOk result (λ r. IsLegal kernel r.1.items) }
 {
-    match Session::<W>::new(alloc, blank, kernel) {
-        Ok(mut session) => Ok(program.run(&mut session)),
-        Err(error) => Err(error),
-    }
+    let mut session = Session::<W>::new(alloc, trail, kernel)?;
+    let output = program.run(&mut session);
+    Ok((output, session.into_entries()))
 }

@@ -8,14 +8,13 @@ ghost use Rattle.ux_model.specs.Boot.{IsBootState, new_process};
 mod seats;
 
 use anyhow::{Result, anyhow};
-use seats::{goes_by_running_seats, goes_by_seats};
+use seats::{goes_by_counting_seats, goes_by_seats};
 use std::alloc::Global;
 use std::fs;
 use std::marker::Brand;
 use std::rt::Files;
 use std::sync::Wait;
-use std::sync::ledger::Blank;
-use ux_history::{PARTS, Trail};
+use ux_book::Trail;
 use ux_kernel::Kernel;
 use ux_object::FileObject;
 use ux_objects::{FailAt, Plain};
@@ -199,8 +198,8 @@ fn seat<O: FileObject, R: Wait + AllocGlobal>(
     objects: Vec<(Name, O)>,
 ) -> Result<()> {
     let kernel = kernel_of(rt.alloc(), script, objects)?;
-    let blank = Blank::new(PARTS);
-    if goes_by_seats::<Brand, O, R>(rt, blank, kernel, script, history, wanted)? {
+    let trail = Trail::new(rt.alloc())?;
+    if goes_by_seats::<Brand, O, R>(rt, trail, kernel, script, history, wanted)? {
         return Ok(());
     }
     Err(anyhow!("another trace by seats"))
@@ -215,8 +214,7 @@ fn seat_running<O: FileObject, R: Wait + AllocGlobal>(
 ) -> Result<()> {
     let kernel = kernel_of(rt.alloc(), script, objects)?;
     let trail = Trail::new(rt.alloc())?;
-    let blank = Blank::new(PARTS);
-    if goes_by_running_seats::<Brand, O, R>(rt, blank, trail, kernel, script, history)? {
+    if goes_by_counting_seats::<Brand, O, R>(rt, trail, kernel, script, history)? {
         return Ok(());
     }
     Err(anyhow!("other accounts by running seats"))

@@ -6,21 +6,18 @@ ghost use Rattle.ux_model.specs.Boot.{IsBootState};
 use anyhow::{Result, anyhow};
 use std::alloc::Global;
 use std::sync::Wait;
-use std::sync::ledger::Blank;
-use ux_history::{
-    Book, BookName, CallBook, CallFault, Receipt, Spent, Trail, Trailing, has_own_call,
-};
+use ux_book::{BookName, CallFault, Keeper, Receipt, Spent, Trail, has_own_call};
 use ux_kernel::Kernel;
-use ux_layer::{Layer, Seat, start, start_running};
+use ux_layer::{Layer, Seat, start, start_counting};
 use ux_object::FileObject;
 use ux_script::write_trace;
 use ux_syntax::{Act, Script};
 use ux_types::{Entry, Pid, Reply, Request};
 
 /// The seats of the processes 1, 2 and so on, as long as they haven't exited, and what their calls left.
-struct Hall<W: BookName, O: FileObject, B: CallBook<W, O>> {
-    seats: Vec<Option<Seat<W, O, B>>>,
-    slips: Vec<B::Slip>,
+struct Hall<W: BookName, O: FileObject, K: Keeper> {
+    seats: Vec<Option<Seat<W, O, K>>>,
+    receipts: Vec<Receipt<W>>,
     spents: Vec<Spent<W>>,
     /// How many calls and exits were made.
     made: usize,
@@ -29,23 +26,23 @@ struct Hall<W: BookName, O: FileObject, B: CallBook<W, O>> {
 }
 
 /// Written out, a drop is a call, and not each of its parts in the proof of each function that drops one.
-impl<W: BookName, O: FileObject, B: CallBook<W, O>> Drop for Hall<W, O, B> {
+impl<W: BookName, O: FileObject, K: Keeper> Drop for Hall<W, O, K> {
     fn drop(self) {
         let Hall {
             seats,
-            slips,
+            receipts,
             spents,
             made: _,
             is_alike: _,
         } = self;
         drop(seats);
-        drop(slips);
+        drop(receipts);
         drop(spents);
     }
 }
 
-impl<W: BookName, O: FileObject, B: CallBook<W, O>> Hall<W, O, B> {
-    fn new(alloc: Global, seats: Vec<Seat<W, O, B>>) -> Result<Hall<W, O, B>> {
+impl<W: BookName, O: FileObject, K: Keeper> Hall<W, O, K> {
+    fn new(alloc: Global, seats: Vec<Seat<W, O, K>>) -> Result<Hall<W, O, K>> {
         let mut places = Vec::new(alloc);
         for seat in seats {
             if places.push(Some(seat)).is_err() {
@@ -54,7 +51,7 @@ impl<W: BookName, O: FileObject, B: CallBook<W, O>> Hall<W, O, B> {
         }
         Ok(Hall {
             seats: places,
-            slips: Vec::new(alloc),
+            receipts: Vec::new(alloc),
             spents: Vec::new(alloc),
             made: 0,
             is_alike: true,
@@ -62,20 +59,20 @@ impl<W: BookName, O: FileObject, B: CallBook<W, O>> Hall<W, O, B> {
     }
 
     /// What its calls left.
-    fn into_parts(self) -> (Vec<B::Slip>, Vec<Spent<W>>) {
+    fn into_parts(self) -> (Vec<Receipt<W>>, Vec<Spent<W>>) {
         let Hall {
             seats,
-            slips,
+            receipts,
             spents,
             made: _,
             is_alike: _,
         } = self;
         drop(seats);
-        (slips, spents)
+        (receipts, spents)
     }
 
     /// The place of a process's seat.
-    fn place(&mut self, pid: Pid) -> Result<&mut Option<Seat<W, O, B>>> {
+    fn place(&mut self, pid: Pid) -> Result<&mut Option<Seat<W, O, K>>> {
         match self.seats.get_mut((pid.0 as usize).wrapping_sub(1)) {
             Some(place) => Ok(place),
             None => Err(anyhow!("no such process")),
@@ -95,10 +92,10 @@ impl<W: BookName, O: FileObject, B: CallBook<W, O>> Hall<W, O, B> {
             return Err(anyhow!("a call after the exit"));
         };
         match ask(rt, seat, request) {
-            Ok((reply, slip, child)) => {
+            Ok((reply, receipt, child)) => {
                 self.is_alike = self.is_alike && is_answer_of(history.get(self.made), reply);
                 self.made = self.made.wrapping_add(1);
-                self.slips.push(slip)?;
+                self.receipts.push(receipt)?;
                 self.keep(child)
             }
             Err(fault) => Err(anyhow!("{fault}")),
@@ -106,7 +103,7 @@ impl<W: BookName, O: FileObject, B: CallBook<W, O>> Hall<W, O, B> {
     }
 
     /// Puts the seat of a process that was made behind all others, whose place is that of its number.
-    fn keep(&mut self, child: Option<Seat<W, O, B>>) -> Result<()> {
+    fn keep(&mut self, child: Option<Seat<W, O, K>>) -> Result<()> {
         let Some(seat) = child else {
             return Ok(());
         };
@@ -124,14 +121,9 @@ impl<W: BookName, O: FileObject, B: CallBook<W, O>> Hall<W, O, B> {
         let Some(seat) = self.place(pid)?.take() else {
             return Ok(());
         };
-        match seat.exit(rt) {
-            Ok(spent) => {
-                self.made = self.made.wrapping_add(1);
-                self.spents.push(spent)?;
-                Ok(())
-            }
-            Err((fault, _seat)) => Err(anyhow!("{fault}")),
-        }
+        self.made = self.made.wrapping_add(1);
+        self.spents.push(seat.exit(rt))?;
+        Ok(())
     }
 
     /// Makes the calls of the script's lines. A wait is over at its turn, as the calls go in the lines' order.
@@ -158,16 +150,16 @@ impl<W: BookName, O: FileObject, B: CallBook<W, O>> Hall<W, O, B> {
 }
 
 /// Makes a call that is no exit. A fork gives the seat of the process that it makes.
-fn ask<W: BookName, O: FileObject, B: CallBook<W, O>, R: Wait>(
+fn ask<W: BookName, O: FileObject, K: Keeper, R: Wait>(
     rt: &R,
-    seat: &mut Seat<W, O, B>,
+    seat: &mut Seat<W, O, K>,
     request: &Request,
-) -> Result<(Reply, B::Slip, Option<Seat<W, O, B>>), CallFault> {
+) -> Result<(Reply, Receipt<W>, Option<Seat<W, O, K>>), CallFault> {
     if has_own_call(request) {
         return seat.fork(rt);
     }
     match seat.call(rt, request) {
-        Ok((reply, slip)) => Ok((reply, slip, None)),
+        Ok((reply, receipt)) => Ok((reply, receipt, None)),
         Err(fault) => Err(fault),
     }
 }
@@ -182,13 +174,13 @@ fn is_answer_of(entry: Option<&Entry>, reply: Reply) -> bool {
 
 /// Makes the script's calls by these seats, and ends the layer where the script says so. Gives what the calls left,
 /// where each was answered as in this history.
-fn make_all<W: BookName, O: FileObject, B: CallBook<W, O>, R: Wait + AllocGlobal>(
+fn make_all<W: BookName, O: FileObject, K: Keeper, R: Wait + AllocGlobal>(
     rt: &R,
-    layer: &Layer<W, O, B>,
-    seats: Vec<Seat<W, O, B>>,
+    layer: &Layer<W, O, K>,
+    seats: Vec<Seat<W, O, K>>,
     script: &Script,
     history: &[Entry],
-) -> Result<(Vec<B::Slip>, Vec<Spent<W>>)> {
+) -> Result<(Vec<Receipt<W>>, Vec<Spent<W>>)> {
     let mut hall = Hall::new(rt.alloc(), seats)?;
     hall.make_calls(rt, script, history)?;
     hall.make_exits(rt)?;
@@ -205,14 +197,11 @@ fn make_all<W: BookName, O: FileObject, B: CallBook<W, O>, R: Wait + AllocGlobal
 fn is_right<W: BookName, O: FileObject, R: Wait + AllocGlobal>(
     rt: &R,
     layer: &Layer<W, O>,
-    receipts: &[Receipt<W>],
-    spents: Vec<Spent<W>>,
+    receipts: &mut [Receipt<W>],
+    spents: &mut [Spent<W>],
     wanted: &[u8],
 ) -> Result<bool> {
-    let account = match layer.settle_with_receipts(rt, spents, receipts) {
-        Ok(account) => account,
-        Err((fault, _spents)) => return Err(anyhow!("{fault}")),
-    };
+    let account = layer.settle_with(rt, spents, receipts)?;
     let guard = layer.book(rt);
     let entries = guard.book().entries();
     let mut trace: Vec<u8> = Vec::new(rt.alloc());
@@ -224,46 +213,40 @@ fn is_right<W: BookName, O: FileObject, R: Wait + AllocGlobal>(
 /// then.
 pub fn goes_by_seats<W: BookName, O: FileObject, R: Wait + AllocGlobal>(
     rt: &R,
-    blank: Blank,
+    trail: Trail,
     kernel: Kernel<O>,
     script: &Script,
     history: &[Entry],
     wanted: &[u8],
 ) -> Result<bool>
-    requires name { blank.name ≡ W.name }
-    requires parts { (blank.parts ≡ W.parts) × (blank.parts ≡ 1024) }
+    requires trail { trail ≡ record { id = W.trail; entries = []; given = 0 } }
     requires boots { IsBootState kernel }
     requires named { kernel ≡ W.boot }
 {
-    let Ok((layer, seats)) = start::<W, O, R>(rt, rt.alloc(), blank, kernel) else {
+    let Ok((layer, seats)) = start::<W, O, R>(rt, rt.alloc(), trail, kernel) else {
         return Err(anyhow!("out of memory"));
     };
-    let (receipts, spents) = make_all::<W, O, Book<W, O>, R>(rt, &layer, seats, script, history)?;
-    is_right(rt, &layer, &receipts, spents, wanted)
+    let (mut receipts, mut spents) = make_all(rt, &layer, seats, script, history)?;
+    is_right(rt, &layer, &mut receipts, &mut spents, wanted)
 }
 
 /// Whether the script is answered as in this history when its calls are made by seats over a book that keeps none
 /// of them, and settles then with as many entries.
-pub fn goes_by_running_seats<W: Trailing, O: FileObject, R: Wait + AllocGlobal>(
+pub fn goes_by_counting_seats<W: BookName, O: FileObject, R: Wait + AllocGlobal>(
     rt: &R,
-    blank: Blank,
     trail: Trail,
     kernel: Kernel<O>,
     script: &Script,
     history: &[Entry],
 ) -> Result<bool>
-    requires name { blank.name ≡ W.name }
-    requires parts { (blank.parts ≡ W.parts) × (blank.parts ≡ 1024) }
-    requires trail { trail ≡ record { id = W.trail; calls = [] } }
+    requires trail { trail ≡ record { id = W.trail; entries = []; given = 0 } }
     requires boots { IsBootState kernel }
     requires named { kernel ≡ W.boot }
 {
-    let Ok((layer, seats)) = start_running::<W, O, R>(rt, rt.alloc(), blank, trail, kernel) else {
+    let Ok((layer, seats)) = start_counting::<W, O, R>(rt, rt.alloc(), trail, kernel) else {
         return Err(anyhow!("out of memory"));
     };
-    let (mut witnesses, spents) = make_all(rt, &layer, seats, script, history)?;
-    match layer.settle_with_witnesses(rt, spents, witnesses.as_mut_slice()) {
-        Ok(account) => Ok(account.entries == history.len()),
-        Err((fault, _spents)) => Err(anyhow!("{fault}")),
-    }
+    let (mut receipts, mut spents) = make_all(rt, &layer, seats, script, history)?;
+    let account = layer.settle_with(rt, &mut spents, &mut receipts)?;
+    Ok(account.entries == history.len())
 }

@@ -1,27 +1,23 @@
 -- A close in some history.
-use Rattle.std.proofs.Common.{◌≡◌, true, ℕ, ap, ◌∙◌}
+use Rattle.std.proofs.Common.{◌≡◌, true, Bool, ap, ◌∙◌}
 use Rattle.std.specs.Prelude.{Result, Ok, Err, IfOk}
-use Rattle.ux_model.specs.Types.{Pid, Fd, Errno, Request, Reply}
+use Rattle.ux_model.specs.Types.{Fd, Errno, Request, Reply}
 use Rattle.ux_model.specs.State.{State}
 use Rattle.ux_model.specs.FreeChoices.{takes_no_memory}
 use Rattle.ux_model.proofs.FreeChoices.{never_lacks_memory}
-use Rattle.ux_history.specs.declared.receipts.Call.{Call}
-use Rattle.ux_history.specs.declared.fault.CallFault.{CallFault}
-use Rattle.ux_history.specs.Receipts.{Slip, IsSlip}
+use Rattle.ux_book.specs.declared.fault.CallFault.{CallFault}
+use Rattle.ux_book.specs.Pasts.{Caller}
+use Rattle.ux_book.specs.Receipts.{Slip, IsSlip, IsSlipOf}
 
 -- the reply of a close that stands in some history isn't ENOMEM
-close_in_history : (boot : State) (s : Slip) (pid : Pid) (k : ℕ) (fd : Fd) (reply : Reply) → IsSlip boot s → s.call ≡ record { pid = pid; k = k; request = Request.Close fd; reply = reply } →
+close_in_history : (boot : State) (c : Caller) (fd : Fd) (reply : Reply) (tried : Bool) (s : Slip) → IsSlip boot s → IsSlipOf c (Request.Close fd) reply tried s →
     ¬ (reply ≡ Reply.Err Errno.ENOMEM)
-close_in_history boot s pid k fd reply shown is lacks =
-    let e = shown.entry in
-    let may = shown.legal.each s.number e shown.stands in
-    never_lacks_memory _ _ e.pid.0 _ e.request e.reply e.released
-    (ap (λ (c : Call). takes_no_memory c.request) (shown.same ∙ is)) may.steps
-    (ap (λ (c : Call). c.reply) (shown.same ∙ is) ∙ lacks)
+close_in_history boot c fd reply tried s shown call lacks =
+    let may = shown.legal.each s.number s.entry shown.stands in
+    never_lacks_memory _ _ s.entry.pid.0 _ s.entry.request s.entry.reply s.entry.released (ap takes_no_memory call.request_is) may.steps (call.reply_is ∙ lacks)
 
 -- so of a seat's close
-pub close_answer : (boot : State) (pid : Pid) (k : ℕ) (fd : Fd) (r : Result (Reply × Slip) CallFault) →
-    IfOk r (λ made. made.1.call ≡ record { pid = pid; k = k; request = Request.Close fd; reply = made.0 }) → IfOk r (λ made. IsSlip boot made.1) →
-    IfOk r (λ made. ¬ (made.0 ≡ Reply.Err Errno.ENOMEM))
-close_answer boot pid k fd (Ok made) is shown = close_in_history boot made.1 pid k fd made.0 shown is
-close_answer boot pid k fd (Err fault) is shown = tt
+pub close_answer : (boot : State) (c : Caller) (fd : Fd) (tried : Bool) (r : Result (Reply × Slip) CallFault) →
+    IfOk r (λ made. IsSlipOf c (Request.Close fd) made.0 tried made.1) → IfOk r (λ made. IsSlip boot made.1) → IfOk r (λ made. ¬ (made.0 ≡ Reply.Err Errno.ENOMEM))
+close_answer boot c fd tried (Ok made) call shown = close_in_history boot c fd made.0 tried made.1 shown call
+close_answer boot c fd tried (Err fault) call shown = tt

@@ -3,7 +3,8 @@
 //! test then looks at what the service holds: the socket, at the number that it had, and nothing else of the manager's.
 use anyhow::{Result, anyhow};
 use delortxa::{
-    BookName, BookProgram, Boot, CallError, Fd, Mode, OpenFlags, Pid, Session, SockType, with_book,
+    BookName, BookProgram, Boot, CallError, Calls, Fd, Mode, OpenFlags, Pid, Session, SockType,
+    with_book,
 };
 use std::alloc::{AllocError, Global};
 
@@ -95,7 +96,8 @@ pub(crate) fn run(rt: &(impl Print + AllocGlobal)) -> Result<()> {
     let alloc = rt.alloc();
     let boot = Boot::new(alloc).file(b"log", b"")?.file(b"key", b"secret")?;
     let boot = boot.process(0, 0, 16)?.process(1000, 1000, 16)?;
-    let found = with_book(alloc, boot.start()?, Activation { alloc })??;
+    let (found, _history) = with_book(alloc, boot.start()?, Activation { alloc })?;
+    let found = found?;
     if found.at_start.as_slice() != [found.listener].as_slice() {
         return Err(anyhow!("the service holds more than the socket"));
     }

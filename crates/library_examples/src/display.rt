@@ -4,7 +4,8 @@
 use anyhow::{Result, anyhow};
 use bstr::BStr;
 use delortxa::{
-    BookName, Boot, Bytes, Fd, Layer, LayerProgram, Mode, Pid, Seat, SockType, Whence, with_layer,
+    BookName, Boot, Bytes, Calls, Fd, Layer, LayerProgram, Mode, Pid, Seat, SockType, Whence,
+    with_layer,
 };
 use std::sync::Wait;
 use std::thread::Threads;
@@ -41,13 +42,13 @@ fn welcome<W: BookName, R: Wait>(rt: &R, server: &mut Seat<W>, listener: Fd) -> 
 }
 
 /// The server's thread: it listens, welcomes all clients, hears from each, and looks at the screen.
-fn serve<W: BookName, R: Wait>(rt: &R, mut server: Seat<W>) -> Result<Seen> {
+fn serve<W: BookName, R: Wait>(rt: &R, server: &mut Seat<W>) -> Result<Seen> {
     let listener = server.socket(rt, SockType::Stream)?;
     server.bind_path(rt, listener, b"display")?;
     server.listen(rt, listener, 3)?;
     let mut connections = [(Pid(0), Fd(0)); CLIENTS];
     for connection in connections.iter_mut() {
-        *connection = welcome(rt, &mut server, listener)?;
+        *connection = welcome(rt, server, listener)?;
     }
     let mut done = [false; CLIENTS];
     for (pid, connection) in connections {
@@ -62,8 +63,9 @@ fn serve<W: BookName, R: Wait>(rt: &R, mut server: Seat<W>) -> Result<Seen> {
     Ok(Seen { done, screen })
 }
 
-/// A client's thread: it draws its row by the descriptor that it is passed, and says that it is done.
-fn draw<W: BookName, R: Wait + AllocGlobal>(rt: &R, mut client: Seat<W>) -> Result<()> {
+/// A client's thread: it draws its row by the descriptor that it is passed, and says that it is done. Its end closes
+/// whatever it holds.
+fn draw<W: BookName, R: Wait + AllocGlobal>(rt: &R, client: &mut Seat<W>) -> Result<()> {
     let row = i64::from(client.pid().0.wrapping_sub(2));
     let socket = client.socket(rt, SockType::Stream)?;
     client.connect_path(rt, socket, b"display")?;
@@ -76,15 +78,13 @@ fn draw<W: BookName, R: Wait + AllocGlobal>(rt: &R, mut client: Seat<W>) -> Resu
         client.write(rt, screen, b"##")?;
         client.send(rt, socket, b"done")?;
     }
-    // Its end closes whatever it holds.
-    client.exit(rt)?;
     Ok(())
 }
 
 impl<R: Wait + AllocGlobal> LayerProgram<R> for Display {
     type Output = Result<Option<Seen>>;
 
-    fn run<W: BookName>(&self, rt: &R, layer: &Layer<W>, seat: Seat<W>) -> Self::Output {
+    fn run<W: BookName>(&self, rt: &R, layer: &Layer<W>, seat: &mut Seat<W>) -> Self::Output {
         if seat.pid() == SERVER {
             return Ok(Some(serve(rt, seat)?));
         }

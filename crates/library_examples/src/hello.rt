@@ -2,7 +2,7 @@
 use anyhow::Result;
 use bstr::BStr;
 use delortxa::{
-    BookName, BookProgram, Boot, Bytes, CallError, Mode, Pid, Session, Whence, with_book,
+    BookName, BookProgram, Boot, Bytes, CallError, Calls, Mode, Pid, Session, Whence, with_book,
 };
 
 #[derive(Drop)]
@@ -23,7 +23,7 @@ impl BookProgram for Hello {
 pub(crate) fn run(rt: &(impl Print + AllocGlobal)) -> Result<()> {
     let boot = Boot::new(rt.alloc()).file(b"notes", b"")?;
     let kernel = boot.process(1000, 1000, 16)?.start()?;
-    let bytes = with_book(rt.alloc(), kernel, Hello)??;
-    println!(rt; "{}", BStr::new(bytes.as_slice()))?;
+    let (bytes, _history) = with_book(rt.alloc(), kernel, Hello)?;
+    println!(rt; "{}", BStr::new(bytes?.as_slice()))?;
     Ok(())
 }

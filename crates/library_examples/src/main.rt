@@ -13,7 +13,7 @@ mod service_manager;
 mod two_threads;
 
 use anyhow::Result;
-use ux_history::{Book, BookName};
+use ux_book::{Book, BookName};
 use ux_object::FileObject;
 use ux_trace::entry_text;
 

@@ -1,6 +1,6 @@
 //! The layer as a library: one process writes a file, reads it by a second descriptor, and closes both.
-//! The calls go through a book, which keeps them as a history that is proved legal; at the end the history is
-//! compared with what the process counted.
+//! The calls go through a book, which keeps them as a history that is proved legal; at the end the history has
+//! exactly the calls that the process's share knows.
 ghost use Rattle.std.specs.Prelude.{◌≡◌, IfOk};
 ghost use Rattle.ux_model.specs.Boot.{IsBootState};
 
@@ -9,8 +9,7 @@ use anyhow::{Result, anyhow};
 use delortxa::{AnyObject, Boot, call};
 use std::alloc::Global;
 use std::marker::Brand;
-use std::sync::ledger::Blank;
-use ux_history::{Account, Book, BookName, PARTS, Share, has_own_call, settle_accounts};
+use ux_book::{Account, Book, BookName, Share, Trail, has_own_call};
 use ux_kernel::Kernel;
 use ux_state::ReleasedObjects;
 use ux_types::{Fd, Mode, Request, Whence};
@@ -58,7 +57,7 @@ fn make_calls<W: BookName>(
     Ok(())
 }
 
-/// Ends the process, and compares what its share counted with the history.
+/// Ends the process, and compares its share with the history.
 fn end<W: BookName>(
     alloc: Global,
     book: &mut Book<W, AnyObject>,
@@ -66,13 +65,10 @@ fn end<W: BookName>(
     released: &mut ReleasedObjects<AnyObject>,
 ) -> Result<Account> {
     released.clear();
-    let spents = match book.exit(share, released) {
-        Ok(spent) => vec![in alloc; spent]?,
-        Err(_share) => return Err(anyhow!("the process isn't known")),
-    };
-    match settle_accounts(book, spents) {
+    let mut spents = vec![in alloc; book.exit(share, released)]?;
+    match book.settle(&mut spents) {
         Ok(account) => Ok(account),
-        Err((fault, _spents)) => Err(anyhow!("{fault}")),
+        Err(missing) => Err(anyhow!("{missing}")),
     }
 }
 
@@ -97,15 +93,14 @@ fn fill<W: BookName>(
 /// Opens a book at this kernel, under a name that lives in here, and fills it.
 fn keep_book<W: BookName>(
     rt: &(impl Print + AllocGlobal),
-    blank: Blank,
+    trail: Trail,
     kernel: Kernel<AnyObject>,
 ) -> Result<()>
-    requires name { blank.name ≡ W.name }
-    requires parts { (blank.parts ≡ W.parts) × (blank.parts ≡ 1024) }
+    requires trail { trail ≡ record { id = W.trail; entries = []; given = 0 } }
     requires boots { IsBootState kernel }
     requires named { kernel ≡ W.boot }
 {
-    match Book::<W, AnyObject>::new(rt.alloc(), blank, kernel) {
+    match Book::<W, AnyObject>::new(rt.alloc(), trail, kernel) {
         Ok((mut book, shares)) => {
             let filled = fill(rt, &mut book, shares);
             // One drop for all ways out of `fill` keeps the proof short.
@@ -123,5 +118,5 @@ fn keep_book<W: BookName>(
 /// Runs the example.
 pub(crate) fn run(rt: &(impl Print + AllocGlobal)) -> Result<()> {
     let kernel = start(rt.alloc())?;
-    keep_book::<Brand>(rt, Blank::new(PARTS), kernel)
+    keep_book::<Brand>(rt, Trail::new(rt.alloc())?, kernel)
 }

@@ -3,7 +3,7 @@
 //! has connected (SO_PEERCRED of unix(7)), and passes nothing to anybody else.
 use anyhow::{Result, anyhow};
 use delortxa::{
-    BookName, BookProgram, Boot, CallError, Fd, Mode, Pid, Session, SockType, with_book,
+    BookName, BookProgram, Boot, CallError, Calls, Fd, Mode, Pid, Session, SockType, with_book,
 };
 use std::alloc::Global;
 
@@ -108,7 +108,8 @@ pub(crate) fn run(rt: &(impl Print + AllocGlobal)) -> Result<()> {
         .file(b"other", b"c\nd\ne\n")?;
     let boot = boot.process(0, 0, 16)?.process(PARSER_USER, 1000, 16)?;
     let kernel = boot.process(2000, 2000, 16)?.start()?;
-    let report = with_book(rt.alloc(), kernel, Parsing(rt.alloc()))??;
+    let (report, _history) = with_book(rt.alloc(), kernel, Parsing(rt.alloc()))?;
+    let report = report?;
     println!(rt; "the files have {:?} lines", report.lines)?;
     println!(rt; "the stranger is passed {:?}", report.to_stranger)?;
     println!(rt; "at the end there are {:?}", report.holdings)?;

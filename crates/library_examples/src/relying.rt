@@ -1,21 +1,20 @@
 //! What a program can rely on, each by a contract of its own that is proved from those of the library alone: what a
 //! receipt shows, what settled accounts say of the history, and that a close never lacks memory.
-ghost use Rattle.std.specs.Prelude.{◌≡◌, List, length, map, Some, IfOk};
+ghost use Rattle.std.specs.Prelude.{◌≡◌, List, length, Some, IfOk};
 ghost use Rattle.std.specs.List.{slice_get};
 ghost use Rattle.ux_model.specs.Types.{Entry, Errno};
 ghost use Rattle.ux_model.specs.History.{IsLegal};
-ghost use Rattle.ux_history.specs.Receipts.{call_of};
 
 use anyhow::{Result, anyhow};
 use std::sync::Wait;
-use ux_history::{BookName, CallFault, Receipt, Spent};
+use ux_book::{BookName, CallFault, Receipt, Spent};
 use ux_layer::{Layer, Seat};
 use ux_objects::MemFile;
 use ux_types::{Fd, Reply, Request};
 
 /// The call of a receipt stands in some legal history from the layer's boot state, at the receipt's number.
 pub(crate) fn stands<W: BookName>(receipt: &Receipt<W>)
-    ensures { (entries : List Entry) × IsLegal W.boot entries × (slice_get (map call_of entries) receipt.now.number ≡ Some receipt.now.call) }
+    ensures { (entries : List Entry) × IsLegal W.boot entries × (slice_get entries receipt.now.number ≡ Some receipt.now.entry) }
 {
     receipt.shows()
 }
@@ -25,13 +24,14 @@ pub(crate) fn stands<W: BookName>(receipt: &Receipt<W>)
 pub(crate) fn entries_made<W: BookName, R: Wait>(
     rt: &R,
     layer: &Layer<W, MemFile>,
-    spents: Vec<Spent<W>>,
+    spents: &mut [Spent<W>],
+    receipts: &mut [Receipt<W>],
 ) -> Result<usize>
     ensures { IfOk result (λ count. (entries : List Entry) × IsLegal W.boot entries × (length entries ≡ count)) }
 {
-    match layer.settle(rt, spents) {
+    match layer.settle_with(rt, spents, receipts) {
         Ok(account) => Ok(account.entries),
-        Err((fault, _spents)) => Err(anyhow!("{fault}")),
+        Err(missing) => Err(anyhow!("{missing}")),
     }
 }
 

@@ -8,8 +8,7 @@ use anyhow::{Result, anyhow};
 use hoard::Purse;
 use std::alloc::{AllocError, Global};
 use std::sync::Wait;
-use std::sync::ledger::Blank;
-use ux_history::{BookName, CallFault, Receipt, Spent, has_own_call};
+use ux_book::{BookName, CallFault, Receipt, Spent, Trail, has_own_call};
 use ux_kernel::Kernel;
 use ux_layer::{Layer, Seat, start};
 use ux_objects::Plain;
@@ -176,13 +175,8 @@ impl<W: BookName> Hall<W> {
         let Some(seat) = place.take() else {
             return Ok(());
         };
-        match seat.exit(rt) {
-            Ok(spent) => {
-                self.spents.push(spent)?;
-                Ok(())
-            }
-            Err((fault, _seat)) => Err(anyhow!("{fault}")),
-        }
+        self.spents.push(seat.exit(rt))?;
+        Ok(())
     }
 
     /// Makes a line's call, which is the script's call of this number. A process that a refused fork didn't make
@@ -247,28 +241,24 @@ impl<W: BookName> Hall<W> {
         }
     }
 
-    /// Settles the layer, which has ended, and looks for each receipt, with the memory that there is; then gives all
-    /// memory, and the history.
+    /// Settles the layer, which has ended, with the memory that there is; then gives all memory, and the history.
     fn finish<R: Wait + AllocGlobal>(self, rt: &R, purse: &mut Purse) -> Result<Vec<Entry>> {
         let Hall {
             layer,
             seats,
-            receipts,
-            spents,
+            mut receipts,
+            mut spents,
             refusals: _,
         } = self;
         drop(seats);
-        let settled = layer.settle(rt, spents);
-        let guard = layer.book(rt);
-        let held = guard.book().holds_all(&receipts);
+        let settled = layer.settle_with(rt, &mut spents, &mut receipts);
         purse.open();
+        let guard = layer.book(rt);
         let entries = guard.book().entries();
         match settled {
-            Ok(account) if held && account.entries == entries.len() => {
-                Ok(copies(rt.alloc(), entries)?)
-            }
-            Ok(_account) => Err(anyhow!("a receipt or an entry is lost")),
-            Err((fault, _spents)) => Err(anyhow!("{fault}")),
+            Ok(account) if account.entries == entries.len() => Ok(copies(rt.alloc(), entries)?),
+            Ok(_account) => Err(anyhow!("an entry is lost")),
+            Err(fault) => Err(anyhow!("{fault}")),
         }
     }
 }
@@ -301,14 +291,13 @@ pub fn copies(alloc: Global, entries: &[Entry]) -> Result<Vec<Entry>, AllocError
 /// didn't start for lack of memory, and the kernel came back with its processes.
 pub fn run_by_seats<W: BookName, R: Wait + AllocGlobal>(
     rt: &R,
-    blank: Blank,
+    trail: Trail,
     kernel: Kernel<Plain>,
     purse: &mut Purse,
     script: &Script,
     supply: Supply,
 ) -> Result<Option<Vec<Entry>>>
-    requires name { blank.name ≡ W.name }
-    requires parts { (blank.parts ≡ W.parts) × (blank.parts ≡ 1024) }
+    requires trail { trail ≡ record { id = W.trail; entries = []; given = 0 } }
     requires boots { IsBootState kernel }
     requires named { kernel ≡ W.boot }
 {
@@ -316,7 +305,7 @@ pub fn run_by_seats<W: BookName, R: Wait + AllocGlobal>(
     if let Supply::Scarce(bytes) = supply {
         purse.leave(alloc, bytes);
     }
-    let started = start::<W, Plain, R>(rt, alloc, blank, kernel);
+    let started = start::<W, Plain, R>(rt, alloc, trail, kernel);
     purse.open();
     let (layer, seats) = match started {
         Ok(made) => made,

@@ -19,8 +19,7 @@ use std::fs;
 use std::marker::Brand;
 use std::rt::Files;
 use std::sync::Wait;
-use std::sync::ledger::Blank;
-use ux_history::PARTS;
+use ux_book::Trail;
 use ux_kernel::{BootFault, Kernel};
 use ux_object::{FileObject, ObjKind};
 use ux_objects::Plain;
@@ -189,8 +188,8 @@ fn history_with<R: Wait + AllocGlobal>(
 ) -> Result<Option<Vec<Entry>>> {
     let alloc = rt.alloc();
     let kernel = kernel_of(alloc, script)?;
-    let blank = Blank::new(PARTS);
-    let ran = run_by_seats::<Brand, R>(rt, blank, kernel, purse, script, supply)?;
+    let trail = Trail::new(rt.alloc())?;
+    let ran = run_by_seats::<Brand, R>(rt, trail, kernel, purse, script, supply)?;
     if let Some(history) = &ran {
         must_be_whole(alloc, script, history)?;
     }

@@ -18,11 +18,10 @@ use std::env;
 use std::marker::Brand;
 use std::rt::{Env, Files};
 use std::sync::Wait;
-use std::sync::ledger::Blank;
 use std::thread::Threads;
-use ux_history::{PARTS, Trail, Trailing};
+use ux_book::{BookName, Nothing, Receipt, Spent, Trail};
 use ux_kernel::Kernel;
-use ux_layer::{RunningLayer, RunningSeat, start_running};
+use ux_layer::{Layer, Seat, start_counting};
 use ux_objects::MemFile;
 use ux_types::ProcSpec;
 
@@ -63,21 +62,18 @@ fn boot(alloc: Global) -> Result<Kernel<MemFile>>
 }
 
 /// Runs the threads over a layer that keeps nothing, under a name that lives in here.
-fn run<W: Trailing + Send + Sync, R: Threads + Wait + Files + Print + Eprint + AllocGlobal + Sync>(
+fn run<W: BookName + Send + Sync, R: Threads + Wait + Files + Print + Eprint + AllocGlobal + Sync>(
     rt: &R,
-    blank: Blank,
     trail: Trail,
     kernel: Kernel<MemFile>,
     calls: u64,
 ) -> Result<()>
-    requires name { blank.name ≡ W.name }
-    requires parts { (blank.parts ≡ W.parts) × (blank.parts ≡ 1024) }
-    requires trail { trail ≡ record { id = W.trail; calls = [] } }
+    requires trail { trail ≡ record { id = W.trail; entries = []; given = 0 } }
     requires boots { IsBootState kernel }
     requires named { kernel ≡ W.boot }
 {
     let alloc = rt.alloc();
-    let Ok((layer, seats)) = start_running::<W, MemFile, R>(rt, alloc, blank, trail, kernel) else {
+    let Ok((layer, seats)) = start_counting::<W, MemFile, R>(rt, alloc, trail, kernel) else {
         return Err(anyhow!("out of memory"));
     };
     let (first, others) = halves(alloc, seats)?;
@@ -89,10 +85,15 @@ fn run<W: Trailing + Send + Sync, R: Threads + Wait + Files + Print + Eprint + A
 }
 
 /// The seats of the first threads, and those of the others.
-fn halves<W: Trailing>(
+fn halves<W: BookName>(
     alloc: Global,
-    seats: Vec<RunningSeat<W, MemFile>>,
-) -> Result<(Vec<RunningSeat<W, MemFile>>, Vec<RunningSeat<W, MemFile>>)> {
+    seats: Vec<Seat<W, MemFile, Nothing>>,
+) -> Result<
+    (
+        Vec<Seat<W, MemFile, Nothing>>,
+        Vec<Seat<W, MemFile, Nothing>>,
+    ),
+> {
     let mut first = Vec::with_capacity(alloc, THREADS as usize)?;
     let mut others = Vec::with_capacity(alloc, THREADS as usize)?;
     for seat in seats {
@@ -106,25 +107,19 @@ fn halves<W: Trailing>(
 }
 
 /// Settles the accounts of all processes with what they kept of their calls.
-fn settle<W: Trailing, R: Wait + Print + AllocGlobal>(
+fn settle<W: BookName, R: Wait + Print + AllocGlobal>(
     rt: &R,
-    layer: &RunningLayer<W, MemFile>,
+    layer: &Layer<W, MemFile, Nothing>,
     before: Vec<Done<W>>,
     after: Vec<Done<W>>,
 ) -> Result<()> {
     let mut spents = Vec::new(rt.alloc());
-    let mut witnesses = Vec::new(rt.alloc());
-    put_all(before, &mut spents, &mut witnesses)?;
-    put_all(after, &mut spents, &mut witnesses)?;
-    let account = match layer.settle_with_witnesses(rt, spents, witnesses.as_mut_slice()) {
-        Ok(account) => account,
-        Err((fault, _spents)) => return Err(anyhow!("{fault}")),
-    };
-    let count = witnesses.len();
-    println!(rt;
-        "{} entries settle, with {count} witnesses",
-        account.entries
-    )?;
+    let mut receipts = Vec::new(rt.alloc());
+    put_all(before, &mut spents, &mut receipts)?;
+    put_all(after, &mut spents, &mut receipts)?;
+    let account = layer.settle_with(rt, &mut spents, &mut receipts)?;
+    let count = receipts.len();
+    println!(rt; "{} entries settle, with {count} receipts", account.entries)?;
     Ok(())
 }
 
@@ -132,5 +127,5 @@ fn main(rt: HostRuntime) -> Result<()> {
     let calls = calls_each(&rt)?;
     let kernel = boot(rt.alloc())?;
     let trail = Trail::new(rt.alloc())?;
-    run::<Brand, _>(&rt, Blank::new(PARTS), trail, kernel, calls)
+    run::<Brand, _>(&rt, trail, kernel, calls)
 }

@@ -1,14 +1,14 @@
 //! What each thread does: it sends itself one byte over a pair, and receives it, again and again.
 ghost use Rattle.std.specs.Prelude.{◌≡◌, false, IfOk};
-ghost use Rattle.ux_history.specs.Books.{has_own_call};
+ghost use Rattle.ux_book.specs.Books.{has_own_call};
 
 use anyhow::{Result, anyhow};
 use std::alloc::Global;
 use std::sync::Wait;
 use std::thread;
 use std::thread::Threads;
-use ux_history::{Spent, Trailing, Witness};
-use ux_layer::RunningSeat;
+use ux_book::{BookName, Nothing, Receipt, Spent};
+use ux_layer::Seat;
 use ux_objects::MemFile;
 use ux_types::{Bytes, Fd, MsgFlags, OpenFlags, Reply, Request, SockType};
 
@@ -39,59 +39,59 @@ fn send(alloc: Global) -> Result<Request>
     })
 }
 
-/// What is left of a process that made its calls and exited: its share, and the witnesses of its first call and of the
+/// What is left of a process that made its calls and exited: its share, and the receipts of its first call and of the
 /// last before the exit.
-pub(crate) struct Done<W: Trailing> {
+pub(crate) struct Done<W: BookName> {
     spent: Spent<W>,
-    witnesses: Vec<Witness<W>>,
+    receipts: Vec<Receipt<W>>,
 }
 
 /// Written out, a drop is a call, and not each of its parts in the proof of each function that drops one.
-impl<W: Trailing> Drop for Done<W> {
+impl<W: BookName> Drop for Done<W> {
     fn drop(self) {
-        let Done { spent, witnesses } = self;
+        let Done { spent, receipts } = self;
         drop(spent);
-        drop(witnesses);
+        drop(receipts);
     }
 }
 
-impl<W: Trailing> Done<W> {
-    /// Adds the share and the witnesses to those of others.
-    fn put(self, spents: &mut Vec<Spent<W>>, witnesses: &mut Vec<Witness<W>>) -> Result<()> {
+impl<W: BookName> Done<W> {
+    /// Adds the share and the receipts to those of others.
+    fn put(self, spents: &mut Vec<Spent<W>>, receipts: &mut Vec<Receipt<W>>) -> Result<()> {
         let Done {
             spent,
-            witnesses: mine,
+            receipts: mine,
         } = self;
         spents.push(spent)?;
-        for witness in mine {
-            witnesses.push(witness)?;
+        for receipt in mine {
+            receipts.push(receipt)?;
         }
         Ok(())
     }
 }
 
 /// Makes a call, which must be granted.
-fn call<W: Trailing, R: Wait>(
+fn call<W: BookName, R: Wait>(
     rt: &R,
-    seat: &mut RunningSeat<W, MemFile>,
+    seat: &mut Seat<W, MemFile, Nothing>,
     request: &Request,
-) -> Result<Witness<W>>
+) -> Result<Receipt<W>>
     requires { has_own_call request.now ≡ false }
 {
     match seat.call(rt, request) {
-        Ok((Reply::Err(refused), _witness)) => Err(anyhow!("a call was refused: {refused}")),
-        Ok((_reply, witness)) => Ok(witness),
+        Ok((Reply::Err(refused), _receipt)) => Err(anyhow!("a call was refused: {refused}")),
+        Ok((_reply, receipt)) => Ok(receipt),
         Err(fault) => Err(anyhow!("{fault}")),
     }
 }
 
-/// Sends a byte and receives it so many times and once more, and gives the witness of the last call.
-fn exchange<W: Trailing, R: Wait>(
+/// Sends a byte and receives it so many times and once more, and gives the receipt of the last call.
+fn exchange<W: BookName, R: Wait>(
     rt: &R,
-    seat: &mut RunningSeat<W, MemFile>,
+    seat: &mut Seat<W, MemFile, Nothing>,
     send: &Request,
     more: u64,
-) -> Result<Witness<W>>
+) -> Result<Receipt<W>>
     requires { has_own_call send.now ≡ false }
 {
     for _ in 0..more {
@@ -103,28 +103,26 @@ fn exchange<W: Trailing, R: Wait>(
 }
 
 /// Makes so many calls over a pair, and exits.
-fn work<W: Trailing, R: Wait>(
+fn work<W: BookName, R: Wait>(
     rt: &R,
     alloc: Global,
-    mut seat: RunningSeat<W, MemFile>,
+    mut seat: Seat<W, MemFile, Nothing>,
     calls: u64,
 ) -> Result<Done<W>> {
     let send = send(alloc)?;
-    let mut witnesses = Vec::with_capacity(alloc, 2)?;
-    witnesses.push(call(rt, &mut seat, &PAIR)?)?;
+    let mut receipts = Vec::with_capacity(alloc, 2)?;
+    receipts.push(call(rt, &mut seat, &PAIR)?)?;
     let more = (calls / 2).saturating_sub(1);
-    witnesses.push(exchange(rt, &mut seat, &send, more)?)?;
-    match seat.exit(rt) {
-        Ok(spent) => Ok(Done { spent, witnesses }),
-        Err((fault, _seat)) => Err(anyhow!("{fault}")),
-    }
+    receipts.push(exchange(rt, &mut seat, &send, more)?)?;
+    let spent = seat.exit(rt);
+    Ok(Done { spent, receipts })
 }
 
 /// Has each seat make so many calls and exit, in a thread of its own where one can be made.
-pub(crate) fn work_all<W: Trailing + Send + Sync, R: Threads + Wait + Sync>(
+pub(crate) fn work_all<W: BookName + Send + Sync, R: Threads + Wait + Sync>(
     rt: &R,
     alloc: Global,
-    seats: Vec<RunningSeat<W, MemFile>>,
+    seats: Vec<Seat<W, MemFile, Nothing>>,
     calls: u64,
 ) -> Result<Vec<Done<W>>> {
     let mut all = Vec::with_capacity(alloc, seats.len())?;
@@ -134,14 +132,14 @@ pub(crate) fn work_all<W: Trailing + Send + Sync, R: Threads + Wait + Sync>(
     Ok(all)
 }
 
-/// Adds the shares and the witnesses of all to those of others.
-pub(crate) fn put_all<W: Trailing>(
+/// Adds the shares and the receipts of all to those of others.
+pub(crate) fn put_all<W: BookName>(
     all: Vec<Done<W>>,
     spents: &mut Vec<Spent<W>>,
-    witnesses: &mut Vec<Witness<W>>,
+    receipts: &mut Vec<Receipt<W>>,
 ) -> Result<()> {
     for done in all {
-        done.put(spents, witnesses)?;
+        done.put(spents, receipts)?;
     }
     Ok(())
 }

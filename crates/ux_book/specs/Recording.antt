@@ -5,8 +5,15 @@ use Rattle.ux_model.specs.Types.{Request, Reply}
 use Rattle.ux_model.specs.Object.{View}
 use Rattle.ux_model.specs.State.{State}
 use Rattle.ux_model.specs.HandingOut.{IsHandedOut}
+use Rattle.ux_model.specs.History.{IsLegal}
 use Rattle.ux_book.specs.Pasts.{Caller, calls_by, made, IsOf}
 use Rattle.ux_book.specs.Books.{KeptHistory, state_of, entry_of, call_by, Adds}
+
+-- The book began in this state, its entries are a legal history, and the caller knows exactly its process's calls in them.
+pub record Knows (boot : State) (book : KeptHistory) (c : Caller) : Type 0 where
+  pub boot_is : book.boot ≡ boot
+  pub legal : IsLegal book.boot book.entries
+  pub exactly : calls_by c.pid.0 book.entries ≡ c.past
 
 -- The caller, who knew its process's calls, made this one and got this reply: one more entry of the book, and one more call of the caller.
 -- Some legal history from the boot state has exactly its calls then. These file objects went with it.

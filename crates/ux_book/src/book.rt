@@ -12,7 +12,7 @@ ghost use Rattle.ux_model.specs.HandingOut.{IsHandedOut};
 ghost use Rattle.ux_book.specs.Books.{state_of, processes, may_call, ends_of, is_last, has_own_call, entry_of, Adds, MustWait};
 ghost use Rattle.ux_book.specs.Pasts.{fresh, child_by, calls_by, has_exit};
 ghost use Rattle.ux_book.specs.Receipts.{next_slip};
-ghost use Rattle.ux_book.specs.Recording.{IsCall, IsKept, IsEnd};
+ghost use Rattle.ux_book.specs.Recording.{Knows, IsCall, IsKept, IsEnd};
 ghost use Rattle.ux_book.specs.Appending.{IsAppended, IsIdle};
 
 use crate::book_name::BookName;
@@ -218,6 +218,7 @@ impl<W: BookName, O: FileObject, K: Keeper> Book<W, O, K> {
     ) -> Result<(Reply, Receipt<W>), CallFault>
         requires call { has_own_call request.now ≡ false }
         requires empty { released.old ≡ [] }
+        ensures knows { Knows W.boot self.old share.old }
         ensures call { IfOk result (λ r. IsCall W.boot self.old self.new share.old share.new request.now r.0 released.new) }
         ensures receipt { IfOk result (λ r. r.1 ≡ next_slip self.old share.old request.now r.0 false (map (λ o. o.0) released.new)) }
         ensures refused { IfErr result (λ f. K.refuses (length self.old.entries) f) }
@@ -244,6 +245,7 @@ impl<W: BookName, O: FileObject, K: Keeper> Book<W, O, K> {
     ) -> Result<Option<(Reply, Receipt<W>)>, CallFault>
         requires call { has_own_call request.now ≡ false }
         requires empty { released.old ≡ [] }
+        ensures knows { Knows W.boot self.old share.old }
         ensures call { IfOk result (λ o. IfSome o (λ r. IsCall W.boot self.old self.new share.old share.new request.now r.0 released.new)) }
         ensures receipt { IfOk result (λ o. IfSome o (λ r. r.1 ≡ next_slip self.old share.old request.now r.0 true (map (λ o. o.0) released.new))) }
         ensures done { IfOk result (λ o. IfSome o (λ r. should_wait (state_of self.old) share.old.pid.0 request.now r.0 ≡ false)) }
@@ -271,6 +273,7 @@ impl<W: BookName, O: FileObject, K: Keeper> Book<W, O, K> {
         released: &mut ReleasedObjects<O>,
     ) -> Result<(Reply, Receipt<W>, Option<Share<W>>), CallFault>
         requires empty { released.old ≡ [] }
+        ensures knows { Knows W.boot self.old share.old }
         ensures call { IfOk result (λ r. IsCall W.boot self.old self.new share.old share.new Request.Fork r.0 released.new) }
         ensures receipt { IfOk result (λ r. r.1 ≡ next_slip self.old share.old Request.Fork r.0 false (map (λ o. o.0) released.new)) }
         ensures child { IfOk result (λ r. r.2 ≡ child_by Request.Fork r.0) }
@@ -331,10 +334,8 @@ impl<W: BookName, O: FileObject, K: Keeper> Book<W, O, K> {
     /// Compares a share with the book, which is some steps on a word: its process lives, and its calls are those that
     /// the share knows.
     fn recognize(&mut self, share: &mut Share<W>)
-        ensures past { share.old.past ≡ calls_by share.old.pid.0 self.old.entries }
+        ensures knows { Knows W.boot self.old share.old }
         ensures live { is_live (state_of self.old) share.old.pid.0 ≡ true }
-        ensures boot { self.old.boot ≡ W.boot }
-        ensures legal { IsLegal self.old.boot self.old.entries }
         ensures book { self.new ≡ self.old }
         ensures share { share.new ≡ share.old }
     {
@@ -360,6 +361,7 @@ impl<W: BookName, O: FileObject, K: Keeper> Book<W, O, K> {
     ) -> Result<Option<(Reply, Receipt<W>, Option<Share<W>>)>, CallFault>
         requires call { is_last request.now ≡ false }
         requires empty { released.old ≡ [] }
+        ensures knows { Knows W.boot self.old share.old }
         ensures call { IfOk result (λ o. IfSome o (λ r. IsCall W.boot self.old self.new share.old share.new request.now r.0 released.new)) }
         ensures receipt { IfOk result (λ o. IfSome o (λ r. r.1 ≡ next_slip self.old share.old request.now r.0 tried (map (λ o. o.0) released.new))) }
         ensures child { IfOk result (λ o. IfSome o (λ r. r.2 ≡ child_by request.now r.0)) }

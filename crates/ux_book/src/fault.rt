@@ -10,6 +10,12 @@ use thiserror::Error;
 #[error("out of memory")]
 pub struct NoMemory;
 
+impl From<AllocError> for NoMemory {
+    fn from(_error: AllocError) -> NoMemory {
+        NoMemory
+    }
+}
+
 /// Why a call was no entry.
 #[derive(Clone, Copy, Debug, PartialEq, Eq, Error)]
 pub enum CallFault {

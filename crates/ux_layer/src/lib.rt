@@ -3,10 +3,8 @@
 #![tactic(auto)]
 
 mod layer;
-mod running;
 mod seat;
 mod waiters;
 
-pub use layer::{BookGuard, Layer, start, start_book};
-pub use running::{RunningLayer, RunningSeat, start_running};
+pub use layer::{BookGuard, Layer, start, start_book, start_counting};
 pub use seat::Seat;

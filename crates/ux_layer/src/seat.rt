@@ -1,33 +1,32 @@
 //! The place of one process.
-ghost use Rattle.std.specs.Prelude.{◌≡◌, true, false, [], IfOk, IfErr, OnOk, OnErr};
-ghost use Rattle.ux_model.specs.Types.{Request};
-ghost use Rattle.ux_history.specs.Books.{has_own_call};
-ghost use Rattle.ux_history.specs.Shares.{once_more, child_by};
-ghost use Rattle.ux_history.specs.Receipts.{IsSlip};
-ghost use Rattle.ux_history.specs.Faults.{is_deadlock};
+ghost use Rattle.std.specs.Prelude.{◌≡◌, ◌⊎◌, true, false, [], length, IfOk, IfErr, OnErr};
+ghost use Rattle.ux_model.specs.Types.{Request, Reply};
+ghost use Rattle.ux_book.specs.declared.fault.CallFault.{CallFault};
+ghost use Rattle.ux_book.specs.Books.{has_own_call};
+ghost use Rattle.ux_book.specs.Pasts.{made, child_by, IsOf};
+ghost use Rattle.ux_book.specs.Receipts.{IsSlip, IsSlipOf};
+ghost use Rattle.ux_layer.specs.Faults.{Refuses, RefusesOrWaits};
 
-use crate::layer::{Shared, another, desk_of};
+use crate::layer::{Shared, another};
 use std::alloc::Global;
 use std::marker::Model;
 use std::sync::{Arc, Wait};
-use ux_history::{
-    Asks, Book, BookName, CallBook, CallFault, Keeps, Share, Shows, Spent, exit_share,
-};
+use ux_book::{BookName, CallFault, Entries, Keeper, Receipt, Share, Spent};
 use ux_object::FileObject;
 use ux_state::ReleasedObjects;
 use ux_types::{Pid, Reply, Request};
 
-/// The place of one process, by which one thread at a time makes its calls. Contracts see the process, and
-/// how many calls it has made.
-pub struct Seat<W: BookName, O: FileObject, B: CallBook<W, O> = Book<W, O>> {
+/// The place of one process, by which one thread at a time makes its calls. Contracts see the process, and the calls
+/// that it has made, in order.
+pub struct Seat<W: BookName, O: FileObject, K: Keeper = Entries> {
     share: Share<W>,
-    shared: Arc<Shared<B>, Global>,
+    shared: Arc<Shared<W, O, K>, Global>,
     /// The file objects that went with a call, between the call and their drop.
     released: ReleasedObjects<O>,
 }
 
 // Written out, so that it is proved here and not in each function that drops one.
-impl<W: BookName, O: FileObject, B: CallBook<W, O>> Drop for Seat<W, O, B> {
+impl<W: BookName, O: FileObject, K: Keeper> Drop for Seat<W, O, K> {
     fn drop(self) {
         let Seat {
             share,
@@ -40,9 +39,9 @@ impl<W: BookName, O: FileObject, B: CallBook<W, O>> Drop for Seat<W, O, B> {
     }
 }
 
-impl<W: BookName, O: FileObject, B: CallBook<W, O>> Model for Seat<W, O, B> {
+impl<W: BookName, O: FileObject, K: Keeper> Model for Seat<W, O, K> {
     ghost use Rattle.std.specs.Prelude.{◌≡◌, []};
-    ghost use Rattle.ux_history.specs.Shares.{Caller};
+    ghost use Rattle.ux_book.specs.Pasts.{Caller};
 
     ghost Value = { Caller };
 
@@ -51,7 +50,7 @@ impl<W: BookName, O: FileObject, B: CallBook<W, O>> Model for Seat<W, O, B> {
     ghost invariant = { λ s. s.released ≡ [] };
 }
 
-impl<W: BookName, O: FileObject, B: CallBook<W, O>> Seat<W, O, B> {
+impl<W: BookName, O: FileObject, K: Keeper> Seat<W, O, K> {
     /// The process.
     pub fn pid(&self) -> Pid
         ensures { result ≡ self.now.pid }
@@ -61,29 +60,30 @@ impl<W: BookName, O: FileObject, B: CallBook<W, O>> Seat<W, O, B> {
 
     /// How many calls it has made.
     pub fn calls(&self) -> u64
-        ensures { result ≡ self.now.k }
+        ensures { result ≡ length self.now.past }
     {
         self.share.calls()
     }
 
-    /// Makes a call, which is an entry whatever its answer. The file objects that go with it are dropped
-    /// after the lock is given back, and all who wait are woken. Some legal history from the layer's boot
-    /// state has the call, with this request and this very reply.
+    /// Makes a call, which is an entry whatever its answer. The file objects that go with it are dropped after the
+    /// lock is given back, and all who wait are woken. Some legal history from the layer's boot state has exactly the
+    /// calls of this process that the seat knows then.
     ///
     /// # Errors
     ///
-    /// Those of the book's `record`; no entry was made then.
+    /// Those of `Book::record`; no entry was made then.
+    #[tactic(auto, using(crate::proofs::Faults::refuses))]
     pub fn call<R: Wait>(
         &mut self,
         rt: &R,
         request: &Request,
-    ) -> Result<(Reply, B::Slip), CallFault>
+    ) -> Result<(Reply, Receipt<W>), CallFault>
         requires { has_own_call request.now ≡ false }
-        ensures receipt { IfOk result (λ r. (B.Slip.slip r.1).call ≡ record { pid = self.old.pid; k = self.old.k; request = request.now; reply = r.0 }) }
-        ensures recorded { IfOk result (λ r. (B.Slip.slip r.1).tried ≡ false) }
-        ensures shown { IfOk result (λ r. IsSlip W.boot (B.Slip.slip r.1)) }
-        ensures count { OnOk result (self.new ≡ once_more self.old) }
-        ensures goes_on { IfErr result (λ f. is_deadlock f ≡ false) }
+        ensures past { IfOk result (λ r. self.new ≡ made self.old request.now r.0) }
+        ensures of { IfOk result (λ r. IsOf W.boot self.new) }
+        ensures receipt { IfOk result (λ r. IsSlipOf self.old request.now r.0 false r.1) }
+        ensures shown { IfOk result (λ r. IsSlip W.boot r.1) }
+        ensures refused { IfErr result (λ f. Refuses W.boot self.old K.refuses f) }
         ensures same { OnErr result (self.new ≡ self.old) }
     {
         let Seat {
@@ -91,83 +91,36 @@ impl<W: BookName, O: FileObject, B: CallBook<W, O>> Seat<W, O, B> {
             shared,
             released,
         } = self;
-        let mut guard = shared.desk.lock(rt);
-        let desk = desk_of(rt, &mut *guard);
-        let made = desk.book.record(share, request, released);
-        if made.is_ok() {
-            desk.waiters.entry_made();
-        }
+        let mut guard = shared.lock(rt);
+        let desk = &mut *guard;
+        let (reply, receipt) = desk.book.record(share, request, released)?;
+        desk.waiters.entry_made(share.pid());
         drop(guard);
         shared.changed.notify_all();
         released.clear();
-        let (reply, slip) = made?;
-        slip.show();
-        Ok((reply, slip))
+        receipt.shows();
+        Ok((reply, receipt))
     }
 
-    /// As `call`, but it takes the request, and the answer is in what is given. What the call needs but its place
-    /// in the history is made before the lock is taken.
+    /// As `call`; but a call that may wait, and can't be done yet, waits until it can be. Of the history it says what
+    /// `call` does, and that the call isn't one that should have waited.
     ///
     /// # Errors
     ///
-    /// Those of `call`, with the request.
-    pub fn call_given<R: Wait>(
-        &mut self,
-        rt: &R,
-        request: Request,
-    ) -> Result<B::Kept, (CallFault, Request)>
-        requires { has_own_call request ≡ false }
-        ensures receipt { IfOk result (λ r. (B.Kept.kept r).call ≡ record { pid = self.old.pid; k = self.old.k; request = request; reply = (B.Kept.kept r).call.reply }) }
-        ensures recorded { IfOk result (λ r. (B.Kept.kept r).tried ≡ false) }
-        ensures shown { IfOk result (λ r. IsSlip W.boot (B.Kept.kept r)) }
-        ensures count { OnOk result (self.new ≡ once_more self.old) }
-        ensures goes_on { IfErr result (λ f. is_deadlock f.0 ≡ false) }
-        ensures back { IfErr result (λ f. f.1 ≡ request) }
-        ensures same { OnErr result (self.new ≡ self.old) }
-    {
-        let Seat {
-            share,
-            shared,
-            released,
-        } = self;
-        let prepared = match B::prepare(request) {
-            Ok(prepared) => prepared,
-            Err(request) => return Err((CallFault::NoMemory, request)),
-        };
-        let mut guard = shared.desk.lock(rt);
-        let desk = desk_of(rt, &mut *guard);
-        let made = desk.book.record_prepared(share, prepared, released);
-        if made.is_ok() {
-            desk.waiters.entry_made();
-        }
-        drop(guard);
-        shared.changed.notify_all();
-        released.clear();
-        match made {
-            Ok(kept) => {
-                kept.show();
-                Ok(kept)
-            }
-            Err((fault, prepared)) => Err((fault, prepared.into_request())),
-        }
-    }
-
-    /// As `call`; but a call that may wait, and can't be done yet, waits until it can be. Of the history it
-    /// says what `call` does, and that the call isn't one that should have waited.
-    ///
-    /// # Errors
-    ///
-    /// Those of `call`, and `Deadlock` where the seats of all processes that haven't exited wait.
+    /// Those of `call`, and `Deadlock` where the seats of all processes that haven't exited wait: then this call has to
+    /// wait after some legal history that has exactly the calls of this process that the seat knows.
+    #[tactic(auto, using(crate::proofs::Faults::refuses, crate::proofs::Faults::has_to_wait))]
     pub fn call_blocking<R: Wait>(
         &mut self,
         rt: &R,
         request: &Request,
-    ) -> Result<(Reply, B::Slip), CallFault>
+    ) -> Result<(Reply, Receipt<W>), CallFault>
         requires { has_own_call request.now ≡ false }
-        ensures receipt { IfOk result (λ r. (B.Slip.slip r.1).call ≡ record { pid = self.old.pid; k = self.old.k; request = request.now; reply = r.0 }) }
-        ensures tried { IfOk result (λ r. (B.Slip.slip r.1).tried ≡ true) }
-        ensures shown { IfOk result (λ r. IsSlip W.boot (B.Slip.slip r.1)) }
-        ensures count { OnOk result (self.new ≡ once_more self.old) }
+        ensures past { IfOk result (λ r. self.new ≡ made self.old request.now r.0) }
+        ensures of { IfOk result (λ r. IsOf W.boot self.new) }
+        ensures receipt { IfOk result (λ r. IsSlipOf self.old request.now r.0 true r.1) }
+        ensures shown { IfOk result (λ r. IsSlip W.boot r.1) }
+        ensures refused { IfErr result (λ f. RefusesOrWaits W.boot self.old request.now K.refuses f) }
         ensures same { OnErr result (self.new ≡ self.old) }
     {
         let Seat {
@@ -175,22 +128,27 @@ impl<W: BookName, O: FileObject, B: CallBook<W, O>> Seat<W, O, B> {
             shared,
             released,
         } = self;
-        let mut guard = shared.desk.lock(rt);
-        let mut ticket = desk_of(rt, &mut *guard).waiters.ticket();
+        let mut guard = shared.lock(rt);
+        let mut ticket = guard.waiters.ticket();
         for _ in rt.forever() {
-            let desk = desk_of(rt, &mut *guard);
-            if desk.waiters.is_over(ticket) {
-                return Err(CallFault::Deadlock);
+            let desk = &mut *guard;
+            match desk.book.try_record(share, request, released) {
+                Ok(Some((reply, receipt))) => {
+                    desk.waiters.entry_made(share.pid());
+                    drop(guard);
+                    shared.changed.notify_all();
+                    released.clear();
+                    receipt.shows();
+                    return Ok((reply, receipt));
+                }
+                Ok(None) => {}
+                Err(fault) => {
+                    // It waits no more, though no entry was made.
+                    desk.waiters.leave(ticket);
+                    return Err(fault);
+                }
             }
-            if let Some((reply, slip)) = desk.book.try_record(share, request, released)? {
-                desk.waiters.entry_made();
-                drop(guard);
-                shared.changed.notify_all();
-                released.clear();
-                slip.show();
-                return Ok((reply, slip));
-            }
-            if desk.waiters.must_wait(&mut ticket) {
+            if desk.waiters.is_in_vain(&mut ticket) {
                 shared.changed.notify_all();
                 return Err(CallFault::Deadlock);
             }
@@ -204,17 +162,18 @@ impl<W: BookName, O: FileObject, B: CallBook<W, O>> Seat<W, O, B> {
     ///
     /// # Errors
     ///
-    /// Those of the book's `fork`, and `NoMemory` where there is none for the new seat; no entry was made then.
+    /// Those of `Book::fork`, and `NoMemory` where there is none for the new seat; no entry was made then.
+    #[tactic(auto, using(crate::proofs::Faults::refuses))]
     pub fn fork<R: Wait>(
         &mut self,
         rt: &R,
-    ) -> Result<(Reply, B::Slip, Option<Seat<W, O, B>>), CallFault>
-        ensures receipt { IfOk result (λ r. (B.Slip.slip r.1).call ≡ record { pid = self.old.pid; k = self.old.k; request = Request.Fork; reply = r.0 }) }
-        ensures recorded { IfOk result (λ r. (B.Slip.slip r.1).tried ≡ false) }
-        ensures shown { IfOk result (λ r. IsSlip W.boot (B.Slip.slip r.1)) }
+    ) -> Result<(Reply, Receipt<W>, Option<Seat<W, O, K>>), CallFault>
+        ensures past { IfOk result (λ r. self.new ≡ made self.old Request.Fork r.0) }
+        ensures of { IfOk result (λ r. IsOf W.boot self.new) }
+        ensures receipt { IfOk result (λ r. IsSlipOf self.old Request.Fork r.0 false r.1) }
+        ensures shown { IfOk result (λ r. IsSlip W.boot r.1) }
         ensures child { IfOk result (λ r. r.2 ≡ child_by Request.Fork r.0) }
-        ensures count { OnOk result (self.new ≡ once_more self.old) }
-        ensures goes_on { IfErr result (λ f. is_deadlock f ≡ false) }
+        ensures refused { IfErr result (λ f. (f ≡ CallFault.NoMemory) ⊎ Refuses W.boot self.old K.refuses f) }
         ensures same { OnErr result (self.new ≡ self.old) }
     {
         let Seat {
@@ -224,25 +183,23 @@ impl<W: BookName, O: FileObject, B: CallBook<W, O>> Seat<W, O, B> {
         } = self;
         let list = ReleasedObjects::new(shared.alloc)?;
         let owner = another(rt, shared);
-        let mut guard = shared.desk.lock(rt);
-        let desk = desk_of(rt, &mut *guard);
-        let made = desk.book.fork(share, released);
-        if let Ok((_, _, child)) = &made {
-            desk.waiters.fork_made(child.is_some());
-        }
+        let mut guard = shared.lock(rt);
+        let desk = &mut *guard;
+        desk.waiters.reserve()?;
+        let (reply, receipt, child) = desk.book.fork(share, released)?;
+        desk.waiters.fork_made(share.pid(), child.is_some());
         drop(guard);
         shared.changed.notify_all();
         released.clear();
-        let (reply, slip, child) = made?;
-        slip.show();
+        receipt.shows();
         let seat = match child {
             Some(share) => Some(make_seat(share, owner, list)),
             None => None,
         };
-        Ok((reply, slip, seat))
+        Ok((reply, receipt, seat))
     }
 
-    /// Returns once this process has so many entries, or has exited, or was never made and process 1 has exited.
+    /// Returns once this process has made so many calls, or has exited, or was never made and process 1 has exited.
     ///
     /// # Errors
     ///
@@ -250,17 +207,15 @@ impl<W: BookName, O: FileObject, B: CallBook<W, O>> Seat<W, O, B> {
     pub fn wait_for<R: Wait>(&self, rt: &R, pid: Pid, calls: u64) -> Result<(), CallFault>
         ensures fault { IfErr result (λ f. f ≡ CallFault.Deadlock) }
     {
-        let mut guard = self.shared.desk.lock(rt);
-        let mut ticket = desk_of(rt, &mut *guard).waiters.ticket();
+        let mut guard = self.shared.lock(rt);
+        let mut ticket = guard.waiters.ticket();
         for _ in rt.forever() {
-            let desk = desk_of(rt, &mut *guard);
-            if desk.waiters.is_over(ticket) {
-                return Err(CallFault::Deadlock);
-            }
+            let desk = &mut *guard;
             if desk.has_come(pid, calls) {
+                desk.waiters.leave(ticket);
                 return Ok(());
             }
-            if desk.waiters.must_wait(&mut ticket) {
+            if desk.waiters.is_in_vain(&mut ticket) {
                 self.shared.changed.notify_all();
                 return Err(CallFault::Deadlock);
             }
@@ -269,51 +224,33 @@ impl<W: BookName, O: FileObject, B: CallBook<W, O>> Seat<W, O, B> {
         unreachable!()
     }
 
-    /// Ends the process, which takes no memory. The file objects that go with it are dropped after the lock
-    /// is given back, and all who wait are woken.
-    ///
-    /// # Errors
-    ///
-    /// `Stranger`, as `Book::exit` has it, with the seat as it was.
-    pub fn exit<R: Wait>(self, rt: &R) -> Result<Spent<W>, (CallFault, Seat<W, O, B>)>
-        ensures spent { IfOk result (λ s. s ≡ once_more self) }
-        ensures stranger { IfErr result (λ f. f.0 ≡ CallFault.Stranger) }
-        ensures back { IfErr result (λ f. f.1 ≡ self) }
+    /// Ends the process, which takes no memory. The file objects that go with it are dropped after the lock is given
+    /// back, and all who wait are woken.
+    pub fn exit<R: Wait>(self, rt: &R) -> Spent<W>
+        ensures past { result ≡ made self Request.Exit Reply.Ok }
+        ensures of { IsOf W.boot result }
     {
         let Seat {
             share,
             shared,
             mut released,
         } = self;
-        let mut guard = shared.desk.lock(rt);
-        let desk = desk_of(rt, &mut *guard);
-        let ended = exit_share(&mut desk.book, share, &mut released);
-        if ended.is_ok() {
-            desk.waiters.exit_made();
-        }
-        drop(guard);
+        let mut desk = shared.lock(rt);
+        let spent = desk.book.exit(share, &mut released);
+        desk.waiters.exit_made(spent.pid());
+        drop(desk);
         shared.changed.notify_all();
         released.clear();
-        match ended {
-            Ok(spent) => Ok(spent),
-            Err(share) => {
-                let seat = Seat {
-                    share,
-                    shared,
-                    released,
-                };
-                Err((CallFault::Stranger, seat))
-            }
-        }
+        spent
     }
 }
 
 /// The place of a share's process, with room for what its calls let go of.
-pub(crate) fn make_seat<W: BookName, O: FileObject, B: CallBook<W, O>>(
+pub(crate) fn make_seat<W: BookName, O: FileObject, K: Keeper>(
     share: Share<W>,
-    shared: Arc<Shared<B>, Global>,
+    shared: Arc<Shared<W, O, K>, Global>,
     mut released: ReleasedObjects<O>,
-) -> Seat<W, O, B>
+) -> Seat<W, O, K>
     ensures { result ≡ share }
 {
     released.clear();

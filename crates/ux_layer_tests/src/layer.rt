@@ -1,18 +1,17 @@
 //! Calls by seats, one thread after another and several at once, and the history that they leave.
 ghost use Rattle.std.specs.Prelude.{◌≡◌, false, IfOk};
 ghost use Rattle.ux_model.specs.Boot.{IsBootState};
-ghost use Rattle.ux_history.specs.Books.{has_own_call};
+ghost use Rattle.ux_book.specs.Books.{has_own_call};
 
 use hoard::Hoard;
 use std::alloc::{AllocError, Global};
 use std::marker::Brand;
 use std::process::Abort;
 use std::sync::Wait;
-use std::sync::ledger::Blank;
 use std::test::Fail;
 use std::thread;
 use std::thread::Threads;
-use ux_history::{BookName, CallBook, CallFault, OffFault, PARTS, Receipt, SettleFault, Spent};
+use ux_book::{BookName, CallFault, Keeper, Missing, OffFault, Receipt, Spent, Trail};
 use ux_kernel::Kernel;
 use ux_layer::{Layer, Seat, start};
 use ux_object::FileObject;
@@ -123,13 +122,8 @@ impl<W: BookName, O: FileObject> Worker<W, O> {
     /// Exits.
     fn done<R: Wait>(self, rt: &R) -> Result<Done<W>, Trouble> {
         let Worker { seat, receipts } = self;
-        match seat.exit(rt) {
-            Ok(spent) => Ok(Done { spent, receipts }),
-            Err((fault, seat)) => {
-                drop(seat);
-                Err(Trouble::Fault(fault))
-            }
-        }
+        let spent = seat.exit(rt);
+        Ok(Done { spent, receipts })
     }
 }
 
@@ -233,21 +227,20 @@ fn two_processes(alloc: Global) -> Result<Kernel<Counter>, Fail>
 #[test]
 fn two_threads_wait_for_one_another(rt: HostRuntime) -> Result<(), Fail> {
     let kernel = two_processes(rt.alloc())?;
-    exchange::<Brand, _>(&rt, rt.alloc(), Blank::new(PARTS), kernel)
+    exchange::<Brand, _>(&rt, rt.alloc(), Trail::new(rt.alloc())?, kernel)
 }
 
 fn exchange<W: BookName + Send + Sync, R: Threads + Wait + Abort + Sync>(
     rt: &R,
     alloc: Global,
-    blank: Blank,
+    trail: Trail,
     kernel: Kernel<Counter>,
 ) -> Result<(), Fail>
-    requires name { blank.name ≡ W.name }
-    requires parts { (blank.parts ≡ W.parts) × (blank.parts ≡ 1024) }
+    requires trail { trail ≡ record { id = W.trail; entries = []; given = 0 } }
     requires boots { IsBootState kernel }
     requires named { kernel ≡ W.boot }
 {
-    let Ok((layer, mut seats)) = start::<W, Counter, R>(rt, alloc, blank, kernel) else {
+    let Ok((layer, mut seats)) = start::<W, Counter, R>(rt, alloc, trail, kernel) else {
         return Err(Fail::from("no layer"));
     };
     let client = seats.pop().ok_or("no seat")?;
@@ -264,8 +257,7 @@ fn exchange<W: BookName + Send + Sync, R: Threads + Wait + Abort + Sync>(
     settle(rt, alloc, &layer, served, asked)
 }
 
-/// Sees that accounts settle with both shares and not with one, that the layer is ended once, and that the
-/// book holds each receipt.
+/// Sees that accounts settle with both shares and all receipts, and that the layer is ended once.
 fn settle<W: BookName, R: Wait + Abort>(
     rt: &R,
     alloc: Global,
@@ -273,75 +265,65 @@ fn settle<W: BookName, R: Wait + Abort>(
     served: Done<W>,
     asked: Done<W>,
 ) -> Result<(), Fail> {
-    let (spent, receipts) = served.into_parts();
-    let (other, others) = asked.into_parts();
-    let entries = settle_both(rt, alloc, layer, spent, other);
+    let entries = settle_both(rt, alloc, layer, served, asked);
     let ends = (layer.off(rt), layer.off(rt));
-    let held = holds_all(rt, layer, &receipts) && holds_all(rt, layer, &others);
-    drop(receipts);
-    drop(others);
-    assert!(rt; held);
     assert_eq!(rt; entries?, 10);
     assert_eq!(rt; ends, (Ok(()), Err(OffFault::Given)));
     assert_eq!(rt; layer.book(rt).book().entries().len(), 11);
     Ok(())
 }
 
-/// How many entries the accounts settle with, which they do with both shares and not with one.
-fn settle_both<W: BookName, R: Wait>(
+/// How many entries the accounts settle with, which they do with both shares and all receipts, and not with one share.
+fn settle_both<W: BookName, O: FileObject, R: Wait>(
     rt: &R,
     alloc: Global,
-    layer: &Layer<W, Counter>,
-    spent: Spent<W>,
-    other: Spent<W>,
-) -> Result<usize, Fail> {
-    let mut spents = ask_for_more(rt, layer, vec![in alloc; spent]?)?;
-    spents.push(other)?;
-    match layer.settle(rt, spents) {
-        Ok(account) => Ok(account.entries),
-        Err(_) => Err(Fail::from("accounts don't settle")),
-    }
-}
-
-/// Sees that accounts don't settle with these shares alone, and gives them back.
-fn ask_for_more<W: BookName, B: CallBook<W, Counter>, R: Wait>(
-    rt: &R,
-    layer: &Layer<W, Counter, B>,
-    spents: Vec<Spent<W>>,
-) -> Result<Vec<Spent<W>>, Fail> {
-    match layer.settle(rt, spents) {
-        Err((SettleFault::Missing, spents)) => Ok(spents),
-        _ => Err(Fail::from("settled too soon")),
-    }
-}
-
-/// Whether the book holds each of these receipts.
-fn holds_all<W: BookName, O: FileObject, R: Wait>(
-    rt: &R,
     layer: &Layer<W, O>,
-    receipts: &[Receipt<W>],
-) -> bool {
-    layer.book(rt).book().holds_all(receipts)
+    one: Done<W>,
+    other: Done<W>,
+) -> Result<usize, Fail> {
+    let (spent, mut receipts) = one.into_parts();
+    let (last, others) = other.into_parts();
+    for receipt in others {
+        receipts.push(receipt)?;
+    }
+    let mut spents = vec![in alloc; spent]?;
+    ask_for_more(rt, layer, &mut spents)?;
+    spents.push(last)?;
+    match layer.settle_with(rt, &mut spents, &mut receipts) {
+        Ok(account) => Ok(account.entries),
+        Err(Missing) => Err(Fail::from("accounts don't settle")),
+    }
+}
+
+/// Sees that accounts don't settle with these shares alone.
+fn ask_for_more<W: BookName, O: FileObject, K: Keeper, R: Wait>(
+    rt: &R,
+    layer: &Layer<W, O, K>,
+    spents: &mut [Spent<W>],
+) -> Result<(), Fail> {
+    match layer.settle(rt, spents) {
+        Err(Missing) => Ok(()),
+        Ok(_) => Err(Fail::from("settled too soon")),
+    }
 }
 
 #[test]
 fn a_call_that_needn_t_wait_is_answered(rt: HostRuntime) -> Result<(), Fail> {
     let kernel = two_processes(rt.alloc())?;
-    call_once::<Brand, _>(&rt, rt.alloc(), Blank::new(PARTS), kernel)
+    call_once::<Brand, _>(&rt, rt.alloc(), Trail::new(rt.alloc())?, kernel)
 }
 
 fn call_once<W: BookName, R: Wait + Abort>(
     rt: &R,
     alloc: Global,
-    blank: Blank,
+    trail: Trail,
     kernel: Kernel<Counter>,
 ) -> Result<(), Fail>
-    requires name { blank.name ≡ W.name }
-    requires parts { (blank.parts ≡ W.parts) × (blank.parts ≡ 1024) }
+    requires trail { trail ≡ record { id = W.trail; entries = []; given = 0 } }
     requires boots { IsBootState kernel }
     requires named { kernel ≡ W.boot }
 {
-    let Ok((layer, mut seats)) = start::<W, Counter, R>(rt, alloc, blank, kernel) else {
+    let Ok((layer, mut seats)) = start::<W, Counter, R>(rt, alloc, trail, kernel) else {
         return Err(Fail::from("no layer"));
     };
     assert_eq!(rt; layer.off(rt), Err(OffFault::Alive));
@@ -358,21 +340,20 @@ fn call_once<W: BookName, R: Wait + Abort>(
 #[test]
 fn a_blocking_call_that_is_refused_memory_is_no_entry(rt: HostRuntime) -> Result<(), Fail> {
     let kernel = two_processes(rt.alloc())?;
-    refuse_call::<Brand, _>(&rt, rt.alloc(), Blank::new(PARTS), kernel)
+    refuse_call::<Brand, _>(&rt, rt.alloc(), Trail::new(rt.alloc())?, kernel)
 }
 
 fn refuse_call<W: BookName, R: Wait + Abort>(
     rt: &R,
     alloc: Global,
-    blank: Blank,
+    trail: Trail,
     kernel: Kernel<Counter>,
 ) -> Result<(), Fail>
-    requires name { blank.name ≡ W.name }
-    requires parts { (blank.parts ≡ W.parts) × (blank.parts ≡ 1024) }
+    requires trail { trail ≡ record { id = W.trail; entries = []; given = 0 } }
     requires boots { IsBootState kernel }
     requires named { kernel ≡ W.boot }
 {
-    let Ok((layer, mut seats)) = start::<W, Counter, R>(rt, alloc, blank, kernel) else {
+    let Ok((layer, mut seats)) = start::<W, Counter, R>(rt, alloc, trail, kernel) else {
         return Err(Fail::from("no layer"));
     };
     let other = seats.pop().ok_or("no seat")?;
@@ -390,10 +371,7 @@ fn refuse_call<W: BookName, R: Wait + Abort>(
 
 /// Whether a seat exits with no call before.
 fn has_exited<W: BookName, R: Wait>(rt: &R, seat: Seat<W, Counter>) -> bool {
-    match seat.exit(rt) {
-        Ok(spent) => spent.calls() == 1,
-        Err(_) => false,
-    }
+    seat.exit(rt).calls() == 1
 }
 
 /// Whether calls that needn't wait are answered, and the seat exits.
@@ -401,10 +379,7 @@ fn calls_and_exits<W: BookName, R: Wait>(rt: &R, mut seat: Seat<W, Counter>) -> 
     let made = is_answered(rt, &mut seat, SOCKET, Reply::Fd(Fd(0)))
         && is_answered(rt, &mut seat, receive(0), Reply::Err(Errno::ENOTCONN));
     let calls = seat.calls();
-    match seat.exit(rt) {
-        Ok(spent) => made && calls == 2 && spent.calls() == 3,
-        Err(_) => false,
-    }
+    made && calls == 2 && seat.exit(rt).calls() == 3
 }
 
 /// Whether a call that doesn't wait is answered so.

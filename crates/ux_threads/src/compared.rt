@@ -1,20 +1,17 @@
-//! A history beside its script and the receipts of its calls.
-ghost use Rattle.std.specs.Prelude.{◌≡◌, ◌≤◌, ◌⊎◌, ◌↔◌, true, length, IsTrue, IfOk, IfErr, OnOk};
-ghost use Rattle.std.specs.List.{AllByRecursion};
+//! A history beside its script.
+ghost use Rattle.std.specs.Prelude.{◌≡◌, ◌≤◌, ◌⊎◌, length, IfOk, IfErr};
 ghost use Rattle.ux_model.specs.Limits.{made_limit};
 ghost use Rattle.ux_syntax.specs.Spelling.{plan_of, known_count};
-ghost use Rattle.ux_history.specs.SettlingSlips.{AllStand};
 ghost use Rattle.ux_compare.specs.Runs.{Runs, HasBegun, MakesAll, MakesFirst};
 
 use std::alloc::{AllocError, Global};
+use ux_book::{Book, BookName};
 use ux_compare::{makes_all, makes_first};
-use ux_history::{Book, BookName, Receipt};
 use ux_object::FileObject;
 use ux_syntax::{Script, ScriptFault};
 use ux_types::Entry;
 
-/// A copy of the book's history, where the book has the entry of each receipt, and each of so many processes made
-/// the script's calls in it, and no others.
+/// A copy of the book's history, where each of so many processes made the script's calls in it, and no others.
 ///
 /// # Errors
 ///
@@ -23,18 +20,16 @@ pub(crate) fn whole_history<W: BookName, O: FileObject>(
     alloc: Global,
     book: &Book<W, O>,
     script: &Script,
-    receipts: &[Vec<Receipt<W>>],
     count: usize,
 ) -> Result<Vec<Entry>, ScriptFault>
     requires count { count ≡ known_count (plan_of script.now) }
     requires few { count ≤ made_limit }
     ensures entries { IfOk result (λ entries. entries.items ≡ book.now.entries) }
     ensures runs { IfOk result (λ entries. Runs W.boot (plan_of script.now) entries.items) }
-    ensures held { OnOk result (AllByRecursion (λ theirs. AllStand book.now.entries theirs.items) receipts.now) }
-    ensures stranger { IfErr result (λ f. f ≡ ScriptFault.Stranger → ¬ (AllByRecursion (λ theirs. AllStand book.now.entries theirs.items) receipts.now × MakesAll (plan_of script.now) book.now.entries)) }
+    ensures stranger { IfErr result (λ f. f ≡ ScriptFault.Stranger → ¬ (MakesAll (plan_of script.now) book.now.entries)) }
     ensures fault { IfErr result (λ f. (f ≡ ScriptFault.NoMemory) ⊎ (f ≡ ScriptFault.Stranger)) }
 {
-    if !all_held(book, receipts) || !makes_all(script, book.entries(), count) {
+    if !makes_all(script, book.entries(), count) {
         return Err(ScriptFault::Stranger);
     }
     copy_all(alloc, book.entries()).map_err(|_| ScriptFault::NoMemory)
@@ -49,18 +44,16 @@ pub(crate) fn begun_history<W: BookName, O: FileObject>(
     alloc: Global,
     book: &Book<W, O>,
     script: &Script,
-    receipts: &[Vec<Receipt<W>>],
     count: usize,
 ) -> Result<Vec<Entry>, ScriptFault>
     requires count { count ≡ known_count (plan_of script.now) }
     requires few { count ≤ made_limit }
     ensures entries { IfOk result (λ entries. entries.items ≡ book.now.entries) }
     ensures begun { IfOk result (λ entries. HasBegun W.boot (plan_of script.now) entries.items) }
-    ensures held { OnOk result (AllByRecursion (λ theirs. AllStand book.now.entries theirs.items) receipts.now) }
-    ensures stranger { IfErr result (λ f. f ≡ ScriptFault.Stranger → ¬ (AllByRecursion (λ theirs. AllStand book.now.entries theirs.items) receipts.now × MakesFirst (plan_of script.now) book.now.entries)) }
+    ensures stranger { IfErr result (λ f. f ≡ ScriptFault.Stranger → ¬ (MakesFirst (plan_of script.now) book.now.entries)) }
     ensures fault { IfErr result (λ f. (f ≡ ScriptFault.NoMemory) ⊎ (f ≡ ScriptFault.Stranger)) }
 {
-    if !all_held(book, receipts) || !makes_first(script, book.entries(), count) {
+    if !makes_first(script, book.entries(), count) {
         return Err(ScriptFault::Stranger);
     }
     copy_all(alloc, book.entries()).map_err(|_| ScriptFault::NoMemory)
@@ -77,11 +70,4 @@ fn copy_all(alloc: Global, entries: &[Entry]) -> Result<Vec<Entry>, AllocError>
         left = more;
     }
     Ok(copy)
-}
-
-/// Whether the book has the entry of each of these receipts at its number.
-fn all_held<W: BookName, O: FileObject>(book: &Book<W, O>, receipts: &[Vec<Receipt<W>>]) -> bool
-    ensures { IsTrue result ↔ AllByRecursion (λ theirs. AllStand book.now.entries theirs.items) receipts.now }
-{
-    receipts.iter().all(|theirs| book.holds_all(theirs))
 }

@@ -1,5 +1,5 @@
 //! A run of a script by threads, from its kernel to its trace.
-ghost use Rattle.std.specs.Prelude.{◌≡◌, ◌≤◌, ◌⊎◌, ℕ, true, false, length, map, IfOk, IfErr};
+ghost use Rattle.std.specs.Prelude.{◌≡◌, ◌≤◌, ◌⊎◌, ℕ, [], true, false, length, map, IfOk, IfErr};
 ghost use Rattle.ux_model.specs.Limits.{made_limit};
 ghost use Rattle.std.specs.Io.KnownBytes.{Appends};
 ghost use Rattle.ux_model.specs.Boot.{IsBootState, new_process};
@@ -17,9 +17,8 @@ use std::alloc::Global;
 use std::io::Write;
 use std::marker::Brand;
 use std::sync::Wait;
-use std::sync::ledger::Blank;
 use std::thread::Threads;
-use ux_history::{BookName, PARTS, Receipt, Spent};
+use ux_book::{BookName, Spent, Trail};
 use ux_kernel::Kernel;
 use ux_layer::{Layer, start};
 use ux_object::FileObject;
@@ -61,7 +60,10 @@ pub fn run_threads<O: FileObject + Send, G: Gate, Out: Write>(
     ensures begun { IfErr result (λ f. is_deadlock f ≡ true → WritesBegun kernel (plan_of script.now) (Out.contents writer.old) (Out.contents writer.new)) }
     ensures fault { IfErr result (λ f. is_deadlock f ≡ false → IsRunFault f) }
 {
-    match run_named::<Brand, O, _, G>(rt, alloc, Blank::new(PARTS), script, kernel, gate)? {
+    let Ok(trail) = Trail::new(alloc) else {
+        return Err(ScriptFault::NoMemory);
+    };
+    match run_named::<Brand, O, _, G>(rt, alloc, trail, script, kernel, gate)? {
         Ran::Whole(entries) => {
             finish_trace(alloc, writer, &entries)?;
             Ok(entries)
@@ -87,13 +89,12 @@ enum Ran {
 fn run_named<W: BookName + Send + Sync, O: FileObject + Send, R: Threads + Wait + Sync, G: Gate>(
     rt: &R,
     alloc: Global,
-    blank: Blank,
+    trail: Trail,
     script: &Script,
     kernel: Kernel<O>,
     gate: &G,
 ) -> Result<Ran, ScriptFault>
-    requires name { blank.name ≡ W.name }
-    requires parts { (blank.parts ≡ W.parts) × (blank.parts ≡ 1024) }
+    requires trail { trail ≡ record { id = W.trail; entries = []; given = 0 } }
     requires boots { IsBootState kernel }
     requires named { kernel ≡ W.boot }
     requires processes { kernel.processes ≡ map new_process script.now.procs.items }
@@ -104,7 +105,7 @@ fn run_named<W: BookName + Send + Sync, O: FileObject + Send, R: Threads + Wait 
     if count > MADE_LIMIT {
         return Err(ScriptFault::Stranger);
     }
-    let Ok((layer, seats)) = start::<W, O, R>(rt, alloc, blank, kernel) else {
+    let Ok((layer, seats)) = start::<W, O, R>(rt, alloc, trail, kernel) else {
         return Err(ScriptFault::NoMemory);
     };
     let Ok(done) = work_all(rt, alloc, script, seats, gate) else {
@@ -116,7 +117,7 @@ fn run_named<W: BookName + Send + Sync, O: FileObject + Send, R: Threads + Wait 
         return Ok(Ran::Whole(entries));
     }
     let guard = layer.book(rt);
-    let entries = begun_history(alloc, guard.book(), script, &brought.receipts, count)?;
+    let entries = begun_history(alloc, guard.book(), script, count)?;
     Ok(Ran::Begun(entries, Waiting::new(brought.waits)))
 }
 
@@ -135,24 +136,22 @@ fn finish<W: BookName, O: FileObject, R: Wait>(
     ensures fault { IfErr result (λ f. (f ≡ ScriptFault.NoMemory) ⊎ (f ≡ ScriptFault.Stranger)) }
 {
     let Brought {
-        spents,
-        receipts,
+        mut spents,
         waits: _,
     } = brought;
     if script.off && layer.off(rt).is_err() {
         return Err(ScriptFault::Stranger);
     }
-    if layer.settle(rt, spents).is_err() {
+    if layer.settle(rt, &mut spents).is_err() {
         return Err(ScriptFault::Stranger);
     }
-    whole_history(alloc, layer.book(rt).book(), script, &receipts, count)
+    whole_history(alloc, layer.book(rt).book(), script, count)
 }
 
 /// What all workers brought back.
 #[derive(Drop)]
 struct Brought<W: BookName> {
     spents: Vec<Spent<W>>,
-    receipts: Vec<Vec<Receipt<W>>>,
     /// Where every process waits: which, and in which line.
     waits: Vec<(Pid, usize)>,
 }
@@ -167,7 +166,6 @@ fn gather<W: BookName>(alloc: Global, done: Vec<Done<W>>) -> Result<Brought<W>, 
     }
     let mut brought = Brought {
         spents: Vec::new(alloc),
-        receipts: Vec::new(alloc),
         waits: Vec::new(alloc),
     };
     for one in done {
@@ -180,17 +178,13 @@ fn gather<W: BookName>(alloc: Global, done: Vec<Done<W>>) -> Result<Brought<W>, 
 fn add<W: BookName>(brought: &mut Brought<W>, done: Done<W>) -> Result<(), ScriptFault>
     ensures { IfErr result (λ f. (f ≡ ScriptFault.NoMemory) ⊎ (f ≡ ScriptFault.Stranger)) }
 {
-    let Done {
-        spent,
-        receipts,
-        stop,
-    } = done;
+    let Done { spent, stop } = done;
     let kept = match (spent, stop) {
         (Some(spent), None) => brought.spents.push(spent).is_ok(),
         (None, Some(Stop::Deadlock(pid, line))) => brought.waits.push((pid, line)).is_ok(),
         _ => return Err(ScriptFault::Stranger),
     };
-    if !kept || brought.receipts.push(receipts).is_err() {
+    if !kept {
         return Err(ScriptFault::NoMemory);
     }
     Ok(())

@@ -1,6 +1,6 @@
 //! One thread for each process.
 ghost use Rattle.std.specs.Prelude.{◌≡◌, ◌≤◌, ◌<◌, false, length, IfOk, IfSome};
-ghost use Rattle.ux_history.specs.Books.{has_own_call};
+ghost use Rattle.ux_book.specs.Books.{has_own_call};
 
 use crate::gate::Gate;
 use std::alloc::{AllocError, Global};
@@ -8,7 +8,7 @@ use std::sync::Wait;
 use std::sync::atomic::{AtomicBool, Ordering};
 use std::thread;
 use std::thread::{JoinHandle, Scope, Threads};
-use ux_history::{BookName, CallFault, NoMemory, Receipt, Spent, has_own_call};
+use ux_book::{BookName, CallFault, NoMemory, Spent, has_own_call};
 use ux_layer::Seat;
 use ux_object::FileObject;
 use ux_syntax::{Act, Line, Script};
@@ -19,17 +19,16 @@ use ux_types::{Pid, Request};
 pub(crate) enum Stop {
     /// Memory ran out.
     NoMemory,
-    /// A call was refused as that of a stranger.
+    /// A line is of no live process, or there are too many calls.
     Stranger,
     /// Every process waits, this one in the line of this number.
     Deadlock(Pid, usize),
 }
 
-/// What a worker brings back. With no `spent` its exit was refused, or it stopped where every process waits.
+/// What a worker brings back. With no `spent` it stopped where every process waits.
 #[derive(Drop)]
 pub(crate) struct Done<W: BookName> {
     pub(crate) spent: Option<Spent<W>>,
-    pub(crate) receipts: Vec<Receipt<W>>,
     pub(crate) stop: Option<Stop>,
 }
 
@@ -154,7 +153,7 @@ fn lead<
     seat: Seat<W, O>,
     threads: &mut Vec<JoinHandle<Done<W>>>,
 ) -> Done<W> {
-    let mut worker = Worker::new(shared.alloc, seat);
+    let mut worker = Worker::new(seat);
     let mut left = shared.script.lines.as_slice();
     while let Some((child, more)) = worker.next_child(shared, left) {
         start_work(scope, shared, child, threads);
@@ -168,7 +167,7 @@ fn work<W: BookName, O: FileObject, R: Wait, G: Gate>(
     shared: Shared<'_, R, G>,
     seat: Seat<W, O>,
 ) -> Done<W> {
-    let mut worker = Worker::new(shared.alloc, seat);
+    let mut worker = Worker::new(seat);
     let left = worker.make_calls(shared, &shared.script.lines);
     if !left.is_empty() {
         worker.stopped = Some(Stop::Stranger);
@@ -176,21 +175,19 @@ fn work<W: BookName, O: FileObject, R: Wait, G: Gate>(
     worker.end(shared)
 }
 
-/// A seat whose lines are made, and the receipts of its calls so far.
+/// A seat whose lines are made.
 #[derive(Drop)]
 struct Worker<W: BookName, O: FileObject> {
     seat: Seat<W, O>,
-    receipts: Vec<Receipt<W>>,
     /// Why it makes no further line, where that isn't its exit.
     stopped: Option<Stop>,
 }
 
 impl<W: BookName, O: FileObject> Worker<W, O> {
     /// A worker that has made no calls.
-    fn new(alloc: Global, seat: Seat<W, O>) -> Self {
+    fn new(seat: Seat<W, O>) -> Self {
         Worker {
             seat,
-            receipts: Vec::new(alloc),
             stopped: None,
         }
     }
@@ -264,7 +261,7 @@ impl<W: BookName, O: FileObject> Worker<W, O> {
         }
     }
 
-    /// Makes one call, for whose receipt there is room before.
+    /// Makes one call.
     fn call<R: Wait, G: Gate>(
         &mut self,
         shared: Shared<'_, R, G>,
@@ -272,22 +269,17 @@ impl<W: BookName, O: FileObject> Worker<W, O> {
     ) -> Result<(), CallFault>
         requires { has_own_call request.now ≡ false }
     {
-        self.receipts.reserve(1)?;
         let (pid, k) = (self.seat.pid(), self.seat.calls());
         shared.gate.before(pid, k);
         let made = self.seat.call_blocking(shared.rt, request);
         shared.gate.after(pid, k);
         match made {
-            Ok((reply, receipt)) => {
-                drop(reply);
-                self.receipts.push_reserved(receipt);
-                Ok(())
-            }
+            Ok(_answer) => Ok(()),
             Err(fault) => Err(fault),
         }
     }
 
-    /// Makes a fork, for whose receipt there is room before, and gives the child's seat.
+    /// Makes a fork, and gives the child's seat.
     ///
     /// # Errors
     ///
@@ -296,35 +288,25 @@ impl<W: BookName, O: FileObject> Worker<W, O> {
         &mut self,
         shared: Shared<'_, R, G>,
     ) -> Result<Seat<W, O>, CallFault> {
-        self.receipts.reserve(1)?;
         let (pid, k) = (self.seat.pid(), self.seat.calls());
         shared.gate.before(pid, k);
         let made = self.seat.fork(shared.rt);
         shared.gate.after(pid, k);
         match made {
-            Ok((reply, receipt, child)) => {
-                drop(reply);
-                self.receipts.push_reserved(receipt);
-                child.ok_or(CallFault::NoMemory)
-            }
+            Ok((_reply, _receipt, child)) => child.ok_or(CallFault::NoMemory),
             Err(fault) => Err(fault),
         }
     }
 
     /// Exits the seat. Where every process waits the history ends there, without exits.
     fn end<R: Wait, G: Gate>(self, shared: Shared<'_, R, G>) -> Done<W> {
-        let Worker {
-            seat,
-            receipts,
-            stopped,
-        } = self;
+        let Worker { seat, stopped } = self;
         let spent = match stopped {
             Some(Stop::Deadlock(..)) => None,
-            _ => exit(shared, seat),
+            _ => Some(exit(shared, seat)),
         };
         Done {
             spent,
-            receipts,
             stop: stopped,
         }
     }
@@ -344,10 +326,10 @@ enum Step {
 fn exit<W: BookName, O: FileObject, R: Wait, G: Gate>(
     shared: Shared<'_, R, G>,
     seat: Seat<W, O>,
-) -> Option<Spent<W>> {
+) -> Spent<W> {
     let (pid, k) = (seat.pid(), seat.calls());
     shared.gate.before(pid, k);
-    let spent = seat.exit(shared.rt).ok();
+    let spent = seat.exit(shared.rt);
     shared.gate.after(pid, k);
     spent
 }

@@ -1,9 +1,5 @@
 use Rattle.example_scripts.proofs.seat.Given as goal
 
--- the ledger that was just opened
-abbrev pub ghosts-goes_by_seats-W-Ledger : goal.ghosts-goes_by_seats-W-Ledger
-ghosts-goes_by_seats-W-Ledger g a = record { name = a.blank.name; parts = a.blank.parts }
-
--- the state that the kernel was booted in
-abbrev pub ghosts-goes_by_seats-W-BookName : goal.ghosts-goes_by_seats-W-BookName
-ghosts-goes_by_seats-W-BookName g a = record { boot = a.kernel }
+-- the trail that was just made, and the state that the kernel was booted in
+abbrev pub ghosts-goes_by_seats : goal.ghosts-goes_by_seats
+ghosts-goes_by_seats g a = record { boot = a.kernel; trail = a.trail.id }

@@ -7,11 +7,10 @@ use std::alloc::Global;
 use std::marker::Brand;
 use std::process::Abort;
 use std::sync::Wait;
-use std::sync::ledger::Blank;
 use std::test::Fail;
 use std::thread;
 use std::thread::Threads;
-use ux_history::{BookName, CallFault, PARTS, Spent};
+use ux_book::{BookName, CallFault, Spent, Trail};
 use ux_kernel::Kernel;
 use ux_layer::{Seat, start};
 use ux_objects::Counter;
@@ -35,7 +34,7 @@ enum Awaited {
 fn where_all_wait_each_call_says_so(rt: HostRuntime) -> Result<(), Fail> {
     for second in [Awaited::Message, Awaited::Entries(Pid(1), 2)].as_slice() {
         let kernel = two_processes(rt.alloc())?;
-        wait_all::<Brand, _>(&rt, rt.alloc(), Blank::new(PARTS), kernel, *second)?;
+        wait_all::<Brand, _>(&rt, rt.alloc(), Trail::new(rt.alloc())?, kernel, *second)?;
     }
     Ok(())
 }
@@ -43,16 +42,15 @@ fn where_all_wait_each_call_says_so(rt: HostRuntime) -> Result<(), Fail> {
 fn wait_all<W: BookName + Send + Sync, R: Threads + Wait + Abort + Sync>(
     rt: &R,
     alloc: Global,
-    blank: Blank,
+    trail: Trail,
     kernel: Kernel<Counter>,
     second: Awaited,
 ) -> Result<(), Fail>
-    requires name { blank.name ≡ W.name }
-    requires parts { (blank.parts ≡ W.parts) × (blank.parts ≡ 1024) }
+    requires trail { trail ≡ record { id = W.trail; entries = []; given = 0 } }
     requires boots { IsBootState kernel }
     requires named { kernel ≡ W.boot }
 {
-    let Ok((layer, mut seats)) = start::<W, Counter, R>(rt, alloc, blank, kernel) else {
+    let Ok((layer, mut seats)) = start::<W, Counter, R>(rt, alloc, trail, kernel) else {
         return Err(Fail::from("no layer"));
     };
     let other = seats.pop().ok_or("no seat")?;
@@ -64,7 +62,8 @@ fn wait_all<W: BookName + Send + Sync, R: Threads + Wait + Abort + Sync>(
     );
     let one = one.ok_or("a wait went wrong")?;
     let other = other.ok_or("a wait went wrong")?;
-    let settled = match layer.settle(rt, vec![in alloc; one, other]?) {
+    let mut spents = vec![in alloc; one, other]?;
+    let settled = match layer.settle(rt, &mut spents) {
         Ok(account) => account.entries,
         Err(_) => 0,
     };
@@ -86,8 +85,10 @@ fn wait_in_vain<W: BookName, R: Wait>(
         Awaited::Entries(pid, calls) => seat.wait_for(rt, pid, calls).err(),
     };
     let same = seat.calls() == 1;
-    match seat.exit(rt) {
-        Ok(spent) if told == Some(CallFault::Deadlock) && same => Some(spent),
-        _ => None,
+    let spent = seat.exit(rt);
+    if told == Some(CallFault::Deadlock) && same {
+        Some(spent)
+    } else {
+        None
     }
 }

@@ -2,18 +2,17 @@
 ghost use Rattle.std.specs.Prelude.{◌≡◌, [], IfOk};
 ghost use Rattle.ux_model.specs.Boot.{IsBootState};
 
-use super::{Trouble, USER, ask_for_more, calls_and_exits, holds_all, two_processes};
+use super::{Trouble, USER, ask_for_more, calls_and_exits, two_processes};
 use std::alloc::Global;
 use std::marker::Brand;
 use std::process::Abort;
 use std::sync::Wait;
-use std::sync::ledger::Blank;
 use std::test::Fail;
 use std::thread;
 use std::thread::Threads;
-use ux_history::{BookName, CallBook, PARTS, Spent, Trail, Trailing};
+use ux_book::{BookName, Keeper, Receipt, Spent, Trail};
 use ux_kernel::Kernel;
-use ux_layer::{Layer, Seat, start, start_running};
+use ux_layer::{Layer, Seat, start, start_counting};
 use ux_objects::Counter;
 use ux_types::{Errno, Pid, Reply};
 
@@ -21,41 +20,41 @@ use ux_types::{Errno, Pid, Reply};
 const MOST: u32 = 1024;
 
 /// A process's seat, those of its children by rising number, and what its forks left.
-struct Family<W: BookName, B: CallBook<W, Counter>> {
-    parent: Seat<W, Counter, B>,
-    children: Vec<Seat<W, Counter, B>>,
-    slips: Vec<B::Slip>,
+struct Family<W: BookName, K: Keeper> {
+    parent: Seat<W, Counter, K>,
+    children: Vec<Seat<W, Counter, K>>,
+    receipts: Vec<Receipt<W>>,
 }
 
 /// Written out, a drop is a call, and not each of its parts in the proof of each function that drops one.
-impl<W: BookName, B: CallBook<W, Counter>> Drop for Family<W, B> {
+impl<W: BookName, K: Keeper> Drop for Family<W, K> {
     fn drop(self) {
         let Family {
             parent,
             children,
-            slips,
+            receipts,
         } = self;
         drop(parent);
         drop(children);
-        drop(slips);
+        drop(receipts);
     }
 }
 
-impl<W: BookName, B: CallBook<W, Counter>> Family<W, B> {
+impl<W: BookName, K: Keeper> Family<W, K> {
     /// Makes a fork that must be answered so, and gives the child's seat.
     fn ask<R: Wait>(
         &mut self,
         rt: &R,
         answer: Reply,
-    ) -> Result<Option<Seat<W, Counter, B>>, Trouble> {
-        let (reply, slip, child) = match self.parent.fork(rt) {
+    ) -> Result<Option<Seat<W, Counter, K>>, Trouble> {
+        let (reply, receipt, child) = match self.parent.fork(rt) {
             Ok(made) => made,
             Err(fault) => return Err(Trouble::Fault(fault)),
         };
         if reply != answer {
             return Err(Trouble::Wrong);
         }
-        match self.slips.push(slip) {
+        match self.receipts.push(receipt) {
             Ok(()) => Ok(child),
             Err(_) => Err(Trouble::Memory),
         }
@@ -91,60 +90,57 @@ impl<W: BookName, B: CallBook<W, Counter>> Family<W, B> {
         self,
         rt: &R,
         alloc: Global,
-    ) -> Result<(Vec<B::Slip>, Vec<Spent<W>>), Trouble> {
+    ) -> Result<(Vec<Receipt<W>>, Vec<Spent<W>>), Trouble> {
         let Family {
             parent,
             children,
-            slips,
+            receipts,
         } = self;
         let mut spents = Vec::new(alloc);
         exit(rt, parent, &mut spents)?;
         for child in children {
             exit(rt, child, &mut spents)?;
         }
-        Ok((slips, spents))
+        Ok((receipts, spents))
     }
 }
 
 /// Has a process exit, and keeps its share.
-fn exit<W: BookName, B: CallBook<W, Counter>, R: Wait>(
+fn exit<W: BookName, K: Keeper, R: Wait>(
     rt: &R,
-    seat: Seat<W, Counter, B>,
+    seat: Seat<W, Counter, K>,
     spents: &mut Vec<Spent<W>>,
 ) -> Result<(), Trouble> {
-    match seat.exit(rt) {
-        Ok(spent) => match spents.push(spent) {
-            Ok(()) => Ok(()),
-            Err(_) => Err(Trouble::Memory),
-        },
-        Err((fault, _seat)) => Err(Trouble::Fault(fault)),
+    match spents.push(seat.exit(rt)) {
+        Ok(()) => Ok(()),
+        Err(_) => Err(Trouble::Memory),
     }
 }
 
 /// Makes all the children of a process that there may be, has all exit, and gives what is left of the forks and of the
 /// processes.
-fn raise<W: BookName, B: CallBook<W, Counter>, R: Wait>(
+fn raise<W: BookName, K: Keeper, R: Wait>(
     rt: &R,
     alloc: Global,
-    parent: Seat<W, Counter, B>,
-) -> Result<(Vec<B::Slip>, Vec<Spent<W>>), Trouble> {
+    parent: Seat<W, Counter, K>,
+) -> Result<(Vec<Receipt<W>>, Vec<Spent<W>>), Trouble> {
     let mut family = Family {
         parent,
         children: Vec::new(alloc),
-        slips: Vec::new(alloc),
+        receipts: Vec::new(alloc),
     };
     family.fork_all(rt)?;
     family.exit_all(rt, alloc)
 }
 
 /// Sees that accounts don't settle without the last child's share, and gives all shares.
-fn all_but_one_are_too_few<W: BookName, B: CallBook<W, Counter>, R: Wait>(
+fn all_but_one_are_too_few<W: BookName, K: Keeper, R: Wait>(
     rt: &R,
-    layer: &Layer<W, Counter, B>,
+    layer: &Layer<W, Counter, K>,
     mut spents: Vec<Spent<W>>,
 ) -> Result<Vec<Spent<W>>, Fail> {
     let last = spents.pop().ok_or("no share")?;
-    let mut spents = ask_for_more(rt, layer, spents)?;
+    ask_for_more(rt, layer, &mut spents)?;
     spents.push(last)?;
     Ok(spents)
 }
@@ -162,75 +158,70 @@ fn one_process(alloc: Global) -> Result<Kernel<Counter>, Fail>
 #[test]
 fn a_process_makes_1023_children_and_all_settle(rt: HostRuntime) -> Result<(), Fail> {
     let kernel = one_process(rt.alloc())?;
-    settle_all::<Brand, _>(&rt, rt.alloc(), Blank::new(PARTS), kernel)
+    settle_all::<Brand, _>(&rt, rt.alloc(), Trail::new(rt.alloc())?, kernel)
 }
 
 fn settle_all<W: BookName, R: Wait + Abort>(
     rt: &R,
     alloc: Global,
-    blank: Blank,
+    trail: Trail,
     kernel: Kernel<Counter>,
 ) -> Result<(), Fail>
-    requires name { blank.name ≡ W.name }
-    requires parts { (blank.parts ≡ W.parts) × (blank.parts ≡ 1024) }
+    requires trail { trail ≡ record { id = W.trail; entries = []; given = 0 } }
     requires boots { IsBootState kernel }
     requires named { kernel ≡ W.boot }
 {
-    let Ok((layer, mut seats)) = start::<W, Counter, R>(rt, alloc, blank, kernel) else {
+    let Ok((layer, mut seats)) = start::<W, Counter, R>(rt, alloc, trail, kernel) else {
         return Err(Fail::from("no layer"));
     };
     let parent = seats.pop().ok_or("no seat")?;
-    let Ok((receipts, spents)) = raise(rt, alloc, parent) else {
+    let Ok((mut receipts, spents)) = raise(rt, alloc, parent) else {
         return Err(Fail::from("a call went wrong"));
     };
-    let held = receipts.len() == 1024 && holds_all(rt, &layer, &receipts);
-    drop(receipts);
-    let spents = all_but_one_are_too_few(rt, &layer, spents)?;
-    let entries = match layer.settle(rt, spents) {
+    let held = receipts.len();
+    let mut spents = all_but_one_are_too_few(rt, &layer, spents)?;
+    let entries = match layer.settle_with(rt, &mut spents, &mut receipts) {
         Ok(account) => account.entries,
         Err(_) => 0,
     };
-    assert!(rt; held);
-    assert_eq!(rt; entries, 2048);
+    drop(receipts);
+    assert_eq!(rt; (entries, held), (2048, 1024));
     Ok(())
 }
 
 #[test]
-fn children_of_a_running_seat_settle_alike(rt: HostRuntime) -> Result<(), Fail> {
+fn children_settle_alike_where_nothing_is_kept(rt: HostRuntime) -> Result<(), Fail> {
     let alloc = rt.alloc();
     let kernel = one_process(alloc)?;
     let trail = Trail::new(alloc)?;
-    settle_with_witnesses::<Brand, _>(&rt, alloc, Blank::new(PARTS), trail, kernel)
+    settle_counted::<Brand, _>(&rt, alloc, trail, kernel)
 }
 
-fn settle_with_witnesses<W: Trailing, R: Wait + Abort>(
+fn settle_counted<W: BookName, R: Wait + Abort>(
     rt: &R,
     alloc: Global,
-    blank: Blank,
     trail: Trail,
     kernel: Kernel<Counter>,
 ) -> Result<(), Fail>
-    requires name { blank.name ≡ W.name }
-    requires parts { (blank.parts ≡ W.parts) × (blank.parts ≡ 1024) }
-    requires trail { trail ≡ record { id = W.trail; calls = [] } }
+    requires trail { trail ≡ record { id = W.trail; entries = []; given = 0 } }
     requires boots { IsBootState kernel }
     requires named { kernel ≡ W.boot }
 {
-    let started = start_running::<W, Counter, R>(rt, alloc, blank, trail, kernel);
+    let started = start_counting::<W, Counter, R>(rt, alloc, trail, kernel);
     let Ok((layer, mut seats)) = started else {
         return Err(Fail::from("no layer"));
     };
     let parent = seats.pop().ok_or("no seat")?;
-    let Ok((mut witnesses, spents)) = raise(rt, alloc, parent) else {
+    let Ok((mut receipts, spents)) = raise(rt, alloc, parent) else {
         return Err(Fail::from("a call went wrong"));
     };
-    let spents = all_but_one_are_too_few(rt, &layer, spents)?;
-    let entries = match layer.settle_with_witnesses(rt, spents, witnesses.as_mut_slice()) {
+    let mut spents = all_but_one_are_too_few(rt, &layer, spents)?;
+    let entries = match layer.settle_with(rt, &mut spents, &mut receipts) {
         Ok(account) => account.entries,
         Err(_) => 0,
     };
-    let count = witnesses.len();
-    drop(witnesses);
+    let count = receipts.len();
+    drop(receipts);
     assert_eq!(rt; (entries, count), (2048, 1024));
     Ok(())
 }
@@ -238,21 +229,20 @@ fn settle_with_witnesses<W: Trailing, R: Wait + Abort>(
 #[test]
 fn nobody_waits_for_a_child_once_process_1_has_exited(rt: HostRuntime) -> Result<(), Fail> {
     let kernel = two_processes(rt.alloc())?;
-    wait_for_nobody::<Brand, _>(&rt, rt.alloc(), Blank::new(PARTS), kernel)
+    wait_for_nobody::<Brand, _>(&rt, rt.alloc(), Trail::new(rt.alloc())?, kernel)
 }
 
 fn wait_for_nobody<W: BookName + Send + Sync, R: Threads + Wait + Abort + Sync>(
     rt: &R,
     alloc: Global,
-    blank: Blank,
+    trail: Trail,
     kernel: Kernel<Counter>,
 ) -> Result<(), Fail>
-    requires name { blank.name ≡ W.name }
-    requires parts { (blank.parts ≡ W.parts) × (blank.parts ≡ 1024) }
+    requires trail { trail ≡ record { id = W.trail; entries = []; given = 0 } }
     requires boots { IsBootState kernel }
     requires named { kernel ≡ W.boot }
 {
-    let Ok((layer, mut seats)) = start::<W, Counter, R>(rt, alloc, blank, kernel) else {
+    let Ok((layer, mut seats)) = start::<W, Counter, R>(rt, alloc, trail, kernel) else {
         return Err(Fail::from("no layer"));
     };
     let second = seats.pop().ok_or("no seat")?;
@@ -271,8 +261,6 @@ fn wait_for_nobody<W: BookName + Send + Sync, R: Threads + Wait + Abort + Sync>(
 /// Whether a process that waits for the first call of the third process goes on, and exits.
 fn waits_and_exits<W: BookName, R: Wait>(rt: &R, seat: Seat<W, Counter>) -> bool {
     let waited = seat.wait_for(rt, Pid(3), 1).is_ok();
-    match seat.exit(rt) {
-        Ok(spent) => waited && spent.calls() == 1,
-        Err(_) => false,
-    }
+    let spent = seat.exit(rt);
+    waited && spent.calls() == 1
 }

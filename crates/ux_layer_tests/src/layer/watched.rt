@@ -1,20 +1,19 @@
 //! What the threads do to the file objects, as objects of the tests' own report it.
 ghost use Rattle.std.specs.Prelude.{◌≡◌, false, IfOk};
 ghost use Rattle.ux_model.specs.Boot.{IsBootState};
-ghost use Rattle.ux_history.specs.Books.{has_own_call};
+ghost use Rattle.ux_book.specs.Books.{has_own_call};
 ghost use Rattle.ux_objects.specs.Faultless.{counter_view};
 
-use super::{Done, Trouble, USER, Worker, holds_all, is_answered};
+use super::{Done, Trouble, USER, Worker, is_answered, settle_both};
 use std::alloc::{AllocError, Global};
 use std::marker::Brand;
 use std::process::Abort;
 use std::sync::Wait;
 use std::sync::atomic::{AtomicU64, Ordering};
-use std::sync::ledger::Blank;
 use std::test::Fail;
 use std::thread;
 use std::thread::Threads;
-use ux_history::{BookName, PARTS};
+use ux_book::{BookName, Trail};
 use ux_kernel::Kernel;
 use ux_layer::{Layer, Seat, start};
 use ux_object::{FileObject, ObjError, ObjKind};
@@ -163,22 +162,21 @@ fn a_kernel_goes_with_its_open_objects(rt: HostRuntime) -> Result<(), Fail> {
     let alloc = rt.alloc();
     let watch = Watch::new(0);
     let kernel = watched_kernel(alloc, &[b"a", b"b"], &[USER], &watch)?;
-    abandon::<Brand, _>(&rt, alloc, Blank::new(PARTS), kernel, &watch)
+    abandon::<Brand, _>(&rt, alloc, Trail::new(alloc)?, kernel, &watch)
 }
 
 fn abandon<'a, W: BookName + Send + Sync, R: Threads + Wait + Abort + Sync>(
     rt: &R,
     alloc: Global,
-    blank: Blank,
+    trail: Trail,
     kernel: Kernel<Watched<'a>>,
     watch: &'a Watch,
 ) -> Result<(), Fail>
-    requires name { blank.name ≡ W.name }
-    requires parts { (blank.parts ≡ W.parts) × (blank.parts ≡ 1024) }
+    requires trail { trail ≡ record { id = W.trail; entries = []; given = 0 } }
     requires boots { IsBootState kernel }
     requires named { kernel ≡ W.boot }
 {
-    let Ok((layer, mut seats)) = start::<W, Watched<'a>, R>(rt, alloc, blank, kernel) else {
+    let Ok((layer, mut seats)) = start::<W, Watched<'a>, R>(rt, alloc, trail, kernel) else {
         return Err(Fail::from("no layer"));
     };
     let seat = seats.pop().ok_or("no seat")?;
@@ -209,22 +207,21 @@ fn objects_are_dropped_outside_the_lock(rt: HostRuntime) -> Result<(), Fail> {
     let alloc = rt.alloc();
     let watch = Watch::new(PATIENCE);
     let kernel = watched_kernel(alloc, &[b"a", b"b", b"c", b"d"], &[USER], &watch)?;
-    drop_objects::<Brand, _>(&rt, alloc, Blank::new(PARTS), kernel, &watch)
+    drop_objects::<Brand, _>(&rt, alloc, Trail::new(alloc)?, kernel, &watch)
 }
 
 fn drop_objects<'a, W: BookName + Send + Sync, R: Threads + Wait + Abort + Sync>(
     rt: &R,
     alloc: Global,
-    blank: Blank,
+    trail: Trail,
     kernel: Kernel<Watched<'a>>,
     watch: &'a Watch,
 ) -> Result<(), Fail>
-    requires name { blank.name ≡ W.name }
-    requires parts { (blank.parts ≡ W.parts) × (blank.parts ≡ 1024) }
+    requires trail { trail ≡ record { id = W.trail; entries = []; given = 0 } }
     requires boots { IsBootState kernel }
     requires named { kernel ≡ W.boot }
 {
-    let Ok((layer, mut seats)) = start::<W, Watched<'a>, R>(rt, alloc, blank, kernel) else {
+    let Ok((layer, mut seats)) = start::<W, Watched<'a>, R>(rt, alloc, trail, kernel) else {
         return Err(Fail::from("no layer"));
     };
     let seat = seats.pop().ok_or("no seat")?;
@@ -298,22 +295,21 @@ fn a_write_wakes_a_read(rt: HostRuntime) -> Result<(), Fail> {
     let alloc = rt.alloc();
     let watch = Watch::new(0);
     let kernel = watched_kernel(alloc, &[b"a"], &[USER, USER], &watch)?;
-    wake::<Brand, _>(&rt, alloc, Blank::new(PARTS), kernel, &watch)
+    wake::<Brand, _>(&rt, alloc, Trail::new(alloc)?, kernel, &watch)
 }
 
 fn wake<'a, W: BookName + Send + Sync, R: Threads + Wait + Abort + Sync>(
     rt: &R,
     alloc: Global,
-    blank: Blank,
+    trail: Trail,
     kernel: Kernel<Watched<'a>>,
     watch: &'a Watch,
 ) -> Result<(), Fail>
-    requires name { blank.name ≡ W.name }
-    requires parts { (blank.parts ≡ W.parts) × (blank.parts ≡ 1024) }
+    requires trail { trail ≡ record { id = W.trail; entries = []; given = 0 } }
     requires boots { IsBootState kernel }
     requires named { kernel ≡ W.boot }
 {
-    let Ok((layer, mut seats)) = start::<W, Watched<'a>, R>(rt, alloc, blank, kernel) else {
+    let Ok((layer, mut seats)) = start::<W, Watched<'a>, R>(rt, alloc, trail, kernel) else {
         return Err(Fail::from("no layer"));
     };
     let writer = seats.pop().ok_or("no seat")?;
@@ -326,8 +322,7 @@ fn wake<'a, W: BookName + Send + Sync, R: Threads + Wait + Abort + Sync>(
     let (Ok(read), Ok(written)) = (read, written) else {
         return Err(Fail::from("a call went wrong"));
     };
-    assert!(rt; holds_all(rt, &layer, &read.receipts) && holds_all(rt, &layer, &written.receipts));
-    assert_eq!(rt; layer.book(rt).book().entries().len(), 6);
+    assert_eq!(rt; settle_both(rt, alloc, &layer, read, written)?, 6);
     Ok(())
 }
 

@@ -1,9 +1,5 @@
 use Rattle.library_examples.proofs.one_process.run.Given as goal
 
--- the ledger that was just opened
-abbrev pub ghosts-keep_book-W-Ledger : goal.ghosts-keep_book-W-Ledger
-ghosts-keep_book-W-Ledger g a = record { name = a.blank.name; parts = a.blank.parts }
-
--- the state that the kernel was booted in
-abbrev pub ghosts-keep_book-W-BookName : goal.ghosts-keep_book-W-BookName
-ghosts-keep_book-W-BookName g a = record { boot = a.kernel }
+-- the trail that was just made, and the state that the kernel was booted in
+abbrev pub ghosts-keep_book : goal.ghosts-keep_book
+ghosts-keep_book g a = record { boot = a.kernel; trail = a.trail.id }

@@ -1,9 +1,5 @@
 use Rattle.library_examples.proofs.service_manager.run.Given as goal
 
--- the ledger that was just opened
-abbrev pub ghosts-manage-W-Ledger : goal.ghosts-manage-W-Ledger
-ghosts-manage-W-Ledger g a = record { name = a.blank.name; parts = a.blank.parts }
-
--- the state that the kernel was booted in
-abbrev pub ghosts-manage-W-BookName : goal.ghosts-manage-W-BookName
-ghosts-manage-W-BookName g a = record { boot = a.kernel }
+-- the trail that was just made, and the state that the kernel was booted in
+abbrev pub ghosts-manage : goal.ghosts-manage
+ghosts-manage g a = record { boot = a.kernel; trail = a.trail.id }

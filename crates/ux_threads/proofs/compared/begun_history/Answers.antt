@@ -14,8 +14,6 @@ returns-clause-begun g c =
     record { legal = search rules; calls = rw c.entries.ensures.entries at (c.makes_first.ensures.0 c.if-not-makes_first.false) } in
     IfOk-weaker c.map_err.result _ _ (λ entries same. subst (λ (es : List Entry). HasBegun g.W.BookName.boot s es) (sym same) begun) copied
 
-pub returns-then-not-all_held-clause-stranger : goal.returns-then-not-all_held-clause-stranger
-returns-then-not-all_held-clause-stranger g c = λ _ both. elim c.then-not-all_held.branch [
-  | goal.then-not-all_held-via-then-not-all_held w ↦ let held : c.all_held.result ≡ true = c.all_held.ensures.1 both.0 in search rules
-  | goal.then-not-all_held-via-else-not-all_held+then-not-makes_first w ↦ let made : w.makes_first.result ≡ true = w.makes_first.ensures.1 (rw (w.entries.ensures.entries) both.1) in search rules
-]
+pub returns-then-not-makes_first-clause-stranger : goal.returns-then-not-makes_first-clause-stranger
+returns-then-not-makes_first-clause-stranger g c = λ _ first.
+    let made : c.makes_first.result ≡ true = c.makes_first.ensures.1 (rw (c.entries.ensures.entries) first) in search rules

@@ -17,7 +17,7 @@ use Rattle.ux_book.proofs.book.Book.make.Goals as goal
 pub append-requires-clause-call : goal.append-requires-clause-call
 append-requires-clause-call g c =
     may_call_now c.args.self.now c.recognize.new.self c.args.share.now (record { pid = c.share.inside.pid; past = c.share.inside.token.past }) c.share.inside.k c.args.request.now
-    c.recognize.ensures.live c.recognize.ensures.past c.recognize.ensures.book (c.share.view_is ∙ c.recognize.ensures.share) c.share.invariant.2 (not_off c.args.request.now c.requires.call)
+    c.recognize.ensures.live (sym c.recognize.ensures.knows.exactly) c.recognize.ensures.book (c.share.view_is ∙ c.recognize.ensures.share) c.share.invariant.2 (not_off c.args.request.now c.requires.call)
 
 pub new_receipt-requires-clause-slip : goal.new_receipt-requires-clause-slip
 new_receipt-requires-clause-slip g c =
@@ -51,7 +51,7 @@ pub returns-clause-call : goal.returns-clause-call
 returns-clause-call g c =
     let made = rw c.in-Some.is at c.in_ok-reply.ensures.appended in
     call_made g.W.BookName.boot c.args.self.now c.recognize.new.self c.append.new.self c.args.share.now (record { pid = c.share.inside.pid; past = c.share.inside.token.past }) (record { pid = c.share.inside.pid; past = c.append.new.token.past })
-    c.share.inside.k c.args.request.now c.in-Some.reply c.append.new.released c.recognize.ensures.book (c.share.view_is ∙ c.recognize.ensures.share) c.recognize.ensures.boot c.recognize.ensures.legal c.recognize.ensures.past c.share.invariant.2
+    c.share.inside.k c.args.request.now c.in-Some.reply c.append.new.released c.recognize.ensures.book (c.share.view_is ∙ c.recognize.ensures.share) c.recognize.ensures.knows.boot_is c.recognize.ensures.knows.legal (sym c.recognize.ensures.knows.exactly) c.share.invariant.2
     made.adds (ap (λ (t : Owned). record { pid = c.share.inside.pid; past = t.past }) made.token) made.handed_out
 
 pub returns-clause-done : goal.returns-clause-done

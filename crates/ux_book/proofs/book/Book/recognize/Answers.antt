@@ -1,7 +1,8 @@
-use Rattle.std.proofs.Common.{◌≡◌, ℕ, length, true, ap, sym, subst, ◌∙◌, arith}
+use Rattle.std.proofs.Common.{◌≡◌, ℕ, length, true, refl, ap, sym, subst, ◌∙◌, arith}
 use Rattle.ux_model.specs.State.{State, is_live}
 use Rattle.ux_book.specs.Pasts.{Caller, calls_by, has_exit}
 use Rattle.ux_book.specs.Books.{KeptHistory, state_of}
+use Rattle.ux_book.specs.Recording.{Knows}
 use Rattle.ux_book.proofs.Slips.{lives}
 use Rattle.ux_book.proofs.book.Book.recognize.Goals as goal
 
@@ -18,5 +19,10 @@ returns-clause-live g c =
     (lives g.W.BookName.boot c.self.inside.trail.entries c.share.inside.pid.0 book.legal share.3 (omega (arith, is_pid, within, given, at))
     (ap (λ (p : ℕ). has_exit (calls_by p c.self.inside.trail.entries)) (sym is_pid) ∙ ap has_exit (sym c.check.ensures.past) ∙ share.4)))
 
-pub returns-clause-boot : goal.returns-clause-boot
-returns-clause-boot g c = ap (λ (b : KeptHistory). b.boot) (sym c.self.view_is)
+pub returns-clause-knows : goal.returns-clause-knows
+returns-clause-knows g c =
+    let boot = g.W.BookName.boot in
+    let book : KeptHistory = record { boot = boot; entries = c.self.inside.trail.entries } in
+    let exactly = ap (λ (p : ℕ). calls_by p c.self.inside.trail.entries) (sym c.share.invariant.1) ∙ sym c.check.ensures.past in
+    subst (λ (b : KeptHistory). Knows boot b c.args.share.now) c.self.view_is
+    (subst (Knows boot book) c.share.view_is (record { boot_is = refl; legal = c.self.invariant.0.legal; exactly = exactly }))

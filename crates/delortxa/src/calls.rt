@@ -1,0 +1,428 @@
+//! The calls of one process, each a method.
+ghost use Rattle.std.specs.Prelude.{◌≡◌, [], false, IfOk, IfErr, OnOk, OnErr, None, map, min};
+ghost use Rattle.ux_model.specs.Types.{Request, Reply, Addr, SockOpt};
+ghost use Rattle.ux_model.specs.Limits.{rights_limit};
+ghost use Rattle.ux_model.specs.Delivery.{control_bytes};
+ghost use Rattle.ux_book.specs.declared.fault.CallFault.{CallFault};
+ghost use Rattle.ux_book.specs.Books.{has_own_call};
+ghost use Rattle.ux_calls.specs.Calls.{no_open_flags, no_msg_flags, rights_space};
+ghost use Rattle.delortxa.specs.Answering.{Fails, is_done, is_fd, is_fds, is_count, is_bytes, is_offset, is_message, is_accepted, is_addr, is_value, is_cred, is_ready};
+
+use crate::answers::{Message, ReplyExt};
+use crate::fault::CallError;
+use std::alloc::Global;
+use ux_book::CallFault;
+use ux_calls::call;
+use ux_types::{
+    Addr, Bytes, Cred, Fd, Mode, OpenFlags, PollFlags, Reply, Request, SockOpt, SockType, Whence,
+};
+
+/// What makes the calls of a process: a session, which is told the process (`C` is `Pid`), or a seat, which is told the
+/// runtime by which it waits. Each method is named for its manual page, and gives what that call gives.
+///
+/// # Errors
+///
+/// Each method gives `Refused` where the layer refuses the call, and `Fault` where no call was made: nothing has changed
+/// then.
+pub trait Calls<C: Copy> {
+    /// The call was made, with this request and this reply.
+    ghost did: { C → Self → Self → Request → Reply → Type 0 };
+
+    /// Why a call with this request can't be made.
+    ghost unmade: { C → Self → Request → CallFault → Type 0 };
+
+    /// Where its requests are allocated.
+    fn allocator(&self) -> Global;
+
+    /// Makes this call, and gives its reply.
+    ///
+    /// # Errors
+    ///
+    /// No call was made then, and nothing has changed.
+    fn ask(&mut self, who: C, request: &Request) -> Result<Reply, CallFault>
+        requires { has_own_call request.now ≡ false }
+        ensures made { IfOk result (λ reply. did who self.old self.new request.now reply) }
+        ensures fault { IfErr result (λ f. unmade who self.old request.now f) }
+        ensures same { OnErr result (self.new ≡ self.old) };
+
+    /// open(2) of a file object by its path, without flags: the new descriptor.
+    #[tactic(auto, using(crate::proofs::Calling::fails))]
+    final fn open(&mut self, who: C, path: &[u8], mode: Mode) -> Result<Fd, CallError>
+        ensures made { IfOk result (λ new. did who self.old self.new (Request.Open path.now mode no_open_flags) (Reply.Fd new)) }
+        ensures refused { IfErr result (λ error. Fails did unmade is_fd who self.old self.new (Request.Open path.now mode no_open_flags) error) }
+    {
+        let request = call::open(self.allocator(), path, mode)?;
+        let reply = self.ask(who, &request)?;
+        reply.fd()
+    }
+
+    /// open(2) of a file object by its path: the new descriptor.
+    #[tactic(auto, using(crate::proofs::Calling::fails))]
+    final fn open_with(
+        &mut self,
+        who: C,
+        path: &[u8],
+        mode: Mode,
+        flags: OpenFlags,
+    ) -> Result<Fd, CallError>
+        ensures made { IfOk result (λ new. did who self.old self.new (Request.Open path.now mode flags) (Reply.Fd new)) }
+        ensures refused { IfErr result (λ error. Fails did unmade is_fd who self.old self.new (Request.Open path.now mode flags) error) }
+    {
+        let request = call::open_with(self.allocator(), path, mode, flags)?;
+        let reply = self.ask(who, &request)?;
+        reply.fd()
+    }
+
+    /// read(2) of at most `n` bytes.
+    #[tactic(auto, using(crate::proofs::Calling::fails))]
+    final fn read(&mut self, who: C, fd: Fd, n: usize) -> Result<Bytes, CallError>
+        ensures made { IfOk result (λ got. did who self.old self.new (Request.Read fd n) (Reply.Bytes got)) }
+        ensures refused { IfErr result (λ error. Fails did unmade is_bytes who self.old self.new (Request.Read fd n) error) }
+    {
+        let request = call::read(fd, n);
+        let reply = self.ask(who, &request)?;
+        reply.bytes()
+    }
+
+    /// write(2): how many of these bytes were taken.
+    #[tactic(auto, using(crate::proofs::Calling::fails))]
+    final fn write(&mut self, who: C, fd: Fd, bytes: &[u8]) -> Result<usize, CallError>
+        ensures made { IfOk result (λ taken. did who self.old self.new (Request.Write fd bytes.now) (Reply.Count taken)) }
+        ensures refused { IfErr result (λ error. Fails did unmade is_count who self.old self.new (Request.Write fd bytes.now) error) }
+    {
+        let request = call::write(self.allocator(), fd, bytes)?;
+        let reply = self.ask(who, &request)?;
+        reply.count()
+    }
+
+    /// lseek(2): the new offset, in bytes from the beginning.
+    #[tactic(auto, using(crate::proofs::Calling::fails))]
+    final fn lseek(&mut self, who: C, fd: Fd, offset: i64, whence: Whence) -> Result<u64, CallError>
+        ensures made { IfOk result (λ at. did who self.old self.new (Request.Lseek fd offset whence) (Reply.At at)) }
+        ensures refused { IfErr result (λ error. Fails did unmade is_offset who self.old self.new (Request.Lseek fd offset whence) error) }
+    {
+        let request = call::lseek(fd, offset, whence);
+        let reply = self.ask(who, &request)?;
+        reply.offset()
+    }
+
+    /// dup(2): the new descriptor.
+    #[tactic(auto, using(crate::proofs::Calling::fails))]
+    final fn dup(&mut self, who: C, fd: Fd) -> Result<Fd, CallError>
+        ensures made { IfOk result (λ new. did who self.old self.new (Request.Dup fd) (Reply.Fd new)) }
+        ensures refused { IfErr result (λ error. Fails did unmade is_fd who self.old self.new (Request.Dup fd) error) }
+    {
+        let request = call::dup(fd);
+        let reply = self.ask(who, &request)?;
+        reply.fd()
+    }
+
+    /// dup2(2): `to` becomes a copy of `fd`.
+    #[tactic(auto, using(crate::proofs::Calling::fails))]
+    final fn dup2(&mut self, who: C, fd: Fd, to: Fd) -> Result<Fd, CallError>
+        ensures made { IfOk result (λ new. did who self.old self.new (Request.Dup2 fd to) (Reply.Fd new)) }
+        ensures refused { IfErr result (λ error. Fails did unmade is_fd who self.old self.new (Request.Dup2 fd to) error) }
+    {
+        let request = call::dup2(fd, to);
+        let reply = self.ask(who, &request)?;
+        reply.fd()
+    }
+
+    /// fcntl(2), F_SETFL and F_SETFD at once: all three flags get the values given.
+    #[tactic(auto, using(crate::proofs::Calling::fails))]
+    final fn set_flags(&mut self, who: C, fd: Fd, flags: OpenFlags) -> Result<(), CallError>
+        ensures made { OnOk result (did who self.old self.new (Request.SetFlags fd flags) Reply.Ok) }
+        ensures refused { IfErr result (λ error. Fails did unmade is_done who self.old self.new (Request.SetFlags fd flags) error) }
+    {
+        let request = call::set_flags(fd, flags);
+        let reply = self.ask(who, &request)?;
+        reply.done()
+    }
+
+    /// close(2).
+    #[tactic(auto, using(crate::proofs::Calling::fails))]
+    final fn close(&mut self, who: C, fd: Fd) -> Result<(), CallError>
+        ensures made { OnOk result (did who self.old self.new (Request.Close fd) Reply.Ok) }
+        ensures refused { IfErr result (λ error. Fails did unmade is_done who self.old self.new (Request.Close fd) error) }
+    {
+        let request = call::close(fd);
+        let reply = self.ask(who, &request)?;
+        reply.done()
+    }
+
+    /// unlink(2).
+    #[tactic(auto, using(crate::proofs::Calling::fails))]
+    final fn unlink(&mut self, who: C, path: &[u8]) -> Result<(), CallError>
+        ensures made { OnOk result (did who self.old self.new (Request.Unlink path.now) Reply.Ok) }
+        ensures refused { IfErr result (λ error. Fails did unmade is_done who self.old self.new (Request.Unlink path.now) error) }
+    {
+        let request = call::unlink(self.allocator(), path)?;
+        let reply = self.ask(who, &request)?;
+        reply.done()
+    }
+
+    /// socket(2), without flags: the new descriptor.
+    #[tactic(auto, using(crate::proofs::Calling::fails))]
+    final fn socket(&mut self, who: C, kind: SockType) -> Result<Fd, CallError>
+        ensures made { IfOk result (λ new. did who self.old self.new (Request.Socket kind no_open_flags) (Reply.Fd new)) }
+        ensures refused { IfErr result (λ error. Fails did unmade is_fd who self.old self.new (Request.Socket kind no_open_flags) error) }
+    {
+        let request = call::socket(kind);
+        let reply = self.ask(who, &request)?;
+        reply.fd()
+    }
+
+    /// socket(2): the new descriptor.
+    #[tactic(auto, using(crate::proofs::Calling::fails))]
+    final fn socket_with(
+        &mut self,
+        who: C,
+        kind: SockType,
+        flags: OpenFlags,
+    ) -> Result<Fd, CallError>
+        ensures made { IfOk result (λ new. did who self.old self.new (Request.Socket kind flags) (Reply.Fd new)) }
+        ensures refused { IfErr result (λ error. Fails did unmade is_fd who self.old self.new (Request.Socket kind flags) error) }
+    {
+        let request = call::socket_with(kind, flags);
+        let reply = self.ask(who, &request)?;
+        reply.fd()
+    }
+
+    /// socketpair(2), without flags: the two new descriptors.
+    #[tactic(auto, using(crate::proofs::Calling::fails))]
+    final fn pair(&mut self, who: C, kind: SockType) -> Result<(Fd, Fd), CallError>
+        ensures made { IfOk result (λ fds. did who self.old self.new (Request.SocketPair kind no_open_flags) (Reply.Fds fds.0 fds.1)) }
+        ensures refused { IfErr result (λ error. Fails did unmade is_fds who self.old self.new (Request.SocketPair kind no_open_flags) error) }
+    {
+        let request = call::pair(kind);
+        let reply = self.ask(who, &request)?;
+        reply.fds()
+    }
+
+    /// bind(2) to this path.
+    #[tactic(auto, using(crate::proofs::Calling::fails))]
+    final fn bind_path(&mut self, who: C, fd: Fd, path: &[u8]) -> Result<(), CallError>
+        ensures made { OnOk result (did who self.old self.new (Request.Bind fd (Addr.Path path.now)) Reply.Ok) }
+        ensures refused { IfErr result (λ error. Fails did unmade is_done who self.old self.new (Request.Bind fd (Addr.Path path.now)) error) }
+    {
+        let request = call::bind_path(self.allocator(), fd, path)?;
+        let reply = self.ask(who, &request)?;
+        reply.done()
+    }
+
+    /// bind(2) to this name of the abstract namespace.
+    #[tactic(auto, using(crate::proofs::Calling::fails))]
+    final fn bind_abstract(&mut self, who: C, fd: Fd, name: &[u8]) -> Result<(), CallError>
+        ensures made { OnOk result (did who self.old self.new (Request.Bind fd (Addr.Abstract name.now)) Reply.Ok) }
+        ensures refused { IfErr result (λ error. Fails did unmade is_done who self.old self.new (Request.Bind fd (Addr.Abstract name.now)) error) }
+    {
+        let request = call::bind_abstract(self.allocator(), fd, name)?;
+        let reply = self.ask(who, &request)?;
+        reply.done()
+    }
+
+    /// listen(2), for so many connections that wait.
+    #[tactic(auto, using(crate::proofs::Calling::fails))]
+    final fn listen(&mut self, who: C, fd: Fd, backlog: i32) -> Result<(), CallError>
+        ensures made { OnOk result (did who self.old self.new (Request.Listen fd backlog) Reply.Ok) }
+        ensures refused { IfErr result (λ error. Fails did unmade is_done who self.old self.new (Request.Listen fd backlog) error) }
+    {
+        let request = call::listen(fd, backlog);
+        let reply = self.ask(who, &request)?;
+        reply.done()
+    }
+
+    /// connect(2) to this path.
+    #[tactic(auto, using(crate::proofs::Calling::fails))]
+    final fn connect_path(&mut self, who: C, fd: Fd, path: &[u8]) -> Result<(), CallError>
+        ensures made { OnOk result (did who self.old self.new (Request.Connect fd (Addr.Path path.now)) Reply.Ok) }
+        ensures refused { IfErr result (λ error. Fails did unmade is_done who self.old self.new (Request.Connect fd (Addr.Path path.now)) error) }
+    {
+        let request = call::connect_path(self.allocator(), fd, path)?;
+        let reply = self.ask(who, &request)?;
+        reply.done()
+    }
+
+    /// connect(2) to this name of the abstract namespace.
+    #[tactic(auto, using(crate::proofs::Calling::fails))]
+    final fn connect_abstract(&mut self, who: C, fd: Fd, name: &[u8]) -> Result<(), CallError>
+        ensures made { OnOk result (did who self.old self.new (Request.Connect fd (Addr.Abstract name.now)) Reply.Ok) }
+        ensures refused { IfErr result (λ error. Fails did unmade is_done who self.old self.new (Request.Connect fd (Addr.Abstract name.now)) error) }
+    {
+        let request = call::connect_abstract(self.allocator(), fd, name)?;
+        let reply = self.ask(who, &request)?;
+        reply.done()
+    }
+
+    /// accept(2): the connection's descriptor, and its client's name.
+    #[tactic(auto, using(crate::proofs::Calling::fails))]
+    final fn accept(&mut self, who: C, fd: Fd) -> Result<(Fd, Addr), CallError>
+        ensures made { IfOk result (λ a. did who self.old self.new (Request.Accept fd no_open_flags) (Reply.Accepted a.0 a.1)) }
+        ensures refused { IfErr result (λ error. Fails did unmade is_accepted who self.old self.new (Request.Accept fd no_open_flags) error) }
+    {
+        let request = call::accept(fd);
+        let reply = self.ask(who, &request)?;
+        reply.accepted()
+    }
+
+    /// accept4(2), with the flags of the new descriptor: that descriptor, and the client's name.
+    #[tactic(auto, using(crate::proofs::Calling::fails))]
+    final fn accept_with(
+        &mut self,
+        who: C,
+        fd: Fd,
+        flags: OpenFlags,
+    ) -> Result<(Fd, Addr), CallError>
+        ensures made { IfOk result (λ a. did who self.old self.new (Request.Accept fd flags) (Reply.Accepted a.0 a.1)) }
+        ensures refused { IfErr result (λ error. Fails did unmade is_accepted who self.old self.new (Request.Accept fd flags) error) }
+    {
+        let request = call::accept_with(fd, flags);
+        let reply = self.ask(who, &request)?;
+        reply.accepted()
+    }
+
+    /// shutdown(2) in these directions.
+    #[tactic(auto, using(crate::proofs::Calling::fails))]
+    final fn shutdown(&mut self, who: C, fd: Fd, how: Mode) -> Result<(), CallError>
+        ensures made { OnOk result (did who self.old self.new (Request.Shutdown fd how) Reply.Ok) }
+        ensures refused { IfErr result (λ error. Fails did unmade is_done who self.old self.new (Request.Shutdown fd how) error) }
+    {
+        let request = call::shutdown(fd, how);
+        let reply = self.ask(who, &request)?;
+        reply.done()
+    }
+
+    /// getsockopt(2) at the level SOL_SOCKET, of an option that is a number.
+    #[tactic(auto, using(crate::proofs::Calling::fails))]
+    final fn getopt(&mut self, who: C, fd: Fd, opt: SockOpt) -> Result<u64, CallError>
+        ensures made { IfOk result (λ got. did who self.old self.new (Request.GetOpt fd opt) (Reply.Opt got)) }
+        ensures refused { IfErr result (λ error. Fails did unmade is_value who self.old self.new (Request.GetOpt fd opt) error) }
+    {
+        let request = call::getopt(fd, opt);
+        let reply = self.ask(who, &request)?;
+        reply.value()
+    }
+
+    /// getsockopt(2) of SO_PEERCRED: who made the connection's other end (unix(7)).
+    #[tactic(auto, using(crate::proofs::Calling::fails))]
+    final fn peer_cred(&mut self, who: C, fd: Fd) -> Result<Cred, CallError>
+        ensures made { IfOk result (λ cred. did who self.old self.new (Request.GetOpt fd SockOpt.PeerCred) (Reply.Cred cred)) }
+        ensures refused { IfErr result (λ error. Fails did unmade is_cred who self.old self.new (Request.GetOpt fd SockOpt.PeerCred) error) }
+    {
+        let request = call::getopt(fd, SockOpt::PeerCred);
+        let reply = self.ask(who, &request)?;
+        reply.cred()
+    }
+
+    /// setsockopt(2) at the level SOL_SOCKET: 0 is off, or a number of bytes.
+    #[tactic(auto, using(crate::proofs::Calling::fails))]
+    final fn setopt(&mut self, who: C, fd: Fd, opt: SockOpt, value: u64) -> Result<(), CallError>
+        ensures made { OnOk result (did who self.old self.new (Request.SetOpt fd opt value) Reply.Ok) }
+        ensures refused { IfErr result (λ error. Fails did unmade is_done who self.old self.new (Request.SetOpt fd opt value) error) }
+    {
+        let request = call::setopt(fd, opt, value);
+        let reply = self.ask(who, &request)?;
+        reply.done()
+    }
+
+    /// getsockname(2).
+    #[tactic(auto, using(crate::proofs::Calling::fails))]
+    final fn getsockname(&mut self, who: C, fd: Fd) -> Result<Addr, CallError>
+        ensures made { IfOk result (λ addr. did who self.old self.new (Request.GetSockName fd) (Reply.Addr addr)) }
+        ensures refused { IfErr result (λ error. Fails did unmade is_addr who self.old self.new (Request.GetSockName fd) error) }
+    {
+        let request = call::getsockname(fd);
+        let reply = self.ask(who, &request)?;
+        reply.addr()
+    }
+
+    /// getpeername(2).
+    #[tactic(auto, using(crate::proofs::Calling::fails))]
+    final fn getpeername(&mut self, who: C, fd: Fd) -> Result<Addr, CallError>
+        ensures made { IfOk result (λ addr. did who self.old self.new (Request.GetPeerName fd) (Reply.Addr addr)) }
+        ensures refused { IfErr result (λ error. Fails did unmade is_addr who self.old self.new (Request.GetPeerName fd) error) }
+    {
+        let request = call::getpeername(fd);
+        let reply = self.ask(who, &request)?;
+        reply.addr()
+    }
+
+    /// send(2), without flags: how many of these bytes were taken.
+    #[tactic(auto, using(crate::proofs::Calling::fails))]
+    final fn send(&mut self, who: C, fd: Fd, bytes: &[u8]) -> Result<usize, CallError>
+        ensures made { IfOk result (λ taken. did who self.old self.new (Request.SendMsg fd None bytes.now [] no_msg_flags) (Reply.Count taken)) }
+        ensures refused { IfErr result (λ error. Fails did unmade is_count who self.old self.new (Request.SendMsg fd None bytes.now [] no_msg_flags) error) }
+    {
+        let request = call::send(self.allocator(), fd, bytes)?;
+        let reply = self.ask(who, &request)?;
+        reply.count()
+    }
+
+    /// sendmsg(2) that passes these descriptors (SCM_RIGHTS of unix(7)): how many of the bytes were taken.
+    #[tactic(auto, using(crate::proofs::Calling::fails))]
+    final fn send_rights(
+        &mut self,
+        who: C,
+        fd: Fd,
+        bytes: &[u8],
+        rights: &[Fd],
+    ) -> Result<usize, CallError>
+        ensures made { IfOk result (λ taken. did who self.old self.new (Request.SendMsg fd None bytes.now (control_bytes None (map (λ right. right.0) rights.now)) no_msg_flags) (Reply.Count taken)) }
+        ensures refused { IfErr result (λ error. Fails did unmade is_count who self.old self.new (Request.SendMsg fd None bytes.now (control_bytes None (map (λ right. right.0) rights.now)) no_msg_flags) error) }
+    {
+        let request = call::send_rights(self.allocator(), fd, bytes, rights)?;
+        let reply = self.ask(who, &request)?;
+        reply.count()
+    }
+
+    /// recv(2) of at most `n` bytes, without flags; descriptors that come with them are lost.
+    #[tactic(auto, using(crate::proofs::Calling::fails))]
+    final fn recv(&mut self, who: C, fd: Fd, n: usize) -> Result<Message, CallError>
+        ensures made { IfOk result (λ m. did who self.old self.new (Request.RecvMsg fd n 0 no_msg_flags) (Reply.Received m.flags m.count m.bytes m.control m.from)) }
+        ensures refused { IfErr result (λ error. Fails did unmade is_message who self.old self.new (Request.RecvMsg fd n 0 no_msg_flags) error) }
+    {
+        let request = call::recv(fd, n);
+        let reply = self.ask(who, &request)?;
+        reply.message()
+    }
+
+    /// recvmsg(2) of at most `n` bytes, with room for so many descriptors, at most as many as go in one message. A
+    /// socket with SO_PASSCRED takes 32 bytes of that room for credentials.
+    #[tactic(auto, using(crate::proofs::Calling::fails))]
+    final fn recv_rights(
+        &mut self,
+        who: C,
+        fd: Fd,
+        n: usize,
+        count: usize,
+    ) -> Result<Message, CallError>
+        ensures made { IfOk result (λ m. did who self.old self.new (Request.RecvMsg fd n (rights_space (min count rights_limit)) no_msg_flags) (Reply.Received m.flags m.count m.bytes m.control m.from)) }
+        ensures refused { IfErr result (λ error. Fails did unmade is_message who self.old self.new (Request.RecvMsg fd n (rights_space (min count rights_limit)) no_msg_flags) error) }
+    {
+        let request = call::recv_rights(fd, n, count);
+        let reply = self.ask(who, &request)?;
+        reply.message()
+    }
+
+    /// poll(2) of one descriptor, without waiting: which conditions hold.
+    #[tactic(auto, using(crate::proofs::Calling::fails))]
+    final fn poll(&mut self, who: C, fd: Fd) -> Result<PollFlags, CallError>
+        ensures made { IfOk result (λ flags. did who self.old self.new (Request.Poll fd) (Reply.Poll flags)) }
+        ensures refused { IfErr result (λ error. Fails did unmade is_ready who self.old self.new (Request.Poll fd) error) }
+    {
+        let request = call::poll(fd);
+        let reply = self.ask(who, &request)?;
+        reply.ready()
+    }
+
+    /// execve(2), of which the layer sees the descriptors alone.
+    #[tactic(auto, using(crate::proofs::Calling::fails))]
+    final fn exec(&mut self, who: C) -> Result<(), CallError>
+        ensures made { OnOk result (did who self.old self.new Request.Exec Reply.Ok) }
+        ensures refused { IfErr result (λ error. Fails did unmade is_done who self.old self.new Request.Exec error) }
+    {
+        let request = call::exec();
+        let reply = self.ask(who, &request)?;
+        reply.done()
+    }
+}
