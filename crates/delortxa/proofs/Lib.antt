@@ -1,4 +1,5 @@
 pub mod Calling
+pub mod Giving
 pub mod Layers
 pub mod Seatings
 pub mod Sittings

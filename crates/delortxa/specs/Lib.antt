@@ -1,5 +1,6 @@
 pub mod AnyObjects
 pub mod Answering
 pub mod Boots
+pub mod Giving
 pub mod Happening
 pub mod Promising

@@ -1,5 +1,5 @@
 //! The calls of one process, each a method.
-ghost use Rattle.std.specs.Prelude.{◌≡◌, [], false, IfOk, IfErr, OnOk, OnErr, None, map, min};
+ghost use Rattle.std.specs.Prelude.{◌≡◌, ℕ, [], false, IfOk, IfErr, OnOk, OnErr, None, map, min};
 ghost use Rattle.ux_model.specs.Types.{Request, Reply, Addr, SockOpt};
 ghost use Rattle.ux_model.specs.Limits.{rights_limit};
 ghost use Rattle.ux_model.specs.Delivery.{control_bytes};
@@ -7,9 +7,12 @@ ghost use Rattle.ux_book.specs.declared.fault.CallFault.{CallFault};
 ghost use Rattle.ux_book.specs.Books.{has_own_call};
 ghost use Rattle.ux_calls.specs.Calls.{no_open_flags, no_msg_flags, rights_space};
 ghost use Rattle.delortxa.specs.Answering.{Fails, is_done, is_fd, is_fds, is_count, is_bytes, is_offset, is_message, is_accepted, is_addr, is_value, is_cred, is_ready};
+ghost use Rattle.delortxa.specs.declared.whole.Way.{Way};
+ghost use Rattle.delortxa.specs.Giving.{Takes, EndsEarly, request_of};
 
 use crate::answers::{Message, ReplyExt};
 use crate::fault::CallError;
+use crate::whole::{Unfinished, Way, give_all};
 use std::alloc::Global;
 use ux_book::CallFault;
 use ux_calls::call;
@@ -424,5 +427,30 @@ pub trait Calls<C: Copy> {
         let request = call::exec();
         let reply = self.ask(who, &request)?;
         reply.done()
+    }
+
+    /// Writes all these bytes, by as many calls of write(2) as it takes. A stream socket or a pipe takes what there is room
+    /// for, where a call of Linux would wait for more room.
+    ///
+    /// # Errors
+    ///
+    /// How many bytes were taken before a call that took none.
+    final fn write_all(&mut self, who: C, fd: Fd, bytes: &[u8]) -> Result<(), Unfinished>
+        ensures all { OnOk result ((k : ℕ) × Takes did who (Request.Write fd) bytes.now k [] self.old self.new) }
+        ensures early { IfErr result (λ u. EndsEarly did unmade who (Request.Write fd) bytes.now self.old self.new u) }
+    {
+        give_all(self, who, fd, Way::Write, bytes)
+    }
+
+    /// Sends all these bytes, by as many calls of send(2) as it takes, as `write_all` writes them.
+    ///
+    /// # Errors
+    ///
+    /// Those of `write_all`.
+    final fn send_all(&mut self, who: C, fd: Fd, bytes: &[u8]) -> Result<(), Unfinished>
+        ensures all { OnOk result ((k : ℕ) × Takes did who (request_of Way.Send fd) bytes.now k [] self.old self.new) }
+        ensures early { IfErr result (λ u. EndsEarly did unmade who (request_of Way.Send fd) bytes.now self.old self.new u) }
+    {
+        give_all(self, who, fd, Way::Send, bytes)
     }
 }

@@ -3,6 +3,7 @@ ghost use Rattle.std.specs.Prelude.{◌≡◌, [], ⊤, length, IfOk};
 ghost use Rattle.ux_model.specs.Boot.{IsBootState};
 ghost use Rattle.ux_model.specs.State.{State};
 ghost use Rattle.ux_model.specs.Types.{Pid};
+ghost use Rattle.ux_model.specs.History.{IsLegal};
 ghost use Rattle.ux_book.specs.Pasts.{fresh};
 ghost use Rattle.delortxa.specs.Promising.{EachPromises};
 
@@ -16,6 +17,7 @@ use std::thread::Threads;
 use ux_book::{BookName, NoMemory, Trail};
 use ux_kernel::Kernel;
 use ux_layer::start;
+use ux_types::Entry;
 
 /// What each process of a layer does, in a thread of its own. `R` is the runtime, with the bounds that the program needs.
 /// `W` names the layer's book: values that speak of it don't leave.
@@ -34,37 +36,44 @@ pub trait LayerProgram<R>: Drop + Sync {
 }
 
 /// Runs the program for each process of a layer at the start of this kernel, at the same time: what each gives, by their
-/// numbers. Each process exits once its run is over, also where that ends early by `?`, so that no other waits for it.
+/// numbers, and the history of all their calls, which is legal. Each process exits once its run is over, also where that ends early by `?`, so that no other waits for it.
 /// Where a thread can't be made, its process runs after another on that one's thread, and a process that waits for one
 /// that hasn't begun waits for good.
 ///
 /// # Errors
 ///
-/// Out of memory: before any process has begun, or for what they give, which is dropped then.
+/// Out of memory: before any process has begun, or for what they give and the history, which are dropped then.
 pub fn with_layer<R: Threads + Wait + AllocGlobal + Sync, P: LayerProgram<R>>(
     rt: &R,
     kernel: Kernel<AnyObject>,
     program: P,
-) -> Result<Vec<P::Output>, NoMemory>
+) -> Result<(Vec<P::Output>, Vec<Entry>), NoMemory>
     requires { IsBootState kernel }
-    ensures all { IfOk result (λ outputs. length outputs.items ≡ length kernel.processes) }
-    ensures promised { IfOk result (λ outputs. EachPromises (P.promise kernel) program outputs.items) }
+    ensures all { IfOk result (λ r. length r.0.items ≡ length kernel.processes) }
+    ensures promised { IfOk result (λ r. EachPromises (P.promise kernel) program r.0.items) }
+    ensures legal { IfOk result (λ r. IsLegal kernel r.1.items) }
 {
     keep_layer::<Brand, R, P>(rt, Trail::new(rt.alloc())?, kernel, &program)
 }
 
 /// Runs the program over a layer at this kernel, under a name that lives in here.
-#[tactic(auto, using(crate::proofs::Layers::all_fresh, crate::proofs::Layers::are_fresh, crate::proofs::Sittings::promised_at))]
+#[tactic(auto, using(crate::proofs::Layers::all_fresh, crate::proofs::Layers::are_fresh, crate::proofs::Sittings::promised_at, crate::proofs::Sittings::legal_at))]
 fn keep_layer<
     W: BookName + Send + Sync,
     R: Threads + Wait + AllocGlobal + Sync,
     P: LayerProgram<R>,
->(rt: &R, trail: Trail, kernel: Kernel<AnyObject>, program: &P) -> Result<Vec<P::Output>, NoMemory>
+>(
+    rt: &R,
+    trail: Trail,
+    kernel: Kernel<AnyObject>,
+    program: &P,
+) -> Result<(Vec<P::Output>, Vec<Entry>), NoMemory>
     requires trail { trail ≡ record { id = W.trail; entries = []; given = 0 } }
     requires boots { IsBootState kernel }
     requires named { kernel ≡ W.boot }
-    ensures all { IfOk result (λ outputs. length outputs.items ≡ length kernel.processes) }
-    ensures promised { IfOk result (λ outputs. EachPromises (P.promise kernel) program.now outputs.items) }
+    ensures all { IfOk result (λ r. length r.0.items ≡ length kernel.processes) }
+    ensures promised { IfOk result (λ r. EachPromises (P.promise kernel) program.now r.0.items) }
+    ensures legal { IfOk result (λ r. IsLegal kernel r.1.items) }
 {
     let alloc = rt.alloc();
     let Ok((layer, places)) = start::<W, AnyObject, R>(rt, alloc, trail, kernel) else {
@@ -72,7 +81,34 @@ fn keep_layer<
     };
     let seats = seats_at(alloc, places)?;
     let outputs = run_all(rt, &layer, program, seats)?;
-    Ok(outputs)
+    let entries = history(rt, alloc, &layer)?;
+    Ok((outputs, entries))
+}
+
+/// The calls of the layer so far, with their replies.
+#[tactic(auto, using(crate::proofs::Sittings::legal_at))]
+fn history<W: BookName, R: Wait>(
+    rt: &R,
+    alloc: Global,
+    layer: &Layer<W>,
+) -> Result<Vec<Entry>, AllocError>
+    ensures { IfOk result (λ entries. IsLegal W.boot entries.items) }
+{
+    let guard = layer.book(rt);
+    copy_all(alloc, guard.book().entries())
+}
+
+/// Copies of these entries, which own their bytes together with them.
+fn copy_all(alloc: Global, entries: &[Entry]) -> Result<Vec<Entry>, AllocError>
+    ensures { IfOk result (λ copies. copies.items ≡ entries.now) }
+{
+    let mut copies = Vec::with_capacity(alloc, entries.len())?;
+    let mut left = entries;
+    while let Some((entry, more)) = left.split_first() {
+        copies.push(entry.clone()?)?;
+        left = more;
+    }
+    Ok(copies)
 }
 
 /// Runs the program by each seat, in a thread of its own.

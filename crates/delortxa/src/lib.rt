@@ -12,6 +12,7 @@ mod program;
 mod seat;
 mod session;
 mod text;
+mod whole;
 
 pub use answers::{Message, ReplyExt};
 pub use boot::Boot;
@@ -35,3 +36,4 @@ pub use ux_types::{
     Addr, Bytes, Cred, Entry, Errno, Fd, Mode, MsgFlags, Name, OpenFlags, Pid, PollFlags, ProcSpec,
     Reply, Request, SockOpt, SockType, Whence,
 };
+pub use whole::Unfinished;

@@ -100,7 +100,8 @@ pub(crate) fn run<R: Threads + Wait + Print + AllocGlobal + Sync>(rt: &R) -> Res
     let boot = Boot::new(rt.alloc()).file(b"screen", b"............")?;
     let boot = boot.process(0, 0, 16)?.process(1001, 1001, 16)?;
     let boot = boot.process(1002, 1002, 16)?.process(1003, 1003, 16)?;
-    for output in with_layer(rt, boot.start()?, Display)? {
+    let (outputs, _history) = with_layer(rt, boot.start()?, Display)?;
+    for output in outputs {
         if let Some(seen) = output? {
             println!(rt; "done: {:?}", seen.done)?;
             println!(rt; "screen: {}", BStr::new(seen.screen.as_slice()))?;

@@ -1,7 +1,7 @@
 //! The layer as a library: one process writes a file, reads it by a second descriptor, and closes both.
 //! The calls go through a book, which keeps them as a history that is proved legal; at the end the history has
 //! exactly the calls that the process's share knows.
-ghost use Rattle.std.specs.Prelude.{◌≡◌, IfOk};
+ghost use Rattle.std.specs.Prelude.{◌≡◌, [], IfOk};
 ghost use Rattle.ux_model.specs.Boot.{IsBootState};
 
 use crate::print_history;

@@ -1,7 +1,7 @@
 //! A service manager and the worker that it starts. The manager opens its log and its key with close-on-exec and a
 //! listening socket without it, and makes a child, in which the worker's program starts: it finds the socket and
 //! nothing else, and takes a client after the manager has closed its own number of the socket.
-ghost use Rattle.std.specs.Prelude.{◌≡◌, IfOk};
+ghost use Rattle.std.specs.Prelude.{◌≡◌, [], IfOk};
 ghost use Rattle.ux_model.specs.Boot.{IsBootState};
 
 use crate::print_history;

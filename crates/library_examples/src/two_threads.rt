@@ -1,7 +1,7 @@
 //! The layer with threads as its processes: a monitor opens a file and passes it over a connection to a worker in
 //! another thread, which reads it after the monitor has exited, and takes its last reference. At the end the
 //! history has exactly the calls that the processes' shares know, and is compared with a second run of its calls.
-ghost use Rattle.std.specs.Prelude.{◌≡◌, false, IfOk};
+ghost use Rattle.std.specs.Prelude.{◌≡◌, [], false, IfOk};
 ghost use Rattle.ux_model.specs.Boot.{IsBootState};
 ghost use Rattle.ux_book.specs.Books.{has_own_call};
 

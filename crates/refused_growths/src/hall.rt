@@ -1,6 +1,6 @@
 //! A script whose calls are made by the seats of its processes, with little memory or with none.
 
-ghost use Rattle.std.specs.Prelude.{◌≡◌};
+ghost use Rattle.std.specs.Prelude.{◌≡◌, []};
 ghost use Rattle.ux_model.specs.Boot.{IsBootState};
 
 use crate::scarcity::{STEPS, Supply, bytes_at};

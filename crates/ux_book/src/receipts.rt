@@ -5,7 +5,6 @@ ghost use Rattle.ux_book.specs.Receipts.{IsSlip};
 use crate::book_name::BookName;
 use crate::trail::Mark;
 use std::marker::{Model, PhantomData};
-use std::snapshot::Snapshot;
 
 /// What a call left in a history. Its type says that some legal history from the book's boot state has the entry at
 /// this number, and where `try_record` gave it, that it isn't one that should have waited. Contracts see the number,
@@ -14,7 +13,7 @@ use std::snapshot::Snapshot;
 pub struct Receipt<W: BookName> {
     pub(crate) number: usize,
     pub(crate) mark: Mark,
-    pub(crate) tried: Snapshot<bool>,
+    pub(crate) tried: bool,
     pub(crate) of: PhantomData<W>,
 }
 
@@ -24,11 +23,10 @@ impl<W: BookName> Drop for Receipt<W> {
         let Receipt {
             number: _,
             mark,
-            tried,
+            tried: _,
             of: _,
         } = self;
-        drop(mark);
-        drop(tried)
+        drop(mark)
     }
 }
 
@@ -38,9 +36,9 @@ impl<W: BookName> Model for Receipt<W> {
 
     ghost Value = { Slip };
 
-    ghost view = { λ r. record { number = r.number; entry = r.mark.entry; tried = r.tried.value } };
+    ghost view = { λ r. record { number = r.number; entry = r.mark.entry; tried = r.tried } };
 
-    ghost invariant = { λ r. IsSlip W.boot (record { number = r.number; entry = r.mark.entry; tried = r.tried.value }) × (r.mark.id ≡ W.trail) × (r.mark.number ≡ r.number) };
+    ghost invariant = { λ r. IsSlip W.boot (record { number = r.number; entry = r.mark.entry; tried = r.tried }) × (r.mark.id ≡ W.trail) × (r.mark.number ≡ r.number) };
 }
 
 impl<W: BookName> Receipt<W> {
@@ -69,7 +67,7 @@ pub(crate) fn new_receipt<W: BookName>(number: usize, mark: Mark, tried: bool) -
     Receipt {
         number,
         mark,
-        tried: Snapshot::of(&tried),
+        tried,
         of: PhantomData,
     }
 }

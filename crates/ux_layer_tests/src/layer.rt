@@ -1,5 +1,5 @@
 //! Calls by seats, one thread after another and several at once, and the history that they leave.
-ghost use Rattle.std.specs.Prelude.{◌≡◌, false, IfOk};
+ghost use Rattle.std.specs.Prelude.{◌≡◌, [], false, IfOk};
 ghost use Rattle.ux_model.specs.Boot.{IsBootState};
 ghost use Rattle.ux_book.specs.Books.{has_own_call};
 

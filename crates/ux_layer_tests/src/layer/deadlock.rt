@@ -1,5 +1,5 @@
 //! Where the seats of all processes wait, each call that waits says so, and leaves no entry.
-ghost use Rattle.std.specs.Prelude.{◌≡◌};
+ghost use Rattle.std.specs.Prelude.{◌≡◌, []};
 ghost use Rattle.ux_model.specs.Boot.{IsBootState};
 
 use super::{is_answered, receive, two_processes};

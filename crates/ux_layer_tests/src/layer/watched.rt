@@ -1,5 +1,5 @@
 //! What the threads do to the file objects, as objects of the tests' own report it.
-ghost use Rattle.std.specs.Prelude.{◌≡◌, false, IfOk};
+ghost use Rattle.std.specs.Prelude.{◌≡◌, [], false, IfOk};
 ghost use Rattle.ux_model.specs.Boot.{IsBootState};
 ghost use Rattle.ux_book.specs.Books.{has_own_call};
 ghost use Rattle.ux_objects.specs.Faultless.{counter_view};

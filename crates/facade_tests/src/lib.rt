@@ -1,0 +1,9 @@
+//! Tests of the facade: each method of a session and of a seat, answered and refused.
+#![tactic(auto)]
+
+#[cfg(test)]
+mod layered;
+#[cfg(test)]
+mod methods;
+#[cfg(test)]
+mod sessions;
