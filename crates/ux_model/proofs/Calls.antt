@@ -197,7 +197,7 @@ read_answer_obeys : (S : State) (o : ℕ) (held : IsHeldOpen S o) (view : View) 
     Call S (read_answer S held.entry.description held.description o view r)
 read_answer_obeys S o held view (Ok found) there =
     let n : ℕ = offset_after_read held.description view found.0 in
-    uses refl refl refl (both_kept S o n held (with_body view found.1)) (body_alike S o view found.1 there) (both_changed S o n held view (with_body view found.1) there refl)
+    may_fail S _ o view _ held there (uses refl refl refl (both_kept S o n held (with_body view found.1)) (body_alike S o view found.1 there) (both_changed S o n held view (with_body view found.1) there refl))
 read_answer_obeys S o held view (Err e) there = read_error_obeys S o view e
 
 -- read(2) of a socket answers the bytes alone
@@ -252,7 +252,7 @@ read_obeys S p fd n = found (Call S) S p fd _ (refuses refl refl) (λ e D g h. b
     (λ o t. maybe (Call S) (place S.objects o) _ _ (refuses refl refl) (λ view there. either (Call S) (not (can_read D.mode)) _ _ (λ b. refuses refl refl)
     (λ b. either (Call S) (is_short_read view.body (min read_limit n)) _ _ (λ b. refuses refl refl)
     (λ b. either (Call S) (holds_bytes view.body && (min read_limit n == 0)) _ _ (λ b. answers refl refl refl refl still)
-    (λ b. let held : IsHeldOpen S o = held_by S p fd e D o g h t in may_fail S _ o view _ held there (read_answer_obeys S o held view (read_body view.body D.offset (min read_limit n)) there))))))
+    (λ b. read_answer_obeys S o (held_by S p fd e D o g h t) view (read_body view.body D.offset (min read_limit n)) there)))))
     (λ s t. socket_read_obeys S _ (receive_obeys S p e.description s (incoming (min read_limit n) 0 no_flags) (socket_at_is S e.description D s h t))))
 
 write_answer_obeys : (S : State) (o : ℕ) (held : IsHeldOpen S o) (view : View) (r : Result (ℕ × Body) ObjectError) → place S.objects o ≡ Some view →

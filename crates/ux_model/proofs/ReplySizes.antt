@@ -445,7 +445,7 @@ unfolding read
 read_within S p fd n all = found Q S p fd _ (plain refl) (λ e D g h. by_target Q D.target _ _
     (λ o t. maybe Q (place S.objects o) _ _ (plain refl) (λ view there. either Q (not (can_read D.mode)) _ _ (λ b. plain refl)
     (λ b. either Q (is_short_read view.body most) _ _ (λ b. plain refl) (λ b. either Q (holds_bytes view.body && (most == 0)) _ _ (λ b. record { fits = bytes_fit most [] (omega arith) })
-    (λ b. failing_within (data_room most) S o view _ (read_answer_within most S e.description D o view (read_body view.body D.offset most) (few_read view.body D.offset most)))))))
+    (λ b. read_answer_within most S e.description D o view (read_body view.body D.offset most) (few_read view.body D.offset most))))))
     (λ s t. record { fits = (receive_within S p e.description s (incoming most 0 no_flags) (socket_bounded S e.description s all (socket_is S e.description D s h t))).alone }))
   where
     most : ℕ

@@ -775,8 +775,7 @@ read_shows S p tag fd n P here = found Q S p fd _ (refuses refl) (λ e D g h. by
     (λ o t. maybe Q (place S.objects o) _ _ (refuses refl) (λ view there. either Q (not (can_read D.mode)) _ _ (λ b. refuses refl)
     (λ b. either Q (is_short_read view.body (min read_limit n)) _ _ (λ b. refuses refl)
     (λ b. either Q (holds_bytes view.body && (min read_limit n == 0)) _ _ (λ b. answers plain refl refl refl (silent S))
-    (λ b. shown_alike (read_answer S e.description D o view (read_body view.body D.offset (min read_limit n))) _ refl refl
-    (by_answer e.description D o view (read_body view.body D.offset (min read_limit n)) h))))))
+    (λ b. by_answer e.description D o view (read_body view.body D.offset (min read_limit n)) h)))))
     (λ s t. read_socket_shows S p tag e.description n (min read_limit n) fd s P here (socket_is S e.description D s h t)))
   where
     Q : Outcome → Type 0

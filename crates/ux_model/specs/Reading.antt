@@ -31,9 +31,9 @@ read_error S o view would_block =
 read_error S o view full = refuse S Errno.EFBIG
 read_error S o view invalid = refuse S Errno.EINVAL
 
--- what the object answers to a read
+-- What a read answers, by what is found in the object. That is reached, and may fail, only where it has something to give.
 abbrev pub read_answer : State → ℕ → Description → ℕ → View → Result (List ℕ × Body) ObjectError → Outcome
-read_answer S d D o view (Ok found) = growing (Reply.Bytes found.0) (after_read S d D o view found)
+read_answer S d D o view (Ok found) = or_failing S o view (growing (Reply.Bytes found.0) (after_read S d D o view found))
 read_answer S d D o view (Err error) = read_error S o view error
 
 abbrev pub read_object : State → ℕ → Description → ℕ → View → ℕ → Outcome
@@ -41,7 +41,7 @@ read_object S d D o view n =
     if not (can_read D.mode) then refuse S Errno.EBADF else
     if is_short_read view.body n then refuse S Errno.EINVAL else
     if holds_bytes view.body && (n == 0) then answer (Reply.Bytes []) S else
-    or_failing S o view (read_answer S d D o view (read_body view.body D.offset n))
+    read_answer S d D o view (read_body view.body D.offset n)
 
 -- read(2)
 unfoldable pub read : State → ℕ → Fd → ℕ → Outcome
