@@ -17,9 +17,13 @@ type_number SockType.Stream = 1
 type_number SockType.Dgram = 2
 type_number SockType.Seq = 5
 
--- the number of ECONNRESET, or 0 where no error is pending
+-- the number of ECONNRESET in this layer, which numbers its errors itself (SO_ERROR of socket(7))
+abbrev pub econnreset_number : ℕ
+econnreset_number = 20
+
+-- that number, or 0 where no error is pending
 abbrev pub pending_error : Socket → ℕ
-pending_error s = if s.reset then 20 else 0
+pending_error s = if s.reset then econnreset_number else 0
 
 -- of an option that is on or off
 abbrev pub on_off : Bool → Reply

@@ -3,17 +3,17 @@ use Rattle.std.specs.Prelude.{ℕ, ◌+◌, min, Bool, false, not, ◌&&◌, ◌
 use Rattle.ux_model.specs.Types.{Errno, Fd, Reply}
 use Rattle.ux_model.specs.Limits.{read_limit}
 use Rattle.ux_model.specs.Flags.{can_read, can_write}
-use Rattle.ux_model.specs.Object.{Body, memory, counter, pipe, View, ObjectError, would_block, full, invalid, read_body, is_memory, is_pipe, with_body}
+use Rattle.ux_model.specs.Object.{Body, memory, counter, pipe, View, counter_len, ObjectError, would_block, full, invalid, read_body, is_memory, is_pipe, with_body}
 use Rattle.ux_model.specs.Description.{Description, to_object, to_socket}
 use Rattle.ux_model.specs.State.{State, with_object, with_description}
 use Rattle.ux_model.specs.Outcome.{Outcome, refuse, answer, growing, on_descriptor}
 use Rattle.ux_model.specs.Receiving.{read_socket}
 use Rattle.ux_model.specs.FileObjects.{is_open_for, or_failing, holds_bytes, on_object}
 
--- a counter gives all its eight bytes or none
+-- a counter gives all its bytes or none
 abbrev pub is_short_read : Body → ℕ → Bool
 is_short_read (memory bytes) n = false
-is_short_read (counter value) n = nat_lt n 8
+is_short_read (counter value) n = nat_lt n counter_len
 is_short_read (pipe bytes) n = false
 
 -- what a read leaves: the body, and of a memory file the offset behind what was read
