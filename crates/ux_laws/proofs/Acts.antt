@@ -124,7 +124,7 @@ pub data Did (S : State) (p tag : ℕ) (request : Request) (reply : Reply) (U : 
   tied_to : (d : ℕ) (target : Option ℕ) (s : Socket) → is_silent reply ≡ true → socket_at S d ≡ Some s → Shrinks (with_socket_by S d (with_association target)) U → Did S p tag request reply U
   connected : (fd : Fd) (addr : Addr) (P : Process) (d l : ℕ) (s other : Socket) (kept : Listener) → request ≡ Request.Connect fd addr → reply ≡ Reply.Ok → process_at S p ≡ Some P →
       find_socket S p fd ≡ Ok (d, s) → socket_at S d ≡ Some s → peer_of s.phase ≡ None → look_up S s.kind addr ≡ Ok (l, other) → socket_at S l ≡ Some other → listener_of other.phase ≡ Some kept →
-      Shrinks (with_connection S d (own_cred p P) l other kept.cred) U → Did S p tag request reply U
+      Shrinks (with_connection S (record { client = d; client_cred = own_cred p P; listener = l; socket = other; listener_cred = kept.cred })) U → Did S p tag request reply U
   put : (t : ℕ) (m : Message) → IsSending S p tag request reply t m → Shrinks (with_socket_by S t (sent m)) U → Did S p tag request reply U
   took : (d n : ℕ) (s : Socket) (m : Message) (ms : List Message) → IsTaking S p request reply d n s m ms → Shrinks (with_socket_by S d (with_queue (front_of n s m ms).rest)) U →
       Did S p tag request reply U

@@ -155,7 +155,7 @@ no_peer_in (Some D) s h free = by_target D.target h
     by_target (to_socket u) h = let same : u ≡ s = cc h in ap (λ (v : Socket). peer_of v.phase) same ∙ free
 
 pub connection_sound : (S : State) (d l : ℕ) (cred listener_cred : Cred) (s listener : Socket) → IsSound S → socket_at S d ≡ Some s → peer_of s.phase ≡ None → socket_at S l ≡ Some listener →
-    IsSound (with_connection S d cred l listener listener_cred)
+    IsSound (with_connection S (record { client = d; client_cred = cred; listener = l; socket = listener; listener_cred = listener_cred }))
 connection_sound S d l cred listener_cred s listener sound client free there = record { held = held; paired = paired }
   where
     e : ℕ
@@ -183,7 +183,7 @@ connection_sound S d l cred listener_cred s listener sound client free there = r
     waiting : IsHeld (with_socket_by (with_new S E) l (awaiting e))
     waiting = awaiting_held (with_new S E) l e made (ap (at_socket unaccepted) (place_last S.descriptions (Some E))) waits_nowhere
 
-    held : IsHeld (with_connection S d cred l listener listener_cred)
+    held : IsHeld (with_connection S (record { client = d; client_cred = cred; listener = l; socket = listener; listener_cred = listener_cred }))
     held = subst (λ (ds : List (Option Description)). IsHeld (record S { descriptions = changed_place ds d (changed (tied e listener_cred)) }))
         (changed_push S.descriptions l (changed (awaiting e)) (Some E) inside) (tied_held (with_socket_by (with_new S E) l (awaiting e)) d e listener_cred waiting)
 

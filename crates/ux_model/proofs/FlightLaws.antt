@@ -121,7 +121,7 @@ changed_within u limit S d change stays w =
     let all : in_flight (with_socket_by S d change) u ≡ in_flight S u = flying_changed u change stays S.descriptions d in
     fewer_within u limit S (with_socket_by S d change) refl (omega (arith, all)) w
 
-connected_within : (u limit : ℕ) (S : State) (d l : ℕ) (cred listener_cred : Cred) (listener : Socket) → IsWithin u limit S → IsWithin u limit (with_connection S d cred l listener listener_cred)
+connected_within : (u limit : ℕ) (S : State) (d l : ℕ) (cred listener_cred : Cred) (listener : Socket) → IsWithin u limit S → IsWithin u limit (with_connection S (record { client = d; client_cred = cred; listener = l; socket = listener; listener_cred = listener_cred }))
 connected_within u limit S d l cred listener_cred listener w =
     changed_within u limit _ d _ (λ s. refl) (made_within u limit _ _ refl (changed_within u limit S l _ (λ s. refl) w))
 

@@ -265,7 +265,7 @@ same_descriptions S p table = go p (process_at S p)
     go zero (Some P) = refl
     go (suc i) (Some P) = refl
 
-accepted_reached : (S : State) (p n d e : ℕ) (flags : OpenFlags) (s : Socket) → socket_at S d ≡ Some s → slice_get (pending_ends s.phase) 0 ≡ Some e → Reaches S false (with_accepted S p n d e flags)
+accepted_reached : (S : State) (p n d e : ℕ) (flags : OpenFlags) (s : Socket) → socket_at S d ≡ Some s → slice_get (pending_ends s.phase) 0 ≡ Some e → Reaches S false (with_accepted S (record { process = p; number = n; flags = flags; listener = d; oldest = e }))
 accepted_reached S p n d e flags s h first =
     let T : State = with_table S p (filled (table_of S p) n (descriptor flags e)) in
     let U : State = with_socket_by T d without_first_end in

@@ -83,7 +83,7 @@ pub data Reaches (S : State) (ends : Bool) : State → Type 0 where
   peers_made : {T : State} (D E : Description) → Reaches S ends T → ArePeers (length T.descriptions) D E → Reaches S ends (with_new (with_new T D) E)
   -- a socket without a peer is connected to a new end, which waits at another
   connection_made : {T : State} (d l : ℕ) (cred listener_cred : Cred) (s listener : Socket) → Reaches S ends T → socket_at T d ≡ Some s → peer_of s.phase ≡ None →
-      socket_at T l ≡ Some listener → Reaches S ends (with_connection T d cred l listener listener_cred)
+      socket_at T l ≡ Some listener → Reaches S ends (with_connection T (record { client = d; client_cred = cred; listener = l; socket = listener; listener_cred = listener_cred }))
   -- what stands in one place changes
   description_changed : {T : State} (d : ℕ) (x : Option Description) → Reaches S ends T → (IsSound S → KeepsPlace T d (description_at T d) x) →
       Reaches S ends (record T { descriptions = set T.descriptions d x })

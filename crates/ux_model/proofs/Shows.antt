@@ -25,7 +25,7 @@ use Rattle.ux_model.specs.Naming.{unlink}
 use Rattle.ux_model.specs.Pairing.{make_pair, with_pair, socket_description}
 use Rattle.ux_model.specs.Binding.{bind_to, bind, get_sock_name, with_name}
 use Rattle.ux_model.specs.Connecting.{make_socket, listener_of, with_listening, listen, connect_to, connect_stream, connect_datagram, connect, get_peer_name, shutdown, with_connection, server_end, tied, no_open_flags}
-use Rattle.ux_model.specs.Accepting.{accept_first, accept, with_accepted, without_first_end, as_accepted, accepted_with, client_name}
+use Rattle.ux_model.specs.Accepting.{Acceptance, accept_first, accept, with_accepted, without_first_end, as_accepted, accepted_with, client_name}
 use Rattle.ux_model.specs.Sending.{sending, message_of, flight_limit, is_over_limit, enqueue, is_too_long, send_connected, send_stream, send_to_target, send_by_association, send_by, send_from, is_sendable_addr, is_sendable_control, given_refusal, sent_cred, send_given, send_with, send_read, send_msg, descriptions_behind}
 use Rattle.ux_model.specs.Receiving.{Incoming, incoming, with_delivered, receive_front, nothing_received, at_end, receive, recv_msg, bytes_alone}
 use Rattle.ux_model.specs.FileObjects.{holds_bytes, is_open_for}
@@ -354,16 +354,17 @@ accept_shows S p tag fd flags Q here = by_socket (Shows S p tag (Request.Accept 
         let table : List (Option Descriptor) = filled (table_of S p) n (descriptor flags e) in
         let T : State = with_table S p table in
         let U : State = with_socket_by T d without_first_end in
+        let accepted : Acceptance = record { process = p; number = n; flags = flags; listener = d; oldest = e } in
         let source : oldest_end S p fd ≡ e ∷ [] =
         ap (λ r. elim r as (λ _. List ℕ) [ Err x ↦ [] | Ok w ↦ take 1 (pending_ends w.1.phase) ]) h ∙ first_taken (pending_ends s.phase) e first in
         let long : length (oldest_end S p fd) ≡ 1 = ap (λ (l : List ℕ). length l) source in
         let r = replaced_table S p table Q here in
         record {
-          tables = installs S (with_accepted S p n d e flags) p (Request.Accept fd flags) (Reply.Accepted (fd_of n) (client_name S e)) (n ∷ []) (record { no_end = refl; keeps = λ n held. refl })
-              (subst (λ (ds : List ℕ). Replaces S p (installed (asks_cloexec flags) (n ∷ []) ds (table_of S p)) (with_accepted S p n d e flags)) (sym source)
-              (replaced_alike S T (with_accepted S p n d e flags) p table refl r))
+          tables = installs S (with_accepted S accepted) p (Request.Accept fd flags) (Reply.Accepted (fd_of n) (client_name S e)) (n ∷ []) (record { no_end = refl; keeps = λ n held. refl })
+              (subst (λ (ds : List ℕ). Replaces S p (installed (asks_cloexec flags) (n ∷ []) ds (table_of S p)) (with_accepted S accepted)) (sym source)
+              (replaced_alike S T (with_accepted S accepted) p table refl r))
               (rise_one n (length (table_of S p)) (lowest_below (table_of S p) n low)) (omega (arith, long)) refl refl;
-          mail = quiet_after S U (with_accepted S p n d e flags) p tag (Request.Accept fd flags) (quiet_by U e (accepted_with flags) (λ D. quiet_target as_accepted (λ s. refl) D.target))
+          mail = quiet_after S U (with_accepted S accepted) p tag (Request.Accept fd flags) (quiet_by U e (accepted_with flags) (λ D. quiet_target as_accepted (λ s. refl) D.target))
               (quiet_after S T U p tag (Request.Accept fd flags) (quiet_socket T d without_first_end (λ s. refl)) (quiet_mail S T p tag (Request.Accept fd flags) (quiet_table S p table)));
         }
 
@@ -416,7 +417,7 @@ shutdown_shows S p tag fd how = by_socket (Shows S p tag (Request.Shutdown fd ho
     (λ d s h there. either (Shows S p tag (Request.Shutdown fd how)) (is_none (tied_socket s.phase)) _ _ (λ b. refuses refl)
     (λ b. answers (record { no_end = refl; keeps = λ n held. refl }) refl refl refl (quiet_socket S d (shut_down how) (λ s. refl))))
 
-quiet_connection : (S : State) (d : ℕ) (cred : Cred) (l : ℕ) (listener : Socket) (listener_cred : Cred) → Quiet S (with_connection S d cred l listener listener_cred)
+quiet_connection : (S : State) (d : ℕ) (cred : Cred) (l : ℕ) (listener : Socket) (listener_cred : Cred) → Quiet S (with_connection S (record { client = d; client_cred = cred; listener = l; socket = listener; listener_cred = listener_cred }))
 quiet_connection S d cred l listener listener_cred i =
     let e : ℕ = next_description S in
     let T : State = with_socket_by S l (awaiting e) in

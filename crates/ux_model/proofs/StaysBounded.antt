@@ -49,7 +49,7 @@ changed_bounded S d change stays all = place_bounded S d (option_map (changed ch
     at_place (Some D) own = at_target D.target own
 
 -- a server's end has its listener's name
-connected_bounded : (S : State) (d l : ℕ) (cred listener_cred : Cred) (listener : Socket) → socket_at S l ≡ Some listener → AreBounded S → AreBounded (with_connection S d cred l listener listener_cred)
+connected_bounded : (S : State) (d l : ℕ) (cred listener_cred : Cred) (listener : Socket) → socket_at S l ≡ Some listener → AreBounded S → AreBounded (with_connection S (record { client = d; client_cred = cred; listener = l; socket = listener; listener_cred = listener_cred }))
 connected_bounded S d l cred listener_cred listener there all =
     let end_bounded : HasBounds listener.kind listener.name first_queue_limit [] = record { short = (socket_bounded S l listener all there).short; each = tt; limited = omega arith; all = λ stream. omega arith } in
     let T : State = with_socket_by S l (awaiting (next_description S)) in

@@ -45,17 +45,27 @@ phase_without_first_end (associated target) = associated target
 abbrev pub without_first_end : Socket → Socket
 without_first_end s = record s { phase = phase_without_first_end s.phase }
 
--- end e, the oldest that waits at listener d, gets number n of process p
-abbrev pub with_accepted : State → ℕ → ℕ → ℕ → ℕ → OpenFlags → State
-with_accepted S p n d e flags =
-    with_description_by (with_socket_by (with_table S p (filled (table_of S p) n (descriptor flags e))) d without_first_end) e (accepted_with flags)
+-- an end that is accepted: the process and its number that get it, and the flags of the call
+pub record Acceptance : Type 0 where
+  pub process : ℕ
+  pub number : ℕ
+  pub flags : OpenFlags
+  -- by the numbers of their descriptions: the listener, and the end, which is the oldest that waits there
+  pub listener : ℕ
+  pub oldest : ℕ
+
+abbrev pub with_accepted : State → Acceptance → State
+with_accepted S a =
+    let opened : State = with_table S a.process (filled (table_of S a.process) a.number (descriptor a.flags a.oldest)) in
+    with_description_by (with_socket_by opened a.listener without_first_end) a.oldest (accepted_with a.flags)
 
 -- ---- the call
 
 -- of those that wait, the oldest
 abbrev pub accept_first : State → ℕ → ℕ → ℕ → OpenFlags → Option ℕ → Outcome
 accept_first S p n d flags None = refuse S Errno.EAGAIN
-accept_first S p n d flags (Some e) = growing (Reply.Accepted (fd_of n) (client_name S e)) (with_accepted S p n d e flags)
+accept_first S p n d flags (Some e) =
+    growing (Reply.Accepted (fd_of n) (client_name S e)) (with_accepted S (record { process = p; number = n; flags = flags; listener = d; oldest = e }))
 
 -- accept4(2). Where no number is free, the end waits on.
 unfoldable pub accept : State → ℕ → Fd → OpenFlags → Outcome

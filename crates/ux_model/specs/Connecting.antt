@@ -5,6 +5,7 @@ use Rattle.ux_model.specs.Places.{filled}
 use Rattle.ux_model.specs.Names.{is_valid_addr, is_unnamed_addr}
 use Rattle.ux_model.specs.Backlog.{Backlog, backlog_of}
 use Rattle.ux_model.specs.Socket.{Socket, Phase, idle, listening, connected, associated, is_dgram, new_socket, pending_ends, peer_of, tied_socket, takes_from, awaiting, with_association, shut_down}
+use Rattle.ux_model.specs.Description.{Description}
 use Rattle.ux_model.specs.Process.{lowest_free, fd_of, descriptor, own_cred}
 use Rattle.ux_model.specs.State.{State, socket_at, table_of, next_description, with_socket_by, with_table, with_new}
 use Rattle.ux_model.specs.Outcome.{Outcome, refuse, answer, growing, on_socket, as_process}
@@ -60,17 +61,28 @@ no_open_flags = record { 0 = 0 }
 abbrev pub tied : ℕ → Cred → Socket → Socket
 tied peer cred s = record s { phase = connected peer; peer_cred = Some cred }
 
--- client d, whose process has these credentials, is connected to a new end that waits at listener l
-abbrev pub with_connection : State → ℕ → Cred → ℕ → Socket → Cred → State
-with_connection S d cred l listener listener_cred =
+-- a client that is connected to a listener, both by the numbers of their descriptions
+pub record Connection : Type 0 where
+  pub client : ℕ
+  -- of its process
+  pub client_cred : Cred
+  pub listener : ℕ
+  -- the listener, and the credentials of the process that called listen
+  pub socket : Socket
+  pub listener_cred : Cred
+
+-- the client is connected to a new end, which waits at the listener
+abbrev pub with_connection : State → Connection → State
+with_connection S c =
     let e : ℕ = next_description S in
-    with_socket_by (with_new (with_socket_by S l (awaiting e)) (socket_description no_open_flags (server_end listener d cred))) d (tied e listener_cred)
+    let made : Description = socket_description no_open_flags (server_end c.socket c.client c.client_cred) in
+    with_socket_by (with_new (with_socket_by S c.listener (awaiting e)) made) c.client (tied e c.listener_cred)
 
 -- where a listener keeps this
 abbrev pub connect_to_listener : State → ℕ → Cred → ℕ → Socket → Listener → Outcome
 connect_to_listener S d cred l listener kept =
     if nat_le kept.backlog.limit (length kept.backlog.pending) then refuse S Errno.EAGAIN else
-    growing Reply.Ok (with_connection S d cred l listener kept.cred)
+    growing Reply.Ok (with_connection S (record { client = d; client_cred = cred; listener = l; socket = listener; listener_cred = kept.cred }))
 
 -- a socket that doesn't listen refuses
 abbrev pub connect_to : State → ℕ → Cred → ℕ → Socket → Outcome

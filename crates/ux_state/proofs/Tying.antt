@@ -364,12 +364,12 @@ module _ {fs : ℕ → ℕ} (xs : List Openings) (ls : List ℕ) (H : Held Descr
 pub connection_made : (V T : State) (R P K M : Held Description) (c l i : ℕ) (cred lcred : Cred) (E : Description) → V ≡ T →
     OnListener T l (λ t kept. E ≡ socket_description no_open_flags (server_end t c cred)) → OnListener T l (λ t kept. lcred ≡ kept.cred) → R.places ≡ V.descriptions → i ≡ length R.places →
     P.places ≡ changed_place R.places l (changed (awaiting i)) → Adds E P K → M.places ≡ changed_place K.places c (changed (tied i lcred)) →
-    OnListener T l (λ t kept. record V { descriptions = M.places } ≡ with_connection T c cred l t kept.cred)
+    OnListener T l (λ t kept. record V { descriptions = M.places } ≡ with_connection T (record { client = c; client_cred = cred; listener = l; socket = t; listener_cred = kept.cred }))
 connection_made V T R P K M c l i cred lcred E same end creds r_places last p_places adds m_places =
-    on_both T l (λ t kept. E ≡ socket_description no_open_flags (server_end t c cred)) (λ t kept. lcred ≡ kept.cred) (λ t kept. record V { descriptions = M.places } ≡ with_connection T c cred l t kept.cred)
+    on_both T l (λ t kept. E ≡ socket_description no_open_flags (server_end t c cred)) (λ t kept. lcred ≡ kept.cred) (λ t kept. record V { descriptions = M.places } ≡ with_connection T (record { client = c; client_cred = cred; listener = l; socket = t; listener_cred = kept.cred }))
     (λ t kept is_end is_cred.
     (λ j. record V { descriptions = places_tied V.descriptions R.places P.places K.places M.places c l i lcred kept.cred E _ r_places last p_places adds.places m_places is_end is_cred j })
-    ∙ ap (λ U. with_connection U c cred l t kept.cred) same) end creds
+    ∙ ap (λ U. with_connection U (record { client = c; client_cred = cred; listener = l; socket = t; listener_cred = kept.cred })) same) end creds
 
 -- one description changed
 pub one_changed : (V T : State) (d : ℕ) (change : Description → Description) (ds : List (Option Description)) → V ≡ T → ds ≡ changed_place V.descriptions d change →

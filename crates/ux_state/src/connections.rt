@@ -48,7 +48,8 @@ impl<O: FileObject> State<O> {
         requires client { IsUnconnectedAt self.old client }
         requires no_listener { IsNoListenerAt self.old client }
         requires listener { IsListenerAt self.old listener }
-        ensures ok { OnOk result (OnListener self.old listener (λ s kept. self.new ≡ with_connection self.old client cred listener s kept.cred)) }
+        ensures ok { OnOk result (OnListener self.old listener (λ s kept. self.new ≡ with_connection self.old
+            (record { client = client; client_cred = cred; listener = listener; socket = s; listener_cred = kept.cred }))) }
         ensures full { (result ≡ Err PushError.Full) ↔ OnListener self.old listener (λ s kept. kept.backlog.limit ≤ length kept.backlog.pending) }
         ensures err { OnErr result (self.new ≡ self.old) }
     {
@@ -77,7 +78,8 @@ impl<O: FileObject> State<O> {
         requires live { IsTrue (is_live self.old pid.0) }
         requires waits { IsSome (first_end self.old listener) }
         ensures lowest { IfOk result (λ fd. lowest_free (table_of self.old pid.0) ≡ Some fd.0) }
-        ensures accepted { IfOk result (λ fd. IsSomeAnd (first_end self.old listener) (λ e. self.new ≡ with_accepted self.old pid.0 fd.0 listener e flags)) }
+        ensures accepted { IfOk result (λ fd. IsSomeAnd (first_end self.old listener) (λ e. self.new
+            ≡ with_accepted self.old (record { process = pid.0; number = fd.0; flags = flags; listener = listener; oldest = e }))) }
         ensures full { (result ≡ Err InstallError.Full) ↔ (lowest_free (table_of self.old pid.0) ≡ None) }
         ensures err { OnErr result (self.new ≡ self.old) }
     {
