@@ -23,6 +23,7 @@ pub mod Obeying
 pub mod LeastNames
 pub mod NameCalls
 pub mod OptionCalls
+pub mod Datagrams
 pub mod MessageCalls
 pub mod ReadyCalls
 pub mod Calls

@@ -18,7 +18,8 @@ use Rattle.ux_model.specs.Process.{Process, Descriptor, own_cred}
 use Rattle.ux_model.specs.State.{State, is_live, process_at, description_at, socket_at, table_of, with_socket_by}
 use Rattle.ux_model.specs.References.{times, queue_refs, refs}
 use Rattle.ux_model.specs.Outcome.{Outcome, refuse, answer}
-use Rattle.ux_model.specs.Sending.{Sending, sending, descriptions_behind, message_of, flight_limit, is_over_limit, enqueue, is_too_long, send_to_peer, send_connected, send_stream, send_to_target, send_by_association, send_by, send_datagram, send_from, is_sendable_addr, is_sendable_control, given_refusal, sent_cred, send_given, send_with, send_read, reading_control, send_msg}
+use Rattle.ux_model.specs.Sending.{Sending, sending, descriptions_behind, message_of, flight_limit, is_over_limit, enqueue, is_too_long, send_to_peer, send_connected, send_stream, send_datagram, send_from, is_sendable_addr, is_sendable_control, given_refusal, sent_cred, send_given, send_with, send_read, reading_control, send_msg}
+use Rattle.ux_model.proofs.Datagrams.{send_to_target, send_by_association, send_by}
 use Rattle.ux_model.specs.Receiving.{Incoming, incoming, recv_msg, receive, receive_from_peer, at_end, receive_nothing, receive_front, with_delivered}
 use Rattle.ux_model.specs.Flight.{of_user, rights_sent_by, in_flight}
 use Rattle.ux_model.specs.FlightLaws.{AreLimited}

@@ -14,7 +14,8 @@ use Rattle.ux_model.specs.Process.{Process, own_cred}
 use Rattle.ux_model.specs.State.{State, socket_at, process_at, with_socket_by}
 use Rattle.ux_model.specs.Outcome.{Outcome, refuse, answer, growing, find_socket}
 use Rattle.ux_model.specs.Connecting.{listener_of}
-use Rattle.ux_model.specs.Sending.{sending, flight_limit, is_over_limit, enqueue, is_too_long, send_connected, send_to_target, send_by_association, send_datagram, send_stream, send_from, send_with, send_read, reading_control, send_msg}
+use Rattle.ux_model.specs.Sending.{sending, flight_limit, is_over_limit, enqueue, is_too_long, send_connected, send_datagram, send_stream, send_from, send_with, send_read, reading_control, send_msg}
+use Rattle.ux_model.proofs.Datagrams.{send_to_target, send_by_association}
 use Rattle.ux_model.specs.Receiving.{incoming, nothing_received, receive_front, receive_connected, receive_from_peer, receive_datagram, receive, recv_msg}
 use Rattle.ux_model.specs.Readiness.{Conditions, by_peer, listener_conditions, stream_conditions, target_takes, sends_at_once, datagram_conditions, socket_conditions}
 use Rattle.ux_model.specs.Step.{outcome}

@@ -21,10 +21,10 @@ use Rattle.ux_model.proofs.Shows.{socket_found}
 use Rattle.ux_model.specs.Outcome.{Outcome, refuse, descriptor_at, find_description, find_socket, on_socket, as_process}
 use Rattle.ux_msg.specs.Answers.{Gives}
 use Rattle.ux_model.specs.Receiving.{incoming, receive, recv_msg, bytes_alone, read_socket}
-use Rattle.ux_model.specs.Sending.{sending, send_to_target, send_by_name, send_with, send_read, reading_control, send_msg}
+use Rattle.ux_model.specs.Sending.{sending, on_target, send_with, send_read, reading_control, send_msg}
 use Rattle.ux_msg.specs.Receipts.{receive_at, read_socket_at, brought_at}
 use Rattle.ux_model.specs.Delivered.{Brought, nothing_brought, brought_from, brought, told_of, delivered_by}
-use Rattle.ux_msg.specs.Sendings.{send_with_at}
+use Rattle.ux_msg.specs.Sendings.{send_to_target, send_with_at}
 
 -- the entry, and its description
 pub record IsFound (S : State) (p : ℕ) (fd : Fd) (e : Descriptor) (D : Description) : Type 0 where
@@ -136,15 +136,15 @@ looked_up S kind addr t u h = by_addr addr h
 
 -- a datagram to it
 pub named_gives : (S T : State) (limit : Option ℕ) (d t k : ℕ) (s u : Socket) (addr : Addr) (m : Socket → Message) (r : Result Reply Refusal) → socket_at S d ≡ Some s → look_up S s.kind addr ≡ Ok (t, u) →
-    IsSomeAnd (socket_at S d) (λ x. IsSomeAnd (socket_at S k) (λ y. Gives S (send_to_target S limit d k y (m x)) r T)) → k ≡ t → IsSomeAnd (socket_at S d) (λ x. Gives S (send_by_name S limit d x.kind addr (m x)) r T)
+    IsSomeAnd (socket_at S d) (λ x. IsSomeAnd (socket_at S k) (λ y. Gives S (send_to_target S limit d k y (m x)) r T)) → k ≡ t → IsSomeAnd (socket_at S d) (λ x. Gives S (on_target S d x (Some addr) (λ n target. send_to_target S limit d n target (m x))) r T)
 named_gives S T limit d t k s u addr m r here found gives same =
     let there = looked_up S s.kind addr t u found in
     let one : IsSomeAnd (socket_at S k) (λ y. Gives S (send_to_target S limit d k y (m s)) r T) = subst (λ o. IsSomeAnd o (λ x. IsSomeAnd (socket_at S k) (λ y. Gives S (send_to_target S limit d k y (m x)) r T))) here gives in
     let two : IsSomeAnd (socket_at S t) (λ y. Gives S (send_to_target S limit d t y (m s)) r T) = subst (λ k. IsSomeAnd (socket_at S k) (λ y. Gives S (send_to_target S limit d k y (m s)) r T)) same one in
     let three : Gives S (send_to_target S limit d t u (m s)) r T = subst (λ o. IsSomeAnd o (λ y. Gives S (send_to_target S limit d t y (m s)) r T)) there two in
-    let four : Gives S (send_by_name S limit d s.kind addr (m s)) r T =
+    let four : Gives S (on_target S d s (Some addr) (λ n target. send_to_target S limit d n target (m s))) r T =
     subst (λ (x : Result (ℕ × Socket) Errno). Gives S (elim x as (λ _. Outcome) [ Err e ↦ refuse S e | Ok f ↦ send_to_target S limit d f.0 f.1 (m s) ]) r T) (sym found) three in
-    subst (λ o. IsSomeAnd o (λ x. Gives S (send_by_name S limit d x.kind addr (m x)) r T)) (sym here) four
+    subst (λ o. IsSomeAnd o (λ x. Gives S (on_target S d x (Some addr) (λ n target. send_to_target S limit d n target (m x))) r T)) (sym here) four
 
 -- ---- sends
 

@@ -1,10 +1,10 @@
 //! Sending datagrams (sendmsg(2), unix(7)).
 ghost use Rattle.std.specs.Prelude.{IsSomeAnd, Some, None, option_map};
-ghost use Rattle.ux_model.specs.Socket.{association_of};
 ghost use Rattle.ux_model.specs.State.{socket_at};
 ghost use Rattle.ux_rights.specs.Drafts.{drafted};
 ghost use Rattle.ux_state.specs.Moves.{IsSocketAt, AreReferenced};
 ghost use Rattle.ux_msg.specs.Answers.{Gives};
+ghost use Rattle.ux_msg.specs.Sendings.{send_to_target};
 ghost use Rattle.ux_model.specs.Sending as model;
 
 use crate::flight::is_over_limit;
@@ -54,8 +54,8 @@ fn send_by_name<O: FileObject>(
 ) -> Result<Reply, Refusal>
     requires socket { IsSocketAt state.old id }
     requires held { AreReferenced state.old rights }
-    ensures { IsSomeAnd (socket_at state.old id) (λ s. Gives state.old
-        (model.send_by_name state.old limit id s.kind addr.now (drafted draft.entry rights (Some s.name))) result state.new) }
+    ensures { IsSomeAnd (socket_at state.old id) (λ s. Gives state.old (model.on_target state.old id s (Some addr.now)
+        (λ t target. send_to_target state.old limit id t target (drafted draft.entry rights (Some s.name)))) result state.new) }
 {
     let Some(socket) = state.socket(id) else {
         unreachable!();
@@ -77,8 +77,8 @@ fn send_by_association<O: FileObject>(
 ) -> Result<Reply, Refusal>
     requires socket { IsSocketAt state.old id }
     requires held { AreReferenced state.old rights }
-    ensures { IsSomeAnd (socket_at state.old id) (λ s. Gives state.old
-        (model.send_by_association state.old limit id (association_of s.phase) (drafted draft.entry rights (Some s.name))) result state.new) }
+    ensures { IsSomeAnd (socket_at state.old id) (λ s. Gives state.old (model.on_target state.old id s None
+        (λ t target. send_to_target state.old limit id t target (drafted draft.entry rights (Some s.name)))) result state.new) }
 {
     let Some(socket) = state.socket(id) else {
         unreachable!();
@@ -106,7 +106,7 @@ fn send_to_target<O: FileObject>(
     requires target { IsSocketAt state.old target }
     requires held { AreReferenced state.old rights }
     ensures { IsSomeAnd (socket_at state.old id) (λ s. IsSomeAnd (socket_at state.old target) (λ t. Gives state.old
-        (model.send_to_target state.old limit id target t (drafted draft.entry rights (Some s.name))) result state.new)) }
+        (send_to_target state.old limit id target t (drafted draft.entry rights (Some s.name))) result state.new)) }
 {
     let (Some(sender), Some(other)) = (state.socket(id), state.socket(target)) else {
         unreachable!();
