@@ -7,7 +7,8 @@ use Rattle.ux_model.specs.Socket.{Phase, idle, listening, connected, associated,
 use Rattle.ux_model.specs.Description.{Description, Target, to_object, to_socket, socket_of, socket_in, changed, changed_target}
 use Rattle.ux_model.specs.Process.{Descriptor}
 use Rattle.ux_model.specs.State.{State, description_at, socket_at}
-use Rattle.ux_model.specs.Release.{resets_peer, is_reset_by_loss, target_after_loss, description_after_loss, place_after_loss, without, is_unreferenced, drop_all, drop_rounds, drop_unreferenced, has_unreferenced, settled}
+use Rattle.ux_model.specs.Release.{resets_peer, place_after_loss, without, is_unreferenced, drop_all, drop_rounds, drop_unreferenced, has_unreferenced, settled}
+use Rattle.ux_model.proofs.Losses.{is_reset_by_loss, target_after_loss, description_after_loss}
 use Rattle.ux_model.specs.Step.{Step}
 use Rattle.ux_model.specs.History.{is_off}
 use Rattle.ux_model.specs.Giving.{held_at}

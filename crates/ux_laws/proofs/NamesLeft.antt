@@ -11,7 +11,8 @@ use Rattle.ux_model.specs.Naming.{unlink}
 use Rattle.ux_model.specs.Binding.{bind_to, bind}
 use Rattle.ux_model.specs.Options.{may_limit, change_option, set_opt}
 use Rattle.ux_model.specs.Closing.{off}
-use Rattle.ux_model.specs.Release.{description_after_loss, without, is_unreferenced, drop_all, drop_rounds, drop_unreferenced, has_unreferenced, settled}
+use Rattle.ux_model.specs.Release.{without, is_unreferenced, drop_all, drop_rounds, drop_unreferenced, has_unreferenced, settled}
+use Rattle.ux_model.proofs.Losses.{description_after_loss}
 use Rattle.ux_model.specs.Step.{Step, outcome}
 use Rattle.ux_model.specs.History.{IsLegal}
 use Rattle.ux_model.specs.Giving.{description_of}

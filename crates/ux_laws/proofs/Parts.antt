@@ -12,7 +12,8 @@ use Rattle.ux_model.specs.Description.{Description, Target, to_object, to_socket
 use Rattle.ux_model.specs.Process.{Descriptor}
 use Rattle.ux_model.specs.State.{State, description_at, socket_at, with_description, with_description_by, with_socket_by, with_table, with_new}
 use Rattle.ux_model.specs.Accepting.{phase_without_first_end, without_first_end}
-use Rattle.ux_model.specs.Release.{target_after_loss, description_after_loss, place_after_loss, without, is_unreferenced, drop_all, drop_rounds, drop_unreferenced, has_unreferenced, settled}
+use Rattle.ux_model.specs.Release.{place_after_loss, without, is_unreferenced, drop_all, drop_rounds, drop_unreferenced, has_unreferenced, settled}
+use Rattle.ux_model.proofs.Losses.{target_after_loss, description_after_loss}
 use Rattle.ux_model.proofs.ReleaseLaws.{description_at-without}
 use Rattle.ux_model.proofs.ChangedPlaces.{bool_cases, place-changed, length-changed}
 use Rattle.ux_model.proofs.OnePlace.{same_at}

@@ -12,7 +12,8 @@ use Rattle.ux_model.specs.Outcome.{Outcome, Chosen, own, lacking_memory, failing
 use Rattle.ux_model.specs.Descriptors.{dup2}
 use Rattle.ux_model.specs.Forking.{exec}
 use Rattle.ux_model.specs.Closing.{close, exit}
-use Rattle.ux_model.specs.Release.{resets_peer, is_reset_by_loss, target_after_loss, description_after_loss, without, is_unreferenced, drop_all, drop_rounds, drop_unreferenced, has_unreferenced, settled}
+use Rattle.ux_model.specs.Release.{resets_peer, without, is_unreferenced, drop_all, drop_rounds, drop_unreferenced, has_unreferenced, settled}
+use Rattle.ux_model.proofs.Losses.{is_reset_by_loss, target_after_loss, description_after_loss}
 use Rattle.ux_model.specs.Step.{Step, outcome}
 use Rattle.ux_model.specs.Pedigree.{before}
 use Rattle.ux_model.proofs.ReleaseLaws.{description_at-without}

@@ -9,7 +9,8 @@ use Rattle.ux_model.specs.Socket.{Phase, idle, listening, connected, associated}
 use Rattle.ux_model.specs.Description.{Description, Target, to_object, to_socket}
 use Rattle.ux_model.specs.State.{State, description_at}
 use Rattle.ux_model.specs.References.{target_refs, description_refs, refs}
-use Rattle.ux_model.specs.Release.{target_after_loss, description_after_loss, place_after_loss, without, is_unreferenced, has_unreferenced, drop_all, drop_rounds, drop_unreferenced, is_reset_by_loss, Drops, none, another, EndsAlike}
+use Rattle.ux_model.specs.Release.{place_after_loss, without, is_unreferenced, has_unreferenced, drop_all, drop_rounds, drop_unreferenced, Drops, none, another, EndsAlike}
+use Rattle.ux_model.proofs.Losses.{target_after_loss, description_after_loss, is_reset_by_loss}
 use Rattle.ux_model.proofs.ReleaseLaws.{description_at-without, either, without-without}
 
 -- ---- what is left has no more references

@@ -13,7 +13,8 @@ use Rattle.ux_model.specs.State.{State, description_at, with_socket_by, with_chi
 use Rattle.ux_model.specs.Forking.{child_of}
 use Rattle.ux_model.specs.Connecting.{with_connection}
 use Rattle.ux_model.specs.Closing.{with_nothing_open}
-use Rattle.ux_model.specs.Release.{place_after_loss, description_after_loss, target_after_loss, without, drop_rounds, drop_all, drop_unreferenced, has_unreferenced, settled}
+use Rattle.ux_model.specs.Release.{place_after_loss, without, drop_rounds, drop_all, drop_unreferenced, has_unreferenced, settled}
+use Rattle.ux_model.proofs.Losses.{description_after_loss, target_after_loss}
 use Rattle.ux_model.specs.Flight.{flying_at, flying_in, in_flight}
 use Rattle.ux_model.specs.Boot.{IsBootState}
 use Rattle.ux_model.specs.Step.{Step}

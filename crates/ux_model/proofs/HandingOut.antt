@@ -7,7 +7,8 @@ use Rattle.ux_model.specs.Places.{place}
 use Rattle.ux_model.specs.Object.{View, closed}
 use Rattle.ux_model.specs.State.{State, description_at, table_of}
 use Rattle.ux_model.specs.References.{refs, orefs}
-use Rattle.ux_model.specs.Release.{target_after_loss, description_after_loss, without, is_unreferenced, has_unreferenced, drop_all, drop_rounds, drop_unreferenced, released_objects}
+use Rattle.ux_model.specs.Release.{without, is_unreferenced, has_unreferenced, drop_all, drop_rounds, drop_unreferenced, released_objects}
+use Rattle.ux_model.proofs.Losses.{target_after_loss, description_after_loss}
 use Rattle.ux_model.specs.Step.{outcome}
 use Rattle.ux_model.specs.HandingOut.{IsHandedOut, HandsOutWhatWasHeld}
 use Rattle.ux_model.proofs.Reaching.{changes_lives}

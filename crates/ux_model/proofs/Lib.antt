@@ -1,3 +1,4 @@
+pub mod Losses
 pub mod ReleaseLaws
 pub mod ReleasedNumbers
 pub mod AnyOrder

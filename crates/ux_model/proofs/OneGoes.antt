@@ -13,7 +13,8 @@ use Rattle.ux_model.specs.Socket.{Phase, idle, listening, connected, associated,
 use Rattle.ux_model.specs.Description.{Description, Target, to_object, to_socket, socket_of, changed, changed_target}
 use Rattle.ux_model.specs.State.{State, description_at, socket_at}
 use Rattle.ux_model.specs.References.{refs, table_refs, target_refs, description_refs}
-use Rattle.ux_model.specs.Release.{resets_peer, is_reset_by_loss, target_after_loss, description_after_loss, place_after_loss, without, is_unreferenced, has_unreferenced}
+use Rattle.ux_model.specs.Release.{resets_peer, place_after_loss, without, is_unreferenced, has_unreferenced}
+use Rattle.ux_model.proofs.Losses.{is_reset_by_loss, target_after_loss, description_after_loss}
 use Rattle.ux_model.specs.Peers.{target_peer, peer_in, Paired, lost_peer, with_peer_reset}
 use Rattle.ux_model.proofs.AnyOrder.{live_in, fewer_live}
 use Rattle.ux_model.proofs.ChangedPlaces.{bool_cases, place_within, place-changed, length-changed, sum_by-changed}

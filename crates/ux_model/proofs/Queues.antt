@@ -11,7 +11,8 @@ use Rattle.ux_model.specs.Socket.{Socket, is_stream, sent_part, sent, with_queue
 use Rattle.ux_model.specs.Description.{Description, Target, to_object, to_socket, socket_of, socket_in, changed, changed_target}
 use Rattle.ux_model.specs.Process.{Descriptor}
 use Rattle.ux_model.specs.State.{State, description_at, socket_at, table_of, with_description, with_description_by, with_socket_by, with_table, with_new}
-use Rattle.ux_model.specs.Release.{target_after_loss, description_after_loss, without, is_unreferenced, drop_all, drop_rounds, drop_unreferenced, has_unreferenced, settled}
+use Rattle.ux_model.specs.Release.{without, is_unreferenced, drop_all, drop_rounds, drop_unreferenced, has_unreferenced, settled}
+use Rattle.ux_model.proofs.Losses.{target_after_loss, description_after_loss}
 use Rattle.ux_model.specs.Sending.{descriptions_behind}
 use Rattle.ux_model.specs.Giving.{sent_by}
 use Rattle.ux_model.proofs.ReleaseLaws.{description_at-without}

@@ -6,7 +6,8 @@ use Rattle.ux_model.specs.Places.{place}
 use Rattle.ux_model.specs.Socket.{Socket, Phase, idle, listening, connected, associated}
 use Rattle.ux_model.specs.Description.{Description, Target, to_object, to_socket, socket_of}
 use Rattle.ux_model.specs.State.{State, description_at, socket_at}
-use Rattle.ux_model.specs.Release.{resets_peer, is_reset_by_loss, target_after_loss, description_after_loss, place_after_loss, without}
+use Rattle.ux_model.specs.Release.{resets_peer, place_after_loss, without}
+use Rattle.ux_model.proofs.Losses.{is_reset_by_loss, target_after_loss, description_after_loss}
 
 -- ---- lists of places
 

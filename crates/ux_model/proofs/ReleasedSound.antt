@@ -14,7 +14,8 @@ use Rattle.ux_model.specs.Description.{Description, Target, to_object, to_socket
 use Rattle.ux_model.specs.State.{State, description_at}
 use Rattle.ux_model.specs.References.{target_refs, description_refs, leads_to, is_open_of, refs, orefs}
 use Rattle.ux_model.specs.Peers.{target_peer, peer_in, Paired, at_target, at_socket}
-use Rattle.ux_model.specs.Release.{is_reset_by_loss, target_after_loss, description_after_loss, place_after_loss, without, is_unreferenced, has_unreferenced, drop_all, drop_rounds, drop_unreferenced, without_orphans, settled}
+use Rattle.ux_model.specs.Release.{place_after_loss, without, is_unreferenced, has_unreferenced, drop_all, drop_rounds, drop_unreferenced, without_orphans, settled}
+use Rattle.ux_model.proofs.Losses.{is_reset_by_loss, target_after_loss, description_after_loss}
 use Rattle.ux_model.specs.Invariants.{pends, pends_at_all}
 use Rattle.ux_model.proofs.ReleaseLaws.{description_at-without}
 use Rattle.ux_model.proofs.ChangedPlaces.{bool_cases}

@@ -9,7 +9,8 @@ use Rattle.ux_model.specs.Description.{Description, Target, to_object, to_socket
 use Rattle.ux_model.specs.State.{State, description_at, socket_at, next_description, with_new, with_socket_by}
 use Rattle.ux_model.specs.Pairing.{socket_description}
 use Rattle.ux_model.specs.Connecting.{server_end, no_open_flags, tied, with_connection}
-use Rattle.ux_model.specs.Release.{target_after_loss, description_after_loss, without, is_unreferenced, has_unreferenced, drop_all, drop_rounds, drop_unreferenced, settled}
+use Rattle.ux_model.specs.Release.{without, is_unreferenced, has_unreferenced, drop_all, drop_rounds, drop_unreferenced, settled}
+use Rattle.ux_model.proofs.Losses.{target_after_loss, description_after_loss}
 use Rattle.ux_model.specs.Step.{Step}
 use Rattle.ux_model.specs.History.{replay, IsLegal}
 use Rattle.ux_model.proofs.ReleaseLaws.{description_at-without}
