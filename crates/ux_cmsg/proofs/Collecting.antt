@@ -2,7 +2,7 @@
 use Rattle.std.proofs.Common.{◌≡◌, ℕ, zero, suc, ◌≤◌, ◌+◌, ◌-◌, ◌<◌, List, [], ◌∷◌, ◌++◌, length, Option, Some, None, refl, sym, ap, subst, ◌∙◌, append_assoc, arith}
 use Rattle.std.specs.Prelude.{◌↔◌, option_map}
 use Rattle.std.proofs.lemmas.List.{append-nil, length-append, length-drop}
-use Rattle.ux_model.specs.Control.{Control, Item, rights_item, cred_item, item_bytes, padding, IsList, nothing, last, further, Gives, neither, rights_alone, cred_alone, cred_first, rights_first, Spells, ReadsAs, ReadsOnce}
+use Rattle.ux_model.specs.Control.{Control, Item, rights_item, cred_item, item_bytes, padding, IsList, nothing, last, further, MakeUp, neither, rights_alone, cred_alone, cred_first, rights_first, Spells, ReadsAs, ReadsOnce}
 use Rattle.ux_model.specs.ControlReading.{◌>>=◌, item_at, Found, nothing_found, with_item, with_items, control_of, control_in, ReadsByGrammar}
 use Rattle.ux_cmsg.proofs.Numbers.{IsBytes, bytes_below}
 use Rattle.ux_cmsg.proofs.OneItem.{eq_some, TakesItem, item_takes, item_again}
@@ -31,7 +31,7 @@ all_of items = collect nothing_found items
 abbrev Collects : List Item → Control → Type 0
 Collects items control = (found : Found) × (all_of items ≡ Some found) × (control_of found ≡ control)
 
-collected : {items : List Item} {control : Control} → Gives items control → Collects items control
+collected : {items : List Item} {control : Control} → MakeUp items control → Collects items control
 unfolding collect
 collected neither = (nothing_found, refl, refl)
 collected (rights_alone ns) = (record { cred = None; rights = Some ns }, refl, refl)
@@ -39,10 +39,10 @@ collected (cred_alone c) = (record { cred = Some c; rights = None }, refl, refl)
 collected (cred_first c ns) = (record { cred = Some c; rights = Some ns }, refl, refl)
 collected (rights_first c ns) = (record { cred = Some c; rights = Some ns }, refl, refl)
 
-gives_found : (items : List Item) (made found : Found) → Gives items (control_of made) → ◌≡◌ {A = Option Found} (Some made) (Some found) → Gives items (control_of found)
-gives_found items made found gives e = subst (λ (f : Found). Gives items (control_of f)) (eq_some made found e) gives
+gives_found : (items : List Item) (made found : Found) → MakeUp items (control_of made) → ◌≡◌ {A = Option Found} (Some made) (Some found) → MakeUp items (control_of found)
+gives_found items made found gives e = subst (λ (f : Found). MakeUp items (control_of f)) (eq_some made found e) gives
 
-gives : (items : List Item) (found : Found) → all_of items ≡ Some found → Gives items (control_of found)
+gives : (items : List Item) (found : Found) → all_of items ≡ Some found → MakeUp items (control_of found)
 unfolding collect
 gives [] found e = gives_found [] nothing_found found neither e
 gives (rights_item ns ∷ []) found e = gives_found (rights_item ns ∷ []) (record { cred = None; rights = Some ns }) found (rights_alone ns) e

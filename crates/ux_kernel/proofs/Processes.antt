@@ -5,7 +5,7 @@ use Rattle.ux_model.specs.Types.{Errno, Pid, Reply}
 use Rattle.ux_model.specs.Limits.{made_limit}
 use Rattle.ux_model.specs.Process.{Process, Descriptor, kept_on_exec, pid_of}
 use Rattle.ux_model.specs.State.{State, process_at, is_live, table_of, next_process, with_process, with_table, with_child}
-use Rattle.ux_model.specs.Outcome.{Outcome, refuse, answer, growing, as_process}
+use Rattle.ux_model.specs.Outcome.{Outcome, refuse, answer, taking_memory, as_process}
 use Rattle.ux_model.specs.Closing.{exit}
 use Rattle.ux_model.specs.Forking.{child_of, fork, exec}
 
@@ -33,13 +33,13 @@ at_live S p live f = ap (λ o. elim o as (λ _. Outcome) [ None ↦ refuse S Err
 pub fork_refused : (S : State) (p : ℕ) → is_live S p ≡ true → made_limit ≤ length S.processes → (Reply.Err Errno.EAGAIN ≡ (fork S p).reply) × (S ≡ (fork S p).next)
 unfolding fork
 fork_refused S p live full =
-    let is = at_live S p live _ ∙ ap (λ b. if b then refuse S Errno.EAGAIN else growing (Reply.Child (pid_of (next_process S))) (with_child S (child_of (live_at S p live).0))) (le-leb made_limit (length S.processes) full) in
+    let is = at_live S p live _ ∙ ap (λ b. if b then refuse S Errno.EAGAIN else taking_memory (Reply.Child (pid_of (next_process S))) (with_child S (child_of (live_at S p live).0))) (le-leb made_limit (length S.processes) full) in
     (sym (ap (λ o. Outcome.reply o) is), sym (ap (λ o. Outcome.next o) is))
 
 -- with room for one more
-fork_is : (S : State) (p : ℕ) (live : is_live S p ≡ true) → length S.processes < made_limit → fork S p ≡ growing (Reply.Child (pid_of (next_process S))) (with_child S (child_of (live_at S p live).0))
+fork_is : (S : State) (p : ℕ) (live : is_live S p ≡ true) → length S.processes < made_limit → fork S p ≡ taking_memory (Reply.Child (pid_of (next_process S))) (with_child S (child_of (live_at S p live).0))
 unfolding fork
-fork_is S p live few = at_live S p live _ ∙ ap (λ b. if b then refuse S Errno.EAGAIN else growing (Reply.Child (pid_of (next_process S))) (with_child S (child_of (live_at S p live).0))) (lt-leb made_limit (length S.processes) few)
+fork_is S p live few = at_live S p live _ ∙ ap (λ b. if b then refuse S Errno.EAGAIN else taking_memory (Reply.Child (pid_of (next_process S))) (with_child S (child_of (live_at S p live).0))) (lt-leb made_limit (length S.processes) few)
 
 pub fork_wants : (S : State) (p : ℕ) → is_live S p ≡ true → length S.processes < made_limit → (fork S p).may_lack_memory ≡ true
 fork_wants S p live few = ap (λ o. Outcome.may_lack_memory o) (fork_is S p live few)

@@ -17,7 +17,7 @@ use Rattle.ux_model.specs.Connecting.{Listener, listener_of, with_listening, wit
 use Rattle.ux_model.specs.Sending.{descriptions_behind}
 use Rattle.ux_model.specs.Giving.{sent_by}
 use Rattle.ux_model.proofs.ByPlace.{take_none}
-use Rattle.ux_laws.specs.Talking.{offered_bytes, given_addr, is_peek, taken_count, given_bytes, socket_through, goes_to, is_number, is_first, sends_to, receives_through}
+use Rattle.ux_laws.specs.Talking.{offered_bytes, request_addr, is_peek, taken_count, given_bytes, socket_through, goes_to, is_number, is_first, sends_to, receives_through}
 use Rattle.ux_laws.specs.Streams.{sent_now, received_now}
 use Rattle.ux_laws.specs.Records.{is_count, is_given}
 use Rattle.ux_laws.specs.Credentials.{MaySend}
@@ -77,7 +77,7 @@ at_no_socket {S} {p} {request} {reply} h = record {
 }
   where
     nowhere : (d : ℕ) → sends_to S d p request ≡ false
-    nowhere d = ap (λ (o : Option (ℕ × Socket)). is_number d (elim o as (λ _. Option ℕ) [ None ↦ None | Some found ↦ goes_to S found.1 (given_addr request) ])) h
+    nowhere d = ap (λ (o : Option (ℕ × Socket)). is_number d (elim o as (λ _. Option ℕ) [ None ↦ None | Some found ↦ goes_to S found.1 (request_addr request) ])) h
 
     by_none : (d : ℕ) → receives_through S d p request ≡ false
     by_none d = ap (is_first d) h
@@ -91,7 +91,7 @@ pub record IsSending (S : State) (p tag : ℕ) (request : Request) (reply : Repl
   pub target : Socket
   pub caller : process_at S p ≡ Some process
   pub through : socket_through S p request ≡ Some (end, socket)
-  pub goes : goes_to S socket (given_addr request) ≡ Some t
+  pub goes : goes_to S socket (request_addr request) ≡ Some t
   pub there : socket_at S t ≡ Some target
   pub tagged : m.tag ≡ tag
   pub bytes : m.bytes ≡ offered_bytes request

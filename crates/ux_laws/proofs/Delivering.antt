@@ -21,7 +21,7 @@ use Rattle.ux_model.proofs.ByPlace.{take_none}
 use Rattle.ux_model.proofs.ChangedPlaces.{bool_cases}
 use Rattle.ux_model.proofs.Induction.{IsKept, kept_throughout}
 use Rattle.ux_model.proofs.Replays.{step_replay}
-use Rattle.ux_laws.specs.Talking.{offered_bytes, given_addr, is_peek, taken_count, given_bytes, goes_to, is_number, is_first, sends_to, receives_through}
+use Rattle.ux_laws.specs.Talking.{offered_bytes, request_addr, is_peek, taken_count, given_bytes, goes_to, is_number, is_first, sends_to, receives_through}
 use Rattle.ux_laws.specs.Streams.{sent_now, received_now, bytes_sent, bytes_received, StreamsAreReliable}
 use Rattle.ux_laws.proofs.Parts.{glance}
 use Rattle.ux_laws.specs.Records.{is_given}
@@ -75,7 +75,7 @@ given_no_count _ h = refl
 
 pub sends_there : (S : State) (p tag t d : ℕ) (request : Request) (reply : Reply) (m : Message) → IsSending S p tag request reply t m → sends_to S d p request ≡ (t == d)
 sends_there S p tag t d request reply m a =
-    ap (λ (o : Option (ℕ × Socket)). is_number d (elim o as (λ _. Option ℕ) [ None ↦ None | Some found ↦ goes_to S found.1 (given_addr request) ])) a.through ∙ ap (is_number d) a.goes
+    ap (λ (o : Option (ℕ × Socket)). is_number d (elim o as (λ _. Option ℕ) [ None ↦ None | Some found ↦ goes_to S found.1 (request_addr request) ])) a.through ∙ ap (is_number d) a.goes
 
 pub receives_there : (S : State) (p t d n : ℕ) (request : Request) (reply : Reply) (s : Socket) (m : Message) (ms : List Message) → IsTaking S p request reply t n s m ms → receives_through S d p request ≡ (t == d)
 receives_there S p t d n request reply s m ms a = ap (is_first d) a.through

@@ -25,7 +25,7 @@ use Rattle.ux_model.specs.Pairing.{make_pair, with_pair, socket_description}
 use Rattle.ux_model.specs.Binding.{same_kind, socket_of_target, look_up, bind_to, bind, get_sock_name, with_name}
 use Rattle.ux_model.specs.Connecting.{make_socket, listener_of, listen, connect_to, connect_stream, connect_datagram, connect, get_peer_name, shutdown}
 use Rattle.ux_model.specs.Accepting.{accept_first, accept, without_first_end, as_accepted, accepted_with}
-use Rattle.ux_model.specs.Sending.{sending, message_of, flight_limit, is_over_limit, enqueue, is_too_long, send_connected, send_stream, send_from, is_sendable_addr, is_sendable_control, given_refusal, sent_cred, send_given, send_read, send_with, send_msg, descriptions_behind}
+use Rattle.ux_model.specs.Sending.{sending, message_of, flight_limit, is_over_limit, enqueue, is_too_long, send_connected, send_stream, send_from, is_sendable_addr, is_sendable_control, sender_cred_refusal, sent_cred, send_as, send_read, send_with, send_msg, descriptions_behind}
 use Rattle.ux_model.proofs.Datagrams.{send_to_target, send_by_association, send_by}
 use Rattle.ux_model.specs.Receiving.{Incoming, incoming, receive_front, receive, recv_msg, bytes_alone}
 use Rattle.ux_model.specs.FileObjects.{holds_bytes, is_open_for}
@@ -49,7 +49,7 @@ use Rattle.ux_model.proofs.Rising.{place_mapped}
 use Rattle.ux_model.proofs.Reaching.{changes_lives}
 use Rattle.ux_model.proofs.Obeying.{Obeys}
 use Rattle.ux_model.proofs.Calls.{each_obeys}
-use Rattle.ux_laws.specs.Talking.{endpoint, offered_bytes, given_addr, is_peek, taken_count, given_bytes, if_found, socket_through, named_target, goes_to, destination, is_number, is_first, sends_to, receives_through}
+use Rattle.ux_laws.specs.Talking.{endpoint, offered_bytes, request_addr, is_peek, taken_count, given_bytes, if_found, socket_through, named_target, goes_to, destination, is_number, is_first, sends_to, receives_through}
 use Rattle.ux_laws.specs.Credentials.{given_cred, cred_of_control, MaySend, its_own, others}
 use Rattle.ux_laws.proofs.Parts.{glance, Kept, kept_same, kept_after, kept_table, kept_put, kept_by, kept_socket, same_target, left_parts, Shrinks, kept_shrinks, settled_shrinks}
 use Rattle.ux_laws.specs.Records.{is_count, is_given}
@@ -404,12 +404,12 @@ not_false : (b : Bool) → not b ≡ false → b ≡ true
 not_false true h = refl
 not_false false h = absurd (false≢true (sym h))
 
-goes_there : (S : State) (p t : ℕ) (request : Request) (end : ℕ) (s : Socket) → socket_through S p request ≡ Some (end, s) → goes_to S s (given_addr request) ≡ Some t → destination S p request ≡ Some t
+goes_there : (S : State) (p t : ℕ) (request : Request) (end : ℕ) (s : Socket) → socket_through S p request ≡ Some (end, s) → goes_to S s (request_addr request) ≡ Some t → destination S p request ≡ Some t
 goes_there S p t request end s through goes =
-    ap (λ (o : Option (ℕ × Socket)). elim o as (λ _. Option ℕ) [ None ↦ None | Some found ↦ goes_to S found.1 (given_addr request) ]) through ∙ goes
+    ap (λ (o : Option (ℕ × Socket)). elim o as (λ _. Option ℕ) [ None ↦ None | Some found ↦ goes_to S found.1 (request_addr request) ]) through ∙ goes
 
 -- a send of no bytes to a stream
-nothing_offered : {S : State} {p t end : ℕ} {request : Request} {s other : Socket} → socket_through S p request ≡ Some (end, s) → goes_to S s (given_addr request) ≡ Some t → socket_at S t ≡ Some other →
+nothing_offered : {S : State} {p t end : ℕ} {request : Request} {s other : Socket} → socket_through S p request ≡ Some (end, s) → goes_to S s (request_addr request) ≡ Some t → socket_at S t ≡ Some other →
     is_stream other.kind ≡ true → MovesNothing S p request (Reply.Count 0)
 nothing_offered {S} {p} {t} {end} {request} {s} {other} through goes there streams = record {
   bytes_out = λ d. either_none (sends_to S d p request) (take 0 (offered_bytes request)) (take_none (offered_bytes request));
@@ -421,7 +421,7 @@ nothing_offered {S} {p} {t} {end} {request} {s} {other} through goes there strea
 }
 
 enqueue_did : (S : State) (p tag : ℕ) (request : Request) (limit : Option ℕ) (t end : ℕ) (s other : Socket) (P : Process) (m : Message) → IsOffered S p tag request end s P m → IsFrom s m →
-    goes_to S s (given_addr request) ≡ Some t → socket_at S t ≡ Some other → Did S p tag request (enqueue S limit t other m).reply (enqueue S limit t other m).next
+    goes_to S s (request_addr request) ≡ Some t → socket_at S t ≡ Some other → Did S p tag request (enqueue S limit t other m).reply (enqueue S limit t other m).next
 enqueue_did S p tag request limit t end s other P m offered from goes there =
     either Q (is_stream other.kind && (length m.bytes == 0)) _ _
     (λ b. quiet (kept_shrinks (kept_same S S refl)) (nothing_offered offered.through goes there (and_parts (is_stream other.kind) (length m.bytes == 0) b).0))
@@ -449,7 +449,7 @@ enqueue_did S p tag request limit t end s other P m offered from goes there =
     Q o = Did S p tag request o.reply o.next
 
 to_peer_did : (S : State) (p tag : ℕ) (request : Request) (limit : Option ℕ) (shut : Bool) (peer : Option ℕ) (end : ℕ) (s : Socket) (P : Process) (m : Message) → IsOffered S p tag request end s P m → IsFrom s m →
-    goes_to S s (given_addr request) ≡ peer → Did S p tag request (send_connected S limit shut peer m).reply (send_connected S limit shut peer m).next
+    goes_to S s (request_addr request) ≡ peer → Did S p tag request (send_connected S limit shut peer m).reply (send_connected S limit shut peer m).next
 to_peer_did S p tag request limit shut None end s P m offered from goes = refuses
 to_peer_did S p tag request limit shut (Some t) end s P m offered from goes = maybe Q (socket_at S t) _ _ refuses
     (λ other h. either Q (shut || other.read_shut) _ _ (λ b. refuses)
@@ -459,12 +459,12 @@ to_peer_did S p tag request limit shut (Some t) end s P m offered from goes = ma
     Q o = Did S p tag request o.reply o.next
 
 by_stream_did : (S : State) (p tag : ℕ) (request : Request) (limit : Option ℕ) (addr : Option Addr) (end : ℕ) (s : Socket) (P : Process) (m : Message) → IsOffered S p tag request end s P m → IsFrom s m →
-    goes_to S s (given_addr request) ≡ peer_of s.phase → Did S p tag request (send_stream S limit s.write_shut (peer_of s.phase) addr m).reply (send_stream S limit s.write_shut (peer_of s.phase) addr m).next
+    goes_to S s (request_addr request) ≡ peer_of s.phase → Did S p tag request (send_stream S limit s.write_shut (peer_of s.phase) addr m).reply (send_stream S limit s.write_shut (peer_of s.phase) addr m).next
 by_stream_did S p tag request limit None end s P m offered from goes = to_peer_did S p tag request limit s.write_shut (peer_of s.phase) end s P m offered from goes
 by_stream_did S p tag request limit (Some addr) end s P m offered from goes = refuses
 
 to_target_did : (S : State) (p tag : ℕ) (request : Request) (limit : Option ℕ) (t end : ℕ) (s target : Socket) (P : Process) (m : Message) → IsOffered S p tag request end s P m → IsFrom s m →
-    goes_to S s (given_addr request) ≡ Some t → socket_at S t ≡ Some target → Did S p tag request (send_to_target S limit end t target m).reply (send_to_target S limit end t target m).next
+    goes_to S s (request_addr request) ≡ Some t → socket_at S t ≡ Some target → Did S p tag request (send_to_target S limit end t target m).reply (send_to_target S limit end t target m).next
 to_target_did S p tag request limit t end s target P m offered from goes there = either Q (not (takes_from end target.phase)) _ _ (λ b. refuses)
     (λ b. either Q target.read_shut _ _ (λ c. refuses) (λ c. enqueue_did S p tag request limit t end s target P m offered from goes there))
   where
@@ -472,29 +472,29 @@ to_target_did S p tag request limit t end s target P m offered from goes there =
     Q o = Did S p tag request o.reply o.next
 
 by_association_did : (S : State) (p tag : ℕ) (request : Request) (limit : Option ℕ) (end : ℕ) (target : Option ℕ) (s : Socket) (P : Process) (m : Message) → IsOffered S p tag request end s P m → IsFrom s m →
-    goes_to S s (given_addr request) ≡ target → socket_at S end ≡ Some s → Did S p tag request (send_by_association S limit end target m).reply (send_by_association S limit end target m).next
+    goes_to S s (request_addr request) ≡ target → socket_at S end ≡ Some s → Did S p tag request (send_by_association S limit end target m).reply (send_by_association S limit end target m).next
 by_association_did S p tag request limit end None s P m offered from goes here = refuses
 by_association_did S p tag request limit end (Some t) s P m offered from goes here = maybe (λ o. Did S p tag request o.reply o.next) (socket_at S t) _ _
     (tied_to end None s refl here (kept_shrinks (kept_same _ _ refl)))
     (λ target h. to_target_did S p tag request limit t end s target P m offered from goes h)
 
 send_by_did : (S : State) (p tag : ℕ) (request : Request) (limit : Option ℕ) (end : ℕ) (s : Socket) (addr : Option Addr) (P : Process) (m : Message) → IsOffered S p tag request end s P m → IsFrom s m →
-    goes_to S s (given_addr request) ≡ named_target S s addr → socket_at S end ≡ Some s → Did S p tag request (send_by S limit end s addr m).reply (send_by S limit end s addr m).next
+    goes_to S s (request_addr request) ≡ named_target S s addr → socket_at S end ≡ Some s → Did S p tag request (send_by S limit end s addr m).reply (send_by S limit end s addr m).next
 send_by_did S p tag request limit end s None P m offered from goes here = by_association_did S p tag request limit end (association_of s.phase) s P m offered from goes here
 send_by_did S p tag request limit end s (Some addr) P m offered from goes here = by_addr (λ o. Did S p tag request o.reply o.next) S s.kind addr _ (λ e. refuses)
     (λ t target is there. to_target_did S p tag request limit t end s target P m offered from
     (goes ∙ ap (λ (r : Result (ℕ × Socket) Errno). elim (if_found r) as (λ _. Option ℕ) [ None ↦ None | Some found ↦ Some found.0 ]) is) there)
 
 from_did : (S : State) (p tag : ℕ) (request : Request) (limit : Option ℕ) (end : ℕ) (s : Socket) (P : Process) (m : Message) → IsOffered S p tag request end s P m → m.from ≡ None → socket_at S end ≡ Some s →
-    Did S p tag request (send_from S limit end s (given_addr request) m).reply (send_from S limit end s (given_addr request) m).next
+    Did S p tag request (send_from S limit end s (request_addr request) m).reply (send_from S limit end s (request_addr request) m).next
 from_did S p tag request limit end s P m offered none here = either Q (is_dgram s.kind) _ _
     (λ b. either Q (nat_lt record_bytes_limit (length m.bytes)) _ _ (λ c. refuses)
     (λ c. either Q s.write_shut _ _ (λ e. refuses)
-    (λ e. send_by_did S p tag request limit end s (given_addr request) P (record m { from = Some s.name })
+    (λ e. send_by_did S p tag request limit end s (request_addr request) P (record m { from = Some s.name })
     (record { caller = offered.caller; through = offered.through; tagged = offered.tagged; bytes = offered.bytes; rights = offered.rights; cred = offered.cred })
-    (sym (ap (λ c. if c then Some s.name else None) b)) (ap (λ c. if c then named_target S s (given_addr request) else peer_of s.phase) b) here)))
-    (λ b. by_stream_did S p tag request limit (given_addr request) end s P m offered (none ∙ sym (ap (λ c. if c then Some s.name else None) b))
-    (ap (λ c. if c then named_target S s (given_addr request) else peer_of s.phase) b))
+    (sym (ap (λ c. if c then Some s.name else None) b)) (ap (λ c. if c then named_target S s (request_addr request) else peer_of s.phase) b) here)))
+    (λ b. by_stream_did S p tag request limit (request_addr request) end s P m offered (none ∙ sym (ap (λ c. if c then Some s.name else None) b))
+    (ap (λ c. if c then named_target S s (request_addr request) else peer_of s.phase) b))
   where
     Q : Outcome → Type 0
     Q o = Did S p tag request o.reply o.next
@@ -508,7 +508,7 @@ same_creds a b h =
     ∙ ap (λ (x : ℕ). let c : Cred = record { pid = b.pid; uid = x; gid = a.gid } in c) (eqb-true a.uid b.uid more.1)
     ∙ ap (λ (x : ℕ). let c : Cred = record { pid = b.pid; uid = b.uid; gid = x } in c) (eqb-true a.gid b.gid parts.1)
 
-may_give : (S : State) (p : ℕ) (P : Process) (request : Request) (given : Option Cred) → given_cred request ≡ given → given_refusal S p P given ≡ None → MaySend p P request (sent_cred p P given)
+may_give : (S : State) (p : ℕ) (P : Process) (request : Request) (given : Option Cred) → given_cred request ≡ given → sender_cred_refusal S p P given ≡ None → MaySend p P request (sent_cred p P given)
 may_give S p P request None is fine = its_own refl
 may_give S p P request (Some c) is fine = by_privilege P.privileged refl fine
   where
@@ -534,10 +534,10 @@ send_did S p tag fd addr bytes control flags = maybe Q (process_at S p) _ _ refu
 
     by_refusal : (P : Process) → process_at S p ≡ Some P → (d : ℕ) (s : Socket) → find_socket S p fd ≡ Ok (d, s) → socket_at S d ≡ Some s → (given : Option Cred) (rights : List ℕ) →
         given_cred (Request.SendMsg fd addr bytes control flags) ≡ given → descriptions_behind (table_of S p) (sent_by (Request.SendMsg fd addr bytes control flags)) ≡ Some rights →
-        Did S p tag (Request.SendMsg fd addr bytes control flags) (send_given S (sending tag p P addr bytes) d s given rights).reply (send_given S (sending tag p P addr bytes) d s given rights).next
-    by_refusal P here d s h there given rights gave behind = go (given_refusal S p P given) refl
+        Did S p tag (Request.SendMsg fd addr bytes control flags) (send_as S (sending tag p P addr bytes) d s given rights).reply (send_as S (sending tag p P addr bytes) d s given rights).next
+    by_refusal P here d s h there given rights gave behind = go (sender_cred_refusal S p P given) refl
       where
-        go : (o : Option Errno) → given_refusal S p P given ≡ o → Q (elim o as (λ _. Outcome) [
+        go : (o : Option Errno) → sender_cred_refusal S p P given ≡ o → Q (elim o as (λ _. Outcome) [
           | Some e ↦ refuse S e
           | None ↦ if not (is_sendable_addr addr) then refuse S Errno.EINVAL else send_from S (flight_limit P) d s addr (message_of (sending tag p P addr bytes) (sent_cred p P given) rights)
         ])

@@ -21,7 +21,7 @@ use Rattle.ux_model.proofs.ByPlace.{get_within}
 use Rattle.ux_model.proofs.Dangling.{nothing_dangles}
 use Rattle.ux_model.proofs.Moments.{moment}
 use Rattle.ux_model.proofs.Walk.{found}
-use Rattle.ux_laws.specs.Talking.{given_addr, socket_through, named_target, goes_to, is_number, sends_to}
+use Rattle.ux_laws.specs.Talking.{request_addr, socket_through, named_target, goes_to, is_number, sends_to}
 use Rattle.ux_laws.specs.Records.{is_count, is_given}
 use Rattle.ux_laws.specs.Ends.{HasEnded, StaysEnded, EndsAreForEver, ResetsAreOfLosses, SendsFindNobody}
 use Rattle.ux_laws.proofs.Parts.{PhaseParts, SocketParts, socket_parts, socket_seen, Glance, glance, glance_target, glance_at, glance_new, Shrinks, Seen, seen_changed, seen_new, seen_shrunk, seen_socket, awaiting_parts}
@@ -359,11 +359,11 @@ no_socket S d h = ap socket_in h
 finds_nobody : (S T : State) (p tag d : ℕ) (request : Request) (reply : Reply) (s : Socket) → socket_through S p request ≡ Some (d, s) → HasEnded S d s → Did S p tag request reply T → is_count reply ≡ false
 finds_nobody S T p tag d request reply s through e did = by_did did
   where
-    goes : goes_to S s (given_addr request) ≡ Some e.peer
-    goes = ap (λ b. if b then named_target S s (given_addr request) else peer_of s.phase) e.kind ∙ e.connected
+    goes : goes_to S s (request_addr request) ≡ Some e.peer
+    goes = ap (λ b. if b then named_target S s (request_addr request) else peer_of s.phase) e.kind ∙ e.connected
 
     to : sends_to S e.peer p request ≡ true
-    to = ap (λ (o : Option (ℕ × Socket)). is_number e.peer (elim o as (λ _. Option ℕ) [ None ↦ None | Some found ↦ goes_to S found.1 (given_addr request) ])) through ∙ ap (is_number e.peer) goes ∙ eq-eqb e.peer e.peer refl
+    to = ap (λ (o : Option (ℕ × Socket)). is_number e.peer (elim o as (λ _. Option ℕ) [ None ↦ None | Some found ↦ goes_to S found.1 (request_addr request) ])) through ∙ ap (is_number e.peer) goes ∙ eq-eqb e.peer e.peer refl
 
     nobody : (t : Socket) → socket_at S e.peer ≡ Some t → ⊥
     nobody t h = let clash : None ≡ Some t = sym (no_socket S e.peer e.gone) ∙ h in cc clash
@@ -379,7 +379,7 @@ finds_nobody S T p tag d request reply s through e did = by_did did
     by_did (put t m a k) =
         let sender : Some (d, s) ≡ Some (a.end, a.socket) = sym through ∙ a.through in
         let one : s ≡ a.socket = ap (λ (x : Option (ℕ × Socket)). elim x as (λ _. Socket) [ None ↦ s | Some w ↦ w.1 ]) sender in
-        let both : Some e.peer ≡ Some t = sym goes ∙ ap (λ (u : Socket). goes_to S u (given_addr request)) one ∙ a.goes in
+        let both : Some e.peer ≡ Some t = sym goes ∙ ap (λ (u : Socket). goes_to S u (request_addr request)) one ∙ a.goes in
         let at : e.peer ≡ t = cc both in
         absurd (nobody a.target (ap (λ (i : ℕ). socket_at S i) at ∙ a.there))
     by_did (took t n u m ms a k) = given_no_count reply a.gives

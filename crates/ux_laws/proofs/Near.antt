@@ -24,7 +24,7 @@ use Rattle.ux_model.specs.Pairing.{make_pair, with_pair, socket_description}
 use Rattle.ux_model.specs.Binding.{look_up, bind_to, bind, get_sock_name, with_name}
 use Rattle.ux_model.specs.Connecting.{make_socket, listener_of, with_listening, listen, connect_to, connect_stream, connect_datagram, connect, get_peer_name, shutdown, server_end, tied as tied_by, no_open_flags}
 use Rattle.ux_model.specs.Accepting.{accept_first, accept, phase_without_first_end, without_first_end, as_accepted, accepted_with}
-use Rattle.ux_model.specs.Sending.{sending, message_of, flight_limit, is_over_limit, enqueue, is_too_long, send_connected, send_stream, send_from, is_sendable_addr, is_sendable_control, given_refusal, sent_cred, send_given, send_read, send_with, send_msg, descriptions_behind}
+use Rattle.ux_model.specs.Sending.{sending, message_of, flight_limit, is_over_limit, enqueue, is_too_long, send_connected, send_stream, send_from, is_sendable_addr, is_sendable_control, sender_cred_refusal, sent_cred, send_as, send_read, send_with, send_msg, descriptions_behind}
 use Rattle.ux_model.proofs.Datagrams.{send_to_target, send_by_association, send_by}
 use Rattle.ux_model.specs.Receiving.{Incoming, incoming, receive_front, receive, recv_msg}
 use Rattle.ux_model.specs.FileObjects.{holds_bytes, is_open_for}
@@ -583,8 +583,8 @@ send_near S p tag fd addr bytes control flags = maybe Q (process_at S p) _ _ sti
     Q : Outcome → Type 0
     Q o = Near S p (Request.SendMsg fd addr bytes control flags) o.next
 
-    by_given : (P : Process) (d : ℕ) (s : Socket) → description_of S p fd.0 ≡ Some d → socket_at S d ≡ Some s → (given : Option Cred) (rights : List ℕ) → Q (send_given S (sending tag p P addr bytes) d s given rights)
-    by_given P d s mine there given rights = go (given_refusal S p P given)
+    by_given : (P : Process) (d : ℕ) (s : Socket) → description_of S p fd.0 ≡ Some d → socket_at S d ≡ Some s → (given : Option Cred) (rights : List ℕ) → Q (send_as S (sending tag p P addr bytes) d s given rights)
+    by_given P d s mine there given rights = go (sender_cred_refusal S p P given)
       where
         go : (o : Option Errno) → Q (elim o as (λ _. Outcome) [
           | Some e ↦ refuse S e

@@ -17,7 +17,7 @@ use Rattle.ux_model.specs.State.{State, process_at, description_at, socket_at, i
 use Rattle.ux_model.specs.Outcome.{Outcome, Chosen, own, lacking_memory, failing, refuse, find_socket, as_process}
 use Rattle.ux_model.specs.Binding.{with_abstract, with_name}
 use Rattle.ux_model.specs.FileObjects.{on_object}
-use Rattle.ux_model.specs.Sending.{sending, message_of, flight_limit, is_over_limit, is_too_long, send_connected, send_stream, send_from, is_sendable_addr, is_sendable_control, given_refusal, sent_cred, send_given, send_with, send_read, send_msg, write_socket, descriptions_behind}
+use Rattle.ux_model.specs.Sending.{sending, message_of, flight_limit, is_over_limit, is_too_long, send_connected, send_stream, send_from, is_sendable_addr, is_sendable_control, sender_cred_refusal, sent_cred, send_as, send_with, send_read, send_msg, write_socket, descriptions_behind}
 use Rattle.ux_model.specs.Writing.{write, write_object}
 use Rattle.ux_model.specs.Options.{may_limit, change_option, set_opt}
 use Rattle.ux_model.specs.Release.{settled}
@@ -75,7 +75,7 @@ from_waits S limit d s addr m kind = either Q (is_dgram s.kind) _ _ (λ b h. abs
         refused false h = cc h
 
 -- a refusal of credentials is none to wait
-given_no_wait : (S : State) (p : ℕ) (P : Process) (given : Option Cred) (e : Errno) → given_refusal S p P given ≡ Some e → Reply.Err e ≡ Reply.Err Errno.EAGAIN → ⊥
+given_no_wait : (S : State) (p : ℕ) (P : Process) (given : Option Cred) (e : Errno) → sender_cred_refusal S p P given ≡ Some e → Reply.Err e ≡ Reply.Err Errno.EAGAIN → ⊥
 given_no_wait S p P None e is h = cc is
 given_no_wait S p P (Some c) e is h = by_kind P.privileged (is_live S c.pid.0) (same_cred c (own_cred p P)) is
   where
@@ -98,10 +98,10 @@ send_waits S p tag d fd addr bytes control flags s found kind = maybe Q (process
     Q : Outcome → Type 0
     Q o = o.reply ≡ Reply.Err Errno.EAGAIN → AwaitsRoom S s
 
-    by_given : (P : Process) (given : Option Cred) (rights : List ℕ) → Q (send_given S (sending tag p P addr bytes) d s given rights)
-    by_given P given rights = go (given_refusal S p P given) refl
+    by_given : (P : Process) (given : Option Cred) (rights : List ℕ) → Q (send_as S (sending tag p P addr bytes) d s given rights)
+    by_given P given rights = go (sender_cred_refusal S p P given) refl
       where
-        go : (o : Option Errno) → given_refusal S p P given ≡ o → Q (elim o as (λ _. Outcome) [
+        go : (o : Option Errno) → sender_cred_refusal S p P given ≡ o → Q (elim o as (λ _. Outcome) [
           | Some e ↦ refuse S e
           | None ↦ if not (is_sendable_addr addr) then refuse S Errno.EINVAL else send_from S (flight_limit P) d s addr (message_of (sending tag p P addr bytes) (sent_cred p P given) rights)
         ])

@@ -20,7 +20,7 @@ use Rattle.ux_model.proofs.ByPlace.{get_below, get_before, take_before}
 use Rattle.ux_model.proofs.Induction.{IsKept, kept_throughout, get_pushed, take_pushed}
 use Rattle.ux_model.proofs.Replays.{step_replay}
 use Rattle.ux_model.proofs.Moments.{moment}
-use Rattle.ux_laws.specs.Talking.{is_peek, given_bytes, given_addr, goes_to, destination}
+use Rattle.ux_laws.specs.Talking.{is_peek, given_bytes, request_addr, goes_to, destination}
 use Rattle.ux_laws.specs.Rights.{TakesRights, RightsComeOnce, RightsComeWithTheirMessage}
 use Rattle.ux_laws.proofs.Parts.{glance, Shrinks}
 use Rattle.ux_laws.proofs.Acts.{IsSending}
@@ -93,7 +93,7 @@ home_now boot es e d m a = record {
   sending = e;
   there = ap (λ k. slice_get (es ++ e ∷ []) k) a.tagged ∙ get_pushed es e;
   to = ap (λ k. destination (before boot (es ++ e ∷ []) k) e.pid.0 e.request) a.tagged ∙ ap (λ (l : List Entry). destination (replay boot l) e.pid.0 e.request) (take_pushed es (e ∷ []))
-      ∙ ap (λ (o : Option (ℕ × Socket)). elim o as (λ _. Option ℕ) [ None ↦ None | Some found ↦ goes_to (replay boot es) found.1 (given_addr e.request) ]) a.through ∙ a.goes;
+      ∙ ap (λ (o : Option (ℕ × Socket)). elim o as (λ _. Option ℕ) [ None ↦ None | Some found ↦ goes_to (replay boot es) found.1 (request_addr e.request) ]) a.through ∙ a.goes;
 }
 
 one_home : (boot : State) (es : List Entry) (d k tag : ℕ) → Home boot es d tag → Home boot es k tag → d ≡ k

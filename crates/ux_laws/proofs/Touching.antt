@@ -24,7 +24,7 @@ use Rattle.ux_model.specs.Pairing.{make_pair, with_pair}
 use Rattle.ux_model.specs.Binding.{bind_to, bind, get_sock_name}
 use Rattle.ux_model.specs.Connecting.{make_socket, listener_of, listen, connect_to, connect_stream, connect_datagram, connect, get_peer_name, shutdown}
 use Rattle.ux_model.specs.Accepting.{accept_first, accept}
-use Rattle.ux_model.specs.Sending.{sending, message_of, flight_limit, is_over_limit, enqueue, is_too_long, send_connected, send_stream, send_from, is_sendable_addr, is_sendable_control, given_refusal, sent_cred, send_given, send_read, send_with, send_msg, descriptions_behind}
+use Rattle.ux_model.specs.Sending.{sending, message_of, flight_limit, is_over_limit, enqueue, is_too_long, send_connected, send_stream, send_from, is_sendable_addr, is_sendable_control, sender_cred_refusal, sent_cred, send_as, send_read, send_with, send_msg, descriptions_behind}
 use Rattle.ux_model.proofs.Datagrams.{send_to_target, send_by_association, send_by}
 use Rattle.ux_model.specs.Receiving.{Incoming, incoming, receive_front, receive, recv_msg}
 use Rattle.ux_model.specs.FileObjects.{holds_bytes, is_open_for}
@@ -282,8 +282,8 @@ send_alike S p tag fd addr bytes control flags = maybe Q (process_at S p) _ _ (a
     Q : Outcome → Type 0
     Q o = Alike S o.next
 
-    by_given : (P : Process) (d : ℕ) (s : Socket) (given : Option Cred) (rights : List ℕ) → Alike S (send_given S (sending tag p P addr bytes) d s given rights).next
-    by_given P d s given rights = go (given_refusal S p P given)
+    by_given : (P : Process) (d : ℕ) (s : Socket) (given : Option Cred) (rights : List ℕ) → Alike S (send_as S (sending tag p P addr bytes) d s given rights).next
+    by_given P d s given rights = go (sender_cred_refusal S p P given)
       where
         go : (o : Option Errno) → Q (elim o as (λ _. Outcome) [
           | Some e ↦ refuse S e

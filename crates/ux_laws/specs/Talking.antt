@@ -23,9 +23,9 @@ offered_bytes (Request.Write fd bytes) = bytes
 offered_bytes (Request.SendMsg fd addr bytes control flags) = bytes
 offered_bytes _ = []
 
-abbrev pub given_addr : Request → Option Addr
-given_addr (Request.SendMsg fd addr bytes control flags) = addr
-given_addr _ = None
+abbrev pub request_addr : Request → Option Addr
+request_addr (Request.SendMsg fd addr bytes control flags) = addr
+request_addr _ = None
 
 -- a receive that leaves what it reports (MSG_PEEK)
 abbrev pub is_peek : Request → Bool
@@ -62,7 +62,7 @@ abbrev pub goes_to : State → Socket → Option Addr → Option ℕ
 goes_to S s addr = if is_dgram s.kind then named_target S s addr else peer_of s.phase
 
 abbrev pub destination : State → ℕ → Request → Option ℕ
-destination S p request = elim (socket_through S p request) [ None ↦ None | Some found ↦ goes_to S found.1 (given_addr request) ]
+destination S p request = elim (socket_through S p request) [ None ↦ None | Some found ↦ goes_to S found.1 (request_addr request) ]
 
 abbrev pub is_number : ℕ → Option ℕ → Bool
 is_number d None = false

@@ -18,9 +18,9 @@ use Rattle.ux_model.specs.Process.{Process, Descriptor, own_cred}
 use Rattle.ux_model.specs.State.{State, is_live, process_at, description_at, socket_at, table_of, with_socket_by}
 use Rattle.ux_model.specs.References.{times, queue_refs, refs}
 use Rattle.ux_model.specs.Outcome.{Outcome, refuse, answer}
-use Rattle.ux_model.specs.Sending.{Sending, sending, descriptions_behind, message_of, flight_limit, is_over_limit, enqueue, is_too_long, send_to_peer, send_connected, send_stream, send_datagram, send_from, is_sendable_addr, is_sendable_control, given_refusal, sent_cred, send_given, send_with, send_read, reading_control, send_msg}
+use Rattle.ux_model.specs.Sending.{Sending, sending, descriptions_behind, message_of, flight_limit, is_over_limit, enqueue, is_too_long, send_to_peer, send_connected, send_stream, send_datagram, send_from, is_sendable_addr, is_sendable_control, sender_cred_refusal, sent_cred, send_as, send_with, send_read, reading_control, send_msg}
 use Rattle.ux_model.proofs.Datagrams.{send_to_target, send_by_association, send_by}
-use Rattle.ux_model.specs.Receiving.{Incoming, incoming, recv_msg, receive, receive_from_peer, at_end, receive_nothing, receive_front, with_delivered}
+use Rattle.ux_model.specs.Receiving.{Incoming, incoming, recv_msg, receive, receive_from_peer, at_end, receive_nothing, receive_front, with_installed}
 use Rattle.ux_model.specs.Flight.{of_user, rights_sent_by, in_flight}
 use Rattle.ux_model.specs.FlightLaws.{AreLimited}
 use Rattle.ux_model.specs.Invariants.{LeftByRefusal}
@@ -234,7 +234,7 @@ pub from_obeys : (S : State) (limit : Option ℕ) (d : ℕ) (s : Socket) (addr :
 from_obeys S limit d s addr m h may = either (Call S) (is_dgram s.kind) _ _ (λ b. datagram_obeys S limit d s addr m h may) (λ b. stream_obeys S limit s.write_shut (peer_of s.phase) addr m may)
 
 -- credentials that may not be given are EPERM or ESRCH
-tells_refusal : (S : State) (p : ℕ) (P : Process) (given : Option Cred) (e : Errno) → given_refusal S p P given ≡ Some e → (e ≡ Errno.EPERM) ⊎ (e ≡ Errno.ESRCH)
+tells_refusal : (S : State) (p : ℕ) (P : Process) (given : Option Cred) (e : Errno) → sender_cred_refusal S p P given ≡ Some e → (e ≡ Errno.EPERM) ⊎ (e ≡ Errno.ESRCH)
 tells_refusal S p P None e h = absurd (cc h)
 tells_refusal S p P (Some cred) e h = go P.privileged (is_live S cred.pid.0) (same_cred cred (own_cred p P)) h
   where
@@ -250,8 +250,8 @@ of_cred S e (inl is) = subst (λ f. Call S (refuse S f)) (sym is) (refuses refl 
 of_cred S e (inr is) = subst (λ f. Call S (refuse S f)) (sym is) (refuses refl refl)
 
 given_obeys : (S : State) (k : Sending) (d : ℕ) (s : Socket) (given : Option Cred) (rights : List ℕ) → process_at S k.caller ≡ Some k.process → socket_at S d ≡ Some s →
-    (IsSound S → NamesNoneGone S rights) → length rights ≤ rights_limit → Call S (send_given S k d s given rights)
-given_obeys S k d s given rights here h names few = by_refusal (given_refusal S k.caller k.process given) (tells_refusal S k.caller k.process given)
+    (IsSound S → NamesNoneGone S rights) → length rights ≤ rights_limit → Call S (send_as S k d s given rights)
+given_obeys S k d s given rights here h names few = by_refusal (sender_cred_refusal S k.caller k.process given) (tells_refusal S k.caller k.process given)
   where
     by_refusal : (o : Option Errno) → ((e : Errno) → o ≡ Some e → (e ≡ Errno.EPERM) ⊎ (e ≡ Errno.ESRCH)) → Call S (elim o as (λ _. Outcome) [
       | Some e ↦ refuse S e
@@ -375,7 +375,7 @@ front_obeys S p d s asked m ms h q = answers refl refl refl (same (asks_peek ask
     front = front_of asked.n s m ms
 
     T : State
-    T = with_delivered S p asked.flags front (delivery s.passcred front.cred front.rights asked.space (table_of S p))
+    T = with_installed S p asked.flags front (delivery s.passcred front.cred front.rights asked.space (table_of S p))
 
     alike : T.descriptions ≡ S.descriptions
     alike = same_descriptions S p _

@@ -12,7 +12,7 @@ use Rattle.ux_model.specs.Front.{front_of}
 use Rattle.ux_model.specs.Socket.{Socket, is_stream, is_dgram, peer_of, association_of, takes_from, has_room, sent_part, sent, with_reset, with_association}
 use Rattle.ux_model.specs.Process.{Process, own_cred}
 use Rattle.ux_model.specs.State.{State, socket_at, process_at, with_socket_by}
-use Rattle.ux_model.specs.Outcome.{Outcome, refuse, answer, growing, find_socket}
+use Rattle.ux_model.specs.Outcome.{Outcome, refuse, answer, taking_memory, find_socket}
 use Rattle.ux_model.specs.Connecting.{listener_of}
 use Rattle.ux_model.specs.Sending.{sending, flight_limit, is_over_limit, enqueue, is_too_long, send_connected, send_datagram, send_stream, send_from, send_with, send_read, reading_control, send_msg}
 use Rattle.ux_model.proofs.Datagrams.{send_to_target, send_by_association}
@@ -128,7 +128,7 @@ enqueue_room S limit d other m some few = rw few (go (is_stream other.kind) (len
     go : (stream none room : Bool) → none ≡ false → Waits room (
         if stream && none then answer (Reply.Count 0) S else
         if not room then refuse S Errno.EAGAIN else
-        growing (Reply.Count (length (sent_part other m).bytes)) (with_socket_by S d (sent m)))
+        taking_memory (Reply.Count (length (sent_part other m).bytes)) (with_socket_by S d (sent m)))
     go stream true room h = absurd (cc h)
     go true false true h = never _ refl
     go true false false h = surely S

@@ -24,7 +24,7 @@ use Rattle.ux_model.specs.Pairing.{make_pair}
 use Rattle.ux_model.specs.Binding.{bind_to, bind, get_sock_name}
 use Rattle.ux_model.specs.Connecting.{make_socket, listener_of, listen, connect_stream, connect_datagram, connect, get_peer_name, shutdown}
 use Rattle.ux_model.specs.Accepting.{client_name, name_of_peer, present_name, accept_first, accept}
-use Rattle.ux_model.specs.Sending.{Sending, sending, descriptions_behind, message_of, flight_limit, is_over_limit, enqueue, is_too_long, send_to_peer, send_stream, send_from, is_sendable_addr, is_sendable_control, given_refusal, sent_cred, send_given, send_with, send_read, reading_control, send_msg}
+use Rattle.ux_model.specs.Sending.{Sending, sending, descriptions_behind, message_of, flight_limit, is_over_limit, enqueue, is_too_long, send_to_peer, send_stream, send_from, is_sendable_addr, is_sendable_control, sender_cred_refusal, sent_cred, send_as, send_with, send_read, reading_control, send_msg}
 use Rattle.ux_model.proofs.Datagrams.{send_to_target, send_by_association, send_by}
 use Rattle.ux_model.specs.Receiving.{Incoming, incoming, at_end, receive_nothing, receive_front, receive, recv_msg, bytes_alone}
 use Rattle.ux_model.specs.FileObjects.{holds_bytes, is_open_for, or_failing}
@@ -261,8 +261,8 @@ from_plain S limit d s addr m = either Plain (is_dgram s.kind) _ _
     (λ b. either Plain (nat_lt record_bytes_limit (length m.bytes)) _ _ (λ c. plain refl) (λ c. either Plain s.write_shut _ _ (λ e. plain refl) (λ e. by_plain S limit d s addr (record m { from = Some s.name }))))
     (λ b. to_stream_plain S limit s.write_shut (peer_of s.phase) addr m)
 
-given_plain : (S : State) (k : Sending) (d : ℕ) (s : Socket) (given : Option Cred) (rights : List ℕ) → Plain (send_given S k d s given rights)
-given_plain S k d s given rights = maybe_not (given_refusal S k.caller k.process given)
+given_plain : (S : State) (k : Sending) (d : ℕ) (s : Socket) (given : Option Cred) (rights : List ℕ) → Plain (send_as S k d s given rights)
+given_plain S k d s given rights = maybe_not (sender_cred_refusal S k.caller k.process given)
   where
     maybe_not : (o : Option Errno) → Plain (elim o as (λ _. Outcome) [
       | Some e ↦ refuse S e

@@ -19,16 +19,16 @@ use Rattle.ux_model.specs.Description.{Description, Target, to_object, to_socket
 use Rattle.ux_model.specs.Process.{Process, Descriptor, own_cred, free_numbers, lowest_free, two_lowest_free, descriptor, copy_of, kept_on_exec, with_cloexec, fd_of, pid_of}
 use Rattle.ux_model.specs.Delivery.{delivery, installed, install_count, space_for_rights}
 use Rattle.ux_model.specs.State.{State, process_at, is_live, description_at, socket_at, table_of, next_description, next_process, with_child, with_description, with_socket_by, with_process, with_table, with_new}
-use Rattle.ux_model.specs.Outcome.{Outcome, Chosen, own, lacking_memory, failing, refuse, answer, growing, descriptor_at, find_socket, on_socket}
+use Rattle.ux_model.specs.Outcome.{Outcome, Chosen, own, lacking_memory, failing, refuse, answer, taking_memory, descriptor_at, find_socket, on_socket}
 use Rattle.ux_model.specs.Delivered.{Brought, nothing_brought, brought, brought_from}
 use Rattle.ux_model.specs.Naming.{unlink}
 use Rattle.ux_model.specs.Pairing.{make_pair, with_pair, socket_description}
 use Rattle.ux_model.specs.Binding.{bind_to, bind, get_sock_name, with_name}
 use Rattle.ux_model.specs.Connecting.{make_socket, listener_of, with_listening, listen, connect_to, connect_stream, connect_datagram, connect, get_peer_name, shutdown, with_connection, server_end, tied, no_open_flags}
 use Rattle.ux_model.specs.Accepting.{Acceptance, accept_first, accept, with_accepted, without_first_end, as_accepted, accepted_with, client_name}
-use Rattle.ux_model.specs.Sending.{sending, message_of, flight_limit, is_over_limit, enqueue, is_too_long, send_connected, send_stream, send_from, is_sendable_addr, is_sendable_control, given_refusal, sent_cred, send_given, send_with, send_read, send_msg, descriptions_behind}
+use Rattle.ux_model.specs.Sending.{sending, message_of, flight_limit, is_over_limit, enqueue, is_too_long, send_connected, send_stream, send_from, is_sendable_addr, is_sendable_control, sender_cred_refusal, sent_cred, send_as, send_with, send_read, send_msg, descriptions_behind}
 use Rattle.ux_model.proofs.Datagrams.{send_to_target, send_by_association, send_by}
-use Rattle.ux_model.specs.Receiving.{Incoming, incoming, with_delivered, receive_front, nothing_received, at_end, receive, recv_msg, bytes_alone}
+use Rattle.ux_model.specs.Receiving.{Incoming, incoming, with_installed, receive_front, nothing_received, at_end, receive, recv_msg, bytes_alone}
 use Rattle.ux_model.specs.FileObjects.{holds_bytes, is_open_for}
 use Rattle.ux_model.specs.Opening.{open_file, file_description}
 use Rattle.ux_model.specs.Reading.{read, read_answer, is_short_read, offset_after_read}
@@ -272,7 +272,7 @@ off_shows S p tag = record {
 -- a new one of no queue, at the lowest free number
 made_shows : (S : State) (p tag n : ℕ) (request : Request) (D : Description) (flags : OpenFlags) (Q : Process) → process_at S p ≡ Some Q → IsPlain request → lowest_free (table_of S p) ≡ Some n →
     queue_of D.target ≡ [] → sources S p request ≡ next_description S ∷ [] → cloexec_of request ≡ asks_cloexec flags → given S p request (Reply.Fd (fd_of n)) ≡ n ∷ [] →
-    Shows S p tag request (growing (Reply.Fd (fd_of n)) (with_table (with_new S D) p (filled (table_of S p) n (descriptor flags (next_description S)))))
+    Shows S p tag request (taking_memory (Reply.Fd (fd_of n)) (with_table (with_new S D) p (filled (table_of S p) n (descriptor flags (next_description S)))))
 made_shows S p tag n request D flags Q here plain low none source flag tells =
     let table : List (Option Descriptor) = filled (table_of S p) n (descriptor flags (next_description S)) in
     let r = replaced_table (with_new S D) p table Q here in
@@ -316,7 +316,7 @@ pair_shows S p tag kind flags = maybe (Shows S p tag (Request.SocketPair kind fl
     (λ P h. maybe (Shows S p tag (Request.SocketPair kind flags)) (two_lowest_free P.table) _ _ (refuses refl) (λ n low. both P h n low))
   where
     both : (P : Process) → process_at S p ≡ Some P → (n : ℕ × ℕ) → two_lowest_free P.table ≡ Some n → Shows S p tag (Request.SocketPair kind flags)
-        (growing (Reply.Fds (fd_of n.0) (fd_of n.1)) (with_table (with_pair S kind flags (own_cred p P)) p
+        (taking_memory (Reply.Fds (fd_of n.0) (fd_of n.1)) (with_table (with_pair S kind flags (own_cred p P)) p
         (filled (filled P.table n.0 (descriptor flags (next_description S))) n.1 (descriptor flags (suc (next_description S))))))
     both P h n low =
         let U : State = with_pair S kind flags (own_cred p P) in
@@ -372,7 +372,7 @@ accept_shows S p tag fd flags Q here = by_socket (Shows S p tag (Request.Accept 
 -- ---- names and connections
 
 -- what was learnt of a call that touches no table, and leaves the processes
-silent_answer : {S : State} {p tag : ℕ} {request : Request} {reply : Reply} → IsPlain request → given S p request reply ≡ [] → tells_child reply ≡ false → Shows S p tag request (growing reply S)
+silent_answer : {S : State} {p tag : ℕ} {request : Request} {reply : Reply} → IsPlain request → given S p request reply ≡ [] → tells_child reply ≡ false → Shows S p tag request (taking_memory reply S)
 silent_answer {S} {p} {tag} {request} {reply} plain none childless = answers plain refl none childless (silent S)
 
 pub unlink_shows : (S : State) (p tag : ℕ) (path : Name) → Shows S p tag (Request.Unlink path) (unlink S path)
@@ -585,8 +585,8 @@ send_shows S p tag fd addr bytes control flags = maybe Q (process_at S p) _ _ (r
     plain = record { no_end = refl; keeps = λ n held. refl }
 
     by_given : (P : Process) (d : ℕ) (s : Socket) (given : Option Cred) (rights : List ℕ) → descriptions_behind (table_of S p) (sent_by (Request.SendMsg fd addr bytes control flags)) ≡ Some rights →
-        Shows S p tag (Request.SendMsg fd addr bytes control flags) (send_given S (sending tag p P addr bytes) d s given rights)
-    by_given P d s given rights behind = by_refusal (given_refusal S p P given)
+        Shows S p tag (Request.SendMsg fd addr bytes control flags) (send_as S (sending tag p P addr bytes) d s given rights)
+    by_given P d s given rights behind = by_refusal (sender_cred_refusal S p P given)
       where
         by_refusal : (o : Option Errno) → Shows S p tag (Request.SendMsg fd addr bytes control flags) (elim o as (λ _. Outcome) [
           | Some e ↦ refuse S e
@@ -688,7 +688,7 @@ front_mail S p tag d request s asked m ms there q = go (asks_peek asked.flags)
     front = front_of asked.n s m ms
 
     T : State
-    T = with_delivered S p asked.flags front (delivery s.passcred front.cred front.rights asked.space (table_of S p))
+    T = with_installed S p asked.flags front (delivery s.passcred front.cred front.rights asked.space (table_of S p))
 
     quiet : Quiet S T
     quiet = quiet_table S p _

@@ -6,7 +6,7 @@ use Rattle.ux_model.specs.Socket.{Socket, Phase, idle, listening, connected, ass
 use Rattle.ux_model.specs.Description.{Description, changed}
 use Rattle.ux_model.specs.Process.{lowest_free, fd_of, descriptor}
 use Rattle.ux_model.specs.State.{State, socket_at, table_of, with_description_by, with_socket_by, with_table}
-use Rattle.ux_model.specs.Outcome.{Outcome, refuse, growing, on_socket}
+use Rattle.ux_model.specs.Outcome.{Outcome, refuse, taking_memory, on_socket}
 use Rattle.ux_model.specs.Descriptors.{with_flags}
 use Rattle.ux_model.specs.Connecting.{listener_of}
 
@@ -65,7 +65,7 @@ with_accepted S a =
 abbrev pub accept_first : State → ℕ → ℕ → ℕ → OpenFlags → Option ℕ → Outcome
 accept_first S p n d flags None = refuse S Errno.EAGAIN
 accept_first S p n d flags (Some e) =
-    growing (Reply.Accepted (fd_of n) (client_name S e)) (with_accepted S (record { process = p; number = n; flags = flags; listener = d; oldest = e }))
+    taking_memory (Reply.Accepted (fd_of n) (client_name S e)) (with_accepted S (record { process = p; number = n; flags = flags; listener = d; oldest = e }))
 
 -- accept4(2). Where no number is free, the end waits on.
 unfoldable pub accept : State → ℕ → Fd → OpenFlags → Outcome

@@ -4,7 +4,7 @@ use Rattle.ux_model.specs.Types.{Errno, Fd, Name, Addr, SockType, Reply}
 use Rattle.ux_model.specs.Names.{PathTarget, file, bound, named, is_valid_addr, is_unnamed_addr, free_name}
 use Rattle.ux_model.specs.Socket.{Socket}
 use Rattle.ux_model.specs.State.{State, socket_at, with_socket_by}
-use Rattle.ux_model.specs.Outcome.{Outcome, refuse, growing, on_socket}
+use Rattle.ux_model.specs.Outcome.{Outcome, refuse, taking_memory, on_socket}
 
 -- ---- looking up
 
@@ -51,14 +51,14 @@ abbrev pub with_abstract : State → ℕ → Name → State
 with_abstract S d name = record (with_socket_by S d (with_name (Addr.Abstract name))) { abstract_names = S.abstract_names ++ (name, d) ∷ [] }
 
 abbrev pub bind_path : State → ℕ → Name → Outcome
-bind_path S d name = if is_some (named name S.paths) then refuse S Errno.EADDRINUSE else growing Reply.Ok (with_path S d name)
+bind_path S d name = if is_some (named name S.paths) then refuse S Errno.EADDRINUSE else taking_memory Reply.Ok (with_path S d name)
 
 abbrev pub bind_abstract : State → ℕ → Name → Outcome
-bind_abstract S d name = if is_some (named name S.abstract_names) then refuse S Errno.EADDRINUSE else growing Reply.Ok (with_abstract S d name)
+bind_abstract S d name = if is_some (named name S.abstract_names) then refuse S Errno.EADDRINUSE else taking_memory Reply.Ok (with_abstract S d name)
 
 -- the lowest of the names that the layer gives by itself; ENOSPC where all are in use
 abbrev pub autobind : State → ℕ → Outcome
-autobind S d = elim (free_name S.abstract_names) [ None ↦ refuse S Errno.ENOSPC | Some name ↦ growing Reply.Ok (with_abstract S d name) ]
+autobind S d = elim (free_name S.abstract_names) [ None ↦ refuse S Errno.ENOSPC | Some name ↦ taking_memory Reply.Ok (with_abstract S d name) ]
 
 abbrev pub bind_to : State → ℕ → Addr → Outcome
 bind_to S d Addr.Unnamed = autobind S d
@@ -73,4 +73,4 @@ bind S p fd addr = on_socket S p fd (λ d s.
 
 -- getsockname(2)
 unfoldable pub get_sock_name : State → ℕ → Fd → Outcome
-get_sock_name S p fd = on_socket S p fd (λ d s. growing (Reply.Addr s.name) S)
+get_sock_name S p fd = on_socket S p fd (λ d s. taking_memory (Reply.Addr s.name) S)

@@ -8,7 +8,7 @@ use Rattle.ux_model.specs.Socket.{Socket, Phase, idle, listening, connected, ass
 use Rattle.ux_model.specs.Description.{Description}
 use Rattle.ux_model.specs.Process.{lowest_free, fd_of, descriptor, own_cred}
 use Rattle.ux_model.specs.State.{State, socket_at, table_of, next_description, with_socket_by, with_table, with_new}
-use Rattle.ux_model.specs.Outcome.{Outcome, refuse, answer, growing, on_socket, as_process}
+use Rattle.ux_model.specs.Outcome.{Outcome, refuse, answer, taking_memory, on_socket, as_process}
 use Rattle.ux_model.specs.Pairing.{socket_description}
 use Rattle.ux_model.specs.Binding.{look_up}
 
@@ -18,7 +18,7 @@ use Rattle.ux_model.specs.Binding.{look_up}
 unfoldable pub make_socket : State → ℕ → SockType → OpenFlags → Outcome
 make_socket S p kind flags = elim (lowest_free (table_of S p)) [
   | None ↦ refuse S Errno.EMFILE
-  | Some n ↦ growing (Reply.Fd (fd_of n))
+  | Some n ↦ taking_memory (Reply.Fd (fd_of n))
       (with_table (with_new S (socket_description flags (new_socket kind))) p (filled (table_of S p) n (descriptor flags (next_description S))))
 ]
 
@@ -82,7 +82,7 @@ with_connection S c =
 abbrev pub connect_to_listener : State → ℕ → Cred → ℕ → Socket → Listener → Outcome
 connect_to_listener S d cred l listener kept =
     if nat_le kept.backlog.limit (length kept.backlog.pending) then refuse S Errno.EAGAIN else
-    growing Reply.Ok (with_connection S (record { client = d; client_cred = cred; listener = l; socket = listener; listener_cred = kept.cred }))
+    taking_memory Reply.Ok (with_connection S (record { client = d; client_cred = cred; listener = l; socket = listener; listener_cred = kept.cred }))
 
 -- a socket that doesn't listen refuses
 abbrev pub connect_to : State → ℕ → Cred → ℕ → Socket → Outcome
@@ -134,7 +134,7 @@ peer_name S phase = elim (tied_socket phase) [ None ↦ Err Errno.ENOTCONN | Som
 
 -- getpeername(2)
 unfoldable pub get_peer_name : State → ℕ → Fd → Outcome
-get_peer_name S p fd = on_socket S p fd (λ d s. elim (peer_name S s.phase) [ Err e ↦ refuse S e | Ok name ↦ growing (Reply.Addr name) S ])
+get_peer_name S p fd = on_socket S p fd (λ d s. elim (peer_name S s.phase) [ Err e ↦ refuse S e | Ok name ↦ taking_memory (Reply.Addr name) S ])
 
 -- ---- shutting down
 

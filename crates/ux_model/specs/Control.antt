@@ -84,15 +84,15 @@ pub data IsList : List ℕ → List Item → Type 0 where
   further : (item : Item) (pad rest : List ℕ) (items : List Item) → IsItem item → length pad ≡ padding item → IsList rest items → IsList (item_bytes item ++ (pad ++ rest)) (item ∷ items)
 
 -- the Control that a list of items gives: no type stands twice, and the order is free
-pub data Gives : List Item → Control → Type 0 where
-  neither : Gives [] (record { cred = None; rights = [] })
-  rights_alone : (numbers : List ℕ) → Gives (rights_item numbers ∷ []) (record { cred = None; rights = numbers })
-  cred_alone : (cred : Cred) → Gives (cred_item cred ∷ []) (record { cred = Some cred; rights = [] })
-  cred_first : (cred : Cred) (numbers : List ℕ) → Gives (cred_item cred ∷ rights_item numbers ∷ []) (record { cred = Some cred; rights = numbers })
-  rights_first : (cred : Cred) (numbers : List ℕ) → Gives (rights_item numbers ∷ cred_item cred ∷ []) (record { cred = Some cred; rights = numbers })
+pub data MakeUp : List Item → Control → Type 0 where
+  neither : MakeUp [] (record { cred = None; rights = [] })
+  rights_alone : (numbers : List ℕ) → MakeUp (rights_item numbers ∷ []) (record { cred = None; rights = numbers })
+  cred_alone : (cred : Cred) → MakeUp (cred_item cred ∷ []) (record { cred = Some cred; rights = [] })
+  cred_first : (cred : Cred) (numbers : List ℕ) → MakeUp (cred_item cred ∷ rights_item numbers ∷ []) (record { cred = Some cred; rights = numbers })
+  rights_first : (cred : Cred) (numbers : List ℕ) → MakeUp (rights_item numbers ∷ cred_item cred ∷ []) (record { cred = Some cred; rights = numbers })
 
 unfoldable pub Spells : List ℕ → Control → Type 0
-Spells bytes control = (items : List Item) × IsList bytes items × Gives items control
+Spells bytes control = (items : List Item) × IsList bytes items × MakeUp items control
 
 -- what a sender's buffer reads as: the Control that it spells, or nothing where it spells none
 unfoldable pub ReadsAs : List ℕ → Option Control → Type 0

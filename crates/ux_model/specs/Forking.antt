@@ -4,7 +4,7 @@ use Rattle.ux_model.specs.Types.{Errno, Reply}
 use Rattle.ux_model.specs.Limits.{made_limit}
 use Rattle.ux_model.specs.Process.{Process, kept_on_exec, pid_of}
 use Rattle.ux_model.specs.State.{State, next_process, with_table, with_child}
-use Rattle.ux_model.specs.Outcome.{Outcome, refuse, answer, growing, as_process}
+use Rattle.ux_model.specs.Outcome.{Outcome, refuse, answer, taking_memory, as_process}
 
 -- The copy of a process: of the same user, with the same descriptors under the same numbers, also their own flags, and alive.
 abbrev pub child_of : Process → Process
@@ -14,7 +14,7 @@ child_of P = record P { exited = false }
 unfoldable pub fork : State → ℕ → Outcome
 fork S p = as_process S p (λ P.
     if nat_le made_limit (length S.processes) then refuse S Errno.EAGAIN else
-    growing (Reply.Child (pid_of (next_process S))) (with_child S (child_of P)))
+    taking_memory (Reply.Child (pid_of (next_process S))) (with_child S (child_of P)))
 
 -- execve(2), of which the layer sees the descriptors alone: those with their own flag are closed
 unfoldable pub exec : State → ℕ → Outcome

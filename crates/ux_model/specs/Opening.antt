@@ -6,7 +6,7 @@ use Rattle.ux_model.specs.Flags.{asks_append, asks_nonblock}
 use Rattle.ux_model.specs.Description.{Description, to_object}
 use Rattle.ux_model.specs.Process.{lowest_free, fd_of, descriptor}
 use Rattle.ux_model.specs.State.{State, table_of, next_description, with_table, with_new}
-use Rattle.ux_model.specs.Outcome.{Outcome, refuse, growing}
+use Rattle.ux_model.specs.Outcome.{Outcome, refuse, taking_memory}
 use Rattle.ux_model.specs.Names.{file, bound, named, is_valid_path}
 
 abbrev pub file_description : ℕ → Mode → OpenFlags → Description
@@ -16,7 +16,7 @@ file_description o mode flags = record { offset = 0; mode = mode; append = asks_
 abbrev pub open_object : State → ℕ → ℕ → Mode → OpenFlags → Outcome
 open_object S p o mode flags = elim (lowest_free (table_of S p)) [
   | None ↦ refuse S Errno.EMFILE
-  | Some n ↦ growing (Reply.Fd (fd_of n))
+  | Some n ↦ taking_memory (Reply.Fd (fd_of n))
       (with_table (with_new S (file_description o mode flags)) p (filled (table_of S p) n (descriptor flags (next_description S))))
 ]
 

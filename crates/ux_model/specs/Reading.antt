@@ -6,7 +6,7 @@ use Rattle.ux_model.specs.Flags.{can_read, can_write}
 use Rattle.ux_model.specs.Object.{Body, memory, counter, pipe, View, counter_len, ObjectError, would_block, full, invalid, read_body, is_memory, is_pipe, with_body}
 use Rattle.ux_model.specs.Description.{Description, to_object, to_socket}
 use Rattle.ux_model.specs.State.{State, with_object, with_description}
-use Rattle.ux_model.specs.Outcome.{Outcome, refuse, answer, growing, on_descriptor}
+use Rattle.ux_model.specs.Outcome.{Outcome, refuse, answer, taking_memory, on_descriptor}
 use Rattle.ux_model.specs.Receiving.{read_socket}
 use Rattle.ux_model.specs.FileObjects.{is_open_for, or_failing, holds_bytes, on_object}
 
@@ -33,7 +33,7 @@ read_error S o view invalid = refuse S Errno.EINVAL
 
 -- What a read answers, by what is found in the object. That is reached, and may fail, only where it has something to give.
 abbrev pub read_answer : State → ℕ → Description → ℕ → View → Result (List ℕ × Body) ObjectError → Outcome
-read_answer S d D o view (Ok found) = or_failing S o view (growing (Reply.Bytes found.0) (after_read S d D o view found))
+read_answer S d D o view (Ok found) = or_failing S o view (taking_memory (Reply.Bytes found.0) (after_read S d D o view found))
 read_answer S d D o view (Err error) = read_error S o view error
 
 abbrev pub read_object : State → ℕ → Description → ℕ → View → ℕ → Outcome

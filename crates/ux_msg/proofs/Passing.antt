@@ -15,7 +15,7 @@ use Rattle.ux_model.specs.Process.{Process, Descriptor, free_numbers, own_cred}
 use Rattle.ux_model.specs.Outcome.{Outcome, refuse, as_process}
 use Rattle.ux_model.specs.State.{State, socket_at, process_at, table_of, is_live}
 use Rattle.ux_model.specs.References.{times}
-use Rattle.ux_model.specs.Sending.{Sending, sending, descriptions_behind, message_of, flight_limit, is_sendable_addr, is_sendable_control, given_refusal, sent_cred, reading_control, send_from, send_with}
+use Rattle.ux_model.specs.Sending.{Sending, sending, descriptions_behind, message_of, flight_limit, is_sendable_addr, is_sendable_control, sender_cred_refusal, sent_cred, reading_control, send_from, send_with}
 use Rattle.ux_model.proofs.MessageCalls.{behind_counts, front_counts}
 use Rattle.ux_cmsg.proofs.Collecting.{has_bytes}
 use Rattle.ux_fdtable.proofs.Installing.{few_empty}
@@ -117,21 +117,21 @@ read_gives S T buffer o (Err Refusal.NoMemory) g = (wanted (not (length buffer =
 
 -- the credentials and the user that a message of process p reports, where these may be given, and the limit of rights in flight
 abbrev pub AreTold : State → ℕ → Option Cred → Cred → ℕ → Option ℕ → Process → Type 0
-AreTold S p given cred uid limit P = (given_refusal S p P given ≡ None) × (cred ≡ sent_cred p P given) × (uid ≡ P.uid) × (limit ≡ flight_limit P)
+AreTold S p given cred uid limit P = (sender_cred_refusal S p P given ≡ None) × (cred ≡ sent_cred p P given) × (uid ≡ P.uid) × (limit ≡ flight_limit P)
 
 -- by what the code found of them
-pub told : (S : State) (p : ℕ) (given : Option Cred) (cred own : Cred) (limit : Option ℕ) → IsSomeAnd (process_at S p) (λ P. (given_refusal S p P given ≡ None) × (cred ≡ sent_cred p P given)) →
+pub told : (S : State) (p : ℕ) (given : Option Cred) (cred own : Cred) (limit : Option ℕ) → IsSomeAnd (process_at S p) (λ P. (sender_cred_refusal S p P given ≡ None) × (cred ≡ sent_cred p P given)) →
     IsSomeAnd (process_at S p) (λ P. own ≡ own_cred p P) → IsSomeAnd (process_at S p) (λ P. limit ≡ flight_limit P) → IsSomeAnd (process_at S p) (AreTold S p given cred own.uid limit)
 told S p given cred own limit may by most = go (process_at S p) may by most
   where
-    go : (o : Option Process) → IsSomeAnd o (λ P. (given_refusal S p P given ≡ None) × (cred ≡ sent_cred p P given)) → IsSomeAnd o (λ P. own ≡ own_cred p P) → IsSomeAnd o (λ P. limit ≡ flight_limit P) →
+    go : (o : Option Process) → IsSomeAnd o (λ P. (sender_cred_refusal S p P given ≡ None) × (cred ≡ sent_cred p P given)) → IsSomeAnd o (λ P. own ≡ own_cred p P) → IsSomeAnd o (λ P. limit ≡ flight_limit P) →
         IsSomeAnd o (AreTold S p given cred own.uid limit)
     go None may by most = absurd may
     go (Some P) (may, is) by most = (may, is, ap Cred.uid by, most)
 
 -- what is sent, when nothing is refused before
 sent_at : (S T : State) (k : Sending) (d : ℕ) (s : Socket) (rights : List ℕ) (control : Control) (r : Result Reply Refusal) → is_sendable_control s.kind k.bytes control ≡ true →
-    descriptions_behind (table_of S k.caller) control.rights ≡ Some rights → given_refusal S k.caller k.process control.cred ≡ None → is_sendable_addr k.addr ≡ true →
+    descriptions_behind (table_of S k.caller) control.rights ≡ Some rights → sender_cred_refusal S k.caller k.process control.cred ≡ None → is_sendable_addr k.addr ≡ true →
     Gives S (send_from S (flight_limit k.process) d s k.addr (message_of k (sent_cred k.caller k.process control.cred) rights)) r T → Gives S (send_with S k d s control) r T
 unfolding send_with
 sent_at S T k d s rights control r ok behind given sendable g = rw (ok, behind)

@@ -259,8 +259,8 @@ fn is_sendable_addr(addr: Option<&Addr>) -> bool
 fn sent_cred<O: FileObject>(state: &State<O>, pid: Pid, given: Option<Cred>) -> Result<Cred, Errno>
     requires { IsTrue (is_live state.now pid.0) }
     ensures { IsSomeAnd (process_at state.now pid.0) (λ P. MatchResult result
-        (λ cred. (model.given_refusal state.now pid.0 P given ≡ None) × (cred ≡ model.sent_cred pid.0 P given))
-        (λ e. model.given_refusal state.now pid.0 P given ≡ Some e)) }
+        (λ cred. (model.sender_cred_refusal state.now pid.0 P given ≡ None) × (cred ≡ model.sent_cred pid.0 P given))
+        (λ e. model.sender_cred_refusal state.now pid.0 P given ≡ Some e)) }
 {
     let own = state.credentials(pid);
     let Some(given) = given else {
