@@ -1,5 +1,6 @@
 -- A table whose places are kept as far as they were used.
-use Rattle.std.specs.Prelude.{◌≡◌, ℕ, ◌+◌, ◌-◌, ◌<◌, ◌≤◌, Bool, List, [], ◌∷◌, ◌++◌, length, drop, replicate, Option, None, is_some, MatchOption}
+use Rattle.std.specs.Prelude.{◌≡◌, ℕ, ◌+◌, ◌-◌, ◌<◌, ◌≤◌, Bool, List, [], ◌∷◌, ◌++◌, length, drop, replicate, Option, None, is_some}
+use Rattle.std.specs.Prelude.{MatchOption}
 use Rattle.std.specs.List.{AllByRecursion}
 use Rattle.ux_model.specs.Limits.{table_limit}
 use Rattle.ux_model.specs.Places.{place, empty_places_from}
@@ -29,4 +30,6 @@ AreBelow limit numbers = AllByRecursion (λ n. n < limit) numbers
 
 -- The places reach further, as far as these numbers at most, and are those of the same table.
 abbrev pub IsReaching : List ℕ → List (Option Descriptor) → List (Option Descriptor) → Type 0
-IsReaching numbers old new = (limit : ℕ) (marks : List Bool) → AreBelow limit numbers → IsTable old limit marks → IsTable new limit marks × (padded new limit ≡ padded old limit)
+IsReaching numbers old new =
+    (limit : ℕ) (marks : List Bool) → AreBelow limit numbers → IsTable old limit marks →
+    IsTable new limit marks × (padded new limit ≡ padded old limit)

@@ -1,5 +1,6 @@
 -- Calls on a file object by what is known of its description, which may be gone.
-use Rattle.std.specs.Prelude.{◌≡◌, ℕ, ◌+◌, ◌≤◌, ◌<◌, ◌^◌, true, false, not, ◌&&◌, ◌==◌, nat_lt, if◌then◌else◌, List, length, Option, Some, None, ℤ, pos, negsuc}
+use Rattle.std.specs.Prelude.{◌≡◌, ℕ, ◌+◌, ◌≤◌, ◌<◌, ◌^◌, true, false, not, ◌&&◌, ◌==◌, nat_lt, if◌then◌else◌, List, length, Option, Some}
+use Rattle.std.specs.Prelude.{None, ℤ, pos, negsuc}
 use Rattle.ux_model.specs.Types.{Errno}
 use Rattle.ux_model.specs.Limits.{offset_limit, read_limit}
 use Rattle.ux_model.specs.Places.{place}

@@ -65,11 +65,15 @@ with_accepted S a =
 abbrev pub accept_first : State → ℕ → ℕ → ℕ → OpenFlags → Option ℕ → Outcome
 accept_first S p n d flags None = refuse S Errno.EAGAIN
 accept_first S p n d flags (Some e) =
-    taking_memory (Reply.Accepted (fd_of n) (client_name S e)) (with_accepted S (record { process = p; number = n; flags = flags; listener = d; oldest = e }))
+    taking_memory (Reply.Accepted (fd_of n) (client_name S e))
+    (with_accepted S (record { process = p; number = n; flags = flags; listener = d; oldest = e }))
 
 -- accept4(2). Where no number is free, the end waits on.
 unfoldable pub accept : State → ℕ → Fd → OpenFlags → Outcome
 accept S p fd flags = on_socket S p fd (λ d s.
     if is_dgram s.kind then refuse S Errno.EOPNOTSUPP else
     if is_none (listener_of s.phase) then refuse S Errno.EINVAL else
-    elim (lowest_free (table_of S p)) [ None ↦ refuse S Errno.EMFILE | Some n ↦ accept_first S p n d flags (slice_get (pending_ends s.phase) 0) ])
+    elim (lowest_free (table_of S p)) [
+      | None ↦ refuse S Errno.EMFILE
+      | Some n ↦ accept_first S p n d flags (slice_get (pending_ends s.phase) 0)
+    ])

@@ -48,17 +48,22 @@ abbrev pub with_path : State → ℕ → Name → State
 with_path S d name = record (with_socket_by S d (with_name (Addr.Path name))) { paths = S.paths ++ (name, bound d) ∷ [] }
 
 abbrev pub with_abstract : State → ℕ → Name → State
-with_abstract S d name = record (with_socket_by S d (with_name (Addr.Abstract name))) { abstract_names = S.abstract_names ++ (name, d) ∷ [] }
+with_abstract S d name =
+    record (with_socket_by S d (with_name (Addr.Abstract name))) { abstract_names = S.abstract_names ++ (name, d) ∷ [] }
 
 abbrev pub bind_path : State → ℕ → Name → Outcome
 bind_path S d name = if is_some (named name S.paths) then refuse S Errno.EADDRINUSE else taking_memory Reply.Ok (with_path S d name)
 
 abbrev pub bind_abstract : State → ℕ → Name → Outcome
-bind_abstract S d name = if is_some (named name S.abstract_names) then refuse S Errno.EADDRINUSE else taking_memory Reply.Ok (with_abstract S d name)
+bind_abstract S d name =
+    if is_some (named name S.abstract_names) then refuse S Errno.EADDRINUSE else taking_memory Reply.Ok (with_abstract S d name)
 
 -- the lowest of the names that the layer gives by itself; ENOSPC where all are in use
 abbrev pub autobind : State → ℕ → Outcome
-autobind S d = elim (free_name S.abstract_names) [ None ↦ refuse S Errno.ENOSPC | Some name ↦ taking_memory Reply.Ok (with_abstract S d name) ]
+autobind S d = elim (free_name S.abstract_names) [
+  | None ↦ refuse S Errno.ENOSPC
+  | Some name ↦ taking_memory Reply.Ok (with_abstract S d name)
+]
 
 abbrev pub bind_to : State → ℕ → Addr → Outcome
 bind_to S d Addr.Unnamed = autobind S d

@@ -1,5 +1,6 @@
 -- Laws: how a call changes the descriptor tables, reported by its request and reply.
-use Rattle.std.specs.Prelude.{◌≡◌, ℕ, suc, ◌≤◌, Bool, true, false, ◌==◌, if◌then◌else◌, List, [], ◌∷◌, length, take, Option, Some, None, option_map, Ok, Err}
+use Rattle.std.specs.Prelude.{◌≡◌, ℕ, suc, ◌≤◌, Bool, true, false, ◌==◌, if◌then◌else◌, List, [], ◌∷◌, length, take, Option, Some, None}
+use Rattle.std.specs.Prelude.{option_map, Ok, Err}
 use Rattle.std.specs.List.{slice_get, list_any}
 use Rattle.ux_model.specs.Types.{Fd, Request, Reply, Entry}
 use Rattle.ux_model.specs.Limits.{table_limit}
@@ -75,7 +76,8 @@ pub record ChangesTables (S : State) (p : ℕ) (request : Request) (reply : Repl
   pub own : (n : ℕ) → list_any (λ m. m == n) (given S p request reply) ≡ false → held_at T p n ≡ left request reply n (held_at S p n)
   -- one that it gives
   pub new : (i n : ℕ) → slice_get (given S p request reply) i ≡ Some n →
-      (d : ℕ) × (slice_get (sources S p request) i ≡ Some d) × (held_at T p n ≡ Some (record { description = d; cloexec = cloexec_of request }))
+      (d : ℕ) × (slice_get (sources S p request) i ≡ Some d)
+      × (held_at T p n ≡ Some (record { description = d; cloexec = cloexec_of request }))
   -- none is given twice
   pub once : (i j n : ℕ) → slice_get (given S p request reply) i ≡ Some n → slice_get (given S p request reply) j ≡ Some n → i ≡ j
 
@@ -86,4 +88,5 @@ StepChangesTables = (S T : State) (p k tag : ℕ) (request : Request) (reply : R
 
 -- no table of a legal history has more places than one may have
 abbrev pub TablesStaySmall : Type 0
-TablesStaySmall = (boot : State) (entries : List Entry) (p : ℕ) → IsLegal boot entries → length (table_of (replay boot entries) p) ≤ table_limit
+TablesStaySmall =
+    (boot : State) (entries : List Entry) (p : ℕ) → IsLegal boot entries → length (table_of (replay boot entries) p) ≤ table_limit

@@ -4,7 +4,8 @@ use Rattle.ux_model.specs.Types.{Errno, Fd, Cred, Addr, SockType, Mode, OpenFlag
 use Rattle.ux_model.specs.Places.{filled}
 use Rattle.ux_model.specs.Names.{is_valid_addr, is_unnamed_addr}
 use Rattle.ux_model.specs.Backlog.{Backlog, backlog_of}
-use Rattle.ux_model.specs.Socket.{Socket, Phase, idle, listening, connected, associated, is_dgram, new_socket, pending_ends, peer_of, tied_socket, takes_from, awaiting, with_association, shut_down}
+use Rattle.ux_model.specs.Socket.{Socket, Phase, idle, listening, connected, associated, is_dgram, new_socket, pending_ends, peer_of}
+use Rattle.ux_model.specs.Socket.{tied_socket, takes_from, awaiting, with_association, shut_down}
 use Rattle.ux_model.specs.Description.{Description}
 use Rattle.ux_model.specs.Process.{lowest_free, fd_of, descriptor, own_cred}
 use Rattle.ux_model.specs.State.{State, socket_at, table_of, next_description, with_socket_by, with_table, with_new}
@@ -19,7 +20,8 @@ unfoldable pub make_socket : State → ℕ → SockType → OpenFlags → Outcom
 make_socket S p kind flags = elim (lowest_free (table_of S p)) [
   | None ↦ refuse S Errno.EMFILE
   | Some n ↦ taking_memory (Reply.Fd (fd_of n))
-      (with_table (with_new S (socket_description flags (new_socket kind))) p (filled (table_of S p) n (descriptor flags (next_description S))))
+      (with_table (with_new S (socket_description flags (new_socket kind))) p
+      (filled (table_of S p) n (descriptor flags (next_description S))))
 ]
 
 -- ---- listening
@@ -52,7 +54,8 @@ listen S p fd backlog = as_process S p (λ P. on_socket S p fd (λ d s.
 
 -- the end that a listener's side of a new connection gets: options off, the listener's name, not yet accepted
 abbrev pub server_end : Socket → ℕ → Cred → Socket
-server_end listener client cred = record (new_socket listener.kind) { phase = connected client; name = listener.name; peer_cred = Some cred; accepted = false }
+server_end listener client cred =
+    record (new_socket listener.kind) { phase = connected client; name = listener.name; peer_cred = Some cred; accepted = false }
 
 abbrev pub no_open_flags : OpenFlags
 no_open_flags = record { 0 = 0 }
@@ -82,11 +85,15 @@ with_connection S c =
 abbrev pub connect_to_listener : State → ℕ → Cred → ℕ → Socket → Listener → Outcome
 connect_to_listener S d cred l listener kept =
     if nat_le kept.backlog.limit (length kept.backlog.pending) then refuse S Errno.EAGAIN else
-    taking_memory Reply.Ok (with_connection S (record { client = d; client_cred = cred; listener = l; socket = listener; listener_cred = kept.cred }))
+    taking_memory Reply.Ok
+    (with_connection S (record { client = d; client_cred = cred; listener = l; socket = listener; listener_cred = kept.cred }))
 
 -- a socket that doesn't listen refuses
 abbrev pub connect_to : State → ℕ → Cred → ℕ → Socket → Outcome
-connect_to S d cred l other = elim (listener_of other.phase) [ None ↦ refuse S Errno.ECONNREFUSED | Some kept ↦ connect_to_listener S d cred l other kept ]
+connect_to S d cred l other = elim (listener_of other.phase) [
+  | None ↦ refuse S Errno.ECONNREFUSED
+  | Some kept ↦ connect_to_listener S d cred l other kept
+]
 
 -- by the socket of this type that an address leads to
 abbrev pub connect_by : State → ℕ → SockType → Addr → Cred → Outcome
@@ -103,7 +110,8 @@ connect_stream S d s addr cred =
 
 -- datagram socket d with a target, which may take messages from another alone
 abbrev pub associate_with : State → ℕ → ℕ → Socket → Outcome
-associate_with S d t target = if takes_from d target.phase then answer Reply.Ok (with_socket_by S d (with_association (Some t))) else refuse S Errno.EPERM
+associate_with S d t target =
+    if takes_from d target.phase then answer Reply.Ok (with_socket_by S d (with_association (Some t))) else refuse S Errno.EPERM
 
 -- with the socket of this type that an address leads to
 abbrev pub associate_by : State → ℕ → SockType → Addr → Outcome
@@ -134,7 +142,10 @@ peer_name S phase = elim (tied_socket phase) [ None ↦ Err Errno.ENOTCONN | Som
 
 -- getpeername(2)
 unfoldable pub get_peer_name : State → ℕ → Fd → Outcome
-get_peer_name S p fd = on_socket S p fd (λ d s. elim (peer_name S s.phase) [ Err e ↦ refuse S e | Ok name ↦ taking_memory (Reply.Addr name) S ])
+get_peer_name S p fd = on_socket S p fd (λ d s. elim (peer_name S s.phase) [
+  | Err e ↦ refuse S e
+  | Ok name ↦ taking_memory (Reply.Addr name) S
+])
 
 -- ---- shutting down
 

@@ -64,7 +64,8 @@ item_type (rights_item numbers) = scm_rights
 item_type (cred_item cred) = scm_credentials
 
 abbrev pub item_bytes : Item → List ℕ
-item_bytes item = to_le_bytes w64 (head_len + length (payload item)) ++ to_le_bytes w32 sol_socket ++ to_le_bytes w32 (item_type item) ++ payload item
+item_bytes item =
+    to_le_bytes w64 (head_len + length (payload item)) ++ to_le_bytes w32 sol_socket ++ to_le_bytes w32 (item_type item) ++ payload item
 
 -- its numbers fit their bytes
 abbrev pub IsItem : Item → Type 0
@@ -81,15 +82,18 @@ padding item = padding_behind (length (item_bytes item))
 pub data IsList : List ℕ → List Item → Type 0 where
   nothing : IsList [] []
   last : (item : Item) (pad : List ℕ) → IsItem item → length pad ≤ padding item → IsList (item_bytes item ++ pad) (item ∷ [])
-  further : (item : Item) (pad rest : List ℕ) (items : List Item) → IsItem item → length pad ≡ padding item → IsList rest items → IsList (item_bytes item ++ (pad ++ rest)) (item ∷ items)
+  further : (item : Item) (pad rest : List ℕ) (items : List Item) → IsItem item → length pad ≡ padding item → IsList rest items →
+      IsList (item_bytes item ++ (pad ++ rest)) (item ∷ items)
 
 -- the Control that a list of items gives: no type stands twice, and the order is free
 pub data MakeUp : List Item → Control → Type 0 where
   neither : MakeUp [] (record { cred = None; rights = [] })
   rights_alone : (numbers : List ℕ) → MakeUp (rights_item numbers ∷ []) (record { cred = None; rights = numbers })
   cred_alone : (cred : Cred) → MakeUp (cred_item cred ∷ []) (record { cred = Some cred; rights = [] })
-  cred_first : (cred : Cred) (numbers : List ℕ) → MakeUp (cred_item cred ∷ rights_item numbers ∷ []) (record { cred = Some cred; rights = numbers })
-  rights_first : (cred : Cred) (numbers : List ℕ) → MakeUp (rights_item numbers ∷ cred_item cred ∷ []) (record { cred = Some cred; rights = numbers })
+  cred_first : (cred : Cred) (numbers : List ℕ) →
+      MakeUp (cred_item cred ∷ rights_item numbers ∷ []) (record { cred = Some cred; rights = numbers })
+  rights_first : (cred : Cred) (numbers : List ℕ) →
+      MakeUp (rights_item numbers ∷ cred_item cred ∷ []) (record { cred = Some cred; rights = numbers })
 
 unfoldable pub Spells : List ℕ → Control → Type 0
 Spells bytes control = (items : List Item) × IsList bytes items × MakeUp items control

@@ -1,9 +1,11 @@
 -- What a reader that goes from left to right makes of a control buffer. It is what the grammar of Control says of the bytes.
-use Rattle.std.specs.Prelude.{ℕ, zero, suc, ◌-◌, ◌%◌, ◌<◌, ◌==◌, nat_lt, if◌then◌else◌, List, [], ◌∷◌, length, take, drop, Option, Some, None, is_some, unwrap_or, option_map}
+use Rattle.std.specs.Prelude.{ℕ, zero, suc, ◌-◌, ◌%◌, ◌<◌, ◌==◌, nat_lt, if◌then◌else◌, List, [], ◌∷◌, length, take, drop, Option, Some}
+use Rattle.std.specs.Prelude.{None, is_some, unwrap_or, option_map}
 use Rattle.std.specs.List.{AllByRecursion}
 use Rattle.std.specs.Int.{Width, w32, w64, byte_len, from_le_bytes}
 use Rattle.ux_model.specs.Types.{Cred}
-use Rattle.ux_model.specs.Control.{head_len, number_len, sol_socket, scm_rights, scm_credentials, padding_behind, Control, Item, rights_item, cred_item, ReadsAs}
+use Rattle.ux_model.specs.Control.{head_len, number_len, sol_socket, scm_rights, scm_credentials, padding_behind, Control, Item}
+use Rattle.ux_model.specs.Control.{rights_item, cred_item, ReadsAs}
 
 infixl 10 ◌>>=◌
 abbrev pub ◌>>=◌ : {A B : Type 0} → Option A → (A → Option B) → Option B
@@ -12,7 +14,8 @@ None >>= f = None
 
 -- a number at the front, the lowest byte first, and the bytes behind it
 abbrev pub number_at : Width → List ℕ → Option (ℕ × List ℕ)
-number_at w bytes = if nat_lt (length bytes) (byte_len w) then None else Some (from_le_bytes w (take (byte_len w) bytes), drop (byte_len w) bytes)
+number_at w bytes =
+    if nat_lt (length bytes) (byte_len w) then None else Some (from_le_bytes w (take (byte_len w) bytes), drop (byte_len w) bytes)
 
 -- the numbers in four bytes each, one after another
 abbrev pub numbers_in : List ℕ → List ℕ

@@ -12,4 +12,6 @@ AreLimited S uid limit = (p : ℕ) (P : Process) → process_at S p ≡ Some P �
 
 -- then its processes never have more rights in flight
 abbrev pub FlightIsLimited : Type 0
-FlightIsLimited = (boot : State) (entries : List Entry) (uid limit : ℕ) → IsLegal boot entries → AreLimited boot uid limit → in_flight (replay boot entries) uid ≤ limit
+FlightIsLimited =
+    (boot : State) (entries : List Entry) (uid limit : ℕ) → IsLegal boot entries → AreLimited boot uid limit →
+    in_flight (replay boot entries) uid ≤ limit

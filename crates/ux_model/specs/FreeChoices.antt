@@ -48,4 +48,6 @@ pub record TellsFailure (S : State) (reply : Reply) (T : State) : Type 0 where
 
 -- So each reply does, in whatever state. A file object that goes is handed out as it was held (HandingOut), so it failed as often, too.
 abbrev pub FailsWhereAnObjectFailed : Type 0
-FailsWhereAnObjectFailed = (S T : State) (p tag : ℕ) (request : Request) (reply : Reply) (gone : List ℕ) → Step S p tag request reply gone T → TellsFailure S reply T
+FailsWhereAnObjectFailed =
+    (S T : State) (p tag : ℕ) (request : Request) (reply : Reply) (gone : List ℕ) → Step S p tag request reply gone T →
+    TellsFailure S reply T

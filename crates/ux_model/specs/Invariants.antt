@@ -1,5 +1,6 @@
 -- Laws: what holds in every state that a legal history leads to, or any chain of calls. Nothing here defines a call.
-use Rattle.std.specs.Prelude.{◌≡◌, ◌⊎◌, ℕ, suc, ◌<◌, ◌≤◌, true, false, List, [], ◌∷◌, ◌++◌, take, Some, Option, None, is_some, nat_lt, slice_get, sum_by}
+use Rattle.std.specs.Prelude.{◌≡◌, ◌⊎◌, ℕ, suc, ◌<◌, ◌≤◌, true, false, List, [], ◌∷◌, ◌++◌, take, Some, Option, None, is_some, nat_lt}
+use Rattle.std.specs.Prelude.{slice_get, sum_by}
 use Rattle.ux_model.specs.Types.{Errno, Name, Addr, Request, Reply, Entry}
 use Rattle.ux_model.specs.Places.{place}
 use Rattle.ux_model.specs.Object.{View, after_failure}
@@ -72,7 +73,8 @@ RefusalChangesNothing = (S T : State) (p tag : ℕ) (request : Request) (error :
 
 -- so of an entry of a legal history that reports an error
 abbrev pub RefusedEntryChangesNothing : Type 0
-RefusedEntryChangesNothing = (boot : State) (before : List Entry) (e : Entry) (error : Errno) → IsLegal boot (before ++ e ∷ []) → e.reply ≡ Reply.Err error →
+RefusedEntryChangesNothing =
+    (boot : State) (before : List Entry) (e : Entry) (error : Errno) → IsLegal boot (before ++ e ∷ []) → e.reply ≡ Reply.Err error →
     LeftByRefusal (replay boot before) error (replay boot (before ++ e ∷ [])) × (e.released ≡ [])
 
 -- ---- nothing dangles
@@ -93,9 +95,11 @@ pub record IsWhole (S : State) : Type 0 where
   pub objects_open : (o : ℕ) (view : View) → place S.objects o ≡ Some view → view.opened ≡ true
   pub descriptors_lead : (p n : ℕ) (e : Descriptor) → place (table_of S p) n ≡ Some e → is_some (description_at S e.description) ≡ true
   -- ancillary data: each right in a message that waits
-  pub rights_lead : (d i j r : ℕ) (s : Socket) (m : Message) → socket_at S d ≡ Some s → slice_get s.queue i ≡ Some m → slice_get m.rights j ≡ Some r →
+  pub rights_lead : (d i j r : ℕ) (s : Socket) (m : Message) → socket_at S d ≡ Some s → slice_get s.queue i ≡ Some m →
+      slice_get m.rights j ≡ Some r →
       is_some (description_at S r) ≡ true
-  pub descriptions_lead : (d o : ℕ) (D : Description) → description_at S d ≡ Some D → D.target ≡ to_object o → is_open (place S.objects o) ≡ true
+  pub descriptions_lead : (d o : ℕ) (D : Description) → description_at S d ≡ Some D → D.target ≡ to_object o →
+      is_open (place S.objects o) ≡ true
   pub paths_lead : (i o : ℕ) (path : Name) → slice_get S.paths i ≡ Some (path, file o) → is_open (place S.objects o) ≡ true
   -- an end in a backlog is a socket that no accept has taken, and stands in no other backlog, nor twice
   pub pending_ends_wait : (d i e : ℕ) (s : Socket) → socket_at S d ≡ Some s → slice_get (pending_ends s.phase) i ≡ Some e →
@@ -103,7 +107,8 @@ pub record IsWhole (S : State) : Type 0 where
   pub pending_once : (e : ℕ) → pends_at_all e S.descriptions ≤ 1
   -- the peer of a socket, while it is there, has that one as its own peer
   pub connections_mutual : Paired S.descriptions
-  pub abstract_names_lead : (i : ℕ) (e : Name × ℕ) → slice_get S.abstract_names i ≡ Some e → (s : Socket) × (socket_at S e.1 ≡ Some s) × (s.name ≡ Addr.Abstract e.0)
+  pub abstract_names_lead : (i : ℕ) (e : Name × ℕ) → slice_get S.abstract_names i ≡ Some e →
+      (s : Socket) × (socket_at S e.1 ≡ Some s) × (s.name ≡ Addr.Abstract e.0)
 
 -- whatever calls were made from a boot state on
 abbrev pub WholeAfterAnyCalls : Type 0
@@ -121,14 +126,17 @@ times_released o entries = sum_by (λ e. times o e.released) entries
 
 -- With the entry at place i a file object loses its last reference: it has none after that, and had one after all fewer entries.
 abbrev pub LosesLast : State → List Entry → ℕ → ℕ → Type 0
-LosesLast boot entries i o = (orefs (replay boot (take (suc i) entries)) o ≡ 0) × ((n : ℕ) → n ≤ i → 0 < orefs (replay boot (take n entries)) o)
+LosesLast boot entries i o =
+    (orefs (replay boot (take (suc i) entries)) o ≡ 0) × ((n : ℕ) → n ≤ i → 0 < orefs (replay boot (take n entries)) o)
 
--- Of a file object: one entry at most reports that it was closed, that by which it loses its last reference; and it is there in no state after that.
+-- Of a file object: one entry at most reports that it was closed, that by which it loses its last reference; and it is there in no state
+-- after that.
 pub record IsClosedOnce (boot : State) (entries : List Entry) (o : ℕ) : Type 0 where
   pub once : times_released o entries ≤ 1
   pub only_at_the_last : (i : ℕ) (e : Entry) → slice_get entries i ≡ Some e → 0 < times o e.released → LosesLast boot entries i o
   pub surely_at_the_last : (i : ℕ) (e : Entry) → slice_get entries i ≡ Some e → LosesLast boot entries i o → times o e.released ≡ 1
-  pub gone_for_good : (i n : ℕ) (e : Entry) → slice_get entries i ≡ Some e → 0 < times o e.released → i < n → place (replay boot (take n entries)).objects o ≡ None
+  pub gone_for_good : (i n : ℕ) (e : Entry) → slice_get entries i ≡ Some e → 0 < times o e.released → i < n →
+      place (replay boot (take n entries)).objects o ≡ None
 
 abbrev pub ClosedOnce : Type 0
 ClosedOnce = (boot : State) (entries : List Entry) (o : ℕ) → IsLegal boot entries → IsClosedOnce boot entries o

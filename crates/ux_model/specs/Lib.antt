@@ -1,4 +1,7 @@
--- In the order in which they are read.
+-- In the order in which they are read: none comes before what it uses.
+
+-- ---- the state
+
 pub mod Types
 pub mod Places
 pub mod Limits
@@ -7,18 +10,22 @@ pub mod Flags
 pub mod Names
 pub mod Message
 pub mod Stream
-pub mod Front
 pub mod Control
 pub mod ControlReading
 pub mod Credentials
 pub mod Backlog
 pub mod Socket
+pub mod Front
 pub mod Description
 pub mod Process
 pub mod Delivery
 pub mod State
 pub mod References
 pub mod Release
+pub mod Peers
+pub mod Flight
+-- ---- a call
+
 pub mod Outcome
 pub mod Naming
 pub mod Pairing
@@ -35,24 +42,26 @@ pub mod Descriptors
 pub mod Accepting
 pub mod Options
 pub mod Readiness
-pub mod Closing
 pub mod Forking
-pub mod Delivered
+pub mod Closing
 pub mod Step
 pub mod Waiting
 pub mod Rooms
+-- ---- a history
+
+pub mod Boot
+pub mod Delivered
+pub mod History
+pub mod Giving
+pub mod Pedigree
+-- ---- laws
+
 pub mod HandingOut
 pub mod FreeChoices
-pub mod Peers
-pub mod Flight
-pub mod Moves
-pub mod Boot
 pub mod Owning
-pub mod History
+pub mod Moves
 pub mod Invariants
-pub mod Giving
 pub mod Changes
-pub mod Pedigree
 pub mod PedigreeLaws
 pub mod ReadyCalls
 pub mod FlightLaws

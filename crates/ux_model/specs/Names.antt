@@ -1,5 +1,6 @@
 -- Names of files and sockets: which are valid, and which the layer gives by itself (unix(7)).
-use Rattle.std.specs.Prelude.{◌≡◌, ℕ, zero, suc, ◌+◌, ◌/◌, ◌%◌, ◌<◌, Bool, true, false, not, ◌&&◌, ◌==◌, nat_lt, nat_le, if◌then◌else◌, List, [], ◌∷◌, length, filter, Option, Some, None, is_none, option_map}
+use Rattle.std.specs.Prelude.{◌≡◌, ℕ, zero, suc, ◌+◌, ◌/◌, ◌%◌, ◌<◌, Bool, true, false, not, ◌&&◌, ◌==◌, nat_lt, nat_le, if◌then◌else◌}
+use Rattle.std.specs.Prelude.{List, [], ◌∷◌, length, filter, Option, Some, None, is_none, option_map}
 use Rattle.std.specs.List.{list_any}
 use Rattle.std.specs.Cmp.Lexicographic.{pointwise}
 use Rattle.ux_model.specs.Types.{Name, Addr}
@@ -45,7 +46,8 @@ hex_digit n = if nat_lt n 10 then 48 + n else 87 + n
 
 -- five digits of 0-9a-f, the highest first
 abbrev pub autobind_name : ℕ → Name
-autobind_name n = hex_digit (n / 65536 % 16) ∷ hex_digit (n / 4096 % 16) ∷ hex_digit (n / 256 % 16) ∷ hex_digit (n / 16 % 16) ∷ hex_digit (n % 16) ∷ []
+autobind_name n =
+    hex_digit (n / 65536 % 16) ∷ hex_digit (n / 4096 % 16) ∷ hex_digit (n / 256 % 16) ∷ hex_digit (n / 16 % 16) ∷ hex_digit (n % 16) ∷ []
 
 -- none of these is the name of this number
 abbrev pub is_unused : List (Name × ℕ) → ℕ → Bool
@@ -53,7 +55,8 @@ is_unused names n = is_none (named (autobind_name n) names)
 
 -- the name that autobind gives while these are in use: that of the least number whose name isn't, if there is one
 abbrev pub IsFreeName : List (Name × ℕ) → Option Name → Type 0
-IsFreeName names (Some name) = (n : ℕ) × (n < autobind_names) × (name ≡ autobind_name n) × (is_unused names n ≡ true) × ((k : ℕ) → k < n → is_unused names k ≡ false)
+IsFreeName names (Some name) =
+    (n : ℕ) × (n < autobind_names) × (name ≡ autobind_name n) × (is_unused names n ≡ true) × ((k : ℕ) → k < n → is_unused names k ≡ false)
 IsFreeName names None = (k : ℕ) → k < autobind_names → is_unused names k ≡ false
 
 -- the lowest of so many numbers, from n on, that passes a test

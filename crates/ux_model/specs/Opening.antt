@@ -10,7 +10,8 @@ use Rattle.ux_model.specs.Outcome.{Outcome, refuse, taking_memory}
 use Rattle.ux_model.specs.Names.{file, bound, named, is_valid_path}
 
 abbrev pub file_description : ℕ → Mode → OpenFlags → Description
-file_description o mode flags = record { offset = 0; mode = mode; append = asks_append flags; nonblock = asks_nonblock flags; target = to_object o }
+file_description o mode flags =
+    record { offset = 0; mode = mode; append = asks_append flags; nonblock = asks_nonblock flags; target = to_object o }
 
 -- a new description of file object o, at the lowest number that is free
 abbrev pub open_object : State → ℕ → ℕ → Mode → OpenFlags → Outcome

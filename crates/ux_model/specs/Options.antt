@@ -57,7 +57,10 @@ set_passcred S d on = with_socket_by S d (with_passcred on)
 
 -- on, of a socket that gets the lowest free name of the abstract namespace first
 abbrev pub pass_cred_named : State → ℕ → Outcome
-pass_cred_named S d = elim (free_name S.abstract_names) [ None ↦ refuse S Errno.ENOSPC | Some name ↦ taking_memory Reply.Ok (set_passcred (with_abstract S d name) d true) ]
+pass_cred_named S d = elim (free_name S.abstract_names) [
+  | None ↦ refuse S Errno.ENOSPC
+  | Some name ↦ taking_memory Reply.Ok (set_passcred (with_abstract S d name) d true)
+]
 
 -- On, also where it was on. Whoever has neither a name nor a peer is bound to a name (unix(7), Autobind feature).
 abbrev pub pass_cred_on : State → ℕ → Socket → Outcome

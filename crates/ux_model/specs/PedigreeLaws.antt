@@ -18,12 +18,15 @@ pub record IsSent (boot : State) (entries : List Entry) (m : Message) : Type 0 w
 
 -- each message with rights that nobody has received was sent
 abbrev pub MessagesAreSent : Type 0
-MessagesAreSent = (boot : State) (entries : List Entry) (d k : ℕ) (s : Socket) (m : Message) → IsLegal boot entries → socket_at (replay boot entries) d ≡ Some s →
+MessagesAreSent =
+    (boot : State) (entries : List Entry) (d k : ℕ) (s : Socket) (m : Message) → IsLegal boot entries →
+    socket_at (replay boot entries) d ≡ Some s →
     slice_get s.queue k ≡ Some m → 0 < length m.rights → IsSent boot entries m
 
 -- the chain of a holding is one alone
 abbrev pub ChainIsOne : Type 0
-ChainIsOne = (boot : State) (entries : List Entry) (p n : ℕ) (chain other : List Link) → IsLegal boot entries → IsPedigree boot entries chain p n →
+ChainIsOne =
+    (boot : State) (entries : List Entry) (p n : ℕ) (chain other : List Link) → IsLegal boot entries → IsPedigree boot entries chain p n →
     IsPedigree boot entries other p n → chain ≡ other
 
 -- the holding of this link, once it was taken, leads to this description
@@ -37,14 +40,17 @@ pub record OfOneDescription (boot : State) (entries : List Entry) (chain : List 
   pub at_the_end : description_of (replay boot entries) p n ≡ Some description
 
 abbrev pub PedigreeIsOfOne : Type 0
-PedigreeIsOfOne = (boot : State) (entries : List Entry) (chain : List Link) (p n : ℕ) → IsLegal boot entries → IsPedigree boot entries chain p n →
+PedigreeIsOfOne =
+    (boot : State) (entries : List Entry) (chain : List Link) (p n : ℕ) → IsLegal boot entries → IsPedigree boot entries chain p n →
     OfOneDescription boot entries chain p n
 
 -- no call of process q delivered it a right
 abbrev pub WasSentNothing : State → List Entry → ℕ → Type 0
-WasSentNothing boot entries q = (j : ℕ) (e : Entry) → slice_get entries j ≡ Some e → e.pid.0 ≡ q → delivered (before boot entries j) e ≡ None
+WasSentNothing boot entries q =
+    (j : ℕ) (e : Entry) → slice_get entries j ≡ Some e → e.pid.0 ≡ q → delivered (before boot entries j) e ≡ None
 
 -- who was sent nothing holds only what it made, copied or inherited: no link of its own is a receipt
 abbrev pub HoldsOnlyItsOwn : Type 0
-HoldsOnlyItsOwn = (boot : State) (entries : List Entry) (chain : List Link) (p n q : ℕ) → IsLegal boot entries → IsPedigree boot entries chain p n →
+HoldsOnlyItsOwn =
+    (boot : State) (entries : List Entry) (chain : List Link) (p n q : ℕ) → IsLegal boot entries → IsPedigree boot entries chain p n →
     WasSentNothing boot entries q → (i tag : ℕ) (b : Link) → slice_get chain i ≡ Some b → b.pid.0 ≡ q → b.how ≢ How.Received tag

@@ -64,13 +64,16 @@ abbrev pub by_peer : Socket → Option Socket → Conditions
 by_peer s None = lost_conditions s
 by_peer s (Some other) = connected_conditions s other
 
--- one that isn't connected is readable where it listens and an end waits for accept; else it is hung up
+-- One that isn't connected: a listener is readable where an end waits for accept, and never hung up; any other is hung up.
 abbrev pub listener_conditions : Option Listener → Conditions
 listener_conditions None = record no_conditions { hung = true }
 listener_conditions (Some kept) = record no_conditions { readable = not (length kept.backlog.pending == 0) }
 
 abbrev pub stream_conditions : State → Socket → Conditions
-stream_conditions S s = elim (peer_of s.phase) [ None ↦ listener_conditions (listener_of s.phase) | Some peer ↦ by_peer s (socket_at S peer) ]
+stream_conditions S s = elim (peer_of s.phase) [
+  | None ↦ listener_conditions (listener_of s.phase)
+  | Some peer ↦ by_peer s (socket_at S peer)
+]
 
 -- A datagram to this target needn't wait: it is taken, or refused for another reason than a full queue.
 abbrev pub target_takes : ℕ → Socket → Option Socket → Bool
@@ -115,4 +118,7 @@ flags_at S d = elim (description_at S d) [ None ↦ not_open | Some D ↦ poll_f
 
 -- poll(2) of one descriptor, without waiting
 unfoldable pub poll : State → ℕ → Fd → Outcome
-poll S p fd = elim (descriptor_at S p fd) [ None ↦ answer (Reply.Poll not_open) S | Some e ↦ answer (Reply.Poll (flags_at S e.description)) S ]
+poll S p fd = elim (descriptor_at S p fd) [
+  | None ↦ answer (Reply.Poll not_open) S
+  | Some e ↦ answer (Reply.Poll (flags_at S e.description)) S
+]

@@ -3,7 +3,8 @@ use Rattle.std.specs.Prelude.{ℕ, ◌+◌, min, Bool, false, not, ◌&&◌, ◌
 use Rattle.ux_model.specs.Types.{Errno, Fd, Reply}
 use Rattle.ux_model.specs.Limits.{read_limit}
 use Rattle.ux_model.specs.Flags.{can_read, can_write}
-use Rattle.ux_model.specs.Object.{Body, memory, counter, pipe, View, counter_len, ObjectError, would_block, full, invalid, read_body, is_memory, is_pipe, with_body}
+use Rattle.ux_model.specs.Object.{Body, memory, counter, pipe, View, counter_len, ObjectError, would_block, full, invalid, read_body}
+use Rattle.ux_model.specs.Object.{is_memory, is_pipe, with_body}
 use Rattle.ux_model.specs.Description.{Description, to_object, to_socket}
 use Rattle.ux_model.specs.State.{State, with_object, with_description}
 use Rattle.ux_model.specs.Outcome.{Outcome, refuse, answer, taking_memory, on_descriptor}

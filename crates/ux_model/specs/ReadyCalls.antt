@@ -19,5 +19,8 @@ TellsInput = (S : State) (p tag : ℕ) (fd : Fd) (d : ℕ) (s : Socket) → find
 
 -- and OUT exactly where a send of one byte would, without address and control, by a process that lives
 abbrev pub TellsRoom : Type 0
-TellsRoom = (S : State) (p tag : ℕ) (fd : Fd) (byte d : ℕ) (s : Socket) → IsTrue (is_live S p) → find_socket S p fd ≡ Ok (d, s) → moves_data s ≡ true →
-    ((socket_conditions S d s).writable ≡ false) ↔ ((outcome S p tag (Request.SendMsg fd None (byte ∷ []) [] no_flags)).reply ≡ Reply.Err Errno.EAGAIN)
+TellsRoom =
+    (S : State) (p tag : ℕ) (fd : Fd) (byte d : ℕ) (s : Socket) → IsTrue (is_live S p) → find_socket S p fd ≡ Ok (d, s) →
+    moves_data s ≡ true →
+    ((socket_conditions S d s).writable ≡ false)
+    ↔ ((outcome S p tag (Request.SendMsg fd None (byte ∷ []) [] no_flags)).reply ≡ Reply.Err Errno.EAGAIN)

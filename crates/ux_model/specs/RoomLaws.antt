@@ -7,4 +7,6 @@ use Rattle.ux_model.specs.History.{MayFollow, IsLegal}
 
 -- each call of a legal history is answered within the room that is enough for its request
 abbrev pub RepliesFit : Type 0
-RepliesFit = (boot : State) (entries : List Entry) (e : Entry) → IsLegal boot entries → MayFollow boot entries e → Fits (size_of e.reply) (room_for e.request)
+RepliesFit =
+    (boot : State) (entries : List Entry) (e : Entry) → IsLegal boot entries → MayFollow boot entries e →
+    Fits (size_of e.reply) (room_for e.request)

@@ -26,7 +26,8 @@ no_bytes = record { data_bytes = 0; control = 0; name = 0 }
 
 unfoldable pub size_of : Reply → Size
 size_of (Reply.Bytes bytes) = record no_bytes { data_bytes = length bytes }
-size_of (Reply.Received flags count bytes control from) = record { data_bytes = length bytes; control = length control; name = sender_bytes from }
+size_of (Reply.Received flags count bytes control from) =
+    record { data_bytes = length bytes; control = length control; name = sender_bytes from }
 size_of (Reply.Accepted fd addr) = record no_bytes { name = name_bytes addr }
 size_of (Reply.Addr addr) = record no_bytes { name = name_bytes addr }
 size_of _ = no_bytes
@@ -39,7 +40,8 @@ control_limit = cred_space + (head_len + number_len * rights_limit)
 
 unfoldable pub room_for : Request → Size
 room_for (Request.Read fd n) = record no_bytes { data_bytes = min read_limit n }
-room_for (Request.RecvMsg fd n space flags) = record { data_bytes = min greatest_queue_limit n; control = min control_limit space; name = name_limit }
+room_for (Request.RecvMsg fd n space flags) =
+    record { data_bytes = min greatest_queue_limit n; control = min control_limit space; name = name_limit }
 room_for (Request.Accept fd flags) = record no_bytes { name = name_limit }
 room_for (Request.GetSockName fd) = record no_bytes { name = name_limit }
 room_for (Request.GetPeerName fd) = record no_bytes { name = name_limit }

@@ -15,7 +15,8 @@ seek_base Whence.End D view = size_of_body view.body
 
 -- an offset is at least 0 and at most 2^63 - 1
 abbrev pub seek_to : State → ℕ → Description → ℤ → Outcome
-seek_to S d D (pos n) = if nat_lt offset_limit n then refuse S Errno.EINVAL else answer (Reply.At n) (with_description S d (record D { offset = n }))
+seek_to S d D (pos n) =
+    if nat_lt offset_limit n then refuse S Errno.EINVAL else answer (Reply.At n) (with_description S d (record D { offset = n }))
 seek_to S d D (negsuc n) = refuse S Errno.EINVAL
 
 abbrev pub seek_object : State → ℕ → Description → View → ℤ → Whence → Outcome

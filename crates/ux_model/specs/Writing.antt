@@ -22,7 +22,8 @@ after_write S d D o view made =
 
 -- what the object answers to a write; only a memory file may lack memory
 abbrev pub write_answer : State → ℕ → Description → ℕ → View → Result (ℕ × Body) ObjectError → Outcome
-write_answer S d D o view (Ok made) = record (answer (Reply.Count made.0) (after_write S d D o view made)) { may_lack_memory = is_memory view.body }
+write_answer S d D o view (Ok made) =
+    record (answer (Reply.Count made.0) (after_write S d D o view made)) { may_lack_memory = is_memory view.body }
 write_answer S d D o view (Err error) = refuse S (error_of error)
 
 abbrev pub write_object : State → ℕ → Description → ℕ → View → List ℕ → Outcome

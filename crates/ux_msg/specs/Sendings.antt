@@ -28,4 +28,7 @@ abbrev pub send_with_at : State → Sending → ℕ → Control → Outcome
 send_with_at S msg d control = elim (socket_at S d) [ None ↦ refuse S Errno.EBADF | Some s ↦ send_with S msg d s control ]
 
 abbrev pub write_socket_at : State → ℕ → ℕ → ℕ → List ℕ → Outcome
-write_socket_at S p tag d bytes = elim (socket_at S d) [ None ↦ refuse S Errno.EBADF | Some s ↦ as_process S p (λ P. write_socket S (sending tag p P None bytes) d s) ]
+write_socket_at S p tag d bytes = elim (socket_at S d) [
+  | None ↦ refuse S Errno.EBADF
+  | Some s ↦ as_process S p (λ P. write_socket S (sending tag p P None bytes) d s)
+]

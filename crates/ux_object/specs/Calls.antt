@@ -1,6 +1,7 @@
 -- What a read and a write of an object may answer, and the view that they leave.
 use Rattle.std.specs.Prelude.{◌≡◌, ◌+◌, ◌≤◌, ◌↔◌, ℕ, IsTrue, IfOk, IfErr, List, Result, Ok, Err, is_ok, take}
-use Rattle.ux_model.specs.Object.{Body, View, ObjectError, would_block, full, invalid, read_body, write_body, with_body, is_memory, can_fail, after_failure}
+use Rattle.ux_model.specs.Object.{Body, View, ObjectError, would_block, full, invalid, read_body, write_body, with_body, is_memory}
+use Rattle.ux_model.specs.Object.{can_fail, after_failure}
 use Rattle.ux_object.specs.declared.ObjError.{ObjError}
 use Rattle.ux_object.specs.declared.ObjError.TheVariants.{WouldBlock, Io, Full, NoMemory, Invalid}
 

@@ -18,7 +18,8 @@ use Rattle.ux_state.specs.Counting.{one_if, Counted}
 
 -- the state that contracts see
 abbrev pub state_of : List (Option View) → Held Description → List Process → List (Name × PathTarget) → List (Name × ℕ) → State
-state_of objects held processes paths names = record { objects = objects; descriptions = held.places; processes = processes; paths = paths; abstract_names = names }
+state_of objects held processes paths names =
+    record { objects = objects; descriptions = held.places; processes = processes; paths = paths; abstract_names = names }
 
 -- how many paths name file object o
 abbrev pub links_of : List ℕ → ℕ → ℕ

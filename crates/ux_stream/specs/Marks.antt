@@ -1,5 +1,6 @@
 -- How the queue keeps its messages: marks, each for a stretch of the ring's bytes. No public clause cites this module.
-use Rattle.std.specs.Prelude.{◌≡◌, ℕ, zero, suc, ◌+◌, ◌-◌, ◌<◌, min, Bool, ◌==◌, ◌&&◌, not, nat_le, if◌then◌else◌, List, [], ◌∷◌, ◌++◌, length, take, drop, Option, None}
+use Rattle.std.specs.Prelude.{◌≡◌, ℕ, zero, suc, ◌+◌, ◌-◌, ◌<◌, min, Bool, ◌==◌, ◌&&◌, not, nat_le, if◌then◌else◌, List, [], ◌∷◌, ◌++◌}
+use Rattle.std.specs.Prelude.{length, take, drop, Option, None}
 use Rattle.std.specs.List.{AllByRecursion}
 use Rattle.ux_model.specs.Types.{Cred}
 use Rattle.ux_model.specs.Message.{Message, same_cred}
