@@ -13,6 +13,7 @@ pub mod Sockets
 pub mod Making
 pub mod Owning
 pub mod FrontRights
+pub mod Reached
 pub mod Flying
 pub mod Sound
 pub mod Named

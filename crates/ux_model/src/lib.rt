@@ -4,6 +4,7 @@
 #![tactic(auto)]
 
 ghost use Rattle.ux_model.specs.Names.{FreeNameIsLeast};
+ghost use Rattle.ux_model.specs.Stream.{RightsAreOfReached, OriginIsOfReached, RestIsOfReached};
 ghost use Rattle.ux_model.specs.Release.{EndsAlike};
 ghost use Rattle.ux_model.specs.HandingOut.{HandsOutWhatWasHeld};
 ghost use Rattle.ux_model.specs.FreeChoices.{NeverLacksMemory, FailsWhereAnObjectFailed};
@@ -22,6 +23,15 @@ ghost use Rattle.ux_model.specs.Moves.{ProcessCounts, ChildCounts, SocketCounts,
 #[tactic(auto, using(crate::proofs::LeastNames::free_name_is_least))]
 pub fn autobind_gives_the_least_name()
     ensures { FreeNameIsLeast }
+{}
+
+/// What a receive takes of a stream's queue: the rights of the messages that its bytes reach, the origin of
+/// the first of these that has any, and it leaves all behind them, and what a message that was cut has left.
+#[tactic(auto, using(crate::proofs::Reached::rights_are_of_reached, crate::proofs::Reached::origin_is_of_reached, crate::proofs::Reached::rest_is_of_reached))]
+pub fn receive_takes_what_it_reaches()
+    ensures rights { RightsAreOfReached }
+    ensures origin { OriginIsOfReached }
+    ensures rest { RestIsOfReached }
 {}
 
 /// Descriptions without a reference may be dropped one at a time and in any order: the same state is
