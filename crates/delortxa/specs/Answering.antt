@@ -89,6 +89,8 @@ Tells wanted did unmade old new (CallError.Fault fault) = (new ≡ old) × unmad
 Tells wanted did unmade old new CallError.Unlike = IsUnlike wanted did
 
 -- So of a call by its name: where it wasn't made there is no memory for its request, or it can't be made.
-abbrev pub Fails : {C S : Type 0} → (C → S → S → Request → Reply → Type 0) → (C → S → Request → CallFault → Type 0) → (Reply → Bool) → C → S → S → Request → CallError → Type 0
+abbrev pub Fails : {C S : Type 0} → (C → S → S → Request → Reply → Type 0) → (C → S → Request → CallFault → Type 0) → (Reply → Bool) → C →
+    S → S → Request → CallError → Type 0
 Fails did unmade wanted who old new request error =
-    Tells wanted (did who old new request) (λ (fault : CallFault). (fault ≡ CallFault.NoMemory) ⊎ unmade who old request fault) old new error
+    Tells wanted (did who old new request)
+    (λ (fault : CallFault). (fault ≡ CallFault.NoMemory) ⊎ unmade who old request fault) old new error

@@ -17,15 +17,18 @@ request_of Way.Send fd bytes = Request.SendMsg fd None bytes [] no_msg_flags
 abbrev pub Takes : {C S : Type 0} → (C → S → S → Request → Reply → Type 0) → C → (List ℕ → Request) → List ℕ → ℕ → List ℕ → S → S → Type 0
 Takes did who ask bytes zero left old new = (left ≡ bytes) × (new ≡ old)
 Takes {C} {S} did who ask bytes (suc k) left old new =
-    (before : List ℕ) × (mid : S) × (taken : ℕ) × Takes did who ask bytes k before old mid × did who mid new (ask before) (Reply.Count taken) × (left ≡ drop taken before)
+    (before : List ℕ) × (mid : S) × (taken : ℕ) × Takes did who ask bytes k before old mid
+    × did who mid new (ask before) (Reply.Count taken) × (left ≡ drop taken before)
 
 -- why the last call took none: its error, or its answer
-abbrev pub TakesNone : {C S : Type 0} → (C → S → S → Request → Reply → Type 0) → (C → S → Request → CallFault → Type 0) → C → S → S → Request → Option CallError → Type 0
+abbrev pub TakesNone : {C S : Type 0} → (C → S → S → Request → Reply → Type 0) → (C → S → Request → CallFault → Type 0) → C → S → S →
+    Request → Option CallError → Type 0
 TakesNone did unmade who old new request (Some error) = Fails did unmade is_count who old new request error
 TakesNone did unmade who old new request None = did who old new request (Reply.Count 0)
 
 -- after some calls so many bytes were taken, and one more call took none
-pub record EndsEarly {C S : Type 0} (did : C → S → S → Request → Reply → Type 0) (unmade : C → S → Request → CallFault → Type 0) (who : C) (ask : List ℕ → Request) (bytes : List ℕ) (old new : S) (u : Unfinished) : Type 0 where
+pub record EndsEarly {C S : Type 0} (did : C → S → S → Request → Reply → Type 0) (unmade : C → S → Request → CallFault → Type 0) (who : C)
+    (ask : List ℕ → Request) (bytes : List ℕ) (old new : S) (u : Unfinished) : Type 0 where
   pub calls : ℕ
   pub left : List ℕ
   pub mid : S

@@ -25,7 +25,8 @@ NeverGiven entries n j = (boot : State) (q : ℕ) (e : Entry) → IsLegal boot e
 -- whoever holds the giver's number, a holding that entry e at place j gave with number n is from that one
 pub record IsGiver (entries : List Entry) (j n : ℕ) (e : Entry) (how : How) (g : Giver) : Type 0 where
   pub earlier : g.moment ≤ j
-  pub hands_on : (boot : State) (a b : Link) → IsLegal boot entries → a.pid.0 ≡ g.pid.0 → a.fd.0 ≡ g.fd.0 → b.entry ≡ j → b.fd.0 ≡ n → IsFrom boot entries how a b e g.moment
+  pub hands_on : (boot : State) (a b : Link) → IsLegal boot entries → a.pid.0 ≡ g.pid.0 → a.fd.0 ≡ g.fd.0 → b.entry ≡ j → b.fd.0 ≡ n →
+      IsFrom boot entries how a b e g.moment
 
 pub record IsOrigin (entries : List Entry) (j n : ℕ) (e : Entry) (o : Origin) : Type 0 where
   pub way : how_of e.request e.delivered ≡ Some o.how

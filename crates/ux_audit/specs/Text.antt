@@ -19,7 +19,9 @@ from_text How.Forked = []
 
 -- a word, the entry, the process and the descriptor
 abbrev pub link_text : Link → List ℕ
-link_text l = word_of l.how ++ (codes " " ++ (decimal l.entry ++ (codes " " ++ (decimal l.pid.0 ++ (codes " " ++ (decimal l.fd.0 ++ from_text l.how))))))
+link_text l =
+    word_of l.how
+    ++ (codes " " ++ (decimal l.entry ++ (codes " " ++ (decimal l.pid.0 ++ (codes " " ++ (decimal l.fd.0 ++ from_text l.how))))))
 
 abbrev pub further_text : List Link → List ℕ
 further_text links = flat_map (λ l. codes "; " ++ link_text l) links

@@ -20,7 +20,7 @@ use Rattle.ux_book.specs.declared.call.Call.{Call}
 use Rattle.ux_book.specs.Pasts.{Caller, call_of, calls_by}
 use Rattle.ux_book.specs.Books.{KeptHistory, ends_of, processes}
 use Rattle.ux_book.specs.Receipts.{Slip}
-use Rattle.ux_book.specs.Settling.{AllStand, IsSettledWith, times, once_each, Exact, IsSettled, IsWhole}
+use Rattle.ux_book.specs.Settling.{AllStand, IsSettledWith, callers_of, once_each, Exact, IsSettled, IsWhole}
 
 -- ---- one more was compared
 
@@ -44,30 +44,30 @@ stands_more es slips i w is here before k s less at =
 
 -- ---- a look at each process
 
-each_from : (n : ℕ) (cs : List Caller) → ((k : ℕ) → k < n → times (1 + k) cs ≡ 1) → once_each n cs ≡ true
+each_from : (n : ℕ) (cs : List Caller) → ((k : ℕ) → k < n → callers_of (1 + k) cs ≡ 1) → once_each n cs ≡ true
 each_from zero cs each = refl
 each_from (suc n) cs each =
-    let last : times (suc n) cs ≡ 1 = ap (λ m. times m cs) (let e : suc n ≡ 1 + n = omega arith in e) ∙ each n (omega arith) in
-    ap (λ (b : Bool). b && (times (suc n) cs == 1)) (each_from n cs (λ k h. each k (omega (arith, h)))) ∙ eq-eqb (times (suc n) cs) 1 last
+    let last : callers_of (suc n) cs ≡ 1 = ap (λ m. callers_of m cs) (let e : suc n ≡ 1 + n = omega arith in e) ∙ each n (omega arith) in
+    ap (λ (b : Bool). b && (callers_of (suc n) cs == 1)) (each_from n cs (λ k h. each k (omega (arith, h)))) ∙ eq-eqb (callers_of (suc n) cs) 1 last
 
-each_at : (n : ℕ) (cs : List Caller) → once_each n cs ≡ true → (k : ℕ) → k < n → times (1 + k) cs ≡ 1
+each_at : (n : ℕ) (cs : List Caller) → once_each n cs ≡ true → (k : ℕ) → k < n → callers_of (1 + k) cs ≡ 1
 each_at zero cs all k h = absurd (omega (arith, h))
 each_at (suc n) cs all k h =
-    let parts = and_parts (once_each n cs) (times (suc n) cs == 1) all in
-    ⊎_elim {C = times (1 + k) cs ≡ 1}
-    (λ w. ap (λ m. times m cs) (let same = w.1 in let x : 1 + k ≡ suc n = omega (arith, same) in x) ∙ eqb-true (times (suc n) cs) 1 parts.1)
+    let parts = and_parts (once_each n cs) (callers_of (suc n) cs == 1) all in
+    ⊎_elim {C = callers_of (1 + k) cs ≡ 1}
+    (λ w. ap (λ m. callers_of m cs) (let same = w.1 in let x : 1 + k ≡ suc n = omega (arith, same) in x) ∙ eqb-true (callers_of (suc n) cs) 1 parts.1)
     (λ w. each_at n cs parts.0 k (let other : k ≢ n = w.1 in omega (arith, h, other)))
     (eqb_tells k n)
 
 -- it says yes exactly where each of the processes 1 to n stands once
 pub once_by : (n : ℕ) (r : Bool) (cs : List Caller)
-    → MatchBool r (AllWithin (λ p. times p cs ≡ 1) (range_with_len 1 n) 0 (length (range_with_len 1 n))) ((k : ℕ) × (k < length (range_with_len 1 n)) × HoldsAt (λ p. ¬ (times p cs ≡ 1)) (range_with_len 1 n) k)
+    → MatchBool r (AllWithin (λ p. callers_of p cs ≡ 1) (range_with_len 1 n) 0 (length (range_with_len 1 n))) ((k : ℕ) × (k < length (range_with_len 1 n)) × HoldsAt (λ p. ¬ (callers_of p cs ≡ 1)) (range_with_len 1 n) k)
     → r ≡ once_each n cs
 once_by n true cs m =
-    sym (each_from n cs (λ k h. subst (λ p. times p cs ≡ 1) (get_or-range_with_len 1 n k 0 h) (m k 0 (omega arith) (let l = length-range_with_len 1 n in omega (arith, l, h)))))
+    sym (each_from n cs (λ k h. subst (λ p. callers_of p cs ≡ 1) (get_or-range_with_len 1 n k 0 h) (m k 0 (omega arith) (let l = length-range_with_len 1 n in omega (arith, l, h)))))
 once_by n false cs m =
     let h : m.0 < n = (let l = length-range_with_len 1 n in let b = m.1 in omega (arith, l, b)) in
-    let no : ¬ (times (1 + m.0) cs ≡ 1) = subst (λ x. ¬ (times x cs ≡ 1)) (get_or-range_with_len 1 n m.0 0 h) (m.2 0) in
+    let no : ¬ (callers_of (1 + m.0) cs ≡ 1) = subst (λ x. ¬ (callers_of x cs ≡ 1)) (get_or-range_with_len 1 n m.0 0 h) (m.2 0) in
     not_true (once_each n cs) (λ e. no (each_at n cs e m.0 h))
   where
     not_true : (b : Bool) → ¬ (b ≡ true) → false ≡ b
@@ -75,9 +75,9 @@ once_by n false cs m =
     not_true false not = refl
 
 -- a process that was made is once among them
-once_at : (n : ℕ) (cs : List Caller) → once_each n cs ≡ true → (p : ℕ) → 0 < p → p ≤ n → times p cs ≡ 1
+once_at : (n : ℕ) (cs : List Caller) → once_each n cs ≡ true → (p : ℕ) → 0 < p → p ≤ n → callers_of p cs ≡ 1
 once_at n cs all zero positive inside = absurd (omega (arith, positive))
-once_at n cs all (suc k) positive inside = ap (λ (m : ℕ). times m cs) (let same : suc k ≡ 1 + k = omega arith in same) ∙ each_at n cs all k (omega (arith, inside))
+once_at n cs all (suc k) positive inside = ap (λ (m : ℕ). callers_of m cs) (let same : suc k ≡ 1 + k = omega arith in same) ∙ each_at n cs all k (omega (arith, inside))
 
 -- ---- the entries of a process, and its calls
 
@@ -109,10 +109,10 @@ call_for p (x ∷ es) (suc i) e at same = by_test (x.pid.0 == p) (call_for p es 
     by_test false h = h
 
 -- who is once among callers is one of them
-found : (p : ℕ) (cs : List Caller) → times p cs ≡ 1 → (i : ℕ) × (c : Caller) × (slice_get cs i ≡ Some c) × (c.pid.0 ≡ p)
+found : (p : ℕ) (cs : List Caller) → callers_of p cs ≡ 1 → (i : ℕ) × (c : Caller) × (slice_get cs i ≡ Some c) × (c.pid.0 ≡ p)
 found p [] h = absurd (omega (arith, h))
 found p (c ∷ cs) h =
-    let more : times p (c ∷ cs) ≡ cond {A = ℕ} (c.pid.0 == p) 1 0 + times p cs = sum_by-cons (λ (x : Caller). cond {A = ℕ} (x.pid.0 == p) 1 0) c cs in
+    let more : callers_of p (c ∷ cs) ≡ cond {A = ℕ} (c.pid.0 == p) 1 0 + callers_of p cs = sum_by-cons (λ (x : Caller). cond {A = ℕ} (x.pid.0 == p) 1 0) c cs in
     ⊎_elim {C = (i : ℕ) × (d : Caller) × (slice_get (c ∷ cs) i ≡ Some d) × (d.pid.0 ≡ p)}
     (λ w. (0, c, refl, w.1))
     (λ w.
@@ -167,7 +167,7 @@ whole boot es cs legal exact once = record {
 
 -- so far
 abbrev SoFar : List Caller → State → Type 0
-SoFar cs S = (p : ℕ) → 0 < p → p ≤ length S.processes → times p cs ≡ 1
+SoFar cs S = (p : ℕ) → 0 < p → p ≤ length S.processes → callers_of p cs ≡ 1
 
 -- the entries are a front of these
 abbrev IsFront : List Entry → List Entry → Type 0
@@ -194,12 +194,12 @@ so_more boot cs all l e S T whole exact at so_far step allowed p positive inside
     here : (r : Request) (y : Reply) → e.request ≡ r → e.reply ≡ y → Step S e.pid.0 (length l) r y e.released T
     here r y asked told = subst (λ (x : Request). Step S e.pid.0 (length l) x y e.released T) asked (subst (λ (x : Reply). Step S e.pid.0 (length l) e.request x e.released T) told step)
 
-    stays : (r : Request) (y : Reply) → e.request ≡ r → e.reply ≡ y → makes_one r y ≡ false → times p cs ≡ 1
+    stays : (r : Request) (y : Reply) → e.request ≡ r → e.reply ≡ y → makes_one r y ≡ false → callers_of p cs ≡ 1
     stays r y asked told none =
         let same : length T.processes ≡ length S.processes + 0 = fork_alone_makes S T e.pid.0 (length l) r y e.released (here r y asked told) ∙ ap (λ (b : Bool). length S.processes + cond {A = ℕ} b 1 0) none in
         so_far p positive (omega (arith, inside, same))
 
-    forked : (pid : Pid) → e.request ≡ Request.Fork → e.reply ≡ Reply.Child pid → times p cs ≡ 1
+    forked : (pid : Pid) → e.request ≡ Request.Fork → e.reply ≡ Reply.Child pid → callers_of p cs ≡ 1
     forked pid asked told =
         let step_here = here Request.Fork (Reply.Child pid) asked told in
         let next = fork_tells_the_next S T e.pid.0 (length l) pid e.released step_here in
@@ -209,12 +209,12 @@ so_more boot cs all l e S T whole exact at so_far step allowed p positive inside
         let stood = call_for e.pid.0 all (length l) e at refl in
         let past : calls_by e.pid.0 all ≡ parent.1.past = ap (λ (n : ℕ). calls_by n all) (sym parent.3) ∙ exact parent.0 parent.1 parent.2 in
         let child = whole.children parent.0 stood.0 parent.1 (call_of e) pid parent.2 (subst (λ (c : List Call). slice_get c stood.0 ≡ Some (call_of e)) past stood.1) asked told in
-        ⊎_elim {C = times p cs ≡ 1}
-        (λ w. ap (λ (n : ℕ). times n cs) w.1 ∙ child)
+        ⊎_elim {C = callers_of p cs ≡ 1}
+        (λ w. ap (λ (n : ℕ). callers_of n cs) w.1 ∙ child)
         (λ w. let other : p ≢ pid.0 = w.1 in so_far p positive (omega (arith, inside, next, one, other)))
         (eqb_tells p pid.0)
 
-    go : (r : Request) (y : Reply) → e.request ≡ r → e.reply ≡ y → times p cs ≡ 1
+    go : (r : Request) (y : Reply) → e.request ≡ r → e.reply ≡ y → callers_of p cs ≡ 1
     go Request.Fork (Reply.Child pid) asked told = forked pid asked told
     go r y asked told = stays r y asked told refl
 

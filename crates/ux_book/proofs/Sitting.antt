@@ -12,13 +12,13 @@ use Rattle.ux_model.specs.State.{State, is_live}
 use Rattle.ux_model.specs.Places.{place}
 use Rattle.ux_model.specs.Boot.{IsBootState}
 use Rattle.ux_model.specs.Step.{Step}
-use Rattle.ux_model.specs.History.{is_exit, makes, makes_one, replay, IsLegal}
+use Rattle.ux_model.specs.History.{is_exit, is_fork, makes, makes_one, replay, IsLegal}
 use Rattle.ux_model.proofs.Living.{exit_and_fork_alone, fork_tells_the_next, live_within}
 use Rattle.ux_model.proofs.Numbering.{no_call_before_made}
 use Rattle.ux_model.proofs.OnePlace.{same_at}
 use Rattle.ux_book.specs.declared.call.Call.{Call}
 use Rattle.ux_book.specs.declared.fault.CallFault.{CallFault}
-use Rattle.ux_book.specs.Books.{KeptHistory, state_of, processes, entry_of, is_fork}
+use Rattle.ux_book.specs.Books.{KeptHistory, state_of, processes, entry_of}
 use Rattle.ux_book.specs.Pasts.{Caller, calls_by, child_by, fresh, made}
 use Rattle.ux_book.specs.Faults.{is_stranger}
 use Rattle.ux_book.proofs.Pasts.{calls_more, calls_same, calls_none}

@@ -1,12 +1,13 @@
 -- What a book is, and how it grows.
-use Rattle.std.specs.Prelude.{◌≡◌, ℕ, ◌+◌, ◌-◌, ◌≤◌, Bool, true, false, ◌==◌, ◌&&◌, ◌||◌, List, [], ◌∷◌, ◌++◌, length, count_by, if◌then◌else◌}
+use Rattle.std.specs.Prelude.{◌≡◌, ℕ, ◌+◌, ◌-◌, ◌≤◌, Bool, true, ◌==◌, ◌&&◌, ◌||◌, List, [], ◌∷◌, ◌++◌, length, count_by}
+use Rattle.std.specs.Prelude.{if◌then◌else◌}
 use Rattle.atomic_table.specs.Seated.{TableId}
 use Rattle.ux_model.specs.Types.{Pid, Request, Reply, Entry, Errno}
 use Rattle.ux_model.specs.State.{State}
 use Rattle.ux_model.specs.Step.{Step}
 use Rattle.ux_model.specs.Delivered.{delivered_by}
 use Rattle.ux_model.specs.Waiting.{may_wait}
-use Rattle.ux_model.specs.History.{calls_of, live_count, is_exit, is_off, replay, is_allowed, MayFollow, IsLegal}
+use Rattle.ux_model.specs.History.{calls_of, live_count, is_exit, is_off, is_fork, replay, is_allowed, MayFollow, IsLegal}
 use Rattle.ux_book.specs.Pasts.{Caller}
 use Rattle.ux_book.specs.Trails.{Trailed, Owned}
 
@@ -34,11 +35,6 @@ ends_of entries = count_by (λ e. is_off e.request) entries
 -- the last call of a process, or of the layer
 abbrev pub is_last : Request → Bool
 is_last request = is_exit request || is_off request
-
--- a process that makes another one
-abbrev pub is_fork : Request → Bool
-is_fork Request.Fork = true
-is_fork _ = false
 
 -- exit, off and fork, each of which a book has a function for
 abbrev pub has_own_call : Request → Bool

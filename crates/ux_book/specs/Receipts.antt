@@ -16,7 +16,8 @@ pub record Slip : Type 0 where
 
 -- the receipt for the next entry of a book
 abbrev pub next_slip : KeptHistory → Caller → Request → Reply → Bool → List ℕ → Slip
-next_slip book c request reply tried released = record { number = length book.entries; entry = call_by book c request reply released; tried = tried }
+next_slip book c request reply tried released =
+    record { number = length book.entries; entry = call_by book c request reply released; tried = tried }
 
 -- Some legal history from this state has the entry at its number; where it was tried, it isn't one that should have waited.
 pub record IsSlip (boot : State) (s : Slip) : Type 0 where

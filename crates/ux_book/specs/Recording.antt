@@ -17,7 +17,8 @@ pub record Knows (boot : State) (book : KeptHistory) (c : Caller) : Type 0 where
 
 -- The caller, who knew its process's calls, made this one and got this reply: one more entry of the book, and one more call of the caller.
 -- Some legal history from the boot state has exactly its calls then. These file objects went with it.
-pub record IsCall (boot : State) (old new : KeptHistory) (before after : Caller) (request : Request) (reply : Reply) (released : List (ℕ × Option View)) : Type 0 where
+pub record IsCall (boot : State) (old new : KeptHistory) (before after : Caller) (request : Request) (reply : Reply)
+    (released : List (ℕ × Option View)) : Type 0 where
   pub past : before.past ≡ calls_by before.pid.0 old.entries
   pub entry : Adds old new (call_by old before request reply (map (λ o. o.0) released))
   pub share : after ≡ made before request reply

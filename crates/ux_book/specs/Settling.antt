@@ -10,13 +10,13 @@ use Rattle.ux_book.specs.Books.{ends_of}
 use Rattle.ux_book.specs.Receipts.{Slip}
 
 -- how many of the callers are this process
-abbrev pub times : ℕ → List Caller → ℕ
-times p cs = count_by (λ c. c.pid.0 == p) cs
+abbrev pub callers_of : ℕ → List Caller → ℕ
+callers_of p cs = count_by (λ c. c.pid.0 == p) cs
 
 -- each of the processes 1 to n is among them once
 abbrev pub once_each : ℕ → List Caller → Bool
 once_each zero cs = true
-once_each (suc n) cs = once_each n cs && (times (suc n) cs == 1)
+once_each (suc n) cs = once_each n cs && (callers_of (suc n) cs == 1)
 
 -- each caller's calls are exactly those of its process among the entries
 abbrev pub Exact : List Entry → List Caller → Type 0
@@ -48,6 +48,6 @@ pub record IsSettledWith (boot : State) (cs : List Caller) (slips : List Slip) (
 
 -- Each process of the start is once among the callers, and so is each child that a fork of one of them reports.
 pub record IsWhole (boot : State) (cs : List Caller) : Type 0 where
-  pub first : (p : ℕ) → 0 < p → p ≤ length boot.processes → times p cs ≡ 1
+  pub first : (p : ℕ) → 0 < p → p ≤ length boot.processes → callers_of p cs ≡ 1
   pub children : (i k : ℕ) (c : Caller) (call : Call) (pid : Pid) → slice_get cs i ≡ Some c → slice_get c.past k ≡ Some call →
-      call.request ≡ Request.Fork → call.reply ≡ Reply.Child pid → times pid.0 cs ≡ 1
+      call.request ≡ Request.Fork → call.reply ≡ Reply.Child pid → callers_of pid.0 cs ≡ 1

@@ -36,33 +36,49 @@ no_entry = record { pid = record { 0 = 0 }; k = 0; request = Request.Off; reply 
 
 -- who knows the whole
 abbrev pub knower : List Entry → ℕ → Known
-knower all given = record { keeps = true; all = all; given = given; claims = false; number = 0; entry = no_entry; owns = false; pid = 0; past = [] }
+knower all given =
+    record { keeps = true; all = all; given = given; claims = false; number = 0; entry = no_entry; owns = false; pid = 0; past = [] }
 
 -- who knows one place
 abbrev pub claim : ℕ → Entry → Known
-claim number entry = record { keeps = false; all = []; given = 0; claims = true; number = number; entry = entry; owns = false; pid = 0; past = [] }
+claim number entry =
+    record { keeps = false; all = []; given = 0; claims = true; number = number; entry = entry; owns = false; pid = 0; past = [] }
 
 -- who knows a process's calls, and is the only one
 abbrev pub owner_of : ℕ → List Call → Known
-owner_of pid past = record { keeps = false; all = []; given = 0; claims = false; number = 0; entry = no_entry; owns = true; pid = pid; past = past }
+owner_of pid past =
+    record { keeps = false; all = []; given = 0; claims = false; number = 0; entry = no_entry; owns = true; pid = pid; past = past }
 
 abbrev pub nobody : Known
 nobody = record { keeps = false; all = []; given = 0; claims = false; number = 0; entry = no_entry; owns = false; pid = 0; past = [] }
 
 -- what a view knows but for a process's calls, and these alone
 abbrev pub rest_of : Known → Known
-rest_of v = record { keeps = v.keeps; all = v.all; given = v.given; claims = false; number = 0; entry = no_entry; owns = false; pid = 0; past = [] }
+rest_of v =
+    record { keeps = v.keeps; all = v.all; given = v.given; claims = false; number = 0; entry = no_entry; owns = false; pid = 0; past = [] }
 
 abbrev pub own_of : Known → Known
-own_of v = record { keeps = false; all = []; given = 0; claims = false; number = 0; entry = no_entry; owns = v.owns; pid = v.pid; past = v.past }
+own_of v =
+    record { keeps = false; all = []; given = 0; claims = false; number = 0; entry = no_entry; owns = v.owns; pid = v.pid; past = v.past }
 
 -- as much of a place as the view knows
 abbrev pub place_of : Known → Known
-place_of v = record { keeps = false; all = []; given = 0; claims = v.claims; number = v.number; entry = v.entry; owns = false; pid = 0; past = [] }
+place_of v =
+    record { keeps = false; all = []; given = 0; claims = v.claims; number = v.number; entry = v.entry; owns = false; pid = 0; past = [] }
 
 -- one process more has a token
 abbrev pub opened : Known → Known
-opened v = record { keeps = v.keeps; all = v.all; given = v.given + 1; claims = v.claims; number = v.number; entry = v.entry; owns = v.owns; pid = v.pid; past = v.past }
+opened v = record {
+  keeps = v.keeps;
+  all = v.all;
+  given = v.given + 1;
+  claims = v.claims;
+  number = v.number;
+  entry = v.entry;
+  owns = v.owns;
+  pid = v.pid;
+  past = v.past;
+}
 
 abbrev pub next_owner : Known → Known
 next_owner v = owner_of v.given (calls_by v.given v.all)
@@ -88,9 +104,20 @@ last_claim v = claim_if v.keeps v.all
 
 -- the whole, with what another knows
 abbrev pub shown : Known → Known → Known
-shown v w = record { keeps = v.keeps; all = v.all; given = v.given; claims = w.claims; number = w.number; entry = w.entry; owns = w.owns; pid = w.pid; past = w.past }
+shown v w = record {
+  keeps = v.keeps;
+  all = v.all;
+  given = v.given;
+  claims = w.claims;
+  number = w.number;
+  entry = w.entry;
+  owns = w.owns;
+  pid = w.pid;
+  past = w.past;
+}
 
--- what the rule says of one view: one token at most knows the whole, each process has at most one, which knows its calls, and each place that another knows is right
+-- what the rule says of one view: one token at most knows the whole, each process has at most one, which knows its calls, and each place
+-- that another knows is right
 pub record Fits (seat : ℕ) (log : List Entry) (count : ℕ) (owner : ℕ → ℕ) (by : ℕ) (v : Known) : Type 0 where
   pub keeps : v.keeps ≡ true → (by ≡ seat) × (v.all ≡ log) × (v.given ≡ count)
   pub claims : v.claims ≡ true → slice_get log v.number ≡ Some v.entry
@@ -105,11 +132,31 @@ pub record Kept (views : List Known) : Type 0 where
 
 -- the whole and a process's calls have one more
 abbrev pub noted : Known → Entry → Known
-noted v e = record { keeps = v.keeps; all = v.all ++ e ∷ []; given = v.given; claims = v.claims; number = v.number; entry = v.entry; owns = v.owns; pid = v.pid; past = v.past ++ call_of e ∷ [] }
+noted v e = record {
+  keeps = v.keeps;
+  all = v.all ++ e ∷ [];
+  given = v.given;
+  claims = v.claims;
+  number = v.number;
+  entry = v.entry;
+  owns = v.owns;
+  pid = v.pid;
+  past = v.past ++ call_of e ∷ [];
+}
 
 -- a place was compared with the whole, and is forgotten
 abbrev pub unclaimed : Known → Known
-unclaimed v = record { keeps = v.keeps; all = v.all; given = v.given; claims = false; number = 0; entry = no_entry; owns = v.owns; pid = v.pid; past = v.past }
+unclaimed v = record {
+  keeps = v.keeps;
+  all = v.all;
+  given = v.given;
+  claims = false;
+  number = 0;
+  entry = no_entry;
+  owns = v.owns;
+  pid = v.pid;
+  past = v.past;
+}
 
 -- what was compared with the whole
 pub record Checked (v w : Known) : Type 0 where

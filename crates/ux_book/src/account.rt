@@ -3,7 +3,7 @@ ghost use Rattle.std.specs.Prelude.{◌≡◌, ◌≤◌, ℕ, true, length, Som
 ghost use Rattle.ux_model.specs.Limits.{made_limit};
 ghost use Rattle.ux_book.specs.Books.{processes, ends_of};
 ghost use Rattle.ux_book.specs.Pasts.{calls_by};
-ghost use Rattle.ux_book.specs.Settling.{Exact, AllStand, IsSettled, IsSettledWith, IsWhole, once_each, times};
+ghost use Rattle.ux_book.specs.Settling.{Exact, AllStand, IsSettled, IsSettledWith, IsWhole, once_each, callers_of};
 
 use crate::book::Book;
 use crate::book_name::BookName;
@@ -132,7 +132,7 @@ fn is_each_once<W: BookName>(spents: &[Spent<W>], count: usize) -> bool
 
 /// How many of them are this process's.
 fn count_of<W: BookName>(spents: &[Spent<W>], pid: Pid) -> usize
-    ensures { result ≡ times pid.0 spents.now }
+    ensures { result ≡ callers_of pid.0 spents.now }
 {
     spents.iter().filter(|spent| spent.pid() == pid).count()
 }

@@ -4,9 +4,9 @@ ghost use Rattle.std.specs.Prelude.{◌≡◌, ◌+◌, ◌≤◌, ◌⊎◌, �
 ghost use Rattle.std.specs.Io.KnownBytes.{Appends};
 ghost use Rattle.ux_model.specs.Limits.{made_limit};
 ghost use Rattle.ux_model.specs.State.{is_live};
-ghost use Rattle.ux_model.specs.History.{has_live, is_off, IsLegal};
+ghost use Rattle.ux_model.specs.History.{has_live, is_off, is_fork, IsLegal};
 ghost use Rattle.ux_book.specs.declared.fault.CallFault.{CallFault};
-ghost use Rattle.ux_book.specs.Books.{state_of, processes, ends_of, has_own_call, is_fork};
+ghost use Rattle.ux_book.specs.Books.{state_of, processes, ends_of, has_own_call};
 ghost use Rattle.ux_book.specs.Sitting.{MakesOne};
 ghost use Rattle.ux_model.specs.Boot.{IsBootState, new_process};
 ghost use Rattle.ux_syntax.specs.Spelling.{plan_of, known_count, IsOrderly};

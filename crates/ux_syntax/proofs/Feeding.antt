@@ -10,7 +10,7 @@ use Rattle.ux_syntax.specs.declared.fault.Fault.TheVariants.{BadLine, UnknownPro
 use Rattle.ux_syntax.specs.declared.fault.LineError.{LineError}
 use Rattle.ux_syntax.specs.declared.fault.ScriptFault.{ScriptFault}
 use Rattle.ux_syntax.specs.declared.script.Script.{Script}
-use Rattle.ux_syntax.specs.Spelling.{Plan, plan_of, lines_of, Spells, IsOrderly}
+use Rattle.ux_syntax.specs.Spelling.{Plan, plan_of, lines_of, SpellScript, IsOrderly}
 use Rattle.ux_syntax.specs.Reading.{item_at, line_at, line_fault, on_line, lines_at, no_lines, script_at}
 use Rattle.ux_syntax.specs.Results.{Fails, FailsAt, Refuses, fault_at, GivesScript}
 use Rattle.ux_syntax.specs.Continuing.{onto_front, continued, Found}
@@ -161,11 +161,11 @@ fault_handed_on known (Err e) f h found = subst (λ x. Found known (Err x)) (sym
 abbrev IsRead : Option (List ℕ) → Result Script ScriptFault → Type 0
 IsRead known r = (r ≡ Err ScriptFault.Reading) ⊎ Found known r
 
-pub read_spells : (known : Option (List ℕ)) (r : Result Script ScriptFault) → IsRead known r → IfOk r (λ script. IfSome known (λ text. Spells (lines_of text) (plan_of script)))
+pub read_spells : (known : Option (List ℕ)) (r : Result Script ScriptFault) → IsRead known r → IfOk r (λ script. IfSome known (λ text. SpellScript (lines_of text) (plan_of script)))
 read_spells known (Err f) h = tt
 read_spells None (Ok s) h = tt
 read_spells (Some bytes) (Ok s) (inl e) = cc
-read_spells (Some bytes) (Ok s) (inr (text, e, h)) = subst (λ t. Spells (lines_of t) (plan_of s)) (sym e) (gives_found (Ok s) (lines_of text) h)
+read_spells (Some bytes) (Ok s) (inr (text, e, h)) = subst (λ t. SpellScript (lines_of t) (plan_of s)) (sym e) (gives_found (Ok s) (lines_of text) h)
 
 pub read_orderly : (known : Option (List ℕ)) (r : Result Script ScriptFault) → IsRead known r → IfOk r (λ script. IsOrderly (plan_of script))
 read_orderly known (Err f) h = tt
@@ -173,10 +173,10 @@ read_orderly known (Ok s) (inl e) = cc
 read_orderly known (Ok s) (inr (text, e, h)) = gives_orderly (Ok s) (lines_of text) h
 
 pub spelled_reads : (known : Option (List ℕ)) (r : Result Script ScriptFault) → IsRead known r →
-    IfSome known (λ text. (s : Plan) → Spells (lines_of text) s → (r ≡ Err ScriptFault.Reading) ⊎ GivesScript r (Ok s))
+    IfSome known (λ text. (s : Plan) → SpellScript (lines_of text) s → (r ≡ Err ScriptFault.Reading) ⊎ GivesScript r (Ok s))
 spelled_reads None r h = tt
 spelled_reads (Some bytes) r (inl e) = λ s k. inl e
-spelled_reads (Some bytes) r (inr (text, e, h)) = λ s k. inr (gives_only r (lines_of text) s h (subst (λ t. Spells (lines_of t) s) e k))
+spelled_reads (Some bytes) r (inr (text, e, h)) = λ s k. inr (gives_only r (lines_of text) s h (subst (λ t. SpellScript (lines_of t) s) e k))
 
 pub read_refuses : (known : Option (List ℕ)) (r : Result Script ScriptFault) → IsRead known r → IfErr r (λ f. (f ≡ ScriptFault.Reading) ⊎ IfSome known (λ text. Refuses (lines_of text) f))
 read_refuses known (Ok s) h = tt

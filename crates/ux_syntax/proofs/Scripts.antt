@@ -17,7 +17,7 @@ use Rattle.ux_syntax.specs.declared.script.Act.{Act}
 use Rattle.ux_syntax.specs.Lines.{Line}
 use Rattle.ux_syntax.specs.declared.script.Script.{Script}
 use Rattle.ux_syntax.specs.declared.reading.Item.{Item}
-use Rattle.ux_syntax.specs.Spelling.{Written, open_path, read_fd, write_fd, seek, dup_fd, dup_onto, set_flags, close, unlink_path, socket, pair, bind, listen, connect, accept, shut, get_opt, set_opt, sock_name, peer_name, send, recv, poll, fork, exec, exit, meaning, Asked, call, wait, act_of, Turn, line_of, Plan, plan_of, objects_of, procs_of, header_line, turn_line, off_lines, is_meant, FitsHeader, FitsTurn, IsProcess, AwaitsProcess, NamesProcesses, IsCallOfStranger, IsFaultOf, is_off, asks_exit, asks_off, asks_fork, forks_of, known_count, EachKnowing, MayFork, NoneAfterExit, IsCall, IsOrderly, Spells, IsFirstFault}
+use Rattle.ux_syntax.specs.Spelling.{Written, open_path, read_fd, write_fd, seek, dup_fd, dup_onto, set_flags, close, unlink_path, socket, pair, bind, listen, connect, accept, shut, get_opt, set_opt, sock_name, peer_name, send, recv, poll, fork, exec, exit, meaning, Asked, call, wait, act_of, Turn, line_of, Plan, plan_of, objects_of, procs_of, header_line, turn_line, off_lines, is_meant, FitsHeader, FitsTurn, IsProcess, AwaitsProcess, NamesProcesses, IsCallOfStranger, IsFaultOf, is_off, asks_exit, asks_off, asks_fork, forks_of, known_count, EachKnowing, MayFork, NoneAfterExit, IsCall, IsOrderly, SpellScript, IsFirstFault}
 use Rattle.ux_syntax.specs.Turns.{has_exited, is_known, awaits_known}
 use Rattle.ux_syntax.specs.Reading.{◌>>=◌, line_fault, words_at, item_at, with_header, with_line, with_off, may_fork, joined_by_fork, joined_by_other, joined_by, is_skipped, added, line_at, on_line, lines_at, no_lines}
 use Rattle.ux_syntax.specs.Results.{FailsAt, Refuses, GivesScript}
@@ -294,7 +294,7 @@ meant_spelling ls l line before after m h e k = meant_more ls l m ∙ ap (λ (xs
 abbrev is_short : List ℕ → Type 0
 is_short text = length text ≤ 4096
 
-skip_takes : (ls : List (List ℕ)) (s : Plan) (l : List ℕ) → Spells ls s → is_short l → is_meant l ≡ false → Spells (ls ++ l ∷ []) s
+skip_takes : (ls : List (List ℕ)) (s : Plan) (l : List ℕ) → SpellScript ls s → is_short l → is_meant l ≡ false → SpellScript (ls ++ l ∷ []) s
 skip_takes ls s l h short says = record {
   headers = h.headers;
   turns = h.turns;
@@ -308,12 +308,12 @@ skip_takes ls s l h short says = record {
   orderly = h.orderly;
 }
 
-header_takes : (ls : List (List ℕ)) (s : Plan) (l : List ℕ) (x : Header) → (h : Spells ls s) → s.lines ≡ [] → s.off ≡ false → is_short l → Says (Item.Header x) l → Spells (ls ++ l ∷ []) (with_header s x)
+header_takes : (ls : List (List ℕ)) (s : Plan) (l : List ℕ) (x : Header) → (h : SpellScript ls s) → s.lines ≡ [] → s.off ≡ false → is_short l → Says (Item.Header x) l → SpellScript (ls ++ l ∷ []) (with_header s x)
 header_takes ls s l x h none no_off short says =
     let bare : h.turns ≡ [] = no_turns h.turns (h.meant ∙ none) in
     let before : filter is_meant ls ≡ texts_of h.headers [] false = h.spelled ∙ ap (λ (ts : List Turn). texts_of h.headers ts s.off) bare ∙ ap (λ (b : Bool). texts_of h.headers [] b) no_off in
     let same : plan_from (h.headers ++ x ∷ []) ≡ with_header s x = header_more h.headers x ∙ ap (λ (t : Plan). with_header t x) (sym (plan_is s h.headers h.objects h.procs none no_off)) in
-    let made : Spells (ls ++ l ∷ []) (plan_from (h.headers ++ x ∷ [])) = record {
+    let made : SpellScript (ls ++ l ∷ []) (plan_from (h.headers ++ x ∷ [])) = record {
       headers = h.headers ++ x ∷ [];
       turns = [];
       short = each_more is_short ls l h.short short;
@@ -325,7 +325,7 @@ header_takes ls s l x h none no_off short says =
       fit_turns = tt;
       orderly = record { processes = tt; forks = tt; exits = tt; calls = tt };
     } in
-    subst (λ (y : Plan). Spells (ls ++ l ∷ []) y) same made
+    subst (λ (y : Plan). SpellScript (ls ++ l ∷ []) y) same made
 
 -- no call that is written ends the whole layer
 is_no_end : (c : Written) → is_off (meaning c) ≡ false
@@ -360,7 +360,7 @@ asked_no_end : (a : Asked) → asks_off (act_of a) ≡ false
 asked_no_end (call c) = is_no_end c
 asked_no_end (wait pid calls) = refl
 
-turn_takes : (ls : List (List ℕ)) (s : Plan) (l : List ℕ) (line : Line) → (h : Spells ls s) → s.off ≡ false → MayJoin s line → is_short l → Says (Item.Line line) l → Spells (ls ++ l ∷ []) (with_line s line)
+turn_takes : (ls : List (List ℕ)) (s : Plan) (l : List ℕ) (line : Line) → (h : SpellScript ls s) → s.off ≡ false → MayJoin s line → is_short l → Says (Item.Line line) l → SpellScript (ls ++ l ∷ []) (with_line s line)
 turn_takes ls s l line h no_off may short says =
     let w = says.1 in
     let before : filter is_meant ls ≡ texts_of h.headers h.turns false = h.spelled ∙ ap (λ (b : Bool). texts_of h.headers h.turns b) no_off in
@@ -383,7 +383,7 @@ turn_takes ls s l line h no_off may short says =
       };
     }
 
-off_takes : (ls : List (List ℕ)) (s : Plan) (l : List ℕ) → (h : Spells ls s) → s.off ≡ false → is_short l → Says Item.Off l → Spells (ls ++ l ∷ []) (with_off s)
+off_takes : (ls : List (List ℕ)) (s : Plan) (l : List ℕ) → (h : SpellScript ls s) → s.off ≡ false → is_short l → Says Item.Off l → SpellScript (ls ++ l ∷ []) (with_off s)
 off_takes ls s l h no_off short says = record {
   headers = h.headers;
   turns = h.turns;
@@ -398,16 +398,16 @@ off_takes ls s l h no_off short says = record {
   orderly = record { processes = h.orderly.processes; forks = h.orderly.forks; exits = h.orderly.exits; calls = h.orderly.calls };
 }
 
-joined_takes : (item : Item) (ls : List (List ℕ)) (s : Plan) (l : List ℕ) (t : Plan) → Spells ls s → s.off ≡ false → is_short l → Says item l → joined_by s item ≡ Ok t → Spells (ls ++ l ∷ []) t
-joined_takes Item.Skipped ls s l t h no_off short says e = subst (λ (y : Plan). Spells (ls ++ l ∷ []) y) (ok_is s t e) (skip_takes ls s l h short says)
+joined_takes : (item : Item) (ls : List (List ℕ)) (s : Plan) (l : List ℕ) (t : Plan) → SpellScript ls s → s.off ≡ false → is_short l → Says item l → joined_by s item ≡ Ok t → SpellScript (ls ++ l ∷ []) t
+joined_takes Item.Skipped ls s l t h no_off short says e = subst (λ (y : Plan). SpellScript (ls ++ l ∷ []) y) (ok_is s t e) (skip_takes ls s l h short says)
 joined_takes (Item.Header x) ls s l t h no_off short says e =
     let g = guard_ok (eqb (length s.lines) 0) (with_header s x) t e in
     let none : s.lines ≡ [] = nil_from_length s.lines (eqb-true (length s.lines) 0 g.0) in
-    subst (λ (y : Plan). Spells (ls ++ l ∷ []) y) g.1 (header_takes ls s l x h none no_off short says)
+    subst (λ (y : Plan). SpellScript (ls ++ l ∷ []) y) g.1 (header_takes ls s l x h none no_off short says)
 joined_takes (Item.Line line) ls s l t h no_off short says e =
     let g = line_joined s line t e in
-    subst (λ (y : Plan). Spells (ls ++ l ∷ []) y) g.1 (turn_takes ls s l line h no_off g.0 short says)
-joined_takes Item.Off ls s l t h no_off short says e = subst (λ (y : Plan). Spells (ls ++ l ∷ []) y) (ok_is (with_off s) t e) (off_takes ls s l h no_off short says)
+    subst (λ (y : Plan). SpellScript (ls ++ l ∷ []) y) g.1 (turn_takes ls s l line h no_off g.0 short says)
+joined_takes Item.Off ls s l t h no_off short says e = subst (λ (y : Plan). SpellScript (ls ++ l ∷ []) y) (ok_is (with_off s) t e) (off_takes ls s l h no_off short says)
 
 is_skip : (item : Item) (l : List ℕ) → is_skipped item ≡ true → Says item l → is_meant l ≡ false
 is_skip Item.Skipped l k says = says
@@ -421,14 +421,14 @@ skip_joins s (Item.Header x) k = absurd cc
 skip_joins s (Item.Line line) k = absurd cc
 skip_joins s Item.Off k = absurd cc
 
-added_by : (item : Item) (ls : List (List ℕ)) (s : Plan) (l : List ℕ) (t : Plan) (off skipped : Bool) → s.off ≡ off → is_skipped item ≡ skipped → Spells ls s → is_short l → Says item l
-    → cond (off && not skipped) (Err BadLine) (joined_by s item) ≡ Ok t → Spells (ls ++ l ∷ []) t
+added_by : (item : Item) (ls : List (List ℕ)) (s : Plan) (l : List ℕ) (t : Plan) (off skipped : Bool) → s.off ≡ off → is_skipped item ≡ skipped → SpellScript ls s → is_short l → Says item l
+    → cond (off && not skipped) (Err BadLine) (joined_by s item) ≡ Ok t → SpellScript (ls ++ l ∷ []) t
 added_by item ls s l t false skipped f k h short says e = joined_takes item ls s l t h f short says e
 added_by item ls s l t true true f k h short says e =
-    subst (λ (y : Plan). Spells (ls ++ l ∷ []) y) (ok_is s t (sym (skip_joins s item k) ∙ e)) (skip_takes ls s l h short (is_skip item l k says))
+    subst (λ (y : Plan). SpellScript (ls ++ l ∷ []) y) (ok_is s t (sym (skip_joins s item k) ∙ e)) (skip_takes ls s l h short (is_skip item l k says))
 added_by item ls s l t true false f k h short says e = absurd cc
 
-pub line_takes : (ls : List (List ℕ)) (s : Plan) (l : List ℕ) (t : Plan) → Spells ls s → line_at s l ≡ Ok t → Spells (ls ++ l ∷ []) t
+pub line_takes : (ls : List (List ℕ)) (s : Plan) (l : List ℕ) (t : Plan) → SpellScript ls s → line_at s l ≡ Ok t → SpellScript (ls ++ l ∷ []) t
 unfolding line_at
 line_takes ls s l t h e =
     let a = bind_ok (item_at l) (λ item. added s item) t e in
@@ -436,7 +436,7 @@ line_takes ls s l t h e =
     added_by a.0 ls s l t s.off (is_skipped a.0) refl refl h p.0 p.1 a.2
 
 abbrev CanStep : List (List ℕ) → List ℕ → Plan → Type 0
-CanStep ls l t = (s : Plan) × Spells ls s × (line_at s l ≡ Ok t)
+CanStep ls l t = (s : Plan) × SpellScript ls s × (line_at s l ≡ Ok t)
 
 line_from : (s : Plan) (l : List ℕ) (item : Item) (t : Plan) → item_at l ≡ Ok item → added s item ≡ Ok t → line_at s l ≡ Ok t
 unfolding line_at
@@ -445,7 +445,7 @@ line_from s l item t e a = rw e a
 abbrev with_lines : Plan → List Line → Plan
 with_lines t ls = record { objects = t.objects; procs = t.procs; lines = ls; off = false }
 
-step_off : (ls : List (List ℕ)) (l : List ℕ) (t : Plan) → is_meant l ≡ true → (h : Spells (ls ++ l ∷ []) t) → t.off ≡ true → CanStep ls l t
+step_off : (ls : List (List ℕ)) (l : List ℕ) (t : Plan) → is_meant l ≡ true → (h : SpellScript (ls ++ l ∷ []) t) → t.off ≡ true → CanStep ls l t
 step_off ls l t m h on =
     let ends = same_ends (filter is_meant ls) (texts_of h.headers h.turns false) l (codes "off")
     (sym (meant_more ls l m) ∙ h.spelled ∙ ap (λ (b : Bool). texts_of h.headers h.turns b) on ∙ off_spelling h.headers h.turns) in
@@ -457,7 +457,7 @@ step_off ls l t m h on =
       line_from before l Item.Off t (off_again_line l short.1 m ends.1) (ap (λ (y : Plan). Ok y) whole),
     )
 
-step_turn : (ls : List (List ℕ)) (l : List ℕ) (t : Plan) (ts : List Turn) (u : Turn) → is_meant l ≡ true → (h : Spells (ls ++ l ∷ []) t) → t.off ≡ false → h.turns ≡ ts ++ u ∷ [] → CanStep ls l t
+step_turn : (ls : List (List ℕ)) (l : List ℕ) (t : Plan) (ts : List Turn) (u : Turn) → is_meant l ≡ true → (h : SpellScript (ls ++ l ∷ []) t) → t.off ≡ false → h.turns ≡ ts ++ u ∷ [] → CanStep ls l t
 step_turn ls l t ts u m h no_off same =
     let lines : t.lines ≡ map line_of ts ++ line_of u ∷ [] = sym h.meant ∙ ap (λ (vs : List Turn). map line_of vs) same ∙ turns_meant ts u in
     let ends = same_ends (filter is_meant ls) (texts_of h.headers ts false) l (turn_line u)
@@ -477,7 +477,7 @@ step_turn ls l t ts u m h no_off same =
       line_from before l (Item.Line (line_of u)) t (turn_again_line u l short.1 m ends.1 fits.1) (adds ∙ ap (λ (y : Plan). Ok y) whole),
     )
 
-step_header : (ls : List (List ℕ)) (l : List ℕ) (t : Plan) (hs : List Header) (x : Header) → is_meant l ≡ true → (h : Spells (ls ++ l ∷ []) t) → t.off ≡ false → h.turns ≡ [] → h.headers ≡ hs ++ x ∷ [] → CanStep ls l t
+step_header : (ls : List (List ℕ)) (l : List ℕ) (t : Plan) (hs : List Header) (x : Header) → is_meant l ≡ true → (h : SpellScript (ls ++ l ∷ []) t) → t.off ≡ false → h.turns ≡ [] → h.headers ≡ hs ++ x ∷ [] → CanStep ls l t
 step_header ls l t hs x m h no_off none same =
     let lines : t.lines ≡ [] = sym h.meant ∙ ap (λ (vs : List Turn). map line_of vs) none in
     let ends = same_ends (filter is_meant ls) (texts_of hs [] false) l (header_line x)
@@ -490,7 +490,7 @@ step_header ls l t hs x m h no_off none same =
       line_from (plan_from hs) l (Item.Header x) t (header_again_line x l short.1 m ends.1 fits.1) (ap (λ (y : Plan). Ok y) whole),
     )
 
-step_none : (ls : List (List ℕ)) (l : List ℕ) (t : Plan) → is_meant l ≡ true → (h : Spells (ls ++ l ∷ []) t) → t.off ≡ false → h.turns ≡ [] → h.headers ≡ [] → ⊥
+step_none : (ls : List (List ℕ)) (l : List ℕ) (t : Plan) → is_meant l ≡ true → (h : SpellScript (ls ++ l ∷ []) t) → t.off ≡ false → h.turns ≡ [] → h.headers ≡ [] → ⊥
 step_none ls l t m h no_off none empty =
     no_end (filter is_meant ls) l (sym (meant_more ls l m) ∙ h.spelled ∙ ap (λ (vs : List Turn). texts_of h.headers vs t.off) none ∙ ap (λ (b : Bool). texts_of h.headers [] b) no_off ∙ ap (λ (ys : List Header). texts_of ys [] false) empty)
 
@@ -498,7 +498,7 @@ skip_added : (s : Plan) (off : Bool) → cond (off && not true) (Err BadLine) (j
 skip_added s true = refl
 skip_added s false = refl
 
-step_skip : (ls : List (List ℕ)) (l : List ℕ) (t : Plan) → is_meant l ≡ false → Spells (ls ++ l ∷ []) t → CanStep ls l t
+step_skip : (ls : List (List ℕ)) (l : List ℕ) (t : Plan) → is_meant l ≡ false → SpellScript (ls ++ l ∷ []) t → CanStep ls l t
 step_skip ls l t m h =
     let short = each_less is_short ls l h.short in (
       t,
@@ -506,35 +506,35 @@ step_skip ls l t m h =
       line_from t l Item.Skipped t (skip_again l short.1 m) (skip_added t t.off),
     )
 
-step_meant : (ls : List (List ℕ)) (l : List ℕ) (t : Plan) (off : Bool) → is_meant l ≡ true → (h : Spells (ls ++ l ∷ []) t) → t.off ≡ off → (h.turns ≡ []) ⊎ HasLast h.turns → (h.headers ≡ []) ⊎ HasLast h.headers → CanStep ls l t
+step_meant : (ls : List (List ℕ)) (l : List ℕ) (t : Plan) (off : Bool) → is_meant l ≡ true → (h : SpellScript (ls ++ l ∷ []) t) → t.off ≡ off → (h.turns ≡ []) ⊎ HasLast h.turns → (h.headers ≡ []) ⊎ HasLast h.headers → CanStep ls l t
 step_meant ls l t true m h f v w = step_off ls l t m h f
 step_meant ls l t false m h f (inr v) w = step_turn ls l t v.0 v.1 m h f v.2
 step_meant ls l t false m h f (inl v) (inr w) = step_header ls l t w.0 w.1 m h f v w.2
 step_meant ls l t false m h f (inl v) (inl w) = absurd (step_none ls l t m h f v w)
 
-step_chosen : (ls : List (List ℕ)) (l : List ℕ) (t : Plan) (b : Bool) → is_meant l ≡ b → Spells (ls ++ l ∷ []) t → CanStep ls l t
+step_chosen : (ls : List (List ℕ)) (l : List ℕ) (t : Plan) (b : Bool) → is_meant l ≡ b → SpellScript (ls ++ l ∷ []) t → CanStep ls l t
 step_chosen ls l t true m h = step_meant ls l t t.off m h refl (last_view h.turns) (last_view h.headers)
 step_chosen ls l t false m h = step_skip ls l t m h
 
-pub line_again : (ls : List (List ℕ)) (l : List ℕ) (t : Plan) → Spells (ls ++ l ∷ []) t → CanStep ls l t
+pub line_again : (ls : List (List ℕ)) (l : List ℕ) (t : Plan) → SpellScript (ls ++ l ∷ []) t → CanStep ls l t
 line_again ls l t h = step_chosen ls l t (is_meant l) refl h
 
 -- ---- all lines
 
-pub none_spelled : Spells [] no_lines
+pub none_spelled : SpellScript [] no_lines
 none_spelled = record { headers = []; turns = []; short = tt; spelled = refl; objects = refl; procs = refl; meant = refl; fit_headers = tt; fit_turns = tt; orderly = record { processes = tt; forks = tt; exits = tt; calls = tt } }
 
 on_ok : (n : ℕ) (go : Plan → Result Plan ScriptFault) (r : Result Plan Fault) (t : Plan) → on_line n go r ≡ Ok t → (s : Plan) × (r ≡ Ok s) × (go s ≡ Ok t)
 on_ok n go (Ok s) t e = (s, refl, e)
 on_ok n go (Err f) t e = absurd cc
 
-lines_found : (n : ℕ) (front : List (List ℕ)) (s : Plan) (lines : List (List ℕ)) (t : Plan) → Spells front s → lines_at n s lines ≡ Ok t → Spells (front ++ lines) t
-lines_found n front s [] t h e = subst (λ (ls : List (List ℕ)). Spells ls t) (sym (append-nil front)) (subst (λ (y : Plan). Spells front y) (same_plan s t e) h)
+lines_found : (n : ℕ) (front : List (List ℕ)) (s : Plan) (lines : List (List ℕ)) (t : Plan) → SpellScript front s → lines_at n s lines ≡ Ok t → SpellScript (front ++ lines) t
+lines_found n front s [] t h e = subst (λ (ls : List (List ℕ)). SpellScript ls t) (sym (append-nil front)) (subst (λ (y : Plan). SpellScript front y) (same_plan s t e) h)
 lines_found n front s (l ∷ ls) t h e =
     let a = on_ok n (λ u. lines_at (suc n) u ls) (line_at s l) t e in
-    subst (λ (xs : List (List ℕ)). Spells xs t) (append_assoc front (l ∷ []) ls) (lines_found (suc n) (front ++ l ∷ []) a.0 ls t (line_takes front s l a.0 h a.1) a.2)
+    subst (λ (xs : List (List ℕ)). SpellScript xs t) (append_assoc front (l ∷ []) ls) (lines_found (suc n) (front ++ l ∷ []) a.0 ls t (line_takes front s l a.0 h a.1) a.2)
 
-pub script_found : (lines : List (List ℕ)) (t : Plan) → lines_at 1 no_lines lines ≡ Ok t → Spells lines t
+pub script_found : (lines : List (List ℕ)) (t : Plan) → lines_at 1 no_lines lines ≡ Ok t → SpellScript lines t
 script_found lines t e = lines_found 1 [] no_lines lines t none_spelled e
 
 lines_more : (n : ℕ) (s : Plan) (ls : List (List ℕ)) (l : List ℕ) (u t : Plan) → lines_at n s ls ≡ Ok u → line_at u l ≡ Ok t → lines_at n s (ls ++ l ∷ []) ≡ Ok t
@@ -549,19 +549,19 @@ no_spelling [] [] true e = absurd cc
 no_spelling [] (t ∷ ts) off e = absurd cc
 no_spelling (h ∷ hs) ts off e = absurd cc
 
-empty_only : (t : Plan) → Spells [] t → t ≡ no_lines
+empty_only : (t : Plan) → SpellScript [] t → t ≡ no_lines
 empty_only t h =
     let p = no_spelling h.headers h.turns t.off h.spelled in
     let none : t.lines ≡ [] = sym h.meant ∙ ap (λ (ts : List Turn). map line_of ts) p.1 in
     plan_is t h.headers h.objects h.procs none p.2 ∙ ap plan_from p.0
 
 abbrev IsRead : List (List ℕ) → Type 0
-IsRead ls = (t : Plan) → Spells ls t → lines_at 1 no_lines ls ≡ Ok t
+IsRead ls = (t : Plan) → SpellScript ls t → lines_at 1 no_lines ls ≡ Ok t
 
-pub script_only : (lines : List (List ℕ)) (t : Plan) → Spells lines t → lines_at 1 no_lines lines ≡ Ok t
+pub script_only : (lines : List (List ℕ)) (t : Plan) → SpellScript lines t → lines_at 1 no_lines lines ≡ Ok t
 script_only lines = by_lines_from IsRead (λ ls l h t k. let p = line_again ls l t k in lines_more 1 no_lines ls l p.0 t (h p.0 p.1) p.2) [] lines (λ t h. ap (λ (y : Plan). Ok y) (sym (empty_only t h)))
 
-pub script_unique : (lines : List (List ℕ)) (a b : Plan) → Spells lines a → Spells lines b → a ≡ b
+pub script_unique : (lines : List (List ℕ)) (a b : Plan) → SpellScript lines a → SpellScript lines b → a ≡ b
 script_unique lines a b p q = same_plan a b (sym (script_only lines a p) ∙ script_only lines b q)
 
 -- ---- why a line is at fault
@@ -686,7 +686,7 @@ at_end : (front : List (List ℕ)) (l : List ℕ) (ls : List (List ℕ)) → sli
 at_end [] l ls = refl
 at_end (x ∷ xs) l ls = at_end xs l ls
 
-first_fault : (front : List (List ℕ)) (s : Plan) (l : List ℕ) (ls : List (List ℕ)) (f : Fault) → Spells front s → line_at s l ≡ Err f → IsFirstFault (front ++ l ∷ ls) (suc (length front)) f
+first_fault : (front : List (List ℕ)) (s : Plan) (l : List ℕ) (ls : List (List ℕ)) (f : Fault) → SpellScript front s → line_at s l ≡ Err f → IsFirstFault (front ++ l ∷ ls) (suc (length front)) f
 first_fault front s l ls f h e =
     let before : take (length front) (front ++ l ∷ ls) ≡ front = take_at front (l ∷ ls) (length front) refl in
     let with : take (suc (length front)) (front ++ l ∷ ls) ≡ front ++ l ∷ [] = take_next front l ls in
@@ -698,7 +698,7 @@ first_fault front s l ls f h e =
       script = s;
       before = rw (back, before) h;
       here = λ t k.
-          let p = line_again front l t (subst (λ (xs : List (List ℕ)). Spells xs t) with k) in
+          let p = line_again front l t (subst (λ (xs : List (List ℕ)). SpellScript xs t) with k) in
           let same : p.0 ≡ s = script_unique front p.0 s p.1 h in
           not_both (line_at s l) f t e (subst (λ (y : Plan). line_at y l ≡ Ok t) same p.2);
       why = rw (back, this) (fault_is s l f h.orderly e);
@@ -709,14 +709,14 @@ named lines n BadLine h = h
 named lines n UnknownProcess h = h
 named lines n TooLong h = h
 
-refused_on : (front : List (List ℕ)) (s : Plan) (l : List ℕ) (ls : List (List ℕ)) (e : ScriptFault) → Spells front s → (r : Result Plan Fault) → line_at s l ≡ r
+refused_on : (front : List (List ℕ)) (s : Plan) (l : List ℕ) (ls : List (List ℕ)) (e : ScriptFault) → SpellScript front s → (r : Result Plan Fault) → line_at s l ≡ r
     → ((t : Plan) → line_at s l ≡ Ok t → lines_at (suc (suc (length front))) t ls ≡ Err e → Refuses (front ++ l ∷ ls) e)
     → on_line (suc (length front)) (λ t. lines_at (suc (suc (length front))) t ls) r ≡ Err e → Refuses (front ++ l ∷ ls) e
 refused_on front s l ls e h (Ok t) g later k = later t g k
 refused_on front s l ls e h (Err f) g later k =
     subst (λ (x : ScriptFault). Refuses (front ++ l ∷ ls) x) (same_fault (line_fault (suc (length front)) f) e k) (named (front ++ l ∷ ls) (suc (length front)) f (first_fault front s l ls f h g))
 
-lines_refused : (front : List (List ℕ)) (s : Plan) (lines : List (List ℕ)) (e : ScriptFault) → Spells front s → lines_at (suc (length front)) s lines ≡ Err e → Refuses (front ++ lines) e
+lines_refused : (front : List (List ℕ)) (s : Plan) (lines : List (List ℕ)) (e : ScriptFault) → SpellScript front s → lines_at (suc (length front)) s lines ≡ Err e → Refuses (front ++ lines) e
 lines_refused front s [] e h k = absurd (ok_no_err s e k)
 lines_refused front s (l ∷ ls) e h k = refused_on front s l ls e h (line_at s l) refl (λ t g q.
     let long : length (front ++ l ∷ []) ≡ suc (length front) = omega (arith, length-append front (l ∷ [])) in
@@ -728,7 +728,7 @@ script_refused lines e k = lines_refused [] no_lines lines e none_spelled k
 
 -- ---- what a function returned
 
-pub gives_found : (r : Result Script ScriptFault) (lines : List (List ℕ)) → GivesScript r (lines_at 1 no_lines lines) → IfOk r (λ script. Spells lines (plan_of script))
+pub gives_found : (r : Result Script ScriptFault) (lines : List (List ℕ)) → GivesScript r (lines_at 1 no_lines lines) → IfOk r (λ script. SpellScript lines (plan_of script))
 gives_found (Ok s) lines h = script_found lines (plan_of s) h
 gives_found (Err f) lines h = tt
 
@@ -736,7 +736,7 @@ pub gives_orderly : (r : Result Script ScriptFault) (lines : List (List ℕ)) �
 gives_orderly (Ok s) lines h = (script_found lines (plan_of s) h).orderly
 gives_orderly (Err f) lines h = tt
 
-pub gives_only : (r : Result Script ScriptFault) (lines : List (List ℕ)) (s : Plan) → GivesScript r (lines_at 1 no_lines lines) → Spells lines s → GivesScript r (Ok s)
+pub gives_only : (r : Result Script ScriptFault) (lines : List (List ℕ)) (s : Plan) → GivesScript r (lines_at 1 no_lines lines) → SpellScript lines s → GivesScript r (Ok s)
 gives_only r lines s h k = subst (λ (read : Result Plan ScriptFault). GivesScript r read) (script_only lines s k) h
 
 fails_named : (e : ScriptFault) (lines : List (List ℕ)) → FailsAt e (lines_at 1 no_lines lines) → Refuses lines e

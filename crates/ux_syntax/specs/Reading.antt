@@ -1,5 +1,6 @@
 -- Reading from left to right: a script, or the first line that is at fault.
-use Rattle.std.specs.Prelude.{ℕ, zero, suc, ◌+◌, ◌-◌, ◌*◌, ◌^◌, ℤ, pos, negsuc, Bool, true, false, List, [], ◌∷◌, ◌++◌, length, map, codes, Option, Some, None, Result, Ok, Err, nat_lt, nat_le, bit_or, ◌==◌, ◌&&◌, if◌then◌else◌, not}
+use Rattle.std.specs.Prelude.{ℕ, zero, suc, ◌+◌, ◌-◌, ◌*◌, ◌^◌, ℤ, pos, negsuc, Bool, true, false, List, [], ◌∷◌, ◌++◌, length, map, codes}
+use Rattle.std.specs.Prelude.{Option, Some, None, Result, Ok, Err, nat_lt, nat_le, bit_or, ◌==◌, ◌&&◌, if◌then◌else◌, not}
 use Rattle.std.specs.List.{slice_split, find, list_all}
 use Rattle.std.specs.Option.{option_map}
 use Rattle.std.specs.Str.{bytes_eq}
@@ -20,7 +21,10 @@ use Rattle.ux_syntax.specs.declared.script.Act.{Act}
 use Rattle.ux_syntax.specs.Lines.{Line}
 use Rattle.ux_syntax.specs.declared.reading.Item.{Item}
 use Rattle.ux_trace.specs.Trace.{dash, stands, word_text}
-use Rattle.ux_syntax.specs.Spelling.{Plan, open_path, read_fd, write_fd, seek, dup_fd, dup_onto, set_flags, close, unlink_path, socket, pair, bind, listen, connect, accept, shut, get_opt, set_opt, sock_name, peer_name, send, recv, poll, fork, exec, exit, meaning, bit, mode_text, type_text, option_text, whence_text, kind_text, is_meant, asks_fork, known_count}
+use Rattle.ux_syntax.specs.Spelling.{Plan, open_path, read_fd, write_fd, seek, dup_fd, dup_onto, set_flags, close, unlink_path, socket}
+use Rattle.ux_syntax.specs.Spelling.{pair, bind, listen, connect, accept, shut, get_opt, set_opt, sock_name, peer_name, send, recv, poll}
+use Rattle.ux_syntax.specs.Spelling.{fork, exec, exit, meaning, bit, mode_text, type_text, option_text, whence_text, kind_text, is_meant}
+use Rattle.ux_syntax.specs.Spelling.{asks_fork, known_count, line_limit}
 use Rattle.ux_syntax.specs.Turns.{has_exited, is_known, awaits_known}
 
 infixl 10 ◌>>=◌
@@ -74,7 +78,9 @@ unfoldable pub type_at : List ℕ → Result SockType Fault
 type_at w = chosen_at type_text (SockType.Stream ∷ SockType.Dgram ∷ SockType.Seq ∷ []) w
 
 unfoldable pub option_at : List ℕ → Result SockOpt Fault
-option_at w = chosen_at option_text (SockOpt.Kind ∷ SockOpt.Error ∷ SockOpt.PassCred ∷ SockOpt.PeerCred ∷ SockOpt.AcceptConn ∷ SockOpt.QueueLimit ∷ []) w
+option_at w =
+    chosen_at option_text
+    (SockOpt.Kind ∷ SockOpt.Error ∷ SockOpt.PassCred ∷ SockOpt.PeerCred ∷ SockOpt.AcceptConn ∷ SockOpt.QueueLimit ∷ []) w
 
 unfoldable pub mode_at : List ℕ → Result Mode Fault
 mode_at w = chosen_at mode_text (Mode.Read ∷ Mode.Write ∷ Mode.Both ∷ []) w
@@ -101,7 +107,8 @@ is_i64 z = is_signed 63 z
 -- digits that don't begin with a 0, or one digit, behind a - below 0
 unfoldable pub offset_at : List ℕ → Result ℤ Fault
 offset_at w =
-    if is_plain (without_minus w) && list_all is_ascii_digit (without_minus w) && not (bytes_eq w (45 ∷ 48 ∷ [])) && is_i64 (signed_digits_value 10 w)
+    if is_plain (without_minus w) && list_all is_ascii_digit (without_minus w) && not (bytes_eq w (45 ∷ 48 ∷ []))
+    && is_i64 (signed_digits_value 10 w)
     then Ok (signed_digits_value 10 w) else Err BadLine
 
 -- the same, of 32 bits with the sign
@@ -186,7 +193,8 @@ open_flags_at (c ∷ cs) =
     let a = flag_at 97 1 (c ∷ cs) in
     let n = flag_at 110 2 a.1 in
     let x = flag_at 120 4 n.1 in
-    if bytes_eq (c ∷ cs) dash then Ok (record { 0 = 0 }) else if length x.1 == 0 then Ok (record { 0 = bit_or (bit_or a.0 n.0) x.0 }) else Err BadLine
+    if bytes_eq (c ∷ cs) dash then Ok (record { 0 = 0 }) else
+    if length x.1 == 0 then Ok (record { 0 = bit_or (bit_or a.0 n.0) x.0 }) else Err BadLine
 
 unfoldable pub msg_flags_at : List ℕ → Result MsgFlags Fault
 msg_flags_at [] = Err BadLine
@@ -195,7 +203,8 @@ msg_flags_at (c ∷ cs) =
     let p = flag_at 112 1 d.1 in
     let t = flag_at 116 2 p.1 in
     let x = flag_at 120 8 t.1 in
-    if bytes_eq (c ∷ cs) dash then Ok (record { 0 = 0 }) else if length x.1 == 0 then Ok (record { 0 = bit_or (bit_or (bit_or d.0 p.0) t.0) x.0 }) else Err BadLine
+    if bytes_eq (c ∷ cs) dash then Ok (record { 0 = 0 }) else
+    if length x.1 == 0 then Ok (record { 0 = bit_or (bit_or (bit_or d.0 p.0) t.0) x.0 }) else Err BadLine
 
 -- ---- words
 
@@ -214,7 +223,9 @@ abbrev pub ◌>>◌ : {A B : Type 0} → (List ℕ → Result A Fault) → (List
 
 -- a process, a user and a group, joined by commas
 unfoldable pub cred_at : List ℕ → Result Cred Fault
-cred_at w = (number_at >> number_at >> number_at >> ends) (slice_split (λ b. b == 44) w) >>= λ x. Ok (record { pid = record { 0 = x.0 }; uid = x.1.0; gid = x.1.1.0 })
+cred_at w =
+    (number_at >> number_at >> number_at >> ends) (slice_split (λ b. b == 44) w)
+    >>= λ x. Ok (record { pid = record { 0 = x.0 }; uid = x.1.0; gid = x.1.1.0 })
 
 -- descriptor numbers behind r:, or credentials behind c:
 unfoldable pub control_item_at : List ℕ → Result ControlItem Fault
@@ -317,7 +328,9 @@ unfoldable pub peer_name_at : List (List ℕ) → Result Request Fault
 peer_name_at ws = (number_at >> ends) ws >>= λ x. Ok (meaning (peer_name x.0))
 
 unfoldable pub send_at : List (List ℕ) → Result Request Fault
-send_at ws = (number_at >> addr_or_dash_at >> hex_at >> control_at >> msg_flags_at >> ends) ws >>= λ x. Ok (meaning (send x.0 x.1.0 x.1.1.0 x.1.1.1.0 x.1.1.1.1.0))
+send_at ws =
+    (number_at >> addr_or_dash_at >> hex_at >> control_at >> msg_flags_at >> ends) ws
+    >>= λ x. Ok (meaning (send x.0 x.1.0 x.1.1.0 x.1.1.1.0 x.1.1.1.1.0))
 
 unfoldable pub recv_at : List (List ℕ) → Result Request Fault
 recv_at ws = (number_at >> number_at >> number_at >> msg_flags_at >> ends) ws >>= λ x. Ok (meaning (recv x.0 x.1.0 x.1.1.0 x.1.1.1.0))
@@ -336,9 +349,11 @@ exit_at ws = ends ws >>= λ x. Ok (meaning exit)
 
 -- the words of calls: `off` is none
 abbrev pub all_words : List CallWord
-all_words = CallWord.Open ∷ CallWord.Read ∷ CallWord.Write ∷ CallWord.Lseek ∷ CallWord.Dup ∷ CallWord.Dup2 ∷ CallWord.Flags ∷ CallWord.Close ∷ CallWord.Unlink
-    ∷ CallWord.Socket ∷ CallWord.Pair ∷ CallWord.Bind ∷ CallWord.Listen ∷ CallWord.Connect ∷ CallWord.Accept ∷ CallWord.Shut ∷ CallWord.GetOpt ∷ CallWord.SetOpt
-    ∷ CallWord.SockName ∷ CallWord.PeerName ∷ CallWord.Send ∷ CallWord.Recv ∷ CallWord.Poll ∷ CallWord.Fork ∷ CallWord.Exec ∷ CallWord.Exit ∷ []
+all_words =
+    CallWord.Open ∷ CallWord.Read ∷ CallWord.Write ∷ CallWord.Lseek ∷ CallWord.Dup ∷ CallWord.Dup2 ∷ CallWord.Flags ∷ CallWord.Close
+    ∷ CallWord.Unlink ∷ CallWord.Socket ∷ CallWord.Pair ∷ CallWord.Bind ∷ CallWord.Listen ∷ CallWord.Connect ∷ CallWord.Accept
+    ∷ CallWord.Shut ∷ CallWord.GetOpt ∷ CallWord.SetOpt ∷ CallWord.SockName ∷ CallWord.PeerName ∷ CallWord.Send ∷ CallWord.Recv
+    ∷ CallWord.Poll ∷ CallWord.Fork ∷ CallWord.Exec ∷ CallWord.Exit ∷ []
 
 unfoldable pub word_at : List ℕ → Result CallWord Fault
 word_at w = chosen_at word_text all_words w
@@ -377,7 +392,9 @@ args_at CallWord.Off ws = Err BadLine
 -- which read or write fails, from 1, where the words begin with it, and the words after it
 abbrev pub fail_at : List (List ℕ) → Result (Option ℕ × List (List ℕ)) Fault
 fail_at [] = Ok (None, [])
-fail_at (w ∷ ws) = if bytes_eq w (codes "fail") then (one number_at ws >>= λ x. if x.0 == 0 then Err BadLine else Ok (Some x.0, x.1)) else Ok (None, w ∷ ws)
+fail_at (w ∷ ws) =
+    if bytes_eq w (codes "fail") then (one number_at ws >>= λ x. if x.0 == 0 then Err BadLine else Ok (Some x.0, x.1)) else
+    Ok (None, w ∷ ws)
 
 -- what an object of this kind starts with
 abbrev pub body_at : ObjKind → List (List ℕ) → Result (List ℕ) Fault
@@ -396,7 +413,9 @@ unfoldable pub object_at : List (List ℕ) → Result ObjectLine Fault
 object_at ws = (path_at >> described_at) ws >>= λ x. Ok (record { name = x.0; fail = x.1.0; kind = x.1.1.0; body = x.1.1.1 })
 
 unfoldable pub proc_at : List (List ℕ) → Result ProcSpec Fault
-proc_at ws = (number_at >> number_at >> bit_at >> number_at >> ends) ws >>= λ x. Ok (record { uid = x.0; gid = x.1.0; privileged = x.1.1.0; limit = x.1.1.1.0 })
+proc_at ws =
+    (number_at >> number_at >> bit_at >> number_at >> ends) ws
+    >>= λ x. Ok (record { uid = x.0; gid = x.1.0; privileged = x.1.1.0; limit = x.1.1.1.0 })
 
 -- ---- lines
 
@@ -426,7 +445,9 @@ words_at (w ∷ ws) =
     else (number_at w >>= λ pid. turn_at pid ws)
 
 unfoldable pub item_at : List ℕ → Result Item Fault
-item_at text = if nat_lt 4096 (length text) then Err TooLong else if is_meant text then words_at (slice_split (λ b. b == 32) text) else Ok Item.Skipped
+item_at text =
+    if nat_lt line_limit (length text) then Err TooLong else
+    if is_meant text then words_at (slice_split (λ b. b == 32) text) else Ok Item.Skipped
 
 abbrev pub with_header : Plan → Header → Plan
 with_header s (Header.Object o) = record { objects = s.objects ++ o ∷ []; procs = s.procs; lines = s.lines; off = s.off }
@@ -440,9 +461,12 @@ with_off s = record { objects = s.objects; procs = s.procs; lines = s.lines; off
 
 -- the script with one line more, of a process that is there
 abbrev pub joined_by_line : Plan → Line → Result Plan Fault
-joined_by_line s line = if has_exited s.lines line.pid.0 then Err BadLine else if awaits_known (known_count s) line.act then Ok (with_line s line) else Err UnknownProcess
+joined_by_line s line =
+    if has_exited s.lines line.pid.0 then Err BadLine else
+    if awaits_known (known_count s) line.act then Ok (with_line s line) else Err UnknownProcess
 
--- A fork of the process may come next: it is process 1, which is there and has made no exit, and there are fewer processes than may be made.
+-- A fork of the process may come next: it is process 1, which is there and has made no exit, and there are fewer processes than may be
+-- made.
 abbrev pub may_fork : Plan → ℕ → Bool
 may_fork s pid = (pid == 1 && nat_lt (known_count s) made_limit) && (is_known (known_count s) pid && not (has_exited s.lines pid))
 

@@ -17,9 +17,9 @@ abbrev pub Fails : {Y : Type 0} → LineError → Result Y Fault → Type 0
 Fails LineError.Memory read = Unit {0}
 Fails (LineError.Fault f) read = read ≡ Err f
 
-abbrev pub Gives : {X Y : Type 0} → (X → Y) → Result X LineError → Result Y Fault → Type 0
-Gives view (Ok x) read = read ≡ Ok (view x)
-Gives view (Err e) read = Fails e read
+abbrev pub IsAsRead : {X Y : Type 0} → (X → Y) → Result X LineError → Result Y Fault → Type 0
+IsAsRead view (Ok x) read = read ≡ Ok (view x)
+IsAsRead view (Err e) read = Fails e read
 
 -- what stands there after an Ok is what reading gives
 abbrev pub Leaves : Plan → Result (Unit {0}) LineError → Result Plan Fault → Type 0

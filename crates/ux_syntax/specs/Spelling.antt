@@ -1,12 +1,14 @@
 -- Which lines spell which script.
-use Rattle.std.specs.Prelude.{◌≡◌, ◌≢◌, ℕ, ◌+◌, ◌<◌, ◌≤◌, ◌^◌, ◌-◌, ◌%◌, ℤ, pos, negsuc, take, Bool, true, false, List, [], ◌∷◌, ◌++◌, length, replicate, map, filter, count_by, codes, decimal, Option, Some, None, IfSome, if◌then◌else◌, ◌==◌, not, slice_index_or}
+use Rattle.std.specs.Prelude.{◌≡◌, ◌≢◌, ℕ, ◌+◌, ◌<◌, ◌≤◌, ◌^◌, ℤ, pos, negsuc, take, Bool, true, false, List, [], ◌∷◌, ◌++◌, length}
+use Rattle.std.specs.Prelude.{replicate, map, filter, count_by, codes, decimal, Option, Some, None, IfSome, if◌then◌else◌, ◌==◌, not}
+use Rattle.std.specs.Prelude.{slice_index_or}
 use Rattle.std.specs.List.{AllByRecursion, slice_split, join_with_byte}
 use Rattle.std.specs.Fmt.{signed_decimal}
 use Rattle.ux_model.specs.Types.{Cred, Name, Addr, OpenFlags, MsgFlags, SockType, SockOpt, Mode, Whence, ProcSpec, Request}
 use Rattle.ux_model.specs.Flags.{has_bits}
 use Rattle.ux_model.specs.Process.{fd_of}
 use Rattle.ux_model.specs.Limits.{made_limit}
-pub use Rattle.ux_model.specs.History.{is_exit, is_off}
+pub use Rattle.ux_model.specs.History.{is_exit, is_off, is_fork}
 use Rattle.ux_object.specs.declared.ObjKind.{ObjKind}
 use Rattle.ux_model.specs.Control as model
 use Rattle.ux_model.specs.Delivery.{control_bytes}
@@ -44,12 +46,12 @@ procs_of (Header.Proc p ∷ hs) = p ∷ procs_of hs
 
 -- ---- calls as they are written
 
--- bytes, and zeros behind them up to the next multiple of 8
+-- bytes, and zeros behind them up to where the next item of a control buffer begins
 abbrev pub padded : List ℕ → List ℕ
-padded bytes = bytes ++ replicate ((8 - length bytes % 8) % 8) 0
+padded bytes = bytes ++ replicate (model.padding_behind (length bytes)) 0
 
 -- The bytes of a control buffer, of which several writings may stand for the same: none, those that are written out, or the items of
--- descriptor numbers and credentials in their order, each on a multiple of 8, with nothing behind the last.
+-- descriptor numbers and credentials in their order, each on a multiple of the alignment, with nothing behind the last.
 abbrev pub control_buffer : ControlWord → List ℕ
 control_buffer ControlWord.Bare = []
 control_buffer (ControlWord.Raw bytes) = bytes
@@ -155,7 +157,8 @@ open_flags f = or_dash (letter (has_bits f.0 1) 97 ++ (letter (has_bits f.0 2) 1
 
 -- the letters of dptx whose flags are set, or a dash: DONTWAIT, PEEK, TRUNC, CMSG_CLOEXEC
 abbrev pub msg_flags : MsgFlags → List ℕ
-msg_flags f = or_dash (letter (has_bits f.0 4) 100 ++ (letter (has_bits f.0 1) 112 ++ (letter (has_bits f.0 2) 116 ++ letter (has_bits f.0 8) 120)))
+msg_flags f =
+    or_dash (letter (has_bits f.0 4) 100 ++ (letter (has_bits f.0 1) 112 ++ (letter (has_bits f.0 2) 116 ++ letter (has_bits f.0 8) 120)))
 
 abbrev pub bit : Bool → List ℕ
 bit b = if b then 49 ∷ [] else 48 ∷ []
@@ -389,11 +392,6 @@ abbrev pub asks_off : Act → Bool
 asks_off (Act.Call request) = is_off request
 asks_off (Act.Wait pid calls) = false
 
--- the call makes a further process
-abbrev pub is_fork : Request → Bool
-is_fork Request.Fork = true
-is_fork _ = false
-
 -- what is asked for is a further process
 abbrev pub asks_fork : Act → Bool
 asks_fork (Act.Call request) = is_fork request
@@ -438,12 +436,16 @@ pub record IsOrderly (s : Plan) : Type 0 where
 
 -- ---- which lines spell which script
 
+-- the bytes of a line, without its newline
+abbrev pub line_limit : ℕ
+line_limit = 4096
+
 -- The lines, which are short, spell the script: those that say something are the header's,
 -- then the processes' as they are written, and `off` at last where the script has it.
-pub record Spells (texts : List (List ℕ)) (s : Plan) : Type 0 where
+pub record SpellScript (texts : List (List ℕ)) (s : Plan) : Type 0 where
   pub headers : List Header
   pub turns : List Turn
-  pub short : AllByRecursion (λ text. length text ≤ 4096) texts
+  pub short : AllByRecursion (λ text. length text ≤ line_limit) texts
   pub spelled : filter is_meant texts ≡ map header_line headers ++ (map turn_line turns ++ off_lines s.off)
   pub objects : objects_of headers ≡ s.objects
   pub procs : procs_of headers ≡ s.procs
@@ -454,23 +456,26 @@ pub record Spells (texts : List (List ℕ)) (s : Plan) : Type 0 where
 
 -- ---- why a line is at fault
 
--- the line, rightly written and no fork, names a process that isn't there: its own or the one that it waits for; and `off` was not said, nor its process's exit
+-- the line, rightly written and no fork, names a process that isn't there: its own or the one that it waits for; and `off` was not said,
+-- nor its process's exit
 abbrev pub IsCallOfStranger : Plan → List ℕ → Type 0
-IsCallOfStranger s text = (t : Turn) × (text ≡ turn_line t) × FitsTurn t × (s.off ≡ false) × (asks_fork (act_of t.asked) ≡ false) × NoneAfterExit (s.lines ++ line_of t ∷ []) × (NamesProcesses (known_count s) (line_of t) → ⊥)
+IsCallOfStranger s text =
+    (t : Turn) × (text ≡ turn_line t) × FitsTurn t × (s.off ≡ false) × (asks_fork (act_of t.asked) ≡ false)
+    × NoneAfterExit (s.lines ++ line_of t ∷ []) × (NamesProcesses (known_count s) (line_of t) → ⊥)
 
 -- Why a line that comes after those of the script is at fault, if it is: too long before bad, and bad before unknown.
 abbrev pub IsFaultOf : Fault → Plan → List ℕ → Type 0
-IsFaultOf Fault.TooLong s text = 4096 < length text
-IsFaultOf Fault.UnknownProcess s text = (length text ≤ 4096) × IsCallOfStranger s text
-IsFaultOf Fault.BadLine s text = (length text ≤ 4096) × (IsCallOfStranger s text → ⊥)
+IsFaultOf Fault.TooLong s text = line_limit < length text
+IsFaultOf Fault.UnknownProcess s text = (length text ≤ line_limit) × IsCallOfStranger s text
+IsFaultOf Fault.BadLine s text = (length text ≤ line_limit) × (IsCallOfStranger s text → ⊥)
 
 -- The line of this number, counted from 1, is the first at fault, and so: those before it spell a script, and with it they spell none.
 pub record IsFirstFault (texts : List (List ℕ)) (n : ℕ) (fault : Fault) : Type 0 where
   pub first : 1 ≤ n
   pub last : n ≤ length texts
   pub script : Plan
-  pub before : Spells (take (n - 1) texts) script
-  pub here : (s : Plan) → Spells (take n texts) s → ⊥
+  pub before : SpellScript (take (n - 1) texts) script
+  pub here : (s : Plan) → SpellScript (take n texts) s → ⊥
   pub why : IsFaultOf fault script (slice_index_or texts (n - 1) [])
 
 -- ---- laws
@@ -486,8 +491,10 @@ said_by (ControlWord.RightsFirst numbers cred) = Some (record { cred = Some cred
 
 -- a control buffer that is written in items spells what they say, where 8 bytes can count it
 abbrev pub ItemsAreSpelled : Type 0
-ItemsAreSpelled = (word : ControlWord) → FitsControl word → length (control_buffer word) < 2 ^ 64 → IfSome (said_by word) (λ said. model.Spells (control_buffer word) said)
+ItemsAreSpelled =
+    (word : ControlWord) → FitsControl word → length (control_buffer word) < 2 ^ 64 →
+    IfSome (said_by word) (λ said. model.Spells (control_buffer word) said)
 
 -- a text spells one script at most
 abbrev pub OneScript : Type 0
-OneScript = (text : List ℕ) (a b : Plan) → Spells (lines_of text) a → Spells (lines_of text) b → a ≡ b
+OneScript = (text : List ℕ) (a b : Plan) → SpellScript (lines_of text) a → SpellScript (lines_of text) b → a ≡ b

@@ -2,7 +2,7 @@
 
 ghost use Rattle.std.specs.Prelude.{◌≡◌, map};
 ghost use Rattle.ux_syntax.specs.Reading.{open_at, read_at, write_at, lseek_at, dup_at, dup2_at, set_flags_at, close_at, unlink_at, socket_at, pair_at, bind_at, listen_at, connect_at, accept_at, shut_at, get_opt_at, set_opt_at, sock_name_at, peer_name_at, send_at, recv_at, poll_at, fork_at, exec_at, exit_at, word_at, args_at};
-ghost use Rattle.ux_syntax.specs.Results.{Gives};
+ghost use Rattle.ux_syntax.specs.Results.{IsAsRead};
 
 use crate::control::ControlWord;
 use crate::fault::{BAD, LineError};
@@ -44,7 +44,7 @@ const CALL_WORDS: &[CallWord] = &[
 /// The call that a word names.
 #[tactic(auto, unfolding(crate::specs::Reading::word_at))]
 pub(crate) fn word_of(word: &[u8]) -> Result<CallWord, LineError>
-    ensures { Gives (λ w. w) result (word_at word.now) }
+    ensures { IsAsRead (λ w. w) result (word_at word.now) }
 {
     match CALL_WORDS
         .iter()
@@ -60,7 +60,7 @@ pub(crate) fn word_of(word: &[u8]) -> Result<CallWord, LineError>
 /// `open ADDR MODE OFLAGS`.
 #[tactic(auto, unfolding(crate::specs::Reading::open_at))]
 fn open_of(alloc: Global, words: &[&[u8]]) -> Result<Request, LineError>
-    ensures { Gives (λ r. r) result (open_at (map (λ w. w.now) words.now)) }
+    ensures { IsAsRead (λ r. r) result (open_at (map (λ w. w.now) words.now)) }
 {
     let (path, (mode, (flags, ()))) = row_of(alloc, words)?;
     Ok(Request::Open { path, mode, flags })
@@ -69,7 +69,7 @@ fn open_of(alloc: Global, words: &[&[u8]]) -> Result<Request, LineError>
 /// `read FD N`.
 #[tactic(auto, unfolding(crate::specs::Reading::read_at))]
 fn read_of(alloc: Global, words: &[&[u8]]) -> Result<Request, LineError>
-    ensures { Gives (λ r. r) result (read_at (map (λ w. w.now) words.now)) }
+    ensures { IsAsRead (λ r. r) result (read_at (map (λ w. w.now) words.now)) }
 {
     let (fd, (n, ())) = row_of(alloc, words)?;
     Ok(Request::Read { fd: Fd(fd), n })
@@ -78,7 +78,7 @@ fn read_of(alloc: Global, words: &[&[u8]]) -> Result<Request, LineError>
 /// `write FD HEX`.
 #[tactic(auto, unfolding(crate::specs::Reading::write_at))]
 fn write_of(alloc: Global, words: &[&[u8]]) -> Result<Request, LineError>
-    ensures { Gives (λ r. r) result (write_at (map (λ w. w.now) words.now)) }
+    ensures { IsAsRead (λ r. r) result (write_at (map (λ w. w.now) words.now)) }
 {
     let (fd, (bytes, ())) = row_of(alloc, words)?;
     Ok(Request::Write { fd: Fd(fd), bytes })
@@ -87,7 +87,7 @@ fn write_of(alloc: Global, words: &[&[u8]]) -> Result<Request, LineError>
 /// `lseek FD OFFSET WHENCE`.
 #[tactic(auto, unfolding(crate::specs::Reading::lseek_at))]
 fn lseek_of(alloc: Global, words: &[&[u8]]) -> Result<Request, LineError>
-    ensures { Gives (λ r. r) result (lseek_at (map (λ w. w.now) words.now)) }
+    ensures { IsAsRead (λ r. r) result (lseek_at (map (λ w. w.now) words.now)) }
 {
     let (fd, (offset, (whence, ()))) = row_of(alloc, words)?;
     Ok(Request::Lseek {
@@ -100,7 +100,7 @@ fn lseek_of(alloc: Global, words: &[&[u8]]) -> Result<Request, LineError>
 /// `dup FD`.
 #[tactic(auto, unfolding(crate::specs::Reading::dup_at))]
 fn dup_of(alloc: Global, words: &[&[u8]]) -> Result<Request, LineError>
-    ensures { Gives (λ r. r) result (dup_at (map (λ w. w.now) words.now)) }
+    ensures { IsAsRead (λ r. r) result (dup_at (map (λ w. w.now) words.now)) }
 {
     let (fd, ()) = row_of(alloc, words)?;
     Ok(Request::Dup { fd: Fd(fd) })
@@ -109,7 +109,7 @@ fn dup_of(alloc: Global, words: &[&[u8]]) -> Result<Request, LineError>
 /// `dup2 FD FD`.
 #[tactic(auto, unfolding(crate::specs::Reading::dup2_at))]
 fn dup2_of(alloc: Global, words: &[&[u8]]) -> Result<Request, LineError>
-    ensures { Gives (λ r. r) result (dup2_at (map (λ w. w.now) words.now)) }
+    ensures { IsAsRead (λ r. r) result (dup2_at (map (λ w. w.now) words.now)) }
 {
     let (fd, (to, ())) = row_of(alloc, words)?;
     Ok(Request::Dup2 {
@@ -121,7 +121,7 @@ fn dup2_of(alloc: Global, words: &[&[u8]]) -> Result<Request, LineError>
 /// `flags FD OFLAGS`.
 #[tactic(auto, unfolding(crate::specs::Reading::set_flags_at))]
 fn set_flags_of(alloc: Global, words: &[&[u8]]) -> Result<Request, LineError>
-    ensures { Gives (λ r. r) result (set_flags_at (map (λ w. w.now) words.now)) }
+    ensures { IsAsRead (λ r. r) result (set_flags_at (map (λ w. w.now) words.now)) }
 {
     let (fd, (flags, ())) = row_of(alloc, words)?;
     Ok(Request::SetFlags { fd: Fd(fd), flags })
@@ -130,7 +130,7 @@ fn set_flags_of(alloc: Global, words: &[&[u8]]) -> Result<Request, LineError>
 /// `unlink ADDR`.
 #[tactic(auto, unfolding(crate::specs::Reading::unlink_at))]
 fn unlink_of(alloc: Global, words: &[&[u8]]) -> Result<Request, LineError>
-    ensures { Gives (λ r. r) result (unlink_at (map (λ w. w.now) words.now)) }
+    ensures { IsAsRead (λ r. r) result (unlink_at (map (λ w. w.now) words.now)) }
 {
     let (path, ()) = row_of(alloc, words)?;
     Ok(Request::Unlink { path })
@@ -139,7 +139,7 @@ fn unlink_of(alloc: Global, words: &[&[u8]]) -> Result<Request, LineError>
 /// `socket TYPE OFLAGS`.
 #[tactic(auto, unfolding(crate::specs::Reading::socket_at))]
 fn socket_of(alloc: Global, words: &[&[u8]]) -> Result<Request, LineError>
-    ensures { Gives (λ r. r) result (socket_at (map (λ w. w.now) words.now)) }
+    ensures { IsAsRead (λ r. r) result (socket_at (map (λ w. w.now) words.now)) }
 {
     let (kind, (flags, ())) = row_of(alloc, words)?;
     Ok(Request::Socket { kind, flags })
@@ -148,7 +148,7 @@ fn socket_of(alloc: Global, words: &[&[u8]]) -> Result<Request, LineError>
 /// `pair TYPE OFLAGS`.
 #[tactic(auto, unfolding(crate::specs::Reading::pair_at))]
 fn pair_of(alloc: Global, words: &[&[u8]]) -> Result<Request, LineError>
-    ensures { Gives (λ r. r) result (pair_at (map (λ w. w.now) words.now)) }
+    ensures { IsAsRead (λ r. r) result (pair_at (map (λ w. w.now) words.now)) }
 {
     let (kind, (flags, ())) = row_of(alloc, words)?;
     Ok(Request::SocketPair { kind, flags })
@@ -157,7 +157,7 @@ fn pair_of(alloc: Global, words: &[&[u8]]) -> Result<Request, LineError>
 /// `bind FD ADDR`.
 #[tactic(auto, unfolding(crate::specs::Reading::bind_at))]
 fn bind_of(alloc: Global, words: &[&[u8]]) -> Result<Request, LineError>
-    ensures { Gives (λ r. r) result (bind_at (map (λ w. w.now) words.now)) }
+    ensures { IsAsRead (λ r. r) result (bind_at (map (λ w. w.now) words.now)) }
 {
     let (fd, (addr, ())) = row_of(alloc, words)?;
     Ok(Request::Bind { fd: Fd(fd), addr })
@@ -166,7 +166,7 @@ fn bind_of(alloc: Global, words: &[&[u8]]) -> Result<Request, LineError>
 /// `listen FD BACKLOG`.
 #[tactic(auto, unfolding(crate::specs::Reading::listen_at))]
 fn listen_of(alloc: Global, words: &[&[u8]]) -> Result<Request, LineError>
-    ensures { Gives (λ r. r) result (listen_at (map (λ w. w.now) words.now)) }
+    ensures { IsAsRead (λ r. r) result (listen_at (map (λ w. w.now) words.now)) }
 {
     let (fd, (backlog, ())) = row_of(alloc, words)?;
     Ok(Request::Listen {
@@ -178,7 +178,7 @@ fn listen_of(alloc: Global, words: &[&[u8]]) -> Result<Request, LineError>
 /// `connect FD ADDR`.
 #[tactic(auto, unfolding(crate::specs::Reading::connect_at))]
 fn connect_of(alloc: Global, words: &[&[u8]]) -> Result<Request, LineError>
-    ensures { Gives (λ r. r) result (connect_at (map (λ w. w.now) words.now)) }
+    ensures { IsAsRead (λ r. r) result (connect_at (map (λ w. w.now) words.now)) }
 {
     let (fd, (addr, ())) = row_of(alloc, words)?;
     Ok(Request::Connect { fd: Fd(fd), addr })
@@ -187,7 +187,7 @@ fn connect_of(alloc: Global, words: &[&[u8]]) -> Result<Request, LineError>
 /// `accept FD OFLAGS`.
 #[tactic(auto, unfolding(crate::specs::Reading::accept_at))]
 fn accept_of(alloc: Global, words: &[&[u8]]) -> Result<Request, LineError>
-    ensures { Gives (λ r. r) result (accept_at (map (λ w. w.now) words.now)) }
+    ensures { IsAsRead (λ r. r) result (accept_at (map (λ w. w.now) words.now)) }
 {
     let (fd, (flags, ())) = row_of(alloc, words)?;
     Ok(Request::Accept { fd: Fd(fd), flags })
@@ -196,7 +196,7 @@ fn accept_of(alloc: Global, words: &[&[u8]]) -> Result<Request, LineError>
 /// `shut FD MODE`.
 #[tactic(auto, unfolding(crate::specs::Reading::shut_at))]
 fn shut_of(alloc: Global, words: &[&[u8]]) -> Result<Request, LineError>
-    ensures { Gives (λ r. r) result (shut_at (map (λ w. w.now) words.now)) }
+    ensures { IsAsRead (λ r. r) result (shut_at (map (λ w. w.now) words.now)) }
 {
     let (fd, (how, ())) = row_of(alloc, words)?;
     Ok(Request::Shutdown { fd: Fd(fd), how })
@@ -205,7 +205,7 @@ fn shut_of(alloc: Global, words: &[&[u8]]) -> Result<Request, LineError>
 /// `getopt FD OPT`.
 #[tactic(auto, unfolding(crate::specs::Reading::get_opt_at))]
 fn get_opt_of(alloc: Global, words: &[&[u8]]) -> Result<Request, LineError>
-    ensures { Gives (λ r. r) result (get_opt_at (map (λ w. w.now) words.now)) }
+    ensures { IsAsRead (λ r. r) result (get_opt_at (map (λ w. w.now) words.now)) }
 {
     let (fd, (opt, ())) = row_of(alloc, words)?;
     Ok(Request::GetOpt { fd: Fd(fd), opt })
@@ -214,7 +214,7 @@ fn get_opt_of(alloc: Global, words: &[&[u8]]) -> Result<Request, LineError>
 /// `setopt FD OPT VALUE`.
 #[tactic(auto, unfolding(crate::specs::Reading::set_opt_at))]
 fn set_opt_of(alloc: Global, words: &[&[u8]]) -> Result<Request, LineError>
-    ensures { Gives (λ r. r) result (set_opt_at (map (λ w. w.now) words.now)) }
+    ensures { IsAsRead (λ r. r) result (set_opt_at (map (λ w. w.now) words.now)) }
 {
     let (fd, (opt, (value, ()))) = row_of(alloc, words)?;
     Ok(Request::SetOpt {
@@ -227,7 +227,7 @@ fn set_opt_of(alloc: Global, words: &[&[u8]]) -> Result<Request, LineError>
 /// `sockname FD`.
 #[tactic(auto, unfolding(crate::specs::Reading::sock_name_at))]
 fn sock_name_of(alloc: Global, words: &[&[u8]]) -> Result<Request, LineError>
-    ensures { Gives (λ r. r) result (sock_name_at (map (λ w. w.now) words.now)) }
+    ensures { IsAsRead (λ r. r) result (sock_name_at (map (λ w. w.now) words.now)) }
 {
     let (fd, ()) = row_of(alloc, words)?;
     Ok(Request::GetSockName { fd: Fd(fd) })
@@ -236,7 +236,7 @@ fn sock_name_of(alloc: Global, words: &[&[u8]]) -> Result<Request, LineError>
 /// `peername FD`.
 #[tactic(auto, unfolding(crate::specs::Reading::peer_name_at))]
 fn peer_name_of(alloc: Global, words: &[&[u8]]) -> Result<Request, LineError>
-    ensures { Gives (λ r. r) result (peer_name_at (map (λ w. w.now) words.now)) }
+    ensures { IsAsRead (λ r. r) result (peer_name_at (map (λ w. w.now) words.now)) }
 {
     let (fd, ()) = row_of(alloc, words)?;
     Ok(Request::GetPeerName { fd: Fd(fd) })
@@ -245,7 +245,7 @@ fn peer_name_of(alloc: Global, words: &[&[u8]]) -> Result<Request, LineError>
 /// `send FD ADDR HEX CONTROL MFLAGS`.
 #[tactic(auto, unfolding(crate::specs::Reading::send_at))]
 fn send_of(alloc: Global, words: &[&[u8]]) -> Result<Request, LineError>
-    ensures { Gives (λ r. r) result (send_at (map (λ w. w.now) words.now)) }
+    ensures { IsAsRead (λ r. r) result (send_at (map (λ w. w.now) words.now)) }
 {
     let (fd, (addr, (bytes, (control, (flags, ()))))) = row_of(alloc, words)?;
     Ok(Request::SendMsg {
@@ -260,7 +260,7 @@ fn send_of(alloc: Global, words: &[&[u8]]) -> Result<Request, LineError>
 /// `recv FD N SPACE MFLAGS`.
 #[tactic(auto, unfolding(crate::specs::Reading::recv_at))]
 fn recv_of(alloc: Global, words: &[&[u8]]) -> Result<Request, LineError>
-    ensures { Gives (λ r. r) result (recv_at (map (λ w. w.now) words.now)) }
+    ensures { IsAsRead (λ r. r) result (recv_at (map (λ w. w.now) words.now)) }
 {
     let (fd, (n, (space, (flags, ())))) = row_of(alloc, words)?;
     Ok(Request::RecvMsg {
@@ -274,7 +274,7 @@ fn recv_of(alloc: Global, words: &[&[u8]]) -> Result<Request, LineError>
 /// `poll FD`.
 #[tactic(auto, unfolding(crate::specs::Reading::poll_at))]
 fn poll_of(alloc: Global, words: &[&[u8]]) -> Result<Request, LineError>
-    ensures { Gives (λ r. r) result (poll_at (map (λ w. w.now) words.now)) }
+    ensures { IsAsRead (λ r. r) result (poll_at (map (λ w. w.now) words.now)) }
 {
     let (fd, ()) = row_of(alloc, words)?;
     Ok(Request::Poll { fd: Fd(fd) })
@@ -283,7 +283,7 @@ fn poll_of(alloc: Global, words: &[&[u8]]) -> Result<Request, LineError>
 /// `close FD`.
 #[tactic(auto, unfolding(crate::specs::Reading::close_at))]
 fn close_of(alloc: Global, words: &[&[u8]]) -> Result<Request, LineError>
-    ensures { Gives (λ r. r) result (close_at (map (λ w. w.now) words.now)) }
+    ensures { IsAsRead (λ r. r) result (close_at (map (λ w. w.now) words.now)) }
 {
     let (fd, ()) = row_of(alloc, words)?;
     Ok(Request::Close { fd: Fd(fd) })
@@ -292,7 +292,7 @@ fn close_of(alloc: Global, words: &[&[u8]]) -> Result<Request, LineError>
 /// `fork`.
 #[tactic(auto, unfolding(crate::specs::Reading::fork_at))]
 fn fork_of(words: &[&[u8]]) -> Result<Request, LineError>
-    ensures { Gives (λ r. r) result (fork_at (map (λ w. w.now) words.now)) }
+    ensures { IsAsRead (λ r. r) result (fork_at (map (λ w. w.now) words.now)) }
 {
     end(words)?;
     Ok(Request::Fork)
@@ -301,7 +301,7 @@ fn fork_of(words: &[&[u8]]) -> Result<Request, LineError>
 /// `exec`.
 #[tactic(auto, unfolding(crate::specs::Reading::exec_at))]
 fn exec_of(words: &[&[u8]]) -> Result<Request, LineError>
-    ensures { Gives (λ r. r) result (exec_at (map (λ w. w.now) words.now)) }
+    ensures { IsAsRead (λ r. r) result (exec_at (map (λ w. w.now) words.now)) }
 {
     end(words)?;
     Ok(Request::Exec)
@@ -310,7 +310,7 @@ fn exec_of(words: &[&[u8]]) -> Result<Request, LineError>
 /// `exit`.
 #[tactic(auto, unfolding(crate::specs::Reading::exit_at))]
 fn exit_of(words: &[&[u8]]) -> Result<Request, LineError>
-    ensures { Gives (λ r. r) result (exit_at (map (λ w. w.now) words.now)) }
+    ensures { IsAsRead (λ r. r) result (exit_at (map (λ w. w.now) words.now)) }
 {
     end(words)?;
     Ok(Request::Exit)
@@ -322,7 +322,7 @@ pub(crate) fn request_of(
     word: CallWord,
     args: &[&[u8]],
 ) -> Result<Request, LineError>
-    ensures { Gives (λ r. r) result (args_at word (map (λ w. w.now) args.now)) }
+    ensures { IsAsRead (λ r. r) result (args_at word (map (λ w. w.now) args.now)) }
 {
     match word {
         CallWord::Open => open_of(alloc, args),

@@ -5,7 +5,7 @@ ghost use Rattle.std.specs.List.{slice_split};
 ghost use Rattle.ux_model.specs.Delivery.{control_bytes};
 ghost use Rattle.ux_syntax.specs.Spelling.{padded, control_buffer, ItemsAreSpelled};
 ghost use Rattle.ux_syntax.specs.Reading.{some_pairs_at, each_number_at, numbers_at, cred_at, control_item_at, alone, paired, control_items_at, control_at};
-ghost use Rattle.ux_syntax.specs.Results.{Gives};
+ghost use Rattle.ux_syntax.specs.Results.{IsAsRead};
 
 use crate::fault::{BAD, LineError};
 use crate::row::row_of;
@@ -105,7 +105,7 @@ impl ControlWord {
 
     /// Control data of two items, one of each kind.
     fn paired(first: ControlItem, second: ControlItem) -> Result<ControlWord, LineError>
-        ensures { Gives (λ w. w) result (paired first second) }
+        ensures { IsAsRead (λ w. w) result (paired first second) }
     {
         match (first, second) {
             (ControlItem::Rights(numbers), ControlItem::Credentials(cred)) => {
@@ -121,7 +121,7 @@ impl ControlWord {
 
 /// The bytes that pairs of digits spell, one pair at least.
 fn some_pairs_of(alloc: Global, digits: &[u8]) -> Result<Vec<u8>, LineError>
-    ensures { Gives (λ bytes. bytes.items) result (some_pairs_at digits.now) }
+    ensures { IsAsRead (λ bytes. bytes.items) result (some_pairs_at digits.now) }
 {
     if digits.is_empty() {
         return Err(BAD);
@@ -136,7 +136,7 @@ fn split_numbers<'a>(alloc: Global, text: &'a [u8]) -> Result<Vec<&'a [u8]>, All
 }
 
 fn each_number_of(alloc: Global, words: &[&[u8]]) -> Result<Numbers, LineError>
-    ensures { Gives (λ numbers. numbers) result (each_number_at (map (λ w. w.now) words.now)) }
+    ensures { IsAsRead (λ numbers. numbers) result (each_number_at (map (λ w. w.now) words.now)) }
 {
     let mut fds = Vec::new(alloc);
     for word in words {
@@ -149,7 +149,7 @@ fn each_number_of(alloc: Global, words: &[&[u8]]) -> Result<Numbers, LineError>
 /// The numbers that a text spells, joined by commas.
 #[tactic(auto, unfolding(crate::specs::Reading::numbers_at))]
 fn numbers_of(alloc: Global, text: &[u8]) -> Result<Numbers, LineError>
-    ensures { Gives (λ numbers. numbers) result (numbers_at text.now) }
+    ensures { IsAsRead (λ numbers. numbers) result (numbers_at text.now) }
 {
     let words = split_numbers(alloc, text)?;
     each_number_of(alloc, &words)
@@ -158,7 +158,7 @@ fn numbers_of(alloc: Global, text: &[u8]) -> Result<Numbers, LineError>
 /// The credentials that a text spells: a process, a user and a group, joined by commas.
 #[tactic(auto, unfolding(crate::specs::Reading::cred_at))]
 fn cred_of(alloc: Global, text: &[u8]) -> Result<Cred, LineError>
-    ensures { Gives (λ cred. cred) result (cred_at text.now) }
+    ensures { IsAsRead (λ cred. cred) result (cred_at text.now) }
 {
     let words = split_numbers(alloc, text)?;
     let (pid, (uid, (gid, ()))) = row_of(alloc, &words)?;
@@ -172,7 +172,7 @@ fn cred_of(alloc: Global, text: &[u8]) -> Result<Cred, LineError>
 /// The item that a text spells: `r:` and numbers, or `c:` and credentials.
 #[tactic(auto, unfolding(crate::specs::Reading::control_item_at))]
 fn control_item_of(alloc: Global, text: &[u8]) -> Result<ControlItem, LineError>
-    ensures { Gives (λ item. item) result (control_item_at text.now) }
+    ensures { IsAsRead (λ item. item) result (control_item_at text.now) }
 {
     match text {
         [letter, colon, numbers @ ..] if *letter == b'r' && *colon == b':' => {
@@ -194,7 +194,7 @@ fn split_items<'a>(alloc: Global, text: &'a [u8]) -> Result<Vec<&'a [u8]>, Alloc
 /// The items that a text spells, joined by a plus: one, or one of each kind.
 #[tactic(auto, unfolding(crate::specs::Reading::control_items_at))]
 fn control_items_of(alloc: Global, text: &[u8]) -> Result<ControlWord, LineError>
-    ensures { Gives (λ word. word) result (control_items_at text.now) }
+    ensures { IsAsRead (λ word. word) result (control_items_at text.now) }
 {
     let items = split_items(alloc, text)?;
     match items.as_slice() {

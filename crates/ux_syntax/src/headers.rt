@@ -2,7 +2,7 @@
 
 ghost use Rattle.std.specs.Prelude.{◌≡◌, map};
 ghost use Rattle.ux_syntax.specs.Reading.{fail_at, body_at, object_at, proc_at};
-ghost use Rattle.ux_syntax.specs.Results.{Gives};
+ghost use Rattle.ux_syntax.specs.Results.{IsAsRead};
 
 use crate::fault::{BAD, LineError};
 use crate::row::{end, row_of, word};
@@ -16,7 +16,7 @@ fn fail_of<'a>(
     alloc: Global,
     words: &'a [&'a [u8]],
 ) -> Result<(Option<u32>, &'a [&'a [u8]]), LineError>
-    ensures { Gives (λ x. (x.0, map (λ w. w.now) x.1.now)) result (fail_at (map (λ w. w.now) words.now)) }
+    ensures { IsAsRead (λ x. (x.0, map (λ w. w.now) x.1.now)) result (fail_at (map (λ w. w.now) words.now)) }
 {
     match words {
         [first, rest @ ..] if *first == b"fail".as_slice() => {
@@ -32,7 +32,7 @@ fn fail_of<'a>(
 
 /// What an object of this kind starts with: `HEX` for a memory file, and nothing for the others.
 fn body_of(alloc: Global, kind: ObjKind, words: &[&[u8]]) -> Result<Bytes, LineError>
-    ensures { Gives (λ b. b) result (body_at kind (map (λ w. w.now) words.now)) }
+    ensures { IsAsRead (λ b. b) result (body_at kind (map (λ w. w.now) words.now)) }
 {
     match kind {
         ObjKind::Memory => {
@@ -50,7 +50,7 @@ fn body_of(alloc: Global, kind: ObjKind, words: &[&[u8]]) -> Result<Bytes, LineE
 /// In front of the kind may stand `fail N`.
 #[tactic(auto, unfolding(crate::specs::Reading::object_at))]
 pub(crate) fn object_of(alloc: Global, words: &[&[u8]]) -> Result<ObjectLine, LineError>
-    ensures { Gives (λ o. o) result (object_at (map (λ w. w.now) words.now)) }
+    ensures { IsAsRead (λ o. o) result (object_at (map (λ w. w.now) words.now)) }
 {
     let (name, words) = word(alloc, words)?;
     let (fail, words) = fail_of(alloc, words)?;
@@ -67,7 +67,7 @@ pub(crate) fn object_of(alloc: Global, words: &[&[u8]]) -> Result<ObjectLine, Li
 /// `proc UID GID PRIV LIMIT`, without its first word.
 #[tactic(auto, unfolding(crate::specs::Reading::proc_at))]
 pub(crate) fn proc_of(alloc: Global, words: &[&[u8]]) -> Result<ProcSpec, LineError>
-    ensures { Gives (λ p. p) result (proc_at (map (λ w. w.now) words.now)) }
+    ensures { IsAsRead (λ p. p) result (proc_at (map (λ w. w.now) words.now)) }
 {
     let (uid, (gid, (privileged, (limit, ())))) = row_of(alloc, words)?;
     Ok(ProcSpec {

@@ -2,7 +2,7 @@
 
 ghost use Rattle.std.specs.Prelude.{◌≡◌, ◌⊎◌, Ok, Err, IfOk, OnOk, IfErr, IfSome};
 ghost use Rattle.std.specs.Io.KnownBytes.{IsAtEnd};
-ghost use Rattle.ux_syntax.specs.Spelling.{Plan, plan_of, Spells, IsOrderly, lines_of};
+ghost use Rattle.ux_syntax.specs.Spelling.{Plan, plan_of, SpellScript, IsOrderly, lines_of};
 ghost use Rattle.ux_syntax.specs.Results.{GivesScript, Refuses};
 ghost use Rattle.ux_syntax.specs.Continuing.{Found};
 
@@ -26,11 +26,11 @@ const TURNS: u64 = u64::MAX / 8192;
 /// `BadLine`, `UnknownProcess` or `TooLong` of the first line at fault; `Reading` where a read fails; `NoMemory`.
 pub fn read_script<R: Read>(alloc: Global, reader: &mut R) -> Result<Script, ScriptFault>
     // What is read is spelled so by the bytes that the reader had.
-    ensures found { IfOk result (λ script. IfSome (R.remaining reader.old) (λ text. Spells (lines_of text) (plan_of script))) }
+    ensures found { IfOk result (λ script. IfSome (R.remaining reader.old) (λ text. SpellScript (lines_of text) (plan_of script))) }
     // Each line is of a process that is there and hasn't made its exit, and waits for none that isn't there.
     ensures orderly { IfOk result (λ script. IsOrderly (plan_of script)) }
     // What is spelled so is read, unless memory runs out or the read failed.
-    ensures only { IfSome (R.remaining reader.old) (λ text. (s : Plan) → Spells (lines_of text) s → (result ≡ Err ScriptFault.Reading) ⊎ GivesScript result (Ok s)) }
+    ensures only { IfSome (R.remaining reader.old) (λ text. (s : Plan) → SpellScript (lines_of text) s → (result ≡ Err ScriptFault.Reading) ⊎ GivesScript result (Ok s)) }
     // None of the reader's bytes is left.
     ensures end { OnOk result (IsAtEnd (R.remaining reader.new)) }
     // The read failed, or the fault is that of the first line at fault, and says why.

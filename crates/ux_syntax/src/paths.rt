@@ -3,7 +3,7 @@
 
 ghost use Rattle.std.specs.Prelude.{◌≡◌};
 ghost use Rattle.ux_syntax.specs.Reading.{byte_at, escaped_at, name_at, lettered_at, path_at, addr_at, addr_or_dash_at};
-ghost use Rattle.ux_syntax.specs.Results.{Gives};
+ghost use Rattle.ux_syntax.specs.Results.{IsAsRead};
 
 use crate::fault::{BAD, LineError};
 use crate::words::{Word, digit_of};
@@ -13,7 +13,7 @@ use ux_types::{Addr, Bytes, Name};
 
 /// The byte that two digits spell, which must be one that doesn't stand for itself.
 fn escaped_of(high: u8, low: u8) -> Result<u8, LineError>
-    ensures { Gives (λ b. b) result (escaped_at high low) }
+    ensures { IsAsRead (λ b. b) result (escaped_at high low) }
 {
     let high = digit_of(high)?;
     let low = digit_of(low)?;
@@ -23,7 +23,7 @@ fn escaped_of(high: u8, low: u8) -> Result<u8, LineError>
 
 /// The first byte of a name, and what follows its spelling.
 fn byte_of(text: &[u8]) -> Result<(u8, &[u8]), LineError>
-    ensures { Gives (λ x. (x.0, x.1.now)) result (byte_at text.now) }
+    ensures { IsAsRead (λ x. (x.0, x.1.now)) result (byte_at text.now) }
 {
     match text {
         [first, high, low, rest @ ..] if *first == b'%' => Ok((escaped_of(*high, *low)?, rest)),
@@ -33,7 +33,7 @@ fn byte_of(text: &[u8]) -> Result<(u8, &[u8]), LineError>
 }
 
 fn name_of(alloc: Global, text: &[u8]) -> Result<Name, LineError>
-    ensures { Gives (λ name. name) result (name_at text.now) }
+    ensures { IsAsRead (λ name. name) result (name_at text.now) }
 {
     let mut bytes = Vec::new(alloc);
     let mut rest = text;
@@ -47,7 +47,7 @@ fn name_of(alloc: Global, text: &[u8]) -> Result<Name, LineError>
 
 /// The name that a word has behind this letter and a colon.
 fn lettered_of(alloc: Global, letter: u8, word: &[u8]) -> Result<Name, LineError>
-    ensures { Gives (λ name. name) result (lettered_at letter word.now) }
+    ensures { IsAsRead (λ name. name) result (lettered_at letter word.now) }
 {
     match word {
         [first, colon, name @ ..] if *first == letter && *colon == b':' => name_of(alloc, name),

@@ -2,10 +2,10 @@
 
 ghost use Rattle.std.specs.Prelude.{◌≡◌, ◌==◌, true, not, length, map, IfOk, IfErr, OnOk, Ok};
 ghost use Rattle.std.specs.List.{slice_split};
-ghost use Rattle.ux_syntax.specs.Spelling.{Plan, plan_of, Spells, IsOrderly, OneScript, lines_of, is_meant, asks_fork};
+ghost use Rattle.ux_syntax.specs.Spelling.{Plan, plan_of, SpellScript, IsOrderly, OneScript, lines_of, is_meant, asks_fork};
 ghost use Rattle.ux_syntax.specs.Turns.{is_known, awaits_known};
 ghost use Rattle.ux_syntax.specs.Reading.{words_at, item_at, may_fork, joined_by, joined_by_fork, line_at, no_lines, script_at};
-ghost use Rattle.ux_syntax.specs.Results.{Gives, Leaves, GivesScript, Refuses, Marks};
+ghost use Rattle.ux_syntax.specs.Results.{IsAsRead, Leaves, GivesScript, Refuses, Marks};
 
 use crate::acts::act_of;
 use crate::fault::{BAD, Fault, LineError, ScriptFault};
@@ -34,7 +34,7 @@ enum Item {
 
 #[tactic(auto, unfolding(crate::specs::Reading::words_at))]
 fn words_of(alloc: Global, number: usize, words: &[&[u8]]) -> Result<Item, LineError>
-    ensures { Gives (λ item. item) result (words_at (map (λ w. w.now) words.now)) }
+    ensures { IsAsRead (λ item. item) result (words_at (map (λ w. w.now) words.now)) }
 {
     let (first, rest) = next(words)?;
     if first == b"proc".as_slice() {
@@ -76,7 +76,7 @@ fn split_lines<'a>(alloc: Global, text: &'a [u8]) -> Result<Vec<&'a [u8]>, Alloc
 /// What the line of this number says.
 #[tactic(auto, unfolding(crate::specs::Reading::item_at))]
 fn item_of(alloc: Global, number: usize, text: &[u8]) -> Result<Item, LineError>
-    ensures { Gives (λ item. item) result (item_at text.now) }
+    ensures { IsAsRead (λ item. item) result (item_at text.now) }
 {
     if text.len() > LINE_LIMIT {
         return Err(LineError::Fault(Fault::TooLong));
@@ -269,11 +269,11 @@ fn read_text(alloc: Global, text: &[u8]) -> Result<Script, ScriptFault>
 /// `BadLine`, `UnknownProcess` or `TooLong` of the first line at fault, and `NoMemory`.
 pub fn parse_script(alloc: Global, text: &[u8]) -> Result<Script, ScriptFault>
     // What is read is spelled so.
-    ensures found { IfOk result (λ script. Spells (lines_of text.now) (plan_of script)) }
+    ensures found { IfOk result (λ script. SpellScript (lines_of text.now) (plan_of script)) }
     // Each line is of a process that is there and hasn't made its exit, and waits for none that isn't there.
     ensures orderly { IfOk result (λ script. IsOrderly (plan_of script)) }
     // What is spelled so is read, unless memory runs out.
-    ensures only { (s : Plan) → Spells (lines_of text.now) s → GivesScript result (Ok s) }
+    ensures only { (s : Plan) → SpellScript (lines_of text.now) s → GivesScript result (Ok s) }
     // A fault is that of the first line at fault, and says why.
     ensures fault { IfErr result (λ f. Refuses (lines_of text.now) f) }
 {

@@ -5,7 +5,7 @@ ghost use Rattle.ux_syntax.specs.declared.fault.Fault.{Fault};
 ghost use Rattle.std.specs.List.{list_all};
 ghost use Rattle.std.specs.Char.{is_ascii_digit};
 ghost use Rattle.ux_syntax.specs.Reading.{is_plain, number_at, without_minus, offset_at, backlog_at, digit_at, pairs_at, hex_at, beside_at, bit_at, mode_at, type_at, option_at, whence_at, kind_at, flag_at, open_flags_at, msg_flags_at};
-ghost use Rattle.ux_syntax.specs.Results.{Gives};
+ghost use Rattle.ux_syntax.specs.Results.{IsAsRead};
 
 use crate::fault::{BAD, LineError};
 use std::alloc::Global;
@@ -18,7 +18,7 @@ pub(crate) trait Word: Sized {
     ghost at: { List ℕ → Result Self Fault };
 
     fn of(alloc: Global, word: &[u8]) -> Result<Self, LineError>
-        ensures { Gives (λ x. x) result (at word.now) };
+        ensures { IsAsRead (λ x. x) result (at word.now) };
 }
 
 /// Whether a word is empty or begins with a 0 that more follows.
@@ -117,7 +117,7 @@ impl Word for i32 {
 }
 
 pub(crate) fn digit_of(byte: u8) -> Result<u8, LineError>
-    ensures exact { Gives (λ n. n) result (digit_at byte) }
+    ensures exact { IsAsRead (λ n. n) result (digit_at byte) }
     ensures small { IfOk result (λ n. n < 16) }
 {
     match byte {
@@ -128,7 +128,7 @@ pub(crate) fn digit_of(byte: u8) -> Result<u8, LineError>
 }
 
 pub(crate) fn pairs_of(alloc: Global, digits: &[u8]) -> Result<Vec<u8>, LineError>
-    ensures { Gives (λ bytes. bytes.items) result (pairs_at digits.now) }
+    ensures { IsAsRead (λ bytes. bytes.items) result (pairs_at digits.now) }
 {
     let mut bytes = Vec::new(alloc);
     let mut rest = digits;
@@ -159,7 +159,7 @@ impl Word for Bytes {
 
 /// The value that stands beside a word in a table of words and values.
 fn value_of<T: Copy>(table: &[(&str, T)], word: &[u8]) -> Result<T, LineError>
-    ensures { Gives (λ x. x) result (beside_at (map (λ row. (row.0.now, row.1)) table.now) word.now) }
+    ensures { IsAsRead (λ x. x) result (beside_at (map (λ row. (row.0.now, row.1)) table.now) word.now) }
 {
     match table.iter().find(|row| word == row.0.as_bytes()) {
         Some(row) => Ok(row.1),

@@ -1,5 +1,6 @@
 -- The text of a history: a line for each entry.
-use Rattle.std.specs.Prelude.{ℕ, ◌+◌, ◌/◌, ◌%◌, Bool, false, List, [], ◌∷◌, ◌++◌, map, Option, Some, None, codes, decimal, if◌then◌else◌, ◌==◌, ◌&&◌, not, nat_le}
+use Rattle.std.specs.Prelude.{ℕ, ◌+◌, ◌/◌, ◌%◌, Bool, false, List, [], ◌∷◌, ◌++◌, map, Option, Some, None, codes, decimal, if◌then◌else◌}
+use Rattle.std.specs.Prelude.{◌==◌, ◌&&◌, not, nat_le}
 use Rattle.std.specs.Fmt.{digit_glyph}
 use Rattle.std.specs.List.{flat_map, join_with_byte}
 use Rattle.ux_model.specs.Types.{Cred, Name, Addr, Errno, MsgFlags, PollFlags, Request, Reply, Entry}
@@ -116,7 +117,8 @@ items_text bytes = told_text bytes (control_in bytes)
 -- what a receive got: the count, the bytes, the flags, the items of its control bytes, and the sender's address
 abbrev pub got_text : ℕ → List ℕ → MsgFlags → List ℕ → Option Addr → List ℕ
 got_text count bytes flags items from =
-    codes "got " ++ (decimal count ++ (codes " " ++ (hex bytes ++ (codes " " ++ (received_flags_text flags ++ (codes " " ++ (items ++ (codes " " ++ addr_or_dash from))))))))
+    codes "got " ++ (decimal count ++ (codes " " ++ (hex bytes ++ (codes " " ++ (received_flags_text flags
+    ++ (codes " " ++ (items ++ (codes " " ++ addr_or_dash from))))))))
 
 -- a refusal's name, as POSIX and unix(7) have it
 abbrev pub errno_text : Errno → List ℕ
@@ -236,7 +238,9 @@ closed_text (n ∷ ns) = codes " closed" ++ spaced (n ∷ ns)
 
 -- N PID K WORD = REPLY, and behind that the file objects that were closed
 abbrev pub entry_line : ℕ → Entry → List ℕ
-entry_line n e = decimal n ++ (codes " " ++ (decimal e.pid.0 ++ (codes " " ++ (decimal e.k ++ (codes " " ++ (word_text (request_word e.request) ++ (codes " = " ++ (reply_text e.reply ++ (closed_text e.released ++ (10 ∷ []))))))))))
+entry_line n e =
+    decimal n ++ (codes " " ++ (decimal e.pid.0 ++ (codes " " ++ (decimal e.k ++ (codes " "
+    ++ (word_text (request_word e.request) ++ (codes " = " ++ (reply_text e.reply ++ (closed_text e.released ++ (10 ∷ []))))))))))
 
 -- the lines of the entries, of which the first has this number
 abbrev pub trace_from : ℕ → List Entry → List ℕ

@@ -1,7 +1,7 @@
 use Rattle.std.proofs.Common.{ap, subst, ◌∙◌}
 use Rattle.std.proofs.lemmas.Bool.{or_parts}
-use Rattle.ux_model.specs.History.{is_exit, is_off}
-use Rattle.ux_book.specs.Books.{KeptHistory, processes, is_last, is_fork}
+use Rattle.ux_model.specs.History.{is_exit, is_off, is_fork}
+use Rattle.ux_book.specs.Books.{KeptHistory, processes, is_last}
 use Rattle.ux_book.specs.Sitting.{Answers}
 use Rattle.ux_book.proofs.Sitting.{called_shares, refused_shares, made_by, as_many, no_fork}
 use Rattle.ux_book.proofs.serial.Serial.call.Goals.{in-Ok, in-Err}
