@@ -10,6 +10,8 @@ pub mod Ways
 pub mod Touching
 pub mod Opened
 pub mod NoWay
+pub mod Unwritten
+pub mod Firsts
 pub mod Packets
 pub mod Whole
 pub mod Installing
