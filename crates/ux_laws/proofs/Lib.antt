@@ -12,6 +12,7 @@ pub mod Opened
 pub mod NoWay
 pub mod Unwritten
 pub mod Firsts
+pub mod Apart
 pub mod Packets
 pub mod Whole
 pub mod Installing

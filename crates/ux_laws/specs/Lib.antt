@@ -4,6 +4,7 @@ pub mod Streams
 pub mod Credentials
 pub mod Files
 pub mod Beginning
+pub mod Separation
 pub mod Records
 pub mod Rights
 pub mod Reach

@@ -15,6 +15,7 @@ ghost use Rattle.ux_laws.specs.Reach.{CallsLeaveOthersAlone, CallsLeaveTablesAlo
 ghost use Rattle.ux_laws.specs.Reach.{AbstractNamesStay, AbstractNamesAreBound};
 ghost use Rattle.ux_laws.specs.Records.{RecordsArriveInOrder, RecordsArriveOnce, RecordsArriveWhole, ReadRecordsArriveWhole};
 ghost use Rattle.ux_laws.specs.Rights.{RightsComeOnce, RightsComeWithTheirMessage};
+ghost use Rattle.ux_laws.specs.Separation.{KeptFilesAreSeparated};
 ghost use Rattle.ux_laws.specs.Streams.{StreamsAreReliable};
 
 /// Credentials that a receive or a peek reports (SCM_CREDENTIALS) are those that the sending process had at
@@ -105,10 +106,18 @@ pub fn nobody_makes_processes_of_the_start()
     ensures { NobodyMakesThem }
 {}
 
-/// Where no process of the start forks, they make all calls.
+/// Where no process of the start forks, each call is by one of them, or is the layer's end.
 #[tactic(auto, using(crate::proofs::Firsts::all_calls_are_theirs))]
 pub fn without_forks_they_make_all_calls()
     ensures { AllCallsAreTheirs }
+{}
+
+/// Privilege separation: where one process alone opens a memory file's path, never to write, and none forks, the file keeps
+/// its bytes, what any read of it is answered is a run of them, and no other process that was sent nothing has a
+/// descriptor that leads to it.
+#[tactic(auto, using(crate::proofs::Apart::kept_files_are_separated))]
+pub fn kept_files_are_separated()
+    ensures { KeptFilesAreSeparated }
 {}
 
 /// The packets that were sent to a datagram or seqpacket socket, in order, are those that receives and reads took
