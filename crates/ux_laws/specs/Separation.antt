@@ -1,10 +1,10 @@
 -- Privilege separation: one process opens a file and may pass it on, and the others can't open it (unix(7), SCM_RIGHTS).
-use Rattle.std.specs.Prelude.{◌≡◌, ◌≢◌, ℕ, false, List, Some}
+use Rattle.std.specs.Prelude.{◌≡◌, ◌≢◌, ℕ, Bool, true, false, not, ◌==◌, ◌&&◌, ◌||◌, List, Some}
 use Rattle.std.specs.List.{slice_get}
-use Rattle.ux_model.specs.Types.{Fd, Name, Mode, OpenFlags, Request, Reply, Entry}
+use Rattle.ux_model.specs.Types.{Fd, Name, Request, Reply, Entry}
 use Rattle.ux_model.specs.Flags.{can_write}
 use Rattle.ux_model.specs.Object.{Body, memory}
-use Rattle.ux_model.specs.Names.{file, named}
+use Rattle.ux_model.specs.Names.{file, named, same_name}
 use Rattle.ux_model.specs.State.{State}
 use Rattle.ux_model.specs.History.{IsLegal}
 use Rattle.ux_model.specs.Pedigree.{before}
@@ -12,11 +12,11 @@ use Rattle.ux_model.specs.PedigreeLaws.{WasSentNothing}
 use Rattle.ux_laws.specs.Files.{body_at, object_behind, IsRunOf}
 use Rattle.ux_laws.specs.Beginning.{IsOfTheStart}
 
--- No process of the start forks, and the keeper alone opens the path, and not to write.
-pub record IsKeptBy (boot : State) (entries : List Entry) (path : Name) (keeper : ℕ) : Type 0 where
-  pub no_fork : (j : ℕ) (e : Entry) → slice_get entries j ≡ Some e → IsOfTheStart boot e.pid.0 → e.request ≢ Request.Fork
-  pub keeper_alone : (j : ℕ) (e : Entry) (mode : Mode) (flags : OpenFlags) → slice_get entries j ≡ Some e → IsOfTheStart boot e.pid.0 →
-      e.request ≡ Request.Open path mode flags → (e.pid.0 ≡ keeper) × (can_write mode ≡ false)
+-- The request of process p leaves the path to the keeper: it is no fork, nor an open of the path, but the keeper's that isn't to write.
+abbrev pub leaves_to : ℕ → Name → ℕ → Request → Bool
+leaves_to keeper path p Request.Fork = false
+leaves_to keeper path p (Request.Open other mode flags) = not (same_name other path) || ((p == keeper) && not (can_write mode))
+leaves_to keeper path p _ = true
 
 -- What anybody can tell of the file is what it had at the start, and only the keeper and those who were sent something can.
 pub record IsSeparated (boot : State) (entries : List Entry) (keeper o : ℕ) (bytes : List ℕ) : Type 0 where
@@ -29,8 +29,9 @@ pub record IsSeparated (boot : State) (entries : List Entry) (keeper o : ℕ) (b
   pub withheld : (j q : ℕ) (fd : Fd) → IsOfTheStart boot q → q ≢ keeper → WasSentNothing boot entries q →
       object_behind (before boot entries j) q fd ≢ Some o
 
--- a memory file that is kept so is separated so
+-- so it is where each request of a process of the start leaves the path of a memory file to the keeper
 abbrev pub KeptFilesAreSeparated : Type 0
 KeptFilesAreSeparated = (boot : State) (entries : List Entry) (path : Name) (keeper o : ℕ) (bytes : List ℕ) → IsLegal boot entries →
-    named path boot.paths ≡ Some (file o) → body_at boot o ≡ Some (memory bytes) → IsKeptBy boot entries path keeper →
+    named path boot.paths ≡ Some (file o) → body_at boot o ≡ Some (memory bytes) →
+    ((j : ℕ) (e : Entry) → slice_get entries j ≡ Some e → IsOfTheStart boot e.pid.0 → leaves_to keeper path e.pid.0 e.request ≡ true) →
     IsSeparated boot entries keeper o bytes
