@@ -4,7 +4,7 @@ use Rattle.ux_model.specs.Types.{Errno, SockType, Mode, Request, Reply, Entry}
 use Rattle.ux_model.specs.Object.{memory}
 use Rattle.ux_model.specs.State.{State}
 use Rattle.ux_model.specs.History.{replay}
-use Rattle.ux_laws.specs.Files.{body_at, object_behind}
+use Rattle.ux_laws.specs.Files.{body_at, object_behind, IsRunOf}
 use Rattle.ux_laws.proofs.Play.{computing, made, replies, with_files, pair_of, fd}
 
 abbrev boot : State
@@ -26,6 +26,21 @@ what_was_answered = refl
 the_file_stays : body_at (replay boot calls) 0 ≡ Some (memory (codes "abc"))
 unfolding computing
 the_file_stays = refl
+
+-- what was read of it are bytes of it
+what_was_read : IsRunOf (codes "ab") (codes "abc")
+what_was_read = record { ahead = []; behind = codes "c"; joined = refl }
+
+-- once the second process opens it for writing, it stays no longer
+abbrev more_calls : List Entry
+more_calls = made boot 0 (
+    (1, Request.Open (codes "f") Mode.Read (record { 0 = 0 })) ∷
+    (2, Request.Open (codes "f") Mode.Write (record { 0 = 0 })) ∷
+    (2, Request.Write (fd 0) (codes "x")) ∷ [])
+
+the_file_changes : body_at (replay boot more_calls) 0 ≡ Some (memory (codes "xbc"))
+unfolding computing
+the_file_changes = refl
 
 -- the reader's number leads to it, the stranger's to no file object
 who_has_a_way : object_behind (replay boot calls) 1 (fd 0) ≡ Some 0

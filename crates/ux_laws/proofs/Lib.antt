@@ -10,6 +10,9 @@ pub mod Ways
 pub mod Touching
 pub mod Opened
 pub mod NoWay
+pub mod Unwritten
+pub mod Firsts
+pub mod Apart
 pub mod Packets
 pub mod Whole
 pub mod Installing

@@ -23,13 +23,13 @@ use Rattle.ux_model.proofs.Replays.{step_replay}
 use Rattle.ux_model.proofs.Moments.{moment, given_cases}
 use Rattle.ux_model.proofs.Passing.{how_receives}
 use Rattle.ux_laws.specs.Talking.{if_found}
-use Rattle.ux_laws.specs.Files.{body_in, body_at, object_behind, HasWay, IsChange, by_write, by_read, ChangesHaveAWay, ReadsHaveAWay, AreStrangers, StrangersHaveNoWay, StrangersChangeNothing}
+use Rattle.ux_laws.specs.Files.{body_in, body_at, object_behind, HasWay, IsChange, by_write, by_read, ChangesHaveAWay, ReadsHaveAWay, FilesKeepTheirPath, WereSentNothing, AreStrangers, StrangersHaveNoWay, StrangersChangeNothing}
 use Rattle.ux_laws.proofs.Opened.{Begins, chain_begins, way_there}
 use Rattle.ux_laws.proofs.Touching.{Touches, untouched, written, read_from, NamesNoMore, names_equal, step_files}
 
 -- ---- what a descriptor leads to
 
-record LeadsToObject (S : State) (p : ℕ) (fd : Fd) (o : ℕ) : Type 0 where
+pub record LeadsToObject (S : State) (p : ℕ) (fd : Fd) (o : ℕ) : Type 0 where
   pub entry : Descriptor
   pub description : Description
   pub held : descriptor_at S p fd ≡ Some entry
@@ -42,7 +42,7 @@ description_led e x = elim x as (λ _. Result (Descriptor × Description) Errno)
 abbrev object_led : Option (Descriptor × Description) → Option ℕ
 object_led r = elim r as (λ _. Option ℕ) [ None ↦ None | Some w ↦ object_of w.1.target ]
 
-behind_leads : (S : State) (p : ℕ) (fd : Fd) (o : ℕ) → object_behind S p fd ≡ Some o → LeadsToObject S p fd o
+pub behind_leads : (S : State) (p : ℕ) (fd : Fd) (o : ℕ) → object_behind S p fd ≡ Some o → LeadsToObject S p fd o
 behind_leads S p fd o h = by_descriptor (descriptor_at S p fd) refl h
   where
     by_kind : (e : Descriptor) (D : Description) → descriptor_at S p fd ≡ Some e → description_at S e.description ≡ Some D → (t : Target) → D.target ≡ t → object_of t ≡ Some o → LeadsToObject S p fd o
@@ -188,18 +188,23 @@ one_path boot a b o boots h k =
     let entry : x.1 ≡ y.1 = cc both in
     sym x.4 ∙ ap (λ (e : Name × PathTarget). e.0) entry ∙ y.4
 
--- all holdings of a chain that leads to a stranger are of strangers
-all_strangers : (boot : State) (es : List Entry) (path : Name) (are : ℕ → Bool) (chain : List Link) (a : Link) → IsLegal boot es → AreStrangers boot es path are → IsChain boot es chain a → are a.pid.0 ≡ true →
+pub files_keep_their_path : FilesKeepTheirPath
+files_keep_their_path boot es j o path other legal at_first leads =
+    let names = kept_throughout boot (NamedAtFirst boot) (named_kept boot) (take j es) (front_is_legal boot es j legal) in
+    one_path boot other path o legal.boots (names.names.each other o leads) at_first
+
+-- all holdings of a chain that leads to one that was sent nothing, as those that made it, are of such
+pub all_theirs : (boot : State) (es : List Entry) (are : ℕ → Bool) (chain : List Link) (a : Link) → IsLegal boot es → WereSentNothing boot es are → IsChain boot es chain a → are a.pid.0 ≡ true →
     (b : Begins boot es chain) → are b.first.pid.0 ≡ true
-all_strangers boot es path are chain a legal strangers (first c e g made) is b =
+all_theirs boot es are chain a legal were (first c e g made) is b =
     let same : Some c ≡ Some b.first = ap (λ (l : List Link). slice_get l 0) b.is in
     let one : c ≡ b.first = cc same in
     ap (λ (l : Link). are l.pid.0) (sym one) ∙ is
-all_strangers boot es path are chain a legal strangers (onward {chain = xs} c d e giving leads stands g from) is b =
+all_theirs boot es are chain a legal were (onward {chain = xs} c d e giving leads stands g from) is b =
     let w = chain_begins boot es xs c leads in
     let heads : Some w.first ≡ Some b.first = sym (head_of w) ∙ ap (λ (l : List Link). slice_get l 0) b.is in
     let one : w.first ≡ b.first = cc heads in
-    ap (λ (l : Link). are l.pid.0) (sym one) ∙ all_strangers boot es path are xs c legal strangers leads (giver d.how refl from) w
+    ap (λ (l : Link). are l.pid.0) (sym one) ∙ all_theirs boot es are xs c legal were leads (giver d.how refl from) w
   where
     head_of : (w : Begins boot es xs) → slice_get (xs ++ d ∷ []) 0 ≡ Some w.first
     head_of w = ap (λ (l : List Link). slice_get (l ++ d ∷ []) 0) w.is
@@ -207,7 +212,7 @@ all_strangers boot es path are chain a legal strangers (onward {chain = xs} c d 
     -- whoever made the call is one
     caller : (e.pid.0 ≡ d.pid.0) ⊎ (makes d.pid.0 e.request e.reply ≡ true) → are e.pid.0 ≡ true
     caller (inl same) = ap are same ∙ is
-    caller (inr made) = strangers.makers d.entry d.pid.0 e g.there made is
+    caller (inr made) = were.makers d.entry d.pid.0 e g.there made is
 
     called : are e.pid.0 ≡ true
     called = caller (⊎_elim {C = (e.pid.0 ≡ d.pid.0) ⊎ (makes d.pid.0 e.request e.reply ≡ true)} (λ made. inr made) (λ own. inl own.0) (given_cases (before boot es d.entry) e d.pid.0 d.fd.0 g.gave))
@@ -217,14 +222,17 @@ all_strangers boot es path are chain a legal strangers (onward {chain = xs} c d 
     giver How.Dup way f = ap are f.1 ∙ called
     giver (How.Received tag) way f =
         let told = how_receives e.request (delivered (before boot es d.entry) e) tag (g.way ∙ ap Some way) in
-        let clash : None ≡ Some tag = sym (strangers.sent_nothing e.pid.0 called d.entry e g.there refl) ∙ told.1 in
+        let clash : None ≡ Some tag = sym (were.sent_nothing e.pid.0 called d.entry e g.there refl) ∙ told.1 in
         absurd (cc clash)
     giver How.Forked way f = ap are f.1 ∙ called
 
 strangers_so_far : (boot : State) (es : List Entry) (path : Name) (are : ℕ → Bool) (j : ℕ) → AreStrangers boot es path are → AreStrangers boot (take j es) path are
 strangers_so_far boot es path are j s = record {
-  makers = λ i q e at made is. s.makers i q e (in_front es j i e at).0 made is;
-  sent_nothing = λ q is i e at own. ap (λ (l : List Entry). delivered (replay boot l) e) (in_front es j i e at).1 ∙ s.sent_nothing q is i e (in_front es j i e at).0 own;
+  sent_nothing = record {
+    makers = λ i q e at made is. s.sent_nothing.makers i q e (in_front es j i e at).0 made is;
+    sent_nothing = λ q is i e at own.
+        ap (λ (l : List Entry). delivered (replay boot l) e) (in_front es j i e at).1 ∙ s.sent_nothing.sent_nothing q is i e (in_front es j i e at).0 own;
+  };
   never_opened = λ i e mode flags at is. s.never_opened i e mode flags (in_front es j i e at).0 is;
 }
 
@@ -235,7 +243,7 @@ no_way boot es path are o p n legal at_first strangers is way =
     let begins = chain_begins boot es (way.first ∷ way.rest) ped.last ped.leads in
     let same : Some way.first ≡ Some begins.first = ap (λ (l : List Link). slice_get l 0) begins.is in
     let one : way.first ≡ begins.first = cc same in
-    let of_first = all_strangers boot es path are (way.first ∷ way.rest) ped.last legal strangers ped.leads (ap are ped.process ∙ is) begins in
+    let of_first = all_theirs boot es are (way.first ∷ way.rest) ped.last legal strangers.sent_nothing ped.leads (ap are ped.process ∙ is) begins in
     let opens = way.opened in
     let k : ℕ = way.first.entry in
     let both : Some opens.call ≡ Some begins.call = sym opens.there ∙ ap (λ (l : Link). slice_get es l.entry) one ∙ begins.given.there in
@@ -244,8 +252,7 @@ no_way boot es path are o p n legal at_first strangers is way =
     not_fork opens.call begins.first.pid.0 opens.asked (ap (λ (x : Entry). makes begins.first.pid.0 x.request x.reply) call ∙ made) in
     let caller : opens.call.pid.0 ≡ begins.first.pid.0 = ap (λ (x : Entry). x.pid.0) call
     ∙ ⊎_elim {C = begins.call.pid.0 ≡ begins.first.pid.0} (λ made. absurd (no_child made)) (λ own. own.0) (given_cases (before boot es begins.first.entry) begins.call begins.first.pid.0 begins.first.fd.0 begins.given.gave) in
-    let names = (kept_throughout boot (NamedAtFirst boot) (named_kept boot) (take k es) (front_is_legal boot es k legal)).names.each opens.path o opens.leads in
-    let path_is : opens.path ≡ path = one_path boot opens.path path o legal.boots names at_first in
+    let path_is : opens.path ≡ path = files_keep_their_path boot es k o path opens.path legal at_first opens.leads in
     strangers.never_opened k opens.call opens.mode opens.flags opens.there (ap are caller ∙ of_first) (opens.asked ∙ ap (λ (x : Name). Request.Open x opens.mode opens.flags) path_is)
   where
     not_fork : (x : Entry) (q : ℕ) {path : Name} {mode : Mode} {flags : OpenFlags} → x.request ≡ Request.Open path mode flags → makes q x.request x.reply ≡ true → ⊥

@@ -1,10 +1,10 @@
 -- No file without a way to it: who changes a file object, and who reads it (open(2), read(2), write(2); unix(7), SCM_RIGHTS).
-use Rattle.std.specs.Prelude.{◌≡◌, ◌≢◌, ◌⊎◌, ℕ, suc, Bool, true, false, List, ◌∷◌, take, Option, Some, None}
+use Rattle.std.specs.Prelude.{◌≡◌, ◌≢◌, ◌⊎◌, ℕ, suc, ◌≤◌, Bool, true, false, List, ◌∷◌, ◌++◌, length, take, Option, Some, None}
 use Rattle.std.specs.List.{slice_get}
-use Rattle.ux_model.specs.Types.{Fd, Name, Mode, OpenFlags, Request, Reply, Entry, Link}
+use Rattle.ux_model.specs.Types.{Fd, Name, Mode, OpenFlags, Request, Reply, Entry, Link, How}
 use Rattle.ux_model.specs.Places.{place}
 use Rattle.ux_model.specs.Flags.{can_read, can_write}
-use Rattle.ux_model.specs.Object.{Body, View, is_memory}
+use Rattle.ux_model.specs.Object.{Body, memory, View, is_memory}
 use Rattle.ux_model.specs.Names.{file, named}
 use Rattle.ux_model.specs.Description.{object_of}
 use Rattle.ux_model.specs.State.{State}
@@ -82,13 +82,65 @@ ReadsHaveAWay = (boot : State) (entries : List Entry) (j o n : ℕ) (e : Entry) 
     e.reply ≡ Reply.Bytes bytes →
     HasWay boot (take j entries) can_read o e.pid.0 fd.0
 
--- ---- strangers
+-- ---- files that nobody writes
 
--- Processes, with those that made them, of which none was sent a descriptor or opened this path.
-pub record AreStrangers (boot : State) (entries : List Entry) (path : Name) (are : ℕ → Bool) : Type 0 where
+-- No call opens the file object by a path in a mode that allows this.
+abbrev pub IsNeverOpened : State → List Entry → (Mode → Bool) → ℕ → Type 0
+IsNeverOpened boot entries allows o = (b : Link) → ¬ (IsOpening boot entries allows o b)
+
+-- A memory file that is never opened for writing has at each moment, as long as it is there, the bytes of the start.
+abbrev pub UnwrittenFilesStay : Type 0
+UnwrittenFilesStay = (boot : State) (entries : List Entry) (j o : ℕ) (bytes : List ℕ) (body : Body) → IsLegal boot entries →
+    body_at boot o ≡ Some (memory bytes) → IsNeverOpened boot entries can_write o → body_at (before boot entries j) o ≡ Some body →
+    body ≡ memory bytes
+
+-- They stand in the whole one after another.
+pub record IsRunOf (bytes whole : List ℕ) : Type 0 where
+  pub ahead : List ℕ
+  pub behind : List ℕ
+  pub joined : whole ≡ ahead ++ bytes ++ behind
+
+-- So what a read of it is answered is a run of these.
+abbrev pub ReadsTellTheFile : Type 0
+ReadsTellTheFile = (boot : State) (entries : List Entry) (j o n : ℕ) (e : Entry) (fd : Fd) (bytes given : List ℕ) → IsLegal boot entries →
+    body_at boot o ≡ Some (memory bytes) → IsNeverOpened boot entries can_write o → slice_get entries j ≡ Some e →
+    e.request ≡ Request.Read fd n → object_behind (before boot entries j) e.pid.0 fd ≡ Some o → e.reply ≡ Reply.Bytes given →
+    IsRunOf given bytes
+
+-- A path that leads to a file object at some moment is the one that did at the start.
+abbrev pub FilesKeepTheirPath : Type 0
+FilesKeepTheirPath = (boot : State) (entries : List Entry) (j o : ℕ) (path other : Name) → IsLegal boot entries →
+    named path boot.paths ≡ Some (file o) → named other (before boot entries j).paths ≡ Some (file o) → other ≡ path
+
+-- ---- who was sent nothing
+
+-- Processes, with those that made them, of which none was sent a descriptor.
+pub record WereSentNothing (boot : State) (entries : List Entry) (are : ℕ → Bool) : Type 0 where
   pub makers : (j q : ℕ) (e : Entry) → slice_get entries j ≡ Some e → makes q e.request e.reply ≡ true → are q ≡ true →
       are e.pid.0 ≡ true
   pub sent_nothing : (q : ℕ) → are q ≡ true → WasSentNothing boot entries q
+
+-- The chain begins with a call of one of them, which made what its holdings lead to.
+pub record BeginsWithACallOf (entries : List Entry) (are : ℕ → Bool) (chain : List Link) : Type 0 where
+  pub first : Link
+  pub rest : List Link
+  pub begins : chain ≡ first ∷ rest
+  pub call : Entry
+  pub there : slice_get entries first.entry ≡ Some call
+  pub made : first.how ≡ How.Made
+  pub caller : call.pid.0 ≡ first.pid.0
+  pub theirs : are call.pid.0 ≡ true
+
+-- They hold only what they made: the pedigree of each number of theirs begins with a call of their own.
+abbrev pub HoldOnlyWhatTheyMade : Type 0
+HoldOnlyWhatTheyMade = (boot : State) (entries : List Entry) (are : ℕ → Bool) (chain : List Link) (p n : ℕ) → IsLegal boot entries →
+    WereSentNothing boot entries are → are p ≡ true → IsPedigree boot entries chain p n → BeginsWithACallOf entries are chain
+
+-- ---- strangers
+
+-- Such processes, of which none opened this path.
+pub record AreStrangers (boot : State) (entries : List Entry) (path : Name) (are : ℕ → Bool) : Type 0 where
+  pub sent_nothing : WereSentNothing boot entries are
   pub never_opened : (j : ℕ) (e : Entry) (mode : Mode) (flags : OpenFlags) → slice_get entries j ≡ Some e → are e.pid.0 ≡ true →
       e.request ≢ Request.Open path mode flags
 
@@ -104,3 +156,10 @@ StrangersChangeNothing = (boot : State) (entries : List Entry) (path : Name) (ar
     IsLegal boot entries → named path boot.paths ≡ Some (file o) → AreStrangers boot entries path are →
     slice_get entries j ≡ Some e → are e.pid.0 ≡ true → body_at (before boot entries j) o ≡ Some old →
     body_at (before boot entries (suc j)) o ≡ Some new → new ≡ old
+
+-- Nor of one process of the start, which no other made.
+abbrev pub StrangerHasNoWay : Type 0
+StrangerHasNoWay = (boot : State) (entries : List Entry) (path : Name) (j o q : ℕ) (fd : Fd) → IsLegal boot entries →
+    named path boot.paths ≡ Some (file o) → q ≤ length boot.processes → WasSentNothing boot entries q →
+    ((i : ℕ) (e : Entry) (mode : Mode) (flags : OpenFlags) → slice_get entries i ≡ Some e → e.pid.0 ≡ q →
+    e.request ≢ Request.Open path mode flags) → object_behind (before boot entries j) q fd ≢ Some o

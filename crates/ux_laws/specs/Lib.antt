@@ -3,6 +3,8 @@ pub mod Talking
 pub mod Streams
 pub mod Credentials
 pub mod Files
+pub mod Beginning
+pub mod Separation
 pub mod Records
 pub mod Rights
 pub mod Reach

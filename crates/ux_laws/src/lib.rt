@@ -8,11 +8,14 @@ ghost use Rattle.ux_laws.specs.Waits.{AcceptsWait, AcceptWaitsEnd, ConnectsWait,
 ghost use Rattle.ux_laws.specs.Credentials.{CredentialsAreTheSenders, PeersAreTheMakers};
 ghost use Rattle.ux_laws.specs.Ends.{EndsAreForEver, ResetsAreOfLosses, LossesReset, SendsFindNobody, WritesBreak};
 ghost use Rattle.ux_laws.specs.Ends.{ReadsTellTheEnd, ReceivesTellTheEnd};
+ghost use Rattle.ux_laws.specs.Beginning.{NobodyMakesThem, AllCallsAreTheirs};
 ghost use Rattle.ux_laws.specs.Files.{EachHoldingHasAPedigree, ChangesHaveAWay, ReadsHaveAWay, StrangersHaveNoWay, StrangersChangeNothing};
+ghost use Rattle.ux_laws.specs.Files.{UnwrittenFilesStay, ReadsTellTheFile, FilesKeepTheirPath, HoldOnlyWhatTheyMade, StrangerHasNoWay};
 ghost use Rattle.ux_laws.specs.Reach.{CallsLeaveOthersAlone, CallsLeaveTablesAlone, CallsLeavePathsAlone};
 ghost use Rattle.ux_laws.specs.Reach.{AbstractNamesStay, AbstractNamesAreBound};
 ghost use Rattle.ux_laws.specs.Records.{RecordsArriveInOrder, RecordsArriveOnce, RecordsArriveWhole, ReadRecordsArriveWhole};
 ghost use Rattle.ux_laws.specs.Rights.{RightsComeOnce, RightsComeWithTheirMessage};
+ghost use Rattle.ux_laws.specs.Separation.{KeptFilesAreSeparated};
 ghost use Rattle.ux_laws.specs.Streams.{StreamsAreReliable};
 
 /// Credentials that a receive or a peek reports (SCM_CREDENTIALS) are those that the sending process had at
@@ -65,6 +68,56 @@ pub fn strangers_have_no_way()
 /// So they don't change what is in it.
 pub fn strangers_change_no_file()
     ensures { StrangersChangeNothing }
+{}
+
+/// A process of the start that never opened a path and was sent no descriptor has none that leads to its file object.
+#[tactic(auto, using(crate::proofs::Firsts::stranger_has_no_way))]
+pub fn stranger_has_no_way()
+    ensures { StrangerHasNoWay }
+{}
+
+/// A memory file that no call opens for writing keeps the bytes of the start, as long as it is there.
+#[tactic(auto, using(crate::proofs::Unwritten::unwritten_files_stay))]
+pub fn unwritten_files_stay()
+    ensures { UnwrittenFilesStay }
+{}
+
+/// A read of it that is answered bytes is answered some of these, one after another.
+#[tactic(auto, using(crate::proofs::Unwritten::reads_tell_the_file))]
+pub fn reads_tell_the_file()
+    ensures { ReadsTellTheFile }
+{}
+
+/// A path that leads to a file object at some moment is the one that led there at the start.
+#[tactic(auto, using(crate::proofs::NoWay::files_keep_their_path))]
+pub fn files_keep_their_path()
+    ensures { FilesKeepTheirPath }
+{}
+
+/// Processes that were sent no descriptor, nor was any that made them by fork, hold only what they made: the
+/// pedigree of each descriptor of theirs begins with a call of one of them.
+pub fn who_was_sent_nothing_holds_what_it_made()
+    ensures { HoldOnlyWhatTheyMade }
+{}
+
+/// No fork makes a process of the start.
+#[tactic(auto, using(crate::proofs::Firsts::nobody_makes_them))]
+pub fn nobody_makes_processes_of_the_start()
+    ensures { NobodyMakesThem }
+{}
+
+/// Where no process of the start forks, each call is by one of them, or is the layer's end.
+#[tactic(auto, using(crate::proofs::Firsts::all_calls_are_theirs))]
+pub fn without_forks_they_make_all_calls()
+    ensures { AllCallsAreTheirs }
+{}
+
+/// Privilege separation: where one process alone opens a memory file's path, never to write, and none forks, the file keeps
+/// its bytes, what any read of it is answered is a run of them, and no other process that was sent nothing has a
+/// descriptor that leads to it.
+#[tactic(auto, using(crate::proofs::Apart::kept_files_are_separated))]
+pub fn kept_files_are_separated()
+    ensures { KeptFilesAreSeparated }
 {}
 
 /// The packets that were sent to a datagram or seqpacket socket, in order, are those that receives and reads took
