@@ -54,7 +54,7 @@ static void do_fork(char **word) {
     say_to_parent();
     reply_length = 0;
     if (!hear(line) || passed < 0) _exit(2);
-    pid_t child = fork_beside();
+    pid_t child = fork_told_apart(fork_beside, number - 1);
     if (child == 0) {
         me = number;
         if (dup2(passed, CHANNEL) < 0 || end_with_parent(0) < 0) _exit(2);
@@ -131,11 +131,12 @@ static void __attribute__((noreturn)) answer_all(void) {
     _exit(0);
 }
 
-/* A process behind its exec: its limit is its own again. */
+/* A process behind its exec: its limit is its own again, and it knows the run's users. */
 void go_on(unsigned number) {
     shared = mmap(NULL, sizeof *shared, PROT_READ | PROT_WRITE, MAP_SHARED, MEMORY, 0);
     if (shared == MAP_FAILED) _exit(2);
     me = number;
+    user = shared->first_user;
     end_child_mode();
     set_prefix();
     set_limit(shared->processes[me].limit);

@@ -195,6 +195,7 @@ int main(int count, char **words) {
     raise_limits();
     make_shared();
     shared->waits = waits;
+    shared->first_user = user;
     catch_signals();
     atexit(clean_up);
     enter_folder();

@@ -9,12 +9,33 @@
 #include <sys/wait.h>
 #include <unistd.h>
 
+/* Whether the first byte of a process's number tells it from no process and from the first ones of the script, as a
+ * receive does that cuts credentials. Of a script with more processes than a byte tells, any number will do. */
+static int is_told_apart(pid_t number, unsigned before) {
+    if (before >= MOST_TOLD_APART) return 1;
+    if ((number & 0xff) == 0) return 0;
+    for (unsigned i = 1; i <= before; i++) {
+        if (((number ^ shared->pids[i]) & 0xff) == 0) return 0;
+    }
+    return 1;
+}
+
+pid_t fork_told_apart(pid_t (*make)(void), unsigned before) {
+    for (;;) {
+        pid_t child = make();
+        if (child < 0) return child;
+        if (is_told_apart(child ? child : getpid(), before)) return child;
+        if (child == 0) _exit(0);
+        waitpid(child, NULL, 0);
+    }
+}
+
 static void make_processes(void) {
     pid_t parent = getpid();
     for (unsigned i = 1; i <= shared->process_count; i++) {
         int ends[2];
         if (socketpair(AF_UNIX, SOCK_SEQPACKET | SOCK_CLOEXEC, 0, ends) < 0) fail("socketpair");
-        pid_t child = fork();
+        pid_t child = fork_told_apart(fork, i - 1);
         if (child < 0) fail("fork");
         if (child == 0) {
             end_child_mode();

@@ -13,7 +13,7 @@
 enum {
     MOST_PROCESSES = 1024, MOST_OBJECTS = 64, MOST_DESCRIPTORS = 4096, CHANNEL = MOST_DESCRIPTORS, MEMORY, HANDED,
     MOST_USERS = 64, MOST_WORDS = 8, LINE = 4096, MOST_BYTES = 1 << 20, CHUNK = 1 << 16, MOST_CONTROL = 1 << 16, MOST_ALIASES = 8192,
-    PREFIX = 9, KEPT_LENGTH = 90, SECONDS = 10, NO_DESCRIPTOR = INT_MAX, NO_PROCESS = 0x7ffffff0
+    PREFIX = 9, KEPT_LENGTH = 90, SECONDS = 10, NO_DESCRIPTOR = INT_MAX, NO_PROCESS = 0x7ffffff0, MOST_TOLD_APART = 100
 };
 
 struct process {
@@ -30,7 +30,7 @@ struct alias {
 
 /* What the children and their parent share: the processes with their real numbers, and the names that autobind gave. */
 struct shared {
-    unsigned process_count, user_count, alias_count;
+    unsigned process_count, user_count, alias_count, first_user;
     struct process processes[MOST_PROCESSES + 1];
     pid_t pids[MOST_PROCESSES + 1];
     struct alias aliases[MOST_ALIASES];
@@ -134,6 +134,7 @@ unsigned real_user(unsigned number);
 
 /* parent.c: the processes, and who makes which call */
 void begin(void);
+pid_t fork_told_apart(pid_t (*make)(void), unsigned before);
 void check_call(char **word, size_t count);
 void make_call(struct process *process, const char *line);
 void begin_line(const struct process *process, const char *line);
