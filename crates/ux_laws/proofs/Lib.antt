@@ -27,6 +27,7 @@ pub mod WaitEnds
 pub mod AcceptWaits
 pub mod SendWaits
 pub mod ConnectWaits
+pub mod ReplyKinds
 mod Play
 mod StreamExample
 mod RecordExample

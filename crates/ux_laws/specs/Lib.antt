@@ -10,3 +10,4 @@ pub mod Rights
 pub mod Reach
 pub mod Ends
 pub mod Waits
+pub mod ReplyKinds

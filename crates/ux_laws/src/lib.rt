@@ -17,6 +17,7 @@ ghost use Rattle.ux_laws.specs.Records.{RecordsArriveInOrder, RecordsArriveOnce,
 ghost use Rattle.ux_laws.specs.Rights.{RightsComeOnce, RightsComeWithTheirMessage};
 ghost use Rattle.ux_laws.specs.Separation.{KeptFilesAreSeparated};
 ghost use Rattle.ux_laws.specs.Streams.{StreamsAreReliable};
+ghost use Rattle.ux_laws.specs.ReplyKinds.{RepliesAreOfTheirKind};
 
 /// Credentials that a receive or a peek reports (SCM_CREDENTIALS) are those that the sending process had at
 /// the time of its send, or that it gave while it was privileged; and each message of which the receive gives
@@ -270,4 +271,10 @@ pub fn connects_wait()
 /// place still, as long as the listener is there.
 pub fn what_ends_a_wait_to_connect()
     ensures { ConnectWaitsEnd }
+{}
+
+/// A call is answered a refusal, or what its manual page says that it gives: `open` a descriptor, `read` bytes, and so on.
+#[tactic(auto, using(crate::proofs::ReplyKinds::replies_are_of_their_kind))]
+pub fn replies_are_of_their_kind()
+    ensures { RepliesAreOfTheirKind }
 {}

@@ -1,6 +1,6 @@
 -- Which lines spell which script.
 use Rattle.std.specs.Prelude.{◌≡◌, ◌≢◌, ℕ, ◌+◌, ◌<◌, ◌≤◌, ◌^◌, ℤ, pos, negsuc, take, Bool, true, false, List, [], ◌∷◌, ◌++◌, length}
-use Rattle.std.specs.Prelude.{replicate, map, filter, count_by, codes, decimal, Option, Some, None, IfSome, if◌then◌else◌, ◌==◌, not}
+use Rattle.std.specs.Prelude.{◌-◌, replicate, map, filter, count_by, codes, decimal, Option, Some, None, IfSome, if◌then◌else◌, ◌==◌, not}
 use Rattle.std.specs.Prelude.{slice_index_or}
 use Rattle.std.specs.List.{AllByRecursion, slice_split, join_with_byte}
 use Rattle.std.specs.Fmt.{signed_decimal}
