@@ -1,11 +1,11 @@
 //! What else takes memory: reading a script, a run of one thread, making a history again, and copies.
 
-use crate::hall::copies;
 use crate::kernel_of;
 use crate::scarcity::{STEPS, bytes_at};
 use anyhow::{Result, anyhow};
 use hoard::Purse;
 use std::alloc::Global;
+use ux_book::copy_entries;
 use ux_replay::{ReplayFault, replay};
 use ux_script::run_serial;
 use ux_syntax::{Script, ScriptFault, parse_script, read_script};
@@ -120,7 +120,7 @@ struct Copied<'a>(&'a [Entry]);
 
 impl Attempt for Copied<'_> {
     fn attempt(&self, alloc: Global) -> Tried {
-        match copies(alloc, self.0) {
+        match copy_entries(alloc, self.0) {
             Ok(copied) if copied.as_slice() == self.0 => Tried::Done,
             Ok(_copied) => Tried::Wrong,
             Err(_) => Tried::Refused,

@@ -8,7 +8,7 @@ use anyhow::{Result, anyhow};
 use hoard::Purse;
 use std::alloc::{AllocError, Global};
 use std::sync::Wait;
-use ux_book::{BookName, CallFault, Receipt, Spent, Trail, has_own_call};
+use ux_book::{BookName, CallFault, Receipt, Spent, Trail, copy_entries, has_own_call};
 use ux_kernel::Kernel;
 use ux_layer::{Layer, Seat, start};
 use ux_objects::Plain;
@@ -256,7 +256,10 @@ impl<W: BookName> Hall<W> {
         let guard = layer.book(rt);
         let entries = guard.book().entries();
         match settled {
-            Ok(account) if account.entries == entries.len() => Ok(copies(rt.alloc(), entries)?),
+            Ok(account) if account.entries == entries.len() => Ok(copy_entries(
+                rt.alloc(),
+                entries,
+            )?),
             Ok(_account) => Err(anyhow!("an entry is lost")),
             Err(fault) => Err(anyhow!("{fault}")),
         }
@@ -276,15 +279,6 @@ fn ask<W: BookName, R: Wait>(
         Ok((reply, receipt)) => Ok((reply, receipt, None)),
         Err(fault) => Err(fault),
     }
-}
-
-/// Copies of a history's entries.
-pub fn copies(alloc: Global, entries: &[Entry]) -> Result<Vec<Entry>, AllocError> {
-    let mut copied = Vec::with_capacity(alloc, entries.len())?;
-    for entry in entries {
-        copied.push(entry.clone()?)?;
-    }
-    Ok(copied)
 }
 
 /// Makes a script's calls by seats with so much memory, ends the layer, and gives its history; none where it

@@ -53,6 +53,15 @@ impl<W: BookName, O: FileObject, K: Keeper> Book<W, O, K> {
         Ok(Account { entries, ended })
     }
 
+    /// Compares these spent shares with the book: each knows exactly the calls of its process. Nothing is looked up.
+    pub fn confirm_all(&mut self, spents: &mut [Spent<W>])
+        ensures exact { Exact self.old.entries spents.old }
+        ensures spents { spents.new ≡ spents.old }
+        ensures book { self.new ≡ self.old }
+    {
+        confirm_all(&mut self.trail, spents)
+    }
+
     /// As `settle`, of spent shares of which none is missing: it can't fail.
     pub fn settle_whole(&mut self, spents: &mut [Spent<W>]) -> Account
         requires { IsWhole W.boot spents.old }

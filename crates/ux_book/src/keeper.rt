@@ -12,8 +12,9 @@ use ux_types::{Done, Entry, Pid, Released, Request};
 
 /// What keeps the entries of a book, or counts them.
 pub trait Keeper: Drop {
-    ghost use Rattle.std.specs.Prelude.{ℕ, List};
+    ghost use Rattle.std.specs.Prelude.{◌≡◌, false, ℕ, List};
     ghost use Rattle.ux_model.specs.Types.{Request, Entry};
+    ghost use Rattle.ux_book.specs.Faults.{is_deadlock};
     ghost use Rattle.ux_book.specs.declared.fault.CallFault.{CallFault};
 
     /// What it says of the entries.
@@ -59,6 +60,9 @@ pub trait Keeper: Drop {
         requires room { 0 < room self.old }
         ensures keeps { (es : List Entry) → keeps self.old es → keeps self.new (es ++ entry ∷ []) }
         ensures room { room self.old ≤ room self.new + 1 };
+
+    /// What it refuses isn't for others to mend, who wait.
+    ghost goes_on: { (n : ℕ) (f : CallFault) → refuses n f → is_deadlock f ≡ false };
 }
 
 /// Keeps all entries.
@@ -116,6 +120,8 @@ impl Entries {
 
 impl Keeper for Entries {
     ghost use Rattle.std.specs.Prelude.{◌≡◌, ◌-◌, vec_len, vec_capacity};
+    ghost use Rattle.std.proofs.Common.{ap};
+    ghost use Rattle.ux_book.specs.Faults.{is_deadlock};
     ghost use Rattle.ux_book.specs.declared.fault.CallFault.{CallFault};
     ghost use Rattle.ux_book.specs.Keeping.{IsReady};
 
@@ -156,6 +162,8 @@ impl Keeper for Entries {
     fn keep_last(&mut self, entry: Entry) {
         self.entries.push_reserved(entry);
     }
+
+    ghost goes_on = { λ _ f is. ap is_deadlock is };
 }
 
 /// Keeps no entry, and counts them: a call takes the same room and time whatever came before.
@@ -175,6 +183,8 @@ impl Nothing {
 
 impl Keeper for Nothing {
     ghost use Rattle.std.specs.Prelude.{◌≡◌, ◌+◌, ◌-◌, ◌^◌, ◌≤◌, length};
+    ghost use Rattle.std.proofs.Common.{ap};
+    ghost use Rattle.ux_book.specs.Faults.{is_deadlock};
     ghost use Rattle.ux_book.specs.declared.fault.CallFault.{CallFault};
 
     ghost keeps = { λ k es. k.count ≡ length es };
@@ -203,4 +213,6 @@ impl Keeper for Nothing {
     fn keep_last(&mut self, _entry: Entry) {
         self.count += 1;
     }
+
+    ghost goes_on = { λ _ f is. ap is_deadlock is.0 };
 }

@@ -1,9 +1,10 @@
 //! What the seats share: the book under its lock.
 ghost use Rattle.std.specs.Prelude.{◌≡◌, [], length, IfOk, IfErr, OnOk, OnErr};
 ghost use Rattle.ux_model.specs.Boot.{IsBootState};
+ghost use Rattle.ux_model.specs.History.{IsLegal};
 ghost use Rattle.ux_book.specs.Books.{state_of};
 ghost use Rattle.ux_book.specs.Pasts.{fresh};
-ghost use Rattle.ux_book.specs.Settling.{IsSettled, IsSettledWith, IsWhole};
+ghost use Rattle.ux_book.specs.Settling.{Exact, IsSettled, IsSettledWith, IsWhole};
 
 use crate::seat::{Seat, make_seat};
 use crate::waiters::Waiters;
@@ -11,12 +12,12 @@ use std::alloc::{AllocError, Global};
 use std::sync::{Arc, Condvar, Mutex, MutexGuard, OnceLock, Wait};
 use ux_book::{
     Account, Book, BookName, Entries, Keeper, Missing, NoMemory, Nothing, OffFault, Receipt, Share,
-    Spent, Trail,
+    Spent, Trail, copy_entries,
 };
 use ux_kernel::Kernel;
 use ux_object::FileObject;
 use ux_state::ReleasedObjects;
-use ux_types::Pid;
+use ux_types::{Entry, Pid};
 
 /// What stands under the lock: the book, and who waits for one more entry.
 pub(crate) struct Desk<W: BookName, O: FileObject, K: Keeper> {
@@ -189,6 +190,29 @@ impl<W: BookName, O: FileObject, K: Keeper> Layer<W, O, K> {
         self.shared.changed.notify_all();
         released.clear();
         ended
+    }
+}
+
+impl<W: BookName, O: FileObject> Layer<W, O> {
+    /// A copy of the calls so far, with their replies: a legal history from the layer's boot state. Each of these spent
+    /// shares knows exactly its process's calls in it.
+    ///
+    /// # Errors
+    ///
+    /// Out of memory.
+    pub fn history<R: Wait>(
+        &self,
+        rt: &R,
+        alloc: Global,
+        spents: &mut [Spent<W>],
+    ) -> Result<Vec<Entry>, AllocError>
+        ensures legal { IfOk result (λ entries. IsLegal W.boot entries.items) }
+        ensures exact { IfOk result (λ entries. Exact entries.items spents.old) }
+        ensures spents { spents.new ≡ spents.old }
+    {
+        let mut desk = self.shared.lock(rt);
+        desk.book.confirm_all(spents);
+        copy_entries(alloc, desk.book.entries())
     }
 }
 

@@ -5,6 +5,7 @@ ghost use Rattle.ux_book.specs.declared.fault.CallFault.{CallFault};
 ghost use Rattle.ux_book.specs.Books.{has_own_call};
 ghost use Rattle.ux_book.specs.Pasts.{made, child_by, IsOf};
 ghost use Rattle.ux_book.specs.Receipts.{IsSlip, IsSlipOf};
+ghost use Rattle.ux_book.specs.Faults.{is_deadlock};
 ghost use Rattle.ux_layer.specs.Faults.{Refuses, RefusesOrWaits};
 
 use crate::layer::{Shared, another};
@@ -84,6 +85,7 @@ impl<W: BookName, O: FileObject, K: Keeper> Seat<W, O, K> {
         ensures receipt { IfOk result (λ r. IsSlipOf self.old request.now r.0 false r.1) }
         ensures shown { IfOk result (λ r. IsSlip W.boot r.1) }
         ensures refused { IfErr result (λ f. Refuses W.boot self.old K.refuses f) }
+        ensures goes_on { IfErr result (λ f. is_deadlock f ≡ false) }
         ensures same { OnErr result (self.new ≡ self.old) }
     {
         let Seat {

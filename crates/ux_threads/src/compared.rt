@@ -4,8 +4,8 @@ ghost use Rattle.ux_model.specs.Limits.{made_limit};
 ghost use Rattle.ux_syntax.specs.Spelling.{plan_of, known_count};
 ghost use Rattle.ux_compare.specs.Runs.{Runs, HasBegun, MakesAll, MakesFirst};
 
-use std::alloc::{AllocError, Global};
-use ux_book::{Book, BookName};
+use std::alloc::Global;
+use ux_book::{Book, BookName, copy_entries};
 use ux_compare::{makes_all, makes_first};
 use ux_object::FileObject;
 use ux_syntax::{Script, ScriptFault};
@@ -32,7 +32,7 @@ pub(crate) fn whole_history<W: BookName, O: FileObject>(
     if !makes_all(script, book.entries(), count) {
         return Err(ScriptFault::Stranger);
     }
-    copy_all(alloc, book.entries()).map_err(|_| ScriptFault::NoMemory)
+    copy_entries(alloc, book.entries()).map_err(|_| ScriptFault::NoMemory)
 }
 
 /// As `whole_history`, of a run that was cut short: each process made the first of the script's calls.
@@ -56,18 +56,5 @@ pub(crate) fn begun_history<W: BookName, O: FileObject>(
     if !makes_first(script, book.entries(), count) {
         return Err(ScriptFault::Stranger);
     }
-    copy_all(alloc, book.entries()).map_err(|_| ScriptFault::NoMemory)
-}
-
-/// A copy of a history.
-fn copy_all(alloc: Global, entries: &[Entry]) -> Result<Vec<Entry>, AllocError>
-    ensures { IfOk result (λ copy. copy.items ≡ entries.now) }
-{
-    let mut copy = Vec::with_capacity(alloc, entries.len())?;
-    let mut left = entries;
-    while let Some((entry, more)) = left.split_first() {
-        copy.push(entry.clone()?)?;
-        left = more;
-    }
-    Ok(copy)
+    copy_entries(alloc, book.entries()).map_err(|_| ScriptFault::NoMemory)
 }

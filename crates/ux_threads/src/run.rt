@@ -33,9 +33,8 @@ use ux_types::{Entry, MADE_LIMIT, Pid};
 ///
 /// # Errors
 ///
-/// `Writing`; `NoMemory`, also where a thread can't be started or a fork makes no process; `Stranger` where a call
-/// was refused as that of no live process, accounts don't settle, or the history isn't the script's, as of a script
-/// that no text spells, which may fork in another process than the first, or beyond the limit of processes;
+/// `Writing`; `NoMemory`, also where a thread can't be started or a fork makes no process; `Stranger` for a script that
+/// no text spells, whose calls can't all be made, as where another process than the first forks;
 /// `Deadlock` where every process that hasn't exited waits, with the lines in which they do: the run ends there,
 /// and the trace so far is written.
 pub fn run_threads<O: FileObject + Send, G: Gate, Out: Write>(

@@ -19,7 +19,7 @@ use ux_types::{Pid, Request};
 pub(crate) enum Stop {
     /// Memory ran out.
     NoMemory,
-    /// A line is of no live process, or there are too many calls.
+    /// A line can't be made: another process than the first would fork.
     Stranger,
     /// Every process waits, this one in the line of this number.
     Deadlock(Pid, usize),
