@@ -1,11 +1,12 @@
 -- What the clauses of a seat say of a call.
-use Rattle.std.proofs.Common.{◌≡◌, [], Bool, ap, sym}
-use Rattle.std.specs.Prelude.{Some, None, refl}
+use Rattle.std.proofs.Common.{◌≡◌, [], Bool, ap, sym, subst}
+use Rattle.std.specs.Prelude.{Some, None, Result, Ok, Err, IfErr, refl}
 use Rattle.ux_model.specs.Types.{Request, Reply}
 use Rattle.ux_model.specs.State.{State}
 use Rattle.ux_book.specs.Pasts.{Caller, child_by, made, IsOf}
 use Rattle.ux_book.specs.Receipts.{Slip, IsSlip, IsSlipOf}
-use Rattle.delortxa.specs.Answering.{IsOther, other_error, is_child}
+use Rattle.ux_laws.specs.ReplyKinds.{is_child}
+use Rattle.delortxa.specs.Answering.{IsOther, other_error}
 use Rattle.delortxa.specs.Happening.{Happens}
 
 -- a call that a seat made
@@ -23,3 +24,11 @@ pub no_child : (reply : Reply) → None ≡ child_by Request.Fork reply → IsOt
 no_child (Reply.Child pid) h = absurd (cc h)
 no_child (Reply.Err errno) h = refl
 no_child _ h = (refl, refl)
+
+-- a clause of errors, where there is none
+pub answered : {A E : Type 0} (r : Result A E) (P : E → Type 0) (a : A) → r ≡ Ok a → IfErr r P
+answered r P a is = subst (λ x. IfErr x P) (sym is) tt
+
+-- and where there is one
+pub erred : {A E : Type 0} (r : Result A E) (P : E → Type 0) (e : E) → r ≡ Err e → P e → IfErr r P
+erred r P e is holds = subst (λ x. IfErr x P) (sym is) holds

@@ -3,4 +3,5 @@ pub mod Answering
 pub mod Boots
 pub mod Giving
 pub mod Happening
+pub mod Replying
 pub mod Promising

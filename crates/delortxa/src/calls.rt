@@ -1,18 +1,19 @@
 //! The calls of one process, each a method.
-ghost use Rattle.std.specs.Prelude.{◌≡◌, ℕ, [], false, IfOk, IfErr, OnOk, OnErr, None, map, min};
+ghost use Rattle.std.specs.Prelude.{◌≡◌, ℕ, [], true, false, IfOk, IfErr, OnOk, OnErr, None, map, min};
 ghost use Rattle.ux_model.specs.Types.{Request, Reply, Addr, SockOpt};
 ghost use Rattle.ux_model.specs.Limits.{rights_limit};
 ghost use Rattle.ux_model.specs.Delivery.{control_bytes};
 ghost use Rattle.ux_book.specs.declared.fault.CallFault.{CallFault};
 ghost use Rattle.ux_book.specs.Books.{has_own_call};
 ghost use Rattle.ux_calls.specs.Calls.{no_open_flags, no_msg_flags, rights_space};
-ghost use Rattle.delortxa.specs.Answering.{Fails, is_done, is_fd, is_fds, is_count, is_bytes, is_offset, is_message, is_accepted, is_addr, is_value, is_cred, is_ready};
+ghost use Rattle.ux_laws.specs.ReplyKinds.{is_reply_to};
+ghost use Rattle.delortxa.specs.Answering.{Fails, FailsAsNumber};
 ghost use Rattle.delortxa.specs.declared.whole.Way.{Way};
-ghost use Rattle.delortxa.specs.Giving.{Takes, EndsEarly, request_of};
+ghost use Rattle.delortxa.specs.Giving.{Takes, EndsEarly, AfterFirst, EndsEarlyAfter, request_of};
 
 use crate::answers::{Message, ReplyExt};
 use crate::fault::CallError;
-use crate::whole::{Unfinished, Way, give_all};
+use crate::whole::{Unfinished, Way, give_all, give_all_with};
 use std::alloc::Global;
 use ux_book::CallFault;
 use ux_calls::call;
@@ -48,11 +49,14 @@ pub trait Calls<C: Copy> {
         ensures fault { IfErr result (λ f. unmade who self.old request.now f) }
         ensures same { OnErr result (self.new ≡ self.old) };
 
+    /// The reply of a call that was made is a refusal, or of the kind of its request.
+    ghost replies: { (who : C) (old new : Self) (request : Request) (reply : Reply) → did who old new request reply → is_reply_to request reply ≡ true };
+
     /// open(2) of a file object by its path, without flags: the new descriptor.
     #[tactic(auto, using(crate::proofs::Calling::fails))]
     final fn open(&mut self, who: C, path: &[u8], mode: Mode) -> Result<Fd, CallError>
         ensures made { IfOk result (λ new. did who self.old self.new (Request.Open path.now mode no_open_flags) (Reply.Fd new)) }
-        ensures refused { IfErr result (λ error. Fails did unmade is_fd who self.old self.new (Request.Open path.now mode no_open_flags) error) }
+        ensures refused { IfErr result (λ error. Fails did unmade who self.old self.new (Request.Open path.now mode no_open_flags) error) }
     {
         let request = call::open(self.allocator(), path, mode)?;
         let reply = self.ask(who, &request)?;
@@ -69,7 +73,7 @@ pub trait Calls<C: Copy> {
         flags: OpenFlags,
     ) -> Result<Fd, CallError>
         ensures made { IfOk result (λ new. did who self.old self.new (Request.Open path.now mode flags) (Reply.Fd new)) }
-        ensures refused { IfErr result (λ error. Fails did unmade is_fd who self.old self.new (Request.Open path.now mode flags) error) }
+        ensures refused { IfErr result (λ error. Fails did unmade who self.old self.new (Request.Open path.now mode flags) error) }
     {
         let request = call::open_with(self.allocator(), path, mode, flags)?;
         let reply = self.ask(who, &request)?;
@@ -80,7 +84,7 @@ pub trait Calls<C: Copy> {
     #[tactic(auto, using(crate::proofs::Calling::fails))]
     final fn read(&mut self, who: C, fd: Fd, n: usize) -> Result<Bytes, CallError>
         ensures made { IfOk result (λ got. did who self.old self.new (Request.Read fd n) (Reply.Bytes got)) }
-        ensures refused { IfErr result (λ error. Fails did unmade is_bytes who self.old self.new (Request.Read fd n) error) }
+        ensures refused { IfErr result (λ error. Fails did unmade who self.old self.new (Request.Read fd n) error) }
     {
         let request = call::read(fd, n);
         let reply = self.ask(who, &request)?;
@@ -91,7 +95,7 @@ pub trait Calls<C: Copy> {
     #[tactic(auto, using(crate::proofs::Calling::fails))]
     final fn write(&mut self, who: C, fd: Fd, bytes: &[u8]) -> Result<usize, CallError>
         ensures made { IfOk result (λ taken. did who self.old self.new (Request.Write fd bytes.now) (Reply.Count taken)) }
-        ensures refused { IfErr result (λ error. Fails did unmade is_count who self.old self.new (Request.Write fd bytes.now) error) }
+        ensures refused { IfErr result (λ error. Fails did unmade who self.old self.new (Request.Write fd bytes.now) error) }
     {
         let request = call::write(self.allocator(), fd, bytes)?;
         let reply = self.ask(who, &request)?;
@@ -102,7 +106,7 @@ pub trait Calls<C: Copy> {
     #[tactic(auto, using(crate::proofs::Calling::fails))]
     final fn lseek(&mut self, who: C, fd: Fd, offset: i64, whence: Whence) -> Result<u64, CallError>
         ensures made { IfOk result (λ at. did who self.old self.new (Request.Lseek fd offset whence) (Reply.At at)) }
-        ensures refused { IfErr result (λ error. Fails did unmade is_offset who self.old self.new (Request.Lseek fd offset whence) error) }
+        ensures refused { IfErr result (λ error. Fails did unmade who self.old self.new (Request.Lseek fd offset whence) error) }
     {
         let request = call::lseek(fd, offset, whence);
         let reply = self.ask(who, &request)?;
@@ -113,7 +117,7 @@ pub trait Calls<C: Copy> {
     #[tactic(auto, using(crate::proofs::Calling::fails))]
     final fn dup(&mut self, who: C, fd: Fd) -> Result<Fd, CallError>
         ensures made { IfOk result (λ new. did who self.old self.new (Request.Dup fd) (Reply.Fd new)) }
-        ensures refused { IfErr result (λ error. Fails did unmade is_fd who self.old self.new (Request.Dup fd) error) }
+        ensures refused { IfErr result (λ error. Fails did unmade who self.old self.new (Request.Dup fd) error) }
     {
         let request = call::dup(fd);
         let reply = self.ask(who, &request)?;
@@ -124,7 +128,7 @@ pub trait Calls<C: Copy> {
     #[tactic(auto, using(crate::proofs::Calling::fails))]
     final fn dup2(&mut self, who: C, fd: Fd, to: Fd) -> Result<Fd, CallError>
         ensures made { IfOk result (λ new. did who self.old self.new (Request.Dup2 fd to) (Reply.Fd new)) }
-        ensures refused { IfErr result (λ error. Fails did unmade is_fd who self.old self.new (Request.Dup2 fd to) error) }
+        ensures refused { IfErr result (λ error. Fails did unmade who self.old self.new (Request.Dup2 fd to) error) }
     {
         let request = call::dup2(fd, to);
         let reply = self.ask(who, &request)?;
@@ -135,7 +139,7 @@ pub trait Calls<C: Copy> {
     #[tactic(auto, using(crate::proofs::Calling::fails))]
     final fn set_flags(&mut self, who: C, fd: Fd, flags: OpenFlags) -> Result<(), CallError>
         ensures made { OnOk result (did who self.old self.new (Request.SetFlags fd flags) Reply.Ok) }
-        ensures refused { IfErr result (λ error. Fails did unmade is_done who self.old self.new (Request.SetFlags fd flags) error) }
+        ensures refused { IfErr result (λ error. Fails did unmade who self.old self.new (Request.SetFlags fd flags) error) }
     {
         let request = call::set_flags(fd, flags);
         let reply = self.ask(who, &request)?;
@@ -146,7 +150,7 @@ pub trait Calls<C: Copy> {
     #[tactic(auto, using(crate::proofs::Calling::fails))]
     final fn close(&mut self, who: C, fd: Fd) -> Result<(), CallError>
         ensures made { OnOk result (did who self.old self.new (Request.Close fd) Reply.Ok) }
-        ensures refused { IfErr result (λ error. Fails did unmade is_done who self.old self.new (Request.Close fd) error) }
+        ensures refused { IfErr result (λ error. Fails did unmade who self.old self.new (Request.Close fd) error) }
     {
         let request = call::close(fd);
         let reply = self.ask(who, &request)?;
@@ -157,7 +161,7 @@ pub trait Calls<C: Copy> {
     #[tactic(auto, using(crate::proofs::Calling::fails))]
     final fn unlink(&mut self, who: C, path: &[u8]) -> Result<(), CallError>
         ensures made { OnOk result (did who self.old self.new (Request.Unlink path.now) Reply.Ok) }
-        ensures refused { IfErr result (λ error. Fails did unmade is_done who self.old self.new (Request.Unlink path.now) error) }
+        ensures refused { IfErr result (λ error. Fails did unmade who self.old self.new (Request.Unlink path.now) error) }
     {
         let request = call::unlink(self.allocator(), path)?;
         let reply = self.ask(who, &request)?;
@@ -168,7 +172,7 @@ pub trait Calls<C: Copy> {
     #[tactic(auto, using(crate::proofs::Calling::fails))]
     final fn socket(&mut self, who: C, kind: SockType) -> Result<Fd, CallError>
         ensures made { IfOk result (λ new. did who self.old self.new (Request.Socket kind no_open_flags) (Reply.Fd new)) }
-        ensures refused { IfErr result (λ error. Fails did unmade is_fd who self.old self.new (Request.Socket kind no_open_flags) error) }
+        ensures refused { IfErr result (λ error. Fails did unmade who self.old self.new (Request.Socket kind no_open_flags) error) }
     {
         let request = call::socket(kind);
         let reply = self.ask(who, &request)?;
@@ -184,7 +188,7 @@ pub trait Calls<C: Copy> {
         flags: OpenFlags,
     ) -> Result<Fd, CallError>
         ensures made { IfOk result (λ new. did who self.old self.new (Request.Socket kind flags) (Reply.Fd new)) }
-        ensures refused { IfErr result (λ error. Fails did unmade is_fd who self.old self.new (Request.Socket kind flags) error) }
+        ensures refused { IfErr result (λ error. Fails did unmade who self.old self.new (Request.Socket kind flags) error) }
     {
         let request = call::socket_with(kind, flags);
         let reply = self.ask(who, &request)?;
@@ -195,7 +199,7 @@ pub trait Calls<C: Copy> {
     #[tactic(auto, using(crate::proofs::Calling::fails))]
     final fn pair(&mut self, who: C, kind: SockType) -> Result<(Fd, Fd), CallError>
         ensures made { IfOk result (λ fds. did who self.old self.new (Request.SocketPair kind no_open_flags) (Reply.Fds fds.0 fds.1)) }
-        ensures refused { IfErr result (λ error. Fails did unmade is_fds who self.old self.new (Request.SocketPair kind no_open_flags) error) }
+        ensures refused { IfErr result (λ error. Fails did unmade who self.old self.new (Request.SocketPair kind no_open_flags) error) }
     {
         let request = call::pair(kind);
         let reply = self.ask(who, &request)?;
@@ -206,7 +210,7 @@ pub trait Calls<C: Copy> {
     #[tactic(auto, using(crate::proofs::Calling::fails))]
     final fn bind_path(&mut self, who: C, fd: Fd, path: &[u8]) -> Result<(), CallError>
         ensures made { OnOk result (did who self.old self.new (Request.Bind fd (Addr.Path path.now)) Reply.Ok) }
-        ensures refused { IfErr result (λ error. Fails did unmade is_done who self.old self.new (Request.Bind fd (Addr.Path path.now)) error) }
+        ensures refused { IfErr result (λ error. Fails did unmade who self.old self.new (Request.Bind fd (Addr.Path path.now)) error) }
     {
         let request = call::bind_path(self.allocator(), fd, path)?;
         let reply = self.ask(who, &request)?;
@@ -217,7 +221,7 @@ pub trait Calls<C: Copy> {
     #[tactic(auto, using(crate::proofs::Calling::fails))]
     final fn bind_abstract(&mut self, who: C, fd: Fd, name: &[u8]) -> Result<(), CallError>
         ensures made { OnOk result (did who self.old self.new (Request.Bind fd (Addr.Abstract name.now)) Reply.Ok) }
-        ensures refused { IfErr result (λ error. Fails did unmade is_done who self.old self.new (Request.Bind fd (Addr.Abstract name.now)) error) }
+        ensures refused { IfErr result (λ error. Fails did unmade who self.old self.new (Request.Bind fd (Addr.Abstract name.now)) error) }
     {
         let request = call::bind_abstract(self.allocator(), fd, name)?;
         let reply = self.ask(who, &request)?;
@@ -228,7 +232,7 @@ pub trait Calls<C: Copy> {
     #[tactic(auto, using(crate::proofs::Calling::fails))]
     final fn listen(&mut self, who: C, fd: Fd, backlog: i32) -> Result<(), CallError>
         ensures made { OnOk result (did who self.old self.new (Request.Listen fd backlog) Reply.Ok) }
-        ensures refused { IfErr result (λ error. Fails did unmade is_done who self.old self.new (Request.Listen fd backlog) error) }
+        ensures refused { IfErr result (λ error. Fails did unmade who self.old self.new (Request.Listen fd backlog) error) }
     {
         let request = call::listen(fd, backlog);
         let reply = self.ask(who, &request)?;
@@ -239,7 +243,7 @@ pub trait Calls<C: Copy> {
     #[tactic(auto, using(crate::proofs::Calling::fails))]
     final fn connect_path(&mut self, who: C, fd: Fd, path: &[u8]) -> Result<(), CallError>
         ensures made { OnOk result (did who self.old self.new (Request.Connect fd (Addr.Path path.now)) Reply.Ok) }
-        ensures refused { IfErr result (λ error. Fails did unmade is_done who self.old self.new (Request.Connect fd (Addr.Path path.now)) error) }
+        ensures refused { IfErr result (λ error. Fails did unmade who self.old self.new (Request.Connect fd (Addr.Path path.now)) error) }
     {
         let request = call::connect_path(self.allocator(), fd, path)?;
         let reply = self.ask(who, &request)?;
@@ -250,7 +254,7 @@ pub trait Calls<C: Copy> {
     #[tactic(auto, using(crate::proofs::Calling::fails))]
     final fn connect_abstract(&mut self, who: C, fd: Fd, name: &[u8]) -> Result<(), CallError>
         ensures made { OnOk result (did who self.old self.new (Request.Connect fd (Addr.Abstract name.now)) Reply.Ok) }
-        ensures refused { IfErr result (λ error. Fails did unmade is_done who self.old self.new (Request.Connect fd (Addr.Abstract name.now)) error) }
+        ensures refused { IfErr result (λ error. Fails did unmade who self.old self.new (Request.Connect fd (Addr.Abstract name.now)) error) }
     {
         let request = call::connect_abstract(self.allocator(), fd, name)?;
         let reply = self.ask(who, &request)?;
@@ -261,7 +265,7 @@ pub trait Calls<C: Copy> {
     #[tactic(auto, using(crate::proofs::Calling::fails))]
     final fn accept(&mut self, who: C, fd: Fd) -> Result<(Fd, Addr), CallError>
         ensures made { IfOk result (λ a. did who self.old self.new (Request.Accept fd no_open_flags) (Reply.Accepted a.0 a.1)) }
-        ensures refused { IfErr result (λ error. Fails did unmade is_accepted who self.old self.new (Request.Accept fd no_open_flags) error) }
+        ensures refused { IfErr result (λ error. Fails did unmade who self.old self.new (Request.Accept fd no_open_flags) error) }
     {
         let request = call::accept(fd);
         let reply = self.ask(who, &request)?;
@@ -277,7 +281,7 @@ pub trait Calls<C: Copy> {
         flags: OpenFlags,
     ) -> Result<(Fd, Addr), CallError>
         ensures made { IfOk result (λ a. did who self.old self.new (Request.Accept fd flags) (Reply.Accepted a.0 a.1)) }
-        ensures refused { IfErr result (λ error. Fails did unmade is_accepted who self.old self.new (Request.Accept fd flags) error) }
+        ensures refused { IfErr result (λ error. Fails did unmade who self.old self.new (Request.Accept fd flags) error) }
     {
         let request = call::accept_with(fd, flags);
         let reply = self.ask(who, &request)?;
@@ -288,7 +292,7 @@ pub trait Calls<C: Copy> {
     #[tactic(auto, using(crate::proofs::Calling::fails))]
     final fn shutdown(&mut self, who: C, fd: Fd, how: Mode) -> Result<(), CallError>
         ensures made { OnOk result (did who self.old self.new (Request.Shutdown fd how) Reply.Ok) }
-        ensures refused { IfErr result (λ error. Fails did unmade is_done who self.old self.new (Request.Shutdown fd how) error) }
+        ensures refused { IfErr result (λ error. Fails did unmade who self.old self.new (Request.Shutdown fd how) error) }
     {
         let request = call::shutdown(fd, how);
         let reply = self.ask(who, &request)?;
@@ -299,7 +303,7 @@ pub trait Calls<C: Copy> {
     #[tactic(auto, using(crate::proofs::Calling::fails))]
     final fn getopt(&mut self, who: C, fd: Fd, opt: SockOpt) -> Result<u64, CallError>
         ensures made { IfOk result (λ got. did who self.old self.new (Request.GetOpt fd opt) (Reply.Opt got)) }
-        ensures refused { IfErr result (λ error. Fails did unmade is_value who self.old self.new (Request.GetOpt fd opt) error) }
+        ensures refused { IfErr result (λ error. FailsAsNumber did unmade who self.old self.new fd opt error) }
     {
         let request = call::getopt(fd, opt);
         let reply = self.ask(who, &request)?;
@@ -310,7 +314,7 @@ pub trait Calls<C: Copy> {
     #[tactic(auto, using(crate::proofs::Calling::fails))]
     final fn peer_cred(&mut self, who: C, fd: Fd) -> Result<Cred, CallError>
         ensures made { IfOk result (λ cred. did who self.old self.new (Request.GetOpt fd SockOpt.PeerCred) (Reply.Cred cred)) }
-        ensures refused { IfErr result (λ error. Fails did unmade is_cred who self.old self.new (Request.GetOpt fd SockOpt.PeerCred) error) }
+        ensures refused { IfErr result (λ error. Fails did unmade who self.old self.new (Request.GetOpt fd SockOpt.PeerCred) error) }
     {
         let request = call::getopt(fd, SockOpt::PeerCred);
         let reply = self.ask(who, &request)?;
@@ -321,7 +325,7 @@ pub trait Calls<C: Copy> {
     #[tactic(auto, using(crate::proofs::Calling::fails))]
     final fn setopt(&mut self, who: C, fd: Fd, opt: SockOpt, value: u64) -> Result<(), CallError>
         ensures made { OnOk result (did who self.old self.new (Request.SetOpt fd opt value) Reply.Ok) }
-        ensures refused { IfErr result (λ error. Fails did unmade is_done who self.old self.new (Request.SetOpt fd opt value) error) }
+        ensures refused { IfErr result (λ error. Fails did unmade who self.old self.new (Request.SetOpt fd opt value) error) }
     {
         let request = call::setopt(fd, opt, value);
         let reply = self.ask(who, &request)?;
@@ -332,7 +336,7 @@ pub trait Calls<C: Copy> {
     #[tactic(auto, using(crate::proofs::Calling::fails))]
     final fn getsockname(&mut self, who: C, fd: Fd) -> Result<Addr, CallError>
         ensures made { IfOk result (λ addr. did who self.old self.new (Request.GetSockName fd) (Reply.Addr addr)) }
-        ensures refused { IfErr result (λ error. Fails did unmade is_addr who self.old self.new (Request.GetSockName fd) error) }
+        ensures refused { IfErr result (λ error. Fails did unmade who self.old self.new (Request.GetSockName fd) error) }
     {
         let request = call::getsockname(fd);
         let reply = self.ask(who, &request)?;
@@ -343,7 +347,7 @@ pub trait Calls<C: Copy> {
     #[tactic(auto, using(crate::proofs::Calling::fails))]
     final fn getpeername(&mut self, who: C, fd: Fd) -> Result<Addr, CallError>
         ensures made { IfOk result (λ addr. did who self.old self.new (Request.GetPeerName fd) (Reply.Addr addr)) }
-        ensures refused { IfErr result (λ error. Fails did unmade is_addr who self.old self.new (Request.GetPeerName fd) error) }
+        ensures refused { IfErr result (λ error. Fails did unmade who self.old self.new (Request.GetPeerName fd) error) }
     {
         let request = call::getpeername(fd);
         let reply = self.ask(who, &request)?;
@@ -354,7 +358,7 @@ pub trait Calls<C: Copy> {
     #[tactic(auto, using(crate::proofs::Calling::fails))]
     final fn send(&mut self, who: C, fd: Fd, bytes: &[u8]) -> Result<usize, CallError>
         ensures made { IfOk result (λ taken. did who self.old self.new (Request.SendMsg fd None bytes.now [] no_msg_flags) (Reply.Count taken)) }
-        ensures refused { IfErr result (λ error. Fails did unmade is_count who self.old self.new (Request.SendMsg fd None bytes.now [] no_msg_flags) error) }
+        ensures refused { IfErr result (λ error. Fails did unmade who self.old self.new (Request.SendMsg fd None bytes.now [] no_msg_flags) error) }
     {
         let request = call::send(self.allocator(), fd, bytes)?;
         let reply = self.ask(who, &request)?;
@@ -371,7 +375,7 @@ pub trait Calls<C: Copy> {
         rights: &[Fd],
     ) -> Result<usize, CallError>
         ensures made { IfOk result (λ taken. did who self.old self.new (Request.SendMsg fd None bytes.now (control_bytes None (map (λ right. right.0) rights.now)) no_msg_flags) (Reply.Count taken)) }
-        ensures refused { IfErr result (λ error. Fails did unmade is_count who self.old self.new (Request.SendMsg fd None bytes.now (control_bytes None (map (λ right. right.0) rights.now)) no_msg_flags) error) }
+        ensures refused { IfErr result (λ error. Fails did unmade who self.old self.new (Request.SendMsg fd None bytes.now (control_bytes None (map (λ right. right.0) rights.now)) no_msg_flags) error) }
     {
         let request = call::send_rights(self.allocator(), fd, bytes, rights)?;
         let reply = self.ask(who, &request)?;
@@ -382,7 +386,7 @@ pub trait Calls<C: Copy> {
     #[tactic(auto, using(crate::proofs::Calling::fails))]
     final fn recv(&mut self, who: C, fd: Fd, n: usize) -> Result<Message, CallError>
         ensures made { IfOk result (λ m. did who self.old self.new (Request.RecvMsg fd n 0 no_msg_flags) (Reply.Received m.flags m.count m.bytes m.control m.from)) }
-        ensures refused { IfErr result (λ error. Fails did unmade is_message who self.old self.new (Request.RecvMsg fd n 0 no_msg_flags) error) }
+        ensures refused { IfErr result (λ error. Fails did unmade who self.old self.new (Request.RecvMsg fd n 0 no_msg_flags) error) }
     {
         let request = call::recv(fd, n);
         let reply = self.ask(who, &request)?;
@@ -400,7 +404,7 @@ pub trait Calls<C: Copy> {
         count: usize,
     ) -> Result<Message, CallError>
         ensures made { IfOk result (λ m. did who self.old self.new (Request.RecvMsg fd n (rights_space (min count rights_limit)) no_msg_flags) (Reply.Received m.flags m.count m.bytes m.control m.from)) }
-        ensures refused { IfErr result (λ error. Fails did unmade is_message who self.old self.new (Request.RecvMsg fd n (rights_space (min count rights_limit)) no_msg_flags) error) }
+        ensures refused { IfErr result (λ error. Fails did unmade who self.old self.new (Request.RecvMsg fd n (rights_space (min count rights_limit)) no_msg_flags) error) }
     {
         let request = call::recv_rights(fd, n, count);
         let reply = self.ask(who, &request)?;
@@ -411,7 +415,7 @@ pub trait Calls<C: Copy> {
     #[tactic(auto, using(crate::proofs::Calling::fails))]
     final fn poll(&mut self, who: C, fd: Fd) -> Result<PollFlags, CallError>
         ensures made { IfOk result (λ flags. did who self.old self.new (Request.Poll fd) (Reply.Poll flags)) }
-        ensures refused { IfErr result (λ error. Fails did unmade is_ready who self.old self.new (Request.Poll fd) error) }
+        ensures refused { IfErr result (λ error. Fails did unmade who self.old self.new (Request.Poll fd) error) }
     {
         let request = call::poll(fd);
         let reply = self.ask(who, &request)?;
@@ -422,7 +426,7 @@ pub trait Calls<C: Copy> {
     #[tactic(auto, using(crate::proofs::Calling::fails))]
     final fn exec(&mut self, who: C) -> Result<(), CallError>
         ensures made { OnOk result (did who self.old self.new Request.Exec Reply.Ok) }
-        ensures refused { IfErr result (λ error. Fails did unmade is_done who self.old self.new Request.Exec error) }
+        ensures refused { IfErr result (λ error. Fails did unmade who self.old self.new Request.Exec error) }
     {
         let request = call::exec();
         let reply = self.ask(who, &request)?;
@@ -452,5 +456,24 @@ pub trait Calls<C: Copy> {
         ensures early { IfErr result (λ u. EndsEarly did unmade who (request_of Way.Send fd) bytes.now self.old self.new u) }
     {
         give_all(self, who, fd, Way::Send, bytes)
+    }
+
+    /// Sends all these bytes as `send_all` does, and passes these descriptors with the first of them, as `send_rights`
+    /// does.
+    ///
+    /// # Errors
+    ///
+    /// Those of `write_all`.
+    final fn send_all_rights(
+        &mut self,
+        who: C,
+        fd: Fd,
+        bytes: &[u8],
+        rights: &[Fd],
+    ) -> Result<(), Unfinished>
+        ensures all { OnOk result (AfterFirst did who (Request.SendMsg fd None bytes.now (control_bytes None (map (λ right. right.0) rights.now)) no_msg_flags) bytes.now self.old (λ mid left. (k : ℕ) × Takes did who (request_of Way.Send fd) left k [] mid self.new)) }
+        ensures early { IfErr result (λ u. EndsEarlyAfter did unmade who (Request.SendMsg fd None bytes.now (control_bytes None (map (λ right. right.0) rights.now)) no_msg_flags) (request_of Way.Send fd) bytes.now self.old self.new u) }
+    {
+        give_all_with(self, who, fd, bytes, rights)
     }
 }

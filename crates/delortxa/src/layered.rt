@@ -1,11 +1,11 @@
 //! A program that is run over a layer, with threads as its processes.
-ghost use Rattle.std.specs.Prelude.{◌≡◌, [], ⊤, length, IfOk};
+ghost use Rattle.std.specs.Prelude.{◌≡◌, [], ⊤, length, map, IfOk};
 ghost use Rattle.ux_model.specs.Boot.{IsBootState};
 ghost use Rattle.ux_model.specs.State.{State};
-ghost use Rattle.ux_model.specs.Types.{Pid};
+ghost use Rattle.ux_model.specs.Types.{Pid, Request, Reply};
 ghost use Rattle.ux_model.specs.History.{IsLegal};
-ghost use Rattle.ux_book.specs.Pasts.{fresh};
-ghost use Rattle.delortxa.specs.Promising.{EachPromises};
+ghost use Rattle.ux_book.specs.Pasts.{Caller, fresh, made};
+ghost use Rattle.delortxa.specs.Promising.{EachPromises, EachPromisesCalls, Ended};
 
 use crate::objects::AnyObject;
 use crate::seat::{Layer, Seat};
@@ -14,7 +14,7 @@ use std::marker::Brand;
 use std::sync::Wait;
 use std::thread;
 use std::thread::Threads;
-use ux_book::{BookName, NoMemory, Trail};
+use ux_book::{BookName, NoMemory, Spent, Trail};
 use ux_kernel::Kernel;
 use ux_layer::start;
 use ux_types::Entry;
@@ -29,14 +29,19 @@ pub trait LayerProgram<R>: Drop + Sync {
     /// program says more.
     ghost promise: { State → Pid → Self → Self.Output → Type 0 } = { λ _ _ _ _. ⊤ };
 
+    /// What is known of it and of the calls that the process has made: nothing, unless the program says more.
+    ghost promise_of_calls: { State → Pid → Self → Self.Output → Caller → Type 0 } = { λ _ _ _ _ _. ⊤ };
+
     /// Makes the calls of one process, which has made none before. It exits when this returns.
     fn run<W: BookName>(&self, rt: &R, layer: &Layer<W>, seat: &mut Seat<W>) -> Self::Output
         requires { seat.old.past ≡ [] }
-        ensures { promise W.boot seat.old.pid self.now result };
+        ensures promised { promise W.boot seat.old.pid self.now result }
+        ensures calls { promise_of_calls W.boot seat.old.pid self.now result seat.new };
 }
 
 /// Runs the program for each process of a layer at the start of this kernel, at the same time: what each gives, by their
-/// numbers, and the history of all their calls, which is legal. Each process exits once its run is over, also where that ends early by `?`, so that no other waits for it.
+/// numbers, and the history of all their calls, which is legal: of each process it has the calls that its run made, and
+/// its exit. Each process exits once its run is over, also where that ends early by `?`, so that no other waits for it.
 /// Where a thread can't be made, its process runs after another on that one's thread, and a process that waits for one
 /// that hasn't begun waits for good.
 ///
@@ -51,6 +56,7 @@ pub fn with_layer<R: Threads + Wait + AllocGlobal + Sync, P: LayerProgram<R>>(
     requires { IsBootState kernel }
     ensures all { IfOk result (λ r. length r.0.items ≡ length kernel.processes) }
     ensures promised { IfOk result (λ r. EachPromises (P.promise kernel) program r.0.items) }
+    ensures calls { IfOk result (λ r. EachPromisesCalls (P.promise_of_calls kernel) program r.0.items r.1.items) }
     ensures legal { IfOk result (λ r. IsLegal kernel r.1.items) }
 {
     keep_layer::<Brand, R, P>(rt, Trail::new(rt.alloc())?, kernel, &program)
@@ -73,6 +79,7 @@ fn keep_layer<
     requires named { kernel ≡ W.boot }
     ensures all { IfOk result (λ r. length r.0.items ≡ length kernel.processes) }
     ensures promised { IfOk result (λ r. EachPromises (P.promise kernel) program.now r.0.items) }
+    ensures calls { IfOk result (λ r. EachPromisesCalls (P.promise_of_calls kernel) program.now r.0.items r.1.items) }
     ensures legal { IfOk result (λ r. IsLegal kernel r.1.items) }
 {
     let alloc = rt.alloc();
@@ -80,54 +87,29 @@ fn keep_layer<
         return Err(NoMemory);
     };
     let seats = seats_at(alloc, places)?;
-    let outputs = run_all(rt, &layer, program, seats)?;
-    let entries = history(rt, alloc, &layer)?;
+    let ended = run_all(rt, &layer, program, seats)?;
+    let (outputs, mut spents) = split(alloc, ended)?;
+    let entries = layer.history(rt, alloc, &mut spents)?;
     Ok((outputs, entries))
 }
 
-/// The calls of the layer so far, with their replies.
-#[tactic(auto, using(crate::proofs::Sittings::legal_at))]
-fn history<W: BookName, R: Wait>(
-    rt: &R,
-    alloc: Global,
-    layer: &Layer<W>,
-) -> Result<Vec<Entry>, AllocError>
-    ensures { IfOk result (λ entries. IsLegal W.boot entries.items) }
-{
-    let guard = layer.book(rt);
-    copy_all(alloc, guard.book().entries())
-}
-
-/// Copies of these entries, which own their bytes together with them.
-fn copy_all(alloc: Global, entries: &[Entry]) -> Result<Vec<Entry>, AllocError>
-    ensures { IfOk result (λ copies. copies.items ≡ entries.now) }
-{
-    let mut copies = Vec::with_capacity(alloc, entries.len())?;
-    let mut left = entries;
-    while let Some((entry, more)) = left.split_first() {
-        copies.push(entry.clone()?)?;
-        left = more;
-    }
-    Ok(copies)
-}
-
-/// Runs the program by each seat, in a thread of its own.
+/// Runs the program by each seat, in a thread of its own: what each gives, with its spent seat.
 fn run_all<W: BookName + Send + Sync, R: Threads + Wait + Sync, P: LayerProgram<R>>(
     rt: &R,
     layer: &Layer<W>,
     program: &P,
     seats: Vec<Seat<W>>,
-) -> Result<Vec<P::Output>, AllocError>
+) -> Result<Vec<(P::Output, Spent<W>)>, AllocError>
     requires fresh { seats.items ≡ fresh (length seats.items) }
-    ensures all { IfOk result (λ outputs. length outputs.items ≡ length seats.items) }
-    ensures promised { IfOk result (λ outputs. EachPromises (P.promise W.boot) program.now outputs.items) }
+    ensures all { IfOk result (λ ended. length ended.items ≡ length seats.items) }
+    ensures each { IfOk result (λ ended. EachPromises (Ended (P.promise W.boot) (P.promise_of_calls W.boot)) program.now ended.items) }
 {
     thread::map_vec(
         rt,
         seats,
         &|seat: Seat<W>|
             requires { seat.past ≡ [] }
-            ensures { P.promise W.boot seat.pid program.entry.now result }
+            ensures { Ended (P.promise W.boot) (P.promise_of_calls W.boot) seat.pid program.entry.now result }
         { run_one(rt, layer, program, seat) },
     )
 }
@@ -138,14 +120,31 @@ fn run_one<W: BookName, R: Wait, P: LayerProgram<R>>(
     layer: &Layer<W>,
     program: &P,
     seat: Seat<W>,
-) -> P::Output
+) -> (P::Output, Spent<W>)
     requires { seat.past ≡ [] }
-    ensures { P.promise W.boot seat.pid program.now result }
+    ensures { Ended (P.promise W.boot) (P.promise_of_calls W.boot) seat.pid program.now result }
 {
     let mut seat = seat;
     let output = program.run(rt, layer, &mut seat);
-    drop(seat.exit(rt));
-    output
+    let spent = seat.exit(rt);
+    (output, spent)
+}
+
+/// What the processes gave, and their spent seats.
+fn split<W: BookName, T: Drop>(
+    alloc: Global,
+    ended: Vec<(T, Spent<W>)>,
+) -> Result<(Vec<T>, Vec<Spent<W>>), AllocError>
+    ensures outputs { IfOk result (λ r. r.0.items ≡ map (λ gone. gone.0) ended.items) }
+    ensures spents { IfOk result (λ r. r.1.items ≡ map (λ gone. gone.1) ended.items) }
+{
+    let mut outputs = Vec::with_capacity(alloc, ended.len())?;
+    let mut spents = Vec::with_capacity(alloc, ended.len())?;
+    for (output, spent) in ended {
+        outputs.push(output)?;
+        spents.push(spent)?;
+    }
+    Ok((outputs, spents))
 }
 
 /// A seat at each of these places.

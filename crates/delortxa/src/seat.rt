@@ -6,7 +6,7 @@ ghost use Rattle.ux_book.specs.Pasts.{made, IsOf};
 ghost use Rattle.ux_book.specs.Receipts.{IsSlip, IsSlipOf};
 ghost use Rattle.ux_book.specs.declared.fault.CallFault.{CallFault};
 ghost use Rattle.ux_layer.specs.Faults.{RefusesOrWaits};
-ghost use Rattle.delortxa.specs.Answering.{Tells, is_child};
+ghost use Rattle.delortxa.specs.Answering.{Tells};
 ghost use Rattle.delortxa.specs.Happening.{Happens};
 
 use crate::answers::other_reply;
@@ -94,10 +94,11 @@ impl<W: BookName> Seat<W> {
     /// # Errors
     ///
     /// `Refused` where the layer refuses it, and `Fault` where no call was made.
+    #[tactic(auto, using(crate::proofs::Calling::tells, crate::proofs::Seatings::happens, crate::proofs::Seatings::no_child, crate::specs::Replying::reply_happens))]
     pub fn fork<R: Wait>(&mut self, rt: &R) -> Result<Seat<W>, CallError>
         ensures made { IfOk result (λ child. Happens W.boot self.old self.new Request.Fork (Reply.Child child.pid) false) }
         ensures fresh { IfOk result (λ child. child.past ≡ []) }
-        ensures refused { IfErr result (λ error. Tells is_child (λ reply. Happens W.boot self.old self.new Request.Fork reply false) (λ f. f ≡ CallFault.NoMemory) self.old self.new error) }
+        ensures refused { IfErr result (λ error. Tells (λ reply. Happens W.boot self.old self.new Request.Fork reply false) (λ f. f ≡ CallFault.NoMemory) self.old self.new error) }
     {
         let alloc = self.alloc;
         match self.place.fork(rt) {
@@ -130,6 +131,7 @@ impl<'r, W: BookName, R: Wait> Calls<&'r R> for Seat<W> {
     ghost use Rattle.ux_book.specs.declared.fault.CallFault.{CallFault};
     ghost use Rattle.ux_layer.specs.Faults.{RefusesOrWaits};
     ghost use Rattle.delortxa.specs.Happening.{Happens};
+    ghost use Rattle.delortxa.specs.Replying.{reply_happens};
 
     ghost did = { λ _ old new request reply. Happens W.boot old new request reply true };
 
@@ -143,4 +145,6 @@ impl<'r, W: BookName, R: Wait> Calls<&'r R> for Seat<W> {
         let (reply, _receipt) = self.place.call_blocking(rt, request)?;
         Ok(reply)
     }
+
+    ghost replies = { λ _ old new request reply happened. reply_happens W.boot old new request reply true happened };
 }

@@ -9,7 +9,7 @@ ghost use Rattle.ux_book.specs.declared.fault.OffFault.{OffFault};
 ghost use Rattle.ux_book.specs.Books.{has_own_call, state_of, ends_of};
 ghost use Rattle.ux_book.specs.Sitting.{Answers, IsFault};
 ghost use Rattle.ux_audit.specs.Holdings.{AreHoldings};
-ghost use Rattle.delortxa.specs.Answering.{Tells, is_child};
+ghost use Rattle.delortxa.specs.Answering.{Tells};
 
 use crate::answers::ReplyExt;
 use crate::calls::Calls;
@@ -122,9 +122,10 @@ impl<W: BookName> Session<W> {
     /// # Errors
     ///
     /// `Refused` where the layer refuses it, and `Fault` where no call was made.
+    #[tactic(auto, using(crate::proofs::Calling::tells, crate::specs::Replying::reply_answers))]
     pub fn fork(&mut self, pid: Pid) -> Result<Pid, CallError>
         ensures made { IfOk result (λ child. Answers self.old self.new pid Request.Fork (Reply.Child child)) }
-        ensures refused { IfErr result (λ error. Tells is_child (Answers self.old self.new pid Request.Fork) (IsFault self.old pid) self.old self.new error) }
+        ensures refused { IfErr result (λ error. Tells (Answers self.old self.new pid Request.Fork) (IsFault self.old pid) self.old self.new error) }
     {
         let reply = self.serial.fork(pid)?;
         reply.child()
@@ -162,6 +163,7 @@ impl<W: BookName> Session<W> {
 
 impl<W: BookName> Calls<Pid> for Session<W> {
     ghost use Rattle.ux_book.specs.Sitting.{Answers, IsFault};
+    ghost use Rattle.delortxa.specs.Replying.{reply_answers};
 
     ghost did = { λ pid old new request reply. Answers old new pid request reply };
 
@@ -174,4 +176,6 @@ impl<W: BookName> Calls<Pid> for Session<W> {
     fn ask(&mut self, pid: Pid, request: &Request) -> Result<Reply, CallFault> {
         self.serial.call(pid, request)
     }
+
+    ghost replies = { λ pid old new request reply made. reply_answers old new pid request reply made };
 }

@@ -1,8 +1,11 @@
 //! Bytes that are given whole, by as many calls as it takes.
-ghost use Rattle.std.specs.Prelude.{◌≡◌, ℕ, [], IfOk, IfErr, OnOk};
-ghost use Rattle.ux_model.specs.Types.{Reply};
-ghost use Rattle.delortxa.specs.Answering.{Fails, is_count};
-ghost use Rattle.delortxa.specs.Giving.{Takes, EndsEarly, request_of};
+ghost use Rattle.std.specs.Prelude.{◌≡◌, ℕ, [], None, map, IfOk, IfErr, OnOk};
+ghost use Rattle.ux_model.specs.Types.{Request, Reply};
+ghost use Rattle.ux_model.specs.Delivery.{control_bytes};
+ghost use Rattle.ux_calls.specs.Calls.{no_msg_flags};
+ghost use Rattle.delortxa.specs.declared.whole.Way.{Way};
+ghost use Rattle.delortxa.specs.Answering.{Fails};
+ghost use Rattle.delortxa.specs.Giving.{Takes, EndsEarly, AfterFirst, EndsEarlyAfter, request_of};
 
 use crate::calls::Calls;
 use crate::fault::CallError;
@@ -63,6 +66,37 @@ pub(crate) fn give_all<C: Copy, P: Calls<C>>(
     Ok(())
 }
 
+/// Sends these bytes, and passes these descriptors by the first call.
+#[tactic(auto, using(crate::proofs::Giving::first_failed, crate::proofs::Giving::all_after, crate::proofs::Giving::early_after))]
+pub(crate) fn give_all_with<C: Copy, P: Calls<C>>(
+    caller: &mut P,
+    who: C,
+    fd: Fd,
+    bytes: &[u8],
+    rights: &[Fd],
+) -> Result<(), Unfinished>
+    ensures all { OnOk result (AfterFirst P.did who (Request.SendMsg fd None bytes.now (control_bytes None (map (λ right. right.0) rights.now)) no_msg_flags) bytes.now caller.old (λ mid left. (k : ℕ) × Takes P.did who (request_of Way.Send fd) left k [] mid caller.new)) }
+    ensures early { IfErr result (λ u. EndsEarlyAfter P.did P.unmade who (Request.SendMsg fd None bytes.now (control_bytes None (map (λ right. right.0) rights.now)) no_msg_flags) (request_of Way.Send fd) bytes.now caller.old caller.new u) }
+{
+    let taken = match caller.send_rights(who, fd, bytes, rights) {
+        Ok(taken) => taken,
+        Err(error) => {
+            return Err(Unfinished {
+                taken: 0,
+                error: Some(error),
+            });
+        }
+    };
+    let (_taken, left) = bytes.split_at(taken.min(bytes.len()));
+    match give_all(caller, who, fd, Way::Send, left) {
+        Ok(()) => Ok(()),
+        Err(more) => Err(Unfinished {
+            taken: bytes.len() - left.len() + more.taken,
+            error: more.error,
+        }),
+    }
+}
+
 /// Gives these bytes by one call: how many were taken.
 fn give<C: Copy, P: Calls<C>>(
     caller: &mut P,
@@ -72,7 +106,7 @@ fn give<C: Copy, P: Calls<C>>(
     bytes: &[u8],
 ) -> Result<usize, CallError>
     ensures made { IfOk result (λ taken. P.did who caller.old caller.new (request_of way fd bytes.now) (Reply.Count taken)) }
-    ensures refused { IfErr result (λ error. Fails P.did P.unmade is_count who caller.old caller.new (request_of way fd bytes.now) error) }
+    ensures refused { IfErr result (λ error. Fails P.did P.unmade who caller.old caller.new (request_of way fd bytes.now) error) }
 {
     match way {
         Way::Write => caller.write(who, fd, bytes),

@@ -1,5 +1,5 @@
 //! The methods of a session.
-use crate::methods::{CALLER, CALLS, Wrong, boot_all, call_all, refuses};
+use crate::methods::{CALLER, CALLS, MOST, Wrong, boot_all, call_all, refuses};
 use delortxa::{
     BookName, BookProgram, CallFault, Entry, Errno, OffFault, Pid, Reply, Session, call,
     trace_text, with_book,
@@ -10,9 +10,6 @@ use std::test::Fail;
 
 /// A number of no process.
 const STRANGER: Pid = Pid(9);
-
-/// How many processes there may be, those that have exited too.
-const MOST: u32 = 1024;
 
 /// Makes every call, makes and ends processes, and ends the layer.
 #[derive(Drop)]

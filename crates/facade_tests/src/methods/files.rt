@@ -56,6 +56,8 @@ pub(super) fn use_objects<C: Copy, P: Calls<C>>(p: &mut P, who: C) -> Result<(),
     gives("poll", p.poll(who, CLOSED), PollFlags::NVAL)?;
     gives("open", p.open(who, b"pipe", Mode::Both), Fd(3))?;
     is_whole("write_all", p.write_all(who, Fd(3), b"bytes"))?;
+    let unwritten = p.write_all(who, CLOSED, b"bytes");
+    is_refused("write_all", unwritten, 0, Errno::EBADF)?;
     let bytes = Bytes::from_slice(alloc, b"bytes")?;
     gives("read", p.read(who, Fd(3), 64), bytes)?;
     gives("open", p.open(who, b"worn", Mode::Both), Fd(4))?;

@@ -45,7 +45,11 @@ pub(super) fn talk<C: Copy, P: Calls<C>>(p: &mut P, who: C) -> Result<(), Wrong>
     refuses("recv_rights", nothing, Errno::ENOTCONN)?;
     is_whole("send_all", p.send_all(who, Fd(6), b"more"))?;
     let unsent = p.send_all(who, Fd(5), b"more");
-    is_refused("send_all", unsent, 0, Errno::ENOTCONN)
+    is_refused("send_all", unsent, 0, Errno::ENOTCONN)?;
+    let passed = p.send_all_rights(who, Fd(6), b"more", &[Fd(5)]);
+    is_whole("send_all_rights", passed)?;
+    let unsent = p.send_all_rights(who, Fd(5), b"more", &[Fd(6)]);
+    is_refused("send_all_rights", unsent, 0, Errno::ENOTCONN)
 }
 
 /// A message without rights and name.
