@@ -10,7 +10,7 @@ use Rattle.ux_syntax.specs.declared.fault.Fault.TheVariants.{BadLine, UnknownPro
 use Rattle.ux_syntax.specs.declared.fault.LineError.{LineError}
 use Rattle.ux_syntax.specs.declared.fault.ScriptFault.{ScriptFault}
 use Rattle.ux_syntax.specs.declared.script.Script.{Script}
-use Rattle.ux_syntax.specs.Spelling.{Plan, plan_of, lines_of, SpellScript, IsOrderly}
+use Rattle.ux_syntax.specs.Spelling.{Plan, plan_of, lines_of, line_limit, SpellScript, IsOrderly}
 use Rattle.ux_syntax.specs.Reading.{item_at, line_at, line_fault, on_line, lines_at, no_lines, script_at}
 use Rattle.ux_syntax.specs.Results.{Fails, FailsAt, Refuses, fault_at, GivesScript}
 use Rattle.ux_syntax.specs.Continuing.{onto_front, continued, Found}
@@ -60,14 +60,14 @@ byte_joins s n byte line rest h = ap (λ b. lines_at n s (onto_front line (cond 
     go [] = refl
     go (l ∷ ls) = ap (λ m. m ∷ ls) (sym (append_assoc line (byte ∷ []) l))
 
-long_line : (s : Plan) (text : List ℕ) → 4096 < length text → line_at s text ≡ Err TooLong
+long_line : (s : Plan) (text : List ℕ) → line_limit s.serial < length text → line_at s text ≡ Err TooLong
 unfolding line_at item_at
-long_line s text h = rw (lt-ltb 4096 (length text) h) refl
+long_line s text h = rw (lt-ltb (line_limit s.serial) (length text) h) refl
 
-pub too_long : (s : Plan) (n byte : ℕ) (line rest : List ℕ) → 4096 ≤ length line → eqb byte 10 ≡ false → continued s n line (byte ∷ rest) ≡ Err (ScriptFault.TooLong n)
+pub too_long : (s : Plan) (n byte : ℕ) (line rest : List ℕ) → line_limit s.serial ≤ length line → eqb byte 10 ≡ false → continued s n line (byte ∷ rest) ≡ Err (ScriptFault.TooLong n)
 too_long s n byte line rest long h = byte_joins s n byte line rest h ∙ go (lines_of rest)
   where
-    more : (l : List ℕ) → 4096 < length ((line ++ byte ∷ []) ++ l)
+    more : (l : List ℕ) → line_limit s.serial < length ((line ++ byte ∷ []) ++ l)
     more l = simp (length-append) (omega arith)
 
     go : (ls : List (List ℕ)) → lines_at n s (onto_front (line ++ byte ∷ []) ls) ≡ Err (ScriptFault.TooLong n)

@@ -45,12 +45,16 @@ split_join w (v ∷ ws) h hs =
 abbrev off_words : List (List ℕ)
 off_words = codes "off" ∷ []
 
+abbrev serial_words : List (List ℕ)
+serial_words = codes "serial" ∷ []
+
 -- the words are the item's, as it may be written
 abbrev AreWords : List (List ℕ) → Item → Type 0
 AreWords ws Item.Skipped = ⊥
 AreWords ws (Item.Header h) = (ws ≡ header_words h) × FitsHeader h
 AreWords ws (Item.Line line) = (t : Turn) × (line_of t ≡ line) × (ws ≡ turn_words t) × FitsTurn t
 AreWords ws Item.Off = ws ≡ off_words
+AreWords ws Item.Serial = ws ≡ serial_words
 
 turn_takes : (pid : ℕ) (ws : List (List ℕ)) (item : Item) → IsNumber pid → turn_at pid ws ≡ Ok item → AreWords (decimal pid ∷ ws) item
 turn_takes pid ws item h e =
@@ -71,6 +75,9 @@ object_item ws = object_at ws >>= λ o. Ok (Item.Header (Header.Object o))
 
 abbrev off_item : List (List ℕ) → Result Item Fault
 off_item ws = ends ws >>= λ x. Ok Item.Off
+
+abbrev serial_item : List (List ℕ) → Result Item Fault
+serial_item ws = ends ws >>= λ x. Ok Item.Serial
 
 abbrev turn_item : List ℕ → List (List ℕ) → Result Item Fault
 turn_item w ws = number_at w >>= λ pid. turn_at pid ws
@@ -96,24 +103,32 @@ off_item_takes w ws item d e =
     subst (λ (y : Item). AreWords (w ∷ ws) y) (ok_is Item.Off item a.2)
     (ap (λ (x : List ℕ). x ∷ ws) d ∙ ap (λ (xs : List (List ℕ)). codes "off" ∷ xs) p.0)
 
+serial_item_takes : (w : List ℕ) (ws : List (List ℕ)) (item : Item) → w ≡ codes "serial" → serial_item ws ≡ Ok item → AreWords (w ∷ ws) item
+serial_item_takes w ws item d e =
+    let a = bind_ok (ends ws) (λ x. Ok Item.Serial) item e in
+    let p = ends_row.takes ws a.0 a.1 in
+    subst (λ (y : Item). AreWords (w ∷ ws) y) (ok_is Item.Serial item a.2)
+    (ap (λ (x : List ℕ). x ∷ ws) d ∙ ap (λ (xs : List (List ℕ)). codes "serial" ∷ xs) p.0)
+
 turn_item_takes : (w : List ℕ) (ws : List (List ℕ)) (item : Item) → turn_item w ws ≡ Ok item → AreWords (w ∷ ws) item
 turn_item_takes w ws item e =
     let a = bind_ok (number_at w) (λ pid. turn_at pid ws) item e in
     let n = number_kind.takes w a.0 a.1 in
     subst (λ (x : List ℕ). AreWords (x ∷ ws) item) (sym n.0) (turn_takes a.0 ws item n.1 a.2)
 
-words_chosen : (w : List ℕ) (ws : List (List ℕ)) (item : Item) (t u v : Bool) → (t ≡ true → w ≡ codes "proc") → (u ≡ true → w ≡ codes "object") → (v ≡ true → w ≡ codes "off")
-    → cond t (proc_item ws) (cond u (object_item ws) (cond v (off_item ws) (turn_item w ws))) ≡ Ok item → AreWords (w ∷ ws) item
-words_chosen w ws item true u v d f g e = proc_item_takes w ws item (d refl) e
-words_chosen w ws item false true v d f g e = object_item_takes w ws item (f refl) e
-words_chosen w ws item false false true d f g e = off_item_takes w ws item (g refl) e
-words_chosen w ws item false false false d f g e = turn_item_takes w ws item e
+words_chosen : (w : List ℕ) (ws : List (List ℕ)) (item : Item) (t u v s : Bool) → (t ≡ true → w ≡ codes "proc") → (u ≡ true → w ≡ codes "object") → (v ≡ true → w ≡ codes "off") → (s ≡ true → w ≡ codes "serial")
+    → cond t (proc_item ws) (cond u (object_item ws) (cond v (off_item ws) (cond s (serial_item ws) (turn_item w ws)))) ≡ Ok item → AreWords (w ∷ ws) item
+words_chosen w ws item true u v s d f g h e = proc_item_takes w ws item (d refl) e
+words_chosen w ws item false true v s d f g h e = object_item_takes w ws item (f refl) e
+words_chosen w ws item false false true s d f g h e = off_item_takes w ws item (g refl) e
+words_chosen w ws item false false false true d f g h e = serial_item_takes w ws item (h refl) e
+words_chosen w ws item false false false false d f g h e = turn_item_takes w ws item e
 
 words_takes : (ws : List (List ℕ)) (item : Item) → words_at ws ≡ Ok item → AreWords ws item
 unfolding words_at
 words_takes [] item e = absurd cc
-words_takes (w ∷ ws) item e = words_chosen w ws item (bytes_eq w (codes "proc")) (bytes_eq w (codes "object")) (bytes_eq w (codes "off"))
-    (bytes_eq-Decides w (codes "proc")).0 (bytes_eq-Decides w (codes "object")).0 (bytes_eq-Decides w (codes "off")).0 e
+words_takes (w ∷ ws) item e = words_chosen w ws item (bytes_eq w (codes "proc")) (bytes_eq w (codes "object")) (bytes_eq w (codes "off")) (bytes_eq w (codes "serial"))
+    (bytes_eq-Decides w (codes "proc")).0 (bytes_eq-Decides w (codes "object")).0 (bytes_eq-Decides w (codes "off")).0 (bytes_eq-Decides w (codes "serial")).0 e
 
 turn_bad : (pid : ℕ) (ws : List (List ℕ)) → IsBadOrOk (turn_at pid ws)
 turn_bad pid ws = bind_bad (act_at ws) _ (act_bad ws) (λ act. tt)
@@ -123,7 +138,8 @@ unfolding words_at
 words_bad [] = refl
 words_bad (w ∷ ws) = either_bad (bytes_eq w (codes "proc")) (proc_item ws) _ (bind_bad (proc_at ws) _ (proc_bad ws) (λ p. tt))
     (either_bad (bytes_eq w (codes "object")) (object_item ws) _ (bind_bad (object_at ws) _ (object_bad ws) (λ o. tt))
-    (either_bad (bytes_eq w (codes "off")) (off_item ws) (turn_item w ws) (bind_bad (ends ws) _ (ends_row.bad ws) (λ x. tt)) (bind_bad (number_at w) _ (number_kind.bad w) (λ pid. turn_bad pid ws))))
+    (either_bad (bytes_eq w (codes "off")) (off_item ws) _ (bind_bad (ends ws) _ (ends_row.bad ws) (λ x. tt))
+    (either_bad (bytes_eq w (codes "serial")) (serial_item ws) (turn_item w ws) (bind_bad (ends ws) _ (ends_row.bad ws) (λ x. tt)) (bind_bad (number_at w) _ (number_kind.bad w) (λ pid. turn_bad pid ws)))))
 
 header_words_again : (h : Header) → FitsHeader h → words_at (header_words h) ≡ Ok (Item.Header h)
 unfolding words_at
@@ -133,6 +149,10 @@ header_words_again (Header.Proc p) f = rw (proc_again p f) refl
 off_words_again : words_at off_words ≡ Ok Item.Off
 unfolding words_at
 off_words_again = refl
+
+serial_words_again : words_at serial_words ≡ Ok Item.Serial
+unfolding words_at
+serial_words_again = refl
 
 -- a number is no other word
 other_word : (n : ℕ) (w : List ℕ) → number_at w ≡ Err BadLine → IsNumber n → bytes_eq (decimal n) w ≡ false
@@ -144,7 +164,8 @@ turn_words_again t f =
     let no_proc = other_word t.pid (codes "proc") (number_refused (codes "proc") refl) f.0 in
     let no_object = other_word t.pid (codes "object") (number_refused (codes "object") refl) f.0 in
     let no_off = other_word t.pid (codes "off") (number_refused (codes "off") refl) f.0 in
-    rw (no_proc, no_object, no_off, number_kind.again t.pid f.0, act_again t.asked f.1) refl
+    let no_serial = other_word t.pid (codes "serial") (number_refused (codes "serial") refl) f.0 in
+    rw (no_proc, no_object, no_off, no_serial, number_kind.again t.pid f.0, act_again t.asked f.1) refl
 
 -- ---- what a line says
 
@@ -154,21 +175,23 @@ Says Item.Skipped text = is_meant text ≡ false
 Says (Item.Header h) text = (is_meant text ≡ true) × (text ≡ header_line h) × FitsHeader h
 Says (Item.Line line) text = (is_meant text ≡ true) × ((t : Turn) × (line_of t ≡ line) × (text ≡ turn_line t) × FitsTurn t)
 Says Item.Off text = (is_meant text ≡ true) × (text ≡ codes "off")
+Says Item.Serial text = (is_meant text ≡ true) × (text ≡ codes "serial")
 
 said : (item : Item) (text : List ℕ) → is_meant text ≡ true → AreWords (slice_split is_blank text) item → Says item text
 said Item.Skipped text m e = absurd e
 said (Item.Header h) text m e = (m, sym (join_with_byte-slice_split 32 text) ∙ ap (join_with_byte 32) e.0, e.1)
 said (Item.Line line) text m e = (m, (e.0, e.1, sym (join_with_byte-slice_split 32 text) ∙ ap (join_with_byte 32) e.2, e.3))
 said Item.Off text m e = (m, sym (join_with_byte-slice_split 32 text) ∙ ap (join_with_byte 32) e)
+said Item.Serial text m e = (m, sym (join_with_byte-slice_split 32 text) ∙ ap (join_with_byte 32) e)
 
-item_chosen : (text : List ℕ) (item : Item) (t u : Bool) → is_meant text ≡ u → (t ≡ false → length text ≤ 4096) → cond t (Err TooLong) (cond u (words_at (slice_split is_blank text)) (Ok Item.Skipped)) ≡ Ok item → (length text ≤ 4096) × Says item text
-item_chosen text item true u m short e = absurd cc
-item_chosen text item false true m short e = (short refl, said item text m (words_takes (slice_split is_blank text) item e))
-item_chosen text item false false m short e = (short refl, subst (λ (y : Item). Says y text) (ok_is Item.Skipped item e) m)
+item_chosen : (limit : ℕ) (text : List ℕ) (item : Item) (t u : Bool) → is_meant text ≡ u → (t ≡ false → length text ≤ limit) → cond t (Err TooLong) (cond u (words_at (slice_split is_blank text)) (Ok Item.Skipped)) ≡ Ok item → (length text ≤ limit) × Says item text
+item_chosen limit text item true u m short e = absurd cc
+item_chosen limit text item false true m short e = (short refl, said item text m (words_takes (slice_split is_blank text) item e))
+item_chosen limit text item false false m short e = (short refl, subst (λ (y : Item). Says y text) (ok_is Item.Skipped item e) m)
 
-pub item_takes : (text : List ℕ) (item : Item) → item_at text ≡ Ok item → (length text ≤ 4096) × Says item text
+pub item_takes : (limit : ℕ) (text : List ℕ) (item : Item) → item_at limit text ≡ Ok item → (length text ≤ limit) × Says item text
 unfolding item_at
-item_takes text item e = item_chosen text item (ltb 4096 (length text)) (is_meant text) refl (ltb-false 4096 (length text)) e
+item_takes limit text item e = item_chosen limit text item (ltb limit (length text)) (is_meant text) refl (ltb-false limit (length text)) e
 
 split_header : (h : Header) → FitsHeader h → slice_split is_blank (header_line h) ≡ header_words h
 split_header (Header.Object o) f = split_join (codes "object") (header_args (Header.Object o)) (solid_from (codes "object") refl) (header_solid (Header.Object o) f)
@@ -177,21 +200,24 @@ split_header (Header.Proc p) f = split_join (codes "proc") (header_args (Header.
 split_turn : (t : Turn) → FitsTurn t → slice_split is_blank (turn_line t) ≡ turn_words t
 split_turn t f = split_join (decimal t.pid) _ (number_kind.solid t.pid f.0) (asked_solid t.asked f.1)
 
-spelled_again : (item : Item) (text spelling : List ℕ) (ws : List (List ℕ)) → length text ≤ 4096 → is_meant text ≡ true → text ≡ spelling → slice_split is_blank spelling ≡ ws → words_at ws ≡ Ok item → item_at text ≡ Ok item
+spelled_again : (item : Item) (limit : ℕ) (text spelling : List ℕ) (ws : List (List ℕ)) → length text ≤ limit → is_meant text ≡ true → text ≡ spelling → slice_split is_blank spelling ≡ ws → words_at ws ≡ Ok item → item_at limit text ≡ Ok item
 unfolding item_at
-spelled_again item text spelling ws short m e w again =
+spelled_again item limit text spelling ws short m e w again =
     let words : slice_split is_blank text ≡ ws = ap (slice_split is_blank) e ∙ w in
-    rw (le-ltb 4096 (length text) short, m, words) again
+    rw (le-ltb limit (length text) short, m, words) again
 
-pub skip_again : (text : List ℕ) → length text ≤ 4096 → is_meant text ≡ false → item_at text ≡ Ok Item.Skipped
+pub skip_again : (limit : ℕ) (text : List ℕ) → length text ≤ limit → is_meant text ≡ false → item_at limit text ≡ Ok Item.Skipped
 unfolding item_at
-skip_again text short m = rw (le-ltb 4096 (length text) short, m) refl
+skip_again limit text short m = rw (le-ltb limit (length text) short, m) refl
 
-pub header_again_line : (h : Header) (text : List ℕ) → length text ≤ 4096 → is_meant text ≡ true → text ≡ header_line h → FitsHeader h → item_at text ≡ Ok (Item.Header h)
-header_again_line h text short m e f = spelled_again (Item.Header h) text (header_line h) (header_words h) short m e (split_header h f) (header_words_again h f)
+pub header_again_line : (h : Header) (limit : ℕ) (text : List ℕ) → length text ≤ limit → is_meant text ≡ true → text ≡ header_line h → FitsHeader h → item_at limit text ≡ Ok (Item.Header h)
+header_again_line h limit text short m e f = spelled_again (Item.Header h) limit text (header_line h) (header_words h) short m e (split_header h f) (header_words_again h f)
 
-pub off_again_line : (text : List ℕ) → length text ≤ 4096 → is_meant text ≡ true → text ≡ codes "off" → item_at text ≡ Ok Item.Off
-off_again_line text short m e = spelled_again Item.Off text (codes "off") off_words short m e refl off_words_again
+pub off_again_line : (limit : ℕ) (text : List ℕ) → length text ≤ limit → is_meant text ≡ true → text ≡ codes "off" → item_at limit text ≡ Ok Item.Off
+off_again_line limit text short m e = spelled_again Item.Off limit text (codes "off") off_words short m e refl off_words_again
 
-pub turn_again_line : (t : Turn) (text : List ℕ) → length text ≤ 4096 → is_meant text ≡ true → text ≡ turn_line t → FitsTurn t → item_at text ≡ Ok (Item.Line (line_of t))
-turn_again_line t text short m e f = spelled_again (Item.Line (line_of t)) text (turn_line t) (turn_words t) short m e (split_turn t f) (turn_words_again t f)
+pub serial_again_line : (limit : ℕ) (text : List ℕ) → length text ≤ limit → is_meant text ≡ true → text ≡ codes "serial" → item_at limit text ≡ Ok Item.Serial
+serial_again_line limit text short m e = spelled_again Item.Serial limit text (codes "serial") serial_words short m e refl serial_words_again
+
+pub turn_again_line : (t : Turn) (limit : ℕ) (text : List ℕ) → length text ≤ limit → is_meant text ≡ true → text ≡ turn_line t → FitsTurn t → item_at limit text ≡ Ok (Item.Line (line_of t))
+turn_again_line t limit text short m e f = spelled_again (Item.Line (line_of t)) limit text (turn_line t) (turn_words t) short m e (split_turn t f) (turn_words_again t f)

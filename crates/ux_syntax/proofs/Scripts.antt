@@ -1,5 +1,5 @@
 -- Lines that are read spell the script that was read, and lines that spell a script are read.
-use Rattle.std.proofs.Common.{◌≡◌, ◌≢◌, ◌⊎◌, ℕ, suc, ◌+◌, ◌-◌, ◌<◌, ◌≤◌, Bool, true, false, cond, not, ltb, leb, eqb, eq-eqb, ◌&&◌, List, [], ◌∷◌, ◌++◌, length, map, filter, take, codes, Result, Ok, Err, refl, ap, sym, ◌∙◌, subst, append_assoc, arith, inl, inr}
+use Rattle.std.proofs.Common.{◌≡◌, ◌≢◌, ◌⊎◌, ℕ, suc, ◌+◌, ◌-◌, ◌<◌, ◌≤◌, Bool, true, false, cond, not, ltb, leb, eqb, eq-eqb, ◌&&◌, ◌||◌, List, [], ◌∷◌, ◌++◌, length, map, filter, take, codes, Result, Ok, Err, refl, ap, sym, ◌∙◌, subst, append_assoc, arith, inl, inr}
 use Rattle.std.specs.Prelude.{IfOk, IfErr, slice_index_or}
 use Rattle.std.specs.List.{AllByRecursion, slice_split}
 use Rattle.std.proofs.lemmas.Bool.{ltb-true, ltb-false, lt-ltb, eqb-true, leb-true, le-leb, and_parts, and_from, and_left, and_right, or_parts, not-true, false_from_ne_true, both_ways}
@@ -17,12 +17,12 @@ use Rattle.ux_syntax.specs.declared.script.Act.{Act}
 use Rattle.ux_syntax.specs.Lines.{Line}
 use Rattle.ux_syntax.specs.declared.script.Script.{Script}
 use Rattle.ux_syntax.specs.declared.reading.Item.{Item}
-use Rattle.ux_syntax.specs.Spelling.{Written, open_path, read_fd, write_fd, seek, dup_fd, dup_onto, set_flags, close, unlink_path, socket, pair, bind, listen, connect, accept, shut, get_opt, set_opt, sock_name, peer_name, send, recv, poll, fork, exec, exit, meaning, Asked, call, wait, act_of, Turn, line_of, Plan, plan_of, objects_of, procs_of, header_line, turn_line, off_lines, is_meant, FitsHeader, FitsTurn, IsProcess, AwaitsProcess, NamesProcesses, IsCallOfStranger, IsFaultOf, is_off, asks_exit, asks_off, asks_fork, forks_of, known_count, EachKnowing, MayFork, NoneAfterExit, IsCall, IsOrderly, SpellScript, IsFirstFault}
+use Rattle.ux_syntax.specs.Spelling.{Written, open_path, read_fd, write_fd, seek, dup_fd, dup_onto, set_flags, close, unlink_path, socket, pair, bind, listen, connect, accept, shut, get_opt, set_opt, sock_name, peer_name, send, recv, poll, fork, exec, exit, meaning, Asked, call, wait, act_of, Turn, line_of, Plan, plan_of, objects_of, procs_of, header_line, turn_line, serial_lines, off_lines, is_meant, line_limit, AreShort, FitsHeader, FitsTurn, IsProcess, AwaitsProcess, NamesProcesses, IsCallOfStranger, IsFaultOf, is_off, asks_exit, asks_off, asks_fork, forks_of, known_count, EachKnowing, MayFork, NoneAfterExit, IsCall, IsOrderly, SpellScript, IsFirstFault}
 use Rattle.ux_syntax.specs.Turns.{has_exited, is_known, awaits_known}
-use Rattle.ux_syntax.specs.Reading.{◌>>=◌, line_fault, words_at, item_at, with_header, with_line, with_off, may_fork, joined_by_fork, joined_by_other, joined_by, is_skipped, added, line_at, on_line, lines_at, no_lines}
+use Rattle.ux_syntax.specs.Reading.{◌>>=◌, line_fault, words_at, item_at, with_header, with_line, with_off, with_serial, is_unsaid, may_fork, joined_by_fork, joined_by_other, joined_by, is_skipped, added, line_at, on_line, lines_at, no_lines}
 use Rattle.ux_syntax.specs.Results.{FailsAt, Refuses, GivesScript}
 use Rattle.ux_syntax.proofs.Rows.{IsBadOrOk, bind_ok, ok_is, guard_ok}
-use Rattle.ux_syntax.proofs.Items.{words_bad, Says, item_takes, skip_again, header_again_line, turn_again_line, off_again_line}
+use Rattle.ux_syntax.proofs.Items.{words_bad, Says, item_takes, skip_again, header_again_line, turn_again_line, off_again_line, serial_again_line}
 
 -- ---- lists from their ends
 
@@ -87,6 +87,62 @@ no_end (y ∷ ys) x e = cc
 take_next : (front : List (List ℕ)) (l : List ℕ) (ls : List (List ℕ)) → take (suc (length front)) (front ++ l ∷ ls) ≡ front ++ l ∷ []
 take_next [] l ls = refl
 take_next (x ∷ xs) l ls = ap (λ (ys : List (List ℕ)). x ∷ ys) (take_next xs l ls)
+
+-- ---- how long lines are
+
+-- whether a line behind these comes behind one that says something
+abbrev behind_all : Bool → List (List ℕ) → Bool
+behind_all behind [] = behind
+behind_all behind (l ∷ ls) = behind_all (behind || is_meant l) ls
+
+short_more : (serial behind : Bool) (ls : List (List ℕ)) (l : List ℕ) → AreShort serial behind ls → length l ≤ line_limit (serial && behind_all behind ls) → AreShort serial behind (ls ++ l ∷ [])
+short_more serial behind [] l h p = (p, tt)
+short_more serial behind (x ∷ xs) l h p = (h.0, short_more serial (behind || is_meant x) xs l h.1 p)
+
+short_less : (serial behind : Bool) (ls : List (List ℕ)) (l : List ℕ) → AreShort serial behind (ls ++ l ∷ []) → AreShort serial behind ls × (length l ≤ line_limit (serial && behind_all behind ls))
+short_less serial behind [] l h = (tt, h.0)
+short_less serial behind (x ∷ xs) l h = let p = short_less serial (behind || is_meant x) xs l h.1 in ((h.0, p.0), p.1)
+
+behind_true : (ls : List (List ℕ)) → behind_all true ls ≡ true
+behind_true [] = refl
+behind_true (l ∷ ls) = behind_true ls
+
+behind_some : (ls : List (List ℕ)) (x : List ℕ) (xs : List (List ℕ)) → filter is_meant ls ≡ x ∷ xs → behind_all false ls ≡ true
+behind_some [] x xs e = absurd cc
+behind_some (l ∷ ls) x xs e = go (is_meant l) (behind_some ls x xs) e
+  where
+    go : (m : Bool) → (filter is_meant ls ≡ x ∷ xs → behind_all false ls ≡ true) → cond m (l ∷ filter is_meant ls) (filter is_meant ls) ≡ x ∷ xs → behind_all m ls ≡ true
+    go true later k = behind_true ls
+    go false later k = later k
+
+-- the common limit is the least
+common_least : (serial : Bool) (n : ℕ) → n ≤ 4096 → n ≤ line_limit serial
+common_least true n h = omega (arith, h)
+common_least false n h = h
+
+limit_within : (serial behind : Bool) (n : ℕ) → n ≤ line_limit (serial && behind) → n ≤ line_limit serial
+limit_within true true n h = h
+limit_within true false n h = omega (arith, h)
+limit_within false behind n h = h
+
+-- a first line has the common limit
+common_first : (serial : Bool) → line_limit (serial && false) ≡ 4096
+common_first true = refl
+common_first false = refl
+
+-- where no line says anything, all have the common limit
+short_as : (serial other : Bool) (ls : List (List ℕ)) → filter is_meant ls ≡ [] → AreShort serial false ls → AreShort other false ls
+short_as serial other [] e h = tt
+short_as serial other (l ∷ ls) e h = (subst (λ n. length l ≤ n) (common_first serial ∙ sym (common_first other)) h.0, go (is_meant l) (short_as serial other ls) e h.1)
+  where
+    go : (m : Bool) → (filter is_meant ls ≡ [] → AreShort serial false ls → AreShort other false ls) → cond m (l ∷ filter is_meant ls) (filter is_meant ls) ≡ [] → AreShort serial m ls → AreShort other m ls
+    go true later k p = absurd cc
+    go false later k p = later k p
+
+-- behind the lines of a script its own limit holds
+limit_is : (ls rest : List (List ℕ)) (serial : Bool) → filter is_meant ls ≡ serial_lines serial ++ rest → line_limit (serial && behind_all false ls) ≡ line_limit serial
+limit_is ls rest true e = ap (λ (b : Bool). line_limit b) (behind_some ls (codes "serial") rest e)
+limit_is ls rest false e = refl
 
 -- ---- exits
 
@@ -156,7 +212,7 @@ unknown_quiet count (u ∷ us) p all unknown =
 -- what the script's next line is like that may stand there
 record MayJoin (s : Plan) (line : Line) : Type 0 where
   names : NamesProcesses (known_count s) line
-  forks : MayFork (known_count s) line
+  forks : MayFork s.serial (known_count s) line
   quiet : has_exited s.lines line.pid.0 ≡ false
 
 -- a fork waits for no process
@@ -164,24 +220,33 @@ fork_awaits : (count : ℕ) (act : Act) → asks_fork act ≡ true → AwaitsPro
 fork_awaits count (Act.Call request) e = tt
 fork_awaits count (Act.Wait pid calls) e = absurd cc
 
+either_other : (a b : Bool) → (a || b) ≡ true → a ≡ false → b ≡ true
+either_other true b e h = absurd cc
+either_other false b e h = e
+
+either_from : (a b : Bool) → (a ≡ false → b ≡ true) → (a || b) ≡ true
+either_from true b h = refl
+either_from false b h = h refl
+
 fork_known : (s : Plan) (line : Line) → asks_fork line.act ≡ true → may_fork s line.pid.0 ≡ true → MayJoin s line
 fork_known s line forks e =
-    let p = and_parts (eqb line.pid.0 1 && ltb (known_count s) made_limit) (is_known (known_count s) line.pid.0 && not (has_exited s.lines line.pid.0)) e in
-    let q = and_parts (eqb line.pid.0 1) (ltb (known_count s) made_limit) p.0 in
+    let first = s.serial || eqb line.pid.0 1 in
+    let p = and_parts (first && ltb (known_count s) made_limit) (is_known (known_count s) line.pid.0 && not (has_exited s.lines line.pid.0)) e in
+    let q = and_parts first (ltb (known_count s) made_limit) p.0 in
     let r = and_parts (is_known (known_count s) line.pid.0) (not (has_exited s.lines line.pid.0)) p.1 in
-    let first : line.pid.0 ≡ 1 = eqb-true line.pid.0 1 q.0 in
     let there : IsProcess (known_count s) line.pid.0 = known_from (known_count s) line.pid.0 r.0 in
     record {
       names = (there, fork_awaits (known_count s) line.act forks);
-      forks = λ f. (first, subst (IsProcess (known_count s)) first there, ltb-true (known_count s) made_limit q.1);
+      forks = λ f. (λ several. eqb-true line.pid.0 1 (either_other s.serial (eqb line.pid.0 1) q.0 several), there, ltb-true (known_count s) made_limit q.1);
       quiet = not-true (has_exited s.lines line.pid.0) r.1;
     }
 
 fork_may : (s : Plan) (line : Line) → asks_fork line.act ≡ true → MayJoin s line → may_fork s line.pid.0 ≡ true
 fork_may s line forks may =
     let f = may.forks forks in
-    and_from (eqb line.pid.0 1 && ltb (known_count s) made_limit) (is_known (known_count s) line.pid.0 && not (has_exited s.lines line.pid.0))
-    (and_from (eqb line.pid.0 1) (ltb (known_count s) made_limit) (eq-eqb line.pid.0 1 f.0) (lt-ltb (known_count s) made_limit f.2))
+    let first = s.serial || eqb line.pid.0 1 in
+    and_from (first && ltb (known_count s) made_limit) (is_known (known_count s) line.pid.0 && not (has_exited s.lines line.pid.0))
+    (and_from first (ltb (known_count s) made_limit) (either_from s.serial (eqb line.pid.0 1) (λ several. eq-eqb line.pid.0 1 (f.0 several))) (lt-ltb (known_count s) made_limit f.2))
     (and_from (is_known (known_count s) line.pid.0) (not (has_exited s.lines line.pid.0)) (known_to (known_count s) line.pid.0 may.names.0) (ap not may.quiet))
 
 -- ---- one line
@@ -193,24 +258,40 @@ skipped_more : (ls : List (List ℕ)) (l : List ℕ) → is_meant l ≡ false �
 skipped_more ls l m = filter-append is_meant ls (l ∷ []) ∙ ap (λ (b : Bool). filter is_meant ls ++ cond b (l ∷ []) []) m ∙ append-nil (filter is_meant ls)
 
 -- the lines of a header, of turns, and the one that ends the layer
-abbrev texts_of : List Header → List Turn → Bool → List (List ℕ)
-texts_of hs ts off = map header_line hs ++ (map turn_line ts ++ off_lines off)
+abbrev body_of : List Header → List Turn → Bool → List (List ℕ)
+body_of hs ts off = map header_line hs ++ (map turn_line ts ++ off_lines off)
 
-header_spelling : (hs : List Header) (h : Header) → texts_of (hs ++ h ∷ []) [] false ≡ texts_of hs [] false ++ header_line h ∷ []
-header_spelling hs h = append-nil (map header_line (hs ++ h ∷ [])) ∙ map-append header_line hs (h ∷ []) ∙ ap (λ (ls : List (List ℕ)). ls ++ header_line h ∷ []) (sym (append-nil (map header_line hs)))
+-- the same behind the line of a script that has one order alone
+abbrev texts_of : Bool → List Header → List Turn → Bool → List (List ℕ)
+texts_of serial hs ts off = serial_lines serial ++ body_of hs ts off
 
-turn_spelling : (hs : List Header) (ts : List Turn) (t : Turn) → texts_of hs (ts ++ t ∷ []) false ≡ texts_of hs ts false ++ turn_line t ∷ []
-turn_spelling hs ts t =
+more_behind : (serial : Bool) (xs ys : List (List ℕ)) (x : List ℕ) → xs ≡ ys ++ x ∷ [] → serial_lines serial ++ xs ≡ (serial_lines serial ++ ys) ++ x ∷ []
+more_behind serial xs ys x e = ap (λ (ls : List (List ℕ)). serial_lines serial ++ ls) e ∙ sym (append_assoc (serial_lines serial) ys (x ∷ []))
+
+header_body : (hs : List Header) (h : Header) → body_of (hs ++ h ∷ []) [] false ≡ body_of hs [] false ++ header_line h ∷ []
+header_body hs h = append-nil (map header_line (hs ++ h ∷ [])) ∙ map-append header_line hs (h ∷ []) ∙ ap (λ (ls : List (List ℕ)). ls ++ header_line h ∷ []) (sym (append-nil (map header_line hs)))
+
+header_spelling : (serial : Bool) (hs : List Header) (h : Header) → texts_of serial (hs ++ h ∷ []) [] false ≡ texts_of serial hs [] false ++ header_line h ∷ []
+header_spelling serial hs h = more_behind serial _ _ (header_line h) (header_body hs h)
+
+turn_body : (hs : List Header) (ts : List Turn) (t : Turn) → body_of hs (ts ++ t ∷ []) false ≡ body_of hs ts false ++ turn_line t ∷ []
+turn_body hs ts t =
     let front = map header_line hs in
     let turns = map turn_line ts in
     ap (λ (ls : List (List ℕ)). front ++ ls) (append-nil (map turn_line (ts ++ t ∷ [])) ∙ map-append turn_line ts (t ∷ []) ∙ ap (λ (ls : List (List ℕ)). ls ++ turn_line t ∷ []) (sym (append-nil turns)))
     ∙ sym (append_assoc front (turns ++ []) (turn_line t ∷ []))
 
-off_spelling : (hs : List Header) (ts : List Turn) → texts_of hs ts true ≡ texts_of hs ts false ++ codes "off" ∷ []
-off_spelling hs ts =
+turn_spelling : (serial : Bool) (hs : List Header) (ts : List Turn) (t : Turn) → texts_of serial hs (ts ++ t ∷ []) false ≡ texts_of serial hs ts false ++ turn_line t ∷ []
+turn_spelling serial hs ts t = more_behind serial _ _ (turn_line t) (turn_body hs ts t)
+
+off_body : (hs : List Header) (ts : List Turn) → body_of hs ts true ≡ body_of hs ts false ++ codes "off" ∷ []
+off_body hs ts =
     let front = map header_line hs in
     let turns = map turn_line ts in
     ap (λ (ls : List (List ℕ)). front ++ (ls ++ codes "off" ∷ [])) (sym (append-nil turns)) ∙ sym (append_assoc front (turns ++ []) (codes "off" ∷ []))
+
+off_spelling : (serial : Bool) (hs : List Header) (ts : List Turn) → texts_of serial hs ts true ≡ texts_of serial hs ts false ++ codes "off" ∷ []
+off_spelling serial hs ts = more_behind serial _ _ (codes "off") (off_body hs ts)
 
 turns_meant : (ts : List Turn) (t : Turn) → map line_of (ts ++ t ∷ []) ≡ map line_of ts ++ line_of t ∷ []
 turns_meant ts t = map-append line_of ts (t ∷ [])
@@ -222,8 +303,8 @@ no_turns (t ∷ ts) e = absurd cc
 -- ---- a header
 
 -- the script of a header alone
-abbrev plan_from : List Header → Plan
-plan_from hs = record { objects = objects_of hs; procs = procs_of hs; lines = []; off = false }
+abbrev plan_from : Bool → List Header → Plan
+plan_from serial hs = record { serial = serial; objects = objects_of hs; procs = procs_of hs; lines = []; off = false }
 
 objects_more : (hs : List Header) (o : ObjectLine) → objects_of (hs ++ Header.Object o ∷ []) ≡ objects_of hs ++ o ∷ []
 objects_more [] o = refl
@@ -245,12 +326,17 @@ procs_same [] o = refl
 procs_same (Header.Object p ∷ hs) o = procs_same hs o
 procs_same (Header.Proc q ∷ hs) o = ap (λ (ps : List ProcSpec). q ∷ ps) (procs_same hs o)
 
-header_more : (hs : List Header) (h : Header) → plan_from (hs ++ h ∷ []) ≡ with_header (plan_from hs) h
-header_more hs (Header.Object o) = rw (objects_more hs o, procs_same hs o) refl
-header_more hs (Header.Proc p) = rw (objects_same hs p, procs_more hs p) refl
+no_headers : (hs : List Header) → objects_of hs ≡ [] → procs_of hs ≡ [] → hs ≡ []
+no_headers [] o p = refl
+no_headers (Header.Object x ∷ hs) o p = absurd cc
+no_headers (Header.Proc x ∷ hs) o p = absurd cc
+
+header_more : (serial : Bool) (hs : List Header) (h : Header) → plan_from serial (hs ++ h ∷ []) ≡ with_header (plan_from serial hs) h
+header_more serial hs (Header.Object o) = rw (objects_more hs o, procs_same hs o) refl
+header_more serial hs (Header.Proc p) = rw (objects_same hs p, procs_more hs p) refl
 
 -- the script is that of its header, if it says nothing else
-plan_is : (s : Plan) (hs : List Header) → objects_of hs ≡ s.objects → procs_of hs ≡ s.procs → s.lines ≡ [] → s.off ≡ false → s ≡ plan_from hs
+plan_is : (s : Plan) (hs : List Header) → objects_of hs ≡ s.objects → procs_of hs ≡ s.procs → s.lines ≡ [] → s.off ≡ false → s ≡ plan_from s.serial hs
 plan_is s hs o p l f = rw (o, p, ← l, ← f) refl
 
 -- ---- a line that is read
@@ -291,14 +377,24 @@ line_joins s line may = go (asks_fork line.act) refl
 meant_spelling : (ls : List (List ℕ)) (l line : List ℕ) (before after : List (List ℕ)) → is_meant l ≡ true → filter is_meant ls ≡ before → l ≡ line → after ≡ before ++ line ∷ [] → filter is_meant (ls ++ l ∷ []) ≡ after
 meant_spelling ls l line before after m h e k = meant_more ls l m ∙ ap (λ (xs : List (List ℕ)). xs ++ l ∷ []) h ∙ ap (λ (x : List ℕ). before ++ x ∷ []) e ∙ sym k
 
-abbrev is_short : List ℕ → Type 0
-is_short text = length text ≤ 4096
+abbrev is_short : Plan → List ℕ → Type 0
+is_short s text = length text ≤ line_limit s.serial
 
-skip_takes : (ls : List (List ℕ)) (s : Plan) (l : List ℕ) → SpellScript ls s → is_short l → is_meant l ≡ false → SpellScript (ls ++ l ∷ []) s
+-- a line that the script's own limit lets through keeps all lines short
+short_on : (ls : List (List ℕ)) (s : Plan) (l : List ℕ) → SpellScript ls s → is_short s l → AreShort s.serial false (ls ++ l ∷ [])
+short_on ls s l h short = short_more s.serial false ls l h.short (subst (λ n. length l ≤ n) (sym (limit_is ls (body_of h.headers h.turns s.off) s.serial h.spelled)) short)
+
+-- and the lines of a script without their last are short, as that one is
+short_off : (ls : List (List ℕ)) (l : List ℕ) (t : Plan) → SpellScript (ls ++ l ∷ []) t → AreShort t.serial false ls × is_short t l
+short_off ls l t h =
+    let p = short_less t.serial false ls l h.short in
+    (p.0, limit_within t.serial (behind_all false ls) (length l) p.1)
+
+skip_takes : (ls : List (List ℕ)) (s : Plan) (l : List ℕ) → SpellScript ls s → is_short s l → is_meant l ≡ false → SpellScript (ls ++ l ∷ []) s
 skip_takes ls s l h short says = record {
   headers = h.headers;
   turns = h.turns;
-  short = each_more is_short ls l h.short short;
+  short = short_on ls s l h short;
   spelled = skipped_more ls l says ∙ h.spelled;
   objects = h.objects;
   procs = h.procs;
@@ -308,16 +404,16 @@ skip_takes ls s l h short says = record {
   orderly = h.orderly;
 }
 
-header_takes : (ls : List (List ℕ)) (s : Plan) (l : List ℕ) (x : Header) → (h : SpellScript ls s) → s.lines ≡ [] → s.off ≡ false → is_short l → Says (Item.Header x) l → SpellScript (ls ++ l ∷ []) (with_header s x)
+header_takes : (ls : List (List ℕ)) (s : Plan) (l : List ℕ) (x : Header) → (h : SpellScript ls s) → s.lines ≡ [] → s.off ≡ false → is_short s l → Says (Item.Header x) l → SpellScript (ls ++ l ∷ []) (with_header s x)
 header_takes ls s l x h none no_off short says =
     let bare : h.turns ≡ [] = no_turns h.turns (h.meant ∙ none) in
-    let before : filter is_meant ls ≡ texts_of h.headers [] false = h.spelled ∙ ap (λ (ts : List Turn). texts_of h.headers ts s.off) bare ∙ ap (λ (b : Bool). texts_of h.headers [] b) no_off in
-    let same : plan_from (h.headers ++ x ∷ []) ≡ with_header s x = header_more h.headers x ∙ ap (λ (t : Plan). with_header t x) (sym (plan_is s h.headers h.objects h.procs none no_off)) in
-    let made : SpellScript (ls ++ l ∷ []) (plan_from (h.headers ++ x ∷ [])) = record {
+    let before : filter is_meant ls ≡ texts_of s.serial h.headers [] false = h.spelled ∙ ap (λ (ts : List Turn). texts_of s.serial h.headers ts s.off) bare ∙ ap (λ (b : Bool). texts_of s.serial h.headers [] b) no_off in
+    let same : plan_from s.serial (h.headers ++ x ∷ []) ≡ with_header s x = header_more s.serial h.headers x ∙ ap (λ (t : Plan). with_header t x) (sym (plan_is s h.headers h.objects h.procs none no_off)) in
+    let made : SpellScript (ls ++ l ∷ []) (plan_from s.serial (h.headers ++ x ∷ [])) = record {
       headers = h.headers ++ x ∷ [];
       turns = [];
-      short = each_more is_short ls l h.short short;
-      spelled = meant_spelling ls l (header_line x) (texts_of h.headers [] false) (texts_of (h.headers ++ x ∷ []) [] false) says.0 before says.1 (header_spelling h.headers x);
+      short = short_on ls s l h short;
+      spelled = meant_spelling ls l (header_line x) (texts_of s.serial h.headers [] false) (texts_of s.serial (h.headers ++ x ∷ []) [] false) says.0 before says.1 (header_spelling s.serial h.headers x);
       objects = refl;
       procs = refl;
       meant = refl;
@@ -360,16 +456,16 @@ asked_no_end : (a : Asked) → asks_off (act_of a) ≡ false
 asked_no_end (call c) = is_no_end c
 asked_no_end (wait pid calls) = refl
 
-turn_takes : (ls : List (List ℕ)) (s : Plan) (l : List ℕ) (line : Line) → (h : SpellScript ls s) → s.off ≡ false → MayJoin s line → is_short l → Says (Item.Line line) l → SpellScript (ls ++ l ∷ []) (with_line s line)
+turn_takes : (ls : List (List ℕ)) (s : Plan) (l : List ℕ) (line : Line) → (h : SpellScript ls s) → s.off ≡ false → MayJoin s line → is_short s l → Says (Item.Line line) l → SpellScript (ls ++ l ∷ []) (with_line s line)
 turn_takes ls s l line h no_off may short says =
     let w = says.1 in
-    let before : filter is_meant ls ≡ texts_of h.headers h.turns false = h.spelled ∙ ap (λ (b : Bool). texts_of h.headers h.turns b) no_off in
+    let before : filter is_meant ls ≡ texts_of s.serial h.headers h.turns false = h.spelled ∙ ap (λ (b : Bool). texts_of s.serial h.headers h.turns b) no_off in
     record {
       headers = h.headers;
       turns = h.turns ++ w.0 ∷ [];
-      short = each_more is_short ls l h.short short;
-      spelled = meant_spelling ls l (turn_line w.0) (texts_of h.headers h.turns false) (texts_of h.headers (h.turns ++ w.0 ∷ []) s.off) says.0 before w.2
-          (ap (λ (b : Bool). texts_of h.headers (h.turns ++ w.0 ∷ []) b) no_off ∙ turn_spelling h.headers h.turns w.0);
+      short = short_on ls s l h short;
+      spelled = meant_spelling ls l (turn_line w.0) (texts_of s.serial h.headers h.turns false) (texts_of s.serial h.headers (h.turns ++ w.0 ∷ []) s.off) says.0 before w.2
+          (ap (λ (b : Bool). texts_of s.serial h.headers (h.turns ++ w.0 ∷ []) b) no_off ∙ turn_spelling s.serial h.headers h.turns w.0);
       objects = h.objects;
       procs = h.procs;
       meant = turns_meant h.turns w.0 ∙ ap (λ (xs : List Line). xs ++ line_of w.0 ∷ []) h.meant ∙ ap (λ (x : Line). s.lines ++ x ∷ []) w.1;
@@ -377,19 +473,19 @@ turn_takes ls s l line h no_off may short says =
       fit_turns = each_more FitsTurn h.turns w.0 h.fit_turns w.3;
       orderly = record {
         processes = known_more NamesProcesses (length s.procs) s.lines line h.orderly.processes may.names;
-        forks = known_more MayFork (length s.procs) s.lines line h.orderly.forks may.forks;
+        forks = known_more (MayFork s.serial) (length s.procs) s.lines line h.orderly.forks may.forks;
         exits = exits_more s.lines line h.orderly.exits may.quiet;
         calls = each_more IsCall s.lines line h.orderly.calls (ap (λ (x : Line). asks_off x.act) (sym w.1) ∙ asked_no_end w.0.asked);
       };
     }
 
-off_takes : (ls : List (List ℕ)) (s : Plan) (l : List ℕ) → (h : SpellScript ls s) → s.off ≡ false → is_short l → Says Item.Off l → SpellScript (ls ++ l ∷ []) (with_off s)
+off_takes : (ls : List (List ℕ)) (s : Plan) (l : List ℕ) → (h : SpellScript ls s) → s.off ≡ false → is_short s l → Says Item.Off l → SpellScript (ls ++ l ∷ []) (with_off s)
 off_takes ls s l h no_off short says = record {
   headers = h.headers;
   turns = h.turns;
-  short = each_more is_short ls l h.short short;
-  spelled = meant_spelling ls l (codes "off") (texts_of h.headers h.turns false) (texts_of h.headers h.turns true) says.0
-      (h.spelled ∙ ap (λ (b : Bool). texts_of h.headers h.turns b) no_off) says.1 (off_spelling h.headers h.turns);
+  short = short_on ls s l h short;
+  spelled = meant_spelling ls l (codes "off") (texts_of s.serial h.headers h.turns false) (texts_of s.serial h.headers h.turns true) says.0
+      (h.spelled ∙ ap (λ (b : Bool). texts_of s.serial h.headers h.turns b) no_off) says.1 (off_spelling s.serial h.headers h.turns);
   objects = h.objects;
   procs = h.procs;
   meant = h.meant;
@@ -398,7 +494,47 @@ off_takes ls s l h no_off short says = record {
   orderly = record { processes = h.orderly.processes; forks = h.orderly.forks; exits = h.orderly.exits; calls = h.orderly.calls };
 }
 
-joined_takes : (item : Item) (ls : List (List ℕ)) (s : Plan) (l : List ℕ) (t : Plan) → SpellScript ls s → s.off ≡ false → is_short l → Says item l → joined_by s item ≡ Ok t → SpellScript (ls ++ l ∷ []) t
+-- the script in which no line has said anything
+unsaid_is : (s : Plan) → is_unsaid s ≡ true → s.off ≡ false → s ≡ plan_from false []
+unsaid_is s e no_off =
+    let p = and_parts (not s.serial) (eqb (length s.objects) 0 && (eqb (length s.procs) 0 && eqb (length s.lines) 0)) e in
+    let q = and_parts (eqb (length s.objects) 0) (eqb (length s.procs) 0 && eqb (length s.lines) 0) p.1 in
+    let r = and_parts (eqb (length s.procs) 0) (eqb (length s.lines) 0) q.1 in
+    let objects : s.objects ≡ [] = nil_from_length s.objects (eqb-true (length s.objects) 0 q.0) in
+    let procs : s.procs ≡ [] = nil_from_length s.procs (eqb-true (length s.procs) 0 r.0) in
+    let lines : s.lines ≡ [] = nil_from_length s.lines (eqb-true (length s.lines) 0 r.1) in
+    plan_is s [] (sym objects) (sym procs) lines no_off ∙ ap (λ (b : Bool). plan_from b []) (not-true s.serial p.0)
+
+-- no line of its spelling says anything
+unsaid_spelled : (ls : List (List ℕ)) → SpellScript ls (plan_from false []) → filter is_meant ls ≡ []
+unsaid_spelled ls h =
+    let hs = no_headers h.headers h.objects h.procs in
+    let ts = no_turns h.turns h.meant in
+    h.spelled ∙ ap (λ (xs : List Header). texts_of false xs h.turns false) hs ∙ ap (λ (xs : List Turn). texts_of false [] xs false) ts
+
+first_takes : (ls : List (List ℕ)) (l : List ℕ) → SpellScript ls (plan_from false []) → length l ≤ 4096 → Says Item.Serial l → SpellScript (ls ++ l ∷ []) (plan_from true [])
+first_takes ls l h short says =
+    let before = unsaid_spelled ls h in
+    record {
+      headers = [];
+      turns = [];
+      short = short_more true false ls l (short_as false true ls before h.short) (common_least (behind_all false ls) (length l) short);
+      spelled = meant_spelling ls l (codes "serial") [] (texts_of true [] [] false) says.0 before says.1 refl;
+      objects = refl;
+      procs = refl;
+      meant = refl;
+      fit_headers = tt;
+      fit_turns = tt;
+      orderly = record { processes = tt; forks = tt; exits = tt; calls = tt };
+    }
+
+serial_takes : (ls : List (List ℕ)) (s : Plan) (l : List ℕ) → SpellScript ls s → is_unsaid s ≡ true → s.off ≡ false → is_short s l → Says Item.Serial l → SpellScript (ls ++ l ∷ []) (with_serial s)
+serial_takes ls s l h unsaid no_off short says =
+    let same = unsaid_is s unsaid no_off in
+    subst (λ (y : Plan). SpellScript (ls ++ l ∷ []) (with_serial y)) (sym same)
+    (first_takes ls l (subst (λ (y : Plan). SpellScript ls y) same h) (subst (λ (y : Plan). is_short y l) same short) says)
+
+joined_takes : (item : Item) (ls : List (List ℕ)) (s : Plan) (l : List ℕ) (t : Plan) → SpellScript ls s → s.off ≡ false → is_short s l → Says item l → joined_by s item ≡ Ok t → SpellScript (ls ++ l ∷ []) t
 joined_takes Item.Skipped ls s l t h no_off short says e = subst (λ (y : Plan). SpellScript (ls ++ l ∷ []) y) (ok_is s t e) (skip_takes ls s l h short says)
 joined_takes (Item.Header x) ls s l t h no_off short says e =
     let g = guard_ok (eqb (length s.lines) 0) (with_header s x) t e in
@@ -408,20 +544,25 @@ joined_takes (Item.Line line) ls s l t h no_off short says e =
     let g = line_joined s line t e in
     subst (λ (y : Plan). SpellScript (ls ++ l ∷ []) y) g.1 (turn_takes ls s l line h no_off g.0 short says)
 joined_takes Item.Off ls s l t h no_off short says e = subst (λ (y : Plan). SpellScript (ls ++ l ∷ []) y) (ok_is (with_off s) t e) (off_takes ls s l h no_off short says)
+joined_takes Item.Serial ls s l t h no_off short says e =
+    let g = guard_ok (is_unsaid s) (with_serial s) t e in
+    subst (λ (y : Plan). SpellScript (ls ++ l ∷ []) y) g.1 (serial_takes ls s l h g.0 no_off short says)
 
 is_skip : (item : Item) (l : List ℕ) → is_skipped item ≡ true → Says item l → is_meant l ≡ false
 is_skip Item.Skipped l k says = says
 is_skip (Item.Header x) l k says = absurd cc
 is_skip (Item.Line line) l k says = absurd cc
 is_skip Item.Off l k says = absurd cc
+is_skip Item.Serial l k says = absurd cc
 
 skip_joins : (s : Plan) (item : Item) → is_skipped item ≡ true → joined_by s item ≡ Ok s
 skip_joins s Item.Skipped k = refl
 skip_joins s (Item.Header x) k = absurd cc
 skip_joins s (Item.Line line) k = absurd cc
 skip_joins s Item.Off k = absurd cc
+skip_joins s Item.Serial k = absurd cc
 
-added_by : (item : Item) (ls : List (List ℕ)) (s : Plan) (l : List ℕ) (t : Plan) (off skipped : Bool) → s.off ≡ off → is_skipped item ≡ skipped → SpellScript ls s → is_short l → Says item l
+added_by : (item : Item) (ls : List (List ℕ)) (s : Plan) (l : List ℕ) (t : Plan) (off skipped : Bool) → s.off ≡ off → is_skipped item ≡ skipped → SpellScript ls s → is_short s l → Says item l
     → cond (off && not skipped) (Err BadLine) (joined_by s item) ≡ Ok t → SpellScript (ls ++ l ∷ []) t
 added_by item ls s l t false skipped f k h short says e = joined_takes item ls s l t h f short says e
 added_by item ls s l t true true f k h short says e =
@@ -431,42 +572,42 @@ added_by item ls s l t true false f k h short says e = absurd cc
 pub line_takes : (ls : List (List ℕ)) (s : Plan) (l : List ℕ) (t : Plan) → SpellScript ls s → line_at s l ≡ Ok t → SpellScript (ls ++ l ∷ []) t
 unfolding line_at
 line_takes ls s l t h e =
-    let a = bind_ok (item_at l) (λ item. added s item) t e in
-    let p = item_takes l a.0 a.1 in
+    let a = bind_ok (item_at (line_limit s.serial) l) (λ item. added s item) t e in
+    let p = item_takes (line_limit s.serial) l a.0 a.1 in
     added_by a.0 ls s l t s.off (is_skipped a.0) refl refl h p.0 p.1 a.2
 
 abbrev CanStep : List (List ℕ) → List ℕ → Plan → Type 0
 CanStep ls l t = (s : Plan) × SpellScript ls s × (line_at s l ≡ Ok t)
 
-line_from : (s : Plan) (l : List ℕ) (item : Item) (t : Plan) → item_at l ≡ Ok item → added s item ≡ Ok t → line_at s l ≡ Ok t
+line_from : (s : Plan) (l : List ℕ) (item : Item) (t : Plan) → item_at (line_limit s.serial) l ≡ Ok item → added s item ≡ Ok t → line_at s l ≡ Ok t
 unfolding line_at
 line_from s l item t e a = rw e a
 
 abbrev with_lines : Plan → List Line → Plan
-with_lines t ls = record { objects = t.objects; procs = t.procs; lines = ls; off = false }
+with_lines t ls = record { serial = t.serial; objects = t.objects; procs = t.procs; lines = ls; off = false }
 
 step_off : (ls : List (List ℕ)) (l : List ℕ) (t : Plan) → is_meant l ≡ true → (h : SpellScript (ls ++ l ∷ []) t) → t.off ≡ true → CanStep ls l t
 step_off ls l t m h on =
-    let ends = same_ends (filter is_meant ls) (texts_of h.headers h.turns false) l (codes "off")
-    (sym (meant_more ls l m) ∙ h.spelled ∙ ap (λ (b : Bool). texts_of h.headers h.turns b) on ∙ off_spelling h.headers h.turns) in
-    let short = each_less is_short ls l h.short in
+    let ends = same_ends (filter is_meant ls) (texts_of t.serial h.headers h.turns false) l (codes "off")
+    (sym (meant_more ls l m) ∙ h.spelled ∙ ap (λ (b : Bool). texts_of t.serial h.headers h.turns b) on ∙ off_spelling t.serial h.headers h.turns) in
+    let short = short_off ls l t h in
     let before : Plan = with_lines t t.lines in
     let whole : with_off before ≡ t = rw (← on) refl in (
       before,
       record { headers = h.headers; turns = h.turns; short = short.0; spelled = ends.0; objects = h.objects; procs = h.procs; meant = h.meant; fit_headers = h.fit_headers; fit_turns = h.fit_turns; orderly = record { processes = h.orderly.processes; forks = h.orderly.forks; exits = h.orderly.exits; calls = h.orderly.calls } },
-      line_from before l Item.Off t (off_again_line l short.1 m ends.1) (ap (λ (y : Plan). Ok y) whole),
+      line_from before l Item.Off t (off_again_line (line_limit t.serial) l short.1 m ends.1) (ap (λ (y : Plan). Ok y) whole),
     )
 
 step_turn : (ls : List (List ℕ)) (l : List ℕ) (t : Plan) (ts : List Turn) (u : Turn) → is_meant l ≡ true → (h : SpellScript (ls ++ l ∷ []) t) → t.off ≡ false → h.turns ≡ ts ++ u ∷ [] → CanStep ls l t
 step_turn ls l t ts u m h no_off same =
     let lines : t.lines ≡ map line_of ts ++ line_of u ∷ [] = sym h.meant ∙ ap (λ (vs : List Turn). map line_of vs) same ∙ turns_meant ts u in
-    let ends = same_ends (filter is_meant ls) (texts_of h.headers ts false) l (turn_line u)
-    (sym (meant_more ls l m) ∙ h.spelled ∙ ap (λ (vs : List Turn). texts_of h.headers vs t.off) same ∙ ap (λ (b : Bool). texts_of h.headers (ts ++ u ∷ []) b) no_off ∙ turn_spelling h.headers ts u) in
-    let short = each_less is_short ls l h.short in
+    let ends = same_ends (filter is_meant ls) (texts_of t.serial h.headers ts false) l (turn_line u)
+    (sym (meant_more ls l m) ∙ h.spelled ∙ ap (λ (vs : List Turn). texts_of t.serial h.headers vs t.off) same ∙ ap (λ (b : Bool). texts_of t.serial h.headers (ts ++ u ∷ []) b) no_off ∙ turn_spelling t.serial h.headers ts u) in
+    let short = short_off ls l t h in
     let fits = each_less FitsTurn ts u (subst (λ (vs : List Turn). AllByRecursion FitsTurn vs) same h.fit_turns) in
     let count = length t.procs in
     let processes = known_less NamesProcesses count (map line_of ts) (line_of u) (subst (λ (vs : List Line). EachKnowing NamesProcesses count vs) lines h.orderly.processes) in
-    let forks = known_less MayFork count (map line_of ts) (line_of u) (subst (λ (vs : List Line). EachKnowing MayFork count vs) lines h.orderly.forks) in
+    let forks = known_less (MayFork t.serial) count (map line_of ts) (line_of u) (subst (λ (vs : List Line). EachKnowing (MayFork t.serial) count vs) lines h.orderly.forks) in
     let exits = exits_less (map line_of ts) (line_of u) (subst NoneAfterExit lines h.orderly.exits) in
     let calls = each_less IsCall (map line_of ts) (line_of u) (subst (λ (vs : List Line). AllByRecursion IsCall vs) lines h.orderly.calls) in
     let before : Plan = with_lines t (map line_of ts) in
@@ -474,25 +615,42 @@ step_turn ls l t ts u m h no_off same =
     let whole : with_lines t (map line_of ts ++ line_of u ∷ []) ≡ t = ap (λ (vs : List Line). with_lines t vs) (sym lines) ∙ rw (← no_off) refl in (
       before,
       record { headers = h.headers; turns = ts; short = short.0; spelled = ends.0; objects = h.objects; procs = h.procs; meant = refl; fit_headers = h.fit_headers; fit_turns = fits.0; orderly = record { processes = processes.0; forks = forks.0; exits = exits.0; calls = calls.0 } },
-      line_from before l (Item.Line (line_of u)) t (turn_again_line u l short.1 m ends.1 fits.1) (adds ∙ ap (λ (y : Plan). Ok y) whole),
+      line_from before l (Item.Line (line_of u)) t (turn_again_line u (line_limit t.serial) l short.1 m ends.1 fits.1) (adds ∙ ap (λ (y : Plan). Ok y) whole),
     )
 
 step_header : (ls : List (List ℕ)) (l : List ℕ) (t : Plan) (hs : List Header) (x : Header) → is_meant l ≡ true → (h : SpellScript (ls ++ l ∷ []) t) → t.off ≡ false → h.turns ≡ [] → h.headers ≡ hs ++ x ∷ [] → CanStep ls l t
 step_header ls l t hs x m h no_off none same =
     let lines : t.lines ≡ [] = sym h.meant ∙ ap (λ (vs : List Turn). map line_of vs) none in
-    let ends = same_ends (filter is_meant ls) (texts_of hs [] false) l (header_line x)
-    (sym (meant_more ls l m) ∙ h.spelled ∙ ap (λ (vs : List Turn). texts_of h.headers vs t.off) none ∙ ap (λ (b : Bool). texts_of h.headers [] b) no_off ∙ ap (λ (ys : List Header). texts_of ys [] false) same ∙ header_spelling hs x) in
-    let short = each_less is_short ls l h.short in
+    let ends = same_ends (filter is_meant ls) (texts_of t.serial hs [] false) l (header_line x)
+    (sym (meant_more ls l m) ∙ h.spelled ∙ ap (λ (vs : List Turn). texts_of t.serial h.headers vs t.off) none ∙ ap (λ (b : Bool). texts_of t.serial h.headers [] b) no_off ∙ ap (λ (ys : List Header). texts_of t.serial ys [] false) same ∙ header_spelling t.serial hs x) in
+    let short = short_off ls l t h in
     let fits = each_less FitsHeader hs x (subst (λ (ys : List Header). AllByRecursion FitsHeader ys) same h.fit_headers) in
-    let whole : with_header (plan_from hs) x ≡ t = sym (header_more hs x) ∙ ap plan_from (sym same) ∙ sym (plan_is t h.headers h.objects h.procs lines no_off) in (
-      plan_from hs,
+    let before : Plan = plan_from t.serial hs in
+    let whole : with_header before x ≡ t = sym (header_more t.serial hs x) ∙ ap (λ (ys : List Header). plan_from t.serial ys) (sym same) ∙ sym (plan_is t h.headers h.objects h.procs lines no_off) in (
+      before,
       record { headers = hs; turns = []; short = short.0; spelled = ends.0; objects = refl; procs = refl; meant = refl; fit_headers = fits.0; fit_turns = tt; orderly = record { processes = tt; forks = tt; exits = tt; calls = tt } },
-      line_from (plan_from hs) l (Item.Header x) t (header_again_line x l short.1 m ends.1 fits.1) (ap (λ (y : Plan). Ok y) whole),
+      line_from before l (Item.Header x) t (header_again_line x (line_limit t.serial) l short.1 m ends.1 fits.1) (ap (λ (y : Plan). Ok y) whole),
     )
 
-step_none : (ls : List (List ℕ)) (l : List ℕ) (t : Plan) → is_meant l ≡ true → (h : SpellScript (ls ++ l ∷ []) t) → t.off ≡ false → h.turns ≡ [] → h.headers ≡ [] → ⊥
-step_none ls l t m h no_off none empty =
-    no_end (filter is_meant ls) l (sym (meant_more ls l m) ∙ h.spelled ∙ ap (λ (vs : List Turn). texts_of h.headers vs t.off) none ∙ ap (λ (b : Bool). texts_of h.headers [] b) no_off ∙ ap (λ (ys : List Header). texts_of ys [] false) empty)
+-- the one line that says something, where there are no headers and turns
+alone_spelled : (ls : List (List ℕ)) (l : List ℕ) (t : Plan) → is_meant l ≡ true → (h : SpellScript (ls ++ l ∷ []) t) → t.off ≡ false → h.turns ≡ [] → h.headers ≡ [] → filter is_meant ls ++ l ∷ [] ≡ texts_of t.serial [] [] false
+alone_spelled ls l t m h no_off none empty =
+    sym (meant_more ls l m) ∙ h.spelled ∙ ap (λ (vs : List Turn). texts_of t.serial h.headers vs t.off) none ∙ ap (λ (b : Bool). texts_of t.serial h.headers [] b) no_off ∙ ap (λ (ys : List Header). texts_of t.serial ys [] false) empty
+
+step_none : (ls : List (List ℕ)) (l : List ℕ) (t : Plan) → is_meant l ≡ true → (h : SpellScript (ls ++ l ∷ []) t) → t.serial ≡ false → t.off ≡ false → h.turns ≡ [] → h.headers ≡ [] → ⊥
+step_none ls l t m h several no_off none empty =
+    no_end (filter is_meant ls) l (alone_spelled ls l t m h no_off none empty ∙ ap (λ (b : Bool). texts_of b [] [] false) several)
+
+step_serial : (ls : List (List ℕ)) (l : List ℕ) (t : Plan) → is_meant l ≡ true → (h : SpellScript (ls ++ l ∷ []) t) → t.serial ≡ true → t.off ≡ false → h.turns ≡ [] → h.headers ≡ [] → CanStep ls l t
+step_serial ls l t m h one no_off none empty =
+    let ends = same_ends (filter is_meant ls) [] l (codes "serial") (alone_spelled ls l t m h no_off none empty ∙ ap (λ (b : Bool). texts_of b [] [] false) one) in
+    let lines : t.lines ≡ [] = sym h.meant ∙ ap (λ (vs : List Turn). map line_of vs) none in
+    let whole : plan_from true [] ≡ t = sym (plan_is t h.headers h.objects h.procs lines no_off ∙ ap (λ (ys : List Header). plan_from t.serial ys) empty ∙ ap (λ (b : Bool). plan_from b []) one) in
+    let short : length l ≤ 4096 = subst (λ (x : List ℕ). length x ≤ 4096) (sym ends.1) (leb-true 6 4096 refl) in (
+      plan_from false [],
+      record { headers = []; turns = []; short = short_as t.serial false ls ends.0 (short_off ls l t h).0; spelled = ends.0; objects = refl; procs = refl; meant = refl; fit_headers = tt; fit_turns = tt; orderly = record { processes = tt; forks = tt; exits = tt; calls = tt } },
+      line_from (plan_from false []) l Item.Serial t (serial_again_line 4096 l short m ends.1) (ap (λ (y : Plan). Ok y) whole),
+    )
 
 skip_added : (s : Plan) (off : Bool) → cond (off && not true) (Err BadLine) (joined_by s Item.Skipped) ≡ Ok s
 skip_added s true = refl
@@ -500,20 +658,21 @@ skip_added s false = refl
 
 step_skip : (ls : List (List ℕ)) (l : List ℕ) (t : Plan) → is_meant l ≡ false → SpellScript (ls ++ l ∷ []) t → CanStep ls l t
 step_skip ls l t m h =
-    let short = each_less is_short ls l h.short in (
+    let short = short_off ls l t h in (
       t,
       record { headers = h.headers; turns = h.turns; short = short.0; spelled = sym (skipped_more ls l m) ∙ h.spelled; objects = h.objects; procs = h.procs; meant = h.meant; fit_headers = h.fit_headers; fit_turns = h.fit_turns; orderly = h.orderly },
-      line_from t l Item.Skipped t (skip_again l short.1 m) (skip_added t t.off),
+      line_from t l Item.Skipped t (skip_again (line_limit t.serial) l short.1 m) (skip_added t t.off),
     )
 
-step_meant : (ls : List (List ℕ)) (l : List ℕ) (t : Plan) (off : Bool) → is_meant l ≡ true → (h : SpellScript (ls ++ l ∷ []) t) → t.off ≡ off → (h.turns ≡ []) ⊎ HasLast h.turns → (h.headers ≡ []) ⊎ HasLast h.headers → CanStep ls l t
-step_meant ls l t true m h f v w = step_off ls l t m h f
-step_meant ls l t false m h f (inr v) w = step_turn ls l t v.0 v.1 m h f v.2
-step_meant ls l t false m h f (inl v) (inr w) = step_header ls l t w.0 w.1 m h f v w.2
-step_meant ls l t false m h f (inl v) (inl w) = absurd (step_none ls l t m h f v w)
+step_meant : (ls : List (List ℕ)) (l : List ℕ) (t : Plan) (off serial : Bool) → is_meant l ≡ true → (h : SpellScript (ls ++ l ∷ []) t) → t.off ≡ off → t.serial ≡ serial → (h.turns ≡ []) ⊎ HasLast h.turns → (h.headers ≡ []) ⊎ HasLast h.headers → CanStep ls l t
+step_meant ls l t true serial m h f g v w = step_off ls l t m h f
+step_meant ls l t false serial m h f g (inr v) w = step_turn ls l t v.0 v.1 m h f v.2
+step_meant ls l t false serial m h f g (inl v) (inr w) = step_header ls l t w.0 w.1 m h f v w.2
+step_meant ls l t false true m h f g (inl v) (inl w) = step_serial ls l t m h g f v w
+step_meant ls l t false false m h f g (inl v) (inl w) = absurd (step_none ls l t m h g f v w)
 
 step_chosen : (ls : List (List ℕ)) (l : List ℕ) (t : Plan) (b : Bool) → is_meant l ≡ b → SpellScript (ls ++ l ∷ []) t → CanStep ls l t
-step_chosen ls l t true m h = step_meant ls l t t.off m h refl (last_view h.turns) (last_view h.headers)
+step_chosen ls l t true m h = step_meant ls l t t.off t.serial m h refl refl (last_view h.turns) (last_view h.headers)
 step_chosen ls l t false m h = step_skip ls l t m h
 
 pub line_again : (ls : List (List ℕ)) (l : List ℕ) (t : Plan) → SpellScript (ls ++ l ∷ []) t → CanStep ls l t
@@ -543,17 +702,18 @@ lines_more n s (x ∷ xs) l u t e k =
     let a = on_ok n (λ v. lines_at (suc n) v xs) (line_at s x) u e in
     rw a.1 (lines_more (suc n) a.0 xs l u t a.2 k)
 
-no_spelling : (hs : List Header) (ts : List Turn) (off : Bool) → [] ≡ texts_of hs ts off → (hs ≡ []) × (ts ≡ []) × (off ≡ false)
-no_spelling [] [] false e = (refl, refl, refl)
-no_spelling [] [] true e = absurd cc
-no_spelling [] (t ∷ ts) off e = absurd cc
-no_spelling (h ∷ hs) ts off e = absurd cc
+no_spelling : (serial : Bool) (hs : List Header) (ts : List Turn) (off : Bool) → [] ≡ texts_of serial hs ts off → (serial ≡ false) × (hs ≡ []) × (ts ≡ []) × (off ≡ false)
+no_spelling false [] [] false e = (refl, refl, refl, refl)
+no_spelling false [] [] true e = absurd cc
+no_spelling false [] (t ∷ ts) off e = absurd cc
+no_spelling false (h ∷ hs) ts off e = absurd cc
+no_spelling true hs ts off e = absurd cc
 
 empty_only : (t : Plan) → SpellScript [] t → t ≡ no_lines
 empty_only t h =
-    let p = no_spelling h.headers h.turns t.off h.spelled in
-    let none : t.lines ≡ [] = sym h.meant ∙ ap (λ (ts : List Turn). map line_of ts) p.1 in
-    plan_is t h.headers h.objects h.procs none p.2 ∙ ap plan_from p.0
+    let p = no_spelling t.serial h.headers h.turns t.off h.spelled in
+    let none : t.lines ≡ [] = sym h.meant ∙ ap (λ (ts : List Turn). map line_of ts) p.2 in
+    plan_is t h.headers h.objects h.procs none p.3 ∙ ap (λ (hs : List Header). plan_from t.serial hs) p.1 ∙ ap (λ (b : Bool). plan_from b []) p.0
 
 abbrev IsRead : List (List ℕ) → Type 0
 IsRead ls = (t : Plan) → SpellScript ls t → lines_at 1 no_lines ls ≡ Ok t
@@ -581,50 +741,58 @@ ok_no_fault x f e = cc
 same_line : (a b : Line) → said (Item.Line a) ≡ said (Item.Line b) → a ≡ b
 same_line a b e = cc
 
+line_no_serial : (a : Line) → said (Item.Line a) ≡ said Item.Serial → ⊥
+line_no_serial a e = cc
+
 line_no_header : (a : Line) (x : Header) → said (Item.Line a) ≡ said (Item.Header x) → ⊥
 line_no_header a x e = cc
 
 -- the line of a stranger is read as that line
-stranger_reads : (s : Plan) (l : List ℕ) (w : IsCallOfStranger s l) → length l ≤ 4096 → is_meant l ≡ true → item_at l ≡ Ok (Item.Line (line_of w.0))
-stranger_reads s l w short m = turn_again_line w.0 l short m w.1 w.2
+stranger_reads : (s : Plan) (l : List ℕ) (w : IsCallOfStranger s l) → is_short s l → is_meant l ≡ true → item_at (line_limit s.serial) l ≡ Ok (Item.Line (line_of w.0))
+stranger_reads s l w short m = turn_again_line w.0 (line_limit s.serial) l short m w.1 w.2
 
-no_stranger : (s : Plan) (l : List ℕ) (m : Bool) → is_meant l ≡ m → length l ≤ 4096 → item_at l ≡ Err BadLine → IsCallOfStranger s l → ⊥
+no_stranger : (s : Plan) (l : List ℕ) (m : Bool) → is_meant l ≡ m → is_short s l → item_at (line_limit s.serial) l ≡ Err BadLine → IsCallOfStranger s l → ⊥
 no_stranger s l true m short e w = ok_no_fault (Item.Line (line_of w.0)) BadLine (sym (stranger_reads s l w short m) ∙ e)
-no_stranger s l false m short e w = ok_no_fault Item.Skipped BadLine (sym (skip_again l short m) ∙ e)
+no_stranger s l false m short e w = ok_no_fault Item.Skipped BadLine (sym (skip_again (line_limit s.serial) l short m) ∙ e)
 
 -- a line whose words aren't read
-abbrev IsUnread : List ℕ → Fault → Type 0
-IsUnread l TooLong = 4096 < length l
-IsUnread l BadLine = length l ≤ 4096
-IsUnread l UnknownProcess = ⊥
+abbrev IsUnread : ℕ → List ℕ → Fault → Type 0
+IsUnread limit l TooLong = limit < length l
+IsUnread limit l BadLine = length l ≤ limit
+IsUnread limit l UnknownProcess = ⊥
 
-unread_by : (l : List ℕ) (f : Fault) (t u : Bool) → ltb 4096 (length l) ≡ t → cond t (Err TooLong) (cond u (words_at (slice_split (λ b. eqb b 32) l)) (Ok Item.Skipped)) ≡ Err f → IsUnread l f
-unread_by l f true u m e = subst (IsUnread l) (err_is {X = Item} TooLong f e) (ltb-true 4096 (length l) m)
-unread_by l f false true m e =
+unread_by : (limit : ℕ) (l : List ℕ) (f : Fault) (t u : Bool) → ltb limit (length l) ≡ t → cond t (Err TooLong) (cond u (words_at (slice_split (λ b. eqb b 32) l)) (Ok Item.Skipped)) ≡ Err f → IsUnread limit l f
+unread_by limit l f true u m e = subst (IsUnread limit l) (err_is {X = Item} TooLong f e) (ltb-true limit (length l) m)
+unread_by limit l f false true m e =
     let bad : f ≡ BadLine = subst IsBadOrOk e (words_bad (slice_split (λ b. eqb b 32) l)) in
-    subst (IsUnread l) (sym bad) (ltb-false 4096 (length l) m)
-unread_by l f false false m e = absurd (ok_no_fault Item.Skipped f e)
+    subst (IsUnread limit l) (sym bad) (ltb-false limit (length l) m)
+unread_by limit l f false false m e = absurd (ok_no_fault Item.Skipped f e)
 
-unread : (l : List ℕ) (f : Fault) → item_at l ≡ Err f → IsUnread l f
+unread : (limit : ℕ) (l : List ℕ) (f : Fault) → item_at limit l ≡ Err f → IsUnread limit l f
 unfolding item_at
-unread l f e = unread_by l f (ltb 4096 (length l)) (is_meant l) refl e
+unread limit l f e = unread_by limit l f (ltb limit (length l)) (is_meant l) refl e
 
-unread_why : (s : Plan) (l : List ℕ) (f : Fault) → IsUnread l f → item_at l ≡ Err f → IsFaultOf f s l
+unread_why : (s : Plan) (l : List ℕ) (f : Fault) → IsUnread (line_limit s.serial) l f → item_at (line_limit s.serial) l ≡ Err f → IsFaultOf f s l
 unread_why s l TooLong p e = p
 unread_why s l BadLine p e = (p, λ w. no_stranger s l (is_meant l) refl p e w)
 unread_why s l UnknownProcess p e = absurd p
 
-header_why : (s : Plan) (l : List ℕ) (x : Header) (f : Fault) (y : Plan) (b : Bool) → length l ≤ 4096 → is_meant l ≡ true → item_at l ≡ Ok (Item.Header x) → cond b (Ok y) (Err BadLine) ≡ Err f → IsFaultOf f s l
+header_why : (s : Plan) (l : List ℕ) (x : Header) (f : Fault) (y : Plan) (b : Bool) → is_short s l → is_meant l ≡ true → item_at (line_limit s.serial) l ≡ Ok (Item.Header x) → cond b (Ok y) (Err BadLine) ≡ Err f → IsFaultOf f s l
 header_why s l x f y true short m k e = absurd (ok_no_fault y f e)
 header_why s l x f y false short m k e =
     subst (λ g. IsFaultOf g s l) (err_is {X = Plan} BadLine f e) (short, λ w. line_no_header (line_of w.0) x (sym (stranger_reads s l w short m) ∙ k))
+
+serial_why : (s : Plan) (l : List ℕ) (f : Fault) (y : Plan) (b : Bool) → is_short s l → is_meant l ≡ true → item_at (line_limit s.serial) l ≡ Ok Item.Serial → cond b (Ok y) (Err BadLine) ≡ Err f → IsFaultOf f s l
+serial_why s l f y true short m k e = absurd (ok_no_fault y f e)
+serial_why s l f y false short m k e =
+    subst (λ g. IsFaultOf g s l) (err_is {X = Plan} BadLine f e) (short, λ w. line_no_serial (line_of w.0) (sym (stranger_reads s l w short m) ∙ k))
 
 -- the line may follow the script's, but for the processes that it names
 may_stand : (s : Plan) (line : Line) (t : Turn) → IsOrderly s → line_of t ≡ line → has_exited s.lines line.pid.0 ≡ false → NoneAfterExit (s.lines ++ line_of t ∷ [])
 may_stand s line t orderly same quiet = exits_more s.lines (line_of t) orderly.exits (ap (λ (y : Line). has_exited s.lines y.pid.0) same ∙ quiet)
 
 -- a fork line is none that names a stranger
-fork_why : (s : Plan) (l : List ℕ) (line : Line) (f : Fault) (x : Plan) (may : Bool) → asks_fork line.act ≡ true → length l ≤ 4096 → Says (Item.Line line) l → item_at l ≡ Ok (Item.Line line) → cond may (Ok x) (Err BadLine) ≡ Err f → IsFaultOf f s l
+fork_why : (s : Plan) (l : List ℕ) (line : Line) (f : Fault) (x : Plan) (may : Bool) → asks_fork line.act ≡ true → is_short s l → Says (Item.Line line) l → item_at (line_limit s.serial) l ≡ Ok (Item.Line line) → cond may (Ok x) (Err BadLine) ≡ Err f → IsFaultOf f s l
 fork_why s l line f x true forks short says k e = absurd (ok_no_fault x f e)
 fork_why s l line f x false forks short says k e =
     subst (λ g. IsFaultOf g s l) (err_is {X = Plan} BadLine f e) (
@@ -635,7 +803,7 @@ fork_why s l line f x false forks short says k e =
     )
 
 turn_why : (s : Plan) (l : List ℕ) (line : Line) (f : Fault) (x : Plan) (known exited awaited : Bool) → IsOrderly s → s.off ≡ false → asks_fork line.act ≡ false → is_known (known_count s) line.pid.0 ≡ known → has_exited s.lines line.pid.0 ≡ exited → awaits_known (known_count s) line.act ≡ awaited
-    → length l ≤ 4096 → Says (Item.Line line) l → item_at l ≡ Ok (Item.Line line)
+    → is_short s l → Says (Item.Line line) l → item_at (line_limit s.serial) l ≡ Ok (Item.Line line)
     → cond known (cond exited (Err BadLine) (cond awaited (Ok x) (Err UnknownProcess))) (Err UnknownProcess) ≡ Err f → IsFaultOf f s l
 turn_why s l line f x true true awaited orderly no_off other known exited there short says k e =
     subst (λ g. IsFaultOf g s l) (err_is {X = Plan} BadLine f e) (
@@ -655,30 +823,31 @@ turn_why s l line f x false exited awaited orderly no_off other known gone there
     subst (λ g. IsFaultOf g s l) (err_is {X = Plan} UnknownProcess f e)
     (short, (w.0, w.2, w.3, no_off, ap (λ (y : Line). asks_fork y.act) w.1 ∙ other, may_stand s line w.0 orderly w.1 quiet, λ o. both_ways (is_known (known_count s) line.pid.0) known (known_to (known_count s) line.pid.0 (subst (NamesProcesses (known_count s)) w.1 o).0)))
 
-line_why : (s : Plan) (l : List ℕ) (line : Line) (f : Fault) (forks : Bool) → IsOrderly s → s.off ≡ false → asks_fork line.act ≡ forks → length l ≤ 4096 → Says (Item.Line line) l → item_at l ≡ Ok (Item.Line line)
+line_why : (s : Plan) (l : List ℕ) (line : Line) (f : Fault) (forks : Bool) → IsOrderly s → s.off ≡ false → asks_fork line.act ≡ forks → is_short s l → Says (Item.Line line) l → item_at (line_limit s.serial) l ≡ Ok (Item.Line line)
     → cond forks (joined_by_fork s line) (joined_by_other s line) ≡ Err f → IsFaultOf f s l
 line_why s l line f true orderly no_off forks short says k e = fork_why s l line f _ (may_fork s line.pid.0) forks short says k e
 line_why s l line f false orderly no_off other short says k e = turn_why s l line f _ (is_known (known_count s) line.pid.0) (has_exited s.lines line.pid.0) (awaits_known (known_count s) line.act) orderly no_off other refl refl refl short says k e
 
-joined_why : (s : Plan) (l : List ℕ) (item : Item) (f : Fault) → IsOrderly s → s.off ≡ false → length l ≤ 4096 → Says item l → item_at l ≡ Ok item → joined_by s item ≡ Err f → IsFaultOf f s l
+joined_why : (s : Plan) (l : List ℕ) (item : Item) (f : Fault) → IsOrderly s → s.off ≡ false → is_short s l → Says item l → item_at (line_limit s.serial) l ≡ Ok item → joined_by s item ≡ Err f → IsFaultOf f s l
 joined_why s l Item.Skipped f orderly no_off short says k e = absurd (ok_no_fault s f e)
 joined_why s l (Item.Header x) f orderly no_off short says k e = header_why s l x f _ (eqb (length s.lines) 0) short says.0 k e
 joined_why s l (Item.Line line) f orderly no_off short says k e = line_why s l line f (asks_fork line.act) orderly no_off refl short says k e
 joined_why s l Item.Off f orderly no_off short says k e = absurd (ok_no_fault (with_off s) f e)
+joined_why s l Item.Serial f orderly no_off short says k e = serial_why s l f _ (is_unsaid s) short says.0 k e
 
-added_why : (s : Plan) (l : List ℕ) (item : Item) (f : Fault) (off skipped : Bool) → IsOrderly s → s.off ≡ off → is_skipped item ≡ skipped → length l ≤ 4096 → Says item l → item_at l ≡ Ok item
+added_why : (s : Plan) (l : List ℕ) (item : Item) (f : Fault) (off skipped : Bool) → IsOrderly s → s.off ≡ off → is_skipped item ≡ skipped → is_short s l → Says item l → item_at (line_limit s.serial) l ≡ Ok item
     → cond (off && not skipped) (Err BadLine) (joined_by s item) ≡ Err f → IsFaultOf f s l
 added_why s l item f false skipped orderly o n short says k e = joined_why s l item f orderly o short says k e
 added_why s l item f true true orderly o n short says k e = absurd (ok_no_fault s f (sym (skip_joins s item n) ∙ e))
 added_why s l item f true false orderly o n short says k e = subst (λ g. IsFaultOf g s l) (err_is {X = Plan} BadLine f e) (short, λ w. both_ways s.off w.3 o)
 
-why_of : (s : Plan) (l : List ℕ) (f : Fault) (r : Result Item Fault) → IsOrderly s → item_at l ≡ r → (r >>= λ item. added s item) ≡ Err f → IsFaultOf f s l
-why_of s l f (Ok item) orderly k e = let p = item_takes l item k in added_why s l item f s.off (is_skipped item) orderly refl refl p.0 p.1 k e
-why_of s l f (Err g) orderly k e = subst (λ x. IsFaultOf x s l) (err_is {X = Plan} g f e) (unread_why s l g (unread l g k) k)
+why_of : (s : Plan) (l : List ℕ) (f : Fault) (r : Result Item Fault) → IsOrderly s → item_at (line_limit s.serial) l ≡ r → (r >>= λ item. added s item) ≡ Err f → IsFaultOf f s l
+why_of s l f (Ok item) orderly k e = let p = item_takes (line_limit s.serial) l item k in added_why s l item f s.off (is_skipped item) orderly refl refl p.0 p.1 k e
+why_of s l f (Err g) orderly k e = subst (λ x. IsFaultOf x s l) (err_is {X = Plan} g f e) (unread_why s l g (unread (line_limit s.serial) l g k) k)
 
 fault_is : (s : Plan) (l : List ℕ) (f : Fault) → IsOrderly s → line_at s l ≡ Err f → IsFaultOf f s l
 unfolding line_at
-fault_is s l f orderly e = why_of s l f (item_at l) orderly refl e
+fault_is s l f orderly e = why_of s l f (item_at (line_limit s.serial) l) orderly refl e
 
 -- ---- the first line at fault
 
@@ -747,6 +916,7 @@ fails_named ScriptFault.Reading lines h = h
 fails_named ScriptFault.Writing lines h = h
 fails_named ScriptFault.NoMemory lines h = tt
 fails_named ScriptFault.Stranger lines h = elim h [ ]
+fails_named ScriptFault.OneOrder lines h = elim h [ ]
 fails_named (ScriptFault.Deadlock waiting) lines h = elim h [ ]
 
 pub gives_fault : (r : Result Script ScriptFault) (lines : List (List ℕ)) → GivesScript r (lines_at 1 no_lines lines) → IfErr r (λ f. Refuses lines f)

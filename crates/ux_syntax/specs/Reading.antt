@@ -1,6 +1,6 @@
 -- Reading from left to right: a script, or the first line that is at fault.
 use Rattle.std.specs.Prelude.{ℕ, zero, suc, ◌+◌, ◌-◌, ◌*◌, ◌^◌, ℤ, pos, negsuc, Bool, true, false, List, [], ◌∷◌, ◌++◌, length, map, codes}
-use Rattle.std.specs.Prelude.{Option, Some, None, Result, Ok, Err, nat_lt, nat_le, bit_or, ◌==◌, ◌&&◌, if◌then◌else◌, not}
+use Rattle.std.specs.Prelude.{Option, Some, None, Result, Ok, Err, nat_lt, nat_le, bit_or, ◌==◌, ◌&&◌, ◌||◌, if◌then◌else◌, not}
 use Rattle.std.specs.List.{slice_split, find, list_all}
 use Rattle.std.specs.Option.{option_map}
 use Rattle.std.specs.Str.{bytes_eq}
@@ -442,22 +442,33 @@ words_at (w ∷ ws) =
     if bytes_eq w (codes "proc") then (proc_at ws >>= λ p. Ok (Item.Header (Header.Proc p)))
     else if bytes_eq w (codes "object") then (object_at ws >>= λ o. Ok (Item.Header (Header.Object o)))
     else if bytes_eq w (codes "off") then (ends ws >>= λ x. Ok Item.Off)
+    else if bytes_eq w (codes "serial") then (ends ws >>= λ x. Ok Item.Serial)
     else (number_at w >>= λ pid. turn_at pid ws)
 
-unfoldable pub item_at : List ℕ → Result Item Fault
-item_at text =
-    if nat_lt line_limit (length text) then Err TooLong else
+-- what a line says that may have so many bytes
+unfoldable pub item_at : ℕ → List ℕ → Result Item Fault
+item_at limit text =
+    if nat_lt limit (length text) then Err TooLong else
     if is_meant text then words_at (slice_split (λ b. b == 32) text) else Ok Item.Skipped
 
 abbrev pub with_header : Plan → Header → Plan
-with_header s (Header.Object o) = record { objects = s.objects ++ o ∷ []; procs = s.procs; lines = s.lines; off = s.off }
-with_header s (Header.Proc p) = record { objects = s.objects; procs = s.procs ++ p ∷ []; lines = s.lines; off = s.off }
+with_header s (Header.Object o) =
+    record { serial = s.serial; objects = s.objects ++ o ∷ []; procs = s.procs; lines = s.lines; off = s.off }
+with_header s (Header.Proc p) = record { serial = s.serial; objects = s.objects; procs = s.procs ++ p ∷ []; lines = s.lines; off = s.off }
 
 abbrev pub with_line : Plan → Line → Plan
-with_line s line = record { objects = s.objects; procs = s.procs; lines = s.lines ++ line ∷ []; off = s.off }
+with_line s line = record { serial = s.serial; objects = s.objects; procs = s.procs; lines = s.lines ++ line ∷ []; off = s.off }
 
 abbrev pub with_off : Plan → Plan
-with_off s = record { objects = s.objects; procs = s.procs; lines = s.lines; off = true }
+with_off s = record { serial = s.serial; objects = s.objects; procs = s.procs; lines = s.lines; off = true }
+
+-- the script with one order alone
+abbrev pub with_serial : Plan → Plan
+with_serial s = record { serial = true; objects = s.objects; procs = s.procs; lines = s.lines; off = s.off }
+
+-- no line has said anything yet, but for `off`
+abbrev pub is_unsaid : Plan → Bool
+is_unsaid s = not s.serial && (length s.objects == 0 && (length s.procs == 0 && length s.lines == 0))
 
 -- the script with one line more, of a process that is there
 abbrev pub joined_by_line : Plan → Line → Result Plan Fault
@@ -465,10 +476,10 @@ joined_by_line s line =
     if has_exited s.lines line.pid.0 then Err BadLine else
     if awaits_known (known_count s) line.act then Ok (with_line s line) else Err UnknownProcess
 
--- A fork of the process may come next: it is process 1, which is there and has made no exit, and there are fewer processes than may be
--- made.
+-- A fork of the process may come next: it is there and has made no exit, it is process 1 where the script has more orders than one, and there
+-- are fewer processes than may be made.
 abbrev pub may_fork : Plan → ℕ → Bool
-may_fork s pid = (pid == 1 && nat_lt (known_count s) made_limit) && (is_known (known_count s) pid && not (has_exited s.lines pid))
+may_fork s pid = ((s.serial || pid == 1) && nat_lt (known_count s) made_limit) && (is_known (known_count s) pid && not (has_exited s.lines pid))
 
 -- the script with one fork line more
 abbrev pub joined_by_fork : Plan → Line → Result Plan Fault
@@ -484,19 +495,21 @@ joined_by s Item.Skipped = Ok s
 joined_by s (Item.Header h) = if length s.lines == 0 then Ok (with_header s h) else Err BadLine
 joined_by s (Item.Line line) = if asks_fork line.act then joined_by_fork s line else joined_by_other s line
 joined_by s Item.Off = Ok (with_off s)
+joined_by s Item.Serial = if is_unsaid s then Ok (with_serial s) else Err BadLine
 
 abbrev pub is_skipped : Item → Bool
 is_skipped Item.Skipped = true
 is_skipped (Item.Header h) = false
 is_skipped (Item.Line line) = false
 is_skipped Item.Off = false
+is_skipped Item.Serial = false
 
 -- the script with one item more: nothing is said after `off`
 abbrev pub added : Plan → Item → Result Plan Fault
 added s item = if s.off && not (is_skipped item) then Err BadLine else joined_by s item
 
 unfoldable pub line_at : Plan → List ℕ → Result Plan Fault
-line_at s text = item_at text >>= λ item. added s item
+line_at s text = item_at (line_limit s.serial) text >>= λ item. added s item
 
 -- the fault of a line of this number
 abbrev pub line_fault : ℕ → Fault → ScriptFault
@@ -515,7 +528,7 @@ lines_at n s [] = Ok s
 lines_at n s (text ∷ texts) = on_line n (λ t. lines_at (suc n) t texts) (line_at s text)
 
 abbrev pub no_lines : Plan
-no_lines = record { objects = []; procs = []; lines = []; off = false }
+no_lines = record { serial = false; objects = []; procs = []; lines = []; off = false }
 
 -- what reading the lines of a whole text gives
 abbrev pub script_at : List (List ℕ) → Result Plan ScriptFault

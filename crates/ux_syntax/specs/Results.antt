@@ -35,6 +35,7 @@ FailsAt ScriptFault.Reading read = ⊥
 FailsAt ScriptFault.Writing read = ⊥
 FailsAt ScriptFault.NoMemory read = Unit {0}
 FailsAt ScriptFault.Stranger read = ⊥
+FailsAt ScriptFault.OneOrder read = ⊥
 FailsAt (ScriptFault.Deadlock waiting) read = ⊥
 
 abbrev pub GivesScript : Result Script ScriptFault → Result Plan ScriptFault → Type 0
@@ -50,6 +51,7 @@ Refuses texts ScriptFault.Reading = ⊥
 Refuses texts ScriptFault.Writing = ⊥
 Refuses texts ScriptFault.NoMemory = Unit {0}
 Refuses texts ScriptFault.Stranger = ⊥
+Refuses texts ScriptFault.OneOrder = ⊥
 Refuses texts (ScriptFault.Deadlock waiting) = ⊥
 
 -- one mark for each process that is known so far, which says whether the process has made its exit; no other process has

@@ -1,6 +1,6 @@
 -- Which lines spell which script.
 use Rattle.std.specs.Prelude.{◌≡◌, ◌≢◌, ℕ, ◌+◌, ◌<◌, ◌≤◌, ◌^◌, ℤ, pos, negsuc, take, Bool, true, false, List, [], ◌∷◌, ◌++◌, length}
-use Rattle.std.specs.Prelude.{◌-◌, replicate, map, filter, count_by, codes, decimal, Option, Some, None, IfSome, if◌then◌else◌, ◌==◌, not}
+use Rattle.std.specs.Prelude.{◌-◌, replicate, map, filter, count_by, codes, decimal, Option, Some, None, IfSome, if◌then◌else◌, ◌==◌, ◌&&◌, ◌||◌, not}
 use Rattle.std.specs.Prelude.{slice_index_or}
 use Rattle.std.specs.List.{AllByRecursion, slice_split, join_with_byte}
 use Rattle.std.specs.Fmt.{signed_decimal}
@@ -23,15 +23,17 @@ use Rattle.ux_trace.specs.Trace.{dash, hex, path_text, addr_text, addr_or_dash, 
 
 -- ---- what a script says
 
--- its file objects, its processes and their lines, and whether the layer is ended at last, without where they lie in memory
+-- whether it has one order alone, its file objects, its processes and their lines, and whether the layer is ended at last, without where
+-- they lie in memory
 pub record Plan : Type 0 where
+  pub serial : Bool
   pub objects : List ObjectLine
   pub procs : List ProcSpec
   pub lines : List Line
   pub off : Bool
 
 abbrev pub plan_of : Script → Plan
-plan_of s = record { objects = s.objects.items; procs = s.procs.items; lines = s.lines.items; off = s.off }
+plan_of s = record { serial = s.serial; objects = s.objects.items; procs = s.procs.items; lines = s.lines.items; off = s.off }
 
 -- the file objects and the processes of a header, each in order
 abbrev pub objects_of : List Header → List ObjectLine
@@ -250,6 +252,10 @@ turn_words t = decimal t.pid ∷ asked_words t.asked
 abbrev pub turn_line : Turn → List ℕ
 turn_line t = join_with_byte 32 (turn_words t)
 
+-- the line that says that the script has one order alone, where it does
+abbrev pub serial_lines : Bool → List (List ℕ)
+serial_lines serial = if serial then codes "serial" ∷ [] else []
+
 -- the line that ends the layer, where the script has it
 abbrev pub off_lines : Bool → List (List ℕ)
 off_lines off = if off then codes "off" ∷ [] else []
@@ -410,9 +416,11 @@ abbrev pub EachKnowing : (ℕ → Line → Type 0) → ℕ → List Line → Typ
 EachKnowing IsSo count [] = Unit {0}
 EachKnowing IsSo count (line ∷ lines) = IsSo count line × EachKnowing IsSo (count + forks_of (line ∷ [])) lines
 
--- a fork line is process 1's, which is there, and not all processes that may be made are there before it
-abbrev pub MayFork : ℕ → Line → Type 0
-MayFork count line = asks_fork line.act ≡ true → (line.pid.0 ≡ 1) × IsProcess count 1 × (count < made_limit)
+-- A fork line is of a process that is there, and of process 1 where the script has more orders than one, and not all processes that may be
+-- made are there before it.
+abbrev pub MayFork : Bool → ℕ → Line → Type 0
+MayFork serial count line =
+    asks_fork line.act ≡ true → (serial ≡ false → line.pid.0 ≡ 1) × IsProcess count line.pid.0 × (count < made_limit)
 
 -- none of the lines is of the process
 abbrev pub IsQuiet : ℕ → List Line → Type 0
@@ -428,25 +436,32 @@ abbrev pub IsCall : Line → Type 0
 IsCall line = asks_off line.act ≡ false
 
 -- each line is of a process that is there and hasn't made its exit, each process that is waited for is there, and process 1 alone forks
+-- where the script has more orders than one
 pub record IsOrderly (s : Plan) : Type 0 where
   pub processes : EachKnowing NamesProcesses (length s.procs) s.lines
-  pub forks : EachKnowing MayFork (length s.procs) s.lines
+  pub forks : EachKnowing (MayFork s.serial) (length s.procs) s.lines
   pub exits : NoneAfterExit s.lines
   pub calls : AllByRecursion IsCall s.lines
 
 -- ---- which lines spell which script
 
--- the bytes of a line, without its newline
-abbrev pub line_limit : ℕ
-line_limit = 4096
+-- how many bytes a line may have, without its newline: more behind a line `serial`
+abbrev pub line_limit : Bool → ℕ
+line_limit serial = if serial then 200000 else 4096
 
--- The lines, which are short, spell the script: those that say something are the header's,
--- then the processes' as they are written, and `off` at last where the script has it.
+-- Each line is short: by the script's own limit behind the first that says something, which is `serial` where that limit is another, and by
+-- the common one up to there. The lines begin behind such a line, or before.
+abbrev pub AreShort : Bool → Bool → List (List ℕ) → Type 0
+AreShort serial behind [] = Unit {0}
+AreShort serial behind (text ∷ texts) = (length text ≤ line_limit (serial && behind)) × AreShort serial (behind || is_meant text) texts
+
+-- The lines, which are short, spell the script: of those that say something `serial` is the first where the script has one order alone, then
+-- come the header's, then the processes' as they are written, and `off` at last where the script has it.
 pub record SpellScript (texts : List (List ℕ)) (s : Plan) : Type 0 where
   pub headers : List Header
   pub turns : List Turn
-  pub short : AllByRecursion (λ text. length text ≤ line_limit) texts
-  pub spelled : filter is_meant texts ≡ map header_line headers ++ (map turn_line turns ++ off_lines s.off)
+  pub short : AreShort s.serial false texts
+  pub spelled : filter is_meant texts ≡ serial_lines s.serial ++ (map header_line headers ++ (map turn_line turns ++ off_lines s.off))
   pub objects : objects_of headers ≡ s.objects
   pub procs : procs_of headers ≡ s.procs
   pub meant : map line_of turns ≡ s.lines
@@ -465,9 +480,9 @@ IsCallOfStranger s text =
 
 -- Why a line that comes after those of the script is at fault, if it is: too long before bad, and bad before unknown.
 abbrev pub IsFaultOf : Fault → Plan → List ℕ → Type 0
-IsFaultOf Fault.TooLong s text = line_limit < length text
-IsFaultOf Fault.UnknownProcess s text = (length text ≤ line_limit) × IsCallOfStranger s text
-IsFaultOf Fault.BadLine s text = (length text ≤ line_limit) × (IsCallOfStranger s text → ⊥)
+IsFaultOf Fault.TooLong s text = line_limit s.serial < length text
+IsFaultOf Fault.UnknownProcess s text = (length text ≤ line_limit s.serial) × IsCallOfStranger s text
+IsFaultOf Fault.BadLine s text = (length text ≤ line_limit s.serial) × (IsCallOfStranger s text → ⊥)
 
 -- The line of this number, counted from 1, is the first at fault, and so: those before it spell a script, and with it they spell none.
 pub record IsFirstFault (texts : List (List ℕ)) (n : ℕ) (fault : Fault) : Type 0 where

@@ -16,7 +16,7 @@ pub enum Fault {
     BadLine,
     /// It names a process that isn't there: the header doesn't have it, and no fork line before makes it.
     UnknownProcess,
-    /// It has more than 4,096 bytes.
+    /// It has more bytes than a line may have there: 4,096, and 200,000 behind a line `serial`.
     TooLong,
 }
 
@@ -38,7 +38,7 @@ pub enum ScriptFault {
     /// A line that names a process that isn't there: the header doesn't have it, and no fork line before makes it.
     #[error("line {0}: unknown process")]
     UnknownProcess(usize),
-    /// A line of more than 4,096 bytes.
+    /// A line of more bytes than it may have: 4,096, and 200,000 behind a line `serial`.
     #[error("line {0}: too long")]
     TooLong(usize),
     /// The script couldn't be opened, or read to its end, or the machine gave no random keys for hash maps.
@@ -53,6 +53,9 @@ pub enum ScriptFault {
     /// A line is of no process, or of one that has exited. No text spells such a script.
     #[error("stranger")]
     Stranger,
+    /// The script is to run in the order of its lines alone, and threads have no such order.
+    #[error("a serial script has one order, and no threads")]
+    OneOrder,
     /// Each process that has not exited waits, and nobody is left to wake one.
     #[error("deadlock: {0}")]
     Deadlock(Waiting),

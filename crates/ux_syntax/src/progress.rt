@@ -7,7 +7,7 @@ ghost use Rattle.ux_syntax.specs.Results.{FailsAt, GivesScript, Marks};
 ghost use Rattle.ux_syntax.specs.Continuing.{continued};
 
 use crate::fault::ScriptFault;
-use crate::reading::{LINE_LIMIT, Reader};
+use crate::reading::Reader;
 use crate::script::Script;
 use std::alloc::Global;
 
@@ -69,7 +69,7 @@ impl Progress {
         if byte == b'\n' {
             return self.end_line(alloc);
         }
-        if self.line.len() >= LINE_LIMIT {
+        if self.line.len() >= self.reader.script.line_limit() {
             return Err(ScriptFault::TooLong(self.number));
         }
         self.line.push(byte)?;

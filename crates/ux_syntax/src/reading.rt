@@ -4,7 +4,7 @@ ghost use Rattle.std.specs.Prelude.{◌≡◌, ◌==◌, true, not, length, map,
 ghost use Rattle.std.specs.List.{slice_split};
 ghost use Rattle.ux_syntax.specs.Spelling.{Plan, plan_of, SpellScript, IsOrderly, OneScript, lines_of, is_meant, asks_fork};
 ghost use Rattle.ux_syntax.specs.Turns.{is_known, awaits_known};
-ghost use Rattle.ux_syntax.specs.Reading.{words_at, item_at, may_fork, joined_by, joined_by_fork, line_at, no_lines, script_at};
+ghost use Rattle.ux_syntax.specs.Reading.{words_at, item_at, may_fork, is_unsaid, joined_by, joined_by_fork, line_at, no_lines, script_at};
 ghost use Rattle.ux_syntax.specs.Results.{IsAsRead, Leaves, GivesScript, Refuses, Marks};
 
 use crate::acts::act_of;
@@ -15,9 +15,6 @@ use crate::script::{Act, Header, Line, Script};
 use crate::words::Word;
 use std::alloc::{AllocError, Global};
 use ux_types::{MADE_LIMIT, Pid};
-
-/// How many bytes a line may have, without its line feed.
-pub(crate) const LINE_LIMIT: usize = 4096;
 
 /// What a line says.
 #[derive(Drop)]
@@ -30,6 +27,8 @@ enum Item {
     Line(Line),
     /// The end of the layer.
     Off,
+    /// That the script has one order alone.
+    Serial,
 }
 
 #[tactic(auto, unfolding(crate::specs::Reading::words_at))]
@@ -46,6 +45,10 @@ fn words_of(alloc: Global, number: usize, words: &[&[u8]]) -> Result<Item, LineE
     if first == b"off".as_slice() {
         end(rest)?;
         return Ok(Item::Off);
+    }
+    if first == b"serial".as_slice() {
+        end(rest)?;
+        return Ok(Item::Serial);
     }
     let pid = Pid(u32::of(alloc, first)?);
     let act = act_of(alloc, rest)?;
@@ -73,12 +76,12 @@ fn split_lines<'a>(alloc: Global, text: &'a [u8]) -> Result<Vec<&'a [u8]>, Alloc
     text.split(|b| *b == b'\n').collect(alloc)
 }
 
-/// What the line of this number says.
+/// What the line of this number says, which may have so many bytes.
 #[tactic(auto, unfolding(crate::specs::Reading::item_at))]
-fn item_of(alloc: Global, number: usize, text: &[u8]) -> Result<Item, LineError>
-    ensures { IsAsRead (λ item. item) result (item_at text.now) }
+fn item_of(alloc: Global, number: usize, limit: usize, text: &[u8]) -> Result<Item, LineError>
+    ensures { IsAsRead (λ item. item) result (item_at limit text.now) }
 {
-    if text.len() > LINE_LIMIT {
+    if text.len() > limit {
         return Err(LineError::Fault(Fault::TooLong));
     }
     if says_nothing(text) {
@@ -103,6 +106,7 @@ impl Reader {
     {
         Reader {
             script: Script {
+                serial: false,
                 objects: Vec::new(alloc),
                 procs: Vec::new(alloc),
                 lines: Vec::new(alloc),
@@ -151,7 +155,11 @@ impl Reader {
         requires { Marks (plan_of self.now.script) self.now.exited.items }
         ensures { result ≡ may_fork (plan_of self.now.script) pid.0 }
     {
-        pid.0 == 1 && self.exited.len() < MADE_LIMIT && self.knows(pid) && !self.exited[0]
+        let asked = self.script.serial || pid.0 == 1;
+        asked
+            && self.exited.len() < MADE_LIMIT
+            && self.knows(pid)
+            && !self.exited[pid.0 as usize - 1]
     }
 
     /// Adds a fork line, behind which there is one process more.
@@ -194,6 +202,30 @@ impl Reader {
         Ok(())
     }
 
+    /// Whether no line has said anything yet, but for `off`.
+    fn is_unsaid(&self) -> bool
+        ensures { result ≡ is_unsaid (plan_of self.now.script) }
+    {
+        let script = &self.script;
+        !script.serial
+            && script.objects.is_empty()
+            && script.procs.is_empty()
+            && script.lines.is_empty()
+    }
+
+    /// Gives the script one order alone, which the first line that says something may do.
+    fn add_serial(&mut self) -> Result<(), LineError>
+        requires { Marks (plan_of self.old.script) self.old.exited.items }
+        ensures reads { Leaves (plan_of self.new.script) result (joined_by (plan_of self.old.script) Item.Serial) }
+        ensures marks { OnOk result (Marks (plan_of self.new.script) self.new.exited.items) }
+    {
+        if !self.is_unsaid() {
+            return Err(BAD);
+        }
+        self.script.serial = true;
+        Ok(())
+    }
+
     /// Reads the line of this number and adds what it says.
     #[tactic(auto, unfolding(crate::specs::Reading::line_at))]
     pub(crate) fn read_line(
@@ -206,7 +238,7 @@ impl Reader {
         ensures reads { Leaves (plan_of self.new.script) result (line_at (plan_of self.old.script) text.now) }
         ensures marks { OnOk result (Marks (plan_of self.new.script) self.new.exited.items) }
     {
-        let item = item_of(alloc, number, text)?;
+        let item = item_of(alloc, number, self.script.line_limit(), text)?;
         if self.script.off && !matches!(item, Item::Skipped) {
             return Err(BAD);
         }
@@ -218,6 +250,7 @@ impl Reader {
                 self.script.off = true;
                 Ok(())
             }
+            Item::Serial => self.add_serial(),
         }
     }
 }
@@ -248,7 +281,8 @@ fn read_text(alloc: Global, text: &[u8]) -> Result<Script, ScriptFault>
 /// The script that a text spells. It takes time in proportion to the text.
 ///
 /// A script is lines that end at line feeds; the last may have none. Empty lines and those that begin
-/// with `#` are skipped, and counted. The words of a line stand one blank apart. The header comes first,
+/// with `#` are skipped, and counted. The words of a line stand one blank apart. A line `serial` may come first, which says
+/// that the calls are made in the order of the lines, and in no other. The header comes next,
 /// its lines in any order: `object p:NAME mem HEX`, `object p:NAME counter` and `object p:NAME pipe`,
 /// with `fail N` in front of the kind where the object's Nth read or write fails, number the file objects
 /// from 0, and `proc UID GID PRIV LIMIT` the processes from 1. Each further line
@@ -259,8 +293,10 @@ fn read_text(alloc: Global, text: &[u8]) -> Result<Script, ScriptFault>
 /// `send FD ADDR HEX CONTROL MFLAGS`, `recv FD N SPACE MFLAGS`, `poll FD`, `fork`, `exec`, `exit`, or `wait PID N`,
 /// which isn't a call: where processes are threads, the process goes on when that one has N entries or more, or has
 /// exited. Each `fork` makes one more process, whose number is the next: it is known to the lines behind that line,
-/// as their own process and as one that is waited for, and to none before. Process 1 alone may fork, and only where
-/// fewer than 1,024 processes are known: each other fork line is a bad line, and never one of an unknown process.
+/// as their own process and as one that is waited for, and to none before. Each process may fork in a
+/// script with the line `serial`, and process 1 alone in one without, and only where fewer than 1,024 processes are
+/// known: each other fork line is a bad line, and never one of an unknown process. A line may have 4,096 bytes, and
+/// 200,000 behind a line `serial`.
 /// A line `off` may come last. A send's ADDR may be `-` for none; its CONTROL is `-` for no bytes, `x:HEX` for
 /// these, or items joined by `+`: `c:PID,UID,GID` for credentials and `r:N,N,..` for descriptor numbers.
 ///

@@ -1,11 +1,17 @@
 //! Scripts: file objects, processes, and what their lines ask for.
 
 ghost use Rattle.std.specs.Prelude.{◌≡◌};
-ghost use Rattle.ux_syntax.specs.Spelling.{plan_of, known_count, asks_exit, asks_fork};
+ghost use Rattle.ux_syntax.specs.Spelling.{plan_of, known_count, line_limit, asks_exit, asks_fork};
 
 use std::marker::Model;
 use ux_object::ObjKind;
 use ux_types::{Bytes, Name, Pid, ProcSpec, Request};
+
+/// How many bytes a line may have, without its line feed.
+const LINE_LIMIT: usize = 4096;
+
+/// The same behind a line `serial`.
+const SERIAL_LINE_LIMIT: usize = 200_000;
 
 /// A file object that is there from the start: its path, its kind, and what a memory file starts with.
 #[derive(Debug, Drop)]
@@ -65,6 +71,8 @@ impl Model for Line {
 /// has number 1, and their lines in order.
 #[derive(Debug, Drop)]
 pub struct Script {
+    /// Whether its calls are made in the order of its lines, and in no other. Then any process may fork.
+    pub serial: bool,
     pub objects: Vec<ObjectLine>,
     pub procs: Vec<ProcSpec>,
     pub lines: Vec<Line>,
@@ -79,6 +87,17 @@ impl Script {
     {
         let forks = self.lines.iter().filter(|line| line.act.asks_fork());
         self.procs.len() + forks.count()
+    }
+
+    /// How many bytes a further line may have, without its line feed.
+    pub(crate) fn line_limit(&self) -> usize
+        ensures { result ≡ line_limit self.now.serial }
+    {
+        if self.serial {
+            SERIAL_LINE_LIMIT
+        } else {
+            LINE_LIMIT
+        }
     }
 }
 

@@ -7,6 +7,7 @@ mod options;
 mod readers;
 mod scripts;
 mod sends;
+mod serial;
 mod traces;
 mod waits;
 
@@ -31,6 +32,24 @@ fn addr_of(alloc: Global, form: char, name: &[u8]) -> Result<Addr, Fail> {
         'a' => Ok(Addr::Abstract(Name::from_slice(alloc, name)?)),
         _ => Ok(Addr::Unnamed),
     }
+}
+
+/// This front, filled up to so many bytes.
+fn filled(alloc: Global, front: &str, filler: char, count: usize) -> Result<String, Fail> {
+    let mut text = String::from_str(alloc, front)?;
+    for _ in front.len()..count {
+        text.push(filler)?;
+    }
+    Ok(text)
+}
+
+/// This line, so many times.
+fn repeated(alloc: Global, line: &str, count: usize) -> Result<String, Fail> {
+    let mut text = String::new(alloc);
+    for _ in 0..count {
+        text.push_str(line)?;
+    }
+    Ok(text)
 }
 
 /// Sees which fault a script has, if any.

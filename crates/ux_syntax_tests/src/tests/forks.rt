@@ -1,5 +1,5 @@
 //! Lines that fork and lines that begin a new program: what each asks for, and which are at fault.
-use super::{expect_bad_lines, expect_fault, expect_faults, expect_request};
+use super::{expect_bad_lines, expect_fault, expect_faults, expect_request, repeated};
 use std::alloc::Global;
 use std::process::Abort;
 use std::test::*;
@@ -101,15 +101,6 @@ fn a_fork_after_the_exit_of_its_process_or_after_off_is_a_bad_line(
     rt: HostRuntime,
 ) -> Result<(), Fail> {
     expect_faults(&rt, rt.alloc(), "proc 0 0 0 1\n", LATE_FORKS)
-}
-
-/// This line, so many times.
-fn repeated(alloc: Global, line: &str, count: usize) -> Result<String, Fail> {
-    let mut text = String::new(alloc);
-    for _ in 0..count {
-        text.push_str(line)?;
-    }
-    Ok(text)
 }
 
 /// Sees the fault of a script of so many processes, so many forks, and this last line.

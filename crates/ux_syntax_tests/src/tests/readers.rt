@@ -19,6 +19,8 @@ fn faults_have_their_texts(rt: HostRuntime) {
     expect_told(&rt, alloc, &ScriptFault::Writing, "writing failed");
     expect_told(&rt, alloc, &ScriptFault::NoMemory, "out of memory");
     expect_told(&rt, alloc, &ScriptFault::Stranger, "stranger");
+    let serial = "a serial script has one order, and no threads";
+    expect_told(&rt, alloc, &ScriptFault::OneOrder, serial);
 }
 
 /// A reader whose reads fail.

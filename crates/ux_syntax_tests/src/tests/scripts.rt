@@ -1,5 +1,5 @@
 //! Whole scripts: what their text gives, and which line is at fault.
-use super::{expect_bad_lines, expect_fault, expect_faults};
+use super::{expect_bad_lines, expect_fault, expect_faults, filled};
 use std::alloc::Global;
 use std::process::Abort;
 use std::test::*;
@@ -196,15 +196,6 @@ fn off_comes_last(rt: HostRuntime) -> Result<(), Fail> {
         assert_eq!(rt; script.off, *off, "{text}");
     }
     Ok(())
-}
-
-/// This front, filled up to so many bytes.
-fn filled(alloc: Global, front: &str, filler: char, count: usize) -> Result<String, Fail> {
-    let mut text = String::from_str(alloc, front)?;
-    for _ in front.len()..count {
-        text.push(filler)?;
-    }
-    Ok(text)
 }
 
 /// Sees the fault of a script whose second line begins so, is filled up to so many bytes, and ends so.
