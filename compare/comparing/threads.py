@@ -142,6 +142,9 @@ def compare_threads(bench: Bench, path: Path, user: int) -> ThreadsOutcome:
     text = path.read_text("latin-1")
     script = parse(text)
     try:
+        if script.is_serial:
+            outcome.left_out = "a serial script has one order"
+            return outcome
         if any(made.fails_at for made in script.objects):
             outcome.left_out = "objects that fail count each attempt"
             return outcome

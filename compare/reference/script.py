@@ -40,6 +40,7 @@ class Script:
     processes: list[ProcessLine] = field(default_factory=list)
     calls: list[CallLine] = field(default_factory=list)
     has_end: bool = False
+    is_serial: bool = False
 
 
 def bytes_of(hex_word: str) -> bytes:
@@ -70,6 +71,8 @@ def parse(text: str) -> Script:
             script.objects.append(read_object(words))
         elif words[0] == "proc":
             script.processes.append(read_process(words))
+        elif words[0] == "serial":
+            script.is_serial = True
         elif words[0] == "off":
             script.has_end = True
         elif words[1] != "wait":

@@ -17,21 +17,31 @@ void set_limit(unsigned long limit) {
     if (setrlimit(RLIMIT_NOFILE, &both) < 0) _exit(2);
 }
 
-/* A line from the parent, with the descriptor that came with it, at the lowest free number. It answers 0 at the end. */
-static int hear(char *line) {
+/* A piece of a line from the parent, and the descriptor that came with it, at the lowest free number. */
+static ssize_t hear_piece(char *piece, size_t room) {
     union {
         char bytes[CMSG_SPACE(sizeof(int))];
         struct cmsghdr aligned;
     } beside;
-    struct iovec bytes = {line, LINE + 64};
+    struct iovec bytes = {piece, room};
     struct msghdr message = {.msg_iov = &bytes, .msg_iovlen = 1, .msg_control = &beside};
     message.msg_controllen = sizeof beside;
     ssize_t count = recvmsg(CHANNEL, &message, 0);
-    if (count <= 0) return 0;
-    line[count] = 0;
-    passed = -1;
-    struct cmsghdr *item = CMSG_FIRSTHDR(&message);
+    struct cmsghdr *item = count > 0 ? CMSG_FIRSTHDR(&message) : NULL;
     if (item) memcpy(&passed, CMSG_DATA(item), sizeof passed);
+    return count;
+}
+
+/* A line from the parent, up to its line feed. It answers 0 at the end. */
+static int hear(char *line) {
+    size_t length = 0;
+    passed = -1;
+    do {
+        ssize_t count = hear_piece(line + length, LINE + 128 - length);
+        if (count <= 0) return 0;
+        length += (size_t)count;
+    } while (line[length - 1] != '\n');
+    line[length - 1] = 0;
     return 1;
 }
 

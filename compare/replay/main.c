@@ -125,12 +125,23 @@ static void take_line(const char *line, unsigned row) {
     else run_line(line);
 }
 
+/* A line `serial` is the first that says anything, and of a run in which the processes don't go on by themselves. */
+static void check_serial(int has_said) {
+    if (has_said) give_up("a bad line");
+    if (shared->waits) give_up("a serial script has one order");
+}
+
 static void run_script(char *text) {
-    int has_begun = 0, has_end = 0;
+    int has_begun = 0, has_end = 0, has_said = 0;
     unsigned row = 0;
     for (char *line; (line = strsep(&text, "\n"));) {
         row++;
         if (line[0] == 0 || line[0] == '#') continue;
+        if (strcmp(line, "serial") == 0) {
+            check_serial(has_said++);
+            continue;
+        }
+        has_said = 1;
         int is_header = strncmp(line, "object ", 7) == 0 || strncmp(line, "proc ", 5) == 0;
         if (is_header && has_begun) give_up("a bad line");
         if (is_header) {

@@ -48,18 +48,26 @@ static void make_processes(void) {
     }
 }
 
-/* Hands a process a line, and beside it a descriptor where there is one. */
+/* Hands a process a line in pieces, the last of which ends at a line feed, and beside the first a descriptor where there is
+ * one. */
 static void tell(const struct process *process, const char *line, int beside) {
     union {
         char bytes[CMSG_SPACE(sizeof(int))];
         struct cmsghdr aligned;
     } item = {.aligned = {.cmsg_len = CMSG_LEN(sizeof(int)), .cmsg_level = SOL_SOCKET, .cmsg_type = SCM_RIGHTS}};
-    struct iovec bytes = {(char *)line, strlen(line)};
-    struct msghdr message = {.msg_iov = &bytes, .msg_iovlen = 1};
+    size_t rest = strlen(line);
     memcpy(CMSG_DATA(&item.aligned), &beside, sizeof beside);
-    if (beside >= 0) message.msg_control = &item;
-    if (beside >= 0) message.msg_controllen = sizeof item;
-    if (sendmsg(process->channel, &message, 0) < 0) give_up("a process is gone");
+    do {
+        size_t piece = rest < CHUNK ? rest : CHUNK;
+        struct iovec bytes[] = {{(char *)line, piece}, {(char *)"\n", rest == piece}};
+        struct msghdr message = {.msg_iov = bytes, .msg_iovlen = 2};
+        if (beside >= 0) message.msg_control = &item;
+        if (beside >= 0) message.msg_controllen = sizeof item;
+        if (sendmsg(process->channel, &message, 0) < 0) give_up("a process is gone");
+        beside = -1;
+        line += piece;
+        rest -= piece;
+    } while (rest > 0);
 }
 
 /* Waits until a process says something, or ends. */

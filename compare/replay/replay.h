@@ -1,4 +1,5 @@
-/* What the files of the replay share. A child is one process of the script, its parent hands it the script's lines. */
+/* What the files of the replay share. A child is one process of the script, its parent hands it the script's lines. A LINE
+ * is the longest that a script may have, behind the line `serial`. */
 #ifndef REPLAY_H
 #define REPLAY_H
 #define _GNU_SOURCE
@@ -12,7 +13,7 @@
 
 enum {
     MOST_PROCESSES = 1024, MOST_OBJECTS = 64, MOST_DESCRIPTORS = 4096, CHANNEL = MOST_DESCRIPTORS, MEMORY, HANDED,
-    MOST_USERS = 64, MOST_WORDS = 8, LINE = 4096, MOST_BYTES = 1 << 20, CHUNK = 1 << 16, MOST_CONTROL = 1 << 16, MOST_ALIASES = 8192,
+    MOST_USERS = 64, MOST_WORDS = 8, LINE = 200000, MOST_BYTES = 1 << 20, CHUNK = 1 << 16, MOST_CONTROL = 1 << 21, MOST_ALIASES = 8192,
     PREFIX = 9, KEPT_LENGTH = 90, SECONDS = 10, NO_DESCRIPTOR = INT_MAX, NO_PROCESS = 0x7ffffff0, MOST_TOLD_APART = 100
 };
 
