@@ -71,8 +71,7 @@ def tell_copy(step, number):
 
 def tell_got(step, sent, number):
     if step.role is Role.HAND_OVER:
-        name = step.block.call.name if step.block.call is not None else ""
-        return f"inherited at fork from {sent.block.program}{at_line(step)}" if "id" not in name else f"kept over {name}{at_line(step)}"
+        return f"kept over {step.block.call.name}{at_line(step)}" if step.block.call is not None else "kept"
     socket = sent.words.split(" ")[1]
     return (f"passed by {sent.block.program} over its {socket}{at_line(sent)} "
             f"and received by {step.block.program} as {number}{at_line(step)}")

@@ -1,7 +1,7 @@
 """What reads and writes have in common: their bytes, and whether a descriptor is one that they are said of."""
 from reading.words import Text, after, number_of
 from .descriptors import note_of, on_unix
-from .model import Kind
+from .model import WHOLE, Kind
 from .sockets import skipped
 
 PIECE = 1900
@@ -42,7 +42,8 @@ def sayable(world, block, process, value, name):
 
 
 def shortened(description, data):
-    return data[:PIECE] if description.kind in (Kind.DATAGRAM, Kind.RECORDS) else data
+    """What the layer takes of a message, which is no more than its queue of a stream holds."""
+    return data[:WHOLE] if description.kind in (Kind.DATAGRAM, Kind.RECORDS) else data
 
 
 def taken(description, count):

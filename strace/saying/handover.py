@@ -1,12 +1,10 @@
-"""Makes processes: process 1 of the layer forks; any other hands its table to a process of the header in a message.
+"""Makes processes: any process of the script forks, as it is serial; one that changes its user hands its table over.
 
-A script's fork is for process 1 alone. So a child of another process stands in the header, and gets its parent's
-descriptors by a datagram with rights; the same way a process that changes its user goes on as another of the header.
-Where the layer forks from any process, `fork` is all that changes here."""
+No process of the layer changes its user. So one that does goes on as another of the header, which gets its descriptors
+by a datagram with rights."""
 from .model import Process, Role, Slot, mark
 
 MOST_RIGHTS = 253
-HEADER_FORKS = 40
 
 
 def chunks(values, size):
@@ -25,34 +23,13 @@ def fork(world, block, parent, thread):
     if parent.unsaid or parent.seat is None:
         child.unsaid = parent.unsaid
         return child
-    if parent.seat.key == 0:
-        child.seat = world.new_seat(parent.user, parent.group, child, forked=True)
-        if child.seat:
-            world.step(block, parent.seat, "fork", f"child {mark(child.seat)}")
+    child.seat = world.new_seat(parent.user, parent.group, child, forked=True)
+    if child.seat:
+        world.step(block, parent.seat, "fork", f"child {mark(child.seat)}")
     else:
-        child.seat = seat_for(world, block, parent, child)
-        if child.seat:
-            hand_over(world, block, parent.seat, child.seat, table)
-            block.otherwise("a fork by another process than the first: its table is handed over")
-    if child.seat is None:
         child.unsaid = "more processes than a script has"
         block.not_at_all(child.unsaid)
     return child
-
-
-def seat_for(world, block, parent, child):
-    """A process of the header; where that has many already, one that process 1 forks, and that closes all it got."""
-    first = world.seats[0]
-    owner = first.process
-    headers = sum(not seat.forked for seat in world.seats)
-    if headers < HEADER_FORKS or owner.over or owner.seat is not first or (first.user, first.group) != (parent.user, parent.group):
-        return world.new_seat(parent.user, parent.group, child)
-    seat = world.new_seat(parent.user, parent.group, child, forked=True)
-    if seat:
-        world.step(block, first, "fork", f"child {mark(seat)}", role=Role.HAND_OVER)
-        for number in sorted(owner.table):
-            world.step(block, seat, f"close {number}", role=Role.HAND_OVER)
-    return seat
 
 
 def change_user(world, block, process, user, group):

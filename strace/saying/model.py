@@ -3,6 +3,9 @@ from dataclasses import dataclass, field
 from enum import Enum
 
 
+WHOLE = 65536
+
+
 class Kind(Enum):
     """What a description is in the layer."""
     STREAM = "stream"
@@ -91,7 +94,7 @@ class Slot:
 
 @dataclass(slots=True, eq=False)
 class Seat:
-    """A process of the layer. `forked` says that process 1's fork makes it; else the header has it."""
+    """A process of the layer. `forked` says that a fork makes it; else the header has it."""
     key: int
     user: int
     group: int

@@ -4,9 +4,8 @@ What such a peer sends is known once the program receives it, and a poll may tel
 twice: the first pass keeps what was received of each, the second sends it where it was first seen."""
 from dataclasses import dataclass, field
 
-from .model import Description, Kind, Process, Role
+from .model import WHOLE, Description, Kind, Process, Role
 
-PIECE = 1900
 LABEL = "outside of the log"
 MOST = 1048576
 
@@ -217,7 +216,7 @@ class Outside:
             parts.append(f"c:\0{process.seat.key}\0,{arrival.credentials[0]},{arrival.credentials[1]}")
         control = "+".join(parts) or "-"
         data = arrival.data
-        size = PIECE if outer.kind is Kind.STREAM else MOST
+        size = WHOLE if outer.kind is Kind.STREAM else MOST
         for at in range(0, max(len(data), 1), size):
             self.line(block, process, f"send {number} {outer.target or '-'} {data[at:at + size].hex() or '-'} {control} -")
             control = "-"

@@ -4,7 +4,7 @@ import re
 from reading.words import after, flags_of, number_of, room_of
 from .contents import PIECE, data_of, hexadecimal, hidden, sayable, shortened, taken
 from .descriptors import FORGETS, note_of
-from .model import Description, Kind, Slot
+from .model import WHOLE, Description, Kind, Slot
 from .notes import inode_of, kind_of
 from .outside import Arrival
 from .sockets import outside, told_address
@@ -86,7 +86,7 @@ def receive_message(world, block, process, number, slot, message, flags, result)
     """One message, whose space for control data is guessed from what came: strace shows what is left of it alone."""
     if not isinstance(message, dict):
         if result.error:
-            receive(world, block, process, number, slot, PIECE, 0, b"", flags, result, ("?", "?", "?"), [])
+            receive(world, block, process, number, slot, WHOLE, 0, b"", flags, result, ("?", "?", "?"), [])
         else:
             hidden(world, block, slot, "a message that the log doesn't show")
         return
@@ -152,7 +152,7 @@ def receive(world, block, process, number, slot, length, space, data, flags, res
                f"got {count} {hexadecimal(data)} {told[0]} {items} {told[2]}", description)
     if rest:
         world.step(block, process.seat, f"recv {number} {len(rest)} 0 d", f"got {len(rest)} {hexadecimal(rest)} ? ? ?", description)
-        block.otherwise("in pieces: too long for a line")
+        block.otherwise("in pieces: it was sent so")
     if "p" not in letters:
         taken(description, len(data) + len(rest or b""))
     install(world, block, process, low, came, "x" in letters)
@@ -207,7 +207,7 @@ def say_recvmmsg(world, block, process, args, result):
         return
     flags = flags_of(args[3])
     if result.error:
-        receive(world, block, process, number_of(args[0]), slot, PIECE, 0, b"", flags, result, ("?", "?", "?"), [])
+        receive(world, block, process, number_of(args[0]), slot, WHOLE, 0, b"", flags, result, ("?", "?", "?"), [])
         return
     for one in (after(args[1]) or [])[:result.value]:
         length = number_of(one.get("msg_len"), 0)

@@ -1,4 +1,4 @@
-"""Writes a script: the blocks in their order, the processes numbered, and the header that they need."""
+"""Writes a script: the blocks in their order, the processes numbered, and the header that they need, `serial` first."""
 import re
 from dataclasses import dataclass
 
@@ -6,7 +6,7 @@ from .world import OUTSIDE
 
 MARK = re.compile("\0(\\d+)\0")
 LIMIT = 4096
-LONGEST_LINE = 4096
+LONGEST_LINE = 200000
 
 
 @dataclass
@@ -32,10 +32,11 @@ class Script:
 
 
 def header_of(world):
-    lines = [f"object {OUTSIDE} mem -"]
-    lines += [f"object {thing.name} {thing.kind.value}{' -' if thing.kind.value == 'mem' else ''}" for thing in world.things]
-    room = 64 - len(lines)
-    lines += [f"object {word} mem -" for word in dict.fromkeys(world.names.files[:room])]
+    objects = [f"object {OUTSIDE} mem -"]
+    objects += [f"object {thing.name} {thing.kind.value}{' -' if thing.kind.value == 'mem' else ''}" for thing in world.things]
+    room = 64 - len(objects)
+    objects += [f"object {word} mem -" for word in dict.fromkeys(world.names.files[:room])]
+    lines = ["serial", *objects]
     seats = [seat for seat in world.seats if not seat.forked]
     for number, seat in enumerate(seats, 1):
         seat.number = number

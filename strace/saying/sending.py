@@ -2,10 +2,11 @@
 from reading.words import after, flags_of, number_of
 from .contents import PIECE, data_of, hexadecimal, hidden, sayable
 from .descriptors import FORGETS, note_of
-from .model import Kind
+from .model import WHOLE, Kind
 from .sockets import address, outside
 from .world import HIGHEST, says
 
+KERNEL_PIECE = 32768
 SEND_SKIPS = {"MSG_NOSIGNAL", "MSG_MORE", "MSG_CONFIRM", "MSG_BATCH"}
 
 
@@ -20,20 +21,29 @@ def say_write(world, block, process, args, result):
     put(world, block, process, number_of(args[0]), slot.description, data, result, lambda piece: f"write {number_of(args[0])} {piece}")
 
 
+def fits(description, count):
+    """Whether so many bytes find room at once, as far as the log tells what is unread."""
+    if description.kind in (Kind.DATAGRAM, Kind.RECORDS):
+        return True
+    unread = description.thing.level if description.kind is Kind.PIPE and description.thing else sum(description.unread)
+    return unread + count <= WHOLE
+
+
 def put(world, block, process, number, description, data, result, words_of, target=None):
-    """Sends bytes, in pieces where a line of a script can't hold them."""
+    """Sends bytes, in pieces where the layer hasn't room for all; the answer is whether it did so."""
     if result.error:
         if result.error == "EPIPE" and description.outer is not None:
             world.outside.close(block, description.outer)
-        world.step(block, process.seat, words_of(hexadecimal(data[:PIECE])), f"err {result.error}", description)
-        return
+        world.step(block, process.seat, words_of(hexadecimal(data[:WHOLE])), f"err {result.error}", description)
+        return False
     data = data[:result.value] if description.kind is Kind.STREAM or not description.kind.is_socket else data
-    if description.kind in (Kind.DATAGRAM, Kind.RECORDS) and len(data) > PIECE:
-        data = data[:PIECE]
-        block.otherwise("a message shortened: too long for a line")
-    pieces = [data[at:at + PIECE] for at in range(0, len(data), PIECE)] or [b""]
+    if description.kind in (Kind.DATAGRAM, Kind.RECORDS) and len(data) > WHOLE:
+        data = data[:WHOLE]
+        block.otherwise("a message shortened: longer than the layer takes")
+    size = WHOLE if fits(description, len(data)) else PIECE
+    pieces = [data[at:at + size] for at in range(0, len(data), size)] or [b""]
     if len(pieces) > 1:
-        block.otherwise("in pieces: too long for a line")
+        block.otherwise("in pieces: no room for all at once")
     parts = world.parts(block, len(pieces)) if block.call.begin < block.call.end else [block] * len(pieces)
     for piece, part in zip(pieces, parts):
         count = 8 if description.kind is Kind.COUNTER else len(piece)
@@ -47,6 +57,7 @@ def put(world, block, process, number, description, data, result, words_of, targ
         description.unread.append(len(data))
     elif description.thing is not None:
         description.thing.level += len(data)
+    return len(pieces) > 1
 
 
 def control_of(world, block, process, items):
@@ -109,13 +120,13 @@ def send(world, block, process, number, slot, data, where, items, flags, result)
     def words_of(piece):
         return f"send {number} {word} {piece} {first.pop() if first else '-'} {letters}"
     target = world.names.bound.get(word)
-    put(world, block, process, number, slot.description, data, result, words_of, target)
+    in_pieces = put(world, block, process, number, slot.description, data, result, words_of, target)
     if not result.error and target is not None and target.outer is not None:
         world.outside.drain(block, target.outer, 1)
     if not result.error:
         goes_outside = any(one is not None and one.outer is not None for one in (target, slot.description))
         fly(world, block, process, rights, goes_outside)
-        slot.description.is_split = slot.description.is_split or bool(rights) and len(data) > PIECE
+        slot.description.is_split = slot.description.is_split or bool(rights) and (in_pieces or len(data) > KERNEL_PIECE)
 
 
 @says("sendto", "send")

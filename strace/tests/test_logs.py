@@ -40,5 +40,54 @@ class Logs(unittest.TestCase):
                 self.assertEqual(shown(got), script)
 
 
+HEAD = "# recorded 1\n# folder /\n# user 1000 100\n"
+PAIR = "9 1.1 socketpair(AF_UNIX, SOCK_STREAM, 0, [0<UNIX-STREAM:[7->8]>, 1<UNIX-STREAM:[8->7]>]) = 0\n"
+RIGHTS = 'msg_control=[{cmsg_len=20, cmsg_level=SOL_SOCKET, cmsg_type=SCM_RIGHTS, cmsg_data=[%d<UNIX-STREAM:[7->8]>]}], msg_controllen=24'
+
+
+def message(number, count, right):
+    """What strace says of sendmsg or recvmsg of so many bytes and a descriptor."""
+    return (f'({number}<UNIX-STREAM:[{number + 7}->{8 - number}]>, {{msg_name=NULL, msg_namelen=0, '
+            f'msg_iov=[{{iov_base="{"a" * count}", iov_len={count}}}], msg_iovlen=1, {RIGHTS % right}, msg_flags=0}}, 0) = {count}\n')
+
+
+class LargeSends(unittest.TestCase):
+    def calls(self, log):
+        """The lines behind the first call with the replies that are expected, their bytes counted."""
+        lines = shown(said(HEAD + log)[0]).splitlines()
+        start = next(place for place, line in enumerate(lines) if " pair " in line)
+        return [" ".join(f"*{len(word) // 2}" if word.startswith("6161") else word for word in line.split(" ")) for line in lines[start + 1:]]
+
+    def test_what_finds_room_goes_at_once(self):
+        log = PAIR + f'9 1.2 write(0<UNIX-STREAM:[7->8]>, "{"a" * 65536}", 65536) = 65536\n'
+        self.assertEqual(self.calls(log), ["# n 65536", "1 write 0 *65536"])
+
+    def test_what_finds_no_room_goes_in_pieces(self):
+        log = PAIR + (f'9 1.2 write(0<UNIX-STREAM:[7->8]>, "{"a" * 62000}", 62000) = 62000\n'
+                      f'9 1.3 write(0<UNIX-STREAM:[7->8]>, "{"a" * 3900}", 3900) = 3900\n')
+        self.assertEqual(self.calls(log), ["# n 62000", "1 write 0 *62000", "# n 1900", "1 write 0 *1900", "# n 1900", "1 write 0 *1900",
+                                           "# n 100", "1 write 0 *100"])
+
+    def test_what_was_read_makes_room(self):
+        log = PAIR + (f'9 1.2 write(0<UNIX-STREAM:[7->8]>, "{"a" * 62000}", 62000) = 62000\n'
+                      f'9 1.3 read(1<UNIX-STREAM:[8->7]>, "{"a" * 2000}", 2000) = 2000\n'
+                      f'9 1.4 write(0<UNIX-STREAM:[7->8]>, "{"a" * 3900}", 3900) = 3900\n')
+        self.assertEqual(self.calls(log)[-2:], ["# n 3900", "1 write 0 *3900"])
+
+    def test_a_datagram_of_more_than_the_layer_takes_is_shortened(self):
+        log = ('9 1.1 socketpair(AF_UNIX, SOCK_DGRAM, 0, [0<UNIX:[7]>, 1<UNIX:[8]>]) = 0\n'
+               f'9 1.2 write(0<UNIX:[7]>, "{"a" * 65537}", 65537) = 65537\n')
+        self.assertEqual(self.calls(log), ["# n 65536", "1 write 0 *65536"])
+
+    def test_rights_go_with_all_bytes_of_their_send(self):
+        log = PAIR + "9 1.2 sendmsg" + message(0, 5000, 0) + "9 1.3 recvmsg" + message(1, 5000, 2)
+        self.assertEqual(self.calls(log), ["# n 5000", "1 send 0 - *5000 r:0 -", "# got 5000 *5000 - r:2 ?", "1 recv 1 5000 4096 -"])
+
+    def test_rights_of_a_send_that_the_kernel_makes_in_pieces_come_with_the_first(self):
+        log = PAIR + "9 1.2 sendmsg" + message(0, 40000, 0) + "9 1.3 recvmsg" + message(1, 36544, 2)
+        self.assertEqual(self.calls(log), ["# n 40000", "1 send 0 - *40000 r:0 -", "# got 1900 *1900 - r:2 ?", "1 recv 1 1900 4096 -",
+                                           "# got 34644 *34644 ? ? ?", "1 recv 1 34644 0 d"])
+
+
 if __name__ == "__main__":
     unittest.main()
