@@ -116,6 +116,7 @@ const SCRIPTS: &[&str] = &[
     "which_calls_fail",
     "exec_closes_what_is_marked",
     "child_at_the_other_end",
+    "children_fork_too",
 ];
 
 /// A file object as a kernel holds it.
