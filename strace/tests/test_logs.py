@@ -51,12 +51,17 @@ def message(number, count, right):
             f'msg_iov=[{{iov_base="{"a" * count}", iov_len={count}}}], msg_iovlen=1, {RIGHTS % right}, msg_flags=0}}, 0) = {count}\n')
 
 
+def counted(word):
+    """A word, of many bytes alone how many they are."""
+    return f"*{len(word) // 2}" if word.startswith("6161") else word
+
+
 class LargeSends(unittest.TestCase):
     def calls(self, log):
         """The lines behind the first call with the replies that are expected, their bytes counted."""
         lines = shown(said(HEAD + log)[0]).splitlines()
         start = next(place for place, line in enumerate(lines) if " pair " in line)
-        return [" ".join(f"*{len(word) // 2}" if word.startswith("6161") else word for word in line.split(" ")) for line in lines[start + 1:]]
+        return [" ".join(map(counted, line.split(" "))) for line in lines[start + 1:]]
 
     def test_what_finds_room_goes_at_once(self):
         log = PAIR + f'9 1.2 write(0<UNIX-STREAM:[7->8]>, "{"a" * 65536}", 65536) = 65536\n'
