@@ -92,6 +92,39 @@ off
 ",
 );
 
+/// The number of a child is the next that no process has, whoever forks: one of a child and of a grandchild, too.
+const FORKS_OF_CHILDREN: (&str, &str) = (
+    "serial
+proc 1000 1000 0 16
+1 pair stream -
+1 fork
+2 fork
+3 fork
+4 send 0 - 6869 - -
+3 recv 1 8 0 -
+2 fork
+5 close 0
+1 fork
+6 exit
+",
+    "0 1 0 pair = fds 0 1
+1 1 1 fork = child 2
+2 2 0 fork = child 3
+3 3 0 fork = child 4
+4 4 0 send = n 2
+5 3 1 recv = got 2 6869 - - -
+6 2 1 fork = child 5
+7 5 0 close = ok
+8 1 2 fork = child 6
+9 6 0 exit = ok
+10 1 3 exit = ok
+11 2 2 exit = ok
+12 3 2 exit = ok
+13 4 1 exit = ok
+14 5 1 exit = ok
+",
+);
+
 /// Holds what it took. It takes at most `most` bytes a call, and fails at the write of the number
 /// `fails_at`, counted from 1, or at a flush.
 #[derive(Drop)]
@@ -177,6 +210,8 @@ const TRACES: &[(&str, &str)] = &[
     PEEK_RESET_AND_BROKEN_PIPE,
     TWO_PROCESSES,
     ENDED_LAYER,
+    FORKS_OF_CHILDREN,
+    ("serial\n", ""),
     ("", ""),
 ];
 
@@ -355,6 +390,7 @@ fn a_trace_that_is_refused_memory_is_begun(rt: HostRuntime) -> Result<(), Fail> 
 fn a_call_of_nobody_is_a_stranger(rt: HostRuntime) -> Result<(), Fail> {
     let alloc = rt.alloc();
     let mut script = Script {
+        serial: false,
         objects: Vec::new(alloc),
         procs: Vec::new(alloc),
         lines: Vec::new(alloc),

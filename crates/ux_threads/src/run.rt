@@ -1,7 +1,7 @@
 //! A run of a script by threads, from its kernel to its trace.
-ghost use Rattle.std.specs.Prelude.{◌≡◌, ◌≤◌, ◌⊎◌, ℕ, [], true, false, length, map, IfOk, IfErr};
+ghost use Rattle.std.specs.Prelude.{◌≡◌, ◌≤◌, ◌⊎◌, ◌↔◌, ℕ, [], true, false, length, map, Err, IfOk, IfErr};
 ghost use Rattle.ux_model.specs.Limits.{made_limit};
-ghost use Rattle.std.specs.Io.KnownBytes.{Appends};
+ghost use Rattle.std.specs.Io.KnownBytes.{Appends, Keeps};
 ghost use Rattle.ux_model.specs.Boot.{IsBootState, new_process};
 ghost use Rattle.ux_model.specs.History.{IsLegal};
 ghost use Rattle.ux_syntax.specs.Spelling.{plan_of, known_count};
@@ -36,7 +36,7 @@ use ux_types::{Entry, MADE_LIMIT, Pid};
 /// `Writing`; `NoMemory`, also where a thread can't be started or a fork makes no process; `Stranger` for a script that
 /// no text spells, whose calls can't all be made, as where another process than the first forks;
 /// `Deadlock` where every process that hasn't exited waits, with the lines in which they do: the run ends there,
-/// and the trace so far is written.
+/// and the trace so far is written. `OneOrder` for a script with the line `serial`, of which nothing is run.
 pub fn run_threads<O: FileObject + Send, G: Gate, Out: Write>(
     rt: &(impl Threads + Wait + Sync),
     alloc: Global,
@@ -57,8 +57,15 @@ pub fn run_threads<O: FileObject + Send, G: Gate, Out: Write>(
     ensures beginning { IfErr result (λ f. is_deadlock f ≡ false → WritesBeginning kernel (plan_of script.now) (Out.contents writer.old) (Out.contents writer.new)) }
     // Where every process waits, a beginning of the trace of a history that has begun as such a run.
     ensures begun { IfErr result (λ f. is_deadlock f ≡ true → WritesBegun kernel (plan_of script.now) (Out.contents writer.old) (Out.contents writer.new)) }
-    ensures fault { IfErr result (λ f. is_deadlock f ≡ false → IsRunFault f) }
+    // A script that is to run in the order of its lines alone is refused, and no other is for that reason.
+    ensures refused { (result ≡ Err ScriptFault.OneOrder) ↔ (script.now.serial ≡ true) }
+    // Nothing of it is written.
+    ensures unwritten { script.now.serial ≡ true → Keeps (Out.contents writer.old) (Out.contents writer.new) }
+    ensures fault { IfErr result (λ f. is_deadlock f ≡ false → script.now.serial ≡ false → IsRunFault f) }
 {
+    if script.serial {
+        return Err(ScriptFault::OneOrder);
+    }
     let Ok(trail) = Trail::new(alloc) else {
         return Err(ScriptFault::NoMemory);
     };

@@ -1,4 +1,4 @@
-//! Forks that are never made, and one of another process than the first.
+//! Forks that are never made, one of another process than the first, and a script in which each process may fork.
 
 use super::{RUNS, history_of, kernel_of, repeat};
 use std::test::Fail;
@@ -38,6 +38,26 @@ fn a_fork_of_another_process_is_a_strangers(rt: HostRuntime) -> Result<(), Fail>
     let mut written: Vec<u8> = Vec::new(alloc);
     let told = run_threads(&rt, alloc, &script, &mut written, kernel, &NoGate);
     assert!(rt; matches!(told, Err(ScriptFault::Stranger)));
+    assert!(rt; written.is_empty());
+    Ok(())
+}
+
+/// A script that has one order alone.
+const SERIAL: &str = "serial
+proc 1000 1000 0 16
+1 pair stream -
+1 fork
+2 fork
+";
+
+#[test]
+fn a_serial_script_is_not_run_by_threads(rt: HostRuntime) -> Result<(), Fail> {
+    let alloc = rt.alloc();
+    let script = parse_script(alloc, SERIAL.as_bytes())?;
+    let kernel = kernel_of(alloc, &script)?;
+    let mut written: Vec<u8> = Vec::new(alloc);
+    let told = run_threads(&rt, alloc, &script, &mut written, kernel, &NoGate);
+    assert!(rt; matches!(told, Err(ScriptFault::OneOrder)));
     assert!(rt; written.is_empty());
     Ok(())
 }
