@@ -21,7 +21,7 @@ pub(crate) const LINE_LIMIT: usize = 4096;
 
 /// What a line says.
 #[derive(Drop)]
-enum Item {
+pub(crate) enum Item {
     /// Nothing: it is empty or a comment.
     Skipped,
     /// A line of the header.
@@ -67,7 +67,7 @@ fn split_words<'a>(alloc: Global, text: &'a [u8]) -> Result<Vec<&'a [u8]>, Alloc
     text.split(|b| *b == b' ').collect(alloc)
 }
 
-fn split_lines<'a>(alloc: Global, text: &'a [u8]) -> Result<Vec<&'a [u8]>, AllocError>
+pub(crate) fn split_lines<'a>(alloc: Global, text: &'a [u8]) -> Result<Vec<&'a [u8]>, AllocError>
     ensures { IfOk result (λ lines. map (λ l. l.now) lines.items ≡ lines_of text.now) }
 {
     text.split(|b| *b == b'\n').collect(alloc)
@@ -75,7 +75,7 @@ fn split_lines<'a>(alloc: Global, text: &'a [u8]) -> Result<Vec<&'a [u8]>, Alloc
 
 /// What the line of this number says.
 #[tactic(auto, unfolding(crate::specs::Reading::item_at))]
-fn item_of(alloc: Global, number: usize, text: &[u8]) -> Result<Item, LineError>
+pub(crate) fn item_of(alloc: Global, number: usize, text: &[u8]) -> Result<Item, LineError>
     ensures { IsAsRead (λ item. item) result (item_at text.now) }
 {
     if text.len() > LINE_LIMIT {
