@@ -28,14 +28,16 @@ comes [] (e ∷ es) (suc i) d lt =
     let next = comes [] es i d (omega (arith, lt)) in
     record {
       rest = next.rest;
-      whole = behind (echo_line None e) (echo [] es) (echo [] (take i es)) _ next.rest next.whole;
-      more = behind_more (echo_line None e) (echo [] (take (suc i) es)) (echo [] (take i es)) _ next.more }
+      whole = behind (echo_line None e) (echo [] es) (echo [] (take i es)) (echo_line None (get_or es i d)) next.rest next.whole;
+      more = behind_more (echo_line None e) (echo [] (take (suc i) es)) (echo [] (take i es)) _ next.more;
+    }
 comes (n ∷ ns) (e ∷ es) (suc i) d lt =
     let next = comes ns es i d (omega (arith, lt)) in
     record {
       rest = next.rest;
-      whole = behind (echo_line n e) (echo ns es) (echo ns (take i es)) _ next.rest next.whole;
-      more = behind_more (echo_line n e) (echo ns (take (suc i) es)) (echo ns (take i es)) _ next.more }
+      whole = behind (echo_line n e) (echo ns es) (echo ns (take i es)) (echo_line (slice_index_or ns i None) (get_or es i d)) next.rest next.whole;
+      more = behind_more (echo_line n e) (echo ns (take (suc i) es)) (echo ns (take i es)) _ next.more;
+    }
 
 -- the line of the entry at this place comes
 pub next_comes : (lines : List (Option ℕ)) (es : List Entry) (i : ℕ) (e : Entry) (line : List ℕ) → i < length es → e ≡ get_or es i e
@@ -55,7 +57,7 @@ next_begun a b c lines es i line next so_far begun =
       front ++ begun.0,
       begun.1 ++ next.rest,
       next.whole ∙ ap (λ (t : List ℕ). front ++ (t ++ next.rest)) begun.2 ∙ ap (λ (t : List ℕ). front ++ t) (append_assoc begun.0 begun.1 next.rest)
-      ∙ sym (append_assoc front begun.0 (begun.1 ++ next.rest)),
+          ∙ sym (append_assoc front begun.0 (begun.1 ++ next.rest)),
       appends_then a b c front begun.0 (front ++ begun.0) so_far begun.3 refl,
     )
 

@@ -3,7 +3,7 @@
 ghost use Rattle.std.specs.Prelude.{◌≡◌, ◌++◌, IfOk, OnOk, string_bytes};
 ghost use Rattle.std.specs.Option.{option_map};
 ghost use Rattle.ux_trace.specs.Echoes.{answer};
-ghost use Rattle.ux_script.specs.Comparing.{answer_at, difference, difference_line, differences, is_met};
+ghost use Rattle.ux_script.specs.Comparing.{answer_at, difference, difference_line, differences, is_met, or_nothing};
 
 use std::alloc::{AllocError, Global};
 use ux_syntax::Expectation;
@@ -49,6 +49,16 @@ fn is_met(reply: &[u8], got: &Option<String>) -> bool
     }
 }
 
+/// What was answered, or `nothing`.
+fn or_nothing(got: &Option<String>) -> &[u8]
+    ensures { result.now ≡ or_nothing (option_map string_bytes got.now) }
+{
+    match got {
+        Some(got) => got.as_bytes(),
+        None => b"nothing",
+    }
+}
+
 /// Adds the line of a call that answered otherwise than expected.
 fn add_line(
     alloc: Global,
@@ -63,10 +73,7 @@ fn add_line(
     text.extend_from_slice(head.as_bytes())?;
     text.extend_from_slice(expected.reply.as_slice())?;
     text.extend_from_slice(b", got ")?;
-    match got {
-        Some(got) => text.extend_from_slice(got.as_bytes())?,
-        None => text.extend_from_slice(b"nothing")?,
-    }
+    text.extend_from_slice(or_nothing(got))?;
     text.push(b'\n')?;
     Ok(())
 }
@@ -88,7 +95,7 @@ fn add_difference(
 
 /// The lines that tell which calls answered otherwise than expected: `line L: expected REPLY, got REPLY`, or
 /// `got nothing` of a call that wasn't made. None where each answered so. Beside each call of the history stands the
-/// number of its script's line.
+/// number of its script's line. It takes time in proportion to the expectations times the calls.
 pub fn differences(
     alloc: Global,
     expected: &[Expectation],
