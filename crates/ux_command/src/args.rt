@@ -2,7 +2,7 @@
 
 use clap::error::ErrorKind;
 use clap::{Arg, ArgAction, Command, Error};
-use std::alloc::Global;
+use std::alloc::{AllocError, Global};
 
 /// What `--version` prints behind the program's name.
 const VERSION: &str = "0.3.0";
@@ -25,7 +25,7 @@ pub struct Args<'a> {
 }
 
 /// An option without a value.
-fn switch(alloc: Global, name: &'static str, help: &'static str) -> Arg {
+fn switch<'a>(alloc: Global, name: &'static str, help: &'static str) -> Arg<'a> {
     Arg::new(alloc, name)
         .long(name)
         .action(ArgAction::SetTrue)
@@ -33,7 +33,7 @@ fn switch(alloc: Global, name: &'static str, help: &'static str) -> Arg {
 }
 
 /// The options, and the script's name.
-fn command_of(alloc: Global) -> Result<Command, Error> {
+fn command_of<'a>(alloc: Global) -> Result<Command<'a>, AllocError> {
     let script = Arg::new(alloc, "SCRIPT")
         .required(true)
         .action(ArgAction::Set)
