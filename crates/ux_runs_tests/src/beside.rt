@@ -44,8 +44,9 @@ fn threads_history<R: Threads + Wait + Sync>(
 ) -> Result<Vec<Entry>, Fail> {
     let kernel = kernel_of(alloc, script)?;
     match make_threads(rt, alloc, script, kernel, &NoGate) {
-        Ok(Ran::Whole(entries) | Ran::Begun(entries, _)) => Ok(entries),
-        Err(_) => Err(Fail::from("a fault")),
+        Ok(Ran::Whole(entries)) => Ok(entries),
+        Ok(Ran::Begun(entries, _waiting)) => Ok(entries),
+        Err(_fault) => Err(Fail::from("a fault")),
     }
 }
 

@@ -46,8 +46,15 @@ pub fn check_script<R: Threads + Wait + RandomSource + AllocGlobal + Sync>(
     script: &Script,
     history: Vec<Entry>,
 ) -> Result<Vec<Entry>, Fault> {
-    match perform(rt, script, Task::Check { history })? {
-        Ran::Whole(history) | Ran::Begun(history, _) => Ok(history),
+    let ran = perform(rt, script, Task::Check { history })?;
+    Ok(entries_of(ran))
+}
+
+/// The history of a run, as far as it came.
+fn entries_of(ran: Ran) -> Vec<Entry> {
+    match ran {
+        Ran::Whole(history) => history,
+        Ran::Begun(history, _waiting) => history,
     }
 }
 
