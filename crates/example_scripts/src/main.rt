@@ -1,5 +1,6 @@
-//! Runs each script of `data/`, compares its trace with the one that lies beside it, makes its calls once more, and
-//! makes them by seats, over a book that keeps each call and over one that keeps none.
+//! Runs each script of `data/`, compares its trace with the one that lies beside it and each answer with the one that the
+//! script expects, makes its calls once more, and makes them by seats, over a book that keeps each call and over one that
+//! keeps none.
 #![tactic(auto)]
 
 ghost use Rattle.std.specs.Prelude.{◌≡◌, map, IfOk};
@@ -19,8 +20,8 @@ use ux_kernel::Kernel;
 use ux_object::FileObject;
 use ux_objects::{FailAt, Plain};
 use ux_replay::check_history;
-use ux_script::run_serial;
-use ux_syntax::{ObjectLine, Script, parse_script};
+use ux_script::{differences, line_numbers, run_serial};
+use ux_syntax::{ObjectLine, Script, expectations_of, parse_script};
 use ux_types::{Entry, Name};
 
 /// The scripts by their names.
@@ -252,24 +253,50 @@ fn perform<R: Wait + AllocGlobal>(
 /// The ways in which the calls of each script are made.
 const PASSES: [Pass; 4] = [Pass::Serial, Pass::Again, Pass::Seats, Pass::RunningSeats];
 
-/// Runs a script, makes its calls once more, and makes them by seats of both kinds. It must have this trace.
-fn must_have_trace<R: Wait + AllocGlobal>(rt: &R, text: &[u8], wanted: &[u8]) -> Result<()> {
-    let script = parse_script(rt.alloc(), text)?;
+/// Runs a script, makes its calls once more, and makes them by seats of both kinds. It must have this trace. Gives its
+/// history.
+fn must_have_trace<R: Wait + AllocGlobal>(
+    rt: &R,
+    script: &Script,
+    wanted: &[u8],
+) -> Result<Vec<Entry>> {
     let mut history = Vec::new(rt.alloc());
     for pass in PASSES {
-        history = perform(rt, &script, wanted, pass, history)?;
+        history = perform(rt, script, wanted, pass, history)?;
     }
-    Ok(())
+    Ok(history)
 }
 
-/// Runs a script, which must have the trace that lies beside it.
+/// Each line of the script that is a call must expect an answer, and its call must have answered so.
+fn must_answer_as_expected(
+    alloc: Global,
+    text: &[u8],
+    script: &Script,
+    history: &[Entry],
+) -> Result<()> {
+    let expected = expectations_of(alloc, text)?;
+    let lines = line_numbers(alloc, script, history)?;
+    let calls = lines.iter().filter(|line| line.is_some()).count();
+    if expected.len() != calls {
+        return Err(anyhow!("{calls} calls, and another number of expectations"));
+    }
+    let told = differences(alloc, &expected, &lines, history)?;
+    if told.is_empty() {
+        return Ok(());
+    }
+    Err(anyhow!("other answers than the script expects"))
+}
+
+/// Runs a script, which must have the trace that lies beside it and answer as it expects.
 fn must_have_its_trace<R: Files + Wait + AllocGlobal>(rt: &R, name: &str) -> Result<()> {
     let alloc: Global = rt.alloc();
     let script = format!(in alloc; "{name}.ux")?;
     let trace = format!(in alloc; "{name}.trace")?;
     let text = fs::read(rt, script.as_str())?;
     let wanted = fs::read(rt, trace.as_str())?;
-    must_have_trace(rt, &text, &wanted)
+    let script = parse_script(alloc, &text)?;
+    let history = must_have_trace(rt, &script, &wanted)?;
+    must_answer_as_expected(alloc, &text, &script, &history)
 }
 
 /// How often a chain's script puts a socket into the queue of the next.
@@ -339,7 +366,9 @@ fn must_go<R: Wait + AllocGlobal>(rt: &R, closes: bool) -> Result<()> {
     let alloc = rt.alloc();
     let text = chain_script(alloc, closes)?;
     let wanted = chain_trace(alloc, closes)?;
-    must_have_trace(rt, &text, &wanted)
+    let script = parse_script(alloc, &text)?;
+    let _history = must_have_trace(rt, &script, &wanted)?;
+    Ok(())
 }
 
 fn run<R: Files + Wait + Print + AllocGlobal>(rt: &R) -> Result<()> {

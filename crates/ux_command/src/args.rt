@@ -2,7 +2,7 @@
 
 use clap::error::ErrorKind;
 use clap::{Arg, ArgAction, Command, Error};
-use std::alloc::Global;
+use std::alloc::{AllocError, Global};
 
 /// What `--version` prints behind the program's name.
 const VERSION: &str = "0.3.0";
@@ -14,22 +14,30 @@ pub struct Args<'a> {
     pub threads: bool,
     /// Whether the history is made once more, and compared.
     pub check: bool,
+    /// Whether each call is printed with its line's number and its arguments, instead of the trace.
+    pub echo: bool,
+    /// Whether the answers are compared with those that the script's comments expect.
+    pub expect: bool,
     /// After how many calls the open descriptors are printed, each with the chain of processes that passed it.
     pub audit: Option<u32>,
     /// A path, or `-` for standard input.
     pub script: &'a str,
 }
 
-/// Reads the words of a command line, of which the first is the program's name.
-pub fn read_args<'a>(alloc: Global, words: &'a [String]) -> Result<Args<'a>, Error> {
+/// An option without a value.
+fn switch<'a>(alloc: Global, name: &'static str, help: &'static str) -> Arg<'a> {
+    Arg::new(alloc, name)
+        .long(name)
+        .action(ArgAction::SetTrue)
+        .help(help)
+}
+
+/// The options, and the script's name.
+fn command_of<'a>(alloc: Global) -> Result<Command<'a>, AllocError> {
     let script = Arg::new(alloc, "SCRIPT")
         .required(true)
         .action(ArgAction::Set)
         .help("The script's path, or - for standard input");
-    let check = Arg::new(alloc, "check")
-        .long("check")
-        .action(ArgAction::SetTrue)
-        .help("Makes the calls of the trace once more, on a second kernel, and compares");
     let audit = Arg::new(alloc, "audit")
         .long("audit")
         .value_name("N")
@@ -37,19 +45,20 @@ pub fn read_args<'a>(alloc: Global, words: &'a [String]) -> Result<Args<'a>, Err
         .help(
             "Tells which descriptors are open after the first N calls, and how each came to its process",
         );
-    let threads = Arg::new(alloc, "threads")
-        .long("threads")
-        .action(ArgAction::SetTrue)
-        .help(
-            "Makes the calls of each process in a thread of its own, where they wait if they have to",
-        );
-    let mut command = Command::new(alloc, "uxrun")
+    Command::new(alloc, "uxrun")
         .about("Runs a script of socket calls and prints its trace")
         .version(VERSION)
-        .arg(threads)?
-        .arg(check)?
+        .arg(switch(alloc, "threads", THREADS))?
+        .arg(switch(alloc, "echo", ECHO))?
+        .arg(switch(alloc, "expect", EXPECT))?
+        .arg(switch(alloc, "check", CHECK))?
         .arg(audit)?
-        .arg(script)?;
+        .arg(script)
+}
+
+/// Reads the words of a command line, of which the first is the program's name.
+pub fn read_args<'a>(alloc: Global, words: &'a [String]) -> Result<Args<'a>, Error> {
+    let mut command = command_of(alloc)?;
     let matches = command.try_get_matches_from_mut(words)?;
     let audit = match matches.get_str("audit") {
         Some(text) => match number_of(text) {
@@ -61,10 +70,21 @@ pub fn read_args<'a>(alloc: Global, words: &'a [String]) -> Result<Args<'a>, Err
     Ok(Args {
         threads: matches.get_flag("threads"),
         check: matches.get_flag("check"),
+        echo: matches.get_flag("echo"),
+        expect: matches.get_flag("expect"),
         audit,
         script: matches.get_str("SCRIPT").unwrap_or("-"),
     })
 }
+
+const THREADS: &str =
+    "Makes the calls of each process in a thread of its own, where they wait if they have to";
+
+const ECHO: &str = "Prints each call with its line and its arguments, instead of the trace";
+
+const EXPECT: &str = "Compares the replies with those that comments expect: #= REPLY behind a call";
+
+const CHECK: &str = "Makes the calls of the trace once more, on a second kernel, and compares";
 
 /// Why the value of `--audit` isn't taken.
 const NO_NUMBER: &str = "N of --audit is a number from 0 to 4294967295, without leading zeros";

@@ -19,6 +19,9 @@ pub enum Fault {
     /// A call that was made once more, with this number in the trace, wasn't answered as the first time.
     #[error("check differs at {0}")]
     Differs(u64),
+    /// A call answered otherwise than the script expects.
+    #[error("expect differs")]
+    Unexpected,
     /// The chain of holdings of this process's descriptor isn't its pedigree.
     #[error("audit fails at {} {}", .0.0, .1.0)]
     Audit(Pid, Fd),

@@ -27,6 +27,7 @@ fn a_script_is_named(rt: HostRuntime) -> Result<(), Fail> {
         };
         assert_eq!(rt; args.script, name);
         assert!(rt; !args.check && !args.threads && args.audit.is_none());
+        assert!(rt; !args.echo && !args.expect);
     }
     Ok(())
 }
@@ -79,11 +80,32 @@ fn threads_are_asked_for(rt: HostRuntime) -> Result<(), Fail> {
 }
 
 #[test]
+fn an_echo_and_a_comparison_are_asked_for(rt: HostRuntime) -> Result<(), Fail> {
+    for (word, echo, expect) in [("--echo", true, false), ("--expect", false, true)] {
+        let words = texts(rt.alloc(), &["uxrun", word, "a.ux"])?;
+        let Ok(args) = read_args(rt.alloc(), words.as_slice()) else {
+            return Err(Fail::from("not understood"));
+        };
+        assert!(rt; args.echo == echo && args.expect == expect);
+        assert!(rt; !args.check && !args.threads && args.script == "a.ux");
+    }
+    Ok(())
+}
+
+#[test]
 fn other_command_lines_are_refused(rt: HostRuntime) -> Result<(), Fail> {
     let none = ["uxrun"];
     let two = ["uxrun", "a", "b"];
     let unknown = ["uxrun", "--thread", "a"];
-    for words in [none.as_slice(), two.as_slice(), unknown.as_slice()] {
+    let twice = ["uxrun", "--echo", "--echo", "a"];
+    let valued = ["uxrun", "--expect=1", "a"];
+    for words in [
+        none.as_slice(),
+        two.as_slice(),
+        unknown.as_slice(),
+        twice.as_slice(),
+        valued.as_slice(),
+    ] {
         let words = texts(rt.alloc(), words)?;
         let told = read_args(rt.alloc(), words.as_slice())
             .err()
@@ -94,7 +116,7 @@ fn other_command_lines_are_refused(rt: HostRuntime) -> Result<(), Fail> {
 }
 
 /// The steps in which more memory is left, of 16 bytes each.
-const STEPS: usize = 4600;
+const STEPS: usize = 6400;
 
 /// Reads a command line with no memory, and with 16 bytes more while it is refused, and reports how often it was.
 fn refusals_of(rt: &impl Abort, alloc: Global, words: &[String]) -> Result<usize, Fail> {
@@ -112,7 +134,7 @@ fn refusals_of(rt: &impl Abort, alloc: Global, words: &[String]) -> Result<usize
             Err(error) => assert!(rt; error.kind() == ErrorKind::OutOfMemory),
         }
     }
-    Err(Fail::from("refused with 72 KiB"))
+    Err(Fail::from("refused with 100 KiB"))
 }
 
 #[test]
@@ -141,6 +163,7 @@ fn faults_have_their_texts(rt: HostRuntime) -> Result<(), Fail> {
         (Fault::from(AllocError), "out of memory"),
         (Fault::from(ObjError::NoMemory), "out of memory"),
         (Fault::Differs(7), "check differs at 7"),
+        (Fault::Unexpected, "expect differs"),
         (Fault::Audit(Pid(2), Fd(5)), "audit fails at 2 5"),
     ];
     for (fault, text) in rows {

@@ -5,6 +5,8 @@
 #[cfg(test)]
 mod again;
 #[cfg(test)]
+mod beside;
+#[cfg(test)]
 mod command;
 #[cfg(test)]
 mod malformed;

@@ -128,8 +128,8 @@ proc 1000 1000 0 16
 /// Holds what it took. It takes at most `most` bytes a call, and fails at the write of the number
 /// `fails_at`, counted from 1, or at a flush.
 #[derive(Drop)]
-struct Fake {
-    taken: Vec<u8>,
+pub(crate) struct Fake {
+    pub(crate) taken: Vec<u8>,
     most: usize,
     fails_at: usize,
     writes: usize,
@@ -139,7 +139,7 @@ struct Fake {
 }
 
 impl Fake {
-    fn new(alloc: Global, most: usize, fails_at: usize) -> Fake {
+    pub(crate) fn new(alloc: Global, most: usize, fails_at: usize) -> Fake {
         Fake {
             taken: Vec::new(alloc),
             most,

@@ -1,2 +1,4 @@
 pub mod Traces
 pub mod Runs
+pub mod Echoing
+pub mod Answering

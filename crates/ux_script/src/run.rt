@@ -54,17 +54,43 @@ pub fn run_serial<O: FileObject, W: Write>(
     // A script that a text spells has no stranger.
     ensures stranger { IfErr result (λ f. f ≡ ScriptFault.Stranger → ¬ IsOrderly (plan_of script.now)) }
 {
-    let Ok(trail) = Trail::new(alloc) else {
-        return Err(ScriptFault::NoMemory);
-    };
-    let entries = match run_calls::<Brand, O>(alloc, trail, script, kernel) {
+    let entries = match make_serial(alloc, script, kernel) {
         Ok(entries) => entries,
-        Err(CallFault::Stranger) => return Err(ScriptFault::Stranger),
-        Err(_) => return Err(ScriptFault::NoMemory),
+        Err(fault) => return Err(fault),
     };
     match finish_trace(alloc, writer, &entries) {
         Ok(()) => Ok(entries),
         Err(fault) => Err(fault),
+    }
+}
+
+/// As `run_serial`, but writes nothing.
+///
+/// # Errors
+///
+/// `NoMemory`, also where a fork makes no process; `Stranger` where a line is of no live process.
+pub fn make_serial<O: FileObject>(
+    alloc: Global,
+    script: &Script,
+    kernel: Kernel<O>,
+) -> Result<Vec<Entry>, ScriptFault>
+    requires boots { IsBootState kernel }
+    requires processes { kernel.processes ≡ map new_process script.now.procs.items }
+    // The entries are a legal history from the kernel's state.
+    ensures legal { IfOk result (λ entries. IsLegal kernel entries.items) }
+    // It makes the script's calls in order, then the missing exits, and the end of the layer where the script has it.
+    ensures calls { IfOk result (λ entries. map line_of_entry entries.items ≡ all_turns (plan_of script.now)) }
+    ensures fault { IfErr result (λ f. (f ≡ ScriptFault.NoMemory) ⊎ (f ≡ ScriptFault.Stranger)) }
+    // A script that a text spells has no stranger.
+    ensures stranger { IfErr result (λ f. f ≡ ScriptFault.Stranger → ¬ IsOrderly (plan_of script.now)) }
+{
+    let Ok(trail) = Trail::new(alloc) else {
+        return Err(ScriptFault::NoMemory);
+    };
+    match run_calls::<Brand, O>(alloc, trail, script, kernel) {
+        Ok(entries) => Ok(entries),
+        Err(CallFault::Stranger) => Err(ScriptFault::Stranger),
+        Err(_) => Err(ScriptFault::NoMemory),
     }
 }
 

@@ -34,7 +34,11 @@ fn put_some<W: Write>(writer: &mut W, bytes: &[u8]) -> Result<usize, ScriptFault
 }
 
 /// Writes all bytes. After a fault a beginning of them was written.
-fn put_all<W: Write>(writer: &mut W, bytes: &[u8]) -> Result<(), ScriptFault>
+///
+/// # Errors
+///
+/// `Writing` where a write fails.
+pub fn put_all<W: Write>(writer: &mut W, bytes: &[u8]) -> Result<(), ScriptFault>
     ensures ok { OnOk result (Appends (W.contents writer.old) (W.contents writer.new) bytes.now) }
     ensures err { OnErr result (AppendsBeginning (W.contents writer.old) (W.contents writer.new) bytes.now) }
     ensures fault { IfErr result (λ e. e ≡ ScriptFault.Writing) }

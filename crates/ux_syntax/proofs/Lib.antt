@@ -16,3 +16,4 @@ pub mod HeaderLines
 pub mod Items
 pub mod Scripts
 pub mod Feeding
+pub mod Expecting

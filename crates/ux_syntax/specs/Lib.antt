@@ -6,3 +6,4 @@ pub mod Turns
 pub mod Reading
 pub mod Results
 pub mod Continuing
+pub mod Expectations

@@ -19,6 +19,7 @@ use Rattle.ux_syntax.specs.declared.script.Header.{Header}
 use Rattle.ux_syntax.specs.declared.script.Act.{Act}
 use Rattle.ux_syntax.specs.Lines.{Line}
 use Rattle.ux_syntax.specs.declared.script.Script.{Script}
+pub use Rattle.ux_trace.specs.Echoes.{letter, or_dash, open_flags, msg_flags, type_text, option_text, mode_text, whence_text}
 use Rattle.ux_trace.specs.Trace.{dash, hex, path_text, addr_text, addr_or_dash, raw_text, rights_text, cred_text, word_text, request_word}
 
 -- ---- what a script says
@@ -146,47 +147,8 @@ control_text (ControlWord.Credentials cred) = cred_text cred
 control_text (ControlWord.CredentialsFirst cred numbers) = join_with_byte 43 (cred_text cred ∷ rights_text numbers ∷ [])
 control_text (ControlWord.RightsFirst numbers cred) = join_with_byte 43 (rights_text numbers ∷ cred_text cred ∷ [])
 
-abbrev pub letter : Bool → ℕ → List ℕ
-letter b c = if b then c ∷ [] else []
-
-abbrev pub or_dash : List ℕ → List ℕ
-or_dash [] = dash
-or_dash (c ∷ cs) = c ∷ cs
-
--- the letters of anx whose flags are set, or a dash: append, non-blocking, close-on-exec
-abbrev pub open_flags : OpenFlags → List ℕ
-open_flags f = or_dash (letter (has_bits f.0 1) 97 ++ (letter (has_bits f.0 2) 110 ++ letter (has_bits f.0 4) 120))
-
--- the letters of dptx whose flags are set, or a dash: DONTWAIT, PEEK, TRUNC, CMSG_CLOEXEC
-abbrev pub msg_flags : MsgFlags → List ℕ
-msg_flags f =
-    or_dash (letter (has_bits f.0 4) 100 ++ (letter (has_bits f.0 1) 112 ++ (letter (has_bits f.0 2) 116 ++ letter (has_bits f.0 8) 120)))
-
 abbrev pub bit : Bool → List ℕ
 bit b = if b then 49 ∷ [] else 48 ∷ []
-
-abbrev pub type_text : SockType → List ℕ
-type_text SockType.Stream = codes "stream"
-type_text SockType.Dgram = codes "dgram"
-type_text SockType.Seq = codes "seq"
-
-abbrev pub option_text : SockOpt → List ℕ
-option_text SockOpt.Kind = codes "type"
-option_text SockOpt.Error = codes "error"
-option_text SockOpt.PassCred = codes "passcred"
-option_text SockOpt.PeerCred = codes "peercred"
-option_text SockOpt.AcceptConn = codes "accept"
-option_text SockOpt.QueueLimit = codes "qlimit"
-
-abbrev pub mode_text : Mode → List ℕ
-mode_text Mode.Read = codes "r"
-mode_text Mode.Write = codes "w"
-mode_text Mode.Both = codes "rw"
-
-abbrev pub whence_text : Whence → List ℕ
-whence_text Whence.Set = codes "set"
-whence_text Whence.Cur = codes "cur"
-whence_text Whence.End = codes "end"
 
 abbrev pub kind_text : ObjKind → List ℕ
 kind_text ObjKind.Memory = codes "mem"

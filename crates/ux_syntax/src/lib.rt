@@ -4,6 +4,7 @@
 mod acts;
 mod calls;
 mod control;
+mod expectations;
 mod fault;
 mod headers;
 mod input;
@@ -16,6 +17,7 @@ mod waiting;
 mod words;
 
 pub use control::items_are_spelled;
+pub use expectations::{Expectation, expectations_of};
 pub use fault::{Fault, ScriptFault};
 pub use input::read_script;
 pub use reading::{one_script, parse_script};

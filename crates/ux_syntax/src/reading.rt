@@ -18,7 +18,7 @@ use ux_types::{MADE_LIMIT, Pid};
 
 /// What a line says.
 #[derive(Drop)]
-enum Item {
+pub(crate) enum Item {
     /// Nothing: it is empty or a comment.
     Skipped,
     /// A line of the header.
@@ -70,7 +70,7 @@ fn split_words<'a>(alloc: Global, text: &'a [u8]) -> Result<Vec<&'a [u8]>, Alloc
     text.split(|b| *b == b' ').collect(alloc)
 }
 
-fn split_lines<'a>(alloc: Global, text: &'a [u8]) -> Result<Vec<&'a [u8]>, AllocError>
+pub(crate) fn split_lines<'a>(alloc: Global, text: &'a [u8]) -> Result<Vec<&'a [u8]>, AllocError>
     ensures { IfOk result (λ lines. map (λ l. l.now) lines.items ≡ lines_of text.now) }
 {
     text.split(|b| *b == b'\n').collect(alloc)
@@ -78,7 +78,12 @@ fn split_lines<'a>(alloc: Global, text: &'a [u8]) -> Result<Vec<&'a [u8]>, Alloc
 
 /// What the line of this number says, which may have so many bytes.
 #[tactic(auto, unfolding(crate::specs::Reading::item_at))]
-fn item_of(alloc: Global, number: usize, limit: usize, text: &[u8]) -> Result<Item, LineError>
+pub(crate) fn item_of(
+    alloc: Global,
+    number: usize,
+    limit: usize,
+    text: &[u8],
+) -> Result<Item, LineError>
     ensures { IsAsRead (λ item. item) result (item_at limit text.now) }
 {
     if text.len() > limit {

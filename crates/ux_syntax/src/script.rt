@@ -11,7 +11,7 @@ use ux_types::{Bytes, Name, Pid, ProcSpec, Request};
 const LINE_LIMIT: usize = 4096;
 
 /// The same behind a line `serial`.
-const SERIAL_LINE_LIMIT: usize = 200_000;
+pub(crate) const SERIAL_LINE_LIMIT: usize = 200_000;
 
 /// A file object that is there from the start: its path, its kind, and what a memory file starts with.
 #[derive(Debug, Drop)]

@@ -2,6 +2,8 @@
 
 mod calls;
 mod connections;
+mod echoes;
+mod expectations;
 mod forks;
 mod options;
 mod readers;

@@ -63,13 +63,7 @@ pub fn run_threads<O: FileObject + Send, G: Gate, Out: Write>(
     ensures unwritten { script.now.serial ≡ true → Keeps (Out.contents writer.old) (Out.contents writer.new) }
     ensures fault { IfErr result (λ f. is_deadlock f ≡ false → script.now.serial ≡ false → IsRunFault f) }
 {
-    if script.serial {
-        return Err(ScriptFault::OneOrder);
-    }
-    let Ok(trail) = Trail::new(alloc) else {
-        return Err(ScriptFault::NoMemory);
-    };
-    match run_named::<Brand, O, _, G>(rt, alloc, trail, script, kernel, gate)? {
+    match make_threads(rt, alloc, script, kernel, gate)? {
         Ran::Whole(entries) => {
             finish_trace(alloc, writer, &entries)?;
             Ok(entries)
@@ -82,9 +76,39 @@ pub fn run_threads<O: FileObject + Send, G: Gate, Out: Write>(
     }
 }
 
+/// As `run_threads`, but writes nothing, and gives the history also where every process waits.
+///
+/// # Errors
+///
+/// `OneOrder` exactly for a serial script; `NoMemory`, also where a thread can't be started or a fork makes no process;
+/// `Stranger` for a script that no text spells.
+pub fn make_threads<O: FileObject + Send, G: Gate>(
+    rt: &(impl Threads + Wait + Sync),
+    alloc: Global,
+    script: &Script,
+    kernel: Kernel<O>,
+    gate: &G,
+) -> Result<Ran, ScriptFault>
+    requires boots { IsBootState kernel }
+    requires processes { kernel.processes ≡ map new_process script.now.procs.items }
+    // The history is a legal one from the kernel's state, in which each process made the script's calls, or the first of them.
+    ensures runs { IfOk result (λ ran. IsOfScript kernel (plan_of script.now) ran) }
+    // A script that is to run in the order of its lines alone is refused, and no other is for that reason.
+    ensures refused { (result ≡ Err ScriptFault.OneOrder) ↔ (script.now.serial ≡ true) }
+    ensures fault { IfErr result (λ f. script.now.serial ≡ false → (f ≡ ScriptFault.NoMemory) ⊎ (f ≡ ScriptFault.Stranger)) }
+{
+    if script.serial {
+        return Err(ScriptFault::OneOrder);
+    }
+    let Ok(trail) = Trail::new(alloc) else {
+        return Err(ScriptFault::NoMemory);
+    };
+    run_named::<Brand, O, _, G>(rt, alloc, trail, script, kernel, gate)
+}
+
 /// The history of a run.
 #[derive(Drop)]
-enum Ran {
+pub enum Ran {
     /// Of the whole script.
     Whole(Vec<Entry>),
     /// Up to where every process waits, each in its line.

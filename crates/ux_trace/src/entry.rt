@@ -2,6 +2,7 @@
 
 ghost use Rattle.std.specs.Prelude.{◌≡◌, IfOk, Some, string_bytes};
 ghost use Rattle.ux_trace.specs.Trace.{closed_text, entry_line};
+ghost use Rattle.ux_trace.specs.Echoes.{answer};
 
 use crate::call_word::CallWord;
 use crate::reply::{ReplyText, control_of};
@@ -11,7 +12,7 @@ use ux_types::Entry;
 
 /// The file objects that were closed at the end of a call, or nothing where none was.
 #[derive(Clone, Copy)]
-struct Closed<'a>(&'a [u8]);
+pub(crate) struct Closed<'a>(pub(crate) &'a [u8]);
 
 impl fmt::Display for Closed<'_> {
     ghost output = { λ c. Some (closed_text c.0.now) };
@@ -46,4 +47,19 @@ pub fn entry_text(alloc: Global, number: usize, entry: &Entry) -> Result<String,
     let numbers = entry.released.numbers();
     let closed = Closed(numbers.as_slice());
     format!(in alloc; "{number} {pid} {k} {word} = {reply}{closed}\n")
+}
+
+/// What stands behind `=` in the line of a history's entry: the reply, and behind it ` closed` and their numbers
+/// where file objects were closed.
+pub fn answer_text(alloc: Global, entry: &Entry) -> Result<String, AllocError>
+    ensures { IfOk result (λ text. string_bytes text ≡ answer entry.now) }
+{
+    let read = control_of(alloc, &entry.reply)?;
+    let reply = ReplyText {
+        reply: &entry.reply,
+        read: &read,
+    };
+    let numbers = entry.released.numbers();
+    let closed = Closed(numbers.as_slice());
+    format!(in alloc; "{reply}{closed}")
 }

@@ -1,11 +1,15 @@
 //! Traces: the text of a history, a line for each call.
 #![tactic(auto)]
 
+mod arguments;
 mod call_word;
+mod choices;
+mod echo;
 mod entry;
 mod reply;
 mod words;
 
 pub use call_word::CallWord;
-pub use entry::entry_text;
+pub use echo::echo_text;
+pub use entry::{answer_text, entry_text};
 pub use words::stands;

@@ -36,7 +36,7 @@ pub fn stands(byte: u8) -> bool
 
 /// A name as a word has it: a byte that doesn't stand for itself is `%` and two digits.
 #[derive(Clone, Copy)]
-struct NameText<'a>(&'a [u8]);
+pub(crate) struct NameText<'a>(pub(crate) &'a [u8]);
 
 impl fmt::Display for NameText<'_> {
     ghost output = { λ name. Some (name_text name.0.now) };

@@ -3,45 +3,39 @@
 
 mod audit;
 mod objects;
+mod printing;
+mod reading;
 
 use audit::tell_audit;
 use clap::Error;
 use clap::error::ErrorKind;
 use objects::{check_script, run_script};
-use std::alloc::Global;
+use printing::{print_comparison, print_run};
+use reading::script_of;
 use std::process::ExitCode;
 use std::random::RandomSource;
 use std::rt::Files;
 use std::sync::Wait;
 use std::thread::Threads;
-use std::{env, fs, io};
+use std::{env, io};
 use ux_command::{Args, Fault, read_args};
-use ux_syntax::{Script, ScriptFault, read_script};
+use ux_syntax::{Expectation, Script, ScriptFault};
+use ux_threads::Ran;
+use ux_types::Entry;
 
 /// The exit status where the command line wasn't understood, as clap has it.
 const NOT_UNDERSTOOD: u8 = 2;
 
-/// The script that was named.
-fn script_of<R: Files + Input + AllocGlobal>(rt: &R, name: &str) -> Result<Script, ScriptFault> {
-    let alloc: Global = rt.alloc();
-    if name == "-" {
-        return read_script(alloc, &mut rt.reader());
-    }
-    match fs::open(rt, name) {
-        Ok(mut file) => read_script(alloc, &mut file),
-        Err(error) if error.kind() == io::ErrorKind::OutOfMemory => Err(ScriptFault::NoMemory),
-        Err(_) => Err(ScriptFault::Reading),
-    }
-}
-
-/// Runs the script that was named, and prints its trace to standard output; where it is asked for, makes the
-/// calls once more, and reports how many entries there are, and who came to which descriptor through whom.
+/// Runs the script that was named, and prints its trace to standard output; where it is asked for, compares the
+/// answers, makes the calls once more, and reports how many entries there are, and who came to which descriptor through
+/// whom.
 fn run<R: Files + Input + Threads + Wait + Print + RandomSource + AllocGlobal + Sync>(
     rt: &R,
     args: &Args<'_>,
 ) -> Result<(), Fault> {
-    let script = script_of(rt, args.script)?;
-    let mut history = run_script(rt, &script, args.threads)?;
+    let (script, expected) = script_of(rt, args)?;
+    let mut history = history_of(rt, args, &script, &expected)?;
+    print_run(rt, args, &script, &expected, &history)?;
     if args.check {
         history = check_script(rt, &script, history)?;
         println!(rt; "check ok {}", history.len()).map_err(|_| ScriptFault::Writing)?;
@@ -50,6 +44,29 @@ fn run<R: Files + Input + Threads + Wait + Print + RandomSource + AllocGlobal + 
         tell_audit(rt, &history, count)?;
     }
     Ok(())
+}
+
+/// Runs the script. Where it isn't run to its end, that is what is reported, behind what there is to print: also where
+/// it can't be printed.
+fn history_of<R: Threads + Wait + Print + RandomSource + AllocGlobal + Sync>(
+    rt: &R,
+    args: &Args<'_>,
+    script: &Script,
+    expected: &[Expectation],
+) -> Result<Vec<Entry>, Fault> {
+    match run_script(rt, script, args.threads) {
+        Ok(Ran::Whole(history)) => Ok(history),
+        Ok(Ran::Begun(history, waiting)) => {
+            let _printed = print_run(rt, args, script, expected, &history);
+            Err(Fault::Script(ScriptFault::Deadlock(waiting)))
+        }
+        Err(fault) => {
+            if args.expect {
+                let _told = print_comparison(rt, expected, &[], &[]);
+            }
+            Err(fault)
+        }
+    }
 }
 
 /// Tells why no whole trace was printed.

@@ -3,10 +3,8 @@
 ghost use Rattle.std.specs.Prelude.{◌≡◌, map, IfOk};
 ghost use Rattle.ux_model.specs.Boot.{IsBootState, new_process};
 
-use std::alloc::{AllocError, Global};
+use std::alloc::Global;
 use std::hash::RandomState;
-use std::io;
-use std::io::BufWriter;
 use std::random::RandomSource;
 use std::sync::Wait;
 use std::thread::Threads;
@@ -15,9 +13,9 @@ use ux_kernel::{BootFault, Kernel, Seed};
 use ux_object::FileObject;
 use ux_objects::{FailAt, Plain};
 use ux_replay::{ReplayFault, replay};
-use ux_script::run_serial;
+use ux_script::make_serial;
 use ux_syntax::{ObjectLine, Script, ScriptFault};
-use ux_threads::{NoGate, run_threads};
+use ux_threads::{NoGate, Ran, make_threads};
 use ux_types::{Entry, Name, OBJECT_LIMIT};
 
 /// A file object as a kernel holds it.
@@ -32,24 +30,32 @@ enum Task {
     Check { history: Vec<Entry> },
 }
 
-/// Runs the script over its file objects, and prints its trace to standard output. With `threads` each process
-/// is a thread.
-pub fn run_script<R: Threads + Wait + Print + RandomSource + AllocGlobal + Sync>(
+/// Runs the script over its file objects. With `threads` each process is a thread.
+pub fn run_script<R: Threads + Wait + RandomSource + AllocGlobal + Sync>(
     rt: &R,
     script: &Script,
     threads: bool,
-) -> Result<Vec<Entry>, Fault> {
+) -> Result<Ran, Fault> {
     perform(rt, script, Task::Run { threads })
 }
 
 /// Makes the calls of the script's history once more, over file objects that are as they were at first, and gives
 /// the history back.
-pub fn check_script<R: Threads + Wait + Print + RandomSource + AllocGlobal + Sync>(
+pub fn check_script<R: Threads + Wait + RandomSource + AllocGlobal + Sync>(
     rt: &R,
     script: &Script,
     history: Vec<Entry>,
 ) -> Result<Vec<Entry>, Fault> {
-    perform(rt, script, Task::Check { history })
+    let ran = perform(rt, script, Task::Check { history })?;
+    Ok(entries_of(ran))
+}
+
+/// The history of a run, as far as it came.
+fn entries_of(ran: Ran) -> Vec<Entry> {
+    match ran {
+        Ran::Whole(history) => history,
+        Ran::Begun(history, _waiting) => history,
+    }
 }
 
 impl Task {
@@ -65,11 +71,11 @@ impl Task {
 
 /// Makes the script's file objects, and does this with them. More than a kernel may have are counted before any
 /// is made. The boxes are made and used here, since the gate lets no function hand out a `dyn` value that it made.
-fn perform<R: Threads + Wait + Print + RandomSource + AllocGlobal + Sync>(
+fn perform<R: Threads + Wait + RandomSource + AllocGlobal + Sync>(
     rt: &R,
     script: &Script,
     task: Task,
-) -> Result<Vec<Entry>, Fault> {
+) -> Result<Ran, Fault> {
     let alloc: Global = rt.alloc();
     if script.objects.len() > OBJECT_LIMIT {
         return Err(Fault::from(BootFault::TooManyObjects));
@@ -106,22 +112,19 @@ fn kernel_of<O: FileObject, R: RandomSource + AllocGlobal>(
     }
 }
 
-/// Runs the script over these file objects, and prints its trace to standard output.
-fn run_over<O: FileObject + Send, R: Threads + Wait + Print + RandomSource + AllocGlobal + Sync>(
+/// Runs the script over these file objects.
+fn run_over<O: FileObject + Send, R: Threads + Wait + RandomSource + AllocGlobal + Sync>(
     rt: &R,
     script: &Script,
     threads: bool,
     objects: Vec<(Name, O)>,
-) -> Result<Vec<Entry>, Fault> {
+) -> Result<Ran, Fault> {
     let alloc: Global = rt.alloc();
     let kernel = kernel_of(rt, script, objects)?;
-    let mut writer = BufWriter::new(alloc, io::writer(rt)).map_err(|_| AllocError)?;
-    let history = if threads {
-        run_threads(rt, alloc, script, &mut writer, kernel, &NoGate)?
-    } else {
-        run_serial(alloc, script, &mut writer, kernel)?
-    };
-    Ok(history)
+    if threads {
+        return Ok(make_threads(rt, alloc, script, kernel, &NoGate)?);
+    }
+    Ok(Ran::Whole(make_serial(alloc, script, kernel)?))
 }
 
 /// Makes the calls of a history once more over these file objects.
@@ -130,10 +133,10 @@ fn check_over<O: FileObject, R: RandomSource + AllocGlobal>(
     script: &Script,
     history: Vec<Entry>,
     objects: Vec<(Name, O)>,
-) -> Result<Vec<Entry>, Fault> {
+) -> Result<Ran, Fault> {
     let kernel = kernel_of(rt, script, objects)?;
     match replay(rt.alloc(), &history, kernel) {
-        Ok(_count) => Ok(history),
+        Ok(_count) => Ok(Ran::Whole(history)),
         Err(ReplayFault::Differs(number)) => Err(Fault::Differs(number)),
         Err(ReplayFault::NoMemory(_)) => Err(Fault::Script(ScriptFault::NoMemory)),
     }

@@ -1,4 +1,4 @@
-use Rattle.ux_threads.proofs.run.run_threads.Given as goal
+use Rattle.ux_threads.proofs.run.make_threads.Given as goal
 
 -- the trail that was just made, and the state that the kernel was given in
 abbrev pub ghosts-run_named : goal.ghosts-run_named

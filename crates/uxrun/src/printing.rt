@@ -1,0 +1,65 @@
+//! What is printed of a run.
+
+use std::alloc::{AllocError, Global};
+use std::io;
+use std::io::BufWriter;
+use ux_command::{Args, Fault};
+use ux_script::{differences, finish_echo, finish_trace, line_numbers, put_all};
+use ux_syntax::{Expectation, Script, ScriptFault};
+use ux_types::Entry;
+
+/// Prints the history of a run to standard output, as a trace or beside the script; where it is asked for, compares the
+/// answers with those that are expected, and tells how many are, or which answers differ.
+pub fn print_run<R: Print + AllocGlobal>(
+    rt: &R,
+    args: &Args<'_>,
+    script: &Script,
+    expected: &[Expectation],
+    history: &[Entry],
+) -> Result<(), Fault> {
+    if !args.echo && !args.expect {
+        return print_trace(rt, history);
+    }
+    let lines = line_numbers(rt.alloc(), script, history)?;
+    if args.echo {
+        print_echo(rt, &lines, history)?;
+    } else {
+        print_trace(rt, history)?;
+    }
+    if args.expect {
+        print_comparison(rt, expected, &lines, history)?;
+    }
+    Ok(())
+}
+
+fn print_trace<R: Print + AllocGlobal>(rt: &R, history: &[Entry]) -> Result<(), Fault> {
+    let alloc: Global = rt.alloc();
+    let mut writer = BufWriter::new(alloc, io::writer(rt)).map_err(|_| AllocError)?;
+    Ok(finish_trace(alloc, &mut writer, history)?)
+}
+
+fn print_echo<R: Print + AllocGlobal>(
+    rt: &R,
+    lines: &[Option<usize>],
+    history: &[Entry],
+) -> Result<(), Fault> {
+    let alloc: Global = rt.alloc();
+    let mut writer = BufWriter::new(alloc, io::writer(rt)).map_err(|_| AllocError)?;
+    Ok(finish_echo(alloc, &mut writer, lines, history)?)
+}
+
+/// Tells which answers aren't those that are expected, or how many were compared where all are.
+pub fn print_comparison<R: Print + AllocGlobal>(
+    rt: &R,
+    expected: &[Expectation],
+    lines: &[Option<usize>],
+    history: &[Entry],
+) -> Result<(), Fault> {
+    let told = differences(rt.alloc(), expected, lines, history)?;
+    if told.is_empty() {
+        println!(rt; "expect ok {}", expected.len()).map_err(|_| ScriptFault::Writing)?;
+        return Ok(());
+    }
+    put_all(&mut io::writer(rt), &told)?;
+    Err(Fault::Unexpected)
+}
