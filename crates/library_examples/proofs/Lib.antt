@@ -1,1 +1,3 @@
 mod Closing
+mod Hello
+mod KeyServer
