@@ -13,36 +13,11 @@ use Rattle.ux_laws.specs.Separation.{IsSeparated}
 use Rattle.ux_laws.proofs.Apart.{kept_files_are_separated}
 use Rattle.ux_book.specs.Pasts.{Caller, call_of, calls_by, made}
 use Rattle.ux_book.specs.declared.call.Call.{Call}
-use Rattle.ux_book.specs.declared.fault.CallFault.{CallFault}
-use Rattle.delortxa.specs.declared.fault.CallError.{CallError}
-use Rattle.delortxa.specs.Answering.{Fails}
-use Rattle.delortxa.specs.Happening.{Happens}
 use Rattle.delortxa.specs.Promising.{EachPromisesCalls}
-use Rattle.library_examples.specs.KeyServer.{key_boot, leaves, Keeps}
-
--- ---- one process
-
-keeps_one : (pid : Pid) (old new : Caller) (request : Request) (reply : Reply) → Keeps pid old → leaves pid.0 request ≡ true → new ≡ made old request reply → Keeps pid new
-keeps_one pid old new request reply k l is = subst (Keeps pid) (sym is) (
-    k.0,
-    list_all-append (λ (call : Call). leaves pid.0 call.request) old.past (record { request = request; reply = reply } ∷ [])
-    ∙ ap (λ b. b && (leaves pid.0 request && true)) k.1 ∙ ap (λ b. b && true) l,
-  )
-
--- a call that was made leaves the secret to the monitor
-pub stays : (boot : State) (pid : Pid) (old new : Caller) (request : Request) (reply : Reply) (waits : Bool) → Keeps pid old →
-    Happens boot old new request reply waits → leaves pid.0 request ≡ true → Keeps pid new
-stays boot pid old new request reply waits k h l = keeps_one pid old new request reply k l h.past
-
--- so does one that fails
-pub fails_stays : (boot : State) (unmade : {C : Type 0} → C → Caller → Request → CallFault → Type 0) {C : Type 0} (who : C) (pid : Pid) (old new : Caller) (request : Request)
-    (error : CallError) → Keeps pid old →
-    Fails (λ _ a b r x. Happens boot a b r x true) unmade who old new request error → leaves pid.0 request ≡ true → Keeps pid new
-fails_stays boot unmade who pid old new request (CallError.Refused errno) k f l = stays boot pid old new request (Reply.Err errno) true k f l
-fails_stays boot unmade who pid old new request (CallError.Fault fault) k f l = subst (Keeps pid) (sym f.0) k
-fails_stays boot unmade who pid old new request CallError.Unlike k f l = absurd f
-
--- ---- all of them
+use Rattle.ux_model.specs.Boot.{boot_state}
+use Rattle.ux_object.specs.declared.ObjKind.{ObjKind}
+use Rattle.delortxa.specs.Boots.{Plan, with_object, with_process}
+use Rattle.library_examples.specs.KeyServer.{user, key_boot, leaves, Keeps}
 
 -- what is so of all calls of a process is so of each of its entries
 of_each : (f : Call → Bool) (p : ℕ) (es : List Entry) (j : ℕ) (e : Entry) → list_all f (calls_by p es) ≡ true → slice_get es j ≡ Some e → e.pid.0 ≡ p → f (call_of e) ≡ true
@@ -58,9 +33,14 @@ of_each f p (x ∷ es) (suc j) e all at own = of_each f p es j e (others (x.pid.
     others true h = (and_parts (f (call_of x)) (list_all f (calls_by p es)) h).1
     others false h = h
 
-pub separated : {P T : Type 0} (program : P) (outputs : List T) (es : List Entry) → IsLegal key_boot es → length outputs ≡ 3 →
-    EachPromisesCalls (λ pid _ _ caller. Keeps pid caller) program outputs es → IsSeparated key_boot es 1 0 (codes "hunter2")
-separated {P} {T} program outputs es legal long each =
+-- each process has kept to it
+abbrev EachKeeps : {T : Type 0} → List T → List Entry → Type 0
+EachKeeps outputs es = EachPromisesCalls {P = Unit {0}} (λ pid _ _ caller. Keeps pid caller) (tt {0}) outputs es
+
+-- so the secret is kept apart
+separated : {T : Type 0} (outputs : List T) (es : List Entry) → IsLegal key_boot es → length outputs ≡ 3 → EachKeeps outputs es →
+    IsSeparated key_boot es 1 0 (codes "hunter2")
+separated {T} outputs es legal long each =
     kept_files_are_separated key_boot es (codes "secret") 1 0 (codes "hunter2") legal refl refl theirs
   where
     -- the process at this place
@@ -80,3 +60,18 @@ separated {P} {T} program outputs es legal long each =
 
     theirs : (j : ℕ) (e : Entry) → slice_get es j ≡ Some e → IsOfTheStart key_boot e.pid.0 → leaves e.pid.0 e.request ≡ true
     theirs j e at of_start = by_number e.pid.0 j e refl of_start.0 of_start.1 at
+
+-- what the boot puts together is where it begins
+pub begins : (kernel : State) (b0 b1 b2 b3 b4 : Plan) → b0 ≡ record { objects = []; failures = []; processes = [] } →
+    b1 ≡ with_object b0 (codes "secret") ObjKind.Memory (codes "hunter2") 0 → b2 ≡ with_process b1 (user 0) → b3 ≡ with_process b2 (user 1000) →
+    b4 ≡ with_process b3 (user 2000) → kernel ≡ boot_state b4.objects b4.processes → kernel ≡ key_boot
+begins kernel b0 b1 b2 b3 b4 none secret monitor worker client is =
+    let all = client ∙ ap (λ (b : Plan). with_process b (user 2000)) (worker ∙ ap (λ (b : Plan). with_process b (user 1000))
+    (monitor ∙ ap (λ (b : Plan). with_process b (user 0)) (secret ∙ ap (λ (b : Plan). with_object b (codes "secret") ObjKind.Memory (codes "hunter2") 0) none))) in
+    is ∙ ap (λ (b : Plan). boot_state b.objects b.processes) all
+
+-- in a layer that began so
+pub served : {T : Type 0} (kernel : State) (outputs : List T) (es : List Entry) → kernel ≡ key_boot → IsLegal kernel es →
+    length outputs ≡ length kernel.processes → EachKeeps outputs es → IsSeparated key_boot es 1 0 (codes "hunter2")
+served kernel outputs es begins legal long each =
+    separated outputs es (subst (λ (S : State). IsLegal S es) begins legal) (long ∙ ap (λ (S : State). length S.processes) begins) each

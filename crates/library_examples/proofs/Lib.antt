@@ -1,3 +1,3 @@
 mod Closing
-mod Hello
+mod Greeting
 mod KeyServer

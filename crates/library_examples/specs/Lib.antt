@@ -1,2 +1,2 @@
-pub mod Hello
+pub mod Greeting
 pub mod KeyServer

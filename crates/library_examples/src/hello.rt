@@ -1,6 +1,6 @@
 //! One process writes a file, and reads it back. It promises that what it reads is what it wrote.
 ghost use Rattle.std.specs.Prelude.{◌≡◌, IfOk, codes};
-ghost use Rattle.library_examples.specs.Hello.{hello_boot};
+ghost use Rattle.library_examples.specs.Greeting.{hello_boot};
 
 use anyhow::Result;
 use bstr::BStr;
@@ -16,7 +16,7 @@ impl BookProgram for Hello {
     type Output = Result<Bytes, CallError>;
 
     ghost use Rattle.std.specs.Prelude.{◌≡◌, IfOk, codes};
-    ghost use Rattle.library_examples.specs.Hello.{hello_boot};
+    ghost use Rattle.library_examples.specs.Greeting.{hello_boot};
 
     ghost promise = { λ boot _ output. boot ≡ hello_boot → IfOk output (λ bytes. bytes ≡ codes "hello") };
 

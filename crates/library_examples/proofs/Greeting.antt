@@ -1,18 +1,26 @@
 -- What a process reads that has written a file.
 use Rattle.std.proofs.Common.{◌≡◌, ℕ, suc, Bool, true, false, List, [], ◌∷◌, ◌++◌, length, refl, ap, sym, ◌∙◌, subst, arith}
-use Rattle.std.specs.Prelude.{codes, pos}
+use Rattle.std.specs.Prelude.{codes, pos, Result, Ok, Err, IfOk}
 use Rattle.std.proofs.lemmas.List.{length-append}
 use Rattle.ux_model.specs.Types.{Pid, Fd, Mode, Whence, OpenFlags, Errno, Request, Reply}
 use Rattle.ux_model.specs.State.{State}
-use Rattle.ux_model.specs.Release.{settled}
+use Rattle.ux_model.specs.Release.{without, drop_rounds, drop_unreferenced, released_objects, settled}
 use Rattle.ux_model.specs.Outcome.{Outcome, Chosen, own, lacking_memory, failing}
 use Rattle.ux_model.specs.Step.{Step, outcome, lacks_memory, fails}
 use Rattle.ux_model.specs.History.{replay}
-use Rattle.ux_model.proofs.Play.{computing}
-use Rattle.ux_model.proofs.Replays.{step_replay}
+use Rattle.ux_model.specs.References.{refs, orefs}
+use Rattle.ux_model.specs.Opening.{open_file}
+use Rattle.ux_model.specs.Reading.{read}
+use Rattle.ux_model.specs.Writing.{write}
+use Rattle.ux_model.specs.Seeking.{lseek}
 use Rattle.ux_book.specs.Books.{KeptHistory, state_of, entry_of, Adds}
 use Rattle.ux_book.specs.Sitting.{Answers}
-use Rattle.library_examples.specs.Hello.{hello_boot}
+use Rattle.library_examples.specs.Greeting.{hello_boot}
+
+-- `unfolding computing` opens what these calls' outcomes and their release are made of
+unfoldable computing : Unit {0}
+unfolding refs orefs without drop_rounds drop_unreferenced released_objects settled open_file read write lseek outcome
+computing = tt
 
 -- the reply is what the definitions say, unless it reports that memory lacks or that a file object fails
 plain : (S T : State) (o : Outcome) (reply : Reply) → lacks_memory reply ≡ false → fails reply ≡ false → Chosen S o reply T → (reply ≡ o.reply) × (T ≡ o.next)
@@ -73,15 +81,21 @@ what_is_read : (outcome at_start 1 3 (Request.Read fd_0 64)).reply ≡ Reply.Byt
 unfolding computing
 what_is_read = refl
 
-pub reads_hello : (boot : State) (s0 s1 s2 s3 s4 : KeptHistory) (n : Fd) (taken at : ℕ) (bytes : List ℕ) → boot ≡ hello_boot → s0 ≡ record { boot = boot; entries = [] } →
-    Answers s0 s1 process_1 open_notes (Reply.Fd n) → Answers s1 s2 process_1 (write_hello n) (Reply.Count taken) → Answers s2 s3 process_1 (to_start n) (Reply.At at) →
-    Answers s3 s4 process_1 (Request.Read n 64) (Reply.Bytes bytes) → bytes ≡ codes "hello"
-reads_hello boot s0 s1 s2 s3 s4 n taken at bytes is starts opens writes seeks reads =
+-- what it reads, where it is answered, is what it wrote
+pub reads_hello : {E : Type 0} (boot : State) (s0 s1 s2 s3 s4 : KeptHistory) (n : Fd) (taken at : ℕ) (r : Result (List ℕ) E) → boot ≡ hello_boot →
+    s0 ≡ record { boot = boot; entries = [] } → Answers s0 s1 process_1 open_notes (Reply.Fd n) →
+    Answers s1 s2 process_1 (write_hello n) (Reply.Count taken) → Answers s2 s3 process_1 (to_start n) (Reply.At at) →
+    IfOk r (λ bytes. Answers s3 s4 process_1 (Request.Read n 64) (Reply.Bytes bytes)) → IfOk r (λ bytes. bytes ≡ codes "hello")
+reads_hello boot s0 s1 s2 s3 s4 n taken at (Err e) is starts opens writes seeks reads = tt
+reads_hello boot s0 s1 s2 s3 s4 n taken at (Ok bytes) is starts opens writes seeks reads =
     let a = next hello_boot 0 s0 s1 process_1 open_notes (Reply.Fd n) (ap state_of starts ∙ is) (ap (λ (h : KeptHistory). length h.entries) starts) refl refl opens in
     let both : Reply.Fd n ≡ Reply.Fd fd_0 = a.is_said ∙ first_number in
     let first : n ≡ fd_0 = cc both in
-    let b = next opened 1 s1 s2 process_1 (write_hello fd_0) (Reply.Count taken) a.leads a.number refl refl (subst (λ m. Answers s1 s2 process_1 (write_hello m) (Reply.Count taken)) first writes) in
-    let c = next written 2 s2 s3 process_1 (to_start fd_0) (Reply.At at) b.leads b.number refl refl (subst (λ m. Answers s2 s3 process_1 (to_start m) (Reply.At at)) first seeks) in
-    let d = next at_start 3 s3 s4 process_1 (Request.Read fd_0 64) (Reply.Bytes bytes) c.leads c.number refl refl (subst (λ m. Answers s3 s4 process_1 (Request.Read m 64) (Reply.Bytes bytes)) first reads) in
+    let b = next opened 1 s1 s2 process_1 (write_hello fd_0) (Reply.Count taken) a.leads a.number refl refl
+    (subst (λ m. Answers s1 s2 process_1 (write_hello m) (Reply.Count taken)) first writes) in
+    let c = next written 2 s2 s3 process_1 (to_start fd_0) (Reply.At at) b.leads b.number refl refl
+    (subst (λ m. Answers s2 s3 process_1 (to_start m) (Reply.At at)) first seeks) in
+    let d = next at_start 3 s3 s4 process_1 (Request.Read fd_0 64) (Reply.Bytes bytes) c.leads c.number refl refl
+    (subst (λ m. Answers s3 s4 process_1 (Request.Read m 64) (Reply.Bytes bytes)) first reads) in
     let told : Reply.Bytes bytes ≡ Reply.Bytes (codes "hello") = d.is_said ∙ what_is_read in
     cc told
