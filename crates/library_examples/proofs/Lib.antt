@@ -1,1 +1,3 @@
 mod Closing
+mod Greeting
+mod KeyServer

@@ -1,15 +1,24 @@
-//! One process writes a file, and reads it back.
+//! One process writes a file, and reads it back. It promises that what it reads is what it wrote.
+ghost use Rattle.std.specs.Prelude.{◌≡◌, IfOk, codes};
+ghost use Rattle.library_examples.specs.Greeting.{hello_boot};
+
 use anyhow::Result;
 use bstr::BStr;
 use delortxa::{
     BookName, BookProgram, Boot, Bytes, CallError, Calls, Mode, Pid, Session, Whence, with_book,
 };
+use std::alloc::Global;
 
 #[derive(Drop)]
 struct Hello;
 
 impl BookProgram for Hello {
     type Output = Result<Bytes, CallError>;
+
+    ghost use Rattle.std.specs.Prelude.{◌≡◌, IfOk, codes};
+    ghost use Rattle.library_examples.specs.Greeting.{hello_boot};
+
+    ghost promise = { λ boot _ output. boot ≡ hello_boot → IfOk output (λ bytes. bytes ≡ codes "hello") };
 
     fn run<W: BookName>(self, session: &mut Session<W>) -> Self::Output {
         let writer = Pid(1);
@@ -20,10 +29,17 @@ impl BookProgram for Hello {
     }
 }
 
-pub(crate) fn run(rt: &(impl Print + AllocGlobal)) -> Result<()> {
-    let boot = Boot::new(rt.alloc()).file(b"notes", b"")?;
+/// What the process reads, by a contract that is proved from those of the library.
+fn read_back(alloc: Global) -> Result<Bytes>
+    ensures { IfOk result (λ bytes. bytes ≡ codes "hello") }
+{
+    let boot = Boot::new(alloc).file(b"notes", b"")?;
     let kernel = boot.process(1000, 1000, 16)?.start()?;
-    let (bytes, _history) = with_book(rt.alloc(), kernel, Hello)?;
-    println!(rt; "{}", BStr::new(bytes?.as_slice()))?;
+    let (bytes, _history) = with_book(alloc, kernel, Hello)?;
+    Ok(bytes?)
+}
+
+pub(crate) fn run(rt: &(impl Print + AllocGlobal)) -> Result<()> {
+    println!(rt; "{}", BStr::new(read_back(rt.alloc())?.as_slice()))?;
     Ok(())
 }

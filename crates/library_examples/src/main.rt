@@ -1,11 +1,12 @@
-//! The layer as a library: a file that is written and read back, a test of a service manager, a parser without rights
-//! and a display server with its clients in threads, by `delortxa`; then the crates below it: one process without
+//! The layer as a library: a file that is written and read back, a test of a service manager, a parser without rights,
+//! and a key server and a display server with their clients in threads, by `delortxa`; then the crates below it: one process without
 //! threads, two threads as processes, and a process that makes another.
 #![tactic(auto)]
 
 mod activation;
 mod display;
 mod hello;
+mod key_server;
 mod one_process;
 mod parser;
 mod relying;
@@ -32,6 +33,7 @@ fn main(rt: HostRuntime) -> Result<()> {
     hello::run(&rt)?;
     activation::run(&rt)?;
     parser::run(&rt)?;
+    key_server::run(&rt)?;
     display::run(&rt)?;
     one_process::run(&rt)?;
     two_threads::run(&rt)?;
