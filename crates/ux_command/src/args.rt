@@ -1,8 +1,10 @@
 //! The command line.
 
+use crate::orders::{LIMIT, NO_LIMIT, NO_ORDER, with_orders};
 use clap::error::ErrorKind;
-use clap::{Arg, ArgAction, Command, Error};
-use std::alloc::Global;
+use clap::{Arg, ArgAction, ArgMatches, Command, Error};
+use std::alloc::{AllocError, Global};
+use ux_orders::{Order, read_order};
 
 /// What `--version` prints behind the program's name.
 const VERSION: &str = "0.3.0";
@@ -16,6 +18,10 @@ pub struct Args<'a> {
     pub check: bool,
     /// After how many calls the open descriptors are printed, each with the chain of processes that passed it.
     pub audit: Option<u32>,
+    /// In which order the processes' lines are made, where it isn't that of the script.
+    pub order: Option<Order>,
+    /// How many orders are made at most, where all are asked for.
+    pub orders: Option<u32>,
     /// A path, or `-` for standard input.
     pub script: &'a str,
 }
@@ -43,13 +49,14 @@ pub fn read_args<'a>(alloc: Global, words: &'a [String]) -> Result<Args<'a>, Err
         .help(
             "Makes the calls of each process in a thread of its own, where they wait if they have to",
         );
-    let mut command = Command::new(alloc, "uxrun")
+    let command = Command::new(alloc, "uxrun")
         .about("Runs a script of socket calls and prints its trace")
         .version(VERSION)
         .arg(threads)?
         .arg(check)?
         .arg(audit)?
         .arg(script)?;
+    let mut command = with_orders(alloc, command)?;
     let matches = command.try_get_matches_from_mut(words)?;
     let audit = match matches.get_str("audit") {
         Some(text) => match number_of(text) {
@@ -58,12 +65,37 @@ pub fn read_args<'a>(alloc: Global, words: &'a [String]) -> Result<Args<'a>, Err
         },
         None => None,
     };
+    let Some(order) = order_of(alloc, &matches)? else {
+        return Err(command.error(ErrorKind::ValueValidation, NO_ORDER)?);
+    };
+    let Some(orders) = orders_of(&matches) else {
+        return Err(command.error(ErrorKind::ValueValidation, NO_LIMIT)?);
+    };
     Ok(Args {
         threads: matches.get_flag("threads"),
         check: matches.get_flag("check"),
         audit,
+        order,
+        orders,
         script: matches.get_str("SCRIPT").unwrap_or("-"),
     })
+}
+
+/// The order that is asked for, if one is. None where it isn't written as an order.
+fn order_of(alloc: Global, matches: &ArgMatches<'_>) -> Result<Option<Option<Order>>, AllocError> {
+    match matches.get_str("order") {
+        Some(text) => Ok(read_order(alloc, text)?.map(Some)),
+        None => Ok(Some(None)),
+    }
+}
+
+/// How many orders are made at most, where all are asked for. None where that isn't a number.
+fn orders_of(matches: &ArgMatches<'_>) -> Option<Option<u32>> {
+    let limit = match matches.get_str("limit") {
+        Some(text) => number_of(text)?,
+        None => LIMIT,
+    };
+    Some(matches.get_flag("orders").then_some(limit))
 }
 
 /// Why the value of `--audit` isn't taken.

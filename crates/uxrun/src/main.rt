@@ -3,11 +3,13 @@
 
 mod audit;
 mod objects;
+mod orders;
 
 use audit::tell_audit;
 use clap::Error;
 use clap::error::ErrorKind;
 use objects::{check_script, run_script};
+use orders::{run_in_order, tell_orders};
 use std::alloc::Global;
 use std::process::ExitCode;
 use std::random::RandomSource;
@@ -38,10 +40,16 @@ fn script_of<R: Files + Input + AllocGlobal>(rt: &R, name: &str) -> Result<Scrip
 /// calls once more, and reports how many entries there are, and who came to which descriptor through whom.
 fn run<R: Files + Input + Threads + Wait + Print + RandomSource + AllocGlobal + Sync>(
     rt: &R,
-    args: &Args<'_>,
+    args: &mut Args<'_>,
 ) -> Result<(), Fault> {
     let script = script_of(rt, args.script)?;
-    let mut history = run_script(rt, &script, args.threads)?;
+    if let Some(limit) = args.orders {
+        return tell_orders(rt, &script, limit);
+    }
+    let mut history = match &mut args.order {
+        Some(order) => run_in_order(rt, &script, order)?,
+        None => run_script(rt, &script, args.threads)?,
+    };
     if args.check {
         history = check_script(rt, &script, history)?;
         println!(rt; "check ok {}", history.len()).map_err(|_| ScriptFault::Writing)?;
@@ -84,12 +92,12 @@ fn main(rt: HostRuntime) -> ExitCode {
     let Ok(words) = words.collect::<Vec<String>>(rt.alloc()) else {
         return failed(&rt, &no_memory);
     };
-    let args = match read_args(rt.alloc(), words.as_slice()) {
+    let mut args = match read_args(rt.alloc(), words.as_slice()) {
         Ok(args) => args,
         Err(error) if error.kind() == ErrorKind::OutOfMemory => return failed(&rt, &no_memory),
         Err(error) => return told(&rt, &error),
     };
-    match run(&rt, &args) {
+    match run(&rt, &mut args) {
         Ok(()) => ExitCode::SUCCESS,
         Err(fault) => failed(&rt, &fault),
     }
