@@ -2,6 +2,7 @@
 use Rattle.std.proofs.Common.{◌≡◌, ℕ, Bool, true, false, List, [], ◌++◌, refl, sym, ap, ◌∙◌, subst, append-nil}
 use Rattle.ux_model.specs.Types.{Pid, Entry}
 use Rattle.ux_model.specs.State.{State}
+use Rattle.ux_model.specs.History.{IsLegal}
 use Rattle.ux_syntax.specs.Spelling.{Plan}
 use Rattle.ux_compare.specs.Runs.{Runs, HasBegun, requests_of, turns}
 use Rattle.ux_orders.specs.declared.ran.Ran.{Ran}
@@ -29,3 +30,6 @@ pub made_first : (pids : List Pid) (ran : Ran) → is_refused ran ≡ true → (
 made_first pids (Ran.Whole entries) e list = absurd cc
 made_first pids (Ran.Deadlock entries waits) e list = absurd cc
 made_first pids (Ran.Refused entries) e list = list
+
+pub legal_of : (boot : State) (s : Plan) (ran : Ran) → IsRunOf boot s ran → IsLegal boot (entries_of ran)
+legal_of boot s ran run = let first = begun boot s ran run in first.legal

@@ -1,10 +1,10 @@
 //! Every order of a script.
-ghost use Rattle.std.specs.Prelude.{◌≡◌, ◌+◌, ◌^◌, ◌<◌, ◌≤◌, length, map, slice_index_or, IfOk, OnOk, IfSome};
+ghost use Rattle.std.specs.Prelude.{◌≡◌, ◌+◌, ◌^◌, ◌<◌, ◌≤◌, false, length, map, slice_index_or, IfOk, OnOk, IfSome};
 ghost use Rattle.std.specs.List.{AllByRecursion};
 ghost use Rattle.ux_model.specs.Limits.{made_limit};
 ghost use Rattle.ux_model.specs.Boot.{IsBootState, new_process};
 ghost use Rattle.ux_syntax.specs.Spelling.{plan_of};
-ghost use Rattle.ux_orders.specs.Outcomes.{SameOutcome, Keeps, IsRun, Cover};
+ghost use Rattle.ux_orders.specs.Outcomes.{SameOutcome, Keeps, IsRun, Cover, is_refused};
 
 use crate::outcome::is_same_outcome;
 use crate::ran::{OrderFault, Ran};
@@ -71,9 +71,7 @@ pub fn explore<B: Boot>(
     for _run in 0..limit {
         let kernel = machine.boot(script)?;
         let ran = run_order(alloc, script, kernel, &mut search)?;
-        if !ran.is_refused() {
-            found.add(ran, script)?;
-        }
+        found.take(ran, script)?;
         if !search.advance()? {
             found.is_all = true;
             return Ok(found);
@@ -83,6 +81,22 @@ pub fn explore<B: Boot>(
 }
 
 impl Found {
+    /// Adds a run, if it wasn't broken off.
+    fn take(&mut self, ran: Ran, script: &Script) -> Result<(), OrderFault>
+        requires room { self.old.orders + 1 < 2 ^ 64 }
+        requires run { is_refused ran ≡ false → IsRun (plan_of script.now) ran }
+        requires runs { AllByRecursion (IsRun (plan_of script.now)) self.old.outcomes.items }
+        requires covered { Cover (plan_of script.now) self.old.orders self.old.outcomes.items }
+        ensures runs { OnOk result (AllByRecursion (IsRun (plan_of script.now)) self.new.outcomes.items) }
+        ensures covered { OnOk result (Cover (plan_of script.now) self.new.orders self.new.outcomes.items) }
+        ensures count { OnOk result (self.new.orders ≤ self.old.orders + 1) }
+    {
+        if ran.is_refused() {
+            return Ok(());
+        }
+        self.add(ran, script)
+    }
+
     /// Counts a run, and keeps it where none with its outcome was found before, or only longer ones.
     #[tactic(auto, using(crate::proofs::Covering::cover_more, crate::proofs::Covering::keeps_runs))]
     fn add(&mut self, ran: Ran, script: &Script) -> Result<(), OrderFault>
