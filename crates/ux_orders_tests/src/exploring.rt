@@ -1,9 +1,8 @@
 //! All orders of a script.
-use crate::machine::{found_by, list_of, script_of};
+use crate::machine::{found_by, list_of};
 use std::alloc::Global;
-use std::process::Abort;
 use std::test::Fail;
-use ux_orders::{Found, is_same_outcome};
+use ux_orders::Found;
 
 /// More runs than any script here has.
 const MANY: u64 = 1000;

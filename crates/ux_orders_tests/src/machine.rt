@@ -6,11 +6,14 @@ use std::alloc::Global;
 use std::test::Fail;
 use ux_kernel::Kernel;
 use ux_objects::Counter;
-use ux_orders::{Boot, Chooser, Found, OrderFault, Ran, explore, run_order};
+use ux_orders::{
+    Boot, Chooser, Found, Order, OrderFault, OrderList, Ran, explore, make_order, run_order,
+};
 use ux_syntax::{Script, parse_script};
 use ux_types::Name;
 
 /// Makes kernels with a counter for each object of a script.
+#[derive(Drop)]
 pub struct Machine {
     pub alloc: Global,
 }
@@ -58,6 +61,18 @@ pub fn run_by<C: Chooser>(alloc: Global, text: &str, chooser: &mut C) -> Result<
     }
 }
 
+/// A run of a script in this order.
+pub fn run_in(alloc: Global, text: &str, order: &mut Order) -> Result<Ran, Fail> {
+    let script = script_of(alloc, text)?;
+    let Ok(kernel) = kernel_of(alloc, &script) else {
+        return Err(Fail::from("no kernel"));
+    };
+    match make_order(alloc, &script, kernel, order) {
+        Ok(ran) => Ok(ran),
+        Err(_) => Err(Fail::from("no run")),
+    }
+}
+
 /// What all orders of a script come to.
 pub fn found_by(alloc: Global, text: &str, limit: u64, reduced: bool) -> Result<Found, Fail> {
     let script = script_of(alloc, text)?;
@@ -69,6 +84,6 @@ pub fn found_by(alloc: Global, text: &str, limit: u64, reduced: bool) -> Result<
 
 /// A run's order, as it is written.
 pub fn list_of(alloc: Global, ran: &Ran) -> Result<String, Fail> {
-    let list = ux_orders::OrderList(ran.entries());
+    let list = OrderList(ran.entries());
     Ok(format!(in alloc; "{list}")?)
 }

@@ -1,5 +1,5 @@
 //! Runs in one order.
-use crate::machine::{list_of, run_by};
+use crate::machine::{list_of, run_by, run_in};
 use std::test::Fail;
 use ux_orders::{Draw, Order, Ran, read_order};
 use ux_types::Pid;
@@ -24,7 +24,7 @@ fn an_order_that_is_written_is_made(rt: HostRuntime) -> Result<(), Fail> {
         let Some(mut order) = read_order(rt.alloc(), text)? else {
             return Err(Fail::from("no order"));
         };
-        let ran = run_by(rt.alloc(), SOCKETS, &mut order)?;
+        let ran = run_in(rt.alloc(), SOCKETS, &mut order)?;
         assert!(rt; matches!(ran, Ran::Whole(_)));
         assert_eq!(rt; list_of(rt.alloc(), &ran)?.as_str(), made);
     }
@@ -34,11 +34,17 @@ fn an_order_that_is_written_is_made(rt: HostRuntime) -> Result<(), Fail> {
 /// A process that isn't there, or has exited, or waits, makes no line: the run ends before it.
 #[test]
 fn an_order_that_cannot_be_made_ends_before_its_place(rt: HostRuntime) -> Result<(), Fail> {
-    for (text, made) in [("3,", ","), ("1,1,1", "1,1"), ("2,0,1", "2,"), ("1,2,2,2", "1,2,2")] {
+    for (text, made) in [
+        ("3,", ","),
+        ("1,1,1", "1,1"),
+        ("2,0,1", "2,"),
+        ("1,2,2,2", "1,2,2"),
+        ("1,1,2,2,2", "1,1,2,2"),
+    ] {
         let Some(mut order) = read_order(rt.alloc(), text)? else {
             return Err(Fail::from("no order"));
         };
-        let ran = run_by(rt.alloc(), SOCKETS, &mut order)?;
+        let ran = run_in(rt.alloc(), SOCKETS, &mut order)?;
         assert!(rt; ran.is_refused());
         assert_eq!(rt; list_of(rt.alloc(), &ran)?.as_str(), made);
     }
@@ -72,9 +78,25 @@ fn a_number_stands_for_one_order(rt: HostRuntime) -> Result<(), Fail> {
 /// Numbers are written as in scripts, and a list has a comma at least.
 #[test]
 fn what_is_no_order_is_refused(rt: HostRuntime) -> Result<(), Fail> {
-    for text in ["", "x", "01", "+1", "1,,2", "1,2,,", ",,", "1, 2", "4294967296,", "18446744073709551616"] {
+    for text in [
+        "",
+        "x",
+        "01",
+        "+1",
+        "1,,2",
+        "1,2,,",
+        ",,",
+        "1, 2",
+        "4294967296,",
+        "18446744073709551616",
+    ] {
         assert!(rt; read_order(rt.alloc(), text)?.is_none());
     }
-    assert!(rt; matches!(read_order(rt.alloc(), "18446744073709551615")?, Some(Order::Drawn(_))));
+    assert!(rt;
+        matches!(
+            read_order(rt.alloc(), "18446744073709551615")?,
+            Some(Order::Drawn(_))
+        )
+    );
     Ok(())
 }

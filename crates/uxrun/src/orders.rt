@@ -79,7 +79,10 @@ pub fn run_in_order<R: Print + RandomSource + AllocGlobal>(
             Ok(entries)
         }
         Ran::Deadlock(_, waits) => Err(Fault::Script(ScriptFault::Deadlock(Waiting::new(waits)))),
-        Ran::Refused(entries) => Err(Fault::Order(entries.len().saturating_add(1))),
+        Ran::Refused(entries) => {
+            let made = entries.iter().filter(|entry| entry.pid.0 != 0).count();
+            Err(Fault::Order(made.saturating_add(1)))
+        }
     }
 }
 
