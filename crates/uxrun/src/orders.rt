@@ -99,7 +99,11 @@ pub fn tell_orders<R: Print + RandomSource + AllocGlobal>(
         Err(fault) => return Err(machine.fault.take().unwrap_or(Fault::from(fault))),
     };
     let count = found.outcomes.len();
-    let deadlocks = found.outcomes.iter().filter(|ran| ran.is_deadlock()).count();
+    let deadlocks = found
+        .outcomes
+        .iter()
+        .filter(|ran| ran.is_deadlock())
+        .count();
     println!(rt; "orders {}\noutcomes {count}", found.orders).map_err(|_| ScriptFault::Writing)?;
     tell_outcomes(rt, &found.outcomes)?;
     if !found.is_all {
