@@ -23,7 +23,9 @@ pub(crate) fn with_orders<'a>(
         .value_name("ORDER")
         .action(ArgAction::Set)
         .conflicts_with("threads")?
-        .help("Makes the lines in one order: that of a number, or process numbers joined by commas");
+        .help(
+            "Makes the lines in one order: that of a number, or process numbers joined by commas",
+        );
     let orders = Arg::new(alloc, "orders")
         .long("orders")
         .action(ArgAction::SetTrue)
