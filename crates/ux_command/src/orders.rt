@@ -29,7 +29,10 @@ pub(crate) fn with_orders<'a>(
     let orders = Arg::new(alloc, "orders")
         .long("orders")
         .action(ArgAction::SetTrue)
-        .conflicts_with_all(&["threads", "order", "check", "audit"])?
+        .conflicts_with("threads")?
+        .conflicts_with("order")?
+        .conflicts_with("check")?
+        .conflicts_with("audit")?
         .help("Makes the lines in every order, and tells what the orders come to");
     let limit = Arg::new(alloc, "limit")
         .long("limit")
