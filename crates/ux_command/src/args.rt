@@ -1,8 +1,10 @@
 //! The command line.
 
+use crate::orders::{LIMIT, NO_LIMIT, NO_ORDER, with_orders};
 use clap::error::ErrorKind;
-use clap::{Arg, ArgAction, Command, Error};
+use clap::{Arg, ArgAction, ArgMatches, Command, Error};
 use std::alloc::{AllocError, Global};
+use ux_orders::{Order, read_order};
 
 /// What `--version` prints behind the program's name.
 const VERSION: &str = "0.3.0";
@@ -20,6 +22,10 @@ pub struct Args<'a> {
     pub expect: bool,
     /// After how many calls the open descriptors are printed, each with the chain of processes that passed it.
     pub audit: Option<u32>,
+    /// In which order the processes' lines are made, where it isn't that of the script.
+    pub order: Option<Order>,
+    /// How many orders are made at most, where all are asked for.
+    pub orders: Option<u32>,
     /// A path, or `-` for standard input.
     pub script: &'a str,
 }
@@ -45,7 +51,7 @@ fn command_of<'a>(alloc: Global) -> Result<Command<'a>, AllocError> {
         .help(
             "Tells which descriptors are open after the first N calls, and how each came to its process",
         );
-    Command::new(alloc, "uxrun")
+    let command = Command::new(alloc, "uxrun")
         .about("Runs a script of socket calls and prints its trace")
         .version(VERSION)
         .arg(switch(alloc, "threads", THREADS))?
@@ -53,7 +59,8 @@ fn command_of<'a>(alloc: Global) -> Result<Command<'a>, AllocError> {
         .arg(switch(alloc, "expect", EXPECT))?
         .arg(switch(alloc, "check", CHECK))?
         .arg(audit)?
-        .arg(script)
+        .arg(script)?;
+    with_orders(alloc, command)
 }
 
 /// Reads the words of a command line, of which the first is the program's name.
@@ -67,12 +74,20 @@ pub fn read_args<'a>(alloc: Global, words: &'a [String]) -> Result<Args<'a>, Err
         },
         None => None,
     };
+    let Some(order) = order_of(alloc, &matches)? else {
+        return Err(command.error(ErrorKind::ValueValidation, NO_ORDER)?);
+    };
+    let Some(orders) = orders_of(&matches) else {
+        return Err(command.error(ErrorKind::ValueValidation, NO_LIMIT)?);
+    };
     Ok(Args {
         threads: matches.get_flag("threads"),
         check: matches.get_flag("check"),
         echo: matches.get_flag("echo"),
         expect: matches.get_flag("expect"),
         audit,
+        order,
+        orders,
         script: matches.get_str("SCRIPT").unwrap_or("-"),
     })
 }
@@ -85,6 +100,23 @@ const ECHO: &str = "Prints each call with its line and its arguments, instead of
 const EXPECT: &str = "Compares the replies with those that comments expect: #= REPLY behind a call";
 
 const CHECK: &str = "Makes the calls of the trace once more, on a second kernel, and compares";
+
+/// The order that is asked for, if one is. None where it isn't written as an order.
+fn order_of(alloc: Global, matches: &ArgMatches<'_>) -> Result<Option<Option<Order>>, AllocError> {
+    match matches.get_str("order") {
+        Some(text) => Ok(read_order(alloc, text)?.map(Some)),
+        None => Ok(Some(None)),
+    }
+}
+
+/// How many orders are made at most, where all are asked for. None where that isn't a number.
+fn orders_of(matches: &ArgMatches<'_>) -> Option<Option<u32>> {
+    let limit = match matches.get_str("limit") {
+        Some(text) => number_of(text)?,
+        None => LIMIT,
+    };
+    Some(matches.get_flag("orders").then_some(limit))
+}
 
 /// Why the value of `--audit` isn't taken.
 const NO_NUMBER: &str = "N of --audit is a number from 0 to 4294967295, without leading zeros";

@@ -4,6 +4,7 @@ use std::alloc::{AllocError, AllocFailed};
 use thiserror::Error;
 use ux_kernel::BootFault;
 use ux_object::ObjError;
+use ux_orders::OrderFault;
 use ux_syntax::ScriptFault;
 use ux_types::{Fd, Pid};
 
@@ -25,6 +26,15 @@ pub enum Fault {
     /// The chain of holdings of this process's descriptor isn't its pedigree.
     #[error("audit fails at {} {}", .0.0, .1.0)]
     Audit(Pid, Fd),
+    /// In the order that was asked for, the process at this place, counted from 1, can't go on.
+    #[error("order: the process at place {0} can't go on")]
+    Order(usize),
+    /// In some orders each process that is left waits: so many outcomes are deadlocks, of so many.
+    #[error("deadlock in {0} of {1} outcomes")]
+    Deadlocks(usize, usize),
+    /// Not all orders were made.
+    #[error("not all orders were made")]
+    Limit,
 }
 
 impl From<ScriptFault> for Fault {
@@ -36,6 +46,15 @@ impl From<ScriptFault> for Fault {
 impl From<BootFault> for Fault {
     fn from(fault: BootFault) -> Fault {
         Fault::Boot(fault as u8)
+    }
+}
+
+impl From<OrderFault> for Fault {
+    fn from(fault: OrderFault) -> Fault {
+        match fault {
+            OrderFault::Stranger => Fault::Script(ScriptFault::Stranger),
+            OrderFault::NoMemory | OrderFault::NoKernel => Fault::Script(ScriptFault::NoMemory),
+        }
     }
 }
 

@@ -3,6 +3,7 @@
 
 mod args;
 mod fault;
+mod orders;
 
 pub use args::{Args, read_args};
 pub use fault::Fault;

@@ -3,6 +3,7 @@
 
 mod audit;
 mod objects;
+mod orders;
 mod printing;
 mod reading;
 
@@ -10,6 +11,7 @@ use audit::tell_audit;
 use clap::Error;
 use clap::error::ErrorKind;
 use objects::{check_script, run_script};
+use orders::{run_in_order, tell_orders};
 use printing::{print_comparison, print_run};
 use reading::script_of;
 use std::process::ExitCode;
@@ -31,9 +33,15 @@ const NOT_UNDERSTOOD: u8 = 2;
 /// whom.
 fn run<R: Files + Input + Threads + Wait + Print + RandomSource + AllocGlobal + Sync>(
     rt: &R,
-    args: &Args<'_>,
+    args: &mut Args<'_>,
 ) -> Result<(), Fault> {
     let (script, expected) = script_of(rt, args)?;
+    if script.serial && (args.order.is_some() || args.orders.is_some()) {
+        return Err(Fault::Script(ScriptFault::OneOrder));
+    }
+    if let Some(limit) = args.orders {
+        return tell_orders(rt, &script, limit);
+    }
     let mut history = history_of(rt, args, &script, &expected)?;
     print_run(rt, args, &script, &expected, &history)?;
     if args.check {
@@ -50,21 +58,39 @@ fn run<R: Files + Input + Threads + Wait + Print + RandomSource + AllocGlobal + 
 /// it can't be printed.
 fn history_of<R: Threads + Wait + Print + RandomSource + AllocGlobal + Sync>(
     rt: &R,
-    args: &Args<'_>,
+    args: &mut Args<'_>,
     script: &Script,
     expected: &[Expectation],
 ) -> Result<Vec<Entry>, Fault> {
-    match run_script(rt, script, args.threads) {
-        Ok(Ran::Whole(history)) => Ok(history),
-        Ok(Ran::Begun(history, waiting)) => {
+    match run_as_asked(rt, args, script) {
+        Ok((history, None)) => Ok(history),
+        Ok((history, Some(fault))) => {
             let _printed = print_run(rt, args, script, expected, &history);
-            Err(Fault::Script(ScriptFault::Deadlock(waiting)))
+            Err(fault)
         }
         Err(fault) => {
             if args.expect {
                 let _told = print_comparison(rt, expected, &[], &[]);
             }
             Err(fault)
+        }
+    }
+}
+
+/// The history of a run in the order that was asked for, and why it was cut short, if it was.
+fn run_as_asked<R: Threads + Wait + RandomSource + AllocGlobal + Sync>(
+    rt: &R,
+    args: &mut Args<'_>,
+    script: &Script,
+) -> Result<(Vec<Entry>, Option<Fault>), Fault> {
+    if let Some(order) = &mut args.order {
+        return run_in_order(rt, script, order);
+    }
+    match run_script(rt, script, args.threads)? {
+        Ran::Whole(history) => Ok((history, None)),
+        Ran::Begun(history, waiting) => {
+            let deadlock = ScriptFault::Deadlock(waiting);
+            Ok((history, Some(Fault::Script(deadlock))))
         }
     }
 }
@@ -101,12 +127,12 @@ fn main(rt: HostRuntime) -> ExitCode {
     let Ok(words) = words.collect::<Vec<String>>(rt.alloc()) else {
         return failed(&rt, &no_memory);
     };
-    let args = match read_args(rt.alloc(), words.as_slice()) {
+    let mut args = match read_args(rt.alloc(), words.as_slice()) {
         Ok(args) => args,
         Err(error) if error.kind() == ErrorKind::OutOfMemory => return failed(&rt, &no_memory),
         Err(error) => return told(&rt, &error),
     };
-    match run(&rt, &args) {
+    match run(&rt, &mut args) {
         Ok(()) => ExitCode::SUCCESS,
         Err(fault) => failed(&rt, &fault),
     }

@@ -97,7 +97,7 @@ fn perform<R: Threads + Wait + RandomSource + AllocGlobal + Sync>(
 
 /// A kernel of the script's processes and these file objects. Its names are hashed by random keys, so that no script
 /// can choose names that collide.
-fn kernel_of<O: FileObject, R: RandomSource + AllocGlobal>(
+pub(crate) fn kernel_of<O: FileObject, R: RandomSource + AllocGlobal>(
     rt: &R,
     script: &Script,
     objects: Vec<(Name, O)>,

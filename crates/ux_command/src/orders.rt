@@ -1,0 +1,46 @@
+//! The options for the order of the processes' lines.
+use clap::{Arg, ArgAction, Command};
+use std::alloc::{AllocError, Global};
+
+/// How many orders are made where all are asked for, and no limit is given.
+pub(crate) const LIMIT: u32 = 1_000_000;
+
+/// Why the value of `--order` isn't taken.
+pub(crate) const NO_ORDER: &str =
+    "ORDER of --order is a number, or process numbers joined by commas, without leading zeros";
+
+/// Why the value of `--limit` isn't taken.
+pub(crate) const NO_LIMIT: &str =
+    "N of --limit is a number from 0 to 4294967295, without leading zeros";
+
+/// The command with the options for one order, for all, and for how many of all at most.
+pub(crate) fn with_orders<'a>(
+    alloc: Global,
+    command: Command<'a>,
+) -> Result<Command<'a>, AllocError> {
+    let order = Arg::new(alloc, "order")
+        .long("order")
+        .value_name("ORDER")
+        .action(ArgAction::Set)
+        .conflicts_with("threads")?
+        .help(
+            "Makes the lines in one order: that of a number, or process numbers joined by commas",
+        );
+    let orders = Arg::new(alloc, "orders")
+        .long("orders")
+        .action(ArgAction::SetTrue)
+        .conflicts_with("threads")?
+        .conflicts_with("order")?
+        .conflicts_with("check")?
+        .conflicts_with("audit")?
+        .conflicts_with("echo")?
+        .conflicts_with("expect")?
+        .help("Makes the lines in every order, and tells what the orders come to");
+    let limit = Arg::new(alloc, "limit")
+        .long("limit")
+        .value_name("N")
+        .action(ArgAction::Set)
+        .requires_arg("orders")?
+        .help("Makes at most N orders, a million where it isn't given");
+    command.arg(order)?.arg(orders)?.arg(limit)
+}

@@ -1,0 +1,148 @@
+//! Every order of a script.
+ghost use Rattle.std.specs.Prelude.{◌≡◌, ◌+◌, ◌^◌, ◌<◌, ◌≤◌, false, length, map, slice_index_or, IfOk, OnOk, IfSome};
+ghost use Rattle.std.specs.List.{AllByRecursion};
+ghost use Rattle.ux_model.specs.Limits.{made_limit};
+ghost use Rattle.ux_model.specs.Boot.{IsBootState, new_process};
+ghost use Rattle.ux_syntax.specs.Spelling.{plan_of};
+ghost use Rattle.ux_orders.specs.Outcomes.{SameOutcome, Keeps, IsRun, Cover, is_refused};
+
+use crate::outcome::is_same_outcome;
+use crate::ran::{OrderFault, Ran};
+use crate::run::run_order;
+use crate::search::Search;
+use std::alloc::Global;
+use ux_kernel::Kernel;
+use ux_object::FileObject;
+use ux_syntax::Script;
+use ux_types::MADE_LIMIT;
+
+/// Makes kernels that have just started, as often as one is wanted.
+pub trait Boot {
+    type Object: FileObject;
+
+    /// A kernel that has just started with the script's processes.
+    ///
+    /// # Errors
+    ///
+    /// Whatever keeps it from being made.
+    fn boot(&mut self, script: &Script) -> Result<Kernel<Self::Object>, OrderFault>
+        ensures boots { IfOk result (λ kernel. IsBootState kernel) }
+        ensures processes { IfOk result (λ kernel. kernel.processes ≡ map new_process script.now.procs.items) };
+}
+
+/// What all orders of a script have come to.
+#[derive(Drop)]
+pub struct Found {
+    /// How many orders were made to their end.
+    pub orders: u64,
+    /// Whether no further order is left.
+    pub is_all: bool,
+    /// A run for each outcome, the shortest that was made, and of those the one with the smallest list.
+    pub outcomes: Vec<Ran>,
+}
+
+/// Runs the script in all orders, the smaller list first, each on a kernel that has just started, and keeps a run for
+/// each outcome. No more than `limit` runs are begun. Where it is `reduced`, of orders that differ in where a call
+/// stands that concerns its process alone one is made to its end, the one with the smallest list.
+///
+/// # Errors
+///
+/// Those of `run_order`, and of the kernels.
+pub fn explore<B: Boot>(
+    alloc: Global,
+    script: &Script,
+    machine: &mut B,
+    limit: u64,
+    reduced: bool,
+) -> Result<Found, OrderFault>
+    // Each of them is a legal history from the state of a kernel that has just started, in which each process makes the script's calls in
+    // their order, and its exit last, or a beginning of them up to a deadlock.
+    ensures runs { IfOk result (λ found. AllByRecursion (IsRun (plan_of script.now)) found.outcomes.items) }
+    // So many such runs were made, and each has the outcome of one of them, which isn't longer.
+    ensures covered { IfOk result (λ found. Cover (plan_of script.now) found.orders found.outcomes.items) }
+    ensures limit { IfOk result (λ found. found.orders ≤ limit) }
+{
+    let mut search = Search::new(alloc, reduced);
+    let mut found = Found {
+        orders: 0,
+        is_all: false,
+        outcomes: Vec::new(alloc),
+    };
+    for _run in 0..limit {
+        let kernel = machine.boot(script)?;
+        let ran = run_order(alloc, script, kernel, &mut search)?;
+        found.take(ran, script)?;
+        if !search.advance()? {
+            found.is_all = true;
+            return Ok(found);
+        }
+    }
+    Ok(found)
+}
+
+impl Found {
+    /// Adds a run, if it wasn't broken off.
+    fn take(&mut self, ran: Ran, script: &Script) -> Result<(), OrderFault>
+        requires room { self.old.orders + 1 < 2 ^ 64 }
+        requires run { is_refused ran ≡ false → IsRun (plan_of script.now) ran }
+        requires runs { AllByRecursion (IsRun (plan_of script.now)) self.old.outcomes.items }
+        requires covered { Cover (plan_of script.now) self.old.orders self.old.outcomes.items }
+        ensures runs { OnOk result (AllByRecursion (IsRun (plan_of script.now)) self.new.outcomes.items) }
+        ensures covered { OnOk result (Cover (plan_of script.now) self.new.orders self.new.outcomes.items) }
+        ensures count { OnOk result (self.new.orders ≤ self.old.orders + 1) }
+    {
+        if ran.is_refused() {
+            return Ok(());
+        }
+        self.add(ran, script)
+    }
+
+    /// Counts a run, and keeps it where none with its outcome was found before, or only longer ones.
+    #[tactic(auto, using(crate::proofs::Covering::cover_more, crate::proofs::Covering::keeps_runs))]
+    fn add(&mut self, ran: Ran, script: &Script) -> Result<(), OrderFault>
+        requires room { self.old.orders + 1 < 2 ^ 64 }
+        requires run { IsRun (plan_of script.now) ran }
+        requires runs { AllByRecursion (IsRun (plan_of script.now)) self.old.outcomes.items }
+        requires covered { Cover (plan_of script.now) self.old.orders self.old.outcomes.items }
+        ensures runs { OnOk result (AllByRecursion (IsRun (plan_of script.now)) self.new.outcomes.items) }
+        ensures covered { OnOk result (Cover (plan_of script.now) self.new.orders self.new.outcomes.items) }
+        ensures count { OnOk result (self.new.orders ≡ self.old.orders + 1) }
+    {
+        let count = script.process_count();
+        if count > MADE_LIMIT {
+            return Err(OrderFault::Stranger);
+        }
+        keep(&mut self.outcomes, ran, count)?;
+        self.orders += 1;
+        Ok(())
+    }
+}
+
+/// Keeps a run where none with its outcome is among these, or in place of a longer one.
+fn keep(outcomes: &mut Vec<Ran>, ran: Ran, count: usize) -> Result<(), OrderFault>
+    requires few { count ≤ made_limit }
+    ensures { OnOk result (Keeps count outcomes.old.items outcomes.new.items ran) }
+{
+    let Some(place) = place_of_same(outcomes, &ran, count) else {
+        outcomes.push(ran)?;
+        return Ok(());
+    };
+    if ran.entries().len() < outcomes[place].entries().len() {
+        outcomes[place] = ran;
+    }
+    Ok(())
+}
+
+/// The first place of a run with this one's outcome.
+fn place_of_same(outcomes: &[Ran], ran: &Ran, count: usize) -> Option<usize>
+    requires few { count ≤ made_limit }
+    ensures within { IfSome result (λ i. i < length outcomes.now) }
+    ensures same { IfSome result (λ i. SameOutcome count ran.now (slice_index_or outcomes.now i ran.now)) }
+{
+    for (place, known) in outcomes.iter().enumerate() {
+        if is_same_outcome(ran, known, count) {
+            return Some(place);
+        }
+    }
+    None
+}

@@ -1,0 +1,22 @@
+//! Runs a script in one order of its processes' lines, and in every order.
+#![tactic(auto)]
+
+mod chooser;
+mod compared;
+mod crew;
+mod draw;
+mod exploring;
+mod member;
+mod order;
+mod outcome;
+mod ran;
+mod run;
+mod search;
+
+pub use chooser::{Chooser, Ready};
+pub use draw::Draw;
+pub use exploring::{Boot, Found, explore};
+pub use order::{Order, make_order, read_order};
+pub use outcome::is_same_outcome;
+pub use ran::{OrderFault, OrderList, Ran};
+pub use run::run_order;

@@ -1,0 +1,159 @@
+//! All orders of a script, one after another.
+ghost use Rattle.std.specs.Prelude.{◌<◌, length, IfSome};
+
+use crate::chooser::{Chooser, Ready};
+use crate::order::place_of;
+use std::alloc::{AllocError, Global};
+use ux_types::Pid;
+
+/// One line of the order that is made.
+#[derive(Drop)]
+struct Place {
+    /// Which process makes it.
+    chosen: Pid,
+    /// Which processes needn't make it: each order in which they do has the outcome of one that was made.
+    asleep: Vec<Pid>,
+    /// Those that needn't make the next line either.
+    still_asleep: Vec<Pid>,
+    /// Whether a further process may make it in place of the chosen one.
+    more: bool,
+}
+
+/// Goes through all orders, the smaller list first. Each run makes one, and `advance` goes on to the next.
+#[derive(Drop)]
+pub(crate) struct Search {
+    alloc: Global,
+    places: Vec<Place>,
+    /// How many of the places are made again as they are.
+    kept: usize,
+    /// Whether orders that differ in where calls stand which concern their process alone are made once.
+    reduced: bool,
+}
+
+impl Search {
+    /// Before the first order.
+    pub(crate) fn new(alloc: Global, reduced: bool) -> Search {
+        Search {
+            alloc,
+            places: Vec::new(alloc),
+            kept: 0,
+            reduced,
+        }
+    }
+
+    /// Goes on to the next order, if there may be one: another process makes the last line of which that may be so.
+    ///
+    /// # Errors
+    ///
+    /// Out of memory.
+    pub(crate) fn advance(&mut self) -> Result<bool, AllocError> {
+        for _ in 0..self.places.len() {
+            let Some(mut place) = self.places.pop() else {
+                return Ok(false);
+            };
+            if place.more {
+                self.kept = self.places.len();
+                place.asleep.push(place.chosen)?;
+                self.places.push(place)?;
+                return Ok(true);
+            }
+        }
+        Ok(false)
+    }
+
+    /// Who needn't make the next line, behind those that have places.
+    fn next_asleep(&self) -> Result<Vec<Pid>, AllocError> {
+        match self.places.last() {
+            Some(place) => place.still_asleep.clone(),
+            None => Ok(Vec::new(self.alloc)),
+        }
+    }
+
+    /// Chooses the lowest of these processes above this one that isn't asleep.
+    fn choose_above(
+        &mut self,
+        above: Pid,
+        asleep: Vec<Pid>,
+        ready: &[Ready],
+    ) -> Result<Option<usize>, AllocError> {
+        let Some(place) = next_awake(ready, 0, above, &asleep) else {
+            self.places.push(exhausted(self.alloc, asleep))?;
+            return Ok(None);
+        };
+        let chosen = ready[place];
+        let still_asleep = self.still_asleep(&asleep, ready, chosen)?;
+        self.places.push(Place {
+            chosen: chosen.pid,
+            more: next_awake(ready, place + 1, above, &asleep).is_some(),
+            asleep,
+            still_asleep,
+        })?;
+        Ok(Some(place))
+    }
+
+    /// Which of these sleepers sleep on when the chosen process has made its line: those whose lines can be exchanged
+    /// with it.
+    fn still_asleep(
+        &self,
+        asleep: &[Pid],
+        ready: &[Ready],
+        chosen: Ready,
+    ) -> Result<Vec<Pid>, AllocError> {
+        let mut still = Vec::new(self.alloc);
+        if !self.reduced {
+            return Ok(still);
+        }
+        for pid in asleep {
+            if chosen.alone || is_alone_of(ready, *pid) {
+                still.push(*pid)?;
+            }
+        }
+        Ok(still)
+    }
+}
+
+impl Chooser for Search {
+    fn choose(&mut self, made: usize, ready: &[Ready]) -> Result<Option<usize>, AllocError> {
+        if made < self.kept {
+            return match self.places.get(made) {
+                Some(place) => Ok(place_of(ready, place.chosen)),
+                None => Ok(None),
+            };
+        }
+        if made >= self.places.len() {
+            let asleep = self.next_asleep()?;
+            return self.choose_above(Pid(0), asleep, ready);
+        }
+        match self.places.pop() {
+            Some(place) => self.choose_above(place.chosen, place.asleep, ready),
+            None => Ok(None),
+        }
+    }
+}
+
+/// A place at which no process is left to be chosen.
+fn exhausted(alloc: Global, asleep: Vec<Pid>) -> Place {
+    Place {
+        chosen: Pid(0),
+        asleep,
+        still_asleep: Vec::new(alloc),
+        more: false,
+    }
+}
+
+/// The first place from this one on of a process above this one that isn't asleep.
+fn next_awake(ready: &[Ready], from: usize, above: Pid, asleep: &[Pid]) -> Option<usize>
+    ensures { IfSome result (λ place. place < length ready.now) }
+{
+    for (place, one) in ready.iter().enumerate() {
+        if place >= from && one.pid.0 > above.0 && !asleep.contains(&one.pid) {
+            return Some(place);
+        }
+    }
+    None
+}
+
+/// Whether the process is among these, with a call that concerns it alone.
+fn is_alone_of(ready: &[Ready], pid: Pid) -> bool {
+    ready.iter().any(|one| one.pid == pid && one.alone)
+}

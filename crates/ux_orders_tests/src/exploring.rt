@@ -1,0 +1,164 @@
+//! All orders of a script.
+use crate::machine::{found_by, list_of};
+use std::alloc::Global;
+use std::test::Fail;
+use ux_orders::Found;
+
+/// More runs than any script here has.
+const MANY: u64 = 1000;
+
+/// A script with what its orders come to.
+struct Row {
+    text: &'static str,
+    /// How many orders there are.
+    orders: u64,
+    /// How many are made where a call that concerns its process alone stands anywhere.
+    reduced: u64,
+    /// The list of each outcome, as the outcomes are found, and the number of those that are deadlocks.
+    outcomes: &'static [&'static str],
+    deadlocks: usize,
+}
+
+const ROWS: &[Row] = &[
+    // Either exit comes first.
+    Row {
+        text: "proc 1 1 0 4\nproc 1 1 0 4\n1 exit\n2 exit\n",
+        orders: 2,
+        reduced: 2,
+        outcomes: &["1,2"],
+        deadlocks: 0,
+    },
+    // A line and an exit of each: 6 ways to lay two rows of two into one another, and 2 orders of the exits.
+    Row {
+        text: "proc 1 1 0 4\nproc 1 1 0 4\n1 socket stream -\n2 socket stream -\n",
+        orders: 6,
+        reduced: 2,
+        outcomes: &["1,1,2,2"],
+        deadlocks: 0,
+    },
+    // A line that waits leaves one order.
+    Row {
+        text: "proc 1 1 0 4\nproc 1 1 0 4\n1 wait 2 1\n1 exit\n2 exit\n",
+        orders: 1,
+        reduced: 1,
+        outcomes: &["2,1"],
+        deadlocks: 0,
+    },
+    // A child's lines begin behind the fork, so only the exits have two orders.
+    Row {
+        text: "proc 1 1 0 4\n1 fork\n",
+        orders: 2,
+        reduced: 2,
+        outcomes: &["1,1,2"],
+        deadlocks: 0,
+    },
+    // Nobody is there, and the layer is ended.
+    Row {
+        text: "off\n",
+        orders: 1,
+        reduced: 1,
+        outcomes: &[","],
+        deadlocks: 0,
+    },
+    // One unit is there. Where process 1 takes it, process 2 waits for ever: its open stands before, between or behind
+    // the read and the exit, 3 orders. Where process 2 takes it, it gives it back before process 1 can read, and its
+    // exit stands before, between or behind the same two, 3 orders.
+    Row {
+        text: "object p:c counter
+proc 1 1 0 4
+proc 1 1 0 4
+1 open p:c rw -
+1 write 0 0100000000000000
+1 read 0 8
+2 wait 1 2
+2 open p:c rw -
+2 read 0 8
+2 write 0 0100000000000000
+",
+        orders: 6,
+        reduced: 6,
+        outcomes: &["1,1,1,1,2", "1,1,2,2,2,1,1,2"],
+        deadlocks: 1,
+    },
+    // Three calls of each of two clients, 20 orders, and then 6 of the exits. A socket stands anywhere, so 6 orders of
+    // their binds and connects are left. What comes out is who connects first.
+    Row {
+        text: "proc 1 1 0 4
+proc 1 1 0 4
+proc 1 1 0 4
+1 socket stream -
+1 bind 0 a:server
+1 listen 0 2
+2 wait 1 3
+2 socket stream -
+2 bind 0 a:red
+2 connect 0 a:server
+3 wait 1 3
+3 socket stream -
+3 bind 0 a:blue
+3 connect 0 a:server
+1 wait 2 3
+1 wait 3 3
+1 accept 0 -
+1 accept 0 -
+2 wait 1 5
+3 wait 1 5
+",
+        orders: 120,
+        reduced: 36,
+        outcomes: &["1,1,1,2,2,2,3,3,3,1,1,1,2,3", "1,1,1,2,2,3,3,3,2,1,1,1,2,3"],
+        deadlocks: 0,
+    },
+    // An accept and a datagram's receive wait for what comes later.
+    Row {
+        text: "proc 1 1 0 4
+proc 1 1 0 4
+1 socket dgram -
+1 bind 0 a:d
+1 recv 0 1 0 -
+1 exit
+2 wait 1 2
+2 socket dgram -
+2 send 0 a:d 78 - -
+2 exit
+",
+        orders: 3,
+        reduced: 3,
+        outcomes: &["1,1,2,2,1,1,2"],
+        deadlocks: 0,
+    },
+];
+
+/// Whether the outcomes are those of the row.
+fn has_outcomes(alloc: Global, found: &Found, row: &Row) -> Result<bool, Fail> {
+    if found.outcomes.len() != row.outcomes.len() {
+        return Ok(false);
+    }
+    for (ran, list) in found.outcomes.iter().zip(row.outcomes) {
+        if list_of(alloc, ran)?.as_str() != *list {
+            return Ok(false);
+        }
+    }
+    let deadlocks = found.outcomes.iter().filter(|ran| ran.is_deadlock());
+    Ok(deadlocks.count() == row.deadlocks)
+}
+
+#[test]
+fn all_orders_and_their_outcomes_are_found(rt: HostRuntime) -> Result<(), Fail> {
+    for row in ROWS {
+        let plain = found_by(rt.alloc(), row.text, MANY, false)?;
+        assert!(rt; plain.is_all && plain.orders == row.orders);
+        assert!(rt; has_outcomes(rt.alloc(), &plain, row)?);
+    }
+    Ok(())
+}
+
+#[test]
+fn fewer_orders_have_the_same_outcomes(rt: HostRuntime) -> Result<(), Fail> {
+    for row in ROWS {
+        let reduced = found_by(rt.alloc(), row.text, MANY, true)?;
+        assert!(rt; reduced.is_all && reduced.orders == row.reduced);
+        assert!(rt; has_outcomes(rt.alloc(), &reduced, row)?);
+    }
+    Ok(())
+}

@@ -1,0 +1,9 @@
+//! Tests of `ux_orders`. Beside it they would have it proved once more.
+#![tactic(auto)]
+
+#[cfg(test)]
+mod exploring;
+#[cfg(test)]
+mod machine;
+#[cfg(test)]
+mod one;
