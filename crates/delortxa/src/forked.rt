@@ -56,7 +56,12 @@ pub struct Forked<W: BookName, C: Drop, P: Drop> {
 /// # Errors
 ///
 /// Those of `Seat::fork`. Neither program has run then.
-pub fn fork_with<W: BookName + Send + Sync, R: Threads + Wait + Sync, C: LayerProgram<R>, P: ParentProgram<R>>(
+pub fn fork_with<
+    W: BookName + Send + Sync,
+    R: Threads + Wait + Sync,
+    C: LayerProgram<R>,
+    P: ParentProgram<R>,
+>(
     rt: &R,
     layer: &Layer<W>,
     seat: &mut Seat<W>,
@@ -132,13 +137,7 @@ fn run_both<
     C: LayerProgram<R>,
     T: Task<Output = G> + Drop,
     G,
->(
-    rt: &R,
-    layer: &Layer<W>,
-    child: &C,
-    made: Seat<W>,
-    task: T,
-) -> ((C::Output, Spent<W>), G)
+>(rt: &R, layer: &Layer<W>, child: &C, made: Seat<W>, task: T) -> ((C::Output, Spent<W>), G)
     requires { made.past ≡ [] }
     ensures child { Ended (C.promise W.boot) (C.promise_of_calls W.boot) made.pid child.now result.0 }
     ensures task { T.gives task result.1 }

@@ -118,6 +118,8 @@ const SCRIPTS: &[&str] = &[
     "exec_closes_what_is_marked",
     "child_at_the_other_end",
     "children_fork_too",
+    "lock_order",
+    "two_clients",
 ];
 
 /// A file object as a kernel holds it.

@@ -116,7 +116,7 @@ fn other_command_lines_are_refused(rt: HostRuntime) -> Result<(), Fail> {
 }
 
 /// The steps in which more memory is left, of 16 bytes each.
-const STEPS: usize = 6400;
+const STEPS: usize = 12800;
 
 /// Reads a command line with no memory, and with 16 bytes more while it is refused, and reports how often it was.
 fn refusals_of(rt: &impl Abort, alloc: Global, words: &[String]) -> Result<usize, Fail> {
@@ -134,7 +134,7 @@ fn refusals_of(rt: &impl Abort, alloc: Global, words: &[String]) -> Result<usize
             Err(error) => assert!(rt; error.kind() == ErrorKind::OutOfMemory),
         }
     }
-    Err(Fail::from("refused with 100 KiB"))
+    Err(Fail::from("refused with 200 KiB"))
 }
 
 #[test]
