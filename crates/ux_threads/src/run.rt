@@ -96,6 +96,8 @@ pub fn make_threads<O: FileObject + Send, G: Gate>(
     // A script that is to run in the order of its lines alone is refused, and no other is for that reason.
     ensures refused { (result ≡ Err ScriptFault.OneOrder) ↔ (script.now.serial ≡ true) }
     ensures fault { IfErr result (λ f. script.now.serial ≡ false → (f ≡ ScriptFault.NoMemory) ⊎ (f ≡ ScriptFault.Stranger)) }
+    // Where every process waits, that isn't told as a fault.
+    ensures begun { IfErr result (λ f. is_deadlock f ≡ false) }
 {
     if script.serial {
         return Err(ScriptFault::OneOrder);
