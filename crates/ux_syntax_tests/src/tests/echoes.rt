@@ -8,12 +8,17 @@ use ux_types::{Bytes, Entry, Errno, Fd, Pid, Released, Reply, Request};
 
 /// An entry of process 1, the eighth of its calls, at whose end no file object was closed.
 fn entry_of(request: Request, reply: Reply) -> Entry {
+    closing_entry(request, reply, Released::new())
+}
+
+/// The same, at whose end these were.
+fn closing_entry(request: Request, reply: Reply, released: Released) -> Entry {
     Entry {
         pid: Pid(1),
         k: 7,
         request,
         reply,
-        released: Released::new(),
+        released,
         delivered: None,
     }
 }
@@ -133,9 +138,11 @@ fn a_reply_is_written_as_in_a_trace(rt: HostRuntime) -> Result<(), Fail> {
 #[test]
 fn closed_objects_stand_behind_the_reply(rt: HostRuntime) -> Result<(), Fail> {
     let alloc = rt.alloc();
-    let mut entry = entry_of(Request::Close { fd: Fd(1) }, Reply::Err(Errno::EIO));
-    entry.released.push(0);
-    entry.released.push(5);
+    let mut released = Released::new();
+    released.push(0);
+    released.push(5);
+    let close = Request::Close { fd: Fd(1) };
+    let entry = closing_entry(close, Reply::Err(Errno::EIO), released);
     let texts = ("9 1 close(1) = err EIO closed 0 5\n", "err EIO closed 0 5");
     expect_line(&rt, alloc, Some(9), &entry, texts)
 }
