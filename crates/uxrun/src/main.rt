@@ -11,7 +11,7 @@ use audit::tell_audit;
 use clap::Error;
 use clap::error::ErrorKind;
 use objects::{check_script, run_script};
-use orders::{run_in_order, tell_orders};
+use orders::{Made, run_in_order, tell_orders};
 use printing::{print_comparison, print_run};
 use reading::script_of;
 use std::process::ExitCode;
@@ -63,8 +63,8 @@ fn history_of<R: Threads + Wait + Print + RandomSource + AllocGlobal + Sync>(
     expected: &[Expectation],
 ) -> Result<Vec<Entry>, Fault> {
     match run_as_asked(rt, args, script) {
-        Ok((history, None)) => Ok(history),
-        Ok((history, Some(fault))) => {
+        Ok(Made::Whole(history)) => Ok(history),
+        Ok(Made::Cut(history, fault)) => {
             let _printed = print_run(rt, args, script, expected, &history);
             Err(fault)
         }
@@ -77,20 +77,20 @@ fn history_of<R: Threads + Wait + Print + RandomSource + AllocGlobal + Sync>(
     }
 }
 
-/// The history of a run in the order that was asked for, and why it was cut short, if it was.
+/// What a run has come to in the order that was asked for.
 fn run_as_asked<R: Threads + Wait + RandomSource + AllocGlobal + Sync>(
     rt: &R,
     args: &mut Args<'_>,
     script: &Script,
-) -> Result<(Vec<Entry>, Option<Fault>), Fault> {
+) -> Result<Made, Fault> {
     if let Some(order) = &mut args.order {
         return run_in_order(rt, script, order);
     }
     match run_script(rt, script, args.threads)? {
-        Ran::Whole(history) => Ok((history, None)),
+        Ran::Whole(history) => Ok(Made::Whole(history)),
         Ran::Begun(history, waiting) => {
             let deadlock = ScriptFault::Deadlock(waiting);
-            Ok((history, Some(Fault::Script(deadlock))))
+            Ok(Made::Cut(history, Fault::Script(deadlock)))
         }
     }
 }

@@ -64,22 +64,31 @@ fn boot<R: RandomSource + AllocGlobal>(rt: &R, script: &Script) -> Result<Kernel
     kernel_of(rt, script, objects)
 }
 
-/// Runs the script in one order: its history, and why it was cut short, if it was.
+/// The history of a run.
+#[derive(Drop)]
+pub enum Made {
+    /// To its end.
+    Whole(Vec<Entry>),
+    /// Up to where it was cut short, and why.
+    Cut(Vec<Entry>, Fault),
+}
+
+/// Runs the script in one order.
 pub fn run_in_order<R: RandomSource + AllocGlobal>(
     rt: &R,
     script: &Script,
     order: &mut Order,
-) -> Result<(Vec<Entry>, Option<Fault>), Fault> {
+) -> Result<Made, Fault> {
     let kernel = boot(rt, script)?;
     match make_order(rt.alloc(), script, kernel, order)? {
-        Ran::Whole(entries) => Ok((entries, None)),
+        Ran::Whole(entries) => Ok(Made::Whole(entries)),
         Ran::Deadlock(entries, waits) => {
             let deadlock = ScriptFault::Deadlock(Waiting::new(waits));
-            Ok((entries, Some(Fault::Script(deadlock))))
+            Ok(Made::Cut(entries, Fault::Script(deadlock)))
         }
         Ran::Refused(entries) => {
             let made = entries.iter().filter(|entry| entry.pid.0 != 0).count();
-            Ok((entries, Some(Fault::Order(made.saturating_add(1)))))
+            Ok(Made::Cut(entries, Fault::Order(made.saturating_add(1))))
         }
     }
 }
