@@ -33,12 +33,7 @@ pub trait LayerProgram<R>: Drop + Sync {
     ghost promise_of_calls: { State → Pid → Self → Self.Output → Caller → Type 0 } = { λ _ _ _ _ _. ⊤ };
 
     /// Makes the calls of one process, which has made none before. It exits when this returns.
-    fn run<W: BookName + Send + Sync>(
-        &self,
-        rt: &R,
-        layer: &Layer<W>,
-        seat: &mut Seat<W>,
-    ) -> Self::Output
+    fn run<W: BookName>(&self, rt: &R, layer: &Layer<W>, seat: &mut Seat<W>) -> Self::Output
         requires { seat.old.past ≡ [] }
         ensures promised { promise W.boot seat.old.pid self.now result }
         ensures calls { promise_of_calls W.boot seat.old.pid self.now result seat.new };
@@ -120,7 +115,7 @@ fn run_all<W: BookName + Send + Sync, R: Threads + Wait + Sync, P: LayerProgram<
 }
 
 /// Runs the program by this seat, and has its process exit.
-pub(crate) fn run_one<W: BookName + Send + Sync, R: Wait, P: LayerProgram<R>>(
+fn run_one<W: BookName, R: Wait, P: LayerProgram<R>>(
     rt: &R,
     layer: &Layer<W>,
     program: &P,

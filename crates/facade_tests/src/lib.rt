@@ -2,8 +2,6 @@
 #![tactic(auto)]
 
 #[cfg(test)]
-mod forked;
-#[cfg(test)]
 mod layered;
 #[cfg(test)]
 mod methods;
