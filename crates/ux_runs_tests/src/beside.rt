@@ -228,16 +228,11 @@ fn expect_cut(
     let mut writer = Fake::new(alloc, 100, fails_at);
     let told = finish_echo(alloc, &mut writer, lines, history);
     assert!(rt; matches!(told, Err(ScriptFault::Writing)));
-    let whole: usize = ECHO
-        .lines()
-        .take(fails_at.saturating_sub(1))
-        .map(str::len)
-        .sum();
-    assert_eq!(rt;
-        writer.taken.len(),
-        whole.saturating_add(fails_at.saturating_sub(1))
-    );
-    assert!(rt; ECHO.as_bytes().starts_with(writer.taken.as_slice()));
+    let taken = writer.taken.as_slice();
+    let whole = taken.iter().filter(|byte| **byte == b'\n').count();
+    assert_eq!(rt; whole, fails_at.saturating_sub(1));
+    assert!(rt; taken.last().is_none_or(|byte| *byte == b'\n'));
+    assert!(rt; ECHO.as_bytes().starts_with(taken));
 }
 
 #[test]
