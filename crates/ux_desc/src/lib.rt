@@ -8,8 +8,10 @@ mod phase;
 mod queue;
 mod socket;
 mod socket_changes;
+mod unread;
 
 pub use description::{Description, Target};
 pub use phase::{Listener, Phase};
 pub use queue::Queue;
 pub use socket::Socket;
+pub use unread::Unread;

@@ -22,7 +22,7 @@ use ux_types::{Addr, Cred, DescriptionId, FIRST_QUEUE_LIMIT, Mode, SockType};
 pub struct Socket {
     pub(crate) phase: Phase,
     /// What was sent to it, by its type.
-    queue: Queue,
+    pub(crate) queue: Queue,
     pub(crate) name: Addr,
     /// SO_PASSCRED.
     passcred: bool,

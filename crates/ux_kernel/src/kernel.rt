@@ -35,6 +35,13 @@ impl<O: FileObject> Model for Kernel<O> {
 }
 
 impl<O: FileObject> Kernel<O> {
+    /// Its state, to be looked at.
+    pub fn state(&self) -> &State<O>
+        ensures { result.now ≡ self.now }
+    {
+        &self.state
+    }
+
     /// How many processes were made, exited ones too.
     pub fn process_count(&self) -> usize
         ensures count { result ≡ length self.now.processes }

@@ -8,4 +8,6 @@ mod records;
 #[cfg(test)]
 mod streams;
 #[cfg(test)]
+mod unread;
+#[cfg(test)]
 mod values;

@@ -5,7 +5,4 @@ mod queue;
 mod record;
 
 pub use queue::{RecordQueue, Refused};
-pub use record::Received;
-// A crate can name `RecordQueue` in a contract only if the types of its fields are exported.
-#[doc(hidden)]
-pub use record::Record;
+pub use record::{Received, Record};

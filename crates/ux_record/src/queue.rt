@@ -1,5 +1,5 @@
 //! `RecordQueue`.
-ghost use Rattle.std.specs.Prelude.{◌≡◌, ◌↔◌, ◌==◌, ◌<◌, ◌≤◌, [], ◌∷◌, ◌++◌, length, drop, slice_get, option_map, IsTrue, IsSome, IfOk, IfErr, IsErrAnd, OnOk, OnErr};
+ghost use Rattle.std.specs.Prelude.{◌≡◌, ◌↔◌, ◌==◌, ◌<◌, ◌≤◌, [], ◌∷◌, ◌++◌, length, drop, slice_get, option_map, option_copied, IsTrue, IsSome, IfOk, IfErr, IsErrAnd, OnOk, OnErr};
 ghost use Rattle.ux_model.specs.Limits.{record_limit};
 ghost use Rattle.ux_model.specs.Front.{OnRecordFront};
 ghost use Rattle.ux_record.specs.Shown.{Shows};
@@ -64,6 +64,13 @@ impl<A: Allocator + Copy> RecordQueue<A> {
         ensures bounded { result ≤ record_limit }
     {
         self.records.len()
+    }
+
+    /// The message at an index, the oldest at 0.
+    pub fn get(&self, index: usize) -> Option<&Record>
+        ensures { option_copied result ≡ slice_get self.now index }
+    {
+        self.records.get(index)
     }
 
     /// Whether nothing waits.

@@ -1,10 +1,10 @@
 //! One message that waits, and what a receive gives of it.
-ghost use Rattle.std.specs.Prelude.{◌≡◌, ◌<◌, ◌↔◌, length, take, IsSome, IfOk};
+ghost use Rattle.std.specs.Prelude.{◌≡◌, ◌<◌, ◌↔◌, length, take, option_copied, IsSome, IfOk};
 ghost use Rattle.ux_model.specs.Stream.{origin_of};
 
 use std::alloc::AllocError;
 use std::marker::Model;
-use ux_rights::{Origin, RefList};
+use ux_rights::{Origin, RefList, Reference};
 use ux_types::{Addr, Bytes, Cred};
 
 /// What a receive gives.
@@ -62,6 +62,41 @@ impl Record {
             uid,
             from,
         }
+    }
+
+    /// The number of the call that sent it.
+    pub fn tag(&self) -> u64
+        ensures { result ≡ self.now.tag }
+    {
+        self.tag
+    }
+
+    /// How many bytes it has.
+    pub fn len(&self) -> usize
+        ensures { result ≡ length self.now.bytes }
+    {
+        self.bytes.len()
+    }
+
+    /// The rights, in order.
+    pub fn rights(&self) -> &[Reference]
+        ensures { result.now ≡ self.now.rights }
+    {
+        self.rights.as_slice()
+    }
+
+    /// The credentials.
+    pub fn cred(&self) -> Cred
+        ensures { result ≡ self.now.cred }
+    {
+        self.cred
+    }
+
+    /// The sender's name at the time of sending, of a datagram.
+    pub fn from(&self) -> Option<&Addr>
+        ensures { option_copied result ≡ self.now.from }
+    {
+        self.from.as_ref()
     }
 
     /// The send that its rights come from, where it has some.

@@ -112,6 +112,13 @@ impl<O: FileObject> State<O> {
         self.descriptions.get(id)
     }
 
+    /// How many descriptions were made, dropped ones too: their numbers are below this one.
+    pub fn description_count(&self) -> u128
+        ensures { result ≡ length self.now.descriptions }
+    {
+        self.descriptions.next_id().number()
+    }
+
     /// How many references a description has: from descriptors, from rights in unread messages, and from
     /// listeners at which it waits.
     pub fn count(&self, id: DescriptionId) -> u64

@@ -6,11 +6,18 @@ ghost use Rattle.ux_names.specs.Targets.{target_of};
 
 use crate::finding::FoundSocket;
 use crate::state::State;
-use ux_names::PathTarget;
+use ux_names::{PathTarget, Paths};
 use ux_object::FileObject;
 use ux_types::{Addr, DescriptionId, Errno, Name, SockType};
 
 impl<O: FileObject> State<O> {
+    /// All paths.
+    pub fn paths(&self) -> &Paths
+        ensures { result.now.names ≡ self.now.paths }
+    {
+        &self.paths
+    }
+
     /// What a path names, if it is there.
     pub fn path(&self, name: &Name) -> Option<PathTarget>
         ensures { option_map target_of result ≡ named name.now self.now.paths }

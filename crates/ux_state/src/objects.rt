@@ -1,5 +1,6 @@
 //! The file objects of a state, and what their descriptions are open for.
 ghost use Rattle.std.specs.Prelude.{◌≡◌, ◌≤◌, Some, None, IsTrue, IfOk, MatchOption, is_some, length};
+ghost use Rattle.ux_model.specs.Limits.{object_limit};
 ghost use Rattle.ux_model.specs.Flags.{can_read, can_write};
 ghost use Rattle.ux_model.specs.Places.{place};
 ghost use Rattle.ux_model.specs.FileObjects.{is_open_for};
@@ -9,6 +10,14 @@ use crate::state::State;
 use ux_object::{FileObject, ObjError};
 
 impl<O: FileObject> State<O> {
+    /// How many file objects there were at first, closed ones too.
+    pub fn object_count(&self) -> usize
+        ensures count { result ≡ length self.now.objects }
+        ensures most { result ≤ object_limit }
+    {
+        self.objects.len()
+    }
+
     /// The file object with this number, while it is there.
     pub fn object(&self, number: u32) -> Option<&O>
         ensures { MatchOption result (place self.now.objects number ≡ None) (λ x. place self.now.objects number ≡ Some (O.view x.now)) }

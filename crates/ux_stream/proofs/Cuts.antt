@@ -1,6 +1,6 @@
 -- What is done to marks, seen at the messages that they cut the bytes into.
 use Rattle.std.proofs.Common.{◌≡◌, ℕ, zero, suc, ◌+◌, ◌-◌, ◌<◌, ◌≤◌, min, Bool, true, false, not, List, [], ◌∷◌, ◌++◌, length, get_or, take, drop, subst, ◌⊎◌, inl, inr, if◌then◌else◌, refl, ap, sym, ◌∙◌, arith, rules}
-use Rattle.std.specs.Prelude.{◌==◌, ◌&&◌, ◌↔◌, flat_map, Option, Some, None, IsSome}
+use Rattle.std.specs.Prelude.{◌==◌, ◌&&◌, ◌↔◌, flat_map, slice_get, option_map, option_and_then, Option, Some, None, IsSome}
 use Rattle.std.specs.List.{AllByRecursion}
 use Rattle.std.proofs.lemmas.Bool.{cases_lt, le-leb, lt-leb}
 use Rattle.std.proofs.lemmas.List.{append_assoc, length-append, take_all, length-take-le, length-drop, take-append-le, drop-append-le, take-append-drop, drop-drop, drop-take, nil_from_length}
@@ -10,7 +10,7 @@ use Rattle.ux_model.specs.Types.{Cred}
 use Rattle.ux_model.specs.Message.{Message, same_cred, queued_bytes}
 use Rattle.ux_model.specs.Stream.{Origin, origin_of, front_with_cred, front_to_barrier, first_bytes, rights_within, origin_within, without_first}
 use Rattle.ux_model.specs.Front.{OnStreamFront}
-use Rattle.ux_stream.specs.Marks.{Stretch, message_of, cut_by, counted, IsQueue, run_count, IsReach, rights_among, origin_at, origin_among, marks_without, barrier_count}
+use Rattle.ux_stream.specs.Marks.{Stretch, message_of, stretch_of, cut_by, counted, IsQueue, run_count, IsReach, rights_among, origin_at, origin_among, marks_without, barrier_count}
 use Rattle.ux_stream.specs.declared.marks.Reach.{Reach}
 
 abbrev pub AreSome : List Stretch → Type 0
@@ -60,6 +60,18 @@ cut_queued (m ∷ ms) bs fits =
     let rest = cut_queued ms (drop m.count bs) (omega (arith, fits, length-drop m.count bs)) in
     let sum = sum_by-cons (λ (x : Message). length x.bytes) (message_of m (take m.count bs)) (cut_by ms (drop m.count bs)) in
     omega (arith, size, rest, sum)
+
+-- ---- one message
+
+pub cut_at : (i : ℕ) (ms : List Stretch) (bs : List ℕ) → counted ms ≤ length bs → option_map stretch_of (slice_get (cut_by ms bs) i) ≡ slice_get ms i
+cut_at i [] bs fits = refl
+cut_at zero (m ∷ ms) bs fits = ap (λ n. Some (record m { count = n })) (cut_size m bs (omega (arith, fits)))
+cut_at (suc i) (m ∷ ms) bs fits = cut_at i ms (drop m.count bs) (omega (arith, fits, length-drop m.count bs))
+
+pub cut_unnamed : (i : ℕ) (ms : List Stretch) (bs : List ℕ) → option_and_then (λ (m : Message). m.from) (slice_get (cut_by ms bs) i) ≡ None
+cut_unnamed i [] bs = refl
+cut_unnamed zero (m ∷ ms) bs = refl
+cut_unnamed (suc i) (m ∷ ms) bs = cut_unnamed i ms (drop m.count bs)
 
 -- each message has a byte
 pub cut_some : (ms : List Stretch) (bs : List ℕ) → IsQueue ms bs → AllByRecursion (λ (m : Message). 0 < length m.bytes) (cut_by ms bs)

@@ -1,4 +1,4 @@
--- How the queue keeps its messages: marks, each for a stretch of the ring's bytes. No public clause cites this module.
+-- How the queue keeps its messages: marks, each for a stretch of the ring's bytes.
 use Rattle.std.specs.Prelude.{◌≡◌, ℕ, zero, suc, ◌+◌, ◌-◌, ◌<◌, min, Bool, ◌==◌, ◌&&◌, not, nat_le, if◌then◌else◌, List, [], ◌∷◌, ◌++◌}
 use Rattle.std.specs.Prelude.{length, take, drop, Option, None}
 use Rattle.std.specs.List.{AllByRecursion}
@@ -17,6 +17,10 @@ pub record Stretch : Type 0 where
 
 abbrev pub message_of : Stretch → List ℕ → Message
 message_of m bytes = record { tag = m.tag; bytes = bytes; rights = m.rights; cred = m.cred; uid = m.uid; from = None }
+
+-- a message without its bytes and a sender's name, which no message of a stream has
+abbrev pub stretch_of : Message → Stretch
+stretch_of m = record { tag = m.tag; count = length m.bytes; rights = m.rights; cred = m.cred; uid = m.uid }
 
 -- the messages: the bytes, cut by the counts
 abbrev pub cut_by : List Stretch → List ℕ → List Message

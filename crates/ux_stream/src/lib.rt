@@ -7,9 +7,8 @@ mod mark;
 mod marks;
 mod queue;
 
+pub use mark::Mark;
 pub use queue::{Received, Refused, StreamQueue};
 // A crate can name `StreamQueue` in a contract only if the types of its fields are exported.
 #[doc(hidden)]
 pub use byte_ring::ByteRing;
-#[doc(hidden)]
-pub use mark::Mark;

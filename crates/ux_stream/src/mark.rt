@@ -5,7 +5,7 @@ ghost use Rattle.ux_stream.specs.Marks.{origin_at};
 
 use std::alloc::AllocError;
 use std::marker::Model;
-use ux_rights::{Draft, Origin, RefList};
+use ux_rights::{Draft, Origin, RefList, Reference};
 use ux_types::Cred;
 
 /// What is known of a message beside its bytes, which lie in the ring of its queue.
@@ -41,11 +41,25 @@ impl Mark {
         }
     }
 
+    /// The number of the call that sent it.
+    pub fn tag(&self) -> u64
+        ensures { result ≡ self.now.tag }
+    {
+        self.tag
+    }
+
     /// How many bytes are left.
     pub fn len(&self) -> usize
         ensures { result ≡ self.now.count }
     {
         self.count
+    }
+
+    /// The rights, in order.
+    pub fn rights(&self) -> &[Reference]
+        ensures { result.now ≡ self.now.rights }
+    {
+        self.rights.as_slice()
     }
 
     /// The credentials.

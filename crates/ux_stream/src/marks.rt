@@ -1,5 +1,5 @@
 //! What a receive reads of marks, and what it does to them.
-ghost use Rattle.std.specs.Prelude.{◌≡◌, ◌+◌, ◌<◌, ◌≤◌, ◌++◌, min, length, IfOk};
+ghost use Rattle.std.specs.Prelude.{◌≡◌, ◌+◌, ◌<◌, ◌≤◌, ◌++◌, min, length, slice_get, option_copied, IfOk};
 ghost use Rattle.ux_stream.specs.Marks.{IsReach, run_count, barrier_count, rights_among, origin_among, marks_without};
 
 use crate::mark::Mark;
@@ -22,6 +22,13 @@ pub struct Reach {
     pub count: usize,
     /// The credentials of the first message.
     pub cred: Cred,
+}
+
+/// The mark at an index.
+pub fn mark_at<A: Allocator>(marks: &VecDeque<Mark, A>, index: usize) -> Option<&Mark>
+    ensures { option_copied result ≡ slice_get marks.now.items index }
+{
+    marks.get(index)
 }
 
 /// What one receive of at most n bytes takes.

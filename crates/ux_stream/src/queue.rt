@@ -1,14 +1,15 @@
 //! `StreamQueue`.
-ghost use Rattle.std.specs.Prelude.{◌≡◌, ◌↔◌, ◌==◌, ◌<◌, [], ◌∷◌, ◌++◌, min, length, take, drop, slice_get, option_map, None, IsSome, IfOk, IfErr, IsErrAnd, OnOk, OnErr};
+ghost use Rattle.std.specs.Prelude.{◌≡◌, ◌↔◌, ◌==◌, ◌<◌, [], ◌∷◌, ◌++◌, min, length, take, drop, slice_get, option_map, option_copied, option_and_then, None, IsSome, IfOk, IfErr, IsErrAnd, OnOk, OnErr};
 ghost use Rattle.std.specs.List.{AllByRecursion};
 ghost use Rattle.ux_model.specs.Message.{queued_bytes};
 ghost use Rattle.ux_model.specs.Front.{OnStreamFront};
 ghost use Rattle.ux_rights.specs.Drafts.{drafted};
+ghost use Rattle.ux_stream.specs.Marks.{stretch_of};
 ghost use Rattle.ux_stream.specs.Shown.{Shows};
 
 use crate::byte_ring::ByteRing;
 use crate::mark::Mark;
-use crate::marks::{copy_rights, reach_of, take_bytes};
+use crate::marks::{copy_rights, mark_at, reach_of, take_bytes};
 use std::alloc::{AllocError, Allocator, Global};
 use std::collections::VecDeque;
 use std::marker::Model;
@@ -87,6 +88,23 @@ impl<A: Allocator + Copy> StreamQueue<A> {
         ensures { result ≡ (length self.now == 0) }
     {
         self.marks.is_empty()
+    }
+
+    /// How many messages wait.
+    #[tactic(auto, using(crate::proofs::Cuts::cut_length))]
+    pub fn len(&self) -> usize
+        ensures { result ≡ length self.now }
+    {
+        self.marks.len()
+    }
+
+    /// The mark of the message at an index, the oldest at 0.
+    #[tactic(auto, using(crate::proofs::Cuts::cut_unnamed))]
+    pub fn get(&self, index: usize) -> Option<&Mark>
+        ensures mark { option_copied result ≡ option_map stretch_of (slice_get self.now index) }
+        ensures unnamed { option_and_then (λ m. m.from) (slice_get self.now index) ≡ None }
+    {
+        mark_at(&self.marks, index)
     }
 
     /// How many bytes wait. Each message has one.

@@ -129,6 +129,8 @@ fn a_state_starts_as_it_is_wanted(rt: HostRuntime) -> Result<(), Fail> {
         None => assert!(rt; false),
     }
     assert!(rt; s.object(2).is_none());
+    assert!(rt; s.object_count() == 2 && s.description_count() == 0);
+    assert!(rt; s.paths().len() == 1);
     Ok(())
 }
 
