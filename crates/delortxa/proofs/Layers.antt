@@ -8,7 +8,7 @@ use Rattle.std.proofs.Math.Seq.{get_or-append_seam}
 use Rattle.ux_model.specs.Types.{Pid, Request, Reply, Entry}
 use Rattle.ux_book.specs.Pasts.{Caller, fresh, calls_by, made}
 use Rattle.ux_book.specs.Settling.{Exact}
-use Rattle.delortxa.specs.Promising.{EachPromises, EachPromisesCalls, Ended}
+use Rattle.delortxa.specs.Promising.{EachPromises, EachPromisesCalls, Ended, EachChildPromises, EndedAsChild, EachEnded, present}
 
 fresh_long : (n : ℕ) → length (fresh n) ≡ n
 fresh_long zero = refl
@@ -65,30 +65,71 @@ taken {A} {B} f xs i y h = go (slice_get xs i) refl (sym (slice_get-map f xs i) 
     go None at is = absurd (cc is)
     go (Some x) at is = (x, at, cc is)
 
-module _ {P T : Type 0} (promise : Pid → P → T → Type 0) (promise_of_calls : Pid → P → T → Caller → Type 0) (program : P)
-    (ended : List (T × Caller)) (outputs : List T) (each : EachPromises (Ended promise promise_of_calls) program ended)
-    (firsts : outputs ≡ map (λ gone. gone.0) ended) where
-  at_output : (i : ℕ) (output : T) → slice_get outputs i ≡ Some output → (gone : T × Caller) × (slice_get ended i ≡ Some gone) × (gone.0 ≡ output)
-  at_output i output at = taken (λ gone. gone.0) ended i output (ap (λ (l : List T). slice_get l i) (sym firsts) ∙ at)
+-- and a map has at a place what it gives of what is there
+mapped : {A B : Type 0} (f : A → B) (xs : List A) (ys : List B) → ys ≡ map f xs → (i : ℕ) (x : A) → slice_get xs i ≡ Some x → slice_get ys i ≡ Some (f x)
+mapped {A} {B} f xs ys are i x at = ap (λ (l : List B). slice_get l i) are ∙ slice_get-map f xs i ∙ ap (λ o. option_map f o) at
 
-  -- of processes that have ended, what each gave is as promised
-  pub outputs_promised : EachPromises promise program outputs
-  outputs_promised i output at =
-      let t = at_output i output at in
-      subst (λ o. promise (record { 0 = suc i }) program o) t.2 (each i t.0 t.1).0
-
-  -- and its calls are those of its spent seat
+module _ {P T : Type 0} (promise : Pid → P → T → Caller → Type 0) (program : P) (ended : List (T × Caller)) (outputs : List T)
+    (each : EachPromises (Ended promise) program ended) (firsts : outputs ≡ map (λ gone. gone.0) ended) where
+  -- of processes that have ended, what each gave is as promised, and its calls are those of its spent seat
   pub calls_promised : (spents : List Caller) (entries : List Entry) → spents ≡ map (λ gone. gone.1) ended → Exact entries spents →
-      EachPromisesCalls promise_of_calls program outputs entries
+      EachPromisesCalls promise program outputs entries
   calls_promised spents entries seconds exact i output at =
-      let t = at_output i output at in
-      let e = each i t.0 t.1 in
-      let there : slice_get spents i ≡ Some t.0.1 =
-      ap (λ (l : List Caller). slice_get l i) seconds ∙ slice_get-map (λ gone. gone.1) ended i ∙ ap (λ o. option_map (λ gone. gone.1) o) t.1 in (
-        e.1.0,
-        subst (λ o. promise_of_calls (record { 0 = suc i }) program o e.1.0) t.2 e.1.1,
-        subst (λ (x : Caller). calls_by x.pid.0 entries ≡ x.past) e.1.2 (exact i t.0.1 there),
+      let t = taken (λ gone. gone.0) ended i output (ap (λ (l : List T). slice_get l i) (sym firsts) ∙ at) in
+      let e = each i t.0 t.1 in (
+        e.0,
+        subst (λ o. promise (record { 0 = suc i }) program o e.0) t.2 e.1,
+        subst (λ (x : Caller). calls_by x.pid.0 entries ≡ x.past) e.2 (exact i t.0.1 (mapped (λ gone. gone.1) ended spents seconds i t.0 t.1)),
       )
+
+module _ {P T C : Type 0} (promise : Pid → P → T → C → Caller → Type 0) (program : P) (ended : List ((Pid × C) × Caller))
+    (children : List (Pid × C)) (each : EachEnded (EndedAsChild promise program) ended) (firsts : children ≡ map (λ gone. gone.0) ended) where
+  -- so it is of children
+  pub children_promised : (spents : List Caller) (entries : List Entry) → spents ≡ map (λ gone. gone.1) ended → Exact entries spents →
+      EachChildPromises promise program children entries
+  children_promised spents entries seconds exact i child at =
+      let t = taken (λ gone. gone.0) ended i child (ap (λ (l : List (Pid × C)). slice_get l i) (sym firsts) ∙ at) in
+      let e = each i t.0 t.1 in (
+        e.0,
+        e.1,
+        subst (λ (x : Pid × C). promise x.0 program e.0 x.1 e.1) t.2 e.2,
+        subst (λ (x : Caller). calls_by x.pid.0 entries ≡ x.past) e.3 (exact i t.0.1 (mapped (λ gone. gone.1) ended spents seconds i t.0 t.1)),
+      )
+
+front_at : {A : Type 0} (xs ys : List A) (i : ℕ) (x : A) → slice_get xs i ≡ Some x → slice_get (xs ++ ys) i ≡ Some x
+front_at [] ys i x at = absurd (cc at)
+front_at (z ∷ xs) ys zero x at = at
+front_at (z ∷ xs) ys (suc i) x at = front_at xs ys i x at
+
+back_at : {A : Type 0} (xs ys : List A) (i : ℕ) (x : A) → slice_get ys i ≡ Some x → (k : ℕ) × (slice_get (xs ++ ys) k ≡ Some x)
+back_at [] ys i x at = (i, at)
+back_at (z ∷ xs) ys i x at = let b = back_at xs ys i x at in (suc b.0, b.1)
+
+-- of two lists of callers together, each has exactly its calls
+pub exact_front : (entries : List Entry) (cs ds : List Caller) → Exact entries (cs ++ ds) → Exact entries cs
+exact_front entries cs ds exact i c at = exact i c (front_at cs ds i c at)
+
+pub exact_back : (entries : List Entry) (cs ds : List Caller) → Exact entries (cs ++ ds) → Exact entries ds
+exact_back entries cs ds exact i c at = let b = back_at cs ds i c at in exact b.0 c b.1
+
+-- what is so of each that is there, is so of those that are there
+pub each_present : {T : Type 0} (kept : T → Type 0) (options : List (Option T)) →
+    ((i : ℕ) (x : T) → slice_get options i ≡ Some (Some x) → kept x) → EachEnded kept (present options)
+each_present kept [] given i x at = absurd (cc at)
+each_present kept (Some y ∷ options) given zero x at = given zero x (ap Some at)
+each_present kept (Some y ∷ options) given (suc i) x at = each_present kept options (λ k z there. given (suc k) z there) i x at
+each_present kept (None ∷ options) given i x at = each_present kept options (λ k z there. given (suc k) z there) i x at
+
+-- one more that is there, and one that isn't
+pub present_one_more : {T : Type 0} (options : List (Option T)) (x : T) → present (options ++ Some x ∷ []) ≡ present options ++ x ∷ []
+present_one_more [] x = refl
+present_one_more (Some y ∷ options) x = ap (λ l. y ∷ l) (present_one_more options x)
+present_one_more (None ∷ options) x = present_one_more options x
+
+pub present_no_more : {T : Type 0} (options : List (Option T)) → present (options ++ None ∷ []) ≡ present options
+present_no_more [] = refl
+present_no_more (Some y ∷ options) = ap (λ l. y ∷ l) (present_no_more options)
+present_no_more (None ∷ options) = present_no_more options
 
 -- each process has given something
 pub all_outputs : {T : Type 0} (n : ℕ) (seats : List Caller) (ended : List (T × Caller)) (outputs : List T) → seats ≡ fresh n → length ended ≡ length seats →

@@ -1,6 +1,6 @@
 -- What a call of a seat did.
-use Rattle.std.specs.Prelude.{◌≡◌, Bool}
-use Rattle.ux_model.specs.Types.{Request, Reply}
+use Rattle.std.specs.Prelude.{◌≡◌, Bool, false, Option, Some, None}
+use Rattle.ux_model.specs.Types.{Pid, Request, Reply}
 use Rattle.ux_model.specs.State.{State}
 use Rattle.ux_book.specs.Pasts.{Caller, made, IsOf}
 use Rattle.ux_book.specs.Receipts.{Slip, IsSlip, IsSlipOf}
@@ -13,3 +13,8 @@ pub record Happens (boot : State) (old new : Caller) (request : Request) (reply 
   pub slip : Slip
   pub shown : IsSlip boot slip
   pub call : IsSlipOf old request reply waits slip
+
+-- The caller made a process, or where it was given none there was no call.
+abbrev pub Forks : State → Caller → Caller → Option Pid → Type 0
+Forks boot old new (Some pid) = Happens boot old new Request.Fork (Reply.Child pid) false
+Forks boot old new None = new ≡ old

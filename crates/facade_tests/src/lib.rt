@@ -2,6 +2,8 @@
 #![tactic(auto)]
 
 #[cfg(test)]
+mod families;
+#[cfg(test)]
 mod layered;
 #[cfg(test)]
 mod methods;

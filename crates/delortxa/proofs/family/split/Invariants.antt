@@ -1,5 +1,5 @@
 use Rattle.std.proofs.Common.{◌≡◌, map}
-use Rattle.delortxa.proofs.layered.split.Given as goal
+use Rattle.delortxa.proofs.family.split.Given as goal
 
 -- what was taken apart so far
 abbrev pub invariant-loop-output : goal.invariant-loop-output
