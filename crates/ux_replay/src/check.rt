@@ -62,12 +62,28 @@ pub fn replay<O: FileObject>(
     ensures all { IfOk result (λ n. n ≡ length history.now) }
     ensures first { IfErr result (λ f. entry_at f ≤ length history.now) }
 {
-    let found = match ReleasedObjects::new(alloc) {
-        Ok(mut released) => make_again(&mut kernel, history, &mut released),
-        Err(_) => Err(ReplayFault::NoMemory(0)),
-    };
+    let found = replay_on(alloc, history, &mut kernel);
     drop(kernel);
     found
+}
+
+/// Makes the calls of a history as `replay` does, and leaves the kernel as it is after them.
+///
+/// # Errors
+///
+/// `Differs` or `NoMemory` at the first entry whose call didn't have the same outcome.
+pub fn replay_on<O: FileObject>(
+    alloc: Global,
+    history: &[Entry],
+    kernel: &mut Kernel<O>,
+) -> Result<u64, ReplayFault>
+    ensures all { IfOk result (λ n. n ≡ length history.now) }
+    ensures first { IfErr result (λ f. entry_at f ≤ length history.now) }
+{
+    match ReleasedObjects::new(alloc) {
+        Ok(mut released) => make_again(kernel, history, &mut released),
+        Err(_) => Err(ReplayFault::NoMemory(0)),
+    }
 }
 
 /// Makes the calls, up to the first with another outcome.
@@ -80,17 +96,33 @@ fn make_again<O: FileObject>(
     ensures first { IfErr result (λ f. entry_at f ≤ length history.now) }
 {
     for (index, entry) in history.iter().enumerate() {
-        let number = index as u64;
-        if is_left_out(&entry.reply) {
-            continue;
-        }
-        match repeat(kernel, number, entry, released) {
-            Repeated::Same => {}
-            Repeated::Different => return Err(ReplayFault::Differs(number)),
-            Repeated::NoMemory => return Err(ReplayFault::NoMemory(number)),
-        }
+        replay_entry(kernel, index as u64, entry, released)?;
     }
     Ok(history.len() as u64)
+}
+
+/// Makes the call of the entry with this number on a kernel that made those before it, as `replay` does. What was
+/// released before is dropped, and what this call releases is put in its place.
+///
+/// # Errors
+///
+/// `Differs` or `NoMemory`, with this number, where the call doesn't have the same outcome.
+pub fn replay_entry<O: FileObject>(
+    kernel: &mut Kernel<O>,
+    number: u64,
+    entry: &Entry,
+    released: &mut ReleasedObjects<O>,
+) -> Result<(), ReplayFault>
+    ensures { IfErr result (λ f. entry_at f ≡ number) }
+{
+    if is_left_out(&entry.reply) {
+        return Ok(());
+    }
+    match repeat(kernel, number, entry, released) {
+        Repeated::Same => Ok(()),
+        Repeated::Different => Err(ReplayFault::Differs(number)),
+        Repeated::NoMemory => Err(ReplayFault::NoMemory(number)),
+    }
 }
 
 /// The outcome of a call that is made again, compared with its entry.

@@ -3,4 +3,4 @@
 
 mod check;
 
-pub use check::{ReplayFault, check_history, replay};
+pub use check::{ReplayFault, check_history, replay, replay_entry, replay_on};

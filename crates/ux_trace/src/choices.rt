@@ -7,7 +7,8 @@ use bitflags::Flags;
 use std::fmt;
 use ux_types::{Mode, MsgFlags, OpenFlags, SockOpt, SockType, Whence};
 
-pub(crate) fn mode_word(mode: Mode) -> &'static str
+/// The word of an access mode: `r`, `w` or `rw`.
+pub fn mode_word(mode: Mode) -> &'static str
     ensures { result.now ≡ mode_text mode }
 {
     match mode {
@@ -17,7 +18,8 @@ pub(crate) fn mode_word(mode: Mode) -> &'static str
     }
 }
 
-pub(crate) fn type_word(kind: SockType) -> &'static str
+/// The word of a socket type: `stream`, `dgram` or `seq`.
+pub fn type_word(kind: SockType) -> &'static str
     ensures { result.now ≡ type_text kind }
 {
     match kind {
@@ -27,7 +29,8 @@ pub(crate) fn type_word(kind: SockType) -> &'static str
     }
 }
 
-pub(crate) fn whence_word(whence: Whence) -> &'static str
+/// The word of where an offset counts from (lseek(2)): `set`, `cur` or `end`.
+pub fn whence_word(whence: Whence) -> &'static str
     ensures { result.now ≡ whence_text whence }
 {
     match whence {
@@ -37,7 +40,8 @@ pub(crate) fn whence_word(whence: Whence) -> &'static str
     }
 }
 
-pub(crate) fn option_word(opt: SockOpt) -> &'static str
+/// The word of a socket option.
+pub fn option_word(opt: SockOpt) -> &'static str
     ensures { result.now ≡ option_text opt }
 {
     match opt {

@@ -10,6 +10,8 @@ mod reply;
 mod words;
 
 pub use call_word::CallWord;
+pub use choices::{mode_word, option_word, type_word, whence_word};
 pub use echo::echo_text;
 pub use entry::{answer_text, entry_text};
-pub use words::stands;
+pub use reply::errno_name;
+pub use words::{AddrText, NameText, stands};

@@ -9,8 +9,8 @@ use std::fmt;
 use ux_cmsg::{Control, ControlError, read_control};
 use ux_types::{Errno, Reply};
 
-/// The name of a refusal.
-fn errno_name(errno: Errno) -> &'static str
+/// The name of a refusal, as `EAGAIN`.
+pub fn errno_name(errno: Errno) -> &'static str
     ensures { result.now ≡ errno_text errno }
 {
     match errno {

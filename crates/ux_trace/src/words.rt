@@ -36,7 +36,7 @@ pub fn stands(byte: u8) -> bool
 
 /// A name as a word has it: a byte that doesn't stand for itself is `%` and two digits.
 #[derive(Clone, Copy)]
-pub(crate) struct NameText<'a>(pub(crate) &'a [u8]);
+pub struct NameText<'a>(pub &'a [u8]);
 
 impl fmt::Display for NameText<'_> {
     ghost output = { λ name. Some (name_text name.0.now) };
@@ -55,9 +55,9 @@ impl fmt::Display for NameText<'_> {
     }
 }
 
-/// An address as a word has it.
+/// An address as a word has it: `u`, or `p:` or `a:` and the name.
 #[derive(Clone, Copy)]
-pub(crate) struct AddrText<'a>(pub(crate) &'a Addr);
+pub struct AddrText<'a>(pub &'a Addr);
 
 impl fmt::Display for AddrText<'_> {
     ghost output = { λ addr. Some (addr_text addr.0.now) };
