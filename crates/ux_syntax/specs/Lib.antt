@@ -4,6 +4,7 @@ pub mod Lines
 pub mod Spelling
 pub mod Turns
 pub mod Reading
+pub mod Forms
 pub mod Results
 pub mod Continuing
 pub mod Expectations

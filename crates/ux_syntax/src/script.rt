@@ -90,7 +90,7 @@ impl Script {
     }
 
     /// How many bytes a further line may have, without its line feed.
-    pub(crate) fn line_limit(&self) -> usize
+    pub fn line_limit(&self) -> usize
         ensures { result ≡ line_limit self.now.serial }
     {
         if self.serial {

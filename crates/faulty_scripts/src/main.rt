@@ -1,0 +1,158 @@
+//! Reads each script of `data/`, which is at fault, and compares what `uxrun` writes to standard error with what lies
+//! beside it. Then changes valid lines byte by byte, and sees where each goes wrong.
+#![tactic(auto)]
+
+mod changed;
+
+use anyhow::{Result, anyhow};
+use changed::must_find_changes;
+use std::alloc::Global;
+use std::fs;
+use std::rt::Files;
+use ux_explain::{explain, explain_boot};
+use ux_syntax::{ScriptFault, expectations_of, parse_script};
+
+/// Scripts of which a line is at fault.
+const LINES: &[&str] = &[
+    "unknown_call",
+    "swapped_letters",
+    "call_that_is_like_none",
+    "no_process_number",
+    "misspelt_proc",
+    "missing_call",
+    "missing_field",
+    "missing_field_behind_a_blank",
+    "further_field",
+    "trailing_blank",
+    "leading_blank",
+    "two_blanks",
+    "tab",
+    "carriage_return",
+    "byte_order_mark",
+    "upper_case_hex",
+    "odd_digit",
+    "odd_digit_before_a_field",
+    "no_hex",
+    "path_without_p",
+    "path_without_a_colon",
+    "byte_that_needs_percent",
+    "letter_with_percent",
+    "tilde_with_percent",
+    "upper_case_percent",
+    "percent_without_digits",
+    "leading_zero",
+    "number_too_large",
+    "number_with_a_sign",
+    "process_number_too_large",
+    "offset_too_large",
+    "minus_zero",
+    "backlog_too_small",
+    "unknown_whence",
+    "misspelt_type",
+    "flags_out_of_order",
+    "flag_twice",
+    "flag_behind_a_dash",
+    "unknown_mode",
+    "unknown_option",
+    "no_address",
+    "send_without_address",
+    "three_items",
+    "two_items_of_rights",
+    "credentials_without_group",
+    "no_control_bytes",
+    "descriptor_with_a_leading_zero",
+    "misspelt_kind",
+    "object_without_bytes",
+    "fail_zero",
+    "unknown_privilege",
+    "late_header",
+    "line_after_off",
+    "late_serial",
+    "fork_of_a_second_process",
+    "fork_beyond_1024",
+    "line_after_exit",
+    "fork_after_exit",
+    "unknown_process",
+    "process_zero",
+    "waits_for_an_unknown_process",
+    "line_too_long",
+    "fault_in_a_long_line",
+    "fault_early_in_a_long_line",
+    "expectation_behind_a_wait",
+    "expectation_behind_a_comment",
+];
+
+/// Scripts for whose file objects and processes no layer is made, with the number of the boot fault.
+const BOOTS: &[(&str, u8)] = &[
+    ("boot_65_objects", 1),
+    ("boot_65_processes", 2),
+    ("boot_path_twice", 3),
+    ("boot_empty_path", 6),
+    ("boot_path_with_nul", 6),
+    ("boot_long_path", 6),
+];
+
+/// The fault of a script, or that of its expectations.
+fn fault_of(alloc: Global, text: &[u8]) -> Result<ScriptFault> {
+    if let Err(fault) = parse_script(alloc, text) {
+        return Ok(fault);
+    }
+    match expectations_of(alloc, text) {
+        Ok(_expectations) => Err(anyhow!("no line is at fault")),
+        Err(fault) => Ok(fault),
+    }
+}
+
+/// What is written of a faulty line.
+fn told_of_line(alloc: Global, text: &[u8]) -> Result<String> {
+    let fault = fault_of(alloc, text)?;
+    match explain(alloc, text, &fault)? {
+        Some(explanation) => Ok(format!(in alloc; "uxrun: {fault}\n{explanation}\n")?),
+        None => Err(anyhow!("no explanation of {fault}")),
+    }
+}
+
+/// What is written of a boot fault.
+fn told_of_boot(alloc: Global, text: &[u8], fault: u8) -> Result<String> {
+    let explanation = explain_boot(alloc, text, fault)?;
+    Ok(format!(in alloc; "uxrun: boot fault {fault}\n{explanation}\n")?)
+}
+
+/// What is written of the fault of a script, which is one of its lines' where no boot fault is given.
+fn told_of(alloc: Global, text: &[u8], boot_fault: Option<u8>) -> Result<String> {
+    match boot_fault {
+        Some(fault) => told_of_boot(alloc, text, fault),
+        None => told_of_line(alloc, text),
+    }
+}
+
+/// Reads a script, and compares what is written of its fault with what lies beside it.
+fn must_tell<R: Files + Print + AllocGlobal>(
+    rt: &R,
+    name: &str,
+    boot_fault: Option<u8>,
+) -> Result<()> {
+    let alloc: Global = rt.alloc();
+    let script = format!(in alloc; "{name}.ux")?;
+    let wanted = format!(in alloc; "{name}.err")?;
+    let text = fs::read(rt, script.as_str())?;
+    let wanted = fs::read(rt, wanted.as_str())?;
+    let told = told_of(alloc, &text, boot_fault)?;
+    if told.as_bytes() != wanted.as_slice() {
+        return Err(anyhow!("{name}: {told}"));
+    }
+    println!(rt; "{name}: ok")?;
+    Ok(())
+}
+
+fn main(rt: HostRuntime) -> Result<()> {
+    for name in LINES {
+        must_tell(&rt, name, None)?;
+    }
+    for (name, fault) in BOOTS {
+        must_tell(&rt, name, Some(*fault))?;
+    }
+    must_find_changes(rt.alloc())?;
+    println!(rt; "changed lines: ok")?;
+    Ok(())
+}

@@ -1,0 +1,126 @@
+//! What is wrong with a line.
+
+use crate::forms::Form;
+use std::fmt;
+
+/// What is wrong with a line, at its column. The words are those of the manual page.
+#[derive(Clone, Copy, Debug)]
+pub enum Cause {
+    /// It has more bytes than this.
+    TooLong(usize),
+    ByteOrderMark,
+    Tab,
+    CarriageReturn,
+    FirstBlank,
+    LastBlank,
+    TwoBlanks,
+    /// A word of this form is missing.
+    Missing(Form),
+    /// A word too many.
+    Further,
+    /// The word isn't of this form.
+    Expected(Form),
+    /// The word isn't of this form, which has words, of which this one is the nearest.
+    Nearest(Form, &'static str),
+    /// The word is none of those that begin a line, of which this one is the nearest.
+    NoHead(Option<&'static str>),
+    /// The word is no call, of which this one is the nearest.
+    NoCall(Option<&'static str>),
+    UpperCase,
+    OddDigit,
+    LeadingZero,
+    TooLarge(Form),
+    /// A path without `p:`.
+    NoPath,
+    /// This byte of a name needs a `%`.
+    Unescaped(u8),
+    /// This byte of a name mustn't have a `%`.
+    Needless(u8),
+    /// A `%` without two digits.
+    NoDigits,
+    /// A line after `off`.
+    AfterOff,
+    /// A line of the header behind one of a process.
+    LateHeader,
+    /// `serial` behind another line.
+    LateSerial,
+    /// A line of this process after its exit.
+    AfterExit(u32),
+    /// A process that isn't there, beside how many are.
+    NoProcess(u32, usize),
+    /// A fork of this process in a script without `serial`.
+    Forks(u32),
+    /// A fork beyond so many processes.
+    TooManyProcesses(usize),
+    /// An expectation behind no call's line.
+    Misplaced,
+    /// None of the lines that may stand there.
+    NoLine,
+}
+
+const ONE_BLANK: &str = "words stand exactly one blank apart";
+
+impl fmt::Display for Cause {
+    fn fmt<W: fmt::Write>(&self, f: &mut fmt::Formatter<W>) -> fmt::Result {
+        match *self {
+            Cause::TooLong(limit) => write!(f, "a line too long: expected at most {limit} bytes"),
+            Cause::ByteOrderMark => write!(
+                f,
+                "a byte order mark: a script begins with its first line"
+            ),
+            Cause::Tab => write!(f, "a tab: {ONE_BLANK}"),
+            Cause::CarriageReturn => write!(f, "a carriage return: lines end at line feeds"),
+            Cause::FirstBlank => write!(f, "a leading blank: {ONE_BLANK}"),
+            Cause::LastBlank => write!(f, "a trailing blank: {ONE_BLANK}"),
+            Cause::TwoBlanks => write!(f, "two blanks: {ONE_BLANK}"),
+            Cause::Missing(form) => write!(f, "a missing field: expected {form}"),
+            Cause::Further => write!(f, "a further field: expected the end of the line"),
+            Cause::Expected(form) => write!(f, "expected {form}"),
+            Cause::Nearest(form, word) => write!(f, "expected {form}; did you mean '{word}'?"),
+            Cause::NoHead(_) => write!(f, "expected {}", Form::Head),
+            Cause::NoCall(_) => write!(f, "expected {}", Form::Call),
+            _ => write_further(f, *self),
+        }
+    }
+}
+
+/// The texts of digits, numbers and names.
+fn write_further<W: fmt::Write>(f: &mut fmt::Formatter<W>, cause: Cause) -> fmt::Result {
+    match cause {
+        Cause::UpperCase => write!(f, "an upper-case digit: expected 0-9a-f"),
+        Cause::OddDigit => write!(f, "an odd digit: expected pairs of 0-9a-f"),
+        Cause::LeadingZero => write!(f, "a leading zero: expected a number without leading zeros"),
+        Cause::TooLarge(form) => write!(f, "a number too large: expected {form}"),
+        Cause::NoPath => write!(f, "a path without p: expected p:NAME"),
+        Cause::Unescaped(byte) => write!(f, "a byte of NAME that needs %: expected %{byte:02x}"),
+        Cause::Needless(byte) => {
+            let letter = char::from(byte);
+            write!(f, "a byte of NAME that mustn't have %: expected {letter}")
+        }
+        Cause::NoDigits => write!(f, "in NAME % stands before two digits of 0-9a-f"),
+        _ => write_of_context(f, cause),
+    }
+}
+
+/// The texts of lines that other lines don't allow.
+fn write_of_context<W: fmt::Write>(f: &mut fmt::Formatter<W>, cause: Cause) -> fmt::Result {
+    match cause {
+        Cause::AfterOff => write!(f, "a line after off, which comes last"),
+        Cause::LateHeader => write!(
+            f,
+            "a line of the header, which comes before the lines of the processes"
+        ),
+        Cause::LateSerial => write!(f, "serial, which comes before all other lines"),
+        Cause::AfterExit(pid) => write!(f, "a line of process {pid} after its exit"),
+        Cause::NoProcess(pid, count) => {
+            write!(f, "no process {pid}: the lines before have {count}")
+        }
+        Cause::Forks(pid) => write!(
+            f,
+            "a fork of process {pid}: in a script without serial process 1 alone forks"
+        ),
+        Cause::TooManyProcesses(limit) => write!(f, "a fork beyond {limit} processes"),
+        Cause::Misplaced => write!(f, "#= REPLY stands right behind the line of a call"),
+        _ => write!(f, "none of the lines that may stand there"),
+    }
+}
