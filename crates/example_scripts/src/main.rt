@@ -120,6 +120,8 @@ const SCRIPTS: &[&str] = &[
     "children_fork_too",
     "lock_order",
     "two_clients",
+    "passed_file_closed_by_either",
+    "child_dies_at_any_point",
 ];
 
 /// A file object as a kernel holds it.

@@ -1,13 +1,15 @@
 //! The command line.
 
 use crate::orders::{LIMIT, NO_LIMIT, NO_ORDER, with_orders};
+use crate::point::{Point, number_of};
+use crate::views::{NO_POINT, point_of, with_views};
 use clap::error::ErrorKind;
 use clap::{Arg, ArgAction, ArgMatches, Command, Error};
 use std::alloc::{AllocError, Global};
 use ux_orders::{Order, read_order};
 
 /// What `--version` prints behind the program's name.
-const VERSION: &str = "0.3.0";
+const VERSION: &str = "0.4.0";
 
 /// What was asked for on the command line.
 #[derive(Debug, Drop)]
@@ -20,8 +22,14 @@ pub struct Args<'a> {
     pub echo: bool,
     /// Whether the answers are compared with those that the script's comments expect.
     pub expect: bool,
-    /// After how many calls the open descriptors are printed, each with the chain of processes that passed it.
-    pub audit: Option<u32>,
+    /// When the open descriptors are printed, each with the chain of processes that passed it.
+    pub audit: Option<Point>,
+    /// When it is printed who holds what.
+    pub holders: Option<Point>,
+    /// When that is printed as a graph, instead of the trace.
+    pub dot: Option<Point>,
+    /// Whether the calls are printed as a sequence diagram, instead of the trace.
+    pub sequence: bool,
     /// In which order the processes' lines are made, where it isn't that of the script.
     pub order: Option<Order>,
     /// How many orders are made at most, where all are asked for.
@@ -44,13 +52,6 @@ fn command_of<'a>(alloc: Global) -> Result<Command<'a>, AllocError> {
         .required(true)
         .action(ArgAction::Set)
         .help("The script's path, or - for standard input");
-    let audit = Arg::new(alloc, "audit")
-        .long("audit")
-        .value_name("N")
-        .action(ArgAction::Set)
-        .help(
-            "Tells which descriptors are open after the first N calls, and how each came to its process",
-        );
     let command = Command::new(alloc, "uxrun")
         .about("Runs a script of socket calls and prints its trace")
         .version(VERSION)
@@ -58,21 +59,20 @@ fn command_of<'a>(alloc: Global) -> Result<Command<'a>, AllocError> {
         .arg(switch(alloc, "echo", ECHO))?
         .arg(switch(alloc, "expect", EXPECT))?
         .arg(switch(alloc, "check", CHECK))?
-        .arg(audit)?
         .arg(script)?;
-    with_orders(alloc, command)
+    with_orders(alloc, with_views(alloc, command)?)
 }
 
 /// Reads the words of a command line, of which the first is the program's name.
 pub fn read_args<'a>(alloc: Global, words: &'a [String]) -> Result<Args<'a>, Error> {
     let mut command = command_of(alloc)?;
     let matches = command.try_get_matches_from_mut(words)?;
-    let audit = match matches.get_str("audit") {
-        Some(text) => match number_of(text) {
-            Some(number) => Some(number),
-            None => return Err(command.error(ErrorKind::ValueValidation, NO_NUMBER)?),
-        },
-        None => None,
+    let (Some(audit), Some(holders), Some(dot)) = (
+        point_of(&matches, "audit"),
+        point_of(&matches, "holders"),
+        point_of(&matches, "dot"),
+    ) else {
+        return Err(command.error(ErrorKind::ValueValidation, NO_POINT)?);
     };
     let Some(order) = order_of(alloc, &matches)? else {
         return Err(command.error(ErrorKind::ValueValidation, NO_ORDER)?);
@@ -86,6 +86,9 @@ pub fn read_args<'a>(alloc: Global, words: &'a [String]) -> Result<Args<'a>, Err
         echo: matches.get_flag("echo"),
         expect: matches.get_flag("expect"),
         audit,
+        holders,
+        dot,
+        sequence: matches.get_flag("sequence"),
         order,
         orders,
         script: matches.get_str("SCRIPT").unwrap_or("-"),
@@ -116,15 +119,4 @@ fn orders_of(matches: &ArgMatches<'_>) -> Option<Option<u32>> {
         None => LIMIT,
     };
     Some(matches.get_flag("orders").then_some(limit))
-}
-
-/// Why the value of `--audit` isn't taken.
-const NO_NUMBER: &str = "N of --audit is a number from 0 to 4294967295, without leading zeros";
-
-/// The number that is written so, as numbers are in scripts: in decimal, without leading zeros.
-fn number_of(text: &str) -> Option<u32> {
-    if text.starts_with('+') || (text.starts_with('0') && text.len() > 1) {
-        return None;
-    }
-    text.parse().ok()
 }

@@ -26,12 +26,18 @@ pub enum Fault {
     /// The chain of holdings of this process's descriptor isn't its pedigree.
     #[error("audit fails at {} {}", .0.0, .1.0)]
     Audit(Pid, Fd),
+    /// What was asked about has no such moment: this line makes no call.
+    #[error("line {0} makes no call")]
+    NoCall(u32),
     /// In the order that was asked for, the process at this place, counted from 1, can't go on.
     #[error("order: the process at place {0} can't go on")]
     Order(usize),
     /// In some orders each process that is left waits: so many outcomes are deadlocks, of so many.
     #[error("deadlock in {0} of {1} outcomes")]
     Deadlocks(usize, usize),
+    /// In so many outcomes, of so many, a call answered otherwise than the script expects.
+    #[error("expect differs in {0} of {1} outcomes")]
+    UnexpectedIn(usize, usize),
     /// Not all orders were made.
     #[error("not all orders were made")]
     Limit,

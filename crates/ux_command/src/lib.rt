@@ -4,6 +4,11 @@
 mod args;
 mod fault;
 mod orders;
+mod point;
+mod source;
+mod views;
 
 pub use args::{Args, read_args};
 pub use fault::Fault;
+pub use point::Point;
+pub use source::{Kept, Source};

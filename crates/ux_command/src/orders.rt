@@ -33,8 +33,10 @@ pub(crate) fn with_orders<'a>(
         .conflicts_with("order")?
         .conflicts_with("check")?
         .conflicts_with("audit")?
+        .conflicts_with("holders")?
+        .conflicts_with("dot")?
+        .conflicts_with("sequence")?
         .conflicts_with("echo")?
-        .conflicts_with("expect")?
         .help("Makes the lines in every order, and tells what the orders come to");
     let limit = Arg::new(alloc, "limit")
         .long("limit")

@@ -4,7 +4,7 @@ use hoard::Purse;
 use std::alloc::{AllocError, Global};
 use std::process::Abort;
 use std::test::Fail;
-use ux_command::{Fault, read_args};
+use ux_command::{Fault, Point, read_args};
 use ux_kernel::BootFault;
 use ux_object::ObjError;
 use ux_syntax::ScriptFault;
@@ -33,21 +33,63 @@ fn a_script_is_named(rt: HostRuntime) -> Result<(), Fail> {
 }
 
 #[test]
-fn an_audit_is_asked_for_with_a_number(rt: HostRuntime) -> Result<(), Fail> {
-    for (text, number) in [("0", 0), ("9", 9), ("4294967295", u32::MAX)] {
-        let words = texts(rt.alloc(), &["uxrun", "--audit", text, "a.ux"])?;
+fn a_moment_is_asked_for(rt: HostRuntime) -> Result<(), Fail> {
+    for (text, point) in [
+        ("0", Point::Calls(0)),
+        ("9", Point::Calls(9)),
+        ("4294967295", Point::Calls(u32::MAX)),
+        ("line:7", Point::Line(7)),
+        ("end", Point::End),
+        ("all", Point::All),
+    ] {
+        let words = texts(
+            rt.alloc(),
+            &["uxrun", "--audit", text, "--holders", text, "a.ux"],
+        )?;
         let Ok(args) = read_args(rt.alloc(), words.as_slice()) else {
             return Err(Fail::from("not understood"));
         };
-        assert_eq!(rt; args.audit, Some(number));
-        assert_eq!(rt; args.script, "a.ux");
+        assert!(rt; args.audit == Some(point) && args.holders == Some(point));
+        assert!(rt; args.dot.is_none() && !args.sequence && args.script == "a.ux");
     }
     Ok(())
 }
 
+/// The lines of five calls, of which the third and the last are exits that the run added.
+const LINES: [Option<usize>; 5] = [Some(4), Some(7), None, Some(6), None];
+
 #[test]
-fn an_audit_of_what_is_no_number_is_refused(rt: HostRuntime) -> Result<(), Fail> {
-    for text in ["", "07", "+7", "7x", "4294967296"] {
+fn a_moment_is_so_many_calls(rt: HostRuntime) {
+    for (point, count) in [
+        (Point::Calls(2), 2),
+        (Point::Calls(9), 5),
+        (Point::Line(4), 1),
+        (Point::Line(6), 4),
+        (Point::End, 4),
+        (Point::All, 5),
+    ] {
+        assert!(rt;
+            point.count(&LINES).is_ok_and(|found| found == count),
+            "{count}"
+        );
+    }
+    assert!(rt; matches!(Point::Line(5).count(&LINES), Err(Fault::NoCall(5))));
+    assert!(rt; Point::End.count(&[]).is_ok_and(|found| found == 0));
+}
+
+#[test]
+fn what_is_no_moment_is_refused(rt: HostRuntime) -> Result<(), Fail> {
+    for text in [
+        "",
+        "07",
+        "+7",
+        "7x",
+        "4294967296",
+        "line:",
+        "line:07",
+        "line",
+        "End",
+    ] {
         let words = texts(rt.alloc(), &["uxrun", "--audit", text, "a.ux"])?;
         let told = read_args(rt.alloc(), words.as_slice())
             .err()
@@ -165,6 +207,14 @@ fn faults_have_their_texts(rt: HostRuntime) -> Result<(), Fail> {
         (Fault::Differs(7), "check differs at 7"),
         (Fault::Unexpected, "expect differs"),
         (Fault::Audit(Pid(2), Fd(5)), "audit fails at 2 5"),
+        (Fault::Order(3), "order: the process at place 3 can't go on"),
+        (Fault::Deadlocks(1, 3), "deadlock in 1 of 3 outcomes"),
+        (
+            Fault::UnexpectedIn(2, 3),
+            "expect differs in 2 of 3 outcomes",
+        ),
+        (Fault::Limit, "not all orders were made"),
+        (Fault::NoCall(3), "line 3 makes no call"),
     ];
     for (fault, text) in rows {
         assert_eq!(rt; fault.to_string(rt.alloc())?.as_str(), text);

@@ -6,16 +6,10 @@ use ux_command::Fault;
 use ux_syntax::ScriptFault;
 use ux_types::{Entry, Fd, Pid};
 
-/// Tells each descriptor that is open after the first so many calls, or after all where there are fewer, and the
-/// chain of holdings through which its process came to it; and last, how many descriptors there are. Each chain
-/// is checked before it is reported.
-pub fn tell_audit<R: Print + AllocGlobal>(
-    rt: &R,
-    history: &[Entry],
-    count: u32,
-) -> Result<(), Fault> {
+/// Tells each descriptor that is open after these calls, and the chain of holdings through which its process came to
+/// it; and last, how many descriptors there are. Each chain is checked before it is reported.
+pub fn tell_audit<R: Print + AllocGlobal>(rt: &R, entries: &[Entry]) -> Result<(), Fault> {
     let alloc: Global = rt.alloc();
-    let entries = &history[..history.len().min(count as usize)];
     let audit = Audit::new(alloc, entries)?;
     let holdings = audit.holdings(alloc)?;
     for (pid, fd) in &holdings {

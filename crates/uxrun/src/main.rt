@@ -2,6 +2,8 @@
 #![tactic(auto)]
 
 mod audit;
+mod machines;
+mod moments;
 mod objects;
 mod orders;
 mod printing;
@@ -10,6 +12,7 @@ mod reading;
 use audit::tell_audit;
 use clap::Error;
 use clap::error::ErrorKind;
+use moments::{calls_until, tell_moments};
 use objects::{check_script, run_script};
 use orders::{Made, run_in_order, tell_orders};
 use printing::{print_comparison, print_run};
@@ -20,7 +23,7 @@ use std::rt::Files;
 use std::sync::Wait;
 use std::thread::Threads;
 use std::{env, io};
-use ux_command::{Args, Fault, read_args};
+use ux_command::{Args, Fault, Source, read_args};
 use ux_syntax::{Expectation, Script, ScriptFault};
 use ux_threads::Ran;
 use ux_types::Entry;
@@ -34,13 +37,15 @@ const NOT_UNDERSTOOD: u8 = 2;
 fn run<R: Files + Input + Threads + Wait + Print + RandomSource + AllocGlobal + Sync>(
     rt: &R,
     args: &mut Args<'_>,
+    source: &mut Source,
 ) -> Result<(), Fault> {
-    let (script, expected) = script_of(rt, args)?;
+    let (script, expected) = script_of(rt, args, source)?;
     if script.serial && (args.order.is_some() || args.orders.is_some()) {
         return Err(Fault::Script(ScriptFault::OneOrder));
     }
     if let Some(limit) = args.orders {
-        return tell_orders(rt, &script, limit);
+        let expected = args.expect.then_some(expected.as_slice());
+        return tell_orders(rt, &script, expected, limit);
     }
     let mut history = history_of(rt, args, &script, &expected)?;
     print_run(rt, args, &script, &expected, &history)?;
@@ -48,10 +53,11 @@ fn run<R: Files + Input + Threads + Wait + Print + RandomSource + AllocGlobal + 
         history = check_script(rt, &script, history)?;
         println!(rt; "check ok {}", history.len()).map_err(|_| ScriptFault::Writing)?;
     }
-    if let Some(count) = args.audit {
-        tell_audit(rt, &history, count)?;
+    if let Some(point) = args.audit {
+        let count = calls_until(rt.alloc(), &script, &history, point)?;
+        tell_audit(rt, &history[..count])?;
     }
-    Ok(())
+    tell_moments(rt, args, &script, &history)
 }
 
 /// Runs the script. Where it isn't run to its end, that is what is reported, behind what there is to print: also where
@@ -101,6 +107,20 @@ fn failed(rt: &impl Eprint, fault: &Fault) -> ExitCode {
     ExitCode::FAILURE
 }
 
+/// Tells why no whole trace was printed, and behind that why so, where the script has more to tell.
+fn explained<R: Eprint + AllocGlobal>(
+    rt: &R,
+    name: &str,
+    source: &Source,
+    fault: &Fault,
+) -> ExitCode {
+    let code = failed(rt, fault);
+    if let Ok(Some(reason)) = source.reason_of(rt.alloc(), name, fault) {
+        let _ = eprintln!(rt; "{reason}");
+    }
+    code
+}
+
 /// Tells why the command line wasn't understood, or what was asked of the program itself.
 fn told<R: Print + Eprint>(rt: &R, error: &Error) -> ExitCode {
     if error.print(rt).is_err() && !error.use_stderr() {
@@ -132,8 +152,9 @@ fn main(rt: HostRuntime) -> ExitCode {
         Err(error) if error.kind() == ErrorKind::OutOfMemory => return failed(&rt, &no_memory),
         Err(error) => return told(&rt, &error),
     };
-    match run(&rt, &mut args) {
+    let mut source = Source::new(rt.alloc());
+    match run(&rt, &mut args, &mut source) {
         Ok(()) => ExitCode::SUCCESS,
-        Err(fault) => failed(&rt, &fault),
+        Err(fault) => explained(&rt, args.script, &source, &fault),
     }
 }

@@ -1,20 +1,18 @@
 //! Runs of a script in one order, and in all.
 
-ghost use Rattle.std.specs.Prelude.{◌≡◌, map, IfOk};
-ghost use Rattle.ux_model.specs.Boot.{IsBootState, new_process};
-
-use crate::objects::kernel_of;
+use crate::machines::boot;
+use crate::printing::tell_expected;
 use std::alloc::{AllocError, Global};
 use std::io;
 use std::io::BufWriter;
 use std::random::RandomSource;
 use ux_command::Fault;
-use ux_kernel::{BootFault, Kernel};
-use ux_objects::{FailAt, Plain};
+use ux_kernel::Kernel;
+use ux_objects::FailAt;
 use ux_orders::{Boot, Order, OrderFault, OrderList, Ran, explore, make_order};
-use ux_script::finish_trace;
-use ux_syntax::{Script, ScriptFault, Waiting};
-use ux_types::{Entry, Name, OBJECT_LIMIT, Pid};
+use ux_script::{differences, finish_trace, line_numbers, put_all};
+use ux_syntax::{Expectation, Script, ScriptFault, Waiting};
+use ux_types::{Entry, Pid};
 
 /// Makes kernels of a script's processes over its file objects as they are at first.
 struct Machine<'a, R> {
@@ -43,25 +41,6 @@ impl<R: RandomSource + AllocGlobal> Boot for Machine<'_, R> {
             }
         }
     }
-}
-
-/// A kernel of the script's processes over its file objects. More than it may have are counted before any is made.
-fn boot<R: RandomSource + AllocGlobal>(rt: &R, script: &Script) -> Result<Kernel<FailAt>, Fault>
-    ensures boots { IfOk result (λ kernel. IsBootState kernel) }
-    ensures processes { IfOk result (λ kernel. kernel.processes ≡ map new_process script.now.procs.items) }
-{
-    let alloc: Global = rt.alloc();
-    if script.objects.len() > OBJECT_LIMIT {
-        return Err(Fault::from(BootFault::TooManyObjects));
-    }
-    let mut objects: Vec<(Name, FailAt)> = Vec::new(alloc);
-    for line in &script.objects {
-        let plain = Plain::new(alloc, line.kind, line.body.as_slice())?;
-        // For 0 no call fails.
-        let object = FailAt::new(plain, line.fail.unwrap_or(0));
-        objects.push((line.name.clone()?, object))?;
-    }
-    kernel_of(rt, script, objects)
 }
 
 /// The history of a run.
@@ -94,10 +73,11 @@ pub fn run_in_order<R: RandomSource + AllocGlobal>(
 }
 
 /// Runs the script in all orders, but at most in so many, and prints what they come to: how many orders and outcomes
-/// there are, and of each outcome the order and the trace.
+/// there are, and of each outcome the order, the trace, and where answers are expected which of them differ.
 pub fn tell_orders<R: Print + RandomSource + AllocGlobal>(
     rt: &R,
     script: &Script,
+    expected: Option<&[Expectation]>,
     limit: u32,
 ) -> Result<(), Fault> {
     let mut machine = Machine { rt, fault: None };
@@ -112,30 +92,61 @@ pub fn tell_orders<R: Print + RandomSource + AllocGlobal>(
         .filter(|ran| ran.is_deadlock())
         .count();
     println!(rt; "orders {}\noutcomes {count}", found.orders).map_err(|_| ScriptFault::Writing)?;
-    tell_outcomes(rt, &found.outcomes)?;
+    let unexpected = tell_outcomes(rt, script, expected, &found.outcomes)?;
     if !found.is_all {
         println!(rt; "not all orders were made").map_err(|_| ScriptFault::Writing)?;
     }
     if deadlocks > 0 {
         return Err(Fault::Deadlocks(deadlocks, count));
     }
+    if unexpected > 0 {
+        return Err(Fault::UnexpectedIn(unexpected, count));
+    }
     if !found.is_all {
         return Err(Fault::Limit);
     }
-    Ok(())
+    match expected {
+        Some(expected) => tell_expected(rt, expected.len()),
+        None => Ok(()),
+    }
 }
 
-/// Prints the outcomes in their order.
-fn tell_outcomes<R: Print + AllocGlobal>(rt: &R, outcomes: &[Ran]) -> Result<(), Fault> {
+/// Prints the outcomes in their order: in how many of them an answer isn't the expected one.
+fn tell_outcomes<R: Print + AllocGlobal>(
+    rt: &R,
+    script: &Script,
+    expected: Option<&[Expectation]>,
+    outcomes: &[Ran],
+) -> Result<usize, Fault> {
     let mut last: Option<&Ran> = None;
+    let mut unexpected: usize = 0;
     for _ in 0..outcomes.len() {
         let Some(next) = next_behind(outcomes, last) else {
-            return Ok(());
+            return Ok(unexpected);
         };
         tell_outcome(rt, next)?;
+        if !is_expected(rt, script, expected, next.entries())? {
+            unexpected = unexpected.saturating_add(1);
+        }
         last = Some(next);
     }
-    Ok(())
+    Ok(unexpected)
+}
+
+/// Whether the answers of a run are those that are expected, if any are; prints which of them aren't.
+fn is_expected<R: Print + AllocGlobal>(
+    rt: &R,
+    script: &Script,
+    expected: Option<&[Expectation]>,
+    entries: &[Entry],
+) -> Result<bool, Fault> {
+    let Some(expected) = expected else {
+        return Ok(true);
+    };
+    let lines = line_numbers(rt.alloc(), script, entries)?;
+    let told = differences(rt.alloc(), expected, &lines, entries)?;
+    put_all(&mut io::writer(rt), &told)?;
+    Ok(told.is_empty())
 }
 
 /// The first outcome behind this one, or of all.

@@ -9,7 +9,8 @@ use ux_syntax::{Expectation, Script, ScriptFault};
 use ux_types::Entry;
 
 /// Prints the history of a run to standard output, as a trace or beside the script; where it is asked for, compares the
-/// answers with those that are expected, and tells how many are, or which answers differ.
+/// answers with those that are expected, and tells how many are, or which answers differ. Where a graph or a
+/// diagram is asked for, that alone is printed.
 pub fn print_run<R: Print + AllocGlobal>(
     rt: &R,
     args: &Args<'_>,
@@ -17,6 +18,9 @@ pub fn print_run<R: Print + AllocGlobal>(
     expected: &[Expectation],
     history: &[Entry],
 ) -> Result<(), Fault> {
+    if args.dot.is_some() || args.sequence {
+        return Ok(());
+    }
     if !args.echo && !args.expect {
         return print_trace(rt, history);
     }
@@ -57,9 +61,14 @@ pub fn print_comparison<R: Print + AllocGlobal>(
 ) -> Result<(), Fault> {
     let told = differences(rt.alloc(), expected, lines, history)?;
     if told.is_empty() {
-        println!(rt; "expect ok {}", expected.len()).map_err(|_| ScriptFault::Writing)?;
-        return Ok(());
+        return tell_expected(rt, expected.len());
     }
     put_all(&mut io::writer(rt), &told)?;
     Err(Fault::Unexpected)
+}
+
+/// Tells how many answers were compared, of which none differs.
+pub fn tell_expected(rt: &impl Print, count: usize) -> Result<(), Fault> {
+    println!(rt; "expect ok {count}").map_err(|_| ScriptFault::Writing)?;
+    Ok(())
 }
