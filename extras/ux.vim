@@ -1,0 +1,27 @@
+" Vim syntax of the scripts that uxrun runs: docs/uxrun.md and docs/calls.md.
+if exists('b:current_syntax')
+  finish
+endif
+
+syntax match uxComment /^#.*$/
+syntax match uxExpected /^#= .*$/
+syntax match uxHeader /^\(serial\|object\|proc\|off\)\>/
+syntax match uxPid /^\d\+\ze / nextgroup=uxCall,uxWait skipwhite
+syntax match uxCall /\(open\|read\|write\|lseek\|dup2\?\|flags\|close\|unlink\|socket\|pair\|bind\|listen\|connect\|accept\)\>/ contained
+syntax match uxCall /\(shut\|getopt\|setopt\|sockname\|peername\|send\|recv\|poll\|fork\|exec\|exit\)\>/ contained
+syntax match uxWait /wait\>/ contained
+syntax match uxName /\<[pa]:\S*/
+syntax match uxControl /\<\(x:[0-9a-f]\+\|[rc]:[0-9,]\+\)\(+[rc]:[0-9,]\+\)\?/
+syntax match uxKind /\<\(mem\|counter\|pipe\|fail\|stream\|dgram\|seq\)\>/
+
+highlight default link uxComment Comment
+highlight default link uxExpected SpecialComment
+highlight default link uxHeader PreProc
+highlight default link uxPid Number
+highlight default link uxCall Function
+highlight default link uxWait Statement
+highlight default link uxName String
+highlight default link uxControl Special
+highlight default link uxKind Type
+
+let b:current_syntax = 'ux'

@@ -1,0 +1,13 @@
+# Made by extras/make from docs/uxrun.md: completion of uxrun in bash.
+_uxrun() {
+    local word=${COMP_WORDS[COMP_CWORD]} before=${COMP_WORDS[COMP_CWORD-1]}
+    case $before in
+        --order|--audit|--holders|--dot|--limit) COMPREPLY=(); return ;;
+    esac
+    if [[ $word == -* ]]; then
+        mapfile -t COMPREPLY < <(compgen -W '--threads --order --orders --echo --expect --check --audit --holders --dot --sequence --limit --help --version' -- "$word")
+    else
+        mapfile -t COMPREPLY < <(compgen -d -- "$word"; compgen -f -X '!*.ux' -- "$word")
+    fi
+}
+complete -o filenames -F _uxrun uxrun
