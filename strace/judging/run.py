@@ -56,7 +56,8 @@ class Runner:
 
 
 def read_trace(out, errors):
-    trace = Trace(fault=errors.strip())
+    # The first line tells the fault; what follows explains it to who wrote the script by hand.
+    trace = Trace(fault=errors.strip().partition("\n")[0])
     for line in out.splitlines():
         if line.startswith("held "):
             head, _, chain = line.partition(" = ")
