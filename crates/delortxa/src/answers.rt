@@ -2,13 +2,13 @@
 ghost use Rattle.std.specs.Prelude.{◌≡◌, ◌↔◌, Some, None, Err, IfOk, IfErr, OnOk};
 ghost use Rattle.ux_model.specs.ControlReading.{control_in};
 ghost use Rattle.ux_model.specs.Types.{Reply};
-ghost use Rattle.ux_laws.specs.ReplyKinds.{is_done, is_fd, is_fds, is_count, is_bytes, is_offset, is_message, is_accepted, is_addr, is_value, is_cred, is_ready, is_child};
+ghost use Rattle.ux_laws.specs.ReplyKinds.{is_done, is_fd, is_fds, is_count, is_bytes, is_offset, is_message, is_accepted, is_addr, is_value, is_cred, is_ready, is_child, is_flags};
 ghost use Rattle.delortxa.specs.Answering.{IsOther, other_error};
 
 use crate::fault::CallError;
 use std::alloc::Global;
 use ux_cmsg::{Control, ControlError, read_control};
-use ux_types::{Addr, Bytes, Cred, Fd, MsgFlags, Pid, PollFlags, Reply};
+use ux_types::{Addr, Bytes, Cred, Fd, MsgFlags, OpenFlags, Pid, PollFlags, Reply};
 
 /// What was received, as recvmsg(2) reports it.
 #[derive(Debug, Drop, PartialEq, Eq)]
@@ -170,6 +170,15 @@ pub trait ReplyExt: Sized {
     fn child(self) -> Result<Pid, CallError>
         ensures child { IfOk result (λ child. told self ≡ Reply.Child child) }
         ensures refused { IfErr result (IsOther is_child (told self)) };
+
+    /// The flags of a descriptor and of its description.
+    ///
+    /// # Errors
+    ///
+    /// `Refused` exactly for a refusal, else `Unlike` exactly for another reply.
+    fn flags(self) -> Result<OpenFlags, CallError>
+        ensures flags { IfOk result (λ flags. told self ≡ Reply.Flags flags) }
+        ensures refused { IfErr result (IsOther is_flags (told self)) };
 }
 
 impl ReplyExt for Reply {
@@ -274,6 +283,13 @@ impl ReplyExt for Reply {
     fn child(self) -> Result<Pid, CallError> {
         match self {
             Reply::Child(pid) => Ok(pid),
+            other => Err(other_reply(other)),
+        }
+    }
+
+    fn flags(self) -> Result<OpenFlags, CallError> {
+        match self {
+            Reply::Flags(flags) => Ok(flags),
             other => Err(other_reply(other)),
         }
     }

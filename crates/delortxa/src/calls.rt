@@ -135,6 +135,28 @@ pub trait Calls<C: Copy> {
         reply.fd()
     }
 
+    /// fcntl(2), F_DUPFD: the new descriptor is the lowest free number that isn't below `minimum`.
+    #[tactic(auto, using(crate::proofs::Calling::fails))]
+    final fn dup_from(&mut self, who: C, fd: Fd, minimum: Fd) -> Result<Fd, CallError>
+        ensures made { IfOk result (λ new. did who self.old self.new (Request.DupFrom fd minimum) (Reply.Fd new)) }
+        ensures refused { IfErr result (λ error. Fails did unmade who self.old self.new (Request.DupFrom fd minimum) error) }
+    {
+        let request = call::dup_from(fd, minimum);
+        let reply = self.ask(who, &request)?;
+        reply.fd()
+    }
+
+    /// fcntl(2), F_GETFL and F_GETFD at once: the flags of a descriptor and of its description.
+    #[tactic(auto, using(crate::proofs::Calling::fails))]
+    final fn get_flags(&mut self, who: C, fd: Fd) -> Result<OpenFlags, CallError>
+        ensures made { IfOk result (λ flags. did who self.old self.new (Request.GetFlags fd) (Reply.Flags flags)) }
+        ensures refused { IfErr result (λ error. Fails did unmade who self.old self.new (Request.GetFlags fd) error) }
+    {
+        let request = call::get_flags(fd);
+        let reply = self.ask(who, &request)?;
+        reply.flags()
+    }
+
     /// fcntl(2), F_SETFL and F_SETFD at once: all three flags get the values given.
     #[tactic(auto, using(crate::proofs::Calling::fails))]
     final fn set_flags(&mut self, who: C, fd: Fd, flags: OpenFlags) -> Result<(), CallError>

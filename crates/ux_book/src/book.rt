@@ -25,7 +25,7 @@ use std::alloc::{AllocError, Global};
 use std::marker::{Model, PhantomData};
 use ux_kernel::Kernel;
 use ux_object::FileObject;
-use ux_state::{ReleasedObject, ReleasedObjects};
+use ux_state::{ReleasedObject, ReleasedObjects, State};
 use ux_types::{Done, Entry, Errno, Pid, Released, Reply, Request};
 
 /// A kernel with the history of its calls. Contracts see the boot state and the entries, which are a legal history;
@@ -184,6 +184,13 @@ impl<W: BookName, O: FileObject, K: Keeper> Book<W, O, K> {
         ensures { result ≡ is_live (state_of self.now) pid.0 }
     {
         self.kernel.is_live(pid)
+    }
+
+    /// The state at the end of the history, to be looked at.
+    pub fn state(&self) -> &State<O>
+        ensures { result.now ≡ state_of self.now }
+    {
+        self.kernel.state()
     }
 
     /// Whether the layer was ended.

@@ -85,6 +85,20 @@ pub fn dup2(fd: Fd, to: Fd) -> Request
     Request::Dup2 { fd, to }
 }
 
+/// fcntl(2), F_DUPFD: a copy of `fd` at the lowest free number that isn't below `minimum`.
+pub fn dup_from(fd: Fd, minimum: Fd) -> Request
+    ensures { result ≡ Request.DupFrom fd minimum }
+{
+    Request::DupFrom { fd, minimum }
+}
+
+/// fcntl(2), F_GETFL and F_GETFD at once.
+pub fn get_flags(fd: Fd) -> Request
+    ensures { result ≡ Request.GetFlags fd }
+{
+    Request::GetFlags { fd }
+}
+
 /// fcntl(2), F_SETFL and F_SETFD at once: all three flags get the values given.
 pub fn set_flags(fd: Fd, flags: OpenFlags) -> Request
     ensures { result ≡ Request.SetFlags fd flags }

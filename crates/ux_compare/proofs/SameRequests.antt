@@ -25,6 +25,12 @@ dup_same fd b = search rules
 dup2_same : (fd : Fd) (to : Fd) (b : Request) → Same (Request.Dup2 fd to) b
 dup2_same fd to b = search rules
 
+dup_from_same : (fd minimum : Fd) (b : Request) → Same (Request.DupFrom fd minimum) b
+dup_from_same fd minimum b = search rules
+
+get_flags_same : (fd : Fd) (b : Request) → Same (Request.GetFlags fd) b
+get_flags_same fd b = search rules
+
 set_flags_same : (fd : Fd) (flags : OpenFlags) (b : Request) → Same (Request.SetFlags fd flags) b
 set_flags_same fd flags b = search rules
 
@@ -95,6 +101,8 @@ same_request (Request.Write fd bytes) b = write_same fd bytes b
 same_request (Request.Lseek fd offset whence) b = lseek_same fd offset whence b
 same_request (Request.Dup fd) b = dup_same fd b
 same_request (Request.Dup2 fd to) b = dup2_same fd to b
+same_request (Request.DupFrom fd minimum) b = dup_from_same fd minimum b
+same_request (Request.GetFlags fd) b = get_flags_same fd b
 same_request (Request.SetFlags fd flags) b = set_flags_same fd flags b
 same_request (Request.Close fd) b = close_same fd b
 same_request (Request.Unlink path) b = unlink_same path b

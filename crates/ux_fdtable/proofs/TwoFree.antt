@@ -1,8 +1,8 @@
--- The two lowest free numbers of a table: they are within it, and nothing is open at them.
-use Rattle.std.proofs.Common.{◌≡◌, ℕ, zero, suc, ◌+◌, ◌<◌, List, [], ◌∷◌, length, set, Option, Some, None, slice_get, refl, ap, sym, ◌∙◌, arith}
-use Rattle.std.proofs.lemmas.List.{length-set, set-set, set-get_or, get_or-set_other}
+-- The lowest free numbers of a table: they are within it, and nothing is open at them.
+use Rattle.std.proofs.Common.{◌≡◌, ℕ, zero, suc, ◌+◌, ◌<◌, List, [], ◌∷◌, length, drop, set, Option, Some, None, slice_get, refl, ap, sym, ◌∙◌, arith}
+use Rattle.std.proofs.lemmas.List.{length-drop, get_or-drop, length-set, set-set, set-get_or, get_or-set_other}
 use Rattle.ux_model.specs.Places.{place, empty_places_from, filled, emptied}
-use Rattle.ux_model.specs.Process.{Descriptor, free_numbers, two_lowest_free}
+use Rattle.ux_model.specs.Process.{Descriptor, free_numbers, lowest_free_from, two_lowest_free}
 
 -- each empty place is one of the table's
 empty_place : (i k m : ℕ) (xs : List (Option Descriptor)) → slice_get (empty_places_from i xs) k ≡ Some m → (n : ℕ) × ((m ≡ i + n) × ((n < length xs) × (place xs n ≡ None)))
@@ -16,6 +16,13 @@ free_at T k m h =
     let p = empty_place 0 k m T h in
     let e : m ≡ p.0 = omega (arith, p.1.0) in
     rw e p.1.1
+
+-- so is the lowest that isn't below a minimum
+pub free_from_at : (T : List (Option Descriptor)) (minimum m : ℕ) → lowest_free_from minimum T ≡ Some m → (m < length T) × (place T m ≡ None)
+free_from_at T minimum m h =
+    let p = empty_place minimum 0 m (drop minimum T) h in
+    let e : m ≡ minimum + p.0 = p.1.0 in
+    (omega (arith, e, p.1.1.0, length-drop minimum T), ap (place T) e ∙ sym (get_or-drop minimum T p.0 None) ∙ p.1.1.1)
 
 both_of : (T : List (Option Descriptor)) (a b : ℕ) → two_lowest_free T ≡ Some (a, b) → (slice_get (free_numbers T) 0 ≡ Some a) × (slice_get (free_numbers T) 1 ≡ Some b)
 both_of T a b h = go (free_numbers T) refl

@@ -3,7 +3,7 @@ ghost use Rattle.std.specs.Prelude.{◌≡◌, ℕ, ◌+◌, ◌<◌, ◌≤◌,
 ghost use Rattle.std.specs.Prelude.{option_map};
 ghost use Rattle.ux_model.specs.Limits.{table_limit};
 ghost use Rattle.ux_model.specs.Places.{place, filled, emptied};
-ghost use Rattle.ux_model.specs.Process.{free_numbers, lowest_free, two_lowest_free, empty_table, copy_of, kept_on_exec, with_cloexec};
+ghost use Rattle.ux_model.specs.Process.{free_numbers, lowest_free, lowest_free_from, two_lowest_free, empty_table, copy_of, kept_on_exec, with_cloexec};
 ghost use Rattle.ux_model.specs.References.{table_refs};
 ghost use Rattle.ux_model.specs.Delivery.{installed};
 ghost use Rattle.ux_fdtable.specs.Padded.{AreBelow, FindsFree, IsReaching, IsTable, padded};
@@ -160,7 +160,14 @@ impl Table {
     pub fn lowest_free(&self) -> Option<Fd>
         ensures { option_map (λ fd. fd.0) result ≡ lowest_free self.now }
     {
-        let number = self.free_from(0)?;
+        self.lowest_free_from(Fd(0))
+    }
+
+    /// The lowest number that isn't open and isn't below a minimum (fcntl(2), F_DUPFD).
+    pub fn lowest_free_from(&self, minimum: Fd) -> Option<Fd>
+        ensures { option_map (λ fd. fd.0) result ≡ lowest_free_from minimum.0 self.now }
+    {
+        let number = self.free_from(minimum.0 as usize)?;
         Some(Fd(number as u32))
     }
 
@@ -184,7 +191,21 @@ impl Table {
         ensures full { (result ≡ Err InstallError.Full) ↔ (lowest_free self.old ≡ None) }
         ensures err { OnErr result (self.new ≡ self.old) }
     {
-        let Some(number) = self.free_from(0) else {
+        self.install_from(Fd(0), descriptor)
+    }
+
+    /// Opens the lowest number that is free and isn't below a minimum, and answers it (fcntl(2), F_DUPFD).
+    ///
+    /// # Errors
+    ///
+    /// `Full` exactly where no such number is free, else `NoMemory`. The table is then as before.
+    pub fn install_from(&mut self, minimum: Fd, descriptor: Descriptor) -> Result<Fd, InstallError>
+        ensures lowest { IfOk result (λ fd. lowest_free_from minimum.0 self.old ≡ Some fd.0) }
+        ensures opened { IfOk result (λ fd. self.new ≡ filled self.old fd.0 descriptor) }
+        ensures full { (result ≡ Err InstallError.Full) ↔ (lowest_free_from minimum.0 self.old ≡ None) }
+        ensures err { OnErr result (self.new ≡ self.old) }
+    {
+        let Some(number) = self.free_from(minimum.0 as usize) else {
             return Err(InstallError::Full);
         };
         self.put(number, descriptor)?;

@@ -1,13 +1,16 @@
-//! Further descriptors (dup(2), dup2(2)), and the flags of one (fcntl(2)).
-ghost use Rattle.std.specs.Prelude.{IsTrue};
+//! Further descriptors (dup(2), dup2(2), fcntl(2)), and the flags of one (fcntl(2)).
+ghost use Rattle.std.specs.Prelude.{◌≡◌, IsTrue};
+ghost use Rattle.ux_model.specs.Flags.{open_flags_of};
 ghost use Rattle.ux_model.specs.State.{is_live};
 ghost use Rattle.ux_msg.specs.Answers.{Gives};
 ghost use Rattle.ux_model.specs.Descriptors as model;
 
 use crate::kernel::Kernel;
 use bitflags::Flags;
+use ux_desc::Description;
+use ux_fdtable::Descriptor;
 use ux_object::FileObject;
-use ux_types::{Fd, OpenFlags, Pid, Refusal, Reply};
+use ux_types::{Errno, Fd, OpenFlags, Pid, Refusal, Reply};
 
 impl<O: FileObject> Kernel<O> {
     /// dup(2): the lowest free number leads to the same description. EBADF where the number isn't open,
@@ -44,6 +47,37 @@ impl<O: FileObject> Kernel<O> {
         Ok(Reply::Fd(to))
     }
 
+    /// fcntl(2), F_DUPFD: the lowest free number that isn't below a minimum leads to the same description. EBADF
+    /// where the number isn't open, else EINVAL where the minimum isn't below the limit, else EMFILE where none is free.
+    #[tactic(auto, using(ux_msg::proofs::Found::found_held), unfolding(ux_model::specs::Descriptors::dup_from))]
+    pub(crate) fn dup_from(&mut self, pid: Pid, fd: Fd, minimum: Fd) -> Result<Reply, Refusal>
+        requires { IsTrue (is_live self.old pid.0) }
+        ensures { Gives self.old (model.dup_from self.old pid.0 fd minimum) result self.new }
+    {
+        let entry = match self.state.find_description(pid, fd) {
+            Ok(found) => found.descriptor,
+            Err(e) => return Err(e.into()),
+        };
+        if minimum.0 >= self.state.table(pid).limit() {
+            return Err(Errno::EINVAL.into());
+        }
+        let number = self.state.put_lowest_from(pid, minimum, entry.duplicate())?;
+        Ok(Reply::Fd(number))
+    }
+
+    /// fcntl(2), F_GETFL and F_GETFD at once. EBADF where the number isn't open.
+    #[tactic(auto, unfolding(ux_model::specs::Descriptors::get_flags))]
+    pub(crate) fn get_flags(&self, pid: Pid, fd: Fd) -> Result<Reply, Refusal>
+        requires { IsTrue (is_live self.now pid.0) }
+        ensures { Gives self.now (model.get_flags self.now pid.0 fd) result self.now }
+    {
+        let found = match self.state.find_description(pid, fd) {
+            Ok(found) => found,
+            Err(e) => return Err(e.into()),
+        };
+        Ok(Reply::Flags(flags_of(found.descriptor, found.description)))
+    }
+
     /// fcntl(2), F_SETFL and F_SETFD at once. EBADF where the number isn't open.
     #[tactic(auto, unfolding(ux_model::specs::Descriptors::set_flags))]
     pub(crate) fn set_flags(&mut self, pid: Pid, fd: Fd, flags: OpenFlags) -> Result<Reply, Refusal>
@@ -59,4 +93,21 @@ impl<O: FileObject> Kernel<O> {
             .set_cloexec(pid, fd, flags.contains(OpenFlags::CLOEXEC));
         Ok(Reply::Ok)
     }
+}
+
+/// The flags of a descriptor and of its description.
+fn flags_of(entry: Descriptor, description: &Description) -> OpenFlags
+    ensures { result ≡ open_flags_of description.now.append description.now.nonblock entry.cloexec }
+{
+    let mut flags = OpenFlags(0);
+    if description.append() {
+        flags = flags.union(OpenFlags::APPEND);
+    }
+    if description.nonblock() {
+        flags = flags.union(OpenFlags::NONBLOCK);
+    }
+    if entry.cloexec {
+        flags = flags.union(OpenFlags::CLOEXEC);
+    }
+    flags
 }

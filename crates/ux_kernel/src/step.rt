@@ -68,6 +68,8 @@ impl<O: FileObject> Kernel<O> {
             Request::Lseek { fd, offset, whence } => self.lseek(pid, *fd, *offset, *whence),
             Request::Dup { fd } => self.dup(pid, *fd),
             Request::Dup2 { fd, to } => self.dup2(pid, *fd, *to),
+            Request::DupFrom { fd, minimum } => self.dup_from(pid, *fd, *minimum),
+            Request::GetFlags { fd } => self.get_flags(pid, *fd),
             Request::SetFlags { fd, flags } => self.set_flags(pid, *fd, *flags),
             Request::Close { fd } => self.close(pid, *fd),
             Request::Unlink { path } => self.unlink(path),

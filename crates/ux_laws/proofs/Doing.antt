@@ -17,7 +17,7 @@ use Rattle.ux_model.specs.Backlog.{backlog_of}
 use Rattle.ux_model.specs.Credentials.{cred_refusal}
 use Rattle.ux_model.specs.Socket.{Socket, new_socket, is_stream, is_dgram, pending_ends, peer_of, association_of, tied_socket, takes_from, has_room, with_reset, with_passcred, with_queue_limit, with_queue, shut_down}
 use Rattle.ux_model.specs.Description.{Description, to_object, to_socket, socket_of, socket_in, changed}
-use Rattle.ux_model.specs.Process.{Process, Descriptor, own_cred, lowest_free, two_lowest_free, descriptor, kept_on_exec, fd_of}
+use Rattle.ux_model.specs.Process.{Process, Descriptor, own_cred, lowest_free, lowest_free_from, two_lowest_free, descriptor, kept_on_exec, fd_of}
 use Rattle.ux_model.specs.State.{State, process_at, is_live, description_at, socket_at, table_of, with_child, with_description, with_socket_by, with_process, with_table, with_new}
 use Rattle.ux_model.specs.Outcome.{Outcome, Chosen, own, lacking_memory, failing, refuse, descriptor_at, find_socket}
 use Rattle.ux_model.specs.Naming.{unlink}
@@ -35,7 +35,7 @@ use Rattle.ux_model.specs.Writing.{write, write_answer, offset_after_write, writ
 use Rattle.ux_model.specs.Seeking.{lseek, seek_to, seek_base}
 use Rattle.ux_model.specs.Options.{tell_cred, tell_option, get_opt, pass_cred_on, may_limit, change_option, set_opt}
 use Rattle.ux_model.specs.Readiness.{poll}
-use Rattle.ux_model.specs.Descriptors.{dup, dup2, set_flags, with_flags}
+use Rattle.ux_model.specs.Descriptors.{dup, dup2, dup_from, get_flags, set_flags, with_flags}
 use Rattle.ux_model.specs.Forking.{fork, exec, child_of}
 use Rattle.ux_model.specs.Closing.{close, exit, off}
 use Rattle.ux_model.specs.Release.{settled}
@@ -116,6 +116,19 @@ dup2_did S p tag fd to = found Q S p fd _ refuses (λ e D g h. either Q (nat_le 
   where
     Q : Outcome → Type 0
     Q o = Did S p tag (Request.Dup2 fd to) o.reply o.next
+
+dup_from_did : (S : State) (p tag : ℕ) (fd minimum : Fd) →
+    Did S p tag (Request.DupFrom fd minimum) (dup_from S p fd minimum).reply (dup_from S p fd minimum).next
+unfolding dup_from
+dup_from_did S p tag fd minimum = found Q S p fd _ refuses (λ e D g h. either Q (nat_le (length (table_of S p)) minimum.0) _ _ (λ b. refuses)
+    (λ b. maybe Q (lowest_free_from minimum.0 (table_of S p)) _ _ refuses (λ n low. answers refl (kept_table S p _))))
+  where
+    Q : Outcome → Type 0
+    Q o = Did S p tag (Request.DupFrom fd minimum) o.reply o.next
+
+get_flags_did : (S : State) (p tag : ℕ) (fd : Fd) → Did S p tag (Request.GetFlags fd) (get_flags S p fd).reply (get_flags S p fd).next
+unfolding get_flags
+get_flags_did S p tag fd = found (λ o. Did S p tag (Request.GetFlags fd) o.reply o.next) S p fd _ refuses (λ e D g h. unchanged refl)
 
 flags_did : (S : State) (p tag : ℕ) (fd : Fd) (flags : OpenFlags) → Did S p tag (Request.SetFlags fd flags) (set_flags S p fd flags).reply (set_flags S p fd flags).next
 unfolding set_flags
@@ -686,6 +699,8 @@ each_did S p tag (Request.Write fd bytes) = write_did S p tag fd bytes
 each_did S p tag (Request.Lseek fd offset whence) = lseek_did S p tag fd offset whence
 each_did S p tag (Request.Dup fd) = dup_did S p tag fd
 each_did S p tag (Request.Dup2 fd to) = dup2_did S p tag fd to
+each_did S p tag (Request.DupFrom fd minimum) = dup_from_did S p tag fd minimum
+each_did S p tag (Request.GetFlags fd) = get_flags_did S p tag fd
 each_did S p tag (Request.SetFlags fd flags) = flags_did S p tag fd flags
 each_did S p tag (Request.Close fd) = close_did S p tag fd
 each_did S p tag (Request.Unlink path) = unlink_did S p tag path

@@ -16,7 +16,7 @@ use Rattle.ux_model.specs.ControlReading.{control_in}
 use Rattle.ux_model.specs.Backlog.{backlog_of}
 use Rattle.ux_model.specs.Socket.{Socket, Phase, idle, listening, connected, associated, is_stream, is_dgram, pending_ends, peer_of, association_of, tied_socket, takes_from, has_room, awaiting, sent, with_queue, with_reset, with_association, phase_with_association, with_passcred, with_queue_limit, shut_down, new_socket, pair_end}
 use Rattle.ux_model.specs.Description.{Description, Target, to_object, to_socket, socket_of, socket_in, changed, changed_target}
-use Rattle.ux_model.specs.Process.{Process, Descriptor, own_cred, lowest_free, two_lowest_free, descriptor}
+use Rattle.ux_model.specs.Process.{Process, Descriptor, own_cred, lowest_free, lowest_free_from, two_lowest_free, descriptor}
 use Rattle.ux_model.specs.State.{State, process_at, description_at, socket_at, table_of, next_description, with_description, with_description_by, with_socket_by, with_process, with_table, with_new}
 use Rattle.ux_model.specs.Outcome.{Outcome, Chosen, own, lacking_memory, failing, refuse, descriptor_at, find_socket}
 use Rattle.ux_model.specs.Naming.{unlink}
@@ -34,7 +34,7 @@ use Rattle.ux_model.specs.Writing.{write, write_answer, offset_after_write, writ
 use Rattle.ux_model.specs.Seeking.{lseek, seek_to, seek_base}
 use Rattle.ux_model.specs.Options.{tell_cred, tell_option, get_opt, may_limit, change_option, set_opt}
 use Rattle.ux_model.specs.Readiness.{poll}
-use Rattle.ux_model.specs.Descriptors.{dup, dup2, set_flags, with_flags}
+use Rattle.ux_model.specs.Descriptors.{dup, dup2, dup_from, get_flags, set_flags, with_flags}
 use Rattle.ux_model.specs.Forking.{fork, exec}
 use Rattle.ux_model.specs.Closing.{close, exit, off}
 use Rattle.ux_model.specs.Step.{outcome}
@@ -310,6 +310,18 @@ dup2_near S p fd to = found Q S p fd _ still (λ e D g h. either Q (nat_le (leng
   where
     Q : Outcome → Type 0
     Q o = Near S p (Request.Dup2 fd to) o.next
+
+dup_from_near : (S : State) (p : ℕ) (fd minimum : Fd) → Near S p (Request.DupFrom fd minimum) (dup_from S p fd minimum).next
+unfolding dup_from
+dup_from_near S p fd minimum = found Q S p fd _ still (λ e D g h. either Q (nat_le (length (table_of S p)) minimum.0) _ _ (λ b. still)
+    (λ b. maybe Q (lowest_free_from minimum.0 (table_of S p)) _ _ still (λ n low. near_table S p _ still)))
+  where
+    Q : Outcome → Type 0
+    Q o = Near S p (Request.DupFrom fd minimum) o.next
+
+get_flags_near : (S : State) (p : ℕ) (fd : Fd) → Near S p (Request.GetFlags fd) (get_flags S p fd).next
+unfolding get_flags
+get_flags_near S p fd = found (λ o. Near S p (Request.GetFlags fd) o.next) S p fd _ still (λ e D g h. still)
 
 flags_near : (S : State) (p : ℕ) (fd : Fd) (flags : OpenFlags) → Near S p (Request.SetFlags fd flags) (set_flags S p fd flags).next
 unfolding set_flags
@@ -679,6 +691,8 @@ each_near S p tag (Request.Write fd bytes) = write_near S p tag fd bytes
 each_near S p tag (Request.Lseek fd offset whence) = lseek_near S p fd offset whence
 each_near S p tag (Request.Dup fd) = dup_near S p fd
 each_near S p tag (Request.Dup2 fd to) = dup2_near S p fd to
+each_near S p tag (Request.DupFrom fd minimum) = dup_from_near S p fd minimum
+each_near S p tag (Request.GetFlags fd) = get_flags_near S p fd
 each_near S p tag (Request.SetFlags fd flags) = flags_near S p fd flags
 each_near S p tag (Request.Close fd) = close_near S p fd
 each_near S p tag (Request.Unlink path) = unlink_near S p path

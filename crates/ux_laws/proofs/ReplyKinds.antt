@@ -14,7 +14,7 @@ use Rattle.ux_model.specs.ControlReading.{control_in}
 use Rattle.ux_model.specs.Front.{Front, front_of}
 use Rattle.ux_model.specs.Socket.{Socket, is_stream, is_dgram, peer_of, pending_ends, association_of, tied_socket, takes_from, has_room}
 use Rattle.ux_model.specs.Description.{Description}
-use Rattle.ux_model.specs.Process.{own_cred, lowest_free, two_lowest_free}
+use Rattle.ux_model.specs.Process.{own_cred, lowest_free, lowest_free_from, two_lowest_free}
 use Rattle.ux_model.specs.State.{State, process_at, socket_at, table_of}
 use Rattle.ux_model.specs.Outcome.{Outcome, Chosen, own, lacking_memory, failing, refuse, descriptor_at}
 use Rattle.ux_model.specs.Naming.{unlink}
@@ -30,14 +30,14 @@ use Rattle.ux_model.specs.Opening.{open_file}
 use Rattle.ux_model.specs.Reading.{is_short_read, read_error, read_answer, read}
 use Rattle.ux_model.specs.Writing.{write_place, write_answer, write}
 use Rattle.ux_model.specs.Seeking.{seek_base, seek_to, lseek}
-use Rattle.ux_model.specs.Descriptors.{dup, dup2, set_flags}
+use Rattle.ux_model.specs.Descriptors.{dup, dup2, dup_from, get_flags, set_flags}
 use Rattle.ux_model.specs.Options.{tell_cred, tell_option, get_opt, pass_cred_on, may_limit, change_option, set_opt}
 use Rattle.ux_model.specs.Readiness.{poll}
 use Rattle.ux_model.specs.Forking.{fork, exec}
 use Rattle.ux_model.specs.Closing.{close, exit, off}
 use Rattle.ux_model.specs.Step.{Step, outcome}
 use Rattle.ux_model.proofs.Walk.{either, maybe, by_target, by_path, by_queue, found, found_socket, found_named, found_peer}
-use Rattle.ux_laws.specs.ReplyKinds.{is_done, is_fd, is_fds, is_count, is_bytes, is_offset, is_message, is_accepted, is_addr, is_value, is_cred, is_ready, is_child, is_refusal, option_kind, kind_of, is_reply_to, RepliesAreOfTheirKind}
+use Rattle.ux_laws.specs.ReplyKinds.{is_done, is_fd, is_fds, is_count, is_bytes, is_offset, is_message, is_accepted, is_addr, is_value, is_cred, is_ready, is_child, is_flags, is_refusal, option_kind, kind_of, is_reply_to, RepliesAreOfTheirKind}
 
 -- of an outcome's own reply
 abbrev Is : (Reply → Bool) → Outcome → Type 0
@@ -71,6 +71,15 @@ dup2_is : (S : State) (p : ℕ) (fd to : Fd) → Is is_fd (dup2 S p fd to)
 unfolding dup2
 dup2_is S p fd to = found (Is is_fd) S p fd _ refl (λ e D g h. either (Is is_fd) (nat_le (length (table_of S p)) to.0) _ _ (λ b. refl)
     (λ b. either (Is is_fd) (to.0 == fd.0) _ _ (λ b. refl) (λ b. refl)))
+
+dup_from_is : (S : State) (p : ℕ) (fd minimum : Fd) → Is is_fd (dup_from S p fd minimum)
+unfolding dup_from
+dup_from_is S p fd minimum = found (Is is_fd) S p fd _ refl (λ e D g h. either (Is is_fd) (nat_le (length (table_of S p)) minimum.0) _ _ (λ b. refl)
+    (λ b. maybe (Is is_fd) (lowest_free_from minimum.0 (table_of S p)) _ _ refl (λ n low. refl)))
+
+get_flags_is : (S : State) (p : ℕ) (fd : Fd) → Is is_flags (get_flags S p fd)
+unfolding get_flags
+get_flags_is S p fd = found (Is is_flags) S p fd _ refl (λ e D g h. refl)
 
 flags_is : (S : State) (p : ℕ) (fd : Fd) (flags : OpenFlags) → Is is_done (set_flags S p fd flags)
 unfolding set_flags
@@ -325,6 +334,8 @@ each_is S p tag (Request.Write fd bytes) = write_is S p tag fd bytes
 each_is S p tag (Request.Lseek fd offset whence) = lseek_is S p fd offset whence
 each_is S p tag (Request.Dup fd) = dup_is S p fd
 each_is S p tag (Request.Dup2 fd to) = dup2_is S p fd to
+each_is S p tag (Request.DupFrom fd minimum) = dup_from_is S p fd minimum
+each_is S p tag (Request.GetFlags fd) = get_flags_is S p fd
 each_is S p tag (Request.SetFlags fd flags) = flags_is S p fd flags
 each_is S p tag (Request.Close fd) = close_is S p fd
 each_is S p tag (Request.Unlink path) = unlink_is S path

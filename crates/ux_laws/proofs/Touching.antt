@@ -16,7 +16,7 @@ use Rattle.ux_model.specs.Control.{Control}
 use Rattle.ux_model.specs.ControlReading.{control_in}
 use Rattle.ux_model.specs.Socket.{Socket, is_stream, is_dgram, pending_ends, peer_of, association_of, tied_socket, takes_from, has_room, with_queue}
 use Rattle.ux_model.specs.Description.{Description, to_object}
-use Rattle.ux_model.specs.Process.{Process, Descriptor, own_cred, lowest_free, two_lowest_free, descriptor, kept_on_exec}
+use Rattle.ux_model.specs.Process.{Process, Descriptor, own_cred, lowest_free, lowest_free_from, two_lowest_free, descriptor, kept_on_exec}
 use Rattle.ux_model.specs.State.{State, process_at, description_at, socket_at, table_of, with_description, with_socket_by, with_process, with_table, with_new}
 use Rattle.ux_model.specs.Outcome.{Outcome, Chosen, own, lacking_memory, failing, refuse, descriptor_at}
 use Rattle.ux_model.specs.Naming.{unlink}
@@ -34,7 +34,7 @@ use Rattle.ux_model.specs.Writing.{write, write_answer, write_place}
 use Rattle.ux_model.specs.Seeking.{lseek, seek_to, seek_base}
 use Rattle.ux_model.specs.Options.{tell_cred, tell_option, get_opt, may_limit, change_option, set_opt}
 use Rattle.ux_model.specs.Readiness.{poll}
-use Rattle.ux_model.specs.Descriptors.{dup, dup2, set_flags}
+use Rattle.ux_model.specs.Descriptors.{dup, dup2, dup_from, get_flags, set_flags}
 use Rattle.ux_model.specs.Forking.{fork, exec}
 use Rattle.ux_model.specs.Closing.{close, exit, off}
 use Rattle.ux_model.specs.Release.{without, is_orphan, drop_all, drop_rounds, drop_unreferenced, has_unreferenced, settled}
@@ -95,6 +95,21 @@ dup2_alike : (S : State) (p : ℕ) (fd to : Fd) → Alike S (dup2 S p fd to).nex
 unfolding dup2
 dup2_alike S p fd to = found (λ o. Alike S o.next) S p fd _ (alike refl refl refl) (λ e D g h. either (λ o. Alike S o.next) (nat_le (length (table_of S p)) to.0) _ _ (λ b. alike refl refl refl)
     (λ b. either (λ o. Alike S o.next) (to.0 == fd.0) _ _ (λ b. alike refl refl refl) (λ b. table_alike S p _)))
+
+dup_from_alike : (S : State) (p : ℕ) (fd minimum : Fd) → Alike S (dup_from S p fd minimum).next
+unfolding dup_from
+dup_from_alike S p fd minimum = found Q S p fd _ still (λ e D g h. either Q (nat_le (length (table_of S p)) minimum.0) _ _ (λ b. still)
+    (λ b. maybe Q (lowest_free_from minimum.0 (table_of S p)) _ _ still (λ n low. table_alike S p _)))
+  where
+    Q : Outcome → Type 0
+    Q o = Alike S o.next
+
+    still : Alike S S
+    still = alike refl refl refl
+
+get_flags_alike : (S : State) (p : ℕ) (fd : Fd) → Alike S (get_flags S p fd).next
+unfolding get_flags
+get_flags_alike S p fd = found (λ o. Alike S o.next) S p fd _ (alike refl refl refl) (λ e D g h. alike refl refl refl)
 
 flags_alike : (S : State) (p : ℕ) (fd : Fd) (flags : OpenFlags) → Alike S (set_flags S p fd flags).next
 unfolding set_flags
@@ -541,6 +556,8 @@ each_files S p tag (Request.Write fd bytes) = record { bodies = λ o. write_touc
 each_files S p tag (Request.Lseek fd offset whence) = by_alike (lseek_alike S p fd offset whence)
 each_files S p tag (Request.Dup fd) = by_alike (dup_alike S p fd)
 each_files S p tag (Request.Dup2 fd to) = by_alike (dup2_alike S p fd to)
+each_files S p tag (Request.DupFrom fd minimum) = by_alike (dup_from_alike S p fd minimum)
+each_files S p tag (Request.GetFlags fd) = by_alike (get_flags_alike S p fd)
 each_files S p tag (Request.SetFlags fd flags) = by_alike (flags_alike S p fd flags)
 each_files S p tag (Request.Close fd) = by_alike (close_alike S p fd)
 each_files S p tag (Request.Unlink path) = by_names (unlink_names S path)
@@ -577,6 +594,8 @@ each_names S p tag (Request.Open path mode flags) h = alike_names (open_alike S 
 each_names S p tag (Request.Lseek fd offset whence) h = alike_names (lseek_alike S p fd offset whence)
 each_names S p tag (Request.Dup fd) h = alike_names (dup_alike S p fd)
 each_names S p tag (Request.Dup2 fd to) h = alike_names (dup2_alike S p fd to)
+each_names S p tag (Request.DupFrom fd minimum) h = alike_names (dup_from_alike S p fd minimum)
+each_names S p tag (Request.GetFlags fd) h = alike_names (get_flags_alike S p fd)
 each_names S p tag (Request.SetFlags fd flags) h = alike_names (flags_alike S p fd flags)
 each_names S p tag (Request.Close fd) h = alike_names (close_alike S p fd)
 each_names S p tag (Request.Socket kind flags) h = alike_names (socket_alike S p kind flags)

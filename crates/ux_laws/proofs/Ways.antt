@@ -87,6 +87,7 @@ one_source (Some x) (suc i) d g = absurd (cc g)
 copied_source : (S : State) (p k i d : ℕ) (request : Request) → copied request ≡ Some k → slice_get (sources S p request) i ≡ Some d → description_of S p k ≡ Some d
 copied_source S p k i d (Request.Dup fd) h g = let same : fd.0 ≡ k = cc h in subst (λ (n : ℕ). description_of S p n ≡ Some d) same (one_source (held_at S p fd.0) i d g)
 copied_source S p k i d (Request.Dup2 fd to) h g = let same : fd.0 ≡ k = cc h in subst (λ (n : ℕ). description_of S p n ≡ Some d) same (one_source (held_at S p fd.0) i d g)
+copied_source S p k i d (Request.DupFrom fd minimum) h g = let same : fd.0 ≡ k = cc h in subst (λ (n : ℕ). description_of S p n ≡ Some d) same (one_source (held_at S p fd.0) i d g)
 copied_source S p k i d _ h g = absurd (cc h)
 
 -- whoever held something when one of the calls before was made has a chain
@@ -167,6 +168,7 @@ given_chain boot es k p n e legal at gave held earlier = by_request e.request re
     by_request (Request.Accept fd flags) is = made _ is refl
     by_request (Request.Dup fd) is = duplicate fd.0 (ap (λ (x : Request). how_of x (delivered S e)) is) (ap copied is) (λ f. no_fork is f (λ h. cc h))
     by_request (Request.Dup2 fd to) is = duplicate fd.0 (ap (λ (x : Request). how_of x (delivered S e)) is) (ap copied is) (λ f. no_fork is f (λ h. cc h))
+    by_request (Request.DupFrom fd minimum) is = duplicate fd.0 (ap (λ (x : Request). how_of x (delivered S e)) is) (ap copied is) (λ f. no_fork is f (λ h. cc h))
     by_request (Request.RecvMsg fd i space flags) is = message (subst IsReceive (sym is) (receive fd i space flags)) (λ f. no_fork is f (λ h. cc h))
         (λ tag h. ap (λ (x : Request). how_of x (delivered S e)) is ∙ ap (how_of (Request.RecvMsg fd i space flags)) h)
     by_request Request.Fork is = forked is

@@ -58,6 +58,10 @@ abbrev pub is_child : Reply → Bool
 is_child (Reply.Child _) = true
 is_child _ = false
 
+abbrev pub is_flags : Reply → Bool
+is_flags (Reply.Flags _) = true
+is_flags _ = false
+
 abbrev pub is_refusal : Reply → Bool
 is_refusal (Reply.Err _) = true
 is_refusal _ = false
@@ -77,6 +81,8 @@ kind_of (Request.Write fd bytes) = is_count
 kind_of (Request.Lseek fd offset whence) = is_offset
 kind_of (Request.Dup fd) = is_fd
 kind_of (Request.Dup2 fd to) = is_fd
+kind_of (Request.DupFrom fd minimum) = is_fd
+kind_of (Request.GetFlags fd) = is_flags
 kind_of (Request.SetFlags fd flags) = is_done
 kind_of (Request.Close fd) = is_done
 kind_of (Request.Unlink path) = is_done

@@ -257,6 +257,8 @@ enum Told {
     Cred(u32, u32, u32),
     Poll(u8),
     Child(u32),
+    /// APPEND, NONBLOCK and CLOEXEC.
+    Flags(u8),
     Err(Errno),
 }
 
@@ -361,6 +363,7 @@ fn reply_of(alloc: Global, told: &Told) -> Result<Reply, AllocError> {
         }),
         Told::Poll(flags) => Reply::Poll(PollFlags(*flags)),
         Told::Child(pid) => Reply::Child(Pid(*pid)),
+        Told::Flags(flags) => Reply::Flags(OpenFlags(*flags)),
         Told::Err(errno) => refused(*errno),
     })
 }

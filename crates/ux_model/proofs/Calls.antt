@@ -13,7 +13,7 @@ use Rattle.ux_model.specs.Object.{Body, View, ObjectError, would_block, full, in
 use Rattle.ux_model.specs.Names.{PathTarget, file, same_name, named, is_valid_path}
 use Rattle.ux_model.specs.Socket.{Socket}
 use Rattle.ux_model.specs.Description.{Description, to_object, to_socket, socket_of, socket_in}
-use Rattle.ux_model.specs.Process.{Process, Descriptor, own_cred, lowest_free, two_lowest_free, descriptor, copy_of, kept_on_exec, with_cloexec}
+use Rattle.ux_model.specs.Process.{Process, Descriptor, own_cred, lowest_free, lowest_free_from, two_lowest_free, descriptor, copy_of, kept_on_exec, with_cloexec}
 use Rattle.ux_model.specs.State.{State, process_at, description_at, socket_at, table_of, next_description, with_object, with_description, with_table, with_new}
 use Rattle.ux_model.specs.References.{path_names, orefs}
 use Rattle.ux_model.specs.Outcome.{Outcome, Chosen, own, lacking_memory, failing, descriptor_at}
@@ -26,7 +26,7 @@ use Rattle.ux_model.specs.Opening.{open_file, file_description}
 use Rattle.ux_model.specs.Reading.{read, read_answer, read_error, offset_after_read, is_short_read}
 use Rattle.ux_model.specs.Writing.{write, write_answer, offset_after_write, write_place}
 use Rattle.ux_model.specs.Seeking.{lseek, seek_to, seek_base}
-use Rattle.ux_model.specs.Descriptors.{dup, dup2, set_flags, with_flags}
+use Rattle.ux_model.specs.Descriptors.{dup, dup2, dup_from, get_flags, set_flags, with_flags}
 use Rattle.ux_model.specs.Forking.{fork, exec}
 use Rattle.ux_model.specs.Closing.{close, exit, off}
 use Rattle.ux_model.specs.Release.{settled, released}
@@ -57,6 +57,18 @@ dup2_obeys S p fd to = found (Call S) S p fd _ (refuses refl refl) (λ e D g h. 
     (λ b. either (Call S) (to.0 == fd.0) _ _ (λ b. answers refl refl refl refl still)
     (λ b. answers refl refl refl (with_table_objects S p _) (with_table_reached S p _ still
     (λ sound. put_names S (table_of S p) (table_of S p) to.0 (copy_of e) (there_of S e.description D h) (same_names S (table_of S p)))))))
+
+pub dup_from_obeys : (S : State) (p : ℕ) (fd minimum : Fd) → Call S (dup_from S p fd minimum)
+unfolding dup_from
+dup_from_obeys S p fd minimum = found (Call S) S p fd _ (refuses refl refl) (λ e D g h.
+    either (Call S) (nat_le (length (table_of S p)) minimum.0) _ _ (λ b. refuses refl refl)
+    (λ b. maybe (Call S) (lowest_free_from minimum.0 (table_of S p)) _ _ (refuses refl refl)
+    (λ n low. answers refl refl refl (with_table_objects S p _) (with_table_reached S p _ still
+    (λ sound. put_names S (table_of S p) (table_of S p) n (copy_of e) (there_of S e.description D h) (same_names S (table_of S p)))))))
+
+pub get_flags_obeys : (S : State) (p : ℕ) (fd : Fd) → Call S (get_flags S p fd)
+unfolding get_flags
+get_flags_obeys S p fd = found (Call S) S p fd _ (refuses refl refl) (λ e D g h. answers refl refl refl refl still)
 
 pub flags_obeys : (S : State) (p : ℕ) (fd : Fd) (flags : OpenFlags) → Call S (set_flags S p fd flags)
 unfolding set_flags
@@ -215,6 +227,7 @@ still_error (Reply.Opt value) e h = h
 still_error (Reply.Cred cred) e h = h
 still_error (Reply.Poll flags) e h = h
 still_error (Reply.Child pid) e h = h
+still_error (Reply.Flags flags) e h = h
 still_error (Reply.Err f) e h = h
 
 still_own : (r : Reply) → tells_choice r ≡ false → tells_choice (bytes_alone r) ≡ false
@@ -231,6 +244,7 @@ still_own (Reply.Opt value) h = h
 still_own (Reply.Cred cred) h = h
 still_own (Reply.Poll flags) h = h
 still_own (Reply.Child pid) h = h
+still_own (Reply.Flags flags) h = h
 still_own (Reply.Err e) h = h
 
 socket_read_obeys : (S : State) (o : Outcome) → Call S o → Call S (record o { reply = bytes_alone o.reply })
@@ -296,6 +310,8 @@ each_obeys S p tag (Request.Write fd bytes) = write_obeys S p tag fd bytes
 each_obeys S p tag (Request.Lseek fd offset whence) = lseek_obeys S p fd offset whence
 each_obeys S p tag (Request.Dup fd) = dup_obeys S p fd
 each_obeys S p tag (Request.Dup2 fd to) = dup2_obeys S p fd to
+each_obeys S p tag (Request.DupFrom fd minimum) = dup_from_obeys S p fd minimum
+each_obeys S p tag (Request.GetFlags fd) = get_flags_obeys S p fd
 each_obeys S p tag (Request.SetFlags fd flags) = flags_obeys S p fd flags
 each_obeys S p tag (Request.Close fd) = close_obeys S p fd
 each_obeys S p tag (Request.Unlink path) = unlink_obeys S path

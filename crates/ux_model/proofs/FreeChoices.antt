@@ -15,7 +15,7 @@ use Rattle.ux_model.specs.References.{orefs}
 use Rattle.ux_model.specs.Release.{drop_unreferenced, settled}
 use Rattle.ux_model.specs.Outcome.{Outcome, Chosen, own, lacking_memory, failing, descriptor_at}
 use Rattle.ux_model.specs.Seeking.{lseek, seek_to, seek_base}
-use Rattle.ux_model.specs.Descriptors.{set_flags}
+use Rattle.ux_model.specs.Descriptors.{get_flags, set_flags}
 use Rattle.ux_model.specs.Naming.{unlink}
 use Rattle.ux_model.specs.Connecting.{listen, shutdown}
 use Rattle.ux_model.specs.Options.{get_opt, tell_option, tell_cred, may_limit, set_opt}
@@ -54,6 +54,10 @@ lseek_spares S p fd offset whence = found IsSparing S p fd _ refl (λ e D g h. b
 flags_spare : (S : State) (p : ℕ) (fd : Fd) (flags : OpenFlags) → IsSparing (set_flags S p fd flags)
 unfolding set_flags
 flags_spare S p fd flags = found IsSparing S p fd _ refl (λ e D g h. refl)
+
+get_flags_spare : (S : State) (p : ℕ) (fd : Fd) → IsSparing (get_flags S p fd)
+unfolding get_flags
+get_flags_spare S p fd = found IsSparing S p fd _ refl (λ e D g h. refl)
 
 close_spares : (S : State) (p : ℕ) (fd : Fd) → IsSparing (close S p fd)
 unfolding close
@@ -120,6 +124,8 @@ each_spares S p tag (Request.Write fd bytes) h = absurd (cc h)
 each_spares S p tag (Request.Lseek fd offset whence) h = lseek_spares S p fd offset whence
 each_spares S p tag (Request.Dup fd) h = absurd (cc h)
 each_spares S p tag (Request.Dup2 fd to) h = absurd (cc h)
+each_spares S p tag (Request.DupFrom fd minimum) h = absurd (cc h)
+each_spares S p tag (Request.GetFlags fd) h = get_flags_spare S p fd
 each_spares S p tag (Request.SetFlags fd flags) h = flags_spare S p fd flags
 each_spares S p tag (Request.Close fd) h = close_spares S p fd
 each_spares S p tag (Request.Unlink path) h = unlink_spares S path

@@ -74,6 +74,7 @@ one_source (Some x) (suc i) d g = absurd (cc g)
 copied_source : (S : State) (p k i d : ℕ) (request : Request) → copied request ≡ Some k → slice_get (sources S p request) i ≡ Some d → description_of S p k ≡ Some d
 copied_source S p k i d (Request.Dup fd) h g = let same : fd.0 ≡ k = cc h in subst (λ (n : ℕ). description_of S p n ≡ Some d) same (one_source (held_at S p fd.0) i d g)
 copied_source S p k i d (Request.Dup2 fd to) h g = let same : fd.0 ≡ k = cc h in subst (λ (n : ℕ). description_of S p n ≡ Some d) same (one_source (held_at S p fd.0) i d g)
+copied_source S p k i d (Request.DupFrom fd minimum) h g = let same : fd.0 ≡ k = cc h in subst (λ (n : ℕ). description_of S p n ≡ Some d) same (one_source (held_at S p fd.0) i d g)
 copied_source S p k i d _ h g = absurd (cc h)
 
 -- ---- the message of a receive

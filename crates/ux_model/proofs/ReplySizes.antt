@@ -16,7 +16,7 @@ use Rattle.ux_model.specs.ControlReading.{control_in}
 use Rattle.ux_model.specs.Front.{Front, front_of}
 use Rattle.ux_model.specs.Socket.{Socket, is_stream, is_dgram, peer_of, pending_ends, association_of, tied_socket, takes_from, has_room}
 use Rattle.ux_model.specs.Description.{Description, to_socket, socket_of, socket_in}
-use Rattle.ux_model.specs.Process.{own_cred, lowest_free, two_lowest_free}
+use Rattle.ux_model.specs.Process.{own_cred, lowest_free, lowest_free_from, two_lowest_free}
 use Rattle.ux_model.specs.State.{State, process_at, description_at, socket_at, table_of}
 use Rattle.ux_model.specs.Outcome.{Outcome, Chosen, own, lacking_memory, failing, refuse, descriptor_at}
 use Rattle.ux_model.specs.Naming.{unlink}
@@ -32,7 +32,7 @@ use Rattle.ux_model.specs.Opening.{open_file}
 use Rattle.ux_model.specs.Reading.{is_short_read, read_error, read_answer, read}
 use Rattle.ux_model.specs.Writing.{write_place, write_answer, write}
 use Rattle.ux_model.specs.Seeking.{seek_base, seek_to, lseek}
-use Rattle.ux_model.specs.Descriptors.{dup, dup2, set_flags}
+use Rattle.ux_model.specs.Descriptors.{dup, dup2, dup_from, get_flags, set_flags}
 use Rattle.ux_model.specs.Options.{tell_cred, tell_option, get_opt, pass_cred_on, may_limit, change_option, set_opt}
 use Rattle.ux_model.specs.Readiness.{poll}
 use Rattle.ux_model.specs.Forking.{fork, exec}
@@ -73,6 +73,7 @@ plain_fits (Reply.Opt value) room h = nothing_fits room
 plain_fits (Reply.Cred cred) room h = nothing_fits room
 plain_fits (Reply.Poll flags) room h = nothing_fits room
 plain_fits (Reply.Child pid) room h = nothing_fits room
+plain_fits (Reply.Flags flags) room h = nothing_fits room
 plain_fits (Reply.Err e) room h = nothing_fits room
 
 -- of an outcome's own reply
@@ -118,6 +119,16 @@ dup2_plain : (S : State) (p : ℕ) (fd to : Fd) → Plain (dup2 S p fd to)
 unfolding dup2
 dup2_plain S p fd to = found Plain S p fd _ (plain refl) (λ e D g h. either Plain (nat_le (length (table_of S p)) to.0) _ _ (λ b. plain refl)
     (λ b. either Plain (to.0 == fd.0) _ _ (λ b. plain refl) (λ b. plain refl)))
+
+dup_from_plain : (S : State) (p : ℕ) (fd minimum : Fd) → Plain (dup_from S p fd minimum)
+unfolding dup_from
+dup_from_plain S p fd minimum = found Plain S p fd _ (plain refl) (λ e D g h.
+    either Plain (nat_le (length (table_of S p)) minimum.0) _ _ (λ b. plain refl)
+    (λ b. maybe Plain (lowest_free_from minimum.0 (table_of S p)) _ _ (plain refl) (λ n low. plain refl)))
+
+get_flags_plain : (S : State) (p : ℕ) (fd : Fd) → Plain (get_flags S p fd)
+unfolding get_flags
+get_flags_plain S p fd = found Plain S p fd _ (plain refl) (λ e D g h. plain refl)
 
 flags_plain : (S : State) (p : ℕ) (fd : Fd) (flags : OpenFlags) → Plain (set_flags S p fd flags)
 unfolding set_flags
@@ -465,6 +476,8 @@ each_within S p tag (Request.Write fd bytes) all = write_plain S p tag fd bytes
 each_within S p tag (Request.Lseek fd offset whence) all = lseek_plain S p fd offset whence
 each_within S p tag (Request.Dup fd) all = dup_plain S p fd
 each_within S p tag (Request.Dup2 fd to) all = dup2_plain S p fd to
+each_within S p tag (Request.DupFrom fd minimum) all = dup_from_plain S p fd minimum
+each_within S p tag (Request.GetFlags fd) all = get_flags_plain S p fd
 each_within S p tag (Request.SetFlags fd flags) all = flags_plain S p fd flags
 each_within S p tag (Request.Close fd) all = close_plain S p fd
 each_within S p tag (Request.Unlink path) all = unlink_plain S path

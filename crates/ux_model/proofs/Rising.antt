@@ -1,10 +1,10 @@
 -- Free numbers of a table rise, and so what is installed at some of them stands there.
-use Rattle.std.proofs.Common.{◌≡◌, ℕ, zero, suc, ◌+◌, ◌<◌, ◌≤◌, Bool, false, ◌==◌, ◌||◌, List, [], ◌∷◌, length, take, map, Option, Some, None, refl, ap, sym, ◌∙◌, arith, slice_get, slice_set, subst}
+use Rattle.std.proofs.Common.{◌≡◌, ℕ, zero, suc, ◌+◌, ◌<◌, ◌≤◌, Bool, false, ◌==◌, ◌||◌, List, [], ◌∷◌, length, take, drop, map, Option, Some, None, refl, ap, sym, ◌∙◌, arith, slice_get, slice_set, subst}
 use Rattle.std.specs.List.{list_any}
 use Rattle.std.proofs.lemmas.Bool.{eqb-true, eqb-false, or_parts}
-use Rattle.std.proofs.lemmas.List.{get_or-set_other, length-set}
+use Rattle.std.proofs.lemmas.List.{get_or-set_other, length-set, length-drop}
 use Rattle.ux_model.specs.Places.{place, filled, empty_places_from}
-use Rattle.ux_model.specs.Process.{Descriptor, free_numbers, lowest_free}
+use Rattle.ux_model.specs.Process.{Descriptor, free_numbers, lowest_free, lowest_free_from}
 use Rattle.ux_model.specs.Delivery.{installed}
 use Rattle.ux_model.proofs.ChangedPlaces.{bool_cases}
 
@@ -61,6 +61,12 @@ rise_above low high (m ∷ ns) n r h = bool_cases (m == n)
 
 pub lowest_below : (table : List (Option Descriptor)) (n : ℕ) → lowest_free table ≡ Some n → n < length table
 lowest_below table n h = (rise_at 0 (length table) (free_numbers table) 0 n (rise_free table) h).1
+
+pub lowest_from_within : (table : List (Option Descriptor)) (minimum n : ℕ) → lowest_free_from minimum table ≡ Some n → (minimum ≤ n) × (n < length table)
+lowest_from_within table minimum n h =
+    let rest : List (Option Descriptor) = drop minimum table in
+    let p = rise_at minimum (minimum + length rest) (empty_places_from minimum rest) 0 n (rise_empty minimum rest) h in
+    (p.0, omega (arith, p.0, p.1, length-drop minimum table))
 
 -- ---- what stands at them
 

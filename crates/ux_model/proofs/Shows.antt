@@ -16,7 +16,7 @@ use Rattle.ux_model.specs.ControlReading.{control_in}
 use Rattle.ux_model.specs.Backlog.{backlog_of}
 use Rattle.ux_model.specs.Socket.{Socket, new_socket, pair_end, is_stream, is_dgram, pending_ends, peer_of, association_of, tied_socket, takes_from, has_room, sent_part, sent, with_reset, with_association, with_passcred, with_queue_limit, with_queue, shut_down, awaiting}
 use Rattle.ux_model.specs.Description.{Description, Target, to_object, to_socket, socket_of, socket_in}
-use Rattle.ux_model.specs.Process.{Process, Descriptor, own_cred, free_numbers, lowest_free, two_lowest_free, descriptor, copy_of, kept_on_exec, with_cloexec, fd_of, pid_of}
+use Rattle.ux_model.specs.Process.{Process, Descriptor, own_cred, free_numbers, lowest_free, lowest_free_from, two_lowest_free, descriptor, copy_of, kept_on_exec, with_cloexec, fd_of, pid_of}
 use Rattle.ux_model.specs.Delivery.{delivery, installed, install_count, space_for_rights}
 use Rattle.ux_model.specs.State.{State, process_at, is_live, description_at, socket_at, table_of, next_description, next_process, with_child, with_description, with_socket_by, with_process, with_table, with_new}
 use Rattle.ux_model.specs.Outcome.{Outcome, Chosen, own, lacking_memory, failing, refuse, answer, taking_memory, descriptor_at, find_socket, on_socket}
@@ -36,7 +36,7 @@ use Rattle.ux_model.specs.Writing.{write, write_answer, offset_after_write, writ
 use Rattle.ux_model.specs.Seeking.{lseek, seek_to, seek_base}
 use Rattle.ux_model.specs.Options.{tell_cred, tell_option, get_opt, pass_cred_on, may_limit, change_option, set_opt}
 use Rattle.ux_model.specs.Readiness.{poll}
-use Rattle.ux_model.specs.Descriptors.{dup, dup2, set_flags, with_flags}
+use Rattle.ux_model.specs.Descriptors.{dup, dup2, dup_from, get_flags, set_flags, with_flags}
 use Rattle.ux_model.specs.Forking.{fork, exec, child_of}
 use Rattle.ux_model.specs.Closing.{close, exit, off, with_nothing_open}
 use Rattle.ux_model.specs.Release.{settled, drop_unreferenced}
@@ -49,7 +49,7 @@ use Rattle.ux_model.proofs.Named.{table_in}
 use Rattle.ux_model.proofs.ChangedPlaces.{bool_cases, place_within}
 use Rattle.ux_model.proofs.ByPlace.{take_none, take_few, get_below, get_pushed_other}
 use Rattle.ux_model.proofs.Induction.{get_pushed}
-use Rattle.ux_model.proofs.Rising.{Rise, rise_one, rise_free, rise_take, lowest_below, place_filled, place_other, place_mapped}
+use Rattle.ux_model.proofs.Rising.{Rise, rise_one, rise_free, rise_take, lowest_below, place_filled, place_other, place_mapped, lowest_from_within}
 use Rattle.ux_model.proofs.Reaching.{changes_lives}
 use Rattle.ux_model.proofs.Obeying.{Obeys}
 use Rattle.ux_model.proofs.Calls.{each_obeys}
@@ -152,6 +152,25 @@ dup2_shows S p tag fd to Q here = found (Shows S p tag (Request.Dup2 fd to)) S p
   where
     plain : IsPlain (Request.Dup2 fd to)
     plain = record { no_end = refl; keeps = λ n held. refl }
+
+pub dup_from_shows : (S : State) (p tag : ℕ) (fd minimum : Fd) (Q : Process) → process_at S p ≡ Some Q →
+    Shows S p tag (Request.DupFrom fd minimum) (dup_from S p fd minimum)
+unfolding dup_from
+dup_from_shows S p tag fd minimum Q here = found (Shows S p tag (Request.DupFrom fd minimum)) S p fd _ (refuses refl) (λ x D g h.
+    either (Shows S p tag (Request.DupFrom fd minimum)) (nat_le (length (table_of S p)) minimum.0) _ _ (λ b. refuses refl)
+    (λ b. maybe (Shows S p tag (Request.DupFrom fd minimum)) (lowest_free_from minimum.0 (table_of S p)) _ _ (refuses refl)
+    (λ n low. record {
+      tables = installs S _ p (Request.DupFrom fd minimum) (Reply.Fd (fd_of n)) (n ∷ []) (record { no_end = refl; keeps = λ n held. refl })
+          (copied_table S p n x (held_at S p fd.0) Q here g)
+          (rise_one n (length (table_of S p)) (lowest_from_within (table_of S p) minimum.0 n low).1) (one_copied (held_at S p fd.0) x g) refl refl;
+      mail = quiet_mail S (with_table S p (filled (table_of S p) n (copy_of x))) p tag (Request.DupFrom fd minimum)
+          (quiet_table S p (filled (table_of S p) n (copy_of x)));
+    })))
+
+pub get_flags_shows : (S : State) (p tag : ℕ) (fd : Fd) → Shows S p tag (Request.GetFlags fd) (get_flags S p fd)
+unfolding get_flags
+get_flags_shows S p tag fd = found (Shows S p tag (Request.GetFlags fd)) S p fd _ (refuses refl)
+    (λ x D g h. answers (record { no_end = refl; keeps = λ n held. refl }) refl refl refl (silent S))
 
 -- one place of a table changes
 changed_at : (table : List (Option Descriptor)) (k n : ℕ) (x y : Option Descriptor) → k < length table → ((k == n) ≡ true → y ≡ x) → ((k == n) ≡ false → y ≡ place table n) →
@@ -843,6 +862,8 @@ each_shows S p tag (Request.Write fd bytes) P here = write_shows S p tag fd byte
 each_shows S p tag (Request.Lseek fd offset whence) P here = lseek_shows S p tag fd offset whence
 each_shows S p tag (Request.Dup fd) P here = dup_shows S p tag fd P here
 each_shows S p tag (Request.Dup2 fd to) P here = dup2_shows S p tag fd to P here
+each_shows S p tag (Request.DupFrom fd minimum) P here = dup_from_shows S p tag fd minimum P here
+each_shows S p tag (Request.GetFlags fd) P here = get_flags_shows S p tag fd
 each_shows S p tag (Request.SetFlags fd flags) P here = flags_show S p tag fd flags P here
 each_shows S p tag (Request.Close fd) P here = close_shows S p tag fd P here
 each_shows S p tag (Request.Unlink path) P here = unlink_shows S p tag path

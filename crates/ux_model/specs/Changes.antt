@@ -64,6 +64,7 @@ sources S p (Request.SocketPair kind flags) = next_description S ∷ suc (next_d
 sources S p (Request.Accept fd flags) = oldest_end S p fd
 sources S p (Request.Dup fd) = as_list (description_in (held_at S p fd.0))
 sources S p (Request.Dup2 fd to) = as_list (description_in (held_at S p fd.0))
+sources S p (Request.DupFrom fd minimum) = as_list (description_in (held_at S p fd.0))
 sources S p (Request.RecvMsg fd n space flags) = (brought S p (Request.RecvMsg fd n space flags)).rights
 sources S p _ = []
 

@@ -68,14 +68,16 @@ how_of (Request.SocketPair kind flags) delivered = Some How.Made
 how_of (Request.Accept fd flags) delivered = Some How.Made
 how_of (Request.Dup fd) delivered = Some How.Dup
 how_of (Request.Dup2 fd to) delivered = Some How.Dup
+how_of (Request.DupFrom fd minimum) delivered = Some How.Dup
 how_of (Request.RecvMsg fd n space flags) delivered = how_received delivered
 how_of Request.Fork delivered = Some How.Forked
 how_of _ delivered = None
 
--- the number that dup(2) or dup2(2) copies
+-- the number that dup(2), dup2(2) or fcntl(2) copies
 abbrev pub copied : Request → Option ℕ
 copied (Request.Dup fd) = Some fd.0
 copied (Request.Dup2 fd to) = Some fd.0
+copied (Request.DupFrom fd minimum) = Some fd.0
 copied _ = None
 
 abbrev pub rights_in : Option Control → List ℕ

@@ -167,6 +167,7 @@ impl ReplyRoom {
             Reply::Cred(cred) => Reply::Cred(*cred),
             Reply::Poll(flags) => Reply::Poll(*flags),
             Reply::Child(pid) => Reply::Child(*pid),
+            Reply::Flags(flags) => Reply::Flags(*flags),
             Reply::Err(errno) => Reply::Err(*errno),
         }
     }

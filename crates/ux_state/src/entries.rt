@@ -1,7 +1,7 @@
 //! Table entries: opening, copying and closing descriptors.
 ghost use Rattle.std.specs.Prelude.{◌≡◌, ◌+◌, ◌<◌, ◌≤◌, ◌↔◌, IsTrue, Some, None, Err, IfOk, OnOk, OnErr, length, slice_set, option_map};
 ghost use Rattle.ux_model.specs.Places.{place, filled, emptied};
-ghost use Rattle.ux_model.specs.Process.{lowest_free, two_lowest_free, descriptor, copy_of, with_cloexec};
+ghost use Rattle.ux_model.specs.Process.{lowest_free, lowest_free_from, two_lowest_free, descriptor, copy_of, with_cloexec};
 ghost use Rattle.ux_model.specs.State.{is_live, table_of, with_table, with_new, next_description};
 ghost use Rattle.ux_model.specs.References.{refs};
 ghost use Rattle.ux_model.specs.Socket.{new_socket, pair_end};
@@ -154,15 +154,37 @@ impl<O: FileObject> State<O> {
         ensures full { (result ≡ Err InstallError.Full) ↔ (lowest_free (table_of self.old pid.0) ≡ None) }
         ensures err { OnErr result (self.new ≡ self.old) }
     {
+        self.put_lowest_from(pid, Fd(0), entry)
+    }
+
+    /// The same with a number that isn't below a minimum (fcntl(2), F_DUPFD).
+    ///
+    /// # Errors
+    ///
+    /// `Full` where no such number is free, else `NoMemory`, also where no more references can be counted.
+    /// The state is then as before.
+    pub fn put_lowest_from(
+        &mut self,
+        pid: Pid,
+        minimum: Fd,
+        entry: Descriptor,
+    ) -> Result<Fd, InstallError>
+        requires live { IsTrue (is_live self.old pid.0) }
+        requires held { 0 < refs self.old entry.description }
+        ensures lowest { IfOk result (λ fd. lowest_free_from minimum.0 (table_of self.old pid.0) ≡ Some fd.0) }
+        ensures opened { IfOk result (λ fd. self.new ≡ with_table self.old pid.0 (filled (table_of self.old pid.0) fd.0 entry)) }
+        ensures full { (result ≡ Err InstallError.Full) ↔ (lowest_free_from minimum.0 (table_of self.old pid.0) ≡ None) }
+        ensures err { OnErr result (self.new ≡ self.old) }
+    {
         // A full table comes before a count that can't rise.
-        if self.table(pid).lowest_free().is_none() {
+        if self.table(pid).lowest_free_from(minimum).is_none() {
             return Err(InstallError::Full);
         }
         if !self.descriptions.has_room(entry.description, 1) {
             return Err(InstallError::NoMemory);
         }
         let process = process_mut(&mut self.processes, pid);
-        let fd = process.table.install(entry)?;
+        let fd = process.table.install_from(minimum, entry)?;
         retain(&mut self.descriptions, entry.description);
         Ok(fd)
     }

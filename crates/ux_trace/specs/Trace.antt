@@ -3,7 +3,7 @@ use Rattle.std.specs.Prelude.{ℕ, ◌+◌, ◌/◌, ◌%◌, Bool, false, List,
 use Rattle.std.specs.Prelude.{◌==◌, ◌&&◌, not, nat_le}
 use Rattle.std.specs.Fmt.{digit_glyph}
 use Rattle.std.specs.List.{flat_map, join_with_byte}
-use Rattle.ux_model.specs.Types.{Cred, Name, Addr, Errno, MsgFlags, PollFlags, Request, Reply, Entry}
+use Rattle.ux_model.specs.Types.{Cred, Name, Addr, Errno, MsgFlags, OpenFlags, PollFlags, Request, Reply, Entry}
 use Rattle.ux_model.specs.Control.{Control}
 use Rattle.ux_model.specs.ControlReading.{control_in}
 use Rattle.ux_model.specs.Flags.{has_bits}
@@ -80,6 +80,13 @@ poll_rows f = (has_bits f.0 1, codes "IN") ∷ (has_bits f.0 2, codes "OUT") ∷
 
 abbrev pub poll_flags_text : PollFlags → List ℕ
 poll_flags_text f = flags_text (poll_rows f)
+
+-- the flags of a descriptor and of its description, in the order of a trace
+abbrev pub open_rows : OpenFlags → List (Bool × List ℕ)
+open_rows f = (has_bits f.0 1, codes "APPEND") ∷ (has_bits f.0 2, codes "NONBLOCK") ∷ (has_bits f.0 4, codes "CLOEXEC") ∷ []
+
+abbrev pub open_flags_text : OpenFlags → List ℕ
+open_flags_text f = flags_text (open_rows f)
 
 -- x: and the bytes
 abbrev pub raw_text : List ℕ → List ℕ
@@ -161,6 +168,7 @@ reply_text (Reply.Opt n) = codes "opt " ++ decimal n
 reply_text (Reply.Cred cred) = codes "cred " ++ (decimal cred.pid.0 ++ (codes " " ++ (decimal cred.uid ++ (codes " " ++ decimal cred.gid))))
 reply_text (Reply.Poll flags) = codes "poll " ++ poll_flags_text flags
 reply_text (Reply.Child pid) = codes "child " ++ decimal pid.0
+reply_text (Reply.Flags flags) = codes "flags " ++ open_flags_text flags
 reply_text (Reply.Err e) = codes "err " ++ errno_text e
 
 -- the same where the control bytes of a receive read as this
@@ -176,6 +184,8 @@ word_text CallWord.Write = codes "write"
 word_text CallWord.Lseek = codes "lseek"
 word_text CallWord.Dup = codes "dup"
 word_text CallWord.Dup2 = codes "dup2"
+word_text CallWord.DupFrom = codes "dupfd"
+word_text CallWord.GetFlags = codes "getfl"
 word_text CallWord.Flags = codes "flags"
 word_text CallWord.Close = codes "close"
 word_text CallWord.Unlink = codes "unlink"
@@ -205,6 +215,8 @@ request_word (Request.Write fd bytes) = CallWord.Write
 request_word (Request.Lseek fd offset whence) = CallWord.Lseek
 request_word (Request.Dup fd) = CallWord.Dup
 request_word (Request.Dup2 fd to) = CallWord.Dup2
+request_word (Request.DupFrom fd minimum) = CallWord.DupFrom
+request_word (Request.GetFlags fd) = CallWord.GetFlags
 request_word (Request.SetFlags fd flags) = CallWord.Flags
 request_word (Request.Close fd) = CallWord.Close
 request_word (Request.Unlink path) = CallWord.Unlink

@@ -78,11 +78,14 @@ impl fmt::Display for CallText<'_> {
             Request::Lseek { fd, offset, whence } => {
                 write!(f, "{word}({}, {offset}, {})", fd.0, whence_word(*whence))
             }
-            Request::Dup2 { fd, to } => write!(f, "{word}({}, {})", fd.0, to.0),
+            Request::Dup2 { fd, to } | Request::DupFrom { fd, minimum: to } => {
+                write!(f, "{word}({}, {})", fd.0, to.0)
+            }
             Request::SetFlags { fd, flags } | Request::Accept { fd, flags } => {
                 write!(f, "{word}({}, {})", fd.0, OpenLetters(*flags))
             }
             Request::Dup { fd }
+            | Request::GetFlags { fd }
             | Request::Close { fd }
             | Request::GetSockName { fd }
             | Request::GetPeerName { fd }

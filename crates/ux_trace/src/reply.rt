@@ -3,7 +3,7 @@
 ghost use Rattle.std.specs.Prelude.{◌≡◌, IfOk, Some};
 ghost use Rattle.ux_trace.specs.Trace.{errno_text, reply_text, reply_telling};
 
-use crate::words::{AddrOrDash, AddrText, Conditions, Hex, ReceivedFlags, ToldText};
+use crate::words::{AddrOrDash, AddrText, Conditions, Hex, OpenFlagNames, ReceivedFlags, ToldText};
 use std::alloc::{AllocError, Global};
 use std::fmt;
 use ux_cmsg::{Control, ControlError, read_control};
@@ -95,6 +95,7 @@ impl fmt::Display for ReplyText<'_> {
             Reply::Cred(cred) => write!(f, "cred {} {} {}", cred.pid.0, cred.uid, cred.gid),
             Reply::Poll(flags) => write!(f, "poll {}", Conditions(*flags)),
             Reply::Child(pid) => write!(f, "child {}", pid.0),
+            Reply::Flags(flags) => write!(f, "flags {}", OpenFlagNames(*flags)),
             Reply::Err(errno) => write!(f, "err {}", errno_name(*errno)),
         }
     }

@@ -1,12 +1,12 @@
 //! The words of a reply: bytes, names, addresses, flags, and what control bytes spell.
 
 ghost use Rattle.std.specs.Prelude.{◌≡◌, Some, map};
-ghost use Rattle.ux_trace.specs.Trace.{hex, stands, name_text, addr_text, addr_or_dash, flags_text, received_flags_text, poll_flags_text, rights_text, cred_text, said_text, told_text};
+ghost use Rattle.ux_trace.specs.Trace.{hex, stands, name_text, addr_text, addr_or_dash, flags_text, received_flags_text, poll_flags_text, open_flags_text, rights_text, cred_text, said_text, told_text};
 
 use bitflags::Flags;
 use std::fmt;
 use ux_cmsg::Control;
-use ux_types::{Addr, Cred, Fd, MsgFlags, PollFlags};
+use ux_types::{Addr, Cred, Fd, MsgFlags, OpenFlags, PollFlags};
 
 /// Bytes as pairs of hexadecimal digits, or `-` where there is none.
 #[derive(Clone, Copy)]
@@ -147,6 +147,24 @@ impl fmt::Display for Conditions {
             (self.0.contains(PollFlags::HUP), "HUP"),
             (self.0.contains(PollFlags::ERR), "ERR"),
             (self.0.contains(PollFlags::NVAL), "NVAL"),
+        ];
+        let names = SetNames(&rows);
+        write!(f, "{names}")
+    }
+}
+
+/// The flags of a descriptor and of its description.
+#[derive(Clone, Copy)]
+pub(crate) struct OpenFlagNames(pub(crate) OpenFlags);
+
+impl fmt::Display for OpenFlagNames {
+    ghost output = { λ flags. Some (open_flags_text flags.0) };
+
+    fn fmt<W: fmt::Write>(&self, f: &mut fmt::Formatter<W>) -> fmt::Result {
+        let rows = [
+            (self.0.contains(OpenFlags::APPEND), "APPEND"),
+            (self.0.contains(OpenFlags::NONBLOCK), "NONBLOCK"),
+            (self.0.contains(OpenFlags::CLOEXEC), "CLOEXEC"),
         ];
         let names = SetNames(&rows);
         write!(f, "{names}")

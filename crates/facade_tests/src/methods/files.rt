@@ -33,8 +33,14 @@ pub(super) fn copy_and_close<C: Copy, P: Calls<C>>(p: &mut P, who: C) -> Result<
     refuses("dup", p.dup(who, CLOSED), Errno::EBADF)?;
     gives("dup2", p.dup2(who, Fd(0), Fd(4)), Fd(4))?;
     refuses("dup2", p.dup2(who, Fd(0), Fd(16)), Errno::EBADF)?;
+    gives("dup_from", p.dup_from(who, Fd(0), Fd(7)), Fd(7))?;
+    refuses("dup_from", p.dup_from(who, Fd(0), Fd(16)), Errno::EINVAL)?;
+    gives("get_flags", p.get_flags(who, Fd(7)), OpenFlags(0))?;
+    refuses("get_flags", p.get_flags(who, CLOSED), Errno::EBADF)?;
     let flags = OpenFlags::CLOEXEC;
     gives("set_flags", p.set_flags(who, Fd(4), flags), ())?;
+    gives("get_flags", p.get_flags(who, Fd(4)), flags)?;
+    gives("close", p.close(who, Fd(7)), ())?;
     let unset = p.set_flags(who, CLOSED, flags);
     refuses("set_flags", unset, Errno::EBADF)?;
     gives("exec", p.exec(who), ())?;

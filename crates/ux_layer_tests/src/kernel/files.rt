@@ -10,6 +10,8 @@ pub(super) enum FileCall {
     Lseek(u32, i64, Whence),
     Dup(u32),
     Dup2(u32, u32),
+    DupFrom(u32, u32),
+    GetFlags(u32),
     SetFlags(u32, u8),
 }
 
@@ -31,6 +33,11 @@ pub(super) fn file_request_of(alloc: Global, call: &FileCall) -> Result<Request,
             fd: Fd(*fd),
             to: Fd(*to),
         },
+        FileCall::DupFrom(fd, minimum) => Request::DupFrom {
+            fd: Fd(*fd),
+            minimum: Fd(*minimum),
+        },
+        FileCall::GetFlags(fd) => Request::GetFlags { fd: Fd(*fd) },
         FileCall::SetFlags(fd, flags) => Request::SetFlags {
             fd: Fd(*fd),
             flags: OpenFlags(*flags),

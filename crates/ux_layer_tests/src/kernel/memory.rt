@@ -189,6 +189,11 @@ const GROWTHS: &[(Asked, Told, &[Row])] = &[
         &[(1, Asked::Close(4), Told::Err(Errno::EBADF))],
     ),
     (
+        Asked::File(FileCall::DupFrom(1, 20)),
+        Told::Fd(20),
+        &[(1, Asked::Close(20), Told::Err(Errno::EBADF))],
+    ),
+    (
         Asked::File(FileCall::Dup2(1, 1000)),
         Told::Fd(1000),
         &[(1, Asked::Close(1000), Told::Err(Errno::EBADF))],

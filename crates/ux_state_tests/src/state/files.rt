@@ -28,6 +28,20 @@ fn put_lowest<O: FileObject>(rt: &impl Abort, state: &mut State<O>, entry: Descr
     assert!(rt; put == Ok(Fd(fd)));
 }
 
+/// Puts an entry at the lowest free number of process 1 that isn't below a minimum, with this answer.
+fn put_lowest_from<O: FileObject>(
+    rt: &impl Abort,
+    state: &mut State<O>,
+    minimum: u32,
+    entry: Descriptor,
+    answer: Result<Fd, InstallError>,
+) {
+    assert!(rt; state.is_live(Pid(1)));
+    assert!(rt; state.count(entry.description) > 0);
+    let put = state.put_lowest_from(Pid(1), Fd(minimum), entry);
+    assert!(rt; put == answer);
+}
+
 /// Puts a copy of an entry at a number of process 1, which gives this answer.
 fn put_copy_at<O: FileObject>(
     rt: &impl Abort,
@@ -196,9 +210,25 @@ fn entries_are_put_and_taken(rt: HostRuntime) -> Result<(), Fail> {
     expect_entry(&rt, s, 1, None);
     expect_entry(&rt, s, 2, Some(descriptor(1, true)));
     put_lowest(&rt, s, descriptor(1, false), 1);
+    put_lowest_from(&rt, s, 2, descriptor(0, true), Err(InstallError::Full));
+    put_lowest_from(&rt, s, 9, descriptor(0, true), Err(InstallError::Full));
     assert!(rt; s.count(DescriptionId::new(0)) == 2);
     assert!(rt; s.count(DescriptionId::new(1)) == 2);
     assert!(rt; s.count(DescriptionId::new(2)) == 0);
+    Ok(())
+}
+
+#[test]
+fn entries_are_put_from_a_minimum_on(rt: HostRuntime) -> Result<(), Fail> {
+    let mut held = start_with_files(&rt, rt.alloc())?;
+    let s = &mut held.state;
+    open(&rt, s, 1, 0, Mode::Both, Ok(Fd(0)));
+    put_lowest_from(&rt, s, 2, descriptor(0, true), Ok(Fd(2)));
+    put_lowest_from(&rt, s, 2, descriptor(0, false), Ok(Fd(3)));
+    put_lowest_from(&rt, s, 3, descriptor(0, false), Err(InstallError::Full));
+    put_lowest_from(&rt, s, 0, descriptor(0, false), Ok(Fd(1)));
+    expect_entry(&rt, s, 2, Some(descriptor(0, true)));
+    assert!(rt; s.count(DescriptionId::new(0)) == 4);
     Ok(())
 }
 

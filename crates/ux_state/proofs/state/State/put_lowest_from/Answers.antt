@@ -1,24 +1,24 @@
 use Rattle.std.proofs.Common.{◌-◌, ap, sym, ◌∙◌, arith}
 use Rattle.std.proofs.lemmas.Grind.{common_steps}
 use Rattle.ux_model.specs.Places.{filled}
-use Rattle.ux_model.specs.Process.{Descriptor, lowest_free}
+use Rattle.ux_model.specs.Process.{Descriptor, lowest_free_from}
 use Rattle.ux_model.specs.State.{is_live}
 use Rattle.ux_model.specs.References.{table_refs}
 use Rattle.ux_model.proofs.Moves.{one, table_filled}
-use Rattle.ux_fdtable.proofs.TwoFree.{free_at}
+use Rattle.ux_fdtable.proofs.TwoFree.{free_from_at}
 use Rattle.ux_slots.specs.Held.{once}
 use Rattle.ux_state.specs.contracts.process.Process as process
 use Rattle.ux_state.proofs.Lookups.{at_view}
 use Rattle.ux_state.proofs.TableCounts.{table_kept}
 use Rattle.ux_state.proofs.Opening.{entries_put, same_places, table_is}
-use Rattle.ux_state.proofs.state.State.put_lowest.Goals as goal
+use Rattle.ux_state.proofs.state.State.put_lowest_from.Goals as goal
 
 pub invariant_of-self-2 : goal.invariant_of-self-2
 invariant_of-self-2 g c =
     let live = ap (λ S. is_live S c.args.pid.0) c.self.view_is ∙ c.requires.live in
     let at = at_view c.self.inside.processes.items (c.args.pid.0 - 1) _ (process.the_view c.process.inside) c.process_mut-process.ensures.value c.process.view_is in
     table_kept _ _ _ _ _ _ _ c.self.invariant c.args.pid.0 (process.the_view c.process.inside) live at c.retain.new.slots _ c.retain.ensures.places (λ k.
-    let free = free_at c.process.inside.table 0 c.in_ok-fd.fd.0 c.in_ok-fd.ensures.lowest in
+    let free = free_from_at c.process.inside.table c.args.minimum.0 c.in_ok-fd.fd.0 c.in_ok-fd.ensures.lowest in
     let put = table_filled k c.process.inside.table c.in_ok-fd.fd.0 c.args.entry free.0 in
     let none = ap (one k) free.1 in
     let table = ap (table_refs k) c.in_ok-fd.ensures.opened in
@@ -28,7 +28,7 @@ invariant_of-self-2 g c =
 
 pub returns-clause-lowest : goal.returns-clause-lowest
 returns-clause-lowest g c =
-    ap lowest_free (sym (table_is _ c.args.self.now c.args.pid.0 c.process_mut-process.result.now (process.the_view c.process.inside) c.requires.live c.self.view_is c.process_mut-process.ensures.value c.process.view_is))
+    ap (lowest_free_from c.args.minimum.0) (sym (table_is _ c.args.self.now c.args.pid.0 c.process_mut-process.result.now (process.the_view c.process.inside) c.requires.live c.self.view_is c.process_mut-process.ensures.value c.process.view_is))
     ∙ c.in_ok-fd.ensures.lowest
 
 pub returns-clause-opened : goal.returns-clause-opened

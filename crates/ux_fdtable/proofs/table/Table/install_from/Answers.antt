@@ -1,5 +1,5 @@
 use Rattle.std.proofs.Common.{rules}
-use Rattle.ux_fdtable.proofs.table.Table.install.Goals as goal
+use Rattle.ux_fdtable.proofs.table.Table.install_from.Goals as goal
 
 pub returns-in_default-clause-full : goal.returns-in_default-clause-full
 returns-in_default-clause-full c = search rules
