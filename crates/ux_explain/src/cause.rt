@@ -38,6 +38,12 @@ pub enum Cause {
     Needless(u8),
     /// A `%` without two digits.
     NoDigits,
+    /// A text without its closing quotation mark.
+    Unclosed,
+    /// What stands behind a backslash is no escape.
+    Escape,
+    /// A text is followed neither by a blank nor by the line's end.
+    BehindText,
     /// A line after `off`.
     AfterOff,
     /// A line of the header behind one of a process.
@@ -50,6 +56,8 @@ pub enum Cause {
     NoProcess(u32, usize),
     /// A fork of this process in a script without `serial`.
     Forks(u32),
+    /// A call that stands in a script with `serial` alone.
+    BehindSerial,
     /// A fork beyond so many processes.
     TooManyProcesses(usize),
     /// An expectation behind no call's line.
@@ -84,7 +92,7 @@ impl fmt::Display for Cause {
     }
 }
 
-/// The texts of digits, numbers and names.
+/// The texts of digits, numbers, names and texts.
 fn write_further<W: fmt::Write>(f: &mut fmt::Formatter<W>, cause: Cause) -> fmt::Result {
     match cause {
         Cause::UpperCase => write!(f, "an upper-case digit: expected 0-9a-f"),
@@ -97,6 +105,12 @@ fn write_further<W: fmt::Write>(f: &mut fmt::Formatter<W>, cause: Cause) -> fmt:
             let letter = char::from(byte);
             write!(f, "a byte of NAME that mustn't have %: expected {letter}")
         }
+        Cause::Unclosed => write!(f, "a text without its end: expected \""),
+        Cause::Escape => write!(
+            f,
+            "in a text \\ stands before one of abtnvfr\"\\, or before x and two digits of 0-9a-f"
+        ),
+        Cause::BehindText => write!(f, "behind a text: expected a blank or the end of the line"),
         Cause::NoDigits => write!(f, "in NAME % stands before two digits of 0-9a-f"),
         _ => write_of_context(f, cause),
     }
@@ -119,6 +133,7 @@ fn write_of_context<W: fmt::Write>(f: &mut fmt::Formatter<W>, cause: Cause) -> f
             f,
             "a fork of process {pid}: in a script without serial process 1 alone forks"
         ),
+        Cause::BehindSerial => write!(f, "a call that stands behind a line serial alone"),
         Cause::TooManyProcesses(limit) => write!(f, "a fork beyond {limit} processes"),
         Cause::Misplaced => write!(f, "#= REPLY stands right behind the line of a call"),
         _ => write!(f, "none of the lines that may stand there"),

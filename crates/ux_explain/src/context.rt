@@ -49,15 +49,23 @@ fn cause_of_fork(script: &Script, pid: u32) -> Cause {
     }
 }
 
+/// Whether a call stands in a script with the line `serial` alone.
+fn stands_behind_serial(call: &[u8]) -> bool {
+    call == b"dupfd".as_slice() || call == b"getfl".as_slice()
+}
+
 /// Why the line of a process isn't allowed behind these of a script.
 fn turn_fault(script: &Script, text: &[u8]) -> Found {
     let first = word_from(text, 0).unwrap_or(&[]);
     let pid = number_of(first);
+    let start = first.len().saturating_add(1);
+    let call = word_from(text, start).unwrap_or(&[]);
+    if !script.serial && stands_behind_serial(call) {
+        return Found::at(start, Cause::BehindSerial);
+    }
     if let Some(cause) = cause_of_process(script, pid) {
         return Found::at(0, cause);
     }
-    let start = first.len().saturating_add(1);
-    let call = word_from(text, start).unwrap_or(&[]);
     if call == b"fork".as_slice() {
         return Found::at(start, cause_of_fork(script, pid));
     }

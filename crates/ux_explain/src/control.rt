@@ -3,6 +3,7 @@
 use crate::cause::Cause;
 use crate::forms::Form;
 use crate::numbers::number_miss;
+use crate::quoted::text_miss;
 use crate::words::{Miss, pairs_miss};
 
 const EXPECTED: Cause = Cause::Expected(Form::Control);
@@ -68,10 +69,22 @@ fn items_miss(word: &[u8]) -> Option<Miss> {
     None
 }
 
+/// Where a text goes wrong that has one byte at least, behind its opening quotation mark.
+fn some_text_miss(inner: &[u8]) -> Option<Miss> {
+    match inner {
+        [mark, ..] if *mark == b'"' => Some(Miss::new(0, EXPECTED)),
+        _ => text_miss(inner),
+    }
+}
+
 /// Where bytes go wrong that are written out, without the `x` before them.
 fn raw_miss(text: &[u8]) -> Option<Miss> {
     match text {
         [colon] if *colon == b':' => Some(Miss::new(1, EXPECTED)),
+        [colon, mark, inner @ ..] if *colon == b':' && *mark == b'"' => {
+            let miss = some_text_miss(inner)?;
+            Some(miss.after(2))
+        }
         [colon, digits @ ..] if *colon == b':' => {
             let miss = pairs_miss(digits, Form::Control)?;
             Some(miss.after(1))

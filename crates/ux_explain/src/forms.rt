@@ -13,6 +13,10 @@ pub enum Form {
     Kind(bool),
     /// A number of 32 bits of this name, which is at least so large.
     Number(&'static str, u32),
+    /// A number of 32 bits, or `rights:` and a number of rights.
+    Space,
+    /// The number behind `rights:`.
+    Rights,
     /// A signed number of this name, of 32 or 64 bits.
     Signed(&'static str, u32),
     /// Bytes.
@@ -65,7 +69,15 @@ impl fmt::Display for Form {
                 f,
                 "{name}: a signed number of {bits} bits, - before a negative one, never -0"
             ),
-            Form::Hex => write!(f, "HEX: pairs of 0-9a-f, or - for no bytes"),
+            Form::Space => write!(
+                f,
+                "SPACE: a number from 0 to 4294967295 without leading zeros, or rights:N"
+            ),
+            Form::Rights => write!(
+                f,
+                "N of rights:N: a number from 0 to 253 without leading zeros"
+            ),
+            Form::Hex => write!(f, "HEX or \"text\": pairs of 0-9a-f, or - for no bytes"),
             Form::Choice(name, words) => {
                 let words = Alternatives(words);
                 write!(f, "{name}: {words}")
@@ -78,7 +90,7 @@ impl fmt::Display for Form {
             Form::Target => write!(f, "ADDR: u, p:NAME, a:NAME or -"),
             Form::Control => write!(
                 f,
-                "CONTROL: -, x:HEX, r:N,N,.. or c:PID,UID,GID, or one of each joined by +"
+                "CONTROL: -, x:HEX or x:\"text\", r:N,N,.. or c:PID,UID,GID, or one of each joined by +"
             ),
         }
     }
@@ -142,6 +154,14 @@ pub(crate) const CALLS: &[Row] = &[
         forms: &[FD, FD],
     },
     Row {
+        word: "dupfd",
+        forms: &[FD, Form::Number("MIN", 0)],
+    },
+    Row {
+        word: "getfl",
+        forms: &[FD],
+    },
+    Row {
         word: "flags",
         forms: &[FD, OFLAGS],
     },
@@ -203,7 +223,7 @@ pub(crate) const CALLS: &[Row] = &[
     },
     Row {
         word: "recv",
-        forms: &[FD, N, Form::Number("SPACE", 0), MFLAGS],
+        forms: &[FD, N, Form::Space, MFLAGS],
     },
     Row {
         word: "poll",
@@ -298,7 +318,7 @@ impl Form {
             Form::Head => "off",
             Form::Call => "exit",
             Form::Kind(_) => "pipe",
-            Form::Number(_, 0) | Form::Signed(..) => "0",
+            Form::Number(_, 0) | Form::Space | Form::Rights | Form::Signed(..) => "0",
             Form::Number(..) => "1",
             Form::Hex | Form::Letters(..) | Form::Target | Form::Control => "-",
             Form::Choice(_, [first, ..]) => first,
@@ -323,15 +343,18 @@ impl Form {
     pub(crate) fn endings(self) -> &'static [&'static str] {
         match self {
             Form::Head | Form::Call | Form::Kind(_) | Form::Choice(..) => &[],
-            Form::Number(..) | Form::Signed(..) => &["", "0", "1"],
-            Form::Hex => &["", "-", "0"],
+            Form::Number(..) | Form::Rights | Form::Signed(..) => &["", "0", "1"],
+            Form::Space => &[
+                "", "0", "1", "ights:0", "ghts:0", "hts:0", "ts:0", "s:0", ":0",
+            ],
+            Form::Hex => &["", "-", "0", "0\"", "00\"", "n\""],
             Form::Letters(..) => &["", "-"],
             Form::Path | Form::Address | Form::Target => {
                 &["", "-", "u", "p:", ":", "0", "00", "f"]
             }
             Form::Control => &[
                 "", "-", ":00", "00", "0", ":0", "r:0", ":0,0,0", "0,0,0", ",0,0", "0,0", ",0",
-                "c:0,0,0",
+                "c:0,0,0", "0\"", "00\"", "n\"",
             ],
         }
     }

@@ -13,6 +13,7 @@ mod names;
 mod near;
 mod numbers;
 mod place;
+mod quoted;
 mod texts;
 mod words;
 

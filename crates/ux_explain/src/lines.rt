@@ -5,6 +5,7 @@ ghost use Rattle.std.specs.Prelude.{◌≡◌};
 use crate::cause::Cause;
 use crate::forms::{Form, HEAD, TURN};
 use crate::near::{nearest_row, nearest_word};
+use crate::quoted::field_from;
 use crate::texts::word_from;
 use crate::words::{miss_of, row_of};
 use std::alloc::{AllocError, Global};
@@ -48,7 +49,7 @@ fn walk(text: &[u8], start: usize, forms: &'static [Form]) -> Result<Walked, Fou
     let mut start = start;
     for (index, form) in forms.iter().enumerate() {
         let forms = forms.get(index..).unwrap_or(&[]);
-        let Some(word) = word_from(text, start) else {
+        let Some(word) = field_from(text, start, *form) else {
             return Err(Found {
                 column: text.len(),
                 cause: Cause::Missing(*form),
@@ -112,8 +113,11 @@ fn walk_line(text: &[u8]) -> Result<(), Found> {
     ends(text, start)
 }
 
-/// Why a byte is wrong wherever it stands, else the cause.
+/// Why a byte is wrong wherever it stands but in a text, else the cause.
 fn cause_of_byte(text: &[u8], found: Found) -> Cause {
+    if let Cause::Escape = found.cause {
+        return found.cause;
+    }
     let rest = text.get(found.column..).unwrap_or(&[]);
     match rest {
         [0xef, 0xbb, 0xbf, ..] if found.column == 0 => Cause::ByteOrderMark,

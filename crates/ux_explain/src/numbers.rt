@@ -2,7 +2,8 @@
 
 use crate::cause::Cause;
 use crate::forms::Form;
-use crate::words::Miss;
+use crate::words::{Miss, common};
+use ux_types::RIGHTS_LIMIT;
 
 /// The first digit by which a number is greater than this one, which is at most 2^63.
 fn first_excess(digits: &[u8], greatest: u64) -> Option<usize> {
@@ -47,6 +48,28 @@ pub(crate) fn number_miss(word: &[u8], least: u32, form: Form) -> Option<Miss> {
         return Some(Miss::new(0, Cause::Expected(form)));
     }
     digits_miss(word, u64::from(u32::MAX), form)
+}
+
+const RIGHTS: &[u8] = b"rights:";
+
+/// Where the number of rights goes wrong, which is at most as many as one message may pass.
+pub(crate) fn rights_miss(word: &[u8]) -> Option<Miss> {
+    digits_miss(word, RIGHTS_LIMIT as u64, Form::Rights)
+}
+
+/// Where a control space goes wrong: a number, or `rights:` and one.
+pub(crate) fn space_miss(word: &[u8]) -> Option<Miss> {
+    match word {
+        [first, ..] if *first == b'r' => {
+            let count = common(word, RIGHTS);
+            if count < RIGHTS.len() {
+                return Some(Miss::new(count, Cause::Expected(Form::Space)));
+            }
+            let miss = rights_miss(word.get(count..).unwrap_or(&[]))?;
+            Some(miss.after(count))
+        }
+        _ => number_miss(word, 0, Form::Space),
+    }
 }
 
 /// The greatest number of so many bits with a sign.

@@ -4,7 +4,8 @@ use crate::cause::Cause;
 use crate::control::control_miss;
 use crate::forms::{Form, Row};
 use crate::names::{address_miss, path_miss, target_miss};
-use crate::numbers::{number_miss, signed_miss};
+use crate::numbers::{number_miss, rights_miss, signed_miss, space_miss};
+use crate::quoted::text_miss;
 
 /// The first byte of a word that is wrong, counted from the word's start, and why. At the word's length the word ends
 /// too early.
@@ -26,7 +27,7 @@ impl Miss {
 }
 
 /// How many bytes two texts have in common at their beginnings.
-fn common(text: &[u8], other: &[u8]) -> usize {
+pub(crate) fn common(text: &[u8], other: &[u8]) -> usize {
     let mut count: usize = 0;
     for (byte, wanted) in text.iter().zip(other) {
         if byte != wanted {
@@ -106,6 +107,10 @@ fn hex_miss(word: &[u8]) -> Option<Miss> {
         [] => Some(Miss::new(0, Cause::Expected(Form::Hex))),
         [dash] if *dash == b'-' => None,
         [dash, ..] if *dash == b'-' => Some(Miss::new(1, Cause::Expected(Form::Hex))),
+        [mark, inner @ ..] if *mark == b'"' => {
+            let miss = text_miss(inner)?;
+            Some(miss.after(1))
+        }
         _ => pairs_miss(word, Form::Hex),
     }
 }
@@ -138,6 +143,8 @@ pub(crate) fn miss_of(form: Form, word: &[u8]) -> Option<Miss> {
     }
     match form {
         Form::Number(_, least) => number_miss(word, least, form),
+        Form::Space => space_miss(word),
+        Form::Rights => rights_miss(word),
         Form::Signed(_, bits) => signed_miss(word, bits, form),
         Form::Hex => hex_miss(word),
         Form::Choice(_, words) => choice_miss(words, word, form),

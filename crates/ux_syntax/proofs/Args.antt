@@ -6,8 +6,8 @@ use Rattle.ux_syntax.specs.declared.fault.Fault.{Fault}
 use Rattle.ux_syntax.specs.declared.fault.Fault.TheVariants.{BadLine}
 use Rattle.ux_trace.specs.declared.call_word.CallWord.{CallWord}
 use Rattle.ux_trace.specs.Trace.{word_text, request_word}
-use Rattle.ux_syntax.specs.Spelling.{Written, open_path, read_fd, write_fd, seek, dup_fd, dup_onto, set_flags, close, unlink_path, socket, pair, bind, listen, connect, accept, shut, get_opt, set_opt, sock_name, peer_name, send, recv, poll, fork, exec, exit, meaning, args_of, FitsCall}
-use Rattle.ux_syntax.specs.Reading.{◌>>=◌, open_at, read_at, write_at, lseek_at, dup_at, dup2_at, set_flags_at, close_at, unlink_at, socket_at, pair_at, bind_at, listen_at, connect_at, accept_at, shut_at, get_opt_at, set_opt_at, sock_name_at, peer_name_at, send_at, recv_at, poll_at, fork_at, exec_at, exit_at, all_words, word_at, args_at}
+use Rattle.ux_syntax.specs.Spelling.{Written, open_path, read_fd, write_fd, seek, dup_fd, dup_onto, dup_above, get_flags, set_flags, close, unlink_path, socket, pair, bind, listen, connect, accept, shut, get_opt, set_opt, sock_name, peer_name, send, recv, poll, fork, exec, exit, meaning, args_of, FitsCall}
+use Rattle.ux_syntax.specs.Reading.{◌>>=◌, open_at, read_at, write_at, lseek_at, dup_at, dup2_at, dup_from_at, get_flags_at, set_flags_at, close_at, unlink_at, socket_at, pair_at, bind_at, listen_at, connect_at, accept_at, shut_at, get_opt_at, set_opt_at, sock_name_at, peer_name_at, send_at, recv_at, poll_at, fork_at, exec_at, exit_at, all_words, word_at, args_at}
 use Rattle.ux_syntax.proofs.Rows.{IsSolid, IsBadOrOk, IsRow, solid_from, ends_row, row_then, number_kind}
 use Rattle.ux_syntax.proofs.Bytes.{hex_kind}
 use Rattle.ux_syntax.proofs.Flags.{open_flags_kind, msg_flags_kind}
@@ -45,13 +45,15 @@ made {X = X} {read = read} word make row spelled ws = made_of (read ws) refl
 -- ---- three laws a word, and its letters in `word_facts`
 
 args_read : (word : CallWord) (ws : List (List ℕ)) → IsReading word ws (args_at word ws)
-unfolding open_at read_at write_at lseek_at dup_at dup2_at set_flags_at close_at unlink_at socket_at pair_at bind_at listen_at connect_at accept_at shut_at get_opt_at set_opt_at sock_name_at peer_name_at send_at recv_at poll_at fork_at exec_at exit_at
+unfolding open_at read_at write_at lseek_at dup_at dup2_at dup_from_at get_flags_at set_flags_at close_at unlink_at socket_at pair_at bind_at listen_at connect_at accept_at shut_at get_opt_at set_opt_at sock_name_at peer_name_at send_at recv_at poll_at fork_at exec_at exit_at
 args_read CallWord.Open = made CallWord.Open (λ x. open_path x.0 x.1.0 x.1.1.0) (row_then path_kind (row_then mode_kind (row_then open_flags_kind ends_row))) (λ x f. (refl, refl, (f.0, f.1.1.0)))
 args_read CallWord.Read = made CallWord.Read (λ x. read_fd x.0 x.1.0) (row_then number_kind (row_then number_kind ends_row)) (λ x f. (refl, refl, (f.0, f.1.0)))
 args_read CallWord.Write = made CallWord.Write (λ x. write_fd x.0 x.1.0) (row_then number_kind (row_then hex_kind ends_row)) (λ x f. (refl, refl, (f.0, f.1.0)))
 args_read CallWord.Lseek = made CallWord.Lseek (λ x. seek x.0 x.1.0 x.1.1.0) (row_then number_kind (row_then offset_kind (row_then whence_kind ends_row))) (λ x f. (refl, refl, (f.0, f.1.0)))
 args_read CallWord.Dup = made CallWord.Dup (λ x. dup_fd x.0) (row_then number_kind ends_row) (λ x f. (refl, refl, f.0))
 args_read CallWord.Dup2 = made CallWord.Dup2 (λ x. dup_onto x.0 x.1.0) (row_then number_kind (row_then number_kind ends_row)) (λ x f. (refl, refl, (f.0, f.1.0)))
+args_read CallWord.DupFrom = made CallWord.DupFrom (λ x. dup_above x.0 x.1.0) (row_then number_kind (row_then number_kind ends_row)) (λ x f. (refl, refl, (f.0, f.1.0)))
+args_read CallWord.GetFlags = made CallWord.GetFlags (λ x. get_flags x.0) (row_then number_kind ends_row) (λ x f. (refl, refl, f.0))
 args_read CallWord.Flags = made CallWord.Flags (λ x. set_flags x.0 x.1.0) (row_then number_kind (row_then open_flags_kind ends_row)) (λ x f. (refl, refl, (f.0, f.1.0)))
 args_read CallWord.Close = made CallWord.Close (λ x. close x.0) (row_then number_kind ends_row) (λ x f. (refl, refl, f.0))
 args_read CallWord.Unlink = made CallWord.Unlink (λ x. unlink_path x.0) (row_then path_kind ends_row) (λ x f. (refl, refl, f.0))
@@ -75,13 +77,15 @@ args_read CallWord.Exit = made CallWord.Exit (λ x. exit) ends_row (λ x f. (ref
 args_read CallWord.Off = λ ws. refl
 
 pub args_again : (c : Written) → FitsCall c → args_at (request_word (meaning c)) (args_of c) ≡ Ok (meaning c)
-unfolding open_at read_at write_at lseek_at dup_at dup2_at set_flags_at close_at unlink_at socket_at pair_at bind_at listen_at connect_at accept_at shut_at get_opt_at set_opt_at sock_name_at peer_name_at send_at recv_at poll_at fork_at exec_at exit_at
+unfolding open_at read_at write_at lseek_at dup_at dup2_at dup_from_at get_flags_at set_flags_at close_at unlink_at socket_at pair_at bind_at listen_at connect_at accept_at shut_at get_opt_at set_opt_at sock_name_at peer_name_at send_at recv_at poll_at fork_at exec_at exit_at
 args_again (open_path path mode flags) f = rw (path_kind.again path f.0, mode_kind.again mode tt, open_flags_kind.again flags f.1) refl
 args_again (read_fd fd n) f = rw (number_kind.again fd f.0, number_kind.again n f.1) refl
 args_again (write_fd fd bytes) f = rw (number_kind.again fd f.0, hex_kind.again bytes f.1) refl
 args_again (seek fd offset whence) f = rw (number_kind.again fd f.0, offset_kind.again offset f.1, whence_kind.again whence tt) refl
 args_again (dup_fd fd) f = rw (number_kind.again fd f) refl
 args_again (dup_onto fd other) f = rw (number_kind.again fd f.0, number_kind.again other f.1) refl
+args_again (dup_above fd minimum) f = rw (number_kind.again fd f.0, number_kind.again minimum f.1) refl
+args_again (get_flags fd) f = rw (number_kind.again fd f) refl
 args_again (set_flags fd flags) f = rw (number_kind.again fd f.0, open_flags_kind.again flags f.1) refl
 args_again (close fd) f = rw (number_kind.again fd f) refl
 args_again (unlink_path path) f = rw (path_kind.again path f) refl
@@ -111,6 +115,8 @@ args_solid (write_fd fd bytes) f = (number_kind.solid fd f.0, (hex_kind.solid by
 args_solid (seek fd offset whence) f = (number_kind.solid fd f.0, (offset_kind.solid offset f.1, (whence_kind.solid whence tt, tt)))
 args_solid (dup_fd fd) f = (number_kind.solid fd f, tt)
 args_solid (dup_onto fd other) f = (number_kind.solid fd f.0, (number_kind.solid other f.1, tt))
+args_solid (dup_above fd minimum) f = (number_kind.solid fd f.0, (number_kind.solid minimum f.1, tt))
+args_solid (get_flags fd) f = (number_kind.solid fd f, tt)
 args_solid (set_flags fd flags) f = (number_kind.solid fd f.0, (open_flags_kind.solid flags f.1, tt))
 args_solid (close fd) f = (number_kind.solid fd f, tt)
 args_solid (unlink_path path) f = (path_kind.solid path f, tt)
@@ -142,6 +148,8 @@ word_facts (write_fd fd bytes) = (refl, refl)
 word_facts (seek fd offset whence) = (refl, refl)
 word_facts (dup_fd fd) = (refl, refl)
 word_facts (dup_onto fd other) = (refl, refl)
+word_facts (dup_above fd minimum) = (refl, refl)
+word_facts (get_flags fd) = (refl, refl)
 word_facts (set_flags fd flags) = (refl, refl)
 word_facts (close fd) = (refl, refl)
 word_facts (unlink_path path) = (refl, refl)

@@ -1,6 +1,6 @@
 -- What the comments of a text expect, as far as a loop has come.
 use Rattle.std.proofs.Common.{◌≡◌, ℕ, zero, suc, ◌+◌, ◌-◌, ◌<◌, ◌≤◌, ◌⊎◌, inl, inr, ◌&&◌, Bool, Bor, true, false, cond, not}
-use Rattle.std.proofs.Common.{map, List, [], ◌∷◌, ◌++◌, length, refl, ap, sym, ◌∙◌, subst, append_assoc, arith}
+use Rattle.std.proofs.Common.{None, map, List, [], ◌∷◌, ◌++◌, length, refl, ap, sym, ◌∙◌, subst, append_assoc, arith}
 use Rattle.std.specs.Prelude.{slice_index_or}
 use Rattle.std.specs.List.{flat_map, range_with_len}
 use Rattle.std.specs.Option.{is_some}
@@ -8,6 +8,7 @@ use Rattle.std.proofs.lemmas.Bool.{cases_lt}
 use Rattle.std.proofs.lemmas.List.{append-nil, get_or-map, get_or_past, length-map}
 use Rattle.ux_syntax.specs.declared.expectations.Expectation.{Expectation}
 use Rattle.ux_syntax.specs.declared.fault.ScriptFault.{ScriptFault}
+use Rattle.ux_syntax.specs.Text.{fields_of, plain_line}
 use Rattle.ux_syntax.specs.Reading.{item_at}
 use Rattle.ux_syntax.specs.Expectations.{line_numbered, asks_call, expected_in, expecting, expectation_of, expectations}
 use Rattle.ux_syntax.specs.Expectations.{is_misplaced, IsFaultOfPlace}
@@ -15,6 +16,11 @@ use Rattle.ux_syntax.specs.Expectations.{is_misplaced, IsFaultOfPlace}
 no_call : false ≡ asks_call []
 unfolding asks_call item_at
 no_call = refl
+
+-- an empty line expects nothing
+none_expected : expected_in [] ≡ None
+unfolding plain_line fields_of
+none_expected = refl
 
 flat_more : {A : Type 0} (f : ℕ → List A) (a len n : ℕ) → a + len ≡ n
     → flat_map f (range_with_len a (suc len)) ≡ flat_map f (range_with_len a len) ++ f n
@@ -38,7 +44,7 @@ begun texts found e = record {
   within = omega arith;
   call = no_call;
   all = e;
-  placed = λ m lt. let is : m ≡ 0 = omega (arith, lt) in subst (λ (k : ℕ). is_misplaced texts k ≡ false) (sym is) refl;
+  placed = λ m lt. let is : m ≡ 0 = omega (arith, lt) in subst (λ (k : ℕ). is_misplaced texts k ≡ false) (sym is) (rw none_expected refl);
 }
 
 -- the line behind the first i
@@ -87,5 +93,5 @@ pub all_placed : (texts : List (List ℕ)) (i : ℕ) (behind : Bool) (found : Li
     → HasCome texts i behind found → length texts ≤ i → (n : ℕ) → is_misplaced texts n ≡ false
 all_placed texts i behind found h end n = elim (cases_lt n (i + 1)) [
   | inl low ↦ h.placed n low
-  | inr high ↦ rw (get_or_past ([] ∷ texts) n [] (omega (arith, high, end))) refl
+  | inr high ↦ rw (get_or_past ([] ∷ texts) n [] (omega (arith, high, end)), none_expected) refl
 ]

@@ -12,6 +12,7 @@ use Rattle.ux_syntax.specs.declared.fault.Fault.TheVariants.{BadLine, TooLong}
 use Rattle.ux_syntax.specs.declared.script.Act.{Act}
 use Rattle.ux_syntax.specs.declared.script.Header.{Header}
 use Rattle.ux_syntax.specs.declared.reading.Item.{Item}
+use Rattle.ux_syntax.specs.Text.{plain_line}
 use Rattle.ux_syntax.specs.Spelling.{Turn, line_of, header_words, header_line, turn_words, turn_line, is_meant, IsNumber, FitsTurn, FitsHeader}
 use Rattle.ux_syntax.specs.Reading.{◌>>=◌, number_at, ends, proc_at, object_at, act_at, turn_at, words_at, item_at}
 use Rattle.ux_syntax.proofs.Rows.{IsSolid, solid_from, IsBadOrOk, either_bad, bind_bad, bind_ok, ok_is, number_kind, ends_row}
@@ -155,7 +156,7 @@ unfolding words_at
 serial_words_again = refl
 
 -- a number is no other word
-other_word : (n : ℕ) (w : List ℕ) → number_at w ≡ Err BadLine → IsNumber n → bytes_eq (decimal n) w ≡ false
+pub other_word : (n : ℕ) (w : List ℕ) → number_at w ≡ Err BadLine → IsNumber n → bytes_eq (decimal n) w ≡ false
 other_word n w r h = other_than number_at (decimal n) w n (number_kind.again n h) r
 
 turn_words_again : (t : Turn) → FitsTurn t → words_at (turn_words t) ≡ Ok (Item.Line (line_of t))
@@ -172,21 +173,21 @@ turn_words_again t f =
 -- a line says nothing, or it is a writing of the item
 abbrev pub Says : Item → List ℕ → Type 0
 Says Item.Skipped text = is_meant text ≡ false
-Says (Item.Header h) text = (is_meant text ≡ true) × (text ≡ header_line h) × FitsHeader h
-Says (Item.Line line) text = (is_meant text ≡ true) × ((t : Turn) × (line_of t ≡ line) × (text ≡ turn_line t) × FitsTurn t)
-Says Item.Off text = (is_meant text ≡ true) × (text ≡ codes "off")
-Says Item.Serial text = (is_meant text ≡ true) × (text ≡ codes "serial")
+Says (Item.Header h) text = (is_meant text ≡ true) × (plain_line text ≡ header_line h) × FitsHeader h
+Says (Item.Line line) text = (is_meant text ≡ true) × ((t : Turn) × (line_of t ≡ line) × (plain_line text ≡ turn_line t) × FitsTurn t)
+Says Item.Off text = (is_meant text ≡ true) × (plain_line text ≡ codes "off")
+Says Item.Serial text = (is_meant text ≡ true) × (plain_line text ≡ codes "serial")
 
-said : (item : Item) (text : List ℕ) → is_meant text ≡ true → AreWords (slice_split is_blank text) item → Says item text
+said : (item : Item) (text : List ℕ) → is_meant text ≡ true → AreWords (slice_split is_blank (plain_line text)) item → Says item text
 said Item.Skipped text m e = absurd e
-said (Item.Header h) text m e = (m, sym (join_with_byte-slice_split 32 text) ∙ ap (join_with_byte 32) e.0, e.1)
-said (Item.Line line) text m e = (m, (e.0, e.1, sym (join_with_byte-slice_split 32 text) ∙ ap (join_with_byte 32) e.2, e.3))
-said Item.Off text m e = (m, sym (join_with_byte-slice_split 32 text) ∙ ap (join_with_byte 32) e)
-said Item.Serial text m e = (m, sym (join_with_byte-slice_split 32 text) ∙ ap (join_with_byte 32) e)
+said (Item.Header h) text m e = (m, sym (join_with_byte-slice_split 32 (plain_line text)) ∙ ap (join_with_byte 32) e.0, e.1)
+said (Item.Line line) text m e = (m, (e.0, e.1, sym (join_with_byte-slice_split 32 (plain_line text)) ∙ ap (join_with_byte 32) e.2, e.3))
+said Item.Off text m e = (m, sym (join_with_byte-slice_split 32 (plain_line text)) ∙ ap (join_with_byte 32) e)
+said Item.Serial text m e = (m, sym (join_with_byte-slice_split 32 (plain_line text)) ∙ ap (join_with_byte 32) e)
 
-item_chosen : (limit : ℕ) (text : List ℕ) (item : Item) (t u : Bool) → is_meant text ≡ u → (t ≡ false → length text ≤ limit) → cond t (Err TooLong) (cond u (words_at (slice_split is_blank text)) (Ok Item.Skipped)) ≡ Ok item → (length text ≤ limit) × Says item text
+item_chosen : (limit : ℕ) (text : List ℕ) (item : Item) (t u : Bool) → is_meant text ≡ u → (t ≡ false → length text ≤ limit) → cond t (Err TooLong) (cond u (words_at (slice_split is_blank (plain_line text))) (Ok Item.Skipped)) ≡ Ok item → (length text ≤ limit) × Says item text
 item_chosen limit text item true u m short e = absurd cc
-item_chosen limit text item false true m short e = (short refl, said item text m (words_takes (slice_split is_blank text) item e))
+item_chosen limit text item false true m short e = (short refl, said item text m (words_takes (slice_split is_blank (plain_line text)) item e))
 item_chosen limit text item false false m short e = (short refl, subst (λ (y : Item). Says y text) (ok_is Item.Skipped item e) m)
 
 pub item_takes : (limit : ℕ) (text : List ℕ) (item : Item) → item_at limit text ≡ Ok item → (length text ≤ limit) × Says item text
@@ -200,24 +201,24 @@ split_header (Header.Proc p) f = split_join (codes "proc") (header_args (Header.
 split_turn : (t : Turn) → FitsTurn t → slice_split is_blank (turn_line t) ≡ turn_words t
 split_turn t f = split_join (decimal t.pid) _ (number_kind.solid t.pid f.0) (asked_solid t.asked f.1)
 
-spelled_again : (item : Item) (limit : ℕ) (text spelling : List ℕ) (ws : List (List ℕ)) → length text ≤ limit → is_meant text ≡ true → text ≡ spelling → slice_split is_blank spelling ≡ ws → words_at ws ≡ Ok item → item_at limit text ≡ Ok item
+spelled_again : (item : Item) (limit : ℕ) (text spelling : List ℕ) (ws : List (List ℕ)) → length text ≤ limit → is_meant text ≡ true → plain_line text ≡ spelling → slice_split is_blank spelling ≡ ws → words_at ws ≡ Ok item → item_at limit text ≡ Ok item
 unfolding item_at
 spelled_again item limit text spelling ws short m e w again =
-    let words : slice_split is_blank text ≡ ws = ap (slice_split is_blank) e ∙ w in
+    let words : slice_split is_blank (plain_line text) ≡ ws = ap (slice_split is_blank) e ∙ w in
     rw (le-ltb limit (length text) short, m, words) again
 
 pub skip_again : (limit : ℕ) (text : List ℕ) → length text ≤ limit → is_meant text ≡ false → item_at limit text ≡ Ok Item.Skipped
 unfolding item_at
 skip_again limit text short m = rw (le-ltb limit (length text) short, m) refl
 
-pub header_again_line : (h : Header) (limit : ℕ) (text : List ℕ) → length text ≤ limit → is_meant text ≡ true → text ≡ header_line h → FitsHeader h → item_at limit text ≡ Ok (Item.Header h)
+pub header_again_line : (h : Header) (limit : ℕ) (text : List ℕ) → length text ≤ limit → is_meant text ≡ true → plain_line text ≡ header_line h → FitsHeader h → item_at limit text ≡ Ok (Item.Header h)
 header_again_line h limit text short m e f = spelled_again (Item.Header h) limit text (header_line h) (header_words h) short m e (split_header h f) (header_words_again h f)
 
-pub off_again_line : (limit : ℕ) (text : List ℕ) → length text ≤ limit → is_meant text ≡ true → text ≡ codes "off" → item_at limit text ≡ Ok Item.Off
+pub off_again_line : (limit : ℕ) (text : List ℕ) → length text ≤ limit → is_meant text ≡ true → plain_line text ≡ codes "off" → item_at limit text ≡ Ok Item.Off
 off_again_line limit text short m e = spelled_again Item.Off limit text (codes "off") off_words short m e refl off_words_again
 
-pub serial_again_line : (limit : ℕ) (text : List ℕ) → length text ≤ limit → is_meant text ≡ true → text ≡ codes "serial" → item_at limit text ≡ Ok Item.Serial
+pub serial_again_line : (limit : ℕ) (text : List ℕ) → length text ≤ limit → is_meant text ≡ true → plain_line text ≡ codes "serial" → item_at limit text ≡ Ok Item.Serial
 serial_again_line limit text short m e = spelled_again Item.Serial limit text (codes "serial") serial_words short m e refl serial_words_again
 
-pub turn_again_line : (t : Turn) (limit : ℕ) (text : List ℕ) → length text ≤ limit → is_meant text ≡ true → text ≡ turn_line t → FitsTurn t → item_at limit text ≡ Ok (Item.Line (line_of t))
+pub turn_again_line : (t : Turn) (limit : ℕ) (text : List ℕ) → length text ≤ limit → is_meant text ≡ true → plain_line text ≡ turn_line t → FitsTurn t → item_at limit text ≡ Ok (Item.Line (line_of t))
 turn_again_line t limit text short m e f = spelled_again (Item.Line (line_of t)) limit text (turn_line t) (turn_words t) short m e (split_turn t f) (turn_words_again t f)

@@ -1,6 +1,7 @@
 pub mod WaitingTexts
 pub mod Pairs
 pub mod Numbers
+pub mod Plainly
 pub mod Rows
 pub mod Bytes
 pub mod Flags
@@ -17,3 +18,5 @@ pub mod Items
 pub mod Scripts
 pub mod Feeding
 pub mod Expecting
+pub mod Staying
+pub mod Echoed

@@ -6,7 +6,7 @@ use Rattle.std.proofs.lemmas.Bool.{ltb-true, ltb-false, lt-ltb, eqb-true, leb-tr
 use Rattle.std.proofs.lemmas.List.{append-nil, map-append, nil_from_length, length-append, take_at}
 use Rattle.std.proofs.lemmas.List.Elements.{filter-append}
 use Rattle.std.proofs.lemmas.List.Sums.{sum_by-cons}
-use Rattle.ux_model.specs.Types.{ProcSpec}
+use Rattle.ux_model.specs.Types.{ProcSpec, Request}
 use Rattle.ux_model.specs.Limits.{made_limit}
 use Rattle.ux_syntax.specs.declared.fault.Fault.{Fault}
 use Rattle.ux_syntax.specs.declared.fault.Fault.TheVariants.{BadLine, UnknownProcess, TooLong}
@@ -17,9 +17,10 @@ use Rattle.ux_syntax.specs.declared.script.Act.{Act}
 use Rattle.ux_syntax.specs.Lines.{Line}
 use Rattle.ux_syntax.specs.declared.script.Script.{Script}
 use Rattle.ux_syntax.specs.declared.reading.Item.{Item}
-use Rattle.ux_syntax.specs.Spelling.{Written, open_path, read_fd, write_fd, seek, dup_fd, dup_onto, set_flags, close, unlink_path, socket, pair, bind, listen, connect, accept, shut, get_opt, set_opt, sock_name, peer_name, send, recv, poll, fork, exec, exit, meaning, Asked, call, wait, act_of, Turn, line_of, Plan, plan_of, objects_of, procs_of, header_line, turn_line, serial_lines, off_lines, is_meant, line_limit, AreShort, FitsHeader, FitsTurn, IsProcess, AwaitsProcess, NamesProcesses, IsCallOfStranger, IsFaultOf, is_off, asks_exit, asks_off, asks_fork, forks_of, known_count, EachKnowing, MayFork, NoneAfterExit, IsCall, IsOrderly, SpellScript, IsFirstFault}
+use Rattle.ux_syntax.specs.Text.{plain_line}
+use Rattle.ux_syntax.specs.Spelling.{Written, open_path, read_fd, write_fd, seek, dup_fd, dup_onto, dup_above, get_flags, set_flags, close, unlink_path, socket, pair, bind, listen, connect, accept, shut, get_opt, set_opt, sock_name, peer_name, send, recv, poll, fork, exec, exit, meaning, Asked, call, wait, act_of, Turn, line_of, Plan, plan_of, objects_of, procs_of, header_line, turn_line, serial_lines, off_lines, is_meant, line_limit, AreShort, FitsHeader, FitsTurn, IsProcess, AwaitsProcess, NamesProcesses, IsCallOfStranger, IsFaultOf, is_off, asks_exit, asks_off, asks_fork, asks_recorded, MayAsk, forks_of, known_count, EachKnowing, MayFork, NoneAfterExit, IsCall, IsOrderly, SpellScript, IsFirstFault}
 use Rattle.ux_syntax.specs.Turns.{has_exited, is_known, awaits_known}
-use Rattle.ux_syntax.specs.Reading.{◌>>=◌, line_fault, words_at, item_at, with_header, with_line, with_off, with_serial, is_unsaid, may_fork, joined_by_fork, joined_by_other, joined_by, is_skipped, added, line_at, on_line, lines_at, no_lines}
+use Rattle.ux_syntax.specs.Reading.{◌>>=◌, line_fault, words_at, item_at, with_header, with_line, with_off, with_serial, is_unsaid, may_fork, joined_by_fork, is_barred, joined_by_allowed, joined_by_other, joined_by, is_skipped, added, line_at, on_line, lines_at, no_lines}
 use Rattle.ux_syntax.specs.Results.{FailsAt, Refuses, GivesScript}
 use Rattle.ux_syntax.proofs.Rows.{IsBadOrOk, bind_ok, ok_is, guard_ok}
 use Rattle.ux_syntax.proofs.Items.{words_bad, Says, item_takes, skip_again, header_again_line, turn_again_line, off_again_line, serial_again_line}
@@ -107,12 +108,24 @@ behind_true : (ls : List (List ℕ)) → behind_all true ls ≡ true
 behind_true [] = refl
 behind_true (l ∷ ls) = behind_true ls
 
-behind_some : (ls : List (List ℕ)) (x : List ℕ) (xs : List (List ℕ)) → filter is_meant ls ≡ x ∷ xs → behind_all false ls ≡ true
+-- the plain lines of those that say something
+abbrev meant_lines : List (List ℕ) → List (List ℕ)
+meant_lines ls = map plain_line (filter is_meant ls)
+
+behind_some : (ls : List (List ℕ)) (x : List ℕ) (xs : List (List ℕ)) → meant_lines ls ≡ x ∷ xs → behind_all false ls ≡ true
 behind_some [] x xs e = absurd cc
 behind_some (l ∷ ls) x xs e = go (is_meant l) (behind_some ls x xs) e
   where
-    go : (m : Bool) → (filter is_meant ls ≡ x ∷ xs → behind_all false ls ≡ true) → cond m (l ∷ filter is_meant ls) (filter is_meant ls) ≡ x ∷ xs → behind_all m ls ≡ true
+    go : (m : Bool) → (meant_lines ls ≡ x ∷ xs → behind_all false ls ≡ true) → map plain_line (cond m (l ∷ filter is_meant ls) (filter is_meant ls)) ≡ x ∷ xs → behind_all m ls ≡ true
     go true later k = behind_true ls
+    go false later k = later k
+
+behind_none : (ls : List (List ℕ)) → meant_lines ls ≡ [] → behind_all false ls ≡ false
+behind_none [] e = refl
+behind_none (l ∷ ls) e = go (is_meant l) (behind_none ls) e
+  where
+    go : (m : Bool) → (meant_lines ls ≡ [] → behind_all false ls ≡ false) → map plain_line (cond m (l ∷ filter is_meant ls) (filter is_meant ls)) ≡ [] → behind_all m ls ≡ false
+    go true later k = absurd cc
     go false later k = later k
 
 -- the common limit is the least
@@ -131,16 +144,16 @@ common_first true = refl
 common_first false = refl
 
 -- where no line says anything, all have the common limit
-short_as : (serial other : Bool) (ls : List (List ℕ)) → filter is_meant ls ≡ [] → AreShort serial false ls → AreShort other false ls
+short_as : (serial other : Bool) (ls : List (List ℕ)) → meant_lines ls ≡ [] → AreShort serial false ls → AreShort other false ls
 short_as serial other [] e h = tt
 short_as serial other (l ∷ ls) e h = (subst (λ n. length l ≤ n) (common_first serial ∙ sym (common_first other)) h.0, go (is_meant l) (short_as serial other ls) e h.1)
   where
-    go : (m : Bool) → (filter is_meant ls ≡ [] → AreShort serial false ls → AreShort other false ls) → cond m (l ∷ filter is_meant ls) (filter is_meant ls) ≡ [] → AreShort serial m ls → AreShort other m ls
+    go : (m : Bool) → (meant_lines ls ≡ [] → AreShort serial false ls → AreShort other false ls) → map plain_line (cond m (l ∷ filter is_meant ls) (filter is_meant ls)) ≡ [] → AreShort serial m ls → AreShort other m ls
     go true later k p = absurd cc
     go false later k p = later k p
 
 -- behind the lines of a script its own limit holds
-limit_is : (ls rest : List (List ℕ)) (serial : Bool) → filter is_meant ls ≡ serial_lines serial ++ rest → line_limit (serial && behind_all false ls) ≡ line_limit serial
+limit_is : (ls rest : List (List ℕ)) (serial : Bool) → meant_lines ls ≡ serial_lines serial ++ rest → line_limit (serial && behind_all false ls) ≡ line_limit serial
 limit_is ls rest true e = ap (λ (b : Bool). line_limit b) (behind_some ls (codes "serial") rest e)
 limit_is ls rest false e = refl
 
@@ -214,6 +227,23 @@ record MayJoin (s : Plan) (line : Line) : Type 0 where
   names : NamesProcesses (known_count s) line
   forks : MayFork s.serial (known_count s) line
   quiet : has_exited s.lines line.pid.0 ≡ false
+  asks : MayAsk s.serial line
+
+-- a fork stands in each script
+fork_asks : (serial : Bool) (act : Act) → asks_fork act ≡ true → asks_recorded act ≡ true → serial ≡ true
+fork_asks serial (Act.Call Request.Fork) e h = absurd cc
+fork_asks serial (Act.Call request) e h = absurd cc
+fork_asks serial (Act.Wait pid calls) e h = absurd cc
+
+-- a call that isn't barred may stand in the script, and the other way round
+not_barred : (serial recorded : Bool) → (not serial && recorded) ≡ false → recorded ≡ true → serial ≡ true
+not_barred true recorded h e = refl
+not_barred false recorded h e = absurd (both_ways recorded h e)
+
+barred_not : (serial recorded : Bool) → (recorded ≡ true → serial ≡ true) → (not serial && recorded) ≡ false
+barred_not true recorded h = refl
+barred_not false true h = absurd (both_ways false refl (h refl))
+barred_not false false h = refl
 
 -- a fork waits for no process
 fork_awaits : (count : ℕ) (act : Act) → asks_fork act ≡ true → AwaitsProcess count act
@@ -239,6 +269,7 @@ fork_known s line forks e =
       names = (there, fork_awaits (known_count s) line.act forks);
       forks = λ f. (λ several. eqb-true line.pid.0 1 (either_other s.serial (eqb line.pid.0 1) q.0 several), there, ltb-true (known_count s) made_limit q.1);
       quiet = not-true (has_exited s.lines line.pid.0) r.1;
+      asks = fork_asks s.serial line.act forks;
     }
 
 fork_may : (s : Plan) (line : Line) → asks_fork line.act ≡ true → MayJoin s line → may_fork s line.pid.0 ≡ true
@@ -251,11 +282,17 @@ fork_may s line forks may =
 
 -- ---- one line
 
-meant_more : (ls : List (List ℕ)) (l : List ℕ) → is_meant l ≡ true → filter is_meant (ls ++ l ∷ []) ≡ filter is_meant ls ++ l ∷ []
-meant_more ls l m = filter-append is_meant ls (l ∷ []) ∙ ap (λ (b : Bool). filter is_meant ls ++ cond b (l ∷ []) []) m
+one_more : (ls : List (List ℕ)) (l : List ℕ) → is_meant l ≡ true → filter is_meant (ls ++ l ∷ []) ≡ filter is_meant ls ++ l ∷ []
+one_more ls l m = filter-append is_meant ls (l ∷ []) ∙ ap (λ (b : Bool). filter is_meant ls ++ cond b (l ∷ []) []) m
 
-skipped_more : (ls : List (List ℕ)) (l : List ℕ) → is_meant l ≡ false → filter is_meant (ls ++ l ∷ []) ≡ filter is_meant ls
-skipped_more ls l m = filter-append is_meant ls (l ∷ []) ∙ ap (λ (b : Bool). filter is_meant ls ++ cond b (l ∷ []) []) m ∙ append-nil (filter is_meant ls)
+none_more : (ls : List (List ℕ)) (l : List ℕ) → is_meant l ≡ false → filter is_meant (ls ++ l ∷ []) ≡ filter is_meant ls
+none_more ls l m = filter-append is_meant ls (l ∷ []) ∙ ap (λ (b : Bool). filter is_meant ls ++ cond b (l ∷ []) []) m ∙ append-nil (filter is_meant ls)
+
+meant_more : (ls : List (List ℕ)) (l : List ℕ) → is_meant l ≡ true → meant_lines (ls ++ l ∷ []) ≡ meant_lines ls ++ plain_line l ∷ []
+meant_more ls l m = ap (map plain_line) (one_more ls l m) ∙ map-append plain_line (filter is_meant ls) (l ∷ [])
+
+skipped_more : (ls : List (List ℕ)) (l : List ℕ) → is_meant l ≡ false → meant_lines (ls ++ l ∷ []) ≡ meant_lines ls
+skipped_more ls l m = ap (map plain_line) (none_more ls l m)
 
 -- the lines of a header, of turns, and the one that ends the layer
 abbrev body_of : List Header → List Turn → Bool → List (List ℕ)
@@ -348,6 +385,10 @@ known_ok true false true x y e = (refl, refl, refl, ok_is x y e)
 known_ok true false false x y e = absurd cc
 known_ok false exited awaited x y e = absurd cc
 
+allowed_ok : {X : Type 0} (barred : Bool) (r : Result X Fault) (y : X) → cond barred (Err BadLine) r ≡ Ok y → (barred ≡ false) × (r ≡ Ok y)
+allowed_ok true r y e = absurd cc
+allowed_ok false r y e = (refl, e)
+
 -- a line that joined the script might stand there
 line_joined : (s : Plan) (line : Line) (t : Plan) → joined_by s (Item.Line line) ≡ Ok t → MayJoin s line × (with_line s line ≡ t)
 line_joined s line t e = go (asks_fork line.act) refl e
@@ -360,8 +401,14 @@ line_joined s line t e = go (asks_fork line.act) refl e
         let g = guard_ok (may_fork s line.pid.0) (with_line s line) t k in
         (fork_known s line forks g.0, g.1)
     go false other k =
-        let g = known_ok (is_known count line.pid.0) (has_exited s.lines line.pid.0) (awaits_known count line.act) (with_line s line) t k in (
-          record { names = (known_from count line.pid.0 g.0, awaits_from count line.act g.2); forks = λ f. absurd (both_ways (asks_fork line.act) other f); quiet = g.1 },
+        let a = allowed_ok (is_barred s.serial line.act) (joined_by_allowed s line) t k in
+        let g = known_ok (is_known count line.pid.0) (has_exited s.lines line.pid.0) (awaits_known count line.act) (with_line s line) t a.1 in (
+          record {
+            names = (known_from count line.pid.0 g.0, awaits_from count line.act g.2);
+            forks = λ f. absurd (both_ways (asks_fork line.act) other f);
+            quiet = g.1;
+            asks = not_barred s.serial (asks_recorded line.act) a.0;
+          },
           g.3,
         )
 
@@ -371,11 +418,11 @@ line_joins s line may = go (asks_fork line.act) refl
   where
     go : (b : Bool) → asks_fork line.act ≡ b → cond b (joined_by_fork s line) (joined_by_other s line) ≡ Ok (with_line s line)
     go true forks = rw (fork_may s line forks may) refl
-    go false other = rw (known_to (known_count s) line.pid.0 may.names.0, may.quiet, awaits_to (known_count s) line.act may.names.1) refl
+    go false other = rw (barred_not s.serial (asks_recorded line.act) may.asks, known_to (known_count s) line.pid.0 may.names.0, may.quiet, awaits_to (known_count s) line.act may.names.1) refl
 
 -- the lines with one more that says something
-meant_spelling : (ls : List (List ℕ)) (l line : List ℕ) (before after : List (List ℕ)) → is_meant l ≡ true → filter is_meant ls ≡ before → l ≡ line → after ≡ before ++ line ∷ [] → filter is_meant (ls ++ l ∷ []) ≡ after
-meant_spelling ls l line before after m h e k = meant_more ls l m ∙ ap (λ (xs : List (List ℕ)). xs ++ l ∷ []) h ∙ ap (λ (x : List ℕ). before ++ x ∷ []) e ∙ sym k
+meant_spelling : (ls : List (List ℕ)) (l line : List ℕ) (before after : List (List ℕ)) → is_meant l ≡ true → meant_lines ls ≡ before → plain_line l ≡ line → after ≡ before ++ line ∷ [] → meant_lines (ls ++ l ∷ []) ≡ after
+meant_spelling ls l line before after m h e k = meant_more ls l m ∙ ap (λ (xs : List (List ℕ)). xs ++ plain_line l ∷ []) h ∙ ap (λ (x : List ℕ). before ++ x ∷ []) e ∙ sym k
 
 abbrev is_short : Plan → List ℕ → Type 0
 is_short s text = length text ≤ line_limit s.serial
@@ -407,7 +454,7 @@ skip_takes ls s l h short says = record {
 header_takes : (ls : List (List ℕ)) (s : Plan) (l : List ℕ) (x : Header) → (h : SpellScript ls s) → s.lines ≡ [] → s.off ≡ false → is_short s l → Says (Item.Header x) l → SpellScript (ls ++ l ∷ []) (with_header s x)
 header_takes ls s l x h none no_off short says =
     let bare : h.turns ≡ [] = no_turns h.turns (h.meant ∙ none) in
-    let before : filter is_meant ls ≡ texts_of s.serial h.headers [] false = h.spelled ∙ ap (λ (ts : List Turn). texts_of s.serial h.headers ts s.off) bare ∙ ap (λ (b : Bool). texts_of s.serial h.headers [] b) no_off in
+    let before : meant_lines ls ≡ texts_of s.serial h.headers [] false = h.spelled ∙ ap (λ (ts : List Turn). texts_of s.serial h.headers ts s.off) bare ∙ ap (λ (b : Bool). texts_of s.serial h.headers [] b) no_off in
     let same : plan_from s.serial (h.headers ++ x ∷ []) ≡ with_header s x = header_more s.serial h.headers x ∙ ap (λ (t : Plan). with_header t x) (sym (plan_is s h.headers h.objects h.procs none no_off)) in
     let made : SpellScript (ls ++ l ∷ []) (plan_from s.serial (h.headers ++ x ∷ [])) = record {
       headers = h.headers ++ x ∷ [];
@@ -419,7 +466,7 @@ header_takes ls s l x h none no_off short says =
       meant = refl;
       fit_headers = each_more FitsHeader h.headers x h.fit_headers says.2;
       fit_turns = tt;
-      orderly = record { processes = tt; forks = tt; exits = tt; calls = tt };
+      orderly = record { processes = tt; forks = tt; exits = tt; calls = tt; recorded = tt };
     } in
     subst (λ (y : Plan). SpellScript (ls ++ l ∷ []) y) same made
 
@@ -431,6 +478,8 @@ is_no_end (write_fd fd bytes) = refl
 is_no_end (seek fd offset whence) = refl
 is_no_end (dup_fd fd) = refl
 is_no_end (dup_onto fd other) = refl
+is_no_end (dup_above fd minimum) = refl
+is_no_end (get_flags fd) = refl
 is_no_end (set_flags fd flags) = refl
 is_no_end (close fd) = refl
 is_no_end (unlink_path path) = refl
@@ -459,7 +508,7 @@ asked_no_end (wait pid calls) = refl
 turn_takes : (ls : List (List ℕ)) (s : Plan) (l : List ℕ) (line : Line) → (h : SpellScript ls s) → s.off ≡ false → MayJoin s line → is_short s l → Says (Item.Line line) l → SpellScript (ls ++ l ∷ []) (with_line s line)
 turn_takes ls s l line h no_off may short says =
     let w = says.1 in
-    let before : filter is_meant ls ≡ texts_of s.serial h.headers h.turns false = h.spelled ∙ ap (λ (b : Bool). texts_of s.serial h.headers h.turns b) no_off in
+    let before : meant_lines ls ≡ texts_of s.serial h.headers h.turns false = h.spelled ∙ ap (λ (b : Bool). texts_of s.serial h.headers h.turns b) no_off in
     record {
       headers = h.headers;
       turns = h.turns ++ w.0 ∷ [];
@@ -476,6 +525,7 @@ turn_takes ls s l line h no_off may short says =
         forks = known_more (MayFork s.serial) (length s.procs) s.lines line h.orderly.forks may.forks;
         exits = exits_more s.lines line h.orderly.exits may.quiet;
         calls = each_more IsCall s.lines line h.orderly.calls (ap (λ (x : Line). asks_off x.act) (sym w.1) ∙ asked_no_end w.0.asked);
+        recorded = each_more (MayAsk s.serial) s.lines line h.orderly.recorded may.asks;
       };
     }
 
@@ -491,7 +541,7 @@ off_takes ls s l h no_off short says = record {
   meant = h.meant;
   fit_headers = h.fit_headers;
   fit_turns = h.fit_turns;
-  orderly = record { processes = h.orderly.processes; forks = h.orderly.forks; exits = h.orderly.exits; calls = h.orderly.calls };
+  orderly = record { processes = h.orderly.processes; forks = h.orderly.forks; exits = h.orderly.exits; calls = h.orderly.calls; recorded = h.orderly.recorded };
 }
 
 -- the script in which no line has said anything
@@ -506,7 +556,7 @@ unsaid_is s e no_off =
     plan_is s [] (sym objects) (sym procs) lines no_off ∙ ap (λ (b : Bool). plan_from b []) (not-true s.serial p.0)
 
 -- no line of its spelling says anything
-unsaid_spelled : (ls : List (List ℕ)) → SpellScript ls (plan_from false []) → filter is_meant ls ≡ []
+unsaid_spelled : (ls : List (List ℕ)) → SpellScript ls (plan_from false []) → meant_lines ls ≡ []
 unsaid_spelled ls h =
     let hs = no_headers h.headers h.objects h.procs in
     let ts = no_turns h.turns h.meant in
@@ -525,7 +575,7 @@ first_takes ls l h short says =
       meant = refl;
       fit_headers = tt;
       fit_turns = tt;
-      orderly = record { processes = tt; forks = tt; exits = tt; calls = tt };
+      orderly = record { processes = tt; forks = tt; exits = tt; calls = tt; recorded = tt };
     }
 
 serial_takes : (ls : List (List ℕ)) (s : Plan) (l : List ℕ) → SpellScript ls s → is_unsaid s ≡ true → s.off ≡ false → is_short s l → Says Item.Serial l → SpellScript (ls ++ l ∷ []) (with_serial s)
@@ -588,20 +638,20 @@ with_lines t ls = record { serial = t.serial; objects = t.objects; procs = t.pro
 
 step_off : (ls : List (List ℕ)) (l : List ℕ) (t : Plan) → is_meant l ≡ true → (h : SpellScript (ls ++ l ∷ []) t) → t.off ≡ true → CanStep ls l t
 step_off ls l t m h on =
-    let ends = same_ends (filter is_meant ls) (texts_of t.serial h.headers h.turns false) l (codes "off")
+    let ends = same_ends (meant_lines ls) (texts_of t.serial h.headers h.turns false) (plain_line l) (codes "off")
     (sym (meant_more ls l m) ∙ h.spelled ∙ ap (λ (b : Bool). texts_of t.serial h.headers h.turns b) on ∙ off_spelling t.serial h.headers h.turns) in
     let short = short_off ls l t h in
     let before : Plan = with_lines t t.lines in
     let whole : with_off before ≡ t = rw (← on) refl in (
       before,
-      record { headers = h.headers; turns = h.turns; short = short.0; spelled = ends.0; objects = h.objects; procs = h.procs; meant = h.meant; fit_headers = h.fit_headers; fit_turns = h.fit_turns; orderly = record { processes = h.orderly.processes; forks = h.orderly.forks; exits = h.orderly.exits; calls = h.orderly.calls } },
+      record { headers = h.headers; turns = h.turns; short = short.0; spelled = ends.0; objects = h.objects; procs = h.procs; meant = h.meant; fit_headers = h.fit_headers; fit_turns = h.fit_turns; orderly = record { processes = h.orderly.processes; forks = h.orderly.forks; exits = h.orderly.exits; calls = h.orderly.calls; recorded = h.orderly.recorded } },
       line_from before l Item.Off t (off_again_line (line_limit t.serial) l short.1 m ends.1) (ap (λ (y : Plan). Ok y) whole),
     )
 
 step_turn : (ls : List (List ℕ)) (l : List ℕ) (t : Plan) (ts : List Turn) (u : Turn) → is_meant l ≡ true → (h : SpellScript (ls ++ l ∷ []) t) → t.off ≡ false → h.turns ≡ ts ++ u ∷ [] → CanStep ls l t
 step_turn ls l t ts u m h no_off same =
     let lines : t.lines ≡ map line_of ts ++ line_of u ∷ [] = sym h.meant ∙ ap (λ (vs : List Turn). map line_of vs) same ∙ turns_meant ts u in
-    let ends = same_ends (filter is_meant ls) (texts_of t.serial h.headers ts false) l (turn_line u)
+    let ends = same_ends (meant_lines ls) (texts_of t.serial h.headers ts false) (plain_line l) (turn_line u)
     (sym (meant_more ls l m) ∙ h.spelled ∙ ap (λ (vs : List Turn). texts_of t.serial h.headers vs t.off) same ∙ ap (λ (b : Bool). texts_of t.serial h.headers (ts ++ u ∷ []) b) no_off ∙ turn_spelling t.serial h.headers ts u) in
     let short = short_off ls l t h in
     let fits = each_less FitsTurn ts u (subst (λ (vs : List Turn). AllByRecursion FitsTurn vs) same h.fit_turns) in
@@ -610,45 +660,47 @@ step_turn ls l t ts u m h no_off same =
     let forks = known_less (MayFork t.serial) count (map line_of ts) (line_of u) (subst (λ (vs : List Line). EachKnowing (MayFork t.serial) count vs) lines h.orderly.forks) in
     let exits = exits_less (map line_of ts) (line_of u) (subst NoneAfterExit lines h.orderly.exits) in
     let calls = each_less IsCall (map line_of ts) (line_of u) (subst (λ (vs : List Line). AllByRecursion IsCall vs) lines h.orderly.calls) in
+    let recorded = each_less (MayAsk t.serial) (map line_of ts) (line_of u) (subst (λ (vs : List Line). AllByRecursion (MayAsk t.serial) vs) lines h.orderly.recorded) in
     let before : Plan = with_lines t (map line_of ts) in
-    let adds : joined_by before (Item.Line (line_of u)) ≡ Ok (with_lines t (map line_of ts ++ line_of u ∷ [])) = line_joins before (line_of u) (record { names = processes.1; forks = forks.1; quiet = exits.1 }) in
+    let adds : joined_by before (Item.Line (line_of u)) ≡ Ok (with_lines t (map line_of ts ++ line_of u ∷ [])) = line_joins before (line_of u) (record { names = processes.1; forks = forks.1; quiet = exits.1; asks = recorded.1 }) in
     let whole : with_lines t (map line_of ts ++ line_of u ∷ []) ≡ t = ap (λ (vs : List Line). with_lines t vs) (sym lines) ∙ rw (← no_off) refl in (
       before,
-      record { headers = h.headers; turns = ts; short = short.0; spelled = ends.0; objects = h.objects; procs = h.procs; meant = refl; fit_headers = h.fit_headers; fit_turns = fits.0; orderly = record { processes = processes.0; forks = forks.0; exits = exits.0; calls = calls.0 } },
+      record { headers = h.headers; turns = ts; short = short.0; spelled = ends.0; objects = h.objects; procs = h.procs; meant = refl; fit_headers = h.fit_headers; fit_turns = fits.0; orderly = record { processes = processes.0; forks = forks.0; exits = exits.0; calls = calls.0; recorded = recorded.0 } },
       line_from before l (Item.Line (line_of u)) t (turn_again_line u (line_limit t.serial) l short.1 m ends.1 fits.1) (adds ∙ ap (λ (y : Plan). Ok y) whole),
     )
 
 step_header : (ls : List (List ℕ)) (l : List ℕ) (t : Plan) (hs : List Header) (x : Header) → is_meant l ≡ true → (h : SpellScript (ls ++ l ∷ []) t) → t.off ≡ false → h.turns ≡ [] → h.headers ≡ hs ++ x ∷ [] → CanStep ls l t
 step_header ls l t hs x m h no_off none same =
     let lines : t.lines ≡ [] = sym h.meant ∙ ap (λ (vs : List Turn). map line_of vs) none in
-    let ends = same_ends (filter is_meant ls) (texts_of t.serial hs [] false) l (header_line x)
+    let ends = same_ends (meant_lines ls) (texts_of t.serial hs [] false) (plain_line l) (header_line x)
     (sym (meant_more ls l m) ∙ h.spelled ∙ ap (λ (vs : List Turn). texts_of t.serial h.headers vs t.off) none ∙ ap (λ (b : Bool). texts_of t.serial h.headers [] b) no_off ∙ ap (λ (ys : List Header). texts_of t.serial ys [] false) same ∙ header_spelling t.serial hs x) in
     let short = short_off ls l t h in
     let fits = each_less FitsHeader hs x (subst (λ (ys : List Header). AllByRecursion FitsHeader ys) same h.fit_headers) in
     let before : Plan = plan_from t.serial hs in
     let whole : with_header before x ≡ t = sym (header_more t.serial hs x) ∙ ap (λ (ys : List Header). plan_from t.serial ys) (sym same) ∙ sym (plan_is t h.headers h.objects h.procs lines no_off) in (
       before,
-      record { headers = hs; turns = []; short = short.0; spelled = ends.0; objects = refl; procs = refl; meant = refl; fit_headers = fits.0; fit_turns = tt; orderly = record { processes = tt; forks = tt; exits = tt; calls = tt } },
+      record { headers = hs; turns = []; short = short.0; spelled = ends.0; objects = refl; procs = refl; meant = refl; fit_headers = fits.0; fit_turns = tt; orderly = record { processes = tt; forks = tt; exits = tt; calls = tt; recorded = tt } },
       line_from before l (Item.Header x) t (header_again_line x (line_limit t.serial) l short.1 m ends.1 fits.1) (ap (λ (y : Plan). Ok y) whole),
     )
 
 -- the one line that says something, where there are no headers and turns
-alone_spelled : (ls : List (List ℕ)) (l : List ℕ) (t : Plan) → is_meant l ≡ true → (h : SpellScript (ls ++ l ∷ []) t) → t.off ≡ false → h.turns ≡ [] → h.headers ≡ [] → filter is_meant ls ++ l ∷ [] ≡ texts_of t.serial [] [] false
+alone_spelled : (ls : List (List ℕ)) (l : List ℕ) (t : Plan) → is_meant l ≡ true → (h : SpellScript (ls ++ l ∷ []) t) → t.off ≡ false → h.turns ≡ [] → h.headers ≡ [] → meant_lines ls ++ plain_line l ∷ [] ≡ texts_of t.serial [] [] false
 alone_spelled ls l t m h no_off none empty =
     sym (meant_more ls l m) ∙ h.spelled ∙ ap (λ (vs : List Turn). texts_of t.serial h.headers vs t.off) none ∙ ap (λ (b : Bool). texts_of t.serial h.headers [] b) no_off ∙ ap (λ (ys : List Header). texts_of t.serial ys [] false) empty
 
 step_none : (ls : List (List ℕ)) (l : List ℕ) (t : Plan) → is_meant l ≡ true → (h : SpellScript (ls ++ l ∷ []) t) → t.serial ≡ false → t.off ≡ false → h.turns ≡ [] → h.headers ≡ [] → ⊥
 step_none ls l t m h several no_off none empty =
-    no_end (filter is_meant ls) l (alone_spelled ls l t m h no_off none empty ∙ ap (λ (b : Bool). texts_of b [] [] false) several)
+    no_end (meant_lines ls) (plain_line l) (alone_spelled ls l t m h no_off none empty ∙ ap (λ (b : Bool). texts_of b [] [] false) several)
 
 step_serial : (ls : List (List ℕ)) (l : List ℕ) (t : Plan) → is_meant l ≡ true → (h : SpellScript (ls ++ l ∷ []) t) → t.serial ≡ true → t.off ≡ false → h.turns ≡ [] → h.headers ≡ [] → CanStep ls l t
 step_serial ls l t m h one no_off none empty =
-    let ends = same_ends (filter is_meant ls) [] l (codes "serial") (alone_spelled ls l t m h no_off none empty ∙ ap (λ (b : Bool). texts_of b [] [] false) one) in
+    let ends = same_ends (meant_lines ls) [] (plain_line l) (codes "serial") (alone_spelled ls l t m h no_off none empty ∙ ap (λ (b : Bool). texts_of b [] [] false) one) in
     let lines : t.lines ≡ [] = sym h.meant ∙ ap (λ (vs : List Turn). map line_of vs) none in
     let whole : plan_from true [] ≡ t = sym (plan_is t h.headers h.objects h.procs lines no_off ∙ ap (λ (ys : List Header). plan_from t.serial ys) empty ∙ ap (λ (b : Bool). plan_from b []) one) in
-    let short : length l ≤ 4096 = subst (λ (x : List ℕ). length x ≤ 4096) (sym ends.1) (leb-true 6 4096 refl) in (
+    let limit : line_limit (t.serial && behind_all false ls) ≡ 4096 = ap (λ (b : Bool). line_limit (t.serial && b)) (behind_none ls ends.0) ∙ common_first t.serial in
+    let short : length l ≤ 4096 = subst (λ n. length l ≤ n) limit (short_less t.serial false ls l h.short).1 in (
       plan_from false [],
-      record { headers = []; turns = []; short = short_as t.serial false ls ends.0 (short_off ls l t h).0; spelled = ends.0; objects = refl; procs = refl; meant = refl; fit_headers = tt; fit_turns = tt; orderly = record { processes = tt; forks = tt; exits = tt; calls = tt } },
+      record { headers = []; turns = []; short = short_as t.serial false ls ends.0 (short_off ls l t h).0; spelled = ends.0; objects = refl; procs = refl; meant = refl; fit_headers = tt; fit_turns = tt; orderly = record { processes = tt; forks = tt; exits = tt; calls = tt; recorded = tt } },
       line_from (plan_from false []) l Item.Serial t (serial_again_line 4096 l short m ends.1) (ap (λ (y : Plan). Ok y) whole),
     )
 
@@ -681,7 +733,7 @@ line_again ls l t h = step_chosen ls l t (is_meant l) refl h
 -- ---- all lines
 
 pub none_spelled : SpellScript [] no_lines
-none_spelled = record { headers = []; turns = []; short = tt; spelled = refl; objects = refl; procs = refl; meant = refl; fit_headers = tt; fit_turns = tt; orderly = record { processes = tt; forks = tt; exits = tt; calls = tt } }
+none_spelled = record { headers = []; turns = []; short = tt; spelled = refl; objects = refl; procs = refl; meant = refl; fit_headers = tt; fit_turns = tt; orderly = record { processes = tt; forks = tt; exits = tt; calls = tt; recorded = tt } }
 
 on_ok : (n : ℕ) (go : Plan → Result Plan ScriptFault) (r : Result Plan Fault) (t : Plan) → on_line n go r ≡ Ok t → (s : Plan) × (r ≡ Ok s) × (go s ≡ Ok t)
 on_ok n go (Ok s) t e = (s, refl, e)
@@ -761,10 +813,10 @@ IsUnread limit l TooLong = limit < length l
 IsUnread limit l BadLine = length l ≤ limit
 IsUnread limit l UnknownProcess = ⊥
 
-unread_by : (limit : ℕ) (l : List ℕ) (f : Fault) (t u : Bool) → ltb limit (length l) ≡ t → cond t (Err TooLong) (cond u (words_at (slice_split (λ b. eqb b 32) l)) (Ok Item.Skipped)) ≡ Err f → IsUnread limit l f
+unread_by : (limit : ℕ) (l : List ℕ) (f : Fault) (t u : Bool) → ltb limit (length l) ≡ t → cond t (Err TooLong) (cond u (words_at (slice_split (λ b. eqb b 32) (plain_line l))) (Ok Item.Skipped)) ≡ Err f → IsUnread limit l f
 unread_by limit l f true u m e = subst (IsUnread limit l) (err_is {X = Item} TooLong f e) (ltb-true limit (length l) m)
 unread_by limit l f false true m e =
-    let bad : f ≡ BadLine = subst IsBadOrOk e (words_bad (slice_split (λ b. eqb b 32) l)) in
+    let bad : f ≡ BadLine = subst IsBadOrOk e (words_bad (slice_split (λ b. eqb b 32) (plain_line l))) in
     subst (IsUnread limit l) (sym bad) (ltb-false limit (length l) m)
 unread_by limit l f false false m e = absurd (ok_no_fault Item.Skipped f e)
 
@@ -791,6 +843,9 @@ serial_why s l f y false short m k e =
 may_stand : (s : Plan) (line : Line) (t : Turn) → IsOrderly s → line_of t ≡ line → has_exited s.lines line.pid.0 ≡ false → NoneAfterExit (s.lines ++ line_of t ∷ [])
 may_stand s line t orderly same quiet = exits_more s.lines (line_of t) orderly.exits (ap (λ (y : Line). has_exited s.lines y.pid.0) same ∙ quiet)
 
+may_ask : (serial : Bool) (line other : Line) → other ≡ line → MayAsk serial line → MayAsk serial other
+may_ask serial line other same asks h = asks (ap (λ (y : Line). asks_recorded y.act) (sym same) ∙ h)
+
 -- a fork line is none that names a stranger
 fork_why : (s : Plan) (l : List ℕ) (line : Line) (f : Fault) (x : Plan) (may : Bool) → asks_fork line.act ≡ true → is_short s l → Says (Item.Line line) l → item_at (line_limit s.serial) l ≡ Ok (Item.Line line) → cond may (Ok x) (Err BadLine) ≡ Err f → IsFaultOf f s l
 fork_why s l line f x true forks short says k e = absurd (ok_no_fault x f e)
@@ -802,31 +857,43 @@ fork_why s l line f x false forks short says k e =
           both_ways (asks_fork line.act) (ap (λ (y : Line). asks_fork y.act) same ∙ w.4) forks,
     )
 
-turn_why : (s : Plan) (l : List ℕ) (line : Line) (f : Fault) (x : Plan) (known exited awaited : Bool) → IsOrderly s → s.off ≡ false → asks_fork line.act ≡ false → is_known (known_count s) line.pid.0 ≡ known → has_exited s.lines line.pid.0 ≡ exited → awaits_known (known_count s) line.act ≡ awaited
+turn_why : (s : Plan) (l : List ℕ) (line : Line) (f : Fault) (x : Plan) (known exited awaited : Bool) → IsOrderly s → s.off ≡ false → asks_fork line.act ≡ false → MayAsk s.serial line → is_known (known_count s) line.pid.0 ≡ known → has_exited s.lines line.pid.0 ≡ exited → awaits_known (known_count s) line.act ≡ awaited
     → is_short s l → Says (Item.Line line) l → item_at (line_limit s.serial) l ≡ Ok (Item.Line line)
     → cond known (cond exited (Err BadLine) (cond awaited (Ok x) (Err UnknownProcess))) (Err UnknownProcess) ≡ Err f → IsFaultOf f s l
-turn_why s l line f x true true awaited orderly no_off other known exited there short says k e =
+turn_why s l line f x true true awaited orderly no_off other asks known exited there short says k e =
     subst (λ g. IsFaultOf g s l) (err_is {X = Plan} BadLine f e) (
       short,
       λ w.
           let same : line ≡ line_of w.0 = same_line line (line_of w.0) (sym k ∙ stranger_reads s l w short says.0) in
           both_ways (has_exited s.lines line.pid.0) (ap (λ (y : Line). has_exited s.lines y.pid.0) same ∙ (exits_less s.lines (line_of w.0) w.5).1) exited,
     )
-turn_why s l line f x true false true orderly no_off other known exited there short says k e = absurd (ok_no_fault x f e)
-turn_why s l line f x true false false orderly no_off other known exited there short says k e =
+turn_why s l line f x true false true orderly no_off other asks known exited there short says k e = absurd (ok_no_fault x f e)
+turn_why s l line f x true false false orderly no_off other asks known exited there short says k e =
     let w = says.1 in
     subst (λ g. IsFaultOf g s l) (err_is {X = Plan} UnknownProcess f e)
-    (short, (w.0, w.2, w.3, no_off, ap (λ (y : Line). asks_fork y.act) w.1 ∙ other, may_stand s line w.0 orderly w.1 exited, λ o. both_ways (awaits_known (known_count s) line.act) there (awaits_to (known_count s) line.act (subst (NamesProcesses (known_count s)) w.1 o).1)))
-turn_why s l line f x false exited awaited orderly no_off other known gone there short says k e =
+    (short, (w.0, w.2, w.3, no_off, ap (λ (y : Line). asks_fork y.act) w.1 ∙ other, may_stand s line w.0 orderly w.1 exited, may_ask s.serial line (line_of w.0) w.1 asks, λ o. both_ways (awaits_known (known_count s) line.act) there (awaits_to (known_count s) line.act (subst (NamesProcesses (known_count s)) w.1 o).1)))
+turn_why s l line f x false exited awaited orderly no_off other asks known gone there short says k e =
     let w = says.1 in
     let quiet = unknown_quiet (length s.procs) s.lines line.pid.0 orderly.processes known in
     subst (λ g. IsFaultOf g s l) (err_is {X = Plan} UnknownProcess f e)
-    (short, (w.0, w.2, w.3, no_off, ap (λ (y : Line). asks_fork y.act) w.1 ∙ other, may_stand s line w.0 orderly w.1 quiet, λ o. both_ways (is_known (known_count s) line.pid.0) known (known_to (known_count s) line.pid.0 (subst (NamesProcesses (known_count s)) w.1 o).0)))
+    (short, (w.0, w.2, w.3, no_off, ap (λ (y : Line). asks_fork y.act) w.1 ∙ other, may_stand s line w.0 orderly w.1 quiet, may_ask s.serial line (line_of w.0) w.1 asks, λ o. both_ways (is_known (known_count s) line.pid.0) known (known_to (known_count s) line.pid.0 (subst (NamesProcesses (known_count s)) w.1 o).0)))
+
+-- nor is one whose call doesn't stand in the script
+other_why : (s : Plan) (l : List ℕ) (line : Line) (f : Fault) (barred : Bool) → IsOrderly s → s.off ≡ false → asks_fork line.act ≡ false → is_barred s.serial line.act ≡ barred
+    → is_short s l → Says (Item.Line line) l → item_at (line_limit s.serial) l ≡ Ok (Item.Line line) → cond barred (Err BadLine) (joined_by_allowed s line) ≡ Err f → IsFaultOf f s l
+other_why s l line f true orderly no_off other barred short says k e =
+    subst (λ g. IsFaultOf g s l) (err_is {X = Plan} BadLine f e) (
+      short,
+      λ w.
+          let same : line ≡ line_of w.0 = same_line line (line_of w.0) (sym k ∙ stranger_reads s l w short says.0) in
+          both_ways (is_barred s.serial line.act) (barred_not s.serial (asks_recorded line.act) (may_ask s.serial (line_of w.0) line same w.6)) barred,
+    )
+other_why s l line f false orderly no_off other allowed short says k e = turn_why s l line f _ (is_known (known_count s) line.pid.0) (has_exited s.lines line.pid.0) (awaits_known (known_count s) line.act) orderly no_off other (not_barred s.serial (asks_recorded line.act) allowed) refl refl refl short says k e
 
 line_why : (s : Plan) (l : List ℕ) (line : Line) (f : Fault) (forks : Bool) → IsOrderly s → s.off ≡ false → asks_fork line.act ≡ forks → is_short s l → Says (Item.Line line) l → item_at (line_limit s.serial) l ≡ Ok (Item.Line line)
     → cond forks (joined_by_fork s line) (joined_by_other s line) ≡ Err f → IsFaultOf f s l
 line_why s l line f true orderly no_off forks short says k e = fork_why s l line f _ (may_fork s line.pid.0) forks short says k e
-line_why s l line f false orderly no_off other short says k e = turn_why s l line f _ (is_known (known_count s) line.pid.0) (has_exited s.lines line.pid.0) (awaits_known (known_count s) line.act) orderly no_off other refl refl refl short says k e
+line_why s l line f false orderly no_off other short says k e = other_why s l line f (is_barred s.serial line.act) orderly no_off other refl short says k e
 
 joined_why : (s : Plan) (l : List ℕ) (item : Item) (f : Fault) → IsOrderly s → s.off ≡ false → is_short s l → Says item l → item_at (line_limit s.serial) l ≡ Ok item → joined_by s item ≡ Err f → IsFaultOf f s l
 joined_why s l Item.Skipped f orderly no_off short says k e = absurd (ok_no_fault s f e)

@@ -1,5 +1,4 @@
 -- The text of processes that wait, as far as a loop has come.
-use Rattle.std.specs.Prelude.{decimal}
 use Rattle.std.proofs.Common.{◌≡◌, ℕ, ◌+◌, ◌<◌, get_or, take, codes, List, [], ◌++◌, length}
 use Rattle.std.proofs.lemmas.List.{take_more, flat_map_more}
 use Rattle.ux_model.specs.Types.{Pid}

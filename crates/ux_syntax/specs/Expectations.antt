@@ -8,6 +8,7 @@ use Rattle.ux_syntax.specs.declared.fault.Fault.{Fault}
 use Rattle.ux_syntax.specs.declared.fault.ScriptFault.{ScriptFault}
 use Rattle.ux_syntax.specs.declared.reading.Item.{Item}
 use Rattle.ux_syntax.specs.Spelling.{line_limit}
+use Rattle.ux_syntax.specs.Text.{plain_line}
 use Rattle.ux_syntax.specs.Turns.{is_call}
 use Rattle.ux_syntax.specs.Reading.{item_at}
 
@@ -24,12 +25,16 @@ is_call_item (Err fault) = false
 unfoldable pub asks_call : List ℕ → Bool
 asks_call text = is_call_item (item_at (line_limit true) text)
 
--- what a comment line expects: the bytes behind `#= `, where there is one at least
+-- the bytes behind `#= `, where there is one at least
+abbrev pub behind_mark : List ℕ → Option (List ℕ)
+behind_mark [] = None
+behind_mark (a ∷ []) = None
+behind_mark (a ∷ b ∷ []) = None
+behind_mark (a ∷ b ∷ c ∷ reply) = if a == 35 && b == 61 && c == 32 && nat_lt 0 (length reply) then Some reply else None
+
+-- what a comment line expects, in plain words
 abbrev pub expected_in : List ℕ → Option (List ℕ)
-expected_in [] = None
-expected_in (a ∷ []) = None
-expected_in (a ∷ b ∷ []) = None
-expected_in (a ∷ b ∷ c ∷ reply) = if a == 35 && b == 61 && c == 32 && nat_lt 0 (length reply) then Some reply else None
+expected_in text = behind_mark (plain_line text)
 
 abbrev pub expecting : ℕ → Option (List ℕ) → List Expectation
 expecting n None = []

@@ -1,6 +1,8 @@
 -- In the order in which they are read.
 pub mod WaitingPlaces
 pub mod Lines
+pub mod Digits
+pub mod Text
 pub mod Spelling
 pub mod Turns
 pub mod Reading
@@ -8,3 +10,4 @@ pub mod Forms
 pub mod Results
 pub mod Continuing
 pub mod Expectations
+pub mod PlainLines

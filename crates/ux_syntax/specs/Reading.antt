@@ -1,11 +1,11 @@
 -- Reading from left to right: a script, or the first line that is at fault.
-use Rattle.std.specs.Prelude.{ℕ, zero, suc, ◌+◌, ◌-◌, ◌*◌, ◌^◌, ℤ, pos, negsuc, Bool, true, false, List, [], ◌∷◌, ◌++◌, length, map, codes}
-use Rattle.std.specs.Prelude.{Option, Some, None, Result, Ok, Err, nat_lt, nat_le, bit_or, ◌==◌, ◌&&◌, ◌||◌, if◌then◌else◌, not}
+use Rattle.std.specs.Prelude.{ℕ, zero, suc, ◌+◌, ◌*◌, ◌^◌, ℤ, pos, negsuc, Bool, true, false, List, [], ◌∷◌, ◌++◌, length, map, codes}
+use Rattle.std.specs.Prelude.{Option, Some, None, Result, Ok, Err, nat_lt, bit_or, ◌==◌, ◌&&◌, ◌||◌, if◌then◌else◌, not}
 use Rattle.std.specs.List.{slice_split, find, list_all}
 use Rattle.std.specs.Option.{option_map}
 use Rattle.std.specs.Str.{bytes_eq}
 use Rattle.std.specs.Char.{is_ascii_digit}
-use Rattle.std.specs.Str.Parse.{digits_value, signed_digits_value}
+use Rattle.std.specs.Str.Parse.{signed_digits_value}
 use Rattle.ux_model.specs.Limits.{made_limit}
 use Rattle.ux_model.specs.Types.{Cred, Name, Addr, OpenFlags, MsgFlags, SockType, SockOpt, Mode, Whence, ProcSpec, Request}
 use Rattle.ux_object.specs.declared.ObjKind.{ObjKind}
@@ -21,30 +21,16 @@ use Rattle.ux_syntax.specs.declared.script.Act.{Act}
 use Rattle.ux_syntax.specs.Lines.{Line}
 use Rattle.ux_syntax.specs.declared.reading.Item.{Item}
 use Rattle.ux_trace.specs.Trace.{dash, stands, word_text}
-use Rattle.ux_syntax.specs.Spelling.{Plan, open_path, read_fd, write_fd, seek, dup_fd, dup_onto, set_flags, close, unlink_path, socket}
+pub use Rattle.ux_syntax.specs.Digits.{◌>>=◌, is_plain, digit_at}
+unfoldable pub use Rattle.ux_syntax.specs.Digits.{number_at}
+use Rattle.ux_syntax.specs.Text.{plain_line}
+use Rattle.ux_syntax.specs.Spelling.{Plan, open_path, read_fd, write_fd, seek, dup_fd, dup_onto, dup_above, get_flags, set_flags, close, unlink_path, socket}
 use Rattle.ux_syntax.specs.Spelling.{pair, bind, listen, connect, accept, shut, get_opt, set_opt, sock_name, peer_name, send, recv, poll}
 use Rattle.ux_syntax.specs.Spelling.{fork, exec, exit, meaning, bit, mode_text, type_text, option_text, whence_text, kind_text, is_meant}
-use Rattle.ux_syntax.specs.Spelling.{asks_fork, known_count, line_limit}
+use Rattle.ux_syntax.specs.Spelling.{asks_fork, asks_recorded, known_count, line_limit}
 use Rattle.ux_syntax.specs.Turns.{has_exited, is_known, awaits_known}
 
-infixl 10 ◌>>=◌
-abbrev pub ◌>>=◌ : {A B : Type 0} → Result A Fault → (A → Result B Fault) → Result B Fault
-(Ok x) >>= f = f x
-(Err e) >>= f = Err e
-
 -- ---- a word
-
--- digits that don't begin with a 0, or one digit
-abbrev pub is_plain : List ℕ → Bool
-is_plain [] = false
-is_plain (c ∷ []) = true
-is_plain (c ∷ d ∷ ds) = not (c == 48)
-
-unfoldable pub number_at : List ℕ → Result ℕ Fault
-number_at w = if is_plain w && list_all is_ascii_digit w && nat_lt (digits_value 10 w) (2 ^ 32) then Ok (digits_value 10 w) else Err BadLine
-
-abbrev pub digit_at : ℕ → Result ℕ Fault
-digit_at c = if nat_le 48 c && nat_le c 57 then Ok (c - 48) else if nat_le 97 c && nat_le c 102 then Ok (c - 97 + 10) else Err BadLine
 
 abbrev pub pairs_at : List ℕ → Result (List ℕ) Fault
 pairs_at [] = Ok []
@@ -285,6 +271,12 @@ dup_at ws = (number_at >> ends) ws >>= λ x. Ok (meaning (dup_fd x.0))
 unfoldable pub dup2_at : List (List ℕ) → Result Request Fault
 dup2_at ws = (number_at >> number_at >> ends) ws >>= λ x. Ok (meaning (dup_onto x.0 x.1.0))
 
+unfoldable pub dup_from_at : List (List ℕ) → Result Request Fault
+dup_from_at ws = (number_at >> number_at >> ends) ws >>= λ x. Ok (meaning (dup_above x.0 x.1.0))
+
+unfoldable pub get_flags_at : List (List ℕ) → Result Request Fault
+get_flags_at ws = (number_at >> ends) ws >>= λ x. Ok (meaning (get_flags x.0))
+
 unfoldable pub set_flags_at : List (List ℕ) → Result Request Fault
 set_flags_at ws = (number_at >> open_flags_at >> ends) ws >>= λ x. Ok (meaning (set_flags x.0 x.1.0))
 
@@ -350,7 +342,8 @@ exit_at ws = ends ws >>= λ x. Ok (meaning exit)
 -- the words of calls: `off` is none
 abbrev pub all_words : List CallWord
 all_words =
-    CallWord.Open ∷ CallWord.Read ∷ CallWord.Write ∷ CallWord.Lseek ∷ CallWord.Dup ∷ CallWord.Dup2 ∷ CallWord.Flags ∷ CallWord.Close
+    CallWord.Open ∷ CallWord.Read ∷ CallWord.Write ∷ CallWord.Lseek ∷ CallWord.Dup ∷ CallWord.Dup2 ∷ CallWord.DupFrom ∷ CallWord.GetFlags
+    ∷ CallWord.Flags ∷ CallWord.Close
     ∷ CallWord.Unlink ∷ CallWord.Socket ∷ CallWord.Pair ∷ CallWord.Bind ∷ CallWord.Listen ∷ CallWord.Connect ∷ CallWord.Accept
     ∷ CallWord.Shut ∷ CallWord.GetOpt ∷ CallWord.SetOpt ∷ CallWord.SockName ∷ CallWord.PeerName ∷ CallWord.Send ∷ CallWord.Recv
     ∷ CallWord.Poll ∷ CallWord.Fork ∷ CallWord.Exec ∷ CallWord.Exit ∷ []
@@ -365,6 +358,8 @@ args_at CallWord.Write ws = write_at ws
 args_at CallWord.Lseek ws = lseek_at ws
 args_at CallWord.Dup ws = dup_at ws
 args_at CallWord.Dup2 ws = dup2_at ws
+args_at CallWord.DupFrom ws = dup_from_at ws
+args_at CallWord.GetFlags ws = get_flags_at ws
 args_at CallWord.Flags ws = set_flags_at ws
 args_at CallWord.Close ws = close_at ws
 args_at CallWord.Unlink ws = unlink_at ws
@@ -445,11 +440,11 @@ words_at (w ∷ ws) =
     else if bytes_eq w (codes "serial") then (ends ws >>= λ x. Ok Item.Serial)
     else (number_at w >>= λ pid. turn_at pid ws)
 
--- what a line says that may have so many bytes
+-- what a line says that may have so many bytes, as it is written; the words are those of its plain line
 unfoldable pub item_at : ℕ → List ℕ → Result Item Fault
 item_at limit text =
     if nat_lt limit (length text) then Err TooLong else
-    if is_meant text then words_at (slice_split (λ b. b == 32) text) else Ok Item.Skipped
+    if is_meant text then words_at (slice_split (λ b. b == 32) (plain_line text)) else Ok Item.Skipped
 
 abbrev pub with_header : Plan → Header → Plan
 with_header s (Header.Object o) =
@@ -485,9 +480,17 @@ may_fork s pid = ((s.serial || pid == 1) && nat_lt (known_count s) made_limit) &
 abbrev pub joined_by_fork : Plan → Line → Result Plan Fault
 joined_by_fork s line = if may_fork s line.pid.0 then Ok (with_line s line) else Err BadLine
 
+-- the call doesn't stand in a script of several orders
+abbrev pub is_barred : Bool → Act → Bool
+is_barred serial act = not serial && asks_recorded act
+
+-- the script with one line more whose call may stand there
+abbrev pub joined_by_allowed : Plan → Line → Result Plan Fault
+joined_by_allowed s line = if is_known (known_count s) line.pid.0 then joined_by_line s line else Err UnknownProcess
+
 -- the script with one line more that is no fork
 abbrev pub joined_by_other : Plan → Line → Result Plan Fault
-joined_by_other s line = if is_known (known_count s) line.pid.0 then joined_by_line s line else Err UnknownProcess
+joined_by_other s line = if is_barred s.serial line.act then Err BadLine else joined_by_allowed s line
 
 -- The script with one item more where `off` was not said. A process that isn't there has no lines, so it has made no exit.
 abbrev pub joined_by : Plan → Item → Result Plan Fault

@@ -42,6 +42,11 @@ abbrev pub GivesScript : Result Script ScriptFault → Result Plan ScriptFault �
 GivesScript (Ok s) read = read ≡ Ok (plan_of s)
 GivesScript (Err f) read = FailsAt f read
 
+-- what was read so far and one line more is what reading gives, or the line's fault is, unless memory ran out
+abbrev pub ReadsOn : Result (Unit {0}) ScriptFault → Plan → Result Plan ScriptFault → Type 0
+ReadsOn (Ok x) new read = read ≡ Ok new
+ReadsOn (Err f) new read = FailsAt f read
+
 -- a fault names the first line at fault and says why, unless memory ran out
 abbrev pub Refuses : List (List ℕ) → ScriptFault → Type 0
 Refuses texts (ScriptFault.BadLine n) = IsFirstFault texts n Fault.BadLine

@@ -5,7 +5,6 @@ use Rattle.std.specs.Prelude.{slice_index_or}
 use Rattle.std.specs.List.{AllByRecursion, slice_split, join_with_byte}
 use Rattle.std.specs.Fmt.{signed_decimal}
 use Rattle.ux_model.specs.Types.{Cred, Name, Addr, OpenFlags, MsgFlags, SockType, SockOpt, Mode, Whence, ProcSpec, Request}
-use Rattle.ux_model.specs.Flags.{has_bits}
 use Rattle.ux_model.specs.Process.{fd_of}
 use Rattle.ux_model.specs.Limits.{made_limit}
 pub use Rattle.ux_model.specs.History.{is_exit, is_off, is_fork}
@@ -20,6 +19,7 @@ use Rattle.ux_syntax.specs.declared.script.Act.{Act}
 use Rattle.ux_syntax.specs.Lines.{Line}
 use Rattle.ux_syntax.specs.declared.script.Script.{Script}
 pub use Rattle.ux_trace.specs.Echoes.{letter, or_dash, open_flags, msg_flags, type_text, option_text, mode_text, whence_text}
+use Rattle.ux_syntax.specs.Text.{plain_line}
 use Rattle.ux_trace.specs.Trace.{dash, hex, path_text, addr_text, addr_or_dash, raw_text, rights_text, cred_text, word_text, request_word}
 
 -- ---- what a script says
@@ -70,6 +70,8 @@ pub data Written : Type 0 where
   seek : (fd : ℕ) → (offset : ℤ) → (whence : Whence) → Written
   dup_fd : (fd : ℕ) → Written
   dup_onto : (fd other : ℕ) → Written
+  dup_above : (fd minimum : ℕ) → Written
+  get_flags : (fd : ℕ) → Written
   set_flags : (fd : ℕ) → (flags : OpenFlags) → Written
   close : (fd : ℕ) → Written
   unlink_path : (path : Name) → Written
@@ -99,6 +101,8 @@ meaning (write_fd fd bytes) = Request.Write (fd_of fd) bytes
 meaning (seek fd offset whence) = Request.Lseek (fd_of fd) offset whence
 meaning (dup_fd fd) = Request.Dup (fd_of fd)
 meaning (dup_onto fd other) = Request.Dup2 (fd_of fd) (fd_of other)
+meaning (dup_above fd minimum) = Request.DupFrom (fd_of fd) (fd_of minimum)
+meaning (get_flags fd) = Request.GetFlags (fd_of fd)
 meaning (set_flags fd flags) = Request.SetFlags (fd_of fd) flags
 meaning (close fd) = Request.Close (fd_of fd)
 meaning (unlink_path path) = Request.Unlink path
@@ -163,6 +167,8 @@ args_of (write_fd fd bytes) = decimal fd ∷ hex bytes ∷ []
 args_of (seek fd offset whence) = decimal fd ∷ signed_decimal offset ∷ whence_text whence ∷ []
 args_of (dup_fd fd) = decimal fd ∷ []
 args_of (dup_onto fd other) = decimal fd ∷ decimal other ∷ []
+args_of (dup_above fd minimum) = decimal fd ∷ decimal minimum ∷ []
+args_of (get_flags fd) = decimal fd ∷ []
 args_of (set_flags fd flags) = decimal fd ∷ open_flags flags ∷ []
 args_of (close fd) = decimal fd ∷ []
 args_of (unlink_path path) = path_text path ∷ []
@@ -292,6 +298,8 @@ FitsCall (write_fd fd bytes) = IsNumber fd × AreBytes bytes
 FitsCall (seek fd offset whence) = IsNumber fd × IsOffset offset
 FitsCall (dup_fd fd) = IsNumber fd
 FitsCall (dup_onto fd other) = IsNumber fd × IsNumber other
+FitsCall (dup_above fd minimum) = IsNumber fd × IsNumber minimum
+FitsCall (get_flags fd) = IsNumber fd
 FitsCall (set_flags fd flags) = IsNumber fd × FitsOpenFlags flags
 FitsCall (close fd) = IsNumber fd
 FitsCall (unlink_path path) = AreBytes path
@@ -365,6 +373,17 @@ abbrev pub asks_fork : Act → Bool
 asks_fork (Act.Call request) = is_fork request
 asks_fork (Act.Wait pid calls) = false
 
+-- a call that programs make which run as they are, and scripts of several orders don't have: fcntl(2) but for F_SETFL and F_SETFD
+abbrev pub is_recorded : Request → Bool
+is_recorded (Request.DupFrom fd minimum) = true
+is_recorded (Request.GetFlags fd) = true
+is_recorded _ = false
+
+-- what is asked for is such a call
+abbrev pub asks_recorded : Act → Bool
+asks_recorded (Act.Call request) = is_recorded request
+asks_recorded (Act.Wait pid calls) = false
+
 -- how many of the lines ask for a further process
 abbrev pub forks_of : List Line → ℕ
 forks_of lines = count_by (λ line. asks_fork line.act) lines
@@ -384,6 +403,10 @@ abbrev pub MayFork : Bool → ℕ → Line → Type 0
 MayFork serial count line =
     asks_fork line.act ≡ true → (serial ≡ false → line.pid.0 ≡ 1) × IsProcess count line.pid.0 × (count < made_limit)
 
+-- some calls stand only where the script has one order alone
+abbrev pub MayAsk : Bool → Line → Type 0
+MayAsk serial line = asks_recorded line.act ≡ true → serial ≡ true
+
 -- none of the lines is of the process
 abbrev pub IsQuiet : ℕ → List Line → Type 0
 IsQuiet pid lines = AllByRecursion (λ line. line.pid.0 ≢ pid) lines
@@ -397,13 +420,14 @@ NoneAfterExit (line ∷ lines) = (asks_exit line.act ≡ true → IsQuiet line.p
 abbrev pub IsCall : Line → Type 0
 IsCall line = asks_off line.act ≡ false
 
--- each line is of a process that is there and hasn't made its exit, each process that is waited for is there, and process 1 alone forks
--- where the script has more orders than one
+-- each line is of a process that is there and hasn't made its exit, each process that is waited for is there, and where the script has more
+-- orders than one process 1 alone forks, and some calls don't stand
 pub record IsOrderly (s : Plan) : Type 0 where
   pub processes : EachKnowing NamesProcesses (length s.procs) s.lines
   pub forks : EachKnowing (MayFork s.serial) (length s.procs) s.lines
   pub exits : NoneAfterExit s.lines
   pub calls : AllByRecursion IsCall s.lines
+  pub recorded : AllByRecursion (MayAsk s.serial) s.lines
 
 -- ---- which lines spell which script
 
@@ -417,13 +441,13 @@ abbrev pub AreShort : Bool → Bool → List (List ℕ) → Type 0
 AreShort serial behind [] = Unit {0}
 AreShort serial behind (text ∷ texts) = (length text ≤ line_limit (serial && behind)) × AreShort serial (behind || is_meant text) texts
 
--- The lines, which are short, spell the script: of those that say something `serial` is the first where the script has one order alone, then
--- come the header's, then the processes' as they are written, and `off` at last where the script has it.
+-- The lines, which are short, spell the script. Of the plain lines of those that say something `serial` is the first where the script has one
+-- order alone, then come the header's, then the processes' as they are written, and `off` at last where the script has it.
 pub record SpellScript (texts : List (List ℕ)) (s : Plan) : Type 0 where
   pub headers : List Header
   pub turns : List Turn
   pub short : AreShort s.serial false texts
-  pub spelled : filter is_meant texts ≡ serial_lines s.serial ++ (map header_line headers ++ (map turn_line turns ++ off_lines s.off))
+  pub spelled : map plain_line (filter is_meant texts) ≡ serial_lines s.serial ++ (map header_line headers ++ (map turn_line turns ++ off_lines s.off))
   pub objects : objects_of headers ≡ s.objects
   pub procs : procs_of headers ≡ s.procs
   pub meant : map line_of turns ≡ s.lines
@@ -434,11 +458,11 @@ pub record SpellScript (texts : List (List ℕ)) (s : Plan) : Type 0 where
 -- ---- why a line is at fault
 
 -- the line, rightly written and no fork, names a process that isn't there: its own or the one that it waits for; and `off` was not said,
--- nor its process's exit
+-- nor its process's exit, and its call may stand in the script
 abbrev pub IsCallOfStranger : Plan → List ℕ → Type 0
 IsCallOfStranger s text =
-    (t : Turn) × (text ≡ turn_line t) × FitsTurn t × (s.off ≡ false) × (asks_fork (act_of t.asked) ≡ false)
-    × NoneAfterExit (s.lines ++ line_of t ∷ []) × (NamesProcesses (known_count s) (line_of t) → ⊥)
+    (t : Turn) × (plain_line text ≡ turn_line t) × FitsTurn t × (s.off ≡ false) × (asks_fork (act_of t.asked) ≡ false)
+    × NoneAfterExit (s.lines ++ line_of t ∷ []) × MayAsk s.serial (line_of t) × (NamesProcesses (known_count s) (line_of t) → ⊥)
 
 -- Why a line that comes after those of the script is at fault, if it is: too long before bad, and bad before unknown.
 abbrev pub IsFaultOf : Fault → Plan → List ℕ → Type 0

@@ -1,7 +1,7 @@
 //! The calls of a script: the word of each, and the words that stand behind it.
 
 ghost use Rattle.std.specs.Prelude.{◌≡◌, map};
-ghost use Rattle.ux_syntax.specs.Reading.{open_at, read_at, write_at, lseek_at, dup_at, dup2_at, set_flags_at, close_at, unlink_at, socket_at, pair_at, bind_at, listen_at, connect_at, accept_at, shut_at, get_opt_at, set_opt_at, sock_name_at, peer_name_at, send_at, recv_at, poll_at, fork_at, exec_at, exit_at, word_at, args_at};
+ghost use Rattle.ux_syntax.specs.Reading.{open_at, read_at, write_at, lseek_at, dup_at, dup2_at, dup_from_at, get_flags_at, set_flags_at, close_at, unlink_at, socket_at, pair_at, bind_at, listen_at, connect_at, accept_at, shut_at, get_opt_at, set_opt_at, sock_name_at, peer_name_at, send_at, recv_at, poll_at, fork_at, exec_at, exit_at, word_at, args_at};
 ghost use Rattle.ux_syntax.specs.Results.{IsAsRead};
 
 use crate::control::ControlWord;
@@ -19,6 +19,8 @@ const CALL_WORDS: &[CallWord] = &[
     CallWord::Lseek,
     CallWord::Dup,
     CallWord::Dup2,
+    CallWord::DupFrom,
+    CallWord::GetFlags,
     CallWord::Flags,
     CallWord::Close,
     CallWord::Unlink,
@@ -116,6 +118,27 @@ fn dup2_of(alloc: Global, words: &[&[u8]]) -> Result<Request, LineError>
         fd: Fd(fd),
         to: Fd(to),
     })
+}
+
+/// `dupfd FD MIN`.
+#[tactic(auto, unfolding(crate::specs::Reading::dup_from_at))]
+fn dup_from_of(alloc: Global, words: &[&[u8]]) -> Result<Request, LineError>
+    ensures { IsAsRead (λ r. r) result (dup_from_at (map (λ w. w.now) words.now)) }
+{
+    let (fd, (minimum, ())) = row_of(alloc, words)?;
+    Ok(Request::DupFrom {
+        fd: Fd(fd),
+        minimum: Fd(minimum),
+    })
+}
+
+/// `getfl FD`.
+#[tactic(auto, unfolding(crate::specs::Reading::get_flags_at))]
+fn get_flags_of(alloc: Global, words: &[&[u8]]) -> Result<Request, LineError>
+    ensures { IsAsRead (λ r. r) result (get_flags_at (map (λ w. w.now) words.now)) }
+{
+    let (fd, ()) = row_of(alloc, words)?;
+    Ok(Request::GetFlags { fd: Fd(fd) })
 }
 
 /// `flags FD OFLAGS`.
@@ -331,6 +354,8 @@ pub(crate) fn request_of(
         CallWord::Lseek => lseek_of(alloc, args),
         CallWord::Dup => dup_of(alloc, args),
         CallWord::Dup2 => dup2_of(alloc, args),
+        CallWord::DupFrom => dup_from_of(alloc, args),
+        CallWord::GetFlags => get_flags_of(alloc, args),
         CallWord::Flags => set_flags_of(alloc, args),
         CallWord::Close => close_of(alloc, args),
         CallWord::Unlink => unlink_of(alloc, args),

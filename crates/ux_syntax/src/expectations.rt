@@ -4,9 +4,10 @@ ghost use Rattle.std.specs.Prelude.{◌≡◌, ◌+◌, ◌^◌, ◌<◌, ◌⊎
 ghost use Rattle.std.specs.Option.{is_some, option_map};
 ghost use Rattle.ux_syntax.specs.Spelling.{lines_of};
 ghost use Rattle.ux_syntax.specs.Turns.{is_call};
-ghost use Rattle.ux_syntax.specs.Expectations.{asks_call, expected_in, expecting, expectations, is_misplaced, IsFaultOfPlace};
+ghost use Rattle.ux_syntax.specs.Expectations.{asks_call, behind_mark, expected_in, expecting, expectations, is_misplaced, IsFaultOfPlace};
 
 use crate::fault::{LineError, ScriptFault};
+use crate::plain::plain_line;
 use crate::reading::{Item, item_of, split_lines};
 use crate::script::{Act, SERIAL_LINE_LIMIT};
 use std::alloc::{AllocError, Global};
@@ -43,9 +44,9 @@ fn asks_call(alloc: Global, text: &[u8]) -> Result<bool, AllocError>
     }
 }
 
-/// What a comment line expects.
-fn expected_in(text: &[u8]) -> Option<&[u8]>
-    ensures { option_map (λ reply. reply.now) result ≡ expected_in text.now }
+/// What stands in a line behind `#= `.
+fn behind_mark(text: &[u8]) -> Option<&[u8]>
+    ensures { option_map (λ reply. reply.now) result ≡ behind_mark text.now }
 {
     match text {
         [hash, equals, blank, reply @ ..]
@@ -53,6 +54,21 @@ fn expected_in(text: &[u8]) -> Option<&[u8]>
             Some(reply)
         }
         _ => None,
+    }
+}
+
+/// What a comment line expects, in plain words.
+fn expected_in(alloc: Global, text: &[u8]) -> Result<Option<Bytes>, AllocError>
+    ensures { IfOk result (λ reply. reply ≡ expected_in text.now) }
+{
+    let plain = plain_line(alloc, text)?;
+    let line = match &plain {
+        Some(plain) => plain.as_slice(),
+        None => text,
+    };
+    match behind_mark(line) {
+        Some(reply) => Ok(Some(Bytes::from_slice(alloc, reply)?)),
+        None => Ok(None),
     }
 }
 
@@ -69,13 +85,12 @@ fn add_expected(
     ensures placed { OnOk result (is_some (expected_in text.now) && not behind_call ≡ false) }
     ensures fault { IfErr result (λ f. (f ≡ ScriptFault.NoMemory) ⊎ ((f ≡ ScriptFault.BadLine (line + 1)) × (is_some (expected_in text.now) && not behind_call ≡ true))) }
 {
-    let Some(reply) = expected_in(text) else {
+    let Some(reply) = expected_in(alloc, text)? else {
         return Ok(());
     };
     if !behind_call {
         return Err(ScriptFault::BadLine(line + 1));
     }
-    let reply = Bytes::from_slice(alloc, reply)?;
     found.push(Expectation { line, reply })?;
     Ok(())
 }

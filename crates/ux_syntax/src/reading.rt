@@ -1,6 +1,6 @@
 //! Reading a script, line by line.
 
-ghost use Rattle.std.specs.Prelude.{◌≡◌, ◌==◌, true, not, length, map, IfOk, IfErr, OnOk, Ok};
+ghost use Rattle.std.specs.Prelude.{◌≡◌, ◌==◌, true, not, length, map, IfOk, IfErr, OnOk, OnErr, Ok};
 ghost use Rattle.std.specs.List.{slice_split};
 ghost use Rattle.ux_syntax.specs.Spelling.{Plan, plan_of, SpellScript, IsOrderly, OneScript, lines_of, is_meant, asks_fork};
 ghost use Rattle.ux_syntax.specs.Turns.{is_known, awaits_known};
@@ -10,6 +10,7 @@ ghost use Rattle.ux_syntax.specs.Results.{IsAsRead, Leaves, GivesScript, Refuses
 use crate::acts::act_of;
 use crate::fault::{BAD, Fault, LineError, ScriptFault};
 use crate::headers::{object_of, proc_of};
+use crate::plain::plain_line;
 use crate::row::{end, next};
 use crate::script::{Act, Header, Line, Script};
 use crate::words::Word;
@@ -76,6 +77,14 @@ pub(crate) fn split_lines<'a>(alloc: Global, text: &'a [u8]) -> Result<Vec<&'a [
     text.split(|b| *b == b'\n').collect(alloc)
 }
 
+/// What the plain line of this number says.
+fn plain_item_of(alloc: Global, number: usize, line: &[u8]) -> Result<Item, LineError>
+    ensures { IsAsRead (λ item. item) result (words_at (slice_split (λ b. b == 32) line.now)) }
+{
+    let words = split_words(alloc, line)?;
+    words_of(alloc, number, &words)
+}
+
 /// What the line of this number says, which may have so many bytes.
 #[tactic(auto, unfolding(crate::specs::Reading::item_at))]
 pub(crate) fn item_of(
@@ -92,8 +101,10 @@ pub(crate) fn item_of(
     if says_nothing(text) {
         return Ok(Item::Skipped);
     }
-    let words = split_words(alloc, text)?;
-    words_of(alloc, number, &words)
+    match plain_line(alloc, text)? {
+        Some(plain) => plain_item_of(alloc, number, &plain),
+        None => plain_item_of(alloc, number, text),
+    }
 }
 
 /// A script as far as it was read, with a mark for each process that is known so far: whether it has made its exit.
@@ -141,6 +152,8 @@ impl Reader {
         requires { Marks (plan_of self.old.script) self.old.exited.items }
         ensures reads { Leaves (plan_of self.new.script) result (joined_by (plan_of self.old.script) (Item.Header header)) }
         ensures marks { OnOk result (Marks (plan_of self.new.script) self.new.exited.items) }
+        ensures kept { OnErr result (plan_of self.new.script ≡ plan_of self.old.script) }
+        ensures marked { OnErr result (self.new.exited.items ≡ self.old.exited.items) }
     {
         if !self.script.lines.is_empty() {
             return Err(BAD);
@@ -148,6 +161,8 @@ impl Reader {
         match header {
             Header::Object(object) => self.script.objects.push(object)?,
             Header::Proc(spec) => {
+                // Room first, so that a header without memory leaves all as it was.
+                self.exited.reserve(1)?;
                 self.script.procs.push(spec)?;
                 self.exited.push(false)?;
             }
@@ -173,12 +188,15 @@ impl Reader {
         requires marks { Marks (plan_of self.old.script) self.old.exited.items }
         ensures reads { Leaves (plan_of self.new.script) result (joined_by_fork (plan_of self.old.script) line) }
         ensures marks { OnOk result (Marks (plan_of self.new.script) self.new.exited.items) }
+        ensures kept { OnErr result (plan_of self.new.script ≡ plan_of self.old.script) }
+        ensures marked { OnErr result (self.new.exited.items ≡ self.old.exited.items) }
     {
         if !self.may_fork(line.pid) {
             return Err(BAD);
         }
-        self.exited.push(false)?;
+        self.exited.reserve(1)?;
         self.script.lines.push(line)?;
+        self.exited.push(false)?;
         Ok(())
     }
 
@@ -186,9 +204,14 @@ impl Reader {
         requires { Marks (plan_of self.old.script) self.old.exited.items }
         ensures reads { Leaves (plan_of self.new.script) result (joined_by (plan_of self.old.script) (Item.Line line)) }
         ensures marks { OnOk result (Marks (plan_of self.new.script) self.new.exited.items) }
+        ensures kept { OnErr result (plan_of self.new.script ≡ plan_of self.old.script) }
+        ensures marked { OnErr result (self.new.exited.items ≡ self.old.exited.items) }
     {
         if line.act.asks_fork() {
             return self.add_fork(line);
+        }
+        if !self.script.serial && line.act.asks_recorded() {
+            return Err(BAD);
         }
         if !self.knows(line.pid) {
             return Err(LineError::Fault(Fault::UnknownProcess));
@@ -200,6 +223,8 @@ impl Reader {
         if !self.knows_awaited(&line.act) {
             return Err(LineError::Fault(Fault::UnknownProcess));
         }
+        // Room first, so that an exit without memory leaves all as it was.
+        self.script.lines.reserve(1)?;
         if line.act.asks_exit() {
             self.exited[place] = true;
         }
@@ -223,6 +248,8 @@ impl Reader {
         requires { Marks (plan_of self.old.script) self.old.exited.items }
         ensures reads { Leaves (plan_of self.new.script) result (joined_by (plan_of self.old.script) Item.Serial) }
         ensures marks { OnOk result (Marks (plan_of self.new.script) self.new.exited.items) }
+        ensures kept { OnErr result (plan_of self.new.script ≡ plan_of self.old.script) }
+        ensures marked { OnErr result (self.new.exited.items ≡ self.old.exited.items) }
     {
         if !self.is_unsaid() {
             return Err(BAD);
@@ -242,6 +269,8 @@ impl Reader {
         requires { Marks (plan_of self.old.script) self.old.exited.items }
         ensures reads { Leaves (plan_of self.new.script) result (line_at (plan_of self.old.script) text.now) }
         ensures marks { OnOk result (Marks (plan_of self.new.script) self.new.exited.items) }
+        ensures kept { OnErr result (plan_of self.new.script ≡ plan_of self.old.script) }
+        ensures marked { OnErr result (self.new.exited.items ≡ self.old.exited.items) }
     {
         let item = item_of(alloc, number, self.script.line_limit(), text)?;
         if self.script.off && !matches!(item, Item::Skipped) {
@@ -301,9 +330,10 @@ fn read_text(alloc: Global, text: &[u8]) -> Result<Script, ScriptFault>
 /// as their own process and as one that is waited for, and to none before. Each process may fork in a
 /// script with the line `serial`, and process 1 alone in one without, and only where fewer than 1,024 processes are
 /// known: each other fork line is a bad line, and never one of an unknown process. A line may have 4,096 bytes, and
-/// 200,000 behind a line `serial`.
+/// 200,000 behind a line `serial`, where `dupfd FD MIN` and `getfl FD` are calls, too.
 /// A line `off` may come last. A send's ADDR may be `-` for none; its CONTROL is `-` for no bytes, `x:HEX` for
 /// these, or items joined by `+`: `c:PID,UID,GID` for credentials and `r:N,N,..` for descriptor numbers.
+/// HEX may be text between quotation marks, with escapes of C, and SPACE `rights:N`, the space that N rights take.
 ///
 /// # Errors
 ///

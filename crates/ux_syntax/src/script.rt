@@ -1,7 +1,7 @@
 //! Scripts: file objects, processes, and what their lines ask for.
 
 ghost use Rattle.std.specs.Prelude.{◌≡◌};
-ghost use Rattle.ux_syntax.specs.Spelling.{plan_of, known_count, line_limit, asks_exit, asks_fork};
+ghost use Rattle.ux_syntax.specs.Spelling.{plan_of, known_count, line_limit, asks_exit, asks_fork, asks_recorded};
 
 use std::marker::Model;
 use ux_object::ObjKind;
@@ -46,6 +46,16 @@ impl Act {
         ensures { result ≡ asks_fork self.now }
     {
         matches!(self, Act::Call(Request::Fork))
+    }
+
+    /// Whether it is a call that stands only where the script has one order alone.
+    pub fn asks_recorded(&self) -> bool
+        ensures { result ≡ asks_recorded self.now }
+    {
+        matches!(
+            self,
+            Act::Call(Request::DupFrom { .. } | Request::GetFlags { .. })
+        )
     }
 }
 

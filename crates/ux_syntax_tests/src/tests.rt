@@ -10,6 +10,7 @@ mod readers;
 mod scripts;
 mod sends;
 mod serial;
+mod texts;
 mod traces;
 mod waits;
 
@@ -100,13 +101,23 @@ fn expect_bad_lines(
 
 /// The request that a call of a script asks for.
 fn request_in(alloc: Global, call: &str) -> Result<Request, Fail> {
-    let text = format!(in alloc; "proc 0 0 0 1\n1 {call}")?;
+    let front = if stands_behind_serial(call) {
+        "serial\n"
+    } else {
+        ""
+    };
+    let text = format!(in alloc; "{front}proc 0 0 0 1\n1 {call}")?;
     let mut script = parse_script(alloc, text.as_bytes())?;
     let line = script.lines.pop().ok_or("no line")?;
     match line.act {
         Act::Call(request) => Ok(request),
         Act::Wait(..) => Err(Fail::from("no call")),
     }
+}
+
+/// Whether a call stands only in a script with the line `serial`.
+fn stands_behind_serial(call: &str) -> bool {
+    call.starts_with("dupfd") || call.starts_with("getfl")
 }
 
 /// What was read, with a value that goes along. It is of any type, so that its drop where nothing was read is a

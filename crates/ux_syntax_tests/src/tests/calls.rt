@@ -155,6 +155,10 @@ fn calls_on_descriptors_are_read(rt: HostRuntime) -> Result<(), Fail> {
     expect_request(&rt, alloc, "dup 3", Request::Dup { fd })?;
     let to = Fd(9);
     expect_request(&rt, alloc, "dup2 3 9", Request::Dup2 { fd, to })?;
+    let minimum = Fd(4294967295);
+    let from = Request::DupFrom { fd, minimum };
+    expect_request(&rt, alloc, "dupfd 3 4294967295", from)?;
+    expect_request(&rt, alloc, "getfl 3", Request::GetFlags { fd })?;
     let flags = OpenFlags(6);
     expect_request(&rt, alloc, "flags 3 nx", Request::SetFlags { fd, flags })
 }

@@ -48,6 +48,8 @@ const CALLS: &[(&str, &str)] = &[
     ("lseek 0 0 cur", "lseek(0, 0, cur)"),
     ("dup 4294967295", "dup(4294967295)"),
     ("dup2 1 2", "dup2(1, 2)"),
+    ("dupfd 1 10", "dupfd(1, 10)"),
+    ("getfl 1", "getfl(1)"),
     ("flags 3 nx", "flags(3, nx)"),
     ("close 5", "close(5)"),
     ("unlink p:a,b", "unlink(p:a,b)"),

@@ -88,6 +88,36 @@ fn each_process_may_fork(rt: HostRuntime) -> Result<(), Fail> {
     expect_faults(&rt, rt.alloc(), front, FORKS)
 }
 
+/// Lines behind that line and a process, of calls that stand only there, and the fault of the script.
+const RECORDED: &[(&str, &str)] = &[
+    ("1 dupfd 0 3", ""),
+    ("1 dupfd 4294967295 4294967295", ""),
+    ("1 getfl 0", ""),
+    ("1 dupfd 0", "line 3: bad line"),
+    ("1 dupfd 0 1 2", "line 3: bad line"),
+    ("1 dupfd 0 -", "line 3: bad line"),
+    ("1 dupfd 0 03", "line 3: bad line"),
+    ("1 getfl", "line 3: bad line"),
+    ("1 getfl 0 0", "line 3: bad line"),
+    ("2 getfl 0", "line 3: unknown process"),
+    ("1 exit\n1 getfl 0", "line 4: bad line"),
+];
+
+/// The same behind a process alone.
+const NOT_RECORDED: &[(&str, &str)] = &[
+    ("1 dupfd 0 3", "line 2: bad line"),
+    ("1 getfl 0", "line 2: bad line"),
+    ("2 getfl 0", "line 2: bad line"),
+    ("1 dup 0\n1 dupfd 0 3", "line 3: bad line"),
+];
+
+#[test]
+fn some_calls_stand_behind_the_line_alone(rt: HostRuntime) -> Result<(), Fail> {
+    let alloc = rt.alloc();
+    expect_faults(&rt, alloc, "serial\nproc 0 0 0 1\n", RECORDED)?;
+    expect_faults(&rt, alloc, "proc 0 0 0 1\n", NOT_RECORDED)
+}
+
 /// How many forks process 1 makes, a fork of another behind them, and the fault of the script.
 const LAST_FORKS: &[(usize, &str, &str)] = &[
     (1022, "1023 fork\n1024 close 0", ""),

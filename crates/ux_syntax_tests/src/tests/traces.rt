@@ -4,7 +4,9 @@ use std::alloc::Global;
 use std::process::Abort;
 use std::test::*;
 use ux_trace::entry_text;
-use ux_types::{Addr, Bytes, Entry, Errno, Fd, MsgFlags, Name, Pid, Released, Reply, Request};
+use ux_types::{
+    Addr, Bytes, Entry, Errno, Fd, MsgFlags, Name, OpenFlags, Pid, Released, Reply, Request,
+};
 
 /// An entry's number in the history, and its number among its process's calls.
 type Numbers = (usize, u64);
@@ -281,6 +283,30 @@ fn entries_of_files_are_printed(rt: HostRuntime) -> Result<(), Fail> {
         ),
         ((5, 7), "dup2 3 9", Reply::Fd(Fd(9)), "5 1 7 dup2 = fd 9\n"),
         ((5, 7), "flags 3 x", Reply::Ok, "5 1 7 flags = ok\n"),
+        (
+            (5, 7),
+            "dupfd 3 9",
+            Reply::Fd(Fd(11)),
+            "5 1 7 dupfd = fd 11\n"
+        ),
+        (
+            (5, 7),
+            "getfl 3",
+            Reply::Flags(OpenFlags(0)),
+            "5 1 7 getfl = flags -\n"
+        ),
+        (
+            (5, 7),
+            "getfl 3",
+            Reply::Flags(OpenFlags(2)),
+            "5 1 7 getfl = flags NONBLOCK\n"
+        ),
+        (
+            (5, 7),
+            "getfl 3",
+            Reply::Flags(OpenFlags(7)),
+            "5 1 7 getfl = flags APPEND|NONBLOCK|CLOEXEC\n",
+        ),
     ]?;
     expect_rows(&rt, rt.alloc(), rows)
 }

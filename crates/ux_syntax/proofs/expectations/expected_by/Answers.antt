@@ -1,4 +1,4 @@
-use Rattle.std.proofs.Common.{Bor, List, ℕ, [], map, length, ◌≤◌, rules, arith}
+use Rattle.std.proofs.Common.{Bor, List, ℕ, [], map, rules, arith}
 use Rattle.std.proofs.lemmas.List.{length-map}
 use Rattle.ux_syntax.proofs.Expecting.{begun, next_line, has_more, place_fault, all_found, all_placed}
 use Rattle.ux_syntax.proofs.expectations.expected_by.Goals as goal
