@@ -2,7 +2,7 @@
 use Rattle.std.proofs.Common.{◌≡◌, ℕ, Option, rules}
 use Rattle.std.specs.Prelude.{◌↔◌, IsTrue}
 use Rattle.ux_types.specs.contracts.replies.ReplyPartialEq.TheImpl.{eq-value}
-use Rattle.ux_model.specs.Types.{Fd, Addr, Bytes, MsgFlags, PollFlags, Cred, Pid, Errno, Reply}
+use Rattle.ux_model.specs.Types.{Fd, Addr, Bytes, MsgFlags, OpenFlags, PollFlags, Cred, Pid, Errno, Reply}
 
 abbrev Same : Reply → Reply → Type 0
 Same a b = IsTrue (eq-value.it a b) ↔ (a ≡ b)
@@ -46,6 +46,9 @@ poll_same flags b = search rules
 child_same : (pid : Pid) (b : Reply) → Same (Reply.Child pid) b
 child_same pid b = search rules
 
+flags_same : (flags : OpenFlags) (b : Reply) → Same (Reply.Flags flags) b
+flags_same flags b = search rules
+
 err_same : (e : Errno) (b : Reply) → Same (Reply.Err e) b
 err_same e b = search rules
 
@@ -63,4 +66,5 @@ same_reply (Reply.Opt value) b = opt_same value b
 same_reply (Reply.Cred cred) b = cred_same cred b
 same_reply (Reply.Poll flags) b = poll_same flags b
 same_reply (Reply.Child pid) b = child_same pid b
+same_reply (Reply.Flags flags) b = flags_same flags b
 same_reply (Reply.Err e) b = err_same e b

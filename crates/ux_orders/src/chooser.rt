@@ -1,6 +1,6 @@
 //! Who makes the next line.
 use std::alloc::AllocError;
-use ux_types::Pid;
+use ux_types::{Entry, Pid};
 
 /// A process that may make its next line.
 #[derive(Clone, Copy, Debug, PartialEq, Eq)]
@@ -22,4 +22,33 @@ pub trait Chooser {
     ///
     /// Out of memory.
     fn choose(&mut self, made: usize, ready: &[Ready]) -> Result<Option<usize>, AllocError>;
+
+    /// Whether it asks which points of a run came up before.
+    fn compares(&self) -> bool {
+        false
+    }
+
+    /// Hears of a call that was made, with the file object that it read or wrote.
+    ///
+    /// # Errors
+    ///
+    /// Out of memory.
+    fn hear(&mut self, _entry: &Entry, _object: Option<u32>) -> Result<(), AllocError> {
+        Ok(())
+    }
+
+    /// Whether the point behind so many lines is one that it hasn't chosen at.
+    fn is_new(&self, _made: usize) -> bool {
+        false
+    }
+
+    /// Whether another order came to this point, with the same replies so far, so that the run may end there. The bytes
+    /// spell the state and which lines are left.
+    ///
+    /// # Errors
+    ///
+    /// Out of memory.
+    fn is_met(&mut self, _point: Vec<u8>) -> Result<bool, AllocError> {
+        Ok(false)
+    }
 }

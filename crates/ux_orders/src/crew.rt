@@ -5,8 +5,11 @@ ghost use Rattle.ux_orders.specs.declared.ran.OrderFault.{OrderFault};
 
 use crate::chooser::{Chooser, Ready};
 use crate::member::{Member, Next, is_alone, next_of};
+use crate::point::spell_state;
 use crate::ran::OrderFault;
-use std::alloc::Global;
+use crate::spelled::Spelled;
+use crate::touched::{Touched, Written, touched_by};
+use std::alloc::{AllocError, Global};
 use ux_book::{Book, BookName, Share, has_own_call};
 use ux_object::FileObject;
 use ux_state::ReleasedObjects;
@@ -19,6 +22,9 @@ pub(crate) struct Crew<'a, W: BookName, O: FileObject> {
     members: Vec<Member<'a, W>>,
     /// What the last call released, until the next one.
     released: ReleasedObjects<O>,
+    /// The file object that the last call read or wrote.
+    touched: Option<Touched>,
+    written: Written,
     lines: &'a [Line],
     alloc: Global,
 }
@@ -30,12 +36,15 @@ impl<W: BookName, O: FileObject> Drop for Crew<'_, W, O> {
             book,
             members,
             released,
+            touched: _,
+            written,
             lines: _,
             alloc: _,
         } = self;
         drop(book);
         drop(members);
-        drop(released)
+        drop(released);
+        drop(written)
     }
 }
 
@@ -44,7 +53,7 @@ impl<W: BookName, O: FileObject> Drop for Crew<'_, W, O> {
 pub(crate) enum Turn {
     /// A line was made.
     Made,
-    /// The chooser named none of the processes that may go on.
+    /// The chooser named none of the processes that may go on, or knew the point.
     Refused,
     /// No process may go on.
     Idle,
@@ -63,6 +72,7 @@ impl<'a, W: BookName, O: FileObject> Crew<'a, W, O> {
         lines: &'a [Line],
     ) -> Result<Self, OrderFault> {
         let released = ReleasedObjects::new(alloc)?;
+        let written = Written::new(alloc, book.state().object_count())?;
         let mut members = Vec::with_capacity(alloc, shares.len())?;
         for share in shares {
             members.push(Member {
@@ -75,6 +85,8 @@ impl<'a, W: BookName, O: FileObject> Crew<'a, W, O> {
             book,
             members,
             released,
+            touched: None,
+            written,
             lines,
             alloc,
         })
@@ -90,6 +102,9 @@ impl<'a, W: BookName, O: FileObject> Crew<'a, W, O> {
         chooser: &mut C,
         made: usize,
     ) -> Result<Turn, OrderFault> {
+        if chooser.is_new(made) && self.is_met(chooser)? {
+            return Ok(Turn::Refused);
+        }
         let mut ready = self.ready()?;
         for _ in 0..ready.len() {
             let Some(place) = chooser.choose(made, &ready)? else {
@@ -100,10 +115,49 @@ impl<'a, W: BookName, O: FileObject> Crew<'a, W, O> {
             }
             let chosen = ready.remove(place);
             if self.make_next(chosen.pid)? {
+                self.tell(chooser)?;
                 return Ok(Turn::Made);
             }
         }
         Ok(Turn::Idle)
+    }
+
+    /// Whether the chooser knows the point that the run is at.
+    fn is_met<C: Chooser>(&self, chooser: &mut C) -> Result<bool, AllocError> {
+        match self.point()? {
+            Some(point) => chooser.is_met(point),
+            None => Ok(false),
+        }
+    }
+
+    /// Spells the point that the run is at: which lines are left, what was written to file objects, and the state.
+    fn point(&self) -> Result<Option<Vec<u8>>, AllocError> {
+        let mut out = Spelled::new(self.alloc);
+        out.number(self.members.len() as u64)?;
+        for member in &self.members {
+            out.flag(member.share.is_some())?;
+            out.number(member.left.len() as u64)?;
+        }
+        self.written.spell(&mut out)?;
+        let spelled = spell_state(self.alloc, self.book.state(), self.book.entries(), out)?;
+        Ok(spelled.map(Spelled::into_bytes))
+    }
+
+    /// Tells the chooser of the call that was made last.
+    fn tell<C: Chooser>(&mut self, chooser: &mut C) -> Result<(), AllocError> {
+        if !chooser.compares() {
+            return Ok(());
+        }
+        let Some(entry) = self.book.entries().last() else {
+            return Ok(());
+        };
+        match self.touched {
+            Some(touched) => {
+                self.written.add(touched, entry)?;
+                chooser.hear(entry, Some(touched.number))
+            }
+            None => chooser.hear(entry, None),
+        }
     }
 
     /// The processes that don't wait for another one's calls.
@@ -138,6 +192,7 @@ impl<'a, W: BookName, O: FileObject> Crew<'a, W, O> {
 
     /// Makes the call of a line of the process at this place, where it needn't wait.
     fn make_line(&mut self, place: usize, line: &Line) -> Result<bool, OrderFault> {
+        self.touched = None;
         match &line.act {
             Act::Wait(..) => Ok(false),
             Act::Call(Request::Exit) => self.exit(place),
@@ -155,6 +210,8 @@ impl<'a, W: BookName, O: FileObject> Crew<'a, W, O> {
             book,
             members,
             released,
+            touched,
+            written: _,
             lines: _,
             alloc: _,
         } = self;
@@ -162,6 +219,7 @@ impl<'a, W: BookName, O: FileObject> Crew<'a, W, O> {
         let Some(share) = share_at(members, place) else {
             return Err(OrderFault::Stranger);
         };
+        *touched = touched_by(book.state(), share.pid(), request);
         match book.try_record(share, request, released) {
             Ok(made) => Ok(made.is_some()),
             Err(_) => Err(OrderFault::NoMemory),
@@ -174,6 +232,8 @@ impl<'a, W: BookName, O: FileObject> Crew<'a, W, O> {
             book,
             members,
             released,
+            touched: _,
+            written: _,
             lines,
             alloc: _,
         } = self;
@@ -203,10 +263,13 @@ impl<'a, W: BookName, O: FileObject> Crew<'a, W, O> {
             book,
             members,
             released,
+            touched,
+            written: _,
             lines: _,
             alloc: _,
         } = self;
         released.clear();
+        *touched = None;
         let Some(member) = members.get_mut(place) else {
             return Err(OrderFault::Stranger);
         };
@@ -223,6 +286,8 @@ impl<'a, W: BookName, O: FileObject> Crew<'a, W, O> {
             book,
             members: _,
             released: _,
+            touched: _,
+            written: _,
             lines: _,
             alloc: _,
         } = self;

@@ -9,7 +9,7 @@ ghost use Rattle.ux_orders.specs.Outcomes.{SameOutcome, Keeps, IsRun, Cover, is_
 use crate::outcome::is_same_outcome;
 use crate::ran::{OrderFault, Ran};
 use crate::run::run_order;
-use crate::search::Search;
+use crate::search::{Reduction, Search};
 use std::alloc::Global;
 use ux_kernel::Kernel;
 use ux_object::FileObject;
@@ -35,6 +35,8 @@ pub trait Boot {
 pub struct Found {
     /// How many orders were made to their end.
     pub orders: u64,
+    /// At how many points they were compared with others.
+    pub points: usize,
     /// Whether no further order is left.
     pub is_all: bool,
     /// A run for each outcome, the shortest that was made, and of those the one with the smallest list.
@@ -42,8 +44,11 @@ pub struct Found {
 }
 
 /// Runs the script in all orders, the smaller list first, each on a kernel that has just started, and keeps a run for
-/// each outcome. No more than `limit` runs are begun. Where it is `reduced`, of orders that differ in where a call
-/// stands that concerns its process alone one is made to its end, the one with the smallest list.
+/// each outcome. No more than `limit` runs are begun. Those that the reduction leaves out aren't made, or are broken off
+/// where they come to what another has come to.
+///
+/// Where orders are merged, two runs that came to the same point must go on alike. So the machine's kernels are all alike, and what a file
+/// object answers depends on nothing but what is in it, and how many reads and writes were made of it.
 ///
 /// # Errors
 ///
@@ -53,7 +58,7 @@ pub fn explore<B: Boot>(
     script: &Script,
     machine: &mut B,
     limit: u64,
-    reduced: bool,
+    reduction: Reduction,
 ) -> Result<Found, OrderFault>
     // Each of them is a legal history from the state of a kernel that has just started, in which each process makes the script's calls in
     // their order, and its exit last, or a beginning of them up to a deadlock.
@@ -62,9 +67,10 @@ pub fn explore<B: Boot>(
     ensures covered { IfOk result (λ found. Cover (plan_of script.now) found.orders found.outcomes.items) }
     ensures limit { IfOk result (λ found. found.orders ≤ limit) }
 {
-    let mut search = Search::new(alloc, reduced);
+    let mut search = Search::new(alloc, reduction)?;
     let mut found = Found {
         orders: 0,
+        points: 0,
         is_all: false,
         outcomes: Vec::new(alloc),
     };
@@ -72,6 +78,7 @@ pub fn explore<B: Boot>(
         let kernel = machine.boot(script)?;
         let ran = run_order(alloc, script, kernel, &mut search)?;
         found.take(ran, script)?;
+        found.points = search.point_count();
         if !search.advance()? {
             found.is_all = true;
             return Ok(found);

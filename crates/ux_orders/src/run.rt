@@ -96,7 +96,8 @@ enum End {
     Refused,
 }
 
-/// Makes line after line. There are no more than the script's, and an exit for each process.
+/// Makes line after line. There are no more than the script's, and an exit for each process; behind them a further turn
+/// finds nobody left.
 fn make_lines<W: BookName, O: FileObject, C: Chooser>(
     crew: &mut Crew<'_, W, O>,
     script: &Script,
@@ -104,7 +105,7 @@ fn make_lines<W: BookName, O: FileObject, C: Chooser>(
     chooser: &mut C,
 ) -> Result<End, OrderFault> {
     let most = script.lines.len().saturating_add(count);
-    for made in 0..most {
+    for made in 0..most.saturating_add(1) {
         match crew.take_turn(chooser, made)? {
             Turn::Made => {}
             Turn::Refused => return Ok(End::Refused),

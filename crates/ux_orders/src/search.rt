@@ -1,10 +1,40 @@
 //! All orders of a script, one after another.
 ghost use Rattle.std.specs.Prelude.{◌<◌, length, IfSome};
 
+use crate::answers::Answers;
 use crate::chooser::{Chooser, Ready};
+use crate::met::Met;
 use crate::order::place_of;
 use std::alloc::{AllocError, Global};
-use ux_types::Pid;
+use ux_types::{Entry, Pid};
+
+/// Which orders aren't made, or not to their end.
+#[derive(Clone, Copy, Debug, PartialEq, Eq)]
+pub struct Reduction {
+    /// Of orders that differ in where calls stand that concern their process alone, all but one.
+    pub exchanged: bool,
+    /// Those that come to a point to which another came: with the same state, the same lines left, and the same replies
+    /// so far.
+    pub merged: bool,
+}
+
+impl Reduction {
+    /// All of these.
+    pub fn all() -> Reduction {
+        Reduction {
+            exchanged: true,
+            merged: true,
+        }
+    }
+
+    /// None, so that each order is made to its end.
+    pub fn none() -> Reduction {
+        Reduction {
+            exchanged: false,
+            merged: false,
+        }
+    }
+}
 
 /// One line of the order that is made.
 #[derive(Drop)]
@@ -26,19 +56,35 @@ pub(crate) struct Search {
     places: Vec<Place>,
     /// How many of the places are made again as they are.
     kept: usize,
-    /// Whether orders that differ in where calls stand which concern their process alone are made once.
-    reduced: bool,
+    reduction: Reduction,
+    /// The points to which orders came.
+    met: Met,
+    answers: Answers,
+    /// How each process was answered so far, as a number.
+    heard: Vec<usize>,
 }
 
 impl Search {
     /// Before the first order.
-    pub(crate) fn new(alloc: Global, reduced: bool) -> Search {
-        Search {
+    ///
+    /// # Errors
+    ///
+    /// Out of memory.
+    pub(crate) fn new(alloc: Global, reduction: Reduction) -> Result<Search, AllocError> {
+        Ok(Search {
             alloc,
             places: Vec::new(alloc),
             kept: 0,
-            reduced,
-        }
+            reduction,
+            met: Met::new(alloc),
+            answers: Answers::new(alloc)?,
+            heard: Vec::new(alloc),
+        })
+    }
+
+    /// How many points were kept, to which orders came.
+    pub(crate) fn point_count(&self) -> usize {
+        self.met.count()
     }
 
     /// Goes on to the next order, if there may be one: another process makes the last line of which that may be so.
@@ -47,6 +93,7 @@ impl Search {
     ///
     /// Out of memory.
     pub(crate) fn advance(&mut self) -> Result<bool, AllocError> {
+        self.heard.clear();
         for _ in 0..self.places.len() {
             let Some(mut place) = self.places.pop() else {
                 return Ok(false);
@@ -67,6 +114,15 @@ impl Search {
             Some(place) => place.still_asleep.clone(),
             None => Ok(Vec::new(self.alloc)),
         }
+    }
+
+    /// The point, with how each process was answered up to it.
+    fn with_answers(&self, point: Vec<u8>) -> Result<Vec<u8>, AllocError> {
+        let mut whole = point;
+        for row in &self.heard {
+            whole.extend_from_slice(&row.to_le_bytes())?;
+        }
+        Ok(whole)
     }
 
     /// Chooses the lowest of these processes above this one that isn't asleep.
@@ -100,7 +156,7 @@ impl Search {
         chosen: Ready,
     ) -> Result<Vec<Pid>, AllocError> {
         let mut still = Vec::new(self.alloc);
-        if !self.reduced {
+        if !self.reduction.exchanged {
             return Ok(still);
         }
         for pid in asleep {
@@ -128,6 +184,35 @@ impl Chooser for Search {
             Some(place) => self.choose_above(place.chosen, place.asleep, ready),
             None => Ok(None),
         }
+    }
+
+    fn compares(&self) -> bool {
+        self.reduction.merged
+    }
+
+    fn hear(&mut self, entry: &Entry, object: Option<u32>) -> Result<(), AllocError> {
+        let index = entry.pid.0 as usize;
+        for _ in self.heard.len()..index.saturating_add(1) {
+            self.heard.push(0)?;
+        }
+        if let Some(row) = self.heard.get_mut(index) {
+            *row = self.answers.behind(*row, entry, object)?;
+        }
+        Ok(())
+    }
+
+    fn is_new(&self, made: usize) -> bool {
+        self.reduction.merged && made >= self.places.len()
+    }
+
+    fn is_met(&mut self, point: Vec<u8>) -> Result<bool, AllocError> {
+        let asleep = self.next_asleep()?;
+        let whole = self.with_answers(point)?;
+        if self.met.has(&whole, &asleep) {
+            return Ok(true);
+        }
+        self.met.add(whole, asleep)?;
+        Ok(false)
     }
 }
 

@@ -1,11 +1,18 @@
 //! All orders of a script.
-use crate::machine::{found_by, list_of};
+use crate::machine::{found_by, list_of, run_in};
 use std::alloc::Global;
 use std::test::Fail;
-use ux_orders::Found;
+use ux_orders::{Found, Ran, Reduction, read_order};
+use ux_types::Pid;
 
 /// More runs than any script here has.
 const MANY: u64 = 1000;
+
+/// Each call stands wherever it may.
+const EXCHANGED: Reduction = Reduction {
+    exchanged: true,
+    merged: false,
+};
 
 /// A script with what its orders come to.
 struct Row {
@@ -146,7 +153,7 @@ fn has_outcomes(alloc: Global, found: &Found, row: &Row) -> Result<bool, Fail> {
 #[test]
 fn all_orders_and_their_outcomes_are_found(rt: HostRuntime) -> Result<(), Fail> {
     for row in ROWS {
-        let plain = found_by(rt.alloc(), row.text, MANY, false)?;
+        let plain = found_by(rt.alloc(), row.text, MANY, Reduction::none())?;
         assert!(rt; plain.is_all && plain.orders == row.orders);
         assert!(rt; has_outcomes(rt.alloc(), &plain, row)?);
     }
@@ -156,9 +163,75 @@ fn all_orders_and_their_outcomes_are_found(rt: HostRuntime) -> Result<(), Fail> 
 #[test]
 fn fewer_orders_have_the_same_outcomes(rt: HostRuntime) -> Result<(), Fail> {
     for row in ROWS {
-        let reduced = found_by(rt.alloc(), row.text, MANY, true)?;
+        let reduced = found_by(rt.alloc(), row.text, MANY, EXCHANGED)?;
         assert!(rt; reduced.is_all && reduced.orders == row.reduced);
         assert!(rt; has_outcomes(rt.alloc(), &reduced, row)?);
     }
+    Ok(())
+}
+
+/// In each row orders with the same replies, or with the same processes in the same lines, end in the same state.
+#[test]
+fn orders_that_meet_go_on_as_one(rt: HostRuntime) -> Result<(), Fail> {
+    for row in ROWS {
+        let merged = found_by(rt.alloc(), row.text, MANY, Reduction::all())?;
+        assert!(rt; merged.is_all && merged.orders == row.outcomes.len() as u64);
+        assert!(rt; has_outcomes(rt.alloc(), &merged, row)?);
+    }
+    Ok(())
+}
+
+/// Three processes take two semaphores each, which begin at 1: the lines 13, 20 and 27 take the first, the lines behind
+/// them the second, which is another's first.
+const ROUND: &str = "object p:a counter
+object p:b counter
+object p:c counter
+proc 1 1 0 4
+proc 1 1 0 4
+proc 1 1 0 4
+1 open p:a rw -
+1 open p:b rw -
+1 open p:c rw -
+1 write 0 0100000000000000
+1 write 1 0100000000000000
+1 write 2 0100000000000000
+1 read 0 8
+1 read 1 8
+1 write 1 0100000000000000
+1 write 0 0100000000000000
+2 wait 1 6
+2 open p:b rw -
+2 open p:c rw -
+2 read 0 8
+2 read 1 8
+2 write 1 0100000000000000
+2 write 0 0100000000000000
+3 wait 1 6
+3 open p:c rw -
+3 open p:a rw -
+3 read 0 8
+3 read 1 8
+3 write 1 0100000000000000
+3 write 0 0100000000000000
+";
+
+/// Of millions of orders those end in a deadlock in which each takes its first before another takes its second.
+#[test]
+fn a_deadlock_among_many_orders_is_found_and_made_again(rt: HostRuntime) -> Result<(), Fail> {
+    let found = found_by(rt.alloc(), ROUND, MANY, Reduction::all())?;
+    assert!(rt; found.is_all && found.orders == 2 && found.outcomes.len() == 2);
+    let deadlock = "1,1,1,1,1,1,1,2,2,2,3,3,3";
+    let Some(told) = found.outcomes.iter().find(|ran| ran.is_deadlock()) else {
+        return Err(Fail::from("no deadlock"));
+    };
+    assert_eq!(rt; list_of(rt.alloc(), told)?.as_str(), deadlock);
+    let Some(mut order) = read_order(rt.alloc(), deadlock)? else {
+        return Err(Fail::from("no order"));
+    };
+    let Ran::Deadlock(entries, waits) = run_in(rt.alloc(), ROUND, &mut order)? else {
+        return Err(Fail::from("no deadlock"));
+    };
+    assert!(rt; entries.len() == 13);
+    assert!(rt; waits.as_slice() == [(Pid(1), 14), (Pid(2), 21), (Pid(3), 28)].as_slice());
     Ok(())
 }

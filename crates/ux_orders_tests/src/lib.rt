@@ -7,3 +7,7 @@ mod exploring;
 mod machine;
 #[cfg(test)]
 mod one;
+#[cfg(test)]
+mod plain;
+#[cfg(test)]
+mod random;

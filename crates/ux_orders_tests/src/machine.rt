@@ -5,35 +5,40 @@ ghost use Rattle.ux_model.specs.Boot.{IsBootState, new_process};
 use std::alloc::Global;
 use std::test::Fail;
 use ux_kernel::Kernel;
-use ux_objects::Counter;
+use ux_objects::{FailAt, Plain};
 use ux_orders::{
-    Boot, Chooser, Found, Order, OrderFault, OrderList, Ran, explore, make_order, run_order,
+    Boot, Chooser, Found, Order, OrderFault, OrderList, Ran, Reduction, explore, make_order,
+    run_order,
 };
 use ux_syntax::{Script, parse_script};
 use ux_types::Name;
 
-/// Makes kernels with a counter for each object of a script.
+/// Makes kernels over the file objects of a script.
 #[derive(Drop)]
 pub struct Machine {
     pub alloc: Global,
 }
 
 impl Boot for Machine {
-    type Object = Counter;
+    type Object = FailAt;
 
-    fn boot(&mut self, script: &Script) -> Result<Kernel<Counter>, OrderFault> {
+    fn boot(&mut self, script: &Script) -> Result<Kernel<FailAt>, OrderFault> {
         kernel_of(self.alloc, script)
     }
 }
 
-/// A kernel of a script's processes, with a counter for each of its objects.
-fn kernel_of(alloc: Global, script: &Script) -> Result<Kernel<Counter>, OrderFault>
+/// A kernel of a script's processes over its file objects, as they are at first.
+fn kernel_of(alloc: Global, script: &Script) -> Result<Kernel<FailAt>, OrderFault>
     ensures boots { IfOk result (λ kernel. IsBootState kernel) }
     ensures processes { IfOk result (λ kernel. kernel.processes ≡ map new_process script.now.procs.items) }
 {
-    let mut objects: Vec<(Name, Counter)> = Vec::new(alloc);
+    let mut objects: Vec<(Name, FailAt)> = Vec::new(alloc);
     for line in &script.objects {
-        objects.push((line.name.clone()?, Counter::new()))?;
+        let Ok(plain) = Plain::new(alloc, line.kind, line.body.as_slice()) else {
+            return Err(OrderFault::NoMemory);
+        };
+        let object = FailAt::new(plain, line.fail.unwrap_or(0));
+        objects.push((line.name.clone()?, object))?;
     }
     match Kernel::boot(alloc, objects, &script.procs) {
         Ok(kernel) => Ok(kernel),
@@ -74,9 +79,14 @@ pub fn run_in(alloc: Global, text: &str, order: &mut Order) -> Result<Ran, Fail>
 }
 
 /// What all orders of a script come to.
-pub fn found_by(alloc: Global, text: &str, limit: u64, reduced: bool) -> Result<Found, Fail> {
+pub fn found_by(
+    alloc: Global,
+    text: &str,
+    limit: u64,
+    reduction: Reduction,
+) -> Result<Found, Fail> {
     let script = script_of(alloc, text)?;
-    match explore(alloc, &script, &mut Machine { alloc }, limit, reduced) {
+    match explore(alloc, &script, &mut Machine { alloc }, limit, reduction) {
         Ok(found) => Ok(found),
         Err(_) => Err(Fail::from("not explored")),
     }
