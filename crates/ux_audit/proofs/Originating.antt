@@ -146,6 +146,7 @@ pub record GivesNot (r : Request) : Type 0 where
   pub not_accept : (fd : Fd) (flags : OpenFlags) → r ≡ Request.Accept fd flags → ⊥
   pub not_dup : (fd : Fd) → r ≡ Request.Dup fd → ⊥
   pub not_dup2 : (fd to : Fd) → r ≡ Request.Dup2 fd to → ⊥
+  pub not_dup_from : (fd minimum : Fd) → r ≡ Request.DupFrom fd minimum → ⊥
   pub not_receive : (fd : Fd) (n space : ℕ) (flags : MsgFlags) → r ≡ Request.RecvMsg fd n space flags → ⊥
   pub not_fork : r ≡ Request.Fork → ⊥
 
@@ -156,6 +157,7 @@ no_sources S p (Request.SocketPair kind flags) g = absurd (g.not_pair kind flags
 no_sources S p (Request.Accept fd flags) g = absurd (g.not_accept fd flags refl)
 no_sources S p (Request.Dup fd) g = absurd (g.not_dup fd refl)
 no_sources S p (Request.Dup2 fd to) g = absurd (g.not_dup2 fd to refl)
+no_sources S p (Request.DupFrom fd minimum) g = absurd (g.not_dup_from fd minimum refl)
 no_sources S p (Request.RecvMsg fd n space flags) g = absurd (g.not_receive fd n space flags refl)
 no_sources S p _ g = refl
 
@@ -176,11 +178,12 @@ makes_way r o (inr (inr (inl w))) = ap (λ (x : Request). how_of x o) w.2
 makes_way r o (inr (inr (inr w))) = ap (λ (x : Request). how_of x o) w.2
 
 abbrev pub Copies : Request → Fd → Type 0
-Copies r source = (r ≡ Request.Dup source) ⊎ ((x : Fd) × (r ≡ Request.Dup2 source x))
+Copies r source = (r ≡ Request.Dup source) ⊎ (((x : Fd) × (r ≡ Request.Dup2 source x)) ⊎ ((x : Fd) × (r ≡ Request.DupFrom source x)))
 
 pub copies_way : (r : Request) (o : Option ℕ) (source : Fd) → Copies r source → (how_of r o ≡ Some How.Dup) × (copied r ≡ Some source.0)
 copies_way r o source (inl w) = (ap (λ (x : Request). how_of x o) w, ap copied w)
-copies_way r o source (inr w) = (ap (λ (x : Request). how_of x o) w.1, ap copied w.1)
+copies_way r o source (inr (inl w)) = (ap (λ (x : Request). how_of x o) w.1, ap copied w.1)
+copies_way r o source (inr (inr w)) = (ap (λ (x : Request). how_of x o) w.1, ap copied w.1)
 
 -- ---- what was found
 

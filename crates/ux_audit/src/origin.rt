@@ -112,9 +112,9 @@ pub(crate) fn origin(
             how: How::Made,
             from: None,
         }),
-        Request::Dup { fd: source } | Request::Dup2 { fd: source, .. } => {
-            Some(own(entry, j, How::Dup, *source))
-        }
+        Request::Dup { fd: source }
+        | Request::Dup2 { fd: source, .. }
+        | Request::DupFrom { fd: source, .. } => Some(own(entry, j, How::Dup, *source)),
         Request::RecvMsg { .. } => return received(alloc, entries, j, entry, fd),
         Request::Fork => Some(own(entry, j, How::Forked, fd)),
         _ => None,

@@ -27,6 +27,7 @@ pub(crate) enum Call {
     Accept(u32),
     Dup(u32),
     Dup2(u32, u32),
+    DupFrom(u32, u32),
     /// The flag FD_CLOEXEC.
     Mark(u32, bool),
     Close(u32),
@@ -121,6 +122,10 @@ fn request_of(alloc: Global, call: Call) -> Result<Request, AllocError> {
         Call::Dup2(fd, to) => Request::Dup2 {
             fd: Fd(fd),
             to: Fd(to),
+        },
+        Call::DupFrom(fd, minimum) => Request::DupFrom {
+            fd: Fd(fd),
+            minimum: Fd(minimum),
         },
         Call::Mark(fd, on) => Request::SetFlags {
             fd: Fd(fd),

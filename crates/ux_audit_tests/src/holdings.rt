@@ -53,6 +53,27 @@ fn a_program_inherits_what_has_no_flag(rt: HostRuntime) -> Result<(), Fail> {
 }
 
 #[test]
+fn a_copy_from_a_minimum_on_is_a_dup(rt: HostRuntime) -> Result<(), Fail> {
+    let calls = [
+        (1, Call::Open(false)),
+        (1, Call::DupFrom(0, 2)),
+        (1, Call::DupFrom(2, 0)),
+        (1, Call::DupFrom(7, 0)),
+        (1, Call::Close(0)),
+    ];
+    let entries = history(rt.alloc(), 1, &calls)?;
+    expect(
+        &rt,
+        rt.alloc(),
+        entries.as_slice(),
+        &[
+            (1, 1, "made 0 1 0; dup 1 1 2; dup 2 1 1"),
+            (1, 2, "made 0 1 0; dup 1 1 2"),
+        ],
+    )
+}
+
+#[test]
 fn nobody_holds_anything(rt: HostRuntime) -> Result<(), Fail> {
     let none = history(rt.alloc(), 1, &[])?;
     expect(&rt, rt.alloc(), none.as_slice(), &[])?;

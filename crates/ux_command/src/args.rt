@@ -1,5 +1,6 @@
 //! The command line.
 
+use crate::forms::with_forms;
 use crate::orders::{LIMIT, NO_LIMIT, NO_ORDER, with_orders};
 use crate::point::{Point, number_of};
 use crate::views::{NO_POINT, point_of, with_views};
@@ -34,6 +35,10 @@ pub struct Args<'a> {
     pub order: Option<Order>,
     /// How many orders are made at most, where all are asked for.
     pub orders: Option<u32>,
+    /// Whether what is printed is JSON, one value a line.
+    pub json: bool,
+    /// Whether it is told on standard error how far a long run is. No option asks for it.
+    pub progress: bool,
     /// A path, or `-` for standard input.
     pub script: &'a str,
 }
@@ -60,7 +65,8 @@ fn command_of<'a>(alloc: Global) -> Result<Command<'a>, AllocError> {
         .arg(switch(alloc, "expect", EXPECT))?
         .arg(switch(alloc, "check", CHECK))?
         .arg(script)?;
-    with_orders(alloc, with_views(alloc, command)?)
+    let command = with_orders(alloc, with_views(alloc, command)?)?;
+    with_forms(alloc, command)
 }
 
 /// Reads the words of a command line, of which the first is the program's name.
@@ -91,6 +97,8 @@ pub fn read_args<'a>(alloc: Global, words: &'a [String]) -> Result<Args<'a>, Err
         sequence: matches.get_flag("sequence"),
         order,
         orders,
+        json: matches.get_flag("json"),
+        progress: false,
         script: matches.get_str("SCRIPT").unwrap_or("-"),
     })
 }

@@ -3,6 +3,8 @@
 
 mod args;
 mod fault;
+mod forms;
+mod meter;
 mod orders;
 mod point;
 mod source;
@@ -10,5 +12,6 @@ mod views;
 
 pub use args::{Args, read_args};
 pub use fault::Fault;
+pub use meter::Meter;
 pub use point::Point;
 pub use source::{Kept, Source};

@@ -46,6 +46,23 @@ impl Source {
         }
     }
 
+    /// Keeps a further line.
+    pub fn add_line(&mut self, line: &[u8]) {
+        self.keep(line);
+        self.keep(b"\n");
+    }
+
+    /// Empties the line that was added last, and had so many bytes.
+    pub fn empty_line(&mut self, len: usize) {
+        let Some(mut text) = self.text.take() else {
+            return;
+        };
+        text.truncate(text.len().saturating_sub(len).saturating_sub(1));
+        if text.push(b'\n').is_ok() {
+            self.text = Some(text);
+        }
+    }
+
     /// Why a fault of the script of this name is one, in lines for standard error, if there is more to tell than the
     /// fault itself tells.
     ///
@@ -75,8 +92,12 @@ impl Source {
         }
     }
 
-    /// Why a line is at fault.
-    fn line_reason(
+    /// Why a line is at fault, in lines for standard error.
+    ///
+    /// # Errors
+    ///
+    /// `AllocError` where memory runs out.
+    pub fn line_reason(
         &self,
         alloc: Global,
         fault: &ScriptFault,

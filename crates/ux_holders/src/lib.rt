@@ -12,6 +12,7 @@ mod rows;
 mod snapshot;
 mod sockets;
 mod text;
+mod values;
 mod words;
 
 pub use graph::dot;
@@ -19,3 +20,4 @@ pub use rows::{
     DescriptionRow, MessageRow, NumberRow, ObjectRow, PathRow, ProcessRow, SocketRow, TargetRow,
 };
 pub use snapshot::{Snapshot, take_snapshot};
+pub use values::snapshot_values;

@@ -1,4 +1,4 @@
-//! Tests of snapshots: their texts, and their graphs.
+//! Tests of snapshots: their texts, their graphs, and their values.
 #![tactic(auto)]
 
 #[cfg(test)]
@@ -11,3 +11,5 @@ mod listings;
 mod moments;
 #[cfg(test)]
 mod sequences;
+#[cfg(test)]
+mod values;

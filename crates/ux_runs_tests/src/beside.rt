@@ -16,7 +16,7 @@ use ux_threads::{NoGate, Ran, make_threads};
 use ux_types::{Entry, Name};
 
 /// A kernel of a script's processes, with a counter for each of its objects.
-fn kernel_of(alloc: Global, script: &Script) -> Result<Kernel<Counter>, Fail>
+pub(crate) fn kernel_of(alloc: Global, script: &Script) -> Result<Kernel<Counter>, Fail>
     ensures boots { IfOk result (λ kernel. IsBootState kernel) }
     ensures processes { IfOk result (λ kernel. kernel.processes ≡ map new_process script.now.procs.items) }
 {
@@ -31,7 +31,7 @@ fn kernel_of(alloc: Global, script: &Script) -> Result<Kernel<Counter>, Fail>
 }
 
 /// The history of a script whose lines are made in order.
-fn serial_history(alloc: Global, script: &Script) -> Result<Vec<Entry>, Fail> {
+pub(crate) fn serial_history(alloc: Global, script: &Script) -> Result<Vec<Entry>, Fail> {
     let kernel = kernel_of(alloc, script)?;
     Ok(make_serial(alloc, script, kernel)?)
 }

@@ -237,3 +237,28 @@ fn boot_faults_are_told_by_their_numbers(rt: HostRuntime) -> Result<(), Fail> {
     }
     Ok(())
 }
+
+/// Command lines that ask for things that exclude each other.
+const EXCLUDING: &[[&str; 2]] = &[
+    ["--json", "--echo"],
+    ["--json", "--orders"],
+    ["--json", "--dot=1"],
+    ["--json", "--sequence"],
+];
+
+#[test]
+fn json_is_asked_for(rt: HostRuntime) -> Result<(), Fail> {
+    let words = texts(rt.alloc(), &["uxrun", "--json", "--expect", "a.ux"])?;
+    let args = read_args(rt.alloc(), words.as_slice())
+        .ok()
+        .ok_or("not understood")?;
+    assert!(rt; args.json && args.expect);
+    for [one, other] in EXCLUDING {
+        let words = texts(rt.alloc(), &["uxrun", one, other, "-"])?;
+        let told = read_args(rt.alloc(), words.as_slice())
+            .err()
+            .ok_or("understood")?;
+        assert!(rt; told.kind() == ErrorKind::ArgumentConflict);
+    }
+    Ok(())
+}

@@ -11,6 +11,10 @@ mod command;
 #[cfg(test)]
 mod malformed;
 #[cfg(test)]
+mod metering;
+#[cfg(test)]
 mod serial;
 #[cfg(test)]
 mod threads;
+#[cfg(test)]
+mod told;

@@ -2,3 +2,4 @@ pub mod Traces
 pub mod Runs
 pub mod Echoing
 pub mod Answering
+pub mod Tellings

@@ -1,3 +1,4 @@
 pub mod Writes
 pub mod Runs
 pub mod Comparing
+pub mod Telling

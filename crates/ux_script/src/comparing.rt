@@ -25,8 +25,9 @@ fn call_of<'a>(line: usize, lines: &[Option<usize>], history: &'a [Entry]) -> Op
     None
 }
 
-/// What the first call whose line has this number answered.
-fn answer_of(
+/// What the first call whose line has this number answered, as a trace has it. Beside each call of the history stands the
+/// number of its script's line.
+pub(crate) fn answer_of(
     alloc: Global,
     line: usize,
     lines: &[Option<usize>],
@@ -40,7 +41,8 @@ fn answer_of(
     }
 }
 
-fn is_met(reply: &[u8], got: &Option<String>) -> bool
+/// Whether a call answered what is expected. One that wasn't made didn't.
+pub(crate) fn is_met(reply: &[u8], got: &Option<String>) -> bool
     ensures { result ≡ is_met reply.now (option_map string_bytes got.now) }
 {
     match got {

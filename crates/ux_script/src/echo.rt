@@ -13,7 +13,7 @@ use ux_trace::echo_text;
 use ux_types::Entry;
 
 /// The number of the line of the call at this place, where it has one.
-fn line_at(lines: &[Option<usize>], place: usize) -> Option<usize>
+pub(crate) fn line_at(lines: &[Option<usize>], place: usize) -> Option<usize>
     ensures { result ≡ slice_index_or lines.now place None }
 {
     match lines.get(place) {

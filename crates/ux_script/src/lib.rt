@@ -1,15 +1,17 @@
-//! Runs a script over a kernel, one call after the other, and writes the trace of its history, or the history beside
-//! the script.
+//! Runs a script over a kernel, one call after the other, and writes the trace of its history, the history beside
+//! the script, or both as JSON.
 #![tactic(auto)]
 
 mod comparing;
 mod echo;
 mod places;
 mod run;
+mod told;
 mod write;
 
 pub use comparing::differences;
 pub use echo::finish_echo;
 pub use places::line_numbers;
-pub use run::{finish_trace, make_serial, run_serial};
+pub use run::{NoWatch, Watch, finish_trace, make_serial, make_watched, run_serial};
+pub use told::{finish_json, write_differences, write_value};
 pub use write::{put_all, write_trace};

@@ -25,6 +25,19 @@ use ux_object::FileObject;
 use ux_syntax::{Act, Script, ScriptFault};
 use ux_types::{Entry, Pid, Reply, Request};
 
+/// Whoever wants to know how far a run is.
+pub trait Watch {
+    /// The turn of a further line comes.
+    fn turn(&self);
+}
+
+/// Nobody wants to know.
+pub struct NoWatch;
+
+impl Watch for NoWatch {
+    fn turn(&self) {}
+}
+
 /// Makes the script's calls in order on a kernel that has just started with the script's processes,
 /// then an exit of each process that is left, and ends the layer where the script says so; and writes
 /// the trace. A file object that a call released is dropped before the next call. The trace is written when
@@ -84,10 +97,34 @@ pub fn make_serial<O: FileObject>(
     // A script that a text spells has no stranger.
     ensures stranger { IfErr result (λ f. f ≡ ScriptFault.Stranger → ¬ IsOrderly (plan_of script.now)) }
 {
+    make_watched(alloc, script, kernel, &NoWatch)
+}
+
+/// As `make_serial`, and tells of each line that its turn came.
+///
+/// # Errors
+///
+/// `NoMemory`, also where a fork makes no process; `Stranger` where a line is of no live process.
+pub fn make_watched<O: FileObject, P: Watch>(
+    alloc: Global,
+    script: &Script,
+    kernel: Kernel<O>,
+    watch: &P,
+) -> Result<Vec<Entry>, ScriptFault>
+    requires boots { IsBootState kernel }
+    requires processes { kernel.processes ≡ map new_process script.now.procs.items }
+    // The entries are a legal history from the kernel's state.
+    ensures legal { IfOk result (λ entries. IsLegal kernel entries.items) }
+    // It makes the script's calls in order, then the missing exits, and the end of the layer where the script has it.
+    ensures calls { IfOk result (λ entries. map line_of_entry entries.items ≡ all_turns (plan_of script.now)) }
+    ensures fault { IfErr result (λ f. (f ≡ ScriptFault.NoMemory) ⊎ (f ≡ ScriptFault.Stranger)) }
+    // A script that a text spells has no stranger.
+    ensures stranger { IfErr result (λ f. f ≡ ScriptFault.Stranger → ¬ IsOrderly (plan_of script.now)) }
+{
     let Ok(trail) = Trail::new(alloc) else {
         return Err(ScriptFault::NoMemory);
     };
-    match run_calls::<Brand, O>(alloc, trail, script, kernel) {
+    match run_calls::<Brand, O, P>(alloc, trail, script, kernel, watch) {
         Ok(entries) => Ok(entries),
         Err(CallFault::Stranger) => Err(ScriptFault::Stranger),
         Err(_) => Err(ScriptFault::NoMemory),
@@ -116,11 +153,12 @@ pub fn finish_trace<W: Write>(
 }
 
 /// Makes all calls of a run.
-fn run_calls<W: BookName, O: FileObject>(
+fn run_calls<W: BookName, O: FileObject, P: Watch>(
     alloc: Global,
     trail: Trail,
     script: &Script,
     kernel: Kernel<O>,
+    watch: &P,
 ) -> Result<Vec<Entry>, CallFault>
     requires trail { trail ≡ record { id = W.trail; entries = []; given = 0 } }
     requires boots { IsBootState kernel }
@@ -133,21 +171,22 @@ fn run_calls<W: BookName, O: FileObject>(
     let Ok(mut serial) = Serial::<W, O>::new(alloc, trail, kernel) else {
         return Err(CallFault::NoMemory);
     };
-    make_all(&mut serial, script)?;
+    make_all(&mut serial, script, watch)?;
     Ok(serial.into_entries())
 }
 
 /// Makes the script's calls in order, then the missing exits, and ends the layer where the script says so.
-fn make_all<W: BookName, O: FileObject>(
+fn make_all<W: BookName, O: FileObject, P: Watch>(
     serial: &mut Serial<W, O>,
     script: &Script,
+    watch: &P,
 ) -> Result<(), CallFault>
     requires { Makes serial.old script.now [] }
     ensures made { OnOk result (Makes serial.new script.now (all_turns (plan_of script.now))) }
     ensures boot { OnOk result (serial.new.boot ≡ serial.old.boot) }
     ensures stranger { IfErr result (λ f. f ≡ CallFault.Stranger → ¬ IsOrderly (plan_of script.now)) }
 {
-    make_calls(serial, script)?;
+    make_calls(serial, script, watch)?;
     let count = serial.process_count();
     make_exits(serial, script, count)?;
     if !script.off {
@@ -157,9 +196,10 @@ fn make_all<W: BookName, O: FileObject>(
 }
 
 /// Makes the script's calls in order. Nobody waits in a run of one thread.
-fn make_calls<W: BookName, O: FileObject>(
+fn make_calls<W: BookName, O: FileObject, P: Watch>(
     serial: &mut Serial<W, O>,
     script: &Script,
+    watch: &P,
 ) -> Result<(), CallFault>
     requires { Makes serial.old script.now [] }
     ensures made { OnOk result (Makes serial.new script.now (call_lines script.now.lines.items)) }
@@ -167,6 +207,7 @@ fn make_calls<W: BookName, O: FileObject>(
     ensures stranger { IfErr result (λ f. f ≡ CallFault.Stranger → ¬ IsOrderly (plan_of script.now)) }
 {
     for line in &script.lines {
+        watch.turn();
         match &line.act {
             Act::Call(request) => make_call(serial, line.pid, request)?,
             Act::Wait(..) => {}

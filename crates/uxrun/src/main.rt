@@ -2,28 +2,33 @@
 #![tactic(auto)]
 
 mod audit;
+mod json;
 mod machines;
 mod moments;
 mod objects;
 mod orders;
 mod printing;
+mod progress;
 mod reading;
 
 use audit::tell_audit;
 use clap::Error;
 use clap::error::ErrorKind;
+use json::print_json;
 use moments::{calls_until, tell_moments};
 use objects::{check_script, run_script};
 use orders::{Made, run_in_order, tell_orders};
 use printing::{print_comparison, print_run};
 use reading::script_of;
+use std::io::IsTerminal;
 use std::process::ExitCode;
 use std::random::RandomSource;
-use std::rt::Files;
+use std::rt::{Clock, Files};
 use std::sync::Wait;
 use std::thread::Threads;
 use std::{env, io};
-use ux_command::{Args, Fault, Source, read_args};
+use ux_command::{Args, Fault, Meter, Source, read_args};
+use ux_json::check_value;
 use ux_syntax::{Expectation, Script, ScriptFault};
 use ux_threads::Ran;
 use ux_types::Entry;
@@ -34,35 +39,54 @@ const NOT_UNDERSTOOD: u8 = 2;
 /// Runs the script that was named, and prints its trace to standard output; where it is asked for, compares the
 /// answers, makes the calls once more, and reports how many entries there are, and who came to which descriptor through
 /// whom.
-fn run<R: Files + Input + Threads + Wait + Print + RandomSource + AllocGlobal + Sync>(
-    rt: &R,
-    args: &mut Args<'_>,
-    source: &mut Source,
-) -> Result<(), Fault> {
+fn run<
+    R: Files + Input + Threads + Wait + Clock + Print + Eprint + RandomSource + AllocGlobal + Sync,
+>(rt: &R, args: &mut Args<'_>, source: &mut Source) -> Result<(), Fault> {
     let (script, expected) = script_of(rt, args, source)?;
     if script.serial && (args.order.is_some() || args.orders.is_some()) {
         return Err(Fault::Script(ScriptFault::OneOrder));
     }
     if let Some(limit) = args.orders {
         let expected = args.expect.then_some(expected.as_slice());
-        return tell_orders(rt, &script, expected, limit);
+        return tell_orders(rt, &script, expected, limit, args.progress);
     }
-    let mut history = history_of(rt, args, &script, &expected)?;
+    let history = history_of(rt, args, &script, &expected)?;
     print_run(rt, args, &script, &expected, &history)?;
+    tell_rest(rt, args, &script, history)
+}
+
+/// What is told behind the trace: makes the calls once more, and tells who holds which descriptor, where it is asked for.
+fn tell_rest<R: Threads + Wait + Clock + Print + Eprint + RandomSource + AllocGlobal + Sync>(
+    rt: &R,
+    args: &Args<'_>,
+    script: &Script,
+    history: Vec<Entry>,
+) -> Result<(), Fault> {
+    let mut history = history;
     if args.check {
-        history = check_script(rt, &script, history)?;
-        println!(rt; "check ok {}", history.len()).map_err(|_| ScriptFault::Writing)?;
+        let meter = Meter::new(rt, args.progress, "calls made again");
+        history = check_script(rt, script, history, &meter)?;
+        tell_check(rt, args, history.len())?;
     }
     if let Some(point) = args.audit {
-        let count = calls_until(rt.alloc(), &script, &history, point)?;
-        tell_audit(rt, &history[..count])?;
+        let count = calls_until(rt.alloc(), script, &history, point)?;
+        tell_audit(rt, &history[..count], args.json)?;
     }
-    tell_moments(rt, args, &script, &history)
+    tell_moments(rt, args, script, &history)
+}
+
+/// Tells how many calls were made again and answered alike.
+fn tell_check<R: Print + AllocGlobal>(rt: &R, args: &Args<'_>, calls: usize) -> Result<(), Fault> {
+    if args.json {
+        return print_json(rt, &check_value(rt.alloc(), calls)?);
+    }
+    println!(rt; "check ok {calls}").map_err(|_| ScriptFault::Writing)?;
+    Ok(())
 }
 
 /// Runs the script. Where it isn't run to its end, that is what is reported, behind what there is to print: also where
 /// it can't be printed.
-fn history_of<R: Threads + Wait + Print + RandomSource + AllocGlobal + Sync>(
+fn history_of<R: Threads + Wait + Clock + Print + Eprint + RandomSource + AllocGlobal + Sync>(
     rt: &R,
     args: &mut Args<'_>,
     script: &Script,
@@ -76,7 +100,7 @@ fn history_of<R: Threads + Wait + Print + RandomSource + AllocGlobal + Sync>(
         }
         Err(fault) => {
             if args.expect {
-                let _told = print_comparison(rt, expected, &[], &[]);
+                let _told = print_comparison(rt, args, expected, &[], &[]);
             }
             Err(fault)
         }
@@ -84,7 +108,7 @@ fn history_of<R: Threads + Wait + Print + RandomSource + AllocGlobal + Sync>(
 }
 
 /// What a run has come to in the order that was asked for.
-fn run_as_asked<R: Threads + Wait + RandomSource + AllocGlobal + Sync>(
+fn run_as_asked<R: Threads + Wait + Clock + Eprint + RandomSource + AllocGlobal + Sync>(
     rt: &R,
     args: &mut Args<'_>,
     script: &Script,
@@ -92,7 +116,8 @@ fn run_as_asked<R: Threads + Wait + RandomSource + AllocGlobal + Sync>(
     if let Some(order) = &mut args.order {
         return run_in_order(rt, script, order);
     }
-    match run_script(rt, script, args.threads)? {
+    let meter = Meter::new(rt, args.progress, "calls made");
+    match run_script(rt, script, args.threads, &meter)? {
         Ran::Whole(history) => Ok(Made::Whole(history)),
         Ran::Begun(history, waiting) => {
             let deadlock = ScriptFault::Deadlock(waiting);
@@ -152,6 +177,7 @@ fn main(rt: HostRuntime) -> ExitCode {
         Err(error) if error.kind() == ErrorKind::OutOfMemory => return failed(&rt, &no_memory),
         Err(error) => return told(&rt, &error),
     };
+    args.progress = rt.stderr().is_terminal();
     let mut source = Source::new(rt.alloc());
     match run(&rt, &mut args, &mut source) {
         Ok(()) => ExitCode::SUCCESS,

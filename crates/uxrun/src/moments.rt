@@ -2,6 +2,7 @@
 
 ghost use Rattle.std.specs.Prelude.{◌≤◌, IfOk, length};
 
+use crate::json::print_json_holders;
 use crate::machines::boot_without_faults;
 use std::alloc::Global;
 use std::random::RandomSource;
@@ -35,7 +36,7 @@ pub fn tell_moments<R: Print + RandomSource + AllocGlobal>(
 ) -> Result<(), Fault> {
     if let Some(point) = args.holders {
         let held = snapshot_at(rt, script, history, point)?;
-        print!(rt; "{held}").map_err(|_| ScriptFault::Writing)?;
+        tell_held(rt, &held, args.json)?;
     }
     if let Some(point) = args.dot {
         let held = snapshot_at(rt, script, history, point)?;
@@ -46,6 +47,15 @@ pub fn tell_moments<R: Print + RandomSource + AllocGlobal>(
         let diagram = sequence_of(rt, script, history)?;
         print!(rt; "{diagram}").map_err(|_| ScriptFault::Writing)?;
     }
+    Ok(())
+}
+
+/// Tells who holds what, as a list or as JSON.
+fn tell_held<R: Print + AllocGlobal>(rt: &R, held: &Snapshot, json: bool) -> Result<(), Fault> {
+    if json {
+        return print_json_holders(rt, held);
+    }
+    print!(rt; "{held}").map_err(|_| ScriptFault::Writing)?;
     Ok(())
 }
 

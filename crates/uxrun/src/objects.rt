@@ -1,21 +1,24 @@
 //! The file objects of a script, and runs over them.
 
-ghost use Rattle.std.specs.Prelude.{◌≡◌, map, IfOk};
+ghost use Rattle.std.specs.Prelude.{◌≡◌, length, map, IfOk};
 ghost use Rattle.ux_model.specs.Boot.{IsBootState, new_process};
 
+use crate::progress::Calls;
 use std::alloc::Global;
 use std::hash::RandomState;
 use std::random::RandomSource;
+use std::rt::Clock;
 use std::sync::Wait;
 use std::thread::Threads;
-use ux_command::Fault;
+use ux_command::{Fault, Meter};
 use ux_kernel::{BootFault, Kernel, Seed};
 use ux_object::FileObject;
 use ux_objects::{FailAt, Plain};
-use ux_replay::{ReplayFault, replay};
-use ux_script::make_serial;
+use ux_replay::{ReplayFault, replay_entry};
+use ux_script::make_watched;
+use ux_state::ReleasedObjects;
 use ux_syntax::{ObjectLine, Script, ScriptFault};
-use ux_threads::{NoGate, Ran, make_threads};
+use ux_threads::{Ran, make_threads};
 use ux_types::{Entry, Name, OBJECT_LIMIT};
 
 /// A file object as a kernel holds it.
@@ -31,22 +34,24 @@ enum Task {
 }
 
 /// Runs the script over its file objects. With `threads` each process is a thread.
-pub fn run_script<R: Threads + Wait + RandomSource + AllocGlobal + Sync>(
+pub fn run_script<R: Threads + Wait + Clock + Eprint + RandomSource + AllocGlobal + Sync>(
     rt: &R,
     script: &Script,
     threads: bool,
+    meter: &Meter<'_, R>,
 ) -> Result<Ran, Fault> {
-    perform(rt, script, Task::Run { threads })
+    perform(rt, script, Task::Run { threads }, meter)
 }
 
 /// Makes the calls of the script's history once more, over file objects that are as they were at first, and gives
 /// the history back.
-pub fn check_script<R: Threads + Wait + RandomSource + AllocGlobal + Sync>(
+pub fn check_script<R: Threads + Wait + Clock + Eprint + RandomSource + AllocGlobal + Sync>(
     rt: &R,
     script: &Script,
     history: Vec<Entry>,
+    meter: &Meter<'_, R>,
 ) -> Result<Vec<Entry>, Fault> {
-    let ran = perform(rt, script, Task::Check { history })?;
+    let ran = perform(rt, script, Task::Check { history }, meter)?;
     Ok(entries_of(ran))
 }
 
@@ -71,10 +76,11 @@ impl Task {
 
 /// Makes the script's file objects, and does this with them. More than a kernel may have are counted before any
 /// is made. The boxes are made and used here, since the gate lets no function hand out a `dyn` value that it made.
-fn perform<R: Threads + Wait + RandomSource + AllocGlobal + Sync>(
+fn perform<R: Threads + Wait + Clock + Eprint + RandomSource + AllocGlobal + Sync>(
     rt: &R,
     script: &Script,
     task: Task,
+    meter: &Meter<'_, R>,
 ) -> Result<Ran, Fault> {
     let alloc: Global = rt.alloc();
     if script.objects.len() > OBJECT_LIMIT {
@@ -90,8 +96,8 @@ fn perform<R: Threads + Wait + RandomSource + AllocGlobal + Sync>(
         objects.push((line.name.clone()?, object))?;
     }
     match task {
-        Task::Run { threads } => run_over(rt, script, threads, objects),
-        Task::Check { history } => check_over(rt, script, history, objects),
+        Task::Run { threads } => run_over(rt, script, threads, objects, meter),
+        Task::Check { history } => check_over(rt, script, history, objects, meter),
     }
 }
 
@@ -113,31 +119,54 @@ pub(crate) fn kernel_of<O: FileObject, R: RandomSource + AllocGlobal>(
 }
 
 /// Runs the script over these file objects.
-fn run_over<O: FileObject + Send, R: Threads + Wait + RandomSource + AllocGlobal + Sync>(
+fn run_over<
+    O: FileObject + Send,
+    R: Threads + Wait + Clock + Eprint + RandomSource + AllocGlobal + Sync,
+>(
     rt: &R,
     script: &Script,
     threads: bool,
     objects: Vec<(Name, O)>,
+    meter: &Meter<'_, R>,
 ) -> Result<Ran, Fault> {
     let alloc: Global = rt.alloc();
     let kernel = kernel_of(rt, script, objects)?;
+    let calls = Calls(meter);
     if threads {
-        return Ok(make_threads(rt, alloc, script, kernel, &NoGate)?);
+        return Ok(make_threads(rt, alloc, script, kernel, &calls)?);
     }
-    Ok(Ran::Whole(make_serial(alloc, script, kernel)?))
+    Ok(Ran::Whole(make_watched(alloc, script, kernel, &calls)?))
 }
 
 /// Makes the calls of a history once more over these file objects.
-fn check_over<O: FileObject, R: RandomSource + AllocGlobal>(
+fn check_over<O: FileObject, R: Clock + Eprint + RandomSource + AllocGlobal>(
     rt: &R,
     script: &Script,
     history: Vec<Entry>,
     objects: Vec<(Name, O)>,
+    meter: &Meter<'_, R>,
 ) -> Result<Ran, Fault> {
-    let kernel = kernel_of(rt, script, objects)?;
-    match replay(rt.alloc(), &history, kernel) {
+    let mut kernel = kernel_of(rt, script, objects)?;
+    let mut released = ReleasedObjects::new(rt.alloc())?;
+    match make_again(&mut kernel, &history, &mut released, meter) {
         Ok(_count) => Ok(Ran::Whole(history)),
         Err(ReplayFault::Differs(number)) => Err(Fault::Differs(number)),
         Err(ReplayFault::NoMemory(_)) => Err(Fault::Script(ScriptFault::NoMemory)),
     }
+}
+
+/// Makes the calls of a history once more, up to the first with another outcome, and gives how many entries it has.
+fn make_again<O: FileObject, R: Clock + Eprint>(
+    kernel: &mut Kernel<O>,
+    history: &[Entry],
+    released: &mut ReleasedObjects<O>,
+    meter: &Meter<'_, R>,
+) -> Result<u64, ReplayFault>
+    ensures { IfOk result (λ n. n ≡ length history.now) }
+{
+    for (index, entry) in history.iter().enumerate() {
+        meter.step();
+        replay_entry(kernel, index as u64, entry, released)?;
+    }
+    Ok(history.len() as u64)
 }

@@ -6,10 +6,11 @@ use std::alloc::{AllocError, Global};
 use std::io;
 use std::io::BufWriter;
 use std::random::RandomSource;
-use ux_command::Fault;
+use std::rt::Clock;
+use ux_command::{Fault, Meter};
 use ux_kernel::Kernel;
 use ux_objects::FailAt;
-use ux_orders::{Boot, Order, OrderFault, OrderList, Ran, explore, make_order};
+use ux_orders::{Boot, Order, OrderFault, OrderList, Ran, Reduction, explore, make_order};
 use ux_script::{differences, finish_trace, line_numbers, put_all};
 use ux_syntax::{Expectation, Script, ScriptFault, Waiting};
 use ux_types::{Entry, Pid};
@@ -17,6 +18,7 @@ use ux_types::{Entry, Pid};
 /// Makes kernels of a script's processes over its file objects as they are at first.
 struct Machine<'a, R> {
     rt: &'a R,
+    meter: Meter<'a, R>,
     /// Why the last kernel wasn't made.
     fault: Option<Fault>,
 }
@@ -24,15 +26,21 @@ struct Machine<'a, R> {
 // Not derived, since it asks nothing of `R`.
 impl<R> Drop for Machine<'_, R> {
     fn drop(self) {
-        let Machine { rt: _, fault } = self;
+        let Machine {
+            rt: _,
+            meter,
+            fault,
+        } = self;
+        drop(meter);
         drop(fault)
     }
 }
 
-impl<R: RandomSource + AllocGlobal> Boot for Machine<'_, R> {
+impl<R: Clock + Eprint + RandomSource + AllocGlobal> Boot for Machine<'_, R> {
     type Object = FailAt;
 
     fn boot(&mut self, script: &Script) -> Result<Kernel<FailAt>, OrderFault> {
+        self.meter.step();
         match boot(self.rt, script) {
             Ok(kernel) => Ok(kernel),
             Err(fault) => {
@@ -74,14 +82,20 @@ pub fn run_in_order<R: RandomSource + AllocGlobal>(
 
 /// Runs the script in all orders, but at most in so many, and prints what they come to: how many orders and outcomes
 /// there are, and of each outcome the order, the trace, and where answers are expected which of them differ.
-pub fn tell_orders<R: Print + RandomSource + AllocGlobal>(
+pub fn tell_orders<R: Print + Clock + Eprint + RandomSource + AllocGlobal>(
     rt: &R,
     script: &Script,
     expected: Option<&[Expectation]>,
     limit: u32,
+    is_shown: bool,
 ) -> Result<(), Fault> {
-    let mut machine = Machine { rt, fault: None };
-    let found = match explore(rt.alloc(), script, &mut machine, u64::from(limit), true) {
+    let mut machine = Machine {
+        rt,
+        meter: Meter::new(rt, is_shown, "orders begun"),
+        fault: None,
+    };
+    let limit = u64::from(limit);
+    let found = match explore(rt.alloc(), script, &mut machine, limit, Reduction::all()) {
         Ok(found) => found,
         Err(fault) => return Err(machine.fault.take().unwrap_or(Fault::from(fault))),
     };

@@ -1,5 +1,6 @@
 //! What is printed of a run.
 
+use crate::json::{print_json_calls, print_json_comparison};
 use std::alloc::{AllocError, Global};
 use std::io;
 use std::io::BufWriter;
@@ -21,17 +22,19 @@ pub fn print_run<R: Print + AllocGlobal>(
     if args.dot.is_some() || args.sequence {
         return Ok(());
     }
-    if !args.echo && !args.expect {
+    if !args.echo && !args.expect && !args.json {
         return print_trace(rt, history);
     }
     let lines = line_numbers(rt.alloc(), script, history)?;
-    if args.echo {
+    if args.json {
+        print_json_calls(rt, &lines, history)?;
+    } else if args.echo {
         print_echo(rt, &lines, history)?;
     } else {
         print_trace(rt, history)?;
     }
     if args.expect {
-        print_comparison(rt, expected, &lines, history)?;
+        print_comparison(rt, args, expected, &lines, history)?;
     }
     Ok(())
 }
@@ -55,10 +58,14 @@ fn print_echo<R: Print + AllocGlobal>(
 /// Tells which answers aren't those that are expected, or how many were compared where all are.
 pub fn print_comparison<R: Print + AllocGlobal>(
     rt: &R,
+    args: &Args<'_>,
     expected: &[Expectation],
     lines: &[Option<usize>],
     history: &[Entry],
 ) -> Result<(), Fault> {
+    if args.json {
+        return print_json_comparison(rt, expected, lines, history);
+    }
     let told = differences(rt.alloc(), expected, lines, history)?;
     if told.is_empty() {
         return tell_expected(rt, expected.len());

@@ -32,6 +32,7 @@ returns-in_default c = record {
         not_accept = c.in_default.not-Accept;
         not_dup = c.in_default.not-Dup;
         not_dup2 = c.in_default.not-Dup2;
+        not_dup_from = c.in_default.not-DupFrom;
         not_receive = c.in_default.not-RecvMsg;
         not_fork = c.in_default.not-Fork;
       });

@@ -1,4 +1,4 @@
-use Rattle.ux_script.proofs.run.make_serial.Given as goal
+use Rattle.ux_script.proofs.run.make_watched.Given as goal
 
 -- the trail that was just made, and the state that the kernel was given in
 abbrev pub ghosts-run_calls : goal.ghosts-run_calls
