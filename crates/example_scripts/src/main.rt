@@ -44,6 +44,7 @@ const SCRIPTS: &[&str] = &[
     "joined_sends",
     "two_lowest_numbers",
     "further_descriptors",
+    "numbers_from_a_minimum",
     "nul_in_names",
     "longest_names",
     "one_name_wanted_twice",
@@ -122,6 +123,7 @@ const SCRIPTS: &[&str] = &[
     "two_clients",
     "passed_file_closed_by_either",
     "child_dies_at_any_point",
+    "message_of_the_day",
 ];
 
 /// A file object as a kernel holds it.

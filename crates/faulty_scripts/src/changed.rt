@@ -27,13 +27,17 @@ const VALID: &[&str] = &[
     "1 send 0 u - x:00ff -",
     "1 send 0 a: 78 c:1,2,3+r:4 d",
     "1 recv 0 4294967295 24 p",
+    "1 recv 0 1 rights:12 -",
+    "1 write 10 \"a b\\n\\x0f\"",
+    "1 send 0 - \"\" x:\" \\\"\\x00a\" d",
+    "object p:a mem \"a \\\\\"",
     "1 shut 0 rw",
     "1 wait 2 10",
     "1 fork",
 ];
 
 /// The bytes that are put in.
-const BYTES: &[u8] = b" 0aAr:%\t";
+const BYTES: &[u8] = b" 0aAr:%\t\"\\x";
 
 /// How many bytes a line may have.
 const LIMIT: usize = 4096;

@@ -69,6 +69,7 @@ const LINES: &[&str] = &[
     "line_after_off",
     "late_serial",
     "fork_of_a_second_process",
+    "getfl_without_serial",
     "fork_beyond_1024",
     "line_after_exit",
     "fork_after_exit",
@@ -80,6 +81,17 @@ const LINES: &[&str] = &[
     "fault_early_in_a_long_line",
     "expectation_behind_a_wait",
     "expectation_behind_a_comment",
+    "text_without_its_end",
+    "unknown_escape",
+    "upper_case_escape",
+    "text_that_runs_on",
+    "text_behind_a_text",
+    "text_for_a_number",
+    "text_for_control",
+    "control_text_without_bytes",
+    "rights_without_a_number",
+    "too_many_rights",
+    "misspelt_rights",
 ];
 
 /// Scripts for whose file objects and processes no layer is made, with the number of the boot fault.

@@ -1,10 +1,11 @@
-//! The layer as a library: a file that is written and read back, a test of a service manager, a parser without rights,
-//! and a key server and a display server with their clients in threads, by `delortxa`; then the crates below it: one process without
-//! threads, two threads as processes, and a process that makes another.
+//! The layer as a library, by `delortxa`: a file that is written and read back, a server and a client in threads, a test of
+//! a service manager, a parser without rights, and a key server and a display server with their clients in threads; then
+//! the crates below it: one process without threads, two threads as processes, and a process that makes another.
 #![tactic(auto)]
 
 mod activation;
 mod display;
+mod greeter;
 mod hello;
 mod key_server;
 mod one_process;
@@ -31,6 +32,7 @@ fn print_history<W: BookName, O: FileObject>(
 
 fn main(rt: HostRuntime) -> Result<()> {
     hello::run(&rt)?;
+    greeter::run(&rt)?;
     activation::run(&rt)?;
     parser::run(&rt)?;
     key_server::run(&rt)?;
