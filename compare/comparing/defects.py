@@ -329,11 +329,27 @@ def _() -> Patches:
 @defect("socket", "the table takes one descriptor more than its limit")
 def _() -> Patches:
     def make(real: Callable) -> Callable:
-        def free(self: Process, count: int) -> list[int]:
+        def free(self: Process, count: int, minimum: int = 0) -> list[int]:
             self.limit += 1
             try:
-                return real(self, count)
+                return real(self, count, minimum)
             finally:
                 self.limit -= 1
         return free
     return [instead(Process, "free_numbers", make)]
+
+
+@defect("dupfd", "a copy from a minimum on takes the lowest number of all")
+def _() -> Patches:
+    def call(kernel: Kernel, process: Process, words: list[str]) -> str:
+        return trace.CALLS["dup"](kernel, process, words[:2])
+    return [mock.patch.dict(trace.CALLS, {"dupfd": call})]
+
+
+@defect("getfl", "close-on-exec isn't told")
+def _() -> Patches:
+    def make(real: Callable) -> Callable:
+        def call(kernel: Kernel, process: Process, words: list[str]) -> str:
+            return real(kernel, process, words).replace("|CLOEXEC", "").replace("CLOEXEC", "-")
+        return call
+    return [mock.patch.dict(trace.CALLS, {"getfl": make(trace.CALLS["getfl"])})]

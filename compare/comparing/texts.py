@@ -8,7 +8,7 @@ from reference.rules import Rule
 
 from .programs import COMPARE, TOP
 
-KEYS = ("script", "what", "answers", "posix", "why")
+KEYS = ("call", "script", "what", "answers", "posix", "why")
 PATH = COMPARE / "differences.txt"
 
 

@@ -1,4 +1,4 @@
-"""open, read, write, lseek and unlink of file objects, dup, dup2, flags and close (pipe(7), eventfd(2))."""
+"""open, read, write, lseek and unlink of file objects, dup, dup2, dupfd, getfl, flags and close (pipe(7), eventfd(2))."""
 from __future__ import annotations
 
 from .kernel import Kernel
@@ -230,6 +230,24 @@ def call_dup2(kernel: Kernel, process: Process, words: list[str]) -> str:
     if number != source:
         kernel.put(process, number, found.description, False)
     return f"fd {number}"
+
+
+def call_dupfd(kernel: Kernel, process: Process, words: list[str]) -> str:
+    """fcntl(2), F_DUPFD."""
+    found = kernel.descriptor(process, int(words[1]))
+    if int(words[2]) >= process.limit:
+        raise Refusal("EINVAL")
+    number = kernel.free_number(process, int(words[2]))
+    kernel.put(process, number, found.description, False)
+    return f"fd {number}"
+
+
+def call_getfl(kernel: Kernel, process: Process, words: list[str]) -> str:
+    """fcntl(2), F_GETFL and F_GETFD."""
+    found = kernel.descriptor(process, int(words[1]))
+    told = found.description.nonblocking and not kernel.follows(Rule.NONBLOCK_OF_THE_REPLAY)
+    held = {"APPEND": found.description.append, "NONBLOCK": told, "CLOEXEC": found.cloexec}
+    return "flags " + ("|".join(name for name, is_set in held.items() if is_set) or "-")
 
 
 def call_flags(kernel: Kernel, process: Process, words: list[str]) -> str:

@@ -54,9 +54,9 @@ class Kernel:
             raise Refusal("ENOTSOCK")
         return target
 
-    def free_number(self, process: Process) -> int:
-        """The lowest free number, or EMFILE."""
-        numbers = process.free_numbers(1)
+    def free_number(self, process: Process, minimum: int = 0) -> int:
+        """The lowest free number that isn't below a minimum, or EMFILE."""
+        numbers = process.free_numbers(1, minimum)
         if not numbers:
             raise Refusal("EMFILE")
         return numbers[0]

@@ -1,15 +1,21 @@
 """Reads a script of uxrun: its file objects, its processes, and the lines of calls."""
 from __future__ import annotations
 
+import re
 from dataclasses import dataclass, field
 from pathlib import Path
 
 from .names import name_in
 
+TEXT = re.compile(r'(?<= )(x:)?"((?:[^"\\]|\\x[0-9a-f]{2}|\\[abtnvfr"\\])*)"(?= |$)')
+BYTE = re.compile(r"\\x(..)|\\(.)|(.)", re.S)
+ESCAPES = dict(zip('abtnvfr"\\', b'\a\b\t\n\v\f\r"\\'))
+RIGHTS = re.compile(r"(?<= )rights:(\d+)(?= )")
+
 
 @dataclass
 class ObjectLine:
-    """A line `object p:NAME [fail N] KIND [HEX]`."""
+    """A line `object p:NAME [fail N] KIND [HEX]`, with text as HEX."""
     path: bytes
     kind: str
     data: bytes
@@ -48,6 +54,25 @@ def bytes_of(hex_word: str) -> bytes:
     return b"" if hex_word == "-" else bytes.fromhex(hex_word)
 
 
+def byte_of(spelled: re.Match[str]) -> int:
+    """The byte of a text that is spelled so."""
+    if spelled[1]:
+        return int(spelled[1], 16)
+    return ESCAPES[spelled[2]] if spelled[2] else ord(spelled[3])
+
+
+def digits_of(text: re.Match[str]) -> str:
+    """The plain word of a text."""
+    return (text[1] or "") + (bytes(map(byte_of, BYTE.finditer(text[2]))).hex() or "-")
+
+
+def plain_line(line: str) -> str:
+    """The line without text, and with control space in bytes (CMSG_SPACE of cmsg(3))."""
+    if line.startswith("#"):
+        return line
+    return RIGHTS.sub(lambda found: str(16 + 8 * ((int(found[1]) + 1) // 2)), TEXT.sub(digits_of, line))
+
+
 def read_object(words: list[str]) -> ObjectLine:
     """The object of a header line's words."""
     fails_at = int(words[3]) if words[2] == "fail" else 0
@@ -63,7 +88,7 @@ def read_process(words: list[str]) -> ProcessLine:
 def parse(text: str) -> Script:
     """Reads a script's text; `wait` lines are no calls and are left out."""
     script = Script()
-    for row, line in enumerate(text.split("\n"), 1):
+    for row, line in enumerate(map(plain_line, text.split("\n")), 1):
         words = line.split(" ")
         if not line or line.startswith("#"):
             continue

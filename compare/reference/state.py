@@ -111,10 +111,10 @@ class Process:
         """Its number, user and group."""
         return self.number, self.uid, self.gid
 
-    def free_numbers(self, count: int) -> list[int]:
-        """The lowest numbers that aren't open, so many at most."""
+    def free_numbers(self, count: int, minimum: int = 0) -> list[int]:
+        """The lowest numbers that aren't open and not below a minimum, so many at most."""
         found: list[int] = []
-        number = 0
+        number = minimum
         while len(found) < count and number < self.limit:
             if number not in self.table:
                 found.append(number)

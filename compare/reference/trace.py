@@ -82,7 +82,8 @@ def call_exit(kernel: Kernel, process: Process, words: list[str]) -> str:
 
 CALLS: dict[str, Call] = {
     "open": files.call_open, "read": call_read, "write": call_write, "lseek": files.call_lseek, "dup": files.call_dup,
-    "dup2": files.call_dup2, "flags": files.call_flags, "close": files.call_close, "unlink": files.call_unlink,
+    "dup2": files.call_dup2, "dupfd": files.call_dupfd, "getfl": files.call_getfl, "flags": files.call_flags,
+    "close": files.call_close, "unlink": files.call_unlink,
     "socket": sockets.call_socket, "pair": sockets.call_pair, "bind": sockets.call_bind, "listen": sockets.call_listen,
     "connect": connecting.call_connect, "accept": sockets.call_accept, "shut": sockets.call_shut,
     "getopt": sockets.call_getopt, "setopt": sockets.call_setopt, "sockname": sockets.call_sockname,
@@ -90,6 +91,7 @@ CALLS: dict[str, Call] = {
     "poll": readiness.call_poll, "fork": call_fork, "exec": call_exec, "exit": call_exit,
 }
 WITHOUT_DESCRIPTOR = {"open", "unlink", "socket", "pair", "fork", "exec", "exit"}
+BEHIND_SERIAL = {"dupfd", "getfl"}
 ADDRESS_PLACE = {"bind": 2, "connect": 2, "send": 2}
 PATH_PLACE = {"open": 1, "unlink": 1}
 

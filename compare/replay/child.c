@@ -100,7 +100,7 @@ static const struct {
     void (*make)(char **);
 } calls[] = {
     {"open", do_open}, {"counter", do_counter}, {"read", do_read}, {"write", do_write}, {"lseek", do_lseek},
-    {"dup", do_dup}, {"dup2", do_dup2}, {"flags", do_flags}, {"close", do_close}, {"unlink", do_unlink},
+    {"dup", do_dup}, {"dup2", do_dup2}, {"dupfd", do_dupfd}, {"getfl", do_getfl}, {"flags", do_flags}, {"close", do_close}, {"unlink", do_unlink},
     {"socket", do_socket}, {"pair", do_pair}, {"bind", do_bind}, {"listen", do_listen}, {"connect", do_connect},
     {"accept", do_accept}, {"shut", do_shut}, {"getopt", do_getopt}, {"setopt", do_setopt}, {"sockname", do_name},
     {"peername", do_name}, {"send", do_send}, {"recv", do_recv}, {"poll", do_poll}, {"fork", do_fork},

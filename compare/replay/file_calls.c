@@ -56,6 +56,31 @@ void do_dup(char **word) { say_count("fd", dup(descriptor_in(word[2]))); }
 
 void do_dup2(char **word) { say_count("fd", dup2(descriptor_in(word[2]), descriptor_in(word[3]))); }
 
+void do_dupfd(char **word) {
+    say_count("fd", fcntl(descriptor_in(word[2]), F_DUPFD, descriptor_in(word[3])));
+}
+
+/* The names of the flags that are set, or a dash. */
+static void say_names(const char *word, int set, const struct named *names, size_t count) {
+    say("%s ", word);
+    if (set == 0) say("-");
+    const char *joint = "";
+    for (size_t i = 0; i < count; i++) {
+        if (!(set & names[i].flag)) continue;
+        say("%s%s", joint, names[i].name);
+        joint = "|";
+    }
+}
+
+/* FD_CLOEXEC is the descriptor's. Of the description's O_APPEND alone is told, as each is non-blocking here. */
+void do_getfl(char **word) {
+    static const struct named names[] = {{O_APPEND, "APPEND"}, {O_CLOEXEC, "CLOEXEC"}};
+    int number = descriptor_in(word[2]);
+    int shared = fcntl(number, F_GETFL), own = shared < 0 ? shared : fcntl(number, F_GETFD);
+    if (own < 0) say_error();
+    else say_names("flags", (shared & O_APPEND) | (own & FD_CLOEXEC ? O_CLOEXEC : 0), names, 2);
+}
+
 void do_flags(char **word) {
     int number = descriptor_in(word[2]);
     int answer = fcntl(number, F_SETFL, open_flags_in(word[3]) & ~O_CLOEXEC);
@@ -70,19 +95,10 @@ void do_unlink(char **word) {
 }
 
 void do_poll(char **word) {
-    static const struct { int flag; const char *name; } conditions[] = {
+    static const struct named conditions[] = {
         {POLLIN, "IN"}, {POLLOUT, "OUT"}, {POLLRDHUP, "RDHUP"}, {POLLHUP, "HUP"}, {POLLERR, "ERR"}, {POLLNVAL, "NVAL"},
     };
     struct pollfd asked = {.fd = descriptor_in(word[2]), .events = POLLIN | POLLOUT | POLLRDHUP};
-    const char *joint = "poll ";
-    if (poll(&asked, 1, 0) < 0) {
-        say_error();
-        return;
-    }
-    if (asked.revents == 0) say("poll -");
-    for (size_t i = 0; i < sizeof conditions / sizeof *conditions; i++) {
-        if (!(asked.revents & conditions[i].flag)) continue;
-        say("%s%s", joint, conditions[i].name);
-        joint = "|";
-    }
+    if (poll(&asked, 1, 0) < 0) say_error();
+    else say_names("poll", asked.revents, conditions, sizeof conditions / sizeof *conditions);
 }

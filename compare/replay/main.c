@@ -137,6 +137,7 @@ static void run_script(char *text) {
     for (char *line; (line = strsep(&text, "\n"));) {
         row++;
         if (line[0] == 0 || line[0] == '#') continue;
+        line = plain_line(line);
         if (strcmp(line, "serial") == 0) {
             check_serial(has_said++);
             continue;

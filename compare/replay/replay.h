@@ -47,6 +47,12 @@ struct object {
     int counter, watch, is_held, has_path, is_gone;
 };
 
+/* A flag, and its name in a trace. */
+struct named {
+    int flag;
+    const char *name;
+};
+
 struct address {
     union {
         struct sockaddr head;
@@ -103,6 +109,9 @@ size_t words_in(char *line, char **words);
 int is_number(const char *word);
 int is_hex(const char *word);
 
+/* text.c: lines with text */
+char *plain_line(char *line);
+
 /* names.c: names and addresses */
 int file_in(const char *word, char *file);
 int address_in(const char *word, struct address *address);
@@ -121,7 +130,7 @@ void say_items(struct msghdr *message);
 
 /* file_calls.c, socket_calls.c, message_calls.c: the calls, each by its words */
 void do_open(char **word), do_counter(char **word), do_read(char **word), do_write(char **word), do_lseek(char **word);
-void do_dup(char **word), do_dup2(char **word), do_flags(char **word), do_close(char **word), do_unlink(char **word);
+void do_dup(char **word), do_dup2(char **word), do_dupfd(char **word), do_getfl(char **word), do_flags(char **word), do_close(char **word), do_unlink(char **word);
 void do_socket(char **word), do_pair(char **word), do_bind(char **word), do_listen(char **word), do_connect(char **word);
 void do_accept(char **word), do_shut(char **word), do_getopt(char **word), do_setopt(char **word), do_name(char **word);
 void do_send(char **word), do_recv(char **word), do_poll(char **word);
