@@ -7,6 +7,8 @@ FLAG_REQUESTS = {"FIONBIO", "FIOCLEX", "FIONCLEX"}
 QUERY_REQUESTS = {"FIONREAD", "TIOCOUTQ", "SIOCINQ", "SIOCOUTQ", "FIOASYNC", "TIOCINQ"}
 MAKES_NUMBER = {"TIOCGPTPEER", "SIOCUNIXFILE", "NS_GET_USERNS", "NS_GET_PARENT", "SECCOMP_IOCTL_NOTIF_ADDFD"}
 O_CLOEXEC = 0o2000000
+O_APPEND, O_NONBLOCK = 0o2000, 0o4000
+FD_CLOEXEC = 1
 DUPLICATES = {"F_DUPFD": False, "F_DUPFD_CLOEXEC": True}
 FORGETS = 4294967295
 
@@ -117,18 +119,19 @@ def put_at(world, block, process, source, target, slot, on_exec):
 
 
 def duplicate(world, block, process, value, result, least, on_exec):
-    """dup and F_DUPFD: dup where the lowest free number is the one given, else dup2."""
+    """dup and F_DUPFD where the lowest free number from the minimum on is the one given, else dup2."""
     source = number_of(value)
+    words = f"dupfd {source} {least}" if least else f"dup {source}"
     if result.error:
-        refuse(world, block, process, f"dup {source}", result, "EBADF", source)
+        refuse(world, block, process, words, result, "EBADF", source)
         return
     slot = world.slot(block, process, source, note_of(value) or result.note)
     if slot is None or max(source, result.value) > HIGHEST:
         block.not_at_all("a descriptor that isn't known")
         return
     on_unix(block, slot)
-    if least <= process.lowest() and result.value == process.lowest():
-        world.step(block, process.seat, f"dup {source}", f"fd {result.value}", slot.description)
+    if result.value == process.lowest(least):
+        world.step(block, process.seat, words, f"fd {result.value}", slot.description)
         process.table[result.value] = copy = Slot(slot.description, on_exec)
         if slot.description.thing is not None:
             slot.description.thing.ends += 1
@@ -144,7 +147,12 @@ def say_fcntl(world, block, process, args, result):
     number, request = number_of(args[0]), str(args[1])
     if request in DUPLICATES:
         duplicate(world, block, process, args[0], result, number_of(args[2], 0), DUPLICATES[request])
-        block.otherwise(f"{request} as dup or dup2")
+        if DUPLICATES[request]:
+            block.otherwise(f"{request} as dupfd and flags")
+    elif request in ("F_GETFD", "F_GETFL") and tells_flags(block, process, number, request, result):
+        slot = process.table[number]
+        world.step(block, process.seat, f"getfl {number}", f"flags {flag_names(slot, request, result.value)}", slot.description)
+        block.otherwise(f"{request} as getfl, which tells the other's flags too")
     elif request in ("F_SETFD", "F_SETFL") and not result.error:
         slot = world.slot(block, process, number, note_of(args[0]))
         if slot is None or number > HIGHEST:
@@ -157,6 +165,25 @@ def say_fcntl(world, block, process, args, result):
     else:
         on_unix(block, process.table.get(number))
         block.leave_out(f"fcntl {request}")
+
+
+def tells_flags(block, process, number, request, result):
+    """Whether flags are told of a socket that the script knows whole."""
+    slot = process.table.get(number)
+    on_unix(block, slot)
+    return block.unix and not result.error and not slot.description.unknown and number <= HIGHEST
+
+
+def flag_names(slot, request, value):
+    """The flags as the log tells them, and those that this request doesn't tell as they were set."""
+    description = slot.description
+    append, nonblocking, on_exec = description.append, description.nonblocking, slot.on_exec
+    if request == "F_GETFL":
+        append, nonblocking = bool(value & O_APPEND), bool(value & O_NONBLOCK)
+    else:
+        on_exec = bool(value & FD_CLOEXEC)
+    names = {"APPEND": append, "NONBLOCK": nonblocking, "CLOEXEC": on_exec}
+    return "|".join(name for name, is_set in names.items() if is_set) or "-"
 
 
 def take_flags(slot, request, value):

@@ -129,9 +129,9 @@ class Process:
     execs: int = 0
     last: int = 0
 
-    def lowest(self):
-        """The lowest number that is free."""
-        number = 0
+    def lowest(self, least=0):
+        """The lowest number that is free, from this one on."""
+        number = least
         while number in self.table:
             number += 1
         return number
