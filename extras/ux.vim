@@ -12,6 +12,9 @@ syntax match uxCall /\(shut\|getopt\|setopt\|sockname\|peername\|send\|recv\|pol
 syntax match uxWait /wait\>/ contained
 syntax match uxName /\<[pa]:\S*/
 syntax match uxControl /\<\(x:[0-9a-f]\+\|[rc]:[0-9,]\+\)\(+[rc]:[0-9,]\+\)\?/
+syntax match uxSpace /\<rights:\d\+/
+syntax region uxText start=/\%( \|x:\)\@<="/ skip=/\\./ end=/"/ oneline contains=uxEscape
+syntax match uxEscape /\\\(x[0-9a-f]\{2}\|[abtnvfr"\\]\)/ contained
 syntax match uxKind /\<\(mem\|counter\|pipe\|fail\|stream\|dgram\|seq\)\>/
 
 highlight default link uxComment Comment
@@ -22,6 +25,9 @@ highlight default link uxCall Function
 highlight default link uxWait Statement
 highlight default link uxName String
 highlight default link uxControl Special
+highlight default link uxSpace Special
+highlight default link uxText String
+highlight default link uxEscape SpecialChar
 highlight default link uxKind Type
 
 let b:current_syntax = 'ux'

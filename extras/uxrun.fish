@@ -1,8 +1,9 @@
 # Made by extras/make from docs/uxrun.md: completion of uxrun in fish.
 complete -c uxrun -l threads -d 'each process is a thread, which makes its own lines in their order, by calls that wait where their manual pages say so, and then exits'
 complete -c uxrun -l order -x -d 'one thread makes the lines in one order, in which calls wait as with --threads'
-complete -c uxrun -l orders -d 'makes the lines in every order, and prints how many there are, how many outcomes they have, and for each outcome an order and its trace'
+complete -c uxrun -l orders -d 'makes the lines in every order, and prints how many ends and how many outcomes these have, and for each outcome an order and its trace'
 complete -c uxrun -l echo -d 'instead of the trace, prints each call with its line in the script and its arguments'
+complete -c uxrun -l json -d 'prints JSON instead of the trace, and of what --expect, --check, --audit and --holders print'
 complete -c uxrun -l expect -d 'compares the replies with those that comments of the script expect'
 complete -c uxrun -l check -d 'boots the layer again, over file objects as they were at first, which don’t fail now, and makes the calls of the trace again'
 complete -c uxrun -l audit -x -d 'after the trace, reports which descriptors are open then, and through whom each came to its process'
