@@ -4,7 +4,7 @@ import sys
 
 from judging.order import Search
 from judging.rules import read_rules
-from judging.run import Fault, Runner, find_uxrun
+from judging.run import Fault, Runner
 from reading.calls import MOST_BYTES, read_log
 from reading.head import Inherited
 from saying.world import World
@@ -59,7 +59,7 @@ def say(log):
 
 def replayed(options, world):
     """The order in which the replies agree longest, with its verdicts; and what ran the scripts."""
-    runner = Runner(find_uxrun(options.uxrun))
+    runner = Runner(options.uxrun)
     order = Search(world, runner, read_rules(), options.seconds).run()
     return order, runner
 

@@ -1,4 +1,4 @@
-"""Finds uxrun, builds the replay, and runs both so that a signal ends all that was begun."""
+"""Builds the replay, and runs it and uxrun so that a signal ends all that was begun."""
 from __future__ import annotations
 
 import os
@@ -26,14 +26,6 @@ class Trouble(Exception):
 
 class Stopped(Exception):
     """A signal asked the program to end."""
-
-
-def find_uxrun() -> Path:
-    """The program named by UXRUN, or the one that the crate has built."""
-    path = Path(os.environ.get("UXRUN") or TOP / "crates/uxrun/out/uxrun")
-    if not os.access(path, os.X_OK):
-        raise Trouble(f"there is no program {path}: build it by `rt run` in crates/uxrun, or name one by the variable UXRUN")
-    return path.resolve()
 
 
 class Interrupted(BaseException):

@@ -2,6 +2,7 @@
 from __future__ import annotations
 
 import os
+import sys
 from collections import Counter
 from concurrent.futures import ThreadPoolExecutor
 from pathlib import Path
@@ -14,7 +15,10 @@ from reference.script import read_script
 
 from . import users
 from .lines import Bench, Outcome, compare_script, rules_needed
-from .programs import Interrupted, Programs, Stopped, Trouble, complain, find_uxrun
+from .programs import TOP, Interrupted, Programs, Stopped, Trouble, complain
+
+sys.path.append(str(TOP / "shared"))
+from find_uxrun import find_uxrun
 
 JOBS_OF_THE_SUPERUSER = 4
 Made = TypeVar("Made")
@@ -31,7 +35,7 @@ class Session:
 
     def __enter__(self) -> Session:
         try:
-            uxrun = find_uxrun()
+            uxrun = find_uxrun(Trouble)
             replay = self.programs.build_replay()
             self.users = users.choose(self.jobs)
             self.had_some = users.look_before(self.programs, replay, self.users)

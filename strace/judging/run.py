@@ -1,12 +1,12 @@
-"""Finds uxrun and runs a script by it: the trace, and the audit after a number of calls."""
-import os
+"""Runs a script by uxrun: the trace, and the audit after a number of calls."""
 import subprocess
+import sys
 import tempfile
 from dataclasses import dataclass, field
 from pathlib import Path
 
-TOP = Path(__file__).resolve().parents[2]
-BUILT = TOP / "crates/uxrun/out/uxrun"
+sys.path.append(str(Path(__file__).resolve().parents[2] / "shared"))
+from find_uxrun import find_uxrun
 
 
 class Fault(Exception):
@@ -29,20 +29,11 @@ class Trace:
     fault: str = ""
 
 
-def find_uxrun(given=None):
-    """The program: the one named, that of the variable UXRUN, or the one that is built in this repository."""
-    path = Path(given or os.environ.get("UXRUN") or BUILT)
-    if path.is_file() and os.access(path, os.X_OK):
-        return str(path)
-    raise Fault(f"there is no uxrun at {path}: build it (`cd crates/uxrun && rt run -- - < stdin`), "
-                "or name one by --uxrun PATH or the variable UXRUN")
-
-
 class Runner:
-    """Runs scripts, and counts how often."""
+    """Runs scripts by the program named, or by the one that is found without a name, and counts how often."""
 
-    def __init__(self, uxrun):
-        self.uxrun = uxrun
+    def __init__(self, uxrun=None):
+        self.uxrun = str(find_uxrun(Fault, uxrun, "--uxrun PATH or the variable UXRUN"))
         self.runs = 0
 
     def run(self, text, audit=None):

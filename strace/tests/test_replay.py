@@ -12,10 +12,10 @@ from pathlib import Path
 HERE = Path(__file__).resolve().parent
 TOP = HERE.parent
 sys.path.insert(0, str(TOP))
-from judging.run import Fault, find_uxrun
+from judging.run import Fault, Runner
 
 try:
-    UXRUN = find_uxrun()
+    UXRUN = Runner().uxrun
 except Fault:
     UXRUN = None
 HEAD = "# recorded 1\n# folder /\n# user 1000 100\n"
