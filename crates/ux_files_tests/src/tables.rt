@@ -64,6 +64,38 @@ fn expect_two(rt: &impl Abort, table: &Table, first: u32, second: u32) {
     );
 }
 
+/// Sees which number is the lowest that is free and isn't below a minimum.
+fn expect_from(rt: &impl Abort, table: &Table, minimum: u32, number: Option<u32>) {
+    let found = table.lowest_free_from(Fd(minimum)).map(|fd| fd.0);
+    assert!(rt; found == number, "{minimum}");
+}
+
+/// Opens the lowest number that is free and isn't below a minimum, which is this one.
+fn open_from(rt: &impl Abort, table: &mut Table, minimum: u32, number: u32) {
+    let answer = table.install_from(Fd(minimum), descriptor(9, false));
+    assert!(rt; answer == Ok(Fd(number)), "{minimum}");
+}
+
+/// Sees that no number is free that isn't below a minimum.
+fn expect_full_from(rt: &impl Abort, table: &mut Table, minimum: u32) {
+    let answer = table.install_from(Fd(minimum), descriptor(9, false));
+    assert!(rt; answer == Err(InstallError::Full), "{minimum}");
+}
+
+/// Opens the two lowest numbers that are free, which are these, and sees which is which.
+fn open_two(rt: &impl Abort, table: &mut Table, first: u32, second: u32) {
+    let answer = table.install_two(descriptor(5, true), descriptor(6, false));
+    assert!(rt; answer == Ok((Fd(first), Fd(second))), "{first}, {second}");
+    expect_open(rt, table, first, 5, true);
+    expect_open(rt, table, second, 6, false);
+}
+
+/// Sees that two numbers aren't opened.
+fn refuse_two(rt: &impl Abort, table: &mut Table) {
+    let answer = table.install_two(descriptor(5, true), descriptor(6, false));
+    assert!(rt; answer == Err(InstallError::Full));
+}
+
 /// Sees that no two numbers are free.
 fn expect_no_two(rt: &impl Abort, table: &Table) {
     assert!(rt; table.two_lowest_free().is_none());
@@ -189,6 +221,49 @@ fn numbers_that_are_closed_are_found_again(rt: HostRuntime) -> Result<(), Fail> 
     table.clear();
     expect_count(&rt, &table, 7, 0);
     expect_empty(&rt, &table, 1024);
+    Ok(())
+}
+
+/// Minimums, and the number of a copy of each where 0 to 3 and 5 are open and the limit is 8 (F_DUPFD of fcntl(2)).
+const MINIMUMS: &[(u32, Option<u32>)] = &[
+    (0, Some(4)),
+    (4, Some(4)),
+    (5, Some(6)),
+    (7, Some(7)),
+    (8, None),
+    (u32::MAX, None),
+];
+
+#[test]
+fn a_copy_gets_no_number_below_its_minimum(rt: HostRuntime) -> Result<(), Fail> {
+    let mut table = make_table(rt.alloc(), 8)?;
+    fill(&rt, &mut table, 0, 4);
+    open_from(&rt, &mut table, 5, 5);
+    for (minimum, number) in MINIMUMS {
+        expect_from(&rt, &table, *minimum, *number);
+    }
+    open_from(&rt, &mut table, 5, 6);
+    open_from(&rt, &mut table, 5, 7);
+    // 4 is free still, but below the minimum.
+    expect_full_from(&rt, &mut table, 5);
+    expect_lowest(&rt, &table, 4);
+    open_from(&rt, &mut table, 1, 4);
+    expect_full(&rt, &mut table);
+    Ok(())
+}
+
+#[test]
+fn two_numbers_are_opened_together_or_not_at_all(rt: HostRuntime) -> Result<(), Fail> {
+    let mut table = make_table(rt.alloc(), 5)?;
+    fill(&rt, &mut table, 0, 3);
+    close(&rt, &mut table, 1, 7, false);
+    open_two(&rt, &mut table, 1, 3);
+    // One number alone is left.
+    refuse_two(&rt, &mut table);
+    expect_closed(&rt, &table, 4);
+    expect_lowest(&rt, &table, 4);
+    open(&rt, &mut table, 4, 7, false);
+    refuse_two(&rt, &mut table);
     Ok(())
 }
 
