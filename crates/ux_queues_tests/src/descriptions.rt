@@ -167,6 +167,128 @@ fn unread_messages_reset_the_peer(rt: HostRuntime) -> Result<(), AllocError> {
     Ok(())
 }
 
+/// The types, and whether each is a stream and whether it takes datagrams (socket(2)).
+const TYPES: &[(SockType, bool, bool)] = &[
+    (SockType::Stream, true, false),
+    (SockType::Dgram, false, true),
+    (SockType::Seq, false, false),
+];
+
+#[test]
+fn a_new_socket_is_open_both_ways_and_tied_to_nobody(rt: HostRuntime) {
+    for (kind, stream, datagram) in TYPES {
+        let s = Socket::new(rt.alloc(), *kind);
+        assert!(rt; s.is_stream() == *stream && s.is_datagram() == *datagram);
+        assert!(rt; !s.is_read_shut() && !s.is_write_shut());
+        assert!(rt; s.queue_limit() == 65536 && s.peer_cred().is_none());
+        assert!(rt; s.tied_socket().is_none());
+    }
+}
+
+/// What is shut down, what is shut down behind that, and whether reading and writing are then (shutdown(2)).
+const SHUT: &[(Mode, Mode, bool, bool)] = &[
+    (Mode::Read, Mode::Read, true, false),
+    (Mode::Write, Mode::Write, false, true),
+    (Mode::Read, Mode::Write, true, true),
+    (Mode::Both, Mode::Read, true, true),
+    (Mode::Both, Mode::Write, true, true),
+];
+
+/// Sees in which directions a socket is shut down.
+fn expect_shut(rt: &impl Abort, d: &Description, read: bool, write: bool) {
+    match d.socket() {
+        Some(s) => assert!(rt; s.is_read_shut() == read && s.is_write_shut() == write),
+        None => assert!(rt; false),
+    }
+}
+
+#[test]
+fn what_is_shut_down_stays_so(rt: HostRuntime) {
+    for (first, second, read, write) in SHUT {
+        let mut d = Description::of_socket(OpenFlags(0), pair_end(rt.alloc()));
+        d.shut_down(*first);
+        d.shut_down(*second);
+        expect_shut(&rt, &d, *read, *write);
+    }
+}
+
+#[test]
+fn a_lowered_limit_drops_nothing(rt: HostRuntime) -> Result<(), AllocError> {
+    let alloc = rt.alloc();
+    let mut s = pair_end(alloc);
+    s.set_queue_limit(5);
+    send(&rt, &mut s, &Bytes::short(b"abc"), RefList::new(alloc), 3);
+    send(&rt, &mut s, &Bytes::short(b"defg"), RefList::new(alloc), 2);
+    s.set_queue_limit(4);
+    assert!(rt; s.queue_limit() == 4 && !s.has_room());
+    take(&rt, alloc, &mut s, 1, b"a", &[])?;
+    // As many wait as there may.
+    assert!(rt; !s.has_room());
+    take(&rt, alloc, &mut s, 1, b"b", &[])?;
+    assert!(rt; s.has_room());
+    send(&rt, &mut s, &Bytes::short(b"xy"), RefList::new(alloc), 1);
+    take(&rt, alloc, &mut s, 9, b"cdex", &[])
+}
+
+/// Sends a byte as a user of the number 5.
+fn send_as_another(rt: &impl Abort, alloc: Global, s: &mut Socket) {
+    let other = Draft {
+        tag: 2,
+        bytes: &Bytes::short(b"c"),
+        cred: Cred { uid: 5, ..user() },
+        uid: 5,
+    };
+    let sent = s.send(other, RefList::new(alloc), None);
+    assert!(rt; sent.is_ok_and(|count| count == 1));
+}
+
+#[test]
+fn with_credentials_a_receive_ends_before_another_sender(
+    rt: HostRuntime,
+) -> Result<(), AllocError> {
+    let alloc = rt.alloc();
+    let mut s = pair_end(alloc);
+    send(&rt, &mut s, &Bytes::short(b"ab"), RefList::new(alloc), 2);
+    send_as_another(&rt, alloc, &mut s);
+    assert!(rt; !s.is_empty());
+    expect(&rt, s.peek(alloc, 9)?, b"abc", &[]);
+    s.set_passcred(true);
+    assert!(rt; s.passcred() && !s.is_empty());
+    expect(&rt, s.peek(alloc, 9)?, b"ab", &[]);
+    s.set_passcred(false);
+    assert!(rt; !s.passcred() && !s.is_empty());
+    expect(&rt, s.peek(alloc, 9)?, b"abc", &[]);
+    Ok(())
+}
+
+/// The credentials of a process that listens.
+const SERVER: Cred = Cred {
+    pid: Pid(2),
+    uid: 5,
+    gid: 6,
+};
+
+#[test]
+fn each_end_has_the_credentials_of_the_other(rt: HostRuntime) -> Result<(), AllocError> {
+    let alloc = rt.alloc();
+    let mut listener = Socket::new(alloc, SockType::Stream);
+    listener.listen(alloc, 1, SERVER);
+    let end = listener.server_end(alloc, DescriptionId::new(7), user())?;
+    assert!(rt; end.peer_cred() == Some(user()));
+    let mut client = Description::of_socket(OpenFlags(0), Socket::new(alloc, SockType::Stream));
+    if let Some(cred) = listener.listener_cred() {
+        client.tie(DescriptionId::new(3), cred);
+    }
+    assert!(rt;
+        client
+            .socket()
+            .is_some_and(|s| s.peer_cred() == Some(SERVER))
+    );
+    assert!(rt; listener.peer_cred().is_none());
+    assert!(rt; pair_end(alloc).peer_cred() == Some(user()));
+    Ok(())
+}
+
 /// One more end waits, or the backlog is full.
 fn expect_push(rt: &impl Abort, s: &mut Socket, end: u128, answer: Result<(), PushError>) {
     assert!(rt; s.is_listening());
