@@ -4,8 +4,11 @@ use std::alloc::{AllocError, Global};
 use std::ops::Range;
 use std::process::Abort;
 use std::test::Fail;
-use ux_names::{AbstractNames, AutobindError, BindError, PathTarget, Paths};
-use ux_types::{DescriptionId, Errno, Name, Refusal};
+use ux_names::{
+    AbstractNames, AutobindError, BindError, PathTarget, Paths, is_unnamed, is_valid_addr,
+    is_valid_path,
+};
+use ux_types::{Addr, DescriptionId, Errno, Name, Refusal};
 
 /// How many names autobind chooses from.
 const CHOICE: u128 = 1_048_576;
@@ -427,5 +430,52 @@ fn refusals_are_answered_and_told(rt: HostRuntime) -> Result<(), Fail> {
     let none_free = AutobindError::NoneFree;
     let text = format!(in rt.alloc(); "{taken}, {none_free}")?;
     assert_eq!(rt; text.as_str(), "name already in use, no name is left");
+    Ok(())
+}
+
+/// A byte, how often it stands in a name, and whether that can be a path and an abstract name: sun_path has 108 bytes, of
+/// which one ends a path or begins an abstract name (unix(7)). An abstract name may hold any bytes.
+const LENGTHS: &[(u8, usize, bool, bool)] = &[
+    (b'a', 0, false, true),
+    (b'a', 1, true, true),
+    (b'a', 107, true, true),
+    (b'a', 108, false, false),
+    (255, 107, true, true),
+    (0, 1, false, true),
+    (0, 107, false, true),
+    (0, 108, false, false),
+];
+
+/// Sees whether so many bytes can be a path and an abstract name.
+fn expect_valid(
+    rt: &impl Abort,
+    alloc: Global,
+    bytes: &[u8],
+    path: bool,
+    name: bool,
+) -> Result<(), Fail> {
+    let length = bytes.len();
+    let as_path = Addr::Path(Name::from_slice(alloc, bytes)?);
+    let as_name = Addr::Abstract(Name::from_slice(alloc, bytes)?);
+    assert!(rt;
+        is_valid_path(&Name::from_slice(alloc, bytes)?) == path,
+        "{length}"
+    );
+    assert!(rt; is_valid_addr(&as_path) == path, "{length}");
+    assert!(rt; is_valid_addr(&as_name) == name, "{length}");
+    assert!(rt; !is_unnamed(&as_path) && !is_unnamed(&as_name), "{length}");
+    Ok(())
+}
+
+#[test]
+fn a_name_has_at_most_107_bytes(rt: HostRuntime) -> Result<(), Fail> {
+    let alloc = rt.alloc();
+    for (byte, count, path, name) in LENGTHS {
+        let bytes = vec![in alloc; *byte; *count]?;
+        expect_valid(&rt, alloc, &bytes, *path, *name)?;
+    }
+    // A path ends at its first NUL.
+    expect_valid(&rt, alloc, b"a\0b", false, true)?;
+    assert!(rt; is_valid_addr(&Addr::Unnamed) && is_unnamed(&Addr::Unnamed));
     Ok(())
 }

@@ -1,6 +1,6 @@
 //! What no script shows of names and connections: the flags of an accepted end, and sockets of another type. The
 //! rest of them stands in the scripts of `examples/`, and in the kernel's tests.
-use super::{Held, process, start_with, user};
+use super::{Held, close, process, settle, start_with, user};
 use std::alloc::Global;
 use std::process::Abort;
 use std::test::Fail;
@@ -36,6 +36,49 @@ fn bind_path<O: FileObject>(
     assert!(rt; state.socket(id).is_some_and(|socket| socket.is_unnamed()));
     let bound = state.bind_path(id, path);
     assert!(rt; bound == answer);
+}
+
+/// Gives a socket a name of the abstract namespace, which gives this answer.
+fn bind_abstract<O: FileObject>(
+    rt: &impl Abort,
+    state: &mut State<O>,
+    id: u128,
+    name: &Name,
+    answer: Result<(), BindError>,
+) {
+    let id = DescriptionId::new(id);
+    assert!(rt; state.socket(id).is_some_and(|socket| socket.is_unnamed()));
+    let bound = state.bind_abstract(id, name);
+    assert!(rt; bound == answer);
+}
+
+/// Sees which socket an abstract name leads to.
+fn expect_abstract<O: FileObject>(
+    rt: &impl Abort,
+    state: &State<O>,
+    name: &Name,
+    id: Option<u128>,
+) {
+    let found = state.abstract_name(name).map(|found| found.number());
+    assert!(rt; found == id);
+}
+
+/// Sees which name the client of a server's end has, if the client is there.
+fn expect_client<O: FileObject>(rt: &impl Abort, state: &State<O>, end: u128, name: Option<&Addr>) {
+    assert!(rt; state.client_name(DescriptionId::new(end)) == name);
+}
+
+/// Sees which name the peer of a socket has, or why none.
+fn expect_peer<O: FileObject>(
+    rt: &impl Abort,
+    state: &State<O>,
+    id: u128,
+    answer: Result<&Addr, Errno>,
+) {
+    match state.socket(DescriptionId::new(id)) {
+        Some(socket) => assert!(rt; state.peer_name(socket) == answer),
+        None => assert!(rt; false),
+    }
 }
 
 /// Has the layer choose a socket's name, which gives this answer.
@@ -169,5 +212,55 @@ fn a_name_leads_to_sockets_of_one_type(rt: HostRuntime) -> Result<(), Fail> {
     let addr = Addr::Path(Name::from_slice(alloc, b"p")?);
     expect_named(&rt, s, SockType::Stream, &addr, Ok(0));
     expect_named(&rt, s, SockType::Seq, &addr, Err(Errno::EPROTOTYPE));
+    Ok(())
+}
+
+#[test]
+fn an_abstract_name_goes_with_its_socket(rt: HostRuntime) -> Result<(), Fail> {
+    let alloc = rt.alloc();
+    let mut held = start_alone(&rt, alloc, 8)?;
+    let s = &mut held.state;
+    open_socket(&rt, s, 0);
+    open_socket(&rt, s, 1);
+    let name = Name::from_slice(alloc, b"n\0m")?;
+    expect_abstract(&rt, s, &name, None);
+    bind_abstract(&rt, s, 0, &name, Ok(()));
+    bind_abstract(&rt, s, 1, &name, Err(BindError::Taken));
+    expect_abstract(&rt, s, &name, Some(0));
+    close(&rt, s, 1, 0);
+    settle(&rt, s, &[]);
+    expect_abstract(&rt, s, &name, None);
+    bind_abstract(&rt, s, 1, &name, Ok(()));
+    expect_abstract(&rt, s, &name, Some(1));
+    Ok(())
+}
+
+#[test]
+fn each_end_of_a_connection_shows_the_others_name(rt: HostRuntime) -> Result<(), Fail> {
+    let alloc = rt.alloc();
+    let mut held = start_alone(&rt, alloc, 8)?;
+    let s = &mut held.state;
+    open_socket(&rt, s, 0);
+    open_socket(&rt, s, 1);
+    let path = Name::from_slice(alloc, b"p")?;
+    let name = Name::from_slice(alloc, b"c")?;
+    bind_path(&rt, s, 0, &path, Ok(()));
+    listen(&rt, s, 0, 1);
+    expect_peer(&rt, s, 1, Err(Errno::ENOTCONN));
+    // The new end is the description 2.
+    connect(&rt, s, 1, 0, Ok(()));
+    let listener = Addr::Path(path);
+    expect_peer(&rt, s, 1, Ok(&listener));
+    expect_peer(&rt, s, 2, Ok(&Addr::Unnamed));
+    expect_client(&rt, s, 2, Some(&Addr::Unnamed));
+    // The client's name is the one that it has now.
+    bind_abstract(&rt, s, 1, &name, Ok(()));
+    let client = Addr::Abstract(name);
+    expect_peer(&rt, s, 2, Ok(&client));
+    expect_client(&rt, s, 2, Some(&client));
+    close(&rt, s, 1, 1);
+    settle(&rt, s, &[]);
+    expect_peer(&rt, s, 2, Err(Errno::ENOTCONN));
+    expect_client(&rt, s, 2, None);
     Ok(())
 }
