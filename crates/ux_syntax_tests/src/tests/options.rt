@@ -11,6 +11,7 @@ const OPTIONS: &[(&str, SockOpt)] = &[
     ("passcred", SockOpt::PassCred),
     ("peercred", SockOpt::PeerCred),
     ("accept", SockOpt::AcceptConn),
+    ("qlimit", SockOpt::QueueLimit),
 ];
 
 #[test]

@@ -56,6 +56,45 @@ fn a_script_keeps_whether_it_has_the_line(rt: HostRuntime) -> Result<(), Fail> {
     let without = parse_script(rt.alloc(), b"# serial\nproc 0 0 0 1\n1 exit")?;
     assert!(rt; with.serial && with.procs.len() == 1 && with.lines.len() == 1);
     assert!(rt; !without.serial);
+    // How long a further line may be, as the page of uxrun says.
+    assert!(rt; with.line_limit() == 200_000 && without.line_limit() == 4096);
+    Ok(())
+}
+
+/// Lines, and whether each asks for an exit, for a fork, and for a call that stands only behind that line.
+const ASKED: &[(&str, bool, bool, bool)] = &[
+    ("1 exit", true, false, false),
+    ("1 fork", false, true, false),
+    ("1 dupfd 0 3", false, false, true),
+    ("1 getfl 0", false, false, true),
+    ("1 dup 0", false, false, false),
+    ("1 exec", false, false, false),
+    ("1 wait 1 0", false, false, false),
+];
+
+/// Sees what the one line behind a process asks for.
+fn expect_asked(
+    rt: &impl Abort,
+    alloc: Global,
+    line: &str,
+    wanted: (bool, bool, bool),
+) -> Result<(), Fail> {
+    let text = format!(in alloc; "serial\nproc 0 0 0 1\n{line}")?;
+    let script = parse_script(alloc, text.as_bytes())?;
+    assert_eq!(rt; script.lines.len(), 1);
+    for read in &script.lines {
+        let act = &read.act;
+        let asked = (act.asks_exit(), act.asks_fork(), act.asks_recorded());
+        assert!(rt; asked == wanted, "{line}");
+    }
+    Ok(())
+}
+
+#[test]
+fn exits_forks_and_calls_of_one_order_are_told_apart(rt: HostRuntime) -> Result<(), Fail> {
+    for (line, exits, forks, recorded) in ASKED {
+        expect_asked(&rt, rt.alloc(), line, (*exits, *forks, *recorded))?;
+    }
     Ok(())
 }
 
