@@ -183,10 +183,10 @@ fn count_of(entries: &[Entry], pid: Pid) -> u64 {
     entries.iter().filter(|e| e.pid == pid).count() as u64
 }
 
-/// Makes the call, if the process may make it, and keeps it.
+/// Makes the call, and keeps it. One that the process may not make is a mistake of the test, and fails it.
 fn record(recorder: &mut Recorder, pid: Pid, request: Request) -> Result<(), AllocError> {
     if matches!(request, Request::Off) || !recorder.kernel.is_live(pid) {
-        return Ok(());
+        return Err(AllocError);
     }
     recorder.released.clear();
     let tag = recorder.entries.len() as u64;

@@ -8,7 +8,7 @@ use std::test::Fail;
 use ux_audit::{Audit, Chain, How, Link};
 use ux_types::{Entry, Fd, Pid};
 
-/// A file that is passed from one process to another, which closes a number and gets another under it.
+/// A file that is passed from one process to another, which has accepted its connection.
 const CALLS: [(u32, Call); 9] = [
     (2, Call::Socket),
     (2, Call::Bind(0)),
@@ -30,13 +30,18 @@ fn link(entry: usize, pid: u32, fd: u32, how: How) -> Link {
     }
 }
 
-/// Whether the links are the pedigree of descriptor 2 of process 2.
-fn is_right(alloc: Global, entries: &[Entry], links: &[Link]) -> Result<bool, Fail> {
+/// Whether the links are the pedigree of a descriptor of process 2.
+fn is_right_of(alloc: Global, entries: &[Entry], fd: u32, links: &[Link]) -> Result<bool, Fail> {
     let audit = Audit::new(alloc, entries)?;
     let chain = Chain {
         links: Vec::from_slice(alloc, links)?,
     };
-    Ok(audit.check_pedigree(alloc, &chain, Pid(2), Fd(2))?)
+    Ok(audit.check_pedigree(alloc, &chain, Pid(2), Fd(fd))?)
+}
+
+/// Whether they are that of its descriptor 2.
+fn is_right(alloc: Global, entries: &[Entry], links: &[Link]) -> Result<bool, Fail> {
+    is_right_of(alloc, entries, 2, links)
 }
 
 #[test]
@@ -90,7 +95,7 @@ fn a_number_that_was_closed_since(rt: HostRuntime) -> Result<(), Fail> {
         (1, Call::Close(0)),
         (1, Call::Open(false)),
         (1, Call::Fork),
-        (2, Call::Close(2)),
+        (2, Call::Recv(2, 24)),
         (2, Call::Dup2(0, 2)),
     ];
     let entries = history(alloc, 1, &calls)?;
@@ -101,6 +106,9 @@ fn a_number_that_was_closed_since(rt: HostRuntime) -> Result<(), Fail> {
     assert!(rt; is_right(alloc, entries.as_slice(), &[anew, forked, copied])?);
     assert!(rt; !is_right(alloc, entries.as_slice(), &[before, forked, copied])?);
     assert!(rt; !is_right(alloc, entries.as_slice(), &[anew, copied])?);
+    let received = link(6, 2, 3, How::Received(2));
+    assert!(rt; is_right_of(alloc, entries.as_slice(), 3, &[before, received])?);
+    assert!(rt; !is_right_of(alloc, entries.as_slice(), 3, &[anew, received])?);
     Ok(())
 }
 
