@@ -279,6 +279,7 @@ fn end_book<W: BookName>(
 ) -> Result<Spent<W>, AllocError> {
     released.clear();
     assert_eq!(rt; book.off(released), Err(OffFault::Alive));
+    assert!(rt; book.is_live(Pid(1)) && !book.has_ended());
     let spent = book.exit(share, released);
     assert_eq!(rt; (spent.pid(), spent.calls()), (Pid(1), 1));
     released.clear();
@@ -286,6 +287,7 @@ fn end_book<W: BookName>(
     assert_eq!(rt; released.len(), objects);
     released.clear();
     assert_eq!(rt; book.off(released), Err(OffFault::Given));
+    assert!(rt; !book.is_live(Pid(1)) && book.has_ended());
     Ok(spent)
 }
 
