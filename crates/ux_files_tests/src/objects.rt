@@ -11,9 +11,6 @@ use ux_objects::{Counter, MemFile, Pipe};
 /// The greatest length of a memory file.
 const FILE_LIMIT: usize = 1048576;
 
-/// The capacity of a pipe (pipe(7)).
-const PIPE_LIMIT: usize = 65536;
-
 /// So many bytes, all alike.
 fn alike(alloc: Global, byte: u8, length: usize) -> Result<Vec<u8>, AllocError>
     ensures { IfOk result (λ bytes. vec_len bytes ≡ length) }

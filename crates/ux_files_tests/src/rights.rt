@@ -3,7 +3,7 @@ use hoard::Hoard;
 use std::alloc::{AllocError, Global};
 use std::process::Abort;
 use std::test::Fail;
-use ux_rights::{Origin, Plan, RefList, SendError, plan_rights};
+use ux_rights::{Plan, RefList, SendError, plan_rights};
 use ux_types::{DescriptionId, Errno, Refusal};
 
 /// Rights, control space and free numbers, and then how many are installed and left out. An item's head has 16
@@ -74,8 +74,6 @@ fn references_in_order(rt: HostRuntime) -> Result<(), AllocError> {
     expect_list(&rt, alloc, &copy, &sent)?;
     expect_list(&rt, alloc, &taken, &sent)?;
     expect_list(&rt, alloc, &whole, &sent)?;
-    let origin = Origin { tag: 3, uid: 1000 };
-    assert_eq!(rt; (origin.tag, origin.uid), (3, 1000));
     Ok(())
 }
 

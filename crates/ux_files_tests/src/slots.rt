@@ -163,7 +163,7 @@ fn a_value_is_written(rt: HostRuntime) -> Result<(), Fail> {
 }
 
 #[test]
-fn counts_and_numbers_end(rt: HostRuntime) -> Result<(), Fail> {
+fn counts_and_room_end(rt: HostRuntime) -> Result<(), Fail> {
     let mut slots = Slots::new(rt.alloc());
     let a = open(&rt, &mut slots, 1)?;
     assert!(&rt; slots.has_room(a, usize::MAX - 1));
