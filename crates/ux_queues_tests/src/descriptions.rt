@@ -232,9 +232,11 @@ fn a_lowered_limit_drops_nothing(rt: HostRuntime) -> Result<(), AllocError> {
 
 /// Sends a byte as a user of the number 5.
 fn send_as_another(rt: &impl Abort, alloc: Global, s: &mut Socket) {
+    let bytes = Bytes::short(b"c");
+    assert!(rt; !bytes.is_empty());
     let other = Draft {
         tag: 2,
-        bytes: &Bytes::short(b"c"),
+        bytes: &bytes,
         cred: Cred { uid: 5, ..user() },
         uid: 5,
     };
@@ -253,10 +255,12 @@ fn with_credentials_a_receive_ends_before_another_sender(
     assert!(rt; !s.is_empty());
     expect(&rt, s.peek(alloc, 9)?, b"abc", &[]);
     s.set_passcred(true);
-    assert!(rt; s.passcred() && !s.is_empty());
+    assert!(rt; s.passcred());
+    assert!(rt; !s.is_empty());
     expect(&rt, s.peek(alloc, 9)?, b"ab", &[]);
     s.set_passcred(false);
-    assert!(rt; !s.passcred() && !s.is_empty());
+    assert!(rt; !s.passcred());
+    assert!(rt; !s.is_empty());
     expect(&rt, s.peek(alloc, 9)?, b"abc", &[]);
     Ok(())
 }

@@ -254,6 +254,7 @@ fn two_queues_agree(rt: HostRuntime) -> Result<(), AllocError> {
     }
     // The ring has 512 places at most, so its end was passed often.
     assert!(rt; both.sent > 50_000, "{} bytes", both.sent);
+    assert!(rt; both.refused_sends == 0 && both.refused_receives == 0);
     Ok(())
 }
 
