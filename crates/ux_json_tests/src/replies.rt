@@ -4,7 +4,7 @@ use serde_json::Value;
 use std::alloc::Global;
 use std::process::Abort;
 use std::test::Fail;
-use ux_json::reply_value;
+use ux_json::{addr_text, cred_value, path_text, reply_value};
 use ux_types::{Addr, Bytes, Cred, Errno, Fd, MsgFlags, Name, OpenFlags, Pid, PollFlags, Reply};
 
 fn expect(rt: &impl Abort, alloc: Global, reply: &Reply, wanted: &str) -> Result<(), Fail> {
@@ -120,4 +120,43 @@ fn replies_of_receives(rt: HostRuntime) -> Result<(), Fail> {
         &got(alloc, b"\x01", Some(from))?,
         r#"{"kind": "got", "n": 1, "bytes": "78", "flags": ["TRUNC", "EOR"], "control": {"raw": "01"}, "from": "a:"}"#,
     )
+}
+
+/// Names, and how a script spells them behind `p:` and `a:`: a byte that isn't printable ASCII, a blank and `%` by its
+/// digits.
+const NAMES: &[(&[u8], &str)] = &[
+    (b"", ""),
+    (b"run/s.sock", "run/s.sock"),
+    (b"a b%c", "a%20b%25c"),
+    (&[0, 0x7f, 0xff, b'"'], "%00%7f%ff\""),
+];
+
+#[test]
+fn names_stand_as_scripts_spell_them(rt: HostRuntime) -> Result<(), Fail> {
+    let alloc = rt.alloc();
+    for (bytes, spelled) in NAMES {
+        let name = Name::from_slice(alloc, bytes)?;
+        let wanted = format!(in alloc; "p:{spelled}")?;
+        assert!(rt; path_text(alloc, &name)?.as_str() == wanted.as_str());
+        let path = Addr::Path(name);
+        assert!(rt; addr_text(alloc, &path)?.as_str() == wanted.as_str());
+        let name = Addr::Abstract(Name::from_slice(alloc, bytes)?);
+        let wanted = format!(in alloc; "a:{spelled}")?;
+        assert!(rt; addr_text(alloc, &name)?.as_str() == wanted.as_str());
+    }
+    assert!(rt; addr_text(alloc, &Addr::Unnamed)?.as_str() == "u");
+    Ok(())
+}
+
+#[test]
+fn credentials_are_three_numbers(rt: HostRuntime) -> Result<(), Fail> {
+    let alloc = rt.alloc();
+    let cred = Cred {
+        pid: Pid(1),
+        uid: 0,
+        gid: 4294967295,
+    };
+    let wanted = r#"{"pid": 1, "uid": 0, "gid": 4294967295}"#;
+    assert!(rt; cred_value(alloc, cred)? == Value::from_str(alloc, wanted)?);
+    Ok(())
 }
