@@ -3,7 +3,7 @@ use super::{addr_of, beside, request_in};
 use std::alloc::Global;
 use std::process::Abort;
 use std::test::*;
-use ux_trace::entry_text;
+use ux_trace::{entry_text, errno_name};
 use ux_types::{
     Addr, Bytes, Entry, Errno, Fd, MsgFlags, Name, OpenFlags, Pid, Released, Reply, Request,
 };
@@ -107,6 +107,41 @@ fn entries_are_printed(rt: HostRuntime) -> Result<(), Fail> {
         ((14, 14), "exit", Reply::Ok, "14 1 14 exit = ok\n"),
     ]?;
     expect_rows(&rt, rt.alloc(), rows)
+}
+
+/// The refusals, and the names of their numbers in errno.h (POSIX.1-2017).
+const REFUSALS: &[(Errno, &str)] = &[
+    (Errno::EPERM, "EPERM"),
+    (Errno::ENOENT, "ENOENT"),
+    (Errno::ESRCH, "ESRCH"),
+    (Errno::EIO, "EIO"),
+    (Errno::EBADF, "EBADF"),
+    (Errno::EAGAIN, "EAGAIN"),
+    (Errno::ENOMEM, "ENOMEM"),
+    (Errno::EINVAL, "EINVAL"),
+    (Errno::EMFILE, "EMFILE"),
+    (Errno::EFBIG, "EFBIG"),
+    (Errno::ENOSPC, "ENOSPC"),
+    (Errno::ESPIPE, "ESPIPE"),
+    (Errno::EPIPE, "EPIPE"),
+    (Errno::ENOTSOCK, "ENOTSOCK"),
+    (Errno::EDESTADDRREQ, "EDESTADDRREQ"),
+    (Errno::EMSGSIZE, "EMSGSIZE"),
+    (Errno::EPROTOTYPE, "EPROTOTYPE"),
+    (Errno::EOPNOTSUPP, "EOPNOTSUPP"),
+    (Errno::EADDRINUSE, "EADDRINUSE"),
+    (Errno::ECONNRESET, "ECONNRESET"),
+    (Errno::EISCONN, "EISCONN"),
+    (Errno::ENOTCONN, "ENOTCONN"),
+    (Errno::ETOOMANYREFS, "ETOOMANYREFS"),
+    (Errno::ECONNREFUSED, "ECONNREFUSED"),
+];
+
+#[test]
+fn refusals_have_their_names(rt: HostRuntime) {
+    for (refusal, name) in REFUSALS {
+        assert_eq!(rt; errno_name(*refusal), *name);
+    }
 }
 
 /// Receives: the numbers of an entry, how many bytes there were, those that came, flags, and the line.
