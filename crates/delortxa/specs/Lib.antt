@@ -1,6 +1,7 @@
 pub mod AnyObjects
 pub mod Answering
 pub mod Boots
+pub mod Exploring
 pub mod Giving
 pub mod Happening
 pub mod Replying

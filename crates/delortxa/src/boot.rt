@@ -11,13 +11,25 @@ use std::alloc::{AllocError, Global};
 use std::marker::Model;
 use ux_kernel::{BootFault, Kernel};
 use ux_object::{ObjError, ObjKind};
-use ux_types::{Name, ProcSpec};
+use ux_types::{Bytes, Name, ProcSpec};
+
+/// What an object is made of.
+#[derive(Drop)]
+struct Recipe {
+    path: Name,
+    kind: ObjKind,
+    bytes: Bytes,
+    /// Which of its reads and writes fails, counted from 1, or 0.
+    fails_at: u32,
+}
 
 /// The file objects and the processes that a layer is to start with. Objects are numbered from 0 on and
 /// processes from 1 on, in the order in which they are given. Contracts see both lists, and which call of each object fails.
 pub struct Boot {
     alloc: Global,
     objects: Vec<(Name, AnyObject)>,
+    /// Of each object, so that it can be made again.
+    recipes: Vec<Recipe>,
     processes: Vec<ProcSpec>,
 }
 
@@ -27,9 +39,11 @@ impl Drop for Boot {
         let Boot {
             alloc: _,
             objects,
+            recipes,
             processes,
         } = self;
         drop(objects);
+        drop(recipes);
         drop(processes);
     }
 }
@@ -52,6 +66,7 @@ impl Boot {
         Boot {
             alloc,
             objects: Vec::new(alloc),
+            recipes: Vec::new(alloc),
             processes: Vec::new(alloc),
         }
     }
@@ -127,6 +142,15 @@ impl Boot {
         let Ok(name) = Name::from_slice(self.alloc, path) else {
             return Err(ObjError::NoMemory);
         };
+        let recipe = Recipe {
+            path: name.clone()?,
+            kind,
+            bytes: Bytes::from_slice(self.alloc, bytes)?,
+            fails_at: n,
+        };
+        if self.recipes.push(recipe).is_err() {
+            return Err(ObjError::NoMemory);
+        }
         match self.objects.push((name, object)) {
             Ok(()) => Ok(self),
             Err(_) => Err(ObjError::NoMemory),
@@ -174,6 +198,30 @@ impl Boot {
         Ok(self)
     }
 
+    /// A boot with such objects, made anew, and these processes.
+    ///
+    /// # Errors
+    ///
+    /// Out of memory.
+    pub(crate) fn anew(&self, processes: &[ProcSpec]) -> Result<Boot, ObjError>
+        ensures { IfOk result (λ b. b.processes ≡ processes.now) }
+    {
+        let mut boot = Boot::new(self.alloc);
+        for recipe in &self.recipes {
+            let bytes = recipe.bytes.as_slice();
+            boot = boot.object(recipe.path.as_bytes(), recipe.kind, bytes, recipe.fails_at)?;
+        }
+        boot.processes = Vec::from_slice(self.alloc, processes)?;
+        Ok(boot)
+    }
+
+    /// The processes, in order.
+    pub(crate) fn processes(&self) -> &[ProcSpec]
+        ensures { result.now ≡ self.now.processes }
+    {
+        self.processes.as_slice()
+    }
+
     /// A kernel with all of it, in which nothing was opened yet.
     ///
     /// # Errors
@@ -187,8 +235,10 @@ impl Boot {
         let Boot {
             alloc,
             objects,
+            recipes,
             processes,
         } = self;
+        drop(recipes);
         match Kernel::boot(alloc, objects, &processes) {
             Ok(kernel) => Ok(kernel),
             // The objects come back with the fault.

@@ -10,6 +10,7 @@ mod fault;
 mod layered;
 mod nursery;
 mod objects;
+mod orders;
 mod program;
 mod seat;
 mod session;
@@ -24,6 +25,7 @@ pub use fault::CallError;
 pub use layered::{LayerProgram, with_layer};
 pub use nursery::Nursery;
 pub use objects::AnyObject;
+pub use orders::{Programs, explore};
 pub use program::{BookProgram, with_book};
 pub use seat::{Layer, Seat};
 pub use session::Session;
@@ -35,6 +37,7 @@ pub use ux_cmsg::{Control, ControlError};
 pub use ux_kernel::{BootFault, Kernel};
 pub use ux_object::{FileObject, ObjError, ObjKind};
 pub use ux_objects::{FailAt, Plain};
+pub use ux_orders::{Found, OrderFault, OrderList, Ran};
 pub use ux_trace::entry_text;
 pub use ux_types::{
     Addr, Bytes, Cred, Entry, Errno, Fd, Mode, MsgFlags, Name, OpenFlags, Pid, PollFlags, ProcSpec,

@@ -8,4 +8,6 @@ mod layered;
 #[cfg(test)]
 mod methods;
 #[cfg(test)]
+mod orders;
+#[cfg(test)]
 mod sessions;

@@ -1,3 +1,4 @@
 mod Closing
 mod Greeting
+mod Histories
 mod KeyServer

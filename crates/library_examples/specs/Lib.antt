@@ -1,2 +1,3 @@
 pub mod Greeting
+pub mod Histories
 pub mod KeyServer

@@ -1,10 +1,12 @@
 //! The layer as a library, by `delortxa`: a file that is written and read back, a server and a client in threads, a test of
-//! a service manager, a parser without rights, and a key server and a display server with their clients in threads; then
-//! the crates below it: one process without threads, two threads as processes, and a process that makes another.
+//! a service manager, a parser without rights, a key server and a display server with their clients in threads, and two
+//! processes in every order of their calls; then the crates below it: one process without threads, two threads as
+//! processes, and a process that makes another.
 #![tactic(auto)]
 
 mod activation;
 mod display;
+mod every_order;
 mod greeter;
 mod hello;
 mod key_server;
@@ -37,6 +39,7 @@ fn main(rt: HostRuntime) -> Result<()> {
     parser::run(&rt)?;
     key_server::run(&rt)?;
     display::run(&rt)?;
+    every_order::run(&rt)?;
     one_process::run(&rt)?;
     two_threads::run(&rt)?;
     service_manager::run(&rt)
