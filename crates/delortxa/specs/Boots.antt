@@ -21,3 +21,7 @@ with_object plan path kind bytes n = record plan {
 -- with one more process
 abbrev pub with_process : Plan → ProcSpec → Plan
 with_process plan spec = record plan { processes = plan.processes ++ spec ∷ [] }
+
+-- with these processes in place of its own
+abbrev pub with_processes : Plan → List ProcSpec → Plan
+with_processes plan processes = record plan { processes = processes }

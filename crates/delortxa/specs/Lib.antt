@@ -4,5 +4,6 @@ pub mod Boots
 pub mod Exploring
 pub mod Giving
 pub mod Happening
+pub mod Recipes
 pub mod Replying
 pub mod Promising

@@ -4,7 +4,7 @@ ghost use Rattle.ux_model.specs.Limits.{file_limit};
 ghost use Rattle.ux_model.specs.Boot.{IsBootState, boot_state};
 ghost use Rattle.ux_object.specs.declared.ObjKind.{ObjKind};
 ghost use Rattle.ux_kernel.specs.Faults.{fault_of};
-ghost use Rattle.delortxa.specs.Boots.{with_object, with_process};
+ghost use Rattle.delortxa.specs.Boots.{with_object, with_process, with_processes};
 
 use crate::objects::AnyObject;
 use std::alloc::{AllocError, Global};
@@ -13,7 +13,17 @@ use ux_kernel::{BootFault, Kernel};
 use ux_object::{ObjError, ObjKind};
 use ux_types::{Bytes, Name, ProcSpec};
 
-/// What an object is made of.
+/// The file objects and the processes that a layer is to start with. Objects are numbered from 0 on and
+/// processes from 1 on, in the order in which they are given. Contracts see both lists, and which call of each object fails.
+pub struct Boot {
+    alloc: Global,
+    objects: Vec<(Name, AnyObject)>,
+    /// What each object is made of, so that it can be made anew.
+    recipes: Vec<Recipe>,
+    processes: Vec<ProcSpec>,
+}
+
+/// What a file object is made of.
 #[derive(Drop)]
 struct Recipe {
     path: Name,
@@ -21,16 +31,6 @@ struct Recipe {
     bytes: Bytes,
     /// Which of its reads and writes fails, counted from 1, or 0.
     fails_at: u32,
-}
-
-/// The file objects and the processes that a layer is to start with. Objects are numbered from 0 on and
-/// processes from 1 on, in the order in which they are given. Contracts see both lists, and which call of each object fails.
-pub struct Boot {
-    alloc: Global,
-    objects: Vec<(Name, AnyObject)>,
-    /// Of each object, so that it can be made again.
-    recipes: Vec<Recipe>,
-    processes: Vec<ProcSpec>,
 }
 
 // Written out, so that it is proved here and not in each function that drops one.
@@ -49,13 +49,16 @@ impl Drop for Boot {
 }
 
 impl Model for Boot {
-    ghost use Rattle.std.specs.Prelude.{map};
+    ghost use Rattle.std.specs.Prelude.{◌≡◌, map};
     ghost use Rattle.delortxa.specs.AnyObjects.{any_view, calls_left};
     ghost use Rattle.delortxa.specs.Boots.{Plan};
+    ghost use Rattle.delortxa.specs.Recipes.{object_of, failure_of};
 
     ghost Value = { Plan };
 
     ghost view = { λ b. record { objects = map (λ o. (o.0, any_view o.1)) b.objects.items; failures = map (λ o. calls_left o.1) b.objects.items; processes = b.processes.items } };
+
+    ghost invariant = { λ b. (map (λ o. (o.0, any_view o.1)) b.objects.items ≡ map object_of b.recipes.items) × (map (λ o. calls_left o.1) b.objects.items ≡ map failure_of b.recipes.items) };
 }
 
 impl Boot {
@@ -127,34 +130,34 @@ impl Boot {
     /// # Errors
     ///
     /// `Full` exactly for a file of more than 1,048,576 bytes, else `NoMemory`.
-    pub fn object(
-        mut self,
-        path: &[u8],
-        kind: ObjKind,
-        bytes: &[u8],
-        n: u32,
-    ) -> Result<Boot, ObjError>
+    pub fn object(self, path: &[u8], kind: ObjKind, bytes: &[u8], n: u32) -> Result<Boot, ObjError>
         ensures made { IfOk result (λ b. b ≡ with_object self path.now kind bytes.now n) }
         ensures full { IsErrAnd result (λ e. e ≡ ObjError.Full) ↔ ((kind ≡ ObjKind.Memory) × (file_limit < length bytes.now)) }
         ensures refused { IfErr result (λ e. (e ≡ ObjError.Full) ⊎ (e ≡ ObjError.NoMemory)) }
     {
         let object = AnyObject::new(self.alloc, kind, bytes, n)?;
-        let Ok(name) = Name::from_slice(self.alloc, path) else {
-            return Err(ObjError::NoMemory);
-        };
+        let name = Name::from_slice(self.alloc, path)?;
         let recipe = Recipe {
-            path: name.clone()?,
+            path: Name::from_slice(self.alloc, path)?,
             kind,
             bytes: Bytes::from_slice(self.alloc, bytes)?,
             fails_at: n,
         };
-        if self.recipes.push(recipe).is_err() {
+        let Boot {
+            alloc,
+            mut objects,
+            mut recipes,
+            processes,
+        } = self;
+        if recipes.push(recipe).is_err() || objects.push((name, object)).is_err() {
             return Err(ObjError::NoMemory);
         }
-        match self.objects.push((name, object)) {
-            Ok(()) => Ok(self),
-            Err(_) => Err(ObjError::NoMemory),
-        }
+        Ok(Boot {
+            alloc,
+            objects,
+            recipes,
+            processes,
+        })
     }
 
     /// Adds a process of this user and group, which may have so many descriptors (below 1 counts as 1, above
@@ -198,13 +201,13 @@ impl Boot {
         Ok(self)
     }
 
-    /// A boot with such objects, made anew, and these processes.
+    /// A boot with the same objects, made anew, and these processes.
     ///
     /// # Errors
     ///
     /// Out of memory.
     pub(crate) fn anew(&self, processes: &[ProcSpec]) -> Result<Boot, ObjError>
-        ensures { IfOk result (λ b. b.processes ≡ processes.now) }
+        ensures { IfOk result (λ b. b ≡ with_processes self.now processes.now) }
     {
         let mut boot = Boot::new(self.alloc);
         for recipe in &self.recipes {

@@ -176,14 +176,14 @@ fn the_list_of_a_child_begins_with_its_fork(rt: HostRuntime) -> Result<(), Fail>
     let programs = programs.call(FIRST, call::close(Fd(0)))?;
     let found = found_by(alloc, Ok(Boot::new(alloc)), 1, &programs)?;
     has_outcomes(&rt, alloc, &found, &["1,1,1,1,2,2"])?;
-    let replies = found.outcomes.iter().flat_map(|outcome| outcome.entries());
-    let mut of_child = replies.filter(|entry| entry.pid == SECOND);
-    assert!(&rt;
-        matches!(
-            of_child.next().map(|entry| &entry.reply),
-            Some(Reply::Count(1))
-        )
-    );
+    let Some(outcome) = found.outcomes.first() else {
+        return Err(Fail::from("no outcome"));
+    };
+    let sends = outcome.entries().iter().find(|entry| entry.pid == SECOND);
+    let Some(send) = sends else {
+        return Err(Fail::from("no send"));
+    };
+    assert!(&rt; send.reply == Reply::Count(1));
     Ok(())
 }
 
@@ -196,24 +196,36 @@ fn what_cannot_be_made_is_refused(rt: HostRuntime) -> Result<(), Fail> {
         let refused = explore(alloc, &boot, &programs, MANY);
         assert!(&rt; matches!(refused, Err(OrderFault::Stranger)));
     }
-    let twice = Boot::new(alloc).pipe(b"p").and_then(|boot| boot.pipe(b"p"));
-    let refused = explore(alloc, &boot_of(twice, 1)?, &Programs::new(alloc), MANY);
+    let refused = explore(
+        alloc,
+        &boot_of(two_of_one_path(alloc), 1)?,
+        &Programs::new(alloc),
+        MANY,
+    );
     assert!(&rt; matches!(refused, Err(OrderFault::NoKernel)));
     Ok(())
 }
 
+/// Two pipes at one path.
+fn two_of_one_path(alloc: Global) -> Result<Boot, ObjError> {
+    Boot::new(alloc).pipe(b"p")?.pipe(b"p")
+}
+
 /// Of two processes: a call of nobody, and of one that isn't there; a wait for one that isn't there; a fork by the
-/// second, and a call of the child behind it; a call and a wait behind an exit; and the end of the layer.
+/// second; a call and a wait behind an exit; and the end of the layer.
 fn strange(alloc: Global) -> Result<Vec<Programs>, AllocError> {
-    let socket = || call::socket(SockType::Stream);
     let mut all = Vec::new(alloc);
-    all.push(Programs::new(alloc).call(Pid(0), socket())?)?;
-    all.push(Programs::new(alloc).call(THIRD, socket())?)?;
+    all.push(Programs::new(alloc).call(Pid(0), call::exec())?)?;
+    all.push(Programs::new(alloc).call(THIRD, call::exec())?)?;
     all.push(Programs::new(alloc).wait(FIRST, THIRD, 1)?)?;
     all.push(Programs::new(alloc).call(SECOND, Request::Fork)?)?;
-    let exited = || Programs::new(alloc).call(FIRST, Request::Exit);
-    all.push(exited()?.call(FIRST, socket())?)?;
-    all.push(exited()?.wait(FIRST, SECOND, 1)?)?;
+    all.push(exited(alloc)?.call(FIRST, call::exec())?)?;
+    all.push(exited(alloc)?.wait(FIRST, SECOND, 1)?)?;
     all.push(Programs::new(alloc).call(FIRST, Request::Off)?)?;
     Ok(all)
+}
+
+/// The first process exits.
+fn exited(alloc: Global) -> Result<Programs, AllocError> {
+    Programs::new(alloc).call(FIRST, Request::Exit)
 }
