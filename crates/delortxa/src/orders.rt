@@ -1,9 +1,7 @@
 //! Every order of the calls that processes make, given as lists.
-ghost use Rattle.std.specs.Prelude.{◌≡◌, ◌≤◌, [], map, IfOk};
+ghost use Rattle.std.specs.Prelude.{◌≡◌, ◌≤◌, [], IfOk};
 ghost use Rattle.std.specs.List.{AllByRecursion};
-ghost use Rattle.ux_model.specs.Boot.{IsBootState, new_process};
 ghost use Rattle.ux_syntax.specs.Spelling.{plan_of};
-ghost use Rattle.ux_syntax.specs.declared.script.Act.{Act};
 ghost use Rattle.ux_orders.specs.Outcomes.{IsRun, Cover};
 ghost use Rattle.delortxa.specs.Exploring.{with_call, with_wait, with_line, script_of};
 
@@ -51,8 +49,8 @@ impl Programs {
         }
     }
 
-    /// The next call of this process: one of `delortxa::call`, `Request::Fork`, or `Request::Exit`, which is made by
-    /// itself behind the last.
+    /// The next call of this process: one of `delortxa::call`, or `Request::Fork`, or `Request::Exit`, without which it
+    /// exits behind its last call.
     ///
     /// # Errors
     ///
@@ -102,14 +100,14 @@ impl Programs {
     }
 }
 
-/// Makes the calls of all processes in every order, each on a new kernel of what the boot has, and keeps a run for each
-/// outcome: the shortest, and of those the one that comes first. Two runs have the same outcome where each process gets
-/// the same replies and closes the same file objects; or where both end in a deadlock in which the same processes wait
-/// at the same places of their lists, counted from 1 with the waits. Of orders that come to the same point one alone
-/// goes on, and no more than `limit` are begun.
+/// Makes the calls of all processes in every order, each on a new kernel with what the boot has, and keeps a run for
+/// each outcome: the shortest, and of those the one whose processes come in the smallest order. Two runs have the same
+/// outcome where each process gets the same replies and closes the same file objects; or where both end in a deadlock in
+/// which the same processes wait at the same places of their lists, counted from 1 with the waits. Of orders that come
+/// to the same point one alone goes on, and no more than `limit` are begun.
 ///
-/// A call waits where one of a thread would. A process exits behind its last call. Process 1 may fork: its children have
-/// the numbers behind those of the boot, and the list of each begins when its fork was answered.
+/// A call waits where one of a thread would. Process 1 may fork: its children have the numbers behind those of the boot,
+/// and the list of each begins when its fork was answered.
 ///
 /// # Errors
 ///
