@@ -16,6 +16,7 @@ pub mod Asking
 pub mod HeaderLines
 pub mod Items
 pub mod Scripts
+pub mod Joining
 pub mod Feeding
 pub mod Expecting
 pub mod Staying

@@ -8,6 +8,7 @@ pub mod Turns
 pub mod Reading
 pub mod Forms
 pub mod Results
+pub mod Joining
 pub mod Continuing
 pub mod Expectations
 pub mod PlainLines

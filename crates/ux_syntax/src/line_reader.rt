@@ -1,9 +1,10 @@
 //! A script that is read line by line, as it comes.
 
-ghost use Rattle.std.specs.Prelude.{◌≡◌, [], ◌∷◌, OnErr};
+ghost use Rattle.std.specs.Prelude.{◌≡◌, true, [], ◌∷◌, OnErr};
 ghost use Rattle.ux_syntax.specs.Spelling.{plan_of};
 ghost use Rattle.ux_syntax.specs.Reading.{no_lines, lines_at};
 ghost use Rattle.ux_syntax.specs.Results.{ReadsOn};
+ghost use Rattle.ux_syntax.specs.Joining.{is_begun, Continues};
 
 use crate::fault::ScriptFault;
 use crate::reading::Reader;
@@ -46,6 +47,14 @@ impl LineReader {
         &self.reader.script
     }
 
+    /// Whether the header is over: a line of a process was read, or the end of the layer.
+    pub fn is_begun(&self) -> bool
+        ensures { result ≡ is_begun self.now }
+    {
+        let script = &self.reader.script;
+        !script.lines.is_empty() || script.off
+    }
+
     /// Reads one line more, without its line feed, and adds what it says. The number is for the fault, and for the line of a
     /// process.
     ///
@@ -61,6 +70,8 @@ impl LineReader {
         // The line is taken, or at fault, as it would be in a script behind the lines that were taken.
         ensures reads { ReadsOn result self.new (lines_at number self.old (text.now ∷ [])) }
         ensures same { OnErr result (self.new ≡ self.old) }
+        // Once the header is over no process is added, and no line before those that are there.
+        ensures continues { is_begun self.old ≡ true → Continues self.old self.new }
     {
         match self.reader.read_line(alloc, number, text) {
             Ok(()) => Ok(()),
