@@ -4,6 +4,7 @@ complete -c uxrun -l order -x -d 'one thread makes the lines in one order, in wh
 complete -c uxrun -l orders -d 'makes the lines in every order, and prints how many ends and how many outcomes these have, and for each outcome an order and its trace'
 complete -c uxrun -l echo -d 'instead of the trace, prints each call with its line in the script and its arguments'
 complete -c uxrun -l json -d 'prints JSON instead of the trace, and of what --expect, --check, --audit and --holders print'
+complete -c uxrun -l follow -d 'makes the call of each line as soon as the line is read, and prints its line of the trace before it reads the next'
 complete -c uxrun -l expect -d 'compares the replies with those that comments of the script expect'
 complete -c uxrun -l check -d 'boots the layer again, over file objects as they were at first, which don’t fail now, and makes the calls of the trace again'
 complete -c uxrun -l audit -x -d 'after the trace, reports which descriptors are open then, and through whom each came to its process'

@@ -37,10 +37,28 @@ pub struct Args<'a> {
     pub orders: Option<u32>,
     /// Whether what is printed is JSON, one value a line.
     pub json: bool,
+    /// Whether each line is run as soon as it is read.
+    pub follow: bool,
     /// Whether it is told on standard error how far a long run is. No option asks for it.
     pub progress: bool,
     /// A path, or `-` for standard input.
     pub script: &'a str,
+}
+
+impl Args<'_> {
+    /// Whether the script is standard input, and nothing is asked for that needs all of it. Then it is run as it comes where
+    /// it is a terminal.
+    pub fn may_follow(&self) -> bool {
+        let whole = self.threads
+            || self.order.is_some()
+            || self.orders.is_some()
+            || self.echo
+            || self.expect
+            || self.json
+            || self.dot.is_some()
+            || self.sequence;
+        self.script == "-" && !whole
+    }
 }
 
 /// An option without a value.
@@ -98,6 +116,7 @@ pub fn read_args<'a>(alloc: Global, words: &'a [String]) -> Result<Args<'a>, Err
         order,
         orders,
         json: matches.get_flag("json"),
+        follow: matches.get_flag("follow"),
         progress: false,
         script: matches.get_str("SCRIPT").unwrap_or("-"),
     })

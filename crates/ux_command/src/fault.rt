@@ -38,6 +38,9 @@ pub enum Fault {
     /// In so many outcomes, of so many, a call answered otherwise than the script expects.
     #[error("expect differs in {0} of {1} outcomes")]
     UnexpectedIn(usize, usize),
+    /// So many lines of a script that was run as it came were at fault, and left out.
+    #[error("left out {0} of the lines")]
+    LeftOut(usize),
     /// Not all orders were made.
     #[error("not all orders were made")]
     Limit,

@@ -242,17 +242,30 @@ fn boot_faults_are_told_by_their_numbers(rt: HostRuntime) -> Result<(), Fail> {
 const EXCLUDING: &[[&str; 2]] = &[
     ["--json", "--echo"],
     ["--json", "--orders"],
+    ["--follow", "--threads"],
+    ["--follow", "--order=7"],
+    ["--follow", "--orders"],
+    ["--follow", "--echo"],
+    ["--follow", "--expect"],
+    ["--follow", "--json"],
+    ["--follow", "--dot=1"],
+    ["--follow", "--sequence"],
     ["--json", "--dot=1"],
     ["--json", "--sequence"],
 ];
 
 #[test]
-fn json_is_asked_for(rt: HostRuntime) -> Result<(), Fail> {
+fn json_and_following_are_asked_for(rt: HostRuntime) -> Result<(), Fail> {
     let words = texts(rt.alloc(), &["uxrun", "--json", "--expect", "a.ux"])?;
     let args = read_args(rt.alloc(), words.as_slice())
         .ok()
         .ok_or("not understood")?;
-    assert!(rt; args.json && args.expect);
+    assert!(rt; args.json && args.expect && !args.follow);
+    let words = texts(rt.alloc(), &["uxrun", "--follow", "--check", "-"])?;
+    let args = read_args(rt.alloc(), words.as_slice())
+        .ok()
+        .ok_or("not understood")?;
+    assert!(rt; args.follow && args.check && !args.json);
     for [one, other] in EXCLUDING {
         let words = texts(rt.alloc(), &["uxrun", one, other, "-"])?;
         let told = read_args(rt.alloc(), words.as_slice())

@@ -9,6 +9,8 @@ mod beside;
 #[cfg(test)]
 mod command;
 #[cfg(test)]
+mod following;
+#[cfg(test)]
 mod malformed;
 #[cfg(test)]
 mod metering;

@@ -3,3 +3,4 @@ pub mod Runs
 pub mod Echoing
 pub mod Answering
 pub mod Tellings
+pub mod Following

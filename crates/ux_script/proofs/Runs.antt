@@ -25,7 +25,7 @@ use Rattle.ux_syntax.specs.Lines.{Line}
 use Rattle.ux_syntax.specs.declared.script.Script.{Script}
 use Rattle.ux_syntax.specs.Spelling.{plan_of, is_exit, is_fork, asks_exit, asks_fork, asks_off, forks_of, known_count, NamesProcesses, EachKnowing, IsQuiet, NoneAfterExit, IsCall, IsOrderly}
 use Rattle.ux_syntax.specs.Turns.{has_exited, exit_line, off_line, is_call, call_lines, all_turns}
-use Rattle.ux_script.specs.Runs.{line_of_entry, exits_of, Makes}
+use Rattle.ux_script.specs.Runs.{line_of_entry, exits_of, Makes, Grows}
 
 -- ---- who lives
 
@@ -112,7 +112,7 @@ forks_all lines n =
     omega (arith, both, calls, exits)
 
 -- each fork line of a script has made its process
-pub all_known : (book : KeptHistory) (script : Script) (count : ℕ) → count ≡ books.processes book → Makes book script (call_lines script.lines.items) → count ≡ known_count (plan_of script)
+pub all_known : (book : KeptHistory) (script : Script) (count : ℕ) → count ≡ books.processes book → Makes book (plan_of script) (call_lines script.lines.items) → count ≡ known_count (plan_of script)
 all_known book script count is so_far = let made = so_far.made in let forks = forks_calls script.lines.items in omega (arith, is, made, forks)
 
 -- what is said of each line, beside the number of processes that it knows
@@ -128,7 +128,7 @@ known_at IsSo count (suc i) (x ∷ xs) line all inside item =
     subst (λ (n : ℕ). IsSo n line) sum (known_at IsSo (count + forks_of (x ∷ [])) i xs line all.1 (omega (arith, inside)) item)
 
 -- the process of a line lives when the lines before it were made
-pub line_lives : (book : KeptHistory) (script : Script) (i : ℕ) (line : Line) → Makes book script (call_lines (take i script.lines.items)) → IsOrderly (plan_of script) → i < length script.lines.items → line ≡ get_or script.lines.items i line →
+pub line_lives : (book : KeptHistory) (script : Script) (i : ℕ) (line : Line) → Makes book (plan_of script) (call_lines (take i script.lines.items)) → IsOrderly (plan_of script) → i < length script.lines.items → line ≡ get_or script.lines.items i line →
     is_live (state_of book) line.pid.0 ≡ true
 line_lives book script i line so_far orderly inside item =
     let lines = script.lines.items in
@@ -141,7 +141,7 @@ line_lives book script i line so_far orderly inside item =
     ∙ ap not (exited_calls (take i lines) line.pid.0 ∙ not_exited i lines line orderly.exits inside item)
 
 -- with one line more there may be one call more
-calls_more : (lines : List Line) (i : ℕ) (line : Line) → i < length lines → line ≡ get_or lines i line → call_lines (take i lines) ++ call_lines (line ∷ []) ≡ call_lines (take (i + 1) lines)
+pub calls_more : (lines : List Line) (i : ℕ) (line : Line) → i < length lines → line ≡ get_or lines i line → call_lines (take i lines) ++ call_lines (line ∷ []) ≡ call_lines (take (i + 1) lines)
 calls_more lines i line inside item =
     sym (filter-append (λ (x : Line). is_call x.act) (take i lines) (line ∷ []))
     ∙ ap (λ x. call_lines (take i lines ++ x ∷ [])) item
@@ -157,6 +157,13 @@ wait_passed lines i line pid calls inside item asks =
     sym (append-nil (call_lines (take i lines)))
     ∙ ap (λ (a : Act). call_lines (take i lines) ++ call_lines (record { pid = line.pid; act = a } ∷ [])) (sym asks)
     ∙ calls_more lines i line inside item
+
+-- the call of one line, if it asks for one
+pub line_asks : (line : Line) (request : Request) → line.act ≡ Act.Call request → call_lines (line ∷ []) ≡ record { pid = line.pid; act = Act.Call request } ∷ []
+line_asks line request asks = ap (λ (a : Act). call_lines (record { pid = line.pid; act = a } ∷ [])) asks
+
+pub line_waits : (line : Line) (pid : Pid) (calls : ℕ) → line.act ≡ Act.Wait pid calls → call_lines (line ∷ []) ≡ []
+line_waits line pid calls waits = ap (λ (a : Act). call_lines (record { pid = line.pid; act = a } ∷ [])) waits
 
 -- ---- the missing exits
 
@@ -197,7 +204,7 @@ others_exits lines (suc n) p below =
     last false = ap (λ b. (b && true) || false) (ne_eqb (n + 1) p (λ h. omega (arith, h, below)))
 
 -- whether the next process has made its exit, after the script's calls and some of the missing exits
-pub exit_known : (book : KeptHistory) (script : Script) (n : ℕ) → Makes book script (call_lines script.lines.items ++ exits_of script.lines.items n) → n < known_count (plan_of script) →
+pub exit_known : (book : KeptHistory) (script : Script) (n : ℕ) → Makes book (plan_of script) (call_lines script.lines.items ++ exits_of script.lines.items n) → n < known_count (plan_of script) →
     is_live (state_of book) (n + 1) ≡ not (has_exited script.lines.items (n + 1))
 exit_known book script n so_far inside =
     let lines = script.lines.items in
@@ -242,7 +249,7 @@ nobody S gone = go S.processes gone
     go [] g = refl
     go (P ∷ Ps) g = λ j. g 0 j || go Ps (λ i. g (suc i)) j
 
-all_gone : (book : KeptHistory) (script : Script) → Makes book script (call_lines script.lines.items ++ exits_of script.lines.items (known_count (plan_of script))) → has_live (state_of book) ≡ false
+all_gone : (book : KeptHistory) (script : Script) → Makes book (plan_of script) (call_lines script.lines.items ++ exits_of script.lines.items (known_count (plan_of script))) → has_live (state_of book) ≡ false
 all_gone book script so_far = nobody (state_of book) (λ i. go i (cases_lt i count))
   where
     count : ℕ
@@ -293,8 +300,8 @@ not_ended (e ∷ es) all =
 -- ---- a run as far as it has come
 
 -- one more entry of a process
-pub makes_more : (old new : KeptHistory) (script : Script) (pid : Pid) (request : Request) (made : List Line) → MakesOne old new pid request → books.processes new ≡ books.processes old + cond {A = ℕ} (is_fork request) 1 0 → Makes old script made →
-    Makes new script (made ++ record { pid = pid; act = Act.Call request } ∷ [])
+pub makes_more : (old new : KeptHistory) (script : Script) (pid : Pid) (request : Request) (made : List Line) → MakesOne old new pid request → books.processes new ≡ books.processes old + cond {A = ℕ} (is_fork request) 1 0 → Makes old (plan_of script) made →
+    Makes new (plan_of script) (made ++ record { pid = pid; act = Act.Call request } ∷ [])
 makes_more old new script pid request made one count so_far =
     let here : Line = record { pid = pid; act = Act.Call request } in
     let now = one.answers.adds.appended in
@@ -307,14 +314,23 @@ makes_more old new script pid request made one count so_far =
       made = let before = so_far.made in let more = sum_by_push (λ (l : Line). cond {A = ℕ} (asks_fork l.act) 1 0) made here in omega (arith, count, before, more);
     }
 
-pub makes_same : (book : KeptHistory) (script : Script) (made more : List Line) → made ≡ more → Makes book script made → Makes book script more
+pub makes_same : (book : KeptHistory) (script : Script) (made more : List Line) → made ≡ more → Makes book (plan_of script) made → Makes book (plan_of script) more
 makes_same book script made more e so_far = record { processes = so_far.processes; legal = so_far.legal; calls = so_far.calls ∙ e; made = so_far.made ∙ ap (λ ls. length script.procs.items + forks_of ls) e }
 
 pub boot_kept : (old new : KeptHistory) (pid : Pid) (request : Request) → MakesOne old new pid request → new.boot ≡ old.boot
 boot_kept old new pid request one = ap KeptHistory.boot one.answers.adds.appended
 
+pub grows_none : (es : List Entry) → Grows es es
+grows_none es = ([], sym (append-nil es))
+
+pub grows_then : (a b c : List Entry) → Grows a b → Grows b c → Grows a c
+grows_then a b c g h = (g.0 ++ h.0, h.1 ∙ ap (λ es. es ++ h.0) g.1 ∙ append_assoc a g.0 h.0)
+
+pub grows_one : (old new : KeptHistory) (pid : Pid) (request : Request) → MakesOne old new pid request → Grows old.entries new.entries
+grows_one old new pid request one = (_ ∷ [], ap KeptHistory.entries one.answers.adds.appended)
+
 -- a call of an orderly script is no stranger's
-pub no_stranger : (book : KeptHistory) (script : Script) (i : ℕ) (line : Line) (request : Request) → IsOrderly (plan_of script) → Makes book script (call_lines (take i script.lines.items)) → i < length script.lines.items → line ≡ get_or script.lines.items i line → line.act ≡ Act.Call request →
+pub no_stranger : (book : KeptHistory) (script : Script) (i : ℕ) (line : Line) (request : Request) → IsOrderly (plan_of script) → Makes book (plan_of script) (call_lines (take i script.lines.items)) → i < length script.lines.items → line ≡ get_or script.lines.items i line → line.act ≡ Act.Call request →
     (is_off request ≡ false) × (is_live (state_of book) line.pid.0 ≡ true)
 no_stranger book script i line request orderly so_far inside item asks = (
   ap asks_off (sym asks) ∙ all_at IsCall i script.lines.items line orderly.calls inside item,
@@ -322,7 +338,7 @@ no_stranger book script i line request orderly so_far inside item asks = (
 )
 
 -- nor is the end of the layer behind all exits refused
-pub no_stranger_ends : (book : KeptHistory) (script : Script) (n : ℕ) → IsOrderly (plan_of script) → n ≡ known_count (plan_of script) → Makes book script (call_lines script.lines.items ++ exits_of script.lines.items n) →
+pub no_stranger_ends : (book : KeptHistory) (script : Script) (n : ℕ) → IsOrderly (plan_of script) → n ≡ known_count (plan_of script) → Makes book (plan_of script) (call_lines script.lines.items ++ exits_of script.lines.items n) →
     (has_live (state_of book) ≡ false → ends_of book.entries ≡ 1) → ⊥
 no_stranger_ends book script n orderly count so_far refused =
     let lines = script.lines.items in
@@ -344,8 +360,8 @@ with_end script n count end =
     ∙ ap (λ b. call_lines script.lines.items ++ (exits_of script.lines.items (known_count (plan_of script)) ++ (if b then off_line ∷ [] else []))) (sym end)
 
 -- a book that was just opened
-pub makes_none : (book : KeptHistory) (script : Script) (boot : State) → book ≡ record { boot = boot; entries = [] } → IsBootState boot → boot.processes ≡ map new_process script.procs.items → Makes book script []
-makes_none book script boot new boots same = subst (λ (h : KeptHistory). Makes h script []) (sym new) (record {
+pub makes_none : (book : KeptHistory) (script : Script) (boot : State) → book ≡ record { boot = boot; entries = [] } → IsBootState boot → boot.processes ≡ map new_process script.procs.items → Makes book (plan_of script) []
+makes_none book script boot new boots same = subst (λ (h : KeptHistory). Makes h (plan_of script) []) (sym new) (record {
   processes = same;
   legal = legal_empty boot boots;
   calls = refl;

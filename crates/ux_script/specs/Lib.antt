@@ -2,3 +2,4 @@ pub mod Writes
 pub mod Runs
 pub mod Comparing
 pub mod Telling
+pub mod Following

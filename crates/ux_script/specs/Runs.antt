@@ -1,5 +1,5 @@
 -- Which histories are runs of a script.
-use Rattle.std.specs.Prelude.{◌≡◌, ◌⊎◌, ◌+◌, ℕ, not, List, length, map, filter, Option}
+use Rattle.std.specs.Prelude.{◌≡◌, ◌⊎◌, ◌+◌, ◌++◌, ℕ, not, List, length, map, filter, Option}
 use Rattle.std.specs.List.{range_with_len}
 use Rattle.std.specs.Io.KnownBytes.{Keeps}
 use Rattle.ux_model.specs.Types.{Entry}
@@ -11,7 +11,6 @@ use Rattle.ux_model.specs.History.{IsLegal}
 use Rattle.ux_syntax.specs.declared.fault.ScriptFault.{ScriptFault}
 use Rattle.ux_syntax.specs.declared.script.Act.{Act}
 use Rattle.ux_syntax.specs.Lines.{Line}
-use Rattle.ux_syntax.specs.declared.script.Script.{Script}
 use Rattle.ux_syntax.specs.Spelling.{Plan, forks_of}
 use Rattle.ux_syntax.specs.Turns.{has_exited, exit_line, all_turns}
 use Rattle.ux_trace.specs.Trace.{trace}
@@ -36,8 +35,12 @@ abbrev pub exits_of : List Line → ℕ → List Line
 exits_of lines n = map exit_line (filter (λ pid. not (has_exited lines pid)) (range_with_len 1 n))
 
 -- a book of the script's processes has come so far: these lines were made, and each fork among them made a process
-pub record Makes (book : KeptHistory) (script : Script) (lines : List Line) : Type 0 where
-  pub processes : book.boot.processes ≡ map new_process script.procs.items
+pub record Makes (book : KeptHistory) (s : Plan) (lines : List Line) : Type 0 where
+  pub processes : book.boot.processes ≡ map new_process s.procs
   pub legal : IsLegal book.boot book.entries
   pub calls : map line_of_entry book.entries ≡ lines
-  pub made : books.processes book ≡ length script.procs.items + forks_of lines
+  pub made : books.processes book ≡ length s.procs + forks_of lines
+
+-- these entries came to be more, or stayed
+abbrev pub Grows : List Entry → List Entry → Type 0
+Grows old new = (more : List Entry) × (new ≡ old ++ more)

@@ -6,6 +6,7 @@ mod comparing;
 mod echo;
 mod places;
 mod run;
+mod session;
 mod told;
 mod write;
 
@@ -13,5 +14,6 @@ pub use comparing::differences;
 pub use echo::finish_echo;
 pub use places::line_numbers;
 pub use run::{NoWatch, Watch, finish_trace, make_serial, make_watched, run_serial};
+pub use session::{Followed, LineSource, Listener, follow, read_header};
 pub use told::{finish_json, write_differences, write_value};
 pub use write::{put_all, write_trace};

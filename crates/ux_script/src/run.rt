@@ -1,6 +1,6 @@
 //! Making the calls of a script.
 
-ghost use Rattle.std.specs.Prelude.{◌≡◌, ◌+◌, ◌≤◌, ◌⊎◌, ◌++◌, [], false, length, map, IfOk, OnOk, IfErr, OnErr, if◌then◌else◌};
+ghost use Rattle.std.specs.Prelude.{◌≡◌, ◌+◌, ◌≤◌, ◌⊎◌, ◌++◌, [], false, length, map, take, IfOk, OnOk, IfErr, OnErr, if◌then◌else◌};
 ghost use Rattle.std.specs.Io.KnownBytes.{Appends};
 ghost use Rattle.ux_model.specs.Limits.{made_limit};
 ghost use Rattle.ux_model.specs.State.{is_live};
@@ -13,7 +13,7 @@ ghost use Rattle.ux_syntax.specs.Spelling.{plan_of, known_count, IsOrderly};
 ghost use Rattle.ux_syntax.specs.Turns.{all_turns, call_lines};
 ghost use Rattle.ux_trace.specs.Trace.{trace};
 ghost use Rattle.ux_script.specs.Writes.{AppendsBeginning};
-ghost use Rattle.ux_script.specs.Runs.{line_of_entry, exits_of, Makes, IsRunFault, WritesBeginning};
+ghost use Rattle.ux_script.specs.Runs.{line_of_entry, exits_of, Makes, Grows, IsRunFault, WritesBeginning};
 
 use crate::write::write_trace;
 use std::alloc::Global;
@@ -181,12 +181,26 @@ fn make_all<W: BookName, O: FileObject, P: Watch>(
     script: &Script,
     watch: &P,
 ) -> Result<(), CallFault>
-    requires { Makes serial.old script.now [] }
-    ensures made { OnOk result (Makes serial.new script.now (all_turns (plan_of script.now))) }
+    requires { Makes serial.old (plan_of script.now) [] }
+    ensures made { OnOk result (Makes serial.new (plan_of script.now) (all_turns (plan_of script.now))) }
     ensures boot { OnOk result (serial.new.boot ≡ serial.old.boot) }
     ensures stranger { IfErr result (λ f. f ≡ CallFault.Stranger → ¬ IsOrderly (plan_of script.now)) }
 {
-    make_calls(serial, script, watch)?;
+    make_calls(serial, script, 0, watch)?;
+    make_rest(serial, script)
+}
+
+/// Makes an exit of each process that is left, and ends the layer where the script says so.
+pub(crate) fn make_rest<W: BookName, O: FileObject>(
+    serial: &mut Serial<W, O>,
+    script: &Script,
+) -> Result<(), CallFault>
+    requires { Makes serial.old (plan_of script.now) (call_lines script.now.lines.items) }
+    ensures made { OnOk result (Makes serial.new (plan_of script.now) (all_turns (plan_of script.now))) }
+    ensures boot { OnOk result (serial.new.boot ≡ serial.old.boot) }
+    ensures grows { OnOk result (Grows serial.old.entries serial.new.entries) }
+    ensures stranger { IfErr result (λ f. f ≡ CallFault.Stranger → ¬ IsOrderly (plan_of script.now)) }
+{
     let count = serial.process_count();
     make_exits(serial, script, count)?;
     if !script.off {
@@ -195,18 +209,22 @@ fn make_all<W: BookName, O: FileObject, P: Watch>(
     end(serial)
 }
 
-/// Makes the script's calls in order. Nobody waits in a run of one thread.
-fn make_calls<W: BookName, O: FileObject, P: Watch>(
+/// Makes the calls of the script's lines from this place on, in order. Nobody waits in a run of one thread.
+pub(crate) fn make_calls<W: BookName, O: FileObject, P: Watch>(
     serial: &mut Serial<W, O>,
     script: &Script,
+    from: usize,
     watch: &P,
 ) -> Result<(), CallFault>
-    requires { Makes serial.old script.now [] }
-    ensures made { OnOk result (Makes serial.new script.now (call_lines script.now.lines.items)) }
+    requires { Makes serial.old (plan_of script.now) (call_lines (take from script.now.lines.items)) }
+    ensures made { OnOk result (Makes serial.new (plan_of script.now) (call_lines script.now.lines.items)) }
     ensures boot { OnOk result (serial.new.boot ≡ serial.old.boot) }
+    ensures grows { OnOk result (Grows serial.old.entries serial.new.entries) }
     ensures stranger { IfErr result (λ f. f ≡ CallFault.Stranger → ¬ IsOrderly (plan_of script.now)) }
 {
-    for line in &script.lines {
+    let lines = script.lines.as_slice();
+    for index in from..lines.len() {
+        let line = &lines[index];
         watch.turn();
         match &line.act {
             Act::Call(request) => make_call(serial, line.pid, request)?,
@@ -222,11 +240,12 @@ fn make_exits<W: BookName, O: FileObject>(
     script: &Script,
     count: usize,
 ) -> Result<(), CallFault>
-    requires begun { Makes serial.old script.now (call_lines script.now.lines.items) }
+    requires begun { Makes serial.old (plan_of script.now) (call_lines script.now.lines.items) }
     requires count { count ≡ known_count (plan_of script.now) }
     requires few { count ≤ made_limit }
-    ensures made { OnOk result (Makes serial.new script.now (call_lines script.now.lines.items ++ exits_of script.now.lines.items count)) }
+    ensures made { OnOk result (Makes serial.new (plan_of script.now) (call_lines script.now.lines.items ++ exits_of script.now.lines.items count)) }
     ensures boot { OnOk result (serial.new.boot ≡ serial.old.boot) }
+    ensures grows { OnOk result (Grows serial.old.entries serial.new.entries) }
     ensures stranger { IfErr result (λ f. f ≡ CallFault.Stranger → ⊥) }
 {
     for index in 0..count {

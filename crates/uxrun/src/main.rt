@@ -2,6 +2,7 @@
 #![tactic(auto)]
 
 mod audit;
+mod follow;
 mod json;
 mod machines;
 mod moments;
@@ -14,6 +15,7 @@ mod reading;
 use audit::tell_audit;
 use clap::Error;
 use clap::error::ErrorKind;
+use follow::follow_script;
 use json::print_json;
 use moments::{calls_until, tell_moments};
 use objects::{check_script, run_script};
@@ -42,6 +44,9 @@ const NOT_UNDERSTOOD: u8 = 2;
 fn run<
     R: Files + Input + Threads + Wait + Clock + Print + Eprint + RandomSource + AllocGlobal + Sync,
 >(rt: &R, args: &mut Args<'_>, source: &mut Source) -> Result<(), Fault> {
+    if args.follow {
+        return follow_script(rt, args, source);
+    }
     let (script, expected) = script_of(rt, args, source)?;
     if script.serial && (args.order.is_some() || args.orders.is_some()) {
         return Err(Fault::Script(ScriptFault::OneOrder));
@@ -177,6 +182,9 @@ fn main(rt: HostRuntime) -> ExitCode {
         Err(error) if error.kind() == ErrorKind::OutOfMemory => return failed(&rt, &no_memory),
         Err(error) => return told(&rt, &error),
     };
+    if args.may_follow() && rt.stdin().is_terminal() {
+        args.follow = true;
+    }
     args.progress = rt.stderr().is_terminal();
     let mut source = Source::new(rt.alloc());
     match run(&rt, &mut args, &mut source) {

@@ -61,7 +61,7 @@ fn read_named<R: Read>(
 }
 
 /// Why a script can't be read.
-fn fault_of(error: &io::Error) -> ScriptFault {
+pub(crate) fn fault_of(error: &io::Error) -> ScriptFault {
     if error.kind() == ErrorKind::OutOfMemory {
         return ScriptFault::NoMemory;
     }

@@ -5,8 +5,8 @@ use Rattle.ux_book.specs.Books.{KeptHistory}
 use Rattle.ux_book.specs.Sitting.{MakesOne}
 use Rattle.ux_syntax.specs.Spelling.{plan_of, known_count}
 use Rattle.ux_syntax.specs.Turns.{call_lines}
-use Rattle.ux_script.specs.Runs.{exits_of, Makes}
-use Rattle.ux_script.proofs.Runs.{makes_more, makes_same, boot_kept, exit_known, exit_made, exit_there}
+use Rattle.ux_script.specs.Runs.{exits_of, Makes, Grows}
+use Rattle.ux_script.proofs.Runs.{makes_more, makes_same, boot_kept, grows_then, grows_one, exit_known, exit_made, exit_there}
 use Rattle.ux_script.proofs.run.make_exits.Goals as goal
 use Rattle.ux_script.proofs.run.make_exits.Goals.{then-is_live+in_ok-exit, else-is_live}
 
@@ -24,16 +24,19 @@ loop-index-preserved g c =
       | then-is_live+in_ok-exit w ↦
           let one : MakesOne old w.exit.new.self (record { 0 = n + 1 }) Request.Exit = record { reply = _; answers = w.in_ok-exit.ensures.made } in
           record {
-            so_far = subst (λ (h : KeptHistory). Makes h script (call_lines lines ++ exits_of lines (n + 1))) (sym w.serial-is)
+            so_far = subst (λ (h : KeptHistory). Makes h (plan_of script) (call_lines lines ++ exits_of lines (n + 1))) (sym w.serial-is)
                 (makes_same _ script _ _ (exit_made lines made n (not-true _ (sym known ∙ w.if-is_live.true)) refl)
                 (makes_more old w.exit.new.self script (record { 0 = n + 1 }) Request.Exit made one (let same = w.in_ok-exit.ensures.many in omega (arith, same)) so_far));
             same_boot = subst (λ (h : KeptHistory). h.boot ≡ c.args.serial.now.boot) (sym w.serial-is)
                 (boot_kept old w.exit.new.self (record { 0 = n + 1 }) Request.Exit one ∙ c.loop-index.invariant.same_boot);
+            grows = subst (λ (h : KeptHistory). Grows c.args.serial.now.entries h.entries) (sym w.serial-is)
+                (grows_then _ _ _ c.loop-index.invariant.grows (grows_one old w.exit.new.self (record { 0 = n + 1 }) Request.Exit one));
           }
       | else-is_live w ↦ record {
-        so_far = subst (λ (h : KeptHistory). Makes h script (call_lines lines ++ exits_of lines (n + 1))) (sym w.serial-is)
+        so_far = subst (λ (h : KeptHistory). Makes h (plan_of script) (call_lines lines ++ exits_of lines (n + 1))) (sym w.serial-is)
             (makes_same old script made _ (exit_there lines made n (not-false _ (sym known ∙ w.if-is_live.false)) refl) so_far);
         same_boot = subst (λ (h : KeptHistory). h.boot ≡ c.args.serial.now.boot) (sym w.serial-is) c.loop-index.invariant.same_boot;
+        grows = subst (λ (h : KeptHistory). Grows c.args.serial.now.entries h.entries) (sym w.serial-is) c.loop-index.invariant.grows;
       }
     ]
 

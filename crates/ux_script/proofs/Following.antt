@@ -1,0 +1,66 @@
+-- A script that is run as it comes.
+use Rattle.std.proofs.Common.{◌≡◌, ℕ, ◌+◌, ◌<◌, ◌≤◌, List, [], ◌++◌, length, take, get_or, map, ap, sym, subst, ◌∙◌, arith}
+use Rattle.std.specs.Prelude.{Option}
+use Rattle.std.specs.Io.KnownBytes.{Appends, Keeps}
+use Rattle.std.proofs.lemmas.List.{length-append, take_all, take-append-le}
+use Rattle.ux_model.specs.Types.{Entry}
+use Rattle.ux_model.specs.Boot.{new_process}
+use Rattle.ux_book.specs.Books.{KeptHistory}
+use Rattle.ux_syntax.specs.Lines.{Line}
+use Rattle.ux_syntax.specs.Spelling.{Plan, forks_of}
+use Rattle.ux_syntax.specs.Turns.{call_lines}
+use Rattle.ux_syntax.specs.Joining.{Continues}
+use Rattle.ux_trace.specs.Trace.{entry_line, trace}
+use Rattle.ux_script.specs.Runs.{Makes, Grows}
+use Rattle.ux_script.specs.Following.{Follows, Prints}
+use Rattle.ux_script.proofs.Traces.{appends_then, keeps_then, appends_none, trace_more}
+
+-- ---- books
+
+-- what was made stays made when a line more is read
+pub follows_more : (book : KeptHistory) (s t : Plan) → Continues s t → Follows book s (length s.lines) → Follows book t (length s.lines)
+follows_more book s t st f =
+    let front : take (length s.lines) s.lines ≡ take (length s.lines) t.lines =
+    sym (ap (λ (ls : List Line). take (length s.lines) ls) st.lines ∙ take-append-le (length s.lines) s.lines st.more (omega arith)) in
+    record {
+      processes = f.processes ∙ ap (map new_process) (sym st.procs);
+      legal = f.legal;
+      calls = f.calls ∙ ap call_lines front;
+      made = f.made ∙ ap (λ (n : ℕ). n + forks_of (call_lines (take (length s.lines) s.lines))) (ap length (sym st.procs)) ∙ ap (λ (ls : List Line). length t.procs + forks_of (call_lines ls)) front;
+    }
+
+pub all_made : (book : KeptHistory) (s : Plan) → Follows book s (length s.lines) → Makes book s (call_lines s.lines)
+all_made book s f = subst (λ (ls : List Line). Makes book s (call_lines ls)) (take_all (length s.lines) s.lines (omega arith)) f
+
+pub all_follow : (book : KeptHistory) (s : Plan) → Makes book s (call_lines s.lines) → Follows book s (length s.lines)
+all_follow book s m = subst (λ (ls : List Line). Makes book s (call_lines ls)) (sym (take_all (length s.lines) s.lines (omega arith))) m
+
+-- the entries before are the first of those after
+pub grown_front : (old new : List Entry) → Grows old new → take (length old) new ≡ old
+grown_front old new g =
+    ap (λ (es : List Entry). take (length old) es) g.1 ∙ take-append-le (length old) old g.0 (omega arith) ∙ take_all (length old) old (omega arith)
+
+pub grown_long : (old new : List Entry) → Grows old new → length old ≤ length new
+grown_long old new g = let long = ap (λ (es : List Entry). length es) g.1 ∙ length-append old g.0 in omega (arith, long)
+
+-- ---- what is written
+
+pub prints_same : (a : Option (List ℕ)) (es : List Entry) → Prints a a es es
+prints_same a es = λ start told. told
+
+pub prints_then : (a b c : Option (List ℕ)) (xs ys zs : List Entry) → Prints a b xs ys → Prints b c ys zs → Prints a c xs zs
+prints_then a b c xs ys zs p q = λ start told. q start (p start told)
+
+-- one line more
+pub prints_more : (a b c : Option (List ℕ)) (before es : List Entry) (n : ℕ) (e : Entry) (line : List ℕ) → n < length es → e ≡ get_or es n e → line ≡ entry_line n e →
+    Prints a b before (take n es) → Appends b c line → Prints a c before (take (n + 1) es)
+prints_more a b c before es n e line inside item said so_far more =
+    λ start told. appends_then start b c (trace (take n es)) line (trace (take (n + 1) es)) (so_far start told) more (ap (λ (t : List ℕ). trace (take n es) ++ t) said ∙ trace_more es n e inside item)
+
+-- no line more
+pub prints_all : (a b c : Option (List ℕ)) (before es : List Entry) (n : ℕ) → length es ≤ n → Prints a b before (take n es) → Keeps b c → Prints a c before es
+prints_all a b c before es n over so_far kept =
+    λ start told. keeps_then start b c (trace es) (subst (λ (xs : List Entry). Appends start b (trace xs)) (take_all n es over) (so_far start told)) kept
+
+pub prints_whole : (a b : Option (List ℕ)) (es : List Entry) → Prints a b [] es → Appends a b (trace es)
+prints_whole a b es p = p a (appends_none a)

@@ -1,0 +1,337 @@
+//! A script that is run as it comes: each line is read, its call is made, and its line of the trace is written.
+
+ghost use Rattle.std.specs.Prelude.{◌≡◌, ◌≤◌, [], true, length, map, take, IfOk, OnOk};
+ghost use Rattle.std.specs.Io.KnownBytes.{Appends};
+ghost use Rattle.ux_model.specs.Boot.{IsBootState, new_process};
+ghost use Rattle.ux_model.specs.History.{IsLegal};
+ghost use Rattle.ux_syntax.specs.Spelling.{Plan, plan_of};
+ghost use Rattle.ux_syntax.specs.Turns.{all_turns};
+ghost use Rattle.ux_syntax.specs.Joining.{is_begun, Continues};
+ghost use Rattle.ux_trace.specs.Trace.{trace};
+ghost use Rattle.ux_script.specs.Runs.{line_of_entry};
+ghost use Rattle.ux_script.specs.Following.{Follows, Prints};
+
+use crate::run::{NoWatch, make_calls, make_rest};
+use crate::write::put_all;
+use std::alloc::Global;
+use std::io::{BufRead, Error, ErrorKind, Write};
+use std::marker::Brand;
+use ux_book::{BookName, CallFault, Serial, Trail};
+use ux_kernel::Kernel;
+use ux_object::FileObject;
+use ux_syntax::{LineReader, Script, ScriptFault};
+use ux_trace::entry_text;
+use ux_types::Entry;
+
+/// How many lines are read at most, so that each line's number fits.
+const LINES: usize = usize::MAX / 8192;
+
+/// Who is told of the lines.
+pub trait Listener {
+    /// A line was taken.
+    fn taken(&mut self, text: &[u8]);
+
+    /// A line is at fault, and nothing is made of it. The fault has its number.
+    fn left_out(&mut self, text: &[u8], fault: &ScriptFault);
+}
+
+/// The lines of a reader, counted from 1.
+#[derive(Drop)]
+pub struct LineSource<R> {
+    source: R,
+    number: usize,
+    text: Vec<u8>,
+    failure: Option<Error>,
+}
+
+impl<R: BufRead> LineSource<R> {
+    /// The lines of this reader, none of which was read.
+    pub fn new(alloc: Global, source: R) -> LineSource<R> {
+        LineSource {
+            source,
+            number: 0,
+            text: Vec::new(alloc),
+            failure: None,
+        }
+    }
+
+    /// Why no more was read, where a read failed.
+    pub fn failure(&self) -> Option<Error> {
+        self.failure
+    }
+
+    /// Reads the next line, without its line feed. Tells whether there was one.
+    fn next_line(&mut self) -> Result<bool, ScriptFault> {
+        self.text.clear();
+        match self.source.read_until(b'\n', &mut self.text) {
+            Ok(0) => return Ok(false),
+            Ok(_) => {}
+            Err(error) if error.kind() == ErrorKind::OutOfMemory => {
+                return Err(ScriptFault::NoMemory);
+            }
+            Err(error) => {
+                self.failure = Some(error);
+                return Err(ScriptFault::Reading);
+            }
+        }
+        if self.text.last() == Some(&b'\n') {
+            self.text.pop();
+        }
+        self.number = self.number.saturating_add(1);
+        Ok(true)
+    }
+}
+
+/// A script that was run as it came.
+#[derive(Drop)]
+pub struct Followed {
+    /// What the lines say that were taken.
+    pub reader: LineReader,
+    /// The calls that were made.
+    pub history: Vec<Entry>,
+}
+
+/// Takes the source's line, or tells that it is at fault and leaves it out.
+fn take_line<R, L: Listener>(
+    alloc: Global,
+    reader: &mut LineReader,
+    source: &LineSource<R>,
+    listener: &mut L,
+) -> Result<(), ScriptFault>
+    ensures { OnOk result (is_begun reader.old ≡ true → Continues reader.old reader.new) }
+{
+    match reader.read_line(alloc, source.number, &source.text) {
+        Ok(()) => {
+            listener.taken(&source.text);
+            Ok(())
+        }
+        Err(ScriptFault::NoMemory) => Err(ScriptFault::NoMemory),
+        Err(fault) => {
+            listener.left_out(&source.text, &fault);
+            Ok(())
+        }
+    }
+}
+
+/// Reads lines up to the end of the header: the first line of a process, which is taken too, or the end of the layer. A
+/// line at fault is told of, and left out.
+///
+/// # Errors
+///
+/// `Reading` where a read fails, and `NoMemory`.
+pub fn read_header<R: BufRead, L: Listener>(
+    alloc: Global,
+    source: &mut LineSource<R>,
+    listener: &mut L,
+) -> Result<LineReader, ScriptFault> {
+    let mut reader = LineReader::new(alloc);
+    for _ in 0..LINES {
+        if reader.is_begun() || !source.next_line()? {
+            return Ok(reader);
+        }
+        take_line(alloc, &mut reader, source, listener)?;
+    }
+    Err(ScriptFault::Reading)
+}
+
+/// Why a run came to no end.
+fn fault_of(fault: CallFault) -> ScriptFault {
+    match fault {
+        CallFault::Stranger => ScriptFault::Stranger,
+        _ => ScriptFault::NoMemory,
+    }
+}
+
+/// Writes the lines of the entries from this place on, and flushes the writer.
+fn print_from<W: Write>(
+    alloc: Global,
+    writer: &mut W,
+    entries: &[Entry],
+    from: usize,
+) -> Result<(), ScriptFault>
+    requires { from ≤ length entries.now }
+    ensures { OnOk result (Prints (W.contents writer.old) (W.contents writer.new) (take from entries.now) entries.now) }
+{
+    for number in from..entries.len() {
+        let text = entry_text(alloc, number, &entries[number])?;
+        put_all(writer, text.as_bytes())?;
+    }
+    if writer.flush().is_err() {
+        return Err(ScriptFault::Writing);
+    }
+    Ok(())
+}
+
+/// Makes the calls of the script's lines from this place on, and writes their lines of the trace.
+fn run_from<B: BookName, O: FileObject, W: Write>(
+    alloc: Global,
+    serial: &mut Serial<B, O>,
+    script: &Script,
+    from: usize,
+    writer: &mut W,
+) -> Result<(), ScriptFault>
+    requires { Follows serial.old (plan_of script.now) from }
+    ensures made { OnOk result (Follows serial.new (plan_of script.now) (length script.now.lines.items)) }
+    ensures boot { OnOk result (serial.new.boot ≡ serial.old.boot) }
+    ensures printed { OnOk result (Prints (W.contents writer.old) (W.contents writer.new) serial.old.entries serial.new.entries) }
+{
+    let printed = serial.entries().len();
+    if let Err(fault) = make_calls(serial, script, from, &NoWatch) {
+        return Err(fault_of(fault));
+    }
+    print_from(alloc, writer, serial.entries(), printed)
+}
+
+/// Takes the source's line, makes its call, and writes its line of the trace.
+fn follow_line<B: BookName, O: FileObject, R: BufRead, W: Write, L: Listener>(
+    alloc: Global,
+    serial: &mut Serial<B, O>,
+    reader: &mut LineReader,
+    source: &LineSource<R>,
+    writer: &mut W,
+    listener: &mut L,
+) -> Result<(), ScriptFault>
+    requires begun { is_begun reader.old ≡ true }
+    requires made { Follows serial.old reader.old (length (Plan.lines reader.old)) }
+    ensures begun { OnOk result (is_begun reader.new ≡ true) }
+    ensures made { OnOk result (Follows serial.new reader.new (length (Plan.lines reader.new))) }
+    ensures boot { OnOk result (serial.new.boot ≡ serial.old.boot) }
+    ensures printed { OnOk result (Prints (W.contents writer.old) (W.contents writer.new) serial.old.entries serial.new.entries) }
+{
+    let made = reader.script().lines.len();
+    take_line(alloc, reader, source, listener)?;
+    run_from(alloc, serial, reader.script(), made, writer)
+}
+
+/// Takes line after line, up to the end.
+fn follow_lines<B: BookName, O: FileObject, R: BufRead, W: Write, L: Listener>(
+    alloc: Global,
+    serial: &mut Serial<B, O>,
+    reader: &mut LineReader,
+    source: &mut LineSource<R>,
+    writer: &mut W,
+    listener: &mut L,
+) -> Result<(), ScriptFault>
+    requires begun { is_begun reader.old ≡ true }
+    requires made { Follows serial.old reader.old (length (Plan.lines reader.old)) }
+    ensures made { OnOk result (Follows serial.new reader.new (length (Plan.lines reader.new))) }
+    ensures boot { OnOk result (serial.new.boot ≡ serial.old.boot) }
+    ensures printed { OnOk result (Prints (W.contents writer.old) (W.contents writer.new) serial.old.entries serial.new.entries) }
+{
+    for _ in 0..LINES {
+        if !source.next_line()? {
+            return Ok(());
+        }
+        follow_line(alloc, serial, reader, source, writer, listener)?;
+    }
+    Err(ScriptFault::Reading)
+}
+
+/// Makes the calls of the lines that were read, then those of the lines that come.
+fn follow_all<B: BookName, O: FileObject, R: BufRead, W: Write, L: Listener>(
+    alloc: Global,
+    serial: &mut Serial<B, O>,
+    reader: &mut LineReader,
+    source: &mut LineSource<R>,
+    writer: &mut W,
+    listener: &mut L,
+) -> Result<(), ScriptFault>
+    requires { Follows serial.old reader.old 0 }
+    ensures made { OnOk result (Follows serial.new reader.new (length (Plan.lines reader.new))) }
+    ensures boot { OnOk result (serial.new.boot ≡ serial.old.boot) }
+    ensures printed { OnOk result (Prints (W.contents writer.old) (W.contents writer.new) serial.old.entries serial.new.entries) }
+{
+    run_from(alloc, serial, reader.script(), 0, writer)?;
+    if !reader.is_begun() {
+        return Ok(());
+    }
+    follow_lines(alloc, serial, reader, source, writer, listener)
+}
+
+/// Makes the exits that are missing, ends the layer where the script says so, and writes their lines of the trace.
+fn finish<B: BookName, O: FileObject, W: Write>(
+    alloc: Global,
+    serial: &mut Serial<B, O>,
+    script: &Script,
+    writer: &mut W,
+) -> Result<(), ScriptFault>
+    requires { Follows serial.old (plan_of script.now) (length script.now.lines.items) }
+    ensures calls { OnOk result (map line_of_entry serial.new.entries ≡ all_turns (plan_of script.now)) }
+    ensures boot { OnOk result (serial.new.boot ≡ serial.old.boot) }
+    ensures printed { OnOk result (Prints (W.contents writer.old) (W.contents writer.new) serial.old.entries serial.new.entries) }
+{
+    let printed = serial.entries().len();
+    if let Err(fault) = make_rest(serial, script) {
+        return Err(fault_of(fault));
+    }
+    print_from(alloc, writer, serial.entries(), printed)
+}
+
+/// Makes all calls of a run.
+fn run_lines<B: BookName, O: FileObject, R: BufRead, W: Write, L: Listener>(
+    alloc: Global,
+    trail: Trail,
+    kernel: Kernel<O>,
+    reader: &mut LineReader,
+    source: &mut LineSource<R>,
+    writer: &mut W,
+    listener: &mut L,
+) -> Result<Vec<Entry>, ScriptFault>
+    requires trail { trail ≡ record { id = B.trail; entries = []; given = 0 } }
+    requires boots { IsBootState kernel }
+    requires named { kernel ≡ B.boot }
+    requires processes { kernel.processes ≡ map new_process (Plan.procs reader.old) }
+    ensures legal { IfOk result (λ entries. IsLegal kernel entries.items) }
+    ensures calls { IfOk result (λ entries. map line_of_entry entries.items ≡ all_turns reader.new) }
+    ensures trace { IfOk result (λ entries. Appends (W.contents writer.old) (W.contents writer.new) (trace entries.items)) }
+{
+    let Ok(mut serial) = Serial::<B, O>::new(alloc, trail, kernel) else {
+        return Err(ScriptFault::NoMemory);
+    };
+    follow_all(alloc, &mut serial, reader, source, writer, listener)?;
+    finish(alloc, &mut serial, reader.script(), writer)?;
+    Ok(serial.into_entries())
+}
+
+/// Runs a script as it comes, on a kernel that has just started with the processes of its header, which was read
+/// before. Each line's call is made as soon as the line is read, and its line of the trace is written at once; lines that
+/// wait for a process are skipped. A line at fault is told of and left out, as is a line of the header. At the end come
+/// an exit of each process that is left, and the end of the layer where the script has it.
+///
+/// # Errors
+///
+/// `Reading` where a read fails, `Writing`, and `NoMemory`, also where a fork makes no process.
+pub fn follow<O: FileObject, R: BufRead, W: Write, L: Listener>(
+    alloc: Global,
+    reader: LineReader,
+    source: &mut LineSource<R>,
+    writer: &mut W,
+    listener: &mut L,
+    kernel: Kernel<O>,
+) -> Result<Followed, ScriptFault>
+    requires boots { IsBootState kernel }
+    requires processes { kernel.processes ≡ map new_process (Plan.procs reader) }
+    // The entries are a legal history from the kernel's state.
+    ensures legal { IfOk result (λ run. IsLegal kernel run.history.items) }
+    // It makes the calls of the lines that were taken, in order, then the missing exits, and the end of the layer where there is one.
+    ensures calls { IfOk result (λ run. map line_of_entry run.history.items ≡ all_turns run.reader) }
+    // What was written is its trace.
+    ensures trace { IfOk result (λ run. Appends (W.contents writer.old) (W.contents writer.new) (trace run.history.items)) }
+{
+    let mut reader = reader;
+    let Ok(trail) = Trail::new(alloc) else {
+        return Err(ScriptFault::NoMemory);
+    };
+    match run_lines::<Brand, O, R, W, L>(
+        alloc,
+        trail,
+        kernel,
+        &mut reader,
+        source,
+        writer,
+        listener,
+    ) {
+        Ok(history) => Ok(Followed { reader, history }),
+        Err(fault) => Err(fault),
+    }
+}
