@@ -1,12 +1,13 @@
 //! Processes that are made, and what a new program in one closes: by the counts of references.
-use super::{append, end, expect_queue, open_pair, pass, settle, start_with_files};
+use super::{append, end, expect_queue, open_pair, pass, settle, start_with, start_with_files};
 use hoard::Hoard;
 use std::alloc::{AllocError, Global};
 use std::process::Abort;
 use std::test::Fail;
 use ux_object::FileObject;
+use ux_objects::Counter;
 use ux_state::State;
-use ux_types::{DescriptionId, Fd, Mode, OpenFlags, Pid};
+use ux_types::{Cred, DescriptionId, Fd, Mode, OpenFlags, Pid, ProcSpec};
 
 /// Makes a child of a process, if there is memory. None is made beyond 1,024.
 fn fork<O: FileObject>(
@@ -71,6 +72,47 @@ fn numbers_of_the_exited_are_not_given_again(rt: HostRuntime) -> Result<(), Fail
     assert!(rt; s.process_count() == 4);
     assert!(rt; !s.is_live(Pid(1)));
     assert!(rt; !s.is_live(Pid(5)));
+    Ok(())
+}
+
+/// A process of a user, and one of the superuser.
+const USERS: [ProcSpec; 2] = [
+    ProcSpec {
+        uid: 1000,
+        gid: 100,
+        privileged: false,
+        limit: 4,
+    },
+    ProcSpec {
+        uid: 0,
+        gid: 1,
+        privileged: true,
+        limit: 4,
+    },
+];
+
+/// Sees the user and the group of a process, and whether it has privileges.
+fn expect_user<O: FileObject>(rt: &impl Abort, state: &State<O>, pid: u32, user: (u32, u32, bool)) {
+    let (uid, gid, privileged) = user;
+    let pid = Pid(pid);
+    assert!(rt; state.is_live(pid));
+    assert!(rt; state.credentials(pid) == Cred { pid, uid, gid });
+    assert!(rt; state.is_privileged(pid) == privileged);
+}
+
+#[test]
+fn a_child_is_of_its_parents_user(rt: HostRuntime) -> Result<(), Fail> {
+    let alloc = rt.alloc();
+    let mut held = start_with(&rt, alloc, Counter::new(), Counter::new(), &USERS)?;
+    let s = &mut held.state;
+    assert!(rt; fork(&rt, s, 2) == Ok(Pid(3)));
+    assert!(rt; fork(&rt, s, 1) == Ok(Pid(4)));
+    expect_user(&rt, s, 1, (1000, 100, false));
+    expect_user(&rt, s, 2, (0, 1, true));
+    expect_user(&rt, s, 3, (0, 1, true));
+    expect_user(&rt, s, 4, (1000, 100, false));
+    exec(&rt, s, 3);
+    expect_user(&rt, s, 3, (0, 1, true));
     Ok(())
 }
 

@@ -115,6 +115,51 @@ fn a_pair_has_messages_and_a_reset(rt: HostRuntime) -> Result<(), Fail> {
     Ok(())
 }
 
+/// Sees of a socket whether it is shut down for reading and for writing, whether a receive gets credentials, and how
+/// many bytes its queue takes.
+fn expect_set<O: FileObject>(
+    rt: &impl Abort,
+    state: &State<O>,
+    id: u128,
+    shut: (bool, bool),
+    passcred: bool,
+    limit: u32,
+) {
+    match state.socket(DescriptionId::new(id)) {
+        Some(socket) => {
+            assert!(rt; (socket.is_read_shut(), socket.is_write_shut()) == shut);
+            assert!(rt; socket.passcred() == passcred);
+            assert!(rt; socket.queue_limit() == limit);
+        }
+        None => assert!(rt; false),
+    }
+}
+
+/// A file's description, which has nothing of this, and some that aren't there.
+const NO_SOCKETS: &[u128] = &[0, 3, u128::MAX];
+
+#[test]
+fn one_socket_of_two_is_changed(rt: HostRuntime) -> Result<(), Fail> {
+    let mut held = start_with_files(&rt, rt.alloc())?;
+    let s = &mut held.state;
+    open(&rt, s, 1, 0, Mode::Both, Ok(Fd(0)));
+    open_pair(&rt, s, 1, 2);
+    s.shut_down(DescriptionId::new(1), Mode::Write);
+    s.set_passcred(DescriptionId::new(1), true);
+    s.set_queue_limit(DescriptionId::new(1), 7);
+    expect_set(&rt, s, 1, (false, true), true, 7);
+    expect_set(&rt, s, 2, (false, false), false, 65536);
+    for id in NO_SOCKETS {
+        s.shut_down(DescriptionId::new(*id), Mode::Both);
+        s.set_passcred(DescriptionId::new(*id), true);
+        s.set_queue_limit(DescriptionId::new(*id), 9);
+        assert!(rt; s.socket(DescriptionId::new(*id)).is_none());
+    }
+    expect_set(&rt, s, 1, (false, true), true, 7);
+    expect_set(&rt, s, 2, (false, false), false, 65536);
+    Ok(())
+}
+
 /// Makes two connected sockets of process 1, if there is memory.
 fn opens_pair<O: FileObject>(state: &mut State<O>) -> bool {
     state.is_live(Pid(1))
