@@ -12,6 +12,7 @@ mod pairs;
 mod paths;
 mod queue_limits;
 mod rights;
+mod waiting;
 
 use files::{FileCall, file_request_of};
 use hoard::Hoard;

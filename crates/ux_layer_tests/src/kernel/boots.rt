@@ -164,11 +164,16 @@ fn boot_faults_have_their_numbers(rt: HostRuntime) {
     }
 }
 
-/// A pair of each of three processes, with the limits 0, 1 and 2.
+/// Pairs and sockets of three processes, with the limits 0, 1 and 2.
 const LIMITS: &[Row] = &[
     (1, Asked::Pair, Told::Err(Errno::EMFILE)),
+    (1, Asked::Socket, Told::Fd(0)),
+    (1, Asked::Socket, Told::Err(Errno::EMFILE)),
     (2, Asked::Pair, Told::Err(Errno::EMFILE)),
+    (2, Asked::Socket, Told::Fd(0)),
+    (2, Asked::Socket, Told::Err(Errno::EMFILE)),
     (3, Asked::Pair, Told::Fds(0, 1)),
+    (3, Asked::Socket, Told::Err(Errno::EMFILE)),
 ];
 
 #[test]
@@ -182,6 +187,7 @@ fn a_limit_of_0_counts_as_1(rt: HostRuntime) -> Result<(), AllocError> {
 fn a_kernel_has_64_processes_at_most(rt: HostRuntime) -> Result<(), AllocError> {
     let alloc = rt.alloc();
     let specs: Vec<ProcSpec> = vec![in alloc; process(2); 65]?;
+    assert!(rt; bare(alloc, &specs).is_err());
     let mut machine = bare(alloc, &specs[..64])?;
     let k = &mut machine;
     for pid in 1..65 {

@@ -1,6 +1,7 @@
-//! Calls on file objects and on descriptors, as rows have them.
+//! Calls on file objects and on descriptors, as rows have them, and the flags that these set and read.
+use super::{Asked, Row, Told, expect_rows_of_one_process};
 use std::alloc::{AllocError, Global};
-use ux_types::{Bytes, Fd, OpenFlags, Request, Whence};
+use ux_types::{Bytes, Errno, Fd, OpenFlags, Request, Whence};
 
 /// A call on a file object or a descriptor that a row of a test makes.
 #[derive(Clone, Copy)]
@@ -43,4 +44,33 @@ pub(super) fn file_request_of(alloc: Global, call: &FileCall) -> Result<Request,
             flags: OpenFlags(*flags),
         },
     })
+}
+
+/// O_APPEND and O_NONBLOCK are the description's, so a copy has them too; FD_CLOEXEC is the descriptor's, and a copy
+/// starts without it (fcntl(2), dup(2)).
+const FLAGS: &[Row] = &[
+    (1, Asked::Pair, Told::Fds(0, 1)),
+    (1, Asked::File(FileCall::GetFlags(0)), Told::Flags(0)),
+    (1, Asked::File(FileCall::SetFlags(0, 7)), Told::Ok),
+    (1, Asked::File(FileCall::GetFlags(0)), Told::Flags(7)),
+    (1, Asked::File(FileCall::Dup(0)), Told::Fd(2)),
+    (1, Asked::File(FileCall::GetFlags(2)), Told::Flags(3)),
+    (1, Asked::File(FileCall::SetFlags(2, 2)), Told::Ok),
+    (1, Asked::File(FileCall::GetFlags(0)), Told::Flags(6)),
+    (1, Asked::File(FileCall::GetFlags(2)), Told::Flags(2)),
+    (1, Asked::File(FileCall::Dup2(0, 2)), Told::Fd(2)),
+    (1, Asked::File(FileCall::DupFrom(0, 5)), Told::Fd(5)),
+    (1, Asked::File(FileCall::GetFlags(5)), Told::Flags(2)),
+    // The other end is a description of its own.
+    (1, Asked::File(FileCall::GetFlags(1)), Told::Flags(0)),
+    (
+        1,
+        Asked::File(FileCall::GetFlags(3)),
+        Told::Err(Errno::EBADF),
+    ),
+];
+
+#[test]
+fn copies_share_all_flags_but_close_on_exec(rt: HostRuntime) -> Result<(), AllocError> {
+    expect_rows_of_one_process(&rt, rt.alloc(), 16, FLAGS)
 }

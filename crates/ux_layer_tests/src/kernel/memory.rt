@@ -63,6 +63,7 @@ const NO_MEMORY: &[Row] = &[
         Told::Err(Errno::ESPIPE),
     ),
     (1, Asked::File(FileCall::SetFlags(0, 7)), Told::Ok),
+    (1, Asked::File(FileCall::GetFlags(0)), Told::Flags(7)),
     (
         1,
         Asked::File(FileCall::SetFlags(9, 7)),
@@ -90,7 +91,7 @@ const CLOSED: &[Row] = &[(1, Asked::Close(0), Told::Err(Errno::EBADF))];
 const EXIT: &[Row] = &[(1, Asked::Exit, Told::Ok)];
 
 #[test]
-fn eleven_calls_are_answered_without_memory(rt: HostRuntime) -> Result<(), Fail> {
+fn twelve_calls_are_answered_without_memory(rt: HostRuntime) -> Result<(), Fail> {
     let alloc = rt.alloc();
     let mut machine = with_file(alloc, 16)?;
     let k = &mut machine;

@@ -36,6 +36,6 @@ fn an_object_without_a_path_is_handed_out(rt: HostRuntime) -> Result<(), AllocEr
     assert!(rt; is_gone(k, 1));
     expect_rows(&rt, alloc, k, GONE)?;
     assert!(rt; turns_off(k));
-    assert!(rt; k.released.len() == 1);
+    assert!(rt; is_gone(k, 0));
     Ok(())
 }

@@ -1,4 +1,5 @@
 //! Rights that messages pass: what is refused memory, and what is handed out.
+use super::objects::is_gone;
 use super::{
     Asked, Machine, Row, Told, bare, expect_refusals_then_rows, expect_rows,
     expect_rows_of_one_process, expect_rows_without_memory, is_made, process, turns_off,
@@ -69,17 +70,21 @@ const LOST: &[Row] = &[
     (1, Asked::Exit, Told::Ok),
 ];
 
-/// Makes the calls of these rows, and counts the file objects that they hand out.
+/// Makes the calls of these rows, and counts how often they hand out file objects, of which each is this one.
 fn count_gone(
     rt: &impl Abort,
     alloc: Global,
     machine: &mut Machine,
     rows: &[Row],
+    number: u32,
 ) -> Result<usize, AllocError> {
     let mut gone: usize = 0;
     for (pid, asked, _) in rows {
         assert!(rt; is_made(alloc, machine, *pid, asked)?);
-        gone = gone.saturating_add(machine.released.len());
+        if !machine.released.is_empty() {
+            assert!(rt; is_gone(machine, number));
+            gone = gone.saturating_add(1);
+        }
     }
     Ok(gone)
 }
@@ -90,10 +95,10 @@ fn each_file_object_is_handed_out_once(rt: HostRuntime) -> Result<(), AllocError
     let mut answered = with_counters(alloc, &[b"a", b"b"])?;
     expect_rows(&rt, alloc, &mut answered, LOST)?;
     let mut machine = with_counters(alloc, &[b"a", b"b"])?;
-    assert_eq!(rt; count_gone(&rt, alloc, &mut machine, LOST)?, 1);
+    assert_eq!(rt; count_gone(&rt, alloc, &mut machine, LOST, 0)?, 1);
     // The socket in its own queue, with the other file, stays until the layer ends.
     assert!(rt; turns_off(&mut machine));
-    assert_eq!(rt; machine.released.len(), 1);
+    assert!(rt; is_gone(&machine, 1));
     Ok(())
 }
 
