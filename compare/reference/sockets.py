@@ -24,7 +24,7 @@ def takes_address(kernel: Kernel, address: Address) -> bool:
 def call_socket(kernel: Kernel, process: Process, words: list[str]) -> str:
     """socket(2)."""
     number = kernel.free_number(process)
-    kernel.put(process, number, Description(Socket(words[1]), nonblocking="n" in words[2]), "x" in words[2])
+    kernel.put(process, number, Description(Socket(words[1]), "rw", "a" in words[2], "n" in words[2]), "x" in words[2])
     return f"fd {number}"
 
 
@@ -36,7 +36,7 @@ def call_pair(kernel: Kernel, process: Process, words: list[str]) -> str:
     ends = [Socket(words[1], peer_credentials=process.credentials) for _ in numbers]
     ends[0].peer, ends[1].peer = ends[1], ends[0]
     for number, end in zip(numbers, ends):
-        kernel.put(process, number, Description(end, nonblocking="n" in words[2]), "x" in words[2])
+        kernel.put(process, number, Description(end, "rw", "a" in words[2], "n" in words[2]), "x" in words[2])
     return f"fds {numbers[0]} {numbers[1]}"
 
 
@@ -103,7 +103,7 @@ def call_accept(kernel: Kernel, process: Process, words: list[str]) -> str:
     end = listener.pending.pop(0)
     kernel.put(process, number, end, "x" in words[2])
     kernel.release(end)
-    end.nonblocking = "n" in words[2]
+    end.append, end.nonblocking = "a" in words[2], "n" in words[2]
     end.target.is_accepted = True
     end.target.charged -= kernel.machine.cost(1)
     return f"accepted {number} {client_name(kernel, end.target.peer)}"

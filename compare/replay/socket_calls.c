@@ -4,15 +4,24 @@
 #include <fcntl.h>
 #include <stdlib.h>
 #include <string.h>
+#include <unistd.h>
 
 enum { LAYERS_ECONNRESET = 20 };
 
-void do_socket(char **word) { say_count("fd", socket(AF_UNIX, type_in(word[2]) | socket_flags_in(word[3]), 0)); }
+/* A new socket with its flags: no call that makes one has append among them. */
+static int with_append(int number, const char *flags) {
+    if (number >= 0 && strchr(flags, 'a') && fcntl(number, F_SETFL, open_flags_in(flags) & ~O_CLOEXEC) < 0) _exit(2);
+    return number;
+}
+
+void do_socket(char **word) {
+    say_count("fd", with_append(socket(AF_UNIX, type_in(word[2]) | socket_flags_in(word[3]), 0), word[3]));
+}
 
 void do_pair(char **word) {
     int pair[2];
     if (socketpair(AF_UNIX, type_in(word[2]) | socket_flags_in(word[3]), 0, pair) < 0) say_error();
-    else say("fds %d %d", pair[0], pair[1]);
+    else say("fds %d %d", with_append(pair[0], word[3]), with_append(pair[1], word[3]));
 }
 
 void do_bind(char **word) {
@@ -49,7 +58,7 @@ void do_connect(char **word) {
 void do_accept(char **word) {
     struct address address = {.length = sizeof address.bytes};
     int made = accept4(descriptor_in(word[2]), &address.head, &address.length, socket_flags_in(word[3]));
-    say_count("accepted", made);
+    say_count("accepted", with_append(made, word[3]));
     if (made < 0) return;
     say(" ");
     say_address(&address);
