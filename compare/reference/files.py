@@ -245,8 +245,12 @@ def call_dupfd(kernel: Kernel, process: Process, words: list[str]) -> str:
 def call_getfl(kernel: Kernel, process: Process, words: list[str]) -> str:
     """fcntl(2), F_GETFL and F_GETFD."""
     found = kernel.descriptor(process, int(words[1]))
-    told = found.description.nonblocking and not kernel.follows(Rule.NONBLOCK_OF_THE_REPLAY)
-    held = {"APPEND": found.description.append, "NONBLOCK": told, "CLOEXEC": found.cloexec}
+    append, nonblocking = found.description.append, found.description.nonblocking
+    if kernel.follows(Rule.FLAGS_OF_THE_REPLAY):
+        target, nonblocking = found.description.target, False
+        if isinstance(target, FileObject) and target.kind == "counter":
+            append = target.appends
+    held = {"APPEND": append, "NONBLOCK": nonblocking, "CLOEXEC": found.cloexec}
     return "flags " + ("|".join(name for name, is_set in held.items() if is_set) or "-")
 
 
@@ -255,6 +259,8 @@ def call_flags(kernel: Kernel, process: Process, words: list[str]) -> str:
     found = kernel.descriptor(process, int(words[1]))
     found.description.append = "a" in words[2]
     found.description.nonblocking = "n" in words[2]
+    if isinstance(found.description.target, FileObject):
+        found.description.target.appends = found.description.append
     found.cloexec = "x" in words[2]
     return "ok"
 

@@ -62,7 +62,7 @@ class Rule(Enum):
     FAR_OFFSET = "far-offset"
     OPTIONS_OF_A_SERVERS_END = "options-of-a-servers-end"
     RIGHTS_BEHIND_A_PEEK = "rights-behind-a-peek"
-    NONBLOCK_OF_THE_REPLAY = "nonblock-of-the-replay"
+    FLAGS_OF_THE_REPLAY = "flags-of-the-replay"
 
 
 ALL_RULES = frozenset(Rule)

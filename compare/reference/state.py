@@ -10,7 +10,8 @@ FIRST_QUEUE_LIMIT = 65536
 
 @dataclass(eq=False)
 class FileObject:
-    """A memory file, a counter or a pipe. `pages` has a pipe's buffers on Linux, as [first byte, bytes]."""
+    """A memory file, a counter or a pipe. `pages` has a pipe's buffers on Linux, as [first byte, bytes]. `appends` is what
+    was set last at any of its descriptions, which of a counter are one behind the replay."""
     number: int
     kind: str
     data: bytearray
@@ -24,6 +25,7 @@ class FileObject:
     writers: int = 0
     writers_ever: int = 0
     pages: list[list[int]] = field(default_factory=list)
+    appends: bool = False
 
 
 @dataclass(eq=False)
