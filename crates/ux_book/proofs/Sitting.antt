@@ -12,7 +12,7 @@ use Rattle.ux_model.specs.State.{State, is_live}
 use Rattle.ux_model.specs.Places.{place}
 use Rattle.ux_model.specs.Boot.{IsBootState}
 use Rattle.ux_model.specs.Step.{Step}
-use Rattle.ux_model.specs.History.{is_exit, is_fork, makes, makes_one, replay, IsLegal}
+use Rattle.ux_model.specs.History.{calls_of, is_exit, is_fork, makes, makes_one, replay, IsLegal}
 use Rattle.ux_model.proofs.Living.{exit_and_fork_alone, fork_tells_the_next, live_within}
 use Rattle.ux_model.proofs.Numbering.{no_call_before_made}
 use Rattle.ux_model.proofs.OnePlace.{same_at}
@@ -21,7 +21,7 @@ use Rattle.ux_book.specs.declared.fault.CallFault.{CallFault}
 use Rattle.ux_book.specs.Books.{KeptHistory, state_of, processes, entry_of}
 use Rattle.ux_book.specs.Pasts.{Caller, calls_by, child_by, fresh, made}
 use Rattle.ux_book.specs.Faults.{is_stranger}
-use Rattle.ux_book.proofs.Pasts.{calls_more, calls_same, calls_none}
+use Rattle.ux_book.proofs.Pasts.{length_calls, calls_more, calls_same, calls_none}
 use Rattle.ux_book.proofs.Legal.{processes_after}
 use Rattle.ux_book.specs.Sitting.{Answers, MakesOne, IsFault, share_of, HasShares, Forks}
 
@@ -101,6 +101,14 @@ first_shares book boot places boots new all = record {
     go zero = refl
     go (suc i) = behind i (cases_lt i n)
 
+-- ---- what a call answered
+
+pub answered : {C : Type 0} (r : Result (Option Reply) CallFault) → ((reply : Reply) → r ≡ Ok (Some reply) → C) → (r ≡ Ok None → C) →
+    ((f : CallFault) → r ≡ Err f → C) → C
+answered (Ok (Some reply)) some none err = some reply refl
+answered (Ok None) some none err = none refl
+answered (Err f) some none err = err f refl
+
 -- ---- what a share says
 
 -- a process without a share doesn't live
@@ -120,6 +128,15 @@ share_known book p c = go (is_live (state_of book) p) refl
         let is : record { pid = record { 0 = p }; past = calls_by p book.entries } ≡ c = cc h in
         (ap (λ (x : Caller). x.pid.0) (sym is), live)
     go false live h = absurd (cc h)
+
+-- how many calls its process has made
+pub calls_told : (book : KeptHistory) (places : List (Option Caller)) (p : ℕ) (o : Option Caller) → HasShares book places → place places p ≡ o →
+    option_map (λ c. length (Caller.past c)) o ≡ (if is_live (state_of book) p then Some (calls_of p book.entries) else None)
+calls_told book places p o has at = ap (option_map (λ c. length (Caller.past c))) (sym at ∙ has.each p) ∙ go (is_live (state_of book) p)
+  where
+    go : (b : Bool) → option_map (λ c. length (Caller.past c)) (given b p (calls_by p book.entries)) ≡ (if b then Some (calls_of p book.entries) else None)
+    go true = ap (λ (n : ℕ). Some n) (length_calls p book.entries)
+    go false = refl
 
 -- ---- through a call
 

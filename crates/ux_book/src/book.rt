@@ -186,6 +186,13 @@ impl<W: BookName, O: FileObject, K: Keeper> Book<W, O, K> {
         self.kernel.is_live(pid)
     }
 
+    /// Whether some process hasn't exited.
+    pub fn has_live(&self) -> bool
+        ensures { result ≡ has_live (state_of self.now) }
+    {
+        self.kernel.has_live()
+    }
+
     /// The state at the end of the history, to be looked at.
     pub fn state(&self) -> &State<O>
         ensures { result.now ≡ state_of self.now }
@@ -328,7 +335,7 @@ impl<W: BookName, O: FileObject, K: Keeper> Book<W, O, K> {
         ensures same { OnErr result (self.new ≡ self.old) }
         ensures none { OnErr result (released.new ≡ []) }
     {
-        if self.kernel.has_live() {
+        if self.has_live() {
             return Err(OffFault::Alive);
         }
         if self.ended {
@@ -359,7 +366,7 @@ impl<W: BookName, O: FileObject, K: Keeper> Book<W, O, K> {
 
     /// Makes a call of the share's process, and gives the share of a process that it made; where it is `tried`, only
     /// if it needn't wait.
-    fn make(
+    pub(crate) fn make(
         &mut self,
         share: &mut Share<W>,
         request: &Request,

@@ -1,14 +1,16 @@
 //! A book by which one thread makes the calls of all processes.
-ghost use Rattle.std.specs.Prelude.{◌≡◌, ◌<◌, ◌≤◌, ◌∷◌, [], false, true, map, Some, None, IfOk, IfErr, OnOk, OnErr, length};
+ghost use Rattle.std.specs.Prelude.{◌≡◌, ◌<◌, ◌≤◌, ◌∷◌, [], false, true, map, Some, None, IfOk, IfErr, IfSome, IfNone, OnOk, OnErr, length, if◌then◌else◌};
 ghost use Rattle.ux_model.specs.Types.{Request, Reply};
 ghost use Rattle.ux_model.specs.Boot.{IsBootState};
 ghost use Rattle.ux_model.specs.Limits.{made_limit};
 ghost use Rattle.ux_model.specs.Places.{place, filled, emptied};
 ghost use Rattle.ux_model.specs.State.{is_live};
-ghost use Rattle.ux_model.specs.History.{has_live, IsLegal};
+ghost use Rattle.ux_model.specs.Waiting.{should_wait};
+ghost use Rattle.ux_model.specs.History.{calls_of, has_live, IsLegal};
 ghost use Rattle.ux_book.specs.declared.fault.CallFault.{CallFault};
 ghost use Rattle.ux_book.specs.declared.fault.OffFault.{OffFault};
-ghost use Rattle.ux_book.specs.Books.{state_of, processes, ends_of, has_own_call};
+ghost use Rattle.ux_book.specs.Books.{state_of, processes, ends_of, is_last, has_own_call, MustWait};
+ghost use Rattle.ux_book.specs.Recording.{IsCall, IsKept};
 ghost use Rattle.ux_book.specs.Pasts.{made};
 ghost use Rattle.ux_book.specs.Sitting.{Answers, IsFault, Forks};
 
@@ -21,7 +23,7 @@ use std::alloc::{AllocError, Global};
 use std::marker::Model;
 use ux_kernel::Kernel;
 use ux_object::FileObject;
-use ux_state::ReleasedObjects;
+use ux_state::{ReleasedObjects, State};
 use ux_types::{Entry, Pid, Reply, Request};
 
 /// A book with the share of each process that hasn't exited. Contracts see the book.
@@ -117,6 +119,30 @@ impl<W: BookName, O: FileObject> Serial<W, O> {
         self.book.is_live(pid)
     }
 
+    /// Whether some process hasn't exited.
+    pub fn has_live(&self) -> bool
+        ensures { result ≡ has_live (state_of self.now) }
+    {
+        self.book.has_live()
+    }
+
+    /// How many calls a process with this number has made, if it was made and hasn't exited.
+    pub fn calls(&self, pid: Pid) -> Option<u64>
+        ensures { result ≡ (if is_live (state_of self.now) pid.0 then Some (calls_of pid.0 self.now.entries) else None) }
+    {
+        match share_at(&self.shares, pid) {
+            Some(share) => Some(share.calls()),
+            None => None,
+        }
+    }
+
+    /// The state at the end of the history, to be looked at.
+    pub fn state(&self) -> &State<O>
+        ensures { result.now ≡ state_of self.now }
+    {
+        self.book.state()
+    }
+
     /// How many processes were made.
     pub fn process_count(&self) -> usize
         ensures count { result ≡ processes self.now }
@@ -137,16 +163,56 @@ impl<W: BookName, O: FileObject> Serial<W, O> {
         ensures fault { IfErr result (λ f. IsFault self.old pid f) }
         ensures same { OnErr result (self.new ≡ self.old) }
     {
+        match self.make(pid, request, false) {
+            Ok(Some(reply)) => Ok(reply),
+            Ok(None) => unreachable!(),
+            Err(fault) => Err(fault),
+        }
+    }
+
+    /// As `call`; but where the call may wait, and would have to, the answer is `None`, and nothing has changed.
+    ///
+    /// # Errors
+    ///
+    /// Those of `call`.
+    pub fn try_call(&mut self, pid: Pid, request: &Request) -> Result<Option<Reply>, CallFault>
+        requires { has_own_call request.now ≡ false }
+        ensures made { IfOk result (λ o. IfSome o (λ reply. Answers self.old self.new pid request.now reply)) }
+        ensures done { IfOk result (λ o. IfSome o (λ reply. should_wait (state_of self.old) pid.0 request.now reply ≡ false)) }
+        ensures waits { IfOk result (λ o. IfNone o (MustWait self.old pid request.now)) }
+        ensures kept { IfOk result (λ o. IfNone o (self.new ≡ self.old)) }
+        ensures many { OnOk result (processes self.new ≡ processes self.old) }
+        ensures fault { IfErr result (λ f. IsFault self.old pid f) }
+        ensures same { OnErr result (self.new ≡ self.old) }
+    {
+        self.make(pid, request, true)
+    }
+
+    /// Makes a call of this process; where it is `tried`, only if it needn't wait.
+    fn make(&mut self, pid: Pid, request: &Request, tried: bool) -> Result<Option<Reply>, CallFault>
+        requires { has_own_call request.now ≡ false }
+        ensures made { IfOk result (λ o. IfSome o (λ reply. Answers self.old self.new pid request.now reply)) }
+        ensures done { IfOk result (λ o. IfSome o (λ reply. tried ≡ true → should_wait (state_of self.old) pid.0 request.now reply ≡ false)) }
+        ensures tried { IfOk result (λ o. IfNone o (tried ≡ true)) }
+        ensures waits { IfOk result (λ o. IfNone o (MustWait self.old pid request.now)) }
+        ensures kept { IfOk result (λ o. IfNone o (self.new ≡ self.old)) }
+        ensures many { OnOk result (processes self.new ≡ processes self.old) }
+        ensures fault { IfErr result (λ f. IsFault self.old pid f) }
+        ensures same { OnErr result (self.new ≡ self.old) }
+    {
         let Some(mut share) = take(&mut self.shares, pid) else {
             return Err(CallFault::Stranger);
         };
         self.released.clear();
-        let made = self.book.record(&mut share, request, &mut self.released);
+        let asked = ask(
+            &mut self.book,
+            &mut share,
+            request,
+            tried,
+            &mut self.released,
+        );
         put(&mut self.shares, share);
-        match made {
-            Ok((reply, _receipt)) => Ok(reply),
-            Err(fault) => Err(fault),
-        }
+        asked
     }
 
     /// Makes a fork of this process (fork(2)), whose child's calls can be made from then on.
@@ -220,6 +286,31 @@ impl<W: BookName, O: FileObject> Serial<W, O> {
     }
 }
 
+/// Makes a call of the share's process; where it is `tried`, only if it needn't wait.
+fn ask<W: BookName, O: FileObject>(
+    book: &mut Book<W, O>,
+    share: &mut Share<W>,
+    request: &Request,
+    tried: bool,
+    released: &mut ReleasedObjects<O>,
+) -> Result<Option<Reply>, CallFault>
+    requires call { is_last request.now ≡ false }
+    requires empty { released.old ≡ [] }
+    ensures call { IfOk result (λ o. IfSome o (λ reply. IsCall W.boot book.old book.new share.old share.new request.now reply released.new)) }
+    ensures done { IfOk result (λ o. IfSome o (λ reply. tried ≡ true → should_wait (state_of book.old) share.old.pid.0 request.now reply ≡ false)) }
+    ensures tried { IfOk result (λ o. IfNone o (tried ≡ true)) }
+    ensures waits { IfOk result (λ o. IfNone o (MustWait book.old share.old.pid request.now)) }
+    ensures kept { IfOk result (λ o. IfNone o (IsKept book.old book.new share.old share.new released.new)) }
+    ensures refused { IfErr result (λ f. f ≡ CallFault.NoMemory) }
+    ensures same { OnErr result (IsKept book.old book.new share.old share.new released.new) }
+{
+    match book.make(share, request, tried, released) {
+        Ok(Some((reply, _receipt, _child))) => Ok(Some(reply)),
+        Ok(None) => Ok(None),
+        Err(fault) => Err(fault),
+    }
+}
+
 /// Makes a fork of the share's process, and gives the share of the process that it made, if it made one.
 fn fork<W: BookName, O: FileObject>(
     book: &mut Book<W, O>,
@@ -255,6 +346,17 @@ fn by_number<W: BookName>(
         places.push(Some(share))?;
     }
     Ok(places)
+}
+
+/// The share of a process at its place.
+fn share_at<W: BookName>(shares: &[Option<Share<W>>], pid: Pid) -> Option<&Share<W>>
+    ensures some { IfSome result (λ share. place shares.now pid.0 ≡ Some share.now) }
+    ensures none { IfNone result (place shares.now pid.0 ≡ None) }
+{
+    match shares.get(pid.0 as usize) {
+        Some(Some(share)) => Some(share),
+        _ => None,
+    }
 }
 
 /// Takes the share of a process from its place.
