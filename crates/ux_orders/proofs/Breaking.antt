@@ -1,10 +1,10 @@
 -- A run that is broken off where it had ended.
-use Rattle.std.proofs.Common.{◌≡◌, ℕ, Bool, true, false, List, [], ◌++◌, refl, sym, ap, ◌∙◌, subst, append-nil}
+use Rattle.std.proofs.Common.{◌≡◌, true, false, List, [], ◌++◌, sym, ◌∙◌, subst, append-nil}
 use Rattle.ux_model.specs.Types.{Pid, Entry}
 use Rattle.ux_model.specs.State.{State}
 use Rattle.ux_model.specs.History.{IsLegal}
 use Rattle.ux_syntax.specs.Spelling.{Plan}
-use Rattle.ux_compare.specs.Runs.{Runs, HasBegun, requests_of, turns}
+use Rattle.ux_compare.specs.Runs.{HasBegun, requests_of}
 use Rattle.ux_orders.specs.declared.ran.Ran.{Ran}
 use Rattle.ux_orders.specs.Orders.{entries_of, IsRunOf}
 use Rattle.ux_orders.specs.Outcomes.{is_refused}

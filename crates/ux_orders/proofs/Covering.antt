@@ -3,6 +3,7 @@ use Rattle.std.proofs.Common.{◌≡◌, ◌+◌, ◌<◌, ◌≤◌, inl, inr, 
 use Rattle.std.specs.Prelude.{slice_index_or}
 use Rattle.std.proofs.lemmas.List.{length-append}
 use Rattle.std.specs.List.{AllByRecursion}
+use Rattle.ux_model.specs.State.{State}
 use Rattle.ux_syntax.specs.Spelling.{Plan, known_count}
 use Rattle.ux_orders.specs.declared.ran.Ran.{Ran}
 use Rattle.ux_orders.specs.Orders.{entries_of}
@@ -92,13 +93,13 @@ keeps_runs P n old new ran (Keeps.added e) all one = subst (λ (xs : List Ran). 
 keeps_runs P n old new ran (Keeps.replaced i inside same short e) all one = subst (λ (xs : List Ran). AllByRecursion P xs) (sym e) (all_set P old i ran all one)
 keeps_runs P n old new ran (Keeps.known i inside same short e) all one = subst (λ (xs : List Ran). AllByRecursion P xs) (sym e) all
 
-keeps_old : (n : ℕ) (old new : List Ran) (ran r : Ran) → Keeps n old new ran → HasOutcome n old r → HasOutcome n new r
+pub keeps_old : (n : ℕ) (old new : List Ran) (ran r : Ran) → Keeps n old new ran → HasOutcome n old r → HasOutcome n new r
 keeps_old n old new ran r (Keeps.added e) has = subst (λ (xs : List Ran). HasOutcome n xs r) (sym e) (has_more n old ran r has)
 keeps_old n old new ran r (Keeps.replaced i inside same short e) has =
     subst (λ (xs : List Ran). HasOutcome n xs r) (sym e) (has_set n old i ran r inside same short has)
 keeps_old n old new ran r (Keeps.known i inside same short e) has = subst (λ (xs : List Ran). HasOutcome n xs r) (sym e) has
 
-keeps_own : (n : ℕ) (old new : List Ran) (ran : Ran) → is_refused ran ≡ false → Keeps n old new ran → HasOutcome n new ran
+pub keeps_own : (n : ℕ) (old new : List Ran) (ran : Ran) → is_refused ran ≡ false → Keeps n old new ran → HasOutcome n new ran
 keeps_own n old new ran ended (Keeps.added e) = subst (λ (xs : List Ran). HasOutcome n xs ran) (sym e) (has_last n old ran (same_self n ran ended))
 keeps_own n old new ran ended (Keeps.replaced i inside same short e) =
     subst (λ (xs : List Ran). HasOutcome n xs ran) (sym e) (has_at_set n old i ran inside (same_self n ran ended))
@@ -109,14 +110,14 @@ length_more : {X : Type 0} (xs : List X) (x : X) → length (xs ++ x ∷ []) ≡
 length_more xs x = length-append xs (x ∷ [])
 
 -- one more run, whose outcome is kept
-pub cover_more : (s : Plan) (orders : ℕ) (old new : List Ran) (ran : Ran) → Cover s orders old → IsRun s ran → Keeps (known_count s) old new ran →
-    Cover s (orders + 1) new
-cover_more s orders old new ran cover run keeps =
+pub cover_more : (boot : State) (s : Plan) (orders : ℕ) (old new : List Ran) (ran : Ran) → Cover boot s orders old → IsRun boot s ran →
+    Keeps (known_count s) old new ran → Cover boot s (orders + 1) new
+cover_more boot s orders old new ran cover run keeps =
     let n = known_count s in
     record {
       runs = cover.runs ++ ran ∷ [];
       counted = length_more cover.runs ran ∙ ap (λ (m : ℕ). m + 1) cover.counted;
-      each = all_more (IsRun s) cover.runs ran cover.each run;
+      each = all_more (IsRun boot s) cover.runs ran cover.each run;
       covered = all_more (HasOutcome n new) cover.runs ran
           (all_weaker (HasOutcome n old) (HasOutcome n new) (λ r has. keeps_old n old new ran r keeps has) cover.runs cover.covered)
           (keeps_own n old new ran run.ended keeps);

@@ -1,7 +1,6 @@
 -- Orders that are written out.
-use Rattle.std.specs.Prelude.{◌≡◌, ℕ, ◌==◌, List, [], ◌∷◌, ◌++◌, if◌then◌else◌}
+use Rattle.std.specs.Prelude.{◌≡◌, ◌==◌, List, [], ◌∷◌, ◌++◌, if◌then◌else◌}
 use Rattle.ux_model.specs.Types.{Pid, Entry}
-use Rattle.ux_orders.specs.Orders.{entries_of}
 use Rattle.ux_orders.specs.declared.ran.Ran.{Ran}
 use Rattle.ux_orders.specs.declared.order.Order.{Order}
 

@@ -3,7 +3,6 @@ use Rattle.std.specs.Prelude.{◌≡◌, ◌<◌, ◌≤◌, ◌⊎◌, ℕ, Boo
 use Rattle.std.specs.List.{AllByRecursion}
 use Rattle.ux_model.specs.Types.{Reply, Entry}
 use Rattle.ux_model.specs.State.{State}
-use Rattle.ux_model.specs.Boot.{new_process}
 use Rattle.ux_syntax.specs.Spelling.{Plan, known_count}
 use Rattle.ux_orders.specs.Orders.{entries_of, IsRunOf}
 use Rattle.ux_orders.specs.declared.ran.Ran.{Ran}
@@ -33,10 +32,8 @@ abbrev pub is_deadlock : Ran → Bool
 is_deadlock (Ran.Deadlock entries waits) = true
 is_deadlock _ = false
 
--- a run of the script to its end, from the state of a kernel that has just started with the script's processes
-pub record IsRun (s : Plan) (ran : Ran) : Type 0 where
-  pub boot : State
-  pub processes : boot.processes ≡ map new_process s.procs
+-- a run of the script to its end from this state
+pub record IsRun (boot : State) (s : Plan) (ran : Ran) : Type 0 where
   pub run : IsRunOf boot s ran
   pub ended : is_refused ran ≡ false
 
@@ -54,9 +51,13 @@ pub data Keeps (n : ℕ) (old new : List Ran) (ran : Ran) : Type 0 where
   known : (i : ℕ) → i < length old → SameOutcome n ran (slice_index_or old i ran) →
       length (entries_of (slice_index_or old i ran)) ≤ length (entries_of ran) → new ≡ old → Keeps n old new ran
 
--- so many runs of the script were made to their end, and the outcome of each is that of one of these, which isn't longer
-pub record Cover (s : Plan) (orders : ℕ) (outcomes : List Ran) : Type 0 where
+-- each outcome that was kept is kept still
+abbrev pub KeepsAll : Plan → List Ran → List Ran → Type 0
+KeepsAll s old new = (ran : Ran) → HasOutcome (known_count s) old ran → HasOutcome (known_count s) new ran
+
+-- so many runs of the script from this state were made to their end, and the outcome of each is that of one of these, which isn't longer
+pub record Cover (boot : State) (s : Plan) (orders : ℕ) (outcomes : List Ran) : Type 0 where
   pub runs : List Ran
   pub counted : length runs ≡ orders
-  pub each : AllByRecursion (IsRun s) runs
+  pub each : AllByRecursion (IsRun boot s) runs
   pub covered : AllByRecursion (HasOutcome (known_count s) outcomes) runs

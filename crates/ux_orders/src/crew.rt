@@ -1,31 +1,39 @@
 //! A book whose processes take turns in one thread.
-ghost use Rattle.std.specs.Prelude.{◌≡◌, false, [], IfErr};
-ghost use Rattle.ux_book.specs.Books.{has_own_call};
-ghost use Rattle.ux_orders.specs.declared.ran.OrderFault.{OrderFault};
+ghost use Rattle.std.specs.Prelude.{◌≡◌, ◌+◌, ◌<◌, [], true, false, length, drop, get_or, set, replicate, Some, None, Ok, IfOk, IfSome, IfNone, OnOk};
+ghost use Rattle.ux_model.specs.Boot.{IsBootState};
+ghost use Rattle.ux_model.specs.State.{is_live};
+ghost use Rattle.ux_model.specs.Types.{Request};
+ghost use Rattle.ux_model.specs.History.{calls_of, has_live, IsLegal};
+ghost use Rattle.ux_book.specs.Books.{state_of, has_own_call};
+ghost use Rattle.ux_orders.specs.Lists.{pids_of};
+ghost use Rattle.ux_orders.specs.Threads.{asks, calls_in, Threaded};
+ghost use Rattle.ux_orders.specs.declared.member.Next.{Next};
+ghost use Rattle.ux_orders.specs.Crews.{Steps, IsHeld, IsLeft, IsDue, Makes, StopsAt, HasReady, AreHeld};
 
 use crate::chooser::{Chooser, Ready};
-use crate::member::{Member, Next, is_alone, next_of};
+use crate::member::{Next, is_alone, next_of};
 use crate::point::spell_state;
 use crate::ran::OrderFault;
 use crate::spelled::Spelled;
 use crate::touched::{Touched, Written, touched_by};
 use std::alloc::{AllocError, Global};
-use ux_book::{Book, BookName, Share, has_own_call};
+use std::marker::Model;
+use ux_book::{BookName, Serial, Trail, has_own_call};
+use ux_kernel::Kernel;
 use ux_object::FileObject;
-use ux_state::ReleasedObjects;
 use ux_syntax::{Act, Line};
-use ux_types::{Pid, Request};
+use ux_types::{Entry, Pid, Reply, Request};
 
-/// A book, and its processes by rising number.
+/// A book, and how far each of its processes has come in a script's lines.
 pub(crate) struct Crew<'a, W: BookName, O: FileObject> {
-    pub(crate) book: Book<W, O>,
-    members: Vec<Member<'a, W>>,
-    /// What the last call released, until the next one.
-    released: ReleasedObjects<O>,
+    serial: Serial<W, O>,
+    /// The place of each process in the lines, by its number: the next one behind its last call. Nobody has the
+    /// number 0.
+    places: Vec<usize>,
+    lines: &'a [Line],
     /// The file object that the last call read or wrote.
     touched: Option<Touched>,
     written: Written,
-    lines: &'a [Line],
     alloc: Global,
 }
 
@@ -33,19 +41,27 @@ pub(crate) struct Crew<'a, W: BookName, O: FileObject> {
 impl<W: BookName, O: FileObject> Drop for Crew<'_, W, O> {
     fn drop(self) {
         let Crew {
-            book,
-            members,
-            released,
+            serial,
+            places,
+            lines: _,
             touched: _,
             written,
-            lines: _,
             alloc: _,
         } = self;
-        drop(book);
-        drop(members);
-        drop(released);
+        drop(serial);
+        drop(places);
         drop(written)
     }
+}
+
+impl<'a, W: BookName, O: FileObject> Model for Crew<'a, W, O> {
+    ghost use Rattle.ux_orders.specs.Crews.{Crewed, IsCrew};
+
+    ghost Value = { Crewed };
+
+    ghost view = { λ c. record { book = c.serial; lines = c.lines.now } };
+
+    ghost invariant = { λ c. IsCrew c.serial c.lines.now c.places.items };
 }
 
 /// What became of a turn.
@@ -60,36 +76,51 @@ pub(crate) enum Turn {
 }
 
 impl<'a, W: BookName, O: FileObject> Crew<'a, W, O> {
-    /// The processes of these shares, which have all lines before them.
+    /// The processes of this kernel, which have all lines before them.
     ///
     /// # Errors
     ///
     /// Out of memory.
     pub(crate) fn new(
         alloc: Global,
-        book: Book<W, O>,
-        shares: Vec<Share<W>>,
+        trail: Trail,
+        kernel: Kernel<O>,
         lines: &'a [Line],
-    ) -> Result<Self, OrderFault> {
-        let released = ReleasedObjects::new(alloc)?;
-        let written = Written::new(alloc, book.state().object_count())?;
-        let mut members = Vec::with_capacity(alloc, shares.len())?;
-        for share in shares {
-            members.push(Member {
-                pid: share.pid(),
-                share: Some(share),
-                left: lines,
-            })?;
-        }
+    ) -> Result<Self, OrderFault>
+        requires trail { trail ≡ record { id = W.trail; entries = []; given = 0 } }
+        requires boots { IsBootState kernel }
+        requires named { kernel ≡ W.boot }
+        ensures { IfOk result (λ crew. crew ≡ record { book = record { boot = kernel; entries = [] }; lines = lines.now }) }
+    {
+        let Ok(serial) = Serial::new(alloc, trail, kernel) else {
+            return Err(OrderFault::NoMemory);
+        };
+        let written = Written::new(alloc, serial.state().object_count())?;
+        let places = first_places(alloc, serial.process_count())?;
         Ok(Crew {
-            book,
-            members,
-            released,
+            serial,
+            places,
+            lines,
             touched: None,
             written,
-            lines,
             alloc,
         })
+    }
+
+    /// The entries, which threads may have made.
+    pub(crate) fn entries(&self) -> &[Entry]
+        ensures entries { result.now ≡ self.now.book.entries }
+        ensures threaded { Threaded self.now.book.boot self.now.lines self.now.book.entries }
+        ensures boot { self.now.book.boot ≡ W.boot }
+    {
+        self.serial.entries()
+    }
+
+    /// Whether some process hasn't exited.
+    pub(crate) fn has_live(&self) -> bool
+        ensures { result ≡ has_live (state_of self.now.book) }
+    {
+        self.serial.has_live()
     }
 
     /// Makes one line, of the process that the chooser names among those that may go on, after so many lines.
@@ -133,13 +164,15 @@ impl<'a, W: BookName, O: FileObject> Crew<'a, W, O> {
     /// Spells the point that the run is at: which lines are left, what was written to file objects, and the state.
     fn point(&self) -> Result<Option<Vec<u8>>, AllocError> {
         let mut out = Spelled::new(self.alloc);
-        out.number(self.members.len() as u64)?;
-        for member in &self.members {
-            out.flag(member.share.is_some())?;
-            out.number(member.left.len() as u64)?;
+        let count = self.serial.process_count();
+        out.number(count as u64)?;
+        for number in 0..count {
+            let pid = Pid(number as u32 + 1);
+            out.flag(self.serial.is_live(pid))?;
+            out.number(self.place_of(pid) as u64)?;
         }
         self.written.spell(&mut out)?;
-        let spelled = spell_state(self.alloc, self.book.state(), self.book.entries(), out)?;
+        let spelled = spell_state(self.alloc, self.serial.state(), self.entries(), out)?;
         Ok(spelled.map(Spelled::into_bytes))
     }
 
@@ -148,7 +181,7 @@ impl<'a, W: BookName, O: FileObject> Crew<'a, W, O> {
         if !chooser.compares() {
             return Ok(());
         }
-        let Some(entry) = self.book.entries().last() else {
+        let Some(entry) = self.serial.entries().last() else {
             return Ok(());
         };
         match self.touched {
@@ -160,201 +193,275 @@ impl<'a, W: BookName, O: FileObject> Crew<'a, W, O> {
         }
     }
 
-    /// The processes that don't wait for another one's calls.
-    fn ready(&self) -> Result<Vec<Ready>, OrderFault> {
-        let mut ready = Vec::with_capacity(self.alloc, self.members.len())?;
-        for member in &self.members {
-            if let Some(one) = ready_of(&self.members, member) {
+    /// The processes that don't wait in a line for another one's calls: each that asks for a call.
+    pub(crate) fn ready(&self) -> Result<Vec<Ready>, OrderFault>
+        ensures { IfOk result (λ ready. HasReady self.now ready.items) }
+    {
+        let count = self.serial.process_count();
+        let mut ready = Vec::with_capacity(self.alloc, count)?;
+        for number in 0..count {
+            if let Some(one) = self.ready_of(Pid(number as u32 + 1)) {
                 ready.push(one)?;
             }
         }
         Ok(ready)
     }
 
-    /// Makes the next line of a process, where it needn't wait.
-    fn make_next(&mut self, pid: Pid) -> Result<bool, OrderFault> {
-        let Some(place) = self.members.iter().position(|member| member.pid == pid) else {
-            return Err(OrderFault::Stranger);
-        };
-        let left = self.members[place].left;
-        match next_of(&self.members, pid, left) {
-            Next::Wait(_) => Ok(false),
-            Next::Exit => self.exit(place),
-            Next::Call(line, more) => {
-                let made = self.make_line(place, line)?;
-                if made && let Some(member) = self.members.get_mut(place) {
-                    member.left = more;
-                }
-                Ok(made)
+    /// This process, if it asks for a call.
+    fn ready_of(&self, pid: Pid) -> Option<Ready>
+        ensures some { IfSome result (λ one. one.pid ≡ pid) }
+        ensures none { IfNone result (asks self.now.book self.now.lines pid.0 ≡ None) }
+    {
+        if !self.serial.is_live(pid) {
+            return None;
+        }
+        match self.next_of(pid) {
+            Next::Wait(_) => None,
+            Next::Exit => Some(Ready { pid, alone: false }),
+            Next::Call(place) => Some(Ready {
+                pid,
+                alone: self.concerns_one(place),
+            }),
+        }
+    }
+
+    /// Where the lines of this process begin that it hasn't made.
+    fn place_of(&self, pid: Pid) -> usize {
+        place_at(&self.places, pid)
+    }
+
+    /// What this live process does next.
+    fn next_of(&self, pid: Pid) -> Next
+        requires { is_live (state_of self.now.book) pid.0 ≡ true }
+        ensures { IsDue self.now pid result }
+    {
+        let from = place_at(&self.places, pid);
+        next_of(&self.serial, self.lines, from, pid)
+    }
+
+    /// Whether the line is a call that concerns its process alone.
+    fn concerns_one(&self, place: usize) -> bool {
+        match self.lines.get(place) {
+            Some(line) => match &line.act {
+                Act::Call(request) => is_alone(request),
+                Act::Wait(..) => false,
+            },
+            None => false,
+        }
+    }
+
+    /// Makes the next lines of these processes, one after another, as long as none has to wait. Whether all were made.
+    ///
+    /// # Errors
+    ///
+    /// Those of `make_next`.
+    pub(crate) fn make_all(&mut self, pids: &[Pid]) -> Result<bool, OrderFault>
+        requires start { self.old.book.entries ≡ [] }
+        ensures made { IfOk result (λ all. all ≡ true → pids_of self.new.book.entries ≡ pids.now) }
+        ensures held { IfOk result (λ all. all ≡ false → StopsAt self.new pids.now) }
+        ensures boot { OnOk result (self.new.book.boot ≡ self.old.book.boot) }
+        ensures lines { OnOk result (self.new.lines ≡ self.old.lines) }
+    {
+        for pid in pids {
+            if !self.make_next(*pid)? {
+                return Ok(false);
             }
         }
+        Ok(true)
     }
 
-    /// Makes the call of a line of the process at this place, where it needn't wait.
-    fn make_line(&mut self, place: usize, line: &Line) -> Result<bool, OrderFault> {
+    /// Makes the next line of the first of these processes that needn't wait. Whether there was one.
+    ///
+    /// # Errors
+    ///
+    /// Those of `make_next`.
+    pub(crate) fn make_any(&mut self, ready: &[Ready]) -> Result<bool, OrderFault>
+        ensures made { IfOk result (λ any. any ≡ true → Makes self.old self.new) }
+        ensures held { IfOk result (λ any. any ≡ false → AreHeld self.old ready.now) }
+        ensures kept { IfOk result (λ any. any ≡ false → self.new ≡ self.old) }
+    {
+        for one in ready {
+            if self.make_next(one.pid)? {
+                return Ok(true);
+            }
+        }
+        Ok(false)
+    }
+
+    /// Makes the next line of a process, where it needn't wait.
+    ///
+    /// # Errors
+    ///
+    /// `NoMemory`, also where a fork makes no process; `Stranger` for a line that can't be made at all, and for a
+    /// process that doesn't live.
+    pub(crate) fn make_next(&mut self, pid: Pid) -> Result<bool, OrderFault>
+        ensures made { IfOk result (λ made. made ≡ true → Steps self.old self.new pid) }
+        ensures held { IfOk result (λ made. made ≡ false → IsHeld self.old pid) }
+        ensures kept { IfOk result (λ made. made ≡ false → self.new ≡ self.old) }
+    {
+        if !self.serial.is_live(pid) {
+            return Err(OrderFault::Stranger);
+        }
         self.touched = None;
-        match &line.act {
-            Act::Wait(..) => Ok(false),
-            Act::Call(Request::Exit) => self.exit(place),
-            Act::Call(Request::Fork) => self.fork(place),
-            Act::Call(request) if has_own_call(request) => Err(OrderFault::Stranger),
-            Act::Call(request) => self.call(place, request),
+        match self.next_of(pid) {
+            Next::Wait(_) => Ok(false),
+            Next::Exit => self.exit(pid),
+            Next::Call(place) => self.make_line(pid, place),
         }
     }
 
-    /// Makes a call, where it needn't wait.
-    fn call(&mut self, place: usize, request: &Request) -> Result<bool, OrderFault>
-        requires { has_own_call request.now ≡ false }
+    /// Makes the call of the line at this place, where it needn't wait.
+    fn make_line(&mut self, pid: Pid, place: usize) -> Result<bool, OrderFault>
+        requires live { is_live (state_of self.old.book) pid.0 ≡ true }
+        requires due { IsDue self.old pid (Next.Call place) }
+        ensures made { IfOk result (λ made. made ≡ true → Steps self.old self.new pid) }
+        ensures held { IfOk result (λ made. made ≡ false → IsHeld self.old pid) }
+        ensures kept { IfOk result (λ made. made ≡ false → self.new ≡ self.old) }
     {
-        let Crew {
-            book,
-            members,
-            released,
-            touched,
-            written: _,
-            lines: _,
-            alloc: _,
-        } = self;
-        released.clear();
-        let Some(share) = share_at(members, place) else {
+        let Some(line) = self.lines.get(place) else {
             return Err(OrderFault::Stranger);
         };
-        *touched = touched_by(book.state(), share.pid(), request);
-        match book.try_record(share, request, released) {
-            Ok(made) => Ok(made.is_some()),
+        match &line.act {
+            Act::Wait(..) => Err(OrderFault::Stranger),
+            Act::Call(Request::Exit) => self.exit(pid),
+            Act::Call(Request::Fork) => self.fork(pid, place + 1),
+            Act::Call(request) if has_own_call(request) => Err(OrderFault::Stranger),
+            Act::Call(request) => self.call(pid, request, place + 1),
+        }
+    }
+
+    /// Makes a call, where it needn't wait. The process's next lines begin at this place.
+    fn call(&mut self, pid: Pid, request: &Request, behind: usize) -> Result<bool, OrderFault>
+        requires call { has_own_call request.now ≡ false }
+        requires asked { asks self.old.book self.old.lines pid.0 ≡ Some request.now }
+        requires left { IsLeft pid.0 (calls_of pid.0 self.old.book.entries + 1) self.old.lines (drop behind self.old.lines) }
+        ensures made { IfOk result (λ made. made ≡ true → Steps self.old self.new pid) }
+        ensures held { IfOk result (λ made. made ≡ false → IsHeld self.old pid) }
+        ensures kept { IfOk result (λ made. made ≡ false → self.new ≡ self.old) }
+    {
+        // It says that the entries are a legal history.
+        let _entries = self.serial.entries();
+        self.touched = touched_by(self.serial.state(), pid, request);
+        match self.serial.try_call(pid, request) {
+            Ok(Some(_)) => {
+                set_place(&mut self.places, pid, behind);
+                Ok(true)
+            }
+            Ok(None) => Ok(false),
             Err(_) => Err(OrderFault::NoMemory),
         }
     }
 
-    /// Makes a fork, whose child has all lines before it.
-    fn fork(&mut self, place: usize) -> Result<bool, OrderFault> {
-        let Crew {
-            book,
-            members,
-            released,
-            touched: _,
-            written: _,
-            lines,
-            alloc: _,
-        } = self;
-        released.clear();
-        members.reserve(1)?;
-        let Some(share) = share_at(members, place) else {
-            return Err(OrderFault::Stranger);
-        };
-        let child = match book.fork(share, released) {
-            Ok((_reply, _receipt, child)) => child,
-            Err(_) => None,
-        };
-        let Some(child) = child else {
+    /// Makes a fork, whose child has all lines before it. The process's next lines begin at this place.
+    fn fork(&mut self, pid: Pid, behind: usize) -> Result<bool, OrderFault>
+        requires asked { asks self.old.book self.old.lines pid.0 ≡ Some Request.Fork }
+        requires left { IsLeft pid.0 (calls_of pid.0 self.old.book.entries + 1) self.old.lines (drop behind self.old.lines) }
+        ensures made { IfOk result (λ made. made ≡ true → Steps self.old self.new pid) }
+        ensures done { OnOk result (result ≡ Ok true) }
+    {
+        // It says that the entries are a legal history, by which the new process has made no call.
+        let _entries = self.serial.entries();
+        self.places.push(0)?;
+        let Ok(reply) = self.serial.fork(pid) else {
             return Err(OrderFault::NoMemory);
         };
-        members.push(Member {
-            pid: child.pid(),
-            share: Some(child),
-            left: *lines,
-        })?;
-        Ok(true)
+        set_place(&mut self.places, pid, behind);
+        match reply {
+            Reply::Child(child) => {
+                set_place(&mut self.places, child, 0);
+                Ok(true)
+            }
+            _ => Err(OrderFault::NoMemory),
+        }
     }
 
-    /// Makes the exit of the process at this place.
-    fn exit(&mut self, place: usize) -> Result<bool, OrderFault> {
-        let Crew {
-            book,
-            members,
-            released,
-            touched,
-            written: _,
-            lines: _,
-            alloc: _,
-        } = self;
-        released.clear();
-        *touched = None;
-        let Some(member) = members.get_mut(place) else {
-            return Err(OrderFault::Stranger);
-        };
-        let Some(share) = member.share.take() else {
-            return Err(OrderFault::Stranger);
-        };
-        let _spent = book.exit(share, released);
-        Ok(true)
-    }
-
-    /// The book, and nothing else of it.
-    pub(crate) fn into_book(self) -> Book<W, O> {
-        let Crew {
-            book,
-            members: _,
-            released: _,
-            touched: _,
-            written: _,
-            lines: _,
-            alloc: _,
-        } = self;
-        book
-    }
-
-    /// Ends the layer, when no process is left.
-    pub(crate) fn end(&mut self) -> Result<(), OrderFault> {
-        self.released.clear();
-        match self.book.off(&mut self.released) {
-            Ok(()) => Ok(()),
+    /// Makes the exit of a process.
+    fn exit(&mut self, pid: Pid) -> Result<bool, OrderFault>
+        requires asked { asks self.old.book self.old.lines pid.0 ≡ Some Request.Exit }
+        ensures made { IfOk result (λ made. made ≡ true → Steps self.old self.new pid) }
+        ensures done { OnOk result (result ≡ Ok true) }
+    {
+        // It says that the entries are a legal history.
+        let _entries = self.serial.entries();
+        match self.serial.exit(pid) {
+            Ok(()) => Ok(true),
             Err(_) => Err(OrderFault::Stranger),
         }
     }
 
+    /// The entries, and nothing else of it; where the layer is to be ended, with that as the last. No process may be
+    /// left then.
+    pub(crate) fn into_history(self, off: bool) -> Result<Vec<Entry>, OrderFault>
+        ensures legal { IfOk result (λ entries. IsLegal W.boot entries.items) }
+        ensures calls { IfOk result (λ entries. calls_in entries.items ≡ self.entry.book.entries) }
+    {
+        let Crew {
+            mut serial,
+            places: _,
+            lines: _,
+            touched: _,
+            written: _,
+            alloc: _,
+        } = self;
+        if off && serial.off().is_err() {
+            return Err(OrderFault::Stranger);
+        }
+        Ok(serial.into_entries())
+    }
+
     /// The processes that are left, each with the line that it waits in.
     pub(crate) fn waits(&self) -> Result<Vec<(Pid, usize)>, OrderFault> {
+        let count = self.serial.process_count();
         let mut waits = Vec::new(self.alloc);
-        for member in &self.members {
-            if let Some(wait) = wait_of(&self.members, member) {
+        for number in 0..count {
+            if let Some(wait) = self.wait_of(Pid(number as u32 + 1)) {
                 waits.push(wait)?;
             }
         }
         Ok(waits)
     }
-}
 
-/// The share of the process at this place, until its exit.
-fn share_at<'m, W: BookName>(
-    members: &'m mut Vec<Member<'_, W>>,
-    place: usize,
-) -> Option<&'m mut Share<W>> {
-    let member = members.get_mut(place)?;
-    member.share.as_mut()
-}
-
-/// A process that doesn't wait for another one's calls, and hasn't exited.
-fn ready_of<W: BookName>(members: &[Member<'_, W>], member: &Member<'_, W>) -> Option<Ready> {
-    if member.share.is_none() {
-        return None;
-    }
-    let pid = member.pid;
-    match next_of(members, pid, member.left) {
-        Next::Wait(_) => None,
-        Next::Exit => Some(Ready { pid, alone: false }),
-        Next::Call(line, _) => Some(Ready {
-            pid,
-            alone: concerns_one(line),
-        }),
+    /// A process that hasn't exited, and the line that it comes to next.
+    fn wait_of(&self, pid: Pid) -> Option<(Pid, usize)> {
+        if !self.serial.is_live(pid) {
+            return None;
+        }
+        match self.next_of(pid) {
+            Next::Wait(place) | Next::Call(place) => {
+                let line = self.lines.get(place)?;
+                Some((pid, line.number))
+            }
+            Next::Exit => None,
+        }
     }
 }
 
-/// Whether the line is a call that concerns its process alone.
-fn concerns_one(line: &Line) -> bool {
-    match &line.act {
-        Act::Call(request) => is_alone(request),
-        Act::Wait(..) => false,
+/// Place 0 for each of the processes 1 to `count`, and for nobody.
+fn first_places(alloc: Global, count: usize) -> Result<Vec<usize>, AllocError>
+    ensures { IfOk result (λ places. places.items ≡ replicate (count + 1) 0) }
+{
+    let mut places = Vec::new(alloc);
+    places.push(0)?;
+    for _number in 0..count {
+        places.push(0)?;
+    }
+    Ok(places)
+}
+
+/// The place of a process; without one, the beginning.
+fn place_at(places: &[usize], pid: Pid) -> usize
+    ensures { result ≡ get_or places.now pid.0 0 }
+{
+    match places.get(pid.0 as usize) {
+        Some(place) => *place,
+        None => 0,
     }
 }
 
-/// A process that hasn't exited, and the line that it comes to next.
-fn wait_of<W: BookName>(members: &[Member<'_, W>], member: &Member<'_, W>) -> Option<(Pid, usize)> {
-    if member.share.is_none() {
-        return None;
-    }
-    match next_of(members, member.pid, member.left) {
-        Next::Wait(line) | Next::Call(line, _) => Some((member.pid, line.number)),
-        Next::Exit => None,
-    }
+/// Sets the place of a process.
+fn set_place(places: &mut Vec<usize>, pid: Pid, place: usize)
+    requires { pid.0 < length places.old.items }
+    ensures { places.new.items ≡ set places.old.items pid.0 place }
+{
+    places[pid.0 as usize] = place;
 }

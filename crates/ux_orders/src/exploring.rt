@@ -1,9 +1,11 @@
 //! Every order of a script.
-ghost use Rattle.std.specs.Prelude.{◌≡◌, ◌+◌, ◌^◌, ◌<◌, ◌≤◌, false, length, map, slice_index_or, IfOk, OnOk, IfSome};
+ghost use Rattle.std.specs.Prelude.{◌≡◌, ◌+◌, ◌^◌, ◌<◌, ◌≤◌, true, false, [], length, map, slice_index_or, IfOk, OnOk, IfSome};
 ghost use Rattle.std.specs.List.{AllByRecursion};
 ghost use Rattle.ux_model.specs.Limits.{made_limit};
 ghost use Rattle.ux_model.specs.Boot.{IsBootState, new_process};
-ghost use Rattle.ux_syntax.specs.Spelling.{plan_of};
+ghost use Rattle.ux_model.specs.State.{State};
+ghost use Rattle.ux_syntax.specs.Spelling.{Plan, plan_of, known_count};
+ghost use Rattle.ux_orders.specs.Walks.{Takes};
 ghost use Rattle.ux_orders.specs.Outcomes.{SameOutcome, Keeps, IsRun, Cover, is_refused};
 
 use crate::outcome::is_same_outcome;
@@ -20,6 +22,9 @@ use ux_types::MADE_LIMIT;
 pub trait Boot {
     type Object: FileObject;
 
+    /// The state in which each kernel for this script starts.
+    ghost state: { Self → Plan → State };
+
     /// A kernel that has just started with the script's processes.
     ///
     /// # Errors
@@ -27,7 +32,9 @@ pub trait Boot {
     /// Whatever keeps it from being made.
     fn boot(&mut self, script: &Script) -> Result<Kernel<Self::Object>, OrderFault>
         ensures boots { IfOk result (λ kernel. IsBootState kernel) }
-        ensures processes { IfOk result (λ kernel. kernel.processes ≡ map new_process script.now.procs.items) };
+        ensures processes { IfOk result (λ kernel. kernel.processes ≡ map new_process script.now.procs.items) }
+        ensures state { IfOk result (λ kernel. kernel ≡ state self.old (plan_of script.now)) }
+        ensures same { (plan : Plan) → state self.new plan ≡ state self.old plan };
 }
 
 /// What all orders of a script have come to.
@@ -37,7 +44,8 @@ pub struct Found {
     pub orders: u64,
     /// At how many points they were compared with others.
     pub points: usize,
-    /// Whether no further order is left.
+    /// Whether no further order is left; for `explore_each` also that no call lacked memory and no file object failed,
+    /// in whose place there might have been another answer.
     pub is_all: bool,
     /// A run for each outcome, the shortest that was made, and of those the one with the smallest list.
     pub outcomes: Vec<Ran>,
@@ -60,43 +68,46 @@ pub fn explore<B: Boot>(
     limit: u64,
     reduction: Reduction,
 ) -> Result<Found, OrderFault>
-    // Each of them is a legal history from the state of a kernel that has just started, in which each process makes the script's calls in
+    // Each of them is a legal history from the state in which the machine's kernels start, in which each process makes the script's calls in
     // their order, and its exit last, or a beginning of them up to a deadlock.
-    ensures runs { IfOk result (λ found. AllByRecursion (IsRun (plan_of script.now)) found.outcomes.items) }
+    ensures runs { IfOk result (λ found. AllByRecursion (IsRun (B.state machine.old (plan_of script.now)) (plan_of script.now)) found.outcomes.items) }
     // So many such runs were made, and each has the outcome of one of them, which isn't longer.
-    ensures covered { IfOk result (λ found. Cover (plan_of script.now) found.orders found.outcomes.items) }
+    ensures covered { IfOk result (λ found. Cover (B.state machine.old (plan_of script.now)) (plan_of script.now) found.orders found.outcomes.items) }
     ensures limit { IfOk result (λ found. found.orders ≤ limit) }
 {
     let mut search = Search::new(alloc, reduction)?;
-    let mut found = Found {
-        orders: 0,
-        points: 0,
-        is_all: false,
-        outcomes: Vec::new(alloc),
-    };
+    let mut found = Found::new(alloc);
     for _run in 0..limit {
         let kernel = machine.boot(script)?;
         let ran = run_order(alloc, script, kernel, &mut search)?;
         found.take(ran, script)?;
         found.points = search.point_count();
         if !search.advance()? {
-            found.is_all = true;
             return Ok(found);
         }
     }
+    found.is_all = false;
     Ok(found)
 }
 
 impl Found {
+    /// Nothing yet.
+    pub(crate) fn new(alloc: Global) -> Found
+        ensures found { result ≡ record { orders = 0; points = 0; is_all = true; outcomes = result.outcomes } }
+        ensures none { result.outcomes.items ≡ [] }
+    {
+        Found {
+            orders: 0,
+            points: 0,
+            is_all: true,
+            outcomes: Vec::new(alloc),
+        }
+    }
+
     /// Adds a run, if it wasn't broken off.
     fn take(&mut self, ran: Ran, script: &Script) -> Result<(), OrderFault>
         requires room { self.old.orders + 1 < 2 ^ 64 }
-        requires run { is_refused ran ≡ false → IsRun (plan_of script.now) ran }
-        requires runs { AllByRecursion (IsRun (plan_of script.now)) self.old.outcomes.items }
-        requires covered { Cover (plan_of script.now) self.old.orders self.old.outcomes.items }
-        ensures runs { OnOk result (AllByRecursion (IsRun (plan_of script.now)) self.new.outcomes.items) }
-        ensures covered { OnOk result (Cover (plan_of script.now) self.new.orders self.new.outcomes.items) }
-        ensures count { OnOk result (self.new.orders ≤ self.old.orders + 1) }
+        ensures { OnOk result (Takes (known_count (plan_of script.now)) self.old self.new ran) }
     {
         if ran.is_refused() {
             return Ok(());
@@ -105,15 +116,12 @@ impl Found {
     }
 
     /// Counts a run, and keeps it where none with its outcome was found before, or only longer ones.
-    #[tactic(auto, using(crate::proofs::Covering::cover_more, crate::proofs::Covering::keeps_runs))]
-    fn add(&mut self, ran: Ran, script: &Script) -> Result<(), OrderFault>
+    pub(crate) fn add(&mut self, ran: Ran, script: &Script) -> Result<(), OrderFault>
         requires room { self.old.orders + 1 < 2 ^ 64 }
-        requires run { IsRun (plan_of script.now) ran }
-        requires runs { AllByRecursion (IsRun (plan_of script.now)) self.old.outcomes.items }
-        requires covered { Cover (plan_of script.now) self.old.orders self.old.outcomes.items }
-        ensures runs { OnOk result (AllByRecursion (IsRun (plan_of script.now)) self.new.outcomes.items) }
-        ensures covered { OnOk result (Cover (plan_of script.now) self.new.orders self.new.outcomes.items) }
+        requires ended { is_refused ran ≡ false }
+        ensures keeps { OnOk result (Keeps (known_count (plan_of script.now)) self.old.outcomes.items self.new.outcomes.items ran) }
         ensures count { OnOk result (self.new.orders ≡ self.old.orders + 1) }
+        ensures all { OnOk result (self.new.is_all ≡ self.old.is_all) }
     {
         let count = script.process_count();
         if count > MADE_LIMIT {

@@ -6,6 +6,7 @@ mod chooser;
 mod compared;
 mod crew;
 mod draw;
+mod each;
 mod exploring;
 mod member;
 mod met;
@@ -20,6 +21,7 @@ mod touched;
 
 pub use chooser::{Chooser, Ready};
 pub use draw::Draw;
+pub use each::explore_each;
 pub use exploring::{Boot, Found, explore};
 pub use order::{Order, make_order, read_order};
 pub use outcome::is_same_outcome;

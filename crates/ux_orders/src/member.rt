@@ -1,67 +1,65 @@
-//! One process of a run, and the line that it makes next.
-use ux_book::{BookName, Share};
+//! How far a process has come in a script, and which line it makes next.
+ghost use Rattle.std.specs.Prelude.{◌≡◌, ◌≤◌, drop, length};
+ghost use Rattle.ux_orders.specs.Threads.{was_made, has_come};
+ghost use Rattle.ux_orders.specs.Crews.{IsNext};
+
+use ux_book::{BookName, Serial};
+use ux_object::FileObject;
 use ux_syntax::{Act, Line};
 use ux_types::{Pid, Request};
 
-/// A process: its share until its exit, and the script's lines from its next one on.
-#[derive(Drop)]
-pub(crate) struct Member<'a, W: BookName> {
-    pub(crate) pid: Pid,
-    pub(crate) share: Option<Share<W>>,
-    pub(crate) left: &'a [Line],
-}
-
-/// What a process does next.
-#[derive(Clone, Copy)]
-pub(crate) enum Next<'a> {
-    /// It makes the call of this line; these come behind it.
-    Call(&'a Line, &'a [Line]),
+/// What a process does next. Lines are given by their places.
+#[derive(Clone, Copy, Debug, PartialEq, Eq)]
+pub(crate) enum Next {
+    /// It makes the call of this line.
+    Call(usize),
     /// It waits in this line for another process.
-    Wait(&'a Line),
+    Wait(usize),
     /// No line is left, so it exits.
     Exit,
 }
 
-/// What this process does next. A line that waits for a process holds it until that process has so many calls, has
-/// exited, or was never made and process 1 has exited.
-pub(crate) fn next_of<'a, W: BookName>(
-    members: &[Member<'a, W>],
+/// What this process does next, whose lines begin at this place. A line that waits for a process holds it until that
+/// process has so many calls, has exited, or was never made and process 1 has exited.
+pub(crate) fn next_of<W: BookName, O: FileObject>(
+    serial: &Serial<W, O>,
+    lines: &[Line],
+    from: usize,
     pid: Pid,
-    left: &'a [Line],
-) -> Next<'a> {
-    let mut rest = left;
-    while let Some((line, more)) = rest.split_first() {
+) -> Next
+    ensures { IsNext (has_come serial.now) pid.0 lines.now (drop from lines.now) result }
+{
+    for place in from..lines.len() {
+        let line = &lines[place];
         if line.pid == pid {
             match &line.act {
-                Act::Call(_) => return Next::Call(line, more),
+                Act::Call(_) => return Next::Call(place),
                 Act::Wait(other, calls) => {
-                    if !has_come(members, *other, u64::from(*calls)) {
-                        return Next::Wait(line);
+                    if !has_come(serial, *other, u64::from(*calls)) {
+                        return Next::Wait(place);
                     }
                 }
             }
         }
-        rest = more;
     }
     Next::Exit
 }
 
 /// Whether a process has made so many calls, has exited, or was never made and process 1 has exited.
-fn has_come<W: BookName>(members: &[Member<'_, W>], pid: Pid, calls: u64) -> bool {
-    match members.iter().find(|member| member.pid == pid) {
-        Some(member) => match &member.share {
-            Some(share) => share.calls() >= calls,
-            None => true,
-        },
-        None => calls == 0 || !is_live(members, Pid(1)),
+fn has_come<W: BookName, O: FileObject>(serial: &Serial<W, O>, pid: Pid, calls: u64) -> bool
+    ensures { result ≡ has_come serial.now pid.0 calls }
+{
+    match serial.calls(pid) {
+        Some(made) => made >= calls,
+        None => was_made(serial, pid) || !serial.is_live(Pid(1)) || calls == 0,
     }
 }
 
-/// Whether a process was made, and hasn't exited.
-fn is_live<W: BookName>(members: &[Member<'_, W>], pid: Pid) -> bool {
-    members
-        .iter()
-        .any(|member| member.pid == pid && member.share.is_some())
+/// Whether a process with this number was made.
+fn was_made<W: BookName, O: FileObject>(serial: &Serial<W, O>, pid: Pid) -> bool
+    ensures { result ≡ was_made serial.now pid.0 }
+{
+    pid.0 > 0 && pid.0 as usize <= serial.process_count()
 }
 
 /// Whether a call concerns its process alone: it is answered by the process's own descriptors, and adds one of a new

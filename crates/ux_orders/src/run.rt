@@ -1,11 +1,11 @@
 //! A run of a script in one order.
-ghost use Rattle.std.specs.Prelude.{◌≡◌, ◌≤◌, ◌⊎◌, [], length, map, IfOk, IfErr};
+ghost use Rattle.std.specs.Prelude.{◌≡◌, ◌≤◌, [], map, IfOk};
 ghost use Rattle.ux_model.specs.Limits.{made_limit};
 ghost use Rattle.ux_model.specs.Boot.{IsBootState, new_process};
 ghost use Rattle.ux_model.specs.History.{IsLegal};
 ghost use Rattle.ux_syntax.specs.Spelling.{plan_of, known_count};
 ghost use Rattle.ux_orders.specs.Orders.{entries_of, IsRunOf};
-ghost use Rattle.ux_orders.specs.declared.ran.OrderFault.{OrderFault};
+ghost use Rattle.ux_orders.specs.Threads.{HasCalls};
 
 use crate::chooser::Chooser;
 use crate::compared::{begun_history, whole_history};
@@ -13,11 +13,11 @@ use crate::crew::{Crew, Turn};
 use crate::ran::{OrderFault, Ran};
 use std::alloc::Global;
 use std::marker::Brand;
-use ux_book::{Book, BookName, Trail};
+use ux_book::{BookName, Trail};
 use ux_kernel::Kernel;
 use ux_object::FileObject;
 use ux_syntax::Script;
-use ux_types::{MADE_LIMIT, Pid};
+use ux_types::MADE_LIMIT;
 
 /// Runs the script in one thread, on a kernel that has just started with its processes: the chooser names at each
 /// point which process makes its next line. A call waits where one of a thread would, a line that waits for a process
@@ -65,67 +65,56 @@ fn run_named<W: BookName, O: FileObject, C: Chooser>(
     if count > MADE_LIMIT {
         return Err(OrderFault::Stranger);
     }
-    let Ok((book, shares)) = Book::<W, O>::new(alloc, trail, kernel) else {
-        return Err(OrderFault::NoMemory);
-    };
-    let mut crew = Crew::new(alloc, book, shares, &script.lines)?;
-    match make_lines(&mut crew, script, count, chooser)? {
-        End::Whole => {
-            let entries = whole_history(crew.into_book(), script, count)?;
-            Ok(Ran::Whole(entries))
-        }
-        End::Deadlock(waits) => {
-            let entries = begun_history(crew.into_book(), script, count)?;
-            Ok(Ran::Deadlock(entries, waits))
-        }
-        End::Refused => {
-            let entries = begun_history(crew.into_book(), script, count)?;
-            Ok(Ran::Refused(entries))
-        }
+    let mut crew = Crew::<W, O>::new(alloc, trail, kernel, &script.lines)?;
+    if make_lines(&mut crew, script, count, chooser)? {
+        return ended(crew, script, count);
     }
+    let entries = begun_history(crew.into_history(false)?, script, count)?;
+    Ok(Ran::Refused(entries))
 }
 
-/// How the lines came to an end.
-#[derive(Drop)]
-enum End {
-    /// Each process made all its lines.
-    Whole,
-    /// Each process that is left waits.
-    Deadlock(Vec<(Pid, usize)>),
-    /// The chooser named none.
-    Refused,
-}
-
-/// Makes line after line. There are no more than the script's, and an exit for each process; behind them a further turn
-/// finds nobody left.
+/// Makes line after line, until nobody may go on. There are no more than the script's, and an exit for each process;
+/// behind them a further turn finds nobody left. False where the chooser named none.
 fn make_lines<W: BookName, O: FileObject, C: Chooser>(
     crew: &mut Crew<'_, W, O>,
     script: &Script,
     count: usize,
     chooser: &mut C,
-) -> Result<End, OrderFault> {
+) -> Result<bool, OrderFault> {
     let most = script.lines.len().saturating_add(count);
     for made in 0..most.saturating_add(1) {
         match crew.take_turn(chooser, made)? {
             Turn::Made => {}
-            Turn::Refused => return Ok(End::Refused),
+            Turn::Refused => return Ok(false),
             Turn::Idle => break,
         }
     }
-    finish(crew, script)
+    Ok(true)
 }
 
-/// Ends the layer where the script says so, if no process is left.
-fn finish<W: BookName, O: FileObject>(
-    crew: &mut Crew<'_, W, O>,
+/// The run at its end, where nobody may go on: a deadlock where a process is left, and else the whole, with the end of
+/// the layer where the script says so.
+///
+/// # Errors
+///
+/// Out of memory; `Stranger` where the calls aren't the script's.
+pub(crate) fn ended<W: BookName, O: FileObject>(
+    crew: Crew<'_, W, O>,
     script: &Script,
-) -> Result<End, OrderFault> {
-    let waits = crew.waits()?;
-    if !waits.is_empty() {
-        return Ok(End::Deadlock(waits));
+    count: usize,
+) -> Result<Ran, OrderFault>
+    requires count { count ≡ known_count (plan_of script.now) }
+    requires few { count ≤ made_limit }
+    ensures runs { IfOk result (λ ran. IsRunOf W.boot (plan_of script.now) ran) }
+    ensures calls { IfOk result (λ ran. HasCalls W.boot crew.entry.book.entries ran) }
+{
+    // It says where the history began.
+    let _entries = crew.entries();
+    if crew.has_live() {
+        let waits = crew.waits()?;
+        let entries = begun_history(crew.into_history(false)?, script, count)?;
+        return Ok(Ran::Deadlock(entries, waits));
     }
-    if script.off {
-        crew.end()?;
-    }
-    Ok(End::Whole)
+    let entries = whole_history(crew.into_history(script.off)?, script, count)?;
+    Ok(Ran::Whole(entries))
 }

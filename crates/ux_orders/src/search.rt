@@ -26,14 +26,6 @@ impl Reduction {
             merged: true,
         }
     }
-
-    /// None, so that each order is made to its end.
-    pub fn none() -> Reduction {
-        Reduction {
-            exchanged: false,
-            merged: false,
-        }
-    }
 }
 
 /// One line of the order that is made.

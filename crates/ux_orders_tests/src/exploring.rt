@@ -1,12 +1,12 @@
 //! All orders of a script.
-use crate::machine::{found_by, list_of, run_in};
+use crate::machine::{each_by, found_by, list_of, run_in};
 use std::alloc::Global;
 use std::test::Fail;
 use ux_orders::{Found, Ran, Reduction, read_order};
 use ux_types::Pid;
 
-/// More runs than any script here has.
-const MANY: u64 = 1000;
+/// More runs than any script here takes.
+const MANY: u64 = 10_000;
 
 /// Each call stands wherever it may.
 const EXCHANGED: Reduction = Reduction {
@@ -153,9 +153,9 @@ fn has_outcomes(alloc: Global, found: &Found, row: &Row) -> Result<bool, Fail> {
 #[test]
 fn all_orders_and_their_outcomes_are_found(rt: HostRuntime) -> Result<(), Fail> {
     for row in ROWS {
-        let plain = found_by(rt.alloc(), row.text, MANY, Reduction::none())?;
-        assert!(rt; plain.is_all && plain.orders == row.orders);
-        assert!(rt; has_outcomes(rt.alloc(), &plain, row)?);
+        let each = each_by(rt.alloc(), row.text, MANY)?;
+        assert!(rt; each.is_all && each.orders == row.orders);
+        assert!(rt; has_outcomes(rt.alloc(), &each, row)?);
     }
     Ok(())
 }
@@ -167,6 +167,31 @@ fn fewer_orders_have_the_same_outcomes(rt: HostRuntime) -> Result<(), Fail> {
         assert!(rt; reduced.is_all && reduced.orders == row.reduced);
         assert!(rt; has_outcomes(rt.alloc(), &reduced, row)?);
     }
+    Ok(())
+}
+
+/// A run for each beginning of an order is begun, and one less leaves something out.
+#[test]
+fn none_is_left_out_but_at_the_limit(rt: HostRuntime) -> Result<(), Fail> {
+    // The beginnings: none, 1, 1 2, 2, 2 1.
+    let text = "proc 1 1 0 4\nproc 1 1 0 4\n1 exit\n2 exit\n";
+    let whole = each_by(rt.alloc(), text, 5)?;
+    assert!(rt; whole.is_all && whole.orders == 2);
+    let cut = each_by(rt.alloc(), text, 4)?;
+    assert!(rt; !cut.is_all && cut.orders == 1);
+    let none = each_by(rt.alloc(), text, 0)?;
+    assert!(rt; !none.is_all && none.orders == 0 && none.outcomes.is_empty());
+    Ok(())
+}
+
+/// Where a file object fails another answer could have come, so nobody can tell that these are all.
+#[test]
+fn a_failure_leaves_open_what_else_there_is(rt: HostRuntime) -> Result<(), Fail> {
+    let text = "object p:f fail 1 mem 61\nproc 1 1 0 4\n1 open p:f r -\n1 read 0 1\n";
+    let failed = each_by(rt.alloc(), text, MANY)?;
+    assert!(rt; !failed.is_all && failed.orders == 1 && failed.outcomes.len() == 1);
+    let sound = "object p:f mem 61\nproc 1 1 0 4\n1 open p:f r -\n1 read 0 1\n";
+    assert!(rt; each_by(rt.alloc(), sound, MANY)?.is_all);
     Ok(())
 }
 

@@ -2,12 +2,12 @@
 #![tactic(auto)]
 
 #[cfg(test)]
+mod beside;
+#[cfg(test)]
 mod exploring;
 #[cfg(test)]
 mod machine;
 #[cfg(test)]
 mod one;
-#[cfg(test)]
-mod plain;
 #[cfg(test)]
 mod random;

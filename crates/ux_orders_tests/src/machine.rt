@@ -1,14 +1,15 @@
 //! Kernels for scripts, and runs on them.
 ghost use Rattle.std.specs.Prelude.{◌≡◌, map, IfOk};
-ghost use Rattle.ux_model.specs.Boot.{IsBootState, new_process};
+ghost use Rattle.ux_model.specs.Boot.{IsBootState, new_process, boot_state};
+ghost use Rattle.ux_orders_tests.specs.Starts.{object_of};
 
 use std::alloc::Global;
 use std::test::Fail;
 use ux_kernel::Kernel;
 use ux_objects::{FailAt, Plain};
 use ux_orders::{
-    Boot, Chooser, Found, Order, OrderFault, OrderList, Ran, Reduction, explore, make_order,
-    run_order,
+    Boot, Chooser, Found, Order, OrderFault, OrderList, Ran, Reduction, explore, explore_each,
+    make_order, run_order,
 };
 use ux_syntax::{Script, parse_script};
 use ux_types::Name;
@@ -22,6 +23,8 @@ pub struct Machine {
 impl Boot for Machine {
     type Object = FailAt;
 
+    ghost state = { λ _ plan. boot_state (map object_of plan.objects) plan.procs };
+
     fn boot(&mut self, script: &Script) -> Result<Kernel<FailAt>, OrderFault> {
         kernel_of(self.alloc, script)
     }
@@ -31,6 +34,7 @@ impl Boot for Machine {
 fn kernel_of(alloc: Global, script: &Script) -> Result<Kernel<FailAt>, OrderFault>
     ensures boots { IfOk result (λ kernel. IsBootState kernel) }
     ensures processes { IfOk result (λ kernel. kernel.processes ≡ map new_process script.now.procs.items) }
+    ensures state { IfOk result (λ kernel. kernel ≡ boot_state (map object_of script.now.objects.items) script.now.procs.items) }
 {
     let mut objects: Vec<(Name, FailAt)> = Vec::new(alloc);
     for line in &script.objects {
@@ -87,6 +91,15 @@ pub fn found_by(
 ) -> Result<Found, Fail> {
     let script = script_of(alloc, text)?;
     match explore(alloc, &script, &mut Machine { alloc }, limit, reduction) {
+        Ok(found) => Ok(found),
+        Err(_) => Err(Fail::from("not explored")),
+    }
+}
+
+/// The same, where none is left out.
+pub fn each_by(alloc: Global, text: &str, limit: u64) -> Result<Found, Fail> {
+    let script = script_of(alloc, text)?;
+    match explore_each(alloc, &script, &mut Machine { alloc }, limit) {
         Ok(found) => Ok(found),
         Err(_) => Err(Fail::from("not explored")),
     }

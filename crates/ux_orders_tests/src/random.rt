@@ -1,6 +1,6 @@
 //! Scripts that are put together at random, with what their orders come to.
-use crate::machine::found_by;
-use crate::plain::{are_same_runs, each_outcome};
+use crate::beside::are_same_runs;
+use crate::machine::{each_by, found_by};
 use std::alloc::Global;
 use std::test::Fail;
 use ux_orders::{Found, Reduction};
@@ -237,16 +237,16 @@ fn compare(alloc: Global, family: &Family) -> Result<Seen, Fail> {
     };
     for _ in 0..EACH {
         let text = script_of(alloc, family, &mut dice)?;
-        let (orders, outcomes) = each_outcome(alloc, text.as_str())?;
+        let each = each_by(alloc, text.as_str(), u64::MAX)?;
         let merged = found_by(alloc, text.as_str(), MANY, MERGED)?;
         let found = found_by(alloc, text.as_str(), MANY, Reduction::all())?;
-        if !are_same_runs(alloc, &outcomes, &found.outcomes)?
-            || !are_same_runs(alloc, &outcomes, &merged.outcomes)?
+        if !are_same_runs(alloc, &each.outcomes, &found.outcomes)?
+            || !are_same_runs(alloc, &each.outcomes, &merged.outcomes)?
             || found.orders != merged.orders
         {
             return Err(Fail::from("other outcomes"));
         }
-        seen.add(orders, &found);
+        seen.add(each.orders, &found);
     }
     Ok(seen)
 }

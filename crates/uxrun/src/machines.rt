@@ -1,7 +1,8 @@
 //! Kernels of a script's processes over its file objects as they are at first.
 
 ghost use Rattle.std.specs.Prelude.{◌≡◌, map, IfOk};
-ghost use Rattle.ux_model.specs.Boot.{IsBootState, new_process};
+ghost use Rattle.ux_model.specs.Boot.{IsBootState, new_process, boot_state};
+ghost use Rattle.uxrun.specs.Starts.{object_of};
 
 use crate::objects::kernel_of;
 use std::alloc::Global;
@@ -16,6 +17,7 @@ use ux_types::{Name, OBJECT_LIMIT};
 pub fn boot<R: RandomSource + AllocGlobal>(rt: &R, script: &Script) -> Result<Kernel<FailAt>, Fault>
     ensures boots { IfOk result (λ kernel. IsBootState kernel) }
     ensures processes { IfOk result (λ kernel. kernel.processes ≡ map new_process script.now.procs.items) }
+    ensures state { IfOk result (λ kernel. kernel ≡ boot_state (map object_of script.now.objects.items) script.now.procs.items) }
 {
     boot_over(rt, script, true)
 }
@@ -37,6 +39,7 @@ fn boot_over<R: RandomSource + AllocGlobal>(
 ) -> Result<Kernel<FailAt>, Fault>
     ensures boots { IfOk result (λ kernel. IsBootState kernel) }
     ensures processes { IfOk result (λ kernel. kernel.processes ≡ map new_process script.now.procs.items) }
+    ensures state { IfOk result (λ kernel. kernel ≡ boot_state (map object_of script.now.objects.items) script.now.procs.items) }
 {
     let alloc: Global = rt.alloc();
     if script.objects.len() > OBJECT_LIMIT {

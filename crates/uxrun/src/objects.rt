@@ -1,7 +1,7 @@
 //! The file objects of a script, and runs over them.
 
 ghost use Rattle.std.specs.Prelude.{◌≡◌, length, map, IfOk};
-ghost use Rattle.ux_model.specs.Boot.{IsBootState, new_process};
+ghost use Rattle.ux_model.specs.Boot.{IsBootState, new_process, boot_state};
 
 use crate::progress::Calls;
 use std::alloc::Global;
@@ -110,6 +110,7 @@ pub(crate) fn kernel_of<O: FileObject, R: RandomSource + AllocGlobal>(
 ) -> Result<Kernel<O>, Fault>
     ensures boots { IfOk result (λ kernel. IsBootState kernel) }
     ensures processes { IfOk result (λ kernel. kernel.processes ≡ map new_process script.now.procs.items) }
+    ensures state { IfOk result (λ kernel. kernel ≡ boot_state (map (λ o. (o.0, O.view o.1)) objects.items) script.now.procs.items) }
 {
     let keys = RandomState::new(rt).map_err(|_| ScriptFault::Reading)?;
     match Kernel::boot_with_seed(rt.alloc(), Seed::random(keys), objects, &script.procs) {

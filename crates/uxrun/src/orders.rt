@@ -1,4 +1,7 @@
 //! Runs of a script in one order, and in all.
+ghost use Rattle.std.specs.Prelude.{map};
+ghost use Rattle.ux_model.specs.Boot.{boot_state};
+ghost use Rattle.uxrun.specs.Starts.{object_of};
 
 use crate::machines::boot;
 use crate::printing::tell_expected;
@@ -38,6 +41,8 @@ impl<R> Drop for Machine<'_, R> {
 
 impl<R: Clock + Eprint + RandomSource + AllocGlobal> Boot for Machine<'_, R> {
     type Object = FailAt;
+
+    ghost state = { λ _ plan. boot_state (map object_of plan.objects) plan.procs };
 
     fn boot(&mut self, script: &Script) -> Result<Kernel<FailAt>, OrderFault> {
         self.meter.step();

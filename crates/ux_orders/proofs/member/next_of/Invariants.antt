@@ -1,5 +1,8 @@
-use Rattle.std.proofs.Common.{length}
+use Rattle.std.proofs.Common.{drop}
+use Rattle.ux_orders.specs.Threads.{has_come}
+use Rattle.ux_orders.proofs.Crewing.{Skips}
 use Rattle.ux_orders.proofs.member.next_of.Given as goal
 
-abbrev pub decreases-loop-line : goal.decreases-loop-line
-decreases-loop-line g l = length l.rest
+-- the lines up to here are passed
+abbrev pub invariant-loop-place : goal.invariant-loop-place
+invariant-loop-place g l = Skips (has_come l.serial) l.pid.0 (drop l.from l.lines) (drop l.place l.lines)

@@ -1,0 +1,7 @@
+use Rattle.std.proofs.Common.{◌≡◌, map, take}
+use Rattle.ux_orders_tests.specs.Starts.{object_of}
+use Rattle.ux_orders_tests.proofs.machine.kernel_of.Given as goal
+
+-- what is seen of the objects so far is what their lines say
+abbrev pub invariant-loop-line : goal.invariant-loop-line
+invariant-loop-line l = map (λ o. (o.0, o.1.seen)) l.objects.items ≡ map object_of (take l.line-index l.line-items)
