@@ -25,7 +25,7 @@ pub use fault::CallError;
 pub use layered::{LayerProgram, with_layer};
 pub use nursery::Nursery;
 pub use objects::AnyObject;
-pub use orders::{Programs, explore};
+pub use orders::{Programs, explore, explore_each};
 pub use program::{BookProgram, with_book};
 pub use seat::{Layer, Seat};
 pub use session::Session;

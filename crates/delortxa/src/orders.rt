@@ -1,13 +1,16 @@
 //! Every order of the calls that processes make, given as lists.
-ghost use Rattle.std.specs.Prelude.{◌≡◌, ◌≤◌, [], IfOk};
+ghost use Rattle.std.specs.Prelude.{◌≡◌, ◌<◌, ◌≤◌, [], true, IfOk};
 ghost use Rattle.std.specs.List.{AllByRecursion};
+ghost use Rattle.ux_model.specs.Boot.{boot_state};
 ghost use Rattle.ux_syntax.specs.Spelling.{plan_of};
 ghost use Rattle.ux_orders.specs.Outcomes.{IsRun, Cover};
+ghost use Rattle.ux_orders.specs.Threads.{KnowsAll};
 ghost use Rattle.delortxa.specs.Exploring.{with_call, with_wait, with_line, script_of};
 
 use crate::boot::Boot;
 use crate::objects::AnyObject;
 use std::alloc::{AllocError, Global};
+use std::collections::HashMap;
 use std::marker::Model;
 use ux_kernel::{BootFault, Kernel};
 use ux_orders::{Found, OrderFault, Reduction};
@@ -19,13 +22,20 @@ use ux_types::{Pid, ProcSpec, Request};
 pub struct Programs {
     alloc: Global,
     lines: Vec<Line>,
+    /// How many of them each process has.
+    counts: HashMap<u32, usize>,
 }
 
 // Written out, so that it is proved here and not in each function that drops one.
 impl Drop for Programs {
     fn drop(self) {
-        let Programs { alloc: _, lines } = self;
+        let Programs {
+            alloc: _,
+            lines,
+            counts,
+        } = self;
         drop(lines);
+        drop(counts);
     }
 }
 
@@ -46,6 +56,7 @@ impl Programs {
         Programs {
             alloc,
             lines: Vec::new(alloc),
+            counts: HashMap::new(alloc),
         }
     }
 
@@ -76,8 +87,12 @@ impl Programs {
     fn line(mut self, pid: Pid, act: Act) -> Result<Programs, AllocError>
         ensures { IfOk result (λ programs. programs ≡ with_line self pid act) }
     {
-        let before = self.lines.iter().filter(|line| line.pid == pid);
-        let number = before.count().saturating_add(1);
+        let before = match self.counts.get(&pid.0) {
+            Some(before) => *before,
+            None => 0,
+        };
+        let number = before.saturating_add(1);
+        self.counts.insert(pid.0, number)?;
         self.lines.push(Line { pid, act, number })?;
         Ok(self)
     }
@@ -120,18 +135,50 @@ pub fn explore(
     programs: &Programs,
     limit: u64,
 ) -> Result<Found, OrderFault>
-    // Each of them is a legal history from the state of a kernel that has just started with the boot's processes, in which each process
+    // Each of them is a legal history from the state in which a kernel starts with the boot, in which each process
     // makes the calls of its list in their order, and its exit last, or a beginning of them up to a deadlock.
-    ensures runs { IfOk result (λ found. AllByRecursion (IsRun (script_of boot.now.processes programs.now)) found.outcomes.items) }
+    ensures runs { IfOk result (λ found. AllByRecursion (IsRun (boot_state boot.now.objects boot.now.processes) (script_of boot.now.processes programs.now)) found.outcomes.items) }
     // So many such runs were made, and each has the outcome of one of them, which isn't longer.
-    ensures covered { IfOk result (λ found. Cover (script_of boot.now.processes programs.now) found.orders found.outcomes.items) }
+    ensures covered { IfOk result (λ found. Cover (boot_state boot.now.objects boot.now.processes) (script_of boot.now.processes programs.now) found.orders found.outcomes.items) }
     ensures limit { IfOk result (λ found. found.orders ≤ limit) }
 {
+    let script = orderly_script(boot, programs)?;
+    ux_orders::explore(alloc, &script, &mut Copies(boot), limit, Reduction::all())
+}
+
+/// As `explore`, but each order is made to its end, so that it takes far longer: a run for each beginning of an order is
+/// begun, and for each process that would have to wait behind it. What it doesn't find can't happen.
+///
+/// # Errors
+///
+/// Those of `explore`.
+pub fn explore_each(
+    alloc: Global,
+    boot: &Boot,
+    programs: &Programs,
+    limit: u64,
+) -> Result<Found, OrderFault>
+    // As with `explore`.
+    ensures runs { IfOk result (λ found. AllByRecursion (IsRun (boot_state boot.now.objects boot.now.processes) (script_of boot.now.processes programs.now)) found.outcomes.items) }
+    ensures covered { IfOk result (λ found. Cover (boot_state boot.now.objects boot.now.processes) (script_of boot.now.processes programs.now) found.orders found.outcomes.items) }
+    ensures limit { IfOk result (λ found. found.orders ≤ limit) }
+    // And the other way round: where `is_all` says so, each history that threads can make of the lists was made, up to where each process has
+    // exited or has to wait, if no memory lacks and no object fails in it; and its outcome is one of these.
+    ensures all { IfOk result (λ found. found.is_all ≡ true → KnowsAll (boot_state boot.now.objects boot.now.processes) (script_of boot.now.processes programs.now) found.outcomes.items) }
+{
+    let script = orderly_script(boot, programs)?;
+    ux_orders::explore_each(alloc, &script, &mut Copies(boot), limit)
+}
+
+/// The script of these lists for the boot's processes, if each may stand as it does.
+fn orderly_script(boot: &Boot, programs: &Programs) -> Result<Script, OrderFault>
+    ensures { IfOk result (λ script. plan_of script ≡ script_of boot.now.processes programs.now) }
+{
     let script = programs.script(boot.processes())?;
-    if !is_orderly(&script.lines, script.process_count()) {
+    if !is_orderly(programs.alloc, &script.lines, script.process_count())? {
         return Err(OrderFault::Stranger);
     }
-    ux_orders::explore(alloc, &script, &mut Copies(boot), limit, Reduction::all())
+    Ok(script)
 }
 
 /// Starts a kernel with what a boot has, as often as one is wanted.
@@ -140,6 +187,8 @@ struct Copies<'a>(&'a Boot);
 
 impl ux_orders::Boot for Copies<'_> {
     type Object = AnyObject;
+
+    ghost state = { λ copies plan. boot_state copies.0.now.objects plan.procs };
 
     fn boot(&mut self, script: &Script) -> Result<Kernel<AnyObject>, OrderFault> {
         let Ok(boot) = self.0.anew(&script.procs) else {
@@ -168,18 +217,31 @@ fn copy_of(line: &Line) -> Result<Line, AllocError>
     })
 }
 
-/// Whether each line is of one of so many processes, and may stand where it does.
-fn is_orderly(lines: &[Line], count: usize) -> bool {
-    for (place, line) in lines.iter().enumerate() {
-        let mut later = lines.iter().skip(place.saturating_add(1));
-        if line.act.asks_exit() && later.any(|other| other.pid == line.pid) {
-            return false;
-        }
+/// Whether each line is of one of so many processes, and may stand where it does: none behind its process's exit.
+fn is_orderly(alloc: Global, lines: &[Line], count: usize) -> Result<bool, AllocError> {
+    let mut exited = no_flags(alloc, count)?;
+    for line in lines {
         if !is_among(line.pid, count) || !may_ask(line, count) {
-            return false;
+            return Ok(false);
         }
+        let Some(has_exited) = exited.get_mut(line.pid.0 as usize - 1) else {
+            return Ok(false);
+        };
+        if *has_exited {
+            return Ok(false);
+        }
+        *has_exited = line.act.asks_exit();
     }
-    true
+    Ok(true)
+}
+
+/// So many flags, none of which is set.
+fn no_flags(alloc: Global, count: usize) -> Result<Vec<bool>, AllocError> {
+    let mut flags = Vec::with_capacity(alloc, count)?;
+    for _ in 0..count {
+        flags.push(false)?;
+    }
+    Ok(flags)
 }
 
 /// Whether a process may ask for this, where there are so many.
@@ -192,6 +254,8 @@ fn may_ask(line: &Line, count: usize) -> bool {
 }
 
 /// Whether this is one of so many processes, which are numbered from 1.
-fn is_among(pid: Pid, count: usize) -> bool {
+fn is_among(pid: Pid, count: usize) -> bool
+    ensures { result ≡ true → 0 < pid.0 }
+{
     pid.0 > 0 && pid.0 as usize <= count
 }

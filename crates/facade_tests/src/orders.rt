@@ -1,7 +1,7 @@
 //! Every order of lists of calls.
 use delortxa::{
-    Boot, Fd, Found, Mode, ObjError, OrderFault, OrderList, Pid, Programs, Ran, Reply, Request,
-    SockType, call, explore,
+    Boot, Errno, Fd, Found, Mode, ObjError, OrderFault, OrderList, Pid, Programs, Ran, Reply,
+    Request, SockType, call, explore, explore_each,
 };
 use std::alloc::{AllocError, Global};
 use std::process::Abort;
@@ -9,6 +9,9 @@ use std::test::Fail;
 
 /// More runs than any programs here have.
 const MANY: u64 = 1000;
+
+/// The same where no order is left out.
+const EACH: u64 = 100_000;
 
 /// A unit of a counter.
 const ONE: [u8; 8] = [1, 0, 0, 0, 0, 0, 0, 0];
@@ -19,7 +22,8 @@ const SECOND: Pid = Pid(2);
 
 const THIRD: Pid = Pid(3);
 
-/// What all orders come to, of so many processes over this boot.
+/// What all orders come to, of so many processes over this boot: the same whether orders that meet go on as one, or none
+/// is left out.
 fn found_by(
     alloc: Global,
     objects: Result<Boot, ObjError>,
@@ -27,7 +31,39 @@ fn found_by(
     programs: &Programs,
 ) -> Result<Found, Fail> {
     let boot = boot_of(objects, count)?;
-    explore(alloc, &boot, programs, MANY).map_err(|_| Fail::from("not explored"))
+    let Ok(found) = explore(alloc, &boot, programs, MANY) else {
+        return Err(Fail::from("not explored"));
+    };
+    let Ok(each) = explore_each(alloc, &boot, programs, EACH) else {
+        return Err(Fail::from("not explored each"));
+    };
+    // Where an object fails another answer could have come, so nobody can tell that these are all.
+    if each.is_all == has_failed(&each) || !are_alike(alloc, &each, &found)? {
+        return Err(Fail::from("other outcomes where none is left out"));
+    }
+    Ok(found)
+}
+
+/// Whether an object failed in one of the runs.
+fn has_failed(found: &Found) -> bool {
+    found.outcomes.iter().any(|outcome| {
+        let mut entries = outcome.entries().iter();
+        entries.any(|entry| entry.reply == Reply::Err(Errno::EIO))
+    })
+}
+
+/// Whether the outcomes have the same orders.
+fn are_alike(alloc: Global, each: &Found, found: &Found) -> Result<bool, Fail> {
+    if each.outcomes.len() != found.outcomes.len() {
+        return Ok(false);
+    }
+    for (one, other) in each.outcomes.iter().zip(&found.outcomes) {
+        let (one, other) = (OrderList(one.entries()), OrderList(other.entries()));
+        if format!(in alloc; "{one}")?.as_str() != format!(in alloc; "{other}")?.as_str() {
+            return Ok(false);
+        }
+    }
+    Ok(true)
 }
 
 /// A boot with these objects and so many processes.
@@ -99,6 +135,13 @@ fn a_limit_is_kept(rt: HostRuntime) -> Result<(), Fail> {
         };
         assert!(&rt; !found.is_all && found.orders == orders);
         assert_eq!(&rt; found.outcomes.len() as u64, orders);
+    }
+    // Its first order has five calls, so six beginnings, and each is a run.
+    for (limit, orders) in [(5, 0), (6, 1)] {
+        let Ok(cut) = explore_each(alloc, &boot, &programs, limit) else {
+            return Err(Fail::from("not explored each"));
+        };
+        assert!(&rt; !cut.is_all && cut.orders == orders);
     }
     Ok(())
 }
