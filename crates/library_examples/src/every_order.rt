@@ -1,11 +1,13 @@
 //! Two processes take two semaphores and give them back, in every order of their calls. Where each takes them in its own
 //! order, one of the outcomes is a deadlock; where both take them in the same order, none is.
-ghost use Rattle.std.specs.Prelude.{IfOk};
-ghost use Rattle.std.specs.List.{AllByRecursion};
-ghost use Rattle.library_examples.specs.Histories.{IsHistory};
+ghost use Rattle.std.specs.Prelude.{◌≡◌, true, IfOk};
+ghost use Rattle.std.specs.List.{AllByRecursion, list_any};
+ghost use Rattle.ux_model.specs.Boot.{boot_state};
+ghost use Rattle.ux_orders.specs.Outcomes.{is_deadlock};
+ghost use Rattle.library_examples.specs.Histories.{IsHistory, LeavesNone};
 
 use anyhow::Result;
-use delortxa::{Boot, Fd, Found, Mode, OrderList, Pid, Programs, Ran, call, explore};
+use delortxa::{Boot, Fd, Found, Mode, OrderList, Pid, Programs, Ran, call, explore, explore_each};
 use std::alloc::Global;
 
 const FIRST: Pid = Pid(1);
@@ -39,14 +41,38 @@ fn protocol(alloc: Global, one: Fd, other: Fd) -> Result<Programs> {
     takes_both(alloc, programs, SECOND, one, other)
 }
 
+/// Two semaphores, which nobody has made free yet, and two processes.
+fn semaphores(alloc: Global) -> Result<Boot> {
+    let boot = Boot::new(alloc).counter(b"a")?.counter(b"b")?;
+    Ok(boot.process(1000, 1000, 16)?.process(1000, 1000, 16)?)
+}
+
 /// What all orders come to. The history of each outcome is legal, so all laws of legal histories hold of it.
 #[tactic(auto, using(crate::proofs::Histories::all_legal))]
 fn outcomes(alloc: Global, one: Fd, other: Fd) -> Result<Found>
     ensures { IfOk result (λ found. AllByRecursion IsHistory found.outcomes.items) }
 {
-    let boot = Boot::new(alloc).counter(b"a")?.counter(b"b")?;
-    let boot = boot.process(1000, 1000, 16)?.process(1000, 1000, 16)?;
+    let boot = semaphores(alloc)?;
     Ok(explore(alloc, &boot, &protocol(alloc, one, other)?, 1000)?)
+}
+
+/// Whether no order of these lists ends in a deadlock. Where it says so, none does: whatever threads make of them, up to
+/// where each process has exited or has to wait, leaves no process, if no memory lacks and no object fails.
+fn never_deadlocks(alloc: Global, boot: &Boot, programs: &Programs) -> Result<bool>
+    ensures { IfOk result (λ never. never ≡ true → LeavesNone (boot_state boot.now.objects boot.now.processes) programs.now) }
+{
+    let found = explore_each(alloc, boot, programs, 100_000)?;
+    if !found.is_all || has_deadlock(&found.outcomes) {
+        return Ok(false);
+    }
+    Ok(true)
+}
+
+/// Whether one of these is a deadlock.
+fn has_deadlock(outcomes: &[Ran]) -> bool
+    ensures { result ≡ list_any (λ ran. is_deadlock ran) outcomes.now }
+{
+    outcomes.iter().any(|ran| ran.is_deadlock())
 }
 
 /// Prints an order for each outcome, and who waits where in its list.
@@ -77,5 +103,9 @@ pub(crate) fn run(rt: &(impl Print + AllocGlobal)) -> Result<()> {
     let opposite = outcomes(rt.alloc(), Fd(1), Fd(0))?;
     print_outcomes(rt, "each in its own order", &opposite)?;
     let same = outcomes(rt.alloc(), Fd(0), Fd(1))?;
-    print_outcomes(rt, "both in the same order", &same)
+    print_outcomes(rt, "both in the same order", &same)?;
+    let boot = semaphores(rt.alloc())?;
+    let never = never_deadlocks(rt.alloc(), &boot, &protocol(rt.alloc(), Fd(0), Fd(1))?)?;
+    println!(rt; "never a deadlock: {never}")?;
+    Ok(())
 }
