@@ -10,7 +10,7 @@ use std::sync::Wait;
 use std::test::Fail;
 use std::thread;
 use std::thread::Threads;
-use ux_book::{BookName, CallFault, Spent, Trail};
+use ux_book::{BookName, CallFault, Trail};
 use ux_kernel::Kernel;
 use ux_layer::{Seat, start};
 use ux_objects::Counter;
@@ -62,7 +62,8 @@ fn wait_all<W: BookName + Send + Sync, R: Threads + Wait + Abort + Sync>(
     );
     let one = one.ok_or("a wait went wrong")?;
     let other = other.ok_or("a wait went wrong")?;
-    let mut spents = vec![in alloc; one, other]?;
+    // An exit is an entry, which may end another's wait: so none exits before both were told.
+    let mut spents = vec![in alloc; one.exit(rt), other.exit(rt)]?;
     let settled = match layer.settle(rt, &mut spents) {
         Ok(account) => account.entries,
         Err(_) => 0,
@@ -71,12 +72,12 @@ fn wait_all<W: BookName + Send + Sync, R: Threads + Wait + Abort + Sync>(
     Ok(())
 }
 
-/// Makes a pair, waits until the deadlock is reported, and exits. The report leaves the seat as it was.
+/// Makes a pair, and waits until the deadlock is reported. The report leaves the seat as it was.
 fn wait_in_vain<W: BookName, R: Wait>(
     rt: &R,
     mut seat: Seat<W, Counter>,
     awaited: Awaited,
-) -> Option<Spent<W>> {
+) -> Option<Seat<W, Counter>> {
     if !is_answered(rt, &mut seat, PAIR, Reply::Fds(Fd(0), Fd(1))) {
         return None;
     }
@@ -85,9 +86,8 @@ fn wait_in_vain<W: BookName, R: Wait>(
         Awaited::Entries(pid, calls) => seat.wait_for(rt, pid, calls).err(),
     };
     let same = seat.calls() == 1;
-    let spent = seat.exit(rt);
     if told == Some(CallFault::Deadlock) && same {
-        Some(spent)
+        Some(seat)
     } else {
         None
     }
