@@ -100,6 +100,7 @@ kind_of (Request.GetPeerName fd) = is_addr
 kind_of (Request.SendMsg fd addr bytes control flags) = is_count
 kind_of (Request.RecvMsg fd n space flags) = is_message
 kind_of (Request.Poll fd) = is_ready
+kind_of (Request.SetIds uid gid) = is_done
 kind_of Request.Fork = is_child
 kind_of Request.Exec = is_done
 kind_of Request.Exit = is_done

@@ -42,6 +42,7 @@ pub mod Descriptors
 pub mod Accepting
 pub mod Options
 pub mod Readiness
+pub mod Users
 pub mod Forking
 pub mod Closing
 pub mod Step

@@ -12,7 +12,7 @@ ghost use Rattle.ux_model.specs.History.{LeadsToOne, FrontIsLegal, ExitAndForkAl
 ghost use Rattle.ux_model.specs.Peers.{OneGoes};
 ghost use Rattle.ux_model.specs.Invariants.{NoneLeftUnreferenced, SettlesAtOnce, StaysSettled, RefusalChangesNothing, RefusedEntryChangesNothing, WholeAfterAnyCalls, NothingDangles, ClosedOnce};
 ghost use Rattle.ux_model.specs.ReadyCalls.{TellsInput, TellsRoom};
-ghost use Rattle.ux_model.specs.FlightLaws.{FlightIsLimited};
+ghost use Rattle.ux_model.specs.FlightLaws.{FlightIsLimited, FlightOfUsersIsLimited};
 ghost use Rattle.ux_model.specs.RoomLaws.{RepliesFit};
 ghost use Rattle.ux_model.specs.Changes.{StepChangesTables, TablesStaySmall};
 ghost use Rattle.ux_model.specs.PedigreeLaws.{MessagesAreSent, ChainIsOne, PedigreeIsOfOne, HoldsOnlyItsOwn};
@@ -237,11 +237,13 @@ pub fn poll_tells_of_room()
     ensures { TellsRoom }
 {}
 
-/// Where no process of a user is privileged, the user never has more rights in flight than the most
-/// descriptors that one of them may have.
-#[tactic(auto, using(crate::proofs::FlightLaws::flight_is_limited))]
+/// Where no process of a user is privileged, and no privileged one becomes one of this user, the user never has
+/// more rights in flight than the most descriptors that one of them may have. And where user 0 alone has
+/// privileged processes, no other user does, whoever changes its ids.
+#[tactic(auto, using(crate::proofs::FlightLaws::flight_is_limited, crate::proofs::FlightLaws::flight_of_users_is_limited))]
 pub fn rights_in_flight_are_limited()
-    ensures { FlightIsLimited }
+    ensures of_a_user { FlightIsLimited }
+    ensures of_users { FlightOfUsersIsLimited }
 {}
 
 /// Each reply is as large as its request and the limits allow.
