@@ -1,6 +1,6 @@
 -- Of each call: that its outcome obeys what all do. One lemma a call, and one line of `each_obeys`, at the end. Those of names and connections
 -- stand in NameCalls, those of messages in MessageCalls.
-use Rattle.std.proofs.Common.{◌≡◌, ℕ, suc, ◌<◌, Bool, true, false, not, ◌&&◌, ◌==◌, if◌then◌else◌, cond, List, [], ◌∷◌, ◌++◌, length, map, Option, Some, None, Result, Ok, Err, refl, ap, sym, ◌∙◌, subst, arith}
+use Rattle.std.proofs.Common.{◌≡◌, ℕ, suc, ◌<◌, Bool, true, false, not, ◌&&◌, ◌==◌, if◌then◌else◌, cond, List, [], ◌∷◌, ◌++◌, length, map, Option, Some, None, Result, Ok, Err, refl, ap, sym, ◌∙◌, subst, arith, ◌||◌}
 use Rattle.std.specs.Prelude.{min, nat_le, nat_lt, ℤ, pos, negsuc, ◌+ℤ◌, is_some, count_by}
 use Rattle.std.proofs.lemmas.Bool.{eqb-true, eq-eqb}
 use Rattle.std.proofs.lemmas.List.{length_push, length-map}
@@ -27,6 +27,7 @@ use Rattle.ux_model.specs.Reading.{read, read_answer, read_error, offset_after_r
 use Rattle.ux_model.specs.Writing.{write, write_answer, offset_after_write, write_place}
 use Rattle.ux_model.specs.Seeking.{lseek, seek_to, seek_base}
 use Rattle.ux_model.specs.Descriptors.{dup, dup2, dup_from, get_flags, set_flags, with_flags}
+use Rattle.ux_model.specs.Users.{no_id, may_become, set_ids}
 use Rattle.ux_model.specs.Forking.{fork, exec}
 use Rattle.ux_model.specs.Closing.{close, exit, off}
 use Rattle.ux_model.specs.Release.{settled, released}
@@ -36,7 +37,7 @@ use Rattle.ux_model.proofs.Named.{table_in}
 use Rattle.ux_model.proofs.Walk.{either, maybe, by_target, by_path, found}
 use Rattle.ux_model.proofs.Bounds.{new_bounded}
 use Rattle.ux_model.proofs.OnePlace.{same_at}
-use Rattle.ux_model.proofs.Reaching.{changes_lives, Reaches, still, description_made, peers_made, object_changed, paths_taken, turned_off, same_target, NamesWhatIsThere, put_names, taken_names, same_names, kept_names, none_counts, with_table_reached, with_child_reached, with_process_reached, with_description_reached, some_filled, some_more, some_pushed}
+use Rattle.ux_model.proofs.Reaching.{May, tables_alone, lives_too, users_too, may_change, with_ids_reached, Reaches, still, description_made, peers_made, object_changed, paths_taken, turned_off, same_target, NamesWhatIsThere, put_names, taken_names, same_names, kept_names, none_counts, with_table_reached, with_child_reached, with_process_reached, with_description_reached, some_filled, some_more, some_pushed}
 use Rattle.ux_model.proofs.Obeying.{failures, FailAlike, tells_choice, Obeys, Call, refuses, uses, answers, may_fail, there_of}
 use Rattle.ux_model.proofs.NameCalls.{socket_obeys, bind_obeys, listen_obeys, connect_obeys, accept_obeys, sock_name_obeys, peer_name_obeys, shutdown_obeys}
 use Rattle.ux_model.proofs.OptionCalls.{get_opt_obeys, set_opt_obeys, poll_obeys}
@@ -85,15 +86,15 @@ close_obeys S p fd = found (Call S) S p fd _ (refuses refl refl) (λ e D g h.
 
 -- ---- ends
 
-pub exit_obeys : (S : State) (p : ℕ) → Obeys S true (exit S p)
+pub exit_obeys : (S : State) (p : ℕ) → Obeys S lives_too (exit S p)
 unfolding exit
-exit_obeys S p = maybe (Obeys S true) (process_at S p) _ _ (refuses refl refl)
+exit_obeys S p = maybe (Obeys S lives_too) (process_at S p) _ _ (refuses refl refl)
     (λ P h. answers refl refl refl (with_process_objects S p _) (with_process_reached S p P (record P { exited = true; table = map (λ e. None) P.table }) still h (λ d. none_counts d P.table) (length-map P.table _) (record { user = refl; privileged = refl })))
 
-pub fork_obeys : (S : State) (p : ℕ) → Obeys S true (fork S p)
+pub fork_obeys : (S : State) (p : ℕ) → Obeys S lives_too (fork S p)
 unfolding fork
-fork_obeys S p = maybe (Obeys S true) (process_at S p) _ _ (refuses refl refl)
-    (λ P h. either (Obeys S true) (nat_le made_limit (length S.processes)) _ _ (λ b. refuses refl refl) (λ b. answers refl refl refl refl (with_child_reached S p P still h)))
+fork_obeys S p = maybe (Obeys S lives_too) (process_at S p) _ _ (refuses refl refl)
+    (λ P h. either (Obeys S lives_too) (nat_le made_limit (length S.processes)) _ _ (λ b. refuses refl refl) (λ b. answers refl refl refl refl (with_child_reached S p P still h)))
 
 pub exec_obeys : (S : State) (p : ℕ) → Call S (exec S p)
 unfolding exec
@@ -103,6 +104,15 @@ exec_obeys S p = maybe (Call S) (process_at S p) _ _ (refuses refl refl) (λ P h
 pub off_obeys : (S : State) → Call S (off S)
 unfolding off
 off_obeys S = answers refl refl refl refl (turned_off still)
+
+-- ---- ids
+
+pub ids_obey : (S : State) (p uid gid : ℕ) → Obeys S users_too (set_ids S p uid gid)
+unfolding set_ids
+ids_obey S p uid gid = maybe (Obeys S users_too) (process_at S p) _ _ (refuses refl refl)
+    (λ P h. either (Obeys S users_too) ((uid == no_id) || (gid == no_id)) _ _ (λ b. refuses refl refl)
+    (λ b. either (Obeys S users_too) (not (may_become uid gid P)) _ _ (λ b. refuses refl refl)
+    (λ b. answers refl refl refl (with_process_objects S p _) (with_ids_reached S p uid gid P still h))))
 
 -- ---- paths
 
@@ -114,7 +124,7 @@ unlink_obeys S path = either (Call S) (not (is_valid_path path)) _ _ (λ b. refu
 -- ---- pairs
 
 -- the two sockets
-pair_made : (S : State) (kind : SockType) (p : ℕ) (P : Process) (flags : OpenFlags) → Reaches S false (with_pair S kind flags (own_cred p P))
+pair_made : (S : State) (kind : SockType) (p : ℕ) (P : Process) (flags : OpenFlags) → Reaches S tables_alone (with_pair S kind flags (own_cred p P))
 pair_made S SockType.Stream p P flags = peers_made _ _ still (record { first_refs = λ n. refl; second_refs = λ n. refl; first_peer = ap Some (omega arith); second_peer = refl; first_bounds = new_bounded SockType.Stream; second_bounds = new_bounded SockType.Stream })
 pair_made S SockType.Dgram p P flags = description_made _ (description_made _ still (λ sound o h. absurd (cc h)) (record { refs = λ d. refl; peer = refl }) (new_bounded SockType.Dgram)) (λ sound o h. absurd (cc h)) (record { refs = λ d. refl; peer = refl }) (new_bounded SockType.Dgram)
 pair_made S SockType.Seq p P flags = peers_made _ _ still (record { first_refs = λ n. refl; second_refs = λ n. refl; first_peer = ap Some (omega arith); second_peer = refl; first_bounds = new_bounded SockType.Seq; second_bounds = new_bounded SockType.Seq })
@@ -164,11 +174,11 @@ name_counts S path o h = let n = named_counts path o S.paths h in omega (arith, 
 
 -- a new description of the file object that a path names, and an entry for it
 opened : (S : State) (p : ℕ) (path : Name) (mode : Mode) (flags : OpenFlags) (o n : ℕ) → named path S.paths ≡ Some (file o) →
-    Reaches S false (with_table (with_new S (file_description o mode flags)) p (filled (table_of S p) n (descriptor flags (next_description S))))
+    Reaches S tables_alone (with_table (with_new S (file_description o mode flags)) p (filled (table_of S p) n (descriptor flags (next_description S))))
 opened S p path mode flags o n is =
     let D : Description = file_description o mode flags in
     let T : State = with_new S D in
-    let made : Reaches S false T = description_made D still (λ sound k h. subst (λ m. 0 < orefs S m) (eqb-true o k h) (name_counts S path o is)) (record { refs = λ d. refl; peer = refl }) tt in
+    let made : Reaches S tables_alone T = description_made D still (λ sound k h. subst (λ m. 0 < orefs S m) (eqb-true o k h) (name_counts S path o is)) (record { refs = λ d. refl; peer = refl }) tt in
     with_table_reached T p _ made (λ sound. put_names T (table_of T p) (table_of T p) n (descriptor flags (next_description S)) (some_pushed S.descriptions D) (same_names T (table_of T p)))
 
 pub open_obeys : (S : State) (p : ℕ) (path : Name) (mode : Mode) (flags : OpenFlags) → Call S (open_file S p path mode flags)
@@ -183,7 +193,7 @@ open_obeys S p path mode flags = either (Call S) (not (is_valid_path path)) _ _ 
 
 -- the description and its object change
 both_changed : (S : State) (o n : ℕ) (held : IsHeldOpen S o) (old new : View) → place S.objects o ≡ Some old → new.opened ≡ old.opened →
-    Reaches S false (with_object (with_description S held.entry.description (record held.description { offset = n })) o new)
+    Reaches S tables_alone (with_object (with_description S held.entry.description (record held.description { offset = n })) o new)
 both_changed S o n held old new there opened =
     let d : ℕ = held.entry.description in
     object_changed o old new (with_description_reached S d held.description (record held.description { offset = n }) still held.there (λ sound. same_target S d held.description.target)) there opened
@@ -302,7 +312,7 @@ lseek_obeys S p fd offset whence = found (Call S) S p fd _ (refuses refl refl) (
 
 -- ---- all calls
 
-pub each_obeys : (S : State) (p tag : ℕ) (request : Request) → Obeys S (changes_lives request) (outcome S p tag request)
+pub each_obeys : (S : State) (p tag : ℕ) (request : Request) → Obeys S (may_change request) (outcome S p tag request)
 unfolding outcome
 each_obeys S p tag (Request.Open path mode flags) = open_obeys S p path mode flags
 each_obeys S p tag (Request.Read fd n) = read_obeys S p fd n
@@ -329,6 +339,7 @@ each_obeys S p tag (Request.GetPeerName fd) = peer_name_obeys S p fd
 each_obeys S p tag (Request.SendMsg fd addr bytes control flags) = send_obeys S p tag fd addr bytes control flags
 each_obeys S p tag (Request.RecvMsg fd n space flags) = recv_obeys S p fd n space flags
 each_obeys S p tag (Request.Poll fd) = poll_obeys S p fd
+each_obeys S p tag (Request.SetIds uid gid) = ids_obey S p uid gid
 each_obeys S p tag Request.Fork = fork_obeys S p
 each_obeys S p tag Request.Exec = exec_obeys S p
 each_obeys S p tag Request.Exit = exit_obeys S p
@@ -336,25 +347,25 @@ each_obeys S p tag Request.Off = off_obeys S
 
 -- ---- what was chosen
 
-pub chosen_reached : (S T : State) (ends : Bool) (o : Outcome) (reply : Reply) → Obeys S ends o → Chosen S o reply T → Reaches S ends T
-chosen_reached S T ends o reply obeys (own e f) = subst (Reaches S ends) (sym f) obeys.reached
-chosen_reached S T ends o reply obeys (lacking_memory e may_lack f) = subst (Reaches S ends) (sym f) still
-chosen_reached S T ends o reply obeys (failing e f) =
+pub chosen_reached : (S T : State) (may : May) (o : Outcome) (reply : Reply) → Obeys S may o → Chosen S o reply T → Reaches S may T
+chosen_reached S T may o reply obeys (own e f) = subst (Reaches S may) (sym f) obeys.reached
+chosen_reached S T may o reply obeys (lacking_memory e may_lack f) = subst (Reaches S may) (sym f) still
+chosen_reached S T may o reply obeys (failing e f) =
     let one = (obeys.failed T f).0 in
-    subst (Reaches S ends) (sym one.left) (object_changed one.object one.view (after_failure one.view) still one.there refl)
+    subst (Reaches S may) (sym one.left) (object_changed one.object one.view (after_failure one.view) still one.there refl)
 
-pub chosen_left : (S T : State) (ends : Bool) (o : Outcome) (e : Errno) → Obeys S ends o → Chosen S o (Reply.Err e) T → LeftByRefusal S e T
-chosen_left S T ends o e obeys (own is f) = subst (LeftByRefusal S e) (sym f) (obeys.refused e (sym is))
-chosen_left S T ends o e obeys (lacking_memory is may_lack f) = let same : Errno.ENOMEM ≡ e = cc is in subst (λ g. LeftByRefusal S g T) same f
-chosen_left S T ends o e obeys (failing is f) = let same : Errno.EIO ≡ e = cc is in subst (λ g. LeftByRefusal S g T) same (obeys.failed T f).0
+pub chosen_left : (S T : State) (may : May) (o : Outcome) (e : Errno) → Obeys S may o → Chosen S o (Reply.Err e) T → LeftByRefusal S e T
+chosen_left S T may o e obeys (own is f) = subst (LeftByRefusal S e) (sym f) (obeys.refused e (sym is))
+chosen_left S T may o e obeys (lacking_memory is may_lack f) = let same : Errno.ENOMEM ≡ e = cc is in subst (λ g. LeftByRefusal S g T) same f
+chosen_left S T may o e obeys (failing is f) = let same : Errno.EIO ≡ e = cc is in subst (λ g. LeftByRefusal S g T) same (obeys.failed T f).0
 
-pub chosen_objects : (S T : State) (ends : Bool) (o : Outcome) (reply : Reply) → Obeys S ends o → Chosen S o reply T → KeepsObjects S T
-chosen_objects S T ends o reply obeys (own e f) = subst (KeepsObjects S) (sym f) obeys.objects
-chosen_objects S T ends o reply obeys (lacking_memory e may_lack f) = same_objects S T (ap (λ R. State.objects R) f)
-chosen_objects S T ends o reply obeys (failing e f) = (obeys.failed T f).1
+pub chosen_objects : (S T : State) (may : May) (o : Outcome) (reply : Reply) → Obeys S may o → Chosen S o reply T → KeepsObjects S T
+chosen_objects S T may o reply obeys (own e f) = subst (KeepsObjects S) (sym f) obeys.objects
+chosen_objects S T may o reply obeys (lacking_memory e may_lack f) = same_objects S T (ap (λ R. State.objects R) f)
+chosen_objects S T may o reply obeys (failing e f) = (obeys.failed T f).1
 
 -- So a step makes such changes, and then all goes that has to.
 pub step_reached : (S T : State) (p tag : ℕ) (request : Request) (reply : Reply) (gone : List ℕ) → Step S p tag request reply gone T →
-    (U : State) × Reaches S (changes_lives request) U × (gone ≡ released U) × (T ≡ settled U)
+    (U : State) × Reaches S (may_change request) U × (gone ≡ released U) × (T ≡ settled U)
 unfolding Step
-step_reached S T p tag request reply gone s = (s.0, chosen_reached S s.0 (changes_lives request) (outcome S p tag request) reply (each_obeys S p tag request) s.1, s.2, s.3)
+step_reached S T p tag request reply gone s = (s.0, chosen_reached S s.0 (may_change request) (outcome S p tag request) reply (each_obeys S p tag request) s.1, s.2, s.3)

@@ -17,7 +17,7 @@ use Rattle.ux_model.proofs.Fronts.{front_is_legal}
 use Rattle.ux_model.proofs.OnePlace.{same_at}
 use Rattle.ux_model.proofs.Induction.{IsKept, kept_throughout, take_past, take_next}
 use Rattle.ux_model.proofs.Settling.{closed_numbers, object_left}
-use Rattle.ux_model.proofs.Reaching.{changes_lives, Reaches, still, process_changed, process_forked, description_made, peers_made, connection_made, description_changed, object_changed, paths_taken, path_bound, name_bound, turned_off}
+use Rattle.ux_model.proofs.Reaching.{May, may_change, Reaches, still, process_changed, process_forked, description_made, peers_made, connection_made, description_changed, object_changed, paths_taken, path_bound, name_bound, turned_off}
 use Rattle.ux_model.proofs.Calls.{step_reached}
 use Rattle.ux_model.proofs.Dangling.{nothing_dangles}
 
@@ -30,19 +30,19 @@ there S o = cond (is_some (place S.objects o)) 1 0
 abbrev SameThere : State → State → Type 0
 SameThere S T = (o : ℕ) → is_some (place T.objects o) ≡ is_some (place S.objects o)
 
-reached_there : (S : State) (ends : Bool) (T : State) → Reaches S ends T → SameThere S T
-reached_there S ends T still o = refl
-reached_there S ends T (process_changed {T = U} i P Q r h names kept same) o = reached_there S ends U r o
-reached_there S ends T (process_forked {T = U} i P r h makes) o = reached_there S ends U r o
-reached_there S ends T (description_made {T = U} D r leads nothing bounds) o = reached_there S ends U r o
-reached_there S ends T (peers_made {T = U} D E r peers) o = reached_there S ends U r o
-reached_there S ends T (connection_made {T = U} d l cred listener_cred s listener r client free there) o = reached_there S ends U r o
-reached_there S ends T (description_changed {T = U} d x r keeps) o = reached_there S ends U r o
-reached_there S ends T (object_changed {T = U} n old new r h same) o = same_at is_some U.objects n o (Some new) (sym (ap is_some h)) ∙ reached_there S ends U r o
-reached_there S ends T (paths_taken {T = U} keep r) o = reached_there S ends U r o
-reached_there S ends T (path_bound {T = U} name d r) o = reached_there S ends U r o
-reached_there S ends T (name_bound {T = U} name d r shown) o = reached_there S ends U r o
-reached_there S ends T (turned_off {T = U} r) o = reached_there S ends U r o
+reached_there : (S : State) (may : May) (T : State) → Reaches S may T → SameThere S T
+reached_there S may T still o = refl
+reached_there S may T (process_changed {T = U} i P Q r h names kept same) o = reached_there S may U r o
+reached_there S may T (process_forked {T = U} i P r h makes) o = reached_there S may U r o
+reached_there S may T (description_made {T = U} D r leads nothing bounds) o = reached_there S may U r o
+reached_there S may T (peers_made {T = U} D E r peers) o = reached_there S may U r o
+reached_there S may T (connection_made {T = U} d l cred listener_cred s listener r client free there) o = reached_there S may U r o
+reached_there S may T (description_changed {T = U} d x r keeps) o = reached_there S may U r o
+reached_there S may T (object_changed {T = U} n old new r h same) o = same_at is_some U.objects n o (Some new) (sym (ap is_some h)) ∙ reached_there S may U r o
+reached_there S may T (paths_taken {T = U} keep r) o = reached_there S may U r o
+reached_there S may T (path_bound {T = U} name d r) o = reached_there S may U r o
+reached_there S may T (name_bound {T = U} name d r shown) o = reached_there S may U r o
+reached_there S may T (turned_off {T = U} r) o = reached_there S may U r o
 
 -- ---- one that is released is no longer there
 
@@ -115,7 +115,7 @@ step_there S T p tag o e step =
     let gone : times o e.released ≡ times o (released r.0) = ap (times o) r.2 in
     let left : there T o ≡ there (settled r.0) o = ap (λ (R : State). there R o) r.3 in
     let moved = released_there r.0 o in
-    let same : there r.0 o ≡ there S o = ap (λ b. cond {A = ℕ} b 1 0) (reached_there S (changes_lives e.request) r.0 r.1 o) in
+    let same : there r.0 o ≡ there S o = ap (λ b. cond {A = ℕ} b 1 0) (reached_there S (may_change e.request) r.0 r.1 o) in
     omega (arith, gone, left, moved, same)
 
 -- ---- over a history

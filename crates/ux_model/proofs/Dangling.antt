@@ -17,7 +17,7 @@ use Rattle.ux_model.specs.Boot.{is_open, IsBootState}
 use Rattle.ux_model.specs.Peers.{Paired}
 use Rattle.ux_model.specs.History.{replay, Chain, no_call, another_call, IsLegal}
 use Rattle.ux_model.specs.Invariants.{pends_at_all, IsWhole, WholeAfterAnyCalls, NothingDangles}
-use Rattle.ux_model.proofs.Reaching.{changes_lives}
+use Rattle.ux_model.proofs.Reaching.{may_change}
 use Rattle.ux_model.proofs.Settling.{numbers_from, paths_count, none_left, chain_settled}
 use Rattle.ux_model.proofs.Induction.{IsKept, kept_throughout}
 use Rattle.ux_model.proofs.Sound.{IsSound, name_in}
@@ -101,7 +101,7 @@ boot_sound boot boots = record {
 step_sound : (S T : State) (p tag : ℕ) (request : Request) (reply : Reply) (gone : List ℕ) → IsSound S → Step S p tag request reply gone T → IsSound T
 step_sound S T p tag request reply gone sound step =
     let r = step_reached S T p tag request reply gone step in
-    subst IsSound (sym r.3) (settled_sound r.0 (reached_sound S (changes_lives request) r.0 sound r.1))
+    subst IsSound (sym r.3) (settled_sound r.0 (reached_sound S (may_change request) r.0 sound r.1))
 
 chain_sound : (boot T : State) → IsBootState boot → Chain boot T → IsSound T
 chain_sound boot T boots no_call = boot_sound boot boots

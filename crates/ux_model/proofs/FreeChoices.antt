@@ -1,5 +1,5 @@
 -- The two free choices: which calls never lack memory, and what a failure reports.
-use Rattle.std.proofs.Common.{◌≡◌, ◌⊎◌, inl, inr, ⊎_elim, ℕ, ◌+◌, ◌==◌, Bool, true, false, ◌&&◌, not, if◌then◌else◌, List, Option, Some, None, refl, ap, sym, subst, ◌∙◌, arith}
+use Rattle.std.proofs.Common.{◌≡◌, ◌⊎◌, inl, inr, ⊎_elim, ℕ, ◌+◌, ◌==◌, Bool, true, false, ◌&&◌, not, if◌then◌else◌, List, Option, Some, None, refl, ap, sym, subst, ◌∙◌, arith, ◌||◌}
 use Rattle.std.specs.Prelude.{ℤ, pos, negsuc, ◌+ℤ◌, nat_lt, is_some, is_none}
 use Rattle.std.proofs.lemmas.Bool.{cases_eq, ne_eqb, and_right, or_parts}
 use Rattle.std.proofs.lemmas.List.{get_or-set_same, get_or-set_other}
@@ -20,12 +20,13 @@ use Rattle.ux_model.specs.Naming.{unlink}
 use Rattle.ux_model.specs.Connecting.{listen, shutdown}
 use Rattle.ux_model.specs.Options.{get_opt, tell_option, tell_cred, may_limit, set_opt}
 use Rattle.ux_model.specs.Readiness.{poll}
+use Rattle.ux_model.specs.Users.{no_id, may_become, set_ids}
 use Rattle.ux_model.specs.Forking.{exec}
 use Rattle.ux_model.specs.Closing.{close, exit, off}
 use Rattle.ux_model.specs.Step.{Step, outcome, lacks_memory, fails}
 use Rattle.ux_model.specs.Invariants.{OneMoreFailure}
 use Rattle.ux_model.specs.FreeChoices.{takes_no_memory, NeverLacksMemory, HasFailed, FailedAsOften, TellsFailure, FailsWhereAnObjectFailed}
-use Rattle.ux_model.proofs.Reaching.{changes_lives}
+use Rattle.ux_model.proofs.Reaching.{May, may_change}
 use Rattle.ux_model.proofs.Walk.{either, maybe, by_target, found, found_socket}
 use Rattle.ux_model.proofs.ChangedPlaces.{place_within}
 use Rattle.ux_model.proofs.Settling.{object_left}
@@ -107,6 +108,11 @@ exit_spares : (S : State) (p : ℕ) → IsSparing (exit S p)
 unfolding exit
 exit_spares S p = maybe IsSparing (process_at S p) _ _ refl (λ P h. refl)
 
+ids_spare : (S : State) (p uid gid : ℕ) → IsSparing (set_ids S p uid gid)
+unfolding set_ids
+ids_spare S p uid gid = maybe IsSparing (process_at S p) _ _ refl
+    (λ P h. either IsSparing ((uid == no_id) || (gid == no_id)) _ _ (λ b. refl) (λ b. either IsSparing (not (may_become uid gid P)) _ _ (λ c. refl) (λ c. refl)))
+
 exec_spares : (S : State) (p : ℕ) → IsSparing (exec S p)
 unfolding exec
 exec_spares S p = maybe IsSparing (process_at S p) _ _ refl (λ P h. refl)
@@ -144,6 +150,7 @@ each_spares S p tag (Request.GetPeerName fd) h = absurd (cc h)
 each_spares S p tag (Request.SendMsg fd addr bytes control flags) h = absurd (cc h)
 each_spares S p tag (Request.RecvMsg fd n space flags) h = absurd (cc h)
 each_spares S p tag (Request.Poll fd) h = poll_spares S p fd
+each_spares S p tag (Request.SetIds uid gid) h = ids_spare S p uid gid
 each_spares S p tag Request.Fork h = absurd (cc h)
 each_spares S p tag Request.Exec h = exec_spares S p
 each_spares S p tag Request.Exit h = exit_spares S p
@@ -172,10 +179,10 @@ HasOneFailed S U reply = (reply ≡ Reply.Err Errno.EIO) × OneMoreFailure S U �
 abbrev HasNoneFailed : State → State → Reply → Type 0
 HasNoneFailed S U reply = (fails reply ≡ false) × FailAlike S U
 
-which : (S U : State) (ends : Bool) (o : Outcome) (reply : Reply) → Obeys S ends o → Chosen S o reply U → HasOneFailed S U reply ⊎ HasNoneFailed S U reply
-which S U ends o reply obeys (own e f) = inr (ap fails e ∙ (own_tells o obeys.own_reply).1, λ n. ap (λ (R : State). failures (place R.objects n)) f ∙ obeys.alike n)
-which S U ends o reply obeys (lacking_memory e may f) = inr (ap fails e, λ n. ap (λ (R : State). failures (place R.objects n)) f)
-which S U ends o reply obeys (failing e f) = let left = obeys.failed U f in inl (e, left.0, left.1)
+which : (S U : State) (may : May) (o : Outcome) (reply : Reply) → Obeys S may o → Chosen S o reply U → HasOneFailed S U reply ⊎ HasNoneFailed S U reply
+which S U may o reply obeys (own e f) = inr (ap fails e ∙ (own_tells o obeys.own_reply).1, λ n. ap (λ (R : State). failures (place R.objects n)) f ∙ obeys.alike n)
+which S U may o reply obeys (lacking_memory e lacks f) = inr (ap fails e, λ n. ap (λ (R : State). failures (place R.objects n)) f)
+which S U may o reply obeys (failing e f) = let left = obeys.failed U f in inl (e, left.0, left.1)
 
 -- ---- and when the call has ended
 
@@ -272,4 +279,4 @@ fails_where_an_object_failed S T p tag request reply gone s =
     subst (TellsFailure S reply) (sym s.3) (⊎_elim {C = TellsFailure S reply (settled s.0)}
     (one_tells S s.0 reply)
     (none_tells S s.0 reply)
-    (which S s.0 (changes_lives request) (outcome S p tag request) reply (each_obeys S p tag request) s.1))
+    (which S s.0 (may_change request) (outcome S p tag request) reply (each_obeys S p tag request) s.1))

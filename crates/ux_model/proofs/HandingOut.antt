@@ -11,7 +11,7 @@ use Rattle.ux_model.specs.Release.{without, is_unreferenced, has_unreferenced, d
 use Rattle.ux_model.proofs.Losses.{target_after_loss, description_after_loss}
 use Rattle.ux_model.specs.Step.{outcome}
 use Rattle.ux_model.specs.HandingOut.{IsHandedOut, HandsOutWhatWasHeld}
-use Rattle.ux_model.proofs.Reaching.{changes_lives}
+use Rattle.ux_model.proofs.Reaching.{may_change}
 use Rattle.ux_model.proofs.ReleaseLaws.{description_at-without}
 use Rattle.ux_model.proofs.Named.{entry_counts, opening_counts}
 use Rattle.ux_model.proofs.HeldOpen.{IsHeldOpen, KeepsObjects}
@@ -100,4 +100,4 @@ all_handed S T kept = each_closed (IsHandedOut S) (λ o. orefs (drop_unreference
 
 pub handed_out : HandsOutWhatWasHeld
 handed_out S T p tag request reply chosen =
-    all_handed S T (chosen_objects S T (changes_lives request) (outcome S p tag request) reply (each_obeys S p tag request) chosen)
+    all_handed S T (chosen_objects S T (may_change request) (outcome S p tag request) reply (each_obeys S p tag request) chosen)

@@ -71,3 +71,4 @@ mod ClosingExample
 pub mod ObjectExamples
 mod NameExamples
 mod ForkingExamples
+mod UserExamples

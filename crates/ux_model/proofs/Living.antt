@@ -19,7 +19,7 @@ use Rattle.ux_model.specs.Step.{Step, outcome, lacks_memory, fails}
 use Rattle.ux_model.specs.History.{has_live, live_count, is_exit, has_exited, makes, makes_one, was_made, is_allowed, ExitAndForkAlone, LiveOnesCounted, ForkAloneMakes, ForkTellsTheNext, LivesUntilExit}
 use Rattle.ux_model.proofs.Induction.{IsKept, kept_throughout}
 use Rattle.ux_model.proofs.Walk.{either, maybe}
-use Rattle.ux_model.proofs.Reaching.{Reaches, still, process_changed, process_forked, description_made, peers_made, connection_made, description_changed, object_changed, paths_taken, path_bound, name_bound, turned_off}
+use Rattle.ux_model.proofs.Reaching.{May, may_change, Reaches, still, process_changed, process_forked, description_made, peers_made, connection_made, description_changed, object_changed, paths_taken, path_bound, name_bound, turned_off}
 use Rattle.ux_model.proofs.Calls.{each_obeys, chosen_reached}
 
 -- for each process, whether it has exited
@@ -67,20 +67,20 @@ exits_turned [] = refl
 exits_turned (P ∷ Ps) = ap (λ l. P.exited ∷ l) (exits_turned Ps)
 
 -- every call but an exit and a fork
-exits_kept : (S T : State) → Reaches S false T → exits T ≡ exits S
-exits_kept S T still = refl
-exits_kept S T (process_changed {T = U} i P Q r h names kept same) =
-    exits_set U.processes i Q ∙ ap (set (exits U) i) (kept refl) ∙ set_same U.processes i P h ∙ exits_kept S U r
-exits_kept S T (process_forked {T = U} i P r h makes) = absurd (cc makes)
-exits_kept S T (description_made {T = U} D r leads nothing bounds) = exits_kept S U r
-exits_kept S T (peers_made {T = U} D E r peers) = exits_kept S U r
-exits_kept S T (connection_made {T = U} d l cred listener_cred s listener r client free there) = exits_kept S U r
-exits_kept S T (description_changed {T = U} d x r keeps) = exits_kept S U r
-exits_kept S T (object_changed {T = U} o old new r h same) = exits_kept S U r
-exits_kept S T (paths_taken {T = U} keep r) = exits_kept S U r
-exits_kept S T (path_bound {T = U} name d r) = exits_kept S U r
-exits_kept S T (name_bound {T = U} name d r shown) = exits_kept S U r
-exits_kept S T (turned_off {T = U} r) = exits_turned U.processes ∙ exits_kept S U r
+exits_kept : (S : State) (may : May) → may.lives ≡ false → (T : State) → Reaches S may T → exits T ≡ exits S
+exits_kept S may calm T still = refl
+exits_kept S may calm T (process_changed {T = U} i P Q r h names kept same) =
+    exits_set U.processes i Q ∙ ap (set (exits U) i) (kept calm) ∙ set_same U.processes i P h ∙ exits_kept S may calm U r
+exits_kept S may calm T (process_forked {T = U} i P r h makes) = absurd (cc (makes, calm))
+exits_kept S may calm T (description_made {T = U} D r leads nothing bounds) = exits_kept S may calm U r
+exits_kept S may calm T (peers_made {T = U} D E r peers) = exits_kept S may calm U r
+exits_kept S may calm T (connection_made {T = U} d l cred listener_cred s listener r client free there) = exits_kept S may calm U r
+exits_kept S may calm T (description_changed {T = U} d x r keeps) = exits_kept S may calm U r
+exits_kept S may calm T (object_changed {T = U} o old new r h same) = exits_kept S may calm U r
+exits_kept S may calm T (paths_taken {T = U} keep r) = exits_kept S may calm U r
+exits_kept S may calm T (path_bound {T = U} name d r) = exits_kept S may calm U r
+exits_kept S may calm T (name_bound {T = U} name d r shown) = exits_kept S may calm U r
+exits_kept S may calm T (turned_off {T = U} r) = exits_turned U.processes ∙ exits_kept S may calm U r
 
 -- an exit ends its process
 set_past : (Ps : List Process) (i : ℕ) → slice_get Ps i ≡ None → set (map (λ P. Process.exited P) Ps) i true ≡ map (λ P. Process.exited P) Ps
@@ -282,7 +282,7 @@ unfolding outcome
 after_call S p tag Request.Exit reply T c = exit_after S p T reply c
 after_call S p tag Request.Fork reply T c = fork_after S p T reply c
 after_call S p tag request reply T c =
-    kept_after S p request reply (exits T) (record { ends = refl; makes_it = λ q. refl; makes_any = refl }) (exits_kept S T (chosen_reached S T _ _ reply (each_obeys S p tag request) c))
+    kept_after S p request reply (exits T) (record { ends = refl; makes_it = λ q. refl; makes_any = refl }) (exits_kept S (may_change request) refl T (chosen_reached S T _ _ reply (each_obeys S p tag request) c))
 
 step_keeps : (S T : State) (p tag : ℕ) (request : Request) (reply : Reply) (gone : List ℕ) → Step S p tag request reply gone T → After S p request reply (exits T)
 unfolding Step settled drop_unreferenced

@@ -31,7 +31,7 @@ use Rattle.ux_model.proofs.Bounds.{HasBounds, IsBounded, AreBounded, socket_boun
 use Rattle.ux_model.proofs.Named.{entry_counts, socket_counted}
 use Rattle.ux_model.proofs.Walk.{either, maybe, by_queue, found_socket, found_named}
 use Rattle.ux_model.proofs.NameCalls.{same_descriptions, association_reached}
-use Rattle.ux_model.proofs.Reaching.{Reaches, still, KeepsSocket, queue_changed, pending_changed, NamesWhatIsThere, put_names, same_names, with_table_reached, with_socket_reached}
+use Rattle.ux_model.proofs.Reaching.{tables_alone, Reaches, still, KeepsSocket, queue_changed, pending_changed, NamesWhatIsThere, put_names, same_names, with_table_reached, with_socket_reached}
 use Rattle.ux_model.proofs.Obeying.{Call, refuses, answers}
 use Rattle.ux_model.proofs.HeldOpen.{same_objects, with_table_objects}
 
@@ -384,7 +384,7 @@ front_obeys S p d s asked m ms h q = answers refl refl refl (same (asks_peek ask
     same true = with_table_objects S p _
     same false = with_table_objects S p _
 
-    delivered : Reaches S false T
+    delivered : Reaches S tables_alone T
     delivered = with_table_reached S p _ still (λ sound. installed_names S (table_of S p) (table_of S p) (asks_cloexec_rights asked.flags) _ front.rights (front_there S d asked.n s m ms h q sound) (same_names S (table_of S p)))
 
     same_as : (t : Socket) → socket_at T d ≡ Some t → s ≡ t
@@ -410,7 +410,7 @@ front_obeys S p d s asked m ms h q = answers refl refl refl (same (asks_peek ask
         let before : HasBounds s.kind s.name s.queue_limit (m ∷ ms) = subst (λ (l : List Message). HasBounds s.kind s.name s.queue_limit l) q (subst IsBounded (sym same) own) in
         subst (λ (u : Socket). HasBounds u.kind u.name u.queue_limit front.rest) same (rest_bounded asked.n s m ms before)
 
-    peeked : (b : Bool) → Reaches S false (if b then T else with_socket_by T d (with_queue front.rest))
+    peeked : (b : Bool) → Reaches S tables_alone (if b then T else with_socket_by T d (with_queue front.rest))
     peeked true = delivered
     peeked false = with_socket_reached T d (with_queue front.rest) delivered (λ sound t here. queue_changed T d t front.rest t.reset (λ k gone. fewer t here k) (fewer_flying t here) (still_bounded t here))
 

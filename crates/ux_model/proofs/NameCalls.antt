@@ -24,7 +24,7 @@ use Rattle.ux_model.proofs.Sockets.{peer_left, end_count, phase_left, peer_assoc
 use Rattle.ux_model.proofs.Bounds.{new_bounded, free_short}
 use Rattle.ux_model.proofs.Sound.{IsSound, unaccepted, target_name, name_in}
 use Rattle.ux_model.proofs.Walk.{either, maybe, found_socket, found_named, found_peer}
-use Rattle.ux_model.proofs.Reaching.{Reaches, still, description_made, connection_made, description_changed, path_bound, name_bound, KeepsPlace, KeepsTarget, KeepsSocket, kept_place, kept_socket, same_target, nothing_there, put_names, same_names, with_table_reached, with_socket_reached, some_pushed}
+use Rattle.ux_model.proofs.Reaching.{tables_alone, Reaches, still, description_made, connection_made, description_changed, path_bound, name_bound, KeepsPlace, KeepsTarget, KeepsSocket, kept_place, kept_socket, same_target, nothing_there, put_names, same_names, with_table_reached, with_socket_reached, some_pushed}
 use Rattle.ux_model.proofs.HeldOpen.{with_table_objects}
 use Rattle.ux_model.proofs.Obeying.{Call, refuses, answers}
 
@@ -45,7 +45,7 @@ same_socket S d s t h here = let same : Some s ≡ Some t = sym h ∙ here in cc
 
 -- a socket without a name gets one
 name_given : (S : State) (d : ℕ) (s : Socket) (name : Addr) → socket_at S d ≡ Some s → is_unnamed_addr s.name ≡ true → name_bytes name ≤ name_limit →
-    Reaches S false (with_socket_by S d (with_name name))
+    Reaches S tables_alone (with_socket_by S d (with_name name))
 name_given S d s name h unnamed short = with_socket_reached S d (with_name name) still (λ sound t here. record {
   holds = λ k gone. omega arith;
   peer = refl;
@@ -69,7 +69,7 @@ shows name (Some D) s h = by_target D.target h
     by_target (to_socket u) h = refl
 
 pub abstract_given : (S : State) (d : ℕ) (s : Socket) (name : Name) → socket_at S d ≡ Some s → is_unnamed_addr s.name ≡ true → length name ≤ name_limit →
-    Reaches S false (record (with_socket_by S d (with_name (Addr.Abstract name))) { abstract_names = S.abstract_names ++ (name, d) ∷ [] })
+    Reaches S tables_alone (record (with_socket_by S d (with_name (Addr.Abstract name))) { abstract_names = S.abstract_names ++ (name, d) ∷ [] })
 abstract_given S d s name h unnamed short = name_bound name d (name_given S d s (Addr.Abstract name) h unnamed short)
     (ap name_in (changed_here S.descriptions d (changed (with_name (Addr.Abstract name)))) ∙ shows (Addr.Abstract name) (description_at S d) s h)
 
@@ -154,7 +154,7 @@ association_keeps S n s target = record {
   named = λ a has. has;
 }
 
-pub association_reached : (S : State) (d : ℕ) (target : Option ℕ) → Reaches S false (with_socket_by S d (with_association target))
+pub association_reached : (S : State) (d : ℕ) (target : Option ℕ) → Reaches S tables_alone (with_socket_by S d (with_association target))
 association_reached S d target = with_socket_reached S d (with_association target) still (λ sound s here. association_keeps S d s target)
 
 datagram_obeys : (S : State) (d : ℕ) (kind : SockType) (addr : Addr) → Call S (connect_datagram S d kind addr)
@@ -265,7 +265,7 @@ same_descriptions S p table = go p (process_at S p)
     go zero (Some P) = refl
     go (suc i) (Some P) = refl
 
-accepted_reached : (S : State) (p n d e : ℕ) (flags : OpenFlags) (s : Socket) → socket_at S d ≡ Some s → slice_get (pending_ends s.phase) 0 ≡ Some e → Reaches S false (with_accepted S (record { process = p; number = n; flags = flags; listener = d; oldest = e }))
+accepted_reached : (S : State) (p n d e : ℕ) (flags : OpenFlags) (s : Socket) → socket_at S d ≡ Some s → slice_get (pending_ends s.phase) 0 ≡ Some e → Reaches S tables_alone (with_accepted S (record { process = p; number = n; flags = flags; listener = d; oldest = e }))
 accepted_reached S p n d e flags s h first =
     let T : State = with_table S p (filled (table_of S p) n (descriptor flags e)) in
     let U : State = with_socket_by T d without_first_end in

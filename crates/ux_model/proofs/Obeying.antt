@@ -11,7 +11,7 @@ use Rattle.ux_model.specs.Outcome.{Outcome, refuse}
 use Rattle.ux_model.specs.FileObjects.{or_failing}
 use Rattle.ux_model.specs.Step.{lacks_memory, fails}
 use Rattle.ux_model.specs.Invariants.{OneMoreFailure, LeftByRefusal}
-use Rattle.ux_model.proofs.Reaching.{Reaches, still}
+use Rattle.ux_model.proofs.Reaching.{May, tables_alone, Reaches, still}
 use Rattle.ux_model.proofs.HeldOpen.{IsHeldOpen, KeepsObjects, same_objects, held_changed}
 
 -- how often a file object that is there has failed
@@ -30,19 +30,19 @@ abbrev is_error : Reply → Bool
 is_error (Reply.Err e) = true
 is_error _ = false
 
--- of an outcome in S; `ends` says whether the call may end a process
-pub record Obeys (S : State) (ends : Bool) (o : Outcome) : Type 0 where
+-- of an outcome in S
+pub record Obeys (S : State) (may : May) (o : Outcome) : Type 0 where
   pub own_reply : tells_choice o.reply ≡ false
   pub refused : (e : Errno) → o.reply ≡ Reply.Err e → LeftByRefusal S e o.next
   pub failed : (T : State) → o.failure ≡ Some T → OneMoreFailure S T × KeepsObjects S T
-  pub reached : Reaches S ends o.next
+  pub reached : Reaches S may o.next
   pub objects : KeepsObjects S o.next
   pub alike : FailAlike S o.next
 
 -- ---- by what an outcome is made of
 
-pub refuses : {S : State} {ends : Bool} {e : Errno} → tells_choice (Reply.Err e) ≡ false → LeftByRefusal S e S → Obeys S ends (refuse S e)
-refuses {S} {ends} {e} own_one left = record {
+pub refuses : {S : State} {may : May} {e : Errno} → tells_choice (Reply.Err e) ≡ false → LeftByRefusal S e S → Obeys S may (refuse S e)
+refuses {S} {may} {e} own_one left = record {
   own_reply = own_one;
   refused = λ f h. let same : e ≡ f = cc h in subst (λ g. LeftByRefusal S g S) same left;
   failed = λ T h. absurd (cc h);
@@ -52,8 +52,8 @@ refuses {S} {ends} {e} own_one left = record {
 }
 
 -- an answer that may leave a file object changed, if that is held open then
-pub uses : {S : State} {ends : Bool} {o : Outcome} → tells_choice o.reply ≡ false → is_error o.reply ≡ false → o.failure ≡ None → KeepsObjects S o.next → FailAlike S o.next → Reaches S ends o.next → Obeys S ends o
-uses {S} {ends} {o} own_one told n kept alike r = record {
+pub uses : {S : State} {may : May} {o : Outcome} → tells_choice o.reply ≡ false → is_error o.reply ≡ false → o.failure ≡ None → KeepsObjects S o.next → FailAlike S o.next → Reaches S may o.next → Obeys S may o
+uses {S} {may} {o} own_one told n kept alike r = record {
   own_reply = own_one;
   refused = λ e h. let one : is_error o.reply ≡ true = ap is_error h in absurd (cc (one, told));
   failed = λ T h. absurd (cc (h, n));
@@ -63,12 +63,12 @@ uses {S} {ends} {o} own_one told n kept alike r = record {
 }
 
 -- and one that leaves all file objects as they were
-pub answers : {S : State} {ends : Bool} {o : Outcome} → tells_choice o.reply ≡ false → is_error o.reply ≡ false → o.failure ≡ None → o.next.objects ≡ S.objects → Reaches S ends o.next → Obeys S ends o
-answers {S} {ends} {o} own_one told n same r = uses own_one told n (same_objects S o.next same) (λ k. ap (λ (os : List (Option View)). failures (place os k)) same) r
+pub answers : {S : State} {may : May} {o : Outcome} → tells_choice o.reply ≡ false → is_error o.reply ≡ false → o.failure ≡ None → o.next.objects ≡ S.objects → Reaches S may o.next → Obeys S may o
+answers {S} {may} {o} own_one told n same r = uses own_one told n (same_objects S o.next same) (λ k. ap (λ (os : List (Option View)). failures (place os k)) same) r
 
 -- a call of a file object may leave what a failure does
-pub may_fail : (S : State) (ends : Bool) (o : ℕ) (view : View) (x : Outcome) → IsHeldOpen S o → place S.objects o ≡ Some view → Obeys S ends x → Obeys S ends (or_failing S o view x)
-may_fail S ends o view x held there obeys = record { own_reply = obeys.own_reply; refused = obeys.refused; failed = at_failure (can_fail view); reached = obeys.reached; objects = obeys.objects; alike = obeys.alike }
+pub may_fail : (S : State) (may : May) (o : ℕ) (view : View) (x : Outcome) → IsHeldOpen S o → place S.objects o ≡ Some view → Obeys S may x → Obeys S may (or_failing S o view x)
+may_fail S may o view x held there obeys = record { own_reply = obeys.own_reply; refused = obeys.refused; failed = at_failure (can_fail view); reached = obeys.reached; objects = obeys.objects; alike = obeys.alike }
   where
     at_failure : (b : Bool) (T : State) → (if b then Some (with_object S o (after_failure view)) else None) ≡ Some T → OneMoreFailure S T × KeepsObjects S T
     at_failure true T h =
@@ -78,9 +78,9 @@ may_fail S ends o view x held there obeys = record { own_reply = obeys.own_reply
 
 -- ---- a call
 
--- one that ends no process
+-- one that changes of processes their tables alone
 abbrev pub Call : State → Outcome → Type 0
-Call S = Obeys S false
+Call S = Obeys S tables_alone
 
 pub there_of : (S : State) (d : ℕ) (D : Description) → description_at S d ≡ Some D → is_some (description_at S d) ≡ true
 there_of S d D h = ap is_some h

@@ -13,7 +13,7 @@ use Rattle.ux_model.specs.Readiness.{poll}
 use Rattle.ux_model.proofs.Walk.{either, maybe, found_socket}
 use Rattle.ux_model.proofs.Bounds.{free_short}
 use Rattle.ux_model.proofs.NameCalls.{first_holds, abstract_given}
-use Rattle.ux_model.proofs.Reaching.{Reaches, still, KeepsSocket, pending_changed, with_socket_reached}
+use Rattle.ux_model.proofs.Reaching.{tables_alone, Reaches, still, KeepsSocket, pending_changed, with_socket_reached}
 use Rattle.ux_model.proofs.Obeying.{Call, refuses, answers}
 
 -- ---- getsockopt
@@ -39,7 +39,7 @@ get_opt_obeys S p fd opt = found_socket (Call S) S p fd _ (refuses refl refl) (r
 passcred_keeps : (S : State) (d : ℕ) (s : Socket) (on : Bool) → KeepsSocket S d s (with_passcred on s)
 passcred_keeps S d s on = record { holds = λ k gone. omega arith; peer = refl; pending = λ k. omega arith; waits = λ w. omega arith; flies = λ u limit are within. omega (arith, within); bounds = λ all own. own; named = λ a has. has }
 
-passcred_set : {S : State} {T : State} (d : ℕ) (on : Bool) → Reaches S false T → Reaches S false (with_socket_by T d (with_passcred on))
+passcred_set : {S : State} {T : State} (d : ℕ) (on : Bool) → Reaches S tables_alone T → Reaches S tables_alone (with_socket_by T d (with_passcred on))
 passcred_set {S} {T} d on before = with_socket_reached T d (with_passcred on) before (λ sound t here. passcred_keeps T d t on)
 
 named_obeys : (S : State) (d : ℕ) (s : Socket) → socket_at S d ≡ Some s → is_unnamed_addr s.name ≡ true → Call S (pass_cred_named S d)

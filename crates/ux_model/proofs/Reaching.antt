@@ -22,6 +22,7 @@ use Rattle.ux_model.specs.Flight.{rights_sent_by, flying_at, flying_in, in_fligh
 use Rattle.ux_model.specs.FlightLaws.{AreLimited}
 use Rattle.ux_model.specs.Connecting.{with_connection}
 use Rattle.ux_model.specs.Closing.{with_nothing_open}
+use Rattle.ux_model.specs.Users.{with_ids}
 use Rattle.ux_model.specs.Forking.{child_of}
 use Rattle.ux_model.specs.Invariants.{pends, pends_at_all}
 use Rattle.ux_model.proofs.Named.{table_in}
@@ -32,6 +33,22 @@ use Rattle.ux_model.proofs.Bounds.{HasBounds, IsBounded, IsBoundedTarget, IsBoun
 pub record NamesWhatIsThere (S : State) (old new : List (Option Descriptor)) : Type 0 where
   pub counts : (d : ℕ) → is_some (description_at S d) ≡ false → table_refs d new ≤ table_refs d old
   pub long : length new ≤ length old
+
+-- what of its process a call may change beside the table, or make anew
+pub record May : Type 0 where
+  -- who lives: it may end a process, or make one
+  pub lives : Bool
+  -- who it runs as
+  pub users : Bool
+
+abbrev pub tables_alone : May
+tables_alone = record { lives = false; users = false }
+
+abbrev pub lives_too : May
+lives_too = record { lives = true; users = false }
+
+abbrev pub users_too : May
+users_too = record { lives = false; users = true }
 
 -- a process stays one of the same user, privileged as before
 pub record IsOfSameUser (P Q : Process) : Type 0 where
@@ -68,37 +85,37 @@ pub record ArePeers (d : ℕ) (D E : Description) : Type 0 where
   pub first_bounds : IsBoundedTarget D.target
   pub second_bounds : IsBoundedTarget E.target
 
--- T comes of S by changes of one part each. A condition may use that nothing dangles in S. `ends` says whether it may end or make a process.
-pub data Reaches (S : State) (ends : Bool) : State → Type 0 where
-  still : Reaches S ends S
+-- T comes of S by changes of one part each. A condition may use that nothing dangles in S.
+pub data Reaches (S : State) (may : May) : State → Type 0 where
+  still : Reaches S may S
   -- a process changes, and its table names what is there
-  process_changed : {T : State} (i : ℕ) (P Q : Process) → Reaches S ends T → slice_get T.processes i ≡ Some P → (IsSound S → NamesWhatIsThere T P.table Q.table) →
-      (ends ≡ false → Q.exited ≡ P.exited) → IsOfSameUser P Q → Reaches S ends (record T { processes = set T.processes i Q })
+  process_changed : {T : State} (i : ℕ) (P Q : Process) → Reaches S may T → slice_get T.processes i ≡ Some P → (IsSound S → NamesWhatIsThere T P.table Q.table) →
+      (may.lives ≡ false → Q.exited ≡ P.exited) → (may.users ≡ false → IsOfSameUser P Q) → Reaches S may (record T { processes = set T.processes i Q })
   -- a copy of a process comes to be
-  process_forked : {T : State} (i : ℕ) (P : Process) → Reaches S ends T → slice_get T.processes i ≡ Some P → ends ≡ true → Reaches S ends (with_child T (child_of P))
+  process_forked : {T : State} (i : ℕ) (P : Process) → Reaches S may T → slice_get T.processes i ≡ Some P → may.lives ≡ true → Reaches S may (with_child T (child_of P))
   -- a new description refers to nothing, and leads to a file object that something leads to already, or to a socket without a peer
-  description_made : {T : State} (D : Description) → Reaches S ends T → (IsSound S → (o : ℕ) → leads_to o D.target ≡ true → 0 < orefs T o) → HoldsNothing D → IsBoundedTarget D.target →
-      Reaches S ends (with_new T D)
+  description_made : {T : State} (D : Description) → Reaches S may T → (IsSound S → (o : ℕ) → leads_to o D.target ≡ true → 0 < orefs T o) → HoldsNothing D → IsBoundedTarget D.target →
+      Reaches S may (with_new T D)
   -- two sockets that are connected to one another
-  peers_made : {T : State} (D E : Description) → Reaches S ends T → ArePeers (length T.descriptions) D E → Reaches S ends (with_new (with_new T D) E)
+  peers_made : {T : State} (D E : Description) → Reaches S may T → ArePeers (length T.descriptions) D E → Reaches S may (with_new (with_new T D) E)
   -- a socket without a peer is connected to a new end, which waits at another
-  connection_made : {T : State} (d l : ℕ) (cred listener_cred : Cred) (s listener : Socket) → Reaches S ends T → socket_at T d ≡ Some s → peer_of s.phase ≡ None →
-      socket_at T l ≡ Some listener → Reaches S ends (with_connection T (record { client = d; client_cred = cred; listener = l; socket = listener; listener_cred = listener_cred }))
+  connection_made : {T : State} (d l : ℕ) (cred listener_cred : Cred) (s listener : Socket) → Reaches S may T → socket_at T d ≡ Some s → peer_of s.phase ≡ None →
+      socket_at T l ≡ Some listener → Reaches S may (with_connection T (record { client = d; client_cred = cred; listener = l; socket = listener; listener_cred = listener_cred }))
   -- what stands in one place changes
-  description_changed : {T : State} (d : ℕ) (x : Option Description) → Reaches S ends T → (IsSound S → KeepsPlace T d (description_at T d) x) →
-      Reaches S ends (record T { descriptions = set T.descriptions d x })
+  description_changed : {T : State} (d : ℕ) (x : Option Description) → Reaches S may T → (IsSound S → KeepsPlace T d (description_at T d) x) →
+      Reaches S may (record T { descriptions = set T.descriptions d x })
   -- a file object that is there changes, and stays open
-  object_changed : {T : State} (o : ℕ) (old new : View) → Reaches S ends T → place T.objects o ≡ Some old → new.opened ≡ old.opened → Reaches S ends (with_object T o new)
+  object_changed : {T : State} (o : ℕ) (old new : View) → Reaches S may T → place T.objects o ≡ Some old → new.opened ≡ old.opened → Reaches S may (with_object T o new)
   -- paths are taken away
-  paths_taken : {T : State} (keep : Name × PathTarget → Bool) → Reaches S ends T → Reaches S ends (record T { paths = filter keep T.paths })
+  paths_taken : {T : State} (keep : Name × PathTarget → Bool) → Reaches S may T → Reaches S may (record T { paths = filter keep T.paths })
   -- a path leads to a socket
-  path_bound : {T : State} (name : Name) (d : ℕ) → Reaches S ends T → Reaches S ends (record T { paths = T.paths ++ (name, bound d) ∷ [] })
+  path_bound : {T : State} (name : Name) (d : ℕ) → Reaches S may T → Reaches S may (record T { paths = T.paths ++ (name, bound d) ∷ [] })
   -- a name of the abstract namespace leads to a socket that shows it
-  name_bound : {T : State} (name : Name) (d : ℕ) → Reaches S ends T → name_in (description_at T d) ≡ Some (Addr.Abstract name) →
-      Reaches S ends (record T { abstract_names = T.abstract_names ++ (name, d) ∷ [] })
+  name_bound : {T : State} (name : Name) (d : ℕ) → Reaches S may T → name_in (description_at T d) ≡ Some (Addr.Abstract name) →
+      Reaches S may (record T { abstract_names = T.abstract_names ++ (name, d) ∷ [] })
   -- everything goes but the file objects
-  turned_off : {T : State} → Reaches S ends T →
-      Reaches S ends (record T { descriptions = map (λ D. None) T.descriptions; processes = map with_nothing_open T.processes; paths = []; abstract_names = [] })
+  turned_off : {T : State} → Reaches S may T →
+      Reaches S may (record T { descriptions = map (λ D. None) T.descriptions; processes = map with_nothing_open T.processes; paths = []; abstract_names = [] })
 
 -- ---- tables
 
@@ -246,42 +263,48 @@ pending_changed S n s reset = queue_changed S n s s.queue reset (λ d gone. omeg
 
 -- ---- the changes as calls make them
 
-pub with_table_reached : {S : State} {ends : Bool} (T : State) (p : ℕ) (table : List (Option Descriptor)) → Reaches S ends T → (IsSound S → NamesWhatIsThere T (table_of T p) table) →
-    Reaches S ends (with_table T p table)
-with_table_reached {S} {ends} T zero table r names = r
-with_table_reached {S} {ends} T (suc i) table r names = go (slice_get T.processes i) refl names
+pub with_table_reached : {S : State} {may : May} (T : State) (p : ℕ) (table : List (Option Descriptor)) → Reaches S may T → (IsSound S → NamesWhatIsThere T (table_of T p) table) →
+    Reaches S may (with_table T p table)
+with_table_reached {S} {may} T zero table r names = r
+with_table_reached {S} {may} T (suc i) table r names = go (slice_get T.processes i) refl names
   where
     go : (o : Option Process) → slice_get T.processes i ≡ o → (IsSound S → NamesWhatIsThere T (table_in o) table) →
-        Reaches S ends (elim o as (λ _. State) [ Some P ↦ record T { processes = set T.processes i (record P { table = table }) } | None ↦ T ])
+        Reaches S may (elim o as (λ _. State) [ Some P ↦ record T { processes = set T.processes i (record P { table = table }) } | None ↦ T ])
     go None h names = r
-    go (Some P) h names = process_changed i P (record P { table = table }) r h names (λ k. refl) (record { user = refl; privileged = refl })
+    go (Some P) h names = process_changed i P (record P { table = table }) r h names (λ k. refl) (λ k. record { user = refl; privileged = refl })
 
--- a call that ends or makes a process
-abbrev pub changes_lives : Request → Bool
-changes_lives Request.Exit = true
-changes_lives Request.Fork = true
-changes_lives _ = false
+-- what a call may change
+abbrev pub may_change : Request → May
+may_change (Request.SetIds uid gid) = users_too
+may_change Request.Exit = lives_too
+may_change Request.Fork = lives_too
+may_change _ = tables_alone
 
-pub with_child_reached : {S : State} (T : State) (p : ℕ) (P : Process) → Reaches S true T → process_at T p ≡ Some P → Reaches S true (with_child T (child_of P))
+pub with_child_reached : {S : State} (T : State) (p : ℕ) (P : Process) → Reaches S lives_too T → process_at T p ≡ Some P → Reaches S lives_too (with_child T (child_of P))
 with_child_reached T zero P r h = absurd (cc h)
 with_child_reached T (suc i) P r h = process_forked i P r h refl
 
-pub with_process_reached : {S : State} (T : State) (p : ℕ) (P Q : Process) → Reaches S true T → process_at T p ≡ Some P → ((d : ℕ) → table_refs d Q.table ≡ 0) → length Q.table ≡ length P.table →
-    IsOfSameUser P Q → Reaches S true (with_process T p Q)
+pub with_process_reached : {S : State} (T : State) (p : ℕ) (P Q : Process) → Reaches S lives_too T → process_at T p ≡ Some P → ((d : ℕ) → table_refs d Q.table ≡ 0) → length Q.table ≡ length P.table →
+    IsOfSameUser P Q → Reaches S lives_too (with_process T p Q)
 with_process_reached T zero P Q r h none long same = absurd (cc h)
 with_process_reached T (suc i) P Q r h none long same =
-    process_changed i P Q r h (λ sound. record { counts = λ d gone. let z = none d in omega (arith, z); long = omega (arith, long) }) (λ e. absurd (cc e)) same
+    process_changed i P Q r h (λ sound. record { counts = λ d gone. let z = none d in omega (arith, z); long = omega (arith, long) }) (λ e. absurd (cc e)) (λ e. same)
 
-pub with_description_reached : {S : State} {ends : Bool} (T : State) (d : ℕ) (D E : Description) → Reaches S ends T → description_at T d ≡ Some D → (IsSound S → KeepsTarget T d D.target E.target) →
-    Reaches S ends (with_description T d E)
+pub with_ids_reached : {S : State} (T : State) (p uid gid : ℕ) (P : Process) → Reaches S users_too T → process_at T p ≡ Some P →
+    Reaches S users_too (with_process T p (with_ids uid gid P))
+with_ids_reached T zero uid gid P r h = absurd (cc h)
+with_ids_reached T (suc i) uid gid P r h = process_changed i P (with_ids uid gid P) r h (λ sound. same_names T P.table) (λ e. refl) (λ e. absurd (cc e))
+
+pub with_description_reached : {S : State} {may : May} (T : State) (d : ℕ) (D E : Description) → Reaches S may T → description_at T d ≡ Some D → (IsSound S → KeepsTarget T d D.target E.target) →
+    Reaches S may (with_description T d E)
 with_description_reached T d D E r h keeps = description_changed d (Some E) r (λ sound. subst (λ x. KeepsPlace T d x (Some E)) (sym h) (kept_place T d D E (keeps sound)))
 
 pub nothing_there : (S : State) (n : ℕ) → KeepsPlace S n None None
 nothing_there S n = record { references = record { held = refl; leads = λ o. refl; holds = λ d gone. omega arith; named = λ name h. h }; peer = refl; pending = λ d. omega arith; waits = λ h. omega arith; flies = λ u limit are within. omega (arith, within); bounds = λ all own. own }
 
-pub with_socket_reached : {S : State} {ends : Bool} (T : State) (d : ℕ) (change : Socket → Socket) → Reaches S ends T →
-    (IsSound S → (s : Socket) → socket_at T d ≡ Some s → KeepsSocket T d s (change s)) → Reaches S ends (with_socket_by T d change)
-with_socket_reached {S} {ends} T d change r keeps = description_changed d (option_map (changed change) (description_at T d)) r (λ sound. at_place (keeps sound) (description_at T d) refl)
+pub with_socket_reached : {S : State} {may : May} (T : State) (d : ℕ) (change : Socket → Socket) → Reaches S may T →
+    (IsSound S → (s : Socket) → socket_at T d ≡ Some s → KeepsSocket T d s (change s)) → Reaches S may (with_socket_by T d change)
+with_socket_reached {S} {may} T d change r keeps = description_changed d (option_map (changed change) (description_at T d)) r (λ sound. at_place (keeps sound) (description_at T d) refl)
   where
     at_target : ((s : Socket) → socket_at T d ≡ Some s → KeepsSocket T d s (change s)) → (t : Target) → socket_at T d ≡ socket_of t → KeepsTarget T d t (changed_target change t)
     at_target k (to_object o) h = same_target T d (to_object o)

@@ -12,7 +12,7 @@ use Rattle.ux_model.specs.Release.{settled}
 use Rattle.ux_model.specs.Step.{Step, outcome}
 use Rattle.ux_model.specs.History.{replay}
 use Rattle.ux_model.specs.Invariants.{OneMoreFailure, ResetCleared, AssociationEnded, LeftByRefusal, RefusalChangesNothing, RefusedEntryChangesNothing}
-use Rattle.ux_model.proofs.Reaching.{changes_lives}
+use Rattle.ux_model.proofs.Reaching.{may_change}
 use Rattle.ux_model.proofs.Moves.{same_target_counts_alike}
 use Rattle.ux_model.proofs.Sockets.{socket_counts, ends_associated}
 use Rattle.ux_model.proofs.OnePlace.{same_at}
@@ -88,7 +88,7 @@ left_settled S T e left here = ap settled left ∙ here ∙ sym left
 pub refusal_changes_nothing : RefusalChangesNothing
 unfolding Step
 refusal_changes_nothing S T p tag request error gone here s =
-    let left = chosen_left S s.0 (changes_lives request) (outcome S p tag request) error (each_obeys S p tag request) s.1 in
+    let left = chosen_left S s.0 (may_change request) (outcome S p tag request) error (each_obeys S p tag request) s.1 in
     let still = left_settled S s.0 error left here in
     (subst (LeftByRefusal S error) (sym (s.3 ∙ still)) left, s.2 ∙ releases_nothing s.0 still)
 

@@ -35,6 +35,7 @@ use Rattle.ux_model.specs.Seeking.{seek_base, seek_to, lseek}
 use Rattle.ux_model.specs.Descriptors.{dup, dup2, dup_from, get_flags, set_flags}
 use Rattle.ux_model.specs.Options.{tell_cred, tell_option, get_opt, pass_cred_on, may_limit, change_option, set_opt}
 use Rattle.ux_model.specs.Readiness.{poll}
+use Rattle.ux_model.specs.Users.{no_id, may_become, set_ids}
 use Rattle.ux_model.specs.Forking.{fork, exec}
 use Rattle.ux_model.specs.Closing.{close, exit, off}
 use Rattle.ux_model.specs.Step.{Step, outcome}
@@ -149,6 +150,11 @@ exit_plain S p = maybe Plain (process_at S p) _ _ (plain refl) (λ P h. plain re
 fork_plain : (S : State) (p : ℕ) → Plain (fork S p)
 unfolding fork
 fork_plain S p = maybe Plain (process_at S p) _ _ (plain refl) (λ P h. either Plain (nat_le made_limit (length S.processes)) _ _ (λ b. plain refl) (λ b. plain refl))
+
+ids_plain : (S : State) (p uid gid : ℕ) → Plain (set_ids S p uid gid)
+unfolding set_ids
+ids_plain S p uid gid = maybe Plain (process_at S p) _ _ (plain refl)
+    (λ P h. either Plain ((uid == no_id) || (gid == no_id)) _ _ (λ b. plain refl) (λ b. either Plain (not (may_become uid gid P)) _ _ (λ b. plain refl) (λ b. plain refl)))
 
 exec_plain : (S : State) (p : ℕ) → Plain (exec S p)
 unfolding exec
@@ -495,6 +501,7 @@ each_within S p tag (Request.GetPeerName fd) all = peer_name_within S p fd all
 each_within S p tag (Request.SendMsg fd addr bytes control flags) all = send_plain S p tag fd addr bytes control flags
 each_within S p tag (Request.RecvMsg fd n space flags) all = recv_within S p fd n space flags all
 each_within S p tag (Request.Poll fd) all = poll_plain S p fd
+each_within S p tag (Request.SetIds uid gid) all = ids_plain S p uid gid
 each_within S p tag Request.Fork all = fork_plain S p
 each_within S p tag Request.Exec all = exec_plain S p
 each_within S p tag Request.Exit all = exit_plain S p

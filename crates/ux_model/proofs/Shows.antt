@@ -37,6 +37,7 @@ use Rattle.ux_model.specs.Seeking.{lseek, seek_to, seek_base}
 use Rattle.ux_model.specs.Options.{tell_cred, tell_option, get_opt, pass_cred_on, may_limit, change_option, set_opt}
 use Rattle.ux_model.specs.Readiness.{poll}
 use Rattle.ux_model.specs.Descriptors.{dup, dup2, dup_from, get_flags, set_flags, with_flags}
+use Rattle.ux_model.specs.Users.{no_id, may_become, with_ids, set_ids}
 use Rattle.ux_model.specs.Forking.{fork, exec, child_of}
 use Rattle.ux_model.specs.Closing.{close, exit, off, with_nothing_open}
 use Rattle.ux_model.specs.Release.{settled, drop_unreferenced}
@@ -50,7 +51,7 @@ use Rattle.ux_model.proofs.ChangedPlaces.{bool_cases, place_within}
 use Rattle.ux_model.proofs.ByPlace.{take_none, take_few, get_below, get_pushed_other}
 use Rattle.ux_model.proofs.Induction.{get_pushed}
 use Rattle.ux_model.proofs.Rising.{Rise, rise_one, rise_free, rise_take, lowest_below, place_filled, place_other, place_mapped, lowest_from_within}
-use Rattle.ux_model.proofs.Reaching.{changes_lives}
+use Rattle.ux_model.proofs.Reaching.{may_change}
 use Rattle.ux_model.proofs.Obeying.{Obeys}
 use Rattle.ux_model.proofs.Calls.{each_obeys}
 use Rattle.ux_model.proofs.Living.{settled_keeps}
@@ -230,6 +231,19 @@ exec_shows S p tag = maybe (Shows S p tag Request.Exec) (process_at S p) _ _ (re
       (λ n. place_mapped kept_on_exec P.table n refl ∙ ap kept_on_exec (table_is S p n P h));
   mail = quiet_mail S (with_table S p (map kept_on_exec P.table)) p tag Request.Exec (quiet_table S p (map kept_on_exec P.table));
 })
+
+-- ---- ids
+
+pub ids_show : (S : State) (p tag uid gid : ℕ) → Shows S p tag (Request.SetIds uid gid) (set_ids S p uid gid)
+unfolding set_ids
+ids_show S p tag uid gid = maybe Q (process_at S p) _ _ (refuses refl) (λ P h. either Q ((uid == no_id) || (gid == no_id)) _ _ (λ b. refuses refl)
+    (λ b. either Q (not (may_become uid gid P)) _ _ (λ b. refuses refl) (λ b. record {
+      tables = changes S _ p (Request.SetIds uid gid) Reply.Ok P.table (replaced_process S p (with_ids uid gid P) P h) refl refl refl (λ n. table_is S p n P h);
+      mail = quiet_mail S (with_process S p (with_ids uid gid P)) p tag (Request.SetIds uid gid) (quiet_process S p (with_ids uid gid P));
+    })))
+  where
+    Q : Outcome → Type 0
+    Q o = Shows S p tag (Request.SetIds uid gid) o
 
 -- ---- fork, and the end of the layer
 
@@ -881,6 +895,7 @@ each_shows S p tag (Request.GetPeerName fd) P here = peer_name_shows S p tag fd
 each_shows S p tag (Request.SendMsg fd addr bytes control flags) P here = send_shows S p tag fd addr bytes control flags
 each_shows S p tag (Request.RecvMsg fd n space flags) P here = recv_shows S p tag fd n space flags P here
 each_shows S p tag (Request.Poll fd) P here = poll_shows S p tag fd
+each_shows S p tag (Request.SetIds uid gid) P here = ids_show S p tag uid gid
 each_shows S p tag Request.Fork P here = fork_shows S p tag
 each_shows S p tag Request.Exec P here = exec_shows S p tag
 each_shows S p tag Request.Exit P here = exit_shows S p tag
@@ -896,7 +911,7 @@ error_shows S T p tag request e on same quiet = (refusal S T p request e (replac
 quiet_same : (S T : State) → T.descriptions ≡ S.descriptions → Quiet S T
 quiet_same S T same d = ap (λ (ds : List (Option Description)). queue_in (place ds d)) same
 
-pub chosen_shows : (S T : State) (p tag : ℕ) (request : Request) (reply : Reply) → Shows S p tag request (outcome S p tag request) → Obeys S (changes_lives request) (outcome S p tag request) →
+pub chosen_shows : (S T : State) (p tag : ℕ) (request : Request) (reply : Reply) → Shows S p tag request (outcome S p tag request) → Obeys S (may_change request) (outcome S p tag request) →
     is_off request ≡ false → Chosen S (outcome S p tag request) reply T → ChangesTables S p request reply T × Mail S p tag request T
 chosen_shows S T p tag request reply shows obeys on (own e f) =
     let s : Shows S p tag request (record (outcome S p tag request) { reply = reply; next = T }) = shown_alike (outcome S p tag request) (record (outcome S p tag request) { reply = reply; next = T }) e f shows in

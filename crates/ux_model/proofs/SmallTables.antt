@@ -1,5 +1,5 @@
 -- No table ever has more places than one may have.
-use Rattle.std.proofs.Common.{◌≡◌, ℕ, zero, suc, ◌≤◌, Bool, List, [], ◌∷◌, ◌++◌, length, map, set, Option, Some, None, refl, ap, sym, subst, arith, slice_get}
+use Rattle.std.proofs.Common.{◌≡◌, ℕ, zero, suc, ◌≤◌, List, [], ◌∷◌, ◌++◌, length, map, set, Option, Some, None, refl, ap, sym, subst, arith, slice_get}
 use Rattle.std.specs.List.{AllByRecursion}
 use Rattle.std.proofs.lemmas.List.{length-map}
 use Rattle.ux_model.specs.Types.{Entry}
@@ -14,7 +14,7 @@ use Rattle.ux_model.specs.History.{replay}
 use Rattle.ux_model.specs.Changes.{TablesStaySmall}
 use Rattle.ux_model.proofs.Named.{table_in}
 use Rattle.ux_model.proofs.Sound.{IsSound}
-use Rattle.ux_model.proofs.Reaching.{Reaches, still, process_changed, process_forked, description_made, peers_made, connection_made, description_changed, object_changed, paths_taken, path_bound, name_bound, turned_off, changes_lives}
+use Rattle.ux_model.proofs.Reaching.{May, Reaches, still, process_changed, process_forked, description_made, peers_made, connection_made, description_changed, object_changed, paths_taken, path_bound, name_bound, turned_off, may_change}
 use Rattle.ux_model.proofs.Calls.{step_reached}
 use Rattle.ux_model.proofs.Living.{settled_keeps}
 use Rattle.ux_model.proofs.Dangling.{keeps_sound}
@@ -49,21 +49,21 @@ emptied_small (P ∷ Ps) small =
     let low : length P.table ≤ table_limit = small.0 in
     (omega (arith, same, low), emptied_small Ps small.1)
 
-reached_small : (S : State) (ends : Bool) (T : State) → IsSound S → AreSmall S.processes → Reaches S ends T → AreSmall T.processes
-reached_small S ends T sound small still = small
-reached_small S ends T sound small (process_changed {T = U} i P Q r there names lives same) = set_small U.processes i P Q there (names sound).long (reached_small S ends U sound small r)
-reached_small S ends T sound small (process_forked {T = U} i P r there may) =
-    let so_far = reached_small S ends U sound small r in
+reached_small : (S : State) (may : May) (T : State) → IsSound S → AreSmall S.processes → Reaches S may T → AreSmall T.processes
+reached_small S may T sound small still = small
+reached_small S may T sound small (process_changed {T = U} i P Q r there names lives same) = set_small U.processes i P Q there (names sound).long (reached_small S may U sound small r)
+reached_small S may T sound small (process_forked {T = U} i P r there makes) =
+    let so_far = reached_small S may U sound small r in
     pushed_small U.processes (child_of P) (small_at U.processes i P there so_far) so_far
-reached_small S ends T sound small (description_made {T = U} D r leads holds bounds) = reached_small S ends U sound small r
-reached_small S ends T sound small (peers_made {T = U} D E r peers) = reached_small S ends U sound small r
-reached_small S ends T sound small (connection_made {T = U} d l cred listener_cred s listener r here free there) = reached_small S ends U sound small r
-reached_small S ends T sound small (description_changed {T = U} d x r keeps) = reached_small S ends U sound small r
-reached_small S ends T sound small (object_changed {T = U} o old new r there opened) = reached_small S ends U sound small r
-reached_small S ends T sound small (paths_taken {T = U} keep r) = reached_small S ends U sound small r
-reached_small S ends T sound small (path_bound {T = U} name d r) = reached_small S ends U sound small r
-reached_small S ends T sound small (name_bound {T = U} name d r shown) = reached_small S ends U sound small r
-reached_small S ends T sound small (turned_off {T = U} r) = emptied_small U.processes (reached_small S ends U sound small r)
+reached_small S may T sound small (description_made {T = U} D r leads holds bounds) = reached_small S may U sound small r
+reached_small S may T sound small (peers_made {T = U} D E r peers) = reached_small S may U sound small r
+reached_small S may T sound small (connection_made {T = U} d l cred listener_cred s listener r here free there) = reached_small S may U sound small r
+reached_small S may T sound small (description_changed {T = U} d x r keeps) = reached_small S may U sound small r
+reached_small S may T sound small (object_changed {T = U} o old new r there opened) = reached_small S may U sound small r
+reached_small S may T sound small (paths_taken {T = U} keep r) = reached_small S may U sound small r
+reached_small S may T sound small (path_bound {T = U} name d r) = reached_small S may U sound small r
+reached_small S may T sound small (name_bound {T = U} name d r shown) = reached_small S may U sound small r
+reached_small S may T sound small (turned_off {T = U} r) = emptied_small U.processes (reached_small S may U sound small r)
 
 settled_small : (S : State) → AreSmall S.processes → AreSmall (settled S).processes
 unfolding settled drop_unreferenced
@@ -72,7 +72,7 @@ settled_small S small = subst AreSmall (sym (settled_keeps (length S.description
 step_small : (S T : State) (p tag : ℕ) (e : Entry) → IsSound S → AreSmall S.processes → Step S p tag e.request e.reply e.released T → AreSmall T.processes
 step_small S T p tag e sound small step =
     let r = step_reached S T p tag e.request e.reply e.released step in
-    subst (λ (U : State). AreSmall U.processes) (sym r.3) (settled_small r.0 (reached_small S (changes_lives e.request) r.0 sound small r.1))
+    subst (λ (U : State). AreSmall U.processes) (sym r.3) (settled_small r.0 (reached_small S (may_change e.request) r.0 sound small r.1))
 
 small_kept : (boot : State) → IsKept boot (λ es S. IsSound S × AreSmall S.processes)
 small_kept boot = record {

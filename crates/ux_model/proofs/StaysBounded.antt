@@ -18,7 +18,7 @@ use Rattle.ux_model.proofs.OnePlace.{at_each}
 use Rattle.ux_model.proofs.Induction.{IsKept, kept_throughout}
 use Rattle.ux_model.proofs.Sound.{IsSound}
 use Rattle.ux_model.proofs.Bounds.{HasBounds, IsBounded, IsBoundedTarget, IsBoundedPlace, AreBounded, socket_bounded}
-use Rattle.ux_model.proofs.Reaching.{changes_lives, Reaches, still, process_changed, process_forked, description_made, peers_made, connection_made, description_changed, object_changed, paths_taken, path_bound, name_bound, turned_off}
+use Rattle.ux_model.proofs.Reaching.{May, may_change, Reaches, still, process_changed, process_forked, description_made, peers_made, connection_made, description_changed, object_changed, paths_taken, path_bound, name_bound, turned_off}
 use Rattle.ux_model.proofs.Calls.{step_reached}
 use Rattle.ux_model.proofs.Dangling.{keeps_sound}
 
@@ -65,22 +65,22 @@ nothing_bounded (x ∷ xs) (suc i) = nothing_bounded xs i
 
 -- ---- a call
 
-reached_bounded : (S : State) (ends : Bool) (T : State) → IsSound S → AreBounded S → Reaches S ends T → AreBounded T
-reached_bounded S ends T sound all still = all
-reached_bounded S ends T sound all (process_changed {T = U} i P Q r h names kept same) = reached_bounded S ends U sound all r
-reached_bounded S ends T sound all (process_forked {T = U} i P r h makes) = reached_bounded S ends U sound all r
-reached_bounded S ends T sound all (description_made {T = U} D r leads nothing bounds) = made_bounded U D (reached_bounded S ends U sound all r) bounds
-reached_bounded S ends T sound all (peers_made {T = U} D E r peers) =
-    made_bounded (with_new U D) E (made_bounded U D (reached_bounded S ends U sound all r) peers.first_bounds) peers.second_bounds
-reached_bounded S ends T sound all (connection_made {T = U} d l cred listener_cred s listener r client free there) =
-    connected_bounded U d l cred listener_cred listener there (reached_bounded S ends U sound all r)
-reached_bounded S ends T sound all (description_changed {T = U} d x r keeps) =
-    let before = reached_bounded S ends U sound all r in place_bounded U d x before ((keeps sound).bounds before (before d))
-reached_bounded S ends T sound all (object_changed {T = U} o old new r h same) = reached_bounded S ends U sound all r
-reached_bounded S ends T sound all (paths_taken {T = U} keep r) = reached_bounded S ends U sound all r
-reached_bounded S ends T sound all (path_bound {T = U} name d r) = reached_bounded S ends U sound all r
-reached_bounded S ends T sound all (name_bound {T = U} name d r shown) = reached_bounded S ends U sound all r
-reached_bounded S ends T sound all (turned_off {T = U} r) = nothing_bounded U.descriptions
+reached_bounded : (S : State) (may : May) (T : State) → IsSound S → AreBounded S → Reaches S may T → AreBounded T
+reached_bounded S may T sound all still = all
+reached_bounded S may T sound all (process_changed {T = U} i P Q r h names kept same) = reached_bounded S may U sound all r
+reached_bounded S may T sound all (process_forked {T = U} i P r h makes) = reached_bounded S may U sound all r
+reached_bounded S may T sound all (description_made {T = U} D r leads nothing bounds) = made_bounded U D (reached_bounded S may U sound all r) bounds
+reached_bounded S may T sound all (peers_made {T = U} D E r peers) =
+    made_bounded (with_new U D) E (made_bounded U D (reached_bounded S may U sound all r) peers.first_bounds) peers.second_bounds
+reached_bounded S may T sound all (connection_made {T = U} d l cred listener_cred s listener r client free there) =
+    connected_bounded U d l cred listener_cred listener there (reached_bounded S may U sound all r)
+reached_bounded S may T sound all (description_changed {T = U} d x r keeps) =
+    let before = reached_bounded S may U sound all r in place_bounded U d x before ((keeps sound).bounds before (before d))
+reached_bounded S may T sound all (object_changed {T = U} o old new r h same) = reached_bounded S may U sound all r
+reached_bounded S may T sound all (paths_taken {T = U} keep r) = reached_bounded S may U sound all r
+reached_bounded S may T sound all (path_bound {T = U} name d r) = reached_bounded S may U sound all r
+reached_bounded S may T sound all (name_bound {T = U} name d r shown) = reached_bounded S may U sound all r
+reached_bounded S may T sound all (turned_off {T = U} r) = nothing_bounded U.descriptions
 
 -- ---- what is released
 
@@ -117,7 +117,7 @@ HasBounded es S = IsSound S × AreBounded S
 step_bounded : (p tag : ℕ) (e : Entry) (S T : State) → IsSound S → AreBounded S → Step S p tag e.request e.reply e.released T → AreBounded T
 step_bounded p tag e S T sound all step =
     let r = step_reached S T p tag e.request e.reply e.released step in
-    subst AreBounded (sym r.3) (settled_bounded r.0 (reached_bounded S (changes_lives e.request) r.0 sound all r.1))
+    subst AreBounded (sym r.3) (settled_bounded r.0 (reached_bounded S (may_change e.request) r.0 sound all r.1))
 
 keeps_bounded : (boot : State) → IsKept boot HasBounded
 keeps_bounded boot = record {
