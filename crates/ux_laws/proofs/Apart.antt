@@ -1,12 +1,12 @@
 -- A file that one process keeps is separated from the others.
 use Rattle.std.proofs.Common.{◌≡◌, ◌≢◌, ◌⊎◌, ℕ, ◌==◌, Bool, true, false, not, ◌&&◌, ◌||◌, List, [], ◌∷◌, Some, refl, ap, sym, ◌∙◌, subst, inl, inr, slice_get}
 use Rattle.std.proofs.lemmas.Bool.{eqb-true, eq-eqb, false≢true}
-use Rattle.ux_model.specs.Types.{Name, Mode, OpenFlags, Request, Entry, Link}
+use Rattle.ux_model.specs.Types.{Name, Mode, OpenFlags, Request, Entry}
 use Rattle.ux_model.specs.Flags.{can_write}
 use Rattle.ux_model.specs.Names.{file, named, same_name}
 use Rattle.ux_model.specs.State.{State}
 use Rattle.ux_model.specs.History.{IsLegal}
-use Rattle.ux_laws.specs.Files.{IsOpening, IsNeverOpened}
+use Rattle.ux_laws.specs.Files.{IsNeverOpened}
 use Rattle.ux_laws.specs.Beginning.{IsOfTheStart}
 use Rattle.ux_laws.specs.Separation.{leaves_to, KeptFilesAreSeparated}
 use Rattle.ux_laws.proofs.NoWay.{files_keep_their_path}

@@ -36,6 +36,7 @@ use Rattle.ux_model.specs.Seeking.{lseek, seek_to, seek_base}
 use Rattle.ux_model.specs.Options.{tell_cred, tell_option, get_opt, pass_cred_on, may_limit, change_option, set_opt}
 use Rattle.ux_model.specs.Readiness.{poll}
 use Rattle.ux_model.specs.Descriptors.{dup, dup2, dup_from, get_flags, set_flags, with_flags}
+use Rattle.ux_model.specs.Users.{no_id, may_become, with_ids, set_ids}
 use Rattle.ux_model.specs.Forking.{fork, exec, child_of}
 use Rattle.ux_model.specs.Closing.{close, exit, off}
 use Rattle.ux_model.specs.Release.{settled}
@@ -46,7 +47,7 @@ use Rattle.ux_model.proofs.ByPlace.{take_none}
 use Rattle.ux_model.proofs.Shows.{by_socket, by_receive}
 use Rattle.ux_model.proofs.NameCalls.{same_descriptions}
 use Rattle.ux_model.proofs.Rising.{place_mapped}
-use Rattle.ux_model.proofs.Reaching.{changes_lives}
+use Rattle.ux_model.proofs.Reaching.{may_change}
 use Rattle.ux_model.proofs.Obeying.{Obeys}
 use Rattle.ux_model.proofs.Calls.{each_obeys}
 use Rattle.ux_laws.specs.Talking.{endpoint, offered_bytes, request_addr, is_peek, taken_count, given_bytes, if_found, socket_through, named_target, goes_to, destination, is_number, is_first, sends_to, receives_through}
@@ -160,6 +161,14 @@ fork_did S p tag = maybe Q (process_at S p) _ _ refuses (λ P h. either Q (nat_l
 exec_did : (S : State) (p tag : ℕ) → Did S p tag Request.Exec (exec S p).reply (exec S p).next
 unfolding exec
 exec_did S p tag = maybe (λ o. Did S p tag Request.Exec o.reply o.next) (process_at S p) _ _ refuses (λ P h. answers refl (kept_table S p (map kept_on_exec P.table)))
+
+ids_did : (S : State) (p tag uid gid : ℕ) → Did S p tag (Request.SetIds uid gid) (set_ids S p uid gid).reply (set_ids S p uid gid).next
+unfolding set_ids
+ids_did S p tag uid gid = maybe Q (process_at S p) _ _ refuses (λ P h. either Q ((uid == no_id) || (gid == no_id)) _ _ (λ b. refuses)
+    (λ b. either Q (not (may_become uid gid P)) _ _ (λ b. refuses) (λ b. answers refl (kept_same S _ (with_process_same S p (with_ids uid gid P))))))
+  where
+    Q : Outcome → Type 0
+    Q o = Did S p tag (Request.SetIds uid gid) o.reply o.next
 
 off_did : (S : State) (p tag : ℕ) → Did S p tag Request.Off (off S).reply (off S).next
 unfolding off
@@ -718,12 +727,13 @@ each_did S p tag (Request.GetPeerName fd) = peer_name_did S p tag fd
 each_did S p tag (Request.SendMsg fd addr bytes control flags) = send_did S p tag fd addr bytes control flags
 each_did S p tag (Request.RecvMsg fd n space flags) = recv_did S p tag fd n space flags
 each_did S p tag (Request.Poll fd) = poll_did S p tag fd
+each_did S p tag (Request.SetIds uid gid) = ids_did S p tag uid gid
 each_did S p tag Request.Fork = fork_did S p tag
 each_did S p tag Request.Exec = exec_did S p tag
 each_did S p tag Request.Exit = exit_did S p tag
 each_did S p tag Request.Off = off_did S p tag
 
-chosen_did : (S T : State) (p tag : ℕ) (request : Request) (reply : Reply) (o : Outcome) → Did S p tag request o.reply o.next → Obeys S (changes_lives request) o → Chosen S o reply T → Did S p tag request reply T
+chosen_did : (S T : State) (p tag : ℕ) (request : Request) (reply : Reply) (o : Outcome) → Did S p tag request o.reply o.next → Obeys S (may_change request) o → Chosen S o reply T → Did S p tag request reply T
 chosen_did S T p tag request reply o did obeys (own e f) = subst (λ (r : Reply). Did S p tag request r T) (sym e) (subst (λ (U : State). Did S p tag request o.reply U) (sym f) did)
 chosen_did S T p tag request reply o did obeys (lacking_memory e may f) = subst (λ (r : Reply). Did S p tag request r T) (sym e) (subst (λ (U : State). Did S p tag request (Reply.Err Errno.ENOMEM) U) (sym f) refuses)
 chosen_did S T p tag request reply o did obeys (failing e f) =

@@ -35,6 +35,7 @@ use Rattle.ux_model.specs.Seeking.{lseek, seek_to, seek_base}
 use Rattle.ux_model.specs.Options.{tell_cred, tell_option, get_opt, may_limit, change_option, set_opt}
 use Rattle.ux_model.specs.Readiness.{poll}
 use Rattle.ux_model.specs.Descriptors.{dup, dup2, dup_from, get_flags, set_flags, with_flags}
+use Rattle.ux_model.specs.Users.{no_id, may_become, set_ids}
 use Rattle.ux_model.specs.Forking.{fork, exec}
 use Rattle.ux_model.specs.Closing.{close, exit, off}
 use Rattle.ux_model.specs.Step.{outcome}
@@ -347,6 +348,14 @@ fork_near S p = maybe (λ o. Near S p Request.Fork o.next) (process_at S p) _ _ 
 exec_near : (S : State) (p : ℕ) → Near S p Request.Exec (exec S p).next
 unfolding exec
 exec_near S p = maybe (λ o. Near S p Request.Exec o.next) (process_at S p) _ _ still (λ P h. near_table S p _ still)
+
+ids_near : (S : State) (p uid gid : ℕ) → Near S p (Request.SetIds uid gid) (set_ids S p uid gid).next
+unfolding set_ids
+ids_near S p uid gid = maybe Q (process_at S p) _ _ still (λ P h. either Q ((uid == no_id) || (gid == no_id)) _ _ (λ b. still)
+    (λ b. either Q (not (may_become uid gid P)) _ _ (λ b. still) (λ b. near_same (with_process_same S p _))))
+  where
+    Q : Outcome → Type 0
+    Q o = Near S p (Request.SetIds uid gid) o.next
 
 off_near : (S : State) (p : ℕ) → Near S p Request.Off (off S).next
 unfolding off
@@ -710,6 +719,7 @@ each_near S p tag (Request.GetPeerName fd) = peer_name_near S p fd
 each_near S p tag (Request.SendMsg fd addr bytes control flags) = send_near S p tag fd addr bytes control flags
 each_near S p tag (Request.RecvMsg fd n space flags) = recv_near S p fd n space flags
 each_near S p tag (Request.Poll fd) = poll_near S p fd
+each_near S p tag (Request.SetIds uid gid) = ids_near S p uid gid
 each_near S p tag Request.Fork = fork_near S p
 each_near S p tag Request.Exec = exec_near S p
 each_near S p tag Request.Exit = exit_near S p

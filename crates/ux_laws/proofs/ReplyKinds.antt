@@ -1,5 +1,5 @@
 -- Each reply is a refusal, or of the kind of its request. One lemma a call, and one line of `each_is`, at the end.
-use Rattle.std.proofs.Common.{◌≡◌, ℕ, Bool, true, false, not, ◌&&◌, ◌||◌, ◌==◌, if◌then◌else◌, List, [], ◌∷◌, length, min, Option, Some, None, Result, Ok, Err, refl, ap, sym, subst, ◌∙◌}
+use Rattle.std.proofs.Common.{◌≡◌, ℕ, Bool, true, not, ◌&&◌, ◌||◌, ◌==◌, if◌then◌else◌, List, length, min, Option, Some, None, Result, Ok, Err, refl, ap, ◌∙◌}
 use Rattle.std.specs.Prelude.{nat_le, nat_lt, ℤ, pos, negsuc, ◌+ℤ◌, is_none, is_some, slice_get}
 use mathlib.Core.Bool.{or-true}
 use Rattle.ux_model.specs.Types.{Errno, Fd, Cred, Name, Addr, SockType, SockOpt, Mode, OpenFlags, MsgFlags, Whence, Request, Reply}
@@ -22,10 +22,10 @@ use Rattle.ux_model.specs.Pairing.{make_pair}
 use Rattle.ux_model.specs.Binding.{bind_to, bind, get_sock_name}
 use Rattle.ux_model.specs.Connecting.{make_socket, listener_of, listen, connect_stream, connect_datagram, connect, get_peer_name, shutdown}
 use Rattle.ux_model.specs.Accepting.{accept_first, accept}
-use Rattle.ux_model.specs.Sending.{Sending, sending, descriptions_behind, message_of, flight_limit, is_over_limit, enqueue, is_too_long, send_to_peer, send_stream, send_from, is_sendable_addr, is_sendable_control, sender_cred_refusal, sent_cred, send_as, send_with, send_read, reading_control, send_msg}
+use Rattle.ux_model.specs.Sending.{Sending, sending, descriptions_behind, message_of, flight_limit, is_over_limit, enqueue, is_too_long, send_to_peer, send_stream, send_from, is_sendable_addr, is_sendable_control, sender_cred_refusal, sent_cred, send_as, send_with, send_read, send_msg}
 use Rattle.ux_model.proofs.Datagrams.{send_to_target, send_by_association, send_by}
 use Rattle.ux_model.specs.Receiving.{Incoming, incoming, at_end, receive_nothing, receive_front, receive, read_socket, recv_msg, bytes_alone}
-use Rattle.ux_model.specs.FileObjects.{holds_bytes, is_open_for, or_failing}
+use Rattle.ux_model.specs.FileObjects.{holds_bytes, is_open_for}
 use Rattle.ux_model.specs.Opening.{open_file}
 use Rattle.ux_model.specs.Reading.{is_short_read, read_error, read_answer, read}
 use Rattle.ux_model.specs.Writing.{write_place, write_answer, write}
@@ -33,11 +33,12 @@ use Rattle.ux_model.specs.Seeking.{seek_base, seek_to, lseek}
 use Rattle.ux_model.specs.Descriptors.{dup, dup2, dup_from, get_flags, set_flags}
 use Rattle.ux_model.specs.Options.{tell_cred, tell_option, get_opt, pass_cred_on, may_limit, change_option, set_opt}
 use Rattle.ux_model.specs.Readiness.{poll}
+use Rattle.ux_model.specs.Users.{no_id, may_become, set_ids}
 use Rattle.ux_model.specs.Forking.{fork, exec}
 use Rattle.ux_model.specs.Closing.{close, exit, off}
 use Rattle.ux_model.specs.Step.{Step, outcome}
 use Rattle.ux_model.proofs.Walk.{either, maybe, by_target, by_path, by_queue, found, found_socket, found_named, found_peer}
-use Rattle.ux_laws.specs.ReplyKinds.{is_done, is_fd, is_fds, is_count, is_bytes, is_offset, is_message, is_accepted, is_addr, is_value, is_cred, is_ready, is_child, is_flags, is_refusal, option_kind, kind_of, is_reply_to, RepliesAreOfTheirKind}
+use Rattle.ux_laws.specs.ReplyKinds.{is_done, is_fd, is_fds, is_count, is_bytes, is_offset, is_message, is_accepted, is_addr, is_value, is_cred, is_ready, is_child, is_flags, is_refusal, option_kind, kind_of, RepliesAreOfTheirKind}
 
 -- of an outcome's own reply
 abbrev Is : (Reply → Bool) → Outcome → Type 0
@@ -104,6 +105,11 @@ fork_is S p = maybe (Is is_child) (process_at S p) _ _ refl (λ P h. either (Is 
 exec_is : (S : State) (p : ℕ) → Is is_done (exec S p)
 unfolding exec
 exec_is S p = maybe (Is is_done) (process_at S p) _ _ refl (λ P h. refl)
+
+ids_are_done : (S : State) (p uid gid : ℕ) → Is is_done (set_ids S p uid gid)
+unfolding set_ids
+ids_are_done S p uid gid = maybe (Is is_done) (process_at S p) _ _ refl (λ P h. either (Is is_done) ((uid == no_id) || (gid == no_id)) _ _ (λ b. refl)
+    (λ b. either (Is is_done) (not (may_become uid gid P)) _ _ (λ b. refl) (λ b. refl)))
 
 off_is : (S : State) → Is is_done (off S)
 unfolding off
@@ -353,6 +359,7 @@ each_is S p tag (Request.GetPeerName fd) = peer_name_is S p fd
 each_is S p tag (Request.SendMsg fd addr bytes control flags) = send_is S p tag fd addr bytes control flags
 each_is S p tag (Request.RecvMsg fd n space flags) = recv_is S p fd n space flags
 each_is S p tag (Request.Poll fd) = poll_is S p fd
+each_is S p tag (Request.SetIds uid gid) = ids_are_done S p uid gid
 each_is S p tag Request.Fork = fork_is S p
 each_is S p tag Request.Exec = exec_is S p
 each_is S p tag Request.Exit = exit_is S p

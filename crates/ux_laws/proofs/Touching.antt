@@ -35,6 +35,7 @@ use Rattle.ux_model.specs.Seeking.{lseek, seek_to, seek_base}
 use Rattle.ux_model.specs.Options.{tell_cred, tell_option, get_opt, may_limit, change_option, set_opt}
 use Rattle.ux_model.specs.Readiness.{poll}
 use Rattle.ux_model.specs.Descriptors.{dup, dup2, dup_from, get_flags, set_flags}
+use Rattle.ux_model.specs.Users.{no_id, may_become, set_ids}
 use Rattle.ux_model.specs.Forking.{fork, exec}
 use Rattle.ux_model.specs.Closing.{close, exit, off}
 use Rattle.ux_model.specs.Release.{without, is_orphan, drop_all, drop_rounds, drop_unreferenced, has_unreferenced, settled}
@@ -45,7 +46,7 @@ use Rattle.ux_model.proofs.OnePlace.{same_at}
 use Rattle.ux_model.proofs.ReleaseLaws.{place-map}
 use Rattle.ux_model.proofs.HeldOpen.{with_table_objects, with_process_objects}
 use Rattle.ux_model.proofs.Shows.{by_receive}
-use Rattle.ux_model.proofs.Reaching.{changes_lives}
+use Rattle.ux_model.proofs.Reaching.{may_change}
 use Rattle.ux_model.proofs.Obeying.{Obeys}
 use Rattle.ux_model.proofs.Calls.{each_obeys}
 use Rattle.ux_laws.specs.Files.{body_in, body_at}
@@ -130,6 +131,15 @@ fork_alike S p = maybe (λ o. Alike S o.next) (process_at S p) _ _ (alike refl r
 exec_alike : (S : State) (p : ℕ) → Alike S (exec S p).next
 unfolding exec
 exec_alike S p = maybe (λ o. Alike S o.next) (process_at S p) _ _ (alike refl refl refl) (λ P h. table_alike S p (map kept_on_exec P.table))
+
+ids_alike : (S : State) (p uid gid : ℕ) → Alike S (set_ids S p uid gid).next
+unfolding set_ids
+ids_alike S p uid gid = maybe Q (process_at S p) _ _ (alike refl refl refl) (λ P h. either Q ((uid == no_id) || (gid == no_id)) _ _ (λ b. alike refl refl refl)
+    (λ b. either Q (not (may_become uid gid P)) _ _ (λ b. alike refl refl refl)
+    (λ b. record { objects = with_process_objects S p _; paths = with_process_paths S p _; abstracts = with_process_abstracts S p _ })))
+  where
+    Q : Outcome → Type 0
+    Q o = Alike S o.next
 
 open_alike : (S : State) (p : ℕ) (path : Name) (mode : Mode) (flags : OpenFlags) → Alike S (open_file S p path mode flags).next
 unfolding open_file
@@ -575,6 +585,7 @@ each_files S p tag (Request.GetPeerName fd) = by_alike (peer_name_alike S p fd)
 each_files S p tag (Request.SendMsg fd addr bytes control flags) = by_alike (send_alike S p tag fd addr bytes control flags)
 each_files S p tag (Request.RecvMsg fd n space flags) = by_alike (recv_alike S p fd n space flags)
 each_files S p tag (Request.Poll fd) = by_alike (poll_alike S p fd)
+each_files S p tag (Request.SetIds uid gid) = by_alike (ids_alike S p uid gid)
 each_files S p tag Request.Fork = by_alike (fork_alike S p)
 each_files S p tag Request.Exec = by_alike (exec_alike S p)
 each_files S p tag Request.Exit = by_alike (exit_alike S p)
@@ -610,6 +621,7 @@ each_names S p tag (Request.GetPeerName fd) h = alike_names (peer_name_alike S p
 each_names S p tag (Request.SendMsg fd addr bytes control flags) h = alike_names (send_alike S p tag fd addr bytes control flags)
 each_names S p tag (Request.RecvMsg fd n space flags) h = alike_names (recv_alike S p fd n space flags)
 each_names S p tag (Request.Poll fd) h = alike_names (poll_alike S p fd)
+each_names S p tag (Request.SetIds uid gid) h = alike_names (ids_alike S p uid gid)
 each_names S p tag Request.Fork h = alike_names (fork_alike S p)
 each_names S p tag Request.Exec h = alike_names (exec_alike S p)
 each_names S p tag Request.Exit h = alike_names (exit_alike S p)
@@ -617,7 +629,7 @@ each_names S p tag (Request.Read fd n) h = read_paths S p fd n
 each_names S p tag (Request.Write fd bytes) h = write_paths S p tag fd bytes
 each_names S p tag request h = absurd (false≢true (sym h))
 
-chosen_files : (S T : State) (p : ℕ) (request : Request) (reply : Reply) (o : Outcome) → Files S p request o.next → Obeys S (changes_lives request) o → Chosen S o reply T → Files S p request T
+chosen_files : (S T : State) (p : ℕ) (request : Request) (reply : Reply) (o : Outcome) → Files S p request o.next → Obeys S (may_change request) o → Chosen S o reply T → Files S p request T
 chosen_files S T p request reply o files obeys (own e f) = subst (Files S p request) (sym f) files
 chosen_files S T p request reply o files obeys (lacking_memory e may f) = subst (Files S p request) (sym f) (by_alike (alike refl refl refl))
 chosen_files S T p request reply o files obeys (failing e f) =

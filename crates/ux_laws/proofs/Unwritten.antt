@@ -1,29 +1,29 @@
 -- A file that is never opened for writing stays as it was, and reads tell it.
-use Rattle.std.proofs.Common.{◌≡◌, ◌≢◌, ℕ, zero, suc, ◌==◌, Bool, true, false, not, ◌&&◌, if◌then◌else◌, List, [], ◌∷◌, ◌++◌, length, take, drop, append_assoc, min, Option, Some, None, Result, Ok, Err, refl, ap, sym, ◌∙◌, subst, slice_get}
+use Rattle.std.proofs.Common.{◌≡◌, ◌≢◌, ℕ, zero, suc, ◌==◌, Bool, not, ◌&&◌, List, [], ◌++◌, take, drop, append_assoc, min, Option, Some, None, Result, Ok, refl, ap, sym, ◌∙◌, subst, slice_get}
 use Rattle.std.proofs.lemmas.Bool.{false≢true}
 use Rattle.std.proofs.lemmas.List.{take-append-drop}
-use Rattle.ux_model.specs.Types.{Errno, Fd, Mode, Request, Reply, Entry, How, Link}
+use Rattle.ux_model.specs.Types.{Errno, Fd, Mode, Request, Reply, Entry, How}
 use Rattle.ux_model.specs.Places.{place}
 use Rattle.ux_model.specs.Limits.{read_limit}
 use Rattle.ux_model.specs.Flags.{can_read, can_write}
-use Rattle.ux_model.specs.Object.{Body, View, memory, counter, pipe, ObjectError, would_block, full, invalid, read_body, is_memory, is_pipe}
+use Rattle.ux_model.specs.Object.{Body, View, memory, counter, pipe, ObjectError, read_body, is_memory}
 use Rattle.ux_model.specs.Description.{Description, to_object, to_socket}
 use Rattle.ux_model.specs.Process.{Descriptor}
 use Rattle.ux_model.specs.State.{State, description_at}
 use Rattle.ux_model.specs.Outcome.{Outcome, Chosen, own, lacking_memory, failing, descriptor_at}
-use Rattle.ux_model.specs.FileObjects.{is_open_for, holds_bytes}
+use Rattle.ux_model.specs.FileObjects.{holds_bytes}
 use Rattle.ux_model.specs.Reading.{read, read_answer, is_short_read}
 use Rattle.ux_model.specs.Step.{Step, outcome}
 use Rattle.ux_model.specs.Giving.{how_of}
 use Rattle.ux_model.specs.Names.{file, named}
-use Rattle.ux_model.specs.History.{replay, IsLegal}
+use Rattle.ux_model.specs.History.{replay}
 use Rattle.ux_model.specs.Pedigree.{before, delivered}
 use Rattle.ux_model.proofs.Walk.{either, maybe, by_target, found}
 use Rattle.ux_model.proofs.Fronts.{front_is_legal, in_front}
 use Rattle.ux_model.proofs.Induction.{take_past}
 use Rattle.ux_model.proofs.Moments.{moment}
 use Rattle.ux_model.proofs.Passing.{how_fork, own_number}
-use Rattle.ux_laws.specs.Files.{body_in, body_at, object_behind, HasWay, IsNeverOpened, UnwrittenFilesStay, IsRunOf, ReadsTellTheFile, WereSentNothing, BeginsWithACallOf, HoldOnlyWhatTheyMade}
+use Rattle.ux_laws.specs.Files.{body_in, body_at, object_behind, HasWay, IsNeverOpened, UnwrittenFilesStay, IsRunOf, ReadsTellTheFile, HoldOnlyWhatTheyMade}
 use Rattle.ux_laws.proofs.Opened.{chain_begins, way_there}
 use Rattle.ux_laws.proofs.Touching.{Touches, untouched, written, read_from, step_files}
 use Rattle.ux_laws.proofs.NoWay.{LeadsToObject, behind_leads, all_theirs}

@@ -1,5 +1,5 @@
 -- Processes of the start.
-use Rattle.std.specs.Prelude.{◌≡◌, ◌≢◌, ◌⊎◌, ℕ, ◌<◌, ◌≤◌, Bool, true, List, length, Some}
+use Rattle.std.specs.Prelude.{◌≡◌, ◌≢◌, ◌⊎◌, ℕ, ◌<◌, ◌≤◌, true, List, length, Some}
 use Rattle.std.specs.List.{slice_get}
 use Rattle.ux_model.specs.Types.{Request, Entry}
 use Rattle.ux_model.specs.State.{State}
