@@ -28,6 +28,7 @@ pub mod AcceptWaits
 pub mod SendWaits
 pub mod ConnectWaits
 pub mod ReplyKinds
+pub mod Unprivileged
 mod Play
 mod StreamExample
 mod RecordExample

@@ -2,6 +2,7 @@ pub mod Gathering
 pub mod Talking
 pub mod Streams
 pub mod Credentials
+pub mod Users
 pub mod Files
 pub mod Beginning
 pub mod Separation

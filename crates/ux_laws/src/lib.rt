@@ -18,6 +18,7 @@ ghost use Rattle.ux_laws.specs.Rights.{RightsComeOnce, RightsComeWithTheirMessag
 ghost use Rattle.ux_laws.specs.Separation.{KeptFilesAreSeparated};
 ghost use Rattle.ux_laws.specs.Streams.{StreamsAreReliable};
 ghost use Rattle.ux_laws.specs.ReplyKinds.{RepliesAreOfTheirKind};
+ghost use Rattle.ux_laws.specs.Users.{UnprivilegedStaySo, ChildrenAreOfTheirParents};
 
 /// Credentials that a receive or a peek reports (SCM_CREDENTIALS) are those that the sending process had at
 /// the time of its send, or that it gave while it was privileged; and each message of which the receive gives
@@ -31,6 +32,19 @@ pub fn nobody_forges_credentials()
 #[tactic(auto, using(crate::proofs::Makers::peers_are_the_makers))]
 pub fn peers_are_who_made_the_connection()
     ensures { PeersAreTheMakers }
+{}
+
+/// A process without privileges keeps its user and its group, and never gets privileges: so one that has dropped them
+/// has done so for good, whatever it calls.
+#[tactic(auto, using(crate::proofs::Unprivileged::unprivileged_stay_so))]
+pub fn unprivileged_processes_stay_so()
+    ensures { UnprivilegedStaySo }
+{}
+
+/// A child is of its parent's user and group, and as privileged as that.
+#[tactic(auto, using(crate::proofs::Unprivileged::children_are_of_their_parents))]
+pub fn children_are_of_their_parents()
+    ensures { ChildrenAreOfTheirParents }
 {}
 
 /// Streams are reliable: the bytes that sends and writes to a stream socket were answered to have taken, in

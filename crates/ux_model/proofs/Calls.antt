@@ -89,7 +89,7 @@ close_obeys S p fd = found (Call S) S p fd _ (refuses refl refl) (λ e D g h.
 pub exit_obeys : (S : State) (p : ℕ) → Obeys S lives_too (exit S p)
 unfolding exit
 exit_obeys S p = maybe (Obeys S lives_too) (process_at S p) _ _ (refuses refl refl)
-    (λ P h. answers refl refl refl (with_process_objects S p _) (with_process_reached S p P (record P { exited = true; table = map (λ e. None) P.table }) still h (λ d. none_counts d P.table) (length-map P.table _) (record { user = refl; privileged = refl })))
+    (λ P h. answers refl refl refl (with_process_objects S p _) (with_process_reached S p P (record P { exited = true; table = map (λ e. None) P.table }) still h (λ d. none_counts d P.table) (length-map P.table _) (record { user = refl; group = refl; privileged = refl })))
 
 pub fork_obeys : (S : State) (p : ℕ) → Obeys S lives_too (fork S p)
 unfolding fork

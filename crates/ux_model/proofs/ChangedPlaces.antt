@@ -1,5 +1,5 @@
 -- A list of places, one of which is changed.
-use Rattle.std.proofs.Common.{◌≡◌, ℕ, zero, suc, ◌+◌, ◌<◌, Bool, true, false, ◌==◌, cond, List, [], ◌∷◌, ◌++◌, length, Option, Some, None, option_map, sym, ◌∙◌, ap, refl, arith}
+use Rattle.std.proofs.Common.{◌≡◌, ℕ, zero, suc, ◌+◌, ◌<◌, ◌≤◌, Bool, true, false, ◌==◌, cond, List, [], ◌∷◌, ◌++◌, length, Option, Some, None, option_map, sym, ◌∙◌, ap, refl, arith}
 use Rattle.std.specs.List.{sum_by}
 use Rattle.std.proofs.lemmas.Bool.{eqb-true, eqb-false}
 use Rattle.std.proofs.lemmas.List.{get_or-set_other, length-set}
@@ -15,6 +15,12 @@ place_within (x ∷ xs) (suc n) D e = let h = place_within xs n D e in omega (ar
 pub bool_cases : {P : Type 0} (b : Bool) → (b ≡ true → P) → (b ≡ false → P) → P
 bool_cases true on off = on refl
 bool_cases false on off = off refl
+
+-- what is left up to a greater number
+pub rest_of : (a b : ℕ) → a ≤ b → (c : ℕ) × (a + c ≡ b)
+rest_of zero b h = (b, omega arith)
+rest_of (suc a) zero h = absurd (omega (arith, h))
+rest_of (suc a) (suc b) h = let rest = rest_of a b (omega (arith, h)) in let is : a + rest.0 ≡ b = rest.1 in (rest.0, omega (arith, is))
 
 pub changed_here : {X : Type 0} (ds : List (Option X)) (i : ℕ) (f : X → X) → place (changed_place ds i f) i ≡ option_map f (place ds i)
 changed_here [] i f = refl

@@ -3,16 +3,16 @@
 use Rattle.std.proofs.Common.{◌≡◌, ℕ, zero, suc, ◌+◌, ◌≤◌, Bool, true, false, List, [], ◌∷◌, ◌++◌, length, map, set, take, Option, Some, None, refl, ap, sym, subst, ◌∙◌, arith, ◌⊎◌, inl, inr, ◌==◌, ◌&&◌, ◌||◌, not}
 use Rattle.std.specs.Prelude.{sum_by, option_map, if◌then◌else◌}
 use Rattle.std.specs.List.{slice_get, enumerate_from}
-use Rattle.std.proofs.lemmas.Bool.{eqb-true, not-false, false≢true, and_parts}
+use Rattle.std.proofs.lemmas.Bool.{eqb-true, false≢true, and_parts}
 use Rattle.std.proofs.lemmas.List.{length-map, take_all}
 use Rattle.std.proofs.lemmas.List.Sums.{sum_by-cons, sum_by_push}
-use Rattle.ux_model.specs.Types.{Errno, Cred, Request, Reply, Entry}
+use Rattle.ux_model.specs.Types.{Cred, Request, Reply, Entry}
 use Rattle.ux_model.specs.Socket.{Socket}
 use Rattle.ux_model.specs.Description.{Description, Target, to_object, to_socket}
 use Rattle.ux_model.specs.Process.{Process}
 use Rattle.ux_model.specs.State.{State, process_at, description_at, with_socket_by, with_process, with_child, with_new}
-use Rattle.ux_model.specs.Outcome.{Outcome, Chosen, own, lacking_memory, failing, refuse}
-use Rattle.ux_model.specs.Users.{no_id, may_become, keeps_privileges, with_ids, set_ids}
+use Rattle.ux_model.specs.Outcome.{Chosen}
+use Rattle.ux_model.specs.Users.{may_become, keeps_privileges, with_ids, set_ids}
 use Rattle.ux_model.specs.Forking.{child_of}
 use Rattle.ux_model.specs.Connecting.{with_connection}
 use Rattle.ux_model.specs.Closing.{with_nothing_open}
@@ -24,8 +24,8 @@ use Rattle.ux_model.specs.Step.{Step, outcome}
 use Rattle.ux_model.specs.History.{replay, IsLegal}
 use Rattle.ux_model.specs.Pedigree.{before}
 use Rattle.ux_model.specs.FlightLaws.{AreLimited, becomes, FlightIsLimited, FlightOfUsersIsLimited}
-use Rattle.ux_model.proofs.Walk.{either, maybe}
-use Rattle.ux_model.proofs.ChangedPlaces.{bool_cases}
+use Rattle.ux_model.proofs.ChangedIds.{Becomes, ids_chosen}
+use Rattle.ux_model.proofs.ChangedPlaces.{bool_cases, rest_of}
 use Rattle.ux_model.proofs.Induction.{take_past, take_next}
 use Rattle.ux_model.proofs.OnePlace.{more_by}
 use Rattle.ux_model.proofs.Flying.{nothing_flying, flying_changed}
@@ -99,7 +99,7 @@ child_within K u limit S i P up there w = (are, w.1)
       where
         go : (slice_get S.processes j ≡ Some R) ⊎ (child_of P ≡ R) → K R
         go (inl old) = w.0 (suc j) R old
-        go (inr e) = subst K e (up.shrinks P (child_of P) (omega arith) (record { user = refl; privileged = refl }) (w.0 (suc i) P there))
+        go (inr e) = subst K e (up.shrinks P (child_of P) (omega arith) (record { user = refl; group = refl; privileged = refl }) (w.0 (suc i) P there))
 
 -- where all tables are emptied
 turned_are : (u limit : ℕ) (K : Process → Type 0) (Ps : List Process) → Upholds u limit K → ((i : ℕ) (P : Process) → slice_get Ps i ≡ Some P → K P) →
@@ -108,7 +108,7 @@ turned_are u limit K [] up are i R h = absurd (cc h)
 turned_are u limit K (P ∷ Ps) up are zero R h =
     let e : with_nothing_open P ≡ R = cc h in
     let long : length (with_nothing_open P).table ≡ length P.table = length-map P.table _ in
-    subst K e (up.shrinks P (with_nothing_open P) (omega (arith, long)) (record { user = refl; privileged = refl }) (are zero P refl))
+    subst K e (up.shrinks P (with_nothing_open P) (omega (arith, long)) (record { user = refl; group = refl; privileged = refl }) (are zero P refl))
 turned_are u limit K (P ∷ Ps) up are (suc i) R h = turned_are u limit K Ps up (λ j Q there. are (suc j) Q there) i R h
 
 -- ---- changes of the descriptions
@@ -146,16 +146,11 @@ unfolding in_flight
 changed_place_within K u limit S d x up keeps w =
     let low : in_flight S u ≤ limit = w.1 in
     let fits : in_flight S u + flying_in u x ≤ limit + flying_in u (description_at S d) = keeps.flies u limit (limits u limit K S up w.0) low in
-    let room = room_of (in_flight S u) limit low in
+    let room = rest_of (in_flight S u) limit low in
     let is : in_flight S u + room.0 ≡ limit = room.1 in
     let more : flying_in u x ≤ flying_in u (description_at S d) + room.0 = omega (arith, fits, is) in
     let all = more_by (flying_in u) S.descriptions d room.0 x more in
     (same_are K S (record S { descriptions = set S.descriptions d x }) refl w.0, omega (arith, all, is))
-  where
-    room_of : (a b : ℕ) → a ≤ b → (c : ℕ) × (a + c ≡ b)
-    room_of zero b h = (b, omega arith)
-    room_of (suc a) zero h = absurd (omega (arith, h))
-    room_of (suc a) (suc b) h = let rest = room_of a b (omega (arith, h)) in let is : a + rest.0 ≡ b = rest.1 in (rest.0, omega (arith, is))
 
 -- where everything goes
 nothing_left : (u : ℕ) (ds : List (Option Description)) → sum_by (flying_in u) (map (λ D. None) ds) ≡ 0
@@ -236,40 +231,6 @@ settled_within K u limit S w =
     same_within K u limit (drop_rounds n S) _ refl refl (fewer_within K u limit S (drop_rounds n S) (settled_keeps n S) (rounds_left u n S) w)
 
 -- ---- a change of ids
-
--- what comes of it: nothing changes, or its process has the new ids
-record Becomes (S : State) (p uid gid : ℕ) (reply : Reply) (T : State) : Type 0 where
-  process : Process
-  there : process_at S p ≡ Some process
-  may : may_become uid gid process ≡ true
-  done : reply ≡ Reply.Ok
-  next : T ≡ with_process S p (with_ids uid gid process)
-
-record IsOfIds (S : State) (p uid gid : ℕ) (o : Outcome) : Type 0 where
-  next : (o.next ≡ S) ⊎ Becomes S p uid gid o.reply o.next
-  failure : o.failure ≡ None
-
-ids_are : (S : State) (p uid gid : ℕ) → IsOfIds S p uid gid (set_ids S p uid gid)
-unfolding set_ids
-ids_are S p uid gid = maybe (IsOfIds S p uid gid) (process_at S p) _ _ still
-    (λ P h. either (IsOfIds S p uid gid) ((uid == no_id) || (gid == no_id)) _ _ (λ b. still)
-    (λ b. either (IsOfIds S p uid gid) (not (may_become uid gid P)) _ _ (λ c. still)
-    (λ c. record { next = inr (record { process = P; there = h; may = not-false (may_become uid gid P) c; done = refl; next = refl }); failure = refl })))
-  where
-    still : {e : Errno} → IsOfIds S p uid gid (refuse S e)
-    still {e} = record { next = inl refl; failure = refl }
-
-ids_chosen : (S T : State) (p uid gid : ℕ) (reply : Reply) → Chosen S (set_ids S p uid gid) reply T → (T ≡ S) ⊎ Becomes S p uid gid reply T
-ids_chosen S T p uid gid reply (own e f) = go (ids_are S p uid gid).next
-  where
-    o : Outcome
-    o = set_ids S p uid gid
-
-    go : (o.next ≡ S) ⊎ Becomes S p uid gid o.reply o.next → (T ≡ S) ⊎ Becomes S p uid gid reply T
-    go (inl same) = inl (f ∙ same)
-    go (inr b) = inr (record { process = b.process; there = b.there; may = b.may; done = e ∙ b.done; next = f ∙ b.next })
-ids_chosen S T p uid gid reply (lacking_memory e may f) = inl f
-ids_chosen S T p uid gid reply (failing e f) = absurd (cc (f, (ids_are S p uid gid).failure))
 
 -- where what its process is stays, so does it where the process has the new ids
 ids_within : (K : Process → Type 0) (u limit : ℕ) (S T : State) (p uid gid : ℕ) (reply : Reply) →

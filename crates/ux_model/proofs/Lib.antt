@@ -39,6 +39,7 @@ pub mod ConnectedSound
 pub mod ReachedSound
 pub mod ReleasedSound
 pub mod Dangling
+pub mod ChangedIds
 pub mod FlightLaws
 pub mod StaysBounded
 pub mod ReceivedSizes

@@ -265,7 +265,7 @@ fork_own S p = maybe After_own (process_at S p) _ _ (no_fork S p Errno.ESRCH)
     After_own : Outcome → Type 0
     After_own o = After S p Request.Fork o.reply (exits o.next)
 
-fork_fails_not : (S : State) (p : ℕ) → (fork S p).failure ≡ None
+pub fork_fails_not : (S : State) (p : ℕ) → (fork S p).failure ≡ None
 unfolding fork
 fork_fails_not S p = maybe (λ o. o.failure ≡ None) (process_at S p) _ _ refl (λ P h. either (λ o. o.failure ≡ None) (nat_le made_limit (length S.processes)) _ _ (λ b. refl) (λ b. refl))
 

@@ -50,9 +50,10 @@ lives_too = record { lives = true; users = false }
 abbrev pub users_too : May
 users_too = record { lives = false; users = true }
 
--- a process stays one of the same user, privileged as before
+-- a process stays one of the same user and group, privileged as before
 pub record IsOfSameUser (P Q : Process) : Type 0 where
   pub user : Q.uid ≡ P.uid
+  pub group : Q.gid ≡ P.gid
   pub privileged : Q.privileged ≡ P.privileged
 
 -- Of one place: from so many rights in flight to so many others, by user, so that all together stay within each limit of the processes.
@@ -271,7 +272,7 @@ with_table_reached {S} {may} T (suc i) table r names = go (slice_get T.processes
     go : (o : Option Process) → slice_get T.processes i ≡ o → (IsSound S → NamesWhatIsThere T (table_in o) table) →
         Reaches S may (elim o as (λ _. State) [ Some P ↦ record T { processes = set T.processes i (record P { table = table }) } | None ↦ T ])
     go None h names = r
-    go (Some P) h names = process_changed i P (record P { table = table }) r h names (λ k. refl) (λ k. record { user = refl; privileged = refl })
+    go (Some P) h names = process_changed i P (record P { table = table }) r h names (λ k. refl) (λ k. record { user = refl; group = refl; privileged = refl })
 
 -- what a call may change
 abbrev pub may_change : Request → May
