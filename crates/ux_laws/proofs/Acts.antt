@@ -1,5 +1,6 @@
 -- What a call does to descriptions, as far as Parts sees them: one case a kind of change, and what is known of the call then.
-use Rattle.std.proofs.Common.{◌≡◌, ◌⊎◌, ℕ, Bool, true, false, if◌then◌else◌, List, [], ◌∷◌, length, take, Option, Some, None, Ok, refl, ap, sym, ◌∙◌}
+use Rattle.std.proofs.Common.{◌≡◌, ◌⊎◌, ℕ, Bool, true, false, if◌then◌else◌, List, [], ◌∷◌, length, take, Option, Some, None, Ok, refl, ap}
+use Rattle.std.proofs.Common.{sym, ◌∙◌}
 use Rattle.std.specs.Prelude.{ℤ}
 use Rattle.std.proofs.lemmas.Bool.{false≢true}
 use Rattle.ux_model.specs.Types.{Fd, Name, Addr, SockType, Mode, OpenFlags, Request, Reply}
@@ -17,7 +18,8 @@ use Rattle.ux_model.specs.Connecting.{Listener, listener_of, with_listening, wit
 use Rattle.ux_model.specs.Sending.{descriptions_behind}
 use Rattle.ux_model.specs.Giving.{sent_by}
 use Rattle.ux_model.proofs.ByPlace.{take_none}
-use Rattle.ux_laws.specs.Talking.{offered_bytes, request_addr, is_peek, taken_count, given_bytes, socket_through, goes_to, is_number, is_first, sends_to, receives_through}
+use Rattle.ux_laws.specs.Talking.{offered_bytes, request_addr, is_peek, taken_count, given_bytes, socket_through, goes_to, is_number}
+use Rattle.ux_laws.specs.Talking.{is_first, sends_to, receives_through}
 use Rattle.ux_laws.specs.Streams.{sent_now, received_now}
 use Rattle.ux_laws.specs.Records.{is_count, is_given}
 use Rattle.ux_laws.specs.Credentials.{MaySend}
@@ -35,7 +37,8 @@ pub record MovesNothing (S : State) (p : ℕ) (request : Request) (reply : Reply
   pub bytes_out : (d : ℕ) → sent_now d S p request reply ≡ []
   pub bytes_in : (d : ℕ) → received_now d S p request reply ≡ []
   -- What is taken all the same is nothing of a stream, and what is given where nothing waits.
-  pub record_out : (d : ℕ) → sends_to S d p request ≡ true → is_count reply ≡ true → (t : Socket) × (socket_at S d ≡ Some t) × (is_stream t.kind ≡ true)
+  pub record_out : (d : ℕ) → sends_to S d p request ≡ true → is_count reply ≡ true →
+      (t : Socket) × (socket_at S d ≡ Some t) × (is_stream t.kind ≡ true)
   pub record_in : (d : ℕ) → receives_through S d p request ≡ true → is_peek request ≡ false → is_given reply ≡ true →
       (s : Socket) × (socket_through S p request ≡ Some (d, s)) × (socket_at S d ≡ Some s) × ((s.queue ≡ []) ⊎ (is_stream s.kind ≡ true))
 
@@ -61,14 +64,16 @@ silent {S} {p} {request} {reply} h =
     let counts = silent_count reply h in
     let gives = silent_bytes reply h in
     record {
-      bytes_out = λ d. either_none (sends_to S d p request) (take (taken_count reply) (offered_bytes request)) (ap (λ n. take n (offered_bytes request)) counts.0 ∙ take_none (offered_bytes request));
+      bytes_out = λ d. either_none (sends_to S d p request) (take (taken_count reply) (offered_bytes request))
+          (ap (λ n. take n (offered_bytes request)) counts.0 ∙ take_none (offered_bytes request));
       bytes_in = λ d. none_either (is_peek request) _ (either_none (receives_through S d p request) (given_bytes reply) gives.0);
       record_out = λ d to count. absurd (false≢true (sym counts.1 ∙ count));
       record_in = λ d by peek given. absurd (false≢true (sym gives.1 ∙ given));
     }
 
 -- what is no call at a socket
-pub at_no_socket : {S : State} {p : ℕ} {request : Request} {reply : Reply} → socket_through S p request ≡ None → MovesNothing S p request reply
+pub at_no_socket : {S : State} {p : ℕ} {request : Request} {reply : Reply} → socket_through S p request ≡ None →
+    MovesNothing S p request reply
 at_no_socket {S} {p} {request} {reply} h = record {
   bytes_out = λ d. ap (λ b. if b then take (taken_count reply) (offered_bytes request) else []) (nowhere d);
   bytes_in = λ d. none_either (is_peek request) _ (ap (λ b. if b then given_bytes reply else []) (by_none d));
@@ -77,7 +82,8 @@ at_no_socket {S} {p} {request} {reply} h = record {
 }
   where
     nowhere : (d : ℕ) → sends_to S d p request ≡ false
-    nowhere d = ap (λ (o : Option (ℕ × Socket)). is_number d (elim o as (λ _. Option ℕ) [ None ↦ None | Some found ↦ goes_to S found.1 (request_addr request) ])) h
+    nowhere d = ap (λ (o : Option (ℕ × Socket)). is_number d
+        (elim o as (λ _. Option ℕ) [ None ↦ None | Some found ↦ goes_to S found.1 (request_addr request) ])) h
 
     by_none : (d : ℕ) → receives_through S d p request ≡ false
     by_none d = ap (is_first d) h
@@ -101,7 +107,8 @@ pub record IsSending (S : State) (p tag : ℕ) (request : Request) (reply : Repl
   pub answered : reply ≡ Reply.Count (length (sent_part target m).bytes)
   pub room : has_room target ≡ true
 
-pub record IsTaking (S : State) (p : ℕ) (request : Request) (reply : Reply) (d n : ℕ) (s : Socket) (m : Message) (ms : List Message) : Type 0 where
+pub record IsTaking (S : State) (p : ℕ) (request : Request) (reply : Reply) (d n : ℕ) (s : Socket) (m : Message) (ms : List Message) : Type
+    0 where
   pub through : socket_through S p request ≡ Some (d, s)
   pub there : socket_at S d ≡ Some s
   pub waiting : s.queue ≡ m ∷ ms
@@ -114,28 +121,41 @@ pub record IsTaking (S : State) (p : ℕ) (request : Request) (reply : Reply) (d
 -- What the call may leave, of which some goes at its end.
 pub data Did (S : State) (p tag : ℕ) (request : Request) (reply : Reply) (U : State) : Type 0 where
   quiet : Shrinks S U → MovesNothing S p request reply → Did S p tag request reply U
-  opened : (path : Name) (mode : Mode) (flags : OpenFlags) (o : ℕ) → request ≡ Request.Open path mode flags → named path S.paths ≡ Some (file o) → is_silent reply ≡ true →
+  opened : (path : Name) (mode : Mode) (flags : OpenFlags) (o : ℕ) → request ≡ Request.Open path mode flags →
+      named path S.paths ≡ Some (file o) → is_silent reply ≡ true →
       Shrinks (with_new S (file_description o mode flags)) U → Did S p tag request reply U
-  one_made : (kind : SockType) (flags : OpenFlags) → is_silent reply ≡ true → Shrinks (with_new S (socket_description flags (new_socket kind))) U → Did S p tag request reply U
-  pair_made : (kind : SockType) (flags : OpenFlags) (P : Process) (a b : Fd) → request ≡ Request.SocketPair kind flags → reply ≡ Reply.Fds a b → process_at S p ≡ Some P →
+  one_made : (kind : SockType) (flags : OpenFlags) → is_silent reply ≡ true →
+      Shrinks (with_new S (socket_description flags (new_socket kind))) U → Did S p tag request reply U
+  pair_made : (kind : SockType) (flags : OpenFlags) (P : Process) (a b : Fd) → request ≡ Request.SocketPair kind flags →
+      reply ≡ Reply.Fds a b → process_at S p ≡ Some P →
       Shrinks (with_pair S kind flags (own_cred p P)) U → Did S p tag request reply U
-  listened : (fd : Fd) (backlog : ℤ) (P : Process) (d limit : ℕ) (s : Socket) → request ≡ Request.Listen fd backlog → reply ≡ Reply.Ok → process_at S p ≡ Some P →
-      find_socket S p fd ≡ Ok (d, s) → socket_at S d ≡ Some s → peer_of s.phase ≡ None → Shrinks (with_socket_by S d (with_listening limit (own_cred p P))) U → Did S p tag request reply U
-  tied_to : (d : ℕ) (target : Option ℕ) (s : Socket) → is_silent reply ≡ true → socket_at S d ≡ Some s → Shrinks (with_socket_by S d (with_association target)) U → Did S p tag request reply U
-  connected : (fd : Fd) (addr : Addr) (P : Process) (d l : ℕ) (s other : Socket) (kept : Listener) → request ≡ Request.Connect fd addr → reply ≡ Reply.Ok → process_at S p ≡ Some P →
-      find_socket S p fd ≡ Ok (d, s) → socket_at S d ≡ Some s → peer_of s.phase ≡ None → look_up S s.kind addr ≡ Ok (l, other) → socket_at S l ≡ Some other → listener_of other.phase ≡ Some kept →
-      Shrinks (with_connection S (record { client = d; client_cred = own_cred p P; listener = l; socket = other; listener_cred = kept.cred })) U → Did S p tag request reply U
+  listened : (fd : Fd) (backlog : ℤ) (P : Process) (d limit : ℕ) (s : Socket) → request ≡ Request.Listen fd backlog → reply ≡ Reply.Ok →
+      process_at S p ≡ Some P →
+      find_socket S p fd ≡ Ok (d, s) → socket_at S d ≡ Some s → peer_of s.phase ≡ None →
+      Shrinks (with_socket_by S d (with_listening limit (own_cred p P))) U → Did S p tag request reply U
+  tied_to : (d : ℕ) (target : Option ℕ) (s : Socket) → is_silent reply ≡ true → socket_at S d ≡ Some s →
+      Shrinks (with_socket_by S d (with_association target)) U → Did S p tag request reply U
+  connected : (fd : Fd) (addr : Addr) (P : Process) (d l : ℕ) (s other : Socket) (kept : Listener) → request ≡ Request.Connect fd addr →
+      reply ≡ Reply.Ok → process_at S p ≡ Some P →
+      find_socket S p fd ≡ Ok (d, s) → socket_at S d ≡ Some s → peer_of s.phase ≡ None → look_up S s.kind addr ≡ Ok (l, other) →
+      socket_at S l ≡ Some other → listener_of other.phase ≡ Some kept →
+      Shrinks (with_connection S (record { client = d; client_cred = own_cred p P; listener = l; socket = other; listener_cred =
+      kept.cred })) U → Did S p tag request reply U
   put : (t : ℕ) (m : Message) → IsSending S p tag request reply t m → Shrinks (with_socket_by S t (sent m)) U → Did S p tag request reply U
-  took : (d n : ℕ) (s : Socket) (m : Message) (ms : List Message) → IsTaking S p request reply d n s m ms → Shrinks (with_socket_by S d (with_queue (front_of n s m ms).rest)) U →
+  took : (d n : ℕ) (s : Socket) (m : Message) (ms : List Message) → IsTaking S p request reply d n s m ms →
+      Shrinks (with_socket_by S d (with_queue (front_of n s m ms).rest)) U →
       Did S p tag request reply U
 
-pub did_after : (S U T : State) (p tag : ℕ) (request : Request) (reply : Reply) → Did S p tag request reply U → Shrinks U T → Did S p tag request reply T
+pub did_after : (S U T : State) (p tag : ℕ) (request : Request) (reply : Reply) → Did S p tag request reply U → Shrinks U T →
+    Did S p tag request reply T
 did_after S U T p tag request reply (quiet a b) g = quiet (shrunk_after S U T a g) b
 did_after S U T p tag request reply (opened path mode flags o a b c k) g = opened path mode flags o a b c (shrunk_after _ U T k g)
 did_after S U T p tag request reply (one_made kind flags a k) g = one_made kind flags a (shrunk_after _ U T k g)
 did_after S U T p tag request reply (pair_made kind flags P x y a b c k) g = pair_made kind flags P x y a b c (shrunk_after _ U T k g)
-did_after S U T p tag request reply (listened fd backlog P d limit s a b c e f h k) g = listened fd backlog P d limit s a b c e f h (shrunk_after _ U T k g)
+did_after S U T p tag request reply (listened fd backlog P d limit s a b c e f h k) g =
+    listened fd backlog P d limit s a b c e f h (shrunk_after _ U T k g)
 did_after S U T p tag request reply (tied_to d target s a b k) g = tied_to d target s a b (shrunk_after _ U T k g)
-did_after S U T p tag request reply (connected fd addr P d l s other kept a b c e f h i j m k) g = connected fd addr P d l s other kept a b c e f h i j m (shrunk_after _ U T k g)
+did_after S U T p tag request reply (connected fd addr P d l s other kept a b c e f h i j m k) g =
+    connected fd addr P d l s other kept a b c e f h i j m (shrunk_after _ U T k g)
 did_after S U T p tag request reply (put t m a k) g = put t m a (shrunk_after _ U T k g)
 did_after S U T p tag request reply (took d n s m ms a k) g = took d n s m ms a (shrunk_after _ U T k g)

@@ -19,7 +19,8 @@ calls = made boot 0 (
     (2, pair_of SockType.Stream) ∷
     (2, Request.Write (fd 0) (codes "x")) ∷ [])
 
-what_was_answered : replies calls ≡ Reply.Fd (fd 0) ∷ Reply.Err Errno.EBADF ∷ Reply.Bytes (codes "ab") ∷ Reply.Fds (fd 0) (fd 1) ∷ Reply.Count 1 ∷ []
+what_was_answered : replies calls ≡ Reply.Fd (fd 0) ∷ Reply.Err Errno.EBADF ∷ Reply.Bytes (codes "ab") ∷ Reply.Fds (fd 0)
+    (fd 1) ∷ Reply.Count 1 ∷ []
 unfolding computing
 what_was_answered = refl
 

@@ -1,9 +1,11 @@
 -- What a call does to names: it binds or takes away those that it gives, and those of sockets that it frees go.
-use Rattle.std.proofs.Common.{◌≡◌, ◌⊎◌, ℕ, zero, suc, ◌==◌, Bool, true, false, not, ◌||◌, if◌then◌else◌, cond, List, [], ◌∷◌, ◌++◌, length, filter, Some, None, option_map, refl, ap, sym, ◌∙◌, subst, slice_get, inl, inr, ⊎_elim}
+use Rattle.std.proofs.Common.{◌≡◌, ◌⊎◌, ℕ, zero, suc, ◌==◌, Bool, true, false, not, ◌||◌, if◌then◌else◌, cond, List, [], ◌∷◌, ◌++◌, length}
+use Rattle.std.proofs.Common.{filter, Some, None, option_map, refl, ap, sym, ◌∙◌, subst, slice_get, inl, inr, ⊎_elim}
 use Rattle.std.specs.Prelude.{is_some}
 use Rattle.std.proofs.lemmas.Bool.{false≢true}
 use Rattle.ux_model.specs.Types.{Fd, Name, Addr, SockOpt, Request, Reply, Entry}
-use Rattle.ux_model.specs.Names.{PathTarget, bound, same_name, named, without_name, is_valid_path, is_valid_addr, is_unnamed_addr, free_name}
+use Rattle.ux_model.specs.Names.{PathTarget, bound, same_name, named, without_name, is_valid_path, is_valid_addr, is_unnamed_addr}
+use Rattle.ux_model.specs.Names.{free_name}
 use Rattle.ux_model.specs.Socket.{Socket, is_stream, tied_socket}
 use Rattle.ux_model.specs.State.{State, description_at}
 use Rattle.ux_model.specs.Outcome.{Outcome, Chosen, own, lacking_memory, failing}
@@ -30,20 +32,24 @@ use Rattle.ux_laws.proofs.Touching.{NamesSame, each_names, names_equal}
 
 -- ---- lists of names
 
-named_front : {X : Type 0} (name : Name) (es : List (Name × X)) (x : Name × X) (d : X) → named name es ≡ Some d → named name (es ++ x ∷ []) ≡ Some d
+named_front : {X : Type 0} (name : Name) (es : List (Name × X)) (x : Name × X) (d : X) → named name es ≡ Some d →
+    named name (es ++ x ∷ []) ≡ Some d
 named_front name [] x d h = absurd (cc h)
 named_front {X} name (e ∷ es) x d h = go (same_name e.0 name) (named_front name es x d) h
   where
-    go : (b : Bool) → (named name es ≡ Some d → named name (es ++ x ∷ []) ≡ Some d) → (if b then Some e.1 else named name es) ≡ Some d → (if b then Some e.1 else named name (es ++ x ∷ [])) ≡ Some d
+    go : (b : Bool) → (named name es ≡ Some d → named name (es ++ x ∷ []) ≡ Some d) → (if b then Some e.1 else named name es) ≡ Some d →
+        (if b then Some e.1 else named name (es ++ x ∷ [])) ≡ Some d
     go true rest h = h
     go false rest h = rest h
 
 -- what is pushed under another name changes nothing
-named_other : {X : Type 0} (name : Name) (es : List (Name × X)) (x : Name × X) → same_name x.0 name ≡ false → named name (es ++ x ∷ []) ≡ named name es
+named_other : {X : Type 0} (name : Name) (es : List (Name × X)) (x : Name × X) → same_name x.0 name ≡ false →
+    named name (es ++ x ∷ []) ≡ named name es
 named_other name [] x h = ap (λ b. if b then Some x.1 else None) h
 named_other {X} name (e ∷ es) x h = go (same_name e.0 name) (named_other name es x h)
   where
-    go : (b : Bool) → named name (es ++ x ∷ []) ≡ named name es → (if b then Some e.1 else named name (es ++ x ∷ [])) ≡ (if b then Some e.1 else named name es)
+    go : (b : Bool) → named name (es ++ x ∷ []) ≡ named name es →
+        (if b then Some e.1 else named name (es ++ x ∷ [])) ≡ (if b then Some e.1 else named name es)
     go true rest = refl
     go false rest = rest
 
@@ -56,15 +62,18 @@ own_of_none : (mine : ℕ → Type 0) (name : Name) (es : List (Name × ℕ)) �
 own_of_none mine name [] h = tt
 own_of_none mine name (e ∷ es) h = go (same_name e.0 name) (own_of_none mine name es) h
   where
-    go : (b : Bool) → (named name es ≡ None → OwnNames mine name es) → (if b then Some e.1 else named name es) ≡ None → (b ≡ true → mine e.1) × OwnNames mine name es
+    go : (b : Bool) → (named name es ≡ None → OwnNames mine name es) → (if b then Some e.1 else named name es) ≡ None →
+        (b ≡ true → mine e.1) × OwnNames mine name es
     go true rest h = absurd (cc h)
     go false rest h = (λ is. absurd (false≢true is), rest h)
 
-own_pushed : (mine : ℕ → Type 0) (name : Name) (es : List (Name × ℕ)) (x : Name × ℕ) → mine x.1 → OwnNames mine name es → OwnNames mine name (es ++ x ∷ [])
+own_pushed : (mine : ℕ → Type 0) (name : Name) (es : List (Name × ℕ)) (x : Name × ℕ) → mine x.1 → OwnNames mine name es →
+    OwnNames mine name (es ++ x ∷ [])
 own_pushed mine name [] x h all = (λ is. h, tt)
 own_pushed mine name (e ∷ es) x h all = (all.0, own_pushed mine name es x h all.1)
 
-own_kept : (mine : ℕ → Type 0) (name : Name) (keep : Name × ℕ → Bool) (es : List (Name × ℕ)) → OwnNames mine name es → OwnNames mine name (filter keep es)
+own_kept : (mine : ℕ → Type 0) (name : Name) (keep : Name × ℕ → Bool) (es : List (Name × ℕ)) → OwnNames mine name es →
+    OwnNames mine name (filter keep es)
 own_kept mine name keep [] all = tt
 own_kept mine name keep (e ∷ es) all = go (keep e) (own_kept mine name keep es all.1)
   where
@@ -83,19 +92,24 @@ own_found mine name (e ∷ es) d all h = go (same_name e.0 name) refl (own_found
     go false is rest h = rest h
 
 -- where some are taken out
-named_kept : (gone : ℕ → Bool) (name : Name) (es : List (Name × ℕ)) (d : ℕ) → named name es ≡ Some d → gone d ≡ false → named name (filter (λ e. not (gone e.1)) es) ≡ Some d
+named_kept : (gone : ℕ → Bool) (name : Name) (es : List (Name × ℕ)) (d : ℕ) → named name es ≡ Some d → gone d ≡ false →
+    named name (filter (λ e. not (gone e.1)) es) ≡ Some d
 named_kept gone name [] d h stays = absurd (cc h)
 named_kept gone name (e ∷ es) d h stays = by_name (same_name e.0 name) refl (named_kept gone name es d) h
   where
-    kept : (g : Bool) → (if same_name e.0 name then Some e.1 else named name (filter (λ x. not (gone x.1)) es)) ≡ Some d → g ≡ false → named name (cond (not g) (e ∷ filter (λ x. not (gone x.1)) es) (filter (λ x. not (gone x.1)) es)) ≡ Some d
+    kept : (g : Bool) → (if same_name e.0 name then Some e.1 else named name (filter (λ x. not (gone x.1)) es)) ≡ Some d → g ≡ false →
+        named name (cond (not g) (e ∷ filter (λ x. not (gone x.1)) es) (filter (λ x. not (gone x.1)) es)) ≡ Some d
     kept true h g = absurd (false≢true (sym g))
     kept false h g = h
 
-    skipped : (g : Bool) → same_name e.0 name ≡ false → named name (filter (λ x. not (gone x.1)) es) ≡ Some d → named name (cond (not g) (e ∷ filter (λ x. not (gone x.1)) es) (filter (λ x. not (gone x.1)) es)) ≡ Some d
+    skipped : (g : Bool) → same_name e.0 name ≡ false → named name (filter (λ x. not (gone x.1)) es) ≡ Some d →
+        named name (cond (not g) (e ∷ filter (λ x. not (gone x.1)) es) (filter (λ x. not (gone x.1)) es)) ≡ Some d
     skipped true other h = h
     skipped false other h = ap (λ b. if b then Some e.1 else named name (filter (λ x. not (gone x.1)) es)) other ∙ h
 
-    by_name : (b : Bool) → same_name e.0 name ≡ b → (named name es ≡ Some d → gone d ≡ false → named name (filter (λ x. not (gone x.1)) es) ≡ Some d) → (if b then Some e.1 else named name es) ≡ Some d →
+    by_name : (b : Bool) → same_name e.0 name ≡ b →
+        (named name es ≡ Some d → gone d ≡ false → named name (filter (λ x. not (gone x.1)) es) ≡ Some d) →
+        (if b then Some e.1 else named name es) ≡ Some d →
         named name (cond (not (gone e.1)) (e ∷ filter (λ x. not (gone x.1)) es) (filter (λ x. not (gone x.1)) es)) ≡ Some d
     by_name true is rest h =
         let same : e.1 ≡ d = cc h in
@@ -103,11 +117,14 @@ named_kept gone name (e ∷ es) d h stays = by_name (same_name e.0 name) refl (n
     by_name false is rest h = skipped (gone e.1) is (rest h stays)
 
 -- a path that isn't taken away
-named_left : (name path : Name) (es : List (Name × PathTarget)) → same_name name path ≡ false → named path (without_name name es) ≡ named path es
+named_left : (name path : Name) (es : List (Name × PathTarget)) → same_name name path ≡ false →
+    named path (without_name name es) ≡ named path es
 named_left name path [] other = refl
 named_left name path (e ∷ es) other = by_name (same_name e.0 name) refl (named_left name path es other)
   where
-    by_name : (b : Bool) → same_name e.0 name ≡ b → named path (without_name name es) ≡ named path es → named path (cond (not b) (e ∷ without_name name es) (without_name name es)) ≡ (if same_name e.0 path then Some e.1 else named path es)
+    by_name : (b : Bool) → same_name e.0 name ≡ b → named path (without_name name es) ≡ named path es →
+        named path (cond (not b) (e ∷ without_name name es) (without_name name es)) ≡
+        (if same_name e.0 path then Some e.1 else named path es)
     by_name true is rest =
         let same : e.0 ≡ name = names_equal e.0 name is in
         rest ∙ sym (ap (λ b. if b then Some e.1 else named path es) (ap (λ (n : Name). same_name n path) same ∙ other))
@@ -119,7 +136,8 @@ abbrev HasHere : State → ℕ → ℕ → Type 0
 HasHere S p d = (n : ℕ) × (description_of S p n ≡ Some d)
 
 record NamesLeft (S : State) (p : ℕ) (request : Request) (U : State) : Type 0 where
-  pub stay : (name : Name) (d : ℕ) → named name S.abstract_names ≡ Some d → (named name U.abstract_names ≡ Some d) ⊎ (description_at U d ≡ None)
+  pub stay : (name : Name) (d : ℕ) → named name S.abstract_names ≡ Some d →
+      (named name U.abstract_names ≡ Some d) ⊎ (description_at U d ≡ None)
   pub mine : (name : Name) → named name S.abstract_names ≡ None → OwnNames (HasHere S p) name U.abstract_names
   pub paths : (path : Name) → names_path request path ≡ false → named path U.paths ≡ named path S.paths
 
@@ -130,37 +148,44 @@ by_same {S} {p} {request} {U} k = record {
   paths = λ path other. ap (λ l. named path l) k.paths;
 }
 
-unchanged : {S : State} {p : ℕ} {request : Request} {U : State} → U.abstract_names ≡ S.abstract_names → U.paths ≡ S.paths → NamesLeft S p request U
+unchanged : {S : State} {p : ℕ} {request : Request} {U : State} → U.abstract_names ≡ S.abstract_names → U.paths ≡ S.paths →
+    NamesLeft S p request U
 unchanged h k = by_same (record { paths = k; abstracts = h })
 
 -- one more name of the abstract namespace, of a socket of the caller's own
-one_bound : {S : State} {p : ℕ} {request : Request} (U : State) (name : Name) (d n : ℕ) → description_of S p n ≡ Some d → U.abstract_names ≡ S.abstract_names ++ (name, d) ∷ [] → U.paths ≡ S.paths → NamesLeft S p request U
+one_bound : {S : State} {p : ℕ} {request : Request} (U : State) (name : Name) (d n : ℕ) → description_of S p n ≡ Some d →
+    U.abstract_names ≡ S.abstract_names ++ (name, d) ∷ [] → U.paths ≡ S.paths → NamesLeft S p request U
 one_bound {S} {p} {request} U name d n mine is same = record {
   stay = λ x k h. inl (ap (λ l. named x l) is ∙ named_front x S.abstract_names (name, d) k h);
-  mine = λ x none. subst (OwnNames (HasHere S p) x) (sym is) (own_pushed (HasHere S p) x S.abstract_names (name, d) (n, mine) (own_of_none (HasHere S p) x S.abstract_names none));
+  mine = λ x none. subst (OwnNames (HasHere S p) x) (sym is)
+      (own_pushed (HasHere S p) x S.abstract_names (name, d) (n, mine) (own_of_none (HasHere S p) x S.abstract_names none));
   paths = λ path other. ap (λ l. named path l) same;
 }
 
 bind_left : (S : State) (p : ℕ) (fd : Fd) (addr : Addr) → NamesLeft S p (Request.Bind fd addr) (bind S p fd addr).next
 unfolding bind
 bind_left S p fd addr = by_own Q S p (Request.Bind fd addr) fd _ (λ e. unchanged refl refl)
-    (λ d s mine there. either Q (not (is_unnamed_addr s.name) || not (is_valid_addr addr)) _ _ (λ b. unchanged refl refl) (λ b. to d mine addr refl))
+    (λ d s mine there. either Q (not (is_unnamed_addr s.name) || not (is_valid_addr addr)) _ _ (λ b. unchanged refl refl)
+    (λ b. to d mine addr refl))
   where
     Q : Outcome → Type 0
     Q o = NamesLeft S p (Request.Bind fd addr) o.next
 
     to : (d : ℕ) → description_of S p fd.0 ≡ Some d → (a : Addr) → addr ≡ a → Q (bind_to S d a)
-    to d mine Addr.Unnamed is = maybe Q (free_name S.abstract_names) _ _ (unchanged refl refl) (λ name h. one_bound _ name d fd.0 mine refl refl)
+    to d mine Addr.Unnamed is = maybe Q (free_name S.abstract_names) _ _ (unchanged refl refl)
+        (λ name h. one_bound _ name d fd.0 mine refl refl)
     to d mine (Addr.Path name) is = either Q (is_some (named name S.paths)) _ _ (λ b. unchanged refl refl) (λ b. record {
       stay = λ x k h. inl h;
       mine = λ x none. own_of_none (HasHere S p) x S.abstract_names none;
       paths = λ path other. named_other path S.paths (name, bound d) (sym (ap (λ (y : Addr). is_path y path) is) ∙ other);
     })
-    to d mine (Addr.Abstract name) is = either Q (is_some (named name S.abstract_names)) _ _ (λ b. unchanged refl refl) (λ b. one_bound _ name d fd.0 mine refl refl)
+    to d mine (Addr.Abstract name) is = either Q (is_some (named name S.abstract_names)) _ _ (λ b. unchanged refl refl)
+        (λ b. one_bound _ name d fd.0 mine refl refl)
 
 unlink_left : (S : State) (p : ℕ) (path : Name) → NamesLeft S p (Request.Unlink path) (unlink S path).next
 unfolding unlink
-unlink_left S p path = either Q (not (is_valid_path path)) _ _ (λ b. unchanged refl refl) (λ b. either Q (not (is_some (named path S.paths))) _ _ (λ b. unchanged refl refl) (λ b. record {
+unlink_left S p path = either Q (not (is_valid_path path)) _ _ (λ b. unchanged refl refl)
+    (λ b. either Q (not (is_some (named path S.paths))) _ _ (λ b. unchanged refl refl) (λ b. record {
   stay = λ x k h. inl h;
   mine = λ x none. own_of_none (HasHere S p) x S.abstract_names none;
   paths = λ other elsewhere. named_left path other S.paths elsewhere;
@@ -169,9 +194,11 @@ unlink_left S p path = either Q (not (is_valid_path path)) _ _ (λ b. unchanged 
     Q : Outcome → Type 0
     Q o = NamesLeft S p (Request.Unlink path) o.next
 
-set_opt_left : (S : State) (p : ℕ) (fd : Fd) (opt : SockOpt) (value : ℕ) → NamesLeft S p (Request.SetOpt fd opt value) (set_opt S p fd opt value).next
+set_opt_left : (S : State) (p : ℕ) (fd : Fd) (opt : SockOpt) (value : ℕ) →
+    NamesLeft S p (Request.SetOpt fd opt value) (set_opt S p fd opt value).next
 unfolding set_opt
-set_opt_left S p fd opt value = by_own Q S p (Request.SetOpt fd opt value) fd _ (λ e. unchanged refl refl) (λ d s mine there. by_option d mine s opt)
+set_opt_left S p fd opt value = by_own Q S p (Request.SetOpt fd opt value) fd _ (λ e. unchanged refl refl)
+    (λ d s mine there. by_option d mine s opt)
   where
     Q : Outcome → Type 0
     Q o = NamesLeft S p (Request.SetOpt fd opt value) o.next
@@ -179,11 +206,13 @@ set_opt_left S p fd opt value = by_own Q S p (Request.SetOpt fd opt value) fd _ 
     by_option : (d : ℕ) → description_of S p fd.0 ≡ Some d → (s : Socket) (o : SockOpt) → Q (change_option S d s value o)
     by_option d mine s SockOpt.Kind = unchanged refl refl
     by_option d mine s SockOpt.Error = unchanged refl refl
-    by_option d mine s SockOpt.PassCred = either Q (value == 0) _ _ (λ b. unchanged refl refl) (λ b. either Q (not (is_unnamed_addr s.name) || is_some (tied_socket s.phase)) _ _ (λ b. unchanged refl refl)
+    by_option d mine s SockOpt.PassCred = either Q (value == 0) _ _ (λ b. unchanged refl refl)
+        (λ b. either Q (not (is_unnamed_addr s.name) || is_some (tied_socket s.phase)) _ _ (λ b. unchanged refl refl)
         (λ b. maybe Q (free_name S.abstract_names) _ _ (unchanged refl refl) (λ name free. one_bound _ name d fd.0 mine refl refl)))
     by_option d mine s SockOpt.PeerCred = unchanged refl refl
     by_option d mine s SockOpt.AcceptConn = unchanged refl refl
-    by_option d mine s SockOpt.QueueLimit = either Q (not (is_stream s.kind)) _ _ (λ b. unchanged refl refl) (λ b. either Q (not (may_limit value)) _ _ (λ c. unchanged refl refl) (λ c. unchanged refl refl))
+    by_option d mine s SockOpt.QueueLimit = either Q (not (is_stream s.kind)) _ _ (λ b. unchanged refl refl)
+        (λ b. either Q (not (may_limit value)) _ _ (λ c. unchanged refl refl) (λ c. unchanged refl refl))
 
 off_left : (S : State) (p : ℕ) → NamesLeft S p Request.Off (off S).next
 unfolding off
@@ -201,7 +230,8 @@ each_left S p tag (Request.SetOpt fd opt value) = set_opt_left S p fd opt value
 each_left S p tag Request.Off = off_left S p
 each_left S p tag request = by_same (each_names S p tag request refl)
 
-chosen_left : (S T : State) (p tag : ℕ) (request : Request) (reply : Reply) → Chosen S (outcome S p tag request) reply T → NamesLeft S p request T
+chosen_left : (S T : State) (p tag : ℕ) (request : Request) (reply : Reply) → Chosen S (outcome S p tag request) reply T →
+    NamesLeft S p request T
 chosen_left S T p tag request reply (own e f) = subst (NamesLeft S p request) (sym f) (each_left S p tag request)
 chosen_left S T p tag request reply (lacking_memory e may f) = subst (NamesLeft S p request) (sym f) (unchanged refl refl)
 chosen_left S T p tag request reply (failing e f) =
@@ -211,7 +241,8 @@ chosen_left S T p tag request reply (failing e f) =
 -- ---- what goes at the end of a call
 
 record RoundsLeave (S T : State) : Type 1 where
-  pub stay : (name : Name) (d : ℕ) → named name S.abstract_names ≡ Some d → (named name T.abstract_names ≡ Some d) ⊎ (description_at T d ≡ None)
+  pub stay : (name : Name) (d : ℕ) → named name S.abstract_names ≡ Some d →
+      (named name T.abstract_names ≡ Some d) ⊎ (description_at T d ≡ None)
   pub mine : (mine : ℕ → Type 0) (name : Name) → OwnNames mine name S.abstract_names → OwnNames mine name T.abstract_names
   pub paths : T.paths ≡ S.paths
 
@@ -219,7 +250,8 @@ round_leaves : (gone : ℕ → Bool) (S : State) → RoundsLeave S (without gone
 unfolding without
 round_leaves gone S = record {
   stay = λ name d h. bool_cases (gone d)
-      (λ b. inr (description_at-without gone S d ∙ ap (λ c. if c then None else option_map (description_after_loss gone S) (description_at S d)) b))
+      (λ b. inr (description_at-without gone S d
+      ∙ ap (λ c. if c then None else option_map (description_after_loss gone S) (description_at S d)) b))
       (λ b. inl (named_kept gone name S.abstract_names d h b));
   mine = λ mine name all. own_kept mine name (λ e. not (gone e.1)) S.abstract_names all;
   paths = refl;
@@ -233,10 +265,13 @@ rounds_leave (suc n) S = go (rounds_leave n (drop_all S)) (λ d. rounds_lost n (
     first : RoundsLeave S (drop_all S)
     first = round_leaves (is_unreferenced S) S
 
-    go : RoundsLeave (drop_all S) (drop_rounds n (drop_all S)) → ((d : ℕ) → Lost (drop_all S) (drop_rounds n (drop_all S)) d) → (b : Bool) → RoundsLeave S (elim b as (λ _. State) [ true ↦ drop_rounds n (drop_all S) | false ↦ S ])
+    go : RoundsLeave (drop_all S) (drop_rounds n (drop_all S)) → ((d : ℕ) → Lost (drop_all S) (drop_rounds n (drop_all S)) d) → (b : Bool) →
+        RoundsLeave S (elim b as (λ _. State) [ true ↦ drop_rounds n (drop_all S) | false ↦ S ])
     go rest lost true = record {
-      stay = λ name d h. ⊎_elim {C = (named name (drop_rounds n (drop_all S)).abstract_names ≡ Some d) ⊎ (description_at (drop_rounds n (drop_all S)) d ≡ None)}
-          (λ is. rest.stay name d is) (λ none. inr (stays_gone (drop_all S) (drop_rounds n (drop_all S)) d (lost d) none)) (first.stay name d h);
+      stay = λ name d h. ⊎_elim {C = (named name (drop_rounds n (drop_all S)).abstract_names ≡ Some d)
+          ⊎ (description_at (drop_rounds n (drop_all S)) d ≡ None)}
+          (λ is. rest.stay name d is) (λ none. inr (stays_gone (drop_all S) (drop_rounds n (drop_all S)) d (lost d) none))
+          (first.stay name d h);
       mine = λ mine name all. rest.mine mine name (first.mine mine name all);
       paths = rest.paths ∙ first.paths;
     }
@@ -244,7 +279,8 @@ rounds_leave (suc n) S = go (rounds_leave n (drop_all S)) (λ d. rounds_lost n (
 
 settled_leaves : (S : State) → RoundsLeave S (settled S)
 unfolding settled drop_unreferenced
-settled_leaves S = let r = rounds_leave (length S.descriptions) S in record { stay = λ name d h. r.stay name d h; mine = λ mine name all. r.mine mine name all; paths = r.paths }
+settled_leaves S = let r = rounds_leave (length S.descriptions) S in
+    record { stay = λ name d h. r.stay name d h; mine = λ mine name all. r.mine mine name all; paths = r.paths }
 
 -- ---- the laws
 
@@ -254,7 +290,8 @@ record StepLeaves (S : State) (p : ℕ) (request : Request) (T : State) : Type 1
   pub end : RoundsLeave between T
   pub lost : (d : ℕ) → Lost between T d
 
-step_leaves : (S T : State) (p tag : ℕ) (request : Request) (reply : Reply) (gone : List ℕ) → Step S p tag request reply gone T → StepLeaves S p request T
+step_leaves : (S T : State) (p tag : ℕ) (request : Request) (reply : Reply) (gone : List ℕ) → Step S p tag request reply gone T →
+    StepLeaves S p request T
 unfolding Step
 step_leaves S T p tag request reply gone s = record {
   between = s.0;
@@ -263,8 +300,10 @@ step_leaves S T p tag request reply gone s = record {
   lost = λ d. subst (λ (U : State). Lost s.0 U d) (sym s.3) (settled_lost s.0 d);
 }
 
-moved : (boot : State) (es : List Entry) (j : ℕ) (e : Entry) → IsLegal boot es → slice_get es j ≡ Some e → StepLeaves (before boot es j) e.pid.0 e.request (before boot es (suc j))
-moved boot es j e legal at = step_leaves (before boot es j) (before boot es (suc j)) e.pid.0 j e.request e.reply e.released (moment boot es j e legal at).steps
+moved : (boot : State) (es : List Entry) (j : ℕ) (e : Entry) → IsLegal boot es → slice_get es j ≡ Some e →
+    StepLeaves (before boot es j) e.pid.0 e.request (before boot es (suc j))
+moved boot es j e legal at = step_leaves (before boot es j) (before boot es (suc j)) e.pid.0 j e.request e.reply e.released
+    (moment boot es j e legal at).steps
 
 pub calls_leave_paths_alone : CallsLeavePathsAlone
 calls_leave_paths_alone boot es j e path legal at other =
@@ -275,10 +314,12 @@ pub abstract_names_stay : AbstractNamesStay
 abstract_names_stay boot es j d e name legal at h =
     let w = moved boot es j e legal at in
     let T = before boot es (suc j) in
-    ⊎_elim {C = (named name T.abstract_names ≡ Some d) ⊎ (description_at T d ≡ None)} (λ is. w.end.stay name d is) (λ none. inr (stays_gone w.between T d (w.lost d) none)) (w.call.stay name d h)
+    ⊎_elim {C = (named name T.abstract_names ≡ Some d) ⊎ (description_at T d ≡ None)} (λ is. w.end.stay name d is)
+    (λ none. inr (stays_gone w.between T d (w.lost d) none)) (w.call.stay name d h)
 
 pub abstract_names_are_bound : AbstractNamesAreBound
 abstract_names_are_bound boot es j d e name legal at none h =
     let w = moved boot es j e legal at in
     let T = before boot es (suc j) in
-    own_found (HasHere (before boot es j) e.pid.0) name T.abstract_names d (w.end.mine (HasHere (before boot es j) e.pid.0) name (w.call.mine name none)) h
+    own_found (HasHere (before boot es j) e.pid.0) name T.abstract_names d
+    (w.end.mine (HasHere (before boot es j) e.pid.0) name (w.call.mine name none)) h

@@ -1,5 +1,6 @@
 -- Who changes a file object, and who reads it, has a way to it; and strangers have none.
-use Rattle.std.proofs.Common.{◌≡◌, ◌⊎◌, ℕ, zero, suc, ◌+◌, Bool, true, false, not, if◌then◌else◌, List, [], ◌∷◌, ◌++◌, length, take, map, Option, Some, None, Result, Ok, Err, refl, ap, sym, ◌∙◌, subst, inl, inr, ⊎_elim, arith, slice_get}
+use Rattle.std.proofs.Common.{◌≡◌, ◌⊎◌, ℕ, zero, suc, ◌+◌, Bool, true, false, not, if◌then◌else◌, List, [], ◌∷◌, ◌++◌, length, take, map}
+use Rattle.std.proofs.Common.{Option, Some, None, Result, Ok, Err, refl, ap, sym, ◌∙◌, subst, inl, inr, ⊎_elim, arith, slice_get}
 use Rattle.std.specs.List.{enumerate_from}
 use Rattle.std.proofs.lemmas.Bool.{false≢true}
 use Rattle.ux_model.specs.Types.{Errno, Fd, Name, Mode, OpenFlags, Request, Reply, Entry, How, Link}
@@ -23,7 +24,8 @@ use Rattle.ux_model.proofs.Replays.{step_replay}
 use Rattle.ux_model.proofs.Moments.{moment, given_cases}
 use Rattle.ux_model.proofs.Passing.{how_receives}
 use Rattle.ux_laws.specs.Talking.{if_found}
-use Rattle.ux_laws.specs.Files.{body_in, body_at, object_behind, HasWay, IsChange, by_write, by_read, ChangesHaveAWay, ReadsHaveAWay, FilesKeepTheirPath, WereSentNothing, AreStrangers, StrangersHaveNoWay, StrangersChangeNothing}
+use Rattle.ux_laws.specs.Files.{body_in, body_at, object_behind, HasWay, IsChange, by_write, by_read, ChangesHaveAWay, ReadsHaveAWay}
+use Rattle.ux_laws.specs.Files.{FilesKeepTheirPath, WereSentNothing, AreStrangers, StrangersHaveNoWay, StrangersChangeNothing}
 use Rattle.ux_laws.proofs.Opened.{Begins, chain_begins, way_there}
 use Rattle.ux_laws.proofs.Touching.{Touches, untouched, written, read_from, NamesNoMore, names_equal, step_files}
 
@@ -45,21 +47,28 @@ object_led r = elim r as (λ _. Option ℕ) [ None ↦ None | Some w ↦ object_
 pub behind_leads : (S : State) (p : ℕ) (fd : Fd) (o : ℕ) → object_behind S p fd ≡ Some o → LeadsToObject S p fd o
 behind_leads S p fd o h = by_descriptor (descriptor_at S p fd) refl h
   where
-    by_kind : (e : Descriptor) (D : Description) → descriptor_at S p fd ≡ Some e → description_at S e.description ≡ Some D → (t : Target) → D.target ≡ t → object_of t ≡ Some o → LeadsToObject S p fd o
-    by_kind e D g at (to_object k) is h = let same : k ≡ o = cc h in record { entry = e; description = D; held = g; there = at; leads = is ∙ ap to_object same }
+    by_kind : (e : Descriptor) (D : Description) → descriptor_at S p fd ≡ Some e → description_at S e.description ≡ Some D → (t : Target) →
+        D.target ≡ t → object_of t ≡ Some o → LeadsToObject S p fd o
+    by_kind e D g at (to_object k) is h = let same : k ≡ o = cc h in
+        record { entry = e; description = D; held = g; there = at; leads = is ∙ ap to_object same }
     by_kind e D g at (to_socket s) is h = absurd (cc h)
 
-    by_description : (e : Descriptor) → descriptor_at S p fd ≡ Some e → (x : Option Description) → description_at S e.description ≡ x → object_led (if_found (description_led e x)) ≡ Some o → LeadsToObject S p fd o
+    by_description : (e : Descriptor) → descriptor_at S p fd ≡ Some e → (x : Option Description) → description_at S e.description ≡ x →
+        object_led (if_found (description_led e x)) ≡ Some o → LeadsToObject S p fd o
     by_description e g None is h = absurd (cc h)
     by_description e g (Some D) is h = by_kind e D g is D.target refl h
 
-    by_descriptor : (x : Option Descriptor) → descriptor_at S p fd ≡ x → object_led (if_found (elim x as (λ _. Result (Descriptor × Description) Errno) [ None ↦ Err Errno.EBADF | Some e ↦ description_led e (description_at S e.description) ])) ≡ Some o → LeadsToObject S p fd o
+    by_descriptor : (x : Option Descriptor) → descriptor_at S p fd ≡ x →
+        object_led (if_found (elim x as (λ _. Result (Descriptor × Description) Errno)
+        [ None ↦ Err Errno.EBADF | Some e ↦ description_led e (description_at S e.description) ])) ≡ Some o → LeadsToObject S p fd o
     by_descriptor None is h = absurd (cc h)
     by_descriptor (Some e) is h = by_description e is (description_at S e.description) refl h
 
 leads_behind : (S : State) (p : ℕ) (fd : Fd) (o : ℕ) → LeadsToObject S p fd o → object_behind S p fd ≡ Some o
 leads_behind S p fd o l =
-    ap (λ (x : Option Descriptor). object_led (if_found (elim x as (λ _. Result (Descriptor × Description) Errno) [ None ↦ Err Errno.EBADF | Some e ↦ description_led e (description_at S e.description) ]))) l.held
+    ap (λ (x : Option Descriptor). object_led
+    (if_found (elim x as (λ _. Result (Descriptor × Description) Errno)
+    [ None ↦ Err Errno.EBADF | Some e ↦ description_led e (description_at S e.description) ]))) l.held
     ∙ ap (λ (x : Option Description). object_led (if_found (description_led l.entry x))) l.there ∙ ap object_of l.leads
 
 -- ---- changes
@@ -71,20 +80,27 @@ changes_have_a_way boot es j o e old new legal at was is =
     let s = step_files S (before boot es (suc j)) e.pid.0 j e.request e.reply e.released (moment boot es j e legal at).steps in
     by_touch front (s.1.bodies o) (s.2 o new is)
   where
-    by_touch : {U : State} → IsLegal boot (take j es) → Touches (before boot es j) e.pid.0 e.request o U → body_at U o ≡ Some new → (new ≡ old) ⊎ IsChange boot es j e o old
+    by_touch : {U : State} → IsLegal boot (take j es) → Touches (before boot es j) e.pid.0 e.request o U → body_at U o ≡ Some new →
+        (new ≡ old) ⊎ IsChange boot es j e o old
     by_touch front (untouched same) left = let both : Some old ≡ Some new = sym was ∙ sym same ∙ left in inl (sym (cc both))
     by_touch front (written fd bytes d D asked g h t may) left =
-        inr (by_write fd bytes asked (leads_behind (before boot es j) e.pid.0 fd o (record { entry = d; description = D; held = g; there = h; leads = t })) (way_there boot (take j es) can_write o e.pid.0 fd d D front g h t may))
+        inr (by_write fd bytes asked (leads_behind (before boot es j) e.pid.0 fd o
+        (record { entry = d; description = D; held = g; there = h; leads = t }))
+        (way_there boot (take j es) can_write o e.pid.0 fd d D front g h t may))
     by_touch front (read_from fd n d D view asked g h t may there kind) left =
         let both : Some old ≡ Some view.body = sym was ∙ ap body_in there in
         let same : old ≡ view.body = cc both in
-        inr (by_read fd n asked (ap is_memory same ∙ kind) (leads_behind (before boot es j) e.pid.0 fd o (record { entry = d; description = D; held = g; there = h; leads = t })) (way_there boot (take j es) can_read o e.pid.0 fd d D front g h t may))
+        inr (by_read fd n asked (ap is_memory same ∙ kind)
+        (leads_behind (before boot es j) e.pid.0 fd o (record { entry = d; description = D; held = g; there = h; leads = t }))
+        (way_there boot (take j es) can_read o e.pid.0 fd d D front g h t may))
 
 -- ---- reads
 
 -- what is answered bytes of a file object may be read
 abbrev IsReadable : State → ℕ → Fd → Reply → Type 0
-IsReadable S p fd reply = (bytes : List ℕ) (o : ℕ) → reply ≡ Reply.Bytes bytes → object_behind S p fd ≡ Some o → (e : Descriptor) × (D : Description) × (descriptor_at S p fd ≡ Some e) × (description_at S e.description ≡ Some D) × (D.target ≡ to_object o) × (can_read D.mode ≡ true)
+IsReadable S p fd reply = (bytes : List ℕ) (o : ℕ) → reply ≡ Reply.Bytes bytes → object_behind S p fd ≡ Some o →
+    (e : Descriptor) × (D : Description) × (descriptor_at S p fd ≡ Some e) × (description_at S e.description ≡ Some D)
+    × (D.target ≡ to_object o) × (can_read D.mode ≡ true)
 
 not_false : (b : Bool) → not b ≡ false → b ≡ true
 not_false true h = refl
@@ -93,7 +109,8 @@ not_false false h = absurd (false≢true (sym h))
 read_readable : (S : State) (p : ℕ) (fd : Fd) (n : ℕ) → IsReadable S p fd (read S p fd n).reply
 unfolding read
 read_readable S p fd n = found Q S p fd _ (λ bytes o h behind. absurd (cc h)) (λ e D g h. by_target Q D.target _ _
-    (λ k t. maybe Q (place S.objects k) _ _ (λ bytes o h behind. absurd (cc h)) (λ view there. either Q (not (can_read D.mode)) _ _ (λ b bytes o h behind. absurd (cc h))
+    (λ k t. maybe Q (place S.objects k) _ _ (λ bytes o h behind. absurd (cc h))
+    (λ view there. either Q (not (can_read D.mode)) _ _ (λ b bytes o h behind. absurd (cc h))
     (λ b. given k e D view g h t (not_false (can_read D.mode) b) _)))
     (λ s t bytes o reply behind.
     let l = behind_leads S p fd o behind in
@@ -107,20 +124,23 @@ read_readable S p fd n = found Q S p fd _ (λ bytes o h behind. absurd (cc h)) (
     Q : Outcome → Type 0
     Q x = IsReadable S p fd x.reply
 
-    given : (k : ℕ) (e : Descriptor) (D : Description) (view : View) → descriptor_at S p fd ≡ Some e → description_at S e.description ≡ Some D → D.target ≡ to_object k → can_read D.mode ≡ true → (r : Reply) → IsReadable S p fd r
+    given : (k : ℕ) (e : Descriptor) (D : Description) (view : View) → descriptor_at S p fd ≡ Some e →
+        description_at S e.description ≡ Some D → D.target ≡ to_object k → can_read D.mode ≡ true → (r : Reply) → IsReadable S p fd r
     given k e D view g h t may r bytes o reply behind =
         let all = leads_behind S p fd k (record { entry = e; description = D; held = g; there = h; leads = t }) in
         let both : Some k ≡ Some o = sym all ∙ behind in
         let same : k ≡ o = cc both in
         (e, D, g, h, t ∙ ap to_object same, may)
 
-step_readable : (S T : State) (p tag n : ℕ) (fd : Fd) (reply : Reply) (gone : List ℕ) → Step S p tag (Request.Read fd n) reply gone T → IsReadable S p fd reply
+step_readable : (S T : State) (p tag n : ℕ) (fd : Fd) (reply : Reply) (gone : List ℕ) → Step S p tag (Request.Read fd n) reply gone T →
+    IsReadable S p fd reply
 unfolding Step outcome
 step_readable S T p tag n fd reply gone s = chosen reply s.1
   where
     chosen : (reply : Reply) → Chosen S (read S p fd n) reply s.0 → IsReadable S p fd reply
     chosen reply (own e f) = subst (IsReadable S p fd) (sym e) (read_readable S p fd n)
-    chosen reply (lacking_memory e may f) = λ bytes o h behind. let clash : Reply.Err Errno.ENOMEM ≡ Reply.Bytes bytes = sym e ∙ h in absurd (cc clash)
+    chosen reply (lacking_memory e may f) = λ bytes o h behind. let clash : Reply.Err Errno.ENOMEM ≡ Reply.Bytes bytes = sym e ∙ h in
+        absurd (cc clash)
     chosen reply (failing e f) = λ bytes o h behind. let clash : Reply.Err Errno.EIO ≡ Reply.Bytes bytes = sym e ∙ h in absurd (cc clash)
 
 pub reads_have_a_way : ReadsHaveAWay
@@ -144,21 +164,26 @@ named_kept boot = record {
   by_entry = λ es e S T so_far step may. further es e S T so_far step;
 }
   where
-    further : (es : List Entry) (e : Entry) (S T : State) → NamedAtFirst boot es S → Step S e.pid.0 (length es) e.request e.reply e.released T → NamedAtFirst boot (es ++ e ∷ []) T
+    further : (es : List Entry) (e : Entry) (S T : State) → NamedAtFirst boot es S →
+        Step S e.pid.0 (length es) e.request e.reply e.released T → NamedAtFirst boot (es ++ e ∷ []) T
     further es e S T so_far step =
         let s = step_files S T e.pid.0 (length es) e.request e.reply e.released step in
         record {
-          reached = step_replay boot T es e (subst (λ (R : State). Step R e.pid.0 (length es) e.request e.reply e.released T) so_far.reached step);
+          reached = step_replay boot T es e (subst
+              (λ (R : State). Step R e.pid.0 (length es) e.request e.reply e.released T) so_far.reached step);
           names = record { each = λ path o h. so_far.names.each path o (s.1.paths.each path o (ap (named path) (sym s.3) ∙ h)) };
         }
 
 -- and each has one path then
-named_at : (path : Name) (o : ℕ) (es : List (Name × PathTarget)) → named path es ≡ Some (file o) → (i : ℕ) × (e : Name × PathTarget) × (slice_get es i ≡ Some e) × (e.1 ≡ file o) × (e.0 ≡ path)
+named_at : (path : Name) (o : ℕ) (es : List (Name × PathTarget)) → named path es ≡ Some (file o) →
+    (i : ℕ) × (e : Name × PathTarget) × (slice_get es i ≡ Some e) × (e.1 ≡ file o) × (e.0 ≡ path)
 named_at path o [] h = absurd (cc h)
 named_at path o (e ∷ es) h = go (same_name e.0 path) refl (named_at path o es) h
   where
-    go : (b : Bool) → same_name e.0 path ≡ b → (named path es ≡ Some (file o) → (i : ℕ) × (x : Name × PathTarget) × (slice_get es i ≡ Some x) × (x.1 ≡ file o) × (x.0 ≡ path)) →
-        (if b then Some e.1 else named path es) ≡ Some (file o) → (i : ℕ) × (x : Name × PathTarget) × (slice_get (e ∷ es) i ≡ Some x) × (x.1 ≡ file o) × (x.0 ≡ path)
+    go : (b : Bool) → same_name e.0 path ≡ b →
+        (named path es ≡ Some (file o) → (i : ℕ) × (x : Name × PathTarget) × (slice_get es i ≡ Some x) × (x.1 ≡ file o) × (x.0 ≡ path)) →
+        (if b then Some e.1 else named path es) ≡ Some (file o) →
+        (i : ℕ) × (x : Name × PathTarget) × (slice_get (e ∷ es) i ≡ Some x) × (x.1 ≡ file o) × (x.0 ≡ path)
     go true is rest h = (0, e, refl, cc h, names_equal e.0 path is)
     go false is rest h = let w = rest h in (suc w.0, w.1, w.2, w.3, w.4)
 
@@ -167,19 +192,22 @@ get_map f [] i x h = absurd (cc h)
 get_map f (y ∷ xs) zero x h = let same : y ≡ x = cc h in ap (λ z. Some (f z)) same
 get_map f (y ∷ xs) (suc i) x h = get_map f xs i x h
 
-numbered : (k : ℕ) (xs : List (Option View)) (i : ℕ) (t : PathTarget) → slice_get (map (λ e. file e.0) (enumerate_from k xs)) i ≡ Some t → t ≡ file (k + i)
+numbered : (k : ℕ) (xs : List (Option View)) (i : ℕ) (t : PathTarget) → slice_get (map (λ e. file e.0) (enumerate_from k xs)) i ≡ Some t →
+    t ≡ file (k + i)
 numbered k [] i t h = absurd (cc h)
 numbered k (x ∷ xs) zero t h = let same : file k ≡ t = cc h in let at : k ≡ k + 0 = omega arith in sym same ∙ ap file at
 numbered k (x ∷ xs) (suc i) t h = let at : k + 1 + i ≡ k + suc i = omega arith in numbered (k + 1) xs i t h ∙ ap file at
 
 place_of : (boot : State) (i o : ℕ) (e : Name × PathTarget) → IsBootState boot → slice_get boot.paths i ≡ Some e → e.1 ≡ file o → i ≡ o
 place_of boot i o e boots h is =
-    let there : slice_get (map (λ e. file e.0) (enumerate_from 0 boot.objects)) i ≡ Some e.1 = sym (ap (λ l. slice_get l i) boots.paths) ∙ get_map (λ (x : Name × PathTarget). x.1) boot.paths i e h in
+    let there : slice_get (map (λ e. file e.0) (enumerate_from 0 boot.objects)) i ≡ Some e.1 = sym (ap (λ l. slice_get l i) boots.paths)
+    ∙ get_map (λ (x : Name × PathTarget). x.1) boot.paths i e h in
     let both : file o ≡ file (0 + i) = sym is ∙ numbered 0 boot.objects i e.1 there in
     let same : o ≡ 0 + i = ap (λ t. elim t as (λ _. ℕ) [ file n ↦ n | bound n ↦ n ]) both in
     omega (arith, same)
 
-one_path : (boot : State) (a b : Name) (o : ℕ) → IsBootState boot → named a boot.paths ≡ Some (file o) → named b boot.paths ≡ Some (file o) → a ≡ b
+one_path : (boot : State) (a b : Name) (o : ℕ) → IsBootState boot → named a boot.paths ≡ Some (file o) →
+    named b boot.paths ≡ Some (file o) → a ≡ b
 one_path boot a b o boots h k =
     let x = named_at a o boot.paths h in
     let y = named_at b o boot.paths k in
@@ -194,7 +222,8 @@ files_keep_their_path boot es j o path other legal at_first leads =
     one_path boot other path o legal.boots (names.names.each other o leads) at_first
 
 -- all holdings of a chain that leads to one that was sent nothing, as those that made it, are of such
-pub all_theirs : (boot : State) (es : List Entry) (are : ℕ → Bool) (chain : List Link) (a : Link) → IsLegal boot es → WereSentNothing boot es are → IsChain boot es chain a → are a.pid.0 ≡ true →
+pub all_theirs : (boot : State) (es : List Entry) (are : ℕ → Bool) (chain : List Link) (a : Link) → IsLegal boot es →
+    WereSentNothing boot es are → IsChain boot es chain a → are a.pid.0 ≡ true →
     (b : Begins boot es chain) → are b.first.pid.0 ≡ true
 all_theirs boot es are chain a legal were (first c e g made) is b =
     let same : Some c ≡ Some b.first = ap (λ (l : List Link). slice_get l 0) b.is in
@@ -215,7 +244,8 @@ all_theirs boot es are chain a legal were (onward {chain = xs} c d e giving lead
     caller (inr made) = were.makers d.entry d.pid.0 e g.there made is
 
     called : are e.pid.0 ≡ true
-    called = caller (⊎_elim {C = (e.pid.0 ≡ d.pid.0) ⊎ (makes d.pid.0 e.request e.reply ≡ true)} (λ made. inr made) (λ own. inl own.0) (given_cases (before boot es d.entry) e d.pid.0 d.fd.0 g.gave))
+    called = caller (⊎_elim {C = (e.pid.0 ≡ d.pid.0) ⊎ (makes d.pid.0 e.request e.reply ≡ true)} (λ made. inr made)
+        (λ own. inl own.0) (given_cases (before boot es d.entry) e d.pid.0 d.fd.0 g.gave))
 
     giver : (how : How) → d.how ≡ how → IsFrom boot es how c d e giving → are c.pid.0 ≡ true
     giver How.Made way f = absurd f
@@ -226,24 +256,28 @@ all_theirs boot es are chain a legal were (onward {chain = xs} c d e giving lead
         absurd (cc clash)
     giver How.Forked way f = ap are f.1 ∙ called
 
-strangers_so_far : (boot : State) (es : List Entry) (path : Name) (are : ℕ → Bool) (j : ℕ) → AreStrangers boot es path are → AreStrangers boot (take j es) path are
+strangers_so_far : (boot : State) (es : List Entry) (path : Name) (are : ℕ → Bool) (j : ℕ) → AreStrangers boot es path are →
+    AreStrangers boot (take j es) path are
 strangers_so_far boot es path are j s = record {
   sent_nothing = record {
     makers = λ i q e at made is. s.sent_nothing.makers i q e (in_front es j i e at).0 made is;
     sent_nothing = λ q is i e at own.
-        ap (λ (l : List Entry). delivered (replay boot l) e) (in_front es j i e at).1 ∙ s.sent_nothing.sent_nothing q is i e (in_front es j i e at).0 own;
+        ap (λ (l : List Entry). delivered (replay boot l) e) (in_front es j i e at).1
+        ∙ s.sent_nothing.sent_nothing q is i e (in_front es j i e at).0 own;
   };
   never_opened = λ i e mode flags at is. s.never_opened i e mode flags (in_front es j i e at).0 is;
 }
 
-no_way : (boot : State) (es : List Entry) (path : Name) (are : ℕ → Bool) (o p n : ℕ) → IsLegal boot es → named path boot.paths ≡ Some (file o) → AreStrangers boot es path are → are p ≡ true →
+no_way : (boot : State) (es : List Entry) (path : Name) (are : ℕ → Bool) (o p n : ℕ) → IsLegal boot es →
+    named path boot.paths ≡ Some (file o) → AreStrangers boot es path are → are p ≡ true →
     HasWay boot es (λ mode. true) o p n → ⊥
 no_way boot es path are o p n legal at_first strangers is way =
     let ped = way.pedigree in
     let begins = chain_begins boot es (way.first ∷ way.rest) ped.last ped.leads in
     let same : Some way.first ≡ Some begins.first = ap (λ (l : List Link). slice_get l 0) begins.is in
     let one : way.first ≡ begins.first = cc same in
-    let of_first = all_theirs boot es are (way.first ∷ way.rest) ped.last legal strangers.sent_nothing ped.leads (ap are ped.process ∙ is) begins in
+    let of_first = all_theirs boot es are (way.first ∷ way.rest) ped.last legal strangers.sent_nothing ped.leads (ap are ped.process ∙ is)
+    begins in
     let opens = way.opened in
     let k : ℕ = way.first.entry in
     let both : Some opens.call ≡ Some begins.call = sym opens.there ∙ ap (λ (l : Link). slice_get es l.entry) one ∙ begins.given.there in
@@ -251,12 +285,16 @@ no_way boot es path are o p n legal at_first strangers is way =
     let no_child : (makes begins.first.pid.0 begins.call.request begins.call.reply ≡ true) → ⊥ = λ made.
     not_fork opens.call begins.first.pid.0 opens.asked (ap (λ (x : Entry). makes begins.first.pid.0 x.request x.reply) call ∙ made) in
     let caller : opens.call.pid.0 ≡ begins.first.pid.0 = ap (λ (x : Entry). x.pid.0) call
-    ∙ ⊎_elim {C = begins.call.pid.0 ≡ begins.first.pid.0} (λ made. absurd (no_child made)) (λ own. own.0) (given_cases (before boot es begins.first.entry) begins.call begins.first.pid.0 begins.first.fd.0 begins.given.gave) in
+    ∙ ⊎_elim {C = begins.call.pid.0 ≡ begins.first.pid.0} (λ made. absurd (no_child made))
+    (λ own. own.0) (given_cases (before boot es begins.first.entry) begins.call begins.first.pid.0 begins.first.fd.0 begins.given.gave) in
     let path_is : opens.path ≡ path = files_keep_their_path boot es k o path opens.path legal at_first opens.leads in
-    strangers.never_opened k opens.call opens.mode opens.flags opens.there (ap are caller ∙ of_first) (opens.asked ∙ ap (λ (x : Name). Request.Open x opens.mode opens.flags) path_is)
+    strangers.never_opened k opens.call opens.mode opens.flags opens.there (ap are caller ∙ of_first)
+    (opens.asked ∙ ap (λ (x : Name). Request.Open x opens.mode opens.flags) path_is)
   where
-    not_fork : (x : Entry) (q : ℕ) {path : Name} {mode : Mode} {flags : OpenFlags} → x.request ≡ Request.Open path mode flags → makes q x.request x.reply ≡ true → ⊥
-    not_fork x q {path} {mode} {flags} asked made = let never : makes q (Request.Open path mode flags) x.reply ≡ true = sym (ap (λ (r : Request). makes q r x.reply) asked) ∙ made in false≢true never
+    not_fork : (x : Entry) (q : ℕ) {path : Name} {mode : Mode} {flags : OpenFlags} → x.request ≡ Request.Open path mode flags →
+        makes q x.request x.reply ≡ true → ⊥
+    not_fork x q {path} {mode} {flags} asked made = let never : makes q (Request.Open path mode flags) x.reply ≡ true =
+        sym (ap (λ (r : Request). makes q r x.reply) asked) ∙ made in false≢true never
 
 pub strangers_have_no_way : StrangersHaveNoWay
 strangers_have_no_way boot es path are j o q fd legal at_first strangers is behind =
@@ -269,5 +307,7 @@ strangers_change_nothing boot es path are j o e old new legal at_first strangers
     ⊎_elim {C = new ≡ old} (λ same. same) (λ change. by_change change) (changes_have_a_way boot es j o e old new legal at was left)
   where
     by_change : IsChange boot es j e o old → new ≡ old
-    by_change (by_write fd bytes asked behind way) = absurd (strangers_have_no_way boot es path are j o e.pid.0 fd legal at_first strangers is behind)
-    by_change (by_read fd n asked kind behind way) = absurd (strangers_have_no_way boot es path are j o e.pid.0 fd legal at_first strangers is behind)
+    by_change (by_write fd bytes asked behind way) =
+        absurd (strangers_have_no_way boot es path are j o e.pid.0 fd legal at_first strangers is behind)
+    by_change (by_read fd n asked kind behind way) =
+        absurd (strangers_have_no_way boot es path are j o e.pid.0 fd legal at_first strangers is behind)

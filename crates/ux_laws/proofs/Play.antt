@@ -26,7 +26,9 @@ use Rattle.ux_model.specs.Boot.{boot_state}
 
 -- `unfolding computing` opens all that the calls of the examples are made of
 unfoldable pub computing : Unit {0}
-unfolding refs orefs without drop_rounds drop_unreferenced released_objects settled open_file read write make_pair shutdown get_opt set_opt in_flight free_name cred_in item_of item_behind item_at with_items control_in send_with send_read send_msg delivery receive_front recv_msg fork close exit outcome after
+unfolding refs orefs without drop_rounds drop_unreferenced released_objects settled open_file read write make_pair shutdown get_opt set_opt
+    in_flight free_name cred_in item_of item_behind item_at with_items control_in send_with send_read send_msg delivery receive_front
+    recv_msg fork close exit outcome after
 computing = tt
 
 -- a process and its request

@@ -5,10 +5,12 @@ use Rattle.ux_laws.specs.Records.{packets_sent, packets_taken}
 use Rattle.ux_laws.proofs.Play.{computing, made, replies, one_process, pair_of, send, recv, peek, fd, flags}
 
 abbrev calls : List Entry
-calls = made one_process 0 ((1, pair_of SockType.Dgram) ∷ (1, send 0 (codes "abc")) ∷ (1, send 0 (codes "de")) ∷ (1, peek 1 8) ∷ (1, recv 1 2) ∷ [])
+calls = made one_process 0 ((1, pair_of SockType.Dgram) ∷ (1, send 0 (codes "abc")) ∷ (1, send 0 (codes "de")) ∷ (1, peek 1 8) ∷
+    (1, recv 1 2) ∷ [])
 
 what_was_sent : packets_sent one_process 1 calls
-    ≡ record { call = 1; bytes = codes "abc"; from = Some Addr.Unnamed } ∷ record { call = 2; bytes = codes "de"; from = Some Addr.Unnamed } ∷ []
+    ≡ record { call = 1; bytes = codes "abc"; from = Some Addr.Unnamed } ∷
+    record { call = 2; bytes = codes "de"; from = Some Addr.Unnamed } ∷ []
 unfolding computing
 what_was_sent = refl
 

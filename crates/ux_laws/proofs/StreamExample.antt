@@ -8,7 +8,8 @@ use Rattle.ux_laws.proofs.Flows.{waiting_at}
 use Rattle.ux_laws.proofs.Play.{computing, made, one_process, pair_of, send, recv, peek}
 
 abbrev calls : List Entry
-calls = made one_process 0 ((1, pair_of SockType.Stream) ∷ (1, send 0 (codes "hi")) ∷ (1, send 0 (codes "you")) ∷ (1, peek 1 4) ∷ (1, recv 1 4) ∷ [])
+calls = made one_process 0 ((1, pair_of SockType.Stream) ∷ (1, send 0 (codes "hi")) ∷ (1, send 0 (codes "you")) ∷ (1, peek 1 4) ∷
+    (1, recv 1 4) ∷ [])
 
 what_was_sent : bytes_sent one_process 1 calls ≡ codes "hiyou"
 unfolding computing

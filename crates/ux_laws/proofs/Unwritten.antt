@@ -1,5 +1,6 @@
 -- A file that is never opened for writing stays as it was, and reads tell it.
-use Rattle.std.proofs.Common.{◌≡◌, ◌≢◌, ℕ, zero, suc, ◌==◌, Bool, not, ◌&&◌, List, [], ◌++◌, take, drop, append_assoc, min, Option, Some, None, Result, Ok, refl, ap, sym, ◌∙◌, subst, slice_get}
+use Rattle.std.proofs.Common.{◌≡◌, ◌≢◌, ℕ, zero, suc, ◌==◌, Bool, not, ◌&&◌, List, [], ◌++◌, take, drop, append_assoc, min, Option, Some}
+use Rattle.std.proofs.Common.{None, Result, Ok, refl, ap, sym, ◌∙◌, subst, slice_get}
 use Rattle.std.proofs.lemmas.Bool.{false≢true}
 use Rattle.std.proofs.lemmas.List.{take-append-drop}
 use Rattle.ux_model.specs.Types.{Errno, Fd, Mode, Request, Reply, Entry, How}
@@ -23,7 +24,8 @@ use Rattle.ux_model.proofs.Fronts.{front_is_legal, in_front}
 use Rattle.ux_model.proofs.Induction.{take_past}
 use Rattle.ux_model.proofs.Moments.{moment}
 use Rattle.ux_model.proofs.Passing.{how_fork, own_number}
-use Rattle.ux_laws.specs.Files.{body_in, body_at, object_behind, HasWay, IsNeverOpened, UnwrittenFilesStay, IsRunOf, ReadsTellTheFile, HoldOnlyWhatTheyMade}
+use Rattle.ux_laws.specs.Files.{body_in, body_at, object_behind, HasWay, IsNeverOpened, UnwrittenFilesStay, IsRunOf, ReadsTellTheFile}
+use Rattle.ux_laws.specs.Files.{HoldOnlyWhatTheyMade}
 use Rattle.ux_laws.proofs.Opened.{chain_begins, way_there}
 use Rattle.ux_laws.proofs.Touching.{Touches, untouched, written, read_from, step_files}
 use Rattle.ux_laws.proofs.NoWay.{LeadsToObject, behind_leads, all_theirs}
@@ -35,7 +37,8 @@ abbrev HasAlone : State → ℕ → List ℕ → Type 0
 HasAlone S o bytes = (body : Body) → body_at S o ≡ Some body → body ≡ memory bytes
 
 -- who has a way in a front of the history has one that begins with a call of the whole
-no_way_in_front : (boot : State) (es : List Entry) (j : ℕ) (allows : Mode → Bool) (o p n : ℕ) → IsNeverOpened boot es allows o → HasWay boot (take j es) allows o p n → ⊥
+no_way_in_front : (boot : State) (es : List Entry) (j : ℕ) (allows : Mode → Bool) (o p n : ℕ) → IsNeverOpened boot es allows o →
+    HasWay boot (take j es) allows o p n → ⊥
 no_way_in_front boot es j allows o p n never way =
     let opens = way.opened in
     let there = in_front es j way.first.entry opens.call opens.there in
@@ -51,20 +54,25 @@ no_way_in_front boot es j allows o p n never way =
     })
 
 pub unwritten_files_stay : UnwrittenFilesStay
-unwritten_files_stay boot es zero o bytes body legal at_first never now = let both : Some (memory bytes) ≡ Some body = sym at_first ∙ now in sym (cc both)
-unwritten_files_stay boot es (suc j) o bytes body legal at_first never now = by_entry (slice_get es j) refl (λ old was. unwritten_files_stay boot es j o bytes old legal at_first never was)
+unwritten_files_stay boot es zero o bytes body legal at_first never now = let both : Some (memory bytes) ≡ Some body = sym at_first ∙ now in
+    sym (cc both)
+unwritten_files_stay boot es (suc j) o bytes body legal at_first never now =
+    by_entry (slice_get es j) refl (λ old was. unwritten_files_stay boot es j o bytes old legal at_first never was)
   where
-    by_touch : {U : State} (e : Entry) → HasAlone (before boot es j) o bytes → Touches (before boot es j) e.pid.0 e.request o U → body_at U o ≡ Some body → body ≡ memory bytes
+    by_touch : {U : State} (e : Entry) → HasAlone (before boot es j) o bytes → Touches (before boot es j) e.pid.0 e.request o U →
+        body_at U o ≡ Some body → body ≡ memory bytes
     by_touch e so_far (untouched same) left = so_far body (sym same ∙ left)
     by_touch e so_far (written fd added d D asked g h t may) left =
-        absurd (no_way_in_front boot es j can_write o e.pid.0 fd.0 never (way_there boot (take j es) can_write o e.pid.0 fd d D (front_is_legal boot es j legal) g h t may))
+        absurd (no_way_in_front boot es j can_write o e.pid.0 fd.0 never
+        (way_there boot (take j es) can_write o e.pid.0 fd d D (front_is_legal boot es j legal) g h t may))
     by_touch e so_far (read_from fd n d D view asked g h t may there kind) left =
         absurd (false≢true (sym kind ∙ ap is_memory (so_far view.body (ap body_in there))))
 
     by_entry : (x : Option Entry) → slice_get es j ≡ x → HasAlone (before boot es j) o bytes → body ≡ memory bytes
     by_entry None none so_far = so_far body (subst (λ (l : List Entry). body_at (replay boot l) o ≡ Some body) (take_past es j none) now)
     by_entry (Some e) at so_far =
-        let s = step_files (before boot es j) (before boot es (suc j)) e.pid.0 j e.request e.reply e.released (moment boot es j e legal at).steps in
+        let s = step_files (before boot es j) (before boot es (suc j)) e.pid.0 j e.request e.reply e.released
+        (moment boot es j e legal at).steps in
         by_touch e so_far (s.1.bodies o) (s.2 o body now)
 
 -- ---- what reads are answered
@@ -78,7 +86,8 @@ some_bytes : (n at : ℕ) (whole : List ℕ) → IsRunOf (take n (drop at whole)
 some_bytes n at whole = record {
   ahead = take at whole;
   behind = drop n (drop at whole);
-  joined = sym (ap (λ (l : List ℕ). take at whole ++ l) (take-append-drop n (drop at whole)) ∙ take-append-drop at whole) ∙ sym (append_assoc (take at whole) (take n (drop at whole)) (drop n (drop at whole)));
+  joined = sym (ap (λ (l : List ℕ). take at whole ++ l) (take-append-drop n (drop at whole)) ∙ take-append-drop at whole)
+      ∙ sym (append_assoc (take at whole) (take n (drop at whole)) (drop n (drop at whole)));
 }
 
 -- what is answered to a read of a file with these bytes
@@ -104,7 +113,8 @@ read_tells S p fd n o bytes is = found Q S p fd _ (λ given h behind. absurd (cc
     none : (given : List ℕ) → Reply.Bytes [] ≡ Reply.Bytes given → IsRunOf given bytes
     none given h = let same : [] ≡ given = cc h in subst (λ (l : List ℕ). IsRunOf l bytes) same (no_bytes bytes)
 
-    same_target : (e : Descriptor) (D : Description) → descriptor_at S p fd ≡ Some e → description_at S e.description ≡ Some D → (l : LeadsToObject S p fd o) → D.target ≡ to_object o
+    same_target : (e : Descriptor) (D : Description) → descriptor_at S p fd ≡ Some e → description_at S e.description ≡ Some D →
+        (l : LeadsToObject S p fd o) → D.target ≡ to_object o
     same_target e D g h l =
         let one : Some e ≡ Some l.entry = sym g ∙ l.held in
         let entry : e ≡ l.entry = cc one in
@@ -113,25 +123,30 @@ read_tells S p fd n o bytes is = found Q S p fd _ (λ given h behind. absurd (cc
         ap (λ (x : Description). x.target) description ∙ l.leads
 
     -- it is the file, since the number leads there
-    the_file : (k : ℕ) (e : Descriptor) (D : Description) (view : View) → descriptor_at S p fd ≡ Some e → description_at S e.description ≡ Some D → D.target ≡ to_object k → place S.objects k ≡ Some view →
+    the_file : (k : ℕ) (e : Descriptor) (D : Description) (view : View) → descriptor_at S p fd ≡ Some e →
+        description_at S e.description ≡ Some D → D.target ≡ to_object k → place S.objects k ≡ Some view →
         object_behind S p fd ≡ Some o → view.body ≡ memory bytes
     the_file k e D view g h t there behind =
         let both : to_object k ≡ to_object o = sym t ∙ same_target e D g h (behind_leads S p fd o behind) in
         let same : k ≡ o = cc both in
         is view.body (ap (λ (i : ℕ). body_at S i) (sym same) ∙ ap body_in there)
 
-    by_body : (k : ℕ) (e : Descriptor) (D : Description) (view : View) → descriptor_at S p fd ≡ Some e → description_at S e.description ≡ Some D → D.target ≡ to_object k → place S.objects k ≡ Some view →
+    by_body : (k : ℕ) (e : Descriptor) (D : Description) (view : View) → descriptor_at S p fd ≡ Some e →
+        description_at S e.description ≡ Some D → D.target ≡ to_object k → place S.objects k ≡ Some view →
         (body : Body) → view.body ≡ body → Q (read_answer S e.description D k view (read_body view.body D.offset (min read_limit n)))
     by_body k e D view g h t there (memory held) body_is = λ given reply behind.
         let both : memory held ≡ memory bytes = sym body_is ∙ the_file k e D view g h t there behind in
         let same : held ≡ bytes = cc both in
-        let of_held : IsRunOf given held = from_memory e D view k held (read_body view.body D.offset (min read_limit n)) (ap (λ (b : Body). read_body b D.offset (min read_limit n)) body_is) given reply in
+        let of_held : IsRunOf given held = from_memory e D view k held (read_body view.body D.offset (min read_limit n))
+        (ap (λ (b : Body). read_body b D.offset (min read_limit n)) body_is) given reply in
         subst (IsRunOf given) same of_held
       where
-        from_memory : (e : Descriptor) (D : Description) (view : View) (k : ℕ) (held : List ℕ) (r : Result (List ℕ × Body) ObjectError) → r ≡ Ok (take (min read_limit n) (drop D.offset held), memory held) →
+        from_memory : (e : Descriptor) (D : Description) (view : View) (k : ℕ) (held : List ℕ) (r : Result (List ℕ × Body) ObjectError) →
+            r ≡ Ok (take (min read_limit n) (drop D.offset held), memory held) →
             (given : List ℕ) → (read_answer S e.description D k view r).reply ≡ Reply.Bytes given → IsRunOf given held
         from_memory e D view k held r is given reply =
-            let told : Reply.Bytes (take (min read_limit n) (drop D.offset held)) ≡ Reply.Bytes given = sym (ap (λ (x : Result (List ℕ × Body) ObjectError). (read_answer S e.description D k view x).reply) is) ∙ reply in
+            let told : Reply.Bytes (take (min read_limit n) (drop D.offset held)) ≡ Reply.Bytes given =
+            sym (ap (λ (x : Result (List ℕ × Body) ObjectError). (read_answer S e.description D k view x).reply) is) ∙ reply in
             let same : take (min read_limit n) (drop D.offset held) ≡ given = cc told in
             subst (λ (l : List ℕ). IsRunOf l held) same (some_bytes (min read_limit n) D.offset held)
     by_body k e D view g h t there (counter value) body_is = λ given reply behind.
@@ -141,13 +156,15 @@ read_tells S p fd n o bytes is = found Q S p fd _ (λ given h behind. absurd (cc
         let clash : pipe waiting ≡ memory bytes = sym body_is ∙ the_file k e D view g h t there behind in
         absurd (cc clash)
 
-step_tells : (S T : State) (p tag n o : ℕ) (fd : Fd) (bytes : List ℕ) (reply : Reply) (gone : List ℕ) → HasAlone S o bytes → Step S p tag (Request.Read fd n) reply gone T → Tells S p fd o bytes reply
+step_tells : (S T : State) (p tag n o : ℕ) (fd : Fd) (bytes : List ℕ) (reply : Reply) (gone : List ℕ) → HasAlone S o bytes →
+    Step S p tag (Request.Read fd n) reply gone T → Tells S p fd o bytes reply
 unfolding Step outcome
 step_tells S T p tag n o fd bytes reply gone is s = chosen reply s.1
   where
     chosen : (reply : Reply) → Chosen S (read S p fd n) reply s.0 → Tells S p fd o bytes reply
     chosen reply (own e f) = subst (Tells S p fd o bytes) (sym e) (read_tells S p fd n o bytes is)
-    chosen reply (lacking_memory e may f) = λ given h behind. let clash : Reply.Err Errno.ENOMEM ≡ Reply.Bytes given = sym e ∙ h in absurd (cc clash)
+    chosen reply (lacking_memory e may f) = λ given h behind. let clash : Reply.Err Errno.ENOMEM ≡ Reply.Bytes given = sym e ∙ h in
+        absurd (cc clash)
     chosen reply (failing e f) = λ given h behind. let clash : Reply.Err Errno.EIO ≡ Reply.Bytes given = sym e ∙ h in absurd (cc clash)
 
 pub reads_tell_the_file : ReadsTellTheFile
@@ -168,6 +185,8 @@ hold_only_what_they_made boot es are chain p n legal were is ped =
     let of_first = all_theirs boot es are chain ped.last legal were ped.leads (ap are ped.process ∙ is) b in
     let way : how_of e.request (delivered (before boot es b.first.entry) e) ≡ Some How.Made = b.given.way ∙ ap Some b.made in
     let no_fork : e.request ≢ Request.Fork = λ fork.
-    let clash : Some How.Forked ≡ Some How.Made = sym (how_fork e.request (delivered (before boot es b.first.entry) e) fork) ∙ way in cc clash in
+    let clash : Some How.Forked ≡ Some How.Made = sym (how_fork e.request (delivered (before boot es b.first.entry) e) fork) ∙ way in
+    cc clash in
     let mine = own_number boot es b.first.entry b.first.pid.0 b.first.fd.0 e b.given.gave no_fork in
-    record { first = b.first; rest = b.rest; begins = b.is; call = e; there = b.given.there; made = b.made; caller = mine.0; theirs = ap are mine.0 ∙ of_first }
+    record { first = b.first; rest = b.rest; begins = b.is; call = e; there = b.given.there; made = b.made; caller = mine.0; theirs =
+    ap are mine.0 ∙ of_first }

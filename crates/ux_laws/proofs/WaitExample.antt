@@ -1,4 +1,5 @@
--- Worked examples, evaluated: a receive that would wait, until something is sent, and until the peer is shut down; an accept, until one connects; a send to a full
+-- Worked examples, evaluated: a receive that would wait, until something is sent, and until the peer is shut down; an accept, until one
+-- connects; a send to a full
 -- queue, until something is read from it; a connect to a full backlog, until an accept.
 use Rattle.std.specs.Prelude.{◌≡◌, pos, List, [], ◌∷◌, refl, codes}
 use Rattle.ux_model.specs.Types.{Errno, Addr, SockType, SockOpt, Mode, Request, Reply, Entry}
@@ -18,7 +19,8 @@ calls = made one_process 0 (
     (1, Request.Read (fd 1) 8) ∷ [])
 
 what_was_answered : replies calls
-    ≡ Reply.Fds (fd 0) (fd 1) ∷ Reply.Err Errno.EAGAIN ∷ Reply.Count 2 ∷ Reply.Bytes (codes "hi") ∷ Reply.Err Errno.EAGAIN ∷ Reply.Ok ∷ Reply.Bytes [] ∷ []
+    ≡ Reply.Fds (fd 0) (fd 1) ∷ Reply.Err Errno.EAGAIN ∷ Reply.Count 2 ∷ Reply.Bytes (codes "hi") ∷ Reply.Err
+    Errno.EAGAIN ∷ Reply.Ok ∷ Reply.Bytes [] ∷ []
 unfolding computing
 what_was_answered = refl
 
@@ -32,7 +34,8 @@ connecting = made one_process 0 (
     (1, Request.Connect (fd 1) (Addr.Abstract (codes "door"))) ∷
     (1, Request.Accept (fd 0) (record { 0 = 0 })) ∷ [])
 
-an_accept_waits : replies connecting ≡ Reply.Fd (fd 0) ∷ Reply.Ok ∷ Reply.Ok ∷ Reply.Err Errno.EAGAIN ∷ Reply.Fd (fd 1) ∷ Reply.Ok ∷ Reply.Accepted (fd 2) Addr.Unnamed ∷ []
+an_accept_waits : replies connecting ≡ Reply.Fd (fd 0) ∷ Reply.Ok ∷ Reply.Ok ∷ Reply.Err Errno.EAGAIN ∷ Reply.Fd
+    (fd 1) ∷ Reply.Ok ∷ Reply.Accepted (fd 2) Addr.Unnamed ∷ []
 unfolding computing bind make_socket listen connect accept
 an_accept_waits = refl
 
@@ -45,7 +48,8 @@ filling = made one_process 0 (
     (1, Request.Read (fd 1) 8) ∷
     (1, send 0 (codes "d")) ∷ [])
 
-a_send_waits : replies filling ≡ Reply.Fds (fd 0) (fd 1) ∷ Reply.Ok ∷ Reply.Count 2 ∷ Reply.Err Errno.EAGAIN ∷ Reply.Bytes (codes "ab") ∷ Reply.Count 1 ∷ []
+a_send_waits : replies filling ≡ Reply.Fds (fd 0) (fd 1) ∷ Reply.Ok ∷ Reply.Count 2 ∷ Reply.Err Errno.EAGAIN ∷ Reply.Bytes
+    (codes "ab") ∷ Reply.Count 1 ∷ []
 unfolding computing
 a_send_waits = refl
 
@@ -61,6 +65,7 @@ crowding = made one_process 0 (
     (1, Request.Accept (fd 0) (record { 0 = 0 })) ∷
     (1, Request.Connect (fd 2) (Addr.Abstract (codes "door"))) ∷ [])
 
-a_connect_waits : replies crowding ≡ Reply.Fd (fd 0) ∷ Reply.Ok ∷ Reply.Ok ∷ Reply.Fd (fd 1) ∷ Reply.Ok ∷ Reply.Fd (fd 2) ∷ Reply.Err Errno.EAGAIN ∷ Reply.Accepted (fd 3) Addr.Unnamed ∷ Reply.Ok ∷ []
+a_connect_waits : replies crowding ≡ Reply.Fd (fd 0) ∷ Reply.Ok ∷ Reply.Ok ∷ Reply.Fd (fd 1) ∷ Reply.Ok ∷ Reply.Fd (fd 2) ∷ Reply.Err
+    Errno.EAGAIN ∷ Reply.Accepted (fd 3) Addr.Unnamed ∷ Reply.Ok ∷ []
 unfolding computing bind make_socket listen connect accept
 a_connect_waits = refl

@@ -16,7 +16,8 @@ pub record StaysUnprivileged (P Q : Process) : Type 0 where
 -- A process without privileges keeps its user and its group, and gets none.
 abbrev pub UnprivilegedStaySo : Type 0
 UnprivilegedStaySo = (boot : State) (entries : List Entry) (j k p : ℕ) (P Q : Process) → IsLegal boot entries → j ≤ k → k ≤ length entries →
-    process_at (before boot entries j) p ≡ Some P → P.privileged ≡ false → process_at (before boot entries k) p ≡ Some Q → StaysUnprivileged P Q
+    process_at (before boot entries j) p ≡ Some P → P.privileged ≡ false → process_at (before boot entries k) p ≡ Some Q →
+    StaysUnprivileged P Q
 
 -- A child is of its parent's user and group, and as privileged as that.
 abbrev pub ChildrenAreOfTheirParents : Type 0

@@ -1,5 +1,6 @@
 -- In whatever order and in whatever lots unreferenced descriptions are dropped, the same state is left.
-use Rattle.std.specs.Prelude.{◌≡◌, ℕ, zero, suc, ◌+◌, ◌≤◌, Bool, true, false, ◌||◌, ◌==◌, if◌then◌else◌, List, [], ◌∷◌, length, map, filter, fold, Option, Some, None, is_some, option_map, refl}
+use Rattle.std.specs.Prelude.{◌≡◌, ℕ, zero, suc, ◌+◌, ◌≤◌, Bool, true, false, ◌||◌, ◌==◌, if◌then◌else◌, List, [], ◌∷◌, length, map, filter}
+use Rattle.std.specs.Prelude.{fold, Option, Some, None, is_some, option_map, refl}
 use Rattle.std.specs.List.{enumerate_from, list_any}
 use Rattle.std.proofs.Common.{sym, ◌∙◌, ap, subst, arith}
 use Rattle.std.proofs.lemmas.Bool.{eqb-true, eq-eqb, and_parts, and_from, and_left, or_parts}
@@ -9,7 +10,8 @@ use Rattle.ux_model.specs.Socket.{Phase, idle, listening, connected, associated}
 use Rattle.ux_model.specs.Description.{Description, Target, to_object, to_socket}
 use Rattle.ux_model.specs.State.{State, description_at}
 use Rattle.ux_model.specs.References.{target_refs, description_refs, refs}
-use Rattle.ux_model.specs.Release.{place_after_loss, without, is_unreferenced, has_unreferenced, drop_all, drop_rounds, drop_unreferenced, Drops, none, another, EndsAlike}
+use Rattle.ux_model.specs.Release.{place_after_loss, without, is_unreferenced, has_unreferenced, drop_all, drop_rounds, drop_unreferenced}
+use Rattle.ux_model.specs.Release.{Drops, none, another, EndsAlike}
 use Rattle.ux_model.proofs.Losses.{target_after_loss, description_after_loss, is_reset_by_loss}
 use Rattle.ux_model.proofs.ReleaseLaws.{description_at-without, either, without-without}
 
@@ -18,14 +20,16 @@ use Rattle.ux_model.proofs.ReleaseLaws.{description_at-without, either, without-
 fold_le : {X Y : Type 0} (f : Y → ℕ) (g h : X → Y) → ((x : X) → f (g x) ≤ f (h x)) → (xs : List X) (a b : ℕ) → a ≤ b →
     fold (λ n y. n + f y) a (map g xs) ≤ fold (λ n y. n + f y) b (map h xs)
 fold_le f g h below [] a b e = e
-fold_le f g h below (x ∷ xs) a b e = fold_le f g h below xs (a + f (g x)) (b + f (h x)) (let p : f (g x) ≤ f (h x) = below x in omega (arith, p, e))
+fold_le f g h below (x ∷ xs) a b e = fold_le f g h below xs (a + f (g x)) (b + f (h x))
+    (let p : f (g x) ≤ f (h x) = below x in omega (arith, p, e))
 
 target_refs-after_loss : (d : ℕ) (G : ℕ → Bool) (S : State) (t : Target) → target_refs d (target_after_loss G S t) ≡ target_refs d t
 target_refs-after_loss d G S (to_object o) = refl
 target_refs-after_loss d G S (to_socket s) = refl
 
 refs_at : (d : ℕ) (G K : ℕ → Bool) (S : State) (b c : Bool) (D : Option Description) → (b ≡ true → c ≡ true) →
-    description_refs d (if c then None else option_map (description_after_loss K S) D) ≤ description_refs d (if b then None else option_map (description_after_loss G S) D)
+    description_refs d (if c then None else option_map (description_after_loss K S) D) ≤ description_refs d
+    (if b then None else option_map (description_after_loss G S) D)
 refs_at d G K S b true D more = omega arith
 refs_at d G K S true false D more = absurd (cc (more refl))
 refs_at d G K S false false None more = omega arith
@@ -34,10 +38,12 @@ refs_at d G K S false false (Some D) more =
     let q : target_refs d (target_after_loss K S D.target) ≡ target_refs d D.target = target_refs-after_loss d K S D.target in
     omega (arith, p, q)
 
-pub refs-without_more : (d : ℕ) (G K : ℕ → Bool) (S : State) → ((i : ℕ) → G i ≡ true → K i ≡ true) → refs (without K S) d ≤ refs (without G S) d
+pub refs-without_more : (d : ℕ) (G K : ℕ → Bool) (S : State) → ((i : ℕ) → G i ≡ true → K i ≡ true) →
+    refs (without K S) d ≤ refs (without G S) d
 unfolding refs without
 refs-without_more d G K S more =
-    let p = fold_le (description_refs d) (place_after_loss K S) (place_after_loss G S) (λ e. refs_at d G K S (G e.0) (K e.0) e.1 (more e.0)) (enumerate_from 0 S.descriptions) 0 0 (omega arith) in
+    let p = fold_le (description_refs d) (place_after_loss K S) (place_after_loss G S)
+    (λ e. refs_at d G K S (G e.0) (K e.0) e.1 (more e.0)) (enumerate_from 0 S.descriptions) 0 0 (omega arith) in
     omega (arith, p)
 
 -- ---- one description
@@ -60,7 +66,8 @@ abbrev IsSettled : (ℕ → Bool) → State → Type 0
 IsSettled K S = (d : ℕ) → is_unreferenced (without K S) d ≡ false
 
 -- what nothing names without G goes with every K that takes all of G, and leaves nothing unreferenced
-goes_too : (G K : ℕ → Bool) (S : State) (d : ℕ) → ((i : ℕ) → G i ≡ true → K i ≡ true) → IsSettled K S → is_unreferenced (without G S) d ≡ true → K d ≡ true
+goes_too : (G K : ℕ → Bool) (S : State) (d : ℕ) → ((i : ℕ) → G i ≡ true → K i ≡ true) → IsSettled K S →
+    is_unreferenced (without G S) d ≡ true → K d ≡ true
 goes_too G K S d more over unreferenced = bool_cases (K d) (λ gone. gone) (λ left.
     let some : is_some (description_at (without G S) d) ≡ true = (and_parts _ _ unreferenced).0 in
     let zero_left : refs (without G S) d ≡ 0 = eqb-true _ _ (and_parts (is_some (description_at (without G S) d)) _ unreferenced).1 in
@@ -96,7 +103,8 @@ same_bool false false p q = refl
 
 -- where nothing is left that could go, the same has gone, and the same is left
 pub same_end : (S : State) (G K : ℕ → Bool) → CanGo S G → CanGo S K → IsSettled G S → IsSettled K S → without G S ≡ without K S
-same_end S G K g k g_settled k_settled = λ j. without (λ d. same_bool (G d) (K d) (goes_at_last S K k_settled g d) (goes_at_last S G g_settled k d) j) S
+same_end S G K g k g_settled k_settled =
+    λ j. without (λ d. same_bool (G d) (K d) (goes_at_last S K k_settled g d) (goes_at_last S G g_settled k d) j) S
 
 -- ---- the rounds come to such an end
 
@@ -123,18 +131,22 @@ le_step f true (Some x) ys xs e = omega (arith, e)
 le_step f false None ys xs e = e
 le_step f false (Some x) ys xs e = omega (arith, e)
 
-lt_step : {X : Type 0} (f : X → X) (b : Bool) (x : Option X) (ys xs : List (Option X)) → (b ≡ true → is_some x ≡ true) → live_in ys ≤ live_in xs →
+lt_step : {X : Type 0} (f : X → X) (b : Bool) (x : Option X) (ys xs : List (Option X)) → (b ≡ true → is_some x ≡ true) →
+    live_in ys ≤ live_in xs →
     (b ≡ false → suc (live_in ys) ≤ live_in xs) → suc (live_in ((if b then None else option_map f x) ∷ ys)) ≤ live_in (x ∷ xs)
 lt_step f true None ys xs some le lt = absurd (cc (some refl))
 lt_step f true (Some x) ys xs some le lt = omega (arith, le)
 lt_step f false None ys xs some le lt = lt refl
 lt_step f false (Some x) ys xs some le lt = let e : suc (live_in ys) ≤ live_in xs = lt refl in omega (arith, e)
 
-no_more_live : (U : ℕ → Bool) (T : State) (k : ℕ) (xs : List (Option Description)) → live_in (map (place_after_loss U T) (enumerate_from k xs)) ≤ live_in xs
+no_more_live : (U : ℕ → Bool) (T : State) (k : ℕ) (xs : List (Option Description)) →
+    live_in (map (place_after_loss U T) (enumerate_from k xs)) ≤ live_in xs
 no_more_live U T k [] = omega arith
-no_more_live U T k (x ∷ xs) = le_step (description_after_loss U T) (U k) x (map (place_after_loss U T) (enumerate_from (k + 1) xs)) xs (no_more_live U T (k + 1) xs)
+no_more_live U T k (x ∷ xs) = le_step (description_after_loss U T) (U k) x (map (place_after_loss U T) (enumerate_from (k + 1) xs)) xs
+    (no_more_live U T (k + 1) xs)
 
-pub fewer_live : (U : ℕ → Bool) (T : State) (k : ℕ) (xs : List (Option Description)) → ((d : ℕ) → U (k + d) ≡ true → is_some (place xs d) ≡ true) →
+pub fewer_live : (U : ℕ → Bool) (T : State) (k : ℕ) (xs : List (Option Description)) →
+    ((d : ℕ) → U (k + d) ≡ true → is_some (place xs d) ≡ true) →
     list_any (λ e. U e.0) (enumerate_from k xs) ≡ true → suc (live_in (map (place_after_loss U T) (enumerate_from k xs))) ≤ live_in xs
 fewer_live U T k [] there found = absurd (cc found)
 fewer_live U T k (x ∷ xs) there found =
@@ -154,14 +166,16 @@ nothing_found U k (suc d) (x ∷ xs) found some =
 
 pub settled_of_none : (T : State) → has_unreferenced T ≡ false → (d : ℕ) → is_unreferenced T d ≡ false
 settled_of_none T found d = bool_cases (is_some (description_at T d))
-    (λ some. let e : 0 + d ≡ d = omega arith in ap (is_unreferenced T) (sym e) ∙ nothing_found (is_unreferenced T) 0 d T.descriptions found some)
+    (λ some. let e : 0 + d ≡ d = omega arith in
+    ap (is_unreferenced T) (sym e) ∙ nothing_found (is_unreferenced T) 0 d T.descriptions found some)
     (λ gone. and_left _ _ gone)
 
 -- an end: what has gone, by lots, and that nothing unreferenced is left
 abbrev pub End : State → State → Type 0
 End S T = (G : ℕ → Bool) × CanGo S G × (T ≡ without G S) × IsSettled G S
 
-round_end : (n : ℕ) (S : State) (G : ℕ → Bool) → CanGo S G → live_in (without G S).descriptions ≤ suc n → has_unreferenced (without G S) ≡ true →
+round_end : (n : ℕ) (S : State) (G : ℕ → Bool) → CanGo S G → live_in (without G S).descriptions ≤ suc n →
+    has_unreferenced (without G S) ≡ true →
     ((K : ℕ → Bool) → CanGo S K → live_in (without K S).descriptions ≤ n → End S (drop_rounds n (without K S))) →
     End S (drop_rounds n (drop_all (without G S)))
 unfolding without
@@ -171,7 +185,8 @@ round_end n S G can few found after =
     let fewer : suc (live_in (without U T).descriptions) ≤ live_in T.descriptions =
     fewer_live U T 0 T.descriptions (λ d h. let e : d ≡ 0 + d = omega arith in (and_parts _ _ (ap U e ∙ h)).0) found in
     let together : without U T ≡ without (either G U) S = without-without G U S in
-    let small : live_in (without (either G U) S).descriptions ≤ n = subst (λ R. live_in (State.descriptions R) ≤ n) together (omega (arith, fewer, few)) in
+    let small : live_in (without (either G U) S).descriptions ≤ n =
+    subst (λ R. live_in (State.descriptions R) ≤ n) together (omega (arith, fewer, few)) in
     subst (λ R. End S (drop_rounds n R)) (sym together) (after (either G U) (lot U can (λ d h. h)) small)
 
 rounds_end : (n : ℕ) (S : State) (G : ℕ → Bool) → CanGo S G → live_in (without G S).descriptions ≤ n → End S (drop_rounds n (without G S))
@@ -227,7 +242,8 @@ dropped_lots S (another {T} d drops unreferenced) = go (dropped_lots S drops)
     go : (G : ℕ → Bool) × CanGo S G × (T ≡ without G S) → (G : ℕ → Bool) × CanGo S G × (without (λ n. n == d) T ≡ without G S)
     go found = (
       either found.0 (λ n. n == d),
-      lot (λ n. n == d) found.1 (λ n h. ap (is_unreferenced (without found.0 S)) (eqb-true n d h) ∙ ap (λ R. is_unreferenced R d) (sym found.2) ∙ unreferenced),
+      lot (λ n. n == d) found.1 (λ n h. ap (is_unreferenced (without found.0 S)) (eqb-true n d h)
+      ∙ ap (λ R. is_unreferenced R d) (sym found.2) ∙ unreferenced),
       ap (without (λ n. n == d)) found.2 ∙ without-without found.0 (λ n. n == d) S,
     )
 

@@ -1,5 +1,6 @@
 -- That names, messages and queues keep to their limits: what is said of one socket, and what of all of a state.
-use Rattle.std.proofs.Common.{◌≡◌, ℕ, zero, suc, ◌+◌, ◌-◌, ◌≤◌, Bool, true, false, if◌then◌else◌, List, [], ◌∷◌, ◌++◌, length, take, drop, Option, Some, None, refl, subst, arith}
+use Rattle.std.proofs.Common.{◌≡◌, ℕ, zero, suc, ◌+◌, ◌-◌, ◌≤◌, Bool, true, false, if◌then◌else◌, List, [], ◌∷◌, ◌++◌, length, take, drop}
+use Rattle.std.proofs.Common.{Option, Some, None, refl, subst, arith}
 use Rattle.std.specs.Prelude.{nat_le, is_none}
 use Rattle.std.specs.List.{AllByRecursion}
 use Rattle.std.proofs.lemmas.List.{length-take, length-drop}
@@ -68,7 +69,8 @@ pub free_short : (names : List (Name × ℕ)) (name : Name) → free_name names 
 unfolding free_name
 free_short names name h = go (lowest_from (λ n. is_none (named (autobind_name n) names)) 0 autobind_names) h
   where
-    go : (o : Option ℕ) → (elim o as (λ _. Option Name) [ None ↦ None | Some n ↦ Some (autobind_name n) ]) ≡ Some name → length name ≤ name_limit
+    go : (o : Option ℕ) → (elim o as (λ _. Option Name) [ None ↦ None | Some n ↦ Some (autobind_name n) ]) ≡ Some name →
+        length name ≤ name_limit
     go None h = absurd (cc h)
     go (Some n) h = let same : autobind_name n ≡ name = cc h in subst (λ (l : Name). length l ≤ name_limit) same (omega arith)
 
@@ -79,7 +81,8 @@ pushed_each [] m each one = (one, tt)
 pushed_each (x ∷ q) m each one = (each.0, pushed_each q m each.1 one)
 
 -- what a queue takes of a message, where a stream takes what fits and another socket no message that is too long
-pub sent_bounded : (s : Socket) (m : Message) → length m.rights ≤ rights_limit → sender_bytes m.from ≤ name_limit → (is_stream s.kind ≡ false → length m.bytes ≤ record_bytes_limit) →
+pub sent_bounded : (s : Socket) (m : Message) → length m.rights ≤ rights_limit → sender_bytes m.from ≤ name_limit →
+    (is_stream s.kind ≡ false → length m.bytes ≤ record_bytes_limit) →
     IsBounded s → IsBounded (sent m s)
 sent_bounded s m few short fits own = go (is_stream s.kind) refl
   where
@@ -95,13 +98,15 @@ sent_bounded s m few short fits own = go (is_stream s.kind) refl
         record {
           short = own.short;
           limited = own.limited;
-          each = pushed_each s.queue (part true) own.each (record { few_bytes = omega (arith, cut, limited); few_rights = few; short_sender = omega arith });
+          each = pushed_each s.queue (part true) own.each
+              (record { few_bytes = omega (arith, cut, limited); few_rights = few; short_sender = omega arith });
           all = λ stream. omega (arith, cut, more, before, limited);
         }
     go false h = record {
       short = own.short;
       limited = own.limited;
-      each = pushed_each s.queue (part false) own.each (record { few_bytes = let few = fits h in omega (arith, few); few_rights = few; short_sender = short });
+      each = pushed_each s.queue (part false) own.each
+          (record { few_bytes = let few = fits h in omega (arith, few); few_rights = few; short_sender = short });
       all = λ stream. absurd (cc (stream, h));
     }
 
@@ -122,7 +127,8 @@ left_each (suc n) (m ∷ ms) each = go (nat_le (length m.bytes) (suc n)) (left_e
         let few : length m.bytes ≤ greatest_queue_limit = each.0.few_bytes in
         record { few_bytes = omega (arith, long, few); few_rights = omega arith; short_sender = each.0.short_sender }
 
-    go : (b : Bool) → AreBoundedMessages (without_first (suc n - length m.bytes) ms) → AreBoundedMessages (if b then without_first (suc n - length m.bytes) ms else cut ∷ ms)
+    go : (b : Bool) → AreBoundedMessages (without_first (suc n - length m.bytes) ms) →
+        AreBoundedMessages (if b then without_first (suc n - length m.bytes) ms else cut ∷ ms)
     go true rest = rest
     go false rest = (cut_bounded, each.1)
 
@@ -147,7 +153,8 @@ fewer_left (suc n) (m ∷ ms) = go (nat_le (length m.bytes) (suc n)) (fewer_left
         omega (arith, all, long, left)
 
 -- what is left of a queue
-pub rest_bounded : (n : ℕ) (s : Socket) (m : Message) (ms : List Message) → HasBounds s.kind s.name s.queue_limit (m ∷ ms) → HasBounds s.kind s.name s.queue_limit (front_of n s m ms).rest
+pub rest_bounded : (n : ℕ) (s : Socket) (m : Message) (ms : List Message) → HasBounds s.kind s.name s.queue_limit (m ∷ ms) →
+    HasBounds s.kind s.name s.queue_limit (front_of n s m ms).rest
 rest_bounded n s m ms own = go (is_stream s.kind)
   where
     front : Bool → Front
@@ -158,11 +165,13 @@ rest_bounded n s m ms own = go (is_stream s.kind)
       short = own.short;
       limited = own.limited;
       each = left_each _ (m ∷ ms) own.each;
-      all = λ stream. let few = fewer_left (stream_front s.passcred n m ms).whole (m ∷ ms) in let before : queued_bytes (m ∷ ms) ≤ greatest_queue_limit = own.all stream in omega (arith, few, before);
+      all = λ stream. let few = fewer_left (stream_front s.passcred n m ms).whole (m ∷ ms) in
+          let before : queued_bytes (m ∷ ms) ≤ greatest_queue_limit = own.all stream in omega (arith, few, before);
     }
     go false = record {
       short = own.short;
       limited = own.limited;
       each = own.each.1;
-      all = λ stream. let more = sum_by-cons (λ m. length (Message.bytes m)) m ms in let before : queued_bytes (m ∷ ms) ≤ greatest_queue_limit = own.all stream in omega (arith, more, before);
+      all = λ stream. let more = sum_by-cons (λ m. length (Message.bytes m)) m ms in
+          let before : queued_bytes (m ∷ ms) ≤ greatest_queue_limit = own.all stream in omega (arith, more, before);
     }

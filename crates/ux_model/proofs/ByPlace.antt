@@ -1,5 +1,6 @@
 -- Lists by place: fronts, what stands where, and which numbers are in one.
-use Rattle.std.proofs.Common.{◌≡◌, ◌≢◌, ℕ, zero, suc, ◌<◌, ◌≤◌, true, ◌==◌, ◌||◌, eq-eqb, List, [], ◌∷◌, ◌++◌, length, take, Some, refl, ap, sym, ◌∙◌, arith, slice_get, slice_set}
+use Rattle.std.proofs.Common.{◌≡◌, ◌≢◌, ℕ, zero, suc, ◌<◌, ◌≤◌, true, ◌==◌, ◌||◌, eq-eqb, List, [], ◌∷◌, ◌++◌, length, take, Some, refl, ap}
+use Rattle.std.proofs.Common.{sym, ◌∙◌, arith, slice_get, slice_set}
 use Rattle.std.specs.List.{list_any}
 use Rattle.std.proofs.lemmas.Bool.{eqb-true}
 use Rattle.ux_model.proofs.ChangedPlaces.{bool_cases}
@@ -80,7 +81,8 @@ pub member_place : (ns : List ℕ) (n : ℕ) → list_any (λ m. m == n) ns ≡ 
 member_place [] n h = absurd (cc h)
 member_place (m ∷ ns) n h = bool_cases (m == n)
     (λ e. (0, ap (λ k. Some k) (eqb-true m n e)))
-    (λ e. let rest : list_any (λ m. m == n) ns ≡ true = sym (ap (λ b. b || list_any (λ m. m == n) ns) e) ∙ h in let p = member_place ns n rest in (suc p.0, p.1))
+    (λ e. let rest : list_any (λ m. m == n) ns ≡ true = sym (ap (λ b. b || list_any (λ m. m == n) ns) e) ∙ h in
+    let p = member_place ns n rest in (suc p.0, p.1))
 
 pub place_member : (ns : List ℕ) (n i : ℕ) → slice_get ns i ≡ Some n → list_any (λ m. m == n) ns ≡ true
 place_member [] n i h = absurd (cc h)

@@ -24,12 +24,14 @@ unfolding set_ids
 ids_are S p uid gid = maybe (IsOfIds S p uid gid) (process_at S p) _ _ still
     (λ P h. either (IsOfIds S p uid gid) ((uid == no_id) || (gid == no_id)) _ _ (λ b. still)
     (λ b. either (IsOfIds S p uid gid) (not (may_become uid gid P)) _ _ (λ c. still)
-    (λ c. record { next = inr (record { process = P; there = h; may = not-false (may_become uid gid P) c; done = refl; next = refl }); failure = refl })))
+    (λ c. record { next = inr (record { process = P; there = h; may = not-false (may_become uid gid P) c; done = refl; next = refl });
+    failure = refl })))
   where
     still : {e : Errno} → IsOfIds S p uid gid (refuse S e)
     still {e} = record { next = inl refl; failure = refl }
 
-pub ids_chosen : (S T : State) (p uid gid : ℕ) (reply : Reply) → Chosen S (set_ids S p uid gid) reply T → (T ≡ S) ⊎ Becomes S p uid gid reply T
+pub ids_chosen : (S T : State) (p uid gid : ℕ) (reply : Reply) → Chosen S (set_ids S p uid gid) reply T →
+    (T ≡ S) ⊎ Becomes S p uid gid reply T
 ids_chosen S T p uid gid reply (own e f) = go (ids_are S p uid gid).next
   where
     o : Outcome

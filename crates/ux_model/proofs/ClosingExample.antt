@@ -25,7 +25,8 @@ abbrev boot : State
 boot = with_files ((codes "f", memory (codes "hi")) ∷ [])
 
 abbrev entry : ℕ → Request → Reply → List ℕ → Entry
-entry k request reply released = record { pid = record { 0 = 1 }; k = k; request = request; reply = reply; released = released; delivered = None }
+entry k request reply released = record { pid = record { 0 = 1 }; k = k; request = request; reply = reply; released = released; delivered =
+    None }
 
 -- a file is opened, its path is taken away, another descriptor is refused, and the file goes with the last one
 abbrev opening : Entry
@@ -44,7 +45,8 @@ abbrev before : List Entry
 before = opening ∷ unlinking ∷ failing_close ∷ []
 
 boots : IsBootState boot
-boots = record { no_descriptions = refl; no_abstract_names = refl; live_processes = refl; empty_tables = refl; small_tables = (omega arith, tt); open_objects = refl; paths = refl; own_paths = refl }
+boots = record { no_descriptions = refl; no_abstract_names = refl; live_processes = refl; empty_tables = refl; small_tables =
+    (omega arith, tt); open_objects = refl; paths = refl; own_paths = refl }
 
 first : MayFollow boot [] opening
 unfolding computing

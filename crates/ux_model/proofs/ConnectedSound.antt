@@ -1,11 +1,13 @@
 -- A socket that is connected to a new end, which waits at another, keeps that nothing dangles: the end is made, waits, and gets its peer.
-use Rattle.std.proofs.Common.{◌≡◌, ℕ, ◌+◌, ◌≤◌, ◌<◌, ◌==◌, true, false, cond, List, [], ◌∷◌, ◌++◌, length, Option, Some, None, refl, ap, sym, subst, ◌∙◌, arith}
+use Rattle.std.proofs.Common.{◌≡◌, ℕ, ◌+◌, ◌≤◌, ◌<◌, ◌==◌, true, false, cond, List, [], ◌∷◌, ◌++◌, length, Option, Some, None, refl, ap}
+use Rattle.std.proofs.Common.{sym, subst, ◌∙◌, arith}
 use Rattle.std.specs.Prelude.{is_some, option_map}
 use Rattle.std.proofs.lemmas.Bool.{eqb-true}
 use Rattle.std.proofs.lemmas.List.Sums.{sum_by_push}
 use Rattle.ux_model.specs.Types.{Cred}
 use Rattle.ux_model.specs.Places.{place, changed_place}
-use Rattle.ux_model.specs.Socket.{Socket, Phase, idle, listening, connected, associated, peer_of, pending_ends, phase_with_pending, awaiting}
+use Rattle.ux_model.specs.Socket.{Socket, Phase, idle, listening, connected, associated, peer_of, pending_ends, phase_with_pending}
+use Rattle.ux_model.specs.Socket.{awaiting}
 use Rattle.ux_model.specs.Description.{Description, Target, to_object, to_socket, socket_in, changed, changed_target}
 use Rattle.ux_model.specs.State.{State, description_at, socket_at, with_socket_by, with_new}
 use Rattle.ux_model.specs.References.{times, socket_refs, target_refs, leads_to}
@@ -25,10 +27,12 @@ use Rattle.ux_model.proofs.KeptSound.{made_held, place_held, ends_still}
 -- ---- a changed socket
 
 -- it keeps its name, and refers to no more that isn't there
-socket_references : (S : State) (f : Socket → Socket) (x : Option Description) → ((d : ℕ) (s : Socket) → is_some (description_at S d) ≡ false → socket_refs d (f s) ≤ socket_refs d s) →
+socket_references : (S : State) (f : Socket → Socket) (x : Option Description) →
+    ((d : ℕ) (s : Socket) → is_some (description_at S d) ≡ false → socket_refs d (f s) ≤ socket_refs d s) →
     ((s : Socket) → (f s).name ≡ s.name) → KeepsReferences S x (option_map (changed f) x)
 socket_references S f None fewer same = record { held = refl; leads = λ o. refl; holds = λ d gone. omega arith; named = λ name h. h }
-socket_references S f (Some D) fewer same = record { held = refl; leads = λ o. leads o D.target; holds = λ d gone. holds d gone D.target; named = λ name h. named D.target ∙ h }
+socket_references S f (Some D) fewer same =
+    record { held = refl; leads = λ o. leads o D.target; holds = λ d gone. holds d gone D.target; named = λ name h. named D.target ∙ h }
   where
     leads : (o : ℕ) (t : Target) → leads_to o (changed_target f t) ≡ leads_to o t
     leads o (to_object n) = refl
@@ -43,7 +47,8 @@ socket_references S f (Some D) fewer same = record { held = refl; leads = λ o. 
     named (to_socket s) = ap Some (same s)
 
 -- a number of a socket that a change keeps, or makes greater by so much at most
-at_changed : (g : Socket → ℕ) (f : Socket → Socket) (more : ℕ) → ((s : Socket) → g (f s) ≤ g s + more) → (x : Option Description) → at_socket g (option_map (changed f) x) ≤ at_socket g x + more
+at_changed : (g : Socket → ℕ) (f : Socket → Socket) (more : ℕ) → ((s : Socket) → g (f s) ≤ g s + more) → (x : Option Description) →
+    at_socket g (option_map (changed f) x) ≤ at_socket g x + more
 at_changed g f more by None = omega arith
 at_changed g f more by (Some D) = by_target D.target
   where
@@ -51,7 +56,8 @@ at_changed g f more by (Some D) = by_target D.target
     by_target (to_object o) = omega arith
     by_target (to_socket s) = by s
 
-same_changed : (g : Socket → ℕ) (f : Socket → Socket) → ((s : Socket) → g (f s) ≡ g s) → (x : Option Description) → at_socket g (option_map (changed f) x) ≡ at_socket g x
+same_changed : (g : Socket → ℕ) (f : Socket → Socket) → ((s : Socket) → g (f s) ≡ g s) → (x : Option Description) →
+    at_socket g (option_map (changed f) x) ≡ at_socket g x
 same_changed g f same None = refl
 same_changed g f same (Some D) = by_target D.target
   where
@@ -74,7 +80,8 @@ phase_awaits d e (associated target) = omega arith
 -- what is there isn't what isn't there
 apart : (S : State) (e d : ℕ) → is_some (description_at S e) ≡ true → is_some (description_at S d) ≡ false → ◌≡◌ {A = ℕ} (once e d) 0
 apart S e d there gone = bool_cases (e == d)
-    (λ h. let one : is_some (description_at S d) ≡ true = ap (λ n. is_some (description_at S n)) (sym (eqb-true e d h)) ∙ there in absurd (cc (one, gone)))
+    (λ h. let one : is_some (description_at S d) ≡ true = ap (λ n. is_some (description_at S n)) (sym (eqb-true e d h)) ∙ there in
+    absurd (cc (one, gone)))
     (λ h. ap (λ b. cond {A = ℕ} b 1 0) h)
 
 some_counted : (x : Option Description) → at_socket unaccepted x ≡ 1 → is_some x ≡ true
@@ -82,15 +89,19 @@ some_counted None h = absurd (omega (arith, h))
 some_counted (Some D) h = refl
 
 -- one that is there, which no accept has taken, and which waits nowhere yet
-awaiting_held : (S : State) (l e : ℕ) → IsHeld S → at_socket unaccepted (description_at S e) ≡ 1 → pends_at_all e S.descriptions ≡ 0 → IsHeld (with_socket_by S l (awaiting e))
+awaiting_held : (S : State) (l e : ℕ) → IsHeld S → at_socket unaccepted (description_at S e) ≡ 1 → pends_at_all e S.descriptions ≡ 0 →
+    IsHeld (with_socket_by S l (awaiting e))
 awaiting_held S l e held waits none = place_held S l (option_map (changed (awaiting e)) (description_at S l)) held
     (socket_references S (awaiting e) (description_at S l)
-    (λ d s gone. let a = phase_awaits d e s.phase in let z = apart S e d (some_counted (description_at S e) waits) gone in omega (arith, a, z)) (λ s. refl))
+    (λ d s gone. let a = phase_awaits d e s.phase in let z = apart S e d (some_counted (description_at S e) waits) gone in
+    omega (arith, a, z)) (λ s. refl))
     (λ d.
     let more = more_by (at_socket (pends d)) S.descriptions l (once e d) (option_map (changed (awaiting e)) (description_at S l))
     (at_changed (pends d) (awaiting e) (once e d) (λ s. phase_awaits d e s.phase) (description_at S l)) in
-    let same : at_socket unaccepted (place (changed_place S.descriptions l (changed (awaiting e))) d) ≡ at_socket unaccepted (description_at S d) =
-    same_at (at_socket unaccepted) S.descriptions l d (option_map (changed (awaiting e)) (description_at S l)) (same_changed unaccepted (awaiting e) (λ s. refl) (description_at S l)) in
+    let same : at_socket unaccepted (place (changed_place S.descriptions l (changed (awaiting e))) d) ≡ at_socket unaccepted
+    (description_at S d) =
+    same_at (at_socket unaccepted) S.descriptions l d (option_map (changed (awaiting e)) (description_at S l))
+    (same_changed unaccepted (awaiting e) (λ s. refl) (description_at S l)) in
     bool_cases (e == d)
     (λ h.
     let is : e ≡ d = eqb-true e d h in
@@ -134,7 +145,8 @@ ties_of : (peer : ℕ) (cred : Cred) (x : Option Description) → is_some (socke
 ties_of peer cred None h free = absurd (cc h)
 ties_of peer cred (Some D) h free = record { there = D; is = refl; free = free; ties = by_target D.target h }
   where
-    by_target : (t : Target) → is_some (socket_in (Some (record D { target = t }))) ≡ true → target_peer (changed_target (tied peer cred) t) ≡ Some peer
+    by_target : (t : Target) → is_some (socket_in (Some (record D { target = t }))) ≡ true →
+        target_peer (changed_target (tied peer cred) t) ≡ Some peer
     by_target (to_object o) h = absurd (cc h)
     by_target (to_socket s) h = refl
 
@@ -142,7 +154,8 @@ socket_still : (f : Socket → Socket) (x : Option Description) → is_some (soc
 socket_still f None = refl
 socket_still f (Some D) = by_target D.target
   where
-    by_target : (t : Target) → is_some (socket_in (Some (record D { target = changed_target f t }))) ≡ is_some (socket_in (Some (record D { target = t })))
+    by_target : (t : Target) → is_some (socket_in (Some (record D { target = changed_target f t }))) ≡ is_some
+        (socket_in (Some (record D { target = t })))
     by_target (to_object o) = refl
     by_target (to_socket s) = refl
 
@@ -154,7 +167,8 @@ no_peer_in (Some D) s h free = by_target D.target h
     by_target (to_object o) h = absurd (cc h)
     by_target (to_socket u) h = let same : u ≡ s = cc h in ap (λ (v : Socket). peer_of v.phase) same ∙ free
 
-pub connection_sound : (S : State) (d l : ℕ) (cred listener_cred : Cred) (s listener : Socket) → IsSound S → socket_at S d ≡ Some s → peer_of s.phase ≡ None → socket_at S l ≡ Some listener →
+pub connection_sound : (S : State) (d l : ℕ) (cred listener_cred : Cred) (s listener : Socket) → IsSound S → socket_at S d ≡ Some s →
+    peer_of s.phase ≡ None → socket_at S l ≡ Some listener →
     IsSound (with_connection S (record { client = d; client_cred = cred; listener = l; socket = listener; listener_cred = listener_cred }))
 connection_sound S d l cred listener_cred s listener sound client free there = record { held = held; paired = paired }
   where
@@ -183,14 +197,19 @@ connection_sound S d l cred listener_cred s listener sound client free there = r
     waiting : IsHeld (with_socket_by (with_new S E) l (awaiting e))
     waiting = awaiting_held (with_new S E) l e made (ap (at_socket unaccepted) (place_last S.descriptions (Some E))) waits_nowhere
 
-    held : IsHeld (with_connection S (record { client = d; client_cred = cred; listener = l; socket = listener; listener_cred = listener_cred }))
-    held = subst (λ (ds : List (Option Description)). IsHeld (record S { descriptions = changed_place ds d (changed (tied e listener_cred)) }))
-        (changed_push S.descriptions l (changed (awaiting e)) (Some E) inside) (tied_held (with_socket_by (with_new S E) l (awaiting e)) d e listener_cred waiting)
+    held : IsHeld (with_connection S (record { client = d; client_cred = cred; listener = l; socket = listener; listener_cred =
+        listener_cred }))
+    held = subst (λ (ds : List (Option Description)). IsHeld
+        (record S { descriptions = changed_place ds d (changed (tied e listener_cred)) }))
+        (changed_push S.descriptions l (changed (awaiting e)) (Some E) inside)
+        (tied_held (with_socket_by (with_new S E) l (awaiting e)) d e listener_cred waiting)
 
     ties : Ties (place awaited d) e listener_cred
     ties = ties_of e listener_cred (place awaited d)
-        (same_at (λ x. is_some (socket_in x)) S.descriptions l d (option_map (changed (awaiting e)) (description_at S l)) (socket_still (awaiting e) (description_at S l)) ∙ ap is_some client)
-        (same_at peer_in S.descriptions l d (option_map (changed (awaiting e)) (description_at S l)) (peer_in-changed (awaiting e) (λ u. peer_awaiting e u.phase) (description_at S l))
+        (same_at (λ x. is_some (socket_in x)) S.descriptions l d (option_map (changed (awaiting e)) (description_at S l))
+        (socket_still (awaiting e) (description_at S l)) ∙ ap is_some client)
+        (same_at peer_in S.descriptions l d (option_map (changed (awaiting e)) (description_at S l))
+        (peer_in-changed (awaiting e) (λ u. peer_awaiting e u.phase) (description_at S l))
         ∙ no_peer_in (description_at S d) s client free)
 
     paired : Paired (changed_place (awaited ++ Some E ∷ []) d (changed (tied e listener_cred)))

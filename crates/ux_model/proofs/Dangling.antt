@@ -1,5 +1,6 @@
 -- Nothing dangles, whatever calls were made, so not in the states of legal histories.
-use Rattle.std.proofs.Common.{◌≡◌, ℕ, zero, suc, ◌+◌, ◌==◌, true, false, cond, List, [], ◌∷◌, length, map, sum_by, count_by, Option, Some, None, refl, ap, sym, ◌∙◌, subst, arith}
+use Rattle.std.proofs.Common.{◌≡◌, ℕ, zero, suc, ◌+◌, ◌==◌, true, false, cond, List, [], ◌∷◌, length, map, sum_by, count_by, Option, Some}
+use Rattle.std.proofs.Common.{None, refl, ap, sym, ◌∙◌, subst, arith}
 use Rattle.std.specs.Prelude.{is_some, replicate}
 use Rattle.std.specs.List.{slice_get, list_all}
 use Rattle.std.proofs.lemmas.Bool.{ne_eqb, and_parts}
@@ -21,7 +22,8 @@ use Rattle.ux_model.proofs.Reaching.{may_change}
 use Rattle.ux_model.proofs.Settling.{numbers_from, paths_count, none_left, chain_settled}
 use Rattle.ux_model.proofs.Induction.{IsKept, kept_throughout}
 use Rattle.ux_model.proofs.Sound.{IsSound, name_in}
-use Rattle.ux_model.proofs.Named.{entry_counts, right_counts, opening_counts, path_counts, exactly, named_open, described, pending_listed, at_most_one, waiting_socket, named_socket}
+use Rattle.ux_model.proofs.Named.{entry_counts, right_counts, opening_counts, path_counts, exactly, named_open, described, pending_listed}
+use Rattle.ux_model.proofs.Named.{at_most_one, waiting_socket, named_socket}
 use Rattle.ux_model.proofs.Calls.{step_reached}
 use Rattle.ux_model.proofs.ReachedSound.{reached_sound}
 use Rattle.ux_model.proofs.ReleasedSound.{settled_sound}
@@ -32,7 +34,8 @@ nothing_held : (d n : ℕ) → table_refs d (replicate n None) ≡ 0
 nothing_held d zero = refl
 nothing_held d (suc n) = nothing_held d n
 
-all_empty : (d : ℕ) (Ps : List Process) → map (λ P. P.table) Ps ≡ map (λ P. replicate (length P.table) None) Ps → sum_by (λ P. table_refs d (Process.table P)) Ps ≡ 0
+all_empty : (d : ℕ) (Ps : List Process) → map (λ P. P.table) Ps ≡ map (λ P. replicate (length P.table) None) Ps →
+    sum_by (λ P. table_refs d (Process.table P)) Ps ≡ 0
 all_empty d [] h = refl
 all_empty d (P ∷ Ps) h =
     let first : P.table ≡ replicate (length P.table) None = cc h in
@@ -42,7 +45,8 @@ all_empty d (P ∷ Ps) h =
     let rest = all_empty d Ps others in
     omega (arith, s, none, rest)
 
-beyond : (k i : ℕ) (xs : List (Option View)) → list_all is_open xs ≡ true → is_some (place xs i) ≡ false → count_by (λ n. n == k + i) (numbers_from k xs) ≡ 0
+beyond : (k i : ℕ) (xs : List (Option View)) → list_all is_open xs ≡ true → is_some (place xs i) ≡ false →
+    count_by (λ n. n == k + i) (numbers_from k xs) ≡ 0
 beyond k i [] all gone = refl
 beyond k zero (None ∷ xs) all gone = absurd (cc all)
 beyond k zero (Some x ∷ xs) all gone = absurd (cc gone)
@@ -51,7 +55,8 @@ beyond k (suc i) (x ∷ xs) all gone =
     let none : cond {A = ℕ} (k == k + suc i) 1 0 ≡ 0 = ap (λ b. cond {A = ℕ} b 1 0) (ne_eqb k (k + suc i) (λ e. omega (arith, e))) in
     let e : (k + 1) + i ≡ k + suc i = omega arith in
     let rest : count_by (λ n. n == k + suc i) (numbers_from (k + 1) xs) ≡ 0 =
-    subst (λ m. count_by (λ n. n == m) (numbers_from (k + 1) xs) ≡ 0) e (beyond (k + 1) i xs (and_parts (is_open x) (list_all is_open xs) all).1 gone) in
+    subst (λ m. count_by (λ n. n == m) (numbers_from (k + 1) xs) ≡ 0) e
+    (beyond (k + 1) i xs (and_parts (is_open x) (list_all is_open xs) all).1 gone) in
     omega (arith, s, none, rest)
 
 open_at : (xs : List (Option View)) (o : ℕ) (view : View) → list_all is_open xs ≡ true → place xs o ≡ Some view → view.opened ≡ true
@@ -77,7 +82,8 @@ boot_orefs boot boots o gone =
     omega (arith, none, same, nobody)
 
 -- where nothing is listed, nothing stands
-no_names : (ds : List (Option Description)) (i : ℕ) (e : Name × ℕ) → slice_get [] i ≡ Some e → name_in (place ds e.1) ≡ Some (Addr.Abstract e.0)
+no_names : (ds : List (Option Description)) (i : ℕ) (e : Name × ℕ) → slice_get [] i ≡ Some e →
+    name_in (place ds e.1) ≡ Some (Addr.Abstract e.0)
 no_names ds zero e h = absurd (cc h)
 no_names ds (suc i) e h = absurd (cc h)
 
@@ -98,14 +104,16 @@ boot_sound boot boots = record {
 
 -- ---- over a chain of calls
 
-step_sound : (S T : State) (p tag : ℕ) (request : Request) (reply : Reply) (gone : List ℕ) → IsSound S → Step S p tag request reply gone T → IsSound T
+step_sound : (S T : State) (p tag : ℕ) (request : Request) (reply : Reply) (gone : List ℕ) → IsSound S → Step S p tag request reply gone T →
+    IsSound T
 step_sound S T p tag request reply gone sound step =
     let r = step_reached S T p tag request reply gone step in
     subst IsSound (sym r.3) (settled_sound r.0 (reached_sound S (may_change request) r.0 sound r.1))
 
 chain_sound : (boot T : State) → IsBootState boot → Chain boot T → IsSound T
 chain_sound boot T boots no_call = boot_sound boot boots
-chain_sound boot T boots (another_call {S = S} p tag request reply gone U before step) = step_sound S U p tag request reply gone (chain_sound boot S boots before) step
+chain_sound boot T boots (another_call {S = S} p tag request reply gone U before step) =
+    step_sound S U p tag request reply gone (chain_sound boot S boots before) step
 
 -- ---- over a history
 
@@ -113,7 +121,8 @@ abbrev HasSound : List Entry → State → Type 0
 HasSound es S = IsSound S
 
 pub keeps_sound : (boot : State) → IsKept boot HasSound
-keeps_sound boot = record { at_boot = boot_sound boot; by_entry = λ es e S T sound step allowed. step_sound S T e.pid.0 (length es) e.request e.reply e.released sound step }
+keeps_sound boot = record { at_boot = boot_sound boot; by_entry =
+    λ es e S T sound step allowed. step_sound S T e.pid.0 (length es) e.request e.reply e.released sound step }
 
 -- the entries are a chain of calls
 legal_chain : (boot : State) (es : List Entry) → IsLegal boot es → Chain boot (replay boot es)
@@ -126,8 +135,10 @@ legal_chain boot es legal = kept_throughout boot (λ so_far S. Chain boot S) (re
 
 sound_whole : (S : State) → IsSound S → settled S ≡ S → IsWhole S
 sound_whole S sound here = record {
-  descriptions_referenced = λ d. exactly (is_some (description_at S d)) (refs S d) (sound.held.no_description_dangles d) ((none_left S here).descriptions d);
-  objects_referenced = λ o. exactly (is_some (place S.objects o)) (orefs S o) (sound.held.no_object_dangles o) ((none_left S here).objects o);
+  descriptions_referenced = λ d. exactly (is_some (description_at S d)) (refs S d) (sound.held.no_description_dangles d)
+      ((none_left S here).descriptions d);
+  objects_referenced = λ o. exactly (is_some (place S.objects o)) (orefs S o) (sound.held.no_object_dangles o)
+      ((none_left S here).objects o);
   objects_open = sound.held.all_open;
   descriptors_lead = λ p n e h. described S sound.held e.description (entry_counts S p n e h);
   rights_lead = λ d i j r s m h waits brings. described S sound.held r (right_counts S d i j r s m h waits brings);

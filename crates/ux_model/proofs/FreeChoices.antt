@@ -1,5 +1,6 @@
 -- The two free choices: which calls never lack memory, and what a failure reports.
-use Rattle.std.proofs.Common.{◌≡◌, ◌⊎◌, inl, inr, ⊎_elim, ℕ, ◌+◌, ◌==◌, Bool, true, false, ◌&&◌, not, if◌then◌else◌, List, Option, Some, None, refl, ap, sym, subst, ◌∙◌, arith, ◌||◌}
+use Rattle.std.proofs.Common.{◌≡◌, ◌⊎◌, inl, inr, ⊎_elim, ℕ, ◌+◌, ◌==◌, Bool, true, false, ◌&&◌, not, if◌then◌else◌, List, Option, Some}
+use Rattle.std.proofs.Common.{None, refl, ap, sym, subst, ◌∙◌, arith, ◌||◌}
 use Rattle.std.specs.Prelude.{ℤ, pos, negsuc, ◌+ℤ◌, nat_lt, is_some, is_none}
 use Rattle.std.proofs.lemmas.Bool.{cases_eq, ne_eqb, and_right, or_parts}
 use Rattle.std.proofs.lemmas.List.{get_or-set_same, get_or-set_other}
@@ -66,7 +67,8 @@ close_spares S p fd = found IsSparing S p fd _ refl (λ e D g h. refl)
 
 unlink_spares : (S : State) (path : Name) → IsSparing (unlink S path)
 unfolding unlink
-unlink_spares S path = either IsSparing (not (is_valid_path path)) _ _ (λ b. refl) (λ b. either IsSparing (not (is_some (named path S.paths))) _ _ (λ c. refl) (λ c. refl))
+unlink_spares S path = either IsSparing (not (is_valid_path path)) _ _ (λ b. refl)
+    (λ b. either IsSparing (not (is_some (named path S.paths))) _ _ (λ c. refl) (λ c. refl))
 
 listen_spares : (S : State) (p : ℕ) (fd : Fd) (backlog : ℤ) → IsSparing (listen S p fd backlog)
 unfolding listen
@@ -78,7 +80,8 @@ listen_spares S p fd backlog = maybe IsSparing (process_at S p) _ _ refl
 
 shutdown_spares : (S : State) (p : ℕ) (fd : Fd) (how : Mode) → IsSparing (shutdown S p fd how)
 unfolding shutdown
-shutdown_spares S p fd how = found_socket IsSparing S p fd _ refl refl (λ d s h. either IsSparing (is_none (tied_socket s.phase)) _ _ (λ b. refl) (λ b. refl))
+shutdown_spares S p fd how = found_socket IsSparing S p fd _ refl refl
+    (λ d s h. either IsSparing (is_none (tied_socket s.phase)) _ _ (λ b. refl) (λ b. refl))
 
 cred_spares : (S : State) (cred : Option Cred) → IsSparing (tell_cred S cred)
 cred_spares S None = refl
@@ -98,7 +101,9 @@ get_opt_spares S p fd opt = found_socket IsSparing S p fd _ refl refl (λ d s h.
 
 limit_spares : (S : State) (p : ℕ) (fd : Fd) (value : ℕ) → IsSparing (set_opt S p fd SockOpt.QueueLimit value)
 unfolding set_opt
-limit_spares S p fd value = found_socket IsSparing S p fd _ refl refl (λ d s h. either IsSparing (not (is_stream s.kind)) _ _ (λ b. refl) (λ b. either IsSparing (not (may_limit value)) _ _ (λ c. refl) (λ c. refl)))
+limit_spares S p fd value = found_socket IsSparing S p fd _ refl refl
+    (λ d s h. either IsSparing (not (is_stream s.kind)) _ _ (λ b. refl)
+    (λ b. either IsSparing (not (may_limit value)) _ _ (λ c. refl) (λ c. refl)))
 
 poll_spares : (S : State) (p : ℕ) (fd : Fd) → IsSparing (poll S p fd)
 unfolding poll
@@ -111,7 +116,8 @@ exit_spares S p = maybe IsSparing (process_at S p) _ _ refl (λ P h. refl)
 ids_spare : (S : State) (p uid gid : ℕ) → IsSparing (set_ids S p uid gid)
 unfolding set_ids
 ids_spare S p uid gid = maybe IsSparing (process_at S p) _ _ refl
-    (λ P h. either IsSparing ((uid == no_id) || (gid == no_id)) _ _ (λ b. refl) (λ b. either IsSparing (not (may_become uid gid P)) _ _ (λ c. refl) (λ c. refl)))
+    (λ P h. either IsSparing ((uid == no_id) || (gid == no_id)) _ _ (λ b. refl)
+    (λ b. either IsSparing (not (may_become uid gid P)) _ _ (λ c. refl) (λ c. refl)))
 
 exec_spares : (S : State) (p : ℕ) → IsSparing (exec S p)
 unfolding exec
@@ -160,7 +166,8 @@ each_spares S p tag Request.Off h = off_spares S
 own_tells : (o : Outcome) → tells_choice o.reply ≡ false → (lacks_memory o.reply ≡ false) × (fails o.reply ≡ false)
 own_tells o told = or_parts (lacks_memory o.reply) (fails o.reply) told
 
-not_lacking : (S T : State) (o : Outcome) (reply : Reply) → tells_choice o.reply ≡ false → IsSparing o → Chosen S o reply T → ¬ (reply ≡ Reply.Err Errno.ENOMEM)
+not_lacking : (S T : State) (o : Outcome) (reply : Reply) → tells_choice o.reply ≡ false → IsSparing o → Chosen S o reply T →
+    ¬ (reply ≡ Reply.Err Errno.ENOMEM)
 not_lacking S T o reply told sparing (own e f) h = absurd (cc (sym (own_tells o told).0 ∙ ap lacks_memory (sym e ∙ h)))
 not_lacking S T o reply told sparing (lacking_memory e may f) h = absurd (cc (sym sparing ∙ may))
 not_lacking S T o reply told sparing (failing e f) h = absurd (cc (sym e ∙ h))
@@ -179,16 +186,21 @@ HasOneFailed S U reply = (reply ≡ Reply.Err Errno.EIO) × OneMoreFailure S U �
 abbrev HasNoneFailed : State → State → Reply → Type 0
 HasNoneFailed S U reply = (fails reply ≡ false) × FailAlike S U
 
-which : (S U : State) (may : May) (o : Outcome) (reply : Reply) → Obeys S may o → Chosen S o reply U → HasOneFailed S U reply ⊎ HasNoneFailed S U reply
-which S U may o reply obeys (own e f) = inr (ap fails e ∙ (own_tells o obeys.own_reply).1, λ n. ap (λ (R : State). failures (place R.objects n)) f ∙ obeys.alike n)
+which : (S U : State) (may : May) (o : Outcome) (reply : Reply) → Obeys S may o → Chosen S o reply U →
+    HasOneFailed S U reply ⊎ HasNoneFailed S U reply
+which S U may o reply obeys (own e f) = inr
+    (ap fails e ∙ (own_tells o obeys.own_reply).1, λ n. ap (λ (R : State). failures (place R.objects n)) f ∙ obeys.alike n)
 which S U may o reply obeys (lacking_memory e lacks f) = inr (ap fails e, λ n. ap (λ (R : State). failures (place R.objects n)) f)
 which S U may o reply obeys (failing e f) = let left = obeys.failed U f in inl (e, left.0, left.1)
 
 -- ---- and when the call has ended
 
-left_there : (U : State) (o : ℕ) → place (settled U).objects o ≡ (if is_some (place U.objects o) && (orefs (drop_unreferenced U) o == 0) then None else place U.objects o)
+left_there : (U : State) (o : ℕ) → place (settled U).objects
+    o ≡ (if is_some (place U.objects o) && (orefs (drop_unreferenced U) o == 0) then None else place U.objects o)
 unfolding settled
-left_there U o = object_left (drop_unreferenced U) o ∙ ap (λ (os : List (Option View)). if is_some (place os o) && (orefs (drop_unreferenced U) o == 0) then None else place os o) (drop_keeps U)
+left_there U o = object_left (drop_unreferenced U) o
+    ∙ ap (λ (os : List (Option View)). if is_some (place os o) && (orefs (drop_unreferenced U) o == 0) then None else place os o)
+    (drop_keeps U)
 
 -- what is there then was there before
 was_there : (U : State) (o : ℕ) (view : View) → place (settled U).objects o ≡ Some view → place U.objects o ≡ Some view
@@ -204,7 +216,8 @@ held_stays : (U : State) (o : ℕ) → IsHeldOpen U o → place (settled U).obje
 held_stays U o held =
     let led = held_led U o held in
     let some : (orefs (drop_unreferenced U) o == 0) ≡ false = ne_eqb (orefs (drop_unreferenced U) o) 0 (λ z. omega (arith, z, led)) in
-    left_there U o ∙ ap (λ b. if b then None else place U.objects o) (and_right (is_some (place U.objects o)) (orefs (drop_unreferenced U) o == 0) some)
+    left_there U o ∙ ap (λ b. if b then None else place U.objects o)
+    (and_right (is_some (place U.objects o)) (orefs (drop_unreferenced U) o == 0) some)
 
 -- ---- where one has failed
 
@@ -219,7 +232,8 @@ after_it S U one = ap (λ (R : State). place R.objects one.object) one.left
     ∙ get_or-set_same S.objects one.object (Some (after_failure one.view)) None (place_within S.objects one.object one.view one.there)
 
 elsewhere : (S U : State) (one : OneMoreFailure S U) (o : ℕ) → (o ≡ one.object → ⊥) → place U.objects o ≡ place S.objects o
-elsewhere S U one o other = ap (λ (R : State). place R.objects o) one.left ∙ get_or-set_other S.objects one.object o (Some (after_failure one.view)) None other
+elsewhere S U one o other = ap (λ (R : State). place R.objects o) one.left
+    ∙ get_or-set_other S.objects one.object o (Some (after_failure one.view)) None other
 
 has_failed : (S U : State) (one : OneMoreFailure S U) → KeepsObjects S U → HasFailed S (settled U) one.object
 has_failed S U one kept = (
@@ -235,10 +249,12 @@ has_failed S U one kept = (
 is_that : (S U : State) (one : OneMoreFailure S U) (o : ℕ) → HasFailed S (settled U) o → o ≡ one.object
 is_that S U one o failed = ⊎_elim {C = o ≡ one.object}
     (λ same. same)
-    (λ other. absurd (failed_twice failed.0 (same_view (sym (was_there U o (after_failure failed.0) failed.2) ∙ elsewhere S U one o other ∙ failed.1))))
+    (λ other. absurd (failed_twice failed.0 (same_view
+    (sym (was_there U o (after_failure failed.0) failed.2) ∙ elsewhere S U one o other ∙ failed.1))))
     (cases_eq o one.object)
 
-but_one_alike : (S U : State) (one : OneMoreFailure S U) → KeepsObjects S U → (o : ℕ) → ¬ (HasFailed S (settled U) o) → FailedAsOften S (settled U) o
+but_one_alike : (S U : State) (one : OneMoreFailure S U) → KeepsObjects S U → (o : ℕ) → ¬ (HasFailed S (settled U) o) →
+    FailedAsOften S (settled U) o
 but_one_alike S U one kept o not_failed old new was is = ⊎_elim {C = new.faults ≡ old.faults}
     (λ same. absurd (not_failed (subst (HasFailed S (settled U)) (sym same) (has_failed S U one kept))))
     (λ other. ap View.faults (same_view (sym (was_there U o new is) ∙ elsewhere S U one o other ∙ was)))

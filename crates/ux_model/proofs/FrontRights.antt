@@ -1,5 +1,6 @@
 -- What a receive takes of the references that a queue holds: those that it hands out, and no others.
-use Rattle.std.proofs.Common.{◌≡◌, ℕ, zero, suc, ◌+◌, ◌-◌, ◌≤◌, ◌==◌, cond, Bool, true, false, if◌then◌else◌, List, [], ◌∷◌, ◌++◌, length, drop, min, refl, ap, sym, ◌∙◌, append_assoc, zero-add, arith}
+use Rattle.std.proofs.Common.{◌≡◌, ℕ, zero, suc, ◌+◌, ◌-◌, ◌≤◌, ◌==◌, cond, Bool, true, false, if◌then◌else◌, List, [], ◌∷◌, ◌++◌, length}
+use Rattle.std.proofs.Common.{drop, min, refl, ap, sym, ◌∙◌, append_assoc, zero-add, arith}
 use Rattle.std.specs.Prelude.{nat_le}
 use Rattle.std.proofs.lemmas.Bool.{leb-false}
 use Rattle.std.proofs.Math.Nat.{min-le_right}
@@ -18,14 +19,18 @@ within_refs k zero (m ∷ ms) = zero-add (queue_refs k (m ∷ ms))
 within_refs k (suc n) [] = refl
 within_refs k (suc n) (m ∷ ms) = go (within_refs k (suc n - length m.bytes) ms) (nat_le (length m.bytes) (suc n)) refl
   where
-    more : times k (m.rights ++ rights_within (suc n - length m.bytes) ms) ≡ times k m.rights + times k (rights_within (suc n - length m.bytes) ms)
+    more : times k (m.rights ++ rights_within (suc n - length m.bytes) ms) ≡ times k m.rights + times k
+        (rights_within (suc n - length m.bytes) ms)
     more = sum_by-append (λ d. cond {A = ℕ} (d == k) 1 0) m.rights (rights_within (suc n - length m.bytes) ms)
 
     all : queue_refs k (m ∷ ms) ≡ times k m.rights + queue_refs k ms
     all = sum_by-cons (λ m. times k (Message.rights m)) m ms
 
-    go : times k (rights_within (suc n - length m.bytes) ms) + queue_refs k (without_first (suc n - length m.bytes) ms) ≡ queue_refs k ms → (b : Bool) → nat_le (length m.bytes) (suc n) ≡ b →
-        times k (m.rights ++ rights_within (suc n - length m.bytes) ms) + queue_refs k (if b then without_first (suc n - length m.bytes) ms else record m { bytes = drop (suc n) m.bytes; rights = [] } ∷ ms) ≡ queue_refs k (m ∷ ms)
+    go : times k (rights_within (suc n - length m.bytes) ms) + queue_refs k (without_first (suc n - length m.bytes) ms) ≡ queue_refs k ms →
+        (b : Bool) → nat_le (length m.bytes) (suc n) ≡ b →
+        times k (m.rights ++ rights_within (suc n - length m.bytes) ms) + queue_refs k
+        (if b then without_first (suc n - length m.bytes) ms else record m { bytes = drop (suc n) m.bytes; rights = [] } ∷ ms) ≡ queue_refs
+        k (m ∷ ms)
     go rest true h = omega (arith, more, all, rest)
     go rest false h =
         let long = leb-false (length m.bytes) (suc n) h in
@@ -79,18 +84,21 @@ run_front false m ms = barrier_front (m ∷ ms)
 
 -- ---- a receive
 
-front_refs : (k : ℕ) (wants : Bool) (n : ℕ) (m : Message) (ms : List Message) → times k (stream_front wants n m ms).rights + queue_refs k (stream_front wants n m ms).rest ≡ queue_refs k (m ∷ ms)
+front_refs : (k : ℕ) (wants : Bool) (n : ℕ) (m : Message) (ms : List Message) →
+    times k (stream_front wants n m ms).rights + queue_refs k (stream_front wants n m ms).rest ≡ queue_refs k (m ∷ ms)
 front_refs k wants n m ms =
     let run : List Message = joined_run wants m ms in
     let taken : ℕ = min n (queued_bytes run) in
     let f = run_front wants m ms in
-    let same : rights_within taken (m ∷ ms) ≡ rights_within taken run = ap (rights_within taken) (sym f.is) ∙ front_rights taken run f.rest (min-le_right n (queued_bytes run)) in
+    let same : rights_within taken (m ∷ ms) ≡ rights_within taken run = ap (rights_within taken) (sym f.is)
+    ∙ front_rights taken run f.rest (min-le_right n (queued_bytes run)) in
     let all = within_refs k taken (m ∷ ms) in
     let here = ap (times k) same in
     omega (arith, all, here)
 
 -- of any socket
-pub front_of_refs : (k n : ℕ) (s : Socket) (m : Message) (ms : List Message) → times k (front_of n s m ms).rights + queue_refs k (front_of n s m ms).rest ≡ queue_refs k (m ∷ ms)
+pub front_of_refs : (k n : ℕ) (s : Socket) (m : Message) (ms : List Message) →
+    times k (front_of n s m ms).rights + queue_refs k (front_of n s m ms).rest ≡ queue_refs k (m ∷ ms)
 front_of_refs k n s m ms = go (is_stream s.kind)
   where
     taken : Bool → Front

@@ -1,5 +1,6 @@
 -- What is handed out was held before the call: an object that the call changed is held open, so it stays.
-use Rattle.std.proofs.Common.{◌≡◌, ⊎_elim, ℕ, zero, suc, ◌+◌, ◌<◌, ◌==◌, Bool, true, false, ◌&&◌, if◌then◌else◌, List, [], ◌∷◌, length, map, Option, Some, None, refl, ap, sym, ◌∙◌, arith}
+use Rattle.std.proofs.Common.{◌≡◌, ⊎_elim, ℕ, zero, suc, ◌+◌, ◌<◌, ◌==◌, Bool, true, false, ◌&&◌, if◌then◌else◌, List, [], ◌∷◌, length, map}
+use Rattle.std.proofs.Common.{Option, Some, None, refl, ap, sym, ◌∙◌, arith}
 use Rattle.std.specs.Prelude.{is_some, filter, option_map, IsSomeAnd}
 use Rattle.std.specs.List.{enumerate_from, AllByRecursion}
 use Rattle.std.proofs.lemmas.Bool.{eqb-true, ne_eqb, and_right}
@@ -48,25 +49,30 @@ held_referenced S o held =
 held_rounds : (n : ℕ) (S : State) (o : ℕ) → IsHeldOpen S o → IsHeldOpen (drop_rounds n S) o
 unfolding drop_rounds
 held_rounds zero S o held = held
-held_rounds (suc n) S o held = go (has_unreferenced S) (held_rounds n (drop_all S) o (held_without (is_unreferenced S) S o held (held_referenced S o held)))
+held_rounds (suc n) S o held = go (has_unreferenced S)
+    (held_rounds n (drop_all S) o (held_without (is_unreferenced S) S o held (held_referenced S o held)))
   where
-    go : (b : Bool) → IsHeldOpen (drop_rounds n (drop_all S)) o → IsHeldOpen (elim b as (λ _. State) [ true ↦ drop_rounds n (drop_all S) | false ↦ S ]) o
+    go : (b : Bool) → IsHeldOpen (drop_rounds n (drop_all S)) o →
+        IsHeldOpen (elim b as (λ _. State) [ true ↦ drop_rounds n (drop_all S) | false ↦ S ]) o
     go true h = h
     go false h = held
 
 -- so something leads to the object
 pub held_led : (S : State) (o : ℕ) → IsHeldOpen S o → 0 < orefs (drop_unreferenced S) o
 unfolding drop_unreferenced
-held_led S o held = let h = held_rounds (length S.descriptions) S o held in opening_counts (drop_unreferenced S) h.entry.description o h.description h.there h.leads
+held_led S o held = let h = held_rounds (length S.descriptions) S o held in
+    opening_counts (drop_unreferenced S) h.entry.description o h.description h.there h.leads
 
 -- ---- the file objects that go
 
 -- one that goes isn't held open, so it is as it was
-handed : (S T : State) (o : ℕ) (view : View) → KeepsObjects S T → place (drop_unreferenced T).objects o ≡ Some view → (orefs (drop_unreferenced T) o == 0) ≡ true →
+handed : (S T : State) (o : ℕ) (view : View) → KeepsObjects S T → place (drop_unreferenced T).objects o ≡ Some view →
+    (orefs (drop_unreferenced T) o == 0) ≡ true →
     IsHandedOut S (o, Some (closed view))
 handed S T o view kept there none = ⊎_elim {C = IsHandedOut S (o, Some (closed view))}
     (λ same. is_there (place S.objects o) (sym same ∙ sym (ap (λ (os : List (Option View)). place os o) (drop_keeps T)) ∙ there))
-    (λ held. let some = held_led T o held in let zero_left = eqb-true (orefs (drop_unreferenced T) o) 0 none in absurd (omega (arith, some, zero_left)))
+    (λ held. let some = held_led T o held in let zero_left = eqb-true (orefs (drop_unreferenced T) o) 0 none in
+    absurd (omega (arith, some, zero_left)))
     (kept o)
   where
     is_there : (x : Option View) → x ≡ Some view → IsSomeAnd x (λ was. Some (closed view) ≡ Some (closed was))
@@ -85,7 +91,8 @@ each_closed P f k (x ∷ xs) each =
     at_head x (f k) _ (λ view h b. each k 0 view (omega arith) h b)
     (each_closed P f (k + 1) xs (λ n i view e h b. each n (suc i) view (omega (arith, e)) h b))
   where
-    at_head : (x : Option View) (b : Bool) (rest : List (ℕ × Option View)) → ((view : View) → x ≡ Some view → b ≡ true → P (k, Some (closed view))) →
+    at_head : (x : Option View) (b : Bool) (rest : List (ℕ × Option View)) →
+        ((view : View) → x ≡ Some view → b ≡ true → P (k, Some (closed view))) →
         AllByRecursion P (map closing rest) → AllByRecursion P (map closing (if is_some x && b then (k, x) ∷ rest else rest))
     at_head None b rest here all = all
     at_head (Some view) true rest here all = (here view refl refl, all)
@@ -94,7 +101,8 @@ each_closed P f k (x ∷ xs) each =
 all_handed : (S T : State) → KeepsObjects S T → AllByRecursion (IsHandedOut S) (released_objects T)
 unfolding released_objects
 all_handed S T kept = each_closed (IsHandedOut S) (λ o. orefs (drop_unreferenced T) o == 0) 0 (drop_unreferenced T).objects
-    (λ o i view e h none. let same : o ≡ i = omega (arith, e) in handed S T o view kept (ap (place (drop_unreferenced T).objects) same ∙ h) none)
+    (λ o i view e h none. let same : o ≡ i = omega (arith, e) in
+    handed S T o view kept (ap (place (drop_unreferenced T).objects) same ∙ h) none)
 
 -- ---- the law
 

@@ -34,17 +34,20 @@ held_changed S T o new same held k =
     (λ e was. inr (subst (IsHeldOpen (with_object T o new)) e still_held))
   where
     still_held : IsHeldOpen (with_object T o new) o
-    still_held = record { process = held.process; number = held.number; entry = held.entry; description = held.description; named = held.named; there = held.there; leads = held.leads }
+    still_held = record { process = held.process; number = held.number; entry = held.entry; description = held.description; named =
+        held.named; there = held.there; leads = held.leads }
 
 -- and is held open by its description, if that leads there still
-pub held_by_changed : (S : State) (o : ℕ) (held : IsHeldOpen S o) (E : Description) → E.target ≡ to_object o → IsHeldOpen (with_description S held.entry.description E) o
+pub held_by_changed : (S : State) (o : ℕ) (held : IsHeldOpen S o) (E : Description) → E.target ≡ to_object o →
+    IsHeldOpen (with_description S held.entry.description E) o
 held_by_changed S o held E leads = record {
   process = held.process;
   number = held.number;
   entry = held.entry;
   description = E;
   named = held.named;
-  there = get_or-set_same S.descriptions held.entry.description (Some E) None (place_within S.descriptions held.entry.description held.description held.there);
+  there = get_or-set_same S.descriptions held.entry.description (Some E) None
+      (place_within S.descriptions held.entry.description held.description held.there);
   leads = leads;
 }
 
@@ -57,6 +60,7 @@ with_process_objects S (suc i) P = refl
 pub with_table_objects : (S : State) (p : ℕ) (table : List (Option Descriptor)) → (with_table S p table).objects ≡ S.objects
 with_table_objects S p table = go (process_at S p)
   where
-    go : (x : Option Process) → (elim x as (λ _. State) [ Some P ↦ with_process S p (record P { table = table }) | None ↦ S ]).objects ≡ S.objects
+    go : (x : Option Process) → (elim x as (λ _. State) [ Some P ↦ with_process S p (record P { table = table }) | None ↦ S ]).objects ≡
+        S.objects
     go None = refl
     go (Some P) = with_process_objects S p (record P { table = table })

@@ -26,20 +26,24 @@ take_next [] n x h = absurd (cc h)
 take_next (y ∷ xs) zero x h = let e : y ≡ x = cc h in ap (λ z. z ∷ []) e
 take_next (y ∷ xs) (suc n) x h = ap (λ l. y ∷ l) (take_next xs n x h)
 
-kept_in_front : (boot : State) (P : List Entry → State → Type 0) → IsKept boot P → (es : List Entry) (n : ℕ) → IsLegal boot es → P (take n es) (replay boot (take n es))
+kept_in_front : (boot : State) (P : List Entry → State → Type 0) → IsKept boot P → (es : List Entry) (n : ℕ) → IsLegal boot es →
+    P (take n es) (replay boot (take n es))
 kept_in_front boot P keeps es zero legal = keeps.at_boot legal.boots
 kept_in_front boot P keeps es (suc n) legal = go (slice_get es n) refl (kept_in_front boot P keeps es n legal)
   where
-    go : (o : Option Entry) → slice_get es n ≡ o → P (take n es) (replay boot (take n es)) → P (take (suc n) es) (replay boot (take (suc n) es))
+    go : (o : Option Entry) → slice_get es n ≡ o → P (take n es) (replay boot (take n es)) →
+        P (take (suc n) es) (replay boot (take (suc n) es))
     go None h so_far = subst (λ (l : List Entry). P l (replay boot l)) (sym (take_past es n h)) so_far
     go (Some e) h so_far =
         let may = legal.each n e h in
         subst (λ (l : List Entry). P l (replay boot l)) (sym (take_next es n e h))
         (keeps.by_entry (take n es) e (replay boot (take n es)) (replay boot (take n es ++ e ∷ [])) so_far may.steps may.allowed)
 
-pub kept_throughout : (boot : State) (P : List Entry → State → Type 0) → IsKept boot P → (es : List Entry) → IsLegal boot es → P es (replay boot es)
+pub kept_throughout : (boot : State) (P : List Entry → State → Type 0) → IsKept boot P → (es : List Entry) → IsLegal boot es →
+    P es (replay boot es)
 kept_throughout boot P keeps es legal =
-    subst (λ (l : List Entry). P l (replay boot l)) (take_all (length es) es (omega arith)) (kept_in_front boot P keeps es (length es) legal)
+    subst (λ (l : List Entry). P l (replay boot l)) (take_all (length es) es (omega arith))
+    (kept_in_front boot P keeps es (length es) legal)
 
 -- ---- the last entry
 
@@ -55,4 +59,5 @@ pub legal_before : (boot : State) (es : List Entry) (e : Entry) → IsLegal boot
 legal_before boot es e legal = subst (IsLegal boot) (take_pushed es (e ∷ [])) (front_is_legal boot (es ++ e ∷ []) (length es) legal)
 
 pub last_may : (boot : State) (es : List Entry) (e : Entry) → IsLegal boot (es ++ e ∷ []) → MayFollow boot es e
-last_may boot es e legal = subst (λ (l : List Entry). MayFollow boot l e) (take_pushed es (e ∷ [])) (legal.each (length es) e (get_pushed es e))
+last_may boot es e legal = subst (λ (l : List Entry). MayFollow boot l e) (take_pushed es (e ∷ []))
+    (legal.each (length es) e (get_pushed es e))

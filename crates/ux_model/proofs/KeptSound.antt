@@ -1,5 +1,6 @@
 -- Each change of a call keeps that nothing dangles. One lemma a change, and one line of `reached_sound` (ReachedSound).
-use Rattle.std.proofs.Common.{◌≡◌, ◌⊎◌, inl, inr, ⊎_elim, ℕ, zero, suc, ◌+◌, ◌≤◌, ◌<◌, Bool, true, false, if◌then◌else◌, cond, List, [], ◌∷◌, ◌++◌, length, map, set, sum_by, count_by, Option, Some, None, refl, ap, sym, subst, ◌∙◌, arith}
+use Rattle.std.proofs.Common.{◌≡◌, ◌⊎◌, inl, inr, ⊎_elim, ℕ, zero, suc, ◌+◌, ◌≤◌, ◌<◌, Bool, true, false, if◌then◌else◌, cond, List, []}
+use Rattle.std.proofs.Common.{◌∷◌, ◌++◌, length, map, set, sum_by, count_by, Option, Some, None, refl, ap, sym, subst, ◌∙◌, arith}
 use Rattle.std.specs.Prelude.{is_some, filter}
 use Rattle.std.specs.List.{slice_get}
 use Rattle.std.proofs.lemmas.List.{length-set}
@@ -38,7 +39,8 @@ same_orefs_processes : (S : State) (Ps : List Process) (o : ℕ) → orefs (reco
 unfolding orefs
 same_orefs_processes S Ps o = refl
 
-pub process_held : (S : State) (i : ℕ) (P Q : Process) → IsHeld S → slice_get S.processes i ≡ Some P → NamesWhatIsThere S P.table Q.table → IsHeld (record S { processes = set S.processes i Q })
+pub process_held : (S : State) (i : ℕ) (P Q : Process) → IsHeld S → slice_get S.processes i ≡ Some P → NamesWhatIsThere S P.table Q.table →
+    IsHeld (record S { processes = set S.processes i Q })
 process_held S i P Q held h names = record {
   no_description_dangles = λ d gone.
       let moved = process_counts S (suc i) d P Q h in
@@ -73,7 +75,8 @@ pub pends_are_refs : (d : ℕ) (t : Target) → at_target (pends d) t ≤ target
 pends_are_refs d (to_object o) = omega arith
 pends_are_refs d (to_socket s) = omega arith
 
-at_more : {X : Type 0} (f : Option X → ℕ) (xs ys : List (Option X)) (i : ℕ) → ◌≡◌ {A = ℕ} (f None) 0 → f (place xs i) ≤ f (place (xs ++ ys) i)
+at_more : {X : Type 0} (f : Option X → ℕ) (xs ys : List (Option X)) (i : ℕ) → ◌≡◌ {A = ℕ} (f None) 0 →
+    f (place xs i) ≤ f (place (xs ++ ys) i)
 at_more f [] ys i none = omega (arith, none)
 at_more f (x ∷ xs) ys zero none = omega arith
 at_more f (x ∷ xs) ys (suc i) none = at_more f xs ys i none
@@ -87,14 +90,17 @@ led_or_not : (b : Bool) (n m : ℕ) → m ≡ n + (if b then 1 else 0) → n ≡
 led_or_not true n m e z h = let p : 0 < n = h refl in absurd (omega (arith, p, z))
 led_or_not false n m e z h = omega (arith, e, z)
 
-pub made_held : (S : State) (D : Description) → IsHeld S → ((o : ℕ) → leads_to o D.target ≡ true → 0 < orefs S o) → ((d : ℕ) → ◌≡◌ {A = ℕ} (target_refs d D.target) 0) → IsHeld (with_new S D)
+pub made_held : (S : State) (D : Description) → IsHeld S → ((o : ℕ) → leads_to o D.target ≡ true → 0 < orefs S o) →
+    ((d : ℕ) → ◌≡◌ {A = ℕ} (target_refs d D.target) 0) → IsHeld (with_new S D)
 made_held S D held leads none = record {
   no_description_dangles = λ d gone.
       let more = new_counts S D d in
       let new : target_refs d D.target ≡ 0 = none d in
-      let old : refs S d ≡ 0 = held.no_description_dangles d (none_before (place S.descriptions d) (place (S.descriptions ++ Some D ∷ []) d) (some_more S.descriptions (Some D ∷ []) d) gone) in
+      let old : refs S d ≡ 0 = held.no_description_dangles d
+      (none_before (place S.descriptions d) (place (S.descriptions ++ Some D ∷ []) d) (some_more S.descriptions (Some D ∷ []) d) gone) in
       omega (arith, more, new, old);
-  no_object_dangles = λ o gone. led_or_not (leads_to o D.target) (orefs S o) (orefs (with_new S D) o) (new_counts_at_object S D o) (held.no_object_dangles o gone) (leads o);
+  no_object_dangles = λ o gone. led_or_not (leads_to o D.target) (orefs S o) (orefs (with_new S D) o) (new_counts_at_object S D o)
+      (held.no_object_dangles o gone) (leads o);
   all_open = held.all_open;
   ends_wait = λ d.
       let s = sum_by_push (at_socket (pends d)) S.descriptions (Some D) in
@@ -106,7 +112,8 @@ made_held S D held leads none = record {
   names_owned = λ i e h. named_more S.descriptions (Some D ∷ []) e.1 (Addr.Abstract e.0) (held.names_owned i e h);
 }
 
-pub made_sound : (S : State) (D : Description) → IsSound S → ((o : ℕ) → leads_to o D.target ≡ true → 0 < orefs S o) → HoldsNothing D → IsSound (with_new S D)
+pub made_sound : (S : State) (D : Description) → IsSound S → ((o : ℕ) → leads_to o D.target ≡ true → 0 < orefs S o) → HoldsNothing D →
+    IsSound (with_new S D)
 made_sound S D sound leads nothing = record {
   held = made_held S D sound.held leads nothing.refs;
   paired = paired-push S.descriptions D nothing.peer sound.paired;
@@ -120,18 +127,21 @@ leads_nowhere o p (to_socket s) h = refl
 pub peers_sound : (S : State) (D E : Description) → IsSound S → ArePeers (length S.descriptions) D E → IsSound (with_new (with_new S D) E)
 peers_sound S D E sound peers = record {
   held = made_held (with_new S D) E
-      (made_held S D sound.held (λ o h. absurd (cc (h, leads_nowhere o (length S.descriptions + 1) D.target peers.first_peer))) peers.first_refs)
+      (made_held S D sound.held (λ o h. absurd (cc (h, leads_nowhere o (length S.descriptions + 1) D.target peers.first_peer)))
+      peers.first_refs)
       (λ o h. absurd (cc (h, leads_nowhere o (length S.descriptions) E.target peers.second_peer))) peers.second_refs;
   paired = paired-pair S.descriptions D E peers.first_peer peers.second_peer sound.paired;
 }
 
 -- ---- one place
 
-fewer_refs : (S : State) (n d : ℕ) (x : Option Description) → description_refs d x ≤ description_refs d (description_at S n) → refs (record S { descriptions = set S.descriptions n x }) d ≤ refs S d
+fewer_refs : (S : State) (n d : ℕ) (x : Option Description) → description_refs d x ≤ description_refs d (description_at S n) →
+    refs (record S { descriptions = set S.descriptions n x }) d ≤ refs S d
 unfolding refs
 fewer_refs S n d x less = let all = no_more_by (description_refs d) S.descriptions n x less in omega (arith, all)
 
-fewer_orefs : (S : State) (n o : ℕ) (x : Option Description) → is_open_of o x ≡ is_open_of o (description_at S n) → orefs (record S { descriptions = set S.descriptions n x }) o ≤ orefs S o
+fewer_orefs : (S : State) (n o : ℕ) (x : Option Description) → is_open_of o x ≡ is_open_of o (description_at S n) →
+    orefs (record S { descriptions = set S.descriptions n x }) o ≤ orefs S o
 unfolding orefs
 fewer_orefs S n o x same =
     let alike : cond {A = ℕ} (is_open_of o x) 1 0 ≡ cond (is_open_of o (description_at S n)) 1 0 = ap (λ b. cond {A = ℕ} b 1 0) same in
@@ -144,20 +154,25 @@ as_many (suc p) a b h more = let l : a ≤ b = more (omega arith) in omega (arit
 
 -- its place refers to what is there, and whatever waits is taken by no accept
 pub place_held : (S : State) (n : ℕ) (x : Option Description) → IsHeld S → KeepsReferences S (description_at S n) x →
-    ((d : ℕ) → pends_at_all d (set S.descriptions n x) ≤ at_socket unaccepted (place (set S.descriptions n x) d)) → IsHeld (record S { descriptions = set S.descriptions n x })
+    ((d : ℕ) → pends_at_all d (set S.descriptions n x) ≤ at_socket unaccepted (place (set S.descriptions n x) d)) →
+    IsHeld (record S { descriptions = set S.descriptions n x })
 place_held S n x held keeps ends = record {
   no_description_dangles = λ d gone.
       let before : is_some (description_at S d) ≡ false = sym (same_at is_some S.descriptions n d x keeps.held) ∙ gone in
-      none_less (refs (record S { descriptions = set S.descriptions n x }) d) (refs S d) (fewer_refs S n d x (keeps.holds d before)) (held.no_description_dangles d before);
-  no_object_dangles = λ o gone. none_less (orefs (record S { descriptions = set S.descriptions n x }) o) (orefs S o) (fewer_orefs S n o x (keeps.leads o)) (held.no_object_dangles o gone);
+      none_less (refs (record S { descriptions = set S.descriptions n x }) d) (refs S d) (fewer_refs S n d x (keeps.holds d before))
+      (held.no_description_dangles d before);
+  no_object_dangles = λ o gone. none_less (orefs (record S { descriptions = set S.descriptions n x }) o) (orefs S o)
+      (fewer_orefs S n o x (keeps.leads o)) (held.no_object_dangles o gone);
   all_open = held.all_open;
   ends_wait = ends;
   names_owned = λ i e h. at_each (λ y. name_in y ≡ Some (Addr.Abstract e.0)) S.descriptions n e.1 x (held.names_owned i e h)
-      (λ q. subst (λ m. name_in (description_at S m) ≡ Some (Addr.Abstract e.0) → name_in x ≡ Some (Addr.Abstract e.0)) q (keeps.named e.0));
+      (λ q. subst (λ m. name_in (description_at S m) ≡ Some (Addr.Abstract e.0) → name_in x ≡ Some (Addr.Abstract e.0)) q
+      (keeps.named e.0));
 }
 
 -- no more ends wait, and what waits itself is taken by no accept
-pub ends_still : (S : State) (n : ℕ) (x : Option Description) → IsHeld S → ((d : ℕ) → at_socket (pends d) x ≤ at_socket (pends d) (description_at S n)) →
+pub ends_still : (S : State) (n : ℕ) (x : Option Description) → IsHeld S →
+    ((d : ℕ) → at_socket (pends d) x ≤ at_socket (pends d) (description_at S n)) →
     (0 < pends_at_all n S.descriptions → at_socket unaccepted (description_at S n) ≤ at_socket unaccepted x) → (d : ℕ) →
     pends_at_all d (set S.descriptions n x) ≤ at_socket unaccepted (place (set S.descriptions n x) d)
 ends_still S n x held pending waits d =
@@ -169,10 +184,12 @@ ends_still S n x held pending waits d =
     (subst (λ m. 0 < pends_at_all m S.descriptions → at_socket unaccepted (description_at S m) ≤ at_socket unaccepted x) e waits)) in
     omega (arith, fewer, all)
 
-pub place_sound : (S : State) (n : ℕ) (x : Option Description) → IsSound S → KeepsPlace S n (description_at S n) x → IsSound (record S { descriptions = set S.descriptions n x })
+pub place_sound : (S : State) (n : ℕ) (x : Option Description) → IsSound S → KeepsPlace S n (description_at S n) x →
+    IsSound (record S { descriptions = set S.descriptions n x })
 place_sound S n x sound keeps = record {
   held = place_held S n x sound.held keeps.references (ends_still S n x sound.held keeps.pending keeps.waits);
-  paired = paired-alike S.descriptions (set S.descriptions n x) (length-set S.descriptions n x) (λ i. same_at peer_in S.descriptions n i x keeps.peer)
+  paired = paired-alike S.descriptions (set S.descriptions n x) (length-set S.descriptions n x)
+      (λ i. same_at peer_in S.descriptions n i x keeps.peer)
       (λ i. same_at is_some S.descriptions n i x keeps.references.held) sound.paired;
 }
 
@@ -193,12 +210,14 @@ filled_is (z ∷ xs) zero (suc i) x y h = inl h
 filled_is (z ∷ xs) (suc n) zero x y h = inl h
 filled_is (z ∷ xs) (suc n) (suc i) x y h = filled_is xs n i x y h
 
-pub object_held : (S : State) (o : ℕ) (old new : View) → IsHeld S → place S.objects o ≡ Some old → new.opened ≡ old.opened → IsHeld (with_object S o new)
+pub object_held : (S : State) (o : ℕ) (old new : View) → IsHeld S → place S.objects o ≡ Some old → new.opened ≡ old.opened →
+    IsHeld (with_object S o new)
 object_held S n old new held here same = record {
   no_description_dangles = λ d gone. same_refs_objects S (filled S.objects n new) d ∙ held.no_description_dangles d gone;
   no_object_dangles = λ o gone. same_orefs_objects S (filled S.objects n new) o
       ∙ held.no_object_dangles o (none_before (place S.objects o) (place (filled S.objects n new) o) (some_filled S.objects n o new) gone);
-  all_open = λ o view h. ⊎_elim {C = view.opened ≡ true} (λ p. held.all_open o view p) (λ e. sym (ap (λ (v : View). v.opened) e) ∙ same ∙ held.all_open n old here)
+  all_open = λ o view h. ⊎_elim {C = view.opened ≡ true} (λ p. held.all_open o view p)
+      (λ e. sym (ap (λ (v : View). v.opened) e) ∙ same ∙ held.all_open n old here)
       (filled_is S.objects n o new view h);
   ends_wait = held.ends_wait;
   names_owned = held.names_owned;
@@ -208,7 +227,8 @@ filter_counts : {X : Type 0} (p keep : X → Bool) (xs : List X) → count_by p 
 filter_counts p keep [] = omega arith
 filter_counts p keep (x ∷ xs) = kept_or_not p x xs (filter keep xs) (keep x) (filter_counts p keep xs)
   where
-    kept_or_not : {X : Type 0} (p : X → Bool) (x : X) (xs ys : List X) (b : Bool) → count_by p ys ≤ count_by p xs → count_by p (if b then x ∷ ys else ys) ≤ count_by p (x ∷ xs)
+    kept_or_not : {X : Type 0} (p : X → Bool) (x : X) (xs ys : List X) (b : Bool) → count_by p ys ≤ count_by p xs →
+        count_by p (if b then x ∷ ys else ys) ≤ count_by p (x ∷ xs)
     kept_or_not p x xs ys true h =
         let s = sum_by-cons (λ x. cond (p x) 1 0) x xs in
         let t = sum_by-cons (λ x. cond (p x) 1 0) x ys in
@@ -226,7 +246,8 @@ taken_counts S keep o = let f = filter_counts (λ (e : Name × PathTarget). path
 pub paths_held : (S : State) (keep : Name × PathTarget → Bool) → IsHeld S → IsHeld (record S { paths = filter keep S.paths })
 paths_held S keep held = record {
   no_description_dangles = λ d gone. same_refs_paths S (filter keep S.paths) d ∙ held.no_description_dangles d gone;
-  no_object_dangles = λ o gone. none_less (orefs (record S { paths = filter keep S.paths }) o) (orefs S o) (taken_counts S keep o) (held.no_object_dangles o gone);
+  no_object_dangles = λ o gone. none_less (orefs (record S { paths = filter keep S.paths }) o) (orefs S o) (taken_counts S keep o)
+      (held.no_object_dangles o gone);
   all_open = held.all_open;
   ends_wait = held.ends_wait;
   names_owned = held.names_owned;
@@ -236,7 +257,8 @@ paths_held S keep held = record {
 
 bound_counts : (S : State) (name : Name) (d o : ℕ) → orefs (record S { paths = S.paths ++ (name, bound d) ∷ [] }) o ≡ orefs S o
 unfolding orefs
-bound_counts S name d o = let s = sum_by_push (λ (e : Name × PathTarget). cond {A = ℕ} (path_names o e.1) 1 0) S.paths (name, bound d) in omega (arith, s)
+bound_counts S name d o = let s = sum_by_push (λ (e : Name × PathTarget). cond {A = ℕ} (path_names o e.1) 1 0) S.paths (name, bound d) in
+    omega (arith, s)
 
 pub path_held : (S : State) (name : Name) (d : ℕ) → IsHeld S → IsHeld (record S { paths = S.paths ++ (name, bound d) ∷ [] })
 path_held S name d held = record {
@@ -261,14 +283,16 @@ pushed_is [] x y (suc i) h = absurd (cc h)
 pushed_is (z ∷ xs) x y zero h = inl h
 pushed_is (z ∷ xs) x y (suc i) h = pushed_is xs x y i h
 
-pub name_held : (S : State) (name : Name) (d : ℕ) → IsHeld S → name_in (description_at S d) ≡ Some (Addr.Abstract name) → IsHeld (record S { abstract_names = S.abstract_names ++ (name, d) ∷ [] })
+pub name_held : (S : State) (name : Name) (d : ℕ) → IsHeld S → name_in (description_at S d) ≡ Some (Addr.Abstract name) →
+    IsHeld (record S { abstract_names = S.abstract_names ++ (name, d) ∷ [] })
 name_held S name d held shown = record {
   no_description_dangles = λ k gone. same_refs_names S (S.abstract_names ++ (name, d) ∷ []) k ∙ held.no_description_dangles k gone;
   no_object_dangles = λ o gone. same_orefs_names S (S.abstract_names ++ (name, d) ∷ []) o ∙ held.no_object_dangles o gone;
   all_open = held.all_open;
   ends_wait = held.ends_wait;
   names_owned = λ i e h. ⊎_elim {C = name_in (description_at S e.1) ≡ Some (Addr.Abstract e.0)} (λ p. held.names_owned i e p)
-      (λ p. subst (λ (f : Name × ℕ). name_in (description_at S f.1) ≡ Some (Addr.Abstract f.0)) p shown) (pushed_is S.abstract_names (name, d) e i h);
+      (λ p. subst (λ (f : Name × ℕ). name_in (description_at S f.1) ≡ Some (Addr.Abstract f.0)) p shown)
+      (pushed_is S.abstract_names (name, d) e i h);
 }
 
 -- ---- the end of the layer
@@ -295,7 +319,8 @@ nothing_open d (P ∷ Ps) =
     omega (arith, s, none, rest)
 
 abbrev turned : State → State
-turned S = record S { descriptions = map (λ D. None) S.descriptions; processes = map with_nothing_open S.processes; paths = []; abstract_names = [] }
+turned S = record S { descriptions = map (λ D. None) S.descriptions; processes = map with_nothing_open S.processes; paths =
+    []; abstract_names = [] }
 
 nobody_refers : (S : State) (d : ℕ) → refs (turned S) d ≡ 0
 unfolding refs
@@ -320,9 +345,11 @@ off_sound S sound = record {
   paired = record { returned = λ i p e there. nobody i p e; known = λ i p e. nobody i p e };
 }
   where
-    no_name : (i : ℕ) (e : Name × ℕ) → slice_get [] i ≡ Some e → name_in (place (map (λ D. None) S.descriptions) e.1) ≡ Some (Addr.Abstract e.0)
+    no_name : (i : ℕ) (e : Name × ℕ) → slice_get [] i ≡ Some e →
+        name_in (place (map (λ D. None) S.descriptions) e.1) ≡ Some (Addr.Abstract e.0)
     no_name zero e h = absurd (cc h)
     no_name (suc i) e h = absurd (cc h)
 
     nobody : {P : Type 0} (i p : ℕ) → peer_in (place (map (λ D. None) S.descriptions) i) ≡ Some p → P
-    nobody i p e = let none : peer_in (place (map (λ D. None) S.descriptions) i) ≡ None = ap peer_in (none_at S.descriptions i) in absurd (cc (none, e))
+    nobody i p e = let none : peer_in (place (map (λ D. None) S.descriptions) i) ≡ None = ap peer_in (none_at S.descriptions i) in
+        absurd (cc (none, e))

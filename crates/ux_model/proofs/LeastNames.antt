@@ -15,7 +15,8 @@ lowest_is test start zero = λ k low high. absurd (omega (arith, low, high))
 lowest_is test start (suc more) = go (lowest_is test (suc start) more) (test start) refl
   where
     -- start itself fails, and so do those behind it
-    behind : (n : ℕ) → test start ≡ false → ((k : ℕ) → suc start ≤ k → k < n → test k ≡ false) → (k : ℕ) → start ≤ k → k < n → test k ≡ false
+    behind : (n : ℕ) → test start ≡ false → ((k : ℕ) → suc start ≤ k → k < n → test k ≡ false) → (k : ℕ) → start ≤ k → k < n →
+        test k ≡ false
     behind n fails later k low high = elim (cases_eq start k) [
       | inl here ↦ ap test (sym here) ∙ fails
       | inr other ↦ later k (omega (arith, low, other)) high
@@ -25,7 +26,8 @@ lowest_is test start (suc more) = go (lowest_is test (suc start) more) (test sta
     further (Some n) fails is = (omega (arith, is.0), is.1, behind n fails is.2)
     further None fails later = behind (start + suc more) fails (λ k low high. later k low (omega (arith, high)))
 
-    go : IsLowest test (suc start) more (lowest_from test (suc start) more) → (b : Bool) → test start ≡ b → IsLowest test start (suc more) (elim b as (λ _. Option ℕ) [ true ↦ Some start | false ↦ lowest_from test (suc start) more ])
+    go : IsLowest test (suc start) more (lowest_from test (suc start) more) → (b : Bool) → test start ≡ b →
+        IsLowest test start (suc more) (elim b as (λ _. Option ℕ) [ true ↦ Some start | false ↦ lowest_from test (suc start) more ])
     go rest true passes = (omega arith, passes, λ k low high. absurd (omega (arith, low, high)))
     go rest false fails = further (lowest_from test (suc start) more) fails rest
 
@@ -33,6 +35,7 @@ pub free_name_is_least : FreeNameIsLeast
 unfolding free_name
 free_name_is_least names = go (lowest_from (is_unused names) 0 autobind_names) (lowest_is (is_unused names) 0 autobind_names)
   where
-    go : (o : Option ℕ) → IsLowest (is_unused names) 0 autobind_names o → IsFreeName names (elim o as (λ _. Option Name) [ None ↦ None | Some n ↦ Some (autobind_name n) ])
+    go : (o : Option ℕ) → IsLowest (is_unused names) 0 autobind_names o →
+        IsFreeName names (elim o as (λ _. Option Name) [ None ↦ None | Some n ↦ Some (autobind_name n) ])
     go None fails = λ k high. fails k (omega arith) (omega (arith, high))
     go (Some n) is = (n, omega (arith, is.0), refl, is.1, λ k below. is.2 k (omega arith) below)

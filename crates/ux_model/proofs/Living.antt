@@ -1,5 +1,6 @@
 -- Which processes live after a call, and how many.
-use Rattle.std.proofs.Common.{◌≡◌, ℕ, zero, suc, Bool, true, false, not, ◌&&◌, ◌||◌, ◌==◌, List, [], ◌∷◌, ◌++◌, length, get_or, set, map, count_by, cond, if◌then◌else◌, ◌+◌, ◌<◌, ◌≤◌, Option, Some, None, refl, ap, sym, subst, ◌∙◌, arith}
+use Rattle.std.proofs.Common.{◌≡◌, ℕ, zero, suc, Bool, true, false, not, ◌&&◌, ◌||◌, ◌==◌, List, [], ◌∷◌, ◌++◌, length, get_or, set, map}
+use Rattle.std.proofs.Common.{count_by, cond, if◌then◌else◌, ◌+◌, ◌<◌, ◌≤◌, Option, Some, None, refl, ap, sym, subst, ◌∙◌, arith}
 use Rattle.std.specs.Prelude.{nat_le}
 use Rattle.std.specs.List.{slice_get, list_any}
 use Rattle.std.proofs.lemmas.Bool.{eqb-true, eqb-false, eq-eqb, ne_eqb, or_parts, and_parts, false_from_ne_true}
@@ -16,10 +17,12 @@ use Rattle.ux_model.specs.Outcome.{Outcome, Chosen, own, lacking_memory, failing
 use Rattle.ux_model.specs.Closing.{exit, with_nothing_open}
 use Rattle.ux_model.specs.Forking.{child_of, fork}
 use Rattle.ux_model.specs.Step.{Step, outcome, lacks_memory, fails}
-use Rattle.ux_model.specs.History.{has_live, live_count, is_exit, has_exited, makes, makes_one, was_made, is_allowed, ExitAndForkAlone, LiveOnesCounted, ForkAloneMakes, ForkTellsTheNext, LivesUntilExit}
+use Rattle.ux_model.specs.History.{has_live, live_count, is_exit, has_exited, makes, makes_one, was_made, is_allowed, ExitAndForkAlone}
+use Rattle.ux_model.specs.History.{LiveOnesCounted, ForkAloneMakes, ForkTellsTheNext, LivesUntilExit}
 use Rattle.ux_model.proofs.Induction.{IsKept, kept_throughout}
 use Rattle.ux_model.proofs.Walk.{either, maybe}
-use Rattle.ux_model.proofs.Reaching.{May, may_change, Reaches, still, process_changed, process_forked, description_made, peers_made, connection_made, description_changed, object_changed, paths_taken, path_bound, name_bound, turned_off}
+use Rattle.ux_model.proofs.Reaching.{May, may_change, Reaches, still, process_changed, process_forked, description_made, peers_made}
+use Rattle.ux_model.proofs.Reaching.{connection_made, description_changed, object_changed, paths_taken, path_bound, name_bound, turned_off}
 use Rattle.ux_model.proofs.Calls.{each_obeys, chosen_reached}
 
 -- for each process, whether it has exited
@@ -34,7 +37,8 @@ live_is : (S : State) (p : ℕ) → is_live S p ≡ lives (exits S) p
 live_is S zero = refl
 live_is S (suc i) = go S.processes i
   where
-    go : (Ps : List Process) (i : ℕ) → (elim (slice_get Ps i) as (λ _. Bool) [ Some P ↦ not P.exited | None ↦ false ]) ≡ not (get_or (map (λ P. Process.exited P) Ps) i true)
+    go : (Ps : List Process) (i : ℕ) → (elim (slice_get Ps i) as (λ _. Bool) [ Some P ↦ not P.exited | None ↦ false ]) ≡ not
+        (get_or (map (λ P. Process.exited P) Ps) i true)
     go [] i = refl
     go (P ∷ Ps) zero = refl
     go (P ∷ Ps) (suc i) = go Ps i
@@ -46,17 +50,20 @@ unfolding drop_rounds without
 settled_keeps zero S = refl
 settled_keeps (suc n) S = go (has_unreferenced S) (settled_keeps n (drop_all S))
   where
-    go : (b : Bool) → (drop_rounds n (drop_all S)).processes ≡ S.processes → (elim b as (λ _. State) [ true ↦ drop_rounds n (drop_all S) | false ↦ S ]).processes ≡ S.processes
+    go : (b : Bool) → (drop_rounds n (drop_all S)).processes ≡ S.processes →
+        (elim b as (λ _. State) [ true ↦ drop_rounds n (drop_all S) | false ↦ S ]).processes ≡ S.processes
     go true h = h
     go false h = refl
 
 -- a process that is put in the place of another
-exits_set : (Ps : List Process) (i : ℕ) (Q : Process) → map (λ P. Process.exited P) (set Ps i Q) ≡ set (map (λ P. Process.exited P) Ps) i Q.exited
+exits_set : (Ps : List Process) (i : ℕ) (Q : Process) →
+    map (λ P. Process.exited P) (set Ps i Q) ≡ set (map (λ P. Process.exited P) Ps) i Q.exited
 exits_set [] i Q = refl
 exits_set (P ∷ Ps) zero Q = refl
 exits_set (P ∷ Ps) (suc i) Q = ap (λ l. P.exited ∷ l) (exits_set Ps i Q)
 
-set_same : (Ps : List Process) (i : ℕ) (P : Process) → slice_get Ps i ≡ Some P → set (map (λ P. Process.exited P) Ps) i P.exited ≡ map (λ P. Process.exited P) Ps
+set_same : (Ps : List Process) (i : ℕ) (P : Process) → slice_get Ps i ≡ Some P →
+    set (map (λ P. Process.exited P) Ps) i P.exited ≡ map (λ P. Process.exited P) Ps
 set_same [] i P h = refl
 set_same (Q ∷ Ps) zero P h = let e : Q ≡ P = cc h in ap (λ R. Process.exited R ∷ map (λ P. Process.exited P) Ps) (sym e)
 set_same (Q ∷ Ps) (suc i) P h = ap (λ l. Q.exited ∷ l) (set_same Ps i P h)
@@ -83,7 +90,8 @@ exits_kept S may calm T (name_bound {T = U} name d r shown) = exits_kept S may c
 exits_kept S may calm T (turned_off {T = U} r) = exits_turned U.processes ∙ exits_kept S may calm U r
 
 -- an exit ends its process
-set_past : (Ps : List Process) (i : ℕ) → slice_get Ps i ≡ None → set (map (λ P. Process.exited P) Ps) i true ≡ map (λ P. Process.exited P) Ps
+set_past : (Ps : List Process) (i : ℕ) → slice_get Ps i ≡ None →
+    set (map (λ P. Process.exited P) Ps) i true ≡ map (λ P. Process.exited P) Ps
 set_past [] i h = refl
 set_past (P ∷ Ps) zero h = absurd (cc h)
 set_past (P ∷ Ps) (suc i) h = ap (λ l. P.exited ∷ l) (set_past Ps i h)
@@ -93,7 +101,9 @@ unfolding exit
 exit_ends S i = go (slice_get S.processes i) refl
   where
     go : (o : Option Process) → slice_get S.processes i ≡ o →
-        exits (elim o as (λ _. Outcome) [ None ↦ refuse S Errno.ESRCH | Some P ↦ answer Reply.Ok (record S { processes = set S.processes i (record P { exited = true; table = map (λ e. None) P.table }) }) ]).next ≡ set (exits S) i true
+        exits (elim o as (λ _. Outcome) [ None ↦ refuse S Errno.ESRCH | Some P ↦ answer Reply.Ok
+        (record S { processes = set S.processes i (record P { exited = true; table = map (λ e. None) P.table }) }) ]).next ≡ set (exits S) i
+        true
     go None h = sym (set_past S.processes i h)
     go (Some P) h = exits_set S.processes i (record P { exited = true; table = map (λ e. None) P.table })
 
@@ -108,7 +118,9 @@ exit_own : (S : State) (p : ℕ) → IsOwn (exit S p)
 unfolding exit
 exit_own S p = go (process_at S p)
   where
-    go : (o : Option Process) → IsOwn (elim o as (λ _. Outcome) [ None ↦ refuse S Errno.ESRCH | Some P ↦ answer Reply.Ok (with_process S p (record P { exited = true; table = map (λ e. None) P.table })) ])
+    go : (o : Option Process) → IsOwn (elim o as
+        (λ _. Outcome) [ None ↦ refuse S Errno.ESRCH | Some P ↦ answer Reply.Ok
+        (with_process S p (record P { exited = true; table = map (λ e. None) P.table })) ])
     go None = record { with_memory = refl; without_failure = refl; may = refl; failure = refl }
     go (Some P) = record { with_memory = refl; without_failure = refl; may = refl; failure = refl }
 
@@ -139,12 +151,14 @@ same_test i j = go (j == i) refl
 
 lives_set : (xs : List Bool) (i q : ℕ) → lives (set xs i true) q ≡ lives xs q && not (suc i == q)
 lives_set xs i zero = refl
-lives_set xs i (suc j) = ap not (one_more xs i j) ∙ not_or (get_or xs j true) (j == i) ∙ ap (λ b. not (get_or xs j true) && not b) (same_test i j)
+lives_set xs i (suc j) = ap not (one_more xs i j) ∙ not_or (get_or xs j true) (j == i)
+    ∙ ap (λ b. not (get_or xs j true) && not b) (same_test i j)
 
 -- nobody has the number 0
 lives_none : (xs : List Bool) (q : ℕ) → lives xs q ≡ lives xs q && not (zero == q)
 lives_none xs zero = refl
-lives_none xs (suc j) = sym (and-true (not (get_or xs j true))) ∙ ap (λ b. not (get_or xs j true) && not b) (sym (ne_eqb zero (suc j) (λ h. omega arith)))
+lives_none xs (suc j) = sym (and-true (not (get_or xs j true)))
+    ∙ ap (λ b. not (get_or xs j true) && not b) (sym (ne_eqb zero (suc j) (λ h. omega arith)))
 
 exit_lives : (S : State) (p q : ℕ) → lives (exits (exit S p).next) q ≡ lives (exits S) q && not (p == q)
 unfolding exit
@@ -181,7 +195,8 @@ exit_fewer S (suc i) = ap (λ xs. count_by not xs + one_if (lives (exits S) (suc
 
 -- ---- one more
 
-exits_push : (Ps : List Process) (P : Process) → map (λ P. Process.exited P) (Ps ++ P ∷ []) ≡ map (λ P. Process.exited P) Ps ++ P.exited ∷ []
+exits_push : (Ps : List Process) (P : Process) →
+    map (λ P. Process.exited P) (Ps ++ P ∷ []) ≡ map (λ P. Process.exited P) Ps ++ P.exited ∷ []
 exits_push [] P = refl
 exits_push (Q ∷ Ps) P = ap (λ l. Q.exited ∷ l) (exits_push Ps P)
 
@@ -217,14 +232,17 @@ record EndsNorMakes (request : Request) (reply : Reply) : Type 0 where
   makes_it : (q : ℕ) → makes q request reply ≡ false
   makes_any : makes_one request reply ≡ false
 
-kept_after : (S : State) (p : ℕ) (request : Request) (reply : Reply) (xs : List Bool) → EndsNorMakes request reply → xs ≡ exits S → After S p request reply xs
+kept_after : (S : State) (p : ℕ) (request : Request) (reply : Reply) (xs : List Bool) → EndsNorMakes request reply → xs ≡ exits S →
+    After S p request reply xs
 kept_after S p request reply xs other e =
     let as_many : count_by not xs ≡ count_by not (exits S) = ap (count_by not) e in
     let long : length xs ≡ length (exits S) = ap length e in
     let none : one_if (is_exit request && lives (exits S) p) ≡ 0 = ap (λ b. one_if (b && lives (exits S) p)) other.ends in
     let no_child : one_if (makes_one request reply) ≡ 0 = ap one_if other.makes_any in (
-      λ q. ap (λ ys. lives ys q) e ∙ sym (and-true (lives (exits S) q)) ∙ ap (λ b. lives (exits S) q && not (b && (p == q))) (sym other.ends)
-          ∙ sym (or-false (lives (exits S) q && not (is_exit request && (p == q)))) ∙ ap (λ b. (lives (exits S) q && not (is_exit request && (p == q))) || b) (sym (other.makes_it q)),
+      λ q. ap (λ ys. lives ys q) e ∙ sym (and-true (lives (exits S) q))
+      ∙ ap (λ b. lives (exits S) q && not (b && (p == q))) (sym other.ends)
+          ∙ sym (or-false (lives (exits S) q && not (is_exit request && (p == q))))
+          ∙ ap (λ b. (lives (exits S) q && not (is_exit request && (p == q))) || b) (sym (other.makes_it q)),
       omega (arith, long, no_child),
       omega (arith, as_many, none, no_child),
     )
@@ -245,14 +263,17 @@ exit_after S p T reply (failing e f) = absurd (cc (f, (exit_own S p).failure))
 no_fork : (S : State) (p : ℕ) (e : Errno) → After S p Request.Fork (Reply.Err e) (exits S)
 no_fork S p e = kept_after S p Request.Fork (Reply.Err e) (exits S) (record { ends = refl; makes_it = λ q. refl; makes_any = refl }) refl
 
-child_after : (S : State) (p : ℕ) (P : Process) → After S p Request.Fork (Reply.Child (record { 0 = next_process S })) (exits (with_child S (child_of P)))
+child_after : (S : State) (p : ℕ) (P : Process) →
+    After S p Request.Fork (Reply.Child (record { 0 = next_process S })) (exits (with_child S (child_of P)))
 child_after S p P =
     let pushed : exits (with_child S (child_of P)) ≡ exits S ++ false ∷ [] = exits_push S.processes (child_of P) in
     let number : length (exits S) ≡ length S.processes = length-map S.processes (λ P. Process.exited P) in
     let long : length (exits S ++ false ∷ []) ≡ length (exits S) + 1 = length-append (exits S) (false ∷ []) in
-    let more : count_by not (exits S ++ false ∷ []) ≡ count_by not (exits S) + 1 = sum_by_push (λ b. cond {A = ℕ} (not b) 1 0) (exits S) false in
+    let more : count_by not (exits S ++ false ∷ []) ≡ count_by not (exits S) + 1 =
+    sum_by_push (λ b. cond {A = ℕ} (not b) 1 0) (exits S) false in
     subst (λ (xs : List Bool). After S p Request.Fork (Reply.Child (record { 0 = next_process S })) xs) (sym pushed) (
-      λ q. lives_push (exits S) q ∙ ap (λ n. lives (exits S) q || (suc n == q)) number ∙ ap (λ b. b || (next_process S == q)) (sym (and-true (lives (exits S) q))),
+      λ q. lives_push (exits S) q ∙ ap (λ n. lives (exits S) q || (suc n == q)) number
+      ∙ ap (λ b. b || (next_process S == q)) (sym (and-true (lives (exits S) q))),
       omega (arith, long),
       omega (arith, more),
     )
@@ -267,32 +288,40 @@ fork_own S p = maybe After_own (process_at S p) _ _ (no_fork S p Errno.ESRCH)
 
 pub fork_fails_not : (S : State) (p : ℕ) → (fork S p).failure ≡ None
 unfolding fork
-fork_fails_not S p = maybe (λ o. o.failure ≡ None) (process_at S p) _ _ refl (λ P h. either (λ o. o.failure ≡ None) (nat_le made_limit (length S.processes)) _ _ (λ b. refl) (λ b. refl))
+fork_fails_not S p = maybe (λ o. o.failure ≡ None) (process_at S p) _ _ refl
+    (λ P h. either (λ o. o.failure ≡ None) (nat_le made_limit (length S.processes)) _ _ (λ b. refl) (λ b. refl))
 
 fork_after : (S : State) (p : ℕ) (T : State) (reply : Reply) → Chosen S (fork S p) reply T → After S p Request.Fork reply (exits T)
 fork_after S p T reply (own e f) =
-    subst (λ (r : Reply). After S p Request.Fork r (exits T)) (sym e) (subst (λ (U : State). After S p Request.Fork (fork S p).reply (exits U)) (sym f) (fork_own S p))
+    subst (λ (r : Reply). After S p Request.Fork r (exits T)) (sym e)
+    (subst (λ (U : State). After S p Request.Fork (fork S p).reply (exits U)) (sym f) (fork_own S p))
 fork_after S p T reply (lacking_memory e may f) =
-    subst (λ (r : Reply). After S p Request.Fork r (exits T)) (sym e) (subst (λ (U : State). After S p Request.Fork (Reply.Err Errno.ENOMEM) (exits U)) (sym f) (no_fork S p Errno.ENOMEM))
+    subst (λ (r : Reply). After S p Request.Fork r (exits T)) (sym e)
+    (subst (λ (U : State). After S p Request.Fork (Reply.Err Errno.ENOMEM) (exits U)) (sym f) (no_fork S p Errno.ENOMEM))
 fork_after S p T reply (failing e f) = absurd (cc (f, fork_fails_not S p))
 
 -- of whatever was chosen
-after_call : (S : State) (p tag : ℕ) (request : Request) (reply : Reply) (T : State) → Chosen S (outcome S p tag request) reply T → After S p request reply (exits T)
+after_call : (S : State) (p tag : ℕ) (request : Request) (reply : Reply) (T : State) → Chosen S (outcome S p tag request) reply T →
+    After S p request reply (exits T)
 unfolding outcome
 after_call S p tag Request.Exit reply T c = exit_after S p T reply c
 after_call S p tag Request.Fork reply T c = fork_after S p T reply c
 after_call S p tag request reply T c =
-    kept_after S p request reply (exits T) (record { ends = refl; makes_it = λ q. refl; makes_any = refl }) (exits_kept S (may_change request) refl T (chosen_reached S T _ _ reply (each_obeys S p tag request) c))
+    kept_after S p request reply (exits T) (record { ends = refl; makes_it = λ q. refl; makes_any = refl })
+    (exits_kept S (may_change request) refl T (chosen_reached S T _ _ reply (each_obeys S p tag request) c))
 
-step_keeps : (S T : State) (p tag : ℕ) (request : Request) (reply : Reply) (gone : List ℕ) → Step S p tag request reply gone T → After S p request reply (exits T)
+step_keeps : (S T : State) (p tag : ℕ) (request : Request) (reply : Reply) (gone : List ℕ) → Step S p tag request reply gone T →
+    After S p request reply (exits T)
 unfolding Step settled drop_unreferenced
 step_keeps S T p tag request reply gone s =
-    let same : exits T ≡ exits s.0 = ap exits s.3 ∙ ap (λ Ps. map (λ P. Process.exited P) Ps) (settled_keeps (length s.0.descriptions) s.0) in
+    let same : exits T ≡ exits s.0 = ap exits s.3
+    ∙ ap (λ Ps. map (λ P. Process.exited P) Ps) (settled_keeps (length s.0.descriptions) s.0) in
     subst (λ (xs : List Bool). After S p request reply xs) (sym same) (after_call S p tag request reply s.0 s.1)
 
 pub exit_and_fork_alone : ExitAndForkAlone
 exit_and_fork_alone S T p tag q request reply gone s =
-    live_is T q ∙ (step_keeps S T p tag request reply gone s).0 q ∙ ap (λ b. (b && not (is_exit request && (p == q))) || makes q request reply) (sym (live_is S q))
+    live_is T q ∙ (step_keeps S T p tag request reply gone s).0 q
+    ∙ ap (λ b. (b && not (is_exit request && (p == q))) || makes q request reply) (sym (live_is S q))
 
 pub fork_alone_makes : ForkAloneMakes
 fork_alone_makes S T p tag request reply gone s =
@@ -304,7 +333,9 @@ fork_alone_makes S T p tag request reply gone s =
 -- the reply of the outcome itself, or ENOMEM
 told_next : (S : State) (p : ℕ) (pid : Pid) → Reply.Child pid ≡ (fork S p).reply → pid.0 ≡ next_process S
 unfolding fork
-told_next S p pid = maybe Told (process_at S p) _ _ (λ h. absurd (cc h)) (λ P h. either Told (nat_le made_limit (length S.processes)) _ _ (λ b h. absurd (cc h)) (λ b h. let e : pid ≡ record { 0 = next_process S } = cc h in ap (λ (x : Pid). x.0) e))
+told_next S p pid = maybe Told (process_at S p) _ _ (λ h. absurd (cc h))
+    (λ P h. either Told (nat_le made_limit (length S.processes)) _ _ (λ b h. absurd (cc h))
+    (λ b h. let e : pid ≡ record { 0 = next_process S } = cc h in ap (λ (x : Pid). x.0) e))
   where
     Told : Outcome → Type 0
     Told o = Reply.Child pid ≡ o.reply → pid.0 ≡ next_process S
@@ -331,7 +362,8 @@ pub live_ones_counted : LiveOnesCounted
 live_ones_counted S T p tag request reply gone s =
     let new = counted T.processes in
     let old = counted S.processes in
-    let one : one_if (is_exit request && is_live S p) ≡ one_if (is_exit request && lives (exits S) p) = ap (λ b. one_if (is_exit request && b)) (live_is S p) in
+    let one : one_if (is_exit request && is_live S p) ≡ one_if (is_exit request && lives (exits S) p) =
+    ap (λ b. one_if (is_exit request && b)) (live_is S p) in
     let all = (step_keeps S T p tag request reply gone s).2 in
     omega (arith, new, old, one, all)
 
@@ -354,9 +386,11 @@ any_of (P ∷ Ps) h = go (not P.exited) refl (λ none. any_of Ps none)
     all : count_by (λ P. not (Process.exited P)) (P ∷ Ps) ≡ cond {A = ℕ} (not P.exited) 1 0 + count_by (λ P. not (Process.exited P)) Ps
     all = sum_by-cons (λ P. cond {A = ℕ} (not (Process.exited P)) 1 0) P Ps
 
-    go : (b : Bool) → not P.exited ≡ b → (count_by (λ P. not (Process.exited P)) Ps ≡ 0 → list_any (λ P. not (Process.exited P)) Ps ≡ false) →
+    go : (b : Bool) → not P.exited ≡ b → (count_by (λ P. not (Process.exited P)) Ps ≡ 0 → list_any (λ P. not (Process.exited P)) Ps ≡ false)
+        →
         b || list_any (λ P. not (Process.exited P)) Ps ≡ false
-    go true is later = let one : cond {A = ℕ} (not P.exited) 1 0 ≡ 1 = ap (λ b. cond {A = ℕ} b 1 0) is in absurd (omega (arith, all, one, h))
+    go true is later = let one : cond {A = ℕ} (not P.exited) 1 0 ≡ 1 = ap (λ b. cond {A = ℕ} b 1 0) is in
+        absurd (omega (arith, all, one, h))
     go false is later =
         let one : cond {A = ℕ} (not P.exited) 1 0 ≡ 0 = ap (λ b. cond {A = ℕ} b 1 0) is in
         later (omega (arith, all, one, h))
@@ -372,7 +406,8 @@ pub live_counts : (S : State) (p : ℕ) → is_live S p ≡ true → 0 < live_co
 live_counts S zero h = absurd (cc h)
 live_counts S (suc i) h = go S.processes i h
   where
-    go : (Ps : List Process) (i : ℕ) → (elim (slice_get Ps i) as (λ _. Bool) [ Some P ↦ not P.exited | None ↦ false ]) ≡ true → 0 < count_by (λ P. not (Process.exited P)) Ps
+    go : (Ps : List Process) (i : ℕ) → (elim (slice_get Ps i) as (λ _. Bool) [ Some P ↦ not P.exited | None ↦ false ]) ≡ true →
+        0 < count_by (λ P. not (Process.exited P)) Ps
     go [] i h = absurd (cc h)
     go (P ∷ Ps) zero h =
         let s = sum_by-cons (λ P. cond {A = ℕ} (not (Process.exited P)) 1 0) P Ps in
@@ -387,14 +422,17 @@ live_counts S (suc i) h = go S.processes i h
 
 exited_push : (p : ℕ) (es : List Entry) (e : Entry) → has_exited p (es ++ e ∷ []) ≡ has_exited p es || (is_exit e.request && (e.pid.0 == p))
 exited_push p [] e = or-false (is_exit e.request && (e.pid.0 == p))
-exited_push p (x ∷ es) e = ap (λ b. (is_exit x.request && (x.pid.0 == p)) || b) (exited_push p es e) ∙ sym (or_assoc (is_exit x.request && (x.pid.0 == p)) (has_exited p es) (is_exit e.request && (e.pid.0 == p)))
+exited_push p (x ∷ es) e = ap (λ b. (is_exit x.request && (x.pid.0 == p)) || b) (exited_push p es e)
+    ∙ sym (or_assoc (is_exit x.request && (x.pid.0 == p)) (has_exited p es) (is_exit e.request && (e.pid.0 == p)))
 
 pub made_push : (p : ℕ) (es : List Entry) (e : Entry) → was_made p (es ++ e ∷ []) ≡ was_made p es || makes p e.request e.reply
 made_push p [] e = or-false (makes p e.request e.reply)
-made_push p (x ∷ es) e = ap (λ b. makes p x.request x.reply || b) (made_push p es e) ∙ sym (or_assoc (makes p x.request x.reply) (was_made p es) (makes p e.request e.reply))
+made_push p (x ∷ es) e = ap (λ b. makes p x.request x.reply || b) (made_push p es e)
+    ∙ sym (or_assoc (makes p x.request x.reply) (was_made p es) (makes p e.request e.reply))
 
 -- a process that lived at first or was made, and may have exited, where a call may end it, or make it
-after_entry : (l w h x m : Bool) → (m ≡ true → h ≡ false) → (m ≡ true → x ≡ false) → (((l || w) && not h) && not x) || m ≡ ((l || (w || m)) && not (h || x))
+after_entry : (l w h x m : Bool) → (m ≡ true → h ≡ false) → (m ≡ true → x ≡ false) →
+    (((l || w) && not h) && not x) || m ≡ ((l || (w || m)) && not (h || x))
 after_entry l w true x true new other = absurd (cc (new refl))
 after_entry l w false true true new other = absurd (cc (other refl))
 after_entry true w false false true new other = refl
@@ -412,7 +450,8 @@ makes_no_exit : (p q : ℕ) (request : Request) (reply : Reply) → makes p requ
 makes_no_exit p q Request.Exit reply h = absurd (cc h)
 makes_no_exit p q request reply h = refl
 
-pub made_next : (S T : State) (q tag p : ℕ) (request : Request) (reply : Reply) (gone : List ℕ) → Step S q tag request reply gone T → makes p request reply ≡ true → p ≡ next_process S
+pub made_next : (S T : State) (q tag p : ℕ) (request : Request) (reply : Reply) (gone : List ℕ) → Step S q tag request reply gone T →
+    makes p request reply ≡ true → p ≡ next_process S
 made_next S T q tag p Request.Fork (Reply.Child pid) gone s h =
     let told : pid.0 ≡ next_process S = fork_tells_the_next S T q tag pid gone s in
     let same : pid.0 ≡ p = eqb-true pid.0 p h in
@@ -428,13 +467,15 @@ pub live_within : (S : State) (q : ℕ) → is_live S q ≡ true → q ≤ lengt
 live_within S zero h = omega arith
 live_within S (suc i) h = go (slice_get S.processes i) refl h
   where
-    go : (o : Option Process) → slice_get S.processes i ≡ o → (elim o as (λ _. Bool) [ Some P ↦ not P.exited | None ↦ false ]) ≡ true → suc i ≤ length S.processes
+    go : (o : Option Process) → slice_get S.processes i ≡ o → (elim o as (λ _. Bool) [ Some P ↦ not P.exited | None ↦ false ]) ≡ true →
+        suc i ≤ length S.processes
     go None there live = absurd (cc live)
     go (Some P) there live = let within = slice_get_within S.processes i P there in omega (arith, within)
 
 -- whether it lives, and that it has a number if it has exited
 abbrev LivesAfter : State → ℕ → List Entry → State → Type 0
-LivesAfter boot p es S = (is_live S p ≡ ((is_live boot p || was_made p es) && not (has_exited p es))) × (has_exited p es ≡ true → p ≤ length S.processes)
+LivesAfter boot p es S = (is_live S p ≡ ((is_live boot p || was_made p es) && not (has_exited p es)))
+    × (has_exited p es ≡ true → p ≤ length S.processes)
 
 keeps_living : (boot : State) (p : ℕ) → IsKept boot (LivesAfter boot p)
 keeps_living boot p = record {
@@ -442,12 +483,14 @@ keeps_living boot p = record {
   by_entry = λ es e S T so_far step allowed. (lives_on es e S T so_far step, numbered es e S T so_far step allowed);
 }
   where
-    lives_on : (es : List Entry) (e : Entry) (S T : State) → LivesAfter boot p es S → Step S e.pid.0 (length es) e.request e.reply e.released T →
+    lives_on : (es : List Entry) (e : Entry) (S T : State) → LivesAfter boot p es S →
+        Step S e.pid.0 (length es) e.request e.reply e.released T →
         is_live T p ≡ ((is_live boot p || was_made p (es ++ e ∷ [])) && not (has_exited p (es ++ e ∷ [])))
     lives_on es e S T so_far step =
         exit_and_fork_alone S T e.pid.0 (length es) p e.request e.reply e.released step
         ∙ ap (λ b. (b && not (is_exit e.request && (e.pid.0 == p))) || makes p e.request e.reply) so_far.0
-        ∙ after_entry (is_live boot p) (was_made p es) (has_exited p es) (is_exit e.request && (e.pid.0 == p)) (makes p e.request e.reply) new (makes_no_exit p e.pid.0 e.request e.reply)
+        ∙ after_entry (is_live boot p) (was_made p es) (has_exited p es) (is_exit e.request && (e.pid.0 == p)) (makes p e.request e.reply)
+        new (makes_no_exit p e.pid.0 e.request e.reply)
         ∙ ap (λ b. (is_live boot p || b) && not (has_exited p es || (is_exit e.request && (e.pid.0 == p)))) (sym (made_push p es e))
         ∙ ap (λ b. (is_live boot p || was_made p (es ++ e ∷ [])) && not b) (sym (exited_push p es e))
       where
@@ -457,7 +500,8 @@ keeps_living boot p = record {
             let next : p ≡ suc (length S.processes) = made_next S T e.pid.0 (length es) p e.request e.reply e.released step makes_it in
             omega (arith, low, next))
 
-    numbered : (es : List Entry) (e : Entry) (S T : State) → LivesAfter boot p es S → Step S e.pid.0 (length es) e.request e.reply e.released T → is_allowed S e.pid.0 e.k e.request ≡ true →
+    numbered : (es : List Entry) (e : Entry) (S T : State) → LivesAfter boot p es S →
+        Step S e.pid.0 (length es) e.request e.reply e.released T → is_allowed S e.pid.0 e.k e.request ≡ true →
         has_exited p (es ++ e ∷ []) ≡ true → p ≤ length T.processes
     numbered es e S T so_far step allowed h = go (has_exited p es) refl (sym (exited_push p es e) ∙ h)
       where

@@ -1,5 +1,6 @@
 -- Each message with rights that waits was sent by the entry that its tag names.
-use Rattle.std.proofs.Common.{◌≡◌, ◌<◌, true, List, [], ◌∷◌, ◌++◌, length, Option, Some, refl, ap, sym, ◌∙◌, subst, ⊎_elim, arith, slice_get}
+use Rattle.std.proofs.Common.{◌≡◌, ◌<◌, true, List, [], ◌∷◌, ◌++◌, length, Option, Some, refl, ap, sym, ◌∙◌, subst, ⊎_elim, arith}
+use Rattle.std.proofs.Common.{slice_get}
 use Rattle.ux_model.specs.Types.{Entry}
 use Rattle.ux_model.specs.Places.{place}
 use Rattle.ux_model.specs.Message.{Message}
@@ -29,20 +30,24 @@ sent_before boot es e m s =
     record {
       sending = s.sending;
       there = get_before es (e ∷ []) m.tag below ∙ s.there;
-      rights = ap (λ (l : List Entry). descriptions_behind (table_of (replay boot l) s.sending.pid.0) (sent_by s.sending.request)) (take_before es (e ∷ []) m.tag (omega (arith, below))) ∙ s.rights;
+      rights = ap (λ (l : List Entry). descriptions_behind (table_of (replay boot l) s.sending.pid.0) (sent_by s.sending.request))
+          (take_before es (e ∷ []) m.tag (omega (arith, below))) ∙ s.rights;
     }
 
-sent_now : (boot : State) (es : List Entry) (e : Entry) (m : Message) → IsNew (replay boot es) e.pid.0 (length es) e.request m → IsSent boot (es ++ e ∷ []) m
+sent_now : (boot : State) (es : List Entry) (e : Entry) (m : Message) → IsNew (replay boot es) e.pid.0 (length es) e.request m →
+    IsSent boot (es ++ e ∷ []) m
 sent_now boot es e m new = record {
   sending = e;
   there = ap (λ k. slice_get (es ++ e ∷ []) k) new.0 ∙ get_pushed es e;
   rights = ap (λ k. descriptions_behind (table_of (before boot (es ++ e ∷ []) k) e.pid.0) (sent_by e.request)) new.0
-      ∙ ap (λ (l : List Entry). descriptions_behind (table_of (replay boot l) e.pid.0) (sent_by e.request)) (take_pushed es (e ∷ [])) ∙ new.1;
+      ∙ ap (λ (l : List Entry). descriptions_behind (table_of (replay boot l) e.pid.0) (sent_by e.request)) (take_pushed es (e ∷ []))
+      ∙ new.1;
 }
 
 nothing_waits : (boot : State) (m : Message) → IsBootState boot → Waits boot m → ⊥
 nothing_waits boot m boots (d, k, h) =
-    let none : slice_get (queue_in (place [] d)) k ≡ Some m = sym (ap (λ (ds : List (Option Description)). slice_get (queue_in (place ds d)) k) boots.no_descriptions) ∙ h in
+    let none : slice_get (queue_in (place [] d)) k ≡ Some m =
+    sym (ap (λ (ds : List (Option Description)). slice_get (queue_in (place ds d)) k) boots.no_descriptions) ∙ h in
     cc none
 
 sent_kept : (boot : State) → IsKept boot (AllSent boot)
@@ -51,17 +56,21 @@ sent_kept boot = record {
   by_entry = λ es e S T so_far step may. further es e S T so_far step may;
 }
   where
-    further : (es : List Entry) (e : Entry) (S T : State) → AllSent boot es S → Step S e.pid.0 (length es) e.request e.reply e.released T → is_allowed S e.pid.0 e.k e.request ≡ true →
+    further : (es : List Entry) (e : Entry) (S T : State) → AllSent boot es S → Step S e.pid.0 (length es) e.request e.reply e.released T →
+        is_allowed S e.pid.0 e.k e.request ≡ true →
         AllSent boot (es ++ e ∷ []) T
     further es e S T so_far step may = record {
-      reached = step_replay boot T es e (subst (λ (R : State). Step R e.pid.0 (length es) e.request e.reply e.released T) so_far.reached step);
+      reached = step_replay boot T es e (subst
+          (λ (R : State). Step R e.pid.0 (length es) e.request e.reply e.released T) so_far.reached step);
       each = λ m rich w. ⊎_elim {C = IsSent boot (es ++ e ∷ []) m} (λ old. sent_before boot es e m (so_far.each m rich old))
           (λ new. sent_now boot es e m (subst (λ (R : State). IsNew R e.pid.0 (length es) e.request m) so_far.reached new))
           (step_mail S T e.pid.0 e.k (length es) e.request e.reply e.released step may m rich w);
     }
 
-pub waiting_was_sent : (boot : State) (es : List Entry) (m : Message) → IsLegal boot es → 0 < length m.rights → Waits (replay boot es) m → IsSent boot es m
+pub waiting_was_sent : (boot : State) (es : List Entry) (m : Message) → IsLegal boot es → 0 < length m.rights → Waits (replay boot es) m →
+    IsSent boot es m
 waiting_was_sent boot es m legal rich w = (kept_throughout boot (AllSent boot) (sent_kept boot) es legal).each m rich w
 
 pub messages_are_sent : MessagesAreSent
-messages_are_sent boot es d k s m legal here h rich = waiting_was_sent boot es m legal rich (d, k, ap (λ q. slice_get q k) (queue_is (replay boot es) d s here) ∙ h)
+messages_are_sent boot es d k s m legal here h rich =
+    waiting_was_sent boot es m legal rich (d, k, ap (λ q. slice_get q k) (queue_is (replay boot es) d s here) ∙ h)

@@ -1,5 +1,6 @@
 -- Peers where descriptions are made.
-use Rattle.std.proofs.Common.{◌≡◌, ℕ, zero, suc, ◌+◌, ◌<◌, ◌==◌, true, false, cond, List, [], ◌∷◌, ◌++◌, length, Option, Some, None, is_some, option_map, refl, ap, sym, ◌∙◌, arith}
+use Rattle.std.proofs.Common.{◌≡◌, ℕ, zero, suc, ◌+◌, ◌<◌, ◌==◌, true, false, cond, List, [], ◌∷◌, ◌++◌, length, Option, Some, None}
+use Rattle.std.proofs.Common.{is_some, option_map, refl, ap, sym, ◌∙◌, arith}
 use Rattle.std.proofs.lemmas.Bool.{eqb-true, eqb-false, eq-eqb, ne_eqb}
 use Rattle.std.proofs.lemmas.List.{get_or_push, length_push, length-set}
 use Rattle.ux_model.specs.Places.{place, changed_place}
@@ -7,16 +8,21 @@ use Rattle.ux_model.specs.Description.{Description}
 use Rattle.ux_model.specs.Peers.{target_peer, peer_in, Paired}
 use Rattle.ux_model.proofs.ChangedPlaces.{bool_cases, place_within, place-changed}
 
-place_other : (ds : List (Option Description)) (x : Option Description) (i : ℕ) → (i == length ds) ≡ false → place (ds ++ x ∷ []) i ≡ place ds i
+place_other : (ds : List (Option Description)) (x : Option Description) (i : ℕ) → (i == length ds) ≡ false →
+    place (ds ++ x ∷ []) i ≡ place ds i
 place_other [] x zero e = absurd (cc (e, eq-eqb 0 0 refl))
 place_other [] x (suc i) e = refl
 place_other (y ∷ ys) x zero e = refl
-place_other (y ∷ ys) x (suc i) e = place_other ys x i (bool_cases (i == length ys) (λ h. let s : suc i ≡ length (y ∷ ys) = ap suc (eqb-true i (length ys) h) in absurd (eqb-false (suc i) (length (y ∷ ys)) e s)) (λ h. h))
+place_other (y ∷ ys) x (suc i) e = place_other ys x i
+    (bool_cases (i == length ys) (λ h. let s : suc i ≡ length (y ∷ ys) = ap suc (eqb-true i (length ys) h) in
+    absurd (eqb-false (suc i) (length (y ∷ ys)) e s)) (λ h. h))
 
 -- what stands at i behind one more
-pub place-push : (ds : List (Option Description)) (x : Option Description) (i : ℕ) → place (ds ++ x ∷ []) i ≡ cond (i == length ds) x (place ds i)
+pub place-push : (ds : List (Option Description)) (x : Option Description) (i : ℕ) →
+    place (ds ++ x ∷ []) i ≡ cond (i == length ds) x (place ds i)
 place-push ds x i = bool_cases (i == length ds)
-    (λ h. ap (place (ds ++ x ∷ [])) (eqb-true i (length ds) h) ∙ get_or_push ds x None (length ds) refl ∙ sym (ap (λ b. cond b x (place ds i)) h))
+    (λ h. ap (place (ds ++ x ∷ [])) (eqb-true i (length ds) h) ∙ get_or_push ds x None (length ds) refl
+    ∙ sym (ap (λ b. cond b x (place ds i)) h))
     (λ h. place_other ds x i h ∙ sym (ap (λ b. cond b x (place ds i)) h))
 
 pub place_last : (ds : List (Option Description)) (x : Option Description) → place (ds ++ x ∷ []) (length ds) ≡ x
@@ -41,11 +47,13 @@ paired-push ds D none paired = record {
   where
     before : (i p : ℕ) → peer_in (place (ds ++ Some D ∷ []) i) ≡ Some p → peer_in (place ds i) ≡ Some p
     before i p e = bool_cases (i == length ds)
-        (λ h. absurd (cc (sym (ap peer_in (place_last ds (Some D)) ∙ none), sym (ap (λ n. peer_in (place (ds ++ Some D ∷ []) n)) (eqb-true i (length ds) h)) ∙ e)))
+        (λ h. absurd (cc (sym (ap peer_in (place_last ds (Some D)) ∙ none),
+        sym (ap (λ n. peer_in (place (ds ++ Some D ∷ []) n)) (eqb-true i (length ds) h)) ∙ e)))
         (λ h. sym (ap peer_in (place_other ds (Some D) i h)) ∙ e)
 
 -- two new ones that name one another
-pub paired-pair : (ds : List (Option Description)) (D E : Description) → target_peer D.target ≡ Some (length ds + 1) → target_peer E.target ≡ Some (length ds) →
+pub paired-pair : (ds : List (Option Description)) (D E : Description) → target_peer D.target ≡ Some (length ds + 1) →
+    target_peer E.target ≡ Some (length ds) →
     Paired ds → Paired ((ds ++ Some D ∷ []) ++ Some E ∷ [])
 paired-pair ds D E first second paired = record {
   returned = λ i p e there. bool_cases (i == length ds)
@@ -69,9 +77,11 @@ paired-pair ds D E first second paired = record {
       let a = length_push ds (Some D) in
       let b = length_push (ds ++ Some D ∷ []) (Some E) in
       let short : p < length ds + 2 = bool_cases (i == length ds)
-      (λ h. let q : Some (length ds + 1) ≡ Some p = sym (ap peer_in (at_first i h) ∙ first) ∙ e in let r : p ≡ length ds + 1 = cc q in omega (arith, r))
+      (λ h. let q : Some (length ds + 1) ≡ Some p = sym (ap peer_in (at_first i h) ∙ first) ∙ e in let r : p ≡ length ds + 1 = cc q in
+      omega (arith, r))
       (λ h. bool_cases (i == length ds + 1)
-      (λ g. let q : Some (length ds) ≡ Some p = sym (ap peer_in (at_second i (eqb-true i (length ds + 1) g)) ∙ second) ∙ e in let r : p ≡ length ds = cc q in omega (arith, r))
+      (λ g. let q : Some (length ds) ≡ Some p = sym (ap peer_in (at_second i (eqb-true i (length ds + 1) g)) ∙ second) ∙ e in
+      let r : p ≡ length ds = cc q in omega (arith, r))
       (λ g. let s = paired.known i p (sym (ap peer_in (at_old i h g)) ∙ e) in omega (arith, s))) in
       omega (arith, a, b, short);
 }
@@ -95,7 +105,8 @@ paired-pair ds D E first second paired = record {
         ∙ ap (place (ds ++ Some D ∷ [])) q ∙ place_last ds (Some D)
 
 -- a new one that names c, which named nobody and names it now
-pub paired-tied : (ds : List (Option Description)) (E C F : Description) (c : ℕ) (f : Description → Description) → Paired ds → place ds c ≡ Some C → target_peer C.target ≡ None → target_peer E.target ≡ Some c →
+pub paired-tied : (ds : List (Option Description)) (E C F : Description) (c : ℕ) (f : Description → Description) → Paired ds →
+    place ds c ≡ Some C → target_peer C.target ≡ None → target_peer E.target ≡ Some c →
     f C ≡ F → target_peer F.target ≡ Some (length ds) → Paired (changed_place (ds ++ Some E ∷ []) c f)
 paired-tied ds E C F c f paired here none new is tied = record {
   returned = λ i p e there. bool_cases (c == i)
@@ -115,7 +126,8 @@ paired-tied ds E C F c f paired here none new is tied = record {
       bool_cases (c == p)
       (λ t.
       let same : c ≡ p = eqb-true c p t in
-      let back : peer_in (place ds c) ≡ Some i = ap (λ n. peer_in (place ds n)) same ∙ paired.returned i p was (ap (λ n. is_some (place ds n)) (sym same) ∙ ap is_some here) in
+      let back : peer_in (place ds c) ≡ Some i = ap (λ n. peer_in (place ds n)) same
+      ∙ paired.returned i p was (ap (λ n. is_some (place ds n)) (sym same) ∙ ap is_some here) in
       let nobody : peer_in (place ds c) ≡ None = ap peer_in here ∙ none in
       absurd (cc (back, nobody)))
       (λ t. ap peer_in (at_old p t p_new) ∙ paired.returned i p was (sym (ap is_some (at_old p t p_new)) ∙ there))));
@@ -136,7 +148,8 @@ paired-tied ds E C F c f paired here none new is tied = record {
     c_new : (c == length ds) ≡ false
     c_new = ne_eqb c (length ds) (λ t. let a = c_old in omega (arith, t, a))
 
-    at : (i : ℕ) → place (changed_place (ds ++ Some E ∷ []) c f) i ≡ cond (c == i) (option_map f (place (ds ++ Some E ∷ []) i)) (place (ds ++ Some E ∷ []) i)
+    at : (i : ℕ) → place (changed_place (ds ++ Some E ∷ []) c f) i ≡ cond (c == i) (option_map f (place (ds ++ Some E ∷ []) i))
+        (place (ds ++ Some E ∷ []) i)
     at i = place-changed (ds ++ Some E ∷ []) c i f
 
     at_c : (i : ℕ) → (c == i) ≡ true → peer_in (place (changed_place (ds ++ Some E ∷ []) c f) i) ≡ Some (length ds)
@@ -151,7 +164,8 @@ paired-tied ds E C F c f paired here none new is tied = record {
 
     at_new : (i : ℕ) → i ≡ length ds → peer_in (place (changed_place (ds ++ Some E ∷ []) c f) i) ≡ Some c
     at_new i h =
-        ap peer_in (at_other i (ne_eqb c i (λ t. let a = c_old in omega (arith, t, h, a))) ∙ ap (place (ds ++ Some E ∷ [])) h ∙ place_last ds (Some E)) ∙ new
+        ap peer_in (at_other i (ne_eqb c i (λ t. let a = c_old in omega (arith, t, h, a))) ∙ ap (place (ds ++ Some E ∷ [])) h
+        ∙ place_last ds (Some E)) ∙ new
 
     at_old : (i : ℕ) → (c == i) ≡ false → (i == length ds) ≡ false → place (changed_place (ds ++ Some E ∷ []) c f) i ≡ place ds i
     at_old i h g = at_other i h ∙ place_other ds (Some E) i g

@@ -1,5 +1,6 @@
 -- What is named counts, and what counts is there. So where nothing dangles, what a table, a queue or a backlog names is there.
-use Rattle.std.proofs.Common.{◌≡◌, ℕ, zero, suc, ◌≤◌, ◌<◌, ◌==◌, Bool, true, false, ◌&&◌, cond, List, [], ◌∷◌, sum_by, count_by, Option, Some, None, refl, ap, sym, ◌∙◌, arith}
+use Rattle.std.proofs.Common.{◌≡◌, ℕ, zero, suc, ◌≤◌, ◌<◌, ◌==◌, Bool, true, false, ◌&&◌, cond, List, [], ◌∷◌, sum_by, count_by, Option}
+use Rattle.std.proofs.Common.{Some, None, refl, ap, sym, ◌∙◌, arith}
 use Rattle.std.specs.Prelude.{is_some, nat_lt}
 use Rattle.std.specs.List.{slice_get}
 use Rattle.std.proofs.lemmas.Bool.{eq-eqb, lt-ltb}
@@ -13,7 +14,8 @@ use Rattle.ux_model.specs.Socket.{Socket, pending_ends}
 use Rattle.ux_model.specs.Description.{Description, Target, to_object, to_socket, socket_of, socket_in}
 use Rattle.ux_model.specs.Process.{Process, Descriptor}
 use Rattle.ux_model.specs.State.{State, description_at, socket_at, table_of}
-use Rattle.ux_model.specs.References.{names_description, table_refs, times, socket_refs, target_refs, path_names, leads_to, is_open_of, refs, orefs}
+use Rattle.ux_model.specs.References.{names_description, table_refs, times, socket_refs, target_refs, path_names, leads_to, is_open_of}
+use Rattle.ux_model.specs.References.{refs, orefs}
 use Rattle.ux_model.specs.Boot.{is_open}
 use Rattle.ux_model.specs.Peers.{at_target, at_socket}
 use Rattle.ux_model.specs.Invariants.{pends, pends_at_all}
@@ -26,7 +28,8 @@ table_in o = elim o as (λ _. List (Option Descriptor)) [ Some P ↦ P.table | N
 
 -- ---- what is named counts
 
-counts_at : {X : Type 0} (p : Option X → Bool) (xs : List (Option X)) (i : ℕ) (x : X) → place xs i ≡ Some x → p (Some x) ≡ true → 0 < count_by p xs
+counts_at : {X : Type 0} (p : Option X → Bool) (xs : List (Option X)) (i : ℕ) (x : X) → place xs i ≡ Some x → p (Some x) ≡ true →
+    0 < count_by p xs
 counts_at p [] i x h passes = absurd (cc h)
 counts_at p (y ∷ xs) zero x h passes =
     let s = sum_by-cons (λ y. cond (p y) 1 0) y xs in
@@ -55,7 +58,8 @@ listed ns i n h =
     let one : cond {A = ℕ} (n == n) 1 0 ≡ 1 = ap (λ b. cond {A = ℕ} b 1 0) (eq-eqb n n refl) in
     omega (arith, all, one)
 
-table_counts : (d : ℕ) (Ps : List Process) (i : ℕ) → table_refs d (table_in (slice_get Ps i)) ≤ sum_by (λ P. table_refs d (Process.table P)) Ps
+table_counts : (d : ℕ) (Ps : List Process) (i : ℕ) →
+    table_refs d (table_in (slice_get Ps i)) ≤ sum_by (λ P. table_refs d (Process.table P)) Ps
 table_counts d [] i = omega arith
 table_counts d (P ∷ Ps) zero = let s = sum_by-cons (λ P. table_refs d (Process.table P)) P Ps in omega (arith, s)
 table_counts d (P ∷ Ps) (suc i) =
@@ -70,7 +74,8 @@ refs_of_table S (suc i) d = let t = table_counts d S.processes i in omega (arith
 
 pub entry_counts : (S : State) (p n : ℕ) (e : Descriptor) → place (table_of S p) n ≡ Some e → 0 < refs S e.description
 entry_counts S p n e h =
-    let here : 0 < table_refs e.description (table_of S p) = counts_at (names_description e.description) (table_of S p) n e h (eq-eqb e.description e.description refl) in
+    let here : 0 < table_refs e.description (table_of S p) =
+    counts_at (names_description e.description) (table_of S p) n e h (eq-eqb e.description e.description refl) in
     let all = refs_of_table S p e.description in
     omega (arith, here, all)
 
@@ -78,7 +83,8 @@ entry_counts S p n e h =
 pub socket_counted : (S : State) (d k : ℕ) (s : Socket) → socket_at S d ≡ Some s → socket_refs k s ≤ refs S k
 socket_counted S d k s h = at_place (description_at S d) refl h
   where
-    at_target : (D : Description) (t : Target) → description_at S d ≡ Some D → D.target ≡ t → socket_of t ≡ Some s → socket_refs k s ≤ refs S k
+    at_target : (D : Description) (t : Target) → description_at S d ≡ Some D → D.target ≡ t → socket_of t ≡ Some s →
+        socket_refs k s ≤ refs S k
     at_target D (to_object o) here is f = absurd (cc f)
     at_target D (to_socket u) here is f =
         let same : u ≡ s = cc f in
@@ -90,7 +96,8 @@ socket_counted S d k s h = at_place (description_at S d) refl h
     at_place None here f = absurd (cc f)
     at_place (Some D) here f = at_target D D.target here refl f
 
-pub right_counts : (S : State) (d i j r : ℕ) (s : Socket) (m : Message) → socket_at S d ≡ Some s → slice_get s.queue i ≡ Some m → slice_get m.rights j ≡ Some r → 0 < refs S r
+pub right_counts : (S : State) (d i j r : ℕ) (s : Socket) (m : Message) → socket_at S d ≡ Some s → slice_get s.queue i ≡ Some m →
+    slice_get m.rights j ≡ Some r → 0 < refs S r
 right_counts S d i j r s m h waits brings =
     let all = socket_counted S d r s h in
     let queued = counts_in (λ m. times r (Message.rights m)) s.queue i m waits in
@@ -129,14 +136,16 @@ open_where_there (Some view) some all = all view refl
 
 pub named_open : (S : State) → IsHeld S → (o : ℕ) → 0 < orefs S o → is_open (place S.objects o) ≡ true
 named_open S held o some =
-    open_where_there (place S.objects o) (there_or_none (is_some (place S.objects o)) (orefs S o) (held.no_object_dangles o) some) (held.all_open o)
+    open_where_there (place S.objects o) (there_or_none (is_some (place S.objects o)) (orefs S o) (held.no_object_dangles o) some)
+    (held.all_open o)
 
 pub described : (S : State) → IsHeld S → (d : ℕ) → 0 < refs S d → is_some (description_at S d) ≡ true
 described S held d some = there_or_none (is_some (description_at S d)) (refs S d) (held.no_description_dangles d) some
 
 -- ---- ends that wait
 
-pub pending_listed : (S : State) (d i e : ℕ) (s : Socket) → socket_at S d ≡ Some s → slice_get (pending_ends s.phase) i ≡ Some e → 0 < pends_at_all e S.descriptions
+pub pending_listed : (S : State) (d i e : ℕ) (s : Socket) → socket_at S d ≡ Some s → slice_get (pending_ends s.phase) i ≡ Some e →
+    0 < pends_at_all e S.descriptions
 pending_listed S d i e s h waits = at_place (description_at S d) refl h
   where
     summed : (ds : List (Option Description)) (d : ℕ) → at_socket (pends e) (place ds d) ≤ pends_at_all e ds

@@ -1,5 +1,6 @@
 -- The numbers of the processes that were made, and that a process makes calls only then.
-use Rattle.std.proofs.Common.{◌≡◌, ◌≢◌, ℕ, zero, suc, ◌+◌, ◌<◌, ◌≤◌, Bool, true, false, not, ◌&&◌, ◌||◌, ◌==◌, ◌⊎◌, inl, inr, List, [], ◌∷◌, ◌++◌, length, cond, Some, None, refl, ap, sym, ◌∙◌, arith}
+use Rattle.std.proofs.Common.{◌≡◌, ◌≢◌, ℕ, zero, suc, ◌+◌, ◌<◌, ◌≤◌, Bool, true, false, not, ◌&&◌, ◌||◌, ◌==◌, ◌⊎◌, inl, inr, List, [], ◌∷◌}
+use Rattle.std.proofs.Common.{◌++◌, length, cond, Some, None, refl, ap, sym, ◌∙◌, arith}
 use Rattle.std.specs.Prelude.{nat_lt, nat_le, if◌then◌else◌}
 use Rattle.std.specs.List.{slice_get, list_all}
 use Rattle.std.proofs.lemmas.Bool.{and_parts, and_from, le-leb, lt-leb, eqb-true, eqb-false, eq-eqb, ne_eqb, cases_lt}
@@ -29,18 +30,21 @@ boot_numbered : (S : State) (p : ℕ) → IsBootState S → is_live S p ≡ numb
 boot_numbered S zero boots = refl
 boot_numbered S (suc i) boots = by (cases_lt i (length S.processes))
   where
-    inside : (Ps : List Process) (i : ℕ) → list_all (λ P. not (Process.exited P)) Ps ≡ true → i < length Ps → (elim (slice_get Ps i) as (λ _. Bool) [ Some P ↦ not P.exited | None ↦ false ]) ≡ true
+    inside : (Ps : List Process) (i : ℕ) → list_all (λ P. not (Process.exited P)) Ps ≡ true → i < length Ps →
+        (elim (slice_get Ps i) as (λ _. Bool) [ Some P ↦ not P.exited | None ↦ false ]) ≡ true
     inside [] i all h = absurd (omega (arith, h))
     inside (P ∷ Ps) zero all h = (and_parts (not P.exited) _ all).0
     inside (P ∷ Ps) (suc i) all h = inside Ps i (and_parts (not P.exited) _ all).1 (omega (arith, h))
 
-    outside : (Ps : List Process) (i : ℕ) → length Ps ≤ i → (elim (slice_get Ps i) as (λ _. Bool) [ Some P ↦ not P.exited | None ↦ false ]) ≡ false
+    outside : (Ps : List Process) (i : ℕ) → length Ps ≤ i →
+        (elim (slice_get Ps i) as (λ _. Bool) [ Some P ↦ not P.exited | None ↦ false ]) ≡ false
     outside [] i h = refl
     outside (P ∷ Ps) zero h = absurd (omega (arith, h))
     outside (P ∷ Ps) (suc i) h = outside Ps i (omega (arith, h))
 
     by : (i < length S.processes) ⊎ (length S.processes ≤ i) → is_live S (suc i) ≡ numbered (suc i) (length S.processes)
-    by (inl h) = inside S.processes i boots.live_processes h ∙ sym (numbered_within (suc i) (length S.processes) (omega arith) (omega (arith, h)))
+    by (inl h) = inside S.processes i boots.live_processes h
+        ∙ sym (numbered_within (suc i) (length S.processes) (omega arith) (omega (arith, h)))
     by (inr h) = outside S.processes i h ∙ sym (numbered_past (suc i) (length S.processes) (omega (arith, h)))
 
 -- one process more has the next number
@@ -52,19 +56,23 @@ numbered_other p n other = ap (λ b. nat_lt 0 p && b) (go (cases_lt n p))
     go (inr within) = le-leb p (suc n) (omega (arith, within)) ∙ sym (le-leb p n within)
 
 -- a call that didn't make the process left its number as it was
-other_kept : (S T : State) (q tag p : ℕ) (request : Request) (reply : Reply) (gone : List ℕ) → Step S q tag request reply gone T → makes p request reply ≡ false → numbered p (length T.processes) ≡ numbered p (length S.processes)
+other_kept : (S T : State) (q tag p : ℕ) (request : Request) (reply : Reply) (gone : List ℕ) → Step S q tag request reply gone T →
+    makes p request reply ≡ false → numbered p (length T.processes) ≡ numbered p (length S.processes)
 other_kept S T q tag p Request.Fork (Reply.Child pid) gone s h =
     let more : length T.processes ≡ length S.processes + 1 = fork_alone_makes S T q tag Request.Fork (Reply.Child pid) gone s in
-    let next : pid.0 ≡ suc (length S.processes) = made_next S T q tag pid.0 Request.Fork (Reply.Child pid) gone s (eq-eqb pid.0 pid.0 refl) in
+    let next : pid.0 ≡ suc (length S.processes) =
+    made_next S T q tag pid.0 Request.Fork (Reply.Child pid) gone s (eq-eqb pid.0 pid.0 refl) in
     let other = eqb-false pid.0 p h in
     let one : length T.processes ≡ suc (length S.processes) = omega (arith, more) in
     ap (numbered p) one ∙ numbered_other p (length S.processes) (λ e. other (next ∙ sym e))
 other_kept S T q tag p request reply gone s h =
-    let same : length T.processes ≡ length S.processes = let more = fork_alone_makes S T q tag request reply gone s in omega (arith, more) in
+    let same : length T.processes ≡ length S.processes = let more = fork_alone_makes S T q tag request reply gone s in
+    omega (arith, more) in
     ap (numbered p) same
 
 -- and one that made it, made the next
-made_numbered : (S T : State) (q tag p : ℕ) (request : Request) (reply : Reply) (gone : List ℕ) → Step S q tag request reply gone T → makes p request reply ≡ true → numbered p (length T.processes) ≡ true
+made_numbered : (S T : State) (q tag p : ℕ) (request : Request) (reply : Reply) (gone : List ℕ) → Step S q tag request reply gone T →
+    makes p request reply ≡ true → numbered p (length T.processes) ≡ true
 made_numbered S T q tag p Request.Fork (Reply.Child pid) gone s h =
     let more : length T.processes ≡ length S.processes + 1 = fork_alone_makes S T q tag Request.Fork (Reply.Child pid) gone s in
     let next : p ≡ suc (length S.processes) = made_next S T q tag p Request.Fork (Reply.Child pid) gone s h in
@@ -81,7 +89,8 @@ keeps_numbers boot p = record {
   by_entry = λ es e S T so_far step allowed. go es e S T so_far step (makes p e.request e.reply) refl;
 }
   where
-    go : (es : List Entry) (e : Entry) (S T : State) → AreNumbered boot p es S → Step S e.pid.0 (length es) e.request e.reply e.released T → (b : Bool) → makes p e.request e.reply ≡ b →
+    go : (es : List Entry) (e : Entry) (S T : State) → AreNumbered boot p es S → Step S e.pid.0 (length es) e.request e.reply e.released T →
+        (b : Bool) → makes p e.request e.reply ≡ b →
         (is_live boot p || was_made p (es ++ e ∷ [])) ≡ numbered p (length T.processes)
     go es e S T so_far step true h =
         ap (λ b. is_live boot p || b) (made_push p es e ∙ ap (λ b. was_made p es || b) h ∙ or-true (was_made p es))

@@ -52,7 +52,8 @@ refuses {S} {may} {e} own_one left = record {
 }
 
 -- an answer that may leave a file object changed, if that is held open then
-pub uses : {S : State} {may : May} {o : Outcome} → tells_choice o.reply ≡ false → is_error o.reply ≡ false → o.failure ≡ None → KeepsObjects S o.next → FailAlike S o.next → Reaches S may o.next → Obeys S may o
+pub uses : {S : State} {may : May} {o : Outcome} → tells_choice o.reply ≡ false → is_error o.reply ≡ false → o.failure ≡ None →
+    KeepsObjects S o.next → FailAlike S o.next → Reaches S may o.next → Obeys S may o
 uses {S} {may} {o} own_one told n kept alike r = record {
   own_reply = own_one;
   refused = λ e h. let one : is_error o.reply ≡ true = ap is_error h in absurd (cc (one, told));
@@ -63,17 +64,24 @@ uses {S} {may} {o} own_one told n kept alike r = record {
 }
 
 -- and one that leaves all file objects as they were
-pub answers : {S : State} {may : May} {o : Outcome} → tells_choice o.reply ≡ false → is_error o.reply ≡ false → o.failure ≡ None → o.next.objects ≡ S.objects → Reaches S may o.next → Obeys S may o
-answers {S} {may} {o} own_one told n same r = uses own_one told n (same_objects S o.next same) (λ k. ap (λ (os : List (Option View)). failures (place os k)) same) r
+pub answers : {S : State} {may : May} {o : Outcome} → tells_choice o.reply ≡ false → is_error o.reply ≡ false → o.failure ≡ None →
+    o.next.objects ≡ S.objects → Reaches S may o.next → Obeys S may o
+answers {S} {may} {o} own_one told n same r =
+    uses own_one told n (same_objects S o.next same) (λ k. ap (λ (os : List (Option View)). failures (place os k)) same) r
 
 -- a call of a file object may leave what a failure does
-pub may_fail : (S : State) (may : May) (o : ℕ) (view : View) (x : Outcome) → IsHeldOpen S o → place S.objects o ≡ Some view → Obeys S may x → Obeys S may (or_failing S o view x)
-may_fail S may o view x held there obeys = record { own_reply = obeys.own_reply; refused = obeys.refused; failed = at_failure (can_fail view); reached = obeys.reached; objects = obeys.objects; alike = obeys.alike }
+pub may_fail : (S : State) (may : May) (o : ℕ) (view : View) (x : Outcome) → IsHeldOpen S o → place S.objects o ≡ Some view →
+    Obeys S may x → Obeys S may (or_failing S o view x)
+may_fail S may o view x held there obeys =
+    record { own_reply = obeys.own_reply; refused = obeys.refused; failed = at_failure (can_fail view); reached = obeys.reached; objects =
+    obeys.objects; alike = obeys.alike }
   where
-    at_failure : (b : Bool) (T : State) → (if b then Some (with_object S o (after_failure view)) else None) ≡ Some T → OneMoreFailure S T × KeepsObjects S T
+    at_failure : (b : Bool) (T : State) → (if b then Some (with_object S o (after_failure view)) else None) ≡ Some T →
+        OneMoreFailure S T × KeepsObjects S T
     at_failure true T h =
         let e : with_object S o (after_failure view) ≡ T = cc h in
-        (record { object = o; view = view; there = there; left = sym e }, subst (KeepsObjects S) e (held_changed S S o (after_failure view) refl held))
+        (record { object = o; view = view; there = there; left = sym e },
+        subst (KeepsObjects S) e (held_changed S S o (after_failure view) refl held))
     at_failure false T h = absurd (cc h)
 
 -- ---- a call

@@ -1,5 +1,6 @@
 -- All holdings of a chain lead to one description.
-use Rattle.std.proofs.Common.{◌≡◌, ℕ, zero, suc, ◌≤◌, true, List, [], ◌∷◌, length, take, Some, None, refl, ap, sym, ◌∙◌, subst, ⊎_elim, arith, slice_get}
+use Rattle.std.proofs.Common.{◌≡◌, ℕ, zero, suc, ◌≤◌, true, List, [], ◌∷◌, length, take, Some, None, refl, ap, sym, ◌∙◌, subst, ⊎_elim}
+use Rattle.std.proofs.Common.{arith, slice_get}
 use Rattle.std.proofs.lemmas.List.{take_all}
 use Rattle.ux_model.specs.Types.{Entry, How, Link}
 use Rattle.ux_model.specs.State.{State}
@@ -19,13 +20,18 @@ record LeadsToOne (boot : State) (es : List Entry) (chain : List Link) (a : Link
   pub last : LeadsTo boot es description a
 
 -- where the entry that gave the next one stands in the history
-giving_within : (boot : State) (es : List Entry) (how : How) (a b : Link) (e : Entry) (giving : ℕ) → IsGiven boot es b e → IsFrom boot es how a b e giving → giving ≤ length es
+giving_within : (boot : State) (es : List Entry) (how : How) (a b : Link) (e : Entry) (giving : ℕ) → IsGiven boot es b e →
+    IsFrom boot es how a b e giving → giving ≤ length es
 giving_within boot es How.Made a b e giving g from = absurd from
-giving_within boot es How.Dup a b e giving g from = let below = get_below es b.entry e g.there in let at = from.0 in omega (arith, below, at)
-giving_within boot es (How.Received tag) a b e giving g from = let below = get_below es tag from.1.sending from.1.there in let at = from.0 in omega (arith, below, at)
-giving_within boot es How.Forked a b e giving g from = let below = get_below es b.entry e g.there in let at = from.0 in omega (arith, below, at)
+giving_within boot es How.Dup a b e giving g from = let below = get_below es b.entry e g.there in let at = from.0 in
+    omega (arith, below, at)
+giving_within boot es (How.Received tag) a b e giving g from = let below = get_below es tag from.1.sending from.1.there in
+    let at = from.0 in omega (arith, below, at)
+giving_within boot es How.Forked a b e giving g from = let below = get_below es b.entry e g.there in let at = from.0 in
+    omega (arith, below, at)
 
-chain_leads : (boot : State) (es : List Entry) (chain : List Link) (a : Link) → IsLegal boot es → IsChain boot es chain a → LeadsToOne boot es chain a
+chain_leads : (boot : State) (es : List Entry) (chain : List Link) (a : Link) → IsLegal boot es → IsChain boot es chain a →
+    LeadsToOne boot es chain a
 chain_leads boot es chain a legal (first b e g made) =
     let w = made_leads boot es b e legal g made in
     record { description = w.0; each = one w.0 w.1; last = w.1 }
@@ -42,7 +48,8 @@ chain_leads boot es chain a legal (onward {chain = xs} c b e giving leads stands
     let here : LeadsTo boot es d b = sym (passed_same boot es b.how c b e giving legal g refl from) ∙ led in
     record {
       description = d;
-      each = λ i x h. ⊎_elim {C = LeadsTo boot es d x} (λ w. so_far.each i x w.0) (λ w. subst (LeadsTo boot es d) (sym w.0) here) (get_push xs b x i h);
+      each = λ i x h. ⊎_elim {C = LeadsTo boot es d x} (λ w. so_far.each i x w.0)
+          (λ w. subst (LeadsTo boot es d) (sym w.0) here) (get_push xs b x i h);
       last = here;
     }
 
@@ -57,17 +64,21 @@ pedigree_is_of_one boot es chain p n legal x =
       description = d;
       each = w.each;
       at_the_end = subst (λ (q : ℕ). description_of (replay boot es) q n ≡ Some d) x.process
-          (subst (λ (m : ℕ). description_of (replay boot es) x.last.pid.0 m ≡ Some d) x.number (subst (λ (l : List Entry). description_of (replay boot l) x.last.pid.0 x.last.fd.0 ≡ Some d) whole end));
+          (subst (λ (m : ℕ). description_of (replay boot es) x.last.pid.0 m ≡ Some d) x.number
+          (subst (λ (l : List Entry). description_of (replay boot l) x.last.pid.0 x.last.fd.0 ≡ Some d) whole end));
     }
 
 -- so the number is held at the history's end
-pub pedigree_is_held : (boot : State) (es : List Entry) (chain : List Link) (p n : ℕ) → IsLegal boot es → IsPedigree boot es chain p n → is_held (replay boot es) p n ≡ true
-pedigree_is_held boot es chain p n legal x = let w = pedigree_is_of_one boot es chain p n legal x in leads_held (replay boot es) p n w.description w.at_the_end
+pub pedigree_is_held : (boot : State) (es : List Entry) (chain : List Link) (p n : ℕ) → IsLegal boot es → IsPedigree boot es chain p n →
+    is_held (replay boot es) p n ≡ true
+pedigree_is_held boot es chain p n legal x = let w = pedigree_is_of_one boot es chain p n legal x in
+    leads_held (replay boot es) p n w.description w.at_the_end
 
 -- ---- who was sent nothing
 
 -- each link of a chain was given by its entry
-each_given : (boot : State) (es : List Entry) (chain : List Link) (a : Link) → IsChain boot es chain a → (i : ℕ) (b : Link) → slice_get chain i ≡ Some b → (e : Entry) × IsGiven boot es b e
+each_given : (boot : State) (es : List Entry) (chain : List Link) (a : Link) → IsChain boot es chain a → (i : ℕ) (b : Link) →
+    slice_get chain i ≡ Some b → (e : Entry) × IsGiven boot es b e
 each_given boot es chain a (first c e g made) i b h = one i h
   where
     one : (i : ℕ) → slice_get (c ∷ []) i ≡ Some b → (e : Entry) × IsGiven boot es b e
@@ -75,7 +86,8 @@ each_given boot es chain a (first c e g made) i b h = one i h
     one (suc i) h = absurd (cc h)
 each_given boot es chain a (onward {chain = xs} d c e giving leads stands g from) i b h =
     let rest = each_given boot es xs d leads i b in
-    ⊎_elim {C = (e : Entry) × IsGiven boot es b e} (λ w. rest w.0) (λ w. (e, subst (λ (x : Link). IsGiven boot es x e) (sym w.0) g)) (get_push xs c b i h)
+    ⊎_elim {C = (e : Entry) × IsGiven boot es b e} (λ w. rest w.0)
+    (λ w. (e, subst (λ (x : Link). IsGiven boot es x e) (sym w.0) g)) (get_push xs c b i h)
 
 pub holds_only_its_own : HoldsOnlyItsOwn
 holds_only_its_own boot es chain p n q legal x unsent i tag b at holder receives =

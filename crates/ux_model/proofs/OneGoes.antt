@@ -1,5 +1,6 @@
 -- One description goes: its place is emptied, and one other is notified.
-use Rattle.std.proofs.Common.{◌≡◌, ℕ, zero, suc, ◌+◌, ◌<◌, ◌≤◌, Bool, true, false, ◌&&◌, ◌||◌, ◌==◌, cond, List, [], ◌∷◌, length, get_or, map, Option, Some, None, is_some, option_map, option_and_then, sym, ◌∙◌, ap, subst, refl, zero-add, arith}
+use Rattle.std.proofs.Common.{◌≡◌, ℕ, zero, suc, ◌+◌, ◌<◌, ◌≤◌, Bool, true, false, ◌&&◌, ◌||◌, ◌==◌, cond, List, [], ◌∷◌, length, get_or}
+use Rattle.std.proofs.Common.{map, Option, Some, None, is_some, option_map, option_and_then, sym, ◌∙◌, ap, subst, refl, zero-add, arith}
 use Rattle.std.specs.List.{sum_by, list_any, enumerate_from}
 use Rattle.std.proofs.lemmas.Bool.{eqb-true, eqb-false, eq-eqb, ne_eqb, and_parts}
 use Rattle.std.proofs.lemmas.List.{get_or-map, get_or-set_same, get_or-set_other, ext_get_or, length-map, length-set}
@@ -92,7 +93,8 @@ told_target S d i D (to_socket s) here there back =
     go true = ap (λ r. to_socket (record s { reset = r })) (always s.reset)
     go false = ap (λ r. to_socket (record s { reset = r })) (or-false s.reset)
 
-told_place : (S : State) (d i : ℕ) (D : Description) (x : Option Description) → Paired S.descriptions → description_at S d ≡ Some D → description_at S i ≡ x →
+told_place : (S : State) (d i : ℕ) (D : Description) (x : Option Description) → Paired S.descriptions → description_at S d ≡ Some D →
+    description_at S i ≡ x →
     option_map (description_after_loss (λ n. n == d) S) x ≡ cond (tells (lost_peer D) i) (option_map (changed (with_reset true)) x) x
 told_place S d i D None paired here at = go (tells (lost_peer D) i)
   where
@@ -108,7 +110,8 @@ told_place S d i D (Some E) paired here at =
     back : target_peer D.target ≡ Some i → target_peer E.target ≡ Some d
     back h = sym (ap peer_in at) ∙ paired.returned d i (ap peer_in here ∙ h) (ap is_some at)
 
-    go : (b : Bool) → Some (record E { target = cond b (changed_target (with_reset true) E.target) E.target }) ≡ cond b (Some (changed (with_reset true) E)) (Some E)
+    go : (b : Bool) → Some (record E { target = cond b (changed_target (with_reset true) E.target) E.target }) ≡ cond b
+        (Some (changed (with_reset true) E)) (Some E)
     go true = refl
     go false = refl
 
@@ -122,7 +125,8 @@ after_loss : (S : State) (d i : ℕ) (D : Description) → Paired S.descriptions
     place (with_peer_reset (lost_peer D) (emptied S.descriptions d)) i ≡ place_after_loss (λ n. n == d) S (i, description_at S i)
 after_loss S d i D paired here inside = place-told (lost_peer D) (emptied S.descriptions d) i ∙ bool_cases (i == d)
     (λ h.
-    let gone : place (emptied S.descriptions d) i ≡ None = ap (place (emptied S.descriptions d)) (eqb-true i d h) ∙ get_or-set_same S.descriptions d None None inside in
+    let gone : place (emptied S.descriptions d) i ≡ None = ap (place (emptied S.descriptions d)) (eqb-true i d h)
+    ∙ get_or-set_same S.descriptions d None None inside in
     ap (λ x. cond (tells (lost_peer D) i) (option_map (changed (with_reset true)) x) x) gone ∙ nothing (tells (lost_peer D) i)
     ∙ sym (ap (λ b. cond b None (option_map (description_after_loss (λ n. n == d) S) (description_at S i))) h))
     (λ h.
@@ -140,8 +144,10 @@ pub one_goes : (S : State) (d : ℕ) (D : Description) → Paired S.descriptions
     with_peer_reset (lost_peer D) (emptied S.descriptions d) ≡ map (place_after_loss (λ n. n == d) S) (enumerate_from 0 S.descriptions)
 one_goes S d D paired here =
     let inside : d < length S.descriptions = place_within S.descriptions d D here in
-    let long : length (with_peer_reset (lost_peer D) (emptied S.descriptions d)) ≡ length S.descriptions = length-told (lost_peer D) (emptied S.descriptions d) ∙ length-set S.descriptions d None in
-    let long' : length (map (place_after_loss (λ n. n == d) S) (enumerate_from 0 S.descriptions)) ≡ length S.descriptions = length-map (enumerate_from 0 S.descriptions) (place_after_loss (λ n. n == d) S) ∙ length-enumerate_from 0 S.descriptions in
+    let long : length (with_peer_reset (lost_peer D) (emptied S.descriptions d)) ≡ length S.descriptions =
+    length-told (lost_peer D) (emptied S.descriptions d) ∙ length-set S.descriptions d None in
+    let long' : length (map (place_after_loss (λ n. n == d) S) (enumerate_from 0 S.descriptions)) ≡ length S.descriptions =
+    length-map (enumerate_from 0 S.descriptions) (place_after_loss (λ n. n == d) S) ∙ length-enumerate_from 0 S.descriptions in
     ext_get_or None _ _ (long ∙ sym long') (λ i h.
     let at : i < length S.descriptions = subst (λ n. i < n) long h in
     let at_all : i < length (enumerate_from 0 S.descriptions) = subst (λ n. i < n) (sym (length-enumerate_from 0 S.descriptions)) at in
@@ -159,19 +165,24 @@ reset_refs k (Some D) = by_target D.target
     by_target (to_object o) = refl
     by_target (to_socket s) = refl
 
-told_refs : (k : ℕ) (l : Option ℕ) (ds : List (Option Description)) → sum_by (description_refs k) (with_peer_reset l ds) ≡ sum_by (description_refs k) ds
+told_refs : (k : ℕ) (l : Option ℕ) (ds : List (Option Description)) →
+    sum_by (description_refs k) (with_peer_reset l ds) ≡ sum_by (description_refs k) ds
 told_refs k None ds = refl
-told_refs k (Some p) ds = let e = sum_by-changed (description_refs k) (changed (with_reset true)) (λ x. 0) (λ x. 0) (λ x. let h = reset_refs k x in omega (arith, h)) ds p in omega (arith, e)
+told_refs k (Some p) ds = let e = sum_by-changed (description_refs k) (changed (with_reset true)) (λ x. 0) (λ x. 0)
+    (λ x. let h = reset_refs k x in omega (arith, h)) ds p in omega (arith, e)
 
 -- the references that the lost one held go, and no others
-pub left_refs : (S T : State) (d k : ℕ) (D : Description) → description_at S d ≡ Some D → T.processes ≡ S.processes → T.descriptions ≡ with_peer_reset (lost_peer D) (emptied S.descriptions d) →
+pub left_refs : (S T : State) (d k : ℕ) (D : Description) → description_at S d ≡ Some D → T.processes ≡ S.processes →
+    T.descriptions ≡ with_peer_reset (lost_peer D) (emptied S.descriptions d) →
     refs T k + target_refs k D.target ≡ refs S k
 unfolding refs
 left_refs S T d k D here same e =
-    let a : sum_by (description_refs k) T.descriptions ≡ sum_by (description_refs k) (emptied S.descriptions d) = ap (sum_by (description_refs k)) e ∙ told_refs k (lost_peer D) (emptied S.descriptions d) in
+    let a : sum_by (description_refs k) T.descriptions ≡ sum_by (description_refs k) (emptied S.descriptions d) =
+    ap (sum_by (description_refs k)) e ∙ told_refs k (lost_peer D) (emptied S.descriptions d) in
     let b = sum_by-set (description_refs k) S.descriptions d None None (place_within S.descriptions d D here) in
     let c : description_refs k (place S.descriptions d) ≡ target_refs k D.target = ap (description_refs k) here in
-    let p : sum_by (λ P. table_refs k P.table) T.processes ≡ sum_by (λ P. table_refs k P.table) S.processes = ap (sum_by (λ P. table_refs k P.table)) same in
+    let p : sum_by (λ P. table_refs k P.table) T.processes ≡ sum_by (λ P. table_refs k P.table) S.processes =
+    ap (sum_by (λ P. table_refs k P.table)) same in
     omega (arith, a, b, c, p)
 
 -- what a description holds is counted
@@ -195,7 +206,8 @@ some-map f None = refl
 some-map f (Some x) = refl
 
 -- peers stay as they are where each place names the same
-pub paired-alike : (ds es : List (Option Description)) → length es ≡ length ds → ((n : ℕ) → peer_in (place es n) ≡ peer_in (place ds n)) → ((n : ℕ) → is_some (place es n) ≡ is_some (place ds n)) →
+pub paired-alike : (ds es : List (Option Description)) → length es ≡ length ds → ((n : ℕ) → peer_in (place es n) ≡ peer_in (place ds n)) →
+    ((n : ℕ) → is_some (place es n) ≡ is_some (place ds n)) →
     Paired ds → Paired es
 paired-alike ds es long peer held paired = record {
   returned = λ i q e there. peer q ∙ paired.returned i q (sym (peer i) ∙ e) (sym (held q) ∙ there);
@@ -203,21 +215,26 @@ paired-alike ds es long peer held paired = record {
 }
 
 -- as where one changes, which names the same
-pub paired-here : (ds : List (Option Description)) (p : ℕ) (f : Description → Description) → peer_in (option_map f (place ds p)) ≡ peer_in (place ds p) → Paired ds → Paired (changed_place ds p f)
+pub paired-here : (ds : List (Option Description)) (p : ℕ) (f : Description → Description) →
+    peer_in (option_map f (place ds p)) ≡ peer_in (place ds p) → Paired ds → Paired (changed_place ds p f)
 paired-here ds p f same = paired-alike ds (changed_place ds p f) (length-changed ds p f)
     (λ n. ap peer_in (place-changed ds p n f) ∙ either n peer_in same)
     (λ n. ap is_some (place-changed ds p n f) ∙ either n is_some (some-map f (place ds p)))
   where
-    either : {Y : Type 0} (n : ℕ) (g : Option Description → Y) → g (option_map f (place ds p)) ≡ g (place ds p) → g (cond (p == n) (option_map f (place ds n)) (place ds n)) ≡ g (place ds n)
+    either : {Y : Type 0} (n : ℕ) (g : Option Description → Y) → g (option_map f (place ds p)) ≡ g (place ds p) →
+        g (cond (p == n) (option_map f (place ds n)) (place ds n)) ≡ g (place ds n)
     either n g e = bool_cases (p == n)
-        (λ h. ap (λ b. g (cond b (option_map f (place ds n)) (place ds n))) h ∙ subst (λ i. g (option_map f (place ds i)) ≡ g (place ds i)) (eqb-true p n h) e)
+        (λ h. ap (λ b. g (cond b (option_map f (place ds n)) (place ds n))) h
+        ∙ subst (λ i. g (option_map f (place ds i)) ≡ g (place ds i)) (eqb-true p n h) e)
         (λ h. ap (λ b. g (cond b (option_map f (place ds n)) (place ds n))) h)
 
-pub paired-changed : (ds : List (Option Description)) (p : ℕ) (f : Description → Description) → ((x : Option Description) → peer_in (option_map f x) ≡ peer_in x) → Paired ds → Paired (changed_place ds p f)
+pub paired-changed : (ds : List (Option Description)) (p : ℕ) (f : Description → Description) →
+    ((x : Option Description) → peer_in (option_map f x) ≡ peer_in x) → Paired ds → Paired (changed_place ds p f)
 paired-changed ds p f same = paired-here ds p f (same (place ds p))
 
 -- or is put again
-pub paired-filled : (ds : List (Option Description)) (d : ℕ) (x y : Description) → place ds d ≡ Some x → target_peer y.target ≡ target_peer x.target → Paired ds → Paired (filled ds d y)
+pub paired-filled : (ds : List (Option Description)) (d : ℕ) (x y : Description) → place ds d ≡ Some x →
+    target_peer y.target ≡ target_peer x.target → Paired ds → Paired (filled ds d y)
 paired-filled ds d x y here same = paired-alike ds (filled ds d y) (length-set ds d (Some y))
     (λ n. at n peer_in (same ∙ sym (ap peer_in here)))
     (λ n. at n is_some (sym (ap is_some here)))
@@ -225,7 +242,8 @@ paired-filled ds d x y here same = paired-alike ds (filled ds d y) (length-set d
     at : {Y : Type 0} (n : ℕ) (g : Option Description → Y) → g (Some y) ≡ g (place ds d) → g (place (filled ds d y) n) ≡ g (place ds n)
     at n g e = bool_cases (n == d)
         (λ h. let q : n ≡ d = eqb-true n d h in
-        ap (λ m. g (place (filled ds d y) m)) q ∙ ap g (get_or-set_same ds d (Some y) None (place_within ds d x here)) ∙ e ∙ ap (λ m. g (place ds m)) (sym q))
+        ap (λ m. g (place (filled ds d y) m)) q ∙ ap g (get_or-set_same ds d (Some y) None (place_within ds d x here)) ∙ e
+        ∙ ap (λ m. g (place ds m)) (sym q))
         (λ h. ap g (get_or-set_other ds d n (Some y) None (eqb-false n d h)))
 
 pub paired-emptied : (ds : List (Option Description)) (d : ℕ) → d < length ds → Paired ds → Paired (emptied ds d)
@@ -270,7 +288,8 @@ none_unreferenced S each = list_any_none (λ e. is_unreferenced S e.0) (enumerat
 pub unreferenced : (S : State) (d : ℕ) (D : Description) → description_at S d ≡ Some D → refs S d ≡ 0 → is_unreferenced S d ≡ true
 unreferenced S d D here none = ap (λ b. b && (refs S d == 0)) (ap is_some here) ∙ eq-eqb (refs S d) 0 none
 
-pub fewer_live_without : (S : State) (d : ℕ) → is_unreferenced S d ≡ true → live_in (State.descriptions (without (λ n. n == d) S)) < live_in S.descriptions
+pub fewer_live_without : (S : State) (d : ℕ) → is_unreferenced S d ≡ true →
+    live_in (State.descriptions (without (λ n. n == d) S)) < live_in S.descriptions
 unfolding without
 fewer_live_without S d e =
     let some : is_some (description_at S d) ≡ true = (and_parts _ _ e).0 in
@@ -279,7 +298,9 @@ fewer_live_without S d e =
     list_any_at (λ e. e.0 == d) (enumerate_from 0 S.descriptions) d (0, None)
     (subst (λ n. d < n) (sym (length-enumerate_from 0 S.descriptions)) inside)
     (ap (λ e. e.0 == d) (numbered S.descriptions d (0, None) inside) ∙ eq-eqb d d refl) in
-    let fewer = fewer_live (λ n. n == d) S 0 S.descriptions (λ n h. let same : n ≡ d = let q : 0 + n ≡ d = eqb-true (0 + n) d h in omega (arith, q) in ap (λ m. is_some (description_at S m)) same ∙ some) found in
+    let fewer = fewer_live (λ n. n == d) S 0 S.descriptions
+    (λ n h. let same : n ≡ d = let q : 0 + n ≡ d = eqb-true (0 + n) d h in omega (arith, q) in
+    ap (λ m. is_some (description_at S m)) same ∙ some) found in
     omega (arith, fewer)
   where
     within : (ds : List (Option Description)) (n : ℕ) → is_some (place ds n) ≡ true → n < length ds

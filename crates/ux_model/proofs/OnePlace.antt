@@ -4,7 +4,8 @@ use Rattle.std.proofs.lemmas.List.Sums.{sum_by-cons}
 use Rattle.ux_model.specs.Places.{place}
 
 -- what is the same of it is the same of each place
-pub same_at : {X Y : Type 0} (g : Option X → Y) (xs : List (Option X)) (n i : ℕ) (x : Option X) → g x ≡ g (place xs n) → g (place (set xs n x) i) ≡ g (place xs i)
+pub same_at : {X Y : Type 0} (g : Option X → Y) (xs : List (Option X)) (n i : ℕ) (x : Option X) → g x ≡ g (place xs n) →
+    g (place (set xs n x) i) ≡ g (place xs i)
 same_at g [] n i x h = refl
 same_at g (y ∷ xs) zero zero x h = h
 same_at g (y ∷ xs) zero (suc i) x h = refl
@@ -12,7 +13,8 @@ same_at g (y ∷ xs) (suc n) zero x h = refl
 same_at g (y ∷ xs) (suc n) (suc i) x h = same_at g xs n i x h
 
 -- and what counts so much more makes no sum greater by more
-pub more_by : {X : Type 0} (f : Option X → ℕ) (xs : List (Option X)) (n more : ℕ) (x : Option X) → f x ≤ f (place xs n) + more → sum_by f (set xs n x) ≤ sum_by f xs + more
+pub more_by : {X : Type 0} (f : Option X → ℕ) (xs : List (Option X)) (n more : ℕ) (x : Option X) → f x ≤ f (place xs n) + more →
+    sum_by f (set xs n x) ≤ sum_by f xs + more
 more_by f [] n more x h = omega arith
 more_by f (y ∷ xs) zero more x h =
     let new = sum_by-cons f x xs in
@@ -24,11 +26,13 @@ more_by f (y ∷ xs) (suc n) more x h =
     let rest = more_by f xs n more x h in
     omega (arith, new, old, rest)
 
-pub no_more_by : {X : Type 0} (f : Option X → ℕ) (xs : List (Option X)) (n : ℕ) (x : Option X) → f x ≤ f (place xs n) → sum_by f (set xs n x) ≤ sum_by f xs
+pub no_more_by : {X : Type 0} (f : Option X → ℕ) (xs : List (Option X)) (n : ℕ) (x : Option X) → f x ≤ f (place xs n) →
+    sum_by f (set xs n x) ≤ sum_by f xs
 no_more_by f xs n x h = let all = more_by f xs n 0 x (omega (arith, h)) in omega (arith, all)
 
 -- what holds of a place holds of it then, if it does of what is put there
-pub at_each : {X : Type 0} (Q : Option X → Type 0) (xs : List (Option X)) (n i : ℕ) (x : Option X) → Q (place xs i) → (n ≡ i → Q (place xs i) → Q x) → Q (place (set xs n x) i)
+pub at_each : {X : Type 0} (Q : Option X → Type 0) (xs : List (Option X)) (n i : ℕ) (x : Option X) → Q (place xs i) →
+    (n ≡ i → Q (place xs i) → Q x) → Q (place (set xs n x) i)
 at_each Q [] n i x h put = h
 at_each Q (y ∷ xs) zero zero x h put = put refl h
 at_each Q (y ∷ xs) zero (suc i) x h put = h

@@ -1,5 +1,6 @@
 -- What each way of taking a number hands on: the description that it led to.
-use Rattle.std.proofs.Common.{◌≡◌, ◌≢◌, ℕ, zero, suc, ◌<◌, true, List, [], length, take, Option, Some, None, refl, ap, sym, ◌∙◌, subst, ⊎_elim, arith, slice_get}
+use Rattle.std.proofs.Common.{◌≡◌, ◌≢◌, ℕ, zero, suc, ◌<◌, true, List, [], length, take, Option, Some, None, refl, ap, sym, ◌∙◌, subst}
+use Rattle.std.proofs.Common.{⊎_elim, arith, slice_get}
 use Rattle.std.proofs.lemmas.Bool.{false≢true}
 use Rattle.ux_model.specs.Types.{Fd, MsgFlags, Request, Reply, Entry, How, Link}
 use Rattle.ux_model.specs.Message.{Message}
@@ -11,7 +12,8 @@ use Rattle.ux_model.specs.Receiving.{recv_msg}
 use Rattle.ux_model.specs.Delivered.{brought, delivered_by}
 use Rattle.ux_model.specs.Step.{Step, outcome}
 use Rattle.ux_model.specs.History.{replay, makes, IsLegal}
-use Rattle.ux_model.specs.Giving.{held_at, description_in, description_of, given, gives, how_received, how_of, copied, sent_by, IsReceive, receive}
+use Rattle.ux_model.specs.Giving.{held_at, description_in, description_of, given, gives, how_received, how_of, copied, sent_by, IsReceive}
+use Rattle.ux_model.specs.Giving.{receive}
 use Rattle.ux_model.specs.Changes.{as_list, sources}
 use Rattle.ux_model.specs.Pedigree.{before, delivered, IsGiven, IsFrom}
 use Rattle.ux_model.specs.PedigreeLaws.{LeadsTo}
@@ -54,27 +56,35 @@ made_by_fork q request reply h = absurd (false≢true h)
 -- ---- what it gives
 
 -- the number leads to the description that the call has for it
-pub given_there : (boot : State) (es : List Entry) (j i n : ℕ) (e : Entry) → Moment boot es j e → slice_get (given (before boot es j) e.pid.0 e.request e.reply) i ≡ Some n →
-    (d : ℕ) × (slice_get (sources (before boot es j) e.pid.0 e.request) i ≡ Some d) × (description_of (before boot es (suc j)) e.pid.0 n ≡ Some d)
+pub given_there : (boot : State) (es : List Entry) (j i n : ℕ) (e : Entry) → Moment boot es j e →
+    slice_get (given (before boot es j) e.pid.0 e.request e.reply) i ≡ Some n →
+    (d : ℕ) × (slice_get (sources (before boot es j) e.pid.0 e.request) i ≡ Some d)
+    × (description_of (before boot es (suc j)) e.pid.0 n ≡ Some d)
 given_there boot es j i n e m h = let w = m.changes.new i n h in (w.0, w.1, ap description_in w.2)
 
 -- what no fork gave, the process was given itself
 abbrev pub IsOwn : State → List Entry → ℕ → Entry → ℕ → ℕ → Type 0
 IsOwn boot es j e q n = (e.pid.0 ≡ q) × ((i : ℕ) × (slice_get (given (before boot es j) e.pid.0 e.request e.reply) i ≡ Some n))
 
-pub own_number : (boot : State) (es : List Entry) (j q n : ℕ) (e : Entry) → gives (before boot es j) e q n ≡ true → e.request ≢ Request.Fork → IsOwn boot es j e q n
+pub own_number : (boot : State) (es : List Entry) (j q n : ℕ) (e : Entry) → gives (before boot es j) e q n ≡ true →
+    e.request ≢ Request.Fork → IsOwn boot es j e q n
 own_number boot es j q n e gave no_fork = ⊎_elim {C = IsOwn boot es j e q n}
-    (λ c. absurd (no_fork (made_by_fork q e.request e.reply c))) (λ w. (w.0, member_place (given (before boot es j) e.pid.0 e.request e.reply) n w.1)) (given_cases (before boot es j) e q n gave)
+    (λ c. absurd (no_fork (made_by_fork q e.request e.reply c)))
+    (λ w. (w.0, member_place (given (before boot es j) e.pid.0 e.request e.reply) n w.1)) (given_cases (before boot es j) e q n gave)
 
 one_source : (o : Option Descriptor) (i d : ℕ) → slice_get (as_list (description_in o)) i ≡ Some d → description_in o ≡ Some d
 one_source None i d g = absurd (cc g)
 one_source (Some x) zero d g = g
 one_source (Some x) (suc i) d g = absurd (cc g)
 
-copied_source : (S : State) (p k i d : ℕ) (request : Request) → copied request ≡ Some k → slice_get (sources S p request) i ≡ Some d → description_of S p k ≡ Some d
-copied_source S p k i d (Request.Dup fd) h g = let same : fd.0 ≡ k = cc h in subst (λ (n : ℕ). description_of S p n ≡ Some d) same (one_source (held_at S p fd.0) i d g)
-copied_source S p k i d (Request.Dup2 fd to) h g = let same : fd.0 ≡ k = cc h in subst (λ (n : ℕ). description_of S p n ≡ Some d) same (one_source (held_at S p fd.0) i d g)
-copied_source S p k i d (Request.DupFrom fd minimum) h g = let same : fd.0 ≡ k = cc h in subst (λ (n : ℕ). description_of S p n ≡ Some d) same (one_source (held_at S p fd.0) i d g)
+copied_source : (S : State) (p k i d : ℕ) (request : Request) → copied request ≡ Some k → slice_get (sources S p request) i ≡ Some d →
+    description_of S p k ≡ Some d
+copied_source S p k i d (Request.Dup fd) h g = let same : fd.0 ≡ k = cc h in
+    subst (λ (n : ℕ). description_of S p n ≡ Some d) same (one_source (held_at S p fd.0) i d g)
+copied_source S p k i d (Request.Dup2 fd to) h g = let same : fd.0 ≡ k = cc h in
+    subst (λ (n : ℕ). description_of S p n ≡ Some d) same (one_source (held_at S p fd.0) i d g)
+copied_source S p k i d (Request.DupFrom fd minimum) h g = let same : fd.0 ≡ k = cc h in
+    subst (λ (n : ℕ). description_of S p n ≡ Some d) same (one_source (held_at S p fd.0) i d g)
 copied_source S p k i d _ h g = absurd (cc h)
 
 -- ---- the message of a receive
@@ -91,7 +101,8 @@ pub record IsDelivered (boot : State) (es : List Entry) (j : ℕ) (e : Entry) (t
       (k : ℕ) × (d : ℕ) × (slice_get (sent_by sending.request) i ≡ Some k) × (description_of (before boot es tag) sending.pid.0 k ≡ Some d)
       × (description_of (before boot es (suc j)) e.pid.0 n ≡ Some d)
 
-delivered_from : (boot : State) (es : List Entry) (j : ℕ) (e : Entry) (m : Message) → IsLegal boot es → slice_get es j ≡ Some e → Waits (before boot es j) m →
+delivered_from : (boot : State) (es : List Entry) (j : ℕ) (e : Entry) (m : Message) → IsLegal boot es → slice_get es j ≡ Some e →
+    Waits (before boot es j) m →
     sources (before boot es j) e.pid.0 e.request ≡ m.rights → 0 < length m.rights → IsDelivered boot es j e m.tag
 delivered_from boot es j e m legal at waits rights rich =
     let s = waiting_was_sent boot (take j es) m (front_is_legal boot es j legal) rich waits in
@@ -100,7 +111,8 @@ delivered_from boot es j e m legal at waits rights rich =
     let count : length (take j es) ≡ j = length_front es j (omega (arith, below)) in
     let within : m.tag < j = omega (arith, early, count) in
     let behind : descriptions_behind (table_of (before boot es m.tag) s.sending.pid.0) (sent_by s.sending.request) ≡ Some m.rights =
-    sym (ap (λ (l : List Entry). descriptions_behind (table_of (replay boot l) s.sending.pid.0) (sent_by s.sending.request)) (take_within es j m.tag (omega (arith, within)))) ∙ s.rights in
+    sym (ap (λ (l : List Entry). descriptions_behind (table_of (replay boot l) s.sending.pid.0) (sent_by s.sending.request))
+    (take_within es j m.tag (omega (arith, within)))) ∙ s.rights in
     record {
       sending = s.sending;
       there = (in_front es j m.tag s.sending s.there).0;
@@ -112,13 +124,15 @@ delivered_from boot es j e m legal at waits rights rich =
           (f.0, w.0, f.1, f.2, w.2);
     }
 
-pub receive_chosen : (S T : State) (p tag n space : ℕ) (fd : Fd) (flags : MsgFlags) (reply : Reply) (gone : List ℕ) → Step S p tag (Request.RecvMsg fd n space flags) reply gone T →
+pub receive_chosen : (S T : State) (p tag n space : ℕ) (fd : Fd) (flags : MsgFlags) (reply : Reply) (gone : List ℕ) →
+    Step S p tag (Request.RecvMsg fd n space flags) reply gone T →
     (U : State) × Chosen S (recv_msg S p fd n space flags) reply U
 unfolding Step outcome
 receive_chosen S T p tag n space fd flags reply gone s = (s.0, s.1)
 
 -- and its entry has the tag of their message
-pub receive_delivered : (boot : State) (es : List Entry) (j i n : ℕ) (e : Entry) → IsLegal boot es → slice_get es j ≡ Some e → IsReceive e.request → slice_get (given_at boot es j e) i ≡ Some n →
+pub receive_delivered : (boot : State) (es : List Entry) (j i n : ℕ) (e : Entry) → IsLegal boot es → slice_get es j ≡ Some e →
+    IsReceive e.request → slice_get (given_at boot es j e) i ≡ Some n →
     (tag : ℕ) × (delivered (before boot es j) e ≡ Some tag) × IsDelivered boot es j e tag
 receive_delivered boot es j i n e legal at is h = go e.request is refl
   where
@@ -130,10 +144,13 @@ receive_delivered boot es j i n e legal at is h = go e.request is refl
         let S : State = before boot es j in
         let request : Request = Request.RecvMsg fd k space flags in
         let w = given_there boot es j i n e m h in
-        let source : slice_get (brought S e.pid.0 request).rights i ≡ Some w.0 = sym (ap (λ (x : Request). slice_get (sources S e.pid.0 x) i) same) ∙ w.1 in
+        let source : slice_get (brought S e.pid.0 request).rights i ≡ Some w.0 =
+        sym (ap (λ (x : Request). slice_get (sources S e.pid.0 x) i) same) ∙ w.1 in
         let some = get_below (brought S e.pid.0 request).rights i w.0 source in
-        let gave : slice_get (given S e.pid.0 request e.reply) i ≡ Some n = sym (ap (λ (x : Request). slice_get (given S e.pid.0 x e.reply) i) same) ∙ h in
-        let step : Step S e.pid.0 j request e.reply e.released (before boot es (suc j)) = subst (λ (x : Request). Step S e.pid.0 j x e.reply e.released (before boot es (suc j))) same m.steps in
+        let gave : slice_get (given S e.pid.0 request e.reply) i ≡ Some n =
+        sym (ap (λ (x : Request). slice_get (given S e.pid.0 x e.reply) i) same) ∙ h in
+        let step : Step S e.pid.0 j request e.reply e.released (before boot es (suc j)) =
+        subst (λ (x : Request). Step S e.pid.0 j x e.reply e.released (before boot es (suc j))) same m.steps in
         let chosen = receive_chosen S (before boot es (suc j)) e.pid.0 j k space fd flags e.reply e.released step in
         let r = received S chosen.0 e.pid.0 k space i n fd flags e.reply chosen.1 gave (omega (arith, some)) in
         let long : length (brought S e.pid.0 request).rights ≡ length r.0.rights = ap (λ (l : List ℕ). length l) r.2 in (
@@ -143,7 +160,8 @@ receive_delivered boot es j i n e legal at is h = go e.request is refl
         )
 
 pub delivered_of : (boot : State) (es : List Entry) (j tag i n : ℕ) (e : Entry) → IsLegal boot es → slice_get es j ≡ Some e →
-    how_of e.request (delivered (before boot es j) e) ≡ Some (How.Received tag) → slice_get (given_at boot es j e) i ≡ Some n → IsDelivered boot es j e tag
+    how_of e.request (delivered (before boot es j) e) ≡ Some (How.Received tag) → slice_get (given_at boot es j e) i ≡ Some n →
+    IsDelivered boot es j e tag
 delivered_of boot es j tag i n e legal at way h =
     let r = how_receives e.request (delivered (before boot es j) e) tag way in
     let d = receive_delivered boot es j i n e legal at r.0 h in
@@ -152,14 +170,16 @@ delivered_of boot es j tag i n e legal at way h =
 
 -- ---- links
 
-no_fork_link : (boot : State) (es : List Entry) (b : Link) (e : Entry) (how : How) → IsGiven boot es b e → b.how ≡ how → (how ≢ How.Forked) → e.request ≢ Request.Fork
+no_fork_link : (boot : State) (es : List Entry) (b : Link) (e : Entry) (how : How) → IsGiven boot es b e → b.how ≡ how →
+    (how ≢ How.Forked) → e.request ≢ Request.Fork
 no_fork_link boot es b e how g same other f =
     let clash : Some How.Forked ≡ Some how = sym (how_fork e.request (delivered (before boot es b.entry) e) f) ∙ g.way ∙ ap Some same in
     let ways : How.Forked ≡ how = cc clash in
     other (sym ways)
 
 -- the first holding leads to a description
-pub made_leads : (boot : State) (es : List Entry) (b : Link) (e : Entry) → IsLegal boot es → IsGiven boot es b e → b.how ≡ How.Made → (d : ℕ) × LeadsTo boot es d b
+pub made_leads : (boot : State) (es : List Entry) (b : Link) (e : Entry) → IsLegal boot es → IsGiven boot es b e → b.how ≡ How.Made →
+    (d : ℕ) × LeadsTo boot es d b
 made_leads boot es b e legal g made =
     let m = moment boot es b.entry e legal g.there in
     let own = own_number boot es b.entry b.pid.0 b.fd.0 e g.gave (no_fork_link boot es b e How.Made g made (λ h. cc h)) in
@@ -167,7 +187,8 @@ made_leads boot es b e legal g made =
     (w.0, subst (λ (p : ℕ). description_of (before boot es (suc b.entry)) p b.fd.0 ≡ Some w.0) own.0 w.2)
 
 -- each further one leads to what the holding before led to, when that was given
-pub passed_same : (boot : State) (es : List Entry) (how : How) (a b : Link) (e : Entry) (giving : ℕ) → IsLegal boot es → IsGiven boot es b e → b.how ≡ how → IsFrom boot es how a b e giving →
+pub passed_same : (boot : State) (es : List Entry) (how : How) (a b : Link) (e : Entry) (giving : ℕ) → IsLegal boot es →
+    IsGiven boot es b e → b.how ≡ how → IsFrom boot es how a b e giving →
     description_of (before boot es giving) a.pid.0 a.fd.0 ≡ description_of (before boot es (suc b.entry)) b.pid.0 b.fd.0
 passed_same boot es How.Made a b e giving legal g same from = absurd from
 passed_same boot es How.Dup a b e giving legal g same from =
@@ -208,14 +229,16 @@ passed_same boot es How.Forked a b e giving legal g same from =
     (λ w.
     let i = member_place (given_at boot es b.entry e) b.fd.0 w.1 in
     let s = given_there boot es b.entry i.0 b.fd.0 e m i.1 in
-    let none : slice_get [] i.0 ≡ Some s.0 = sym (ap (λ (r : Request). slice_get (sources (before boot es b.entry) e.pid.0 r) i.0) fork) ∙ s.1 in
+    let none : slice_get [] i.0 ≡ Some s.0 = sym (ap (λ (r : Request). slice_get (sources (before boot es b.entry) e.pid.0 r) i.0) fork)
+    ∙ s.1 in
     absurd (cc none))
     (given_cases (before boot es b.entry) e b.pid.0 b.fd.0 g.gave)
 
 -- ---- who gives
 
 -- a call that has no description for a number gives none
-pub gives_nothing : (boot : State) (es : List Entry) (j q n : ℕ) (e : Entry) → Moment boot es j e → e.request ≢ Request.Fork → sources (before boot es j) e.pid.0 e.request ≡ [] →
+pub gives_nothing : (boot : State) (es : List Entry) (j q n : ℕ) (e : Entry) → Moment boot es j e → e.request ≢ Request.Fork →
+    sources (before boot es j) e.pid.0 e.request ≡ [] →
     gives (before boot es j) e q n ≡ true → ⊥
 gives_nothing boot es j q n e m no_fork none gave =
     let own = own_number boot es j q n e gave no_fork in

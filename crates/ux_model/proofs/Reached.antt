@@ -26,7 +26,8 @@ some_reached : (n : ℕ) (m : Message) (ms : List Message) → AreReached (suc n
 some_reached n m ms r = let last = r.end (omega arith) in omega (arith, last)
 
 -- of the others those are reached that were
-others_reached : (n c : ℕ) (m : Message) (ms : List Message) → AreReached (suc n) (m ∷ ms) (suc c) → AreReached (suc n - length m.bytes) ms c
+others_reached : (n c : ℕ) (m : Message) (ms : List Message) → AreReached (suc n) (m ∷ ms) (suc c) →
+    AreReached (suc n - length m.bytes) ms c
 others_reached n c m ms r = record {
   there = let most = r.there in omega (arith, most);
   begin = λ i low. let begins = r.begin (suc i) (omega (arith, low)) in let all = more m (take i ms) in omega (arith, begins, all);
@@ -37,7 +38,8 @@ pub rights_are_of_reached : RightsAreOfReached
 rights_are_of_reached zero count ms r = sym (ap (λ k. flat_map (λ m. Message.rights m) (take k ms)) (none_reached count ms r))
 rights_are_of_reached (suc n) count [] r = sym (ap (λ k. flat_map (λ m. Message.rights m) (take k [])) (empty_reached (suc n) count r))
 rights_are_of_reached (suc n) zero (m ∷ ms) r = absurd (some_reached n m ms r)
-rights_are_of_reached (suc n) (suc c) (m ∷ ms) r = ap (λ xs. m.rights ++ xs) (rights_are_of_reached (suc n - length m.bytes) c ms (others_reached n c m ms r))
+rights_are_of_reached (suc n) (suc c) (m ∷ ms) r =
+    ap (λ xs. m.rights ++ xs) (rights_are_of_reached (suc n - length m.bytes) c ms (others_reached n c m ms r))
 
 -- ---- origins
 
@@ -60,7 +62,8 @@ pub origin_is_of_reached : OriginIsOfReached
 origin_is_of_reached zero count ms r = nobody (take count ms) (ap (λ k. take k ms) (none_reached count ms r))
 origin_is_of_reached (suc n) count [] r = nobody (take count []) (ap (λ k. take k []) (empty_reached (suc n) count r))
 origin_is_of_reached (suc n) zero (m ∷ ms) r = absurd (some_reached n m ms r)
-origin_is_of_reached (suc n) (suc c) (m ∷ ms) r = go (origin_is_of_reached (suc n - length m.bytes) c ms (others_reached n c m ms r)) (length m.rights == 0) refl
+origin_is_of_reached (suc n) (suc c) (m ∷ ms) r =
+    go (origin_is_of_reached (suc n - length m.bytes) c ms (others_reached n c m ms r)) (length m.rights == 0) refl
   where
     rich : Origin
     rich = record { tag = m.tag; uid = m.uid }
@@ -81,9 +84,11 @@ rest_is_of_reached zero count ms r = still ms count (none_reached count ms r)
     still [] k none = record { whole = λ all. sym (ap (λ i. drop i []) none); cut = λ i m is h few. absurd (cc (sym is ∙ none)) }
     still (m ∷ q) k none = record { whole = λ all. sym (ap (λ i. drop i (m ∷ q)) none); cut = λ i x is h few. absurd (cc (sym is ∙ none)) }
 rest_is_of_reached (suc n) count [] r =
-    record { whole = λ all. sym (ap (λ i. drop i []) (empty_reached (suc n) count r)); cut = λ i m is h few. absurd (cc (sym is ∙ empty_reached (suc n) count r)) }
+    record { whole = λ all. sym (ap (λ i. drop i []) (empty_reached (suc n) count r)); cut =
+    λ i m is h few. absurd (cc (sym is ∙ empty_reached (suc n) count r)) }
 rest_is_of_reached (suc n) zero (m ∷ ms) r = absurd (some_reached n m ms r)
-rest_is_of_reached (suc n) (suc c) (m ∷ ms) r = go (rest_is_of_reached left c ms (others_reached n c m ms r)) (nat_le (length m.bytes) (suc n)) refl
+rest_is_of_reached (suc n) (suc c) (m ∷ ms) r =
+    go (rest_is_of_reached left c ms (others_reached n c m ms r)) (nat_le (length m.bytes) (suc n)) refl
   where
     left : ℕ
     left = suc n - length m.bytes
@@ -97,27 +102,32 @@ rest_is_of_reached (suc n) (suc c) (m ∷ ms) r = go (rest_is_of_reached left c 
     front : (i : ℕ) → suc n - queued_bytes (m ∷ take i ms) ≡ left - queued_bytes (take i ms)
     front i = let before = more m (take i ms) in omega (arith, before)
 
-    cut_later : IsRest left c ms (without_first left ms) → length m.bytes ≤ suc n → (i : ℕ) (x : Message) → suc c ≡ suc i → slice_get (m ∷ ms) i ≡ Some x → suc n < queued_bytes (m ∷ take c ms) →
+    cut_later : IsRest left c ms (without_first left ms) → length m.bytes ≤ suc n → (i : ℕ) (x : Message) → suc c ≡ suc i →
+        slice_get (m ∷ ms) i ≡ Some x → suc n < queued_bytes (m ∷ take c ms) →
         without_first left ms ≡ record x { bytes = drop (suc n - queued_bytes (take i (m ∷ ms))) x.bytes; rights = [] } ∷ drop c ms
     cut_later rest fits zero x is h few =
         let none : c ≡ 0 = omega (arith, is) in
         let first : queued_bytes (take c ms) ≡ 0 = ap (λ k. queued_bytes (take k ms)) none in
         absurd (omega (arith, few, all, first, fits))
     cut_later rest fits (suc j) x is h few =
-        rest.cut j x (omega (arith, is)) h (omega (arith, few, all, fits)) ∙ ap (λ k. record x { bytes = drop k x.bytes; rights = [] } ∷ drop c ms) (sym (front j))
+        rest.cut j x (omega (arith, is)) h (omega (arith, few, all, fits))
+        ∙ ap (λ k. record x { bytes = drop k x.bytes; rights = [] } ∷ drop c ms) (sym (front j))
 
     cut_here : suc n < length m.bytes → (i : ℕ) (x : Message) → suc c ≡ suc i → slice_get (m ∷ ms) i ≡ Some x →
         short ∷ ms ≡ record x { bytes = drop (suc n - queued_bytes (take i (m ∷ ms))) x.bytes; rights = [] } ∷ drop c ms
     cut_here long i x is h =
         let no_bytes : left ≡ 0 = omega (arith, long) in
         let none : c ≡ 0 = none_reached c ms (subst (λ (k : ℕ). AreReached k ms c) no_bytes (others_reached n c m ms r)) in
-        first i (omega (arith, is, none)) h ∙ ap (λ k. record x { bytes = drop (suc n - queued_bytes (take i (m ∷ ms))) x.bytes; rights = [] } ∷ drop k ms) (sym none)
+        first i (omega (arith, is, none)) h ∙ ap
+        (λ k. record x { bytes = drop (suc n - queued_bytes (take i (m ∷ ms))) x.bytes; rights = [] } ∷ drop k ms) (sym none)
       where
-        first : (k : ℕ) → k ≡ 0 → slice_get (m ∷ ms) k ≡ Some x → short ∷ ms ≡ record x { bytes = drop (suc n - queued_bytes (take k (m ∷ ms))) x.bytes; rights = [] } ∷ ms
+        first : (k : ℕ) → k ≡ 0 → slice_get (m ∷ ms) k ≡ Some x →
+            short ∷ ms ≡ record x { bytes = drop (suc n - queued_bytes (take k (m ∷ ms))) x.bytes; rights = [] } ∷ ms
         first zero at h =
             let same : m ≡ x = cc h in
             let none : suc n ≡ suc n - 0 = omega arith in
-            ap (λ (y : Message). record y { bytes = drop (suc n) y.bytes; rights = [] } ∷ ms) same ∙ ap (λ k. record x { bytes = drop k x.bytes; rights = [] } ∷ ms) none
+            ap (λ (y : Message). record y { bytes = drop (suc n) y.bytes; rights = [] } ∷ ms) same
+            ∙ ap (λ k. record x { bytes = drop k x.bytes; rights = [] } ∷ ms) none
         first (suc k) at h = absurd (omega (arith, at))
 
     go : IsRest left c ms (without_first left ms) → (b : Bool) → nat_le (length m.bytes) (suc n) ≡ b →

@@ -3,8 +3,10 @@ use Rattle.std.proofs.Common.{◌≡◌, refl, sym, subst}
 use Rattle.ux_model.specs.State.{State}
 use Rattle.ux_model.specs.Peers.{Paired}
 use Rattle.ux_model.proofs.Sound.{IsHeld, IsSound}
-use Rattle.ux_model.proofs.Reaching.{May, Reaches, still, process_changed, process_forked, description_made, peers_made, connection_made, description_changed, object_changed, paths_taken, path_bound, name_bound, turned_off}
-use Rattle.ux_model.proofs.KeptSound.{process_held, child_held, made_sound, peers_sound, place_sound, object_held, paths_held, path_held, name_held, off_sound}
+use Rattle.ux_model.proofs.Reaching.{May, Reaches, still, process_changed, process_forked, description_made, peers_made, connection_made}
+use Rattle.ux_model.proofs.Reaching.{description_changed, object_changed, paths_taken, path_bound, name_bound, turned_off}
+use Rattle.ux_model.proofs.KeptSound.{process_held, child_held, made_sound, peers_sound, place_sound, object_held, paths_held, path_held}
+use Rattle.ux_model.proofs.KeptSound.{name_held, off_sound}
 use Rattle.ux_model.proofs.ConnectedSound.{connection_sound}
 
 -- a change that leaves the descriptions as they are
@@ -17,7 +19,8 @@ reached_sound S may T sound (process_changed {T = U} i P Q r h names kept same) 
     let before = reached_sound S may U sound r in same_peers U _ before (process_held U i P Q before.held h (names sound)) refl
 reached_sound S may T sound (process_forked {T = U} i P r h makes) =
     let before = reached_sound S may U sound r in same_peers U _ before (child_held U i P before.held h) refl
-reached_sound S may T sound (description_made {T = U} D r leads nothing bounds) = made_sound U D (reached_sound S may U sound r) (leads sound) nothing
+reached_sound S may T sound (description_made {T = U} D r leads nothing bounds) =
+    made_sound U D (reached_sound S may U sound r) (leads sound) nothing
 reached_sound S may T sound (peers_made {T = U} D E r peers) = peers_sound U D E (reached_sound S may U sound r) peers
 reached_sound S may T sound (connection_made {T = U} d l cred listener_cred s listener r client free there) =
     connection_sound U d l cred listener_cred s listener (reached_sound S may U sound r) client free there

@@ -1,7 +1,8 @@
 -- What a call may do to a state, part by part: each call's next state comes of its first by such changes. What each of these changes
 -- keeps, every call keeps. A call that changes what none of these do brings a further one, which owes a line of `exits_kept` (Living), of
 -- `reached_sound` (ReachedSound), of `reached_there` (Closed), of `reached_within` (FlightLaws) and of `reached_bounded` (StaysBounded).
-use Rattle.std.proofs.Common.{◌≡◌, ℕ, zero, suc, ◌+◌, ◌≤◌, ◌<◌, ◌==◌, Bool, true, false, cond, if◌then◌else◌, List, [], ◌∷◌, ◌++◌, length, map, set, Option, Some, None, refl, ap, sym, subst, ◌∙◌, arith}
+use Rattle.std.proofs.Common.{◌≡◌, ℕ, zero, suc, ◌+◌, ◌≤◌, ◌<◌, ◌==◌, Bool, true, false, cond, if◌then◌else◌, List, [], ◌∷◌, ◌++◌, length}
+use Rattle.std.proofs.Common.{map, set, Option, Some, None, refl, ap, sym, subst, ◌∙◌, arith}
 use Rattle.std.specs.Prelude.{is_some, filter, option_map}
 use Rattle.std.specs.List.{slice_get}
 use Rattle.std.proofs.lemmas.Bool.{eqb-true}
@@ -15,8 +16,10 @@ use Rattle.ux_model.specs.Message.{Message}
 use Rattle.ux_model.specs.Socket.{Socket, peer_of}
 use Rattle.ux_model.specs.Description.{Description, Target, to_object, to_socket, socket_of, socket_in, changed, changed_target}
 use Rattle.ux_model.specs.Process.{Process, Descriptor, kept_on_exec}
-use Rattle.ux_model.specs.State.{State, description_at, socket_at, process_at, table_of, with_object, with_description, with_socket_by, with_process, with_table, with_child, with_new}
-use Rattle.ux_model.specs.References.{names_description, table_refs, queue_refs, socket_refs, target_refs, description_refs, leads_to, is_open_of, orefs}
+use Rattle.ux_model.specs.State.{State, description_at, socket_at, process_at, table_of, with_object, with_description, with_socket_by}
+use Rattle.ux_model.specs.State.{with_process, with_table, with_child, with_new}
+use Rattle.ux_model.specs.References.{names_description, table_refs, queue_refs, socket_refs, target_refs, description_refs, leads_to}
+use Rattle.ux_model.specs.References.{is_open_of, orefs}
 use Rattle.ux_model.specs.Peers.{target_peer, peer_in, at_target, at_socket, HoldsNothing}
 use Rattle.ux_model.specs.Flight.{rights_sent_by, flying_at, flying_in, in_flight}
 use Rattle.ux_model.specs.FlightLaws.{AreLimited}
@@ -90,23 +93,32 @@ pub record ArePeers (d : ℕ) (D E : Description) : Type 0 where
 pub data Reaches (S : State) (may : May) : State → Type 0 where
   still : Reaches S may S
   -- a process changes, and its table names what is there
-  process_changed : {T : State} (i : ℕ) (P Q : Process) → Reaches S may T → slice_get T.processes i ≡ Some P → (IsSound S → NamesWhatIsThere T P.table Q.table) →
-      (may.lives ≡ false → Q.exited ≡ P.exited) → (may.users ≡ false → IsOfSameUser P Q) → Reaches S may (record T { processes = set T.processes i Q })
+  process_changed : {T : State} (i : ℕ) (P Q : Process) → Reaches S may T → slice_get T.processes i ≡ Some P →
+      (IsSound S → NamesWhatIsThere T P.table Q.table) →
+      (may.lives ≡ false → Q.exited ≡ P.exited) → (may.users ≡ false → IsOfSameUser P Q) →
+      Reaches S may (record T { processes = set T.processes i Q })
   -- a copy of a process comes to be
-  process_forked : {T : State} (i : ℕ) (P : Process) → Reaches S may T → slice_get T.processes i ≡ Some P → may.lives ≡ true → Reaches S may (with_child T (child_of P))
+  process_forked : {T : State} (i : ℕ) (P : Process) → Reaches S may T → slice_get T.processes i ≡ Some P → may.lives ≡ true →
+      Reaches S may (with_child T (child_of P))
   -- a new description refers to nothing, and leads to a file object that something leads to already, or to a socket without a peer
-  description_made : {T : State} (D : Description) → Reaches S may T → (IsSound S → (o : ℕ) → leads_to o D.target ≡ true → 0 < orefs T o) → HoldsNothing D → IsBoundedTarget D.target →
+  description_made : {T : State} (D : Description) → Reaches S may T → (IsSound S → (o : ℕ) → leads_to o D.target ≡ true → 0 < orefs T o) →
+      HoldsNothing D → IsBoundedTarget D.target →
       Reaches S may (with_new T D)
   -- two sockets that are connected to one another
-  peers_made : {T : State} (D E : Description) → Reaches S may T → ArePeers (length T.descriptions) D E → Reaches S may (with_new (with_new T D) E)
+  peers_made : {T : State} (D E : Description) → Reaches S may T → ArePeers (length T.descriptions) D E →
+      Reaches S may (with_new (with_new T D) E)
   -- a socket without a peer is connected to a new end, which waits at another
-  connection_made : {T : State} (d l : ℕ) (cred listener_cred : Cred) (s listener : Socket) → Reaches S may T → socket_at T d ≡ Some s → peer_of s.phase ≡ None →
-      socket_at T l ≡ Some listener → Reaches S may (with_connection T (record { client = d; client_cred = cred; listener = l; socket = listener; listener_cred = listener_cred }))
+  connection_made : {T : State} (d l : ℕ) (cred listener_cred : Cred) (s listener : Socket) → Reaches S may T → socket_at T d ≡ Some s →
+      peer_of s.phase ≡ None →
+      socket_at T l ≡ Some listener → Reaches S may
+      (with_connection T (record { client = d; client_cred = cred; listener = l; socket = listener; listener_cred = listener_cred }))
   -- what stands in one place changes
-  description_changed : {T : State} (d : ℕ) (x : Option Description) → Reaches S may T → (IsSound S → KeepsPlace T d (description_at T d) x) →
+  description_changed : {T : State} (d : ℕ) (x : Option Description) → Reaches S may T →
+      (IsSound S → KeepsPlace T d (description_at T d) x) →
       Reaches S may (record T { descriptions = set T.descriptions d x })
   -- a file object that is there changes, and stays open
-  object_changed : {T : State} (o : ℕ) (old new : View) → Reaches S may T → place T.objects o ≡ Some old → new.opened ≡ old.opened → Reaches S may (with_object T o new)
+  object_changed : {T : State} (o : ℕ) (old new : View) → Reaches S may T → place T.objects o ≡ Some old → new.opened ≡ old.opened →
+      Reaches S may (with_object T o new)
   -- paths are taken away
   paths_taken : {T : State} (keep : Name × PathTarget → Bool) → Reaches S may T → Reaches S may (record T { paths = filter keep T.paths })
   -- a path leads to a socket
@@ -116,7 +128,8 @@ pub data Reaches (S : State) (may : May) : State → Type 0 where
       Reaches S may (record T { abstract_names = T.abstract_names ++ (name, d) ∷ [] })
   -- everything goes but the file objects
   turned_off : {T : State} → Reaches S may T →
-      Reaches S may (record T { descriptions = map (λ D. None) T.descriptions; processes = map with_nothing_open T.processes; paths = []; abstract_names = [] })
+      Reaches S may (record T { descriptions = map (λ D. None) T.descriptions; processes = map with_nothing_open T.processes; paths =
+      []; abstract_names = [] })
 
 -- ---- tables
 
@@ -124,7 +137,8 @@ pub data Reaches (S : State) (may : May) : State → Type 0 where
 abbrev one : ℕ → Option Descriptor → ℕ
 one d e = cond (names_description d e) 1 0
 
-filled_counts : (d : ℕ) (table : List (Option Descriptor)) (n : ℕ) (e : Descriptor) → table_refs d (filled table n e) ≤ table_refs d table + one d (Some e)
+filled_counts : (d : ℕ) (table : List (Option Descriptor)) (n : ℕ) (e : Descriptor) →
+    table_refs d (filled table n e) ≤ table_refs d table + one d (Some e)
 filled_counts d [] n e = omega arith
 filled_counts d (x ∷ xs) zero e =
     let new = sum_by-cons (one d) (Some e) xs in
@@ -155,7 +169,8 @@ none_counts d (x ∷ xs) = none_counts d xs
 abbrev IsThere : State → Descriptor → Type 0
 IsThere S e = is_some (description_at S e.description) ≡ true
 
-put_counts : (S : State) (old table : List (Option Descriptor)) (n : ℕ) (e : Descriptor) → IsThere S e → NamesWhatIsThere S old table → (d : ℕ) → is_some (description_at S d) ≡ false →
+put_counts : (S : State) (old table : List (Option Descriptor)) (n : ℕ) (e : Descriptor) → IsThere S e → NamesWhatIsThere S old table →
+    (d : ℕ) → is_some (description_at S d) ≡ false →
     table_refs d (filled table n e) ≤ table_refs d old
 put_counts S old table n e there names d gone = go (e.description == d) refl
   where
@@ -170,14 +185,16 @@ put_counts S old table n e there names d gone = go (e.description == d) refl
         let rest : table_refs d table ≤ table_refs d old = names.counts d gone in
         omega (arith, none, put, rest)
 
-pub put_names : (S : State) (old table : List (Option Descriptor)) (n : ℕ) (e : Descriptor) → IsThere S e → NamesWhatIsThere S old table → NamesWhatIsThere S old (filled table n e)
+pub put_names : (S : State) (old table : List (Option Descriptor)) (n : ℕ) (e : Descriptor) → IsThere S e → NamesWhatIsThere S old table →
+    NamesWhatIsThere S old (filled table n e)
 put_names S old table n e there names = record {
   counts = put_counts S old table n e there names;
   long = let same = length-set table n (Some e) in let before = names.long in omega (arith, same, before);
 }
 
 pub taken_names : (S : State) (table : List (Option Descriptor)) (n : ℕ) → NamesWhatIsThere S table (emptied table n)
-taken_names S table n = record { counts = λ d gone. emptied_counts d table n; long = let same = length-set table n None in omega (arith, same) }
+taken_names S table n = record { counts = λ d gone. emptied_counts d table n; long = let same = length-set table n None in
+    omega (arith, same) }
 
 pub same_names : (S : State) (table : List (Option Descriptor)) → NamesWhatIsThere S table table
 same_names S table = record { counts = λ d gone. omega arith; long = omega arith }
@@ -201,7 +218,8 @@ kept_counts d (x ∷ xs) =
     omega (arith, new, old, first, rest)
 
 pub kept_names : (S : State) (table : List (Option Descriptor)) → NamesWhatIsThere S table (map kept_on_exec table)
-kept_names S table = record { counts = λ d gone. kept_counts d table; long = let same = length-map table kept_on_exec in omega (arith, same) }
+kept_names S table = record { counts = λ d gone. kept_counts d table; long = let same = length-map table kept_on_exec in
+    omega (arith, same) }
 
 -- ---- one description
 
@@ -217,10 +235,12 @@ pub record KeepsTarget (S : State) (n : ℕ) (old new : Target) : Type 0 where
   pub named : (name : Name) → target_name old ≡ Some (Addr.Abstract name) → target_name new ≡ Some (Addr.Abstract name)
 
 pub same_target : (S : State) (n : ℕ) (t : Target) → KeepsTarget S n t t
-same_target S n t = record { leads = λ o. refl; holds = λ d gone. omega arith; peer = refl; pending = λ d. omega arith; waits = λ h. omega arith; flies = λ u limit are within. omega (arith, within); bounds = λ all own. own; named = λ name h. h }
+same_target S n t = record { leads = λ o. refl; holds = λ d gone. omega arith; peer = refl; pending = λ d. omega arith; waits =
+    λ h. omega arith; flies = λ u limit are within. omega (arith, within); bounds = λ all own. own; named = λ name h. h }
 
 pub kept_place : (S : State) (n : ℕ) (D E : Description) → KeepsTarget S n D.target E.target → KeepsPlace S n (Some D) (Some E)
-kept_place S n D E k = record { references = record { held = refl; leads = k.leads; holds = k.holds; named = k.named }; peer = k.peer; pending = k.pending; waits = k.waits; flies = k.flies; bounds = k.bounds }
+kept_place S n D E k = record { references = record { held = refl; leads = k.leads; holds = k.holds; named = k.named }; peer =
+    k.peer; pending = k.pending; waits = k.waits; flies = k.flies; bounds = k.bounds }
 
 -- the same of a socket
 pub record KeepsSocket (S : State) (n : ℕ) (s t : Socket) : Type 0 where
@@ -246,7 +266,8 @@ kept_socket S n s t k = record {
 
 -- where only the queue and what is pending change, and the queue has no more rights and keeps to its limits
 pub queue_changed : (S : State) (n : ℕ) (s : Socket) (queue : List Message) (reset : Bool) →
-    ((d : ℕ) → is_some (description_at S d) ≡ false → queue_refs d queue ≤ queue_refs d s.queue) → ((u : ℕ) → rights_sent_by u queue ≤ rights_sent_by u s.queue) →
+    ((d : ℕ) → is_some (description_at S d) ≡ false → queue_refs d queue ≤ queue_refs d s.queue) →
+    ((u : ℕ) → rights_sent_by u queue ≤ rights_sent_by u s.queue) →
     (IsBounded s → HasBounds s.kind s.name s.queue_limit queue) → KeepsSocket S n s (record s { queue = queue; reset = reset })
 queue_changed S n s queue reset holds fewer bounds = record {
   holds = λ d gone. let h : queue_refs d queue ≤ queue_refs d s.queue = holds d gone in omega (arith, h);
@@ -264,15 +285,18 @@ pending_changed S n s reset = queue_changed S n s s.queue reset (λ d gone. omeg
 
 -- ---- the changes as calls make them
 
-pub with_table_reached : {S : State} {may : May} (T : State) (p : ℕ) (table : List (Option Descriptor)) → Reaches S may T → (IsSound S → NamesWhatIsThere T (table_of T p) table) →
+pub with_table_reached : {S : State} {may : May} (T : State) (p : ℕ) (table : List (Option Descriptor)) → Reaches S may T →
+    (IsSound S → NamesWhatIsThere T (table_of T p) table) →
     Reaches S may (with_table T p table)
 with_table_reached {S} {may} T zero table r names = r
 with_table_reached {S} {may} T (suc i) table r names = go (slice_get T.processes i) refl names
   where
     go : (o : Option Process) → slice_get T.processes i ≡ o → (IsSound S → NamesWhatIsThere T (table_in o) table) →
-        Reaches S may (elim o as (λ _. State) [ Some P ↦ record T { processes = set T.processes i (record P { table = table }) } | None ↦ T ])
+        Reaches S may (elim o as (λ _. State) [ Some P ↦ record T { processes = set T.processes i (record P { table = table }) } | None ↦ T
+        ])
     go None h names = r
-    go (Some P) h names = process_changed i P (record P { table = table }) r h names (λ k. refl) (λ k. record { user = refl; group = refl; privileged = refl })
+    go (Some P) h names = process_changed i P (record P { table = table }) r h names (λ k. refl)
+        (λ k. record { user = refl; group = refl; privileged = refl })
 
 -- what a call may change
 abbrev pub may_change : Request → May
@@ -281,43 +305,55 @@ may_change Request.Exit = lives_too
 may_change Request.Fork = lives_too
 may_change _ = tables_alone
 
-pub with_child_reached : {S : State} (T : State) (p : ℕ) (P : Process) → Reaches S lives_too T → process_at T p ≡ Some P → Reaches S lives_too (with_child T (child_of P))
+pub with_child_reached : {S : State} (T : State) (p : ℕ) (P : Process) → Reaches S lives_too T → process_at T p ≡ Some P →
+    Reaches S lives_too (with_child T (child_of P))
 with_child_reached T zero P r h = absurd (cc h)
 with_child_reached T (suc i) P r h = process_forked i P r h refl
 
-pub with_process_reached : {S : State} (T : State) (p : ℕ) (P Q : Process) → Reaches S lives_too T → process_at T p ≡ Some P → ((d : ℕ) → table_refs d Q.table ≡ 0) → length Q.table ≡ length P.table →
+pub with_process_reached : {S : State} (T : State) (p : ℕ) (P Q : Process) → Reaches S lives_too T → process_at T p ≡ Some P →
+    ((d : ℕ) → table_refs d Q.table ≡ 0) → length Q.table ≡ length P.table →
     IsOfSameUser P Q → Reaches S lives_too (with_process T p Q)
 with_process_reached T zero P Q r h none long same = absurd (cc h)
 with_process_reached T (suc i) P Q r h none long same =
-    process_changed i P Q r h (λ sound. record { counts = λ d gone. let z = none d in omega (arith, z); long = omega (arith, long) }) (λ e. absurd (cc e)) (λ e. same)
+    process_changed i P Q r h (λ sound. record { counts = λ d gone. let z = none d in omega (arith, z); long = omega (arith, long) })
+    (λ e. absurd (cc e)) (λ e. same)
 
 pub with_ids_reached : {S : State} (T : State) (p uid gid : ℕ) (P : Process) → Reaches S users_too T → process_at T p ≡ Some P →
     Reaches S users_too (with_process T p (with_ids uid gid P))
 with_ids_reached T zero uid gid P r h = absurd (cc h)
-with_ids_reached T (suc i) uid gid P r h = process_changed i P (with_ids uid gid P) r h (λ sound. same_names T P.table) (λ e. refl) (λ e. absurd (cc e))
+with_ids_reached T (suc i) uid gid P r h =
+    process_changed i P (with_ids uid gid P) r h (λ sound. same_names T P.table) (λ e. refl) (λ e. absurd (cc e))
 
-pub with_description_reached : {S : State} {may : May} (T : State) (d : ℕ) (D E : Description) → Reaches S may T → description_at T d ≡ Some D → (IsSound S → KeepsTarget T d D.target E.target) →
+pub with_description_reached : {S : State} {may : May} (T : State) (d : ℕ) (D E : Description) → Reaches S may T →
+    description_at T d ≡ Some D → (IsSound S → KeepsTarget T d D.target E.target) →
     Reaches S may (with_description T d E)
-with_description_reached T d D E r h keeps = description_changed d (Some E) r (λ sound. subst (λ x. KeepsPlace T d x (Some E)) (sym h) (kept_place T d D E (keeps sound)))
+with_description_reached T d D E r h keeps =
+    description_changed d (Some E) r (λ sound. subst (λ x. KeepsPlace T d x (Some E)) (sym h) (kept_place T d D E (keeps sound)))
 
 pub nothing_there : (S : State) (n : ℕ) → KeepsPlace S n None None
-nothing_there S n = record { references = record { held = refl; leads = λ o. refl; holds = λ d gone. omega arith; named = λ name h. h }; peer = refl; pending = λ d. omega arith; waits = λ h. omega arith; flies = λ u limit are within. omega (arith, within); bounds = λ all own. own }
+nothing_there S n = record { references =
+    record { held = refl; leads = λ o. refl; holds = λ d gone. omega arith; named = λ name h. h }; peer = refl; pending =
+    λ d. omega arith; waits = λ h. omega arith; flies = λ u limit are within. omega (arith, within); bounds = λ all own. own }
 
 pub with_socket_reached : {S : State} {may : May} (T : State) (d : ℕ) (change : Socket → Socket) → Reaches S may T →
     (IsSound S → (s : Socket) → socket_at T d ≡ Some s → KeepsSocket T d s (change s)) → Reaches S may (with_socket_by T d change)
-with_socket_reached {S} {may} T d change r keeps = description_changed d (option_map (changed change) (description_at T d)) r (λ sound. at_place (keeps sound) (description_at T d) refl)
+with_socket_reached {S} {may} T d change r keeps =
+    description_changed d (option_map (changed change) (description_at T d)) r (λ sound. at_place (keeps sound) (description_at T d) refl)
   where
-    at_target : ((s : Socket) → socket_at T d ≡ Some s → KeepsSocket T d s (change s)) → (t : Target) → socket_at T d ≡ socket_of t → KeepsTarget T d t (changed_target change t)
+    at_target : ((s : Socket) → socket_at T d ≡ Some s → KeepsSocket T d s (change s)) → (t : Target) → socket_at T d ≡ socket_of t →
+        KeepsTarget T d t (changed_target change t)
     at_target k (to_object o) h = same_target T d (to_object o)
     at_target k (to_socket s) h = kept_socket T d s (change s) (k s h)
 
-    at_place : ((s : Socket) → socket_at T d ≡ Some s → KeepsSocket T d s (change s)) → (x : Option Description) → description_at T d ≡ x → KeepsPlace T d x (option_map (changed change) x)
+    at_place : ((s : Socket) → socket_at T d ≡ Some s → KeepsSocket T d s (change s)) → (x : Option Description) → description_at T d ≡ x →
+        KeepsPlace T d x (option_map (changed change) x)
     at_place k None h = nothing_there T d
     at_place k (Some D) h = kept_place T d D (changed change D) (at_target k D.target (ap socket_in h))
 
 -- ---- places
 
-pub some_filled : {X : Type 0} (xs : List (Option X)) (n i : ℕ) (x : X) → is_some (place xs i) ≡ true → is_some (place (filled xs n x) i) ≡ true
+pub some_filled : {X : Type 0} (xs : List (Option X)) (n i : ℕ) (x : X) → is_some (place xs i) ≡ true →
+    is_some (place (filled xs n x) i) ≡ true
 some_filled [] n i x h = h
 some_filled (y ∷ xs) zero zero x h = refl
 some_filled (y ∷ xs) zero (suc i) x h = h

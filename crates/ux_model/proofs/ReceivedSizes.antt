@@ -1,5 +1,7 @@
--- How large what a receive takes is: the bytes and rights from the front of a queue that keeps to its limits, and the control bytes for them.
-use Rattle.std.proofs.Common.{◌≡◌, ℕ, zero, suc, ◌+◌, ◌-◌, ◌*◌, ◌/◌, ◌≤◌, ◌<◌, ◌==◌, Bool, true, false, if◌then◌else◌, List, [], ◌∷◌, ◌++◌, length, take, min, Option, Some, None, refl, ap, arith}
+-- How large what a receive takes is: the bytes and rights from the front of a queue that keeps to its limits, and the control bytes for
+-- them.
+use Rattle.std.proofs.Common.{◌≡◌, ℕ, zero, suc, ◌+◌, ◌-◌, ◌*◌, ◌/◌, ◌≤◌, ◌<◌, ◌==◌, Bool, true, false, if◌then◌else◌, List, [], ◌∷◌, ◌++◌}
+use Rattle.std.proofs.Common.{length, take, min, Option, Some, None, refl, ap, arith}
 use Rattle.std.specs.Prelude.{nat_lt, nat_le, flat_map}
 use Rattle.std.specs.Int.{w32, to_le_bytes}
 use Rattle.std.proofs.lemmas.Bool.{eqb-true, ltb-false, leb-true, ne_eqb, and_parts}
@@ -60,7 +62,8 @@ few_within (suc n) (m ∷ ms) each = go (length m.rights == 0) refl (few_within 
         let both = length-append m.rights (rights_within left []) in
         omega (arith, few, none, both)
 
-stream_small : (wants : Bool) (n : ℕ) (m : Message) (ms : List Message) → AreBoundedMessages (m ∷ ms) → queued_bytes (m ∷ ms) ≤ greatest_queue_limit → IsSmallFront n (stream_front wants n m ms)
+stream_small : (wants : Bool) (n : ℕ) (m : Message) (ms : List Message) → AreBoundedMessages (m ∷ ms) →
+    queued_bytes (m ∷ ms) ≤ greatest_queue_limit → IsSmallFront n (stream_front wants n m ms)
 stream_small wants n m ms each all =
     let run : List Message = joined_run wants m ms in
     let cut = length-take (min n (queued_bytes run)) (all_bytes run) in
@@ -84,7 +87,8 @@ record_small n m ms each =
     let few = each.0.few_bytes in
     record { few = omega (arith, cut); limited = omega (arith, cut, few); few_rights = each.0.few_rights; short = each.0.short_sender }
 
-pub front_small : (n : ℕ) (s : Socket) (m : Message) (ms : List Message) → HasBounds s.kind s.name s.queue_limit (m ∷ ms) → IsSmallFront n (front_of n s m ms)
+pub front_small : (n : ℕ) (s : Socket) (m : Message) (ms : List Message) → HasBounds s.kind s.name s.queue_limit (m ∷ ms) →
+    IsSmallFront n (front_of n s m ms)
 front_small n s m ms own = go (is_stream s.kind) refl
   where
     go : (b : Bool) → is_stream s.kind ≡ b → IsSmallFront n (if b then stream_front s.passcred n m ms else record_front n m ms)
@@ -112,7 +116,8 @@ room_of_rights space k some fits = go (nat_lt space 20) refl fits
     go false h fits = let long = ltb-false space 20 h in omega (arith, long, fits)
 
 -- where the credentials are reported or not
-control_long : (told : Bool) (cred : Cred) (numbers : List ℕ) (space : ℕ) → (told ≡ true → 28 ≤ space) → length numbers ≤ rights_limit → length numbers ≤ rights_fit (if told then space - 32 else space) →
+control_long : (told : Bool) (cred : Cred) (numbers : List ℕ) (space : ℕ) → (told ≡ true → 28 ≤ space) → length numbers ≤ rights_limit →
+    length numbers ≤ rights_fit (if told then space - 32 else space) →
     length (control_bytes (if told then Some cred else None) numbers) ≤ min control_limit space
 control_long false cred [] space told few fits = omega arith
 control_long true cred [] space told few fits = let room : 28 ≤ space = told refl in omega (arith, room)
@@ -125,11 +130,13 @@ control_long true cred (n ∷ ns) space told few fits =
     let room = room_of_rights (space - 32) (length (n ∷ ns)) (omega arith) fits in
     rw (is_some_list n ns) (omega (arith, long, room, few))
 
-pub control_small : (wanted : Bool) (cred : Cred) (rights : List ℕ) (space : ℕ) (table : List (Option Descriptor)) → length rights ≤ rights_limit →
+pub control_small : (wanted : Bool) (cred : Cred) (rights : List ℕ) (space : ℕ) (table : List (Option Descriptor)) →
+    length rights ≤ rights_limit →
     length (delivery wanted cred rights space table).control ≤ min control_limit space
 unfolding delivery
 control_small wanted cred rights space table few =
     let free : List ℕ = free_numbers table in
     let m : ℕ = install_count (length rights) (space_for_rights wanted space) (length free) in
     let cut = length-take m free in
-    control_long (writes_cred wanted space) cred (take m free) space (λ told. leb-true 28 space (and_parts wanted (nat_le 28 space) told).1) (omega (arith, cut, few)) (omega (arith, cut))
+    control_long (writes_cred wanted space) cred (take m free) space
+    (λ told. leb-true 28 space (and_parts wanted (nat_le 28 space) told).1) (omega (arith, cut, few)) (omega (arith, cut))

@@ -1,5 +1,6 @@
 -- A refusal changes nothing, but for a failure of a file object, a pending error and an association to what is gone.
-use Rattle.std.proofs.Common.{◌≡◌, ◌⊎◌, inl, inr, ℕ, ◌+◌, ◌==◌, false, ◌&&◌, [], ◌∷◌, ◌++◌, length, Option, Some, None, refl, ap, sym, subst, ◌∙◌, arith}
+use Rattle.std.proofs.Common.{◌≡◌, ◌⊎◌, inl, inr, ℕ, ◌+◌, ◌==◌, false, ◌&&◌, [], ◌∷◌, ◌++◌, length, Option, Some, None, refl, ap, sym}
+use Rattle.std.proofs.Common.{subst, ◌∙◌, arith}
 use Rattle.std.specs.Prelude.{is_some, option_map}
 use Rattle.ux_model.specs.Types.{Errno}
 use Rattle.ux_model.specs.Places.{place}
@@ -11,7 +12,8 @@ use Rattle.ux_model.specs.References.{leads_to, times, queue_refs, socket_refs, 
 use Rattle.ux_model.specs.Release.{settled}
 use Rattle.ux_model.specs.Step.{Step, outcome}
 use Rattle.ux_model.specs.History.{replay}
-use Rattle.ux_model.specs.Invariants.{OneMoreFailure, ResetCleared, AssociationEnded, LeftByRefusal, RefusalChangesNothing, RefusedEntryChangesNothing}
+use Rattle.ux_model.specs.Invariants.{OneMoreFailure, ResetCleared, AssociationEnded, LeftByRefusal, RefusalChangesNothing}
+use Rattle.ux_model.specs.Invariants.{RefusedEntryChangesNothing}
 use Rattle.ux_model.proofs.Reaching.{may_change}
 use Rattle.ux_model.proofs.Moves.{same_target_counts_alike}
 use Rattle.ux_model.proofs.Sockets.{socket_counts, ends_associated}
@@ -24,7 +26,8 @@ use Rattle.ux_model.proofs.Calls.{each_obeys, chosen_left}
 
 -- the same is there, with as many references
 left_alike : (S T : State) → ((d : ℕ) → is_some (description_at T d) ≡ is_some (description_at S d)) → ((d : ℕ) → refs T d ≡ refs S d) →
-    ((o : ℕ) → is_some (place T.objects o) ≡ is_some (place S.objects o)) → ((o : ℕ) → orefs T o ≡ orefs S o) → settled S ≡ S → settled T ≡ T
+    ((o : ℕ) → is_some (place T.objects o) ≡ is_some (place S.objects o)) → ((o : ℕ) → orefs T o ≡ orefs S o) → settled S ≡ S →
+    settled T ≡ T
 left_alike S T held counted there led here = go (none_left S here)
   where
     go : HasNoneLeft S → settled T ≡ T
@@ -58,7 +61,9 @@ mapped : (change : Socket → Socket) (x : Option Description) → is_some (opti
 mapped change None = refl
 mapped change (Some D) = refl
 
-changed_settled : (S T : State) (n : ℕ) (change : Socket → Socket) → ((d : ℕ) (s : Socket) → socket_refs d (change s) + 0 ≡ socket_refs d s + 0) → T ≡ with_socket_by S n change → settled S ≡ S → settled T ≡ T
+changed_settled : (S T : State) (n : ℕ) (change : Socket → Socket) →
+    ((d : ℕ) (s : Socket) → socket_refs d (change s) + 0 ≡ socket_refs d s + 0) → T ≡ with_socket_by S n change → settled S ≡ S →
+    settled T ≡ T
 changed_settled S T n change alike left here = subst (λ R. settled R ≡ R) (sym left) (left_alike S (with_socket_by S n change)
     (λ d. same_at is_some S.descriptions n d (option_map (changed change) (description_at S n)) (mapped change (description_at S n)))
     (λ d. let e = socket_counts S n d change (λ s. 0) (λ s. 0) (alike d) in omega (arith, e))

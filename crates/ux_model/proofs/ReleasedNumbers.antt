@@ -18,8 +18,10 @@ Before a b = a.0 < b.0
 numbers_rise : (xs : List (Option View)) → AllPairs Before (enumerate_from 0 xs)
 numbers_rise xs i j d below inside =
     let long = length-enumerate_from 0 xs in
-    let first : (get_or (enumerate_from 0 xs) i d).0 ≡ 0 + i = ap (λ (e : ℕ × Option View). e.0) (get_or-enumerate_from 0 xs i d (omega (arith, long, below, inside))) in
-    let second : (get_or (enumerate_from 0 xs) j d).0 ≡ 0 + j = ap (λ (e : ℕ × Option View). e.0) (get_or-enumerate_from 0 xs j d (omega (arith, long, inside))) in
+    let first : (get_or (enumerate_from 0 xs) i d).0 ≡ 0 + i =
+    ap (λ (e : ℕ × Option View). e.0) (get_or-enumerate_from 0 xs i d (omega (arith, long, below, inside))) in
+    let second : (get_or (enumerate_from 0 xs) j d).0 ≡ 0 + j =
+    ap (λ (e : ℕ × Option View). e.0) (get_or-enumerate_from 0 xs j d (omega (arith, long, inside))) in
     omega (arith, first, second, below)
 
 rise_mapped : (es : List (ℕ × Option View)) → AllPairs Before es → AllPairs (λ (a b : ℕ). a < b) (map (λ e. e.0) es)
@@ -30,7 +32,8 @@ rise_mapped (e ∷ es) h i j d below inside =
     let second = get_or-map (λ (e : ℕ × Option View). e.0) (e ∷ es) j e d (omega (arith, long, inside)) in
     omega (arith, first, second, h i j e below (omega (arith, long, inside)))
 
-same_numbers : (es : List (ℕ × Option View)) → map (λ (e : ℕ × Option View). e.0) (map (λ (e : ℕ × Option View). (e.0, option_map closed e.1)) es) ≡ map (λ e. e.0) es
+same_numbers : (es : List (ℕ × Option View)) →
+    map (λ (e : ℕ × Option View). e.0) (map (λ (e : ℕ × Option View). (e.0, option_map closed e.1)) es) ≡ map (λ e. e.0) es
 same_numbers [] = refl
 same_numbers (e ∷ es) = ap (λ ns. e.0 ∷ ns) (same_numbers es)
 
@@ -41,6 +44,7 @@ released_rise T =
     subst (AllPairs (λ (a b : ℕ). a < b)) (sym (same_numbers (orphans D)))
     (rise_mapped (orphans D) (AllPairs-filter Before (is_orphan D) (enumerate_from 0 D.objects) (numbers_rise D.objects)))
 
-pub step_releases_rising : (S S' : State) (p tag : ℕ) (request : Request) (reply : Reply) (gone : List ℕ) → Step S p tag request reply gone S' → AllPairs (λ (a b : ℕ). a < b) gone
+pub step_releases_rising : (S S' : State) (p tag : ℕ) (request : Request) (reply : Reply) (gone : List ℕ) →
+    Step S p tag request reply gone S' → AllPairs (λ (a b : ℕ). a < b) gone
 unfolding Step
 step_releases_rising S S' p tag request reply gone h = subst (AllPairs (λ (a b : ℕ). a < b)) (sym h.2) (released_rise h.0)

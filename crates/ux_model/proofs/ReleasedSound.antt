@@ -1,5 +1,6 @@
 -- The rounds of release keep that nothing dangles.
-use Rattle.std.proofs.Common.{◌≡◌, ◌⊎◌, inl, inr, ⊎_elim, ℕ, zero, suc, ◌+◌, ◌≤◌, ◌==◌, Bool, true, false, not, ◌&&◌, ◌||◌, if◌then◌else◌, cond, List, [], ◌∷◌, length, map, sum_by, Option, Some, None, refl, ap, sym, ◌∙◌, arith}
+use Rattle.std.proofs.Common.{◌≡◌, ◌⊎◌, inl, inr, ⊎_elim, ℕ, zero, suc, ◌+◌, ◌≤◌, ◌==◌, Bool, true, false, not, ◌&&◌, ◌||◌, if◌then◌else◌}
+use Rattle.std.proofs.Common.{cond, List, [], ◌∷◌, length, map, sum_by, Option, Some, None, refl, ap, sym, ◌∙◌, arith}
 use Rattle.std.specs.Prelude.{is_some, filter, option_map}
 use Rattle.std.specs.List.{slice_get, enumerate_from}
 use Rattle.std.proofs.lemmas.Bool.{eqb-true, and_parts}
@@ -14,7 +15,8 @@ use Rattle.ux_model.specs.Description.{Description, Target, to_object, to_socket
 use Rattle.ux_model.specs.State.{State, description_at}
 use Rattle.ux_model.specs.References.{target_refs, description_refs, leads_to, is_open_of, refs, orefs}
 use Rattle.ux_model.specs.Peers.{target_peer, peer_in, Paired, at_target, at_socket}
-use Rattle.ux_model.specs.Release.{place_after_loss, without, is_unreferenced, has_unreferenced, drop_all, drop_rounds, drop_unreferenced, without_orphans, settled}
+use Rattle.ux_model.specs.Release.{place_after_loss, without, is_unreferenced, has_unreferenced, drop_all, drop_rounds, drop_unreferenced}
+use Rattle.ux_model.specs.Release.{without_orphans, settled}
 use Rattle.ux_model.proofs.Losses.{is_reset_by_loss, target_after_loss, description_after_loss}
 use Rattle.ux_model.specs.Invariants.{pends, pends_at_all}
 use Rattle.ux_model.proofs.ReleaseLaws.{description_at-without}
@@ -31,9 +33,11 @@ record IsStable {X : Type 0} (nothing : X) (f : Option Description → X) : Type
   of_some : (G : ℕ → Bool) (S : State) (D : Description) → f (Some (description_after_loss G S D)) ≡ f (Some D)
 
 -- a property of targets that no pending error changes
-stable : {X : Type 0} (nothing : X) (f : Option Description → X) (g : Target → X) → f None ≡ nothing → ((D : Description) → f (Some D) ≡ g D.target) →
+stable : {X : Type 0} (nothing : X) (f : Option Description → X) (g : Target → X) → f None ≡ nothing →
+    ((D : Description) → f (Some D) ≡ g D.target) →
     ((s : Socket) (on : Bool) → g (to_socket (with_reset on s)) ≡ g (to_socket s)) → IsStable nothing f
-stable nothing f g none by still = record { of_none = none; of_some = λ G S D. by (description_after_loss G S D) ∙ left G S D.target ∙ sym (by D) }
+stable nothing f g none by still = record { of_none = none; of_some = λ G S D. by (description_after_loss G S D) ∙ left G S D.target
+    ∙ sym (by D) }
   where
     left : (G : ℕ → Bool) (S : State) (t : Target) → g (target_after_loss G S t) ≡ g t
     left G S (to_object o) = refl
@@ -61,7 +65,8 @@ stable_held : IsStable false is_some
 stable_held = record { of_none = refl; of_some = λ G S D. refl }
 
 -- so of each place: as before, or nothing where it goes
-left_at : {X : Type 0} (nothing : X) (f : Option Description → X) → IsStable nothing f → (G : ℕ → Bool) (S : State) (b : Bool) (x : Option Description) →
+left_at : {X : Type 0} (nothing : X) (f : Option Description → X) → IsStable nothing f →
+    (G : ℕ → Bool) (S : State) (b : Bool) (x : Option Description) →
     f (if b then None else option_map (description_after_loss G S) x) ≡ (if b then nothing else f x)
 left_at nothing f s G S true x = s.of_none
 left_at nothing f s G S false None = refl
@@ -132,7 +137,8 @@ all_pends_are_refs S d = let all = fewer S.descriptions in omega (arith, all)
         omega (arith, s, t, here, rest)
 
 -- what a filtered list holds stood in the list, and passed
-in_filtered : {X : Type 0} (keep : X → Bool) (xs : List X) (i : ℕ) (e : X) → slice_get (filter keep xs) i ≡ Some e → (j : ℕ) × (slice_get xs j ≡ Some e) × (keep e ≡ true)
+in_filtered : {X : Type 0} (keep : X → Bool) (xs : List X) (i : ℕ) (e : X) → slice_get (filter keep xs) i ≡ Some e →
+    (j : ℕ) × (slice_get xs j ≡ Some e) × (keep e ≡ true)
 in_filtered keep [] zero e h = absurd (cc h)
 in_filtered keep [] (suc i) e h = absurd (cc h)
 in_filtered {X} keep (x ∷ xs) i e h = go (keep x) refl i h (in_filtered keep xs)
@@ -160,7 +166,8 @@ round_held : (S : State) → IsHeld S → IsHeld (drop_all S)
 round_held S held = record {
   no_description_dangles = λ d gone. none_less (refs (drop_all S) d) (refs S d) (fewer_refs (is_unreferenced S) S d)
       (⊎_elim {C = refs S d ≡ 0} (λ u. none_of_gone S d u) (λ none. held.no_description_dangles d none)
-      (gone_or_not (is_unreferenced S d) (is_some (description_at S d)) (sym (left_of false is_some stable_held (is_unreferenced S) S d) ∙ gone)));
+      (gone_or_not (is_unreferenced S d) (is_some (description_at S d))
+      (sym (left_of false is_some stable_held (is_unreferenced S) S d) ∙ gone)));
   no_object_dangles = λ o gone. none_less (orefs (drop_all S) o) (orefs S o) (fewer_orefs (is_unreferenced S) S o)
       (held.no_object_dangles o (sym (ap (λ (os : List (Option View)). is_some (place os o)) (same_objects (is_unreferenced S) S)) ∙ gone));
   all_open = λ o view h. held.all_open o view (sym (ap (λ (os : List (Option View)). place os o) (same_objects (is_unreferenced S) S)) ∙ h);
@@ -171,9 +178,11 @@ round_held S held = record {
       let left = left_of 0 (at_socket unaccepted) stable_waits (is_unreferenced S) S d in
       bool_cases (is_unreferenced S d)
       (λ u. let none = none_of_gone S d u in omega (arith, fewer, all, none))
-      (λ u. let same : at_socket unaccepted (description_at (drop_all S) d) ≡ at_socket unaccepted (description_at S d) = left ∙ ap (λ b. if b then 0 else at_socket unaccepted (description_at S d)) u in omega (arith, fewer, old, same));
+      (λ u. let same : at_socket unaccepted (description_at (drop_all S) d) ≡ at_socket unaccepted (description_at S d) = left
+      ∙ ap (λ b. if b then 0 else at_socket unaccepted (description_at S d)) u in omega (arith, fewer, old, same));
   names_owned = λ i e h.
-      let was = in_filtered (λ (e : Name × ℕ). not (is_unreferenced S e.1)) S.abstract_names i e (sym (ap (λ (ns : List (Name × ℕ)). slice_get ns i) (names_left (is_unreferenced S) S)) ∙ h) in
+      let was = in_filtered (λ (e : Name × ℕ). not (is_unreferenced S e.1)) S.abstract_names i e
+      (sym (ap (λ (ns : List (Name × ℕ)). slice_get ns i) (names_left (is_unreferenced S) S)) ∙ h) in
       left_of None name_in stable_name (is_unreferenced S) S e.1
       ∙ stays (is_unreferenced S e.1) None (name_in (description_at S e.1)) was.2
       ∙ held.names_owned was.0 e was.1;
@@ -185,7 +194,8 @@ round_paired G S paired = record {
   returned = λ i p e there.
       let at_i = peer_still (G i) (peer_in (description_at S i)) p (sym (left_of None peer_in stable_peer G S i) ∙ e) in
       let at_p = held_still (G p) (is_some (description_at S p)) (sym (left_of false is_some stable_held G S p) ∙ there) in
-      left_of None peer_in stable_peer G S p ∙ ap (λ b. if b then None else peer_in (description_at S p)) at_p.0 ∙ paired.returned i p at_i at_p.1;
+      left_of None peer_in stable_peer G S p ∙ ap (λ b. if b then None else peer_in (description_at S p)) at_p.0
+      ∙ paired.returned i p at_i at_p.1;
   known = λ i p e.
       let known = paired.known i p (peer_still (G i) (peer_in (description_at S i)) p (sym (left_of None peer_in stable_peer G S i) ∙ e)) in
       let long = same_number G S in
@@ -208,13 +218,15 @@ unfolding drop_rounds
 rounds_sound zero S sound = sound
 rounds_sound (suc n) S sound = go (has_unreferenced S) (rounds_sound n (drop_all S) (round_sound S sound))
   where
-    go : (b : Bool) → IsSound (drop_rounds n (drop_all S)) → IsSound (elim b as (λ _. State) [ true ↦ drop_rounds n (drop_all S) | false ↦ S ])
+    go : (b : Bool) → IsSound (drop_rounds n (drop_all S)) →
+        IsSound (elim b as (λ _. State) [ true ↦ drop_rounds n (drop_all S) | false ↦ S ])
     go true h = h
     go false h = sound
 
 -- ---- file objects
 
-orphan_or_not : {X : Type 0} (x : Option X) (b : Bool) → is_some (if is_some x && b then None else x) ≡ false → (b ≡ true) ⊎ (is_some x ≡ false)
+orphan_or_not : {X : Type 0} (x : Option X) (b : Bool) → is_some (if is_some x && b then None else x) ≡ false →
+    (b ≡ true) ⊎ (is_some x ≡ false)
 orphan_or_not None b h = inr refl
 orphan_or_not (Some x) true h = inl refl
 orphan_or_not (Some x) false h = absurd (cc h)

@@ -1,5 +1,6 @@
 -- What a call shows of the tables, by what it does to that of its process.
-use Rattle.std.proofs.Common.{◌≡◌, ◌≢◌, ℕ, zero, suc, ◌≤◌, Bool, true, false, ◌==◌, cond, not, List, [], length, Option, Some, None, refl, ap, sym, ◌∙◌, subst, slice_get}
+use Rattle.std.proofs.Common.{◌≡◌, ◌≢◌, ℕ, zero, suc, ◌≤◌, Bool, true, false, ◌==◌, cond, not, List, [], length, Option, Some, None, refl}
+use Rattle.std.proofs.Common.{ap, sym, ◌∙◌, subst, slice_get}
 use Rattle.std.specs.List.{list_any}
 use Rattle.std.proofs.lemmas.Bool.{eqb-false, false≢true}
 use Rattle.ux_model.specs.Types.{Errno, Request, Reply}
@@ -29,7 +30,8 @@ process_other S (suc i) (suc j) P h = get_set_other S.processes i j P (λ e. h (
 pub live_process : (S : State) (p : ℕ) → is_live S p ≡ true → (Q : Process) × (process_at S p ≡ Some Q)
 live_process S p live = go (process_at S p) refl live
   where
-    go : (o : Option Process) → process_at S p ≡ o → (elim o as (λ _. Bool) [ Some P ↦ not P.exited | None ↦ false ]) ≡ true → (Q : Process) × (process_at S p ≡ Some Q)
+    go : (o : Option Process) → process_at S p ≡ o → (elim o as (λ _. Bool) [ Some P ↦ not P.exited | None ↦ false ]) ≡ true →
+        (Q : Process) × (process_at S p ≡ Some Q)
     go None e l = absurd (false≢true l)
     go (Some Q) e l = (Q, e)
 
@@ -44,7 +46,8 @@ replaced_process S p P Q h = record {
   other = λ q n d. ap (λ (o : Option Process). place (table_in o) n) (process_other S p q P d);
 }
 
-pub replaced_table : (S : State) (p : ℕ) (table : List (Option Descriptor)) (Q : Process) → process_at S p ≡ Some Q → Replaces S p table (with_table S p table)
+pub replaced_table : (S : State) (p : ℕ) (table : List (Option Descriptor)) (Q : Process) → process_at S p ≡ Some Q →
+    Replaces S p table (with_table S p table)
 replaced_table S p table Q h =
     let e : with_table S p table ≡ with_process S p (record Q { table = table }) =
     ap (λ (o : Option Process). elim o as (λ _. State) [ Some P ↦ with_process S p (record P { table = table }) | None ↦ S ]) h in
@@ -59,8 +62,10 @@ pub replaced_none : (S T : State) (p : ℕ) → T.processes ≡ S.processes → 
 replaced_none S T p same = record { same = λ n. held_alike S T p n same; other = λ q n d. held_alike S T q n same }
 
 -- tables report what the processes do
-pub replaced_alike : (S T U : State) (p : ℕ) (table : List (Option Descriptor)) → U.processes ≡ T.processes → Replaces S p table T → Replaces S p table U
-replaced_alike S T U p table same r = record { same = λ n. held_alike T U p n same ∙ r.same n; other = λ q n d. held_alike T U q n same ∙ r.other q n d }
+pub replaced_alike : (S T U : State) (p : ℕ) (table : List (Option Descriptor)) → U.processes ≡ T.processes → Replaces S p table T →
+    Replaces S p table U
+replaced_alike S T U p table same r = record { same = λ n. held_alike T U p n same ∙ r.same n; other = λ q n d. held_alike T U q n same
+    ∙ r.other q n d }
 
 -- ---- requests and replies
 
@@ -76,7 +81,8 @@ others_stay : (request : Request) (held : Option Descriptor) → is_off request 
 others_stay Request.Off held h = absurd (false≢true (sym h))
 others_stay request held h = refl
 
-stays_to_others : (request : Request) (reply : Reply) (held : Option Descriptor) → is_off request ≡ false → left_to_others request reply held ≡ held
+stays_to_others : (request : Request) (reply : Reply) (held : Option Descriptor) → is_off request ≡ false →
+    left_to_others request reply held ≡ held
 stays_to_others request reply held h = go (is_err reply)
   where
     go : (b : Bool) → cond b held (others_left_by request held) ≡ held
@@ -123,8 +129,10 @@ none_there : {P : Type 0} (ns : List ℕ) (i n : ℕ) → ns ≡ [] → slice_ge
 none_there ns i n none h = let nowhere : slice_get [] i ≡ Some n = sym (ap (λ l. slice_get l i) none) ∙ h in absurd (cc nowhere)
 
 -- a call that gives no number changes its own table place by place
-pub changes : (S T : State) (p : ℕ) (request : Request) (reply : Reply) (table : List (Option Descriptor)) → Replaces S p table T → is_off request ≡ false →
-    given S p request reply ≡ [] → tells_child reply ≡ false → ((n : ℕ) → place table n ≡ left request reply n (held_at S p n)) → ChangesTables S p request reply T
+pub changes : (S T : State) (p : ℕ) (request : Request) (reply : Reply) (table : List (Option Descriptor)) → Replaces S p table T →
+    is_off request ≡ false →
+    given S p request reply ≡ [] → tells_child reply ≡ false → ((n : ℕ) → place table n ≡ left request reply n (held_at S p n)) →
+    ChangesTables S p request reply T
 changes S T p request reply table replaced on none childless each = record {
   others = λ q n d c. replaced.other q n (eqb-false p q d) ∙ sym (stays_to_others request reply (held_at S q n) on);
   child = λ q n c. absurd (false≢true (sym (makes_none q request reply childless) ∙ c));
@@ -134,28 +142,35 @@ changes S T p request reply table replaced on none childless each = record {
 }
 
 -- one that is refused, whatever else it changes
-pub refusal : (S T : State) (p : ℕ) (request : Request) (e : Errno) → Replaces S p (table_of S p) T → is_off request ≡ false → ChangesTables S p request (Reply.Err e) T
-refusal S T p request e replaced on = changes S T p request (Reply.Err e) (table_of S p) replaced on (gives_none S p request (Reply.Err e) refl) refl (λ n. refl)
+pub refusal : (S T : State) (p : ℕ) (request : Request) (e : Errno) → Replaces S p (table_of S p) T → is_off request ≡ false →
+    ChangesTables S p request (Reply.Err e) T
+refusal S T p request e replaced on = changes S T p request (Reply.Err e) (table_of S p) replaced on
+    (gives_none S p request (Reply.Err e) refl) refl (λ n. refl)
 
 -- one that leaves the table as it was
-pub keeps_table : (S T : State) (p : ℕ) (request : Request) (reply : Reply) → IsPlain request → Replaces S p (table_of S p) T → given S p request reply ≡ [] → tells_child reply ≡ false →
+pub keeps_table : (S T : State) (p : ℕ) (request : Request) (reply : Reply) → IsPlain request → Replaces S p (table_of S p) T →
+    given S p request reply ≡ [] → tells_child reply ≡ false →
     ChangesTables S p request reply T
 keeps_table S T p request reply plain replaced none childless =
-    changes S T p request reply (table_of S p) replaced plain.no_end none childless (λ n. sym (plain_left request reply n (held_at S p n) plain))
+    changes S T p request reply (table_of S p) replaced plain.no_end none childless
+    (λ n. sym (plain_left request reply n (held_at S p n) plain))
 
 -- one that gives numbers installs descriptors at them
 pub installs : (S T : State) (p : ℕ) (request : Request) (reply : Reply) (ns : List ℕ) → IsPlain request →
-    Replaces S p (installed (cloexec_of request) ns (sources S p request) (table_of S p)) T → Rise 0 (length (table_of S p)) ns → length ns ≤ length (sources S p request) →
+    Replaces S p (installed (cloexec_of request) ns (sources S p request) (table_of S p)) T → Rise 0 (length (table_of S p)) ns →
+    length ns ≤ length (sources S p request) →
     given S p request reply ≡ ns → tells_child reply ≡ false → ChangesTables S p request reply T
 installs S T p request reply ns plain replaced rise enough tells childless = record {
   others = λ q n d c. replaced.other q n (eqb-false p q d) ∙ sym (stays_to_others request reply (held_at S q n) plain.no_end);
   child = λ q n c. absurd (false≢true (sym (makes_none q request reply childless) ∙ c));
   own = λ n g.
-      replaced.same n ∙ installed_other (cloexec_of request) ns (sources S p request) (table_of S p) n (sym (ap (λ l. list_any (λ m. m == n) l) tells) ∙ g)
+      replaced.same n ∙ installed_other (cloexec_of request) ns (sources S p request) (table_of S p) n
+      (sym (ap (λ l. list_any (λ m. m == n) l) tells) ∙ g)
       ∙ sym (plain_left request reply n (held_at S p n) plain);
   new = λ i n g.
       let at : slice_get ns i ≡ Some n = sym (ap (λ l. slice_get l i) tells) ∙ g in
       let w = installed_at (cloexec_of request) 0 ns (sources S p request) (table_of S p) i n rise enough at in
       (w.0, w.1, replaced.same n ∙ w.2);
-  once = λ i j n g h. rise_once 0 (length (table_of S p)) ns i j n rise (sym (ap (λ l. slice_get l i) tells) ∙ g) (sym (ap (λ l. slice_get l j) tells) ∙ h);
+  once = λ i j n g h. rise_once 0 (length (table_of S p)) ns i j n rise (sym (ap (λ l. slice_get l i) tells) ∙ g)
+      (sym (ap (λ l. slice_get l j) tells) ∙ h);
 }

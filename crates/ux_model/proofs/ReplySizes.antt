@@ -1,5 +1,6 @@
 -- Each reply fits the room of its request. One lemma a call, and one line of `each_within`, at the end.
-use Rattle.std.proofs.Common.{◌≡◌, ℕ, ◌≤◌, Bool, true, false, not, ◌&&◌, ◌||◌, ◌==◌, if◌then◌else◌, List, [], ◌∷◌, length, min, Option, Some, None, Result, Ok, Err, refl, ap, sym, subst, ◌∙◌, arith}
+use Rattle.std.proofs.Common.{◌≡◌, ℕ, ◌≤◌, Bool, true, false, not, ◌&&◌, ◌||◌, ◌==◌, if◌then◌else◌, List, [], ◌∷◌, length, min, Option}
+use Rattle.std.proofs.Common.{Some, None, Result, Ok, Err, refl, ap, sym, subst, ◌∙◌, arith}
 use Rattle.std.specs.Prelude.{nat_le, nat_lt, take, drop, ℤ, pos, negsuc, ◌+ℤ◌, is_none, is_some, slice_get}
 use Rattle.std.specs.Int.{w64, to_le_bytes}
 use Rattle.std.proofs.lemmas.Bool.{ltb-false}
@@ -8,7 +9,8 @@ use Rattle.ux_model.specs.Types.{Errno, Fd, Cred, Name, Addr, SockType, SockOpt,
 use Rattle.ux_model.specs.Places.{place}
 use Rattle.ux_model.specs.Limits.{made_limit, name_limit, read_limit, greatest_queue_limit, offset_limit, record_bytes_limit}
 use Rattle.ux_model.specs.Flags.{can_read, can_write, are_send_flags, are_receive_flags, no_flags}
-use Rattle.ux_model.specs.Object.{Body, memory, counter, pipe, View, ObjectError, would_block, full, invalid, read_body, write_body, is_memory, is_pipe}
+use Rattle.ux_model.specs.Object.{Body, memory, counter, pipe, View, ObjectError, would_block, full, invalid, read_body, write_body}
+use Rattle.ux_model.specs.Object.{is_memory, is_pipe}
 use Rattle.ux_model.specs.Names.{named, is_valid_path, is_valid_addr, is_unnamed_addr, free_name}
 use Rattle.ux_model.specs.Message.{Message}
 use Rattle.ux_model.specs.Control.{Control}
@@ -24,7 +26,9 @@ use Rattle.ux_model.specs.Pairing.{make_pair}
 use Rattle.ux_model.specs.Binding.{bind_to, bind, get_sock_name}
 use Rattle.ux_model.specs.Connecting.{make_socket, listener_of, listen, connect_stream, connect_datagram, connect, get_peer_name, shutdown}
 use Rattle.ux_model.specs.Accepting.{client_name, name_of_peer, present_name, accept_first, accept}
-use Rattle.ux_model.specs.Sending.{Sending, sending, descriptions_behind, message_of, flight_limit, is_over_limit, enqueue, is_too_long, send_to_peer, send_stream, send_from, is_sendable_addr, is_sendable_control, sender_cred_refusal, sent_cred, send_as, send_with, send_read, reading_control, send_msg}
+use Rattle.ux_model.specs.Sending.{Sending, sending, descriptions_behind, message_of, flight_limit, is_over_limit, enqueue, is_too_long}
+use Rattle.ux_model.specs.Sending.{send_to_peer, send_stream, send_from, is_sendable_addr, is_sendable_control, sender_cred_refusal}
+use Rattle.ux_model.specs.Sending.{sent_cred, send_as, send_with, send_read, reading_control, send_msg}
 use Rattle.ux_model.proofs.Datagrams.{send_to_target, send_by_association, send_by}
 use Rattle.ux_model.specs.Receiving.{Incoming, incoming, at_end, receive_nothing, receive_front, receive, recv_msg, bytes_alone}
 use Rattle.ux_model.specs.FileObjects.{holds_bytes, is_open_for, or_failing}
@@ -94,10 +98,13 @@ Plain = Within no_bytes
 
 open_plain : (S : State) (p : ℕ) (path : Name) (mode : Mode) (flags : OpenFlags) → Plain (open_file S p path mode flags)
 unfolding open_file
-open_plain S p path mode flags = either Plain (not (is_valid_path path)) _ _ (λ b. plain refl) (λ b. maybe Plain (named path S.paths) _ _ (plain refl)
-    (λ t is. by_path Plain t _ _ (λ o led. maybe Plain (lowest_free (table_of S p)) _ _ (plain refl) (λ n low. plain refl)) (λ d led. plain refl)))
+open_plain S p path mode flags = either Plain (not (is_valid_path path)) _ _ (λ b. plain refl)
+    (λ b. maybe Plain (named path S.paths) _ _ (plain refl)
+    (λ t is. by_path Plain t _ _ (λ o led. maybe Plain (lowest_free (table_of S p)) _ _ (plain refl) (λ n low. plain refl))
+    (λ d led. plain refl)))
 
-write_answer_plain : (S : State) (d : ℕ) (D : Description) (o : ℕ) (view : View) (r : Result (ℕ × Body) ObjectError) → Plain (write_answer S d D o view r)
+write_answer_plain : (S : State) (d : ℕ) (D : Description) (o : ℕ) (view : View) (r : Result (ℕ × Body) ObjectError) →
+    Plain (write_answer S d D o view r)
 write_answer_plain S d D o view (Ok made) = plain refl
 write_answer_plain S d D o view (Err e) = plain refl
 
@@ -114,11 +121,13 @@ lseek_plain S p fd offset whence = found Plain S p fd _ (plain refl) (λ e D g h
 
 dup_plain : (S : State) (p : ℕ) (fd : Fd) → Plain (dup S p fd)
 unfolding dup
-dup_plain S p fd = found Plain S p fd _ (plain refl) (λ e D g h. maybe Plain (lowest_free (table_of S p)) _ _ (plain refl) (λ n low. plain refl))
+dup_plain S p fd = found Plain S p fd _ (plain refl)
+    (λ e D g h. maybe Plain (lowest_free (table_of S p)) _ _ (plain refl) (λ n low. plain refl))
 
 dup2_plain : (S : State) (p : ℕ) (fd to : Fd) → Plain (dup2 S p fd to)
 unfolding dup2
-dup2_plain S p fd to = found Plain S p fd _ (plain refl) (λ e D g h. either Plain (nat_le (length (table_of S p)) to.0) _ _ (λ b. plain refl)
+dup2_plain S p fd to = found Plain S p fd _ (plain refl)
+    (λ e D g h. either Plain (nat_le (length (table_of S p)) to.0) _ _ (λ b. plain refl)
     (λ b. either Plain (to.0 == fd.0) _ _ (λ b. plain refl) (λ b. plain refl)))
 
 dup_from_plain : (S : State) (p : ℕ) (fd minimum : Fd) → Plain (dup_from S p fd minimum)
@@ -141,7 +150,8 @@ close_plain S p fd = found Plain S p fd _ (plain refl) (λ e D g h. plain refl)
 
 unlink_plain : (S : State) (path : Name) → Plain (unlink S path)
 unfolding unlink
-unlink_plain S path = either Plain (not (is_valid_path path)) _ _ (λ b. plain refl) (λ b. either Plain (not (is_some (named path S.paths))) _ _ (λ b. plain refl) (λ b. plain refl))
+unlink_plain S path = either Plain (not (is_valid_path path)) _ _ (λ b. plain refl)
+    (λ b. either Plain (not (is_some (named path S.paths))) _ _ (λ b. plain refl) (λ b. plain refl))
 
 exit_plain : (S : State) (p : ℕ) → Plain (exit S p)
 unfolding exit
@@ -149,12 +159,14 @@ exit_plain S p = maybe Plain (process_at S p) _ _ (plain refl) (λ P h. plain re
 
 fork_plain : (S : State) (p : ℕ) → Plain (fork S p)
 unfolding fork
-fork_plain S p = maybe Plain (process_at S p) _ _ (plain refl) (λ P h. either Plain (nat_le made_limit (length S.processes)) _ _ (λ b. plain refl) (λ b. plain refl))
+fork_plain S p = maybe Plain (process_at S p) _ _ (plain refl)
+    (λ P h. either Plain (nat_le made_limit (length S.processes)) _ _ (λ b. plain refl) (λ b. plain refl))
 
 ids_plain : (S : State) (p uid gid : ℕ) → Plain (set_ids S p uid gid)
 unfolding set_ids
 ids_plain S p uid gid = maybe Plain (process_at S p) _ _ (plain refl)
-    (λ P h. either Plain ((uid == no_id) || (gid == no_id)) _ _ (λ b. plain refl) (λ b. either Plain (not (may_become uid gid P)) _ _ (λ b. plain refl) (λ b. plain refl)))
+    (λ P h. either Plain ((uid == no_id) || (gid == no_id)) _ _ (λ b. plain refl)
+    (λ b. either Plain (not (may_become uid gid P)) _ _ (λ b. plain refl) (λ b. plain refl)))
 
 exec_plain : (S : State) (p : ℕ) → Plain (exec S p)
 unfolding exec
@@ -172,7 +184,8 @@ socket_plain S p kind flags = maybe Plain (lowest_free (table_of S p)) _ _ (plai
 
 pair_plain : (S : State) (p : ℕ) (kind : SockType) (flags : OpenFlags) → Plain (make_pair S p kind flags)
 unfolding make_pair
-pair_plain S p kind flags = maybe Plain (process_at S p) _ _ (plain refl) (λ P h. maybe Plain (two_lowest_free P.table) _ _ (plain refl) (λ n low. plain refl))
+pair_plain S p kind flags = maybe Plain (process_at S p) _ _ (plain refl)
+    (λ P h. maybe Plain (two_lowest_free P.table) _ _ (plain refl) (λ n low. plain refl))
 
 bind_to_plain : (S : State) (d : ℕ) (addr : Addr) → Plain (bind_to S d addr)
 bind_to_plain S d Addr.Unnamed = maybe Plain (free_name S.abstract_names) _ _ (plain refl) (λ name free. plain refl)
@@ -191,13 +204,18 @@ listen_plain S p fd backlog = maybe Plain (process_at S p) _ _ (plain refl) (λ 
     (λ b. either Plain (is_unnamed_addr s.name) _ _ (λ c. plain refl) (λ c. plain refl)))))
 
 stream_plain : (S : State) (d : ℕ) (s : Socket) (addr : Addr) (cred : Cred) → Plain (connect_stream S d s addr cred)
-stream_plain S d s addr cred = either Plain (not (is_valid_addr addr) || is_unnamed_addr addr || is_some (listener_of s.phase)) _ _ (λ b. plain refl)
-    (λ b. either Plain (is_some (peer_of s.phase)) _ _ (λ c. plain refl) (λ c. found_named Plain S s.kind addr _ (plain refl) (plain refl) (plain refl) (plain refl)
-    (λ l other there. maybe Plain (listener_of other.phase) _ _ (plain refl) (λ kept listens. either Plain (nat_le kept.backlog.limit (length kept.backlog.pending)) _ _ (λ e. plain refl) (λ e. plain refl)))))
+stream_plain S d s addr cred = either Plain (not (is_valid_addr addr) || is_unnamed_addr addr || is_some (listener_of s.phase)) _ _
+    (λ b. plain refl)
+    (λ b. either Plain (is_some (peer_of s.phase)) _ _ (λ c. plain refl)
+    (λ c. found_named Plain S s.kind addr _ (plain refl) (plain refl) (plain refl) (plain refl)
+    (λ l other there. maybe Plain (listener_of other.phase) _ _ (plain refl)
+    (λ kept listens. either Plain (nat_le kept.backlog.limit (length kept.backlog.pending)) _ _ (λ e. plain refl) (λ e. plain refl)))))
 
 datagram_plain : (S : State) (d : ℕ) (kind : SockType) (addr : Addr) → Plain (connect_datagram S d kind addr)
-datagram_plain S d kind addr = either Plain (not (is_valid_addr addr)) _ _ (λ b. plain refl) (λ b. either Plain (is_unnamed_addr addr) _ _ (λ c. plain refl)
-    (λ c. found_named Plain S kind addr _ (plain refl) (plain refl) (plain refl) (plain refl) (λ t target there. either Plain (takes_from d target.phase) _ _ (λ e. plain refl) (λ e. plain refl))))
+datagram_plain S d kind addr = either Plain (not (is_valid_addr addr)) _ _ (λ b. plain refl)
+    (λ b. either Plain (is_unnamed_addr addr) _ _ (λ c. plain refl)
+    (λ c. found_named Plain S kind addr _ (plain refl) (plain refl) (plain refl) (plain refl)
+    (λ t target there. either Plain (takes_from d target.phase) _ _ (λ e. plain refl) (λ e. plain refl))))
 
 connect_plain : (S : State) (p : ℕ) (fd : Fd) (addr : Addr) → Plain (connect S p fd addr)
 unfolding connect
@@ -206,7 +224,8 @@ connect_plain S p fd addr = maybe Plain (process_at S p) _ _ (plain refl) (λ P 
 
 shutdown_plain : (S : State) (p : ℕ) (fd : Fd) (how : Mode) → Plain (shutdown S p fd how)
 unfolding shutdown
-shutdown_plain S p fd how = found_socket Plain S p fd _ (plain refl) (plain refl) (λ d s h. either Plain (is_none (tied_socket s.phase)) _ _ (λ b. plain refl) (λ b. plain refl))
+shutdown_plain S p fd how = found_socket Plain S p fd _ (plain refl) (plain refl)
+    (λ d s h. either Plain (is_none (tied_socket s.phase)) _ _ (λ b. plain refl) (λ b. plain refl))
 
 -- ---- of options and readiness
 
@@ -236,7 +255,9 @@ change_plain S d s value SockOpt.Error = plain refl
 change_plain S d s value SockOpt.PassCred = either Plain (value == 0) _ _ (λ b. plain refl) (λ b. passcred_plain S d s)
 change_plain S d s value SockOpt.PeerCred = plain refl
 change_plain S d s value SockOpt.AcceptConn = plain refl
-change_plain S d s value SockOpt.QueueLimit = either Plain (not (is_stream s.kind)) _ _ (λ b. plain refl) (λ b. either Plain (not (may_limit value)) _ _ (λ c. plain refl) (λ c. plain refl))
+change_plain S d s value SockOpt.QueueLimit =
+    either Plain (not (is_stream s.kind)) _ _ (λ b. plain refl)
+    (λ b. either Plain (not (may_limit value)) _ _ (λ c. plain refl) (λ c. plain refl))
 
 set_opt_plain : (S : State) (p : ℕ) (fd : Fd) (opt : SockOpt) (value : ℕ) → Plain (set_opt S p fd opt value)
 unfolding set_opt
@@ -250,13 +271,16 @@ poll_plain S p fd = maybe Plain (descriptor_at S p fd) _ _ (plain refl) (λ e h.
 
 enqueue_plain : (S : State) (limit : Option ℕ) (d : ℕ) (other : Socket) (m : Message) → Plain (enqueue S limit d other m)
 enqueue_plain S limit d other m = either Plain (is_stream other.kind && (length m.bytes == 0)) _ _ (λ b. plain refl)
-    (λ b. either Plain (is_over_limit S limit m) _ _ (λ c. plain refl) (λ c. either Plain (not (has_room other)) _ _ (λ e. plain refl) (λ e. plain refl)))
+    (λ b. either Plain (is_over_limit S limit m) _ _ (λ c. plain refl)
+    (λ c. either Plain (not (has_room other)) _ _ (λ e. plain refl) (λ e. plain refl)))
 
 to_peer_plain : (S : State) (limit : Option ℕ) (shut : Bool) (d : ℕ) (m : Message) → Plain (send_to_peer S limit shut d m)
-to_peer_plain S limit shut d m = maybe Plain (socket_at S d) _ _ (plain refl) (λ other h. either Plain (shut || other.read_shut) _ _ (λ b. plain refl)
+to_peer_plain S limit shut d m = maybe Plain (socket_at S d) _ _ (plain refl)
+    (λ other h. either Plain (shut || other.read_shut) _ _ (λ b. plain refl)
     (λ b. either Plain (is_too_long other m) _ _ (λ c. plain refl) (λ c. enqueue_plain S limit d other m)))
 
-to_stream_plain : (S : State) (limit : Option ℕ) (shut : Bool) (peer : Option ℕ) (addr : Option Addr) (m : Message) → Plain (send_stream S limit shut peer addr m)
+to_stream_plain : (S : State) (limit : Option ℕ) (shut : Bool) (peer : Option ℕ) (addr : Option Addr) (m : Message) →
+    Plain (send_stream S limit shut peer addr m)
 to_stream_plain S limit shut None None m = plain refl
 to_stream_plain S limit shut (Some peer) None m = to_peer_plain S limit shut peer m
 to_stream_plain S limit shut peer (Some addr) m = plain refl
@@ -271,11 +295,13 @@ by_association_plain S limit d (Some t) m = maybe Plain (socket_at S t) _ _ (pla
 
 by_plain : (S : State) (limit : Option ℕ) (d : ℕ) (s : Socket) (addr : Option Addr) (m : Message) → Plain (send_by S limit d s addr m)
 by_plain S limit d s None m = by_association_plain S limit d (association_of s.phase) m
-by_plain S limit d s (Some addr) m = found_named Plain S s.kind addr _ (plain refl) (plain refl) (plain refl) (plain refl) (λ t target there. to_target_plain S limit d t target m)
+by_plain S limit d s (Some addr) m = found_named Plain S s.kind addr _ (plain refl) (plain refl) (plain refl) (plain refl)
+    (λ t target there. to_target_plain S limit d t target m)
 
 from_plain : (S : State) (limit : Option ℕ) (d : ℕ) (s : Socket) (addr : Option Addr) (m : Message) → Plain (send_from S limit d s addr m)
 from_plain S limit d s addr m = either Plain (is_dgram s.kind) _ _
-    (λ b. either Plain (nat_lt record_bytes_limit (length m.bytes)) _ _ (λ c. plain refl) (λ c. either Plain s.write_shut _ _ (λ e. plain refl) (λ e. by_plain S limit d s addr (record m { from = Some s.name }))))
+    (λ b. either Plain (nat_lt record_bytes_limit (length m.bytes)) _ _ (λ c. plain refl)
+    (λ c. either Plain s.write_shut _ _ (λ e. plain refl) (λ e. by_plain S limit d s addr (record m { from = Some s.name }))))
     (λ b. to_stream_plain S limit s.write_shut (peer_of s.phase) addr m)
 
 given_plain : (S : State) (k : Sending) (d : ℕ) (s : Socket) (given : Option Cred) (rights : List ℕ) → Plain (send_as S k d s given rights)
@@ -283,24 +309,30 @@ given_plain S k d s given rights = maybe_not (sender_cred_refusal S k.caller k.p
   where
     maybe_not : (o : Option Errno) → Plain (elim o as (λ _. Outcome) [
       | Some e ↦ refuse S e
-      | None ↦ if not (is_sendable_addr k.addr) then refuse S Errno.EINVAL else send_from S (flight_limit k.process) d s k.addr (message_of k (sent_cred k.caller k.process given) rights)
+      | None ↦ if not (is_sendable_addr k.addr) then refuse S Errno.EINVAL
+          else send_from S (flight_limit k.process) d s k.addr (message_of k (sent_cred k.caller k.process given) rights)
     ])
     maybe_not (Some e) = plain refl
-    maybe_not None = either Plain (not (is_sendable_addr k.addr)) _ _ (λ b. plain refl) (λ b. from_plain S (flight_limit k.process) d s k.addr _)
+    maybe_not None = either Plain (not (is_sendable_addr k.addr)) _ _ (λ b. plain refl)
+        (λ b. from_plain S (flight_limit k.process) d s k.addr _)
 
 read_plain : (S : State) (k : Sending) (d : ℕ) (s : Socket) (control : Option Control) → Plain (send_read S k d s control)
 unfolding send_read send_with
 read_plain S k d s None = plain refl
 read_plain S k d s (Some control) = either Plain (not (is_sendable_control s.kind k.bytes control)) _ _ (λ b. plain refl)
-    (λ b. maybe Plain (descriptions_behind (table_of S k.caller) control.rights) _ _ (plain refl) (λ rights behind. given_plain S k d s control.cred rights))
+    (λ b. maybe Plain (descriptions_behind (table_of S k.caller) control.rights) _ _ (plain refl)
+    (λ rights behind. given_plain S k d s control.cred rights))
 
 reading_plain : (control : List ℕ) (o : Outcome) → Plain o → Plain (reading_control control o)
 reading_plain control o w = record { fits = w.fits }
 
-send_plain : (S : State) (p tag : ℕ) (fd : Fd) (addr : Option Addr) (bytes control : List ℕ) (flags : MsgFlags) → Plain (send_msg S p tag fd addr bytes control flags)
+send_plain : (S : State) (p tag : ℕ) (fd : Fd) (addr : Option Addr) (bytes control : List ℕ) (flags : MsgFlags) →
+    Plain (send_msg S p tag fd addr bytes control flags)
 unfolding send_msg
-send_plain S p tag fd addr bytes control flags = maybe Plain (process_at S p) _ _ (plain refl) (λ P here. found_socket Plain S p fd _ (plain refl) (plain refl)
-    (λ d s h. either Plain (not (are_send_flags flags)) _ _ (λ b. plain refl) (λ b. reading_plain control _ (read_plain S (sending tag p P addr bytes) d s (control_in control)))))
+send_plain S p tag fd addr bytes control flags =
+    maybe Plain (process_at S p) _ _ (plain refl) (λ P here. found_socket Plain S p fd _ (plain refl) (plain refl)
+    (λ d s h. either Plain (not (are_send_flags flags)) _ _ (λ b. plain refl)
+    (λ b. reading_plain control _ (read_plain S (sending tag p P addr bytes) d s (control_in control)))))
 
 write_plain : (S : State) (p tag : ℕ) (fd : Fd) (bytes : List ℕ) → Plain (write S p tag fd bytes)
 unfolding write
@@ -308,7 +340,8 @@ write_plain S p tag fd bytes = found Plain S p fd _ (plain refl) (λ e D g h. by
     (λ o t. maybe Plain (place S.objects o) _ _ (plain refl) (λ view there. either Plain (not (can_write D.mode)) _ _ (λ b. plain refl)
     (λ b. either Plain (holds_bytes view.body && (length bytes == 0)) _ _ (λ b. plain refl)
     (λ b. either Plain (is_pipe view.body && not (is_open_for can_read S o)) _ _ (λ b. plain refl)
-    (λ b. failing_within no_bytes S o view _ (write_answer_plain S e.description D o view (write_body view.body (write_place D view) bytes)))))))
+    (λ b. failing_within no_bytes S o view _
+    (write_answer_plain S e.description D o view (write_body view.body (write_place D view) bytes)))))))
     (λ s t. maybe Plain (process_at S p) _ _ (plain refl) (λ P here. from_plain S (flight_limit P) e.description s None _)))
 
 -- ---- calls that report a name
@@ -326,12 +359,14 @@ accepted_fits fd addr short = record { data_fits = omega arith; control_fits = o
 
 sock_name_within : (S : State) (p : ℕ) (fd : Fd) → AreBounded S → Within name_room (get_sock_name S p fd)
 unfolding get_sock_name
-sock_name_within S p fd all = found_socket (Within name_room) S p fd _ (plain refl) (plain refl) (λ d s h. record { fits = addr_fits s.name (socket_bounded S d s all h).short })
+sock_name_within S p fd all = found_socket (Within name_room) S p fd _ (plain refl) (plain refl)
+    (λ d s h. record { fits = addr_fits s.name (socket_bounded S d s all h).short })
 
 peer_name_within : (S : State) (p : ℕ) (fd : Fd) → AreBounded S → Within name_room (get_peer_name S p fd)
 unfolding get_peer_name
 peer_name_within S p fd all = found_socket (Within name_room) S p fd _ (plain refl) (plain refl)
-    (λ d s h. found_peer (Within name_room) S s.phase _ (plain refl) (λ peer other there. record { fits = addr_fits other.name (socket_bounded S peer other all there).short }))
+    (λ d s h. found_peer (Within name_room) S s.phase _ (plain refl)
+    (λ peer other there. record { fits = addr_fits other.name (socket_bounded S peer other all there).short }))
 
 present_short : (S : State) (d : ℕ) → AreBounded S → name_bytes (present_name S d) ≤ name_limit
 present_short S d all = go (socket_at S d) refl
@@ -347,19 +382,23 @@ client_short S e all = go (socket_at S e)
     by_peer None = omega arith
     by_peer (Some peer) = present_short S peer all
 
-    go : (o : Option Socket) → name_bytes (elim o as (λ _. Addr) [ None ↦ Addr.Unnamed | Some s ↦ name_of_peer S (peer_of s.phase) ]) ≤ name_limit
+    go : (o : Option Socket) → name_bytes (elim o as (λ _. Addr) [ None ↦ Addr.Unnamed | Some s ↦ name_of_peer S (peer_of s.phase) ]) ≤
+        name_limit
     go None = omega arith
     go (Some s) = by_peer (peer_of s.phase)
 
-accept_first_within : (S : State) (p n d : ℕ) (flags : OpenFlags) (first : Option ℕ) → AreBounded S → Within name_room (accept_first S p n d flags first)
+accept_first_within : (S : State) (p n d : ℕ) (flags : OpenFlags) (first : Option ℕ) → AreBounded S →
+    Within name_room (accept_first S p n d flags first)
 accept_first_within S p n d flags None all = plain refl
 accept_first_within S p n d flags (Some e) all = record { fits = accepted_fits _ (client_name S e) (client_short S e all) }
 
 accept_within : (S : State) (p : ℕ) (fd : Fd) (flags : OpenFlags) → AreBounded S → Within name_room (accept S p fd flags)
 unfolding accept
 accept_within S p fd flags all = found_socket (Within name_room) S p fd _ (plain refl) (plain refl)
-    (λ d s h. either (Within name_room) (is_dgram s.kind) _ _ (λ a. plain refl) (λ a. either (Within name_room) (is_none (listener_of s.phase)) _ _ (λ b. plain refl)
-    (λ b. maybe (Within name_room) (lowest_free (table_of S p)) _ _ (plain refl) (λ n low. accept_first_within S p n d flags (slice_get (pending_ends s.phase) 0) all))))
+    (λ d s h. either (Within name_room) (is_dgram s.kind) _ _ (λ a. plain refl)
+    (λ a. either (Within name_room) (is_none (listener_of s.phase)) _ _ (λ b. plain refl)
+    (λ b. maybe (Within name_room) (lowest_free (table_of S p)) _ _ (plain refl)
+    (λ n low. accept_first_within S p n d flags (slice_get (pending_ends s.phase) 0) all))))
 
 -- ---- receives
 
@@ -379,41 +418,52 @@ record Receives (n space : ℕ) (o : Outcome) : Type 0 where
   alone : Fits (size_of (bytes_alone o.reply)) (data_room n)
 
 no_message : {n space : ℕ} {o : Outcome} → is_plain o.reply ≡ true → is_plain (bytes_alone o.reply) ≡ true → Receives n space o
-no_message {n} {space} {o} h k = record { fits = plain_fits o.reply (message_room n space) h; alone = plain_fits (bytes_alone o.reply) (data_room n) k }
+no_message {n} {space} {o} h k = record { fits = plain_fits o.reply (message_room n space) h; alone =
+    plain_fits (bytes_alone o.reply) (data_room n) k }
 
 -- a message of these parts
-received : (n space count : ℕ) (bytes control : List ℕ) (flags : MsgFlags) (from : Option Addr) (T : State) (grows : Bool) → length bytes ≤ n → length bytes ≤ greatest_queue_limit → length control ≤ min control_limit space →
-    sender_bytes from ≤ name_limit → Receives n space (record { reply = Reply.Received flags count bytes control from; next = T; may_lack_memory = grows; failure = None })
+received : (n space count : ℕ) (bytes control : List ℕ) (flags : MsgFlags) (from : Option Addr) (T : State) (grows : Bool) →
+    length bytes ≤ n → length bytes ≤ greatest_queue_limit → length control ≤ min control_limit space →
+    sender_bytes from ≤ name_limit → Receives n space
+    (record { reply = Reply.Received flags count bytes control from; next = T; may_lack_memory = grows; failure = None })
 unfolding size_of
 received n space count bytes control flags from T grows few limited small short = record {
   fits = record { data_fits = omega (arith, few, limited); control_fits = small; name_fits = short };
   alone = record { data_fits = few; control_fits = omega arith; name_fits = omega arith };
 }
 
-nothing_received : {n space : ℕ} (S : State) → Receives n space (record { reply = Reply.Received no_flags 0 [] [] None; next = S; may_lack_memory = false; failure = None })
+nothing_received : {n space : ℕ} (S : State) →
+    Receives n space (record { reply = Reply.Received no_flags 0 [] [] None; next = S; may_lack_memory = false; failure = None })
 nothing_received {n} {space} S = received n space 0 [] [] no_flags None S false (omega arith) (omega arith) (omega arith) (omega arith)
 
-front_within : (S : State) (p d : ℕ) (s : Socket) (asked : Incoming) (m : Message) (ms : List Message) → HasBounds s.kind s.name s.queue_limit s.queue → s.queue ≡ m ∷ ms →
+front_within : (S : State) (p d : ℕ) (s : Socket) (asked : Incoming) (m : Message) (ms : List Message) →
+    HasBounds s.kind s.name s.queue_limit s.queue → s.queue ≡ m ∷ ms →
     Receives asked.n asked.space (receive_front S p d s asked (front_of asked.n s m ms))
 unfolding receive_front
 front_within S p d s asked m ms bounds q =
     let front : Front = front_of asked.n s m ms in
     let small = front_small asked.n s m ms (subst (λ (l : List Message). HasBounds s.kind s.name s.queue_limit l) q bounds) in
-    received asked.n asked.space _ _ _ _ _ _ true small.few small.limited (control_small s.passcred front.cred front.rights asked.space (table_of S p) small.few_rights) small.short
+    received asked.n asked.space _ _ _ _ _ _ true small.few small.limited
+    (control_small s.passcred front.cred front.rights asked.space (table_of S p) small.few_rights) small.short
 
-receive_within : (S : State) (p d : ℕ) (s : Socket) (asked : Incoming) → HasBounds s.kind s.name s.queue_limit s.queue → Receives asked.n asked.space (receive S p d s asked)
+receive_within : (S : State) (p d : ℕ) (s : Socket) (asked : Incoming) → HasBounds s.kind s.name s.queue_limit s.queue →
+    Receives asked.n asked.space (receive S p d s asked)
 receive_within S p d s asked bounds = either Q (is_dgram s.kind) _ _
-    (λ b. by_queue Q s.queue _ _ (λ none. either Q s.read_shut _ _ (λ c. nothing_received S) (λ c. no_message refl refl)) (λ m ms q. front_within S p d s asked m ms bounds q))
-    (λ b. maybe Q (peer_of s.phase) _ _ (no_message refl refl) (λ peer is. either Q (is_stream s.kind && (asked.n == 0)) _ _ (λ c. nothing_received S)
+    (λ b. by_queue Q s.queue _ _ (λ none. either Q s.read_shut _ _ (λ c. nothing_received S) (λ c. no_message refl refl))
+    (λ m ms q. front_within S p d s asked m ms bounds q))
+    (λ b. maybe Q (peer_of s.phase) _ _ (no_message refl refl)
+    (λ peer is. either Q (is_stream s.kind && (asked.n == 0)) _ _ (λ c. nothing_received S)
     (λ c. by_queue Q s.queue _ _ (λ none. nothing_within peer) (λ m ms q. front_within S p d s asked m ms bounds q))))
   where
     Q : Outcome → Type 0
     Q = Receives asked.n asked.space
 
     nothing_within : (peer : ℕ) → Q (receive_nothing S d s peer)
-    nothing_within peer = either Q s.reset _ _ (λ b. no_message refl refl) (λ b. either Q (at_end S s peer) _ _ (λ c. nothing_received S) (λ c. no_message refl refl))
+    nothing_within peer = either Q s.reset _ _ (λ b. no_message refl refl)
+        (λ b. either Q (at_end S s peer) _ _ (λ c. nothing_received S) (λ c. no_message refl refl))
 
-recv_within : (S : State) (p : ℕ) (fd : Fd) (n space : ℕ) (flags : MsgFlags) → AreBounded S → Within (message_room n space) (recv_msg S p fd n space flags)
+recv_within : (S : State) (p : ℕ) (fd : Fd) (n space : ℕ) (flags : MsgFlags) → AreBounded S →
+    Within (message_room n space) (recv_msg S p fd n space flags)
 unfolding recv_msg
 recv_within S p fd n space flags all = found_socket (Within (message_room n space)) S p fd _ (plain refl) (plain refl)
     (λ d s h. either (Within (message_room n space)) (not (are_receive_flags flags)) _ _ (λ b. plain refl)
@@ -428,7 +478,8 @@ FewRead n (Err error) = Unit {0}
 few_counted : (value n : ℕ) → FewRead n (read_body (counter value) 0 n)
 few_counted value n = go (nat_lt n 8) refl (value == 0)
   where
-    go : (b : Bool) → nat_lt n 8 ≡ b → (c : Bool) → FewRead n (if b then Err invalid else if c then Err would_block else Ok (to_le_bytes w64 value, counter 0))
+    go : (b : Bool) → nat_lt n 8 ≡ b → (c : Bool) →
+        FewRead n (if b then Err invalid else if c then Err would_block else Ok (to_le_bytes w64 value, counter 0))
     go true h c = tt
     go false h true = tt
     go false h false = ltb-false n 8 h
@@ -447,24 +498,30 @@ few_read (counter value) at n = few_counted value n
 few_read (pipe bytes) at n = few_piped bytes n
 
 read_error_within : (n : ℕ) (S : State) (o : ℕ) (view : View) (e : ObjectError) → Within (data_room n) (read_error S o view e)
-read_error_within n S o view would_block = either (Within (data_room n)) (is_pipe view.body && not (is_open_for can_write S o)) _ _ (λ b. record { fits = bytes_fit n [] (omega arith) }) (λ b. plain refl)
+read_error_within n S o view would_block =
+    either (Within (data_room n)) (is_pipe view.body && not (is_open_for can_write S o)) _ _
+    (λ b. record { fits = bytes_fit n [] (omega arith) }) (λ b. plain refl)
 read_error_within n S o view full = plain refl
 read_error_within n S o view invalid = plain refl
 
-read_answer_within : (n : ℕ) (S : State) (d : ℕ) (D : Description) (o : ℕ) (view : View) (r : Result (List ℕ × Body) ObjectError) → FewRead n r → Within (data_room n) (read_answer S d D o view r)
+read_answer_within : (n : ℕ) (S : State) (d : ℕ) (D : Description) (o : ℕ) (view : View) (r : Result (List ℕ × Body) ObjectError) →
+    FewRead n r → Within (data_room n) (read_answer S d D o view r)
 read_answer_within n S d D o view (Ok found) few = record { fits = bytes_fit n found.0 few }
 read_answer_within n S d D o view (Err e) few = read_error_within n S o view e
 
-socket_is : (S : State) (d : ℕ) (D : Description) (s : Socket) → description_at S d ≡ Some D → D.target ≡ to_socket s → socket_at S d ≡ Some s
+socket_is : (S : State) (d : ℕ) (D : Description) (s : Socket) → description_at S d ≡ Some D → D.target ≡ to_socket s →
+    socket_at S d ≡ Some s
 socket_is S d D s h t = ap socket_in h ∙ ap socket_of t
 
 read_within : (S : State) (p : ℕ) (fd : Fd) (n : ℕ) → AreBounded S → Within (data_room (min read_limit n)) (read S p fd n)
 unfolding read
 read_within S p fd n all = found Q S p fd _ (plain refl) (λ e D g h. by_target Q D.target _ _
     (λ o t. maybe Q (place S.objects o) _ _ (plain refl) (λ view there. either Q (not (can_read D.mode)) _ _ (λ b. plain refl)
-    (λ b. either Q (is_short_read view.body most) _ _ (λ b. plain refl) (λ b. either Q (holds_bytes view.body && (most == 0)) _ _ (λ b. record { fits = bytes_fit most [] (omega arith) })
+    (λ b. either Q (is_short_read view.body most) _ _ (λ b. plain refl)
+    (λ b. either Q (holds_bytes view.body && (most == 0)) _ _ (λ b. record { fits = bytes_fit most [] (omega arith) })
     (λ b. read_answer_within most S e.description D o view (read_body view.body D.offset most) (few_read view.body D.offset most))))))
-    (λ s t. record { fits = (receive_within S p e.description s (incoming most 0 no_flags) (socket_bounded S e.description s all (socket_is S e.description D s h t))).alone }))
+    (λ s t. record { fits = (receive_within S p e.description s (incoming most 0 no_flags)
+    (socket_bounded S e.description s all (socket_is S e.description D s h t))).alone }))
   where
     most : ℕ
     most = min read_limit n
@@ -511,12 +568,16 @@ each_within S p tag Request.Off all = off_plain S
 
 chosen_fits : (S T : State) (o : Outcome) (reply : Reply) (room : Size) → Within room o → Chosen S o reply T → Fits (size_of reply) room
 chosen_fits S T o reply room w (own e f) = subst (λ r. Fits (size_of r) room) (sym e) w.fits
-chosen_fits S T o reply room w (lacking_memory e may f) = subst (λ r. Fits (size_of r) room) (sym e) (plain_fits (Reply.Err Errno.ENOMEM) room refl)
+chosen_fits S T o reply room w (lacking_memory e may f) =
+    subst (λ r. Fits (size_of r) room) (sym e) (plain_fits (Reply.Err Errno.ENOMEM) room refl)
 chosen_fits S T o reply room w (failing e f) = subst (λ r. Fits (size_of r) room) (sym e) (plain_fits (Reply.Err Errno.EIO) room refl)
 
-step_fits : (S T : State) (p tag : ℕ) (request : Request) (reply : Reply) (gone : List ℕ) → AreBounded S → Step S p tag request reply gone T → Fits (size_of reply) (room_for request)
+step_fits : (S T : State) (p tag : ℕ) (request : Request) (reply : Reply) (gone : List ℕ) → AreBounded S →
+    Step S p tag request reply gone T → Fits (size_of reply) (room_for request)
 unfolding Step
-step_fits S T p tag request reply gone all s = chosen_fits S s.0 (outcome S p tag request) reply (room_for request) (each_within S p tag request all) s.1
+step_fits S T p tag request reply gone all s =
+    chosen_fits S s.0 (outcome S p tag request) reply (room_for request) (each_within S p tag request all) s.1
 
 pub replies_fit : RepliesFit
-replies_fit boot es e legal may = step_fits (replay boot es) _ e.pid.0 (length es) e.request e.reply e.released (stays_bounded boot es legal) may.steps
+replies_fit boot es e legal may = step_fits (replay boot es) _ e.pid.0 (length es) e.request e.reply e.released
+    (stays_bounded boot es legal) may.steps

@@ -1,5 +1,6 @@
 -- No table ever has more places than one may have.
-use Rattle.std.proofs.Common.{◌≡◌, ℕ, zero, suc, ◌≤◌, List, [], ◌∷◌, ◌++◌, length, map, set, Option, Some, None, refl, ap, sym, subst, arith, slice_get}
+use Rattle.std.proofs.Common.{◌≡◌, ℕ, zero, suc, ◌≤◌, List, [], ◌∷◌, ◌++◌, length, map, set, Option, Some, None, refl, ap, sym, subst}
+use Rattle.std.proofs.Common.{arith, slice_get}
 use Rattle.std.specs.List.{AllByRecursion}
 use Rattle.std.proofs.lemmas.List.{length-map}
 use Rattle.ux_model.specs.Types.{Entry}
@@ -14,7 +15,8 @@ use Rattle.ux_model.specs.History.{replay}
 use Rattle.ux_model.specs.Changes.{TablesStaySmall}
 use Rattle.ux_model.proofs.Named.{table_in}
 use Rattle.ux_model.proofs.Sound.{IsSound}
-use Rattle.ux_model.proofs.Reaching.{May, Reaches, still, process_changed, process_forked, description_made, peers_made, connection_made, description_changed, object_changed, paths_taken, path_bound, name_bound, turned_off, may_change}
+use Rattle.ux_model.proofs.Reaching.{May, Reaches, still, process_changed, process_forked, description_made, peers_made, connection_made}
+use Rattle.ux_model.proofs.Reaching.{description_changed, object_changed, paths_taken, path_bound, name_bound, turned_off, may_change}
 use Rattle.ux_model.proofs.Calls.{step_reached}
 use Rattle.ux_model.proofs.Living.{settled_keeps}
 use Rattle.ux_model.proofs.Dangling.{keeps_sound}
@@ -23,7 +25,8 @@ use Rattle.ux_model.proofs.Induction.{IsKept, kept_throughout}
 abbrev AreSmall : List Process → Type 0
 AreSmall Ps = AllByRecursion (λ P. length (Process.table P) ≤ table_limit) Ps
 
-set_small : (Ps : List Process) (i : ℕ) (P Q : Process) → slice_get Ps i ≡ Some P → length Q.table ≤ length P.table → AreSmall Ps → AreSmall (set Ps i Q)
+set_small : (Ps : List Process) (i : ℕ) (P Q : Process) → slice_get Ps i ≡ Some P → length Q.table ≤ length P.table → AreSmall Ps →
+    AreSmall (set Ps i Q)
 set_small [] i P Q there long small = tt
 set_small (R ∷ Ps) zero P Q there long small =
     let same : R ≡ P = cc there in
@@ -51,13 +54,15 @@ emptied_small (P ∷ Ps) small =
 
 reached_small : (S : State) (may : May) (T : State) → IsSound S → AreSmall S.processes → Reaches S may T → AreSmall T.processes
 reached_small S may T sound small still = small
-reached_small S may T sound small (process_changed {T = U} i P Q r there names lives same) = set_small U.processes i P Q there (names sound).long (reached_small S may U sound small r)
+reached_small S may T sound small (process_changed {T = U} i P Q r there names lives same) =
+    set_small U.processes i P Q there (names sound).long (reached_small S may U sound small r)
 reached_small S may T sound small (process_forked {T = U} i P r there makes) =
     let so_far = reached_small S may U sound small r in
     pushed_small U.processes (child_of P) (small_at U.processes i P there so_far) so_far
 reached_small S may T sound small (description_made {T = U} D r leads holds bounds) = reached_small S may U sound small r
 reached_small S may T sound small (peers_made {T = U} D E r peers) = reached_small S may U sound small r
-reached_small S may T sound small (connection_made {T = U} d l cred listener_cred s listener r here free there) = reached_small S may U sound small r
+reached_small S may T sound small (connection_made {T = U} d l cred listener_cred s listener r here free there) =
+    reached_small S may U sound small r
 reached_small S may T sound small (description_changed {T = U} d x r keeps) = reached_small S may U sound small r
 reached_small S may T sound small (object_changed {T = U} o old new r there opened) = reached_small S may U sound small r
 reached_small S may T sound small (paths_taken {T = U} keep r) = reached_small S may U sound small r
@@ -69,7 +74,8 @@ settled_small : (S : State) → AreSmall S.processes → AreSmall (settled S).pr
 unfolding settled drop_unreferenced
 settled_small S small = subst AreSmall (sym (settled_keeps (length S.descriptions) S)) small
 
-step_small : (S T : State) (p tag : ℕ) (e : Entry) → IsSound S → AreSmall S.processes → Step S p tag e.request e.reply e.released T → AreSmall T.processes
+step_small : (S T : State) (p tag : ℕ) (e : Entry) → IsSound S → AreSmall S.processes → Step S p tag e.request e.reply e.released T →
+    AreSmall T.processes
 step_small S T p tag e sound small step =
     let r = step_reached S T p tag e.request e.reply e.released step in
     subst (λ (U : State). AreSmall U.processes) (sym r.3) (settled_small r.0 (reached_small S (may_change e.request) r.0 sound small r.1))
@@ -77,7 +83,8 @@ step_small S T p tag e sound small step =
 small_kept : (boot : State) → IsKept boot (λ es S. IsSound S × AreSmall S.processes)
 small_kept boot = record {
   at_boot = λ boots. ((keeps_sound boot).at_boot boots, boots.small_tables);
-  by_entry = λ es e S T so_far step allowed. ((keeps_sound boot).by_entry es e S T so_far.0 step allowed, step_small S T e.pid.0 (length es) e so_far.0 so_far.1 step);
+  by_entry = λ es e S T so_far step allowed.
+      ((keeps_sound boot).by_entry es e S T so_far.0 step allowed, step_small S T e.pid.0 (length es) e so_far.0 so_far.1 step);
 }
 
 table_small : (S : State) (p : ℕ) → AreSmall S.processes → length (table_of S p) ≤ table_limit
@@ -89,4 +96,5 @@ table_small S (suc i) small = go (slice_get S.processes i) refl
     go (Some P) h = small_at S.processes i P h small
 
 pub tables_stay_small : TablesStaySmall
-tables_stay_small boot es p legal = table_small (replay boot es) p (kept_throughout boot (λ es S. IsSound S × AreSmall S.processes) (small_kept boot) es legal).1
+tables_stay_small boot es p legal = table_small (replay boot es) p
+    (kept_throughout boot (λ es S. IsSound S × AreSmall S.processes) (small_kept boot) es legal).1

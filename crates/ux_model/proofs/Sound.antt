@@ -31,7 +31,8 @@ pub record IsHeld (S : State) : Type 0 where
   pub all_open : (o : ℕ) (view : View) → place S.objects o ≡ Some view → view.opened ≡ true
   -- an end waits once at most, and only if no accept has taken it
   pub ends_wait : (d : ℕ) → pends_at_all d S.descriptions ≤ at_socket unaccepted (description_at S d)
-  pub names_owned : (i : ℕ) (e : Name × ℕ) → slice_get S.abstract_names i ≡ Some e → name_in (description_at S e.1) ≡ Some (Addr.Abstract e.0)
+  pub names_owned : (i : ℕ) (e : Name × ℕ) → slice_get S.abstract_names i ≡ Some e →
+      name_in (description_at S e.1) ≡ Some (Addr.Abstract e.0)
 
 -- and connections are mutual
 pub record IsSound (S : State) : Type 0 where

@@ -1,5 +1,6 @@
 -- In the states of legal histories names, messages and queues keep to their limits: through the changes of calls and the releases.
-use Rattle.std.proofs.Common.{◌≡◌, ℕ, zero, suc, Bool, true, false, if◌then◌else◌, List, [], ◌∷◌, ◌++◌, length, map, set, Option, Some, None, sym, subst, arith}
+use Rattle.std.proofs.Common.{◌≡◌, ℕ, zero, suc, Bool, true, false, if◌then◌else◌, List, [], ◌∷◌, ◌++◌, length, map, set, Option, Some}
+use Rattle.std.proofs.Common.{None, sym, subst, arith}
 use Rattle.std.specs.Prelude.{option_map}
 use Rattle.ux_model.specs.Types.{Cred, Entry}
 use Rattle.ux_model.specs.Limits.{first_queue_limit}
@@ -18,14 +19,16 @@ use Rattle.ux_model.proofs.OnePlace.{at_each}
 use Rattle.ux_model.proofs.Induction.{IsKept, kept_throughout}
 use Rattle.ux_model.proofs.Sound.{IsSound}
 use Rattle.ux_model.proofs.Bounds.{HasBounds, IsBounded, IsBoundedTarget, IsBoundedPlace, AreBounded, socket_bounded}
-use Rattle.ux_model.proofs.Reaching.{May, may_change, Reaches, still, process_changed, process_forked, description_made, peers_made, connection_made, description_changed, object_changed, paths_taken, path_bound, name_bound, turned_off}
+use Rattle.ux_model.proofs.Reaching.{May, may_change, Reaches, still, process_changed, process_forked, description_made, peers_made}
+use Rattle.ux_model.proofs.Reaching.{connection_made, description_changed, object_changed, paths_taken, path_bound, name_bound, turned_off}
 use Rattle.ux_model.proofs.Calls.{step_reached}
 use Rattle.ux_model.proofs.Dangling.{keeps_sound}
 
 -- ---- changes of the descriptions
 
 -- what holds of each place and of one more
-push_each : {X : Type 0} (Q : Option X → Type 0) (xs : List (Option X)) (x : Option X) → Q None → ((i : ℕ) → Q (place xs i)) → Q x → (i : ℕ) → Q (place (xs ++ x ∷ []) i)
+push_each : {X : Type 0} (Q : Option X → Type 0) (xs : List (Option X)) (x : Option X) → Q None → ((i : ℕ) → Q (place xs i)) → Q x →
+    (i : ℕ) → Q (place (xs ++ x ∷ []) i)
 push_each Q [] x none each one zero = one
 push_each Q [] x none each one (suc i) = none
 push_each Q (y ∷ xs) x none each one zero = each zero
@@ -34,12 +37,15 @@ push_each Q (y ∷ xs) x none each one (suc i) = push_each Q xs x none (λ j. ea
 made_bounded : (S : State) (D : Description) → AreBounded S → IsBoundedTarget D.target → AreBounded (with_new S D)
 made_bounded S D all own = push_each IsBoundedPlace S.descriptions (Some D) tt all own
 
-place_bounded : (S : State) (d : ℕ) (x : Option Description) → AreBounded S → IsBoundedPlace x → AreBounded (record S { descriptions = set S.descriptions d x })
+place_bounded : (S : State) (d : ℕ) (x : Option Description) → AreBounded S → IsBoundedPlace x →
+    AreBounded (record S { descriptions = set S.descriptions d x })
 place_bounded S d x all own i = at_each IsBoundedPlace S.descriptions d i x (all i) (λ e h. own)
 
 -- a socket whose name, type and queue stay
-changed_bounded : (S : State) (d : ℕ) (change : Socket → Socket) → ((s : Socket) → IsBounded s → IsBounded (change s)) → AreBounded S → AreBounded (with_socket_by S d change)
-changed_bounded S d change stays all = place_bounded S d (option_map (changed change) (description_at S d)) all (at_place (description_at S d) (all d))
+changed_bounded : (S : State) (d : ℕ) (change : Socket → Socket) → ((s : Socket) → IsBounded s → IsBounded (change s)) → AreBounded S →
+    AreBounded (with_socket_by S d change)
+changed_bounded S d change stays all = place_bounded S d (option_map (changed change) (description_at S d)) all
+    (at_place (description_at S d) (all d))
   where
     at_target : (t : Target) → IsBoundedTarget t → IsBoundedTarget (changed_target change t)
     at_target (to_object o) own = tt
@@ -50,9 +56,12 @@ changed_bounded S d change stays all = place_bounded S d (option_map (changed ch
     at_place (Some D) own = at_target D.target own
 
 -- a server's end has its listener's name
-connected_bounded : (S : State) (d l : ℕ) (cred listener_cred : Cred) (listener : Socket) → socket_at S l ≡ Some listener → AreBounded S → AreBounded (with_connection S (record { client = d; client_cred = cred; listener = l; socket = listener; listener_cred = listener_cred }))
+connected_bounded : (S : State) (d l : ℕ) (cred listener_cred : Cred) (listener : Socket) → socket_at S l ≡ Some listener → AreBounded S →
+    AreBounded (with_connection S (record { client = d; client_cred = cred; listener = l; socket = listener; listener_cred =
+    listener_cred }))
 connected_bounded S d l cred listener_cred listener there all =
-    let end_bounded : HasBounds listener.kind listener.name first_queue_limit [] = record { short = (socket_bounded S l listener all there).short; each = tt; limited = omega arith; all = λ stream. omega arith } in
+    let end_bounded : HasBounds listener.kind listener.name first_queue_limit [] =
+    record { short = (socket_bounded S l listener all there).short; each = tt; limited = omega arith; all = λ stream. omega arith } in
     let T : State = with_socket_by S l (awaiting (next_description S)) in
     let E : Description = socket_description no_open_flags (server_end listener d cred) in
     changed_bounded (with_new T E) d (tied (next_description S) listener_cred) (λ s own. own)
@@ -69,7 +78,8 @@ reached_bounded : (S : State) (may : May) (T : State) → IsSound S → AreBound
 reached_bounded S may T sound all still = all
 reached_bounded S may T sound all (process_changed {T = U} i P Q r h names kept same) = reached_bounded S may U sound all r
 reached_bounded S may T sound all (process_forked {T = U} i P r h makes) = reached_bounded S may U sound all r
-reached_bounded S may T sound all (description_made {T = U} D r leads nothing bounds) = made_bounded U D (reached_bounded S may U sound all r) bounds
+reached_bounded S may T sound all (description_made {T = U} D r leads nothing bounds) =
+    made_bounded U D (reached_bounded S may U sound all r) bounds
 reached_bounded S may T sound all (peers_made {T = U} D E r peers) =
     made_bounded (with_new U D) E (made_bounded U D (reached_bounded S may U sound all r) peers.first_bounds) peers.second_bounds
 reached_bounded S may T sound all (connection_made {T = U} d l cred listener_cred s listener r client free there) =
@@ -91,7 +101,8 @@ without_bounded gone S all d = subst IsBoundedPlace (sym (description_at-without
     at_target (to_object o) own = tt
     at_target (to_socket s) own = own
 
-    go : (b : Bool) (x : Option Description) → IsBoundedPlace x → IsBoundedPlace (if b then None else option_map (description_after_loss gone S) x)
+    go : (b : Bool) (x : Option Description) → IsBoundedPlace x →
+        IsBoundedPlace (if b then None else option_map (description_after_loss gone S) x)
     go true x own = tt
     go false None own = tt
     go false (Some D) own = at_target D.target own
@@ -101,7 +112,8 @@ unfolding drop_rounds
 rounds_bounded zero S all = all
 rounds_bounded (suc n) S all = go (has_unreferenced S) (rounds_bounded n (drop_all S) (without_bounded (is_unreferenced S) S all))
   where
-    go : (b : Bool) → AreBounded (drop_rounds n (drop_all S)) → AreBounded (elim b as (λ _. State) [ true ↦ drop_rounds n (drop_all S) | false ↦ S ])
+    go : (b : Bool) → AreBounded (drop_rounds n (drop_all S)) →
+        AreBounded (elim b as (λ _. State) [ true ↦ drop_rounds n (drop_all S) | false ↦ S ])
     go true later = later
     go false later = all
 
@@ -121,8 +133,10 @@ step_bounded p tag e S T sound all step =
 
 keeps_bounded : (boot : State) → IsKept boot HasBounded
 keeps_bounded boot = record {
-  at_boot = λ boots. ((keeps_sound boot).at_boot boots, λ d. subst (λ (ds : List (Option Description)). IsBoundedPlace (place ds d)) (sym boots.no_descriptions) tt);
-  by_entry = λ es e S T so_far step allowed. ((keeps_sound boot).by_entry es e S T so_far.0 step allowed, step_bounded e.pid.0 (length es) e S T so_far.0 so_far.1 step);
+  at_boot = λ boots. ((keeps_sound boot).at_boot boots, λ d. subst
+      (λ (ds : List (Option Description)). IsBoundedPlace (place ds d)) (sym boots.no_descriptions) tt);
+  by_entry = λ es e S T so_far step allowed.
+      ((keeps_sound boot).by_entry es e S T so_far.0 step allowed, step_bounded e.pid.0 (length es) e S T so_far.0 so_far.1 step);
 }
 
 pub stays_bounded : (boot : State) (es : List Entry) → IsLegal boot es → AreBounded (replay boot es)

@@ -26,12 +26,14 @@ pub by_target : (Q : Outcome → Type 0) (t : Target) (f : ℕ → Outcome) (g :
 by_target Q (to_object o) f g h k = h o refl
 by_target Q (to_socket s) f g h k = k s refl
 
-pub by_path : (Q : Outcome → Type 0) (t : PathTarget) (f g : ℕ → Outcome) → ((o : ℕ) → t ≡ file o → Q (f o)) → ((d : ℕ) → t ≡ bound d → Q (g d)) →
+pub by_path : (Q : Outcome → Type 0) (t : PathTarget) (f g : ℕ → Outcome) → ((o : ℕ) → t ≡ file o → Q (f o)) →
+    ((d : ℕ) → t ≡ bound d → Q (g d)) →
     Q (elim t as (λ _. Outcome) [ file o ↦ f o | bound d ↦ g d ])
 by_path Q (file o) f g h k = h o refl
 by_path Q (bound d) f g h k = k d refl
 
-pub by_queue : (Q : Outcome → Type 0) (q : List Message) (x : Outcome) (f : Message → List Message → Outcome) → (q ≡ [] → Q x) → ((m : Message) (ms : List Message) → q ≡ m ∷ ms → Q (f m ms)) →
+pub by_queue : (Q : Outcome → Type 0) (q : List Message) (x : Outcome) (f : Message → List Message → Outcome) → (q ≡ [] → Q x) →
+    ((m : Message) (ms : List Message) → q ≡ m ∷ ms → Q (f m ms)) →
     Q (elim q as (λ _. Outcome) [ [] ↦ x | m ∷ ms ↦ f m ms ])
 by_queue Q [] x f h k = h refl
 by_queue Q (m ∷ ms) x f h k = k m ms refl
@@ -48,10 +50,12 @@ abbrev on_led : State → (Descriptor → Description → Outcome) → Result (D
 on_led S rest r = elim r [ Err x ↦ refuse S x | Ok f ↦ rest f.0 f.1 ]
 
 pub found : (Q : Outcome → Type 0) (S : State) (p : ℕ) (fd : Fd) (rest : Descriptor → Description → Outcome) → Q (refuse S Errno.EBADF) →
-    ((e : Descriptor) (D : Description) → descriptor_at S p fd ≡ Some e → description_at S e.description ≡ Some D → Q (rest e D)) → Q (on_descriptor S p fd rest)
+    ((e : Descriptor) (D : Description) → descriptor_at S p fd ≡ Some e → description_at S e.description ≡ Some D → Q (rest e D)) →
+    Q (on_descriptor S p fd rest)
 found Q S p fd rest bad rest_of = go (descriptor_at S p fd) refl
   where
-    there : (e : Descriptor) → descriptor_at S p fd ≡ Some e → (o : Option Description) → description_at S e.description ≡ o → Q (on_led S rest (described e o))
+    there : (e : Descriptor) → descriptor_at S p fd ≡ Some e → (o : Option Description) → description_at S e.description ≡ o →
+        Q (on_led S rest (described e o))
     there e g None h = bad
     there e g (Some D) h = rest_of e D g h
 
@@ -69,7 +73,8 @@ socket_found r = elim r [ Err x ↦ Err x | Ok f ↦ socket_led f.0 f.1.target ]
 abbrev on_found : State → (ℕ → Socket → Outcome) → Result (ℕ × Socket) Errno → Outcome
 on_found S rest r = elim r [ Err x ↦ refuse S x | Ok f ↦ rest f.0 f.1 ]
 
-pub found_socket : (Q : Outcome → Type 0) (S : State) (p : ℕ) (fd : Fd) (rest : ℕ → Socket → Outcome) → Q (refuse S Errno.EBADF) → Q (refuse S Errno.ENOTSOCK) →
+pub found_socket : (Q : Outcome → Type 0) (S : State) (p : ℕ) (fd : Fd) (rest : ℕ → Socket → Outcome) → Q (refuse S Errno.EBADF) →
+    Q (refuse S Errno.ENOTSOCK) →
     ((d : ℕ) (s : Socket) → socket_at S d ≡ Some s → Q (rest d s)) → Q (on_socket S p fd rest)
 found_socket Q S p fd rest bad other rest_of = go (descriptor_at S p fd)
   where
@@ -77,7 +82,8 @@ found_socket Q S p fd rest bad other rest_of = go (descriptor_at S p fd)
     at_target e (to_object o) h = other
     at_target e (to_socket s) h = rest_of e.description s h
 
-    there : (e : Descriptor) (o : Option Description) → description_at S e.description ≡ o → Q (on_found S rest (socket_found (described e o)))
+    there : (e : Descriptor) (o : Option Description) → description_at S e.description ≡ o →
+        Q (on_found S rest (socket_found (described e o)))
     there e None h = bad
     there e (Some D) h = at_target e D.target (ap socket_in h)
 
@@ -93,8 +99,10 @@ typed d s b = if b then Ok (d, s) else Err Errno.EPROTOTYPE
 abbrev of_kind : SockType → ℕ → Option Socket → Result (ℕ × Socket) Errno
 of_kind kind d o = elim o [ None ↦ Err Errno.ECONNREFUSED | Some s ↦ typed d s (same_kind kind s.kind) ]
 
-pub found_named : (Q : Outcome → Type 0) (S : State) (kind : SockType) (addr : Addr) (rest : ℕ → Socket → Outcome) → Q (refuse S Errno.EINVAL) → Q (refuse S Errno.ENOENT) →
-    Q (refuse S Errno.ECONNREFUSED) → Q (refuse S Errno.EPROTOTYPE) → ((d : ℕ) (s : Socket) → socket_at S d ≡ Some s → Q (rest d s)) → Q (on_found S rest (look_up S kind addr))
+pub found_named : (Q : Outcome → Type 0) (S : State) (kind : SockType) (addr : Addr) (rest : ℕ → Socket → Outcome) →
+    Q (refuse S Errno.EINVAL) → Q (refuse S Errno.ENOENT) →
+    Q (refuse S Errno.ECONNREFUSED) → Q (refuse S Errno.EPROTOTYPE) → ((d : ℕ) (s : Socket) → socket_at S d ≡ Some s → Q (rest d s)) →
+    Q (on_found S rest (look_up S kind addr))
 found_named Q S kind addr rest bad none nobody other rest_of = by_addr addr
   where
     by_kind : (d : ℕ) (s : Socket) → socket_at S d ≡ Some s → (b : Bool) → Q (on_found S rest (typed d s b))
@@ -105,12 +113,14 @@ found_named Q S kind addr rest bad none nobody other rest_of = by_addr addr
     by_socket d None h = nobody
     by_socket d (Some s) h = by_kind d s h (same_kind kind s.kind)
 
-    at_path : (o : Option PathTarget) → Q (on_found S rest (elim o as (λ _. Result (ℕ × Socket) Errno) [ None ↦ Err Errno.ENOENT | Some t ↦ socket_of_target S kind t ]))
+    at_path : (o : Option PathTarget) → Q (on_found S rest
+        (elim o as (λ _. Result (ℕ × Socket) Errno) [ None ↦ Err Errno.ENOENT | Some t ↦ socket_of_target S kind t ]))
     at_path None = none
     at_path (Some (file o)) = nobody
     at_path (Some (bound d)) = by_socket d (socket_at S d) refl
 
-    at_name : (o : Option ℕ) → Q (on_found S rest (elim o as (λ _. Result (ℕ × Socket) Errno) [ None ↦ Err Errno.ECONNREFUSED | Some d ↦ of_kind kind d (socket_at S d) ]))
+    at_name : (o : Option ℕ) → Q (on_found S rest
+        (elim o as (λ _. Result (ℕ × Socket) Errno) [ None ↦ Err Errno.ECONNREFUSED | Some d ↦ of_kind kind d (socket_at S d) ]))
     at_name None = nobody
     at_name (Some d) = by_socket d (socket_at S d) refl
 
@@ -127,10 +137,13 @@ pub found_peer : (Q : Outcome → Type 0) (S : State) (phase : Phase) (rest : Ad
     ((d : ℕ) (s : Socket) → socket_at S d ≡ Some s → Q (rest s.name)) → Q (on_name S rest (peer_name S phase))
 found_peer Q S phase rest none rest_of = by_peer (tied_socket phase)
   where
-    by_socket : (d : ℕ) (o : Option Socket) → socket_at S d ≡ o → Q (on_name S rest (elim o as (λ _. Result Addr Errno) [ None ↦ Err Errno.ENOTCONN | Some s ↦ Ok s.name ]))
+    by_socket : (d : ℕ) (o : Option Socket) → socket_at S d ≡ o →
+        Q (on_name S rest (elim o as (λ _. Result Addr Errno) [ None ↦ Err Errno.ENOTCONN | Some s ↦ Ok s.name ]))
     by_socket d None h = none
     by_socket d (Some s) h = rest_of d s h
 
-    by_peer : (o : Option ℕ) → Q (on_name S rest (elim o as (λ _. Result Addr Errno) [ None ↦ Err Errno.ENOTCONN | Some peer ↦ elim (socket_at S peer) as (λ _. Result Addr Errno) [ None ↦ Err Errno.ENOTCONN | Some s ↦ Ok s.name ] ]))
+    by_peer : (o : Option ℕ) → Q (on_name S rest
+        (elim o as (λ _. Result Addr Errno) [ None ↦ Err Errno.ENOTCONN | Some peer ↦ elim (socket_at S peer) as
+        (λ _. Result Addr Errno) [ None ↦ Err Errno.ENOTCONN | Some s ↦ Ok s.name ] ]))
     by_peer None = none
     by_peer (Some peer) = by_socket peer (socket_at S peer) refl

@@ -34,7 +34,8 @@ FlightIsLimited =
 
 -- user 0 alone has privileged processes, and each process may have so many descriptors at most
 abbrev pub OnlyRootIsPrivileged : State → ℕ → Type 0
-OnlyRootIsPrivileged S limit = (p : ℕ) (P : Process) → process_at S p ≡ Some P → (P.privileged ≡ true → P.uid ≡ 0) × (length P.table ≤ limit)
+OnlyRootIsPrivileged S limit = (p : ℕ) (P : Process) → process_at S p ≡ Some P →
+    (P.privileged ≡ true → P.uid ≡ 0) × (length P.table ≤ limit)
 
 -- then no other user ever has more rights in flight, whoever becomes one
 abbrev pub FlightOfUsersIsLimited : Type 0
