@@ -50,13 +50,17 @@ fn send(alloc: Global, queue: &mut RecordQueue, message: &Bytes) -> bool {
     queue.send(draft, RefList::new(alloc), None).is_ok()
 }
 
-/// Takes a message of this length.
+/// Takes a message of this length, as a receive does.
 fn take(queue: &mut RecordQueue, length: usize) -> bool {
     if queue.is_empty() {
         return false;
     }
-    let received = queue.take(length);
-    received.whole == length && received.bytes.as_slice().last() == Some(&BYTE)
+    let Ok(received) = queue.peek(length) else {
+        return false;
+    };
+    queue.pop_message().is_some()
+        && received.whole == length
+        && received.bytes.as_slice().last() == Some(&BYTE)
 }
 
 /// Takes all messages off.

@@ -63,15 +63,16 @@ fn send(alloc: Global, queue: &mut StreamQueue, message: &Bytes) -> bool {
     }
 }
 
-/// Takes so many bytes.
+/// Takes so many bytes, as a receive does.
 fn take(alloc: Global, queue: &mut StreamQueue, length: usize) -> bool {
     if queue.is_empty() {
         return false;
     }
-    match queue.take(alloc, length, false) {
-        Ok(received) => is_message(received.bytes.as_slice(), length),
-        Err(_) => false,
-    }
+    let Ok(received) = queue.peek(alloc, length, false) else {
+        return false;
+    };
+    let _ = queue.skip(length, false);
+    is_message(received.bytes.as_slice(), length)
 }
 
 /// Whether this is a message of that length, by its ends.

@@ -57,6 +57,24 @@ fn send<A: Allocator + Copy>(
     assert!(rt; sent.is_ok());
 }
 
+/// Takes the first message, of which a receive of at most n bytes gives this.
+fn receive<A: Allocator + Copy>(
+    rt: &impl Abort,
+    queue: &mut RecordQueue<A>,
+    n: usize,
+) -> Result<Received, AllocError>
+    requires { 0 < length queue.old }
+{
+    let received = queue.peek(n)?;
+    match queue.pop_message() {
+        Some((rights, uid)) => {
+            assert_eq!(rt; (rights.len(), uid), (received.rights.len(), 1000));
+        }
+        None => assert!(rt; false),
+    }
+    Ok(received)
+}
+
 /// Peeks at the message of call 9, and takes it.
 fn take_cut<A: Allocator + Copy>(
     rt: &impl Abort,
@@ -65,18 +83,22 @@ fn take_cut<A: Allocator + Copy>(
 ) -> Result<(), AllocError> {
     assert!(rt; !queue.is_empty());
     assert_cut(rt, queue.peek(2)?, from);
-    assert_cut(rt, queue.take(2), from);
+    assert_cut(rt, receive(rt, queue, 2)?, from);
     Ok(())
 }
 
 /// Takes two messages without bytes, the second without a look at it.
-fn take_both<A: Allocator + Copy>(rt: &impl Abort, queue: &mut RecordQueue<A>) {
+fn take_both<A: Allocator + Copy>(
+    rt: &impl Abort,
+    queue: &mut RecordQueue<A>,
+) -> Result<(), AllocError> {
     assert!(rt; !queue.is_empty());
-    assert_nothing(rt, queue.take(8));
+    assert_nothing(rt, receive(rt, queue, 8)?);
     match queue.pop_message() {
         Some((rights, uid)) => assert_eq!(rt; (rights.len(), uid), (0, 1000)),
         None => assert!(rt; false),
     }
+    Ok(())
 }
 
 #[test]
@@ -111,7 +133,7 @@ fn whole_messages_in_order(rt: HostRuntime) -> Result<(), AllocError> {
     );
     assert_eq!(rt; queue.len(), 3);
     take_cut(&rt, &mut queue, &from)?;
-    take_both(&rt, &mut queue);
+    take_both(&rt, &mut queue)?;
     assert!(rt; queue.is_empty());
     assert!(rt; queue.pop_message().is_none());
     Ok(())
@@ -209,7 +231,7 @@ fn take<A: Allocator + Copy>(
 ) -> Result<(), AllocError> {
     assert!(rt; !queue.is_empty());
     expect_whole(rt, queue.peek(20)?, tag, from);
-    expect_whole(rt, queue.take(20), tag, from);
+    expect_whole(rt, receive(rt, queue, 20)?, tag, from);
     Ok(())
 }
 
@@ -256,28 +278,23 @@ fn refused_allocations_change_nothing(rt: HostRuntime) -> Result<(), AllocError>
     Ok(())
 }
 
-/// Takes a message of one byte, where a copy of its rights is refused.
-fn take_alone(rt: &impl Abort, queue: &mut RecordQueue) -> Received {
-    assert!(rt; !queue.is_empty());
-    assert!(rt; is_refused(queue.peek(1)));
-    queue.take(1)
-}
-
-/// Where there is no memory, a peek at many rights is refused, and they can still be taken.
+/// Where there is no memory, a peek at many rights is refused, and they can still be taken off.
 #[test]
 fn what_cannot_be_copied_moves(rt: HostRuntime) -> Result<(), AllocError> {
     let alloc = rt.alloc();
     let mut queue = RecordQueue::new(alloc);
-    let from = Some(path(alloc, b"/a/name/of/many/bytes")?);
     let rights = references(alloc, &[1, 2, 3, 4, 5])?;
-    let bytes = Bytes::short(b"a");
-    send(&rt, &mut queue, &bytes, 1, rights, from.clone()?);
-    assert_eq!(rt; queue.len(), 1);
+    send(&rt, &mut queue, &Bytes::short(b"a"), 1, rights, None);
+    assert!(rt; !queue.is_empty());
     let hoard = Hoard::take_all(alloc)?;
-    let first = take_alone(&rt, &mut queue);
+    let refused = is_refused(queue.peek(1));
+    let first = queue.pop_message();
     drop(hoard);
-    assert_eq!(rt; first.rights.len(), 5);
-    assert!(rt; first.from == from);
+    assert!(rt; refused);
+    match first {
+        Some((rights, uid)) => assert_eq!(rt; (rights.len(), uid), (5, 1000)),
+        None => assert!(rt; false),
+    }
     Ok(())
 }
 
@@ -304,7 +321,7 @@ fn take_each(
             expect_first(rt, queue.peek(*peeked)?, *peeked, bytes, from);
         }
         assert!(rt; !queue.is_empty());
-        expect_first(rt, queue.take(*n), *n, bytes, from);
+        expect_first(rt, receive(rt, queue, *n)?, *n, bytes, from);
     }
     Ok(())
 }

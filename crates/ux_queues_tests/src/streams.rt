@@ -9,7 +9,7 @@ use linked_list_allocator::LocalHeap;
 use list_queue::{ListFront, ListMessage, ListQueue};
 use std::alloc::{AllocError, Allocator, Global};
 use std::process::Abort;
-use ux_rights::{Draft, Origin, SendError};
+use ux_rights::{Draft, Origin, RefList, SendError};
 use ux_stream::{Received, StreamQueue};
 use ux_types::{Bytes, Cred, Pid, SHORT_BYTES};
 
@@ -67,10 +67,11 @@ fn assert_front(rt: &impl Abort, received: Received, wanted: &ListFront) {
     );
 }
 
-/// Sees which bytes and references a receive gives.
-fn expect_bytes(rt: &impl Abort, received: Received, bytes: &[u8], numbers: &[u128]) {
-    assert_eq!(rt; received.bytes.as_slice(), bytes);
-    expect_references(rt, &received.rights, numbers);
+/// Sees which rights came off the queue, and from which send.
+fn expect_skipped(rt: &impl Abort, skipped: (RefList, Option<Origin>), wanted: &ListFront) {
+    let (rights, origin) = skipped;
+    expect_references(rt, &rights, &wanted.rights);
+    assert_eq!(rt; origin, wanted.origin);
 }
 
 /// Two queues that were treated alike.
@@ -164,10 +165,11 @@ impl<A: Allocator + Copy> Both<A> {
         let wanted = self.list.front(n, wants_cred)?;
         assert!(rt; self.queue.is_empty() == wanted.is_none());
         if let Some(wanted) = wanted {
-            match self.queue.take(self.alloc, n, wants_cred) {
+            match self.queue.peek(self.alloc, n, wants_cred) {
                 Ok(received) => {
                     assert_front(rt, received, &wanted);
                     self.list.drop_front(wanted.bytes.len());
+                    expect_skipped(rt, self.queue.skip(n, wants_cred), &wanted);
                 }
                 Err(AllocError) => {
                     self.refused_receives = self.refused_receives.saturating_add(1);
@@ -188,13 +190,14 @@ impl<A: Allocator + Copy> Both<A> {
         assert!(rt; self.queue.is_empty() == wanted.is_none());
         if let Some(wanted) = wanted {
             let hoard = Hoard::take_all(self.alloc)?;
-            let taken = self.queue.take(self.alloc, n, wants_cred);
+            let peeked = self.queue.peek(self.alloc, n, wants_cred);
             drop(hoard);
-            assert_eq!(rt; taken.is_ok(), wanted.bytes.len() <= SHORT_BYTES);
-            match taken {
+            assert_eq!(rt; peeked.is_ok(), wanted.bytes.len() <= SHORT_BYTES);
+            match peeked {
                 Ok(received) => {
                     assert_front(rt, received, &wanted);
                     self.list.drop_front(wanted.bytes.len());
+                    expect_skipped(rt, self.queue.skip(n, wants_cred), &wanted);
                 }
                 Err(AllocError) => {
                     self.refused_receives = self.refused_receives.saturating_add(1);
@@ -208,10 +211,8 @@ impl<A: Allocator + Copy> Both<A> {
         let wanted = self.list.front(n, wants_cred)?;
         assert!(rt; self.queue.is_empty() == wanted.is_none());
         if let Some(wanted) = wanted {
-            let (rights, origin) = self.queue.skip(n, wants_cred);
-            expect_references(rt, &rights, &wanted.rights);
-            assert_eq!(rt; origin, wanted.origin);
             self.list.drop_front(wanted.bytes.len());
+            expect_skipped(rt, self.queue.skip(n, wants_cred), &wanted);
         }
         Ok(())
     }
@@ -302,17 +303,6 @@ fn few_bytes_are_received_without_memory(rt: HostRuntime) -> Result<(), AllocErr
     Ok(())
 }
 
-/// Takes two bytes of a queue, where a copy of the rights is refused.
-fn take_alone(
-    rt: &impl Abort,
-    alloc: Global,
-    queue: &mut StreamQueue,
-) -> Result<Received, AllocError> {
-    assert!(rt; !queue.is_empty());
-    assert!(rt; is_refused(queue.peek(alloc, 2, true)));
-    queue.take(alloc, 2, true)
-}
-
 /// Two bytes need no memory, so only the copy of the rights is refused.
 #[test]
 fn rights_move_where_they_cannot_be_copied(rt: HostRuntime) -> Result<(), AllocError> {
@@ -333,10 +323,14 @@ fn rights_move_where_they_cannot_be_copied(rt: HostRuntime) -> Result<(), AllocE
     };
     let sent = queue.send(draft, 9, references(alloc, &numbers)?);
     assert!(rt; sent.is_ok());
+    assert!(rt; !queue.is_empty());
     let hoard = Hoard::take_all(alloc)?;
-    let taken = take_alone(&rt, alloc, &mut queue);
+    let refused = is_refused(queue.peek(alloc, 2, true));
+    let (rights, origin) = queue.skip(2, true);
     drop(hoard);
-    expect_bytes(&rt, taken?, b"ab", &numbers);
+    assert!(rt; refused);
+    expect_references(&rt, &rights, &numbers);
+    assert_eq!(rt; origin, Some(Origin { tag: 7, uid: 2 }));
     assert_eq!(rt; queue.len_bytes(), 1);
     Ok(())
 }

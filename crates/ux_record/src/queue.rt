@@ -132,19 +132,8 @@ impl<A: Allocator + Copy> RecordQueue<A> {
         Ok(())
     }
 
-    /// Takes the first message, with its first n bytes; the rest of it is gone (recvmsg(2)). It takes no
-    /// memory.
-    pub fn take(&mut self, n: usize) -> Received
-        requires { 0 < length self.old }
-        ensures shows { OnRecordFront n self.old (λ f. Shows f result) }
-        ensures rest { OnRecordFront n self.old (λ f. self.new ≡ f.rest) }
-        ensures some_origin { IsSome result.origin ↔ (0 < length result.rights) }
-    {
-        let record = self.records.pop_front().unwrap();
-        record.into_received(n)
-    }
-
-    /// What `take` would give. The queue stays as it is.
+    /// What a receive of at most n bytes gives of the first message, all of which it takes off (recvmsg(2)). The queue
+    /// stays as it is.
     ///
     /// # Errors
     ///

@@ -112,36 +112,7 @@ impl Record {
         })
     }
 
-    /// What a receive of at most n bytes gives. It copies none of more than 14.
-    pub fn into_received(self, n: usize) -> Received
-        ensures bytes { result.bytes ≡ take n self.bytes }
-        ensures whole { result.whole ≡ length self.bytes }
-        ensures rights { result.rights ≡ self.rights }
-        ensures origin { result.origin ≡ origin_of self }
-        ensures cred { result.cred ≡ self.cred }
-        ensures from { result.from ≡ self.from }
-    {
-        let origin = self.origin();
-        let Record {
-            tag: _,
-            bytes,
-            rights,
-            cred,
-            uid: _,
-            from,
-        } = self;
-        let whole = bytes.len();
-        Received {
-            bytes: bytes.first(n),
-            whole,
-            rights,
-            origin,
-            cred,
-            from,
-        }
-    }
-
-    /// What a receive of at most n bytes gives, for one that leaves the message where it is.
+    /// What a receive of at most n bytes gives. The message stays where it is.
     pub fn copy_received(&self, n: usize) -> Result<Received, AllocError>
         ensures bytes { IfOk result (λ r. r.bytes ≡ take n self.now.bytes) }
         ensures whole { IfOk result (λ r. r.whole ≡ length self.now.bytes) }

@@ -149,38 +149,9 @@ impl<A: Allocator + Copy> StreamQueue<A> {
         Ok(count)
     }
 
-    /// Takes at most n bytes from the front, with the rights that come with them. It joins messages up to
-    /// the first with rights, and where credentials are wanted only such as have the same (unix(7)).
-    ///
-    /// # Errors
-    ///
-    /// Out of memory. The queue stands as before.
-    pub fn take(
-        &mut self,
-        alloc: Global,
-        n: usize,
-        wants_cred: bool,
-    ) -> Result<Received, AllocError>
-        requires { 0 < length self.old }
-        ensures shows { IfOk result (λ r. OnStreamFront wants_cred n self.old (λ f. Shows f r)) }
-        ensures rest { OnOk result (OnStreamFront wants_cred n self.old (λ f. self.new ≡ f.rest)) }
-        ensures some_origin { IfOk result (λ r. IsSome r.origin ↔ (0 < length r.rights)) }
-        ensures err { OnErr result (self.new ≡ self.old) }
-    {
-        let reach = reach_of(&self.marks, n, wants_cred);
-        let bytes = self.ring.front(alloc, reach.count)?;
-        self.ring.drop_front(reach.count);
-        let rights = take_bytes(&mut self.marks, reach.count);
-        Ok(Received {
-            bytes,
-            rights: rights.references,
-            origin: rights.origin,
-            cred: reach.cred,
-        })
-    }
-
-    /// Takes off what `take` would, and gives the rights that come with it, and the send that they come
-    /// from. It takes no memory.
+    /// Takes at most n bytes off the front, and gives the rights that come with them, and the send that these come
+    /// from. It joins messages up to the first with rights, and where credentials are wanted only such as have the
+    /// same (unix(7)). It takes no memory.
     pub fn skip(&mut self, n: usize, wants_cred: bool) -> (RefList, Option<Origin>)
         requires { 0 < length self.old }
         ensures rights { OnStreamFront wants_cred n self.old (λ f. result.0 ≡ f.rights) }
@@ -193,7 +164,7 @@ impl<A: Allocator + Copy> StreamQueue<A> {
         (rights.references, rights.origin)
     }
 
-    /// What `take` would give. The queue stays as it is.
+    /// What `skip` would take off, as a receive gives it. The queue stays as it is.
     ///
     /// # Errors
     ///
