@@ -18,6 +18,8 @@ pub struct Unread<'a> {
     /// The descriptions that it passes, in order.
     pub rights: &'a [Reference],
     pub cred: Cred,
+    /// The user of the sending process, of whose rights in flight these are.
+    pub uid: u32,
     /// The sender's name at the time of sending, of a datagram.
     pub from: Option<&'a Addr>,
 }
@@ -39,6 +41,7 @@ impl Socket {
         ensures len { option_map (λ u. u.len) result ≡ option_map (λ m. length m.bytes) (slice_get self.now.queue index) }
         ensures rights { option_map (λ u. u.rights.now) result ≡ option_map (λ m. m.rights) (slice_get self.now.queue index) }
         ensures cred { option_map (λ u. u.cred) result ≡ option_map (λ m. m.cred) (slice_get self.now.queue index) }
+        ensures uid { option_map (λ u. u.uid) result ≡ option_map (λ m. m.uid) (slice_get self.now.queue index) }
         ensures from { option_and_then (λ u. option_map (λ a. a.now) u.from) result ≡ option_and_then (λ m. m.from) (slice_get self.now.queue index) }
     {
         match &self.queue {
@@ -60,6 +63,7 @@ fn of_mark(mark: &Mark) -> Unread<'_>
     ensures len { result.len ≡ mark.now.count }
     ensures rights { result.rights.now ≡ mark.now.rights }
     ensures cred { result.cred ≡ mark.now.cred }
+    ensures uid { result.uid ≡ mark.now.uid }
     ensures from { result.from ≡ None }
 {
     Unread {
@@ -67,6 +71,7 @@ fn of_mark(mark: &Mark) -> Unread<'_>
         len: mark.len(),
         rights: mark.rights(),
         cred: mark.cred(),
+        uid: mark.uid(),
         from: None,
     }
 }
@@ -77,6 +82,7 @@ fn of_record(whole: &Record) -> Unread<'_>
     ensures len { result.len ≡ length whole.now.bytes }
     ensures rights { result.rights.now ≡ whole.now.rights }
     ensures cred { result.cred ≡ whole.now.cred }
+    ensures uid { result.uid ≡ whole.now.uid }
     ensures from { option_map (λ a. a.now) result.from ≡ whole.now.from }
 {
     Unread {
@@ -84,6 +90,7 @@ fn of_record(whole: &Record) -> Unread<'_>
         len: whole.len(),
         rights: whole.rights(),
         cred: whole.cred(),
+        uid: whole.uid(),
         from: whole.from(),
     }
 }

@@ -92,6 +92,13 @@ impl Record {
         self.cred
     }
 
+    /// The user of the sending process.
+    pub fn uid(&self) -> u32
+        ensures { result ≡ self.now.uid }
+    {
+        self.uid
+    }
+
     /// The sender's name at the time of sending, of a datagram.
     pub fn from(&self) -> Option<&Addr>
         ensures { option_copied result ≡ self.now.from }
