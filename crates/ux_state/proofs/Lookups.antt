@@ -66,6 +66,17 @@ table_put S p P table live e =
     with_process_is S p (record P { table = table }) (live_positive S p live)
     ∙ sym (ap (λ o. elim o as (λ _. State) [ Some P ↦ with_process S p (record P { table = table }) | None ↦ S ]) (found_process S p P live e))
 
+-- a changed process that stands in the place of a live one, through the parts of a state
+pub process_put : (V S : State) (p : ℕ) (R P Q : Process) (change : Process → Process) → is_live S p ≡ true → V ≡ S → R ≡ get_or V.processes (p - 1) R → process_at S p ≡ Some P → Q ≡ change R →
+    record V { processes = set V.processes (p - 1) Q } ≡ with_process S p (change P)
+process_put V S p R P Q change live same here found changed =
+    let lives : is_live V p ≡ true = ap (λ U. is_live U p) same ∙ live in
+    let one : Some R ≡ Some P = sym (found_process V p R lives here) ∙ ap (λ U. process_at U p) same ∙ found in
+    let is : R ≡ P = cc one in
+    ap (λ q. record V { processes = set V.processes (p - 1) q }) (changed ∙ ap change is)
+    ∙ with_process_is V p (change P) (live_positive V p lives)
+    ∙ ap (λ U. with_process U p (change P)) same
+
 -- a process through its parts
 pub at_view : (ps : List Process) (i : ℕ) (P R : Process) → P ≡ get_or ps i P → R ≡ P → R ≡ get_or ps i R
 at_view ps i P R at same = subst (λ Q. Q ≡ get_or ps i Q) (sym same) at

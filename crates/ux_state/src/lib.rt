@@ -21,6 +21,7 @@ mod references;
 mod release;
 mod released_objects;
 mod state;
+mod users;
 
 pub use finding::{FoundDescription, FoundSocket};
 pub use released_objects::{ReleasedObject, ReleasedObjects};

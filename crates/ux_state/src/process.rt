@@ -4,6 +4,7 @@ ghost use Rattle.std.specs.Borrow.{sem};
 ghost use Rattle.ux_model.specs.Boot.{new_process};
 ghost use Rattle.ux_model.specs.Closing.{with_nothing_open};
 ghost use Rattle.ux_model.specs.Forking.{child_of};
+ghost use Rattle.ux_model.specs.Users.{with_ids};
 ghost use Rattle.ux_state.specs.Lends.{lends_process};
 
 use std::alloc::{AllocError, Global};
@@ -54,6 +55,15 @@ impl Process {
             exited: false,
             table: self.table.clone()?,
         })
+    }
+
+    /// Gives it other ids. Its privileges go where it was user 0 and is another now (capabilities(7)).
+    pub(crate) fn set_ids(&mut self, uid: u32, gid: u32)
+        ensures { self.new ≡ with_ids uid gid self.old }
+    {
+        self.privileged = self.privileged && (uid == 0 || self.uid != 0);
+        self.uid = uid;
+        self.gid = gid;
     }
 
     /// Closes all its descriptors.

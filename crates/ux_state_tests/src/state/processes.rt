@@ -116,6 +116,69 @@ fn a_child_is_of_its_parents_user(rt: HostRuntime) -> Result<(), Fail> {
     Ok(())
 }
 
+/// Gives a process other ids.
+fn set_ids<O: FileObject>(rt: &impl Abort, state: &mut State<O>, pid: u32, uid: u32, gid: u32) {
+    assert!(rt; state.is_live(Pid(pid)));
+    state.set_ids(Pid(pid), uid, gid);
+}
+
+/// A process of the superuser, and one of a user with its privileges.
+const PRIVILEGED: [ProcSpec; 2] = [
+    ProcSpec {
+        uid: 0,
+        gid: 1,
+        privileged: true,
+        limit: 4,
+    },
+    ProcSpec {
+        uid: 7,
+        gid: 7,
+        privileged: true,
+        limit: 4,
+    },
+];
+
+/// Other ids, with the user and the group that they leave, and whether the process has privileges still.
+const BECOME: &[(u32, u32, u32, bool)] = &[
+    (1, 0, 5, true),
+    (1, 1000, 100, false),
+    (1, 0, 0, false),
+    (2, 7, 9, true),
+    (2, 8, 8, true),
+    (2, 0, 3, true),
+    (2, 8, 8, false),
+];
+
+#[test]
+fn privileges_go_where_user_0_becomes_another(rt: HostRuntime) -> Result<(), Fail> {
+    let alloc = rt.alloc();
+    let mut held = start_with(&rt, alloc, Counter::new(), Counter::new(), &PRIVILEGED)?;
+    let s = &mut held.state;
+    for (pid, uid, gid, privileged) in BECOME {
+        set_ids(&rt, s, *pid, *uid, *gid);
+        expect_user(&rt, s, *pid, (*uid, *gid, *privileged));
+    }
+    expect_user(&rt, s, 1, (0, 0, false));
+    Ok(())
+}
+
+#[test]
+fn rights_in_flight_stay_with_the_user_that_sent_them(rt: HostRuntime) -> Result<(), Fail> {
+    let alloc = rt.alloc();
+    let mut held = start_with_files(&rt, alloc)?;
+    let s = &mut held.state;
+    open_marked(&rt, s, 0);
+    open_pair(&rt, s, 1, 2);
+    pass(&rt, alloc, s, 1, 0, 1000)?;
+    set_ids(&rt, s, 1, 1001, 1001);
+    assert!(rt; s.rights_in_flight(1000) == 1);
+    assert!(rt; s.rights_in_flight(1001) == 0);
+    expect_counts(&rt, s, [2, 1, 1]);
+    assert!(rt; fork(&rt, s, 1) == Ok(Pid(3)));
+    expect_user(&rt, s, 3, (1001, 1001, false));
+    Ok(())
+}
+
 /// Whether a fork of process 1 is made while there is no memory.
 fn forks_without_memory<O: FileObject>(
     rt: &impl Abort,
