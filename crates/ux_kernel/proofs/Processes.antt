@@ -1,5 +1,6 @@
 -- What the calls of a live process come to.
-use Rattle.std.proofs.Common.{◌≡◌, ℕ, ◌≤◌, ◌<◌, true, false, not, if◌then◌else◌, List, [], length, Option, Some, None, map, sym, ◌∙◌, ap, refl}
+use Rattle.std.proofs.Common.{◌≡◌, ℕ, ◌≤◌, ◌<◌, Bool, true, false, not, if◌then◌else◌, List, [], length, Option, Some, None, map, sym, ◌∙◌, ap, refl, subst}
+use Rattle.std.specs.Prelude.{◌||◌, ◌==◌, IsSomeAnd}
 use Rattle.std.proofs.lemmas.Bool.{false≢true, le-leb, lt-leb}
 use Rattle.ux_model.specs.Types.{Errno, Pid, Reply}
 use Rattle.ux_model.specs.Limits.{made_limit}
@@ -8,6 +9,7 @@ use Rattle.ux_model.specs.State.{State, process_at, is_live, table_of, next_proc
 use Rattle.ux_model.specs.Outcome.{Outcome, refuse, answer, taking_memory, as_process}
 use Rattle.ux_model.specs.Closing.{exit}
 use Rattle.ux_model.specs.Forking.{child_of, fork, exec}
+use Rattle.ux_model.specs.Users.{no_id, may_become, with_ids, set_ids}
 
 -- a live process has a place
 pub live_at : (S : State) (p : ℕ) → is_live S p ≡ true → (P : Process) × (process_at S p ≡ Some P)
@@ -59,3 +61,45 @@ unfolding exec
 exec_next S p live =
     ap (λ o. with_table S p (map kept_on_exec (elim o as (λ _. List (Option Descriptor)) [ Some P ↦ P.table | None ↦ [] ]))) (live_at S p live).1
     ∙ sym (ap (λ o. Outcome.next o) (at_live S p live _))
+
+-- ---- other ids
+
+-- the outcome of this process, by the two tests
+abbrev ids_by : (S : State) (p uid gid : ℕ) (P : Process) (none own : Bool) → Outcome
+ids_by S p uid gid P none own =
+    if none then refuse S Errno.EINVAL else if not own then refuse S Errno.EPERM else answer Reply.Ok (with_process S p (with_ids uid gid P))
+
+abbrev pub has_no_id : ℕ → ℕ → Bool
+has_no_id uid gid = (uid == no_id) || (gid == no_id)
+
+ids_is : (S : State) (p uid gid : ℕ) (P : Process) (none own : Bool) → process_at S p ≡ Some P → has_no_id uid gid ≡ none → may_become uid gid P ≡ own → set_ids S p uid gid ≡ ids_by S p uid gid P none own
+unfolding set_ids
+ids_is S p uid gid P none own here a b =
+    ap (λ o. elim o as (λ _. Outcome) [ None ↦ refuse S Errno.ESRCH | Some Q ↦ ids_by S p uid gid Q (has_no_id uid gid) (may_become uid gid Q) ]) here
+    ∙ ap (λ t. ids_by S p uid gid P t (may_become uid gid P)) a
+    ∙ ap (λ t. ids_by S p uid gid P none t) b
+
+pub no_ids_refused : (S : State) (p uid gid : ℕ) → is_live S p ≡ true → has_no_id uid gid ≡ true → (Reply.Err Errno.EINVAL ≡ (set_ids S p uid gid).reply) × (S ≡ (set_ids S p uid gid).next)
+no_ids_refused S p uid gid live none =
+    let is = ids_is S p uid gid (live_at S p live).0 true _ (live_at S p live).1 none refl in
+    (sym (ap (λ o. Outcome.reply o) is), sym (ap (λ o. Outcome.next o) is))
+
+-- what a test says of the process of a number
+by_process : (S : State) (p : ℕ) (P : Process) (holds : Process → Type 0) → process_at S p ≡ Some P → IsSomeAnd (process_at S p) holds → holds P
+by_process S p P holds here said = subst (λ o. IsSomeAnd o holds) here said
+
+pub others_ids_refused : (S : State) (p uid gid : ℕ) (own : Bool) → is_live S p ≡ true → has_no_id uid gid ≡ false → IsSomeAnd (process_at S p) (λ P. own ≡ may_become uid gid P) → own ≡ false →
+    (Reply.Err Errno.EPERM ≡ (set_ids S p uid gid).reply) × (S ≡ (set_ids S p uid gid).next)
+others_ids_refused S p uid gid own live some said others =
+    let P = (live_at S p live).0 in
+    let here = (live_at S p live).1 in
+    let is = ids_is S p uid gid P false false here some (sym (by_process S p P (λ P. own ≡ may_become uid gid P) here said) ∙ others) in
+    (sym (ap (λ o. Outcome.reply o) is), sym (ap (λ o. Outcome.next o) is))
+
+pub ids_taken : (S T : State) (p uid gid : ℕ) (own : Bool) → is_live S p ≡ true → has_no_id uid gid ≡ false → IsSomeAnd (process_at S p) (λ P. own ≡ may_become uid gid P) → own ≡ true →
+    ((P : Process) → process_at S p ≡ Some P → T ≡ with_process S p (with_ids uid gid P)) → (Reply.Ok ≡ (set_ids S p uid gid).reply) × (T ≡ (set_ids S p uid gid).next)
+ids_taken S T p uid gid own live some said may made =
+    let P = (live_at S p live).0 in
+    let here = (live_at S p live).1 in
+    let is = ids_is S p uid gid P false true here some (sym (by_process S p P (λ P. own ≡ may_become uid gid P) here said) ∙ may) in
+    (sym (ap (λ o. Outcome.reply o) is), made P here ∙ sym (ap (λ o. Outcome.next o) is))

@@ -19,6 +19,7 @@ mod polling;
 mod reading;
 mod step;
 mod unlinking;
+mod users;
 mod waiting;
 mod writing;
 

@@ -21,7 +21,8 @@ impl<O: FileObject> Kernel<O> {
     /// a message that it sends keeps; the answer reports that of the message of which rights were received. A
     /// refusal is the reply. One with ENOMEM leaves the kernel as it was, and
     /// close(2), unlink(2), lseek(2), the flags of fcntl(2), listen(2), shutdown(2), getsockopt(2), poll(2),
-    /// setsockopt(2) of a queue's limit, execve(2), _exit(2) and the end of the layer never give it.
+    /// setsockopt(2) of a queue's limit, setresuid(2) with setresgid(2), execve(2), _exit(2) and the end of the layer
+    /// never give it.
     #[tactic(auto, unfolding(ux_model::specs::Step::Step))]
     pub fn step(
         &mut self,
@@ -113,6 +114,7 @@ impl<O: FileObject> Kernel<O> {
                 return recv_msg(&mut self.state, self.alloc, pid, *fd, asked);
             }
             Request::Poll { fd } => self.poll(pid, *fd),
+            Request::SetIds { uid, gid } => self.set_ids(pid, *uid, *gid),
             Request::Fork => self.fork(pid),
             Request::Exec => Ok(self.exec(pid)),
             Request::Exit => Ok(self.exit(pid)),

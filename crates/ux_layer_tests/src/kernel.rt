@@ -12,6 +12,7 @@ mod pairs;
 mod paths;
 mod queue_limits;
 mod rights;
+mod users;
 mod waiting;
 
 use files::{FileCall, file_request_of};
@@ -111,6 +112,36 @@ fn taken(alloc: Global, flags: u8, numbers: &[u32]) -> Result<Reply, AllocError>
         bytes: Bytes::from_slice(alloc, b"x")?,
         flags: MsgFlags(flags),
         control: Bytes::new(rights_item(alloc, numbers)?)?,
+        from: None,
+    })
+}
+
+/// The bytes of an SCM_CREDENTIALS item (unix(7)).
+fn credentials_item(alloc: Global, pid: u32, uid: u32, gid: u32) -> Result<Vec<u8>, AllocError> {
+    let mut bytes = Vec::new(alloc);
+    bytes.extend_from_slice(&[28, 0, 0, 0, 0, 0, 0, 0, 1, 0, 0, 0, 2, 0, 0, 0])?;
+    bytes.extend_from_slice(&pid.to_le_bytes())?;
+    bytes.extend_from_slice(&uid.to_le_bytes())?;
+    bytes.extend_from_slice(&gid.to_le_bytes())?;
+    Ok(bytes)
+}
+
+fn claim(alloc: Global, fd: u32, pid: u32, uid: u32, gid: u32) -> Result<Request, AllocError> {
+    Ok(Request::SendMsg {
+        fd: Fd(fd),
+        addr: None,
+        bytes: Bytes::from_slice(alloc, b"x")?,
+        control: Bytes::new(credentials_item(alloc, pid, uid, gid)?)?,
+        flags: MsgFlags(0),
+    })
+}
+
+fn signed(alloc: Global, pid: u32, uid: u32, gid: u32) -> Result<Reply, AllocError> {
+    Ok(Reply::Received {
+        count: 1,
+        bytes: Bytes::from_slice(alloc, b"x")?,
+        flags: MsgFlags(0),
+        control: Bytes::new(credentials_item(alloc, pid, uid, gid)?)?,
         from: None,
     })
 }
@@ -226,10 +257,14 @@ enum Asked {
     Recv(u32, usize, u8),
     /// A send of one byte `x` with these rights.
     Pass(u32, &'static [u32]),
+    /// A send of one byte `x` with these credentials: a process, a user and a group.
+    Claim(u32, u32, u32, u32),
     /// A receive of one byte with this control space, by these flags.
     Take(u32, usize, u8),
     Close(u32),
     Unlink(&'static [u8]),
+    /// A user and a group.
+    SetIds(u32, u32),
     Fork,
     Exec,
     Exit,
@@ -252,6 +287,8 @@ enum Told {
     GotMany(usize),
     /// One byte `x` with these flags and these rights.
     Taken(u8, &'static [u32]),
+    /// One byte `x` with the credentials of a process, a user and a group.
+    Signed(u32, u32, u32),
     Accepted(u32, At),
     Addr(At),
     Opt(u64),
@@ -327,6 +364,7 @@ fn request_of(alloc: Global, asked: &Asked) -> Result<Request, AllocError> {
         Asked::SendMany(fd, count) => send(alloc, *fd, None, &copies(alloc, *count)?, 0)?,
         Asked::Recv(fd, n, flags) => recv(*fd, *n, *flags),
         Asked::Pass(fd, numbers) => pass(alloc, *fd, numbers)?,
+        Asked::Claim(fd, pid, uid, gid) => claim(alloc, *fd, *pid, *uid, *gid)?,
         Asked::Take(fd, space, flags) => Request::RecvMsg {
             fd: Fd(*fd),
             n: 1,
@@ -335,6 +373,10 @@ fn request_of(alloc: Global, asked: &Asked) -> Result<Request, AllocError> {
         },
         Asked::Close(fd) => Request::Close { fd: Fd(*fd) },
         Asked::Unlink(path) => unlink(alloc, path)?,
+        Asked::SetIds(uid, gid) => Request::SetIds {
+            uid: *uid,
+            gid: *gid,
+        },
         Asked::Fork => Request::Fork,
         Asked::Exec => Request::Exec,
         Asked::Exit => Request::Exit,
@@ -354,6 +396,7 @@ fn reply_of(alloc: Global, told: &Told) -> Result<Reply, AllocError> {
         Told::From(bytes, flags, at) => got(alloc, bytes, *flags, Some(addr_of(alloc, at)?))?,
         Told::GotMany(count) => got(alloc, &copies(alloc, *count)?, 0, None)?,
         Told::Taken(flags, numbers) => taken(alloc, *flags, numbers)?,
+        Told::Signed(pid, uid, gid) => signed(alloc, *pid, *uid, *gid)?,
         Told::Accepted(fd, at) => Reply::Accepted(Fd(*fd), addr_of(alloc, at)?),
         Told::Addr(at) => Reply::Addr(addr_of(alloc, at)?),
         Told::Opt(value) => Reply::Opt(*value),
