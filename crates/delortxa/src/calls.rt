@@ -444,6 +444,20 @@ pub trait Calls<C: Copy> {
         reply.ready()
     }
 
+    /// setresuid(2) and setresgid(2) at once: the real, the effective and the saved ids of the process become these.
+    /// EINVAL where one is 4294967295, which is no id; else EPERM where the process is unprivileged and they aren't its
+    /// own. Privileges go where user 0 becomes another (capabilities(7)). Credentials that were recorded before stay
+    /// (unix(7)).
+    #[tactic(auto, using(crate::proofs::Calling::fails))]
+    final fn set_ids(&mut self, who: C, uid: u32, gid: u32) -> Result<(), CallError>
+        ensures made { OnOk result (did who self.old self.new (Request.SetIds uid gid) Reply.Ok) }
+        ensures refused { IfErr result (λ error. Fails did unmade who self.old self.new (Request.SetIds uid gid) error) }
+    {
+        let request = call::set_ids(uid, gid);
+        let reply = self.ask(who, &request)?;
+        reply.done()
+    }
+
     /// execve(2), of which the layer sees the descriptors alone.
     #[tactic(auto, using(crate::proofs::Calling::fails))]
     final fn exec(&mut self, who: C) -> Result<(), CallError>

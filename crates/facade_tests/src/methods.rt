@@ -7,6 +7,7 @@ use std::test::Fail;
 
 mod files;
 mod sockets;
+mod users;
 
 /// The process that makes the calls.
 pub(crate) const CALLER: Cred = Cred {
@@ -16,7 +17,7 @@ pub(crate) const CALLER: Cred = Cred {
 };
 
 /// How many calls `call_all` makes, each of which is an entry.
-pub(crate) const CALLS: u64 = 88;
+pub(crate) const CALLS: u64 = 90;
 
 /// How many processes there may be, those that have exited too.
 pub(crate) const MOST: u32 = 1024;
@@ -59,6 +60,7 @@ pub(crate) fn refuses<T: Drop>(
 pub(crate) fn call_all<C: Copy, P: Calls<C>>(process: &mut P, who: C) -> Result<(), Wrong> {
     files::open_and_move(process, who)?;
     files::copy_and_close(process, who)?;
+    users::take_ids(process, who)?;
     files::use_objects(process, who)?;
     sockets::listen_at_a_path(process, who)?;
     sockets::talk(process, who)?;

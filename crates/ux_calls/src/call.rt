@@ -331,6 +331,13 @@ pub fn poll(fd: Fd) -> Request
     Request::Poll { fd }
 }
 
+/// setresuid(2) and setresgid(2) at once: the real, the effective and the saved ids are one.
+pub fn set_ids(uid: u32, gid: u32) -> Request
+    ensures { result ≡ Request.SetIds uid gid }
+{
+    Request::SetIds { uid, gid }
+}
+
 /// execve(2), of which the layer sees the descriptors alone.
 pub fn exec() -> Request
     ensures { result ≡ Request.Exec }
