@@ -63,10 +63,14 @@ fn was_made<W: BookName, O: FileObject>(serial: &Serial<W, O>, pid: Pid) -> bool
 }
 
 /// Whether a call concerns its process alone: it is answered by the process's own descriptors, and adds one of a new
-/// socket or of what they lead to already. It never waits.
+/// socket or of what they lead to already; or by the process's own ids, and changes those, which no call of another
+/// process reads: what it sent, or recorded, has the ids of that time. It never waits.
 pub(crate) fn is_alone(request: &Request) -> bool {
     matches!(
         request,
-        Request::Socket { .. } | Request::SocketPair { .. } | Request::Dup { .. }
+        Request::Socket { .. }
+            | Request::SocketPair { .. }
+            | Request::Dup { .. }
+            | Request::SetIds { .. }
     )
 }

@@ -24,9 +24,9 @@ struct Speller<'a, O: FileObject> {
 }
 
 /// Spells the state at the end of this history, behind what was spelled before. States that are spelled alike differ in
-/// nothing that a call or a reply depends on but in what is in file objects: processes with their open numbers, paths,
-/// descriptions, sockets with what waits at them, and which objects are open. What isn't spelled follows from the
-/// replies that the processes got: who is whose child, and with what credentials.
+/// nothing that a call or a reply depends on but in what is in file objects: processes with whom they run as and their
+/// open numbers, paths, descriptions, sockets with what waits at them, and which objects are open. What isn't spelled
+/// follows from the replies that the processes got: who is whose child.
 ///
 /// # Errors
 ///
@@ -60,12 +60,14 @@ impl<O: FileObject> Speller<'_, O> {
         Ok(())
     }
 
-    /// The open numbers of a process, rising.
+    /// Who a process runs as, and its open numbers, rising.
     fn process(&mut self, pid: Pid) -> Result<(), AllocError> {
         let state = self.state;
         if !state.is_live(pid) {
             return self.out.number(0);
         }
+        self.cred(state.credentials(pid))?;
+        self.out.flag(state.is_privileged(pid))?;
         let table = state.table(pid);
         for number in 0..table.limit() {
             if let Some(descriptor) = table.get(Fd(number)) {
@@ -291,7 +293,8 @@ impl<O: FileObject> Speller<'_, O> {
         Ok(())
     }
 
-    /// A message: not which call sent it, but what it sent, and where rights are with it who did.
+    /// A message: not which call sent it, but what it sent, and where rights are with it which user's they are in
+    /// flight: the sender's at the time, who may tell of others (SCM_CREDENTIALS) and become another.
     fn message(&mut self, unread: Unread<'_>) -> Result<(), AllocError> {
         let entries = self.entries;
         let Some(entry) = entries.get(unread.tag as usize) else {
@@ -309,7 +312,7 @@ impl<O: FileObject> Speller<'_, O> {
         }
         self.out.number(unread.rights.len() as u64)?;
         if !unread.rights.is_empty() {
-            self.out.number(u64::from(entry.pid.0))?;
+            self.out.number(u64::from(unread.uid))?;
         }
         for right in unread.rights {
             self.place(right.description())?;

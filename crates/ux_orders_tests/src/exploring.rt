@@ -1,4 +1,5 @@
 //! All orders of a script.
+use crate::beside::are_same_runs;
 use crate::machine::{each_by, found_by, list_of, run_in};
 use std::alloc::Global;
 use std::test::Fail;
@@ -38,6 +39,14 @@ const ROWS: &[Row] = &[
     // A line and an exit of each: 6 ways to lay two rows of two into one another, and 2 orders of the exits.
     Row {
         text: "proc 1 1 0 4\nproc 1 1 0 4\n1 socket stream -\n2 socket stream -\n",
+        orders: 6,
+        reduced: 2,
+        outcomes: &["1,1,2,2"],
+        deadlocks: 0,
+    },
+    // A process's ids concern it alone, as a new socket does.
+    Row {
+        text: "serial\nproc 0 0 1 4\nproc 0 0 1 4\n1 setids 1 1\n2 setids 1 1\n",
         orders: 6,
         reduced: 2,
         outcomes: &["1,1,2,2"],
@@ -203,6 +212,60 @@ fn orders_that_meet_go_on_as_one(rt: HostRuntime) -> Result<(), Fail> {
         assert!(rt; merged.is_all && merged.orders == row.outcomes.len() as u64);
         assert!(rt; has_outcomes(rt.alloc(), &merged, row)?);
     }
+    Ok(())
+}
+
+/// Process 1 sends each of two clients a message with two rights, in the order in which they connected, and tells of user
+/// 5 both times; it is user 7 the first time, and 8 the second. The second client never receives its message. Process 4,
+/// of user 7, may have two rights in flight.
+const SENT_AS_TWO: &str = "serial
+proc 7 7 1 8
+proc 1 1 0 4
+proc 1 1 0 4
+proc 7 7 0 2
+2 socket stream -
+3 wait 2 1
+3 socket stream -
+1 wait 3 1
+1 socket stream -
+1 bind 0 a:server
+1 listen 0 2
+2 wait 1 3
+2 connect 0 a:server
+3 wait 1 3
+3 connect 0 a:server
+1 wait 2 2
+1 wait 3 2
+1 accept 0 -
+1 accept 0 -
+1 send 1 - 78 c:1,5,5+r:0,0 -
+1 setids 8 8
+1 send 2 - 78 c:1,5,5+r:0,0 -
+1 close 1
+1 close 2
+2 wait 1 10
+2 recv 0 1 0 -
+4 wait 2 3
+4 pair stream -
+4 send 0 - 78 r:0 -
+4 exit
+2 wait 4 3
+2 exit
+3 wait 2 4
+3 exit
+1 wait 3 3
+1 exit
+";
+
+/// Where process 2 connects first, the two rights in flight are user 8's, and process 4 may pass one. Where process 3
+/// does, they are user 7's. Nothing else differs once process 1 has closed its ends.
+#[test]
+fn messages_differ_by_whose_rights_are_in_flight(rt: HostRuntime) -> Result<(), Fail> {
+    let each = each_by(rt.alloc(), SENT_AS_TWO, MANY)?;
+    assert!(rt; each.is_all && each.orders == 2 && each.outcomes.len() == 2);
+    let merged = found_by(rt.alloc(), SENT_AS_TWO, MANY, Reduction::all())?;
+    assert!(rt; merged.is_all && merged.orders == 2);
+    assert!(rt; are_same_runs(rt.alloc(), &each.outcomes, &merged.outcomes)?);
     Ok(())
 }
 

@@ -35,7 +35,7 @@ impl Dice {
 /// The place of a line in a script: the process, and what it may ask for.
 type Slot = (u32, &'static [&'static str]);
 
-/// Scripts of three processes with four lines each.
+/// Scripts of three processes with three or four lines each.
 #[derive(Clone, Copy)]
 struct Family {
     header: &'static str,
@@ -182,6 +182,40 @@ const PASSED: Family = Family {
     ],
 };
 
+const BECOME: &[&str] = &[
+    "setids 1 1",
+    "setids 0 5",
+    "setids 7 7",
+    "setids 1 1",
+    "send 0 - 78 r:1 -",
+    "send 0 - 78 r:1,1,1,1 -",
+    "send 0 - 78 c:1,1,1+r:1 -",
+    "send 0 - 78 c:1,1,1 -",
+    "recv 1 1 32 -",
+    "recv 1 1 0 d",
+    "setopt 1 passcred 1",
+    "pair dgram -",
+    "getopt 2 peercred",
+    "close 0",
+];
+
+/// Processes with a pair in common, which become other users.
+const USERS: Family = Family {
+    header: "serial\nproc 0 0 1 4\n",
+    slots: &[
+        (1, &["pair stream -", "pair seq -", "pair dgram -"]),
+        (1, &["setids 0 5", "setids 0 5", "setids 1 1"]),
+        (1, &["fork"]),
+        (1, &["fork"]),
+        (2, BECOME),
+        (2, BECOME),
+        (2, &["exit"]),
+        (3, BECOME),
+        (3, BECOME),
+        (3, &["exit"]),
+    ],
+};
+
 /// A script of a family.
 fn script_of(alloc: Global, family: &Family, dice: &mut Dice) -> Result<String, Fail> {
     let mut text = String::from_str(alloc, family.header)?;
@@ -287,5 +321,12 @@ fn users_of_the_same_files(rt: HostRuntime) -> Result<(), Fail> {
 fn holders_of_a_passed_file(rt: HostRuntime) -> Result<(), Fail> {
     let seen = compare(rt.alloc(), &PASSED)?;
     assert!(rt; is_seen(&seen) && seen.deadlocks > 0);
+    Ok(())
+}
+
+#[test]
+fn users_of_the_same_pair(rt: HostRuntime) -> Result<(), Fail> {
+    let seen = compare(rt.alloc(), &USERS)?;
+    assert!(rt; is_seen(&seen));
     Ok(())
 }
