@@ -97,6 +97,7 @@ arguments_telling read (Request.SendMsg fd addr bytes control flags) =
     decimal fd.0 ∷ addr_or_dash addr ∷ quoted bytes ∷ told_text control read ∷ msg_flags flags ∷ []
 arguments_telling read (Request.RecvMsg fd n space flags) = decimal fd.0 ∷ decimal n ∷ decimal space ∷ msg_flags flags ∷ []
 arguments_telling read (Request.Poll fd) = decimal fd.0 ∷ []
+arguments_telling read (Request.SetIds uid gid) = decimal uid ∷ decimal gid ∷ []
 arguments_telling read Request.Fork = []
 arguments_telling read Request.Exec = []
 arguments_telling read Request.Exit = []

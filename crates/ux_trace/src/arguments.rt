@@ -135,6 +135,7 @@ impl fmt::Display for CallText<'_> {
                     MessageLetters(*flags)
                 )
             }
+            Request::SetIds { uid, gid } => write!(f, "{word}({uid}, {gid})"),
             Request::Fork | Request::Exec | Request::Exit | Request::Off => write!(f, "{word}()"),
         }
     }
