@@ -51,7 +51,7 @@ fn cause_of_fork(script: &Script, pid: u32) -> Cause {
 
 /// Whether a call stands in a script with the line `serial` alone.
 fn stands_behind_serial(call: &[u8]) -> bool {
-    call == b"dupfd".as_slice() || call == b"getfl".as_slice()
+    call == b"dupfd".as_slice() || call == b"getfl".as_slice() || call == b"setids".as_slice()
 }
 
 /// Why the line of a process isn't allowed behind these of a script.

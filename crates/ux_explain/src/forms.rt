@@ -109,6 +109,10 @@ const FD: Form = Form::Number("FD", 0);
 
 const N: Form = Form::Number("N", 0);
 
+const UID: Form = Form::Number("UID", 0);
+
+const GID: Form = Form::Number("GID", 0);
+
 const MODE: Form = Form::Choice("MODE", &["r", "w", "rw"]);
 
 const TYPE: Form = Form::Choice("TYPE", &["stream", "dgram", "seq"]);
@@ -230,6 +234,10 @@ pub(crate) const CALLS: &[Row] = &[
         forms: &[FD],
     },
     Row {
+        word: "setids",
+        forms: &[UID, GID],
+    },
+    Row {
         word: "fork",
         forms: &[],
     },
@@ -296,8 +304,8 @@ pub(crate) const HEADS: &[Row] = &[
     Row {
         word: "proc",
         forms: &[
-            Form::Number("UID", 0),
-            Form::Number("GID", 0),
+            UID,
+            GID,
             Form::Choice("PRIV", &["0", "1"]),
             Form::Number("LIMIT", 0),
         ],

@@ -18,7 +18,7 @@ use Rattle.ux_syntax.specs.Lines.{Line}
 use Rattle.ux_syntax.specs.declared.script.Script.{Script}
 use Rattle.ux_syntax.specs.declared.reading.Item.{Item}
 use Rattle.ux_syntax.specs.Text.{plain_line}
-use Rattle.ux_syntax.specs.Spelling.{Written, open_path, read_fd, write_fd, seek, dup_fd, dup_onto, dup_above, get_flags, set_flags, close, unlink_path, socket, pair, bind, listen, connect, accept, shut, get_opt, set_opt, sock_name, peer_name, send, recv, poll, fork, exec, exit, meaning, Asked, call, wait, act_of, Turn, line_of, Plan, plan_of, objects_of, procs_of, header_line, turn_line, serial_lines, off_lines, is_meant, line_limit, AreShort, FitsHeader, FitsTurn, IsProcess, AwaitsProcess, NamesProcesses, IsCallOfStranger, IsFaultOf, is_off, asks_exit, asks_off, asks_fork, asks_recorded, MayAsk, forks_of, known_count, EachKnowing, MayFork, NoneAfterExit, IsCall, IsOrderly, SpellScript, IsFirstFault}
+use Rattle.ux_syntax.specs.Spelling.{Written, open_path, read_fd, write_fd, seek, dup_fd, dup_onto, dup_above, get_flags, set_flags, close, unlink_path, socket, pair, bind, listen, connect, accept, shut, get_opt, set_opt, sock_name, peer_name, send, recv, poll, set_ids, fork, exec, exit, meaning, Asked, call, wait, act_of, Turn, line_of, Plan, plan_of, objects_of, procs_of, header_line, turn_line, serial_lines, off_lines, is_meant, line_limit, AreShort, FitsHeader, FitsTurn, IsProcess, AwaitsProcess, NamesProcesses, IsCallOfStranger, IsFaultOf, is_off, asks_exit, asks_off, asks_fork, asks_recorded, MayAsk, forks_of, known_count, EachKnowing, MayFork, NoneAfterExit, IsCall, IsOrderly, SpellScript, IsFirstFault}
 use Rattle.ux_syntax.specs.Turns.{has_exited, is_known, awaits_known}
 use Rattle.ux_syntax.specs.Reading.{◌>>=◌, line_fault, words_at, item_at, with_header, with_line, with_off, with_serial, is_unsaid, may_fork, joined_by_fork, is_barred, joined_by_allowed, joined_by_other, joined_by, is_skipped, added, line_at, on_line, lines_at, no_lines}
 use Rattle.ux_syntax.specs.Results.{FailsAt, Refuses, GivesScript}
@@ -497,6 +497,7 @@ is_no_end (peer_name fd) = refl
 is_no_end (send fd addr bytes control flags) = refl
 is_no_end (recv fd n space flags) = refl
 is_no_end (poll fd) = refl
+is_no_end (set_ids uid gid) = refl
 is_no_end fork = refl
 is_no_end exec = refl
 is_no_end exit = refl

@@ -17,7 +17,7 @@ use Rattle.ux_syntax.specs.declared.script.Header.{Header}
 use Rattle.ux_trace.specs.Trace.{hex, path_text}
 use Rattle.ux_syntax.specs.Digits.{◌>>=◌}
 use Rattle.ux_syntax.specs.Text.{hex_word_at, raw_word_at, first_word, space_at, space_word_at, special_word_at, plain_fields, behind, call_fields, fields_by, fields_of, plain_line}
-use Rattle.ux_syntax.specs.Spelling.{open_path, read_fd, write_fd, seek, dup_fd, dup_onto, dup_above, get_flags, set_flags, close, unlink_path, socket, pair, bind, listen, connect, accept, shut, get_opt, set_opt, sock_name, peer_name, send, recv, poll, fork, exec, exit, Asked, call, wait, Turn, asked_words, turn_line, kind_text, fail_words, body_words, header_words, header_line, serial_lines, off_lines, control_text, msg_flags, AreBytes, IsNumber, FitsBody, FitsControl, FitsAsked, FitsTurn, FitsHeader}
+use Rattle.ux_syntax.specs.Spelling.{open_path, read_fd, write_fd, seek, dup_fd, dup_onto, dup_above, get_flags, set_flags, close, unlink_path, socket, pair, bind, listen, connect, accept, shut, get_opt, set_opt, sock_name, peer_name, send, recv, poll, set_ids, fork, exec, exit, Asked, call, wait, Turn, asked_words, turn_line, kind_text, fail_words, body_words, header_words, header_line, serial_lines, off_lines, control_text, msg_flags, AreBytes, IsNumber, FitsBody, FitsControl, FitsAsked, FitsTurn, FitsHeader}
 use Rattle.ux_syntax.specs.PlainLines.{PlainLinesStay}
 use Rattle.ux_syntax.proofs.Rows.{IsSolid, solid_from, number_kind}
 use Rattle.ux_syntax.proofs.Asking.{asked_solid}
@@ -177,6 +177,7 @@ asked_stays pid (call (set_opt fd opt value)) p f = turn_stays_by pid (call (set
 asked_stays pid (call (sock_name fd)) p f = turn_stays_by pid (call (sock_name fd)) [] p f refl tt
 asked_stays pid (call (peer_name fd)) p f = turn_stays_by pid (call (peer_name fd)) [] p f refl tt
 asked_stays pid (call (poll fd)) p f = turn_stays_by pid (call (poll fd)) [] p f refl tt
+asked_stays pid (call (set_ids uid gid)) p f = turn_stays_by pid (call (set_ids uid gid)) [] p f refl tt
 asked_stays pid (call fork) p f = turn_stays_by pid (call fork) [] p f refl tt
 asked_stays pid (call exec) p f = turn_stays_by pid (call exec) [] p f refl tt
 asked_stays pid (call exit) p f = turn_stays_by pid (call exit) [] p f refl tt

@@ -25,7 +25,7 @@ pub use Rattle.ux_syntax.specs.Digits.{◌>>=◌, is_plain, digit_at}
 unfoldable pub use Rattle.ux_syntax.specs.Digits.{number_at}
 use Rattle.ux_syntax.specs.Text.{plain_line}
 use Rattle.ux_syntax.specs.Spelling.{Plan, open_path, read_fd, write_fd, seek, dup_fd, dup_onto, dup_above, get_flags, set_flags, close, unlink_path, socket}
-use Rattle.ux_syntax.specs.Spelling.{pair, bind, listen, connect, accept, shut, get_opt, set_opt, sock_name, peer_name, send, recv, poll}
+use Rattle.ux_syntax.specs.Spelling.{pair, bind, listen, connect, accept, shut, get_opt, set_opt, sock_name, peer_name, send, recv, poll, set_ids}
 use Rattle.ux_syntax.specs.Spelling.{fork, exec, exit, meaning, bit, mode_text, type_text, option_text, whence_text, kind_text, is_meant}
 use Rattle.ux_syntax.specs.Spelling.{asks_fork, asks_recorded, known_count, line_limit}
 use Rattle.ux_syntax.specs.Turns.{has_exited, is_known, awaits_known}
@@ -330,6 +330,9 @@ recv_at ws = (number_at >> number_at >> number_at >> msg_flags_at >> ends) ws >>
 unfoldable pub poll_at : List (List ℕ) → Result Request Fault
 poll_at ws = (number_at >> ends) ws >>= λ x. Ok (meaning (poll x.0))
 
+unfoldable pub set_ids_at : List (List ℕ) → Result Request Fault
+set_ids_at ws = (number_at >> number_at >> ends) ws >>= λ x. Ok (meaning (set_ids x.0 x.1.0))
+
 unfoldable pub fork_at : List (List ℕ) → Result Request Fault
 fork_at ws = ends ws >>= λ x. Ok (meaning fork)
 
@@ -346,7 +349,7 @@ all_words =
     ∷ CallWord.Flags ∷ CallWord.Close
     ∷ CallWord.Unlink ∷ CallWord.Socket ∷ CallWord.Pair ∷ CallWord.Bind ∷ CallWord.Listen ∷ CallWord.Connect ∷ CallWord.Accept
     ∷ CallWord.Shut ∷ CallWord.GetOpt ∷ CallWord.SetOpt ∷ CallWord.SockName ∷ CallWord.PeerName ∷ CallWord.Send ∷ CallWord.Recv
-    ∷ CallWord.Poll ∷ CallWord.Fork ∷ CallWord.Exec ∷ CallWord.Exit ∷ []
+    ∷ CallWord.Poll ∷ CallWord.SetIds ∷ CallWord.Fork ∷ CallWord.Exec ∷ CallWord.Exit ∷ []
 
 unfoldable pub word_at : List ℕ → Result CallWord Fault
 word_at w = chosen_at word_text all_words w
@@ -377,6 +380,7 @@ args_at CallWord.PeerName ws = peer_name_at ws
 args_at CallWord.Send ws = send_at ws
 args_at CallWord.Recv ws = recv_at ws
 args_at CallWord.Poll ws = poll_at ws
+args_at CallWord.SetIds ws = set_ids_at ws
 args_at CallWord.Fork ws = fork_at ws
 args_at CallWord.Exec ws = exec_at ws
 args_at CallWord.Exit ws = exit_at ws

@@ -89,6 +89,7 @@ pub data Written : Type 0 where
   send : (fd : ℕ) → (addr : Option Addr) → (bytes : List ℕ) → (control : ControlWord) → (flags : MsgFlags) → Written
   recv : (fd n space : ℕ) → (flags : MsgFlags) → Written
   poll : (fd : ℕ) → Written
+  set_ids : (uid gid : ℕ) → Written
   fork : Written
   exec : Written
   exit : Written
@@ -120,6 +121,7 @@ meaning (peer_name fd) = Request.GetPeerName (fd_of fd)
 meaning (send fd addr bytes control flags) = Request.SendMsg (fd_of fd) addr bytes (control_buffer control) flags
 meaning (recv fd n space flags) = Request.RecvMsg (fd_of fd) n space flags
 meaning (poll fd) = Request.Poll (fd_of fd)
+meaning (set_ids uid gid) = Request.SetIds uid gid
 meaning fork = Request.Fork
 meaning exec = Request.Exec
 meaning exit = Request.Exit
@@ -186,6 +188,7 @@ args_of (peer_name fd) = decimal fd ∷ []
 args_of (send fd addr bytes control flags) = decimal fd ∷ addr_or_dash addr ∷ hex bytes ∷ control_text control ∷ msg_flags flags ∷ []
 args_of (recv fd n space flags) = decimal fd ∷ decimal n ∷ decimal space ∷ msg_flags flags ∷ []
 args_of (poll fd) = decimal fd ∷ []
+args_of (set_ids uid gid) = decimal uid ∷ decimal gid ∷ []
 args_of fork = []
 args_of exec = []
 args_of exit = []
@@ -317,6 +320,7 @@ FitsCall (peer_name fd) = IsNumber fd
 FitsCall (send fd addr bytes control flags) = IsNumber fd × FitsAddrOrDash addr × AreBytes bytes × FitsControl control × FitsMsgFlags flags
 FitsCall (recv fd n space flags) = IsNumber fd × IsNumber n × IsNumber space × FitsMsgFlags flags
 FitsCall (poll fd) = IsNumber fd
+FitsCall (set_ids uid gid) = IsNumber uid × IsNumber gid
 FitsCall fork = Unit {0}
 FitsCall exec = Unit {0}
 FitsCall exit = Unit {0}
@@ -373,10 +377,12 @@ abbrev pub asks_fork : Act → Bool
 asks_fork (Act.Call request) = is_fork request
 asks_fork (Act.Wait pid calls) = false
 
--- a call that programs make which run as they are, and scripts of several orders don't have: fcntl(2) but for F_SETFL and F_SETFD
+-- a call that programs make which run as they are, and scripts of several orders don't have: fcntl(2) but for F_SETFL and F_SETFD, and
+-- setresuid(2) with setresgid(2)
 abbrev pub is_recorded : Request → Bool
 is_recorded (Request.DupFrom fd minimum) = true
 is_recorded (Request.GetFlags fd) = true
+is_recorded (Request.SetIds uid gid) = true
 is_recorded _ = false
 
 -- what is asked for is such a call

@@ -1,7 +1,7 @@
 //! The calls of a script: the word of each, and the words that stand behind it.
 
 ghost use Rattle.std.specs.Prelude.{◌≡◌, map};
-ghost use Rattle.ux_syntax.specs.Reading.{open_at, read_at, write_at, lseek_at, dup_at, dup2_at, dup_from_at, get_flags_at, set_flags_at, close_at, unlink_at, socket_at, pair_at, bind_at, listen_at, connect_at, accept_at, shut_at, get_opt_at, set_opt_at, sock_name_at, peer_name_at, send_at, recv_at, poll_at, fork_at, exec_at, exit_at, word_at, args_at};
+ghost use Rattle.ux_syntax.specs.Reading.{open_at, read_at, write_at, lseek_at, dup_at, dup2_at, dup_from_at, get_flags_at, set_flags_at, close_at, unlink_at, socket_at, pair_at, bind_at, listen_at, connect_at, accept_at, shut_at, get_opt_at, set_opt_at, sock_name_at, peer_name_at, send_at, recv_at, poll_at, set_ids_at, fork_at, exec_at, exit_at, word_at, args_at};
 ghost use Rattle.ux_syntax.specs.Results.{IsAsRead};
 
 use crate::control::ControlWord;
@@ -38,6 +38,7 @@ const CALL_WORDS: &[CallWord] = &[
     CallWord::Send,
     CallWord::Recv,
     CallWord::Poll,
+    CallWord::SetIds,
     CallWord::Fork,
     CallWord::Exec,
     CallWord::Exit,
@@ -303,6 +304,15 @@ fn poll_of(alloc: Global, words: &[&[u8]]) -> Result<Request, LineError>
     Ok(Request::Poll { fd: Fd(fd) })
 }
 
+/// `setids UID GID`.
+#[tactic(auto, unfolding(crate::specs::Reading::set_ids_at))]
+fn set_ids_of(alloc: Global, words: &[&[u8]]) -> Result<Request, LineError>
+    ensures { IsAsRead (λ r. r) result (set_ids_at (map (λ w. w.now) words.now)) }
+{
+    let (uid, (gid, ())) = row_of(alloc, words)?;
+    Ok(Request::SetIds { uid, gid })
+}
+
 /// `close FD`.
 #[tactic(auto, unfolding(crate::specs::Reading::close_at))]
 fn close_of(alloc: Global, words: &[&[u8]]) -> Result<Request, LineError>
@@ -373,6 +383,7 @@ pub(crate) fn request_of(
         CallWord::Send => send_of(alloc, args),
         CallWord::Recv => recv_of(alloc, args),
         CallWord::Poll => poll_of(alloc, args),
+        CallWord::SetIds => set_ids_of(alloc, args),
         CallWord::Fork => fork_of(args),
         CallWord::Exec => exec_of(args),
         CallWord::Exit => exit_of(args),

@@ -54,7 +54,7 @@ impl Act {
     {
         matches!(
             self,
-            Act::Call(Request::DupFrom { .. } | Request::GetFlags { .. })
+            Act::Call(Request::DupFrom { .. } | Request::GetFlags { .. } | Request::SetIds { .. })
         )
     }
 }

@@ -117,7 +117,7 @@ fn request_in(alloc: Global, call: &str) -> Result<Request, Fail> {
 
 /// Whether a call stands only in a script with the line `serial`.
 fn stands_behind_serial(call: &str) -> bool {
-    call.starts_with("dupfd") || call.starts_with("getfl")
+    call.starts_with("dupfd") || call.starts_with("getfl") || call.starts_with("setids")
 }
 
 /// What was read, with a value that goes along. It is of any type, so that its drop where nothing was read is a

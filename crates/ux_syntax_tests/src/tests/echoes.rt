@@ -71,6 +71,8 @@ const CALLS: &[(&str, &str)] = &[
     ("sockname 0", "sockname(0)"),
     ("peername 0", "peername(0)"),
     ("poll 0", "poll(0)"),
+    ("setids 1000 1000", "setids(1000, 1000)"),
+    ("setids 0 4294967295", "setids(0, 4294967295)"),
     ("fork", "fork()"),
     ("exec", "exec()"),
     ("exit", "exit()"),

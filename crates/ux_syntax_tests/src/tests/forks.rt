@@ -1,4 +1,4 @@
-//! Lines that fork and lines that begin a new program: what each asks for, and which are at fault.
+//! Lines that fork, begin a new program or change ids: what each asks for, and which are at fault.
 use super::{expect_bad_lines, expect_fault, expect_faults, expect_request, repeated};
 use std::alloc::Global;
 use std::process::Abort;
@@ -10,6 +10,24 @@ use ux_types::{Pid, Request};
 fn fork_and_exec_are_read(rt: HostRuntime) -> Result<(), Fail> {
     expect_request(&rt, rt.alloc(), "fork", Request::Fork)?;
     expect_request(&rt, rt.alloc(), "exec", Request::Exec)
+}
+
+#[test]
+fn a_change_of_ids_is_read(rt: HostRuntime) -> Result<(), Fail> {
+    let (uid, gid) = (1000, 100);
+    expect_request(
+        &rt,
+        rt.alloc(),
+        "setids 1000 100",
+        Request::SetIds { uid, gid },
+    )?;
+    let (uid, gid) = (0, 4294967295);
+    expect_request(
+        &rt,
+        rt.alloc(),
+        "setids 0 4294967295",
+        Request::SetIds { uid, gid },
+    )
 }
 
 /// Calls with a word too many, or in other letters.

@@ -67,6 +67,7 @@ const ASKED: &[(&str, bool, bool, bool)] = &[
     ("1 fork", false, true, false),
     ("1 dupfd 0 3", false, false, true),
     ("1 getfl 0", false, false, true),
+    ("1 setids 0 0", false, false, true),
     ("1 dup 0", false, false, false),
     ("1 exec", false, false, false),
     ("1 wait 1 0", false, false, false),
@@ -140,6 +141,19 @@ const RECORDED: &[(&str, &str)] = &[
     ("1 getfl 0 0", "line 3: bad line"),
     ("2 getfl 0", "line 3: unknown process"),
     ("1 exit\n1 getfl 0", "line 4: bad line"),
+    ("1 setids 0 0", ""),
+    ("1 setids 4294967295 4294967295", ""),
+    ("1 setids", "line 3: bad line"),
+    ("1 setids 0", "line 3: bad line"),
+    ("1 setids 0 0 0", "line 3: bad line"),
+    ("1 setids 0 -", "line 3: bad line"),
+    ("1 setids - 0", "line 3: bad line"),
+    ("1 setids 00 0", "line 3: bad line"),
+    ("1 setids 0 4294967296", "line 3: bad line"),
+    ("1 setids 4294967296 0", "line 3: bad line"),
+    ("1 setid 0 0", "line 3: bad line"),
+    ("2 setids 0 0", "line 3: unknown process"),
+    ("1 exit\n1 setids 0 0", "line 4: bad line"),
 ];
 
 /// The same behind a process alone.
@@ -147,6 +161,8 @@ const NOT_RECORDED: &[(&str, &str)] = &[
     ("1 dupfd 0 3", "line 2: bad line"),
     ("1 getfl 0", "line 2: bad line"),
     ("2 getfl 0", "line 2: bad line"),
+    ("1 setids 0 0", "line 2: bad line"),
+    ("2 setids 0 0", "line 2: bad line"),
     ("1 dup 0\n1 dupfd 0 3", "line 3: bad line"),
 ];
 

@@ -369,6 +369,13 @@ fn entries_of_forks_are_printed(rt: HostRuntime) -> Result<(), Fail> {
             "5 1 7 fork = err EAGAIN\n",
         ),
         ((5, 7), "exec", Reply::Ok, "5 1 7 exec = ok\n"),
+        ((5, 7), "setids 1000 100", Reply::Ok, "5 1 7 setids = ok\n"),
+        (
+            (5, 7),
+            "setids 0 0",
+            Reply::Err(Errno::EPERM),
+            "5 1 7 setids = err EPERM\n",
+        ),
     ]?;
     expect_rows(&rt, rt.alloc(), rows)
 }
