@@ -48,6 +48,7 @@ pub fn arguments_value(alloc: Global, request: &Request) -> Result<Value, AllocE
             space,
             flags,
         } => received(alloc, *fd, *n, *space, *flags),
+        Request::SetIds { uid, gid } => users(alloc, *uid, *gid),
         Request::Fork | Request::Exec | Request::Exit | Request::Off => json!(in alloc; {}),
     }
 }
@@ -117,6 +118,10 @@ fn option_asked(alloc: Global, fd: Fd, opt: SockOpt) -> Result<Value, AllocError
 
 fn option_set(alloc: Global, fd: Fd, opt: SockOpt, value: u64) -> Result<Value, AllocError> {
     json!(in alloc; {"fd": fd.0, "opt": option_word(opt), "value": value})
+}
+
+fn users(alloc: Global, uid: u32, gid: u32) -> Result<Value, AllocError> {
+    json!(in alloc; {"uid": uid, "gid": gid})
 }
 
 /// The arguments of a send; an empty object for another call.

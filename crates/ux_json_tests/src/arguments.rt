@@ -72,6 +72,8 @@ const CALLS: &[(&str, &str)] = &[
     ("sockname 0", r#"{"fd": 0}"#),
     ("peername 7", r#"{"fd": 7}"#),
     ("poll 0", r#"{"fd": 0}"#),
+    ("setids 1000 100", r#"{"uid": 1000, "gid": 100}"#),
+    ("setids 0 4294967295", r#"{"uid": 0, "gid": 4294967295}"#),
     ("fork", "{}"),
     ("exec", "{}"),
     ("exit", "{}"),
