@@ -82,6 +82,9 @@ recv_msg_same fd n space flags b = search rules
 poll_same : (fd : Fd) (b : Request) → Same (Request.Poll fd) b
 poll_same fd b = search rules
 
+set_ids_same : (uid gid : ℕ) (b : Request) → Same (Request.SetIds uid gid) b
+set_ids_same uid gid b = search rules
+
 fork_same : (b : Request) → Same Request.Fork b
 fork_same b = search rules
 
@@ -120,6 +123,7 @@ same_request (Request.GetPeerName fd) b = get_peer_name_same fd b
 same_request (Request.SendMsg fd addr bytes control flags) b = send_msg_same fd addr bytes control flags b
 same_request (Request.RecvMsg fd n space flags) b = recv_msg_same fd n space flags b
 same_request (Request.Poll fd) b = poll_same fd b
+same_request (Request.SetIds uid gid) b = set_ids_same uid gid b
 same_request Request.Fork b = fork_same b
 same_request Request.Exec b = exec_same b
 same_request Request.Exit b = exit_same b
