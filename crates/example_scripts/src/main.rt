@@ -105,6 +105,7 @@ const SCRIPTS: &[&str] = &[
     "credentials_of_a_listener",
     "limit_of_rights_in_flight",
     "whose_rights_are_in_flight",
+    "privileges_are_dropped",
     "passcred_names_a_socket",
     "options_of_each_type",
     "limit_of_a_stream_queue",
