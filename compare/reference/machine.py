@@ -9,7 +9,8 @@ class Machine:
     """Figures of a machine, as `linux_replay --machine` measures and prints them; those given here are of x86-64 and ext4.
 
     `peer_first` says that a datagram without an address finds no peer before all else is looked at, as before Linux 6.14; `users_apart`
-    that the replay's processes are of as many users as the script's, which it can have of the superuser alone.
+    that the replay's processes are of as many users as the script's, which it can have of the superuser alone; `own_users` that these are
+    the run's own, in a name space of users (user_namespaces(7)), so that processes can change their ids there.
     """
     send_buffer: int = 212992
     datagrams: int = 10
@@ -19,6 +20,7 @@ class Machine:
     pipe_pages: int = 16
     peer_first: int = 0
     users_apart: int = 1
+    own_users: int = 1
     costs: list[tuple[int, int]] = field(default_factory=lambda: [(0, 768), (193, 1280), (705, 2304), (1729, 4352)])
 
     def cost(self, length: int) -> int:

@@ -12,6 +12,7 @@ from .state import Description, Message, Process, Refusal, Socket
 
 UNSIGNED = (0, 65534, 65534)
 NO_PROCESS = (0, 0, 0)
+NO_PROCESS_AMONG_OWN_USERS = (0, 65534, 65534)  # user 0 isn't there (user_namespaces(7))
 
 
 @dataclass
@@ -96,6 +97,11 @@ class Delivery:
     cut: bool
 
 
+def nobodys_credentials(kernel: Kernel) -> tuple[int, int, int]:
+    """What Linux tells where nobody has sent anything."""
+    return NO_PROCESS_AMONG_OWN_USERS if kernel.machine.own_users else NO_PROCESS
+
+
 def cut_credentials(space: int, credentials: tuple[int, int, int]) -> str:
     """An item of credentials that Linux cuts to the space (put_cmsg)."""
     item = struct.pack("<QII", space, SOL_SOCKET, SCM_CREDENTIALS) + struct.pack("<III", *credentials)
@@ -106,7 +112,7 @@ def deliver(kernel: Kernel, process: Process, socket: Socket, asked: Asked, fron
     """Credentials where they are wanted, then rights at the lowest free numbers."""
     parts, cut, space = [], False, asked.space
     if socket.passcred:
-        credentials = told_credentials(front.first) if front.first else NO_PROCESS
+        credentials = told_credentials(front.first) if front.first else nobodys_credentials(kernel)
         if space >= CREDENTIALS_LENGTH:
             parts.append("c:{},{},{}".format(*credentials))
             space = max(0, space - CREDENTIALS_SPACE)

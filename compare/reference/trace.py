@@ -5,7 +5,7 @@ from copy import copy
 from dataclasses import dataclass, field
 from typing import Callable
 
-from . import connecting, files, readiness, receiving, sending, sockets
+from . import connecting, files, readiness, receiving, sending, sockets, users
 from .control import SCM_CREDENTIALS, buffer_in
 from .kernel import Kernel
 from .machine import Machine
@@ -88,10 +88,10 @@ CALLS: dict[str, Call] = {
     "connect": connecting.call_connect, "accept": sockets.call_accept, "shut": sockets.call_shut,
     "getopt": sockets.call_getopt, "setopt": sockets.call_setopt, "sockname": sockets.call_sockname,
     "peername": sockets.call_peername, "send": sending.call_send, "recv": receiving.call_recv,
-    "poll": readiness.call_poll, "fork": call_fork, "exec": call_exec, "exit": call_exit,
+    "poll": readiness.call_poll, "setids": users.call_setids, "fork": call_fork, "exec": call_exec, "exit": call_exit,
 }
-WITHOUT_DESCRIPTOR = {"open", "unlink", "socket", "pair", "fork", "exec", "exit"}
-BEHIND_SERIAL = {"dupfd", "getfl"}
+WITHOUT_DESCRIPTOR = {"open", "unlink", "socket", "pair", "setids", "fork", "exec", "exit"}
+BEHIND_SERIAL = {"dupfd", "getfl", "setids"}
 ADDRESS_PLACE = {"bind": 2, "connect": 2, "send": 2}
 PATH_PLACE = {"open": 1, "unlink": 1}
 
@@ -129,6 +129,12 @@ def path_not_tried(words: list[str]) -> str:
     return "an empty path" if not path and words[0] in ADDRESS_PLACE else ""
 
 
+def changes_ids(process: Process, words: list[str]) -> bool:
+    """Whether a call changes the ids of its process, which a replay without users of its own can't."""
+    given = tuple(map(int, words[1:])) if words[0] == "setids" else ()
+    return bool(given) and users.NO_ID not in given and given != (process.uid, process.gid) and process.privileged
+
+
 def wants_privilege(process: Process, words: list[str]) -> bool:
     """Whether a send gives credentials that only a privileged process may give."""
     if words[0] != "send" or not process.privileged:
@@ -151,7 +157,8 @@ def check_tried(kernel: Kernel, process: Process, words: list[str]) -> None:
     why = path_not_tried(words)
     if why and kernel.follows(Rule.PATH_OF_NO_FILE):
         raise Refusal(f"not tried: {why}")
-    if wants_privilege(process, words) and kernel.follows(Rule.PRIVILEGE):
+    wants = wants_privilege(process, words) or (not kernel.machine.own_users and changes_ids(process, words))
+    if wants and kernel.follows(Rule.PRIVILEGE):
         raise Refusal("not tried: privilege")
 
 

@@ -1,12 +1,10 @@
 /* A child: one process of the script, which answers the lines that its parent hands it. */
 #include "replay.h"
 #include <fcntl.h>
-#include <grp.h>
 #include <stdio.h>
 #include <string.h>
 #include <sys/mman.h>
 #include <sys/resource.h>
-#include <sys/stat.h>
 #include <unistd.h>
 
 /* Sets how many descriptors this process may have. */
@@ -103,8 +101,8 @@ static const struct {
     {"dup", do_dup}, {"dup2", do_dup2}, {"dupfd", do_dupfd}, {"getfl", do_getfl}, {"flags", do_flags}, {"close", do_close}, {"unlink", do_unlink},
     {"socket", do_socket}, {"pair", do_pair}, {"bind", do_bind}, {"listen", do_listen}, {"connect", do_connect},
     {"accept", do_accept}, {"shut", do_shut}, {"getopt", do_getopt}, {"setopt", do_setopt}, {"sockname", do_name},
-    {"peername", do_name}, {"send", do_send}, {"recv", do_recv}, {"poll", do_poll}, {"fork", do_fork},
-    {"exec", do_exec}, {"exit", do_exit},
+    {"peername", do_name}, {"send", do_send}, {"recv", do_recv}, {"poll", do_poll}, {"setids", do_setids},
+    {"fork", do_fork}, {"exec", do_exec}, {"exit", do_exit},
 };
 
 static void answer(char *line) {
@@ -115,21 +113,6 @@ static void answer(char *line) {
         if (count >= 2 && strcmp(calls[i].word, words[1]) == 0) calls[i].make(words);
     }
     say("\n");
-}
-
-/* The machine's user with this number from 0: of the superuser one in a row, else who runs this. */
-unsigned real_user(unsigned number) { return user ? user + number : getuid(); }
-
-/* A process of the superuser acts as one of the users that were given, so that no privilege of its own changes an answer.
- * They have one group, whose the folder and its files are. */
-void become_ordinary(unsigned number) {
-    unsigned own = user + number;
-    umask(S_IRWXO);
-    if (geteuid() != 0) return;
-    if (setgroups(0, NULL) < 0 || setresgid(user, user, user) < 0 || setresuid(own, own, own) < 0) {
-        perror("linux_replay: the user that was given can't be had");
-        _exit(2);
-    }
 }
 
 static void __attribute__((noreturn)) answer_all(void) {
@@ -158,7 +141,8 @@ void go_on(unsigned number) {
 
 void live(int channel, pid_t parent) {
     struct rlimit longest = {MOST_BYTES, MOST_BYTES};
-    become_ordinary(shared->processes[me].user);
+    const struct process *own = &shared->processes[me];
+    become_ordinary(own->user, own->group, own->privileged);
     if (end_with_parent(parent) < 0) _exit(2);
     if (dup2(channel, CHANNEL) < 0 || dup2(memory, MEMORY) < 0) _exit(2);
     if (close_from_to(0, CHANNEL - 1) < 0 || close_from_to(MEMORY + 1, ~0u) < 0) _exit(2);

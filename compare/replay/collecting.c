@@ -58,7 +58,7 @@ static void __attribute__((noreturn)) probe(unsigned number, int channel) {
     int pair[2];
     char byte;
     end_child_mode();
-    become_ordinary(number);
+    become_ordinary(number, 0, 0);
     if (socketpair(AF_UNIX, SOCK_DGRAM, 0, pair) < 0 || setrlimit(RLIMIT_NOFILE, &none) < 0) _exit(2);
     while (recv(channel, &byte, 1, 0) == 1) {
         byte = (char)is_refused(pair);

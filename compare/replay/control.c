@@ -13,11 +13,8 @@ static union {
 unsigned char *control_bytes(void) { return control.bytes; }
 
 static struct ucred real_credentials(unsigned pid, unsigned uid, unsigned gid) {
-    struct process *own = &shared->processes[me];
-    struct ucred real = {.pid = NO_PROCESS};
+    struct ucred real = {.pid = NO_PROCESS, .uid = real_user(uid), .gid = real_group(gid)};
     if (pid >= 1 && pid <= shared->process_count) real.pid = shared->pids[pid];
-    real.uid = getuid() + (uid == own->uid ? 0 : 1);
-    real.gid = getgid() + (gid == own->gid ? 0 : 1);
     return real;
 }
 
@@ -27,15 +24,14 @@ static int wants_privilege(unsigned pid, unsigned uid, unsigned gid) {
     return own->privileged && (pid != me || uid != own->uid || gid != own->gid);
 }
 
-/* Whether the first bytes of two are alike. */
-static int begin_alike(const void *one, const void *other, size_t length) { return memcmp(one, other, length) == 0; }
-
-/* Turns the first bytes of credentials into the script's, as far as there are any. */
+/* Turns credentials into the script's. Of those that were cut the first bytes are there, and zeros behind them, which do:
+ * a byte tells a process, and numbers of the run's users and groups have no more. */
 static void translate(struct ucred *credentials, size_t length) {
     for (unsigned i = 1; i <= shared->process_count; i++) {
-        struct ucred real = {.pid = shared->pids[i], .uid = real_user(shared->processes[i].user), .gid = getgid()};
-        if (!begin_alike(&real, credentials, length)) continue;
-        *credentials = (struct ucred){(pid_t)i, shared->processes[i].uid, shared->processes[i].gid};
+        size_t told = length < sizeof(pid_t) ? length : sizeof(pid_t);
+        const struct process *process = &shared->processes[i];
+        if (memcmp(&shared->pids[i], &credentials->pid, told)) continue;
+        *credentials = (struct ucred){(pid_t)i, script_user(process, credentials->uid), script_group(process, credentials->gid)};
         return;
     }
 }

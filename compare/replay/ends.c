@@ -85,10 +85,10 @@ void enter_folder(void) {
     if (chdir(folder) < 0) fail(folder);
 }
 
-/* The folder becomes the user's when all is in it that the superuser makes there. */
+/* The folder becomes the user's when all is in it that the superuser makes there. What is made in it is of its group. */
 void give_folder(void) {
     int number = open(".", O_RDONLY | O_DIRECTORY | O_CLOEXEC);
-    if (number < 0 || (geteuid() == 0 && fchown(number, user, user) < 0) || fchmod(number, S_IRWXU | S_IRWXG) < 0) fail(folder);
+    if (number < 0 || (geteuid() == 0 && fchown(number, user, user) < 0) || fchmod(number, S_IRWXU | S_IRWXG | S_ISGID) < 0) fail(folder);
     close(number);
 }
 

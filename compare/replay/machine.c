@@ -91,5 +91,6 @@ void tell_machine(void) {
     printf("pipe_pages %ld\n", bytes_of_pipe(ends[0]) / page);
     printf("peer_first %d\n", looks_for_peer_first());
     printf("users_apart %d\n", geteuid() == 0);
+    printf("own_users %d\n", geteuid() == 0 && make_user_space(user ? user : 1, MOST_USERS));
     tell_costs();
 }

@@ -91,16 +91,6 @@ static char *read_whole(const char *path) {
     return text;
 }
 
-/* Which of the machine's users stands for a script's: each has its own, of the superuser's run. */
-static unsigned user_of(unsigned uid) {
-    for (unsigned i = 1; i < shared->process_count; i++) {
-        if (shared->processes[i].uid == uid) return shared->processes[i].user;
-    }
-    if (user == 0) return 0;
-    if (shared->user_count == MOST_USERS) give_up("too many users");
-    return shared->user_count++;
-}
-
 static void add_process(char **word) {
     if (shared->process_count == MOST_PROCESSES) give_up("too many processes");
     struct process *made = &shared->processes[++shared->process_count];
@@ -108,6 +98,7 @@ static void add_process(char **word) {
     *made = (struct process){.uid = number_in(word[1]), .gid = number_in(word[2]), .privileged = word[3][0] == '1'};
     made->limit = limit < 1 ? 1 : limit > MOST_DESCRIPTORS ? MOST_DESCRIPTORS : limit;
     made->user = user_of(made->uid);
+    made->group = group_of(made->gid);
 }
 
 static void read_header(const char *line) {
@@ -134,6 +125,8 @@ static void check_serial(int has_said) {
 static void run_script(char *text) {
     int has_begun = 0, has_end = 0, has_said = 0;
     unsigned row = 0;
+    begin_ids();
+    learn_ids(text);
     for (char *line; (line = strsep(&text, "\n"));) {
         row++;
         if (line[0] == 0 || line[0] == '#') continue;

@@ -91,6 +91,7 @@ void hear_reply(const struct process *process) {
 
 /* Each process says a line when it has only its own descriptors. */
 void begin(void) {
+    shared->has_own_users = geteuid() == 0 && make_user_space(user, MOST_USERS);
     start_probes();
     make_objects();
     give_folder();
@@ -166,7 +167,8 @@ static const struct {
     {"open", 4, 0}, {"read", 3, 0}, {"write", 3, 3}, {"lseek", 4, 0}, {"dup", 2, 0}, {"dup2", 3, 0}, {"dupfd", 3, 0}, {"getfl", 2, 0}, {"flags", 3, 0},
     {"close", 2, 0}, {"unlink", 2, 0}, {"socket", 3, 0}, {"pair", 3, 0}, {"bind", 3, 0}, {"listen", 3, 0},
     {"connect", 3, 0}, {"accept", 3, 0}, {"shut", 3, 0}, {"getopt", 3, 0}, {"setopt", 4, 0}, {"sockname", 2, 0},
-    {"peername", 2, 0}, {"send", 6, 4}, {"recv", 5, 0}, {"poll", 2, 0}, {"fork", 1, 0}, {"exec", 1, 0}, {"exit", 1, 0},
+    {"peername", 2, 0}, {"send", 6, 4}, {"recv", 5, 0}, {"poll", 2, 0}, {"setids", 3, 0}, {"fork", 1, 0}, {"exec", 1, 0},
+    {"exit", 1, 0},
 };
 
 /* Ends the run where a line isn't one of a script. */

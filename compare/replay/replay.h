@@ -17,8 +17,11 @@ enum {
     PREFIX = 9, KEPT_LENGTH = 90, SECONDS = 10, NO_DESCRIPTOR = INT_MAX, NO_PROCESS = 0x7ffffff0, MOST_TOLD_APART = 100
 };
 
+/* No user and no group. */
+#define NO_ID 4294967295u
+
 struct process {
-    unsigned uid, gid, limit, calls, user;
+    unsigned uid, gid, limit, calls, user, group;
     int privileged, channel, has_exited;
 };
 
@@ -29,13 +32,15 @@ struct alias {
     int is_used;
 };
 
-/* What the children and their parent share: the processes with their real numbers, and the names that autobind gave. */
+/* What the children and their parent share: the processes with their real numbers, the script's users and groups by the
+ * machine's from 0, and the names that autobind gave. */
 struct shared {
-    unsigned process_count, user_count, alias_count, first_user;
+    unsigned process_count, user_count, group_count, alias_count, first_user;
+    unsigned users[MOST_USERS], groups[MOST_USERS];
     struct process processes[MOST_PROCESSES + 1];
     pid_t pids[MOST_PROCESSES + 1];
     struct alias aliases[MOST_ALIASES];
-    int has_bound_digits, has_passed_socket, waits;
+    int has_bound_digits, has_passed_socket, has_own_users, waits;
     unsigned char key[16];
 };
 
@@ -128,19 +133,28 @@ int control_in(char *word, size_t *length);
 void say_credentials(const struct ucred *real);
 void say_items(struct msghdr *message);
 
-/* file_calls.c, socket_calls.c, message_calls.c: the calls, each by its words */
+/* file_calls.c, socket_calls.c, message_calls.c, users.c: the calls, each by its words */
 void do_open(char **word), do_counter(char **word), do_read(char **word), do_write(char **word), do_lseek(char **word);
 void do_dup(char **word), do_dup2(char **word), do_dupfd(char **word), do_getfl(char **word), do_flags(char **word), do_close(char **word), do_unlink(char **word);
 void do_socket(char **word), do_pair(char **word), do_bind(char **word), do_listen(char **word), do_connect(char **word);
 void do_accept(char **word), do_shut(char **word), do_getopt(char **word), do_setopt(char **word), do_name(char **word);
-void do_send(char **word), do_recv(char **word), do_poll(char **word);
+void do_send(char **word), do_recv(char **word), do_poll(char **word), do_setids(char **word);
 
 /* child.c: one process of the script */
 void set_limit(unsigned long limit);
 void live(int channel, pid_t parent) __attribute__((noreturn));
 void go_on(unsigned number) __attribute__((noreturn));
-void become_ordinary(unsigned number);
-unsigned real_user(unsigned number);
+
+/* users.c: who the processes are */
+void begin_ids(void);
+void learn_ids(const char *text);
+unsigned user_of(unsigned uid);
+unsigned group_of(unsigned gid);
+unsigned real_user(unsigned uid);
+unsigned real_group(unsigned gid);
+unsigned script_user(const struct process *process, unsigned number);
+unsigned script_group(const struct process *process, unsigned number);
+void become_ordinary(unsigned number, unsigned group, int is_privileged);
 
 /* parent.c: the processes, and who makes which call */
 void begin(void);
@@ -187,6 +201,12 @@ int is_name_bound(const char *beginning);
 int charged_to(int number);
 long bytes_of_pipe(int number);
 long most_backlog(void);
+
+/* linux_users.c: what is Linux's own of users */
+int make_user_space(unsigned first, unsigned count);
+int enter_user_space(void);
+int set_privileges(int has_some);
+int has_privileges(void);
 
 /* machine.c: what answers depend on */
 void tell_machine(void);
