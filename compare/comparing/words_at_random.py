@@ -6,6 +6,7 @@ from random import Random
 
 from reference.control import HEAD, SCM_CREDENTIALS, SCM_RIGHTS, SOL_SOCKET, aligned
 from reference.state import Process
+from reference.users import NO_ID
 
 PATHS = ["p:a", "p:b", "p:c", "p:d"]
 ABSTRACT = ["a:x", "a:y", "a:z", "a:00000", "a:00001", "a:"]
@@ -89,6 +90,14 @@ def credentials(random: Random, process: Process, processes: list[Process]) -> t
     other = random.choice(processes)
     return random.choice([other.credentials, (process.number, process.uid + 1, process.gid), (99, process.uid, process.gid),
                           (process.number, process.uid, 4294967295)])
+
+
+def ids(random: Random, process: Process, processes: list[Process]) -> tuple[int, int]:
+    """A user and a group: the process's own, another's, user 0, others, or none."""
+    uid, gid = process.uid, process.gid
+    other = random.choice(processes)
+    return random.choice([(uid, gid), (0, gid), (1000, 1000), (1001, 100), (2000, gid), (uid, 101), (other.uid, other.gid), (other.uid, gid),
+                          (other.uid, other.gid), (NO_ID, gid), (uid, NO_ID), random.choice([(NO_ID, NO_ID), (1001, NO_ID), (NO_ID, 101)])])
 
 
 def plain_item(random: Random, process: Process, processes: list[Process]) -> bytes:
