@@ -1,7 +1,7 @@
-"""Makes processes: any process of the script forks, as it is serial; one that changes its user hands its table over.
+"""Makes processes: any process of the script forks, as it is serial; one that becomes who it can't be hands its table over.
 
-No process of the layer changes its user. So one that does goes on as another of the header, which gets its descriptors
-by a datagram with rights."""
+A process of the layer that gave its privileges up has no way back, as a program has that saved them. So it goes on as another
+of the header, which gets its descriptors by a datagram with rights."""
 from .model import Process, Role, Slot, mark
 
 MOST_RIGHTS = 253
@@ -14,7 +14,8 @@ def chunks(values, size):
 def fork(world, block, parent, thread):
     """The child of a process, with a copy of its table."""
     table = {number: Slot(slot.description, slot.on_exec) for number, slot in parent.table.items()}
-    child = Process(thread, parent, table, parent.folder, parent.program, user=parent.user, group=parent.group)
+    child = Process(thread, parent, table, parent.folder, parent.program, user=parent.user, group=parent.group,
+                    privileged=parent.privileged, users=parent.users, groups=parent.groups)
     world.enter(child, thread)
     child.birth = block
     for slot in table.values():
@@ -32,20 +33,17 @@ def fork(world, block, parent, thread):
     return child
 
 
-def change_user(world, block, process, user, group):
-    """The process goes on as another one of the header, with another user."""
-    if (user, group) == (process.user, process.group):
-        block.leave_out("a change of ids that changes none")
-        return
-    process.user, process.group = user, group
+def go_on_as(world, block, process, user, group):
+    """The process goes on as another one of the header, with other ids."""
+    process.user, process.group, process.privileged = user, group, user == 0
     seat = world.new_seat(user, group, process) if process.seat else None
     if seat is None:
-        block.not_at_all("a change of user")
+        block.not_at_all("a change of user that the layer refuses")
         return
     hand_over(world, block, process.seat, seat, process.table)
     world.step(block, process.seat, "exit", role=Role.HAND_OVER)
     process.seat = seat
-    block.otherwise("a change of user: another process of the script gets the table")
+    block.otherwise("a change of user that the layer refuses: another process of the script gets the table")
 
 
 def hand_over(world, block, giver, taker, table):

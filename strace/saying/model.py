@@ -111,7 +111,8 @@ def mark(seat):
 
 @dataclass(eq=False)
 class Process:
-    """A process of the log, with all its threads."""
+    """A process of the log, with all its threads. `user`, `group` and `privileged` are the layer's, `users` and `groups` the real,
+    effective and saved ids of the log."""
     pid: int
     parent: object
     table: dict
@@ -124,10 +125,18 @@ class Process:
     shared: set = field(default_factory=set)
     user: int = 0
     group: int = 0
+    privileged: bool = None
+    users: tuple = None
+    groups: tuple = None
     unsaid: str = ""
     over: bool = False
     execs: int = 0
     last: int = 0
+
+    def __post_init__(self):
+        self.privileged = self.user == 0 if self.privileged is None else self.privileged
+        self.users = self.users or (self.user,) * 3
+        self.groups = self.groups or (self.group,) * 3
 
     def lowest(self, least=0):
         """The lowest number that is free, from this one on."""

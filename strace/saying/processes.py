@@ -1,14 +1,13 @@
-"""Says the calls that make, change and end processes."""
+"""Says the calls that make and end processes, and have them execute programs."""
 import posixpath
 import re
 
-from reading.words import number_of, shown
+from reading.words import shown
 from . import handover
 from .files import path_of
 from .model import Description, Kind
 from .world import says
 
-NEVER = (-1, 4294967295, None)
 PIDFD = re.compile(r"(?:pidfd|parent_tid)=(?:0x[0-9a-f]+ => )?\{?\[(\d+)[<\]]")
 
 
@@ -54,12 +53,18 @@ def say_exec(world, block, process, args, result):
     path = path_of(args[1] if block.call.name == "execveat" else args[0])
     process.program = shown(posixpath.basename(path)) or process.program
     process.execs += 1
+    process.users, process.groups = saved_anew(process.users), saved_anew(process.groups)
     block.program = process.label()
     for number in [number for number, slot in process.table.items() if slot.on_exec]:
         world.drop(process, number)
     world.step(block, process.seat, "exec", "ok")
     block.snapshot = dict(process.table)
     world.executed.append(block)
+
+
+def saved_anew(ids):
+    """Real, effective and saved ids behind an exec, which saves the effective one (execve(2))."""
+    return ids[0], ids[1], ids[1]
 
 
 def part(world, block, process):
@@ -77,25 +82,6 @@ def say_exit(world, block, process, args, result):
     """The process ends behind its last thread's last call, which the log's line of its end tells."""
     if block.call.name == "exit" and len(process.threads) > 1:
         block.leave_out("the end of a thread")
-
-
-@says("setuid", "setgid", "setreuid", "setregid", "setresuid", "setresgid", "setfsuid", "setfsgid", "setgroups")
-def say_ids(world, block, process, args, result):
-    name = block.call.name
-    if result.error or result.value is None:
-        block.leave_out("a change of ids that failed")
-        return
-    if name == "setgroups":
-        block.leave_out("setgroups")
-        return
-    chosen = args[1] if name in ("setreuid", "setregid", "setresuid", "setresgid") else args[0]
-    value = number_of(chosen)
-    if value in NEVER or name.startswith("setfs"):
-        block.leave_out("a change of ids that changes none")
-    elif "uid" in name:
-        handover.change_user(world, block, process, value, process.group)
-    else:
-        handover.change_user(world, block, process, process.user, value)
 
 
 @says("unshare", "setns")
