@@ -7,7 +7,8 @@ use Rattle.delortxa.specs.declared.fault.CallError.{CallError}
 use Rattle.delortxa.specs.Answering.{IsOther, Tells, Fails, FailsAsNumber}
 
 -- an error that is reported of a reply is one of the call, whose reply is a refusal or as it was looked for
-pub tells : {S : Type 0} (wanted : Reply → Bool) (did : Reply → Type 0) (unmade : CallFault → Type 0) (old new : S) (reply : Reply) (error : CallError) →
+pub tells : {S : Type 0} (wanted : Reply → Bool) (did : Reply → Type 0) (unmade : CallFault → Type 0) (old new : S) (reply : Reply)
+    (error : CallError) →
     did reply → IsOther wanted reply error → (wanted reply || is_refusal reply) ≡ true → Tells did unmade old new error
 tells wanted did unmade old new reply (CallError.Refused errno) made is suits = subst did is made
 tells wanted did unmade old new reply (CallError.Fault fault) made is suits = absurd is
@@ -19,7 +20,8 @@ module _ {C S : Type 0} (did : C → S → S → Request → Reply → Type 0) (
       did who old new request reply → IsOther wanted reply error → is_reply_to request reply ≡ true → kind_of request ≡ wanted →
       Fails did unmade who old new request error
   fails wanted who old new request reply error made is suits kind =
-      tells wanted (did who old new request) (λ (fault : CallFault). (fault ≡ CallFault.NoMemory) ⊎ unmade who old request fault) old new reply error made is
+      tells wanted (did who old new request) (λ (fault : CallFault). (fault ≡ CallFault.NoMemory) ⊎ unmade who old request fault) old new
+      reply error made is
       (sym (ap (λ k. k reply || is_refusal reply) kind) ∙ suits)
 
   pub fails_as_number : (who : C) (old new : S) (fd : Fd) (opt : SockOpt) (reply : Reply) (error : CallError) →
@@ -30,7 +32,8 @@ module _ {C S : Type 0} (did : C → S → S → Request → Reply → Type 0) (
   fails_as_number who old new fd SockOpt.PeerCred reply CallError.Unlike made is suits = told reply made is.1 suits
     where
       told : (reply : Reply) → did who old new (Request.GetOpt fd SockOpt.PeerCred) reply → is_refusal reply ≡ false →
-          (option_kind SockOpt.PeerCred reply || is_refusal reply) ≡ true → FailsAsNumber did unmade who old new fd SockOpt.PeerCred CallError.Unlike
+          (option_kind SockOpt.PeerCred reply || is_refusal reply) ≡ true →
+          FailsAsNumber did unmade who old new fd SockOpt.PeerCred CallError.Unlike
       told (Reply.Cred cred) made apart suits = (refl, cred, made)
       told (Reply.Err errno) made apart suits = absurd (cc apart)
       told _ made apart suits = absurd (cc suits)

@@ -1,5 +1,6 @@
 -- The callers that a layer begins with.
-use Rattle.std.proofs.Common.{◌≡◌, ℕ, zero, suc, ◌<◌, ◌++◌, ◌∷◌, List, [], length, map, get_or, Option, Some, None, refl, ap, sym, subst, ◌∙◌, arith, ⊎_elim}
+use Rattle.std.proofs.Common.{◌≡◌, ℕ, zero, suc, ◌<◌, ◌++◌, ◌∷◌, List, [], length, map, get_or, Option, Some, None, refl, ap, sym, subst}
+use Rattle.std.proofs.Common.{◌∙◌, arith, ⊎_elim}
 use Rattle.std.specs.Prelude.{Result, Ok, Err, IfOk, slice_get, option_map}
 use Rattle.std.proofs.lemmas.Bool.{cases_lt}
 use Rattle.std.proofs.lemmas.Option.{slice_get_within, get_or_from_slice_get, slice_get-map}
@@ -12,7 +13,8 @@ use Rattle.delortxa.specs.Promising.{EachPromises, EachPromisesCalls, Ended, Eac
 
 fresh_long : (n : ℕ) → length (fresh n) ≡ n
 fresh_long zero = refl
-fresh_long (suc n) = let so_far = fresh_long n in let long = length-append (fresh n) (record { pid = record { 0 = suc n }; past = [] } ∷ []) in omega (arith, so_far, long)
+fresh_long (suc n) = let so_far = fresh_long n in
+    let long = length-append (fresh n) (record { pid = record { 0 = suc n }; past = [] } ∷ []) in omega (arith, so_far, long)
 
 -- one for each process
 pub all_fresh : (n : ℕ) (cs : List Caller) → cs ≡ fresh n → length cs ≡ n
@@ -44,8 +46,10 @@ pub past_at : (cs : List Caller) (i : ℕ) (c : Caller) → cs ≡ fresh (length
 past_at cs i c are lt is = ap (λ (x : Caller). x.past) (caller_at cs i c are lt is)
 
 -- what each gave is promised of the process with its number
-pub each_promises : {P T : Type 0} (promise : Pid → P → T → Type 0) (program : P) (cs : List Caller) (outputs : List T) → cs ≡ fresh (length cs) → length outputs ≡ length cs →
-    ((i : ℕ) (d : T) → i < length cs → (c : Caller) × (c ≡ get_or cs i c) × promise c.pid program (get_or outputs i d)) → EachPromises promise program outputs
+pub each_promises : {P T : Type 0} (promise : Pid → P → T → Type 0) (program : P) (cs : List Caller) (outputs : List T) →
+    cs ≡ fresh (length cs) → length outputs ≡ length cs →
+    ((i : ℕ) (d : T) → i < length cs → (c : Caller) × (c ≡ get_or cs i c) × promise c.pid program (get_or outputs i d)) →
+    EachPromises promise program outputs
 each_promises {P} {T} promise program cs outputs are long given i output at =
     let within = slice_get_within outputs i output at in
     let lt : i < length cs = omega (arith, within, long) in
@@ -58,7 +62,8 @@ both_ok (Ok a) p q s both x y = both a x y
 both_ok (Err e) p q s both x y = tt
 
 -- what a map gives at a place, it gives of what is there
-taken : {A B : Type 0} (f : A → B) (xs : List A) (i : ℕ) (y : B) → slice_get (map f xs) i ≡ Some y → (x : A) × (slice_get xs i ≡ Some x) × (f x ≡ y)
+taken : {A B : Type 0} (f : A → B) (xs : List A) (i : ℕ) (y : B) → slice_get (map f xs) i ≡ Some y →
+    (x : A) × (slice_get xs i ≡ Some x) × (f x ≡ y)
 taken {A} {B} f xs i y h = go (slice_get xs i) refl (sym (slice_get-map f xs i) ∙ h)
   where
     go : (o : Option A) → slice_get xs i ≡ o → option_map f o ≡ Some y → (x : A) × (slice_get xs i ≡ Some x) × (f x ≡ y)
@@ -66,7 +71,8 @@ taken {A} {B} f xs i y h = go (slice_get xs i) refl (sym (slice_get-map f xs i) 
     go (Some x) at is = (x, at, cc is)
 
 -- and a map has at a place what it gives of what is there
-mapped : {A B : Type 0} (f : A → B) (xs : List A) (ys : List B) → ys ≡ map f xs → (i : ℕ) (x : A) → slice_get xs i ≡ Some x → slice_get ys i ≡ Some (f x)
+mapped : {A B : Type 0} (f : A → B) (xs : List A) (ys : List B) → ys ≡ map f xs → (i : ℕ) (x : A) → slice_get xs i ≡ Some x →
+    slice_get ys i ≡ Some (f x)
 mapped {A} {B} f xs ys are i x at = ap (λ (l : List B). slice_get l i) are ∙ slice_get-map f xs i ∙ ap (λ o. option_map f o) at
 
 module _ {P T : Type 0} (promise : Pid → P → T → Caller → Type 0) (program : P) (ended : List (T × Caller)) (outputs : List T)
@@ -79,22 +85,25 @@ module _ {P T : Type 0} (promise : Pid → P → T → Caller → Type 0) (progr
       let e = each i t.0 t.1 in (
         e.0,
         subst (λ o. promise (record { 0 = suc i }) program o e.0) t.2 e.1,
-        subst (λ (x : Caller). calls_by x.pid.0 entries ≡ x.past) e.2 (exact i t.0.1 (mapped (λ gone. gone.1) ended spents seconds i t.0 t.1)),
+        subst (λ (x : Caller). calls_by x.pid.0 entries ≡ x.past) e.2
+            (exact i t.0.1 (mapped (λ gone. gone.1) ended spents seconds i t.0 t.1)),
       )
 
 module _ {P T C : Type 0} (promise : Pid → P → T → C → Caller → Type 0) (program : P) (ended : List ((Pid × C) × Caller))
-    (children : List (Pid × C)) (each : EachEnded (EndedAsChild promise program) ended) (firsts : children ≡ map (λ gone. gone.0) ended) where
-  -- so it is of children
-  pub children_promised : (spents : List Caller) (entries : List Entry) → spents ≡ map (λ gone. gone.1) ended → Exact entries spents →
-      EachChildPromises promise program children entries
-  children_promised spents entries seconds exact i child at =
-      let t = taken (λ gone. gone.0) ended i child (ap (λ (l : List (Pid × C)). slice_get l i) (sym firsts) ∙ at) in
-      let e = each i t.0 t.1 in (
-        e.0,
-        e.1,
-        subst (λ (x : Pid × C). promise x.0 program e.0 x.1 e.1) t.2 e.2,
-        subst (λ (x : Caller). calls_by x.pid.0 entries ≡ x.past) e.3 (exact i t.0.1 (mapped (λ gone. gone.1) ended spents seconds i t.0 t.1)),
-      )
+    (children : List (Pid × C)) (each : EachEnded (EndedAsChild promise program) ended) (firsts : children ≡ map (λ gone. gone.0) ended)
+  where
+    -- so it is of children
+    pub children_promised : (spents : List Caller) (entries : List Entry) → spents ≡ map (λ gone. gone.1) ended → Exact entries spents →
+        EachChildPromises promise program children entries
+    children_promised spents entries seconds exact i child at =
+        let t = taken (λ gone. gone.0) ended i child (ap (λ (l : List (Pid × C)). slice_get l i) (sym firsts) ∙ at) in
+        let e = each i t.0 t.1 in (
+          e.0,
+          e.1,
+          subst (λ (x : Pid × C). promise x.0 program e.0 x.1 e.1) t.2 e.2,
+          subst (λ (x : Caller). calls_by x.pid.0 entries ≡ x.past) e.3
+              (exact i t.0.1 (mapped (λ gone. gone.1) ended spents seconds i t.0 t.1)),
+        )
 
 front_at : {A : Type 0} (xs ys : List A) (i : ℕ) (x : A) → slice_get xs i ≡ Some x → slice_get (xs ++ ys) i ≡ Some x
 front_at [] ys i x at = absurd (cc at)
@@ -132,6 +141,8 @@ present_no_more (Some y ∷ options) = ap (λ l. y ∷ l) (present_no_more optio
 present_no_more (None ∷ options) = present_no_more options
 
 -- each process has given something
-pub all_outputs : {T : Type 0} (n : ℕ) (seats : List Caller) (ended : List (T × Caller)) (outputs : List T) → seats ≡ fresh n → length ended ≡ length seats →
+pub all_outputs : {T : Type 0} (n : ℕ) (seats : List Caller) (ended : List (T × Caller)) (outputs : List T) → seats ≡ fresh n →
+    length ended ≡ length seats →
     outputs ≡ map (λ gone. gone.0) ended → length outputs ≡ n
-all_outputs {T} n seats ended outputs are long firsts = ap (λ (l : List T). length l) firsts ∙ length-map ended (λ (gone : T × Caller). gone.0) ∙ long ∙ all_fresh n seats are
+all_outputs {T} n seats ended outputs are long firsts = ap (λ (l : List T). length l) firsts
+    ∙ length-map ended (λ (gone : T × Caller). gone.0) ∙ long ∙ all_fresh n seats are

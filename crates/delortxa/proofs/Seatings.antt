@@ -11,12 +11,15 @@ use Rattle.delortxa.specs.Happening.{Happens}
 
 -- a call that a seat made
 pub happens : (boot : State) (old new : Caller) (request : Request) (reply : Reply) (waits : Bool) (slip : Slip) →
-    new ≡ made old request reply → IsOf boot new → IsSlip boot slip → IsSlipOf old request reply waits slip → Happens boot old new request reply waits
+    new ≡ made old request reply → IsOf boot new → IsSlip boot slip → IsSlipOf old request reply waits slip →
+    Happens boot old new request reply waits
 happens boot old new request reply waits slip past of shown call = record { past = past; of = of; slip = slip; shown = shown; call = call }
 
 -- a fork that made a process
-pub child_is : (reply : Reply) (child : Caller) → Some child ≡ child_by Request.Fork reply → (reply ≡ Reply.Child child.pid) × (child.past ≡ [])
-child_is (Reply.Child pid) child h = let is : child ≡ record { pid = pid; past = [] } = cc h in (ap (λ (c : Caller). Reply.Child c.pid) (sym is), ap (λ (c : Caller). c.past) is)
+pub child_is : (reply : Reply) (child : Caller) → Some child ≡ child_by Request.Fork reply →
+    (reply ≡ Reply.Child child.pid) × (child.past ≡ [])
+child_is (Reply.Child pid) child h = let is : child ≡ record { pid = pid; past = [] } = cc h in
+    (ap (λ (c : Caller). Reply.Child c.pid) (sym is), ap (λ (c : Caller). c.past) is)
 child_is _ child h = absurd (cc h)
 
 -- a fork that made none

@@ -23,7 +23,8 @@ unfolding refs orefs without drop_rounds drop_unreferenced released_objects sett
 computing = tt
 
 -- the reply is what the definitions say, unless it reports that memory lacks or that a file object fails
-plain : (S T : State) (o : Outcome) (reply : Reply) → lacks_memory reply ≡ false → fails reply ≡ false → Chosen S o reply T → (reply ≡ o.reply) × (T ≡ o.next)
+plain : (S T : State) (o : Outcome) (reply : Reply) → lacks_memory reply ≡ false → fails reply ≡ false → Chosen S o reply T →
+    (reply ≡ o.reply) × (T ≡ o.next)
 plain S T o reply m f (own e g) = (e, g)
 plain S T o reply m f (lacking_memory e may g) = absurd (cc (sym m ∙ ap lacks_memory e))
 plain S T o reply m f (failing e g) = absurd (cc (sym f ∙ ap fails e))
@@ -34,7 +35,8 @@ record Next (S : State) (n : ℕ) (p : ℕ) (request : Request) (reply : Reply) 
   leads : state_of new ≡ settled (outcome S p n request).next
   number : length new.entries ≡ suc n
 
-next : (S : State) (n : ℕ) (old new : KeptHistory) (pid : Pid) (request : Request) (reply : Reply) → state_of old ≡ S → length old.entries ≡ n → lacks_memory reply ≡ false → fails reply ≡ false →
+next : (S : State) (n : ℕ) (old new : KeptHistory) (pid : Pid) (request : Request) (reply : Reply) → state_of old ≡ S →
+    length old.entries ≡ n → lacks_memory reply ≡ false → fails reply ≡ false →
     Answers old new pid request reply → Next S n pid.0 request reply new
 unfolding Step
 next S n old new pid request reply here count m f a =
@@ -82,13 +84,15 @@ unfolding computing
 what_is_read = refl
 
 -- what it reads, where it is answered, is what it wrote
-pub reads_hello : {E : Type 0} (boot : State) (s0 s1 s2 s3 s4 : KeptHistory) (n : Fd) (taken at : ℕ) (r : Result (List ℕ) E) → boot ≡ hello_boot →
+pub reads_hello : {E : Type 0} (boot : State) (s0 s1 s2 s3 s4 : KeptHistory) (n : Fd) (taken at : ℕ) (r : Result (List ℕ) E) →
+    boot ≡ hello_boot →
     s0 ≡ record { boot = boot; entries = [] } → Answers s0 s1 process_1 open_notes (Reply.Fd n) →
     Answers s1 s2 process_1 (write_hello n) (Reply.Count taken) → Answers s2 s3 process_1 (to_start n) (Reply.At at) →
     IfOk r (λ bytes. Answers s3 s4 process_1 (Request.Read n 64) (Reply.Bytes bytes)) → IfOk r (λ bytes. bytes ≡ codes "hello")
 reads_hello boot s0 s1 s2 s3 s4 n taken at (Err e) is starts opens writes seeks reads = tt
 reads_hello boot s0 s1 s2 s3 s4 n taken at (Ok bytes) is starts opens writes seeks reads =
-    let a = next hello_boot 0 s0 s1 process_1 open_notes (Reply.Fd n) (ap state_of starts ∙ is) (ap (λ (h : KeptHistory). length h.entries) starts) refl refl opens in
+    let a = next hello_boot 0 s0 s1 process_1 open_notes (Reply.Fd n) (ap state_of starts ∙ is)
+    (ap (λ (h : KeptHistory). length h.entries) starts) refl refl opens in
     let both : Reply.Fd n ≡ Reply.Fd fd_0 = a.is_said ∙ first_number in
     let first : n ≡ fd_0 = cc both in
     let b = next opened 1 s1 s2 process_1 (write_hello fd_0) (Reply.Count taken) a.leads a.number refl refl

@@ -31,9 +31,11 @@ no_deadlock : (n : ℕ) (outcomes : List Ran) (ran : Ran) → list_any (λ r. is
 no_deadlock n [] ran none has = absurd has
 no_deadlock n (known ∷ more) ran none has =
     let neither = or_parts (is_deadlock known) (list_any (λ r. is_deadlock r) more) none in
-    ⊎_elim {C = is_deadlock ran ≡ false} (λ here. same_end n ran known here.0 neither.0) (λ there. no_deadlock n more ran neither.1 there) has
+    ⊎_elim {C = is_deadlock ran ≡ false} (λ here. same_end n ran known here.0 neither.0)
+    (λ there. no_deadlock n more ran neither.1 there) has
 
-none_left : (boot : State) (calls : List Entry) (ran : Ran) → HasCalls boot calls ran → is_deadlock ran ≡ false → has_live (replay boot calls) ≡ false
+none_left : (boot : State) (calls : List Entry) (ran : Ran) → HasCalls boot calls ran → is_deadlock ran ≡ false →
+    has_live (replay boot calls) ≡ false
 none_left boot calls (Ran.Whole entries) has e = has.1
 none_left boot calls (Ran.Deadlock entries waits) has e = absurd cc
 none_left boot calls (Ran.Refused entries) has e = absurd has

@@ -1,5 +1,6 @@
 -- The processes of a key server keep apart.
-use Rattle.std.proofs.Common.{◌≡◌, ◌⊎◌, ℕ, zero, suc, ◌==◌, ◌<◌, ◌≤◌, Bool, true, false, ◌&&◌, if◌then◌else◌, List, [], ◌∷◌, ◌++◌, length, Option, Some, None, refl, ap, sym, ◌∙◌, subst, arith, slice_get}
+use Rattle.std.proofs.Common.{◌≡◌, ◌⊎◌, ℕ, zero, suc, ◌==◌, ◌<◌, ◌≤◌, Bool, true, false, ◌&&◌, if◌then◌else◌, List, [], ◌∷◌, ◌++◌, length}
+use Rattle.std.proofs.Common.{Option, Some, None, refl, ap, sym, ◌∙◌, subst, arith, slice_get}
 use Rattle.std.specs.Prelude.{codes}
 use Rattle.std.specs.List.{list_all}
 use Rattle.std.proofs.lemmas.Bool.{eq-eqb, and_parts}
@@ -7,7 +8,7 @@ use Rattle.std.proofs.lemmas.List.Folds.{list_all-append}
 use Rattle.ux_model.specs.Types.{Pid, Errno, Request, Reply, Entry}
 use Rattle.ux_model.specs.State.{State}
 use Rattle.ux_model.specs.History.{IsLegal}
-use Rattle.ux_model.proofs.ByPlace.{get_within}
+use Rattle.ux_model.proofs.Lists.ByPlace.{get_within}
 use Rattle.ux_laws.specs.Beginning.{IsOfTheStart}
 use Rattle.ux_laws.specs.Separation.{IsSeparated}
 use Rattle.ux_laws.proofs.Apart.{kept_files_are_separated}
@@ -20,7 +21,8 @@ use Rattle.delortxa.specs.Boots.{Plan, with_object, with_process}
 use Rattle.library_examples.specs.KeyServer.{user, key_boot, leaves, Keeps}
 
 -- what is so of all calls of a process is so of each of its entries
-of_each : (f : Call → Bool) (p : ℕ) (es : List Entry) (j : ℕ) (e : Entry) → list_all f (calls_by p es) ≡ true → slice_get es j ≡ Some e → e.pid.0 ≡ p → f (call_of e) ≡ true
+of_each : (f : Call → Bool) (p : ℕ) (es : List Entry) (j : ℕ) (e : Entry) → list_all f (calls_by p es) ≡ true → slice_get es j ≡ Some e →
+    e.pid.0 ≡ p → f (call_of e) ≡ true
 of_each f p [] j e all at own = absurd (cc at)
 of_each f p (x ∷ es) zero e all at own =
     let same : x ≡ e = cc at in
@@ -63,11 +65,13 @@ separated {T} outputs es legal long each =
 
 -- what the boot puts together is where it begins
 pub begins : (kernel : State) (b0 b1 b2 b3 b4 : Plan) → b0 ≡ record { objects = []; failures = []; processes = [] } →
-    b1 ≡ with_object b0 (codes "secret") ObjKind.Memory (codes "hunter2") 0 → b2 ≡ with_process b1 (user 0) → b3 ≡ with_process b2 (user 1000) →
+    b1 ≡ with_object b0 (codes "secret") ObjKind.Memory (codes "hunter2") 0 → b2 ≡ with_process b1 (user 0) →
+    b3 ≡ with_process b2 (user 1000) →
     b4 ≡ with_process b3 (user 2000) → kernel ≡ boot_state b4.objects b4.processes → kernel ≡ key_boot
 begins kernel b0 b1 b2 b3 b4 none secret monitor worker client is =
     let all = client ∙ ap (λ (b : Plan). with_process b (user 2000)) (worker ∙ ap (λ (b : Plan). with_process b (user 1000))
-    (monitor ∙ ap (λ (b : Plan). with_process b (user 0)) (secret ∙ ap (λ (b : Plan). with_object b (codes "secret") ObjKind.Memory (codes "hunter2") 0) none))) in
+    (monitor ∙ ap (λ (b : Plan). with_process b (user 0))
+    (secret ∙ ap (λ (b : Plan). with_object b (codes "secret") ObjKind.Memory (codes "hunter2") 0) none))) in
     is ∙ ap (λ (b : Plan). boot_state b.objects b.processes) all
 
 -- in a layer that began so

@@ -1,5 +1,6 @@
 -- The numbers that a receive reports in its control buffer are those that it gave.
-use Rattle.std.proofs.Common.{◌≡◌, ℕ, suc, ◌+◌, ◌^◌, ◌<◌, ◌≤◌, ◌==◌, Bool, true, false, not, if◌then◌else◌, List, [], ◌∷◌, ◌++◌, length, flat_map, Option, Some, None, option_map, refl, ap, sym, ◌∙◌, subst, arith}
+use Rattle.std.proofs.Common.{◌≡◌, ℕ, suc, ◌+◌, ◌^◌, ◌<◌, ◌≤◌, ◌==◌, Bool, true, false, not, if◌then◌else◌, List, [], ◌∷◌, ◌++◌, length}
+use Rattle.std.proofs.Common.{flat_map, Option, Some, None, option_map, refl, ap, sym, ◌∙◌, subst, arith}
 use Rattle.std.specs.Prelude.{IfSome}
 use Rattle.std.specs.List.{AllByRecursion}
 use Rattle.std.specs.Int.{w32, w64, to_le_bytes, from_le_bytes}
@@ -17,9 +18,10 @@ use Rattle.ux_model.specs.Outcome.{Outcome, Chosen, own, lacking_memory, failing
 use Rattle.ux_model.specs.Delivered.{Brought, brought}
 use Rattle.ux_model.specs.Receiving.{Incoming, incoming, receive_front, recv_msg}
 use Rattle.ux_model.specs.Giving.{numbers_received, rights_in}
-use Rattle.ux_model.proofs.Walk.{either}
-use Rattle.ux_model.proofs.Rising.{Rise}
-use Rattle.ux_model.proofs.Shows.{by_socket, by_receive, brought_is, nothing_is_brought, delivery_rise}
+use Rattle.ux_model.proofs.Changes.Walk.{either}
+use Rattle.ux_model.proofs.Lists.Rising.{Rise}
+use Rattle.ux_model.proofs.Tables.Shows.{by_socket}
+use Rattle.ux_model.proofs.Tables.MessageShows.{by_receive, brought_is, nothing_is_brought, delivery_rise}
 use Rattle.ux_cmsg.proofs.Numbers.{bytes_below, wide32}
 use Rattle.ux_cmsg.proofs.Collecting.{read_is}
 use Rattle.ux_cmsg.proofs.Written.{control_spelled}
@@ -47,12 +49,15 @@ number_bytes (n ∷ ns) = both (to_le_bytes w32 n) (flat_map (to_le_bytes w32) n
 payload_bytes : (item : Item) → AreBytes (payload item)
 payload_bytes (rights_item ns) = number_bytes ns
 payload_bytes (cred_item c) =
-    both (to_le_bytes w32 c.pid.0) (to_le_bytes w32 c.uid ++ to_le_bytes w32 c.gid) (four_bytes c.pid.0) (both (to_le_bytes w32 c.uid) (to_le_bytes w32 c.gid) (four_bytes c.uid) (four_bytes c.gid))
+    both (to_le_bytes w32 c.pid.0) (to_le_bytes w32 c.uid ++ to_le_bytes w32 c.gid) (four_bytes c.pid.0)
+    (both (to_le_bytes w32 c.uid) (to_le_bytes w32 c.gid) (four_bytes c.uid) (four_bytes c.gid))
 
 spelled_bytes : (item : Item) → AreBytes (item_bytes item)
 spelled_bytes item =
-    both (to_le_bytes w64 (16 + length (payload item))) (to_le_bytes w32 1 ++ to_le_bytes w32 (item_type item) ++ payload item) (eight_bytes (16 + length (payload item)))
-    (both (to_le_bytes w32 1) (to_le_bytes w32 (item_type item) ++ payload item) (four_bytes 1) (both (to_le_bytes w32 (item_type item)) (payload item) (four_bytes (item_type item)) (payload_bytes item)))
+    both (to_le_bytes w64 (16 + length (payload item))) (to_le_bytes w32 1 ++ to_le_bytes w32 (item_type item) ++ payload item)
+    (eight_bytes (16 + length (payload item)))
+    (both (to_le_bytes w32 1) (to_le_bytes w32 (item_type item) ++ payload item) (four_bytes 1)
+    (both (to_le_bytes w32 (item_type item)) (payload item) (four_bytes (item_type item)) (payload_bytes item)))
 
 right_bytes : (ns : List ℕ) → AreBytes (rights_bytes ns)
 right_bytes ns = go (length ns == 0)
@@ -63,7 +68,8 @@ right_bytes ns = go (length ns == 0)
 
 are_bytes : (cred : Option Cred) (ns : List ℕ) → AreBytes (control_bytes cred ns)
 are_bytes None ns = right_bytes ns
-are_bytes (Some c) ns = both (item_bytes (cred_item c)) (if length ns == 0 then [] else 0 ∷ 0 ∷ 0 ∷ 0 ∷ rights_bytes ns) (spelled_bytes (cred_item c)) (go (length ns == 0))
+are_bytes (Some c) ns = both (item_bytes (cred_item c)) (if length ns == 0 then [] else 0 ∷ 0 ∷ 0 ∷ 0 ∷ rights_bytes ns)
+    (spelled_bytes (cred_item c)) (go (length ns == 0))
   where
     go : (b : Bool) → AreBytes (if b then [] else 0 ∷ 0 ∷ 0 ∷ 0 ∷ rights_bytes ns)
     go true = tt
@@ -92,7 +98,8 @@ cred_alike c =
 control_alike : (cred : Option Cred) (ns : List ℕ) → control_bytes (option_map cut_cred cred) ns ≡ control_bytes cred ns
 control_alike None ns = refl
 control_alike (Some c) ns =
-    ap (λ (p : List ℕ). (to_le_bytes w64 (16 + length p) ++ (to_le_bytes w32 1 ++ (to_le_bytes w32 2 ++ p))) ++ (if length ns == 0 then [] else 0 ∷ 0 ∷ 0 ∷ 0 ∷ rights_bytes ns)) (cred_alike c)
+    ap (λ (p : List ℕ). (to_le_bytes w64 (16 + length p) ++ (to_le_bytes w32 1 ++ (to_le_bytes w32 2 ++ p))) ++
+    (if length ns == 0 then [] else 0 ∷ 0 ∷ 0 ∷ 0 ∷ rights_bytes ns)) (cred_alike c)
 
 cut_items : (cred : Option Cred) → IfSome (option_map cut_cred cred) (λ c. IsItem (cred_item c))
 cut_items None = tt
@@ -128,37 +135,46 @@ rise_few low high [] within r = omega (arith, within)
 rise_few low high (n ∷ ns) within r = let rest = rise_few (suc n) high ns (omega (arith, r.1)) r.2 in omega (arith, rest, r.0)
 
 rise_item : (high : ℕ) (ns : List ℕ) → high ≤ table_limit → Rise 0 high ns → IsItem (rights_item ns)
-rise_item high ns small r = let few = rise_few 0 high ns (omega arith) r in (omega (arith, few, small), rise_fit 0 high ns (omega (arith, small)) r)
+rise_item high ns small r = let few = rise_few 0 high ns (omega arith) r in
+    (omega (arith, few, small), rise_fit 0 high ns (omega (arith, small)) r)
 
 -- ---- a receive
 
 abbrev Reads : State → ℕ → Request → Reply → Type 0
 Reads S p request reply = numbers_read reply ≡ numbers_received (brought S p request) reply
 
-front_control : (wanted : Bool) (cred : Cred) (rights : List ℕ) (space : ℕ) (table : List (Option Descriptor)) → length table ≤ table_limit →
+front_control : (wanted : Bool) (cred : Cred) (rights : List ℕ) (space : ℕ) (table : List (Option Descriptor)) →
+    length table ≤ table_limit →
     rights_in (control_in (delivery wanted cred rights space table).control) ≡ (delivery wanted cred rights space table).numbers
 unfolding delivery
-front_control wanted cred rights space table small = rights_again _ _ (rise_item (length table) _ small (delivery_rise wanted cred rights space table))
+front_control wanted cred rights space table small =
+    rights_again _ _ (rise_item (length table) _ small (delivery_rise wanted cred rights space table))
 
 front_reads : (S : State) (p d : ℕ) (fd : Fd) (s : Socket) (asked : Incoming) (front : Front) → length (table_of S p) ≤ table_limit →
-    (brought S p (Request.RecvMsg fd asked.n asked.space asked.flags)).numbers ≡ (delivery s.passcred front.cred front.rights asked.space (table_of S p)).numbers →
+    (brought S p (Request.RecvMsg fd asked.n asked.space asked.flags)).numbers ≡
+    (delivery s.passcred front.cred front.rights asked.space (table_of S p)).numbers →
     Reads S p (Request.RecvMsg fd asked.n asked.space asked.flags) (receive_front S p d s asked front).reply
 unfolding receive_front
 front_reads S p d fd s asked front small same = front_control s.passcred front.cred front.rights asked.space (table_of S p) small ∙ sym same
 
-receive_reads : (S : State) (p n space : ℕ) (fd : Fd) (flags : MsgFlags) → length (table_of S p) ≤ table_limit → Reads S p (Request.RecvMsg fd n space flags) (recv_msg S p fd n space flags).reply
+receive_reads : (S : State) (p n space : ℕ) (fd : Fd) (flags : MsgFlags) → length (table_of S p) ≤ table_limit →
+    Reads S p (Request.RecvMsg fd n space flags) (recv_msg S p fd n space flags).reply
 unfolding recv_msg
 receive_reads S p n space fd flags small = by_socket Q S p fd _ (λ e. refl)
     (λ d s h there. either Q (not (are_receive_flags flags)) _ _ (λ b. refl)
     (λ b. by_receive Q S p d s (incoming n space flags) (λ e. refl) refl
-    (λ none. nothing_spelled ∙ sym (ap (λ (b : Brought). b.numbers) (brought_is S p d n space fd flags s s.queue h refl) ∙ nothing_is_brought s n space (table_of S p) s.queue none))
-    (λ m ms q. front_reads S p d fd s (incoming n space flags) (front_of n s m ms) small (ap (λ (b : Brought). b.numbers) (brought_is S p d n space fd flags s (m ∷ ms) h q)))))
+    (λ none. nothing_spelled ∙ sym (ap (λ (b : Brought). b.numbers) (brought_is S p d n space fd flags s s.queue h refl)
+    ∙ nothing_is_brought s n space (table_of S p) s.queue none))
+    (λ m ms q. front_reads S p d fd s (incoming n space flags) (front_of n s m ms) small
+    (ap (λ (b : Brought). b.numbers) (brought_is S p d n space fd flags s (m ∷ ms) h q)))))
   where
     Q : Outcome → Type 0
     Q o = Reads S p (Request.RecvMsg fd n space flags) o.reply
 
-pub chosen_reads : (S T : State) (p n space : ℕ) (fd : Fd) (flags : MsgFlags) (reply : Reply) → length (table_of S p) ≤ table_limit → Chosen S (recv_msg S p fd n space flags) reply T →
+pub chosen_reads : (S T : State) (p n space : ℕ) (fd : Fd) (flags : MsgFlags) (reply : Reply) → length (table_of S p) ≤ table_limit →
+    Chosen S (recv_msg S p fd n space flags) reply T →
     Reads S p (Request.RecvMsg fd n space flags) reply
-chosen_reads S T p n space fd flags reply small (own e f) = subst (Reads S p (Request.RecvMsg fd n space flags)) (sym e) (receive_reads S p n space fd flags small)
+chosen_reads S T p n space fd flags reply small (own e f) =
+    subst (Reads S p (Request.RecvMsg fd n space flags)) (sym e) (receive_reads S p n space fd flags small)
 chosen_reads S T p n space fd flags reply small (lacking_memory e may f) = subst (Reads S p (Request.RecvMsg fd n space flags)) (sym e) refl
 chosen_reads S T p n space fd flags reply small (failing e f) = subst (Reads S p (Request.RecvMsg fd n space flags)) (sym e) refl

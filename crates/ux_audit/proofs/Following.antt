@@ -1,5 +1,6 @@
 -- The flags after an entry are those of the tables after it.
-use Rattle.std.proofs.Common.{◌≡◌, ℕ, ◌==◌, cond, List, [], Option, None, Some, option_map, refl, ap, sym, ◌∙◌, subst, Bool, true, false, arith, rules}
+use Rattle.std.proofs.Common.{◌≡◌, ℕ, ◌==◌, cond, List, [], Option, None, Some, option_map, refl, ap, sym, ◌∙◌, subst, Bool, true, false}
+use Rattle.std.proofs.Common.{arith, rules}
 use Rattle.std.proofs.lemmas.Bool.{eqb-true}
 use Rattle.std.specs.Global.{Vec}
 use Rattle.std.specs.List.{list_any}
@@ -10,9 +11,9 @@ use Rattle.ux_model.specs.State.{State}
 use Rattle.ux_model.specs.History.{makes}
 use Rattle.ux_model.specs.Giving.{held_at, given}
 use Rattle.ux_model.specs.Changes.{cloexec_of, left_by, is_err, others_left_by, ChangesTables}
-use Rattle.ux_model.proofs.ChangedPlaces.{bool_cases}
-use Rattle.ux_model.proofs.ByPlace.{member_place}
-use Rattle.ux_model.proofs.Replacing.{gives_none}
+use Rattle.ux_model.proofs.Lists.ChangedPlaces.{bool_cases}
+use Rattle.ux_model.proofs.Lists.ByPlace.{member_place}
+use Rattle.ux_model.proofs.Tables.Replacing.{gives_none}
 use Rattle.ux_audit.specs.Shown.{shown}
 use Rattle.ux_audit.specs.Marks.{flag_on_exec, flag_left, flag_of_others, flag_own, mark_at, mark_after, AreMarks, AreSmall}
 
@@ -33,7 +34,8 @@ flag-exec (Some x) = flag-cond x.cloexec None (Some x)
 
 flag-left : (r : Request) (n : ℕ) (o : Option Descriptor) → flag_left r n (flag o) ≡ flag (left_by r n o)
 flag-left (Request.SetFlags fd flags) n o =
-    ap (λ m. cond (fd.0 == n) m (flag o)) (flag-set (asks_cloexec flags) o) ∙ flag-cond (fd.0 == n) (option_map (with_cloexec (asks_cloexec flags)) o) o
+    ap (λ m. cond (fd.0 == n) m (flag o)) (flag-set (asks_cloexec flags) o)
+    ∙ flag-cond (fd.0 == n) (option_map (with_cloexec (asks_cloexec flags)) o) o
 flag-left (Request.Close fd) n o = flag-cond (fd.0 == n) None o
 flag-left Request.Exec n o = flag-exec o
 flag-left Request.Exit n o = refl
@@ -60,14 +62,17 @@ record Known (S T : State) (e : Entry) (m : ℕ → ℕ → Option Bool) : Type 
   pub before : (q n : ℕ) → m q n ≡ flag (held_at S q n)
 
 -- one that was refused changes nothing
-refused_told : (S T : State) (e : Entry) (m : ℕ → ℕ → Option Bool) → Known S T e m → is_err e.reply ≡ true → (q n : ℕ) → m q n ≡ flag (held_at T q n)
+refused_told : (S T : State) (e : Entry) (m : ℕ → ℕ → Option Bool) → Known S T e m → is_err e.reply ≡ true → (q n : ℕ) →
+    m q n ≡ flag (held_at T q n)
 refused_told S T e m k err q n = k.before q n ∙ bool_cases (e.pid.0 == q)
     (λ own.
     let same : e.pid.0 ≡ q = eqb-true e.pid.0 q own in
-    let none : list_any (λ i. i == n) (given S e.pid.0 e.request e.reply) ≡ false = ap (λ l. list_any (λ i. i == n) l) (err_gives_none S e.pid.0 e.request e.reply err) in
+    let none : list_any (λ i. i == n) (given S e.pid.0 e.request e.reply) ≡ false =
+    ap (λ l. list_any (λ i. i == n) l) (err_gives_none S e.pid.0 e.request e.reply err) in
     subst (λ (p : ℕ). flag (held_at S p n) ≡ flag (held_at T p n)) same
     (ap flag (sym (k.changes.own n none ∙ ap (λ b. cond b (held_at S e.pid.0 n) (left_by e.request n (held_at S e.pid.0 n))) err))))
-    (λ other. ap flag (sym (k.changes.others q n other (err_makes_none q e.request e.reply err) ∙ ap (λ b. cond b (held_at S q n) (others_left_by e.request (held_at S q n))) err)))
+    (λ other. ap flag (sym (k.changes.others q n other (err_makes_none q e.request e.reply err)
+    ∙ ap (λ b. cond b (held_at S q n) (others_left_by e.request (held_at S q n))) err)))
 
 -- a number of its own after one that wasn't
 own_told : (S T : State) (e : Entry) (m : ℕ → ℕ → Option Bool) → Known S T e m → is_err e.reply ≡ false → (n : ℕ) →
@@ -88,11 +93,13 @@ own_told S T e m k fine n =
     numbers = given S e.pid.0 e.request e.reply
 
 -- and one of another process
-other_told : (S T : State) (e : Entry) (m : ℕ → ℕ → Option Bool) → Known S T e m → is_err e.reply ≡ false → (q n : ℕ) → (e.pid.0 == q) ≡ false → makes q e.request e.reply ≡ false →
+other_told : (S T : State) (e : Entry) (m : ℕ → ℕ → Option Bool) → Known S T e m → is_err e.reply ≡ false → (q n : ℕ) →
+    (e.pid.0 == q) ≡ false → makes q e.request e.reply ≡ false →
     flag_of_others e.request (m q n) ≡ flag (held_at T q n)
 other_told S T e m k fine q n other childless =
     ap (flag_of_others e.request) (k.before q n) ∙ flag-others e.request (held_at S q n)
-    ∙ ap flag (sym (ap (λ b. cond b (held_at S q n) (others_left_by e.request (held_at S q n))) fine)) ∙ ap flag (sym (k.changes.others q n other childless))
+    ∙ ap flag (sym (ap (λ b. cond b (held_at S q n) (others_left_by e.request (held_at S q n))) fine))
+    ∙ ap flag (sym (k.changes.others q n other childless))
 
 told : (S T : State) (e : Entry) (m : ℕ → ℕ → Option Bool) → Known S T e m → (q n : ℕ) → mark_after m e q n ≡ flag (held_at T q n)
 told S T e m k q n = bool_cases (is_err e.reply)
@@ -105,7 +112,8 @@ told S T e m k q n = bool_cases (is_err e.reply)
     ap (λ b. cond b (flag_own e.request (shown e.request e.reply) n (m q n)) (flag_of_others e.request (m q n))) own
     ∙ subst (λ (p : ℕ). flag_own e.request (shown e.request e.reply) n (m p n) ≡ flag (held_at T p n)) same (own_told S T e m k fine n))
     (λ other.
-    ap (λ b. cond b (flag_own e.request (shown e.request e.reply) n (m q n)) (flag_of_others e.request (m q n))) other ∙ other_told S T e m k fine q n other childless)))
+    ap (λ b. cond b (flag_own e.request (shown e.request e.reply) n (m q n)) (flag_of_others e.request (m q n))) other
+    ∙ other_told S T e m k fine q n other childless)))
   where
     unborn : Option Bool
     unborn = cond (e.pid.0 == q) (flag_own e.request (shown e.request e.reply) n (m q n)) (flag_of_others e.request (m q n))
@@ -113,9 +121,11 @@ told S T e m k q n = bool_cases (is_err e.reply)
     answered : Option Bool
     answered = cond (makes q e.request e.reply) (m e.pid.0 n) unborn
 
-pub marks_follow : (S T : State) (e : Entry) (old new : List (Vec (Option Bool))) → ChangesTables S e.pid.0 e.request e.reply T → shown e.request e.reply ≡ given S e.pid.0 e.request e.reply → AreMarks S old →
+pub marks_follow : (S T : State) (e : Entry) (old new : List (Vec (Option Bool))) → ChangesTables S e.pid.0 e.request e.reply T →
+    shown e.request e.reply ≡ given S e.pid.0 e.request e.reply → AreMarks S old →
     ((q n : ℕ) → mark_at new q n ≡ mark_after (mark_at old) e q n) → AreMarks T new
-marks_follow S T e old new changes gave are follows q n = follows q n ∙ told S T e (mark_at old) (record { changes = changes; gave = gave; before = are }) q n
+marks_follow S T e old new changes gave are follows q n = follows q n
+    ∙ told S T e (mark_at old) (record { changes = changes; gave = gave; before = are }) q n
 
 -- ---- at first
 

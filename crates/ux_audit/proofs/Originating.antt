@@ -1,5 +1,6 @@
 -- Where a holding came from, by the request of the entry that gave it.
-use Rattle.std.proofs.Common.{◌≡◌, ◌⊎◌, inl, inr, ℕ, ◌<◌, ◌≤◌, ◌==◌, true, false, List, [], length, get_or, Option, None, Some, MatchOption, option_map, refl, ap, sym, ◌∙◌, subst, arith, slice_get}
+use Rattle.std.proofs.Common.{◌≡◌, ◌⊎◌, inl, inr, ℕ, ◌<◌, ◌≤◌, ◌==◌, true, false, List, [], length, get_or, Option, None, Some, MatchOption}
+use Rattle.std.proofs.Common.{option_map, refl, ap, sym, ◌∙◌, subst, arith, slice_get}
 use Rattle.std.specs.Prelude.{IfSome, IfNone}
 use Rattle.std.specs.List.{list_any}
 use Rattle.std.proofs.lemmas.Bool.{false≢true}
@@ -11,9 +12,9 @@ use Rattle.ux_model.specs.Changes.{sources}
 use Rattle.ux_model.specs.Process.{fd_of}
 use Rattle.ux_model.specs.Giving.{given, how_of, copied, sent_by, IsReceive, receive}
 use Rattle.ux_model.specs.Pedigree.{before}
-use Rattle.ux_model.proofs.ByPlace.{place_member}
-use Rattle.ux_model.proofs.Moments.{moment}
-use Rattle.ux_model.proofs.Passing.{receive_no_fork, IsOwn, own_number, IsDelivered, receive_delivered, gives_nothing}
+use Rattle.ux_model.proofs.Lists.ByPlace.{place_member}
+use Rattle.ux_model.proofs.Pedigrees.Moments.{moment}
+use Rattle.ux_model.proofs.Pedigrees.Passing.{receive_no_fork, IsOwn, own_number, IsDelivered, receive_delivered, gives_nothing}
 use Rattle.ux_audit.specs.declared.hands.Giver.{Giver}
 use Rattle.ux_audit.specs.declared.hands.Origin.{Origin}
 use Rattle.ux_audit.specs.Shown.{shown, gave}
@@ -27,8 +28,10 @@ pub read_entry : (es : List Entry) (j : ℕ) (e : Entry) → j < length es → e
 read_entry es j e h is = slice_get_read es (length es) j e refl h is
 
 -- it's enough to say it of the entry that is there
-never : (es : List Entry) (j n : ℕ) (e : Entry) → slice_get es j ≡ Some e → ((boot : State) (q : ℕ) → IsLegal boot es → gave e q n ≡ true → ⊥) → NeverGiven es n j
-never es j n e at why boot q f legal there gave' = why boot q legal (subst (λ (x : Entry). gave x q n ≡ true) (sym (one_entry es j e f at there)) gave')
+never : (es : List Entry) (j n : ℕ) (e : Entry) → slice_get es j ≡ Some e →
+    ((boot : State) (q : ℕ) → IsLegal boot es → gave e q n ≡ true → ⊥) → NeverGiven es n j
+never es j n e at why boot q f legal there gave' =
+    why boot q legal (subst (λ (x : Entry). gave x q n ≡ true) (sym (one_entry es j e f at there)) gave')
 
 -- ---- a receive
 
@@ -40,36 +43,45 @@ record Came (boot : State) (es : List Entry) (j n : ℕ) (e : Entry) : Type 0 wh
   pub told : e.delivered ≡ Some tag
   pub message : IsDelivered boot es j e tag
 
-came_at : (boot : State) (es : List Entry) (j place n : ℕ) (e : Entry) → IsLegal boot es → slice_get es j ≡ Some e → IsReceive e.request → slice_get (shown e.request e.reply) place ≡ Some n → Came boot es j n e
+came_at : (boot : State) (es : List Entry) (j place n : ℕ) (e : Entry) → IsLegal boot es → slice_get es j ≡ Some e → IsReceive e.request →
+    slice_get (shown e.request e.reply) place ≡ Some n → Came boot es j n e
 came_at boot es j place n e legal at is shows =
-    let there : slice_get (given (before boot es j) e.pid.0 e.request e.reply) place ≡ Some n = sym (ap (λ l. slice_get l place) (shown_given boot es j e legal at)) ∙ shows in
+    let there : slice_get (given (before boot es j) e.pid.0 e.request e.reply) place ≡ Some n =
+    sym (ap (λ l. slice_get l place) (shown_given boot es j e legal at)) ∙ shows in
     let d = receive_delivered boot es j place n e legal at is there in
     record { place = place; shows = shows; tag = d.0; told = told_delivered boot es j e legal at ∙ d.1; message = d.2 }
 
-came : (boot : State) (es : List Entry) (j q n : ℕ) (e : Entry) → IsLegal boot es → slice_get es j ≡ Some e → IsReceive e.request → gave e q n ≡ true → Came boot es j n e
+came : (boot : State) (es : List Entry) (j q n : ℕ) (e : Entry) → IsLegal boot es → slice_get es j ≡ Some e → IsReceive e.request →
+    gave e q n ≡ true → Came boot es j n e
 came boot es j q n e legal at is gave' =
-    let own : IsOwn boot es j e q n = own_number boot es j q n e (sym (gave_gives boot es j q n e legal at) ∙ gave') (receive_no_fork e.request is) in
-    let shows : slice_get (shown e.request e.reply) own.1.0 ≡ Some n = ap (λ l. slice_get l own.1.0) (shown_given boot es j e legal at) ∙ own.1.1 in
+    let own : IsOwn boot es j e q n = own_number boot es j q n e (sym (gave_gives boot es j q n e legal at) ∙ gave')
+    (receive_no_fork e.request is) in
+    let shows : slice_get (shown e.request e.reply) own.1.0 ≡ Some n = ap (λ l. slice_get l own.1.0) (shown_given boot es j e legal at)
+    ∙ own.1.1 in
     came_at boot es j own.1.0 n e legal at is shows
 
-pub never_undelivered : (es : List Entry) (j n : ℕ) (e : Entry) → slice_get es j ≡ Some e → IsReceive e.request → e.delivered ≡ None → NeverGiven es n j
+pub never_undelivered : (es : List Entry) (j n : ℕ) (e : Entry) → slice_get es j ≡ Some e → IsReceive e.request → e.delivered ≡ None →
+    NeverGiven es n j
 never_undelivered es j n e at is none = never es j n e at (λ boot q legal gave'.
     let c = came boot es j q n e legal at is gave' in
     let clash : None ≡ Some c.tag = sym none ∙ c.told in cc clash)
 
-pub never_shown : (es : List Entry) (j n : ℕ) (e : Entry) → slice_get es j ≡ Some e → IsReceive e.request → list_any (λ m. m == n) (shown e.request e.reply) ≡ false → NeverGiven es n j
+pub never_shown : (es : List Entry) (j n : ℕ) (e : Entry) → slice_get es j ≡ Some e → IsReceive e.request →
+    list_any (λ m. m == n) (shown e.request e.reply) ≡ false → NeverGiven es n j
 never_shown es j n e at is none = never es j n e at (λ boot q legal gave'.
     let c = came boot es j q n e legal at is gave' in
     false≢true (sym none ∙ place_member (shown e.request e.reply) n c.place c.shows))
 
-pub never_later : (es : List Entry) (j n tag : ℕ) (e : Entry) → slice_get es j ≡ Some e → IsReceive e.request → e.delivered ≡ Some tag → j ≤ tag → NeverGiven es n j
+pub never_later : (es : List Entry) (j n tag : ℕ) (e : Entry) → slice_get es j ≡ Some e → IsReceive e.request → e.delivered ≡ Some tag →
+    j ≤ tag → NeverGiven es n j
 never_later es j n tag e at is told late = never es j n e at (λ boot q legal gave'.
     let c = came boot es j q n e legal at is gave' in
     let both : Some c.tag ≡ Some tag = sym c.told ∙ told in
     let same : c.tag ≡ tag = cc both in
     let early = c.message.earlier in omega (arith, early, same, late))
 
-pub never_unsent : (es : List Entry) (j n tag place : ℕ) (e s : Entry) → slice_get es j ≡ Some e → IsReceive e.request → e.delivered ≡ Some tag → slice_get es tag ≡ Some s →
+pub never_unsent : (es : List Entry) (j n tag place : ℕ) (e s : Entry) → slice_get es j ≡ Some e → IsReceive e.request →
+    e.delivered ≡ Some tag → slice_get es tag ≡ Some s →
     slice_get (shown e.request e.reply) place ≡ Some n → slice_get (sent_by s.request) place ≡ None → NeverGiven es n j
 never_unsent es j n tag place e s at is told there shows none = never es j n e at (λ boot q legal gave'.
     let c = came_at boot es j place n e legal at is shows in
@@ -83,11 +95,14 @@ how_receive : (r : Request) (o : Option ℕ) (tag : ℕ) → IsReceive r → o �
 how_receive r o tag (receive fd n space flags) told = ap (option_map (λ tag. How.Received tag)) told
 
 -- the place that was found
-pub place_found : (e : Entry) (n i : ℕ) (o : Option ℕ) → o ≡ Some i → MatchOption o (list_any (λ m. m == n) (shown e.request e.reply) ≡ false) (λ i. slice_get (shown e.request e.reply) i ≡ Some n) →
+pub place_found : (e : Entry) (n i : ℕ) (o : Option ℕ) → o ≡ Some i →
+    MatchOption o (list_any (λ m. m == n) (shown e.request e.reply) ≡ false) (λ i. slice_get (shown e.request e.reply) i ≡ Some n) →
     slice_get (shown e.request e.reply) i ≡ Some n
-place_found e n i o is found = subst (λ (x : Option ℕ). MatchOption x (list_any (λ m. m == n) (shown e.request e.reply) ≡ false) (λ i. slice_get (shown e.request e.reply) i ≡ Some n)) is found
+place_found e n i o is found = subst (λ (x : Option ℕ). MatchOption x (list_any (λ m. m == n) (shown e.request e.reply) ≡ false)
+    (λ i. slice_get (shown e.request e.reply) i ≡ Some n)) is found
 
-pub origin_received : (es : List Entry) (j n tag place right : ℕ) (e s : Entry) → slice_get es j ≡ Some e → IsReceive e.request → e.delivered ≡ Some tag → tag < j → slice_get es tag ≡ Some s →
+pub origin_received : (es : List Entry) (j n tag place right : ℕ) (e s : Entry) → slice_get es j ≡ Some e → IsReceive e.request →
+    e.delivered ≡ Some tag → tag < j → slice_get es tag ≡ Some s →
     slice_get (shown e.request e.reply) place ≡ Some n → slice_get (sent_by s.request) place ≡ Some right →
     IsOrigin es j n e (record { how = How.Received tag; from = Some (record { pid = s.pid; fd = fd_of right; moment = tag }) })
 origin_received es j n tag place right e s at is told early there shows sends = record {
@@ -111,17 +126,20 @@ origin_received es j n tag place right e s at is told early there shows sends = 
 
 -- ---- other calls
 
-pub origin_made : (es : List Entry) (j n : ℕ) (e : Entry) → how_of e.request e.delivered ≡ Some How.Made → IsOrigin es j n e (record { how = How.Made; from = None })
+pub origin_made : (es : List Entry) (j n : ℕ) (e : Entry) → how_of e.request e.delivered ≡ Some How.Made →
+    IsOrigin es j n e (record { how = How.Made; from = None })
 origin_made es j n e way = record { way = way; from = refl }
 
-pub origin_dup : (es : List Entry) (j n : ℕ) (e : Entry) (source : Fd) → how_of e.request e.delivered ≡ Some How.Dup → copied e.request ≡ Some source.0 →
+pub origin_dup : (es : List Entry) (j n : ℕ) (e : Entry) (source : Fd) → how_of e.request e.delivered ≡ Some How.Dup →
+    copied e.request ≡ Some source.0 →
     IsOrigin es j n e (record { how = How.Dup; from = Some (record { pid = e.pid; fd = source; moment = j }) })
 origin_dup es j n e source way copies = record {
   way = way;
   from = record { earlier = omega arith; hands_on = λ boot a b legal p k at m. (sym at, p, copies ∙ ap Some (sym k)) };
 }
 
-pub origin_forked : (es : List Entry) (j : ℕ) (n : Fd) (e : Entry) → e.request ≡ Request.Fork → IsOrigin es j n.0 e (record { how = How.Forked; from = Some (record { pid = e.pid; fd = n; moment = j }) })
+pub origin_forked : (es : List Entry) (j : ℕ) (n : Fd) (e : Entry) → e.request ≡ Request.Fork →
+    IsOrigin es j n.0 e (record { how = How.Forked; from = Some (record { pid = e.pid; fd = n; moment = j }) })
 origin_forked es j n e is = record {
   way = ap (λ (r : Request). how_of r e.delivered) is;
   from = record { earlier = omega arith; hands_on = λ boot a b legal p k at m. (sym at, p, k ∙ sym m) };
@@ -130,12 +148,15 @@ origin_forked es j n e is = record {
 -- ---- looking for the entry that gave
 
 -- what is said of the entry that was read holds of the entry that is there
-pub origin_there : (es : List Entry) (j n : ℕ) (f e : Entry) (o : Origin) → j < length es → f ≡ get_or es j f → slice_get es j ≡ Some e → IsOrigin es j n f o → IsOrigin es j n e o
-origin_there es j n f e o within read at origin = subst (λ (x : Entry). IsOrigin es j n x o) (one_entry es j f e (read_entry es j f within read) at) origin
+pub origin_there : (es : List Entry) (j n : ℕ) (f e : Entry) (o : Origin) → j < length es → f ≡ get_or es j f → slice_get es j ≡ Some e →
+    IsOrigin es j n f o → IsOrigin es j n e o
+origin_there es j n f e o within read at origin =
+    subst (λ (x : Entry). IsOrigin es j n x o) (one_entry es j f e (read_entry es j f within read) at) origin
 
 pub giver_earlier : (es : List Entry) (j n : ℕ) (e : Entry) (o : Origin) (g : Giver) → IsOrigin es j n e o → o.from ≡ Some g → g.moment ≤ j
 giver_earlier es j n e o g origin more =
-    let giver : IsGiver es j n e o.how g = subst (λ (f : Option Giver). MatchOption f (o.how ≡ How.Made) (IsGiver es j n e o.how)) more origin.from in giver.earlier
+    let giver : IsGiver es j n e o.how g = subst
+    (λ (f : Option Giver). MatchOption f (o.how ≡ How.Made) (IsGiver es j n e o.how)) more origin.from in giver.earlier
 
 -- ---- calls that give nothing
 
@@ -163,12 +184,14 @@ no_sources S p _ g = refl
 
 pub never_otherwise : (es : List Entry) (j n : ℕ) (e : Entry) → slice_get es j ≡ Some e → GivesNot e.request → NeverGiven es n j
 never_otherwise es j n e at g = never es j n e at (λ boot q legal gave'.
-    gives_nothing boot es j q n e (moment boot es j e legal at) g.not_fork (no_sources (before boot es j) e.pid.0 e.request g) (sym (gave_gives boot es j q n e legal at) ∙ gave'))
+    gives_nothing boot es j q n e (moment boot es j e legal at) g.not_fork (no_sources (before boot es j) e.pid.0 e.request g)
+    (sym (gave_gives boot es j q n e legal at) ∙ gave'))
 
 -- ---- by the patterns of the requests
 
 abbrev pub Makes : Request → Type 0
-Makes r = ((x : Name) × (y : Mode) × (z : OpenFlags) × (r ≡ Request.Open x y z)) ⊎ (((x : SockType) × (y : OpenFlags) × (r ≡ Request.Socket x y))
+Makes r = ((x : Name) × (y : Mode) × (z : OpenFlags) × (r ≡ Request.Open x y z))
+    ⊎ (((x : SockType) × (y : OpenFlags) × (r ≡ Request.Socket x y))
     ⊎ (((x : SockType) × (y : OpenFlags) × (r ≡ Request.SocketPair x y)) ⊎ ((x : Fd) × (y : OpenFlags) × (r ≡ Request.Accept x y))))
 
 pub makes_way : (r : Request) (o : Option ℕ) → Makes r → how_of r o ≡ Some How.Made
@@ -187,10 +210,13 @@ copies_way r o source (inr (inr w)) = (ap (λ (x : Request). how_of x o) w.1, ap
 
 -- ---- what was found
 
-pub origin_found : (es : List Entry) (j n : ℕ) (e : Entry) (x : Option Origin) (o : Origin) → x ≡ Some o → IfSome x (λ o. (f : Entry) → slice_get es j ≡ Some f → IsOrigin es j n f o) → slice_get es j ≡ Some e →
+pub origin_found : (es : List Entry) (j n : ℕ) (e : Entry) (x : Option Origin) (o : Origin) → x ≡ Some o →
+    IfSome x (λ o. (f : Entry) → slice_get es j ≡ Some f → IsOrigin es j n f o) → slice_get es j ≡ Some e →
     IsOrigin es j n e o
 origin_found es j n e x o is found at =
-    let here : (f : Entry) → slice_get es j ≡ Some f → IsOrigin es j n f o = subst (λ (y : Option Origin). IfSome y (λ o. (f : Entry) → slice_get es j ≡ Some f → IsOrigin es j n f o)) is found in
+    let here : (f : Entry) → slice_get es j ≡ Some f →
+    IsOrigin es j n f o = subst (λ (y : Option Origin). IfSome y (λ o. (f : Entry) → slice_get es j ≡ Some f → IsOrigin es j n f o)) is
+    found in
     here e at
 
 pub never_found : (es : List Entry) (j n : ℕ) (x : Option Origin) → x ≡ None → IfNone x (NeverGiven es n j) → NeverGiven es n j

@@ -40,7 +40,8 @@ off_succeeds : (S : State) → Succeeds (off S)
 unfolding off
 off_succeeds S = record { reply = refl; memory = refl; failure = refl }
 
-pub exit_is_ok : (S T : State) (p n : ℕ) (request : Request) (reply : Reply) (gone : List ℕ) → request ≡ Request.Exit → is_live S p ≡ true → Step S p n request reply gone T → reply ≡ Reply.Ok
+pub exit_is_ok : (S T : State) (p n : ℕ) (request : Request) (reply : Reply) (gone : List ℕ) → request ≡ Request.Exit → is_live S p ≡ true →
+    Step S p n request reply gone T → reply ≡ Reply.Ok
 unfolding Step outcome
 exit_is_ok S T p n Request.Exit reply gone is live step = succeeds S step.0 (exit S p) reply (exit_succeeds S p live) step.1
 exit_is_ok S T p n request reply gone is live step = absurd (cc is)

@@ -1,5 +1,6 @@
 -- A book that begins, and one that grows by one entry.
-use Rattle.std.proofs.Common.{◌≡◌, ℕ, ◌+◌, ◌-◌, ◌≤◌, ◌==◌, ◌&&◌, ◌||◌, not, List, [], ◌∷◌, ◌++◌, length, Bool, true, false, cond, if◌then◌else◌, refl, ap, sym, ◌∙◌, subst, arith}
+use Rattle.std.proofs.Common.{◌≡◌, ℕ, ◌+◌, ◌-◌, ◌≤◌, ◌==◌, ◌&&◌, ◌||◌, not, List, [], ◌∷◌, ◌++◌, length, Bool, true, false, cond}
+use Rattle.std.proofs.Common.{if◌then◌else◌, refl, ap, sym, ◌∙◌, subst, arith}
 use Rattle.std.proofs.lemmas.List.Sums.{sum_by_push, count_by-le-length}
 use Rattle.std.proofs.lemmas.Bool.{false≢true, eqb-true, ne_eqb, and_parts, and_from}
 use Rattle.atomic_table.specs.Seated.{TableId}
@@ -11,11 +12,11 @@ use Rattle.ux_model.specs.Delivered.{delivered_by}
 use Rattle.ux_model.specs.Release.{settled}
 use Rattle.ux_model.specs.Waiting.{is_again}
 use Rattle.ux_model.specs.History.{calls_of, is_exit, is_off, has_live, live_count, makes_one, is_allowed, replay, MayFollow, IsLegal}
-use Rattle.ux_model.proofs.Replays.{step_replay}
-use Rattle.ux_model.proofs.Appending.{legal_push}
-use Rattle.ux_model.proofs.Settling.{stays_settled}
-use Rattle.ux_model.proofs.Refusals.{refusal_changes_nothing}
-use Rattle.ux_model.proofs.Living.{live_ones_counted, fork_alone_makes}
+use Rattle.ux_model.proofs.Steps.Replays.{step_replay}
+use Rattle.ux_model.proofs.Lists.Appending.{legal_push}
+use Rattle.ux_model.proofs.Releasing.Settling.{stays_settled}
+use Rattle.ux_model.proofs.Invariants.Refusals.{refusal_changes_nothing}
+use Rattle.ux_model.proofs.Processes.Living.{live_ones_counted, fork_alone_makes}
 use Rattle.ux_state.proofs.Lookups.{live_positive}
 use Rattle.ux_kernel.specs.Calling.{IsCaller}
 use Rattle.ux_book.specs.Books.{KeptHistory, state_of, processes, ends_of, is_last, Adds, last_entries, IsBook}
@@ -27,18 +28,23 @@ few_live S = count_by-le-length (λ (P : Process). not P.exited) S.processes
 -- ---- one entry more
 
 -- a fork alone makes a process
-pub processes_after : (old new : KeptHistory) (e : Entry) → Adds old new e → processes new ≡ processes old + cond {A = ℕ} (makes_one e.request e.reply) 1 0
+pub processes_after : (old new : KeptHistory) (e : Entry) → Adds old new e →
+    processes new ≡ processes old + cond {A = ℕ} (makes_one e.request e.reply) 1 0
 processes_after old new e adds =
     ap (λ (b : KeptHistory). length (state_of b).processes) adds.appended
-    ∙ fork_alone_makes (state_of old) (replay old.boot (old.entries ++ e ∷ [])) e.pid.0 (length old.entries) e.request e.reply e.released adds.next.steps
+    ∙ fork_alone_makes (state_of old) (replay old.boot (old.entries ++ e ∷ [])) e.pid.0 (length old.entries) e.request e.reply e.released
+    adds.next.steps
 
 -- a step from the end of a history is an entry that may follow
 pub may_follow : (boot S T : State) (es : List Entry) (e : Entry) → S ≡ replay boot es → is_allowed S e.pid.0 e.k e.request ≡ true →
-    Step S e.pid.0 (length es) e.request e.reply e.released T → e.k ≡ calls_of e.pid.0 es → e.delivered ≡ delivered_by S e.pid.0 e.request e.reply → MayFollow boot es e
+    Step S e.pid.0 (length es) e.request e.reply e.released T → e.k ≡ calls_of e.pid.0 es →
+    e.delivered ≡ delivered_by S e.pid.0 e.request e.reply → MayFollow boot es e
 may_follow boot S T es e at allowed step k told =
-    let from_end : Step (replay boot es) e.pid.0 (length es) e.request e.reply e.released T = subst (λ (U : State). Step U e.pid.0 (length es) e.request e.reply e.released T) at step in
+    let from_end : Step (replay boot es) e.pid.0 (length es) e.request e.reply e.released T =
+    subst (λ (U : State). Step U e.pid.0 (length es) e.request e.reply e.released T) at step in
     record {
-      steps = subst (λ (U : State). Step (replay boot es) e.pid.0 (length es) e.request e.reply e.released U) (step_replay boot T es e from_end) from_end;
+      steps = subst (λ (U : State). Step (replay boot es) e.pid.0 (length es) e.request e.reply e.released U)
+          (step_replay boot T es e from_end) from_end;
       numbered = k;
       allowed = ap (λ (U : State). is_allowed U e.pid.0 e.k e.request) (sym at) ∙ allowed;
       told = told ∙ ap (λ (U : State). delivered_by U e.pid.0 e.request e.reply) at;
@@ -63,7 +69,8 @@ first_end S p k request allowed off = go (is_off request) off allowed
 pub ends_push : (es : List Entry) (e : Entry) → ends_of (es ++ e ∷ []) ≡ ends_of es + cond {A = ℕ} (is_off e.request) 1 0
 ends_push es e = sum_by_push (λ (x : Entry). cond {A = ℕ} (is_off x.request) 1 0) es e
 
-ends_alike : (es : List Entry) (e : Entry) → calls_of 0 es ≡ ends_of es → (e.pid.0 == 0) ≡ is_off e.request → calls_of 0 (es ++ e ∷ []) ≡ ends_of (es ++ e ∷ [])
+ends_alike : (es : List Entry) (e : Entry) → calls_of 0 es ≡ ends_of es → (e.pid.0 == 0) ≡ is_off e.request →
+    calls_of 0 (es ++ e ∷ []) ≡ ends_of (es ++ e ∷ [])
 ends_alike es e ends who =
     sum_by_push (λ (x : Entry). cond {A = ℕ} (x.pid.0 == 0) 1 0) es e
     ∙ ap (λ n. n + cond {A = ℕ} (e.pid.0 == 0) 1 0) ends
@@ -71,7 +78,8 @@ ends_alike es e ends who =
     ∙ sym (ends_push es e)
 
 -- where the layer is ended, it wasn't before
-none_before : (S : State) (es : List Entry) (e : Entry) → is_allowed S e.pid.0 e.k e.request ≡ true → e.k ≡ calls_of e.pid.0 es → calls_of 0 es ≡ ends_of es → is_off e.request ≡ true → ends_of es ≡ 0
+none_before : (S : State) (es : List Entry) (e : Entry) → is_allowed S e.pid.0 e.k e.request ≡ true → e.k ≡ calls_of e.pid.0 es →
+    calls_of 0 es ≡ ends_of es → is_off e.request ≡ true → ends_of es ≡ 0
 none_before S es e allowed k ends off =
     let nobody : e.pid.0 ≡ 0 = eqb-true e.pid.0 0 (nobodys S e.pid.0 e.k e.request allowed ∙ off) in
     sym ends ∙ ap (λ p. calls_of p es) (sym nobody) ∙ sym k ∙ first_end S e.pid.0 e.k e.request allowed off
@@ -81,8 +89,11 @@ exit_no_end Request.Exit h = absurd (false≢true h)
 exit_no_end request h = refl
 
 -- a last call takes one of the last entries, and a process that was made brings one
-last_after : (S T : State) (es : List Entry) (e : Entry) (n : ℕ) → is_allowed S e.pid.0 e.k e.request ≡ true → e.k ≡ calls_of e.pid.0 es → calls_of 0 es ≡ ends_of es → ends_of es ≤ 1 →
-    Step S e.pid.0 n e.request e.reply e.released T → last_entries T (es ++ e ∷ []) + cond {A = ℕ} (is_last e.request) 1 0 ≡ last_entries S es + cond {A = ℕ} (makes_one e.request e.reply) 1 0
+last_after : (S T : State) (es : List Entry) (e : Entry) (n : ℕ) → is_allowed S e.pid.0 e.k e.request ≡ true → e.k ≡ calls_of e.pid.0 es →
+    calls_of 0 es ≡ ends_of es → ends_of es ≤ 1 →
+    Step S e.pid.0 n e.request e.reply e.released T →
+    last_entries T (es ++ e ∷ []) + cond {A = ℕ} (is_last e.request) 1 0 ≡ last_entries S es + cond {A = ℕ} (makes_one e.request e.reply) 1
+    0
 last_after S T es e n allowed k ends once step =
     go (is_off e.request) refl (is_exit e.request) refl (is_live S e.pid.0) refl
   where
@@ -95,24 +106,32 @@ last_after S T es e n allowed k ends once step =
     live_caller : is_off e.request ≡ false → is_live S e.pid.0 ≡ true
     live_caller o = sym (ap (λ (b : Bool). if b then (e.pid.0 == 0) && ((e.k == 0) && not (has_live S)) else is_live S e.pid.0) o) ∙ allowed
 
-    go : (o : Bool) → is_off e.request ≡ o → (x : Bool) → is_exit e.request ≡ x → (l : Bool) → is_live S e.pid.0 ≡ l → (live_count T + (1 - ends_of (es ++ e ∷ []))) + cond {A = ℕ} (is_exit e.request || is_off e.request) 1 0 ≡ live_count S + (1 - ends_of es) + one
+    go : (o : Bool) → is_off e.request ≡ o → (x : Bool) → is_exit e.request ≡ x → (l : Bool) → is_live S e.pid.0 ≡ l →
+        (live_count T + (1 - ends_of (es ++ e ∷ []))) + cond {A = ℕ} (is_exit e.request || is_off e.request) 1 0 ≡ live_count
+        S + (1 - ends_of es) + one
     go true o x ex l li =
         let none = none_before S es e allowed k ends o in
         let more : ends_of (es ++ e ∷ []) ≡ ends_of es + 1 = ends_push es e ∙ ap (λ (b : Bool). ends_of es + cond {A = ℕ} b 1 0) o in
         let no_exit = exit_no_end e.request o in
-        let same : live_count T + 0 ≡ live_count S + one = ap (λ (b : Bool). live_count T + cond {A = ℕ} (b && is_live S e.pid.0) 1 0) (sym no_exit) ∙ fewer in
-        let last : cond {A = ℕ} (is_exit e.request || is_off e.request) 1 0 ≡ 1 = ap (λ (b : Bool). cond {A = ℕ} (b || is_off e.request) 1 0) no_exit ∙ ap (λ (b : Bool). cond {A = ℕ} b 1 0) o in
+        let same : live_count T + 0 ≡ live_count S + one =
+        ap (λ (b : Bool). live_count T + cond {A = ℕ} (b && is_live S e.pid.0) 1 0) (sym no_exit) ∙ fewer in
+        let last : cond {A = ℕ} (is_exit e.request || is_off e.request) 1 0 ≡ 1 =
+        ap (λ (b : Bool). cond {A = ℕ} (b || is_off e.request) 1 0) no_exit ∙ ap (λ (b : Bool). cond {A = ℕ} b 1 0) o in
         omega (arith, none, more, same, last)
     go false o true ex true li =
         let more : ends_of (es ++ e ∷ []) ≡ ends_of es + 0 = ends_push es e ∙ ap (λ (b : Bool). ends_of es + cond {A = ℕ} b 1 0) o in
-        let less : live_count T + 1 ≡ live_count S + one = ap (λ (b : Bool). live_count T + cond {A = ℕ} (b && true) 1 0) (sym ex) ∙ ap (λ (b : Bool). live_count T + cond {A = ℕ} (is_exit e.request && b) 1 0) (sym li) ∙ fewer in
-        let last : cond {A = ℕ} (is_exit e.request || is_off e.request) 1 0 ≡ 1 = ap (λ (b : Bool). cond {A = ℕ} (b || is_off e.request) 1 0) ex in
+        let less : live_count T + 1 ≡ live_count S + one = ap (λ (b : Bool). live_count T + cond {A = ℕ} (b && true) 1 0) (sym ex)
+        ∙ ap (λ (b : Bool). live_count T + cond {A = ℕ} (is_exit e.request && b) 1 0) (sym li) ∙ fewer in
+        let last : cond {A = ℕ} (is_exit e.request || is_off e.request) 1 0 ≡ 1 =
+        ap (λ (b : Bool). cond {A = ℕ} (b || is_off e.request) 1 0) ex in
         omega (arith, more, less, last)
     go false o true ex false li = absurd (false≢true (sym li ∙ live_caller o))
     go false o false ex l li =
         let more : ends_of (es ++ e ∷ []) ≡ ends_of es + 0 = ends_push es e ∙ ap (λ (b : Bool). ends_of es + cond {A = ℕ} b 1 0) o in
-        let same : live_count T + 0 ≡ live_count S + one = ap (λ (b : Bool). live_count T + cond {A = ℕ} (b && is_live S e.pid.0) 1 0) (sym ex) ∙ fewer in
-        let last : cond {A = ℕ} (is_exit e.request || is_off e.request) 1 0 ≡ 0 = ap (λ (b : Bool). cond {A = ℕ} (b || is_off e.request) 1 0) ex ∙ ap (λ (b : Bool). cond {A = ℕ} b 1 0) o in
+        let same : live_count T + 0 ≡ live_count S + one =
+        ap (λ (b : Bool). live_count T + cond {A = ℕ} (b && is_live S e.pid.0) 1 0) (sym ex) ∙ fewer in
+        let last : cond {A = ℕ} (is_exit e.request || is_off e.request) 1 0 ≡ 0 =
+        ap (λ (b : Bool). cond {A = ℕ} (b || is_off e.request) 1 0) ex ∙ ap (λ (b : Bool). cond {A = ℕ} b 1 0) o in
         omega (arith, more, same, last)
 
 -- no process is made by a last call
@@ -129,18 +148,24 @@ room_taken false true none = omega arith
 room_taken false false none = omega arith
 
 -- a book with one more entry
-pub record Pushed (boot : State) (id : TableId) (T : State) (t t' : Trailed) (own' : Owned) (ended' : Bool) (room' : ℕ) (e : Entry) : Type 0 where
-  pub book : IsBook boot id T t' own' ended' room'
-  pub next : MayFollow boot t.entries e
+pub record Pushed (boot : State) (id : TableId) (T : State) (t t' : Trailed) (own' : Owned) (ended' : Bool) (room' : ℕ) (e : Entry) : Type 0
+  where
+    pub book : IsBook boot id T t' own' ended' room'
+    pub next : MayFollow boot t.entries e
 
-pub book_push : {boot S T : State} {id : TableId} {t t' : Trailed} {own own' : Owned} {ended ended' : Bool} {room kept room' n : ℕ} (e : Entry) → IsBook boot id S t own ended room → room ≤ kept →
-    is_allowed S e.pid.0 e.k e.request ≡ true → e.k ≡ calls_of e.pid.0 t.entries → last_entries S t.entries + cond {A = ℕ} (is_last e.request) 0 2 ≤ kept → kept ≤ room' + 1 →
+pub book_push : {boot S T : State} {id : TableId} {t t' : Trailed} {own own' : Owned} {ended ended' : Bool} {room kept room' n : ℕ}
+    (e : Entry) → IsBook boot id S t own ended room → room ≤ kept →
+    is_allowed S e.pid.0 e.k e.request ≡ true → e.k ≡ calls_of e.pid.0 t.entries →
+    last_entries S t.entries + cond {A = ℕ} (is_last e.request) 0 2 ≤ kept → kept ≤ room' + 1 →
     Step S e.pid.0 n e.request e.reply e.released T → e.delivered ≡ delivered_by S e.pid.0 e.request e.reply → n ≡ length t.entries →
-    t' ≡ record t { entries = t.entries ++ e ∷ []; given = t.given + cond {A = ℕ} (makes_one e.request e.reply) 1 0 } → own'.id ≡ own.id → own'.pid ≡ own.pid →
+    t' ≡ record t { entries = t.entries ++ e ∷ []; given = t.given + cond {A = ℕ} (makes_one e.request e.reply) 1 0 } → own'.id ≡ own.id →
+    own'.pid ≡ own.pid →
     cond {A = ℕ} ended' 1 0 ≡ cond {A = ℕ} ended 1 0 + cond {A = ℕ} (is_off e.request) 1 0 → Pushed boot id T t t' own' ended' room' e
-book_push {boot} {S} {T} {id} {t} {t'} {own} {own'} {ended} {ended'} {room} {kept} {room'} {n} e book wider allowed k enough more step told number is_t is_id is_pid ends =
+book_push {boot} {S} {T} {id} {t} {t'} {own} {own'} {ended} {ended'} {room} {kept} {room'} {n} e book wider allowed k enough more step told
+    number is_t is_id is_pid ends =
     let es = t.entries in
-    let step_here : Step S e.pid.0 (length es) e.request e.reply e.released T = subst (λ (i : ℕ). Step S e.pid.0 i e.request e.reply e.released T) number step in
+    let step_here : Step S e.pid.0 (length es) e.request e.reply e.released T =
+    subst (λ (i : ℕ). Step S e.pid.0 i e.request e.reply e.released T) number step in
     let may = may_follow boot S T es e book.at_replay allowed step_here k told in
     let who = nobodys S e.pid.0 e.k e.request allowed in
     let was = book.ends in
@@ -149,7 +174,9 @@ book_push {boot} {S} {T} {id} {t} {t'} {own} {own'} {ended} {ended'} {room} {kep
     record {
       book = record {
         legal = subst (λ (l : List Entry). IsLegal boot l) (sym entries_is) (legal_push boot es e book.legal may);
-        at_replay = step_replay boot T es e (subst (λ (U : State). Step U e.pid.0 (length es) e.request e.reply e.released T) book.at_replay step_here) ∙ ap (replay boot) (sym entries_is);
+        at_replay = step_replay boot T es e (subst
+            (λ (U : State). Step U e.pid.0 (length es) e.request e.reply e.released T) book.at_replay step_here)
+            ∙ ap (replay boot) (sym entries_is);
         trail_id = ap (λ (x : Trailed). x.id) is_t ∙ book.trail_id;
         given =
             let now : t'.given ≡ t.given + cond {A = ℕ} (makes_one e.request e.reply) 1 0 = ap (λ (x : Trailed). x.given) is_t in
@@ -177,7 +204,8 @@ book_push {boot} {S} {T} {id} {t} {t'} {own} {own'} {ended} {ended'} {room} {kep
 pub allowed_caller : (S : State) (p k : ℕ) (request : Request) → is_allowed S p k request ≡ true → IsCaller S p request
 allowed_caller S p k request = go (is_off request)
   where
-    go : (b : Bool) → (if b then (p == 0) && ((k == 0) && not (has_live S)) else is_live S p) ≡ true → (if b then (p == 0) && not (has_live S) else is_live S p) ≡ true
+    go : (b : Bool) → (if b then (p == 0) && ((k == 0) && not (has_live S)) else is_live S p) ≡ true →
+        (if b then (p == 0) && not (has_live S) else is_live S p) ≡ true
     go true h = let one = and_parts (p == 0) _ h in and_from _ _ one.0 (and_parts (k == 0) _ one.1).1
     go false h = h
 
@@ -193,11 +221,13 @@ pub record Waited (boot S T : State) (es : List Entry) (p : ℕ) (request : Requ
   pub none : gone ≡ []
   pub again : Step (replay boot es) p (length es) request (Reply.Err Errno.EAGAIN) [] (replay boot es)
 
-pub waited : (boot S T : State) (es : List Entry) (p n : ℕ) (request : Request) (r : Reply) (gone : List ℕ) → IsLegal boot es → S ≡ replay boot es → is_again r ≡ true → n ≡ length es →
+pub waited : (boot S T : State) (es : List Entry) (p n : ℕ) (request : Request) (r : Reply) (gone : List ℕ) → IsLegal boot es →
+    S ≡ replay boot es → is_again r ≡ true → n ≡ length es →
     Step S p n request r gone T → Waited boot S T es p request gone
 waited boot S T es p n request r gone legal at again number step =
     let settled_here : settled S ≡ S = subst (λ (U : State). settled U ≡ U) (sym at) (stays_settled boot es legal) in
-    let step_again : Step S p n request (Reply.Err Errno.EAGAIN) gone T = subst (λ (y : Reply). Step S p n request y gone T) (again_is r again) step in
+    let step_again : Step S p n request (Reply.Err Errno.EAGAIN) gone T =
+    subst (λ (y : Reply). Step S p n request y gone T) (again_is r again) step in
     let left = refusal_changes_nothing S T p n request Errno.EAGAIN gone settled_here step_again in
     record {
       same = left.0;

@@ -1,5 +1,6 @@
 -- Each step keeps what the tokens know.
-use Rattle.std.proofs.Common.{◌≡◌, ◌≢◌, ◌⊎◌, ℕ, zero, suc, ◌+◌, ◌<◌, ◌==◌, List, [], ◌∷◌, ◌++◌, length, set, Some, Bool, true, false, true≢false, refl, sym, ap, ◌∙◌, subst, ⊎_elim, inl, inr, arith}
+use Rattle.std.proofs.Common.{◌≡◌, ◌≢◌, ◌⊎◌, ℕ, zero, suc, ◌+◌, ◌<◌, ◌==◌, List, [], ◌∷◌, ◌++◌, length, set, Some, Bool, true, false}
+use Rattle.std.proofs.Common.{true≢false, refl, sym, ap, ◌∙◌, subst, ⊎_elim, inl, inr, arith}
 use Rattle.std.specs.Prelude.{if◌then◌else◌, Option}
 use Rattle.std.specs.List.{slice_get}
 use Rattle.std.proofs.lemmas.Bool.{eq-eqb, ne_eqb}
@@ -11,7 +12,8 @@ use Rattle.ux_model.specs.Types.{Request, Reply, Entry}
 use Rattle.ux_book.specs.declared.call.Call.{Call}
 use Rattle.ux_book.specs.declared.trail.Known.{Known}
 use Rattle.ux_book.specs.Pasts.{call_of, calls_by}
-use Rattle.ux_book.specs.Trails.{Marked, knower, claim, nobody, rest_of, own_of, opened, next_owner, place_of, last_of, before_last, claim_if, last_claim, owner_of, shown, Fits, Kept, noted, unclaimed, Checked}
+use Rattle.ux_book.specs.Trails.{Marked, knower, claim, nobody, rest_of, own_of, opened, next_owner, place_of, last_of, before_last}
+use Rattle.ux_book.specs.Trails.{claim_if, last_claim, owner_of, shown, Fits, Kept, noted, unclaimed, Checked}
 use Rattle.ux_book.proofs.Pasts.{calls_more, calls_same}
 
 pub length-before_last : (xs : List Entry) (x : Entry) → before_last (xs ++ x ∷ []) ≡ length xs
@@ -34,22 +36,27 @@ slice_get_front (x ∷ xs) ys zero p e = e
 slice_get_front (x ∷ xs) ys (suc k) p e = slice_get_front xs ys k p e
 
 -- what holds of each view where one was changed
-each_set : (Q : ℕ → Known → Type 0) (views : List Known) (by : ℕ) (w : Known) → ((j : ℕ) (u : Known) → j ≢ by → get_elem? views j ≡ some u → Q j u) → Q by w → (j : ℕ) (u : Known) → get_elem? (set views by w) j ≡ some u → Q j u
+each_set : (Q : ℕ → Known → Type 0) (views : List Known) (by : ℕ) (w : Known) →
+    ((j : ℕ) (u : Known) → j ≢ by → get_elem? views j ≡ some u → Q j u) → Q by w → (j : ℕ) (u : Known) →
+    get_elem? (set views by w) j ≡ some u → Q j u
 each_set Q views by w others mine j u e =
     ⊎_elim {C = Q j u}
     (λ (x : (j ≡ by) × (w ≡ u)). subst (λ (y : ℕ × Known). Q y.0 y.1) (λ i. (sym x.0 i, x.1 i)) mine)
     (λ (x : (j ≢ by) × (get_elem? views j ≡ some u)). others j u x.0 x.1)
     (at_set views by j w u e)
 
-at_push : (l : List Known) (a b : Known) (j : ℕ) → get_elem? (l ++ a ∷ []) j ≡ some b → (get_elem? l j ≡ some b) ⊎ ((j ≡ length l) × (a ≡ b))
+at_push : (l : List Known) (a b : Known) (j : ℕ) → get_elem? (l ++ a ∷ []) j ≡ some b →
+    (get_elem? l j ≡ some b) ⊎ ((j ≡ length l) × (a ≡ b))
 at_push [] a b zero e = inr (refl, some-injective a b e)
 at_push [] a b (suc j) e = absurd (some-ne-none b (sym e))
 at_push (x ∷ xs) a b zero e = inl e
 at_push (x ∷ xs) a b (suc j) e =
-    ⊎_elim {C = (get_elem? xs j ≡ some b) ⊎ ((suc j ≡ suc (length xs)) × (a ≡ b))} (λ t. inl t) (λ (t : (j ≡ length xs) × (a ≡ b)). inr (ap suc t.0, t.1)) (at_push xs a b j e)
+    ⊎_elim {C = (get_elem? xs j ≡ some b) ⊎ ((suc j ≡ suc (length xs)) × (a ≡ b))} (λ t. inl t)
+    (λ (t : (j ≡ length xs) × (a ≡ b)). inr (ap suc t.0, t.1)) (at_push xs a b j e)
 
 -- and where one was added
-each_push : (Q : ℕ → Known → Type 0) (views : List Known) (w : Known) → ((j : ℕ) (u : Known) → get_elem? views j ≡ some u → Q j u) → Q (length views) w → (j : ℕ) (u : Known) → get_elem? (views ++ w ∷ []) j ≡ some u → Q j u
+each_push : (Q : ℕ → Known → Type 0) (views : List Known) (w : Known) → ((j : ℕ) (u : Known) → get_elem? views j ≡ some u → Q j u) →
+    Q (length views) w → (j : ℕ) (u : Known) → get_elem? (views ++ w ∷ []) j ≡ some u → Q j u
 each_push Q views w others new j u e =
     ⊎_elim {C = Q j u}
     (λ (x : get_elem? views j ≡ some u). others j u x)
@@ -80,7 +87,8 @@ begins = record { seat = 0; log = []; count = 0; owner = λ _. 0; fits = one }
     one (suc by) v e = absurd (some-ne-none v (sym e))
 
 -- who knows the whole, and its process's calls, adds an entry
-pub adds : (views : List Known) (by : ℕ) (v : Known) (e : Entry) → v.keeps ≡ true → v.owns ≡ true → e.pid.0 ≡ v.pid → Kept views → get_elem? views by ≡ some v → Kept (set views by (noted v e))
+pub adds : (views : List Known) (by : ℕ) (v : Known) (e : Entry) → v.keeps ≡ true → v.owns ≡ true → e.pid.0 ≡ v.pid → Kept views →
+    get_elem? views by ≡ some v → Kept (set views by (noted v e))
 adds views by v e whole own is h at =
     let mine = h.fits by v at in
     let known = mine.keeps whole in
@@ -110,7 +118,8 @@ adds views by v e whole own is h at =
     }
 
 -- who knows the whole compares what it was shown
-pub checks : (views : List Known) (by : ℕ) (v : Known) → v.keeps ≡ true → Kept views → get_elem? views by ≡ some v → Kept (set views by (unclaimed v)) × Checked v (unclaimed v)
+pub checks : (views : List Known) (by : ℕ) (v : Known) → v.keeps ≡ true → Kept views → get_elem? views by ≡ some v →
+    Kept (set views by (unclaimed v)) × Checked v (unclaimed v)
 checks views by v whole h at =
     let mine = h.fits by v at in
     let known = mine.keeps whole in (
@@ -125,19 +134,25 @@ checks views by v whole h at =
       record {
         after = refl;
         place = λ c. subst (λ (l : List Entry). slice_get l v.number ≡ Some v.entry) (sym known.1) (mine.claims c);
-        own = λ o. (subst (λ (n : ℕ). v.pid < n) (sym known.2) (mine.owns o).1, (mine.owns o).2 ∙ ap (λ (l : List Entry). calls_by v.pid l) (sym known.1));
+        own = λ o. (
+          subst (λ (n : ℕ). v.pid < n) (sym known.2) (mine.owns o).1,
+          (mine.owns o).2
+              ∙ ap (λ (l : List Entry). calls_by v.pid l) (sym known.1),
+        );
       },
     )
 
 -- a token for one process more
-pub opens : (views : List Known) (by : ℕ) (v : Known) → v.keeps ≡ true → Kept views → get_elem? views by ≡ some v → Kept (set views by (opened v) ++ next_owner v ∷ [])
+pub opens : (views : List Known) (by : ℕ) (v : Known) → v.keeps ≡ true → Kept views → get_elem? views by ≡ some v →
+    Kept (set views by (opened v) ++ next_owner v ∷ [])
 opens views by v whole h at =
     let mine = h.fits by v at in
     let known = mine.keeps whole in
     let n = length (set views by (opened v)) in
     let owner = moved h.owner h.count n in
     let Q = Fits h.seat h.log (h.count + 1) owner in
-    let before : (q : ℕ) → q < h.count → h.owner q ≡ owner q = λ q less. moved_else h.owner h.count n q (λ (s : q ≡ h.count). absurd (omega arith)) in
+    let before : (q : ℕ) → q < h.count → h.owner q ≡ owner q =
+    λ q less. moved_else h.owner h.count n q (λ (s : q ≡ h.count). absurd (omega arith)) in
     record {
       seat = h.seat;
       log = h.log;
@@ -160,12 +175,18 @@ opens views by v whole h at =
           (record {
             keeps = λ k. off k;
             claims = λ c. off c;
-            owns = λ _. let same = known.2 in (moved_here h.owner h.count n v.given same, (omega arith), ap (λ (l : List Entry). calls_by v.given l) known.1);
+            owns = λ _. let same = known.2 in (
+              moved_here h.owner h.count n v.given same,
+              (omega arith),
+              ap
+                  (λ (l : List Entry). calls_by v.given l) known.1,
+            );
           });
     }
 
 -- a process's calls go to a new token
-pub gives : (views : List Known) (by : ℕ) (v : Known) → v.owns ≡ true → Kept views → get_elem? views by ≡ some v → Kept (set views by (rest_of v) ++ own_of v ∷ [])
+pub gives : (views : List Known) (by : ℕ) (v : Known) → v.owns ≡ true → Kept views → get_elem? views by ≡ some v →
+    Kept (set views by (rest_of v) ++ own_of v ∷ [])
 gives views by v own h at =
     let mine = h.fits by v at in
     let owned = mine.owns own in
@@ -193,11 +214,14 @@ gives views by v own h at =
     }
 
 -- who knows the whole takes in what another knows
-pub takes_in : (views : List Known) (by : ℕ) (v : Known) (other : ℕ) (w : Known) → v.keeps ≡ true → v.owns ≡ false → Kept views → get_elem? views by ≡ some v → ¬ (other ≡ by)
+pub takes_in : (views : List Known) (by : ℕ) (v : Known) (other : ℕ) (w : Known) → v.keeps ≡ true → v.owns ≡ false → Kept views →
+    get_elem? views by ≡ some v → ¬ (other ≡ by)
     → get_elem? (set views by (shown v w)) other ≡ some w → Kept (set (set views by (shown v w)) other nobody)
 takes_in views by v other w whole alone h at apart there =
     let known = (h.fits by v at).keeps whole in
-    let theirs : Fits h.seat h.log h.count h.owner other w = ⊎_elim (λ (t : (other ≡ by) × (shown v w ≡ w)). absurd (apart t.0)) (λ (t : (other ≢ by) × (get_elem? views other ≡ some w)). h.fits other w t.1) (at_set views by other (shown v w) w there) in
+    let theirs : Fits h.seat h.log h.count h.owner other w =
+    ⊎_elim (λ (t : (other ≡ by) × (shown v w ≡ w)). absurd (apart t.0))
+    (λ (t : (other ≢ by) × (get_elem? views other ≡ some w)). h.fits other w t.1) (at_set views by other (shown v w) w there) in
     let owner = owner_after w.owns h.owner w.pid by in
     let Q = Fits h.seat h.log h.count owner in
     record {
@@ -212,7 +236,12 @@ takes_in views by v other w whole alone h at apart there =
           record {
             keeps = f.keeps;
             claims = f.claims;
-            owns = λ o. let t = f.owns o in (t.0 ∙ kept w.owns h.owner w.pid by y.pid (λ (own : w.owns ≡ true) (s : y.pid ≡ w.pid). off_o (t.0 ∙ ap h.owner s ∙ sym (theirs.owns own).0)), t.1, t.2);
+            owns = λ o. let t = f.owns o in (
+              t.0 ∙ kept w.owns h.owner w.pid by y.pid
+                  (λ (own : w.owns ≡ true) (s : y.pid ≡ w.pid). off_o (t.0 ∙ ap h.owner s ∙ sym (theirs.owns own).0)),
+              t.1,
+              t.2,
+            );
           })
           (λ _. record {
             keeps = λ _. known;
@@ -236,7 +265,8 @@ takes_in views by v other w whole alone h at apart there =
     kept false owner p n q ne = refl
 
 -- who knows the whole gives its last place away
-pub gives_last : (views : List Known) (by : ℕ) (v : Known) → v.keeps ≡ true → Kept views → get_elem? views by ≡ some v → Kept (set views by v ++ last_claim v ∷ [])
+pub gives_last : (views : List Known) (by : ℕ) (v : Known) → v.keeps ≡ true → Kept views → get_elem? views by ≡ some v →
+    Kept (set views by v ++ last_claim v ∷ [])
 gives_last views by v whole h at =
     let known = (h.fits by v at).keeps whole in
     record {
@@ -252,7 +282,13 @@ gives_last views by v whole h at =
     fresh : (b : Bool) (all : List Entry) → all ≡ h.log → Fits h.seat h.log h.count h.owner (length (set views by v)) (claim_if b all)
     fresh false all same = record { keeps = λ k. off k; claims = λ c. off c; owns = λ o. off o }
     fresh true [] same = record { keeps = λ k. off k; claims = λ c. off c; owns = λ o. off o }
-    fresh true (x ∷ xs) same = record { keeps = λ k. off k; claims = λ _. subst (λ (l : List Entry). slice_get l (before_last (x ∷ xs)) ≡ Some (last_of (x ∷ xs))) same (at_last x xs); owns = λ o. off o }
+    fresh true (x ∷ xs) same = record {
+      keeps = λ k. off k;
+      claims =
+          λ _. subst (λ (l : List Entry). slice_get l (before_last (x ∷ xs)) ≡ Some (last_of (x ∷ xs))) same (at_last x xs);
+      owns =
+          λ o. off o;
+    }
 
 -- who knows a place tells another
 pub copies : (views : List Known) (by : ℕ) (v : Known) → Kept views → get_elem? views by ≡ some v → Kept (set views by v ++ place_of v ∷ [])
@@ -274,13 +310,48 @@ new_claim [] given x = refl
 new_claim (y ∷ ys) given x = λ i. claim (length-before_last (y ∷ ys) x i) (last_of-push (y ∷ ys) x i)
 
 -- a place, as contracts see it
-pub marked : (i j : TableId) (v : Known) (n : ℕ) (e : Entry) → i ≡ j → v ≡ claim n e → ◌≡◌ {A = Marked} (record { id = i; number = v.number; entry = v.entry }) (record { id = j; number = n; entry = e })
+pub marked : (i j : TableId) (v : Known) (n : ℕ) (e : Entry) → i ≡ j → v ≡ claim n e →
+    ◌≡◌ {A = Marked} (record { id = i; number = v.number; entry = v.entry }) (record { id = j; number = n; entry = e })
 marked i j v n e p q = λ t. record { id = p t; number = (q t).number; entry = (q t).entry }
 
 -- the place of a call that was just noted, with its process's token taken in and given back
-pub new_place : (v1 v2 v3 r : Known) (all : List Entry) (given pid k : ℕ) (past : List Call) (request : Request) (reply : Reply) (released : List ℕ) (delivered : Option ℕ) → v1 ≡ shown (knower all given) (owner_of pid past)
-    → v2 ≡ noted v1 (record { pid = record { 0 = v1.pid }; k = k; request = request; reply = reply; released = released; delivered = delivered }) → v3 ≡ rest_of v2 → r ≡ last_claim v3
-    → r ≡ claim (length all) (record { pid = record { 0 = pid }; k = k; request = request; reply = reply; released = released; delivered = delivered })
+pub new_place : (v1 v2 v3 r : Known) (all : List Entry) (given pid k : ℕ) (past : List Call) (request : Request) (reply : Reply)
+    (released : List ℕ) (delivered : Option ℕ) → v1 ≡ shown (knower all given) (owner_of pid past)
+    → v2 ≡ noted v1 (record {
+      pid = record { 0 = v1.pid };
+      k = k;
+      request = request;
+      reply = reply;
+      released = released;
+      delivered =
+          delivered;
+    }) → v3 ≡ rest_of v2 → r ≡ last_claim v3
+    → r ≡ claim (length all) (record {
+      pid = record { 0 = pid };
+      k = k;
+      request = request;
+      reply = reply;
+      released = released;
+      delivered =
+          delivered;
+    })
 new_place v1 v2 v3 r all given pid k past request reply released delivered p1 p2 p3 p4 =
-    p4 ∙ ap last_claim (p3 ∙ ap rest_of (p2 ∙ ap (λ (v : Known). noted v (record { pid = record { 0 = v.pid }; k = k; request = request; reply = reply; released = released; delivered = delivered })) p1))
-    ∙ new_claim all given (record { pid = record { 0 = pid }; k = k; request = request; reply = reply; released = released; delivered = delivered })
+    p4 ∙ ap last_claim (p3 ∙ ap rest_of (p2 ∙ ap
+    (λ (v : Known). noted v (record {
+      pid = record { 0 = v.pid };
+      k = k;
+      request = request;
+      reply = reply;
+      released = released;
+      delivered =
+          delivered;
+    })) p1))
+    ∙ new_claim all given (record {
+      pid = record { 0 = pid };
+      k = k;
+      request = request;
+      reply = reply;
+      released = released;
+      delivered =
+          delivered;
+    })

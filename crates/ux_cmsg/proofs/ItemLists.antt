@@ -20,16 +20,19 @@ read_alike i j x y e = ap (λ (p : Item × List ℕ). p.0) (eq_some (i, x) (j, y
 
 pub item_front : (i j : Item) (xs ys : List ℕ) → IsItem i → IsItem j → item_bytes i ++ xs ≡ item_bytes j ++ ys → (i ≡ j) × (xs ≡ ys)
 item_front i j xs ys p q e =
-    let same : i ≡ j = read_alike i j (drop (padding i) xs) (drop (padding j) ys) (sym (item_again i xs p) ∙ ap item_at e ∙ item_again j ys q) in
+    let same : i ≡ j = read_alike i j (drop (padding i) xs) (drop (padding j) ys)
+    (sym (item_again i xs p) ∙ ap item_at e ∙ item_again j ys q) in
     (same, append_cancel_left (item_bytes j) xs ys (ap (λ (k : Item). item_bytes k ++ xs) (sym same) ∙ e))
 
 -- an item before a list
-pub list_from_front : (item : Item) (behind : List ℕ) (others : List Item) → IsItem item → IsList (drop (padding item) behind) others → IsList (item_bytes item ++ behind) (item ∷ others)
+pub list_from_front : (item : Item) (behind : List ℕ) (others : List Item) → IsItem item → IsList (drop (padding item) behind) others →
+    IsList (item_bytes item ++ behind) (item ∷ others)
 list_from_front item behind others fits list = elim (cases_lt (padding item) (length behind)) [
   | inl more ↦
       let pad : List ℕ = take (padding item) behind in
       let full : length pad ≡ padding item = omega (arith, length-take (padding item) behind) in
-      subst (λ (b : List ℕ). IsList (item_bytes item ++ b) (item ∷ others)) (take-append-drop (padding item) behind) (further item pad (drop (padding item) behind) others fits full list)
+      subst (λ (b : List ℕ). IsList (item_bytes item ++ b) (item ∷ others)) (take-append-drop (padding item) behind)
+      (further item pad (drop (padding item) behind) others fits full list)
   | inr short ↦
       let none : others ≡ [] = no_items list (drop_all (padding item) behind short) in
       subst (λ (os : List Item). IsList (item_bytes item ++ behind) (item ∷ os)) (sym none) (last item behind fits short)
@@ -41,7 +44,8 @@ pub record BeginsWith (item : Item) (behind : List ℕ) (items : List Item) : Ty
   pub items_are : items ≡ item ∷ others
   pub list : IsList (drop (padding item) behind) others
 
-front_at : (item : Item) (behind bytes : List ℕ) (items : List Item) → IsItem item → IsList bytes items → bytes ≡ item_bytes item ++ behind → BeginsWith item behind items
+front_at : (item : Item) (behind bytes : List ℕ) (items : List Item) → IsItem item → IsList bytes items →
+    bytes ≡ item_bytes item ++ behind → BeginsWith item behind items
 front_at item behind [] [] fits nothing e = absurd (nothing_begins item behind (sym e))
 front_at item behind bytes items fits (last other pad fits' short) e =
     let found = item_front other item pad behind fits' fits e in
@@ -62,7 +66,8 @@ front_at item behind bytes items fits (further other pad rest others fits' full 
       list = subst (λ (b : List ℕ). IsList b others) (sym left) list;
     }
 
-pub front_of_list : (item : Item) (behind : List ℕ) (items : List Item) → IsItem item → IsList (item_bytes item ++ behind) items → BeginsWith item behind items
+pub front_of_list : (item : Item) (behind : List ℕ) (items : List Item) → IsItem item → IsList (item_bytes item ++ behind) items →
+    BeginsWith item behind items
 front_of_list item behind items fits list = front_at item behind (item_bytes item ++ behind) items fits list refl
 
 -- a buffer is one list of items alone

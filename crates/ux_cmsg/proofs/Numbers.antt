@@ -1,5 +1,6 @@
 -- A number that is read is the one that was written, and what was written is read again.
-use Rattle.std.proofs.Common.{◌≡◌, ℕ, zero, suc, ◌+◌, ◌*◌, ◌%◌, ◌^◌, ◌<◌, ◌≤◌, Bool, true, false, cond, ltb, List, [], ◌∷◌, ◌++◌, length, get_or, take, drop, Option, Some, None, refl, sym, ap, subst, ◌∙◌, arith, inl, inr}
+use Rattle.std.proofs.Common.{◌≡◌, ℕ, zero, suc, ◌+◌, ◌*◌, ◌%◌, ◌^◌, ◌<◌, ◌≤◌, Bool, true, false, cond, ltb, List, [], ◌∷◌, ◌++◌, length}
+use Rattle.std.proofs.Common.{get_or, take, drop, Option, Some, None, refl, sym, ap, subst, ◌∙◌, arith, inl, inr}
 use Rattle.std.specs.List.{flat_map, AllByRecursion}
 use Rattle.std.specs.Int.{Width, w32, w64, byte_len, from_le_bytes, to_le_bytes}
 use Rattle.std.proofs.lemmas.Bool.{cases_lt, ltb-false, le-ltb}
@@ -71,13 +72,15 @@ pub record TakesNumber (w : Width) (limit : ℕ) (bytes : List ℕ) (n : ℕ) (r
   pub below : n < limit
   pub rest_fits : IsBytes rest
 
-pub number_takes : (w : Width) (limit : ℕ) (wide : IsWide w limit) (bytes : List ℕ) (x : ℕ × List ℕ) → IsBytes bytes → number_at w bytes ≡ Some x → TakesNumber w limit bytes x.0 x.1
+pub number_takes : (w : Width) (limit : ℕ) (wide : IsWide w limit) (bytes : List ℕ) (x : ℕ × List ℕ) → IsBytes bytes →
+    number_at w bytes ≡ Some x → TakesNumber w limit bytes x.0 x.1
 number_takes w limit wide bytes x fits e =
     let front : List ℕ = take (byte_len w) bytes in
     let front_fits = IsBytes-take (byte_len w) bytes fits in
     let found = unless (ltb (length bytes) (byte_len w)) (Some (from_le_bytes w front, drop (byte_len w) bytes)) x e in
     let long : byte_len w ≤ length bytes = ltb-false _ _ found.0 in
-    let spelled : to_le_bytes w (from_le_bytes w front) ≡ front = wide.back front (omega (arith, length-take (byte_len w) bytes)) front_fits in
+    let spelled : to_le_bytes w (from_le_bytes w front) ≡ front =
+    wide.back front (omega (arith, length-take (byte_len w) bytes)) front_fits in
     let is : (from_le_bytes w front, drop (byte_len w) bytes) ≡ x = cc in
     subst (λ (y : ℕ × List ℕ). TakesNumber w limit bytes y.0 y.1) is (record {
       parts = rw spelled (sym (take-append-drop (byte_len w) bytes));
@@ -85,10 +88,12 @@ number_takes w limit wide bytes x fits e =
       rest_fits = IsBytes-drop (byte_len w) bytes fits;
     })
 
-pub number_again : (w : Width) (limit : ℕ) (wide : IsWide w limit) (n : ℕ) (rest : List ℕ) → n < limit → number_at w (to_le_bytes w n ++ rest) ≡ Some (n, rest)
+pub number_again : (w : Width) (limit : ℕ) (wide : IsWide w limit) (n : ℕ) (rest : List ℕ) → n < limit →
+    number_at w (to_le_bytes w n ++ rest) ≡ Some (n, rest)
 number_again w limit wide n rest lt =
     let len = wide.len n in
-    let long : ltb (length (to_le_bytes w n ++ rest)) (byte_len w) ≡ false = le-ltb _ _ (omega (arith, length-append (to_le_bytes w n) rest)) in
+    let long : ltb (length (to_le_bytes w n ++ rest)) (byte_len w) ≡ false =
+    le-ltb _ _ (omega (arith, length-append (to_le_bytes w n) rest)) in
     rw (long, take_at (to_le_bytes w n) rest (byte_len w) len, drop_at (to_le_bytes w n) rest (byte_len w) len, wide.again n lt) refl
 
 -- ---- numbers in four bytes each
@@ -112,10 +117,12 @@ numbers_taken (a ∷ b ∷ c ∷ []) fits whole = absurd (omega (arith, whole))
 numbers_taken (a ∷ b ∷ c ∷ d ∷ rest) fits whole =
     let four : List ℕ = a ∷ b ∷ c ∷ d ∷ [] in
     let four_fits : IsBytes four = IsBytes-four a b c d rest fits in
-    let others : AreNumbers rest (numbers_in rest) = numbers_taken rest (IsBytes-drop 4 (a ∷ b ∷ c ∷ d ∷ rest) fits) (omega (arith, whole)) in
+    let others : AreNumbers rest (numbers_in rest) =
+    numbers_taken rest (IsBytes-drop 4 (a ∷ b ∷ c ∷ d ∷ rest) fits) (omega (arith, whole)) in
     let first : to_le_bytes w32 (from_le_bytes w32 four) ≡ four = wide32.back four refl four_fits in
     record {
-      spelled = ap (λ (bytes : List ℕ). to_le_bytes w32 (from_le_bytes w32 four) ++ bytes) others.spelled ∙ ap (λ (bytes : List ℕ). bytes ++ rest) first;
+      spelled = ap (λ (bytes : List ℕ). to_le_bytes w32 (from_le_bytes w32 four) ++ bytes) others.spelled
+          ∙ ap (λ (bytes : List ℕ). bytes ++ rest) first;
       below = (wide32.below four four_fits, others.below);
     }
 

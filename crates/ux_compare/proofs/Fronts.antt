@@ -1,5 +1,6 @@
 -- Calls that are the first of others, and those that follow them.
-use Rattle.std.proofs.Common.{◌≡◌, ◌≤◌, ℕ, zero, suc, Bool, true, false, List, [], ◌∷◌, ◌++◌, length, refl, sym, ap, ◌∙◌, append_assoc, inl, inr, ◌⊎◌, ⊎_elim, arith}
+use Rattle.std.proofs.Common.{◌≡◌, ◌≤◌, ℕ, zero, suc, Bool, true, false, List, [], ◌∷◌, ◌++◌, length, refl, sym, ap, ◌∙◌, append_assoc, inl}
+use Rattle.std.proofs.Common.{inr, ◌⊎◌, ⊎_elim, arith}
 use Rattle.std.specs.Prelude.{if◌then◌else◌}
 use Rattle.std.proofs.lemmas.List.{append_cancel_left}
 use Rattle.ux_model.specs.Types.{Request}
@@ -19,7 +20,8 @@ same_behind a b c whole e =
 pub front_or_all : (r a e : List Request) → length e ≤ 1 → IsFront r (a ++ e) → IsFront r a ⊎ (r ≡ a ++ e)
 front_or_all [] a e few front = inl (a, refl)
 front_or_all (x ∷ r) [] [] few front = inl (front.0, front.1)
-front_or_all (x ∷ []) [] (y ∷ []) few front = let all : x ∷ front.0 ≡ y ∷ [] = front.1 in inr (let head : x ≡ y = cc in ap (λ (z : Request). z ∷ []) head)
+front_or_all (x ∷ []) [] (y ∷ []) few front = let all : x ∷ front.0 ≡ y ∷ [] = front.1 in
+    inr (let head : x ≡ y = cc in ap (λ (z : Request). z ∷ []) head)
 front_or_all (x ∷ z ∷ r) [] (y ∷ []) few front = let all : x ∷ z ∷ (r ++ front.0) ≡ y ∷ [] = front.1 in absurd cc
 front_or_all (x ∷ r) [] (y ∷ w ∷ e) few front = absurd (omega arith)
 front_or_all (x ∷ r) (y ∷ a) e few front =

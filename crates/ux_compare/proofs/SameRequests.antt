@@ -73,7 +73,8 @@ get_sock_name_same fd b = search rules
 get_peer_name_same : (fd : Fd) (b : Request) → Same (Request.GetPeerName fd) b
 get_peer_name_same fd b = search rules
 
-send_msg_same : (fd : Fd) (addr : Option Addr) (bytes : Bytes) (control : Bytes) (flags : MsgFlags) (b : Request) → Same (Request.SendMsg fd addr bytes control flags) b
+send_msg_same : (fd : Fd) (addr : Option Addr) (bytes : Bytes) (control : Bytes) (flags : MsgFlags) (b : Request) →
+    Same (Request.SendMsg fd addr bytes control flags) b
 send_msg_same fd addr bytes control flags b = search rules
 
 recv_msg_same : (fd : Fd) (n : ℕ) (space : ℕ) (flags : MsgFlags) (b : Request) → Same (Request.RecvMsg fd n space flags) b

@@ -17,8 +17,17 @@ first_length n run =
     omega (arith, all, some)
 
 -- what a queue gives, as the socket gives it: the bytes are all that the front has
-pub stream_shows : (wants : Bool) (n : ℕ) (q : List Message) (given : stream.Received) (r : Received) → OnStreamFront wants n q (λ f. shown.Shows f given) →
-    r ≡ record { bytes = given.bytes; whole = length given.bytes; rights = given.rights; origin = given.origin; cred = given.cred; from = None } → OnStreamFront wants n q (λ f. Shows f r)
+pub stream_shows : (wants : Bool) (n : ℕ) (q : List Message) (given : stream.Received) (r : Received) →
+    OnStreamFront wants n q (λ f. shown.Shows f given) →
+    r ≡ record {
+      bytes = given.bytes;
+      whole = length given.bytes;
+      rights = given.rights;
+      origin = given.origin;
+      cred = given.cred;
+      from =
+          None;
+    } → OnStreamFront wants n q (λ f. Shows f r)
 stream_shows wants n [] given r shows is = tt
 stream_shows wants n (m ∷ ms) given r shows is = rw is (record {
   bytes = shows.bytes;

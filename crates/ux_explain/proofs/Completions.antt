@@ -1,6 +1,5 @@
 -- Beginnings of lines.
-use Rattle.std.proofs.Common.{◌≡◌, inl, inr, ℕ, Bool, true, false, List, [], ◌++◌}
-use Rattle.std.proofs.Common.{refl, ap, sym, ◌∙◌, subst, take, drop, take-append-drop}
+use Rattle.std.proofs.Common.{◌≡◌, inl, inr, ℕ, Bool, true, false, List, [], ◌++◌, refl, ap, sym, ◌∙◌, subst, take, drop, take-append-drop}
 use Rattle.std.specs.Prelude.{Result, Ok, Err, IfOk, Option, None, IfNone}
 use Rattle.ux_syntax.specs.Reading.{item_at}
 use Rattle.ux_syntax.specs.Spelling.{line_limit}

@@ -1,5 +1,6 @@
 -- Lists that grow by a row where there is one.
-use Rattle.std.proofs.Common.{◌≡◌, ℕ, zero, suc, ◌+◌, List, [], ◌∷◌, ◌++◌, length, map, take, Option, Some, None, option_map, refl, ap, sym, ◌∙◌, arith}
+use Rattle.std.proofs.Common.{◌≡◌, ℕ, zero, suc, ◌+◌, List, [], ◌∷◌, ◌++◌, length, map, take, Option, Some, None, option_map, refl, ap, sym}
+use Rattle.std.proofs.Common.{◌∙◌, arith}
 use Rattle.std.specs.Prelude.{slice_get}
 use Rattle.std.specs.List.{range_with_len, filter_map, cons_option}
 use Rattle.std.specs.Option.{option_to_list}
@@ -32,7 +33,8 @@ take_more zero (x ∷ xs) = refl
 take_more (suc n) [] = refl
 take_more (suc n) (x ∷ xs) = ap (λ ys. x ∷ ys) (take_more n xs)
 
-map_one : {X Y : Type 0} (f : X → Y) (xs : List X) (o : Option X) → map f xs ++ option_to_list (option_map f o) ≡ map f (xs ++ option_to_list o)
+map_one : {X Y : Type 0} (f : X → Y) (xs : List X) (o : Option X) →
+    map f xs ++ option_to_list (option_map f o) ≡ map f (xs ++ option_to_list o)
 map_one f [] None = refl
 map_one f [] (Some x) = refl
 map_one f (x ∷ xs) o = ap (λ zs. f x ∷ zs) (map_one f xs o)
@@ -42,17 +44,21 @@ pub next_item : {X Y : Type 0} (f : X → Y) (n : ℕ) (xs : List X) (old new : 
     old ≡ map f (take n xs) → new ≡ old ++ option_to_list (option_map f (slice_get xs n)) → new ≡ map f (take (n + 1) xs)
 next_item f n xs old new so_far is =
     let more : n + 1 ≡ suc n = omega arith in
-    rw more (is ∙ ap (λ zs. zs ++ option_to_list (option_map f (slice_get xs n))) so_far ∙ map_one f (take n xs) (slice_get xs n) ∙ sym (ap (map f) (take_more n xs)))
+    rw more (is ∙ ap (λ zs. zs ++ option_to_list (option_map f (slice_get xs n))) so_far ∙ map_one f (take n xs) (slice_get xs n)
+    ∙ sym (ap (map f) (take_more n xs)))
 
-pub next_same : {X : Type 0} (n : ℕ) (xs old new : List X) → old ≡ take n xs → new ≡ old ++ option_to_list (slice_get xs n) → new ≡ take (n + 1) xs
+pub next_same : {X : Type 0} (n : ℕ) (xs old new : List X) → old ≡ take n xs → new ≡ old ++ option_to_list (slice_get xs n) →
+    new ≡ take (n + 1) xs
 next_same n xs old new so_far is =
     let more : n + 1 ≡ suc n = omega arith in
     rw more (is ∙ ap (λ zs. zs ++ option_to_list (slice_get xs n)) so_far ∙ sym (take_more n xs))
 
 -- ---- messages
 
-pub found_message : (o : Option Message) (tag len : ℕ) (rights : List ℕ) (cred : Cred) → Some tag ≡ option_map (λ (m : Message). m.tag) o → Some len ≡ option_map (λ (m : Message). length m.bytes) o →
-    Some rights ≡ option_map (λ (m : Message). m.rights) o → Some cred ≡ option_map (λ (m : Message). m.cred) o → Some (record { tag = tag; len = len; rights = rights; cred = cred }) ≡ option_map message_row o
+pub found_message : (o : Option Message) (tag len : ℕ) (rights : List ℕ) (cred : Cred) → Some tag ≡ option_map (λ (m : Message). m.tag) o →
+    Some len ≡ option_map (λ (m : Message). length m.bytes) o →
+    Some rights ≡ option_map (λ (m : Message). m.rights) o → Some cred ≡ option_map (λ (m : Message). m.cred) o →
+    Some (record { tag = tag; len = len; rights = rights; cred = cred }) ≡ option_map message_row o
 found_message None tag len rights cred d e f g = absurd (cc d)
 found_message (Some m) tag len rights cred d e f g = cc (d, e, f, g)
 

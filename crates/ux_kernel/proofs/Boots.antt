@@ -1,5 +1,6 @@
 -- The state of a kernel that was just made.
-use Rattle.std.proofs.Common.{◌≡◌, ℕ, ◌+◌, Bool, true, false, not, ◌&&◌, ◌||◌, nat_lt, cond, List, [], ◌∷◌, length, map, ◌≤◌, if◌then◌else◌, arith, replicate, Option, Some, None, sym, ◌∙◌, ap, refl}
+use Rattle.std.proofs.Common.{◌≡◌, ℕ, ◌+◌, Bool, true, false, not, ◌&&◌, ◌||◌, nat_lt, cond, List, [], ◌∷◌, length, map, ◌≤◌, if◌then◌else◌}
+use Rattle.std.proofs.Common.{arith, replicate, Option, Some, None, sym, ◌∙◌, ap, refl}
 use Rattle.std.specs.Prelude.{min, max}
 use Rattle.std.specs.List.{list_all, list_any, enumerate_from, AllByRecursion}
 use Rattle.std.proofs.lemmas.List.{length-replicate, length-map}
@@ -49,24 +50,30 @@ viewed V o = (o.0, V o.1)
 length_viewed : {X : Type 0} (V : X → View) (xs : List (Name × X)) → length (map (viewed V) xs) ≡ length xs
 length_viewed V xs = length-map xs (viewed V)
 
-names_kept : {X : Type 0} (V : X → View) (xs : List (Name × X)) → map (λ (o : Name × View). o.0) (map (λ o. (o.0, V o.1)) xs) ≡ map (λ o. o.0) xs
+names_kept : {X : Type 0} (V : X → View) (xs : List (Name × X)) →
+    map (λ (o : Name × View). o.0) (map (λ o. (o.0, V o.1)) xs) ≡ map (λ o. o.0) xs
 names_kept V [] = refl
 names_kept V (x ∷ xs) = ap (λ ns. x.0 ∷ ns) (names_kept V xs)
 
-pub few_objects_of : {X : Type 0} (V : X → View) (xs : List (Name × X)) (specs : List ProcSpec) → fault_of (map (λ o. (o.0, V o.1)) xs) specs ≡ None → length xs ≤ object_limit
+pub few_objects_of : {X : Type 0} (V : X → View) (xs : List (Name × X)) (specs : List ProcSpec) →
+    fault_of (map (λ o. (o.0, V o.1)) xs) specs ≡ None → length xs ≤ object_limit
 few_objects_of V xs specs h =
     let long = length_viewed V xs in
     let few = ltb-false object_limit (length (map (λ o. (o.0, V o.1)) xs)) (faultless (map (λ o. (o.0, V o.1)) xs) specs h).few_objects in
     omega (arith, long, few)
 
-pub few_processes_of : {X : Type 0} (V : X → View) (xs : List (Name × X)) (specs : List ProcSpec) → fault_of (map (λ o. (o.0, V o.1)) xs) specs ≡ None → length specs ≤ process_limit
+pub few_processes_of : {X : Type 0} (V : X → View) (xs : List (Name × X)) (specs : List ProcSpec) →
+    fault_of (map (λ o. (o.0, V o.1)) xs) specs ≡ None → length specs ≤ process_limit
 few_processes_of V xs specs h = ltb-false process_limit (length specs) (faultless (map (λ o. (o.0, V o.1)) xs) specs h).few_processes
 
-pub open_of : {X : Type 0} (V : X → View) (xs : List (Name × X)) (specs : List ProcSpec) → fault_of (map (λ o. (o.0, V o.1)) xs) specs ≡ None →
+pub open_of : {X : Type 0} (V : X → View) (xs : List (Name × X)) (specs : List ProcSpec) →
+    fault_of (map (λ o. (o.0, V o.1)) xs) specs ≡ None →
     list_all (λ o. View.opened (V o.1)) xs ≡ true
-open_of V xs specs h = sym (list_all-map (λ o. View.opened o.1) (λ o. (o.0, V o.1)) xs) ∙ (faultless (map (λ o. (o.0, V o.1)) xs) specs h).opened
+open_of V xs specs h = sym (list_all-map (λ o. View.opened o.1) (λ o. (o.0, V o.1)) xs)
+    ∙ (faultless (map (λ o. (o.0, V o.1)) xs) specs h).opened
 
-pub distinct_of : {X : Type 0} (V : X → View) (xs : List (Name × X)) (specs : List ProcSpec) → fault_of (map (λ o. (o.0, V o.1)) xs) specs ≡ None →
+pub distinct_of : {X : Type 0} (V : X → View) (xs : List (Name × X)) (specs : List ProcSpec) →
+    fault_of (map (λ o. (o.0, V o.1)) xs) specs ≡ None →
     are_distinct (map (λ o. o.0) xs) ≡ true
 distinct_of V xs specs h = sym (ap are_distinct (names_kept V xs)) ∙ (faultless (map (λ o. (o.0, V o.1)) xs) specs h).distinct
 
@@ -80,32 +87,40 @@ fault_by many_objects many_processes valid distinct opened =
     if not opened then Some BootFault.ObjectClosed else None
 
 pub fault_is : {X : Type 0} (V : X → View) (xs : List (Name × X)) (specs : List ProcSpec) → fault_of (map (λ o. (o.0, V o.1)) xs) specs
-    ≡ fault_by (nat_lt object_limit (length xs)) (nat_lt process_limit (length specs)) (list_all (λ o. is_valid_path o.0) xs) (are_distinct (map (λ o. o.0) xs)) (list_all (λ o. View.opened (V o.1)) xs)
+    ≡ fault_by (nat_lt object_limit (length xs)) (nat_lt process_limit (length specs)) (list_all (λ o. is_valid_path o.0) xs)
+    (are_distinct (map (λ o. o.0) xs)) (list_all (λ o. View.opened (V o.1)) xs)
 fault_is V xs specs = λ j. fault_by (nat_lt object_limit (length_viewed V xs j)) (nat_lt process_limit (length specs))
     (list_all-map (λ (o : Name × View). is_valid_path o.0) (λ o. (o.0, V o.1)) xs j)
     (are_distinct (names_kept V xs j))
     (list_all-map (λ (o : Name × View). View.opened o.1) (λ o. (o.0, V o.1)) xs j)
 
-pub fault_told : {X : Type 0} (V : X → View) (xs : List (Name × X)) (specs : List ProcSpec) (valid distinct opened : Bool) → length xs ≤ object_limit → length specs ≤ process_limit →
-    valid ≡ list_all (λ o. is_valid_path o.0) xs → distinct ≡ are_distinct (map (λ o. o.0) xs) → opened ≡ list_all (λ o. View.opened (V o.1)) xs →
+pub fault_told : {X : Type 0} (V : X → View) (xs : List (Name × X)) (specs : List ProcSpec) (valid distinct opened : Bool) →
+    length xs ≤ object_limit → length specs ≤ process_limit →
+    valid ≡ list_all (λ o. is_valid_path o.0) xs → distinct ≡ are_distinct (map (λ o. o.0) xs) →
+    opened ≡ list_all (λ o. View.opened (V o.1)) xs →
     fault_by false false valid distinct opened ≡ fault_of (map (λ o. (o.0, V o.1)) xs) specs
 fault_told V xs specs valid distinct opened few_o few_p v d o =
-    (λ j. fault_by (sym (le-ltb object_limit (length xs) few_o) j) (sym (le-ltb process_limit (length specs) few_p) j) (v j) (d j) (o j)) ∙ sym (fault_is V xs specs)
+    (λ j. fault_by (sym (le-ltb object_limit (length xs) few_o) j) (sym (le-ltb process_limit (length specs) few_p) j) (v j) (d j) (o j))
+    ∙ sym (fault_is V xs specs)
 
 -- ---- distinct names, from the first on
 
-any_named : {X : Type 0} (name : Name) (rest : List (Name × X)) → list_any (λ other. same_name other name) (map (λ o. o.0) rest) ≡ list_any (λ o. same_name o.0 name) rest
+any_named : {X : Type 0} (name : Name) (rest : List (Name × X)) →
+    list_any (λ other. same_name other name) (map (λ o. o.0) rest) ≡ list_any (λ o. same_name o.0 name) rest
 any_named name [] = refl
 any_named name (o ∷ os) = ap (λ b. same_name o.0 name || b) (any_named name os)
 
-pub distinct_front : {X : Type 0} (left rest : List (Name × X)) (first : Name × X) (again : Bool) → left ≡ first ∷ rest → again ≡ list_any (λ o. same_name o.0 first.0) rest →
+pub distinct_front : {X : Type 0} (left rest : List (Name × X)) (first : Name × X) (again : Bool) → left ≡ first ∷ rest →
+    again ≡ list_any (λ o. same_name o.0 first.0) rest →
     are_distinct (map (λ o. o.0) left) ≡ (not again && are_distinct (map (λ o. o.0) rest))
 distinct_front left rest first again e a =
-    ap (λ (xs : List (Name × _)). are_distinct (map (λ o. o.0) xs)) e ∙ ap (λ b. not b && are_distinct (map (λ o. o.0) rest)) (any_named first.0 rest ∙ sym a)
+    ap (λ (xs : List (Name × _)). are_distinct (map (λ o. o.0) xs)) e
+    ∙ ap (λ b. not b && are_distinct (map (λ o. o.0) rest)) (any_named first.0 rest ∙ sym a)
 
 -- ---- the state
 
-tables_empty : (specs : List ProcSpec) → map (λ P. Process.table P) (map new_process specs) ≡ map (λ P. replicate (length (Process.table P)) None) (map new_process specs)
+tables_empty : (specs : List ProcSpec) →
+    map (λ P. Process.table P) (map new_process specs) ≡ map (λ P. replicate (length (Process.table P)) None) (map new_process specs)
 tables_empty [] = refl
 tables_empty (s ∷ ss) = λ j. table j ∷ tables_empty ss j
   where
@@ -127,11 +142,15 @@ all_open : (objects : List (Name × View)) → list_all is_open (map (λ o. Some
 all_open [] = refl
 all_open (o ∷ os) = ap (λ b. View.opened o.1 && b) (all_open os)
 
-numbers_of : (n : ℕ) (objects : List (Name × View)) → map (λ (e : Name × PathTarget). e.1) (map (λ (e : ℕ × (Name × View)). (e.1.0, file e.0)) (enumerate_from n objects)) ≡ map (λ e. file e.0) (enumerate_from n (map (λ o. Some o.1) objects))
+numbers_of : (n : ℕ) (objects : List (Name × View)) →
+    map (λ (e : Name × PathTarget). e.1) (map (λ (e : ℕ × (Name × View)). (e.1.0, file e.0)) (enumerate_from n objects)) ≡ map
+    (λ e. file e.0) (enumerate_from n (map (λ o. Some o.1) objects))
 numbers_of n [] = refl
 numbers_of n (o ∷ os) = ap (λ ns. file n ∷ ns) (numbers_of (n + 1) os)
 
-names_of : (n : ℕ) (objects : List (Name × View)) → map (λ (e : Name × PathTarget). e.0) (map (λ (e : ℕ × (Name × View)). (e.1.0, file e.0)) (enumerate_from n objects)) ≡ map (λ o. o.0) objects
+names_of : (n : ℕ) (objects : List (Name × View)) →
+    map (λ (e : Name × PathTarget). e.0) (map (λ (e : ℕ × (Name × View)). (e.1.0, file e.0)) (enumerate_from n objects)) ≡ map
+    (λ o. o.0) objects
 names_of n [] = refl
 names_of n (o ∷ os) = ap (λ ns. o.0 ∷ ns) (names_of (n + 1) os)
 

@@ -14,7 +14,7 @@ impl<O: FileObject> Kernel<O> {
     /// accept4(2): the oldest end that waits, with these flags, and the name that its client has now.
     /// EOPNOTSUPP of a datagram socket, EINVAL where the socket doesn't listen, EMFILE where no number is free,
     /// and the end waits on; EAGAIN where none waits.
-    #[tactic(auto, using(ux_model::proofs::Shows::socket_found), unfolding(ux_model::specs::Accepting::accept))]
+    #[tactic(auto, using(ux_model::proofs::Tables::Shows::socket_found), unfolding(ux_model::specs::Accepting::accept))]
     pub(crate) fn accept(&mut self, pid: Pid, fd: Fd, flags: OpenFlags) -> Result<Reply, Refusal>
         requires { IsTrue (is_live self.old pid.0) }
         ensures { Gives self.old (model.accept self.old pid.0 fd flags) result self.new }

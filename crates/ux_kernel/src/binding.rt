@@ -14,7 +14,7 @@ use ux_types::{Addr, DescriptionId, Errno, Fd, Pid, Refusal, Reply};
 impl<O: FileObject> Kernel<O> {
     /// bind(2). EINVAL where the socket has a name or the address is invalid, EADDRINUSE where the name is
     /// there already, ENOSPC where autobind finds none that is free, in this order.
-    #[tactic(auto, using(ux_model::proofs::Shows::socket_found), unfolding(ux_model::specs::Binding::bind))]
+    #[tactic(auto, using(ux_model::proofs::Tables::Shows::socket_found), unfolding(ux_model::specs::Binding::bind))]
     pub(crate) fn bind(&mut self, pid: Pid, fd: Fd, addr: &Addr) -> Result<Reply, Refusal>
         requires { IsTrue (is_live self.old pid.0) }
         ensures { Gives self.old (model.bind self.old pid.0 fd addr.now) result self.new }

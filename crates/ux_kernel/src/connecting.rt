@@ -32,7 +32,7 @@ impl<O: FileObject> Kernel<O> {
 
     /// listen(2). EOPNOTSUPP of a datagram socket, EINVAL where the socket is connected, else EDESTADDRREQ where
     /// it has no name.
-    #[tactic(auto, using(ux_model::proofs::Shows::socket_found), unfolding(ux_model::specs::Connecting::listen))]
+    #[tactic(auto, using(ux_model::proofs::Tables::Shows::socket_found), unfolding(ux_model::specs::Connecting::listen))]
     pub(crate) fn listen(&mut self, pid: Pid, fd: Fd, backlog: i32) -> Result<Reply, Refusal>
         requires { IsTrue (is_live self.old pid.0) }
         ensures { Gives self.old (model.listen self.old pid.0 fd backlog) result self.new }
@@ -59,7 +59,7 @@ impl<O: FileObject> Kernel<O> {
     /// of one that is connected; what the address leads to answers ENOENT, ECONNREFUSED or EPROTOTYPE; then
     /// ECONNREFUSED where that doesn't listen, EAGAIN where its backlog is full. A datagram socket is associated
     /// instead; the unnamed address ends its association.
-    #[tactic(auto, using(ux_model::proofs::Shows::socket_found), unfolding(ux_model::specs::Connecting::connect))]
+    #[tactic(auto, using(ux_model::proofs::Tables::Shows::socket_found), unfolding(ux_model::specs::Connecting::connect))]
     pub(crate) fn connect(&mut self, pid: Pid, fd: Fd, addr: &Addr) -> Result<Reply, Refusal>
         requires { IsTrue (is_live self.old pid.0) }
         ensures { Gives self.old (model.connect self.old pid.0 fd addr.now) result self.new }
@@ -137,7 +137,7 @@ impl<O: FileObject> Kernel<O> {
     }
 
     /// shutdown(2). ENOTCONN where the socket is neither connected nor associated.
-    #[tactic(auto, using(ux_model::proofs::Shows::socket_found), unfolding(ux_model::specs::Connecting::shutdown))]
+    #[tactic(auto, using(ux_model::proofs::Tables::Shows::socket_found), unfolding(ux_model::specs::Connecting::shutdown))]
     pub(crate) fn shutdown(&mut self, pid: Pid, fd: Fd, how: Mode) -> Result<Reply, Refusal>
         requires { IsTrue (is_live self.old pid.0) }
         ensures { Gives self.old (model.shutdown self.old pid.0 fd how) result self.new }

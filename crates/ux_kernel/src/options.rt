@@ -13,7 +13,7 @@ use ux_types::{Errno, Fd, GREATEST_QUEUE_LIMIT, Pid, Refusal, Reply, SockOpt, So
 impl<O: FileObject> Kernel<O> {
     /// getsockopt(2). SO_ERROR clears the pending error that it reports. ENOTCONN of SO_PEERCRED where no peer's
     /// credentials were recorded. EOPNOTSUPP of the limit of a queue that isn't a stream's.
-    #[tactic(auto, using(ux_model::proofs::Shows::socket_found), unfolding(ux_model::specs::Options::get_opt))]
+    #[tactic(auto, using(ux_model::proofs::Tables::Shows::socket_found), unfolding(ux_model::specs::Options::get_opt))]
     pub(crate) fn get_opt(&mut self, pid: Pid, fd: Fd, opt: SockOpt) -> Result<Reply, Refusal>
         requires { IsTrue (is_live self.old pid.0) }
         ensures { Gives self.old (model.get_opt self.old pid.0 fd opt) result self.new }
@@ -45,7 +45,7 @@ impl<O: FileObject> Kernel<O> {
     /// setsockopt(2) of SO_PASSCRED, or of the limit of a stream's queue. A socket that has neither a name nor a peer
     /// gets a name of the abstract namespace as SO_PASSCRED is set on; ENOSPC where none is free. EOPNOTSUPP of the limit
     /// of a queue that isn't a stream's, then EINVAL where it isn't 1 to 1,048,576 bytes. EINVAL of other options.
-    #[tactic(auto, using(ux_model::proofs::Shows::socket_found), unfolding(ux_model::specs::Options::set_opt))]
+    #[tactic(auto, using(ux_model::proofs::Tables::Shows::socket_found), unfolding(ux_model::specs::Options::set_opt))]
     pub(crate) fn set_opt(
         &mut self,
         pid: Pid,

@@ -19,11 +19,11 @@ use Rattle.ux_model.specs.Connecting.{no_open_flags}
 use Rattle.ux_model.specs.Accepting.{accept_first, accept}
 use Rattle.ux_model.specs.Step.{Step, outcome}
 use Rattle.ux_model.specs.Pedigree.{before}
-use Rattle.ux_model.proofs.Walk.{either, maybe}
-use Rattle.ux_model.proofs.ChangedPlaces.{bool_cases, place-changed}
-use Rattle.ux_model.proofs.Calls.{each_obeys}
-use Rattle.ux_model.proofs.Moments.{moment}
-use Rattle.ux_model.proofs.Shows.{by_socket}
+use Rattle.ux_model.proofs.Changes.Walk.{either, maybe}
+use Rattle.ux_model.proofs.Lists.ChangedPlaces.{bool_cases, place-changed}
+use Rattle.ux_model.proofs.Steps.Calls.{each_obeys}
+use Rattle.ux_model.proofs.Pedigrees.Moments.{moment}
+use Rattle.ux_model.proofs.Tables.Shows.{by_socket}
 use Rattle.ux_laws.specs.Waits.{AwaitsEnds, AcceptsWait, ConnectsTo, AcceptWaitsEnd}
 use Rattle.ux_laws.proofs.Doing.{by_addr}
 use Rattle.ux_laws.proofs.Near.{none_in, awaits, awaits_of, awaits_in, awaits_on, is_connect, pushed_other, none_past, NearAt, stays}
@@ -244,8 +244,11 @@ accept_waits_here S p d fd flags s found h =
     at_socket (sym (ap (λ (r : Result (ℕ × Socket) Errno). (elim r as (λ _. Outcome) [
       | Err e ↦ refuse S e
       | Ok w ↦ if is_dgram w.1.kind then refuse S Errno.EOPNOTSUPP else if is_none (listener_of w.1.phase) then refuse S Errno.EINVAL
-          else elim (lowest_free (table_of S p)) [ None ↦ refuse S Errno.EMFILE | Some n ↦ accept_first S p n w.0 flags
-          (slice_get (pending_ends w.1.phase) 0) ]
+          else elim (lowest_free (table_of S p)) [
+            | None ↦ refuse S Errno.EMFILE
+            | Some n ↦ accept_first S p n w.0 flags
+                (slice_get (pending_ends w.1.phase) 0)
+          ]
     ]).reply) found) ∙ h)
   where
     Q : Outcome → Type 0
@@ -264,8 +267,11 @@ accept_waits_here S p d fd flags s found h =
     oldest n (Some e) first b g = absurd (cc g)
 
     at_socket : Q (if is_dgram s.kind then refuse S Errno.EOPNOTSUPP else if is_none (listener_of s.phase) then refuse S Errno.EINVAL
-        else elim (lowest_free (table_of S p)) [ None ↦ refuse S Errno.EMFILE | Some n ↦ accept_first S p n d flags
-        (slice_get (pending_ends s.phase) 0) ])
+        else elim (lowest_free (table_of S p)) [
+          | None ↦ refuse S Errno.EMFILE
+          | Some n ↦ accept_first S p n d flags
+              (slice_get (pending_ends s.phase) 0)
+        ])
     at_socket = either Q (is_dgram s.kind) _ _ (λ a g. absurd (cc g))
         (λ a. either Q (is_none (listener_of s.phase)) _ _ (λ b g. absurd (cc g))
         (λ b. maybe Q (lowest_free (table_of S p)) _ _ (λ g. absurd (cc g))

@@ -17,7 +17,7 @@ use Rattle.ux_model.specs.Binding.{look_up}
 use Rattle.ux_model.specs.Connecting.{Listener, listener_of, with_listening, with_connection}
 use Rattle.ux_model.specs.Sending.{descriptions_behind}
 use Rattle.ux_model.specs.Giving.{sent_by}
-use Rattle.ux_model.proofs.ByPlace.{take_none}
+use Rattle.ux_model.proofs.Lists.ByPlace.{take_none}
 use Rattle.ux_laws.specs.Talking.{offered_bytes, request_addr, is_peek, taken_count, given_bytes, socket_through, goes_to, is_number}
 use Rattle.ux_laws.specs.Talking.{is_first, sends_to, receives_through}
 use Rattle.ux_laws.specs.Streams.{sent_now, received_now}
@@ -139,8 +139,14 @@ pub data Did (S : State) (p tag : ℕ) (request : Request) (reply : Reply) (U : 
       reply ≡ Reply.Ok → process_at S p ≡ Some P →
       find_socket S p fd ≡ Ok (d, s) → socket_at S d ≡ Some s → peer_of s.phase ≡ None → look_up S s.kind addr ≡ Ok (l, other) →
       socket_at S l ≡ Some other → listener_of other.phase ≡ Some kept →
-      Shrinks (with_connection S (record { client = d; client_cred = own_cred p P; listener = l; socket = other; listener_cred =
-      kept.cred })) U → Did S p tag request reply U
+      Shrinks (with_connection S (record {
+        client = d;
+        client_cred = own_cred p P;
+        listener = l;
+        socket = other;
+        listener_cred =
+            kept.cred;
+      })) U → Did S p tag request reply U
   put : (t : ℕ) (m : Message) → IsSending S p tag request reply t m → Shrinks (with_socket_by S t (sent m)) U → Did S p tag request reply U
   took : (d n : ℕ) (s : Socket) (m : Message) (ms : List Message) → IsTaking S p request reply d n s m ms →
       Shrinks (with_socket_by S d (with_queue (front_of n s m ms).rest)) U →

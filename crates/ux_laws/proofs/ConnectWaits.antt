@@ -21,12 +21,12 @@ use Rattle.ux_model.specs.Connecting.{server_end, tied as tied_by, no_open_flags
 use Rattle.ux_model.specs.Accepting.{client_name, accept_first, accept, without_first_end, as_accepted, accepted_with}
 use Rattle.ux_model.specs.Step.{Step, outcome}
 use Rattle.ux_model.specs.Pedigree.{before}
-use Rattle.ux_model.proofs.Walk.{either, maybe}
-use Rattle.ux_model.proofs.ChangedPlaces.{bool_cases, place-changed}
-use Rattle.ux_model.proofs.NameCalls.{same_descriptions}
-use Rattle.ux_model.proofs.Calls.{each_obeys}
-use Rattle.ux_model.proofs.Moments.{moment}
-use Rattle.ux_model.proofs.Shows.{by_socket}
+use Rattle.ux_model.proofs.Changes.Walk.{either, maybe}
+use Rattle.ux_model.proofs.Lists.ChangedPlaces.{bool_cases, place-changed}
+use Rattle.ux_model.proofs.Steps.NameCalls.{same_descriptions}
+use Rattle.ux_model.proofs.Steps.Calls.{each_obeys}
+use Rattle.ux_model.proofs.Pedigrees.Moments.{moment}
+use Rattle.ux_model.proofs.Tables.Shows.{by_socket}
 use Rattle.ux_laws.specs.Credentials.{socket_behind}
 use Rattle.ux_laws.specs.Waits.{AwaitsPlace, FindsNoPlace, ConnectsWait, GivesPlace, by_accept, by_listen, ConnectWaitsEnd}
 use Rattle.ux_laws.proofs.Doing.{by_addr}
@@ -54,8 +54,12 @@ awaits_place s h = by_phase s.phase refl h
     by_phase : (phase : Phase) → s.phase ≡ phase → is_full phase ≡ true → AwaitsPlace s
     by_phase idle is h = absurd (false≢true h)
     by_phase (listening backlog cred) is h =
-        record { kept = record { backlog = backlog; cred = cred }; listens = ap listener_of is; full =
-        leb-true backlog.limit (length backlog.pending) h }
+        record {
+          kept = record { backlog = backlog; cred = cred };
+          listens = ap listener_of is;
+          full =
+              leb-true backlog.limit (length backlog.pending) h;
+        }
     by_phase (connected peer) is h = absurd (false≢true h)
     by_phase (associated target) is h = absurd (false≢true h)
 

@@ -17,11 +17,11 @@ use Rattle.ux_model.specs.Socket.{Socket, is_stream, stream_room, sent_part, sen
 use Rattle.ux_model.specs.State.{State, socket_at}
 use Rattle.ux_model.specs.Step.{Step}
 use Rattle.ux_model.specs.History.{replay}
-use Rattle.ux_model.proofs.FrontRights.{run_front}
-use Rattle.ux_model.proofs.ByPlace.{take_none}
-use Rattle.ux_model.proofs.ChangedPlaces.{bool_cases}
-use Rattle.ux_model.proofs.Induction.{IsKept, kept_throughout}
-use Rattle.ux_model.proofs.Replays.{step_replay}
+use Rattle.ux_model.proofs.Messages.FrontRights.{run_front}
+use Rattle.ux_model.proofs.Lists.ByPlace.{take_none}
+use Rattle.ux_model.proofs.Lists.ChangedPlaces.{bool_cases}
+use Rattle.ux_model.proofs.Lists.Induction.{IsKept, kept_throughout}
+use Rattle.ux_model.proofs.Steps.Replays.{step_replay}
 use Rattle.ux_laws.specs.Talking.{offered_bytes, request_addr, is_peek, taken_count, given_bytes, goes_to, is_number, is_first, sends_to}
 use Rattle.ux_laws.specs.Talking.{receives_through}
 use Rattle.ux_laws.specs.Streams.{sent_now, received_now, bytes_sent, bytes_received, StreamsAreReliable}
@@ -188,8 +188,11 @@ record AllReliable (boot : State) (es : List Entry) (S : State) : Type 0 where
 
 reliable_kept : (boot : State) → IsKept boot (AllReliable boot)
 reliable_kept boot = record {
-  at_boot = λ boots. record { reached = refl; each =
-      λ d at. sym (ap (λ ds. all_bytes (waiting_in (glance (place ds d)).0)) boots.no_descriptions) };
+  at_boot = λ boots. record {
+    reached = refl;
+    each =
+        λ d at. sym (ap (λ ds. all_bytes (waiting_in (glance (place ds d)).0)) boots.no_descriptions);
+  };
   by_entry = λ es e S T so_far step may. further es e S T so_far step;
 }
   where

@@ -33,7 +33,7 @@ use Rattle.ux_model.specs.Accepting.{accept_first, accept, without_first_end, as
 use Rattle.ux_model.specs.Sending.{sending, message_of, flight_limit, is_over_limit, enqueue, is_too_long, send_connected, send_stream}
 use Rattle.ux_model.specs.Sending.{send_from, is_sendable_addr, is_sendable_control, sender_cred_refusal, sent_cred, send_as, send_read}
 use Rattle.ux_model.specs.Sending.{send_with, send_msg, descriptions_behind}
-use Rattle.ux_model.proofs.Datagrams.{send_to_target, send_by_association, send_by}
+use Rattle.ux_model.proofs.Messages.Datagrams.{send_to_target, send_by_association, send_by}
 use Rattle.ux_model.specs.Receiving.{Incoming, incoming, receive_front, receive, recv_msg, bytes_alone}
 use Rattle.ux_model.specs.FileObjects.{holds_bytes, is_open_for}
 use Rattle.ux_model.specs.Opening.{open_file, file_description}
@@ -49,14 +49,15 @@ use Rattle.ux_model.specs.Closing.{close, exit, off}
 use Rattle.ux_model.specs.Release.{settled}
 use Rattle.ux_model.specs.Step.{Step, outcome}
 use Rattle.ux_model.specs.Giving.{sent_by, rights_in}
-use Rattle.ux_model.proofs.Walk.{either, maybe, by_target, by_path, found, found_peer}
-use Rattle.ux_model.proofs.ByPlace.{take_none}
-use Rattle.ux_model.proofs.Shows.{by_socket, by_receive}
-use Rattle.ux_model.proofs.NameCalls.{same_descriptions}
-use Rattle.ux_model.proofs.Rising.{place_mapped}
-use Rattle.ux_model.proofs.Reaching.{may_change}
-use Rattle.ux_model.proofs.Obeying.{Obeys}
-use Rattle.ux_model.proofs.Calls.{each_obeys}
+use Rattle.ux_model.proofs.Changes.Walk.{either, maybe, by_target, by_path, found, found_peer}
+use Rattle.ux_model.proofs.Lists.ByPlace.{take_none}
+use Rattle.ux_model.proofs.Tables.Shows.{by_socket}
+use Rattle.ux_model.proofs.Tables.MessageShows.{by_receive}
+use Rattle.ux_model.proofs.Steps.NameCalls.{same_descriptions}
+use Rattle.ux_model.proofs.Lists.Rising.{place_mapped}
+use Rattle.ux_model.proofs.Changes.Reaching.{may_change}
+use Rattle.ux_model.proofs.Changes.Obeying.{Obeys}
+use Rattle.ux_model.proofs.Steps.Calls.{each_obeys}
 use Rattle.ux_laws.specs.Talking.{endpoint, offered_bytes, request_addr, is_peek, taken_count, given_bytes, if_found, socket_through}
 use Rattle.ux_laws.specs.Talking.{named_target, goes_to, destination, is_number, is_first, sends_to, receives_through}
 use Rattle.ux_laws.specs.Credentials.{given_cred, cred_of_control, MaySend, its_own, others}
@@ -197,8 +198,11 @@ ids_did S p tag uid gid = maybe Q (process_at S p) _ _ refuses (λ P h. either Q
 
 off_did : (S : State) (p tag : ℕ) → Did S p tag Request.Off (off S).reply (off S).next
 unfolding off
-off_did S p tag = quiet (record { each = λ d. inr (ap glance (place_mapped (λ D. None) S.descriptions d refl)); long =
-    length-map S.descriptions (λ D. None) }) (silent refl)
+off_did S p tag = quiet (record {
+  each = λ d. inr (ap glance (place_mapped (λ D. None) S.descriptions d refl));
+  long =
+      length-map S.descriptions (λ D. None);
+}) (silent refl)
 
 -- ---- new descriptions
 
@@ -607,8 +611,15 @@ from_did S p tag request limit end s P m offered none here = either Q (is_dgram 
     (λ b. either Q (nat_lt record_bytes_limit (length m.bytes)) _ _ (λ c. refuses)
     (λ c. either Q s.write_shut _ _ (λ e. refuses)
     (λ e. send_by_did S p tag request limit end s (request_addr request) P (record m { from = Some s.name })
-    (record { caller = offered.caller; through = offered.through; tagged = offered.tagged; bytes = offered.bytes; rights =
-    offered.rights; cred = offered.cred })
+    (record {
+      caller = offered.caller;
+      through = offered.through;
+      tagged = offered.tagged;
+      bytes = offered.bytes;
+      rights =
+          offered.rights;
+      cred = offered.cred;
+    })
     (sym (ap (λ c. if c then Some s.name else None) b)) (ap (λ c. if c then named_target S s (request_addr request) else peer_of s.phase) b)
     here)))
     (λ b. by_stream_did S p tag request limit (request_addr request) end s P m offered
@@ -670,8 +681,15 @@ send_did S p tag fd addr bytes control flags = maybe Q (process_at S p) _ _ refu
         go (Some e) is = refuses
         go None is = either Q (not (is_sendable_addr addr)) _ _ (λ b. refuses)
             (λ b. from_did S p tag request (flight_limit P) d s P (message_of (sending tag p P addr bytes) (sent_cred p P given) rights)
-            (record { caller = here; through = through_is S p d fd s request refl h; tagged = refl; bytes = refl; rights = behind; cred =
-            may_give S p P request given gave is }) refl there)
+            (record {
+              caller = here;
+              through = through_is S p d fd s request refl h;
+              tagged = refl;
+              bytes = refl;
+              rights = behind;
+              cred =
+                  may_give S p P request given gave is;
+            }) refl there)
 
     by_control : (P : Process) → process_at S p ≡ Some P → (d : ℕ) (s : Socket) → find_socket S p fd ≡ Ok (d, s) → socket_at S d ≡ Some s →
         (o : Option Control) → control_in control ≡ o →
@@ -734,12 +752,18 @@ found_socket_is S p fd e D g h =
       | None ↦ Err Errno.EBADF
       | Some e ↦ elim (description_at S e.description) as
           (λ _. Result (Descriptor × Description) Errno) [ None ↦ Err Errno.EBADF | Some D ↦ Ok (e, D) ]
-    ]) as (λ _. Result (ℕ × Socket) Errno) [ Err x ↦ Err x | Ok w ↦ elim (socket_of w.1.target) as
-    (λ _. Result (ℕ × Socket) Errno) [ None ↦ Err Errno.ENOTSOCK | Some s ↦ Ok (w.0.description, s) ] ]) g
+    ]) as (λ _. Result (ℕ × Socket) Errno) [
+      | Err x ↦ Err x
+      | Ok w ↦ elim (socket_of w.1.target) as
+          (λ _. Result (ℕ × Socket) Errno) [ None ↦ Err Errno.ENOTSOCK | Some s ↦ Ok (w.0.description, s) ]
+    ]) g
     ∙ ap (λ (x : Option Description). elim (elim x as
     (λ _. Result (Descriptor × Description) Errno) [ None ↦ Err Errno.EBADF | Some D ↦ Ok (e, D) ])
-    as (λ _. Result (ℕ × Socket) Errno) [ Err x ↦ Err x | Ok w ↦ elim (socket_of w.1.target) as
-    (λ _. Result (ℕ × Socket) Errno) [ None ↦ Err Errno.ENOTSOCK | Some s ↦ Ok (w.0.description, s) ] ]) h
+    as (λ _. Result (ℕ × Socket) Errno) [
+      | Err x ↦ Err x
+      | Ok w ↦ elim (socket_of w.1.target) as
+          (λ _. Result (ℕ × Socket) Errno) [ None ↦ Err Errno.ENOTSOCK | Some s ↦ Ok (w.0.description, s) ]
+    ]) h
 
 pub no_socket_at : (S : State) (p o : ℕ) (fd : Fd) (request : Request) (e : Descriptor) (D : Description) → endpoint request ≡ Some fd →
     descriptor_at S p fd ≡ Some e → description_at S e.description ≡ Some D → D.target ≡ to_object o →
@@ -901,9 +925,12 @@ chosen_did S T p tag request reply o did obeys (failing e f) =
 pub step_between : (S T : State) (p tag : ℕ) (request : Request) (reply : Reply) (gone : List ℕ) → Step S p tag request reply gone T →
     (U : State) × Chosen S (outcome S p tag request) reply U × Did S p tag request reply U × (T ≡ settled U)
 unfolding Step
-step_between S T p tag request reply gone s =
-    (s.0, s.1, chosen_did S s.0 p tag request reply (outcome S p tag request) (each_did S p tag request) (each_obeys S p tag request) s.1,
-    s.3)
+step_between S T p tag request reply gone s = (
+  s.0,
+  s.1,
+  chosen_did S s.0 p tag request reply (outcome S p tag request) (each_did S p tag request) (each_obeys S p tag request) s.1,
+  s.3,
+)
 
 pub step_did : (S T : State) (p tag : ℕ) (request : Request) (reply : Reply) (gone : List ℕ) → Step S p tag request reply gone T →
     Did S p tag request reply T

@@ -16,13 +16,13 @@ use Rattle.ux_model.specs.Connecting.{with_listening, server_end, tied, no_open_
 use Rattle.ux_model.specs.Step.{Step}
 use Rattle.ux_model.specs.History.{IsLegal}
 use Rattle.ux_model.specs.Pedigree.{before}
-use Rattle.ux_model.proofs.ChangedPlaces.{bool_cases, place_within, length-changed}
-use Rattle.ux_model.proofs.OnePlace.{same_at}
-use Rattle.ux_model.proofs.Fronts.{front_is_legal}
-use Rattle.ux_model.proofs.ByPlace.{get_within}
-use Rattle.ux_model.proofs.Dangling.{nothing_dangles}
-use Rattle.ux_model.proofs.Moments.{moment}
-use Rattle.ux_model.proofs.Walk.{found}
+use Rattle.ux_model.proofs.Lists.ChangedPlaces.{bool_cases, place_within, length-changed}
+use Rattle.ux_model.proofs.Lists.OnePlace.{same_at}
+use Rattle.ux_model.proofs.Lists.Fronts.{front_is_legal}
+use Rattle.ux_model.proofs.Lists.ByPlace.{get_within}
+use Rattle.ux_model.proofs.Invariants.Dangling.{nothing_dangles}
+use Rattle.ux_model.proofs.Pedigrees.Moments.{moment}
+use Rattle.ux_model.proofs.Changes.Walk.{found}
 use Rattle.ux_laws.specs.Talking.{request_addr, socket_through, named_target, goes_to, is_number, sends_to}
 use Rattle.ux_laws.specs.Records.{is_count, is_given}
 use Rattle.ux_laws.specs.Ends.{HasEnded, StaysEnded, EndsAreForEver, ResetsAreOfLosses, SendsFindNobody}
@@ -50,8 +50,13 @@ was_changed : (S T : State) (t d : ℕ) (change : Socket → Socket) (q : Socket
     ((r : SocketParts) → Seen T d r → Was S d r) → Seen (with_socket_by T t change) d q → Was S d q
 was_changed S T t d change q kind keeps before h = ⊎_elim {C = Was S d q}
     (λ w. ⊎_elim {C = Was S d q}
-    (λ old. inl (old.0, old.1, ap (λ (r : SocketParts). r.kind) w.3 ∙ kind w.1 ∙ old.2, λ peer is. ap (λ (r : SocketParts). r.tie.peer) w.3
-    ∙ keeps w.1 peer (old.3 peer is)))
+    (λ old. inl (
+      old.0,
+      old.1,
+      ap (λ (r : SocketParts). r.kind) w.3 ∙ kind w.1 ∙ old.2,
+      λ peer is. ap (λ (r : SocketParts). r.tie.peer) w.3
+          ∙ keeps w.1 peer (old.3 peer is),
+    ))
     (λ more. inr more) (before (socket_parts w.1) (seen_socket T d w.1 w.2)))
     (λ old. before q old) (seen_changed T t d change q h)
 

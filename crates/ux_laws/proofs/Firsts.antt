@@ -6,9 +6,9 @@ use Rattle.ux_model.specs.Types.{Request, Reply, Entry}
 use Rattle.ux_model.specs.State.{State}
 use Rattle.ux_model.specs.History.{makes, makes_one, is_allowed, replay, IsLegal}
 use Rattle.ux_model.specs.Pedigree.{before}
-use Rattle.ux_model.proofs.Induction.{take_past}
-use Rattle.ux_model.proofs.Moments.{moment}
-use Rattle.ux_model.proofs.Living.{fork_alone_makes, made_next, live_within}
+use Rattle.ux_model.proofs.Lists.Induction.{take_past}
+use Rattle.ux_model.proofs.Pedigrees.Moments.{moment}
+use Rattle.ux_model.proofs.Processes.Living.{fork_alone_makes, made_next, live_within}
 use Rattle.ux_model.specs.PedigreeLaws.{WasSentNothing}
 use Rattle.ux_laws.specs.Files.{AreStrangers, StrangerHasNoWay}
 use Rattle.ux_laws.specs.Beginning.{IsOfTheStart, NobodyMakesThem, AllCallsAreTheirs}

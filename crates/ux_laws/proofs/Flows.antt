@@ -18,10 +18,10 @@ use Rattle.ux_model.specs.Pairing.{socket_description}
 use Rattle.ux_model.specs.Opening.{file_description}
 use Rattle.ux_model.specs.Connecting.{with_listening, server_end, tied, no_open_flags}
 use Rattle.ux_model.specs.Process.{own_cred}
-use Rattle.ux_model.proofs.ChangedPlaces.{bool_cases, length-changed}
+use Rattle.ux_model.proofs.Lists.ChangedPlaces.{bool_cases, length-changed}
 use Rattle.ux_model.specs.Step.{Step}
-use Rattle.ux_model.proofs.OnePlace.{same_at}
-use Rattle.ux_model.proofs.Appending.{get_push}
+use Rattle.ux_model.proofs.Lists.OnePlace.{same_at}
+use Rattle.ux_model.proofs.Lists.Appending.{get_push}
 use Rattle.ux_laws.proofs.Parts.{SocketParts, socket_parts, Glance, glance_target, glance, glance_at, glance_socket, Kept, Shrinks}
 use Rattle.ux_laws.proofs.Parts.{glance_changed, glance_new}
 use Rattle.ux_laws.proofs.Acts.{is_silent, MovesNothing, silent, IsSending, IsTaking, Did, quiet, opened, one_made, pair_made, listened}
@@ -184,9 +184,17 @@ left_of (suc n) (x ∷ xs) k m h = go (left_of (suc n - length x.bytes) xs k m) 
     cut : (k : ℕ) → slice_get (record x { bytes = drop (suc n) x.bytes; rights = [] } ∷ xs) k ≡ Some m →
         (j : ℕ) × (y : Message) × (slice_get (x ∷ xs) j ≡ Some y) × IsOf m y
     cut zero h =
-        let same : record x { bytes = drop (suc n) x.bytes; rights = [] } ≡ m = cc h in
-        (0, x, refl, record { tag = sym (ap (λ (w : Message). w.tag) same); cred = sym (ap (λ (w : Message). w.cred) same); uid =
-        sym (ap (λ (w : Message). w.uid) same) })
+        let same : record x { bytes = drop (suc n) x.bytes; rights = [] } ≡ m = cc h in (
+          0,
+          x,
+          refl,
+          record {
+            tag = sym (ap (λ (w : Message). w.tag) same);
+            cred = sym (ap (λ (w : Message). w.cred) same);
+            uid =
+                sym (ap (λ (w : Message). w.uid) same);
+          },
+        )
     cut (suc k) h = (suc k, m, h, of_itself m)
 
     go : (slice_get (without_first (suc n - length x.bytes) xs) k ≡ Some m →
@@ -236,12 +244,24 @@ flow_waits S T p tag request reply d k m (put_in t x a sh) h = bool_cases (t == 
     ∙ ap (λ b. cond b (sent x a.target).queue (waiting_at S d)) e)) ∙ shrunk_waits _ T d k m sh h in
     let queue : waiting_at S d ≡ a.target.queue = ap (λ (i : ℕ). waiting_at S i) (sym at) ∙ waiting_is S t a.target a.there in
     ⊎_elim {C = CameFrom S p tag request reply d m} (λ old. inl (k, m, ap (λ q. slice_get q k) queue ∙ old.0, of_itself m))
-    (λ new. inr (x, subst (λ (i : ℕ). IsSending S p tag request reply i x) at a,
-    record { tag = ap (λ (w : Message). w.tag) new.0; cred = ap (λ (w : Message). w.cred) new.0; uid = ap (λ (w : Message). w.uid) new.0 }))
+    (λ new. inr (
+      x,
+      subst (λ (i : ℕ). IsSending S p tag request reply i x) at a,
+      record {
+        tag = ap (λ (w : Message). w.tag) new.0;
+        cred = ap (λ (w : Message). w.cred) new.0;
+        uid = ap (λ (w : Message). w.uid) new.0;
+      },
+    ))
     (get_push a.target.queue (sent_part a.target x) m k there))
-    (λ e. inl (k, m, sym (ap (λ q. slice_get q k)
-    (changed_waiting S t d (sent x) a.target a.there ∙ ap (λ b. cond b (sent x a.target).queue (waiting_at S d)) e))
-    ∙ shrunk_waits _ T d k m sh h, of_itself m))
+    (λ e. inl (
+      k,
+      m,
+      sym (ap (λ q. slice_get q k)
+          (changed_waiting S t d (sent x) a.target a.there ∙ ap (λ b. cond b (sent x a.target).queue (waiting_at S d)) e))
+          ∙ shrunk_waits _ T d k m sh h,
+      of_itself m,
+    ))
 flow_waits S T p tag request reply d k m (taken t n s x xs a sh) h = bool_cases (t == d)
     (λ e.
     let at : t ≡ d = eqb-true t d e in
@@ -251,9 +271,15 @@ flow_waits S T p tag request reply d k m (taken t n s x xs a sh) h = bool_cases 
     let w = rest_of n s x xs k m there in
     let queue : waiting_at S d ≡ x ∷ xs = ap (λ (i : ℕ). waiting_at S i) (sym at) ∙ waiting_is S t s a.there ∙ a.waiting in
     inl (w.0, w.1, ap (λ q. slice_get q w.0) queue ∙ w.2, w.3))
-    (λ e. inl (k, m, sym (ap (λ q. slice_get q k)
-    (changed_waiting S t d (with_queue (front_of n s x xs).rest) s a.there ∙ ap (λ b. cond b (front_of n s x xs).rest (waiting_at S d)) e))
-    ∙ shrunk_waits _ T d k m sh h, of_itself m))
+    (λ e. inl (
+      k,
+      m,
+      sym (ap (λ q. slice_get q k)
+          (changed_waiting S t d (with_queue (front_of n s x xs).rest) s a.there
+          ∙ ap (λ b. cond b (front_of n s x xs).rest (waiting_at S d)) e))
+          ∙ shrunk_waits _ T d k m sh h,
+      of_itself m,
+    ))
 
 -- ---- what stays of kinds
 

@@ -24,11 +24,12 @@ use Rattle.ux_model.specs.Delivered.{Brought, brought, tag_of, told_of, delivere
 use Rattle.ux_model.specs.Receiving.{Incoming, incoming, receive_front, recv_msg}
 use Rattle.ux_model.specs.Step.{Step, outcome}
 use Rattle.ux_model.specs.Changes.{sources}
-use Rattle.ux_model.proofs.Walk.{either}
-use Rattle.ux_model.proofs.FrontRights.{IsFront, cred_front}
-use Rattle.ux_model.proofs.ByPlace.{get_below, get_before, take_few}
-use Rattle.ux_model.proofs.NameCalls.{same_descriptions}
-use Rattle.ux_model.proofs.Shows.{by_socket, by_receive, brought_is, nothing_is_brought}
+use Rattle.ux_model.proofs.Changes.Walk.{either}
+use Rattle.ux_model.proofs.Messages.FrontRights.{IsFront, cred_front}
+use Rattle.ux_model.proofs.Lists.ByPlace.{get_below, get_before, take_few}
+use Rattle.ux_model.proofs.Steps.NameCalls.{same_descriptions}
+use Rattle.ux_model.proofs.Tables.Shows.{by_socket}
+use Rattle.ux_model.proofs.Tables.MessageShows.{by_receive, brought_is, nothing_is_brought}
 use Rattle.ux_laws.specs.Talking.{is_peek, given_bytes, socket_through}
 use Rattle.ux_laws.proofs.Parts.{kept_same, Shrinks, kept_shrinks, shrunk_after, settled_shrinks}
 use Rattle.ux_laws.proofs.Doing.{through_is}
@@ -263,9 +264,12 @@ carries s n m ms some = go (is_stream s.kind) refl some
         in_terms true is t.number t.message t.there t.rights_are t.tag (λ yes_it_is. omega (arith, begun, long))
         (λ no_stream. absurd (false≢true (sym no_stream))) (omega (arith, last, long, fits)) t.others
         (λ i x rich h. let w = untouched k (m ∷ ms) i x rich h in
-        let past = w.2 in
-        (w.0, w.1, λ same. let here : queued_bytes (take w.0 (m ∷ ms)) ≡ queued_bytes (take t.number (m ∷ ms)) =
-        ap (λ (i : ℕ). queued_bytes (take i (m ∷ ms))) same in omega (arith, past, begun, here)))
+        let past = w.2 in (
+          w.0,
+          w.1,
+          λ same. let here : queued_bytes (take w.0 (m ∷ ms)) ≡ queued_bytes (take t.number (m ∷ ms)) =
+              ap (λ (i : ℕ). queued_bytes (take i (m ∷ ms))) same in omega (arith, past, begun, here),
+        ))
     go false is some =
         let few = length-take n m.bytes in
         let first = bytes_first m (take 0 ms) in

@@ -10,15 +10,15 @@ use Rattle.ux_model.specs.Process.{Descriptor}
 use Rattle.ux_model.specs.State.{State, description_at, socket_at}
 use Rattle.ux_model.specs.Release.{resets_peer, place_after_loss, without, is_unreferenced, drop_all, drop_rounds, drop_unreferenced}
 use Rattle.ux_model.specs.Release.{has_unreferenced, settled}
-use Rattle.ux_model.proofs.Losses.{is_reset_by_loss, target_after_loss, description_after_loss}
+use Rattle.ux_model.proofs.Releasing.Losses.{is_reset_by_loss, target_after_loss, description_after_loss}
 use Rattle.ux_model.specs.Step.{Step}
 use Rattle.ux_model.specs.History.{is_off}
 use Rattle.ux_model.specs.Giving.{held_at}
 use Rattle.ux_model.specs.Changes.{is_err, others_left_by, left_to_others}
 use Rattle.ux_model.specs.Pedigree.{before}
-use Rattle.ux_model.proofs.ReleaseLaws.{description_at-without}
-use Rattle.ux_model.proofs.ChangedPlaces.{bool_cases}
-use Rattle.ux_model.proofs.Moments.{moment}
+use Rattle.ux_model.proofs.Releasing.ReleaseLaws.{description_at-without}
+use Rattle.ux_model.proofs.Lists.ChangedPlaces.{bool_cases}
+use Rattle.ux_model.proofs.Pedigrees.Moments.{moment}
 use Rattle.ux_laws.specs.Reach.{LosesPeer, IsLeft, alone, in_reach, freed, loses_peer, CallsLeaveOthersAlone, CallsLeaveTablesAlone}
 use Rattle.ux_laws.proofs.Near.{NearAt, stays, reached, new, gone as dropped, Near, chosen_near}
 
@@ -116,12 +116,30 @@ pub lost_after : (S T U : State) (d : ℕ) → ((e : ℕ) → Lost S T e) → ((
 lost_after S T U d first all (same e) (same f) = same (f ∙ e)
 lost_after S T U d first all (same e) (lost f) = lost f
 lost_after S T U d first all (same e) (reset r had) =
-    reset (record { description = r.description; socket = r.socket; peer = r.peer; there = sym e ∙ r.there; connected = sym (ap socket_in e)
-    ∙ r.connected; to = r.to; lost = r.lost; left = r.left }) (was_before S T r.peer (first r.peer) had)
+    reset (record {
+      description = r.description;
+      socket = r.socket;
+      peer = r.peer;
+      there = sym e ∙ r.there;
+      connected = sym (ap socket_in e)
+          ∙ r.connected;
+      to = r.to;
+      lost = r.lost;
+      left = r.left;
+    }) (was_before S T r.peer (first r.peer) had)
 lost_after S T U d first all (lost e) g = lost (stays_gone T U d g e)
 lost_after S T U d first all (reset r had) (same f) =
-    reset (record { description = r.description; socket = r.socket; peer = r.peer; there = r.there; connected = r.connected; to =
-    r.to; lost = stays_gone T U r.peer (all r.peer) r.lost; left = f ∙ r.left }) had
+    reset (record {
+      description = r.description;
+      socket = r.socket;
+      peer = r.peer;
+      there = r.there;
+      connected = r.connected;
+      to =
+          r.to;
+      lost = stays_gone T U r.peer (all r.peer) r.lost;
+      left = f ∙ r.left;
+    }) had
 lost_after S T U d first all (reset r had) (lost f) = lost f
 lost_after S T U d first all (reset r had) (reset q also) =
     let both : Some q.description ≡ Some (changed (with_reset true) r.description) = sym q.there ∙ r.left in
@@ -154,8 +172,17 @@ alike_lost : (S T U : State) (d : ℕ) → U.descriptions ≡ T.descriptions →
 alike_lost S T U d h (same e) = same (ap (λ ds. place ds d) h ∙ e)
 alike_lost S T U d h (lost e) = lost (ap (λ ds. place ds d) h ∙ e)
 alike_lost S T U d h (reset r had) = reset
-    (record { description = r.description; socket = r.socket; peer = r.peer; there = r.there; connected = r.connected; to = r.to; lost =
-    ap (λ ds. place ds r.peer) h ∙ r.lost; left = ap (λ ds. place ds d) h ∙ r.left }) had
+    (record {
+      description = r.description;
+      socket = r.socket;
+      peer = r.peer;
+      there = r.there;
+      connected = r.connected;
+      to = r.to;
+      lost =
+          ap (λ ds. place ds r.peer) h ∙ r.lost;
+      left = ap (λ ds. place ds d) h ∙ r.left;
+    }) had
 
 pub settled_lost : (S : State) (d : ℕ) → Lost S (settled S) d
 unfolding settled drop_unreferenced
@@ -191,8 +218,17 @@ passed_left S T p request d w there = by_near (w.near.each d) (w.lost_then d)
     stayed : description_at U d ≡ description_at S d → Lost U T d → IsLeft S p request T d
     stayed is (same e) = alone (e ∙ is)
     stayed is (lost e) = freed e
-    stayed is (reset r had) = loses_peer (record { description = r.description; socket = r.socket; peer = r.peer; there = sym is
-        ∙ r.there; connected = sym (ap socket_in is) ∙ r.connected; to = r.to; lost = r.lost; left = r.left })
+    stayed is (reset r had) = loses_peer (record {
+      description = r.description;
+      socket = r.socket;
+      peer = r.peer;
+      there = sym is
+          ∙ r.there;
+      connected = sym (ap socket_in is) ∙ r.connected;
+      to = r.to;
+      lost = r.lost;
+      left = r.left;
+    })
 
     by_near : NearAt S p request d (description_at U d) → Lost U T d → IsLeft S p request T d
     by_near (stays is) l = stayed is l

@@ -24,14 +24,14 @@ use Rattle.ux_model.specs.Boot.{IsBootState}
 use Rattle.ux_model.specs.Step.{Step, outcome}
 use Rattle.ux_model.specs.History.{replay}
 use Rattle.ux_model.specs.Pedigree.{before}
-use Rattle.ux_model.proofs.ChangedPlaces.{bool_cases, length-changed}
-use Rattle.ux_model.proofs.Walk.{either, maybe}
-use Rattle.ux_model.proofs.Fronts.{front_is_legal, in_front}
-use Rattle.ux_model.proofs.ByPlace.{get_below, get_within, get_before, take_before}
-use Rattle.ux_model.proofs.Induction.{IsKept, kept_throughout, get_pushed, take_pushed}
-use Rattle.ux_model.proofs.Replays.{step_replay}
-use Rattle.ux_model.proofs.Moments.{moment}
-use Rattle.ux_model.proofs.Shows.{by_socket}
+use Rattle.ux_model.proofs.Lists.ChangedPlaces.{bool_cases, length-changed}
+use Rattle.ux_model.proofs.Changes.Walk.{either, maybe}
+use Rattle.ux_model.proofs.Lists.Fronts.{front_is_legal, in_front}
+use Rattle.ux_model.proofs.Lists.ByPlace.{get_below, get_within, get_before, take_before}
+use Rattle.ux_model.proofs.Lists.Induction.{IsKept, kept_throughout, get_pushed, take_pushed}
+use Rattle.ux_model.proofs.Steps.Replays.{step_replay}
+use Rattle.ux_model.proofs.Pedigrees.Moments.{moment}
+use Rattle.ux_model.proofs.Tables.Shows.{by_socket}
 use Rattle.ux_laws.specs.Talking.{if_found, is_number}
 use Rattle.ux_laws.specs.Credentials.{listening_cred, socket_behind, listens_on, IsCallBy, HasListened, IsPeersCred, of_maker, of_client}
 use Rattle.ux_laws.specs.Credentials.{of_listener, PeersAreTheMakers}
@@ -185,14 +185,16 @@ old_met : (boot : State) (es : List Entry) (e : Entry) (S : State) (d : ℕ) (q 
 old_met boot es e S d q all h = (
   (λ cred told. met_before boot es e d cred (all.peers d q cred h told)),
   (λ elsewhere cred told. later boot es e d cred elsewhere
-  (heard_before boot es e d (length es) cred (omega arith) (all.listeners d q cred h told))),
+      (heard_before boot es e d (length es) cred (omega arith) (all.listeners d q cred h told))),
 )
 
 -- nothing is known of whoever has neither
 none_met : (boot : State) (es : List Entry) (e : Entry) (d : ℕ) (q : SocketParts) → q.told ≡ None → q.tie.listener ≡ None →
     Met boot es e d q
-none_met boot es e d q told tie = ((λ cred h. let nobody : None ≡ Some cred = sym told ∙ h in absurd (cc nobody)),
-    (λ elsewhere cred h. let nobody : None ≡ Some cred = sym tie ∙ h in absurd (cc nobody)))
+none_met boot es e d q told tie = (
+  (λ cred h. let nobody : None ≡ Some cred = sym told ∙ h in absurd (cc nobody)),
+  (λ elsewhere cred h. let nobody : None ≡ Some cred = sym tie ∙ h in absurd (cc nobody)),
+)
 
 -- it has what another has
 alike_met : (boot : State) (es : List Entry) (e : Entry) (d : ℕ) (q r : SocketParts) → q.told ≡ r.told → q.tie.listener ≡ r.tie.listener →
@@ -277,13 +279,13 @@ did_met boot es e T d q all (pair_made kind flags P x y asked answered here k) h
               here)
               (subst (λ (U : State). (d ≡ next_description U) ⊎ (d ≡ suc (next_description U))) (sym (now_state boot es e)) number))),
           (λ elsewhere cred told. let nobody : None ≡ Some cred = sym (no_listener kind peer (own_cred e.pid.0 P))
-          ∙ ap (λ (r : SocketParts). r.tie.listener) same ∙ told in absurd (cc nobody)),
+              ∙ ap (λ (r : SocketParts). r.tie.listener) same ∙ told in absurd (cc nobody)),
         )
 did_met boot es e T d q all (listened fd backlog P t limit s asked answered here found there free k) h =
     ⊎_elim {C = Met boot es e d q}
     (λ w. (
       (λ cred told. met_before boot es e d cred
-      (all.peers d (socket_parts w.1) cred (seen_socket S d w.1 w.2) (sym (ap (λ (r : SocketParts). r.told) w.3) ∙ told))),
+          (all.peers d (socket_parts w.1) cred (seen_socket S d w.1 w.2) (sym (ap (λ (r : SocketParts). r.told) w.3) ∙ told))),
       (λ elsewhere cred told.
           let both : Some (own_cred e.pid.0 P) ≡ Some cred = sym (ap (λ (r : SocketParts). r.tie.listener) w.3) ∙ told in
           subst (λ (c : Cred). HasListened boot (es ++ e ∷ []) d (length (es ++ e ∷ [])) c) (cc both) (record {
@@ -337,7 +339,7 @@ did_met boot es e T d q all (connected fd addr P t l s other kept asked answered
               (of_client (length es) fd addr (called_now boot es e (Request.Connect fd addr) Reply.Ok P asked answered here)
               (subst (λ (V : State). d ≡ next_description V) (sym (now_state boot es e)) number))),
           (λ elsewhere cred told. let nobody : None ≡ Some cred = ap (λ (r : SocketParts). r.tie.listener) same ∙ told in
-          absurd (cc nobody)),
+              absurd (cc nobody)),
         )
 
     client : t ≡ d → (u : Socket) → q ≡ socket_parts (tied new kept.cred u) → Met boot es e d q
@@ -359,7 +361,7 @@ did_met boot es e T d q all (connected fd addr P t l s other kept asked answered
                 (all.listeners l (socket_parts other) kept.cred (seen_socket S l other at) (listener_cred other.phase kept is));
           }))),
       (λ elsewhere cred told. let nobody : None ≡ Some cred = sym (ap (λ (r : SocketParts). r.tie.listener) same) ∙ told in
-      absurd (cc nobody)),
+          absurd (cc nobody)),
     )
 did_met boot es e T d q all (put t m a k) h = changed_met boot es e (replay boot es) T t d (sent m) q all (λ s. refl) (λ s. refl) k h
 did_met boot es e T d q all (took t n s m ms a k) h =
@@ -540,5 +542,9 @@ peers_are_the_makers boot es j e fd cred legal at request reply =
     subst (λ (r : Request). Step (before boot es j) e.pid.0 j r e.reply e.released (before boot es (suc j))) request s in
     let w = step_tells (before boot es j) (before boot es (suc j)) e.pid.0 j fd e.reply e.released moved cred reply in
     let all = kept_throughout boot (AllMet boot) (met_kept boot) (take j es) (front_is_legal boot es j legal) in
-    record { number = w.0; on = w.2; of = met_in_front boot es j w.0 cred
-    (all.peers w.0 (socket_parts w.1) cred (seen_socket (before boot es j) w.0 w.1 w.3) w.4) }
+    record {
+      number = w.0;
+      on = w.2;
+      of = met_in_front boot es j w.0 cred
+          (all.peers w.0 (socket_parts w.1) cred (seen_socket (before boot es j) w.0 w.1 w.3) w.4);
+    }

@@ -14,17 +14,17 @@ use Rattle.ux_model.specs.Binding.{bind_to, bind}
 use Rattle.ux_model.specs.Options.{may_limit, change_option, set_opt}
 use Rattle.ux_model.specs.Closing.{off}
 use Rattle.ux_model.specs.Release.{without, is_unreferenced, drop_all, drop_rounds, drop_unreferenced, has_unreferenced, settled}
-use Rattle.ux_model.proofs.Losses.{description_after_loss}
+use Rattle.ux_model.proofs.Releasing.Losses.{description_after_loss}
 use Rattle.ux_model.specs.Step.{Step, outcome}
 use Rattle.ux_model.specs.History.{IsLegal}
 use Rattle.ux_model.specs.Giving.{description_of}
 use Rattle.ux_model.specs.Pedigree.{before}
-use Rattle.ux_model.proofs.Walk.{either, maybe}
-use Rattle.ux_model.proofs.ChangedPlaces.{bool_cases}
-use Rattle.ux_model.proofs.ReleaseLaws.{description_at-without}
-use Rattle.ux_model.proofs.Rising.{place_mapped}
-use Rattle.ux_model.proofs.Calls.{each_obeys}
-use Rattle.ux_model.proofs.Moments.{moment}
+use Rattle.ux_model.proofs.Changes.Walk.{either, maybe}
+use Rattle.ux_model.proofs.Lists.ChangedPlaces.{bool_cases}
+use Rattle.ux_model.proofs.Releasing.ReleaseLaws.{description_at-without}
+use Rattle.ux_model.proofs.Lists.Rising.{place_mapped}
+use Rattle.ux_model.proofs.Steps.Calls.{each_obeys}
+use Rattle.ux_model.proofs.Pedigrees.Moments.{moment}
 use Rattle.ux_laws.specs.Reach.{is_path, names_path, CallsLeavePathsAlone, AbstractNamesStay, AbstractNamesAreBound}
 use Rattle.ux_laws.proofs.Near.{by_own}
 use Rattle.ux_laws.proofs.LeftAlone.{Lost, stays_gone, rounds_lost, settled_lost}
@@ -186,10 +186,10 @@ unlink_left : (S : State) (p : ℕ) (path : Name) → NamesLeft S p (Request.Unl
 unfolding unlink
 unlink_left S p path = either Q (not (is_valid_path path)) _ _ (λ b. unchanged refl refl)
     (λ b. either Q (not (is_some (named path S.paths))) _ _ (λ b. unchanged refl refl) (λ b. record {
-  stay = λ x k h. inl h;
-  mine = λ x none. own_of_none (HasHere S p) x S.abstract_names none;
-  paths = λ other elsewhere. named_left path other S.paths elsewhere;
-}))
+      stay = λ x k h. inl h;
+      mine = λ x none. own_of_none (HasHere S p) x S.abstract_names none;
+      paths = λ other elsewhere. named_left path other S.paths elsewhere;
+    }))
   where
     Q : Outcome → Type 0
     Q o = NamesLeft S p (Request.Unlink path) o.next

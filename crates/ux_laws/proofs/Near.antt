@@ -34,7 +34,7 @@ use Rattle.ux_model.specs.Accepting.{accept_first, accept, phase_without_first_e
 use Rattle.ux_model.specs.Sending.{sending, message_of, flight_limit, is_over_limit, enqueue, is_too_long, send_connected, send_stream}
 use Rattle.ux_model.specs.Sending.{send_from, is_sendable_addr, is_sendable_control, sender_cred_refusal, sent_cred, send_as, send_read}
 use Rattle.ux_model.specs.Sending.{send_with, send_msg, descriptions_behind}
-use Rattle.ux_model.proofs.Datagrams.{send_to_target, send_by_association, send_by}
+use Rattle.ux_model.proofs.Messages.Datagrams.{send_to_target, send_by_association, send_by}
 use Rattle.ux_model.specs.Receiving.{Incoming, incoming, receive_front, receive, recv_msg}
 use Rattle.ux_model.specs.FileObjects.{holds_bytes, is_open_for}
 use Rattle.ux_model.specs.Opening.{open_file, file_description}
@@ -49,12 +49,13 @@ use Rattle.ux_model.specs.Forking.{fork, exec}
 use Rattle.ux_model.specs.Closing.{close, exit, off}
 use Rattle.ux_model.specs.Step.{outcome}
 use Rattle.ux_model.specs.Giving.{description_in, description_of}
-use Rattle.ux_model.proofs.Walk.{either, maybe, by_target, by_path, found, found_peer}
-use Rattle.ux_model.proofs.ChangedPlaces.{bool_cases, place-changed, length-changed}
-use Rattle.ux_model.proofs.NameCalls.{same_descriptions}
-use Rattle.ux_model.proofs.Rising.{place_mapped}
-use Rattle.ux_model.proofs.Shows.{by_receive, socket_found}
-use Rattle.ux_model.proofs.Calls.{each_obeys}
+use Rattle.ux_model.proofs.Changes.Walk.{either, maybe, by_target, by_path, found, found_peer}
+use Rattle.ux_model.proofs.Lists.ChangedPlaces.{bool_cases, place-changed, length-changed}
+use Rattle.ux_model.proofs.Steps.NameCalls.{same_descriptions}
+use Rattle.ux_model.proofs.Lists.Rising.{place_mapped}
+use Rattle.ux_model.proofs.Tables.MessageShows.{by_receive}
+use Rattle.ux_model.proofs.Tables.Shows.{socket_found}
+use Rattle.ux_model.proofs.Steps.Calls.{each_obeys}
 use Rattle.ux_laws.specs.Reach.{asked_addr, IsInReach, held, tied, pending, named}
 use Rattle.ux_laws.proofs.Doing.{by_addr}
 
@@ -210,8 +211,14 @@ near_by {S} {p} {request} T t change near reach resets = record {
     kept (Some D) = resets D
 
     keeps_on : (old x y : Option Description) → Keeps request old x → Keeps request x y → Keeps request old y
-    keeps_on old x y a b = (λ h. a.0 (b.0 h), λ elsewhere. b.1 elsewhere ∙ a.1 elsewhere, λ other h. b.2 other (a.2 other h), λ set. b.3 set
-        ∙ a.3 set, λ apart h. b.4 apart (a.4 apart h))
+    keeps_on old x y a b = (
+      λ h. a.0 (b.0 h),
+      λ elsewhere. b.1 elsewhere ∙ a.1 elsewhere,
+      λ other h. b.2 other (a.2 other h),
+      λ set. b.3 set
+          ∙ a.3 set,
+      λ apart h. b.4 apart (a.4 apart h),
+    )
 
     both : (d : ℕ) (x : Option Description) → Keeps request (description_at S d) x → IsInReach S p request d ⊎ (length S.descriptions ≤ d) →
         NearAt S p request d (option_map change x)
@@ -220,8 +227,14 @@ near_by {S} {p} {request} T t change near reach resets = record {
 
     at_place : (d : ℕ) {x : Option Description} → NearAt S p request d x → IsInReach S p request d ⊎ (length S.descriptions ≤ d) →
         NearAt S p request d (option_map change x)
-    at_place d {x} (stays is) r = both d x (λ h. sym (ap reset_in is) ∙ h, λ elsewhere. ap shut_in is, λ other h. ap awaits_in is
-        ∙ h, λ set. ap limit_in is, λ apart h. ap full_in is ∙ h) r
+    at_place d {x} (stays is) r = both d x (
+      λ h. sym (ap reset_in is) ∙ h,
+      λ elsewhere. ap shut_in is,
+      λ other h. ap awaits_in is
+          ∙ h,
+      λ set. ap limit_in is,
+      λ apart h. ap full_in is ∙ h,
+    ) r
     at_place d {x} (reached q still) r = both d x still r
     at_place d {x} (new more still) r = both d x still r
     at_place d {x} (gone is) r = gone (ap (λ y. option_map change y) is)
@@ -255,10 +268,15 @@ near_put {S} {p} {request} d D E here same reach = record {
       let is : description_at (with_description S d E) i ≡ Some E = ap (λ (k : ℕ). place (filled S.descriptions d E) k) (sym at)
       ∙ put_there S.descriptions d here in
       let was : description_at S i ≡ Some D = ap (λ (k : ℕ). description_at S k) (sym at) ∙ here in
-      reached (subst (IsInReach S p request) at reach)
-      (λ h. ap reset_in was ∙ sym (ap reset_of same) ∙ sym (ap reset_in is) ∙ h, λ elsewhere. ap shut_in is ∙ ap shut_of same
-      ∙ sym (ap shut_in was), λ other h. ap awaits_in is ∙ ap awaits_of same ∙ sym (ap awaits_in was) ∙ h, λ set. ap limit_in is
-      ∙ ap limit_of same ∙ sym (ap limit_in was), λ apart h. ap full_in is ∙ ap full_of same ∙ sym (ap full_in was) ∙ h))
+      reached (subst (IsInReach S p request) at reach) (
+        λ h. ap reset_in was ∙ sym (ap reset_of same) ∙ sym (ap reset_in is) ∙ h,
+        λ elsewhere. ap shut_in is ∙ ap shut_of same
+            ∙ sym (ap shut_in was),
+        λ other h. ap awaits_in is ∙ ap awaits_of same ∙ sym (ap awaits_in was) ∙ h,
+        λ set. ap limit_in is
+            ∙ ap limit_of same ∙ sym (ap limit_in was),
+        λ apart h. ap full_in is ∙ ap full_of same ∙ sym (ap full_in was) ∙ h,
+      ))
       (λ e. stays (get_or-set_other S.descriptions d i (Some E) None (λ k. eqb-false d i e (sym k))));
 }
   where
@@ -293,11 +311,15 @@ near_new {S} {p} {request} T D near more none open_both first = record {
       let is : description_at (with_new T D) d ≡ Some D = ap (λ (k : ℕ). description_at (with_new T D) k) (sym at)
       ∙ pushed_here T.descriptions (Some D) in
       let beyond : length S.descriptions ≤ d = omega (arith, more, at) in
-      new beyond (λ h. absurd (false≢true (sym none ∙ sym (ap reset_in is) ∙ h)), λ elsewhere. ap shut_in is ∙ open_both
-      ∙ sym (ap shut_in (none_past S.descriptions d beyond)),
-      λ other h. absurd (false≢true (sym (ap awaits_in (none_past S.descriptions d beyond)) ∙ h)), λ set. ap limit_in is ∙ first
-      ∙ sym (ap limit_in (none_past S.descriptions d beyond)),
-      λ apart h. absurd (false≢true (sym (ap full_in (none_past S.descriptions d beyond)) ∙ h))))
+      new beyond (
+        λ h. absurd (false≢true (sym none ∙ sym (ap reset_in is) ∙ h)),
+        λ elsewhere. ap shut_in is ∙ open_both
+            ∙ sym (ap shut_in (none_past S.descriptions d beyond)),
+        λ other h. absurd (false≢true (sym (ap awaits_in (none_past S.descriptions d beyond)) ∙ h)),
+        λ set. ap limit_in is ∙ first
+            ∙ sym (ap limit_in (none_past S.descriptions d beyond)),
+        λ apart h. absurd (false≢true (sym (ap full_in (none_past S.descriptions d beyond)) ∙ h)),
+      ))
       (λ e. subst (NearAt S p request d) (sym (pushed_other T.descriptions (Some D) d (eqb-false (length T.descriptions) d e)))
       (near.each d));
 }
@@ -305,8 +327,10 @@ near_new {S} {p} {request} T D near more none open_both first = record {
 near_table : {S : State} {p : ℕ} {request : Request} (T : State) (q : ℕ) (table : List (Option Descriptor)) → Near S p request T →
     Near S p request (with_table T q table)
 near_table {S} {p} {request} T q table near =
-    record { each = λ d. subst (NearAt S p request d)
-    (ap (λ (ds : List (Option Description)). place ds d) (sym (same_descriptions T q table))) (near.each d) }
+    record {
+      each = λ d. subst (NearAt S p request d)
+          (ap (λ (ds : List (Option Description)). place ds d) (sym (same_descriptions T q table))) (near.each d);
+    }
 
 still : {S : State} {p : ℕ} {request : Request} → Near S p request S
 still = near_same refl
@@ -329,8 +353,11 @@ by_own Q S p request fd rest bad rest_of = go (find_socket S p fd) refl
           | None ↦ Err Errno.EBADF
           | Some e ↦ elim (description_at S e.description) as
               (λ _. Result (Descriptor × Description) Errno) [ None ↦ Err Errno.EBADF | Some D ↦ Ok (e, D) ]
-        ]) as (λ _. Result (ℕ × Socket) Errno) [ Err f ↦ Err f | Ok w ↦ elim (socket_of w.1.target) as
-        (λ _. Result (ℕ × Socket) Errno) [ None ↦ Err Errno.ENOTSOCK | Some s ↦ Ok (w.0.description, s) ] ]) ≡ Ok (d, s) →
+        ]) as (λ _. Result (ℕ × Socket) Errno) [
+          | Err f ↦ Err f
+          | Ok w ↦ elim (socket_of w.1.target) as
+              (λ _. Result (ℕ × Socket) Errno) [ None ↦ Err Errno.ENOTSOCK | Some s ↦ Ok (w.0.description, s) ]
+        ]) ≡ Ok (d, s) →
         description_of S p fd.0 ≡ Some d
     number d s None g h = absurd (cc h)
     number d s (Some e) g h = ap description_in g ∙ ap Some (at_place (description_at S e.description) h)
@@ -342,8 +369,11 @@ by_own Q S p request fd rest bad rest_of = go (find_socket S p fd) refl
 
         at_place : (x : Option Description) →
             (elim (elim x as (λ _. Result (Descriptor × Description) Errno) [ None ↦ Err Errno.EBADF | Some D ↦ Ok (e, D) ]) as
-            (λ _. Result (ℕ × Socket) Errno) [ Err f ↦ Err f | Ok w ↦ elim (socket_of w.1.target) as
-            (λ _. Result (ℕ × Socket) Errno) [ None ↦ Err Errno.ENOTSOCK | Some s ↦ Ok (w.0.description, s) ] ]) ≡ Ok (d, s) →
+            (λ _. Result (ℕ × Socket) Errno) [
+              | Err f ↦ Err f
+              | Ok w ↦ elim (socket_of w.1.target) as
+                  (λ _. Result (ℕ × Socket) Errno) [ None ↦ Err Errno.ENOTSOCK | Some s ↦ Ok (w.0.description, s) ]
+            ]) ≡ Ok (d, s) →
             e.description ≡ d
         at_place None h = absurd (cc h)
         at_place (Some D) h = at_target (socket_of D.target) h
@@ -509,8 +539,13 @@ listen_near S p fd backlog = maybe Q (process_at S p) _ _ still (λ P here. by_o
     (λ b. either Q (is_some (peer_of s.phase)) _ _ (λ c. still)
     (λ c. either Q (is_unnamed_addr s.name) _ _ (λ f. still)
     (λ f. near_socket S d (with_listening (backlog_of backlog) (own_cred p P)) still (inl (held fd.0 mine))
-    (λ s. (λ h. h, λ elsewhere. refl, λ other h. awaits_again (backlog_of backlog) (own_cred p P) s.phase h, λ set. refl,
-    λ apart h. absurd (false≢true (sym apart)))))))))
+    (λ s. (
+      λ h. h,
+      λ elsewhere. refl,
+      λ other h. awaits_again (backlog_of backlog) (own_cred p P) s.phase h,
+      λ set. refl,
+      λ apart h. absurd (false≢true (sym apart)),
+    )))))))
   where
     Q : Outcome → Type 0
     Q o = Near S p (Request.Listen fd backlog) o.next
@@ -536,8 +571,13 @@ connect_near S p fd addr = maybe Q (process_at S p) _ _ still (λ P here. by_own
     associates : (d : ℕ) (target : Option ℕ) → description_of S p fd.0 ≡ Some d →
         Near S p (Request.Connect fd addr) (with_socket_by S d (with_association target))
     associates d target mine = near_socket S d (with_association target) still (inl (held fd.0 mine))
-        (λ s. (λ h. h, λ elsewhere. refl, λ other h. absurd (false≢true (sym other)), λ set. refl,
-        λ apart h. absurd (false≢true (sym apart))))
+        (λ s. (
+          λ h. h,
+          λ elsewhere. refl,
+          λ other h. absurd (false≢true (sym other)),
+          λ set. refl,
+          λ apart h. absurd (false≢true (sym apart)),
+        ))
 
     datagram : (d : ℕ) → description_of S p fd.0 ≡ Some d → (kind : SockType) →
         Near S p (Request.Connect fd addr) (connect_datagram S d kind addr).next
@@ -557,10 +597,20 @@ connect_near S p fd addr = maybe Q (process_at S p) _ _ still (λ P here. by_own
         let long = length-changed S.descriptions l (changed (awaiting e)) in
         near_socket (with_new U D) d (tied_by e kept.cred)
         (near_new U D (near_socket S l (awaiting e) still (inl (named kind addr other refl is))
-        (λ s. (λ h. h, λ elsewhere. refl, λ other h. absurd (false≢true (sym other)), λ set. refl,
-        λ apart h. absurd (false≢true (sym apart))))) (omega (arith, long)) refl refl refl) (inl (held fd.0 mine))
-        (λ s. (λ h. h, λ elsewhere. refl, λ other h. absurd (false≢true (sym other)), λ set. refl,
-        λ apart h. absurd (false≢true (sym apart))))))
+        (λ s. (
+          λ h. h,
+          λ elsewhere. refl,
+          λ other h. absurd (false≢true (sym other)),
+          λ set. refl,
+          λ apart h. absurd (false≢true (sym apart)),
+        ))) (omega (arith, long)) refl refl refl) (inl (held fd.0 mine))
+        (λ s. (
+          λ h. h,
+          λ elsewhere. refl,
+          λ other h. absurd (false≢true (sym other)),
+          λ set. refl,
+          λ apart h. absurd (false≢true (sym apart)),
+        ))))
 
     stream : (d : ℕ) → description_of S p fd.0 ≡ Some d → (s : Socket) (cred : Cred) →
         Near S p (Request.Connect fd addr) (connect_stream S d s addr cred).next

@@ -17,12 +17,12 @@ use Rattle.ux_model.specs.Boot.{IsBootState}
 use Rattle.ux_model.specs.Step.{Step, outcome}
 use Rattle.ux_model.specs.History.{replay, makes, IsLegal}
 use Rattle.ux_model.specs.Pedigree.{before, delivered, IsFrom, IsChain, first, onward}
-use Rattle.ux_model.proofs.Walk.{either, maybe, by_target, found}
-use Rattle.ux_model.proofs.Fronts.{front_is_legal, in_front}
-use Rattle.ux_model.proofs.Induction.{IsKept, kept_throughout}
-use Rattle.ux_model.proofs.Replays.{step_replay}
-use Rattle.ux_model.proofs.Moments.{moment, given_cases}
-use Rattle.ux_model.proofs.Passing.{how_receives}
+use Rattle.ux_model.proofs.Changes.Walk.{either, maybe, by_target, found}
+use Rattle.ux_model.proofs.Lists.Fronts.{front_is_legal, in_front}
+use Rattle.ux_model.proofs.Lists.Induction.{IsKept, kept_throughout}
+use Rattle.ux_model.proofs.Steps.Replays.{step_replay}
+use Rattle.ux_model.proofs.Pedigrees.Moments.{moment, given_cases}
+use Rattle.ux_model.proofs.Pedigrees.Passing.{how_receives}
 use Rattle.ux_laws.specs.Talking.{if_found}
 use Rattle.ux_laws.specs.Files.{body_in, body_at, object_behind, HasWay, IsChange, by_write, by_read, ChangesHaveAWay, ReadsHaveAWay}
 use Rattle.ux_laws.specs.Files.{FilesKeepTheirPath, WereSentNothing, AreStrangers, StrangersHaveNoWay, StrangersChangeNothing}

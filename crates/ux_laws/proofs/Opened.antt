@@ -20,16 +20,16 @@ use Rattle.ux_model.specs.Giving.{held_at, is_held, description_in, description_
 use Rattle.ux_model.specs.Changes.{sources}
 use Rattle.ux_model.specs.Pedigree.{before, delivered, IsGiven, IsChain, first, onward, IsPedigree}
 use Rattle.ux_model.specs.PedigreeLaws.{LeadsTo}
-use Rattle.ux_model.proofs.Walk.{found}
-use Rattle.ux_model.proofs.ChangedPlaces.{bool_cases, place_within, length-changed}
-use Rattle.ux_model.proofs.OnePlace.{same_at}
-use Rattle.ux_model.proofs.Fronts.{front_is_legal}
-use Rattle.ux_model.proofs.ByPlace.{get_below, get_within}
-use Rattle.ux_model.proofs.Dangling.{nothing_dangles}
-use Rattle.ux_model.proofs.Moments.{moment}
-use Rattle.ux_model.proofs.Passing.{given_there, own_number, how_fork}
-use Rattle.ux_model.proofs.OneDescription.{pedigree_is_of_one}
-use Rattle.ux_model.proofs.Shows.{socket_found}
+use Rattle.ux_model.proofs.Changes.Walk.{found}
+use Rattle.ux_model.proofs.Lists.ChangedPlaces.{bool_cases, place_within, length-changed}
+use Rattle.ux_model.proofs.Lists.OnePlace.{same_at}
+use Rattle.ux_model.proofs.Lists.Fronts.{front_is_legal}
+use Rattle.ux_model.proofs.Lists.ByPlace.{get_below, get_within}
+use Rattle.ux_model.proofs.Invariants.Dangling.{nothing_dangles}
+use Rattle.ux_model.proofs.Pedigrees.Moments.{moment}
+use Rattle.ux_model.proofs.Pedigrees.Passing.{given_there, own_number, how_fork}
+use Rattle.ux_model.proofs.Pedigrees.OneDescription.{pedigree_is_of_one}
+use Rattle.ux_model.proofs.Tables.Shows.{socket_found}
 use Rattle.ux_laws.specs.Files.{IsOpening, HasWay}
 use Rattle.ux_laws.proofs.Parts.{Glance, glance, glance_target, glance_at, glance_socket, glance_new, Shrinks}
 use Rattle.ux_laws.proofs.Acts.{Did, quiet, opened, one_made, pair_made, listened, tied_to, connected, put, took}
@@ -67,8 +67,10 @@ changed_leads S t d change x h = sym (same_at
 new_leads : (S : State) (D : Description) (d : ℕ) (x : ℕ × Mode) → Leads (with_new S D) d x →
     Leads S d x ⊎ ((d ≡ length S.descriptions) × ((glance (Some D)).1 ≡ Some x))
 new_leads S D d x h = bool_cases (length S.descriptions == d)
-    (λ e. inr (sym (eqb-true (length S.descriptions) d e),
-    sym (ap (λ (g : Glance). g.1) (glance_new S D d ∙ ap (λ b. cond b (glance (Some D)) (glance_at S d)) e)) ∙ h))
+    (λ e. inr (
+      sym (eqb-true (length S.descriptions) d e),
+      sym (ap (λ (g : Glance). g.1) (glance_new S D d ∙ ap (λ b. cond b (glance (Some D)) (glance_at S d)) e)) ∙ h,
+    ))
     (λ e. inl (sym (ap (λ (g : Glance). g.1) (glance_new S D d ∙ ap (λ b. cond b (glance (Some D)) (glance_at S d)) e)) ∙ h))
 
 -- a new socket leads to none
@@ -187,8 +189,15 @@ pub chain_begins : (boot : State) (es : List Entry) (chain : List Link) (a : Lin
 chain_begins boot es chain a (first b e g made) = record { first = b; rest = []; is = refl; call = e; given = g; made = made }
 chain_begins boot es chain a (onward {chain = xs} c b e giving leads stands g from) =
     let w = chain_begins boot es xs c leads in
-    record { first = w.first; rest = w.rest ++ b ∷ []; is = ap (λ (l : List Link). l ++ b ∷ []) w.is; call = w.call; given = w.given; made =
-    w.made }
+    record {
+      first = w.first;
+      rest = w.rest ++ b ∷ [];
+      is = ap (λ (l : List Link). l ++ b ∷ []) w.is;
+      call = w.call;
+      given = w.given;
+      made =
+          w.made;
+    }
 
 -- what a call that makes something gives led nowhere before, or is an end of a connection
 no_file_before : (boot : State) (es : List Entry) (k i d : ℕ) (e : Entry) (x : ℕ × Mode) (tag : Option ℕ) → IsLegal boot es →
@@ -294,8 +303,17 @@ first_opened boot es allows o d p n mode chain legal ped leads_to_d file_at may 
           let pair_is : (o, mode) ≡ (v.3, v.1) = v.6 in
           let object : o ≡ v.3 = ap (λ (x : ℕ × Mode). x.0) pair_is in
           let mode_is : mode ≡ v.1 = ap (λ (x : ℕ × Mode). x.1) pair_is in
-          record { call = e; path = v.0; mode = v.1; flags = v.2; there = at; asked = v.4; leads = v.5
-          ∙ sym (ap (λ (i : ℕ). Some (file i)) object); allowed = sym (ap allows mode_is) ∙ may })
+          record {
+            call = e;
+            path = v.0;
+            mode = v.1;
+            flags = v.2;
+            there = at;
+            asked = v.4;
+            leads = v.5
+                ∙ sym (ap (λ (i : ℕ). Some (file i)) object);
+            allowed = sym (ap allows mode_is) ∙ may;
+          })
           (did_leads (before boot es k) (before boot es (suc k)) e.pid.0 k e.request e.reply d (o, mode) (did_at boot es k e legal at)
           then_file),
     )

@@ -11,9 +11,9 @@ use Rattle.ux_model.specs.Socket.{is_stream, sent_part, stream_room, sent, with_
 use Rattle.ux_model.specs.State.{State, socket_at}
 use Rattle.ux_model.specs.Step.{Step, after}
 use Rattle.ux_model.specs.History.{replay}
-use Rattle.ux_model.proofs.ChangedPlaces.{bool_cases}
-use Rattle.ux_model.proofs.Induction.{IsKept, kept_throughout}
-use Rattle.ux_model.proofs.Replays.{step_replay}
+use Rattle.ux_model.proofs.Lists.ChangedPlaces.{bool_cases}
+use Rattle.ux_model.proofs.Lists.Induction.{IsKept, kept_throughout}
+use Rattle.ux_model.proofs.Steps.Replays.{step_replay}
 use Rattle.ux_laws.specs.Gathering.{gather_from}
 use Rattle.ux_laws.specs.Talking.{offered_bytes, is_peek, socket_through, sends_to, receives_through}
 use Rattle.ux_laws.specs.Records.{Packet, packet_of, name_of_sender, packet_sent, is_count, is_given, oldest_at, sent_packet, taken_packet}
@@ -101,9 +101,11 @@ flow_balance : (S T : State) (p n : ℕ) (request : Request) (reply : Reply) (d 
     IsAt of_records S d × Balance n S T d p request reply
 flow_balance S T p n request reply d (calm V c moves sh) at =
     let a = at_shrunk of_records V T d sh at in
-    let here = at_calm of_records S V d c a.0 in
-    (here, still_balance n S T d p request reply (calm_out n S d p request reply moves here) (calm_in S d p request reply moves here)
-    (a.1 ∙ c.waiting d))
+    let here = at_calm of_records S V d c a.0 in (
+      here,
+      still_balance n S T d p request reply (calm_out n S d p request reply moves here) (calm_in S d p request reply moves here)
+          (a.1 ∙ c.waiting d),
+    )
 flow_balance S T p n request reply d (put_in t m a sh) at =
     let b = at_shrunk of_records _ T d sh at in
     let told = count_no_gift reply _ a.answered in
@@ -195,8 +197,11 @@ record AllInOrder (boot : State) (es : List Entry) (S : State) : Type 0 where
 
 order_kept : (boot : State) → IsKept boot (AllInOrder boot)
 order_kept boot = record {
-  at_boot = λ boots. record { reached = refl; each =
-      λ d at. sym (ap (λ ds. map packet_of (waiting_in (glance (place ds d)).0)) boots.no_descriptions) };
+  at_boot = λ boots. record {
+    reached = refl;
+    each =
+        λ d at. sym (ap (λ ds. map packet_of (waiting_in (glance (place ds d)).0)) boots.no_descriptions);
+  };
   by_entry = λ es e S T so_far step may. further es e S T so_far step;
 }
   where

@@ -18,11 +18,11 @@ use Rattle.ux_model.specs.State.{with_new}
 use Rattle.ux_model.specs.Accepting.{phase_without_first_end, without_first_end}
 use Rattle.ux_model.specs.Release.{place_after_loss, without, is_unreferenced, drop_all, drop_rounds, drop_unreferenced, has_unreferenced}
 use Rattle.ux_model.specs.Release.{settled}
-use Rattle.ux_model.proofs.Losses.{target_after_loss, description_after_loss}
-use Rattle.ux_model.proofs.ReleaseLaws.{description_at-without}
-use Rattle.ux_model.proofs.ChangedPlaces.{bool_cases, place-changed, length-changed}
-use Rattle.ux_model.proofs.OnePlace.{same_at}
-use Rattle.ux_model.proofs.NameCalls.{same_descriptions}
+use Rattle.ux_model.proofs.Releasing.Losses.{target_after_loss, description_after_loss}
+use Rattle.ux_model.proofs.Releasing.ReleaseLaws.{description_at-without}
+use Rattle.ux_model.proofs.Lists.ChangedPlaces.{bool_cases, place-changed, length-changed}
+use Rattle.ux_model.proofs.Lists.OnePlace.{same_at}
+use Rattle.ux_model.proofs.Steps.NameCalls.{same_descriptions}
 use Rattle.ux_laws.specs.Credentials.{listening_cred}
 
 pub record PhaseParts : Type 0 where
@@ -89,8 +89,11 @@ pub record Kept (S U : State) : Type 0 where
   pub long : length U.descriptions ≡ length S.descriptions
 
 pub kept_same : (S U : State) → U.descriptions ≡ S.descriptions → Kept S U
-kept_same S U same = record { each = λ d. ap (λ (ds : List (Option Description)). glance (place ds d)) same; long =
-    ap (λ (ds : List (Option Description)). length ds) same }
+kept_same S U same = record {
+  each = λ d. ap (λ (ds : List (Option Description)). glance (place ds d)) same;
+  long =
+      ap (λ (ds : List (Option Description)). length ds) same;
+}
 
 pub kept_after : (S T U : State) → Kept S T → Kept T U → Kept S U
 kept_after S T U k l = record { each = λ d. l.each d ∙ k.each d; long = l.long ∙ k.long }
@@ -276,8 +279,10 @@ seen_changed S t d change q h = bool_cases (t == d)
 pub seen_new : (S : State) (D : Description) (d : ℕ) (q : SocketParts) → Seen (with_new S D) d q →
     ((d ≡ length S.descriptions) × ((glance (Some D)).0 ≡ Some q)) ⊎ Seen S d q
 seen_new S D d q h = bool_cases (length S.descriptions == d)
-    (λ e. inl (sym (eqb-true (length S.descriptions) d e),
-    sym (ap (λ (g : Glance). g.0) (glance_new S D d ∙ ap (λ b. cond b (glance (Some D)) (glance_at S d)) e)) ∙ h))
+    (λ e. inl (
+      sym (eqb-true (length S.descriptions) d e),
+      sym (ap (λ (g : Glance). g.0) (glance_new S D d ∙ ap (λ b. cond b (glance (Some D)) (glance_at S d)) e)) ∙ h,
+    ))
     (λ e. inr (sym (ap (λ (g : Glance). g.0) (glance_new S D d ∙ ap (λ b. cond b (glance (Some D)) (glance_at S d)) e)) ∙ h))
 
 pub seen_shrunk : (V T : State) (d : ℕ) (q : SocketParts) → Shrinks V T → Seen T d q → Seen V d q

@@ -26,7 +26,7 @@ use Rattle.ux_model.specs.Accepting.{accept_first, accept}
 use Rattle.ux_model.specs.Sending.{Sending, sending, descriptions_behind, message_of, flight_limit, is_over_limit, enqueue, is_too_long}
 use Rattle.ux_model.specs.Sending.{send_to_peer, send_stream, send_from, is_sendable_addr, is_sendable_control, sender_cred_refusal}
 use Rattle.ux_model.specs.Sending.{sent_cred, send_as, send_with, send_read, send_msg}
-use Rattle.ux_model.proofs.Datagrams.{send_to_target, send_by_association, send_by}
+use Rattle.ux_model.proofs.Messages.Datagrams.{send_to_target, send_by_association, send_by}
 use Rattle.ux_model.specs.Receiving.{Incoming, incoming, at_end, receive_nothing, receive_front, receive, read_socket, recv_msg}
 use Rattle.ux_model.specs.Receiving.{bytes_alone}
 use Rattle.ux_model.specs.FileObjects.{holds_bytes, is_open_for}
@@ -41,7 +41,7 @@ use Rattle.ux_model.specs.Users.{no_id, may_become, set_ids}
 use Rattle.ux_model.specs.Forking.{fork, exec}
 use Rattle.ux_model.specs.Closing.{close, exit, off}
 use Rattle.ux_model.specs.Step.{Step, outcome}
-use Rattle.ux_model.proofs.Walk.{either, maybe, by_target, by_path, by_queue, found, found_socket, found_named, found_peer}
+use Rattle.ux_model.proofs.Changes.Walk.{either, maybe, by_target, by_path, by_queue, found, found_socket, found_named, found_peer}
 use Rattle.ux_laws.specs.ReplyKinds.{is_done, is_fd, is_fds, is_count, is_bytes, is_offset, is_message, is_accepted, is_addr, is_value}
 use Rattle.ux_laws.specs.ReplyKinds.{is_cred, is_ready, is_child, is_flags, is_refusal, option_kind, kind_of, RepliesAreOfTheirKind}
 

@@ -15,14 +15,14 @@ use Rattle.ux_model.specs.Forking.{exec}
 use Rattle.ux_model.specs.Closing.{close, exit}
 use Rattle.ux_model.specs.Release.{resets_peer, without, is_unreferenced, drop_all, drop_rounds, drop_unreferenced, has_unreferenced}
 use Rattle.ux_model.specs.Release.{settled}
-use Rattle.ux_model.proofs.Losses.{is_reset_by_loss, target_after_loss, description_after_loss}
+use Rattle.ux_model.proofs.Releasing.Losses.{is_reset_by_loss, target_after_loss, description_after_loss}
 use Rattle.ux_model.specs.Step.{Step, outcome}
 use Rattle.ux_model.specs.Pedigree.{before}
-use Rattle.ux_model.proofs.ReleaseLaws.{description_at-without}
-use Rattle.ux_model.proofs.Walk.{either, maybe, found}
-use Rattle.ux_model.proofs.NameCalls.{same_descriptions}
-use Rattle.ux_model.proofs.Calls.{each_obeys}
-use Rattle.ux_model.proofs.Moments.{moment}
+use Rattle.ux_model.proofs.Releasing.ReleaseLaws.{description_at-without}
+use Rattle.ux_model.proofs.Changes.Walk.{either, maybe, found}
+use Rattle.ux_model.proofs.Steps.NameCalls.{same_descriptions}
+use Rattle.ux_model.proofs.Steps.Calls.{each_obeys}
+use Rattle.ux_model.proofs.Pedigrees.Moments.{moment}
 use Rattle.ux_laws.specs.Ends.{is_closing, LossesReset}
 use Rattle.ux_laws.proofs.LeftAlone.{Lost, same, lost, reset, stays_gone, rounds_lost}
 

@@ -27,11 +27,11 @@ use Rattle.ux_model.specs.Options.{may_limit, change_option, set_opt}
 use Rattle.ux_model.specs.Release.{settled}
 use Rattle.ux_model.specs.Step.{Step, outcome}
 use Rattle.ux_model.specs.Pedigree.{before}
-use Rattle.ux_model.proofs.Walk.{either, maybe}
-use Rattle.ux_model.proofs.ChangedPlaces.{bool_cases, place-changed}
-use Rattle.ux_model.proofs.Calls.{each_obeys}
-use Rattle.ux_model.proofs.Moments.{moment}
-use Rattle.ux_model.proofs.Shows.{by_socket}
+use Rattle.ux_model.proofs.Changes.Walk.{either, maybe}
+use Rattle.ux_model.proofs.Lists.ChangedPlaces.{bool_cases, place-changed}
+use Rattle.ux_model.proofs.Steps.Calls.{each_obeys}
+use Rattle.ux_model.proofs.Pedigrees.Moments.{moment}
+use Rattle.ux_model.proofs.Tables.Shows.{by_socket}
 use Rattle.ux_laws.specs.Talking.{is_peek, socket_through, is_number, receives_through}
 use Rattle.ux_laws.specs.Records.{is_given}
 use Rattle.ux_laws.specs.Credentials.{socket_behind}

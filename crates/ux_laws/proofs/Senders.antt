@@ -20,14 +20,15 @@ use Rattle.ux_model.specs.Boot.{IsBootState}
 use Rattle.ux_model.specs.Step.{Step, outcome}
 use Rattle.ux_model.specs.History.{replay, IsLegal}
 use Rattle.ux_model.specs.Pedigree.{before}
-use Rattle.ux_model.proofs.Walk.{either}
-use Rattle.ux_model.proofs.FrontRights.{run_front}
-use Rattle.ux_model.proofs.Fronts.{front_is_legal, in_front}
-use Rattle.ux_model.proofs.ByPlace.{get_below, get_before, take_before, take_few, length_front}
-use Rattle.ux_model.proofs.Induction.{IsKept, kept_throughout, get_pushed, take_pushed}
-use Rattle.ux_model.proofs.Replays.{step_replay}
-use Rattle.ux_model.proofs.Moments.{moment}
-use Rattle.ux_model.proofs.Shows.{by_socket, by_receive}
+use Rattle.ux_model.proofs.Changes.Walk.{either}
+use Rattle.ux_model.proofs.Messages.FrontRights.{run_front}
+use Rattle.ux_model.proofs.Lists.Fronts.{front_is_legal, in_front}
+use Rattle.ux_model.proofs.Lists.ByPlace.{get_below, get_before, take_before, take_few, length_front}
+use Rattle.ux_model.proofs.Lists.Induction.{IsKept, kept_throughout, get_pushed, take_pushed}
+use Rattle.ux_model.proofs.Steps.Replays.{step_replay}
+use Rattle.ux_model.proofs.Pedigrees.Moments.{moment}
+use Rattle.ux_model.proofs.Tables.Shows.{by_socket}
+use Rattle.ux_model.proofs.Tables.MessageShows.{by_receive}
 use Rattle.ux_laws.specs.Talking.{socket_through}
 use Rattle.ux_laws.specs.Credentials.{SentWith, IsHonest, no_cred, of_sender, CredentialsAreTheSenders}
 use Rattle.ux_laws.proofs.Doing.{through_is, same_creds}

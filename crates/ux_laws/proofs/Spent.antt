@@ -15,12 +15,12 @@ use Rattle.ux_model.specs.Boot.{IsBootState}
 use Rattle.ux_model.specs.Step.{Step}
 use Rattle.ux_model.specs.History.{replay}
 use Rattle.ux_model.specs.Pedigree.{before, delivered}
-use Rattle.ux_model.proofs.ChangedPlaces.{bool_cases}
-use Rattle.ux_model.proofs.Appending.{get_push}
-use Rattle.ux_model.proofs.ByPlace.{get_below, get_before, take_before}
-use Rattle.ux_model.proofs.Induction.{IsKept, kept_throughout, get_pushed, take_pushed}
-use Rattle.ux_model.proofs.Replays.{step_replay}
-use Rattle.ux_model.proofs.Moments.{moment}
+use Rattle.ux_model.proofs.Lists.ChangedPlaces.{bool_cases}
+use Rattle.ux_model.proofs.Lists.Appending.{get_push}
+use Rattle.ux_model.proofs.Lists.ByPlace.{get_below, get_before, take_before}
+use Rattle.ux_model.proofs.Lists.Induction.{IsKept, kept_throughout, get_pushed, take_pushed}
+use Rattle.ux_model.proofs.Steps.Replays.{step_replay}
+use Rattle.ux_model.proofs.Pedigrees.Moments.{moment}
 use Rattle.ux_laws.specs.Talking.{is_peek, given_bytes, request_addr, goes_to, destination}
 use Rattle.ux_laws.specs.Rights.{TakesRights, RightsComeOnce, RightsComeWithTheirMessage}
 use Rattle.ux_laws.proofs.Parts.{glance, Shrinks}
@@ -157,7 +157,7 @@ took_cases boot es e i tag t = bool_cases (nat_lt i (length es))
       at,
       sym (ap (λ (x : Entry). is_peek x.request) same) ∙ t.takes,
       sym (ap (λ (l : List Entry). delivered (replay boot l) e) (ap (λ (k : ℕ). take k (es ++ e ∷ [])) at ∙ take_pushed es (e ∷ [])))
-      ∙ sym (ap (λ (x : Entry). delivered (before boot (es ++ e ∷ []) i) x) same) ∙ t.told,
+          ∙ sym (ap (λ (x : Entry). delivered (before boot (es ++ e ∷ []) i) x) same) ∙ t.told,
     ))
 
 rises_flow : (S T : State) (p tag : ℕ) (request : Request) (reply : Reply) (d : ℕ) → Flow S p tag request reply T →
@@ -203,9 +203,12 @@ rich_came S T p tag request reply d k m (put_in t x a sh) h rich = bool_cases (t
     ⊎_elim {C = ((j : ℕ) × (slice_get (waiting_at S d) j ≡ Some m)) ⊎ (m.tag ≡ tag)} (λ old. inl (k, ap (λ q. slice_get q k) queue ∙ old.0))
     (λ new. inr (ap (λ (w : Message). w.tag) new.0 ∙ a.tagged))
     (get_push a.target.queue (sent_part a.target x) m k there))
-    (λ e. inl (k, sym (ap (λ q. slice_get q k)
-    (changed_waiting S t d (sent x) a.target a.there ∙ ap (λ b. cond b (sent x a.target).queue (waiting_at S d)) e))
-    ∙ shrunk_waits _ T d k m sh h))
+    (λ e. inl (
+      k,
+      sym (ap (λ q. slice_get q k)
+          (changed_waiting S t d (sent x) a.target a.there ∙ ap (λ b. cond b (sent x a.target).queue (waiting_at S d)) e))
+          ∙ shrunk_waits _ T d k m sh h,
+    ))
 rich_came S T p tag request reply d k m (taken t n s x xs a sh) h rich = bool_cases (t == d)
     (λ e.
     let there : slice_get (front_of n s x xs).rest k ≡ Some m =
@@ -214,9 +217,13 @@ rich_came S T p tag request reply d k m (taken t n s x xs a sh) h rich = bool_ca
     let w = rest_rich n s x xs k m rich there in
     let queue : waiting_at S d ≡ x ∷ xs = ap (λ (i : ℕ). waiting_at S i) (sym (eqb-true t d e)) ∙ waiting_is S t s a.there ∙ a.waiting in
     inl (w.0, ap (λ q. slice_get q w.0) queue ∙ w.1))
-    (λ e. inl (k, sym (ap (λ q. slice_get q k)
-    (changed_waiting S t d (with_queue (front_of n s x xs).rest) s a.there ∙ ap (λ b. cond b (front_of n s x xs).rest (waiting_at S d)) e))
-    ∙ shrunk_waits _ T d k m sh h))
+    (λ e. inl (
+      k,
+      sym (ap (λ q. slice_get q k)
+          (changed_waiting S t d (with_queue (front_of n s x xs).rest) s a.there
+          ∙ ap (λ b. cond b (front_of n s x xs).rest (waiting_at S d)) e))
+          ∙ shrunk_waits _ T d k m sh h,
+    ))
 
 spent_kept : (boot : State) → IsKept boot (AllSpent boot)
 spent_kept boot = record {

@@ -24,8 +24,8 @@ use Rattle.ux_model.specs.Reading.{read, read_object}
 use Rattle.ux_model.specs.Writing.{write, write_object}
 use Rattle.ux_model.specs.Step.{Step, outcome}
 use Rattle.ux_model.specs.Pedigree.{before}
-use Rattle.ux_model.proofs.ChangedPlaces.{bool_cases, changed_here, place-changed}
-use Rattle.ux_model.proofs.Moments.{moment}
+use Rattle.ux_model.proofs.Lists.ChangedPlaces.{bool_cases, changed_here, place-changed}
+use Rattle.ux_model.proofs.Pedigrees.Moments.{moment}
 use Rattle.ux_laws.specs.Talking.{endpoint, given_bytes, if_found, socket_through}
 use Rattle.ux_laws.specs.Records.{is_given}
 use Rattle.ux_laws.specs.Ends.{HasEnded, WritesBreak, IsAtEnd, queued, lacking, reset as reset_told, ended as end_told, ReadsTellTheEnd}
@@ -67,9 +67,11 @@ leads_to_socket S p d fd s h = go (find_description S p fd) refl h
         record { entry = e; description = D; found = found; number = number; leads = is ∙ ap to_socket same }
 
     go : (r : Result (Descriptor × Description) Errno) → find_description S p fd ≡ r →
-        (elim r as (λ _. Result (ℕ × Socket) Errno)
-        [ Err e ↦ Err e | Ok w ↦ elim (socket_of w.1.target) as
-        (λ _. Result (ℕ × Socket) Errno) [ None ↦ Err Errno.ENOTSOCK | Some u ↦ Ok (w.0.description, u) ] ]) ≡ Ok (d, s) →
+        (elim r as (λ _. Result (ℕ × Socket) Errno) [
+          | Err e ↦ Err e
+          | Ok w ↦ elim (socket_of w.1.target) as
+              (λ _. Result (ℕ × Socket) Errno) [ None ↦ Err Errno.ENOTSOCK | Some u ↦ Ok (w.0.description, u) ]
+        ]) ≡ Ok (d, s) →
         LeadsToSocket S p fd d s
     go (Err e) is h = absurd (cc h)
     go (Ok w) is h = at_target w.0 w.1 w.1.target refl is h
@@ -174,8 +176,11 @@ comes S p d s asked some e = by_queue s.queue refl
     no_bytes false = refl
 
     of_queue : List Message → Outcome
-    of_queue q = elim q as (λ _. Outcome) [ [] ↦ receive_nothing S d s e.peer | m ∷ ms ↦ receive_front S p d s asked
-        (front_of asked.n s m ms) ]
+    of_queue q = elim q as (λ _. Outcome) [
+      | [] ↦ receive_nothing S d s e.peer
+      | m ∷ ms ↦ receive_front S p d s asked
+          (front_of asked.n s m ms)
+    ]
 
     opened : receive S p d s asked ≡ of_queue s.queue
     opened = connected_is ∙ ap (λ b. if b then answer nothing_received S else of_queue s.queue) (no_bytes (is_stream s.kind))
@@ -297,8 +302,11 @@ recv_is : (S : State) (p n space d : ℕ) (fd : Fd) (asked : MsgFlags) (s : Sock
 unfolding recv_msg
 recv_is S p n space d fd asked s found fine =
     ap (λ (r : Result (ℕ × Socket) Errno). elim r as
-    (λ _. Outcome) [ Err e ↦ refuse S e | Ok w ↦ if not (are_receive_flags asked) then refuse S Errno.EINVAL
-    else receive S p w.0 w.1 (incoming n space asked) ]) found
+    (λ _. Outcome) [
+      | Err e ↦ refuse S e
+      | Ok w ↦ if not (are_receive_flags asked) then refuse S Errno.EINVAL
+          else receive S p w.0 w.1 (incoming n space asked)
+    ]) found
     ∙ ap (λ b. if not b then refuse S Errno.EINVAL else receive S p d s (incoming n space asked)) fine
 
 step_receives : (S T : State) (p tag n space d : ℕ) (fd : Fd) (asked : MsgFlags) (s : Socket) (reply : Reply) (gone : List ℕ) →

@@ -34,7 +34,7 @@ use Rattle.ux_model.specs.Accepting.{accept_first, accept}
 use Rattle.ux_model.specs.Sending.{sending, message_of, flight_limit, is_over_limit, enqueue, is_too_long, send_connected, send_stream}
 use Rattle.ux_model.specs.Sending.{send_from, is_sendable_addr, is_sendable_control, sender_cred_refusal, sent_cred, send_as, send_read}
 use Rattle.ux_model.specs.Sending.{send_with, send_msg, descriptions_behind}
-use Rattle.ux_model.proofs.Datagrams.{send_to_target, send_by_association, send_by}
+use Rattle.ux_model.proofs.Messages.Datagrams.{send_to_target, send_by_association, send_by}
 use Rattle.ux_model.specs.Receiving.{Incoming, incoming, receive_front, receive, recv_msg}
 use Rattle.ux_model.specs.FileObjects.{holds_bytes, is_open_for}
 use Rattle.ux_model.specs.Opening.{open_file, file_description}
@@ -49,15 +49,15 @@ use Rattle.ux_model.specs.Forking.{fork, exec}
 use Rattle.ux_model.specs.Closing.{close, exit, off}
 use Rattle.ux_model.specs.Release.{without, is_orphan, drop_all, drop_rounds, drop_unreferenced, has_unreferenced, settled}
 use Rattle.ux_model.specs.Step.{Step, outcome}
-use Rattle.ux_model.proofs.Walk.{either, maybe, by_target, by_path, found, found_socket, found_named, found_peer}
-use Rattle.ux_model.proofs.ChangedPlaces.{bool_cases}
-use Rattle.ux_model.proofs.OnePlace.{same_at}
-use Rattle.ux_model.proofs.ReleaseLaws.{place-map}
-use Rattle.ux_model.proofs.HeldOpen.{with_table_objects, with_process_objects}
-use Rattle.ux_model.proofs.Shows.{by_receive}
-use Rattle.ux_model.proofs.Reaching.{may_change}
-use Rattle.ux_model.proofs.Obeying.{Obeys}
-use Rattle.ux_model.proofs.Calls.{each_obeys}
+use Rattle.ux_model.proofs.Changes.Walk.{either, maybe, by_target, by_path, found, found_socket, found_named, found_peer}
+use Rattle.ux_model.proofs.Lists.ChangedPlaces.{bool_cases}
+use Rattle.ux_model.proofs.Lists.OnePlace.{same_at}
+use Rattle.ux_model.proofs.Releasing.ReleaseLaws.{place-map}
+use Rattle.ux_model.proofs.Changes.HeldOpen.{with_table_objects, with_process_objects}
+use Rattle.ux_model.proofs.Tables.MessageShows.{by_receive}
+use Rattle.ux_model.proofs.Changes.Reaching.{may_change}
+use Rattle.ux_model.proofs.Changes.Obeying.{Obeys}
+use Rattle.ux_model.proofs.Steps.Calls.{each_obeys}
 use Rattle.ux_laws.specs.Files.{body_in, body_at}
 
 -- ---- calls that touch neither

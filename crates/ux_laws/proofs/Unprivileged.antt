@@ -16,17 +16,17 @@ use Rattle.ux_model.specs.Release.{drop_unreferenced, settled}
 use Rattle.ux_model.specs.Step.{Step, outcome}
 use Rattle.ux_model.specs.History.{makes, IsLegal}
 use Rattle.ux_model.specs.Pedigree.{before}
-use Rattle.ux_model.proofs.Walk.{either, maybe}
-use Rattle.ux_model.proofs.ChangedPlaces.{rest_of}
-use Rattle.ux_model.proofs.Induction.{get_pushed}
-use Rattle.ux_model.proofs.ByPlace.{get_within}
-use Rattle.ux_model.proofs.Reaching.{May, may_change, Reaches, still, process_changed, process_forked, description_made, peers_made}
-use Rattle.ux_model.proofs.Reaching.{connection_made, description_changed, object_changed, paths_taken, path_bound, name_bound, turned_off}
-use Rattle.ux_model.proofs.Reaching.{IsOfSameUser}
-use Rattle.ux_model.proofs.Calls.{each_obeys, chosen_reached}
-use Rattle.ux_model.proofs.Living.{settled_keeps, fork_fails_not}
-use Rattle.ux_model.proofs.ChangedIds.{Becomes, ids_chosen}
-use Rattle.ux_model.proofs.Moments.{moment}
+use Rattle.ux_model.proofs.Changes.Walk.{either, maybe}
+use Rattle.ux_model.proofs.Lists.ChangedPlaces.{rest_of}
+use Rattle.ux_model.proofs.Lists.Induction.{get_pushed}
+use Rattle.ux_model.proofs.Lists.ByPlace.{get_within}
+use Rattle.ux_model.proofs.Changes.Reaching.{May, may_change, Reaches, still, process_changed, process_forked, description_made, peers_made}
+use Rattle.ux_model.proofs.Changes.Reaching.{connection_made, description_changed, object_changed, paths_taken, path_bound, name_bound}
+use Rattle.ux_model.proofs.Changes.Reaching.{turned_off, IsOfSameUser}
+use Rattle.ux_model.proofs.Steps.Calls.{each_obeys, chosen_reached}
+use Rattle.ux_model.proofs.Processes.Living.{settled_keeps, fork_fails_not}
+use Rattle.ux_model.proofs.Steps.ChangedIds.{Becomes, ids_chosen}
+use Rattle.ux_model.proofs.Pedigrees.Moments.{moment}
 use Rattle.ux_laws.specs.Users.{StaysUnprivileged, UnprivilegedStaySo, ChildrenAreOfTheirParents}
 
 -- ---- a list with one more element, or with one changed
@@ -60,8 +60,12 @@ record IsStill (P : Process) (p : ℕ) (S : State) : Type 0 where
 -- what leaves the processes as they are
 same_still : {P : Process} {p : ℕ} (S T : State) → T.processes ≡ S.processes → IsStill P p S → IsStill P p T
 same_still {P} {p = zero} S T same w = absurd (cc w.there)
-same_still {P} {p = suc j} S T same w = record { process = w.process; there = ap (λ (Ps : List Process). slice_get Ps j) same
-    ∙ w.there; stays = w.stays }
+same_still {P} {p = suc j} S T same w = record {
+  process = w.process;
+  there = ap (λ (Ps : List Process). slice_get Ps j) same
+      ∙ w.there;
+  stays = w.stays;
+}
 
 -- a process becomes another that stays as this one, if it is this one
 set_still : {P : Process} {p : ℕ} (S : State) (i : ℕ) (X Y : Process) → slice_get S.processes i ≡ Some X →
@@ -76,8 +80,12 @@ set_still {P} {p = suc j} S i X Y h becomes w = go (set_stays S.processes i j X 
     go (inr this) = record { process = Y; there = this.0; stays = becomes (subst (StaysUnprivileged P) (sym this.1) w.stays) }
 
 same_user_stays : (P X Y : Process) → IsOfSameUser X Y → StaysUnprivileged P X → StaysUnprivileged P Y
-same_user_stays P X Y same w = record { user = same.user ∙ w.user; group = same.group ∙ w.group; unprivileged = same.privileged
-    ∙ w.unprivileged }
+same_user_stays P X Y same w = record {
+  user = same.user ∙ w.user;
+  group = same.group ∙ w.group;
+  unprivileged = same.privileged
+      ∙ w.unprivileged;
+}
 
 child_still : {P : Process} {p : ℕ} (S : State) (C : Process) → IsStill P p S → IsStill P p (with_child S C)
 child_still {P} {p = zero} S C w = absurd (cc w.there)
@@ -159,7 +167,7 @@ later_still {P} {p} boot es j (suc n) legal within w =
     let e : Entry = x.0 in
     let next = step_still (before boot es (j + n)) (before boot es (suc (j + n))) e.pid.0 (j + n) e.request e.reply e.released
     (moment boot es (j + n) e legal x.1).steps
-        (later_still boot es j n legal (omega (arith, within)) w) in
+    (later_still boot es j n legal (omega (arith, within)) w) in
     let same : suc (j + n) ≡ j + suc n = omega arith in
     subst (λ (i : ℕ). IsStill P p (before boot es i)) same next
 

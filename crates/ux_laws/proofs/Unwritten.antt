@@ -19,11 +19,11 @@ use Rattle.ux_model.specs.Giving.{how_of}
 use Rattle.ux_model.specs.Names.{file, named}
 use Rattle.ux_model.specs.History.{replay}
 use Rattle.ux_model.specs.Pedigree.{before, delivered}
-use Rattle.ux_model.proofs.Walk.{either, maybe, by_target, found}
-use Rattle.ux_model.proofs.Fronts.{front_is_legal, in_front}
-use Rattle.ux_model.proofs.Induction.{take_past}
-use Rattle.ux_model.proofs.Moments.{moment}
-use Rattle.ux_model.proofs.Passing.{how_fork, own_number}
+use Rattle.ux_model.proofs.Changes.Walk.{either, maybe, by_target, found}
+use Rattle.ux_model.proofs.Lists.Fronts.{front_is_legal, in_front}
+use Rattle.ux_model.proofs.Lists.Induction.{take_past}
+use Rattle.ux_model.proofs.Pedigrees.Moments.{moment}
+use Rattle.ux_model.proofs.Pedigrees.Passing.{how_fork, own_number}
 use Rattle.ux_laws.specs.Files.{body_in, body_at, object_behind, HasWay, IsNeverOpened, UnwrittenFilesStay, IsRunOf, ReadsTellTheFile}
 use Rattle.ux_laws.specs.Files.{HoldOnlyWhatTheyMade}
 use Rattle.ux_laws.proofs.Opened.{chain_begins, way_there}
@@ -188,5 +188,14 @@ hold_only_what_they_made boot es are chain p n legal were is ped =
     let clash : Some How.Forked ≡ Some How.Made = sym (how_fork e.request (delivered (before boot es b.first.entry) e) fork) ∙ way in
     cc clash in
     let mine = own_number boot es b.first.entry b.first.pid.0 b.first.fd.0 e b.given.gave no_fork in
-    record { first = b.first; rest = b.rest; begins = b.is; call = e; there = b.given.there; made = b.made; caller = mine.0; theirs =
-    ap are mine.0 ∙ of_first }
+    record {
+      first = b.first;
+      rest = b.rest;
+      begins = b.is;
+      call = e;
+      there = b.given.there;
+      made = b.made;
+      caller = mine.0;
+      theirs =
+          ap are mine.0 ∙ of_first;
+    }

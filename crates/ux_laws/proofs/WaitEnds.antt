@@ -17,11 +17,11 @@ use Rattle.ux_model.specs.Reading.{read}
 use Rattle.ux_model.specs.Release.{settled}
 use Rattle.ux_model.specs.Step.{Step, outcome}
 use Rattle.ux_model.specs.Pedigree.{before}
-use Rattle.ux_model.proofs.Walk.{either, maybe, by_queue}
-use Rattle.ux_model.proofs.ChangedPlaces.{bool_cases, place-changed}
-use Rattle.ux_model.proofs.Calls.{each_obeys}
-use Rattle.ux_model.proofs.Moments.{moment}
-use Rattle.ux_model.proofs.Shows.{by_socket}
+use Rattle.ux_model.proofs.Changes.Walk.{either, maybe, by_queue}
+use Rattle.ux_model.proofs.Lists.ChangedPlaces.{bool_cases, place-changed}
+use Rattle.ux_model.proofs.Steps.Calls.{each_obeys}
+use Rattle.ux_model.proofs.Pedigrees.Moments.{moment}
+use Rattle.ux_model.proofs.Tables.Shows.{by_socket}
 use Rattle.ux_laws.specs.Talking.{socket_through, sends_to, is_number}
 use Rattle.ux_laws.specs.Records.{is_count}
 use Rattle.ux_laws.specs.Credentials.{socket_behind}
@@ -87,8 +87,11 @@ recv_waits S p n space d fd flags s found h =
     either (λ o. o.reply ≡ Reply.Err Errno.EAGAIN → IsWaiting S d s) (not (are_receive_flags flags)) (refuse S Errno.EINVAL)
     (receive S p d s (incoming n space flags)) (λ b g. absurd (cc g)) (λ b g. receive_waits S p d s (incoming n space flags) g)
     (sym (ap (λ (r : Result (ℕ × Socket) Errno).
-    (elim r as (λ _. Outcome) [ Err e ↦ refuse S e | Ok w ↦ if not (are_receive_flags flags) then refuse S Errno.EINVAL
-    else receive S p w.0 w.1 (incoming n space flags) ]).reply) found) ∙ h)
+    (elim r as (λ _. Outcome) [
+      | Err e ↦ refuse S e
+      | Ok w ↦ if not (are_receive_flags flags) then refuse S Errno.EINVAL
+          else receive S p w.0 w.1 (incoming n space flags)
+    ]).reply) found) ∙ h)
 
 step_recv_waits : (S T : State) (p tag n space d : ℕ) (fd : Fd) (flags : MsgFlags) (s : Socket) (reply : Reply) (gone : List ℕ) →
     find_socket S p fd ≡ Ok (d, s) → Step S p tag (Request.RecvMsg fd n space flags) reply gone T → reply ≡ Reply.Err Errno.EAGAIN →

@@ -12,11 +12,11 @@ use Rattle.ux_model.specs.History.{replay, IsLegal}
 use Rattle.ux_model.specs.Giving.{held_at, is_held, description_in, description_of, given, gives, how_of, copied, IsReceive, receive}
 use Rattle.ux_model.specs.Changes.{as_list, sources}
 use Rattle.ux_model.specs.Pedigree.{before, delivered, Stands, IsFrom, IsChain, first, onward, IsPedigree}
-use Rattle.ux_model.proofs.Named.{table_in}
-use Rattle.ux_model.proofs.ChangedPlaces.{bool_cases}
-use Rattle.ux_model.proofs.ByPlace.{get_within, take_none, member_place}
-use Rattle.ux_model.proofs.Moments.{Moment, moment, kept_description, held_leads, leads_held, given_cases}
-use Rattle.ux_model.proofs.Passing.{given_there, own_number, receive_delivered, gives_nothing}
+use Rattle.ux_model.proofs.Changes.Named.{table_in}
+use Rattle.ux_model.proofs.Lists.ChangedPlaces.{bool_cases}
+use Rattle.ux_model.proofs.Lists.ByPlace.{get_within, take_none, member_place}
+use Rattle.ux_model.proofs.Pedigrees.Moments.{Moment, moment, kept_description, held_leads, leads_held, given_cases}
+use Rattle.ux_model.proofs.Pedigrees.Passing.{given_there, own_number, receive_delivered, gives_nothing}
 
 -- ---- nothing is held at first
 
@@ -70,7 +70,7 @@ stands_on boot es a k e at not_given held s = record {
       let both : Some e ≡ Some f = sym at ∙ sym (ap (λ (i : ℕ). slice_get es i) is) ∙ there in
       let one : e ≡ f = cc both in (
         ap (λ (i : ℕ). gives (before boot es i) f a.pid.0 a.fd.0) is
-        ∙ sym (ap (λ (x : Entry). gives (before boot es k) x a.pid.0 a.fd.0) one) ∙ not_given,
+            ∙ sym (ap (λ (x : Entry). gives (before boot es k) x a.pid.0 a.fd.0) one) ∙ not_given,
         ap (λ (i : ℕ). is_held (before boot es i) a.pid.0 a.fd.0 && not (is_held (before boot es (suc i)) a.pid.0 a.fd.0)) is
             ∙ ap (λ b. is_held (before boot es k) a.pid.0 a.fd.0 && not b) held ∙ none (is_held (before boot es k) a.pid.0 a.fd.0),
       ))
@@ -161,8 +161,18 @@ given_chain boot es k p n e legal at gave held earlier = by_request e.request re
         let early = d.earlier in
         handed_on boot es k p n r.0 d.sending.pid.0 w.0 (How.Received r.0) e at gave (way r.0 r.1)
         (earlier r.0 d.sending.pid.0 w.0 (omega (arith, early)) (leads_held (before boot es r.0) d.sending.pid.0 w.0 w.1 w.3))
-        (λ a process number. (refl, record { sending = d.sending; there = d.there; sender = sym process; place = own.1.0; installed =
-        own.1.1; right = w.2 ∙ ap Some (sym number) }))
+        (λ a process number. (
+          refl,
+          record {
+            sending = d.sending;
+            there = d.there;
+            sender = sym process;
+            place = own.1.0;
+            installed =
+                own.1.1;
+            right = w.2 ∙ ap Some (sym number);
+          },
+        ))
 
     forked : e.request ≡ Request.Fork → HasChain boot es (suc k) p n
     forked is = ⊎_elim {C = HasChain boot es (suc k) p n}
@@ -222,8 +232,15 @@ chain_until boot es (suc fuel) (suc k) p n legal few within held =
     let held_last : is_held (before boot es (suc k)) c.last.pid.0 c.last.fd.0 ≡ true =
     ap (λ (q : ℕ). is_held (before boot es (suc k)) q c.last.fd.0) c.process ∙ ap (λ (i : ℕ). is_held (before boot es (suc k)) p i) c.number
     ∙ held in
-    record { chain = c.chain; last = c.last; leads = c.leads; process = c.process; number = c.number; stands =
-    stands_on boot es c.last k e at gives_last held_last c.stands })
+    record {
+      chain = c.chain;
+      last = c.last;
+      leads = c.leads;
+      process = c.process;
+      number = c.number;
+      stands =
+          stands_on boot es c.last k e at gives_last held_last c.stands;
+    })
 
 pub every_holding_has_a_pedigree : (boot : State) (es : List Entry) (p n : ℕ) → IsLegal boot es → is_held (replay boot es) p n ≡ true →
     (chain : List Link) × IsPedigree boot es chain p n

@@ -16,10 +16,11 @@ use Rattle.ux_model.specs.Receiving.{Incoming, incoming, receive_front, receive,
 use Rattle.ux_model.specs.Reading.{read}
 use Rattle.ux_model.specs.Step.{Step, outcome}
 use Rattle.ux_model.specs.Pedigree.{before}
-use Rattle.ux_model.proofs.Walk.{either, by_target, found}
-use Rattle.ux_model.proofs.ChangedPlaces.{bool_cases}
-use Rattle.ux_model.proofs.Moments.{moment}
-use Rattle.ux_model.proofs.Shows.{by_socket, by_receive}
+use Rattle.ux_model.proofs.Changes.Walk.{either, by_target, found}
+use Rattle.ux_model.proofs.Lists.ChangedPlaces.{bool_cases}
+use Rattle.ux_model.proofs.Pedigrees.Moments.{moment}
+use Rattle.ux_model.proofs.Tables.Shows.{by_socket}
+use Rattle.ux_model.proofs.Tables.MessageShows.{by_receive}
 use Rattle.ux_laws.specs.Talking.{socket_through}
 use Rattle.ux_laws.specs.Records.{IsGiven, RecordsArriveWhole, ReadRecordsArriveWhole}
 use Rattle.ux_laws.proofs.Doing.{through_is, no_socket_at, found_at}

@@ -1,6 +1,6 @@
 -- Records arrive once, whole and in order (unix(7), SOCK_DGRAM and SOCK_SEQPACKET; recvmsg(2), MSG_TRUNC; POSIX.1-2017, recvmsg).
-use Rattle.std.specs.Prelude.{◌≡◌, ℕ, ◌<◌, min, Bool, true, false, ◌&&◌, nat_lt, if◌then◌else◌, List, []}
-use Rattle.std.specs.Prelude.{◌∷◌, ◌++◌, length, map, take, Option, Some, None}
+use Rattle.std.specs.Prelude.{◌≡◌, ℕ, ◌<◌, min, Bool, true, false, ◌&&◌, nat_lt, if◌then◌else◌, List, [], ◌∷◌, ◌++◌, length, map, take}
+use Rattle.std.specs.Prelude.{Option, Some, None}
 use Rattle.std.specs.List.{slice_get}
 use Rattle.ux_model.specs.Types.{Fd, Addr, MsgFlags, Request, Reply, Entry}
 use Rattle.ux_model.specs.Flags.{has_bits, msg_trunc, asks_real_length}

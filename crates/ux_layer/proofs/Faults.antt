@@ -15,9 +15,17 @@ legal_from boot book c knows = subst (λ (S : State). IsLegal S book.entries) kn
 -- the keeper refuses one more entry
 pub refuses : (boot : State) (book : KeptHistory) (c : Caller) (keeper : ℕ → CallFault → Type 0) (fault : CallFault) →
     Knows boot book c → keeper (length book.entries) fault → Refuses boot c keeper fault
-refuses boot book c keeper fault knows refused = record { entries = book.entries; legal = legal_from boot book c knows; exactly = knows.exactly; refused = refused }
+refuses boot book c keeper fault knows refused =
+    record { entries = book.entries; legal = legal_from boot book c knows; exactly = knows.exactly; refused = refused }
 
 -- the call has to wait
-pub has_to_wait : (boot : State) (book : KeptHistory) (c : Caller) (request : Request) → Knows boot book c → MustWait book c.pid request → HasToWait boot c request
+pub has_to_wait : (boot : State) (book : KeptHistory) (c : Caller) (request : Request) → Knows boot book c → MustWait book c.pid request →
+    HasToWait boot c request
 has_to_wait boot book c request knows waits =
-    record { entries = book.entries; legal = legal_from boot book c knows; exactly = knows.exactly; waits = subst (λ (S : State). MustWait (record { boot = S; entries = book.entries }) c.pid request) knows.boot_is waits }
+    record {
+      entries = book.entries;
+      legal = legal_from boot book c knows;
+      exactly = knows.exactly;
+      waits =
+          subst (λ (S : State). MustWait (record { boot = S; entries = book.entries }) c.pid request) knows.boot_is waits;
+    }

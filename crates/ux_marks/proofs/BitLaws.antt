@@ -23,12 +23,14 @@ seen_below word from i below = omega (arith, bit_at_or word (2 ^ from - 1) i, bi
 pub seen_from : (word from i : ℕ) → from ≤ i → bit_at (bit_or word (2 ^ from - 1)) i ≡ bit_at word i
 seen_from word from i after = omega (arith, bit_at_or word (2 ^ from - 1) i, bit_at_ones_above from i after)
 
-pub none_clear : (word from seen i : ℕ) → seen ≡ bit_or word (1 * 2 ^ from % 2 ^ 64 - 1) → from < 64 → seen ≡ all_set → from ≤ i → i < 64 → bit_at word i ≡ 1
+pub none_clear : (word from seen i : ℕ) → seen ≡ bit_or word (1 * 2 ^ from % 2 ^ 64 - 1) → from < 64 → seen ≡ all_set → from ≤ i → i < 64 →
+    bit_at word i ≡ 1
 none_clear word from seen i is room full after within =
     let e : bit_or word (2 ^ from - 1) ≡ all_set = ap (λ m. bit_or word (m - 1)) (sym (one_shl from 64 room)) ∙ sym is ∙ full in
     sym (seen_from word from i after) ∙ every_bit (bit_or word (2 ^ from - 1)) i e within
 
-first_clear_seen : (word from : ℕ) → (bit_or word (2 ^ from - 1) ≢ all_set) → word < 2 ^ 64 → from < 64 → IsFirstClearBit word from (trailing_ones w64 (bit_or word (2 ^ from - 1)))
+first_clear_seen : (word from : ℕ) → (bit_or word (2 ^ from - 1) ≢ all_set) → word < 2 ^ 64 → from < 64 →
+    IsFirstClearBit word from (trailing_ones w64 (bit_or word (2 ^ from - 1)))
 first_clear_seen word from other small inside =
     let seen : ℕ = bit_or word (2 ^ from - 1) in
     let below : seen < 2 ^ 64 = or_lt 64 word (2 ^ from - 1) small (omega (arith, pow_below from 64 inside)) in
@@ -46,8 +48,10 @@ first_clear_seen word from other small inside =
       before = λ i low high. sym (seen_from word from i low) ∙ found.2 i high;
     }
 
-pub first_clear_bit : (word from : ℕ) → word < 2 ^ 64 → from < 64 → (bit_or word (1 * 2 ^ from % 2 ^ 64 - 1) ≢ all_set) → IsFirstClearBit word from (trailing_ones w64 (bit_or word (1 * 2 ^ from % 2 ^ 64 - 1)))
-first_clear_bit word from small inside open_word = rw (one_shl from 64 inside) (first_clear_seen word from (λ e. open_word (rw (one_shl from 64 inside) e)) small inside)
+pub first_clear_bit : (word from : ℕ) → word < 2 ^ 64 → from < 64 → (bit_or word (1 * 2 ^ from % 2 ^ 64 - 1) ≢ all_set) →
+    IsFirstClearBit word from (trailing_ones w64 (bit_or word (1 * 2 ^ from % 2 ^ 64 - 1)))
+first_clear_bit word from small inside open_word =
+    rw (one_shl from 64 inside) (first_clear_seen word from (λ e. open_word (rw (one_shl from 64 inside) e)) small inside)
 
 -- ---- numbers in words
 
@@ -65,10 +69,12 @@ pub bit_of_in : (words : List ℕ) (i word : ℕ) → i / 64 ≡ word → bit_of
 bit_of_in words i word e = ap (λ w. bit_at (slice_index words w) (i % 64)) e
 
 -- full words from one on, up to another
-pub set_between : (words : List ℕ) (from word i : ℕ) → ((w : ℕ) → from ≤ w → w < word → slice_index words w ≡ all_set) → 64 * from ≤ i → i / 64 < word → bit_of words i ≡ 1
+pub set_between : (words : List ℕ) (from word i : ℕ) → ((w : ℕ) → from ≤ w → w < word → slice_index words w ≡ all_set) → 64 * from ≤ i →
+    i / 64 < word → bit_of words i ≡ 1
 set_between words from word i full low high = set_in_full words i (full (i / 64) (omega arith) high)
 
-pub clear_in_word : (words : List ℕ) (from word bit : ℕ) → IsFirstOpenWord words from word → IsFirstClearBit (slice_index words word) 0 bit → IsFirstBit words (64 * from) (word * 64 + bit)
+pub clear_in_word : (words : List ℕ) (from word bit : ℕ) → IsFirstOpenWord words from word →
+    IsFirstClearBit (slice_index words word) 0 bit → IsFirstBit words (64 * from) (word * 64 + bit)
 clear_in_word words from word bit opened found = record {
   within = omega (arith, found.within, opened.within);
   after = omega (arith, opened.after);
@@ -81,5 +87,6 @@ clear_in_word words from word bit opened found = record {
   ];
 }
 
-pub none_in_words : (words : List ℕ) (from i : ℕ) → ((w : ℕ) → from ≤ w → w < length words → slice_index words w ≡ all_set) → 64 * from ≤ i → i < 64 * length words → bit_of words i ≡ 1
+pub none_in_words : (words : List ℕ) (from i : ℕ) → ((w : ℕ) → from ≤ w → w < length words → slice_index words w ≡ all_set) →
+    64 * from ≤ i → i < 64 * length words → bit_of words i ≡ 1
 none_in_words words from i full low high = set_between words from (length words) i full low (omega arith)

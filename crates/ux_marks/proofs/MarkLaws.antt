@@ -29,13 +29,19 @@ none_set : (k n : ℕ) → bit_of (replicate k 0) n ≡ 0
 none_set k n = ap (λ w. bit_at w (n % 64)) (none k (n / 64)) ∙ bit_at-zero (n % 64)
   where
     none : (k i : ℕ) → slice_index (replicate k 0) i ≡ 0
-    none k i = elim (cases_lt i k) [ inl low ↦ get_or-replicate k i 0 0 low | inr high ↦ get_or_past (replicate k 0) i 0 (omega (arith, high, length-replicate {A = ℕ} k 0)) ]
+    none k i = elim (cases_lt i k) [
+      | inl low ↦ get_or-replicate k i 0 0 low
+      | inr high ↦ get_or_past (replicate k 0) i 0 (omega (arith, high, length-replicate {A = ℕ} k 0))
+    ]
 
 -- where the words have no bit set, no number is marked
 pub none_marked : (words : List ℕ) (len k : ℕ) → words ≡ replicate k 0 → IsUnmarked len (marks_in words len)
 none_marked words len k e = record {
   len = marks_length words len;
-  none = λ n. elim (cases_lt n len) [ inl low ↦ clear_at words len n low (ap (λ ws. bit_of ws n) e ∙ none_set k n) | inr high ↦ unmarked_past words len n high ];
+  none = λ n. elim (cases_lt n len) [
+    | inl low ↦ clear_at words len n low (ap (λ ws. bit_of ws n) e ∙ none_set k n)
+    | inr high ↦ unmarked_past words len n high
+  ];
 }
 
 pub first_marks : (words : List ℕ) (len from n : ℕ) → IsFirstBit words from n → n < len → IsFirstClear (marks_in words len) from n
@@ -46,7 +52,8 @@ first_marks words len from n found low = record {
   before = λ i after before. set_at words len i (omega arith) (found.before i after before);
 }
 
-pub put_marks : (old new : List ℕ) (len n : ℕ) (on : Bool) → n < len → PutsBit old new n on → PutsMark (marks_in old len) (marks_in new len) n on
+pub put_marks : (old new : List ℕ) (len n : ℕ) (on : Bool) → n < len → PutsBit old new n on →
+    PutsMark (marks_in old len) (marks_in new len) n on
 put_marks old new len n on low put = record {
   same_length = marks_length new len ∙ sym (marks_length old len);
   this = marked_in new len n low ∙ ap (λ b. b == 1) put.this ∙ told on;

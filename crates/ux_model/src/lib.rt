@@ -20,14 +20,14 @@ ghost use Rattle.ux_model.specs.Owning.{NameGoes};
 ghost use Rattle.ux_model.specs.Moves.{ProcessCounts, ChildCounts, SocketCounts, NewCounts, NewCountsAtObject, SameTargetCountsAlike, TakenPathCountsNot};
 
 /// The name that autobind gives is that of the least number whose name isn't in use.
-#[tactic(auto, using(crate::proofs::LeastNames::free_name_is_least))]
+#[tactic(auto, using(crate::proofs::Changes::LeastNames::free_name_is_least))]
 pub fn autobind_gives_the_least_name()
     ensures { FreeNameIsLeast }
 {}
 
 /// What a receive takes of a stream's queue: the rights of the messages that its bytes reach, the origin of
 /// the first of these that has any, and it leaves all behind them, and what a message that was cut has left.
-#[tactic(auto, using(crate::proofs::Reached::rights_are_of_reached, crate::proofs::Reached::origin_is_of_reached, crate::proofs::Reached::rest_is_of_reached))]
+#[tactic(auto, using(crate::proofs::Messages::Reached::rights_are_of_reached, crate::proofs::Messages::Reached::origin_is_of_reached, crate::proofs::Messages::Reached::rest_is_of_reached))]
 pub fn receive_takes_what_it_reaches()
     ensures rights { RightsAreOfReached }
     ensures origin { OriginIsOfReached }
@@ -36,51 +36,51 @@ pub fn receive_takes_what_it_reaches()
 
 /// Descriptions without a reference may be dropped one at a time and in any order: the same state is
 /// left as when all go at once, again and again.
-#[tactic(auto, using(crate::proofs::AnyOrder::ends_alike))]
+#[tactic(auto, using(crate::proofs::Releasing::AnyOrder::ends_alike))]
 pub fn dropping_in_any_order()
     ensures { EndsAlike }
 {}
 
 /// Each reply shows whether memory ran out, so the calls of a history lead to one state.
-#[tactic(auto, using(crate::proofs::Replays::leads_to_one))]
+#[tactic(auto, using(crate::proofs::Steps::Replays::leads_to_one))]
 pub fn history_leads_to_one_state()
     ensures { LeadsToOne }
 {}
 
 /// The first entries of a legal history are one themselves.
-#[tactic(auto, using(crate::proofs::Fronts::front_is_legal))]
+#[tactic(auto, using(crate::proofs::Lists::Fronts::front_is_legal))]
 pub fn front_of_a_legal_history()
     ensures { FrontIsLegal }
 {}
 
 /// A process ends with its own exit, and begins with the fork that reports its number, and with nothing else.
-#[tactic(auto, using(crate::proofs::Living::exit_and_fork_alone))]
+#[tactic(auto, using(crate::proofs::Processes::Living::exit_and_fork_alone))]
 pub fn exit_ends_and_fork_begins_a_process()
     ensures { ExitAndForkAlone }
 {}
 
 /// The exit of a live process leaves one fewer, a fork that made one leaves one more, and any other call as
 /// many.
-#[tactic(auto, using(crate::proofs::Living::live_ones_counted))]
+#[tactic(auto, using(crate::proofs::Processes::Living::live_ones_counted))]
 pub fn live_processes_are_counted()
     ensures { LiveOnesCounted }
 {}
 
 /// No step forgets a process, and a fork alone makes one.
-#[tactic(auto, using(crate::proofs::Living::fork_alone_makes))]
+#[tactic(auto, using(crate::proofs::Processes::Living::fork_alone_makes))]
 pub fn fork_alone_makes_a_process()
     ensures { ForkAloneMakes }
 {}
 
 /// A fork reports the number that comes next.
-#[tactic(auto, using(crate::proofs::Living::fork_tells_the_next))]
+#[tactic(auto, using(crate::proofs::Processes::Living::fork_tells_the_next))]
 pub fn fork_tells_the_next_number()
     ensures { ForkTellsTheNext }
 {}
 
 /// The processes that lived at the start of a legal history or were made since are numbered from 1 to their
 /// count.
-#[tactic(auto, using(crate::proofs::Numbering::numbered_from_one))]
+#[tactic(auto, using(crate::proofs::Processes::Numbering::numbered_from_one))]
 pub fn processes_are_numbered_from_one()
     ensures { NumberedFromOne }
 {}
@@ -92,73 +92,73 @@ pub fn processes_call_once_they_are_made()
 
 /// At the end of a legal history those processes live that did at its start or were made since, and haven't
 /// made their exit.
-#[tactic(auto, using(crate::proofs::Living::lives_until_exit))]
+#[tactic(auto, using(crate::proofs::Processes::Living::lives_until_exit))]
 pub fn processes_live_until_their_exit()
     ensures { LivesUntilExit }
 {}
 
 /// Another process in the place of one changes the references by those of the two tables.
-#[tactic(auto, using(crate::proofs::Moves::process_counts))]
+#[tactic(auto, using(crate::proofs::Counting::Moves::process_counts))]
 pub fn process_counts()
     ensures { ProcessCounts }
 {}
 
 /// A further process adds the references of its table.
-#[tactic(auto, using(crate::proofs::Moves::child_counts))]
+#[tactic(auto, using(crate::proofs::Counting::Moves::child_counts))]
 pub fn child_counts()
     ensures { ChildCounts }
 {}
 
 /// A changed socket changes the references by those that it holds before and after.
-#[tactic(auto, using(crate::proofs::Sockets::socket_counts))]
+#[tactic(auto, using(crate::proofs::Counting::Sockets::socket_counts))]
 pub fn socket_counts()
     ensures { SocketCounts }
 {}
 
 /// A new description adds the references that it holds.
-#[tactic(auto, using(crate::proofs::Moves::new_counts))]
+#[tactic(auto, using(crate::proofs::Counting::Moves::new_counts))]
 pub fn new_description_counts()
     ensures { NewCounts }
 {}
 
 /// Where connected sockets name one another, one description that goes has one other to notify.
-#[tactic(auto, using(crate::proofs::OneGoes::one_goes))]
+#[tactic(auto, using(crate::proofs::Releasing::OneGoes::one_goes))]
 pub fn one_description_goes()
     ensures { OneGoes }
 {}
 
 /// A new description counts at the file object that it leads to.
-#[tactic(auto, using(crate::proofs::Moves::new_counts_at_object))]
+#[tactic(auto, using(crate::proofs::Counting::Moves::new_counts_at_object))]
 pub fn new_description_counts_at_its_object()
     ensures { NewCountsAtObject }
 {}
 
 /// A description that leads to the same file object as before counts as before.
-#[tactic(auto, using(crate::proofs::Moves::same_target_counts_alike))]
+#[tactic(auto, using(crate::proofs::Counting::Moves::same_target_counts_alike))]
 pub fn same_target_counts_alike()
     ensures { SameTargetCountsAlike }
 {}
 
 /// A path that is taken away no longer counts at the file object that it named.
-#[tactic(auto, using(crate::proofs::Moves::taken_path_counts_not))]
+#[tactic(auto, using(crate::proofs::Counting::Moves::taken_path_counts_not))]
 pub fn taken_path_counts_not()
     ensures { TakenPathCountsNot }
 {}
 
 /// After the rounds no description is there that nothing refers to.
-#[tactic(auto, using(crate::proofs::Settling::none_left_unreferenced))]
+#[tactic(auto, using(crate::proofs::Releasing::Settling::none_left_unreferenced))]
 pub fn no_description_is_left_unreferenced()
     ensures { NoneLeftUnreferenced }
 {}
 
 /// What was released once has nothing more to release.
-#[tactic(auto, using(crate::proofs::Settling::settles_at_once))]
+#[tactic(auto, using(crate::proofs::Releasing::Settling::settles_at_once))]
 pub fn state_settles_at_once()
     ensures { SettlesAtOnce }
 {}
 
 /// No state of a legal history has anything left to release.
-#[tactic(auto, using(crate::proofs::Settling::stays_settled))]
+#[tactic(auto, using(crate::proofs::Releasing::Settling::stays_settled))]
 pub fn legal_history_stays_settled()
     ensures { StaysSettled }
 {}
@@ -167,7 +167,7 @@ pub fn legal_history_stays_settled()
 /// leaves one more failure of one file object, a pending ECONNRESET is cleared by its answer, and by
 /// ECONNREFUSED a datagram socket whose associated target is gone may lose the association; besides,
 /// nothing changes there either.
-#[tactic(auto, using(crate::proofs::Refusals::refusal_changes_nothing))]
+#[tactic(auto, using(crate::proofs::Invariants::Refusals::refusal_changes_nothing))]
 pub fn refusal_changes_nothing()
     ensures { RefusalChangesNothing }
 {}
@@ -180,7 +180,7 @@ pub fn refused_entry_changes_nothing()
 /// Whatever calls were made from a boot state on, of whatever processes and with whatever tags: what is
 /// there is what is referenced, whatever is named is there, and all else that is said of the states of
 /// legal histories (`nothing_dangles`).
-#[tactic(auto, using(crate::proofs::Dangling::whole_after_any_calls))]
+#[tactic(auto, using(crate::proofs::Invariants::Dangling::whole_after_any_calls))]
 pub fn any_calls_leave_a_whole_state()
     ensures { WholeAfterAnyCalls }
 {}
@@ -206,33 +206,33 @@ pub fn what_a_step_hands_out()
 
 /// In no state do close, unlink, lseek, shutdown, listen, poll, getsockopt, fcntl, setsockopt of a queue's
 /// limit, execve, and the ends of a process and of the layer, answer ENOMEM.
-#[tactic(auto, using(crate::proofs::FreeChoices::never_lacks_memory))]
+#[tactic(auto, using(crate::proofs::Invariants::FreeChoices::never_lacks_memory))]
 pub fn some_calls_never_lack_memory()
     ensures { NeverLacksMemory }
 {}
 
 /// A step answers EIO exactly where a file object, which is there still, has failed once more. It is one
 /// alone, and each other that stays has failed as often as before. That holds of every state.
-#[tactic(auto, using(crate::proofs::FreeChoices::fails_where_an_object_failed))]
+#[tactic(auto, using(crate::proofs::Invariants::FreeChoices::fails_where_an_object_failed))]
 pub fn failure_is_told()
     ensures { FailsWhereAnObjectFailed }
 {}
 
 /// Where whoever an abstract name leads to shows it, one name at most goes with a description.
-#[tactic(auto, using(crate::proofs::Owning::name_goes))]
+#[tactic(auto, using(crate::proofs::Counting::Owning::name_goes))]
 pub fn one_name_goes()
     ensures { NameGoes }
 {}
 
 /// On a socket to and from which messages go, poll(2) reports no input exactly where a receive of one byte would
 /// wait.
-#[tactic(auto, using(crate::proofs::ReadyCalls::tells_input))]
+#[tactic(auto, using(crate::proofs::Messages::ReadyCalls::tells_input))]
 pub fn poll_tells_of_input()
     ensures { TellsInput }
 {}
 
 /// And no room exactly where a send of one byte would wait.
-#[tactic(auto, using(crate::proofs::ReadyCalls::tells_room))]
+#[tactic(auto, using(crate::proofs::Messages::ReadyCalls::tells_room))]
 pub fn poll_tells_of_room()
     ensures { TellsRoom }
 {}
@@ -240,14 +240,14 @@ pub fn poll_tells_of_room()
 /// Where no process of a user is privileged, and no privileged one becomes one of this user, the user never has
 /// more rights in flight than the most descriptors that one of them may have. And where user 0 alone has
 /// privileged processes, no other user does, whoever changes its ids.
-#[tactic(auto, using(crate::proofs::FlightLaws::flight_is_limited, crate::proofs::FlightLaws::flight_of_users_is_limited))]
+#[tactic(auto, using(crate::proofs::Invariants::FlightLaws::flight_is_limited, crate::proofs::Invariants::FlightLaws::flight_of_users_is_limited))]
 pub fn rights_in_flight_are_limited()
     ensures of_a_user { FlightIsLimited }
     ensures of_users { FlightOfUsersIsLimited }
 {}
 
 /// Each reply is as large as its request and the limits allow.
-#[tactic(auto, using(crate::proofs::ReplySizes::replies_fit))]
+#[tactic(auto, using(crate::proofs::Sizes::ReplySizes::replies_fit))]
 pub fn replies_fit_their_room()
     ensures { RepliesFit }
 {}
@@ -260,7 +260,7 @@ pub fn a_call_shows_its_changes()
 
 /// Each message with rights that nobody has received was sent by the entry that its tag names, and its rights
 /// are the descriptions that the numbers of that send led to then.
-#[tactic(auto, using(crate::proofs::Mail::messages_are_sent))]
+#[tactic(auto, using(crate::proofs::Pedigrees::Mail::messages_are_sent))]
 pub fn waiting_rights_were_sent()
     ensures { MessagesAreSent }
 {}
@@ -272,7 +272,7 @@ pub fn a_holding_has_one_pedigree()
 
 /// All holdings of a pedigree lead to one open file description, and so does the descriptor at the history's
 /// end.
-#[tactic(auto, using(crate::proofs::OneDescription::pedigree_is_of_one))]
+#[tactic(auto, using(crate::proofs::Pedigrees::OneDescription::pedigree_is_of_one))]
 pub fn pedigree_is_of_one_description()
     ensures { PedigreeIsOfOne }
 {}
@@ -283,7 +283,7 @@ pub fn who_was_sent_nothing_holds_only_its_own()
 {}
 
 /// No descriptor table of a legal history has more places than one may have.
-#[tactic(auto, using(crate::proofs::SmallTables::tables_stay_small))]
+#[tactic(auto, using(crate::proofs::Invariants::SmallTables::tables_stay_small))]
 pub fn tables_stay_small()
     ensures { TablesStaySmall }
 {}

@@ -1,5 +1,6 @@
 -- Lemmas on the names that autobind gives.
-use Rattle.std.proofs.Common.{◌≡◌, ◌≢◌, ℕ, zero, suc, ◌+◌, ◌*◌, ◌/◌, ◌%◌, ◌<◌, ◌≤◌, Bool, true, false, not, List, [], ◌∷◌, ◌++◌, length, Option, Some, None, inl, inr, refl, ap, sym, ◌∙◌, arith}
+use Rattle.std.proofs.Common.{◌≡◌, ◌≢◌, ℕ, zero, suc, ◌+◌, ◌*◌, ◌/◌, ◌%◌, ◌<◌, ◌≤◌, Bool, true, false, not, List, [], ◌∷◌, ◌++◌, length}
+use Rattle.std.proofs.Common.{Option, Some, None, inl, inr, refl, ap, sym, ◌∙◌, arith}
 use Rattle.std.specs.Prelude.{is_some, is_none, option_map}
 use Rattle.std.proofs.lemmas.Bool.{cases_eq, cases_lt, lt-ltb, le-ltb}
 use Rattle.ux_model.specs.Types.{Name}
@@ -11,18 +12,22 @@ use Rattle.ux_names.proofs.NameLaws.{same_name_tells, named_appended, other_appe
 
 -- ---- the lowest number that passes a test
 
-passes_here : (test : ℕ → Bool) (start more : ℕ) (b : Bool) → test start ≡ b → lowest_from test start (suc more) ≡ elim b [ true ↦ Some start | false ↦ lowest_from test (suc start) more ]
+passes_here : (test : ℕ → Bool) (start more : ℕ) (b : Bool) → test start ≡ b →
+    lowest_from test start (suc more) ≡ elim b [ true ↦ Some start | false ↦ lowest_from test (suc start) more ]
 passes_here test start more b e = ap (λ (t : Bool). elim t [ true ↦ Some start | false ↦ lowest_from test (suc start) more ]) e
 
-lowest_found : (test : ℕ → Bool) (start more n : ℕ) → start ≤ n → n < start + more → test n ≡ true → ((i : ℕ) → start ≤ i → i < n → test i ≡ false) → lowest_from test start more ≡ Some n
+lowest_found : (test : ℕ → Bool) (start more n : ℕ) → start ≤ n → n < start + more → test n ≡ true →
+    ((i : ℕ) → start ≤ i → i < n → test i ≡ false) → lowest_from test start more ≡ Some n
 lowest_found test start zero n low high passes before = absurd (omega (arith, low, high))
 lowest_found test start (suc more) n low high passes before = elim (cases_eq start n) [
   | inl here ↦ passes_here test start more true (ap test here ∙ passes) ∙ ap (λ (k : ℕ). Some k) here
   | inr other ↦ passes_here test start more false (before start (omega arith) (omega (arith, low, other)))
-      ∙ lowest_found test (suc start) more n (omega (arith, low, other)) (omega (arith, high)) passes (λ i after small. before i (omega (arith, after)) small)
+      ∙ lowest_found test (suc start) more n (omega (arith, low, other)) (omega (arith, high)) passes
+      (λ i after small. before i (omega (arith, after)) small)
 ]
 
-none_found : (test : ℕ → Bool) (start more : ℕ) → ((i : ℕ) → start ≤ i → i < start + more → test i ≡ false) → lowest_from test start more ≡ None
+none_found : (test : ℕ → Bool) (start more : ℕ) → ((i : ℕ) → start ≤ i → i < start + more → test i ≡ false) →
+    lowest_from test start more ≡ None
 none_found test start zero fails = refl
 none_found test start (suc more) fails =
     passes_here test start more false (fails start (omega arith) (omega arith))
@@ -32,29 +37,37 @@ is_none_from : {X : Type 0} (o : Option X) (b : Bool) → is_some o ≡ b → is
 is_none_from None b e = ap not e
 is_none_from (Some x) b e = ap not e
 
-free_name_at : (names : List (Name × ℕ)) (numbers : List Bool) (n : ℕ) → AreMarked names numbers → IsFirstClear numbers 0 n → free_name names ≡ Some (autobind_name n)
+free_name_at : (names : List (Name × ℕ)) (numbers : List Bool) (n : ℕ) → AreMarked names numbers → IsFirstClear numbers 0 n →
+    free_name names ≡ Some (autobind_name n)
 unfolding free_name
 free_name_at names numbers n marked first =
     let inside : n < autobind_names = omega (arith, first.within, marked.all) in
-    ap (option_map autobind_name) (lowest_found (λ i. is_none (named (autobind_name i) names)) 0 autobind_names n (omega arith) (omega (arith, inside))
+    ap (option_map autobind_name) (lowest_found
+    (λ i. is_none (named (autobind_name i) names)) 0 autobind_names n (omega arith) (omega (arith, inside))
     (is_none_from (named (autobind_name n) names) false (sym (marked.agrees n inside) ∙ first.clear))
-    (λ i after low. is_none_from (named (autobind_name i) names) true (sym (marked.agrees i (omega (arith, low, inside))) ∙ first.before i after low)))
+    (λ i after low. is_none_from (named (autobind_name i) names) true
+    (sym (marked.agrees i (omega (arith, low, inside))) ∙ first.before i after low)))
 
-pub first_unused : (names : List (Name × ℕ)) (numbers : List Bool) (n : ℕ) → AreMarked names numbers → IsFirstClear numbers 0 n → named (autobind_name n) names ≡ None
-first_unused names numbers n marked first = none_from (named (autobind_name n) names) (sym (marked.agrees n (omega (arith, first.within, marked.all))) ∙ first.clear)
+pub first_unused : (names : List (Name × ℕ)) (numbers : List Bool) (n : ℕ) → AreMarked names numbers → IsFirstClear numbers 0 n →
+    named (autobind_name n) names ≡ None
+first_unused names numbers n marked first =
+    none_from (named (autobind_name n) names) (sym (marked.agrees n (omega (arith, first.within, marked.all))) ∙ first.clear)
   where
     none_from : (o : Option ℕ) → is_some o ≡ false → o ≡ None
     none_from None e = refl
     none_from (Some d) e = absurd (cc e)
 
-no_free_name : (names : List (Name × ℕ)) (numbers : List Bool) → AreMarked names numbers → ((i : ℕ) → 0 ≤ i → i < length numbers → is_marked numbers i ≡ true) → free_name names ≡ None
+no_free_name : (names : List (Name × ℕ)) (numbers : List Bool) → AreMarked names numbers →
+    ((i : ℕ) → 0 ≤ i → i < length numbers → is_marked numbers i ≡ true) → free_name names ≡ None
 unfolding free_name
 no_free_name names numbers marked full =
     ap (option_map autobind_name) (none_found (λ i. is_none (named (autobind_name i) names)) 0 autobind_names
-    (λ i after low. is_none_from (named (autobind_name i) names) true (sym (marked.agrees i (omega (arith, low))) ∙ full i after (omega (arith, low, marked.all)))))
+    (λ i after low. is_none_from (named (autobind_name i) names) true
+    (sym (marked.agrees i (omega (arith, low))) ∙ full i after (omega (arith, low, marked.all)))))
 
 -- what a search for a number finds is the name that is free
-pub free_name_found : (names : List (Name × ℕ)) (numbers : List Bool) (answer : Option ℕ) → AreMarked names numbers → FindsClear numbers 0 answer → option_map autobind_name answer ≡ free_name names
+pub free_name_found : (names : List (Name × ℕ)) (numbers : List Bool) (answer : Option ℕ) → AreMarked names numbers →
+    FindsClear numbers 0 answer → option_map autobind_name answer ≡ free_name names
 free_name_found names numbers None marked full = sym (no_free_name names numbers marked full)
 free_name_found names numbers (Some n) marked first = sym (free_name_at names numbers n marked first)
 
@@ -64,7 +77,8 @@ digit_apart : (a b : ℕ) → a < 16 → b < 16 → hex_digit a ≡ hex_digit b 
 digit_apart a b small low same = elim (cases_lt a 10) [
   | inl decimal ↦ elim (cases_lt b 10) [
     | inl also ↦ let e : 48 + a ≡ 48 + b = rw (lt-ltb a 10 decimal, lt-ltb b 10 also) at same in omega (arith, e)
-    | inr beyond ↦ let e : 48 + a ≡ 87 + b = rw (lt-ltb a 10 decimal, le-ltb b 10 beyond) at same in absurd (omega (arith, e, decimal, beyond))
+    | inr beyond ↦ let e : 48 + a ≡ 87 + b = rw (lt-ltb a 10 decimal, le-ltb b 10 beyond) at same in
+        absurd (omega (arith, e, decimal, beyond))
   ]
   | inr above ↦ elim (cases_lt b 10) [
     | inl also ↦ let e : 87 + a ≡ 48 + b = rw (le-ltb a 10 above, lt-ltb b 10 also) at same in absurd (omega (arith, e, above, also))
@@ -73,7 +87,8 @@ digit_apart a b small low same = elim (cases_lt a 10) [
 ]
 
 -- the number that five digits spell
-number_from : (n : ℕ) → n < autobind_names → n ≡ 65536 * (n / 65536 % 16) + 4096 * (n / 4096 % 16) + 256 * (n / 256 % 16) + 16 * (n / 16 % 16) + n % 16
+number_from : (n : ℕ) → n < autobind_names →
+    n ≡ 65536 * (n / 65536 % 16) + 4096 * (n / 4096 % 16) + 256 * (n / 256 % 16) + 16 * (n / 16 % 16) + n % 16
 number_from n small =
     let a : n / 4096 ≡ 16 * (n / 65536) + n / 4096 % 16 = omega arith in
     let b : n / 256 ≡ 16 * (n / 4096) + n / 256 % 16 = omega arith in
@@ -96,14 +111,16 @@ pub none_marked : (numbers : List Bool) → IsUnmarked autobind_names numbers �
 none_marked numbers clear = record { all = clear.len; agrees = λ n low. clear.none n }
 
 -- the one number that has a name
-pub number_put : (old new : List Bool) (name : Name) (number : ℕ) (on : Bool) → number < autobind_names → autobind_name number ≡ name → PutsMark old new number on → PutsName old new name on
+pub number_put : (old new : List Bool) (name : Name) (number : ℕ) (on : Bool) → number < autobind_names → autobind_name number ≡ name →
+    PutsMark old new number on → PutsName old new name on
 number_put old new name number on small is put = record {
   same_length = put.same_length;
   this = λ n low same. let here : n ≡ number = name_apart n number low small (same ∙ sym is) in ap (is_marked new) here ∙ put.this;
   others = λ n low apart. put.others n (λ here. apart (ap autobind_name here ∙ is));
 }
 
-pub nothing_put : (marks : List Bool) (name : Name) (on : Bool) → ((n : ℕ) → n < autobind_names → autobind_name n ≢ name) → PutsName marks marks name on
+pub nothing_put : (marks : List Bool) (name : Name) (on : Bool) → ((n : ℕ) → n < autobind_names → autobind_name n ≢ name) →
+    PutsName marks marks name on
 nothing_put marks name on apart = record {
   same_length = refl;
   this = λ n low same. absurd (apart n low same);
@@ -115,7 +132,8 @@ module _ (names : List (Name × ℕ)) (name : Name) (old new : List Bool) (marke
   bound_marked d put = record {
     all = put.same_length ∙ marked.all;
     agrees = λ n low. elim (same_name_tells (autobind_name n) name) [
-      | inl here ↦ put.this n low here.1 ∙ sym (ap (λ (k : Name). is_some (named k (names ++ (name, d) ∷ []))) here.1 ∙ named_appended name d names)
+      | inl here ↦ put.this n low here.1 ∙ sym
+          (ap (λ (k : Name). is_some (named k (names ++ (name, d) ∷ []))) here.1 ∙ named_appended name d names)
       | inr other ↦ put.others n low other.1 ∙ marked.agrees n low ∙ sym (other_appended name (autobind_name n) d names other.1)
     ];
   }
@@ -124,7 +142,8 @@ module _ (names : List (Name × ℕ)) (name : Name) (old new : List Bool) (marke
   released_unmarked put = record {
     all = put.same_length ∙ marked.all;
     agrees = λ n low. elim (same_name_tells (autobind_name n) name) [
-      | inl here ↦ put.this n low here.1 ∙ sym (ap (λ (k : Name). is_some (named k (without_name name names))) here.1 ∙ ap is_some (named_without name names))
+      | inl here ↦ put.this n low here.1 ∙ sym
+          (ap (λ (k : Name). is_some (named k (without_name name names))) here.1 ∙ ap is_some (named_without name names))
       | inr other ↦ put.others n low other.1 ∙ marked.agrees n low ∙ sym (ap is_some (other_without name (autobind_name n) names other.1))
     ];
   }

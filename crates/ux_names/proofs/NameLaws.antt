@@ -29,9 +29,11 @@ same_name_sym a b = elim (same_name_tells a b) [
 module _ {X : Type 0} where
   -- ---- a further name
 
-  appended : (name other : Name) (x : X) (es : List (Name × X)) → is_some (named other (es ++ (name, x) ∷ [])) ≡ (is_some (named other es) || same_name name other)
+  appended : (name other : Name) (x : X) (es : List (Name × X)) →
+      is_some (named other (es ++ (name, x) ∷ [])) ≡ (is_some (named other es) || same_name name other)
   appended name other x [] = elim (cases_Bool (same_name name other)) [ inl same ↦ rw same refl | inr apart ↦ rw apart refl ]
-  appended name other x (e ∷ es) = elim (cases_Bool (same_name e.0 other)) [ inl same ↦ rw same refl | inr apart ↦ rw apart (appended name other x es) ]
+  appended name other x (e ∷ es) = elim (cases_Bool (same_name e.0 other))
+      [ inl same ↦ rw same refl | inr apart ↦ rw apart (appended name other x es) ]
 
   pub named_appended : (name : Name) (x : X) (es : List (Name × X)) → is_some (named name (es ++ (name, x) ∷ [])) ≡ true
   named_appended name x es = appended name name x es ∙ rw (same_name_at name name refl) (either (is_some (named name es)))
@@ -40,8 +42,10 @@ module _ {X : Type 0} where
       either true = refl
       either false = refl
 
-  pub other_appended : (name other : Name) (x : X) (es : List (Name × X)) → other ≢ name → is_some (named other (es ++ (name, x) ∷ [])) ≡ is_some (named other es)
-  other_appended name other x es apart = appended name other x es ∙ rw (same_name_apart name other (λ e. apart (sym e))) (either (is_some (named other es)))
+  pub other_appended : (name other : Name) (x : X) (es : List (Name × X)) → other ≢ name →
+      is_some (named other (es ++ (name, x) ∷ [])) ≡ is_some (named other es)
+  other_appended name other x es apart = appended name other x es
+      ∙ rw (same_name_apart name other (λ e. apart (sym e))) (either (is_some (named other es)))
     where
       either : (b : Bool) → (b || false) ≡ b
       either true = refl
@@ -51,7 +55,8 @@ module _ {X : Type 0} where
 
   pub named_without : (name : Name) (es : List (Name × X)) → named name (without_name name es) ≡ None
   named_without name [] = refl
-  named_without name (e ∷ es) = elim (cases_Bool (same_name e.0 name)) [ inl same ↦ rw same (named_without name es) | inr apart ↦ rw (apart, apart) (named_without name es) ]
+  named_without name (e ∷ es) = elim (cases_Bool (same_name e.0 name))
+      [ inl same ↦ rw same (named_without name es) | inr apart ↦ rw (apart, apart) (named_without name es) ]
 
   pub other_without : (name other : Name) (es : List (Name × X)) → other ≢ name → named other (without_name name es) ≡ named other es
   other_without name other [] apart = refl

@@ -1,5 +1,7 @@
 -- Lemmas on names in order of their numbers.
-use Rattle.std.proofs.Common.{◌≡◌, ◌≢◌, ℕ, zero, suc, ◌+◌, ◌<◌, ◌≤◌, Bool, true, false, cond, not, List, [], ◌∷◌, ◌++◌, length, map, filter, Option, Some, None, inl, inr, refl, ap, sym, subst, ◌∙◌, ◌⊎◌, get_or, position, IsPermutation, arith, true≢false}
+use Rattle.std.proofs.Common.{◌≡◌, ◌≢◌, ℕ, zero, suc, ◌+◌, ◌<◌, ◌≤◌, Bool, true, false, cond, not, List, [], ◌∷◌, ◌++◌, length, map, filter}
+use Rattle.std.proofs.Common.{Option, Some, None, inl, inr, refl, ap, sym, subst, ◌∙◌, ◌⊎◌, get_or, position, IsPermutation, arith}
+use Rattle.std.proofs.Common.{true≢false}
 use Rattle.std.specs.Prelude.{option_map}
 use Rattle.std.specs.List.{All, AllByRecursion, IsDistinct, range_with_len, flat_map, swap_remove, position_or_len}
 use Rattle.std.specs.List.Sorted.{IsNonDecreasingBy}
@@ -46,7 +48,8 @@ module _ {A : Type 0} where
   none_pass p x [] none = All-nil (λ z. p z ≡ true → z ≡ x)
   none_pass p x (y ∷ ys) none = elim (cases_Bool (p y)) [
     | inl passes ↦ let clash : y ∷ filter p ys ≡ [] = sym (kept p y ys passes) ∙ none in absurd (cc clash)
-    | inr fails ↦ All-cons (λ z. p z ≡ true → z ≡ x) y ys (λ h. absurd (true≢false (sym h ∙ fails))) (none_pass p x ys (sym (left_out p y ys fails) ∙ none))
+    | inr fails ↦ All-cons (λ z. p z ≡ true → z ≡ x) y ys
+        (λ h. absurd (true≢false (sym h ∙ fails))) (none_pass p x ys (sym (left_out p y ys fails) ∙ none))
   ]
 
   one_passes : (p : A → Bool) (x : A) (xs : List A) → filter p xs ≡ x ∷ [] → All (λ z. p z ≡ true → z ≡ x) xs
@@ -57,7 +60,8 @@ module _ {A : Type 0} where
         let head : y ≡ x = cc l in
         let rest : filter p ys ≡ [] = cc l in
         All-cons (λ z. p z ≡ true → z ≡ x) y ys (λ h. head) (none_pass p x ys rest)
-    | inr fails ↦ All-cons (λ z. p z ≡ true → z ≡ x) y ys (λ h. absurd (true≢false (sym h ∙ fails))) (one_passes p x ys (sym (left_out p y ys fails) ∙ one))
+    | inr fails ↦ All-cons (λ z. p z ≡ true → z ≡ x) y ys
+        (λ h. absurd (true≢false (sym h ∙ fails))) (one_passes p x ys (sym (left_out p y ys fails) ∙ one))
   ]
 
   -- where at most one passes, the order doesn't matter
@@ -70,7 +74,9 @@ module _ {A : Type 0} where
       by (u ∷ []) [] first second short same = absurd (omega (arith, same))
       by (u ∷ []) (v ∷ []) first second short same =
           let passes : All (λ z. p z ≡ true) (v ∷ []) = subst (All (λ z. p z ≡ true)) second (filter_passes p ys) in
-          let is : All (λ z. p z ≡ true → z ≡ u) (v ∷ []) = subst (All (λ z. p z ≡ true → z ≡ u)) second (All-filter p (λ z. p z ≡ true → z ≡ u) ys (All-permutation (λ z. p z ≡ true → z ≡ u) xs ys moved (one_passes p u xs first))) in
+          let is : All (λ z. p z ≡ true → z ≡ u) (v ∷ []) =
+          subst (All (λ z. p z ≡ true → z ≡ u)) second
+          (All-filter p (λ z. p z ≡ true → z ≡ u) ys (All-permutation (λ z. p z ≡ true → z ≡ u) xs ys moved (one_passes p u xs first))) in
           ap (λ z. z ∷ []) (sym (All-head (λ z. p z ≡ true → z ≡ u) v [] is (All-head (λ z. p z ≡ true) v [] passes)))
       by (u ∷ []) (v ∷ w ∷ vs) first second short same = absurd (omega (arith, same))
       by (u ∷ t ∷ us) vs first second short same = absurd (omega (arith, short))
@@ -81,25 +87,36 @@ pub map_twice : {A B C : Type 0} (f : A → B) (g : B → C) (xs : List A) → m
 map_twice f g [] = refl
 map_twice f g (x ∷ xs) = ap (λ l. g (f x) ∷ l) (map_twice f g xs)
 
-pub mapped_sorted : {A B : Type 0} (f : A → B) (n : B → ℕ) (xs : List A) → IsNonDecreasingBy (λ x. n (f x)) xs → IsNonDecreasingBy n (map f xs)
+pub mapped_sorted : {A B : Type 0} (f : A → B) (n : B → ℕ) (xs : List A) → IsNonDecreasingBy (λ x. n (f x)) xs →
+    IsNonDecreasingBy n (map f xs)
 mapped_sorted f n [] up i j d low high = absurd (omega (arith, high))
 mapped_sorted f n (x ∷ xs) up i j d low high =
     let within : j < length (x ∷ xs) = omega (arith, high, length-map (x ∷ xs) f) in
-    omega (arith, ap n (get_or-map f (x ∷ xs) i x d (omega (arith, low, within))), ap n (get_or-map f (x ∷ xs) j x d within), up i j x low within)
+    omega (
+      arith,
+      ap n (get_or-map f (x ∷ xs) i x d (omega (arith, low, within))),
+      ap n (get_or-map f (x ∷ xs) j x d within),
+      up i j x low within,
+    )
 
 -- ---- lists that stand end to end, one for each number
 
 module _ {A : Type 0} where
-  flat_below : (f g : ℕ → List A) (a len : ℕ) → ((n : ℕ) → a ≤ n → n < a + len → f n ≡ g n) → flat_map f (range_with_len a len) ≡ flat_map g (range_with_len a len)
+  flat_below : (f g : ℕ → List A) (a len : ℕ) → ((n : ℕ) → a ≤ n → n < a + len → f n ≡ g n) →
+      flat_map f (range_with_len a len) ≡ flat_map g (range_with_len a len)
   flat_below f g a zero same = refl
   flat_below f g a (suc len) same =
-      (λ i. same a (omega arith) (omega arith) i ++ flat_below f g (a + 1) len (λ n low high. same n (omega (arith, low)) (omega (arith, high))) i)
+      (λ i. same a (omega arith) (omega arith) i ++ flat_below f g (a + 1) len
+      (λ n low high. same n (omega (arith, low)) (omega (arith, high))) i)
 
-  flat_more : (f : ℕ → List A) (a len n : ℕ) → a + len ≡ n → flat_map f (range_with_len a (suc len)) ≡ flat_map f (range_with_len a len) ++ f n
+  flat_more : (f : ℕ → List A) (a len n : ℕ) → a + len ≡ n →
+      flat_map f (range_with_len a (suc len)) ≡ flat_map f (range_with_len a len) ++ f n
   flat_more f a zero n at = let here : a ≡ n = omega (arith, at) in append-nil (f a) ∙ ap f here
-  flat_more f a (suc len) n at = ap (λ l. f a ++ l) (flat_more f (a + 1) len n (omega (arith, at))) ∙ sym (append_assoc (f a) (flat_map f (range_with_len (a + 1) len)) (f n))
+  flat_more f a (suc len) n at = ap (λ l. f a ++ l) (flat_more f (a + 1) len n (omega (arith, at)))
+      ∙ sym (append_assoc (f a) (flat_map f (range_with_len (a + 1) len)) (f n))
 
-  flat_as_long : (f g : ℕ → List A) (a len : ℕ) → ((n : ℕ) → a ≤ n → length (g n) ≡ length (f n)) → length (flat_map g (range_with_len a len)) ≡ length (flat_map f (range_with_len a len))
+  flat_as_long : (f g : ℕ → List A) (a len : ℕ) → ((n : ℕ) → a ≤ n → length (g n) ≡ length (f n)) →
+      length (flat_map g (range_with_len a len)) ≡ length (flat_map f (range_with_len a len))
   flat_as_long f g a zero same = refl
   flat_as_long f g a (suc len) same =
       omega (
@@ -111,7 +128,8 @@ module _ {A : Type 0} where
       )
 
   -- one list is longer by one
-  flat_longer : (f g : ℕ → List A) (k a len : ℕ) → a ≤ k → k < a + len → ((n : ℕ) → n ≢ k → length (g n) ≡ length (f n)) → length (g k) ≡ suc (length (f k)) → length (flat_map g (range_with_len a len)) ≡ suc (length (flat_map f (range_with_len a len)))
+  flat_longer : (f g : ℕ → List A) (k a len : ℕ) → a ≤ k → k < a + len → ((n : ℕ) → n ≢ k → length (g n) ≡ length (f n)) →
+      length (g k) ≡ suc (length (f k)) → length (flat_map g (range_with_len a len)) ≡ suc (length (flat_map f (range_with_len a len)))
   flat_longer f g k a zero low high others here = absurd (omega (arith, low, high))
   flat_longer f g k a (suc len) low high others here =
       let left = length-append (f a) (flat_map f (range_with_len (a + 1) len)) in
@@ -119,8 +137,21 @@ module _ {A : Type 0} where
       elim (cases_eq a k) [
         | inl is ↦
             let first : length (g a) ≡ suc (length (f a)) = subst (λ n. length (g n) ≡ suc (length (f n))) (sym is) here in
-            omega (arith, left, right, first, flat_as_long f g (a + 1) len (λ n above. others n (λ e. absurd (omega (arith, above, e, is)))))
-        | inr apart ↦ omega (arith, left, right, others a apart, flat_longer f g k (a + 1) len (omega (arith, low, apart)) (omega (arith, high)) others here)
+            omega (
+              arith,
+              left,
+              right,
+              first,
+              flat_as_long f g (a + 1) len
+                  (λ n above. others n (λ e. absurd (omega (arith, above, e, is)))),
+            )
+        | inr apart ↦ omega (
+          arith,
+          left,
+          right,
+          others a apart,
+          flat_longer f g k (a + 1) len (omega (arith, low, apart)) (omega (arith, high)) others here,
+        )
       ]
 
   flat_filter : (p : A → Bool) (f : ℕ → List A) (ns : List ℕ) → filter p (flat_map f ns) ≡ flat_map (λ n. filter p (f n)) ns
@@ -146,11 +177,13 @@ module _ {X : Type 0} (name : Name) where
   flat_unnamed f [] none = refl
   flat_unnamed f (n ∷ ns) none = named_later (f n) (flat_map f ns) (none n) ∙ flat_unnamed f ns none
 
-  flat_named : (f : ℕ → List (Name × X)) (v : X) (k a len : ℕ) → a ≤ k → k < a + len → ((n : ℕ) → n ≢ k → named name (f n) ≡ None) → named name (f k) ≡ Some v → named name (flat_map f (range_with_len a len)) ≡ Some v
+  flat_named : (f : ℕ → List (Name × X)) (v : X) (k a len : ℕ) → a ≤ k → k < a + len → ((n : ℕ) → n ≢ k → named name (f n) ≡ None) →
+      named name (f k) ≡ Some v → named name (flat_map f (range_with_len a len)) ≡ Some v
   flat_named f v k a zero low high others here = absurd (omega (arith, low, high))
   flat_named f v k a (suc len) low high others here = elim (cases_eq a k) [
     | inl is ↦ named_before v (f a) (flat_map f (range_with_len (a + 1) len)) (ap (λ n. named name (f n)) is ∙ here)
-    | inr apart ↦ named_later (f a) (flat_map f (range_with_len (a + 1) len)) (others a apart) ∙ flat_named f v k (a + 1) len (omega (arith, low, apart)) (omega (arith, high)) others here
+    | inr apart ↦ named_later (f a) (flat_map f (range_with_len (a + 1) len)) (others a apart)
+        ∙ flat_named f v k (a + 1) len (omega (arith, low, apart)) (omega (arith, high)) others here
   ]
 
 -- ---- names in order
@@ -172,9 +205,12 @@ module _ {X : Type 0} where
   unfolding in_order
   none_given es = refl
 
-  pub moved_in_order : (es fs : List (Name × Binding X)) (next : ℕ) → IsPermutation es fs → AreNumbered es next → in_order es next ≡ in_order fs next
+  pub moved_in_order : (es fs : List (Name × Binding X)) (next : ℕ) → IsPermutation es fs → AreNumbered es next →
+      in_order es next ≡ in_order fs next
   unfolding in_order
-  moved_in_order es fs next moved numbered = flat_below (bound_as es) (bound_as fs) 0 next (λ n low high. ap (map shown) (filter_moved (has_number n) es fs moved (numbered.once n)))
+  moved_in_order es fs next moved numbered =
+      flat_below (bound_as es) (bound_as fs) 0 next
+      (λ n low high. ap (map shown) (filter_moved (has_number n) es fs moved (numbered.once n)))
 
   pub moved_numbered : (es fs : List (Name × Binding X)) (next : ℕ) → IsPermutation es fs → AreNumbered es next → AreNumbered fs next
   moved_numbered es fs next moved numbered = record {
@@ -236,55 +272,67 @@ module _ {X : Type 0} where
           ∙ flat_below (λ n. without_name name (bound_as (e ∷ es) n)) (bound_as es) 0 next
           (λ n low high. elim (cases_eq n e.1.number) [
             | inl is ↦
-                ap (λ k. without_name name (bound_as (e ∷ es) k)) is ∙ ap (without_name name) head_here ∙ rw (same_name_at e.0 name here) refl
+                ap (λ k. without_name name (bound_as (e ∷ es) k)) is ∙ ap (without_name name) head_here
+                ∙ rw (same_name_at e.0 name here) refl
                 ∙ sym (ap (bound_as es) is ∙ ap (map shown) rest_here)
             | inr apart ↦ ap (without_name name) (head_other n apart) ∙ nothing_without name (bound_as es n) (others n)
           ])
 
   pub length_in_order : (es : List (Name × Binding X)) (next : ℕ) → AreNumbered es next → length (in_order es next) ≡ length es
   length_in_order [] next numbered = nothing_in_order X next
-  length_in_order (e ∷ es) next numbered = in_order_longer e es next numbered ∙ ap suc (length_in_order es next (rest_numbered e es next numbered))
+  length_in_order (e ∷ es) next numbered = in_order_longer e es next numbered
+      ∙ ap suc (length_in_order es next (rest_numbered e es next numbered))
 
   -- ---- a name that is bound
 
-  module _ (es : List (Name × Binding X)) (next : ℕ) (numbered : AreNumbered es next) (name : Name) (b : Binding X) (is : b.number ≡ next) where
-    pushed : (n : ℕ) → filter (has_number n) (es ++ (name, b) ∷ []) ≡ filter (has_number n) es ++ filter (has_number n) ((name, b) ∷ [])
-    pushed n = filter-append (has_number n) es ((name, b) ∷ [])
+  module _ (es : List (Name × Binding X)) (next : ℕ) (numbered : AreNumbered es next) (name : Name) (b : Binding X) (is : b.number ≡ next)
+    where
+      pushed : (n : ℕ) → filter (has_number n) (es ++ (name, b) ∷ []) ≡ filter (has_number n) es ++ filter (has_number n) ((name, b) ∷ [])
+      pushed n = filter-append (has_number n) es ((name, b) ∷ [])
 
-    at_next : filter (has_number next) (es ++ (name, b) ∷ []) ≡ (name, b) ∷ []
-    at_next =
-        let new : has_number next (name, b) ≡ true = eq-eqb b.number next is in
-        pushed next ∙ (λ i. nothing_in (filter (has_number next) es) (numbered.given next (omega arith)) i ++ kept (has_number next) (name, b) [] new i)
+      at_next : filter (has_number next) (es ++ (name, b) ∷ []) ≡ (name, b) ∷ []
+      at_next =
+          let new : has_number next (name, b) ≡ true = eq-eqb b.number next is in
+          pushed next ∙ (λ i. nothing_in (filter (has_number next) es) (numbered.given next (omega arith)) i ++ kept (has_number next)
+          (name, b) [] new i)
 
-    elsewhere : (n : ℕ) → n ≢ next → filter (has_number n) (es ++ (name, b) ∷ []) ≡ filter (has_number n) es
-    elsewhere n apart =
-        let new : has_number n (name, b) ≡ false = ne_eqb b.number n (λ e. apart (sym e ∙ is)) in
-        pushed n ∙ ap (λ l. filter (has_number n) es ++ l) (left_out (has_number n) (name, b) [] new) ∙ append-nil (filter (has_number n) es)
+      elsewhere : (n : ℕ) → n ≢ next → filter (has_number n) (es ++ (name, b) ∷ []) ≡ filter (has_number n) es
+      elsewhere n apart =
+          let new : has_number n (name, b) ≡ false = ne_eqb b.number n (λ e. apart (sym e ∙ is)) in
+          pushed n ∙ ap (λ l. filter (has_number n) es ++ l) (left_out (has_number n) (name, b) [] new)
+          ∙ append-nil (filter (has_number n) es)
 
-    pub bound_in_order : in_order (es ++ (name, b) ∷ []) (next + 1) ≡ in_order es next ++ (name, b.value) ∷ []
-    unfolding in_order
-    bound_in_order =
-        let all = bound_as (es ++ (name, b) ∷ []) in
-        let one : next + 1 ≡ suc next = omega arith in
-        ap (λ len. flat_map all (range_with_len 0 len)) one ∙ flat_more all 0 next next (omega arith)
-        ∙ (λ i. flat_below all (bound_as es) 0 next (λ n low high. ap (map shown) (elsewhere n (λ e. absurd (omega (arith, e, high))))) i ++ ap (map shown) at_next i)
+      pub bound_in_order : in_order (es ++ (name, b) ∷ []) (next + 1) ≡ in_order es next ++ (name, b.value) ∷ []
+      unfolding in_order
+      bound_in_order =
+          let all = bound_as (es ++ (name, b) ∷ []) in
+          let one : next + 1 ≡ suc next = omega arith in
+          ap (λ len. flat_map all (range_with_len 0 len)) one ∙ flat_more all 0 next next (omega arith)
+          ∙ (λ i. flat_below all (bound_as es) 0 next
+          (λ n low high. ap (map shown) (elsewhere n (λ e. absurd (omega (arith, e, high))))) i ++ ap (map shown) at_next i)
 
-    pub bound_numbered : AreNumbered (es ++ (name, b) ∷ []) (next + 1)
-    bound_numbered = record {
-      once = λ n. elim (cases_eq n next) [
-        | inl here ↦ subst (λ k. length (filter (has_number k) (es ++ (name, b) ∷ [])) ≤ 1) (sym here) (omega (arith, ap length at_next))
-        | inr apart ↦ omega (arith, numbered.once n, ap length (elsewhere n apart))
-      ];
-      given = λ n after. omega (arith, numbered.given n (omega (arith, after)), ap length (elsewhere n (λ e. absurd (omega (arith, e, after)))));
-      few = omega (arith, numbered.few, length-append es ((name, b) ∷ []));
-    }
+      pub bound_numbered : AreNumbered (es ++ (name, b) ∷ []) (next + 1)
+      bound_numbered = record {
+        once = λ n. elim (cases_eq n next) [
+          | inl here ↦ subst (λ k. length (filter (has_number k) (es ++ (name, b) ∷ [])) ≤ 1) (sym here) (omega (arith, ap length at_next))
+          | inr apart ↦ omega (arith, numbered.once n, ap length (elsewhere n apart))
+        ];
+        given = λ n after. omega (
+          arith,
+          numbered.given n (omega (arith, after)),
+          ap length (elsewhere n (λ e. absurd (omega (arith, e, after)))),
+        );
+        few = omega (arith, numbered.few, length-append es ((name, b) ∷ []));
+      }
 
   -- ---- a name among the entries
 
-  absent : (name : Name) (es : List (Name × Binding X)) → filter (λ e. same_name name e.0) es ≡ [] → (n : ℕ) → named name (bound_as es n) ≡ None
+  absent : (name : Name) (es : List (Name × Binding X)) → filter (λ e. same_name name e.0) es ≡ [] → (n : ℕ) →
+      named name (bound_as es n) ≡ None
   absent name [] none n = refl
   absent name (e ∷ es) none n = elim (cases_Bool (same_name name e.0)) [
-    | inl same ↦ let clash : e ∷ filter (λ y. same_name name y.0) es ≡ [] = sym (kept (λ y. same_name name y.0) e es same) ∙ none in absurd (cc clash)
+    | inl same ↦ let clash : e ∷ filter (λ y. same_name name y.0) es ≡ [] = sym (kept (λ y. same_name name y.0) e es same) ∙ none in
+        absurd (cc clash)
     | inr apart ↦
         let rest = absent name es (sym (left_out (λ y. same_name name y.0) e es apart) ∙ none) n in
         elim (cases_Bool (has_number n e)) [
@@ -297,26 +345,32 @@ module _ {X : Type 0} where
   unlisted name [] none = refl
   unlisted name (e ∷ es) none = elim (cases_Bool (same_name name e.0)) [
     | inl same ↦ let clash : Some e.1 ≡ None = rw same at none in absurd (cc clash)
-    | inr apart ↦ let rest : lookup (same_name name) es ≡ None = rw apart at none in left_out (λ y. same_name name y.0) e es apart ∙ unlisted name es rest
+    | inr apart ↦ let rest : lookup (same_name name) es ≡ None = rw apart at none in
+        left_out (λ y. same_name name y.0) e es apart ∙ unlisted name es rest
   ]
 
   -- a name that differs from each key stands nowhere
-  all_apart : (name : Name) (es : List (Name × Binding X)) → AllByRecursion (λ y. same_name name y ≡ false) (keys_of es) → filter (λ e. same_name name e.0) es ≡ []
+  all_apart : (name : Name) (es : List (Name × Binding X)) → AllByRecursion (λ y. same_name name y ≡ false) (keys_of es) →
+      filter (λ e. same_name name e.0) es ≡ []
   all_apart name [] apart = refl
   all_apart name (e ∷ es) apart = left_out (λ y. same_name name y.0) e es apart.0 ∙ all_apart name es apart.1
 
-  once_named : (name : Name) (es : List (Name × Binding X)) → IsDistinct same_name (keys_of es) → length (filter (λ e. same_name name e.0) es) ≤ 1
+  once_named : (name : Name) (es : List (Name × Binding X)) → IsDistinct same_name (keys_of es) →
+      length (filter (λ e. same_name name e.0) es) ≤ 1
   unfolding IsDistinct
   once_named name [] distinct = omega arith
   once_named name (e ∷ es) distinct = elim (same_name_tells name e.0) [
     | inl same ↦
-        let apart : AllByRecursion (λ y. same_name name y ≡ false) (keys_of es) = subst (λ (k : Name). AllByRecursion (λ y. same_name k y ≡ false) (keys_of es)) (sym same.1) distinct.0 in
+        let apart : AllByRecursion (λ y. same_name name y ≡ false) (keys_of es) =
+        subst (λ (k : Name). AllByRecursion (λ y. same_name k y ≡ false) (keys_of es)) (sym same.1) distinct.0 in
         omega (arith, ap length (kept (λ y. same_name name y.0) e es same.0), ap length (all_apart name es apart))
     | inr other ↦ omega (arith, ap length (left_out (λ y. same_name name y.0) e es other.0), once_named name es distinct.1)
   ]
 
   -- the first key that is the name
-  first_is : (name : Name) (es : List (Name × Binding X)) (d : Name × Binding X) (i : ℕ) → position_or_len (same_name name) (keys_of es) ≡ i → i < length es → (same_name name (get_or es i d).0 ≡ true) × (lookup (same_name name) es ≡ Some (get_or es i d).1)
+  first_is : (name : Name) (es : List (Name × Binding X)) (d : Name × Binding X) (i : ℕ) →
+      position_or_len (same_name name) (keys_of es) ≡ i → i < length es →
+      (same_name name (get_or es i d).0 ≡ true) × (lookup (same_name name) es ≡ Some (get_or es i d).1)
   first_is name [] d i at within = absurd (omega (arith, within))
   first_is name (e ∷ es) d zero at within = elim (cases_Bool (same_name name e.0)) [
     | inl same ↦ (same, rw same refl)
@@ -324,7 +378,8 @@ module _ {X : Type 0} where
   ]
   first_is name (e ∷ es) d (suc i) at within = elim (cases_Bool (same_name name e.0)) [
     | inl same ↦ absurd (omega (arith, (rw same at at)))
-    | inr apart ↦ let found = first_is name es d i (omega (arith, (rw apart at at))) (omega (arith, within)) in (found.0, (rw apart found.1))
+    | inr apart ↦ let found = first_is name es d i (omega (arith, (rw apart at at))) (omega (arith, within)) in
+        (found.0, (rw apart found.1))
   ]
 
   -- the name isn't there
@@ -340,12 +395,18 @@ module _ {X : Type 0} where
     pub looked : lookup (same_name name) es ≡ Some e.1
     pub leaves : swap_remove_entry (same_name name) es ≡ rest
 
-  look : (name : Name) (es : List (Name × Binding X)) → IsDistinct same_name (keys_of es) → IsUnlisted name es ⊎ ((e : Name × Binding X) × (rest : List (Name × Binding X)) × IsListed name es e rest)
+  look : (name : Name) (es : List (Name × Binding X)) → IsDistinct same_name (keys_of es) →
+      IsUnlisted name es ⊎ ((e : Name × Binding X) × (rest : List (Name × Binding X)) × IsListed name es e rest)
   look name [] distinct = inl (record { looked = refl; stays = refl })
   look name (x ∷ xs) distinct = by (position (same_name name) (keys_of (x ∷ xs))) refl
     where
-      by : (r : Option ℕ) → position (same_name name) (keys_of (x ∷ xs)) ≡ r → IsUnlisted name (x ∷ xs) ⊎ ((e : Name × Binding X) × (rest : List (Name × Binding X)) × IsListed name (x ∷ xs) e rest)
-      by None p = inl (record { looked = (Missing-position (same_name name) (x ∷ xs) p).value; stays = swap_remove_entry-missing (same_name name) (x ∷ xs) p })
+      by : (r : Option ℕ) → position (same_name name) (keys_of (x ∷ xs)) ≡ r →
+          IsUnlisted name (x ∷ xs) ⊎ ((e : Name × Binding X) × (rest : List (Name × Binding X)) × IsListed name (x ∷ xs) e rest)
+      by None p = inl (record {
+        looked = (Missing-position (same_name name) (x ∷ xs) p).value;
+        stays =
+            swap_remove_entry-missing (same_name name) (x ∷ xs) p;
+      })
       by (Some i) p =
           let es = x ∷ xs in
           let f = Found-position (same_name name) es i p in
@@ -366,11 +427,13 @@ module _ {X : Type 0} where
             },
           )
 
-  none_in_order : (name : Name) (es : List (Name × Binding X)) (next : ℕ) → lookup (same_name name) es ≡ None → named name (in_order es next) ≡ None
+  none_in_order : (name : Name) (es : List (Name × Binding X)) (next : ℕ) → lookup (same_name name) es ≡ None →
+      named name (in_order es next) ≡ None
   unfolding in_order
   none_in_order name es next none = flat_unnamed name (bound_as es) (range_with_len 0 next) (absent name es (unlisted name es none))
 
-  module _ (name : Name) (es : List (Name × Binding X)) (next : ℕ) (distinct : IsDistinct same_name (keys_of es)) (numbered : AreNumbered es next) where
+  module _ (name : Name) (es : List (Name × Binding X)) (next : ℕ) (distinct : IsDistinct same_name (keys_of es))
+      (numbered : AreNumbered es next) where
     pub named_in_order : named name (in_order es next) ≡ option_map (λ (b : Binding X). b.value) (lookup (same_name name) es)
     named_in_order = elim (look name es distinct) [
       | inl none ↦ none_in_order name es next none.looked ∙ sym (ap (option_map (λ (b : Binding X). b.value)) none.looked)
@@ -391,7 +454,8 @@ module _ {X : Type 0} where
 
     pub removed_in_order : in_order (swap_remove_entry (same_name name) es) next ≡ without_name name (in_order es next)
     removed_in_order = elim (look name es distinct) [
-      | inl none ↦ ap (λ l. in_order l next) none.stays ∙ sym (nothing_without name (in_order es next) (none_in_order name es next none.looked))
+      | inl none ↦ ap (λ l. in_order l next) none.stays
+          ∙ sym (nothing_without name (in_order es next) (none_in_order name es next none.looked))
       | inr found ↦
           let e = found.0 in
           let listed = found.2 in
@@ -404,7 +468,8 @@ module _ {X : Type 0} where
     removed_numbered = elim (look name es distinct) [
       | inl none ↦ subst (λ l. AreNumbered l next) (sym none.stays) numbered
       | inr found ↦
-          subst (λ l. AreNumbered l next) (sym found.2.leaves) (rest_numbered found.0 found.1 next (moved_numbered es (found.0 ∷ found.1) next found.2.moved numbered))
+          subst (λ l. AreNumbered l next) (sym found.2.leaves)
+          (rest_numbered found.0 found.1 next (moved_numbered es (found.0 ∷ found.1) next found.2.moved numbered))
     ]
 
   -- ---- entries that were sorted
@@ -424,7 +489,8 @@ module _ {X : Type 0} where
       left_out (has_number n) e es (other_number e n (λ is. absurd (omega (arith, is, under, climbs.0))))
       ∙ none_below n (e.1.number + 1) high es (omega (arith, under, climbs.0)) climbs.2
 
-  climb_in_order : (es : List (Name × Binding X)) (low len high : ℕ) → low + len ≡ high → Climbs low high es → flat_map (bound_as es) (range_with_len low len) ≡ map shown es
+  climb_in_order : (es : List (Name × Binding X)) (low len high : ℕ) → low + len ≡ high → Climbs low high es →
+      flat_map (bound_as es) (range_with_len low len) ≡ map shown es
   climb_in_order [] low zero high end climbs = refl
   climb_in_order (e ∷ es) low zero high end climbs = absurd (omega (arith, end, climbs.0, climbs.1))
   climb_in_order [] low (suc len) high end climbs = climb_in_order [] (low + 1) len high (omega (arith, end)) climbs
@@ -435,25 +501,34 @@ module _ {X : Type 0} where
         let here : bound_as (e ∷ es) low ≡ shown e ∷ [] =
         ap (map shown) (kept (has_number low) e es this ∙ ap (λ l. e ∷ l) (none_below low (low + 1) high es (omega arith) later)) in
         let beyond : flat_map (bound_as (e ∷ es)) (range_with_len (low + 1) len) ≡ flat_map (bound_as es) (range_with_len (low + 1) len) =
-        flat_below (bound_as (e ∷ es)) (bound_as es) (low + 1) len (λ n above under. ap (map shown) (left_out (has_number n) e es (other_number e n (λ at. absurd (omega (arith, at, is, above)))))) in
+        flat_below (bound_as (e ∷ es)) (bound_as es) (low + 1) len
+        (λ n above under. ap (map shown) (left_out (has_number n) e es (other_number e n (λ at. absurd (omega (arith, at, is, above)))))) in
         (λ i. here i ++ (beyond ∙ climb_in_order es (low + 1) len high (omega (arith, end)) later) i)
     | inr apart ↦
         let later : Climbs (low + 1) high (e ∷ es) = (omega (arith, apart, climbs.0), climbs.1, climbs.2) in
-        (λ i. map shown (none_below low (low + 1) high (e ∷ es) (omega arith) later i) ++ climb_in_order (e ∷ es) (low + 1) len high (omega (arith, end)) later i)
+        (λ i. map shown (none_below low (low + 1) high (e ∷ es) (omega arith) later i) ++ climb_in_order (e ∷ es) (low + 1) len high
+        (omega (arith, end)) later i)
   ]
 
-  sorted_climbs : (es : List (Name × Binding X)) (low next : ℕ) → IsNonDecreasingBy (λ e. e.1.number) es → AreNumbered es next → IsFrom low es → Climbs low next es
+  sorted_climbs : (es : List (Name × Binding X)) (low next : ℕ) → IsNonDecreasingBy (λ e. e.1.number) es → AreNumbered es next →
+      IsFrom low es → Climbs low next es
   sorted_climbs [] low next sorted numbered from = tt
   sorted_climbs (e ∷ es) low next sorted numbered from =
-      let rest = rest_numbered e es next numbered in
-      (from, below_next e es next numbered, sorted_climbs es (e.1.number + 1) next (λ i j d low high. sorted (suc i) (suc j) d (omega (arith, low)) (omega (arith, high))) rest (higher es sorted numbered))
+      let rest = rest_numbered e es next numbered in (
+        from,
+        below_next e es next numbered,
+        sorted_climbs es (e.1.number + 1) next
+            (λ i j d low high. sorted (suc i) (suc j) d (omega (arith, low)) (omega (arith, high))) rest (higher es sorted numbered),
+      )
     where
-      higher : (fs : List (Name × Binding X)) → IsNonDecreasingBy (λ y. y.1.number) (e ∷ fs) → AreNumbered (e ∷ fs) next → IsFrom (e.1.number + 1) fs
+      higher : (fs : List (Name × Binding X)) → IsNonDecreasingBy (λ y. y.1.number) (e ∷ fs) → AreNumbered (e ∷ fs) next →
+          IsFrom (e.1.number + 1) fs
       higher [] up unique = tt
       higher (f ∷ fs) up unique =
           let none = rest_here e (f ∷ fs) next unique in
           let apart : e.1.number ≢ f.1.number =
-          λ is. let clash : f ∷ filter (has_number e.1.number) fs ≡ [] = sym (kept (has_number e.1.number) f fs (eq-eqb f.1.number e.1.number (sym is))) ∙ none in absurd (cc clash) in
+          λ is. let clash : f ∷ filter (has_number e.1.number) fs ≡ [] =
+          sym (kept (has_number e.1.number) f fs (eq-eqb f.1.number e.1.number (sym is))) ∙ none in absurd (cc clash) in
           let below : e.1.number ≤ f.1.number = up 0 1 e (omega arith) (omega arith) in
           omega (arith, apart, below)
 
@@ -465,8 +540,10 @@ module _ {X : Type 0} where
   from_start [] = tt
   from_start (e ∷ es) = omega arith
 
-  pub sorted_in_order : (es sorted : List (Name × Binding X)) (next : ℕ) → AreNumbered es next → IsPermutation es sorted → IsNonDecreasingBy (λ e. e.1.number) sorted → map shown sorted ≡ in_order es next
-  sorted_in_order es sorted next numbered moved up = sym (moved_in_order es sorted next moved numbered ∙ all sorted (moved_numbered es sorted next moved numbered) up)
+  pub sorted_in_order : (es sorted : List (Name × Binding X)) (next : ℕ) → AreNumbered es next → IsPermutation es sorted →
+      IsNonDecreasingBy (λ e. e.1.number) sorted → map shown sorted ≡ in_order es next
+  sorted_in_order es sorted next numbered moved up =
+      sym (moved_in_order es sorted next moved numbered ∙ all sorted (moved_numbered es sorted next moved numbered) up)
     where
       all : (fs : List (Name × Binding X)) → AreNumbered fs next → IsNonDecreasingBy (λ e. e.1.number) fs → in_order fs next ≡ map shown fs
       all fs unique rises = climb fs next (sorted_climbs fs 0 next rises unique (from_start fs))

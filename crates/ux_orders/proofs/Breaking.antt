@@ -12,7 +12,11 @@ use Rattle.ux_orders.specs.Lists.{pids_of, MakesList}
 
 -- who has made all calls has made the first of them
 begun : (boot : State) (s : Plan) (a : Ran) → IsRunOf boot s a → HasBegun boot s (entries_of a)
-begun boot s (Ran.Whole entries) run = record { legal = run.legal; calls = λ p known. ([], append-nil (requests_of p entries.items) ∙ run.calls p known) }
+begun boot s (Ran.Whole entries) run = record {
+  legal = run.legal;
+  calls =
+      λ p known. ([], append-nil (requests_of p entries.items) ∙ run.calls p known);
+}
 begun boot s (Ran.Deadlock entries waits) run = run
 begun boot s (Ran.Refused entries) run = run
 
@@ -21,12 +25,14 @@ broken boot s a (Ran.Whole entries) same e run = absurd cc
 broken boot s a (Ran.Deadlock entries waits) same e run = absurd cc
 broken boot s a (Ran.Refused entries) same e run = subst (λ (es : List Entry). HasBegun boot s es) (sym same) (begun boot s a run)
 
-pub made : (pids : List Pid) (ran : Ran) → is_refused ran ≡ false → (rest : List Pid) × (pids_of (entries_of ran) ≡ pids ++ rest) → MakesList pids ran
+pub made : (pids : List Pid) (ran : Ran) → is_refused ran ≡ false → (rest : List Pid) × (pids_of (entries_of ran) ≡ pids ++ rest) →
+    MakesList pids ran
 made pids (Ran.Whole entries) e list = list
 made pids (Ran.Deadlock entries waits) e list = list
 made pids (Ran.Refused entries) e list = absurd cc
 
-pub made_first : (pids : List Pid) (ran : Ran) → is_refused ran ≡ true → (rest : List Pid) × (pids ≡ pids_of (entries_of ran) ++ rest) → MakesList pids ran
+pub made_first : (pids : List Pid) (ran : Ran) → is_refused ran ≡ true → (rest : List Pid) × (pids ≡ pids_of (entries_of ran) ++ rest) →
+    MakesList pids ran
 made_first pids (Ran.Whole entries) e list = absurd cc
 made_first pids (Ran.Deadlock entries waits) e list = absurd cc
 made_first pids (Ran.Refused entries) e list = list

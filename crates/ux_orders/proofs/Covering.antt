@@ -1,5 +1,6 @@
 -- Outcomes that are kept, and the runs that they stand for.
-use Rattle.std.proofs.Common.{◌≡◌, ◌+◌, ◌<◌, ◌≤◌, inl, inr, ⊎_elim, ℕ, zero, suc, false, List, [], ◌∷◌, ◌++◌, length, refl, sym, ap, ◌∙◌, subst, arith, slice_set}
+use Rattle.std.proofs.Common.{◌≡◌, ◌+◌, ◌<◌, ◌≤◌, inl, inr, ⊎_elim, ℕ, zero, suc, false, List, [], ◌∷◌, ◌++◌, length, refl, sym, ap, ◌∙◌}
+use Rattle.std.proofs.Common.{subst, arith, slice_set}
 use Rattle.std.specs.Prelude.{slice_index_or}
 use Rattle.std.proofs.lemmas.List.{length-append}
 use Rattle.std.specs.List.{AllByRecursion}
@@ -43,7 +44,8 @@ same_self n (Ran.Refused a) e = absurd cc
 
 has_more : (n : ℕ) (xs : List Ran) (ran r : Ran) → HasOutcome n xs r → HasOutcome n (xs ++ ran ∷ []) r
 has_more n [] ran r has = absurd has
-has_more n (x ∷ xs) ran r has = ⊎_elim {C = HasOutcome n (x ∷ xs ++ ran ∷ []) r} (λ here. inl here) (λ more. inr (has_more n xs ran r more)) has
+has_more n (x ∷ xs) ran r has = ⊎_elim {C = HasOutcome n (x ∷ xs ++ ran ∷ []) r} (λ here. inl here)
+    (λ more. inr (has_more n xs ran r more)) has
 
 has_last : (n : ℕ) (xs : List Ran) (ran : Ran) → SameOutcome n ran ran → HasOutcome n (xs ++ ran ∷ []) ran
 has_last n [] ran same = inl (same, omega arith)
@@ -88,9 +90,11 @@ all_weaker P Q f [] all = all
 all_weaker P Q f (x ∷ xs) all = (f x all.0, all_weaker P Q f xs all.1)
 
 -- what is kept is of runs still
-pub keeps_runs : (P : Ran → Type 0) (n : ℕ) (old new : List Ran) (ran : Ran) → Keeps n old new ran → AllByRecursion P old → P ran → AllByRecursion P new
+pub keeps_runs : (P : Ran → Type 0) (n : ℕ) (old new : List Ran) (ran : Ran) → Keeps n old new ran → AllByRecursion P old → P ran →
+    AllByRecursion P new
 keeps_runs P n old new ran (Keeps.added e) all one = subst (λ (xs : List Ran). AllByRecursion P xs) (sym e) (all_more P old ran all one)
-keeps_runs P n old new ran (Keeps.replaced i inside same short e) all one = subst (λ (xs : List Ran). AllByRecursion P xs) (sym e) (all_set P old i ran all one)
+keeps_runs P n old new ran (Keeps.replaced i inside same short e) all one =
+    subst (λ (xs : List Ran). AllByRecursion P xs) (sym e) (all_set P old i ran all one)
 keeps_runs P n old new ran (Keeps.known i inside same short e) all one = subst (λ (xs : List Ran). AllByRecursion P xs) (sym e) all
 
 pub keeps_old : (n : ℕ) (old new : List Ran) (ran r : Ran) → Keeps n old new ran → HasOutcome n old r → HasOutcome n new r
@@ -100,7 +104,8 @@ keeps_old n old new ran r (Keeps.replaced i inside same short e) has =
 keeps_old n old new ran r (Keeps.known i inside same short e) has = subst (λ (xs : List Ran). HasOutcome n xs r) (sym e) has
 
 pub keeps_own : (n : ℕ) (old new : List Ran) (ran : Ran) → is_refused ran ≡ false → Keeps n old new ran → HasOutcome n new ran
-keeps_own n old new ran ended (Keeps.added e) = subst (λ (xs : List Ran). HasOutcome n xs ran) (sym e) (has_last n old ran (same_self n ran ended))
+keeps_own n old new ran ended (Keeps.added e) =
+    subst (λ (xs : List Ran). HasOutcome n xs ran) (sym e) (has_last n old ran (same_self n ran ended))
 keeps_own n old new ran ended (Keeps.replaced i inside same short e) =
     subst (λ (xs : List Ran). HasOutcome n xs ran) (sym e) (has_at_set n old i ran inside (same_self n ran ended))
 keeps_own n old new ran ended (Keeps.known i inside same short e) =

@@ -1,10 +1,13 @@
 -- What a crew keeps true, and what its processes do next.
-use Rattle.std.proofs.Common.{Vec, Global, ◌≡◌, ◌≢◌, ℕ, zero, suc, ◌+◌, ◌-◌, ◌<◌, ◌≤◌, Bool, true, false, cond, not, ◌&&◌, ◌||◌, ◌==◌, List, [], ◌∷◌, ◌++◌, length, get_or, set, take, drop, replicate, Option, Some, None, refl, ap, sym, subst, ◌∙◌, ⊎_elim, arith}
+use Rattle.std.proofs.Common.{Vec, Global, ◌≡◌, ◌≢◌, ℕ, zero, suc, ◌+◌, ◌-◌, ◌<◌, ◌≤◌, Bool, true, false, cond, not, ◌&&◌, ◌||◌, ◌==◌, List}
+use Rattle.std.proofs.Common.{[], ◌∷◌, ◌++◌, length, get_or, set, take, drop, replicate, Option, Some, None, refl, ap, sym, subst, ◌∙◌}
+use Rattle.std.proofs.Common.{⊎_elim, arith}
 use Rattle.std.specs.Prelude.{if◌then◌else◌, IfSome, Result, Ok, Err, is_err, OnOk, OnErr}
 use Rattle.std.specs.List.{slice_get}
 use Rattle.std.proofs.lemmas.Bool.{false≢true, or_parts, ne_eqb, eqb-true, eqb-false}
 use Rattle.std.proofs.lemmas.Bool.Decides.{eqb_tells}
-use Rattle.std.proofs.lemmas.List.{take-append-drop, drop_more, take_more, append-nil, length-set, length_push, length-replicate, get_or-set_same, get_or-set_other, get_or-replicate}
+use Rattle.std.proofs.lemmas.List.{take-append-drop, drop_more, take_more, append-nil, length-set, length_push, length-replicate}
+use Rattle.std.proofs.lemmas.List.{get_or-set_same, get_or-set_other, get_or-replicate}
 use Rattle.std.proofs.lemmas.List.Folds.{list_any-append}
 use Rattle.std.proofs.lemmas.List.Elements.{filter-append}
 use Rattle.std.proofs.lemmas.List.Sums.{sum_by_push}
@@ -13,8 +16,8 @@ use Rattle.ux_model.specs.Types.{Pid, Request, Reply, Entry}
 use Rattle.ux_model.specs.State.{State, is_live, next_process}
 use Rattle.ux_model.specs.Waiting.{may_wait, should_wait}
 use Rattle.ux_model.specs.History.{calls_of, is_exit, is_fork, is_allowed, makes, makes_one, IsLegal}
-use Rattle.ux_model.proofs.Living.{exit_and_fork_alone, fork_tells_the_next, fork_alone_makes, live_within, made_next}
-use Rattle.ux_model.proofs.Numbering.{no_call_before_made}
+use Rattle.ux_model.proofs.Processes.Living.{exit_and_fork_alone, fork_tells_the_next, fork_alone_makes, live_within, made_next}
+use Rattle.ux_model.proofs.Processes.Numbering.{no_call_before_made}
 use Rattle.ux_book.specs.Books.{KeptHistory, state_of, processes, entry_of, is_last, has_own_call}
 use Rattle.ux_book.specs.Sitting.{Answers}
 use Rattle.ux_syntax.specs.declared.script.Act.{Act}

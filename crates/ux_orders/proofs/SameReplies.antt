@@ -25,7 +25,8 @@ bytes_same bytes b = search rules
 at_same : (at : ℕ) (b : Reply) → Same (Reply.At at) b
 at_same at b = search rules
 
-received_same : (flags : MsgFlags) (n : ℕ) (bytes control : Bytes) (from : Option Addr) (b : Reply) → Same (Reply.Received flags n bytes control from) b
+received_same : (flags : MsgFlags) (n : ℕ) (bytes control : Bytes) (from : Option Addr) (b : Reply) →
+    Same (Reply.Received flags n bytes control from) b
 received_same flags n bytes control from b = search rules
 
 accepted_same : (fd : Fd) (addr : Addr) (b : Reply) → Same (Reply.Accepted fd addr) b

@@ -15,7 +15,7 @@ use Rattle.ux_model.specs.Step.{Step, outcome}
 use Rattle.ux_model.specs.Delivered.{delivered_by}
 use Rattle.ux_model.specs.Waiting.{may_wait, is_again, should_wait}
 use Rattle.ux_model.specs.History.{calls_of, replay}
-use Rattle.ux_model.proofs.Appending.{get_push}
+use Rattle.ux_model.proofs.Lists.Appending.{get_push}
 use Rattle.ux_book.specs.Books.{KeptHistory, state_of, MustWait}
 use Rattle.ux_syntax.specs.Lines.{Line}
 use Rattle.ux_orders.specs.declared.chooser.Ready.{Ready}

@@ -67,7 +67,8 @@ ok_both (Ok x) f p q = f p q
 ok_both (Err e) f p q = tt
 
 -- one run more
-pub one_more : (boot : State) (s : Plan) (orders : ℕ) (old new : List Ran) (ran : Ran) → IsRun boot s ran → Keeps (known_count s) old new ran →
+pub one_more : (boot : State) (s : Plan) (orders : ℕ) (old new : List Ran) (ran : Ran) → IsRun boot s ran →
+    Keeps (known_count s) old new ran →
     AllByRecursion (IsRun boot s) old → Cover boot s orders old → AllByRecursion (IsRun boot s) new × Cover boot s (orders + 1) new
 one_more boot s orders old new ran run keeps runs cover =
     (keeps_runs (IsRun boot s) (known_count s) old new ran keeps runs run, cover_more boot s orders old new ran cover run keeps)
@@ -77,7 +78,8 @@ pub taken : (boot : State) (s : Plan) (old new : Found) (ran : Ran) → IsRunOf 
     AllByRecursion (IsRun boot s) old.outcomes.items → Cover boot s old.orders old.outcomes.items →
     AllByRecursion (IsRun boot s) new.outcomes.items × Cover boot s new.orders new.outcomes.items × (new.orders ≤ old.orders + 1)
 taken boot s old new ran run (Takes.kept ended keeps count) runs cover =
-    let more = one_more boot s old.orders old.outcomes.items new.outcomes.items ran (record { run = run; ended = ended }) keeps runs cover in
+    let more = one_more boot s old.orders old.outcomes.items new.outcomes.items ran (record { run = run; ended = ended }) keeps runs cover
+    in
     (more.0, subst (λ (n : ℕ). Cover boot s n new.outcomes.items) (sym count) more.1, omega (arith, count))
 taken boot s old new ran run (Takes.broken broken same) runs cover = (
   subst (λ (found : Found). AllByRecursion (IsRun boot s) found.outcomes.items) (sym same) runs,
@@ -86,14 +88,16 @@ taken boot s old new ran run (Takes.broken broken same) runs cover = (
 )
 
 -- where a run was added
-pub grows_added : (s : Plan) (old : Walk) (found : Found) → found.is_all ≡ old.found.is_all → KeepsAll s old.found.outcomes.items found.outcomes.items →
+pub grows_added : (s : Plan) (old : Walk) (found : Found) → found.is_all ≡ old.found.is_all →
+    KeepsAll s old.found.outcomes.items found.outcomes.items →
     Grows s old (record old { found = found })
 grows_added s old found all keeps = record { all = λ h. sym all ∙ h; outcomes = keeps; limit = refl }
 
 pub walk_noted : (boot : State) (s : Plan) (old new : Walk) → new ≡ record old { found = record old.found { is_all = new.found.is_all } } →
     IsWalk boot s old → IsWalk boot s new
 walk_noted boot s old new rest walk =
-    subst (λ (w : Walk). IsWalk boot s w) (sym rest) (record { runs = walk.runs; covered = walk.covered; few = walk.few; within = walk.within })
+    subst (λ (w : Walk). IsWalk boot s w) (sym rest)
+    (record { runs = walk.runs; covered = walk.covered; few = walk.few; within = walk.within })
 
 pub walk_added : (boot : State) (s : Plan) (old : Walk) (found : Found) (ran : Ran) → IsWalk boot s old → old.found.orders < old.begun →
     IsRun boot s ran → Keeps (known_count s) old.found.outcomes.items found.outcomes.items ran → found.orders ≡ old.found.orders + 1 →

@@ -1,6 +1,5 @@
 -- What the crew of a run keeps: the book, the script's lines, and how far each process has come in them.
-use Rattle.std.specs.Prelude.{◌≡◌, ℕ, ◌+◌, ◌<◌, Bool, true, List, ◌∷◌, [], ◌++◌, drop, get_or, length, Some, None}
-use Rattle.std.specs.Prelude.{◌==◌}
+use Rattle.std.specs.Prelude.{◌≡◌, ℕ, ◌+◌, ◌<◌, Bool, true, List, ◌∷◌, [], ◌++◌, drop, get_or, length, Some, None, ◌==◌}
 use Rattle.std.specs.List.{slice_get, list_any, AllByRecursion}
 use Rattle.ux_model.specs.Types.{Pid, Request, Entry}
 use Rattle.ux_model.specs.State.{is_live}
@@ -47,7 +46,8 @@ IsHeld crew pid = (request : Request) → asks crew.book crew.lines pid.0 ≡ So
 -- is left is behind that line.
 abbrev pub IsNext : (ℕ → ℕ → Bool) → ℕ → List Line → List Line → Next → Type 0
 IsNext come p lines left (Next.Call place) =
-    (line : Line) × (slice_get lines place ≡ Some line) × (next_line come p 0 left ≡ Some line) × ((request : Request) × (line.act ≡ Act.Call request))
+    (line : Line) × (slice_get lines place ≡ Some line) × (next_line come p 0 left ≡ Some line)
+    × ((request : Request) × (line.act ≡ Act.Call request))
     × ((other : ℕ → ℕ → Bool) (j : ℕ) → next_line other p (j + 1) left ≡ next_line other p j (drop (place + 1) lines))
 IsNext come p lines left (Next.Wait place) =
     (line : Line) × (slice_get lines place ≡ Some line) × (next_line come p 0 left ≡ Some line) × (call_in line.act ≡ None)

@@ -24,7 +24,8 @@ was_made book q = nat_lt 0 q && nat_le q (processes book)
 -- a process has come so far as to have made so many calls, or has exited; one that was never made is waited for until process 1 has exited
 abbrev pub has_come : KeptHistory → ℕ → ℕ → Bool
 has_come book q n =
-    if is_live (state_of book) q then nat_le n (calls_of q book.entries) else (was_made book q || (not (is_live (state_of book) 1) || (n == 0)))
+    if is_live (state_of book) q then nat_le n (calls_of q book.entries)
+    else (was_made book q || (not (is_live (state_of book) 1) || (n == 0)))
 
 -- what comes of a process's own line behind so many of its calls: the line itself, what comes where it is passed, or what comes where it is
 -- one of those calls
@@ -65,7 +66,8 @@ pub record Follows (boot : State) (lines : List Line) (before : List Entry) (e :
 -- each of these calls came next
 pub data Threaded (boot : State) (lines : List Line) : List Entry → Type 0 where
   start : Threaded boot lines []
-  further : {calls : List Entry} (e : Entry) → Threaded boot lines calls → Follows boot lines calls e → Threaded boot lines (calls ++ e ∷ [])
+  further : {calls : List Entry} (e : Entry) → Threaded boot lines calls → Follows boot lines calls e →
+      Threaded boot lines (calls ++ e ∷ [])
 
 -- the reply is one that may come in place of another: a lack of memory, or a failure of a file object
 abbrev pub is_choice : Reply → Bool
@@ -75,7 +77,8 @@ is_choice reply = lacks_memory reply || fails reply
 abbrev pub has_choice : List Entry → Bool
 has_choice entries = list_any (λ e. is_choice e.reply) entries
 
--- These are all calls that threads make, up to where each process has exited or has to wait, where no memory lacks and no file object fails.
+-- These are all calls that threads make, up to where each process has exited or has to wait, where no memory lacks and no file object
+-- fails.
 pub record AreAll (boot : State) (lines : List Line) (calls : List Entry) : Type 0 where
   pub threaded : Threaded boot lines calls
   pub sure : has_choice calls ≡ false

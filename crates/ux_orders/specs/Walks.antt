@@ -41,4 +41,5 @@ pub record GoesOn (pids : List Pid) (ready : List Ready) : Type 0 where
 -- each history that begins with calls of these processes is known, or goes on with one of those that are ready
 abbrev pub Leads : State → Plan → List Ran → List Pid → List Ready → Type 0
 Leads boot s outcomes pids ready =
-    (calls : List Entry) (more : List Pid) → AreAll boot s.lines calls → pids_of calls ≡ pids ++ more → IsKnown boot s outcomes calls ⊎ GoesOn more ready
+    (calls : List Entry) (more : List Pid) → AreAll boot s.lines calls → pids_of calls ≡ pids ++ more →
+    IsKnown boot s outcomes calls ⊎ GoesOn more ready

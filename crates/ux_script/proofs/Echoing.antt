@@ -1,5 +1,6 @@
 -- A history beside its script as far as a loop has come.
-use Rattle.std.proofs.Common.{◌≡◌, ℕ, zero, suc, ◌+◌, ◌<◌, List, [], ◌∷◌, ◌++◌, length, get_or, take, refl, ap, sym, ◌∙◌, append_assoc, arith}
+use Rattle.std.proofs.Common.{◌≡◌, ℕ, zero, suc, ◌+◌, ◌<◌, List, [], ◌∷◌, ◌++◌, length, get_or, take, refl, ap, sym, ◌∙◌, append_assoc}
+use Rattle.std.proofs.Common.{arith}
 use Rattle.std.specs.Prelude.{Option, Some, None, slice_index_or}
 use Rattle.std.specs.Io.KnownBytes.{Appends}
 use Rattle.std.proofs.lemmas.List.{append-nil}
@@ -20,7 +21,8 @@ behind first all front line rest e = ap (λ (t : List ℕ). first ++ t) e ∙ sy
 behind_more : (first all front line : List ℕ) → all ≡ front ++ line → first ++ all ≡ (first ++ front) ++ line
 behind_more first all front line e = ap (λ (t : List ℕ). first ++ t) e ∙ sym (append_assoc first front line)
 
-comes : (lines : List (Option ℕ)) (es : List Entry) (i : ℕ) (d : Entry) → i < length es → Comes lines es i (echo_line (slice_index_or lines i None) (get_or es i d))
+comes : (lines : List (Option ℕ)) (es : List Entry) (i : ℕ) (d : Entry) → i < length es →
+    Comes lines es i (echo_line (slice_index_or lines i None) (get_or es i d))
 comes lines [] i d lt = absurd (omega (arith, lt))
 comes [] (e ∷ es) zero d lt = record { rest = echo [] es; whole = refl; more = append-nil (echo_line None e) }
 comes (n ∷ ns) (e ∷ es) zero d lt = record { rest = echo ns es; whole = refl; more = append-nil (echo_line n e) }
@@ -35,7 +37,8 @@ comes (n ∷ ns) (e ∷ es) (suc i) d lt =
     let next = comes ns es i d (omega (arith, lt)) in
     record {
       rest = next.rest;
-      whole = behind (echo_line n e) (echo ns es) (echo ns (take i es)) (echo_line (slice_index_or ns i None) (get_or es i d)) next.rest next.whole;
+      whole = behind (echo_line n e) (echo ns es) (echo ns (take i es)) (echo_line (slice_index_or ns i None) (get_or es i d)) next.rest
+          next.whole;
       more = behind_more (echo_line n e) (echo ns (take (suc i) es)) (echo ns (take i es)) _ next.more;
     }
 
@@ -46,7 +49,8 @@ next_comes lines es i e line lt item told =
     let next = comes lines es i e lt in
     rw (told ∙ ap (echo_line (slice_index_or lines i None)) item) next
 
-pub echo_more : (lines : List (Option ℕ)) (es : List Entry) (i : ℕ) (line : List ℕ) → Comes lines es i line → echo lines (take i es) ++ line ≡ echo lines (take (i + 1) es)
+pub echo_more : (lines : List (Option ℕ)) (es : List Entry) (i : ℕ) (line : List ℕ) → Comes lines es i line →
+    echo lines (take i es) ++ line ≡ echo lines (take (i + 1) es)
 echo_more lines es i line next = let e : i + 1 ≡ suc i = omega arith in rw e (sym next.more)
 
 -- the first lines and a beginning of the next
@@ -56,7 +60,8 @@ next_begun a b c lines es i line next so_far begun =
     let front = echo lines (take i es) in (
       front ++ begun.0,
       begun.1 ++ next.rest,
-      next.whole ∙ ap (λ (t : List ℕ). front ++ (t ++ next.rest)) begun.2 ∙ ap (λ (t : List ℕ). front ++ t) (append_assoc begun.0 begun.1 next.rest)
+      next.whole ∙ ap (λ (t : List ℕ). front ++ (t ++ next.rest)) begun.2
+          ∙ ap (λ (t : List ℕ). front ++ t) (append_assoc begun.0 begun.1 next.rest)
           ∙ sym (append_assoc front begun.0 (begun.1 ++ next.rest)),
       appends_then a b c front begun.0 (front ++ begun.0) so_far begun.3 refl,
     )

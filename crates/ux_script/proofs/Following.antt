@@ -26,7 +26,8 @@ follows_more book s t st f =
       processes = f.processes ∙ ap (map new_process) (sym st.procs);
       legal = f.legal;
       calls = f.calls ∙ ap call_lines front;
-      made = f.made ∙ ap (λ (n : ℕ). n + forks_of (call_lines (take (length s.lines) s.lines))) (ap length (sym st.procs)) ∙ ap (λ (ls : List Line). length t.procs + forks_of (call_lines ls)) front;
+      made = f.made ∙ ap (λ (n : ℕ). n + forks_of (call_lines (take (length s.lines) s.lines))) (ap length (sym st.procs))
+          ∙ ap (λ (ls : List Line). length t.procs + forks_of (call_lines ls)) front;
     }
 
 pub all_made : (book : KeptHistory) (s : Plan) → Follows book s (length s.lines) → Makes book s (call_lines s.lines)
@@ -38,7 +39,8 @@ all_follow book s m = subst (λ (ls : List Line). Makes book s (call_lines ls)) 
 -- the entries before are the first of those after
 pub grown_front : (old new : List Entry) → Grows old new → take (length old) new ≡ old
 grown_front old new g =
-    ap (λ (es : List Entry). take (length old) es) g.1 ∙ take-append-le (length old) old g.0 (omega arith) ∙ take_all (length old) old (omega arith)
+    ap (λ (es : List Entry). take (length old) es) g.1 ∙ take-append-le (length old) old g.0 (omega arith)
+    ∙ take_all (length old) old (omega arith)
 
 pub grown_long : (old new : List Entry) → Grows old new → length old ≤ length new
 grown_long old new g = let long = ap (λ (es : List Entry). length es) g.1 ∙ length-append old g.0 in omega (arith, long)
@@ -52,15 +54,19 @@ pub prints_then : (a b c : Option (List ℕ)) (xs ys zs : List Entry) → Prints
 prints_then a b c xs ys zs p q = λ start told. q start (p start told)
 
 -- one line more
-pub prints_more : (a b c : Option (List ℕ)) (before es : List Entry) (n : ℕ) (e : Entry) (line : List ℕ) → n < length es → e ≡ get_or es n e → line ≡ entry_line n e →
+pub prints_more : (a b c : Option (List ℕ)) (before es : List Entry) (n : ℕ) (e : Entry) (line : List ℕ) → n < length es →
+    e ≡ get_or es n e → line ≡ entry_line n e →
     Prints a b before (take n es) → Appends b c line → Prints a c before (take (n + 1) es)
 prints_more a b c before es n e line inside item said so_far more =
-    λ start told. appends_then start b c (trace (take n es)) line (trace (take (n + 1) es)) (so_far start told) more (ap (λ (t : List ℕ). trace (take n es) ++ t) said ∙ trace_more es n e inside item)
+    λ start told. appends_then start b c (trace (take n es)) line (trace (take (n + 1) es)) (so_far start told) more
+    (ap (λ (t : List ℕ). trace (take n es) ++ t) said ∙ trace_more es n e inside item)
 
 -- no line more
-pub prints_all : (a b c : Option (List ℕ)) (before es : List Entry) (n : ℕ) → length es ≤ n → Prints a b before (take n es) → Keeps b c → Prints a c before es
+pub prints_all : (a b c : Option (List ℕ)) (before es : List Entry) (n : ℕ) → length es ≤ n → Prints a b before (take n es) → Keeps b c →
+    Prints a c before es
 prints_all a b c before es n over so_far kept =
-    λ start told. keeps_then start b c (trace es) (subst (λ (xs : List Entry). Appends start b (trace xs)) (take_all n es over) (so_far start told)) kept
+    λ start told. keeps_then start b c (trace es)
+    (subst (λ (xs : List Entry). Appends start b (trace xs)) (take_all n es over) (so_far start told)) kept
 
 pub prints_whole : (a b : Option (List ℕ)) (es : List Entry) → Prints a b [] es → Appends a b (trace es)
 prints_whole a b es p = p a (appends_none a)

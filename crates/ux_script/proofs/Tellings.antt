@@ -1,5 +1,6 @@
 -- The lines of calls as far as a loop has come.
-use Rattle.std.proofs.Common.{◌≡◌, ℕ, ◌+◌, ◌<◌, ◌≤◌, List, [], ◌∷◌, ◌++◌, length, get_or, take, refl, ap, sym, subst, ◌∙◌, append_assoc, arith}
+use Rattle.std.proofs.Common.{◌≡◌, ℕ, ◌+◌, ◌<◌, ◌≤◌, List, [], ◌∷◌, ◌++◌, length, get_or, take, refl, ap, sym, subst, ◌∙◌, append_assoc}
+use Rattle.std.proofs.Common.{arith}
 use Rattle.std.specs.Prelude.{Option, None, slice_index_or}
 use Rattle.std.specs.Io.KnownBytes.{Appends}
 use Rattle.std.proofs.lemmas.List.{append-nil, length-take, take_more, take_all}
@@ -30,7 +31,8 @@ lines_then lines n (x ∷ xs) e text line so_far one =
       ap (λ (t : List ℕ). t ++ line) so_far.4 ∙ append_assoc so_far.0 so_far.1 line,
     )
 
-pub told_more : (a b c : Option (List ℕ)) (lines : List (Option ℕ)) (es : List Entry) (i : ℕ) (e : Entry) (line : List ℕ) → i < length es → e ≡ get_or es i e
+pub told_more : (a b c : Option (List ℕ)) (lines : List (Option ℕ)) (es : List Entry) (i : ℕ) (e : Entry) (line : List ℕ) → i < length es →
+    e ≡ get_or es i e
     → Told a b lines (take i es) → CallLine i (slice_index_or lines i None) e line → Appends b c line → Told a c lines (take (i + 1) es)
 told_more a b c lines es i e line lt item so_far one more =
     let long : 0 + length (take i es) ≡ i = omega (arith, length-take i es) in
@@ -41,7 +43,8 @@ told_more a b c lines es i e line lt item so_far one more =
       appends_then a b c so_far.0 line (so_far.0 ++ line) so_far.2 more refl,
     )
 
-pub told_all : (a b : Option (List ℕ)) (lines : List (Option ℕ)) (es : List Entry) (i : ℕ) → length es ≤ i → Told a b lines (take i es) → Told a b lines es
+pub told_all : (a b : Option (List ℕ)) (lines : List (Option ℕ)) (es : List Entry) (i : ℕ) → length es ≤ i → Told a b lines (take i es) →
+    Told a b lines es
 told_all a b lines es i end so_far = rw (take_all i es end) at so_far
 
 -- what was written of these expectations
@@ -49,9 +52,11 @@ abbrev pub Compared : Option (List ℕ) → Option (List ℕ) → List (Option �
 Compared old new lines es xs = (text : List ℕ) × DifferenceLines lines es xs text × Appends old new text
 
 -- one expectation more
-differences_then : (lines : List (Option ℕ)) (es : List Entry) (xs : List Expectation) (x : Expectation) (text line : List ℕ) → DifferenceLines lines es xs text
+differences_then : (lines : List (Option ℕ)) (es : List Entry) (xs : List Expectation) (x : Expectation) (text line : List ℕ) →
+    DifferenceLines lines es xs text
     → DifferenceText (is_met x.reply (answer_at x.line lines es)) x line → DifferenceLines lines es (xs ++ x ∷ []) (text ++ line)
-differences_then lines es [] x text line so_far one = let empty : text ≡ [] = so_far in (line, [], one, refl, rw empty (sym (append-nil line)))
+differences_then lines es [] x text line so_far one = let empty : text ≡ [] = so_far in
+    (line, [], one, refl, rw empty (sym (append-nil line)))
 differences_then lines es (y ∷ ys) x text line so_far one = (
   so_far.0,
   so_far.1 ++ line,
@@ -60,8 +65,10 @@ differences_then lines es (y ∷ ys) x text line so_far one = (
   ap (λ (t : List ℕ). t ++ line) so_far.4 ∙ append_assoc so_far.0 so_far.1 line,
 )
 
-pub compared_more : (a b c : Option (List ℕ)) (lines : List (Option ℕ)) (es : List Entry) (xs : List Expectation) (i : ℕ) (x : Expectation) (line : List ℕ) → i < length xs → x ≡ get_or xs i x
-    → Compared a b lines es (take i xs) → DifferenceText (is_met x.reply (answer_at x.line lines es)) x line → Appends b c line → Compared a c lines es (take (i + 1) xs)
+pub compared_more : (a b c : Option (List ℕ)) (lines : List (Option ℕ)) (es : List Entry) (xs : List Expectation) (i : ℕ) (x : Expectation)
+    (line : List ℕ) → i < length xs → x ≡ get_or xs i x
+    → Compared a b lines es (take i xs) → DifferenceText (is_met x.reply (answer_at x.line lines es)) x line → Appends b c line →
+    Compared a c lines es (take (i + 1) xs)
 compared_more a b c lines es xs i x line lt item so_far one more =
     let whole : take (i + 1) xs ≡ take i xs ++ x ∷ [] = take_more xs i x lt ∙ ap (λ d. take i xs ++ d ∷ []) (sym item) in (
       so_far.0 ++ line,
@@ -69,5 +76,6 @@ compared_more a b c lines es xs i x line lt item so_far one more =
       appends_then a b c so_far.0 line (so_far.0 ++ line) so_far.2 more refl,
     )
 
-pub compared_all : (a b : Option (List ℕ)) (lines : List (Option ℕ)) (es : List Entry) (xs : List Expectation) (i : ℕ) → length xs ≤ i → Compared a b lines es (take i xs) → Compared a b lines es xs
+pub compared_all : (a b : Option (List ℕ)) (lines : List (Option ℕ)) (es : List Entry) (xs : List Expectation) (i : ℕ) → length xs ≤ i →
+    Compared a b lines es (take i xs) → Compared a b lines es xs
 compared_all a b lines es xs i end so_far = rw (take_all i xs end) at so_far

@@ -21,16 +21,19 @@ CallLine place line e text =
 abbrev pub CallLines : List (Option ℕ) → ℕ → List Entry → List ℕ → Type 0
 CallLines lines place [] text = text ≡ []
 CallLines lines place (e ∷ es) text =
-    (first rest : List ℕ) × CallLine place (slice_index_or lines place None) e first × CallLines lines (place + 1) es rest × (text ≡ first ++ rest)
+    (first rest : List ℕ) × CallLine place (slice_index_or lines place None) e first × CallLines lines (place + 1) es rest
+    × (text ≡ first ++ rest)
 
 -- one line, which reads as an object that tells that the call of this line didn't answer as expected; or nothing where it did
 abbrev pub DifferenceText : Bool → Expectation → List ℕ → Type 0
 DifferenceText true x text = text ≡ []
 DifferenceText false x text =
-    (d : Data) × (get (codes "kind") d ≡ Some (string (codes "difference"))) × (get (codes "line") d ≡ Some (number (unsigned x.line))) × IsLineOf d text
+    (d : Data) × (get (codes "kind") d ≡ Some (string (codes "difference"))) × (get (codes "line") d ≡ Some (number (unsigned x.line)))
+    × IsLineOf d text
 
 -- a line for each call that didn't answer as expected, in the order of the expectations
 abbrev pub DifferenceLines : List (Option ℕ) → List Entry → List Expectation → List ℕ → Type 0
 DifferenceLines lines es [] text = text ≡ []
 DifferenceLines lines es (x ∷ xs) text =
-    (first rest : List ℕ) × DifferenceText (is_met x.reply (answer_at x.line lines es)) x first × DifferenceLines lines es xs rest × (text ≡ first ++ rest)
+    (first rest : List ℕ) × DifferenceText (is_met x.reply (answer_at x.line lines es)) x first × DifferenceLines lines es xs rest
+    × (text ≡ first ++ rest)

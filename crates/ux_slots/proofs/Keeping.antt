@@ -17,7 +17,8 @@ module _ {T : Type 0} where
   at_slot slot key d k e = ap (option_and_then slot) e
 
   -- nothing has a number that is still to come
-  pub none_past : (slot : ℕ → Option (Slot T)) (key : ℕ → Option ℕ) (next : ℕ) → ((d k : ℕ) → key d ≡ Some k → d < next) → (d : ℕ) → next ≤ d → slot_of slot key d ≡ None
+  pub none_past : (slot : ℕ → Option (Slot T)) (key : ℕ → Option ℕ) (next : ℕ) → ((d k : ℕ) → key d ≡ Some k → d < next) → (d : ℕ) →
+      next ≤ d → slot_of slot key d ≡ None
   none_past slot key next young d past = go (key d) refl
     where
       go : (o : Option ℕ) → key d ≡ o → slot_of slot key d ≡ None
@@ -64,11 +65,14 @@ module _ {T : Type 0} where
         go (Some k) e = rw e
 
     -- what is counted isn't on the release list
-    pub counted_apart : (d k : ℕ) (s : Slot T) → 0 < count_in (slot_of slot key d) → key d ≡ Some k → slot k ≡ Some s → IsAmong k kept.released.keys → ⊥
-    counted_apart d k s some e was = not_chained slot head kept.released.keys k s kept.released.chain was (omega (arith, some, ap count_in (present d k (Some s) e was)))
+    pub counted_apart : (d k : ℕ) (s : Slot T) → 0 < count_in (slot_of slot key d) → key d ≡ Some k → slot k ≡ Some s →
+        IsAmong k kept.released.keys → ⊥
+    counted_apart d k s some e was = not_chained slot head kept.released.keys k s kept.released.chain was
+        (omega (arith, some, ap count_in (present d k (Some s) e was)))
 
     -- with an empty release list every value has a reference
-    pub none_dead : head ≡ None → (d : ℕ) → IsSome (place (seen value_in (slot_of slot key) next) d) → 0 < slice_index_or (seen count_in (slot_of slot key) next) d 0
+    pub none_dead : head ≡ None → (d : ℕ) → IsSome (place (seen value_in (slot_of slot key) next) d) →
+        0 < slice_index_or (seen count_in (slot_of slot key) next) d 0
     none_dead empty d there = go (key d) refl
       where
         go : (o : Option ℕ) → key d ≡ o → 0 < slice_index_or (seen count_in (slot_of slot key) next) d 0
@@ -87,7 +91,8 @@ module _ {T : Type 0} where
 
     -- with a head some value has none
     pub some_dead : (k : ℕ) (s : Slot T) → head ≡ Some k → slot k ≡ Some s
-        → ((d : ℕ) → IsSome (place (seen value_in (slot_of slot key) next) d) → 0 < slice_index_or (seen count_in (slot_of slot key) next) d 0) → ⊥
+        → ((d : ℕ) → IsSome (place (seen value_in (slot_of slot key) next) d) →
+        0 < slice_index_or (seen count_in (slot_of slot key) next) d 0) → ⊥
     some_dead k s first was none =
         let dead = head_dead k s first was in
         let there : IsSome (place (seen value_in (slot_of slot key) next) s.number) = ap is_some (place_is s.number ∙ ap value_in dead.0) in
@@ -95,7 +100,8 @@ module _ {T : Type 0} where
 
   -- ---- the index has the same keys, in another order
 
-  pub reordered_kept : (slot : ℕ → Option (Slot T)) (key index : ℕ → Option ℕ) (next : ℕ) (head : Option ℕ) → IsKept slot key next head → ((q : ℕ) → index q ≡ key q) → IsKept slot index next head
+  pub reordered_kept : (slot : ℕ → Option (Slot T)) (key index : ℕ → Option ℕ) (next : ℕ) (head : Option ℕ) → IsKept slot key next head →
+      ((q : ℕ) → index q ≡ key q) → IsKept slot index next head
   reordered_kept slot key index next head kept same = record {
     found = λ d k e. kept.found d k (sym (same d) ∙ e);
     indexed = λ k s e. same s.number ∙ kept.indexed k s e;
@@ -103,7 +109,8 @@ module _ {T : Type 0} where
     released = kept.released;
   }
 
-  pub reordered_slot_of : (slot : ℕ → Option (Slot T)) (key index : ℕ → Option ℕ) → ((q : ℕ) → index q ≡ key q) → (d : ℕ) → slot_of slot index d ≡ slot_of slot key d
+  pub reordered_slot_of : (slot : ℕ → Option (Slot T)) (key index : ℕ → Option ℕ) → ((q : ℕ) → index q ≡ key q) → (d : ℕ) →
+      slot_of slot index d ≡ slot_of slot key d
   reordered_slot_of slot key index same d = ap (option_and_then slot) (same d)
 
   -- ---- a slot changes, and keeps its number
@@ -129,7 +136,8 @@ module _ {T : Type 0} where
     -- a slot that has references and still has some
     pub counted_kept : 0 < count_in (slot_of old key i) → t.number ≡ s.number → t.count ≢ 0 → IsKept new key next head
     counted_kept some same busy = changed_kept head same
-        (released_apart old new head k (Some t) kept.released (counted_apart old key next head kept i k s some leads was) puts (λ u e none. busy (ap (λ (x : Slot T). x.count) (same_Some t u e) ∙ none)))
+        (released_apart old new head k (Some t) kept.released (counted_apart old key next head kept i k s some leads was) puts
+        (λ u e none. busy (ap (λ (x : Slot T). x.count) (same_Some t u e) ∙ none)))
 
     -- a slot that has references loses the last
     pub uncounted_kept : 0 < count_in (slot_of old key i) → t.number ≡ s.number → t.count ≡ 0 → t.next ≡ head → IsKept new key next (Some k)
@@ -142,7 +150,8 @@ module _ {T : Type 0} where
         go : (d : ℕ) → d ≢ i → (o : Option ℕ) → key d ≡ o → slot_of new key d ≡ slot_of old key d
         go d other None e = nothing_known new key d e ∙ sym (nothing_known old key d e)
         go d other (Some q) e =
-            let apart : q ≢ k = λ same. other (sym (number_of_found old key next head kept d k s (e ∙ ap Some same) was) ∙ number_of_found old key next head kept i k s leads was) in
+            let apart : q ≢ k = λ same. other (sym (number_of_found old key next head kept d k s (e ∙ ap Some same) was)
+            ∙ number_of_found old key next head kept i k s leads was) in
             at_slot new key d q e ∙ puts.others q apart ∙ sym (at_slot old key d q e)
 
   -- ---- a value is put in
@@ -216,11 +225,13 @@ module _ {T : Type 0} where
       where
         go : (d : ℕ) → d ≢ s.number → (o : Option ℕ) → key d ≡ o → slot_of new index d ≡ slot_of old key d
         go d other None e = nothing_known new index d (indexes.others d other ∙ e) ∙ sym (nothing_known old key d e)
-        go d other (Some q) e = at_slot new index d q (indexes.others d other ∙ e) ∙ puts.others q (led_elsewhere d q other e) ∙ sym (at_slot old key d q e)
+        go d other (Some q) e = at_slot new index d q (indexes.others d other ∙ e) ∙ puts.others q (led_elsewhere d q other e)
+            ∙ sym (at_slot old key d q e)
 
   -- ---- all are released
 
-  module _ (old new : ℕ → Option (Slot T)) (key : ℕ → Option ℕ) (next : ℕ) (head later : Option ℕ) (kept : IsKept old key next head) (r : IsReleased old new later) where
+  module _ (old new : ℕ → Option (Slot T)) (key : ℕ → Option ℕ) (next : ℕ) (head later : Option ℕ) (kept : IsKept old key next head)
+      (r : IsReleased old new later) where
     pub released_kept : IsKept new key next later
     released_kept = record {
       found = λ d k e. r.numbers k ∙ kept.found d k e;

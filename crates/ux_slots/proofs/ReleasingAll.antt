@@ -25,7 +25,8 @@ module _ {T : Type 0} where
   not_below k q slot high = rw (le-ltb q k high) refl
 
   -- a release list of the same slots
-  pub released_alike : (old new : ℕ → Option (Slot T)) (head : Option ℕ) → ((q : ℕ) → new q ≡ old q) → IsReleaseList old head → IsReleaseList new head
+  pub released_alike : (old new : ℕ → Option (Slot T)) (head : Option ℕ) → ((q : ℕ) → new q ≡ old q) → IsReleaseList old head →
+      IsReleaseList new head
   released_alike old new head same r = record {
     keys = r.keys;
     chain = chain_kept old new head r.keys (λ q s among e. (s, (same q ∙ e, (refl, refl)))) r.chain;
@@ -48,7 +49,8 @@ module _ {T : Type 0} where
 
   -- the slot of one key more
   pub released_more : (k : ℕ) (old now new : ℕ → Option (Slot T)) (head later : Option ℕ) → AreReleasedBelow k old now head
-      → Puts now new k (put_in_front head (now k)) → later ≡ (if is_some (now k) then Some k else head) → AreReleasedBelow (k + 1) old new later
+      → Puts now new k (put_in_front head (now k)) → later ≡ (if is_some (now k) then Some k else head) →
+      AreReleasedBelow (k + 1) old new later
   released_more k old now new head later r puts first = record {
     numbers = λ q. elim (cases_eq q k) [
       | inl here ↦ rw here (ap number_in puts.here ∙ same_number (now k) ∙ r.numbers k)
@@ -86,23 +88,29 @@ module _ {T : Type 0} where
       go : (o : Option (Slot T)) → now k ≡ o → IsReleaseList (slots_below (k + 1) new) later
       go None e =
           let same : (q : ℕ) → slots_below (k + 1) new q ≡ slots_below k now q = λ q. elim (cases_eq q k) [
-            | inl here ↦ rw here (below (k + 1) k new (omega arith) ∙ puts.here ∙ ap (put_in_front head) e ∙ sym (not_below k k now (omega arith)))
+            | inl here ↦ rw here (below (k + 1) k new (omega arith) ∙ puts.here ∙ ap (put_in_front head) e
+                ∙ sym (not_below k k now (omega arith)))
             | inr other ↦ others q other
           ] in
           let stays : later ≡ head = first ∙ ap (λ (o : Option (Slot T)). if is_some o then Some k else head) e in
-          subst (IsReleaseList (slots_below (k + 1) new)) (sym stays) (released_alike (slots_below k now) (slots_below (k + 1) new) head same r.released)
+          subst (IsReleaseList (slots_below (k + 1) new)) (sym stays)
+          (released_alike (slots_below k now) (slots_below (k + 1) new) head same r.released)
       go (Some s) e =
           let t : Slot T = record s { count = 0; next = head } in
           let at_front : later ≡ Some k = first ∙ ap (λ (o : Option (Slot T)). if is_some o then Some k else head) e in
-          let put : Puts (slots_below k now) (slots_below (k + 1) new) k (Some t) = record { here = below (k + 1) k new (omega arith) ∙ puts.here ∙ ap (put_in_front head) e; others = others } in
+          let put : Puts (slots_below k now) (slots_below (k + 1) new) k (Some t) =
+          record { here = below (k + 1) k new (omega arith) ∙ puts.here ∙ ap (put_in_front head) e; others = others } in
           subst (IsReleaseList (slots_below (k + 1) new)) (sym at_front)
-          (released_push (slots_below k now) (slots_below (k + 1) new) head k t r.released (vacant_not_chained (slots_below k now) head r.released.keys k r.released.chain (not_below k k now (omega arith))) put refl refl)
+          (released_push (slots_below k now) (slots_below (k + 1) new) head k t r.released
+          (vacant_not_chained (slots_below k now) head r.released.keys k r.released.chain (not_below k k now (omega arith))) put refl refl)
 
   -- all slots have keys below n
-  pub all_released : (n : ℕ) (old new : ℕ → Option (Slot T)) (head : Option ℕ) → AreReleasedBelow n old new head → ((q : ℕ) → n ≤ q → new q ≡ None) → IsReleased old new head
+  pub all_released : (n : ℕ) (old new : ℕ → Option (Slot T)) (head : Option ℕ) → AreReleasedBelow n old new head →
+      ((q : ℕ) → n ≤ q → new q ≡ None) → IsReleased old new head
   all_released n old new head r past = record {
     numbers = r.numbers;
     values = r.values;
     counts = λ q. elim (cases_lt q n) [ inl low ↦ r.counts q low | inr high ↦ ap count_in (past q high) ];
-    released = released_alike (slots_below n new) new head (λ q. elim (cases_lt q n) [ inl low ↦ sym (below n q new low) | inr high ↦ past q high ∙ sym (not_below n q new high) ]) r.released;
+    released = released_alike (slots_below n new) new head
+        (λ q. elim (cases_lt q n) [ inl low ↦ sym (below n q new low) | inr high ↦ past q high ∙ sym (not_below n q new high) ]) r.released;
   }

@@ -19,20 +19,22 @@ use Rattle.ux_slots.specs.Held.{Held, count_at}
 use Rattle.ux_state.specs.declared.openings.Openings.{Openings}
 use Rattle.ux_state.specs.Counting.{one_if, counts_of, Counted}
 use Rattle.ux_state.specs.Counting as counts
-use Rattle.ux_model.proofs.Owning.{owned_none}
+use Rattle.ux_model.proofs.Counting.Owning.{owned_none}
 use Rattle.ux_state.specs.Keeping.{state_of, links_of, IsState}
 use Rattle.ux_state.proofs.TableCounts.{none_open}
 
 count_none : (allows : Mode → Bool) (o : ℕ) (ds : List (Option Description)) → count_by (is_opening allows o) (map (λ _. None) ds) ≡ 0
 count_none allows o [] = refl
-count_none allows o (D ∷ ds) = sum_by-cons (λ x. one_if (is_opening allows o x)) None (map (λ _. None) ds) ∙ ap (λ n. 0 + n) (count_none allows o ds)
+count_none allows o (D ∷ ds) = sum_by-cons (λ x. one_if (is_opening allows o x)) None (map (λ _. None) ds)
+    ∙ ap (λ n. 0 + n) (count_none allows o ds)
 
 counts_none : (openings : List Openings) (o : ℕ) → counts_of (map (λ _. counts.none_open) openings) o ≡ counts.none_open
 counts_none [] o = refl
 counts_none (x ∷ xs) zero = refl
 counts_none (x ∷ xs) (suc o) = counts_none xs o
 
-pub Counted-none : (ds : List (Option Description)) (openings : List Openings) → Counted (map (λ _. None) ds) (map (λ _. counts.none_open) openings)
+pub Counted-none : (ds : List (Option Description)) (openings : List Openings) →
+    Counted (map (λ _. None) ds) (map (λ _. counts.none_open) openings)
 Counted-none ds openings = record {
   readers = λ o h. ap (λ (x : Openings). x.readers) (counts_none openings o) ∙ sym (count_none can_read o ds);
   writers = λ o h. ap (λ (x : Openings). x.writers) (counts_none openings o) ∙ sym (count_none can_write o ds);
@@ -44,7 +46,11 @@ no_place (x ∷ xs) zero = refl
 no_place (x ∷ xs) (suc i) = no_place xs i
 
 pub nobody : (ds : List (Option Description)) → Paired (map (λ _. None) ds)
-nobody ds = record { returned = λ i p e there. absurd (cc (sym (ap peer_in (no_place ds i)) ∙ e)); known = λ i p e. absurd (cc (sym (ap peer_in (no_place ds i)) ∙ e)) }
+nobody ds = record {
+  returned = λ i p e there. absurd (cc (sym (ap peer_in (no_place ds i)) ∙ e));
+  known =
+      λ i p e. absurd (cc (sym (ap peer_in (no_place ds i)) ∙ e));
+}
 
 -- what nothing holds
 held_by_none : (k : ℕ) (ds : List (Option Description)) → ◌≡◌ {A = ℕ} (sum_by (description_refs k) (map (λ _. None) ds)) 0
@@ -69,8 +75,10 @@ links_none (l ∷ ls) zero = refl
 links_none (l ∷ ls) (suc o) = links_none ls o
 
 -- all descriptors, all descriptions and all names went
-pub forgotten_kept : {fs gs : ℕ → ℕ} (xs ys : List Openings) (ls ms : List ℕ) (H K : Held Description) (os : List (Option View)) (ps qs : List Process) (old new : List (Name × PathTarget)) (names left : List (Name × ℕ)) →
-    IsState xs ls H fs (state_of os H ps old names) → qs ≡ map with_nothing_open ps → K.places ≡ map (λ _. None) H.places → ((k : ℕ) → count_at K k ≡ 0) → ys ≡ map (λ _. counts.none_open) xs →
+pub forgotten_kept : {fs gs : ℕ → ℕ} (xs ys : List Openings) (ls ms : List ℕ) (H K : Held Description) (os : List (Option View))
+    (ps qs : List Process) (old new : List (Name × PathTarget)) (names left : List (Name × ℕ)) →
+    IsState xs ls H fs (state_of os H ps old names) → qs ≡ map with_nothing_open ps → K.places ≡ map (λ _. None) H.places →
+    ((k : ℕ) → count_at K k ≡ 0) → ys ≡ map (λ _. counts.none_open) xs →
     ms ≡ map (λ _. 0) ls → new ≡ [] → left ≡ [] → ((u : ℕ) → gs u ≡ 0) → IsState ys ms K gs (state_of os K qs new left)
 unfolding refs in_flight
 forgotten_kept xs ys ls ms H K os ps qs old new names left state cleared places counts counted unlinked no_paths no_names flights = record {
@@ -83,7 +91,8 @@ forgotten_kept xs ys ls ms H K os ps qs old new names left state cleared places 
   counted = λ k.
       let a = counts k in
       let b : sum_by (description_refs k) K.places ≡ 0 = ap (sum_by (description_refs k)) places ∙ held_by_none k H.places in
-      let c : sum_by (λ P. table_refs k (Process.table P)) qs ≡ 0 = ap (sum_by (λ P. table_refs k (Process.table P))) cleared ∙ nothing_open k ps in
+      let c : sum_by (λ P. table_refs k (Process.table P)) qs ≡ 0 = ap (sum_by (λ P. table_refs k (Process.table P))) cleared
+      ∙ nothing_open k ps in
       omega (arith, a, b, c);
   flying = λ u. flights u ∙ sym (ap (sum_by (flying_in u)) places ∙ none_flying u H.places);
   paired = rw places (nobody H.places);

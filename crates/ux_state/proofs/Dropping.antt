@@ -1,5 +1,6 @@
 -- One description goes.
-use Rattle.std.proofs.Common.{◌≡◌, ℕ, zero, suc, ◌+◌, ◌<◌, ◌≤◌, ◌==◌, Bool, ◌&&◌, true, false, List, [], ◌∷◌, length, map, Option, Some, None, option_map, refl, sym, ◌∙◌, ap, arith}
+use Rattle.std.proofs.Common.{◌≡◌, ℕ, zero, suc, ◌+◌, ◌<◌, ◌≤◌, ◌==◌, Bool, ◌&&◌, true, false, List, [], ◌∷◌, length, map, Option, Some}
+use Rattle.std.proofs.Common.{None, option_map, refl, sym, ◌∙◌, ap, arith}
 use Rattle.std.specs.Prelude.{not, filter, count_by, sum_by, IsSome}
 use Rattle.std.proofs.lemmas.List.Sums.{sum_by-cons, sum_by-set}
 use Rattle.ux_model.specs.Types.{Mode, Name}
@@ -16,11 +17,11 @@ use Rattle.ux_model.specs.FileObjects.{is_opening}
 use Rattle.ux_model.specs.Peers.{lost_peer, with_peer_reset}
 use Rattle.ux_model.specs.Flight.{flying_at, flying_in, in_flight}
 use Rattle.ux_model.specs.Owning.{target_name, name_in, without_shown}
-use Rattle.ux_model.proofs.AnyOrder.{live_in}
-use Rattle.ux_model.proofs.ChangedPlaces.{place_within}
-use Rattle.ux_model.proofs.Flying.{flying_left}
-use Rattle.ux_model.proofs.OneGoes.{one_goes, left_refs, held_refs, paired-emptied, paired-told, none_unreferenced, unreferenced}
-use Rattle.ux_model.proofs.Owning.{name_goes, owned_without}
+use Rattle.ux_model.proofs.Releasing.AnyOrder.{live_in}
+use Rattle.ux_model.proofs.Lists.ChangedPlaces.{place_within}
+use Rattle.ux_model.proofs.Messages.Flying.{flying_left}
+use Rattle.ux_model.proofs.Releasing.OneGoes.{one_goes, left_refs, held_refs, paired-emptied, paired-told, none_unreferenced, unreferenced}
+use Rattle.ux_model.proofs.Counting.Owning.{name_goes, owned_without}
 use Rattle.ux_slots.specs.Held.{Held, count_at, IsNoneDead}
 use Rattle.ux_state.specs.declared.openings.Openings.{Openings}
 use Rattle.ux_state.specs.Counting.{one_if, Counted, CountsOneMore, IsAmong}
@@ -33,7 +34,8 @@ abbrev opens : (Mode → Bool) → ℕ → Option Description → ℕ
 opens allows o x = one_if (is_opening allows o x)
 
 -- one that changes its socket is open for the same
-same_opening : (change : Socket → Socket) (allows : Mode → Bool) (o : ℕ) (x : Option Description) → opens allows o (option_map (changed change) x) ≡ opens allows o x
+same_opening : (change : Socket → Socket) (allows : Mode → Bool) (o : ℕ) (x : Option Description) →
+    opens allows o (option_map (changed change) x) ≡ opens allows o x
 same_opening change allows o None = refl
 same_opening change allows o (Some D) = ap (λ b. one_if (b && allows D.mode)) (by_target D.target)
   where
@@ -41,31 +43,37 @@ same_opening change allows o (Some D) = ap (λ b. one_if (b && allows D.mode)) (
     by_target (to_object n) = refl
     by_target (to_socket s) = refl
 
-sum_by-changed : (g : Option Description → ℕ) (f : Description → Description) → ((x : Option Description) → g (option_map f x) ≡ g x) → (ds : List (Option Description)) (p : ℕ) → sum_by g (changed_place ds p f) ≡ sum_by g ds
+sum_by-changed : (g : Option Description → ℕ) (f : Description → Description) → ((x : Option Description) → g (option_map f x) ≡ g x) →
+    (ds : List (Option Description)) (p : ℕ) → sum_by g (changed_place ds p f) ≡ sum_by g ds
 sum_by-changed g f same [] p = refl
 sum_by-changed g f same (x ∷ xs) zero = sum_by-cons g (option_map f x) xs ∙ ap (λ n. n + sum_by g xs) (same x) ∙ sym (sum_by-cons g x xs)
-sum_by-changed g f same (x ∷ xs) (suc p) = sum_by-cons g x (changed_place xs p f) ∙ ap (λ n. g x + n) (sum_by-changed g f same xs p) ∙ sym (sum_by-cons g x xs)
+sum_by-changed g f same (x ∷ xs) (suc p) = sum_by-cons g x (changed_place xs p f) ∙ ap (λ n. g x + n) (sum_by-changed g f same xs p)
+    ∙ sym (sum_by-cons g x xs)
 
-told_opens : (allows : Mode → Bool) (o : ℕ) (l : Option ℕ) (ds : List (Option Description)) → count_by (is_opening allows o) (with_peer_reset l ds) ≡ count_by (is_opening allows o) ds
+told_opens : (allows : Mode → Bool) (o : ℕ) (l : Option ℕ) (ds : List (Option Description)) →
+    count_by (is_opening allows o) (with_peer_reset l ds) ≡ count_by (is_opening allows o) ds
 told_opens allows o None ds = refl
 told_opens allows o (Some p) ds = sum_by-changed (opens allows o) (changed (with_reset true)) (same_opening (with_reset true) allows o) ds p
 
 -- without d, which was D, and its peer notified
 left_opens : (allows : Mode → Bool) (o d : ℕ) (D : Description) (ds : List (Option Description)) → place ds d ≡ Some D →
-    count_by (is_opening allows o) (with_peer_reset (lost_peer D) (emptied ds d)) + opens allows o (Some D) ≡ count_by (is_opening allows o) ds
+    count_by (is_opening allows o) (with_peer_reset (lost_peer D) (emptied ds d)) + opens allows o (Some D) ≡ count_by (is_opening allows o)
+    ds
 left_opens allows o d D ds here =
     let a = told_opens allows o (lost_peer D) (emptied ds d) in
     let b = sum_by-set (opens allows o) ds d None None (place_within ds d D here) in
     let c : opens allows o (place ds d) ≡ opens allows o (Some D) = ap (opens allows o) here in
     omega (arith, a, b, c)
 
-pub counted_among : (ds : List (Option Description)) (xs : List Openings) (d : ℕ) (D : Description) → place ds d ≡ Some D → Counted ds xs → IsAmong D xs
+pub counted_among : (ds : List (Option Description)) (xs : List Openings) (d : ℕ) (D : Description) → place ds d ≡ Some D → Counted ds xs →
+    IsAmong D xs
 counted_among ds xs d D here counted = record {
   readers = λ o h. let a = counted.readers o h in let b = left_opens can_read o d D ds here in omega (arith, a, b);
   writers = λ o h. let a = counted.writers o h in let b = left_opens can_write o d D ds here in omega (arith, a, b);
 }
 
-pub counted_left : (ds : List (Option Description)) (xs ys : List Openings) (d : ℕ) (D : Description) → place ds d ≡ Some D → Counted ds xs → CountsOneMore D ys xs → Counted (with_peer_reset (lost_peer D) (emptied ds d)) ys
+pub counted_left : (ds : List (Option Description)) (xs ys : List Openings) (d : ℕ) (D : Description) → place ds d ≡ Some D →
+    Counted ds xs → CountsOneMore D ys xs → Counted (with_peer_reset (lost_peer D) (emptied ds d)) ys
 counted_left ds xs ys d D here counted more = record {
   readers = λ o h.
       let inside : o < length xs = let long = more.long in omega (arith, long, h) in
@@ -77,9 +85,11 @@ counted_left ds xs ys d D here counted more = record {
 
 -- ---- the state
 
-module _ {fs : ℕ → ℕ} (xs : List Openings) (ls : List ℕ) (H : Held Description) (os : List (Option View)) (ps : List Process) (paths : List (Name × PathTarget)) (names : List (Name × ℕ)) (state : IsState xs ls H fs (state_of os H ps paths names)) where
+module _ {fs : ℕ → ℕ} (xs : List Openings) (ls : List ℕ) (H : Held Description) (os : List (Option View)) (ps : List Process)
+    (paths : List (Name × PathTarget)) (names : List (Name × ℕ)) (state : IsState xs ls H fs (state_of os H ps paths names)) where
   -- what the lost one held is counted
-  pub all_counted : (T : Held Description) (d k : ℕ) (D : Description) → place H.places d ≡ Some D → T.counts ≡ H.counts → target_refs k D.target ≤ count_at T k
+  pub all_counted : (T : Held Description) (d k : ℕ) (D : Description) → place H.places d ≡ Some D → T.counts ≡ H.counts →
+      target_refs k D.target ≤ count_at T k
   all_counted T d k D here same =
       let a = held_refs (state_of os H ps paths names) d k D here in
       let b = state.counted k in
@@ -92,11 +102,15 @@ module _ {fs : ℕ → ℕ} (xs : List Openings) (ls : List ℕ) (H : Held Descr
   all_flying d u D here = let a = flying_left u d D H.places here in let b = state.flying u in omega (arith, a, b)
 
   -- the names that are left
-  left_names : (d : ℕ) (D : Description) (left : List (Name × ℕ)) → place H.places d ≡ Some D → left ≡ without_shown (target_name D.target) d names → left ≡ filter (λ e. not (e.1 == d)) names
-  left_names d D left here shown = shown ∙ ap (λ x. without_shown (name_in x) d names) (sym here) ∙ name_goes (state_of os H ps paths names) d state.owned
+  left_names : (d : ℕ) (D : Description) (left : List (Name × ℕ)) → place H.places d ≡ Some D →
+      left ≡ without_shown (target_name D.target) d names → left ≡ filter (λ e. not (e.1 == d)) names
+  left_names d D left here shown = shown ∙ ap (λ x. without_shown (name_in x) d names) (sym here)
+      ∙ name_goes (state_of os H ps paths names) d state.owned
 
-  pub left_kept : {gs : ℕ → ℕ} (ys : List Openings) (T K : Held Description) (left : List (Name × ℕ)) (d : ℕ) (D : Description) → place H.places d ≡ Some D → K.places ≡ with_peer_reset (lost_peer D) (emptied H.places d) → T.counts ≡ H.counts →
-      ((k : ℕ) → count_at T k ≡ count_at K k + target_refs k D.target) → ((u : ℕ) → fs u ≡ gs u + flying_at u D.target) → CountsOneMore D ys xs → left ≡ without_shown (target_name D.target) d names →
+  pub left_kept : {gs : ℕ → ℕ} (ys : List Openings) (T K : Held Description) (left : List (Name × ℕ)) (d : ℕ) (D : Description) →
+      place H.places d ≡ Some D → K.places ≡ with_peer_reset (lost_peer D) (emptied H.places d) → T.counts ≡ H.counts →
+      ((k : ℕ) → count_at T k ≡ count_at K k + target_refs k D.target) → ((u : ℕ) → fs u ≡ gs u + flying_at u D.target) →
+      CountsOneMore D ys xs → left ≡ without_shown (target_name D.target) d names →
       IsState ys ls K gs (state_of os K ps paths left)
   unfolding in_flight
   left_kept ys T K left d D here places same counts flights more shown = record {
@@ -118,23 +132,28 @@ module _ {fs : ℕ → ℕ} (xs : List Openings) (ls : List ℕ) (H : Held Descr
         let e = flights u in
         let f = state.flying u in
         omega (arith, a, b, e, f);
-    paired = rw places (paired-told (lost_peer D) (emptied H.places d) (paired-emptied H.places d (place_within H.places d D here) state.paired));
+    paired = rw places (paired-told (lost_peer D) (emptied H.places d)
+        (paired-emptied H.places d (place_within H.places d D here) state.paired));
     owned = rw (places, left_names d D left here shown) (owned_without H.places d (lost_peer D) names state.owned);
   }
 
-  pub is_without : (K : Held Description) (left : List (Name × ℕ)) (d : ℕ) (D : Description) → place H.places d ≡ Some D → K.places ≡ with_peer_reset (lost_peer D) (emptied H.places d) →
-      left ≡ without_shown (target_name D.target) d names → state_of os K ps paths left ≡ without (λ n. n == d) (state_of os H ps paths names)
+  pub is_without : (K : Held Description) (left : List (Name × ℕ)) (d : ℕ) (D : Description) → place H.places d ≡ Some D →
+      K.places ≡ with_peer_reset (lost_peer D) (emptied H.places d) →
+      left ≡ without_shown (target_name D.target) d names →
+      state_of os K ps paths left ≡ without (λ n. n == d) (state_of os H ps paths names)
   unfolding without
   is_without K left d D here places shown =
       let all = places ∙ one_goes (state_of os H ps paths names) d D state.paired here in
       let rest = left_names d D left here shown in
       λ j. record { objects = os; descriptions = all j; processes = ps; paths = paths; abstract_names = rest j }
 
-  pub was_dead : (d : ℕ) (D : Description) → place H.places d ≡ Some D → count_at H d ≡ 0 → is_unreferenced (state_of os H ps paths names) d ≡ true
+  pub was_dead : (d : ℕ) (D : Description) → place H.places d ≡ Some D → count_at H d ≡ 0 →
+      is_unreferenced (state_of os H ps paths names) d ≡ true
   was_dead d D here none = unreferenced (state_of os H ps paths names) d D here (sym (state.counted d) ∙ none)
 
   pub none_dead : IsNoneDead H → has_unreferenced (state_of os H ps paths names) ≡ false
-  none_dead each = none_unreferenced (state_of os H ps paths names) (λ k some. let a = each k some in let b = state.counted k in omega (arith, a, b))
+  none_dead each = none_unreferenced (state_of os H ps paths names)
+      (λ k some. let a = each k some in let b = state.counted k in omega (arith, a, b))
 
 -- ---- all go
 
@@ -156,10 +175,12 @@ emptied_alike [] d = refl
 emptied_alike (x ∷ xs) zero = refl
 emptied_alike (x ∷ xs) (suc d) = ap (λ l. None ∷ l) (emptied_alike xs d)
 
-pub fewer_left : (H K : Held Description) (d : ℕ) (D : Description) → place H.places d ≡ Some D → K.places ≡ emptied H.places d → live_in K.places < live_in H.places
+pub fewer_left : (H K : Held Description) (d : ℕ) (D : Description) → place H.places d ≡ Some D → K.places ≡ emptied H.places d →
+    live_in K.places < live_in H.places
 fewer_left H K d D here taken = rw taken (live_in-emptied H.places d D here)
 
-pub still_alike : (ds : List (Option Description)) (H K : Held Description) (d : ℕ) → K.places ≡ emptied H.places d → map (λ _. None) H.places ≡ map {B = Option Description} (λ _. None) ds →
+pub still_alike : (ds : List (Option Description)) (H K : Held Description) (d : ℕ) → K.places ≡ emptied H.places d →
+    map (λ _. None) H.places ≡ map {B = Option Description} (λ _. None) ds →
     map (λ _. None) K.places ≡ map {B = Option Description} (λ _. None) ds
 still_alike ds H K d taken alike = ap (map (λ _. None)) taken ∙ emptied_alike H.places d ∙ alike
 
@@ -167,7 +188,8 @@ pub none_counted : (H K : Held Description) → K.counts ≡ H.counts → ((d : 
 none_counted H K same none d = ap (λ cs. count_at (record H { counts = cs }) d) same ∙ none d
 
 -- where none is dead and nothing counts, none is there
-pub none_left : (ds : List (Option Description)) (H K : Held Description) → K ≡ H → IsNoneDead H → ((d : ℕ) → count_at H d ≡ 0) → map (λ _. None) H.places ≡ map {B = Option Description} (λ _. None) ds →
+pub none_left : (ds : List (Option Description)) (H K : Held Description) → K ≡ H → IsNoneDead H → ((d : ℕ) → count_at H d ≡ 0) →
+    map (λ _. None) H.places ≡ map {B = Option Description} (λ _. None) ds →
     K.places ≡ map (λ _. None) ds
 none_left ds H K same each none alike =
     ap (λ (h : Held Description). h.places) same

@@ -1,5 +1,6 @@
 -- What a table counts once rights are installed at its lowest free numbers.
-use Rattle.std.proofs.Common.{◌≡◌, ℕ, zero, suc, ◌+◌, ◌<◌, ◌≤◌, Bool, cond, List, [], ◌∷◌, length, map, take, Option, Some, None, refl, ap, sym, ◌∙◌, arith}
+use Rattle.std.proofs.Common.{◌≡◌, ℕ, zero, suc, ◌+◌, ◌<◌, ◌≤◌, Bool, cond, List, [], ◌∷◌, length, map, take, Option, Some, None, refl, ap}
+use Rattle.std.proofs.Common.{sym, ◌∙◌, arith}
 use Rattle.std.specs.Prelude.{◌==◌}
 use Rattle.std.proofs.lemmas.List.Sums.{sum_by-cons}
 use Rattle.std.proofs.lemmas.List.{length-map}
@@ -8,7 +9,7 @@ use Rattle.ux_model.specs.Places.{place, filled, empty_places_from}
 use Rattle.ux_model.specs.Process.{Descriptor, free_numbers}
 use Rattle.ux_model.specs.Delivery.{installed}
 use Rattle.ux_model.specs.References.{times, table_refs}
-use Rattle.ux_model.proofs.Moves.{one, table_filled}
+use Rattle.ux_model.proofs.Counting.Moves.{one, table_filled}
 
 -- the first empty place: once it is filled, the others are left
 pub record IsFirstEmpty (i n : ℕ) (rest : List ℕ) (T : List (Option Descriptor)) : Type 0 where
@@ -30,7 +31,8 @@ first_empty i n rest (Some x ∷ xs) h =
     let inside = f.inside in
     record { at = suc f.at; number = omega (arith, number); inside = omega (arith, inside); empty = f.empty; others = f.others }
 
-all_counted : (k : ℕ) (cloexec : Bool) (ns ds free : List ℕ) (T : List (Option Descriptor)) → free_numbers T ≡ free → ns ≡ take (length ns) free → length ns ≤ length ds →
+all_counted : (k : ℕ) (cloexec : Bool) (ns ds free : List ℕ) (T : List (Option Descriptor)) → free_numbers T ≡ free →
+    ns ≡ take (length ns) free → length ns ≤ length ds →
     table_refs k (installed cloexec ns ds T) ≡ table_refs k T + times k (take (length ns) ds)
 all_counted k cloexec [] ds free T is front enough = omega arith
 all_counted k cloexec (n ∷ ns) [] free T is front enough = absurd (omega (arith, enough))
@@ -47,13 +49,16 @@ all_counted k cloexec (n ∷ ns) (d ∷ ds) (f ∷ free) T is front enough =
     let inside = first.inside in
     let put = table_filled k T n e (omega (arith, inside, here)) in
     let nothing : one k (place T n) ≡ 0 = ap (λ m. one k (place T m)) (sym here) ∙ ap (one k) first.empty in
-    let both : times k (d ∷ take (length ns) ds) ≡ one k (Some e) + times k (take (length ns) ds) = sum_by-cons (λ m. cond {A = ℕ} (m == k) 1 0) d (take (length ns) ds) in
+    let both : times k (d ∷ take (length ns) ds) ≡ one k (Some e) + times k (take (length ns) ds) =
+    sum_by-cons (λ m. cond {A = ℕ} (m == k) 1 0) d (take (length ns) ds) in
     omega (arith, rest, put, nothing, both)
 
-pub installed_counted : (k : ℕ) (cloexec : Bool) (ns ds : List ℕ) (T : List (Option Descriptor)) → ns ≡ take (length ns) (free_numbers T) → length ns ≤ length ds →
+pub installed_counted : (k : ℕ) (cloexec : Bool) (ns ds : List ℕ) (T : List (Option Descriptor)) → ns ≡ take (length ns) (free_numbers T) →
+    length ns ≤ length ds →
     table_refs k (installed cloexec ns ds T) ≡ table_refs k T + times k (take (length ns) ds)
 installed_counted k cloexec ns ds T front enough = all_counted k cloexec ns ds (free_numbers T) T refl front enough
 
 -- the numbers as the code has them
-pub as_front : (numbers : List Fd) (free : List ℕ) → map (λ fd. Fd.0 fd) numbers ≡ take (length numbers) free → map (λ fd. Fd.0 fd) numbers ≡ take (length (map (λ fd. Fd.0 fd) numbers)) free
+pub as_front : (numbers : List Fd) (free : List ℕ) → map (λ fd. Fd.0 fd) numbers ≡ take (length numbers) free →
+    map (λ fd. Fd.0 fd) numbers ≡ take (length (map (λ fd. Fd.0 fd) numbers)) free
 as_front numbers free h = h ∙ ap (λ n. take n free) (sym (length-map numbers (λ fd. Fd.0 fd)))

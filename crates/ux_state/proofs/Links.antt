@@ -1,5 +1,6 @@
 -- How many paths name each file object.
-use Rattle.std.proofs.Common.{◌≡◌, ℕ, zero, suc, ◌+◌, ◌<◌, ◌≤◌, ◌==◌, true, List, [], ◌∷◌, ◌++◌, length, get_or, map, Option, Some, None, refl, sym, ◌∙◌, ap, nat_lt, arith}
+use Rattle.std.proofs.Common.{◌≡◌, ℕ, zero, suc, ◌+◌, ◌<◌, ◌≤◌, ◌==◌, true, List, [], ◌∷◌, ◌++◌, length, get_or, map, Option, Some, None}
+use Rattle.std.proofs.Common.{refl, sym, ◌∙◌, ap, nat_lt, arith}
 use Rattle.std.specs.Prelude.{count_by}
 use Rattle.std.specs.List.{enumerate_from, list_any}
 use Rattle.std.proofs.lemmas.Bool.{eq-eqb, ne_eqb}
@@ -9,7 +10,7 @@ use Rattle.ux_model.specs.Types.{Name}
 use Rattle.ux_model.specs.Names.{PathTarget, file, bound, named, without_name}
 use Rattle.ux_model.specs.Boot.{are_distinct}
 use Rattle.ux_model.specs.References.{path_names}
-use Rattle.ux_model.proofs.Owning.{IsOnce, counted, sum_without, once-filter, once-push, not_before}
+use Rattle.ux_model.proofs.Counting.Owning.{IsOnce, counted, sum_without, once-filter, once-push, not_before}
 use Rattle.ux_state.specs.Counting.{one_if}
 use Rattle.ux_state.specs.Keeping.{links_of, link_at, LosesLink, AreLinked}
 use Rattle.ux_state.proofs.Orphans.{any_counted}
@@ -27,14 +28,16 @@ left_paths o name paths once =
     let b = taken o (named name paths) in
     omega (arith, a, b)
 
-pub link_counted : (name : Name) (paths : List (Name × PathTarget)) (ls : List ℕ) (target : Option PathTarget) → AreLinked paths ls → target ≡ named name paths → (o : ℕ) → o < length ls → link_at o target ≤ links_of ls o
+pub link_counted : (name : Name) (paths : List (Name × PathTarget)) (ls : List ℕ) (target : Option PathTarget) → AreLinked paths ls →
+    target ≡ named name paths → (o : ℕ) → o < length ls → link_at o target ≤ links_of ls o
 link_counted name paths ls target linked found o inside =
     let a = left_paths o name paths linked.once in
     let b = linked.counted o inside in
     let c = ap (link_at o) found in
     omega (arith, a, b, c)
 
-pub link_gone : (name : Name) (paths left : List (Name × PathTarget)) (ls ms : List ℕ) (target : Option PathTarget) → AreLinked paths ls → target ≡ named name paths → left ≡ without_name name paths → LosesLink target ls ms → AreLinked left ms
+pub link_gone : (name : Name) (paths left : List (Name × PathTarget)) (ls ms : List ℕ) (target : Option PathTarget) → AreLinked paths ls →
+    target ≡ named name paths → left ≡ without_name name paths → LosesLink target ls ms → AreLinked left ms
 link_gone name paths left ls ms target linked found is less = rw is (record {
   once = once-filter _ paths linked.once;
   counted = λ o inside.
@@ -49,7 +52,8 @@ link_gone name paths left ls ms target linked found is less = rw is (record {
 
 -- ---- a path more, of a socket
 
-pub socket_linked : (name : Name) (d : ℕ) (paths : List (Name × PathTarget)) (ls : List ℕ) → named name paths ≡ None → AreLinked paths ls → AreLinked (paths ++ (name, bound d) ∷ []) ls
+pub socket_linked : (name : Name) (d : ℕ) (paths : List (Name × PathTarget)) (ls : List ℕ) → named name paths ≡ None → AreLinked paths ls →
+    AreLinked (paths ++ (name, bound d) ∷ []) ls
 socket_linked name d paths ls none linked = record {
   once = once-push name (bound d) paths none linked.once;
   counted = λ o inside.
@@ -71,7 +75,8 @@ no_file o i (x ∷ xs) before =
     let c = no_file o (i + 1) xs (omega (arith, before)) in
     omega (arith, a, b, c)
 
-one_file : {X : Type 0} (o i k : ℕ) (xs : List (Name × X)) → o ≡ i + k → k < length xs → count_by (λ e. path_names o e.1) (file_paths i xs) ≡ 1
+one_file : {X : Type 0} (o i k : ℕ) (xs : List (Name × X)) → o ≡ i + k → k < length xs →
+    count_by (λ e. path_names o e.1) (file_paths i xs) ≡ 1
 one_file o i k [] at inside = absurd (omega (arith, inside))
 one_file o i zero (x ∷ xs) at inside =
     let a = sum_by-cons (λ (e : Name × PathTarget). one_if (path_names o e.1)) (x.0, file i) (file_paths (i + 1) xs) in
@@ -92,12 +97,16 @@ names_of i [] = refl
 names_of i (x ∷ xs) = ap (λ l. x.0 ∷ l) (names_of (i + 1) xs)
 
 -- the next isn't there yet
-pub next_file : {X : Type 0} (all left rest : List (Name × X)) (paths : List (Name × PathTarget)) (k : ℕ) (x : Name × X) → left ≡ x ∷ rest → paths ++ file_paths k left ≡ file_paths 0 all → are_distinct (map (λ o. o.0) all) ≡ true → named x.0 paths ≡ None
+pub next_file : {X : Type 0} (all left rest : List (Name × X)) (paths : List (Name × PathTarget)) (k : ℕ) (x : Name × X) → left ≡ x ∷ rest →
+    paths ++ file_paths k left ≡ file_paths 0 all → are_distinct (map (λ o. o.0) all) ≡ true → named x.0 paths ≡ None
 next_file all left rest paths k x next so_far once =
-    not_before x.0 (file k) paths (file_paths (k + 1) rest) (ap (λ es. are_distinct (map (λ e. e.0) es)) ((λ j. paths ++ file_paths k (sym next j)) ∙ so_far) ∙ ap are_distinct (names_of 0 all) ∙ once)
+    not_before x.0 (file k) paths (file_paths (k + 1) rest)
+    (ap (λ es. are_distinct (map (λ e. e.0) es)) ((λ j. paths ++ file_paths k (sym next j)) ∙ so_far) ∙ ap are_distinct (names_of 0 all)
+    ∙ once)
 
 -- ---- whether any does
 
-pub any_link : (paths : List (Name × PathTarget)) (ls : List ℕ) (o x : ℕ) → o < length ls → x ≡ get_or ls o x → AreLinked paths ls → list_any (λ e. path_names o e.1) paths ≡ nat_lt 0 x
+pub any_link : (paths : List (Name × PathTarget)) (ls : List ℕ) (o x : ℕ) → o < length ls → x ≡ get_or ls o x → AreLinked paths ls →
+    list_any (λ e. path_names o e.1) paths ≡ nat_lt 0 x
 any_link paths ls o x inside here linked =
     any_counted (λ e. path_names o e.1) paths ∙ ap (nat_lt 0) (sym (linked.counted o inside) ∙ sym (get_or_read ls o x inside here 0))

@@ -1,5 +1,6 @@
 -- A process, a descriptor or a description by its number.
-use Rattle.std.proofs.Common.{◌≡◌, ℕ, zero, suc, ◌-◌, ◌<◌, ◌≤◌, Bool, true, false, not, List, [], length, get_or, set, Option, Some, None, sym, ◌∙◌, ap, subst, refl, arith}
+use Rattle.std.proofs.Common.{◌≡◌, ℕ, zero, suc, ◌-◌, ◌<◌, ◌≤◌, Bool, true, false, not, List, [], length, get_or, set, Option, Some, None}
+use Rattle.std.proofs.Common.{sym, ◌∙◌, ap, subst, refl, arith}
 use Rattle.std.specs.List.{slice_get}
 use Rattle.std.specs.Option.{unwrap_or}
 use Rattle.std.proofs.lemmas.Option.{slice_get_within, get_or_from_slice_get, unwrap_or-slice_get}
@@ -22,7 +23,8 @@ pub live_at : (S : State) (p : ℕ) → is_live S p ≡ true → (P : Process) �
 live_at S zero e = absurd (false≢true e)
 live_at S (suc i) e = go (slice_get S.processes i) refl e
   where
-    go : (o : Option Process) → slice_get S.processes i ≡ o → (elim o [ Some P ↦ not P.exited | None ↦ false ]) ≡ true → (P : Process) × IsAt S (suc i) P
+    go : (o : Option Process) → slice_get S.processes i ≡ o → (elim o [ Some P ↦ not P.exited | None ↦ false ]) ≡ true →
+        (P : Process) × IsAt S (suc i) P
     go None f h = absurd (false≢true h)
     go (Some P) f h =
         let back : suc i - 1 ≡ i = omega arith in (
@@ -60,14 +62,17 @@ with_process_is S (suc i) P h = let back : suc i - 1 ≡ i = omega arith in ap (
 pub table_here : (S : State) (p : ℕ) (P : Process) → is_live S p ≡ true → P ≡ get_or S.processes (p - 1) P → table_of S p ≡ P.table
 table_here S p P live e = ap (λ o. elim o as (λ _. List (Option Descriptor)) [ Some P ↦ P.table | None ↦ [] ]) (found_process S p P live e)
 
-pub table_put : (S : State) (p : ℕ) (P : Process) (table : List (Option Descriptor)) → is_live S p ≡ true → P ≡ get_or S.processes (p - 1) P →
+pub table_put : (S : State) (p : ℕ) (P : Process) (table : List (Option Descriptor)) → is_live S p ≡ true →
+    P ≡ get_or S.processes (p - 1) P →
     record S { processes = set S.processes (p - 1) (record P { table = table }) } ≡ with_table S p table
 table_put S p P table live e =
     with_process_is S p (record P { table = table }) (live_positive S p live)
-    ∙ sym (ap (λ o. elim o as (λ _. State) [ Some P ↦ with_process S p (record P { table = table }) | None ↦ S ]) (found_process S p P live e))
+    ∙ sym (ap (λ o. elim o as (λ _. State) [ Some P ↦ with_process S p (record P { table = table }) | None ↦ S ])
+    (found_process S p P live e))
 
 -- a changed process that stands in the place of a live one, through the parts of a state
-pub process_put : (V S : State) (p : ℕ) (R P Q : Process) (change : Process → Process) → is_live S p ≡ true → V ≡ S → R ≡ get_or V.processes (p - 1) R → process_at S p ≡ Some P → Q ≡ change R →
+pub process_put : (V S : State) (p : ℕ) (R P Q : Process) (change : Process → Process) → is_live S p ≡ true → V ≡ S →
+    R ≡ get_or V.processes (p - 1) R → process_at S p ≡ Some P → Q ≡ change R →
     record V { processes = set V.processes (p - 1) Q } ≡ with_process S p (change P)
 process_put V S p R P Q change live same here found changed =
     let lives : is_live V p ≡ true = ap (λ U. is_live U p) same ∙ live in
@@ -99,7 +104,8 @@ process_at_is S (suc i) some = let back : i ≡ suc i - 1 = omega arith in ap (s
 pub stands_at : (V S : State) (p : ℕ) (P : Process) → V ≡ S → process_at S p ≡ Some P → P ≡ get_or V.processes (p - 1) P
 stands_at V S zero P same found = absurd (cc found)
 stands_at V S (suc i) P same found =
-    sym (get_or_from_slice_get V.processes (suc i - 1) P P (sym (process_at_is V (suc i) (omega arith)) ∙ ap (λ U. process_at U (suc i)) same ∙ found))
+    sym (get_or_from_slice_get V.processes (suc i - 1) P P
+    (sym (process_at_is V (suc i) (omega arith)) ∙ ap (λ U. process_at U (suc i)) same ∙ found))
 
 pub live_is : (S : State) (p : ℕ) (P : Process) → 0 < p → slice_get S.processes (p - 1) ≡ Some P → not P.exited ≡ is_live S p
 live_is S p P some e = sym (ap (λ o. elim o as (λ _. Bool) [ Some P ↦ not P.exited | None ↦ false ]) (process_at_is S p some ∙ e))

@@ -1,5 +1,6 @@
 -- New descriptions with their entries, part by part.
-use Rattle.std.proofs.Common.{◌≡◌, ℕ, suc, ◌+◌, ◌-◌, ◌^◌, ◌<◌, true, cond, List, [], ◌∷◌, ◌++◌, length, get_or, set, Option, Some, ap, sym, ◌∙◌, arith, refl, Bool}
+use Rattle.std.proofs.Common.{◌≡◌, ℕ, suc, ◌+◌, ◌-◌, ◌^◌, ◌<◌, true, cond, List, [], ◌∷◌, ◌++◌, length, get_or, set, Option, Some, ap, sym}
+use Rattle.std.proofs.Common.{◌∙◌, arith, refl, Bool}
 use Rattle.std.specs.Prelude.{count_by}
 use Rattle.std.proofs.lemmas.List.{length_push}
 use Rattle.std.proofs.lemmas.List.Sums.{sum_by_push, count_by-le-length}
@@ -19,10 +20,10 @@ use Rattle.ux_model.specs.Opening.{file_description}
 use Rattle.ux_model.specs.References.{table_refs, target_refs, description_refs}
 use Rattle.ux_model.specs.Peers.{target_peer, Paired, HoldsNothing}
 use Rattle.ux_model.specs.Flight.{flying_in}
-use Rattle.ux_model.proofs.Moves.{one, table_filled}
-use Rattle.ux_model.proofs.Flying.{nothing_flying}
-use Rattle.ux_model.proofs.Making.{paired-push, paired-pair}
-use Rattle.ux_model.proofs.Owning.{owned_still, names_push}
+use Rattle.ux_model.proofs.Counting.Moves.{one, table_filled}
+use Rattle.ux_model.proofs.Messages.Flying.{nothing_flying}
+use Rattle.ux_model.proofs.Counting.Making.{paired-push, paired-pair}
+use Rattle.ux_model.proofs.Counting.Owning.{owned_still, names_push}
 use Rattle.ux_fdtable.proofs.TwoFree.{free_at, first_free, second_free}
 use Rattle.ux_state.specs.declared.openings.Openings.{Openings}
 use Rattle.ux_state.specs.Counting.{Counted, CountsOneMore, HasRoom, one_if}
@@ -33,7 +34,8 @@ use Rattle.ux_state.proofs.TableCounts.{HoldAlike, process_kept}
 
 -- ---- counts
 
-pub counted_push : (ds : List (Option Description)) (xs ys : List Openings) (D : Description) → Counted ds xs → CountsOneMore D xs ys → Counted (ds ++ Some D ∷ []) ys
+pub counted_push : (ds : List (Option Description)) (xs ys : List Openings) (D : Description) → Counted ds xs → CountsOneMore D xs ys →
+    Counted (ds ++ Some D ∷ []) ys
 counted_push ds xs ys D counted more = record {
   readers = λ o h. let within : o < length xs = let long = more.long in omega (arith, h, long) in
       more.readers o within ∙ ap (λ n. n + one_if (is_opening can_read o (Some D))) (counted.readers o within) ∙ sym (pushed can_read o);
@@ -41,11 +43,13 @@ counted_push ds xs ys D counted more = record {
       more.writers o within ∙ ap (λ n. n + one_if (is_opening can_write o (Some D))) (counted.writers o within) ∙ sym (pushed can_write o);
 }
   where
-    pushed : (allows : Mode → Bool) (o : ℕ) → count_by (is_opening allows o) (ds ++ Some D ∷ []) ≡ count_by (is_opening allows o) ds + one_if (is_opening allows o (Some D))
+    pushed : (allows : Mode → Bool) (o : ℕ) →
+        count_by (is_opening allows o) (ds ++ Some D ∷ []) ≡ count_by (is_opening allows o) ds + one_if (is_opening allows o (Some D))
     pushed allows o = sum_by_push (λ (p : Option Description). cond {A = ℕ} (is_opening allows o p) 1 0) ds (Some D)
 
 -- a socket is open of no file object
-pub any_socket_counted : (xs : List Openings) (flags : OpenFlags) (s : Socket) (D : Description) → D ≡ socket_description flags s → CountsOneMore D xs xs
+pub any_socket_counted : (xs : List Openings) (flags : OpenFlags) (s : Socket) (D : Description) → D ≡ socket_description flags s →
+    CountsOneMore D xs xs
 any_socket_counted xs flags s D e = rw e (record { long = refl; readers = λ o h. omega arith; writers = λ o h. omega arith })
 
 -- one more can be counted while there are numbers
@@ -59,14 +63,23 @@ room_to_count ds xs counted few = record {
 
 -- a file's description refers to nothing
 pub holds_nothing : (o : ℕ) (mode : Mode) (flags : OpenFlags) (D : Description) → D ≡ file_description o mode flags → HoldsNothing D
-holds_nothing o mode flags D is = record { refs = λ k. ap (λ E. target_refs k (Description.target E)) is; peer = ap (λ E. target_peer (Description.target E)) is }
+holds_nothing o mode flags D is = record {
+  refs = λ k. ap (λ E. target_refs k (Description.target E)) is;
+  peer =
+      ap (λ E. target_peer (Description.target E)) is;
+}
 
 -- nor does a socket that is tied to nobody
 pub idle_holds : (kind : SockType) (flags : OpenFlags) (D : Description) → D ≡ socket_description flags (new_socket kind) → HoldsNothing D
-idle_holds kind flags D is = record { refs = λ k. ap (λ E. target_refs k (Description.target E)) is; peer = ap (λ E. target_peer (Description.target E)) is }
+idle_holds kind flags D is = record {
+  refs = λ k. ap (λ E. target_refs k (Description.target E)) is;
+  peer =
+      ap (λ E. target_peer (Description.target E)) is;
+}
 
 -- nor does a new socket, while nothing waits at it
-pub end_holds : (kind : SockType) (peer : ℕ) (flags : OpenFlags) (cred : Cred) (D : Description) → D ≡ socket_description flags (pair_end kind peer cred) → (k : ℕ) → target_refs k D.target ≡ 0
+pub end_holds : (kind : SockType) (peer : ℕ) (flags : OpenFlags) (cred : Cred) (D : Description) →
+    D ≡ socket_description flags (pair_end kind peer cred) → (k : ℕ) → target_refs k D.target ≡ 0
 end_holds kind peer flags cred D is k = ap (λ E. target_refs k (Description.target E)) is ∙ by_kind kind
   where
     by_kind : (kind : SockType) → target_refs k (to_socket (pair_end kind peer cred)) ≡ 0
@@ -75,14 +88,16 @@ end_holds kind peer flags cred D is k = ap (λ E. target_refs k (Description.tar
     by_kind SockType.Seq = refl
 
 -- the two of a pair name one another as peers, or for datagrams nobody
-pub pair_paired : (kind : SockType) (ds : List (Option Description)) (flags : OpenFlags) (cred : Cred) (D E : Description) → D ≡ socket_description flags (pair_end kind (length ds + 1) cred) →
+pub pair_paired : (kind : SockType) (ds : List (Option Description)) (flags : OpenFlags) (cred : Cred) (D E : Description) →
+    D ≡ socket_description flags (pair_end kind (length ds + 1) cred) →
     E ≡ socket_description flags (pair_end kind (length ds) cred) → Paired ds → Paired ((ds ++ Some D ∷ []) ++ Some E ∷ [])
 pair_paired kind ds flags cred D E first second = by_kind kind (ap peer first) (ap peer second)
   where
     peer : Description → Option ℕ
     peer D = target_peer D.target
 
-    by_kind : (kind : SockType) → target_peer D.target ≡ target_peer (to_socket (pair_end kind (length ds + 1) cred)) → target_peer E.target ≡ target_peer (to_socket (pair_end kind (length ds) cred)) →
+    by_kind : (kind : SockType) → target_peer D.target ≡ target_peer (to_socket (pair_end kind (length ds + 1) cred)) →
+        target_peer E.target ≡ target_peer (to_socket (pair_end kind (length ds) cred)) →
         Paired ds → Paired ((ds ++ Some D ∷ []) ++ Some E ∷ [])
     by_kind SockType.Stream ahead back paired = paired-pair ds D E ahead back paired
     by_kind SockType.Seq ahead back paired = paired-pair ds D E ahead back paired
@@ -96,7 +111,8 @@ held_push ds D none = record {
 }
 
 -- and another
-held_push_two : (ds : List (Option Description)) (D E : Description) → ((k : ℕ) → target_refs k D.target ≡ 0) → ((k : ℕ) → target_refs k E.target ≡ 0) → HoldAlike ds ((ds ++ Some D ∷ []) ++ Some E ∷ [])
+held_push_two : (ds : List (Option Description)) (D E : Description) → ((k : ℕ) → target_refs k D.target ≡ 0) →
+    ((k : ℕ) → target_refs k E.target ≡ 0) → HoldAlike ds ((ds ++ Some D ∷ []) ++ Some E ∷ [])
 held_push_two ds D E none nothing =
     let first = held_push ds D none in
     let second = held_push (ds ++ Some D ∷ []) E nothing in
@@ -112,11 +128,14 @@ adds_from H J K D places counts adds = record {
       omega (arith, a, b, c);
 }
 
-module _ {fs : ℕ → ℕ} (xs : List Openings) (ls : List ℕ) (H : Held Description) (os : List (Option View)) (ps : List Process) (paths : List (Name × PathTarget)) (names : List (Name × ℕ)) (state : IsState xs ls H fs (state_of os H ps paths names))
+module _ {fs : ℕ → ℕ} (xs : List Openings) (ls : List ℕ) (H : Held Description) (os : List (Option View)) (ps : List Process)
+    (paths : List (Name × PathTarget)) (names : List (Name × ℕ)) (state : IsState xs ls H fs (state_of os H ps paths names))
     (p : ℕ) (P : Process) (live : is_live (state_of os H ps paths names) p ≡ true) (at : P ≡ get_or ps (p - 1) P) where
   -- a file's description more, to which the lowest free number leads
-  pub object_opened : (ys : List Openings) (K : Held Description) (Q : Process) (n : ℕ) (e : Descriptor) (D : Description) → Q ≡ record P { table = filled P.table n e } → lowest_free P.table ≡ Some n →
-      e.description ≡ length H.places → Adds D H K → HoldsNothing D → CountsOneMore D xs ys → IsState ys ls K fs (state_of os K (set ps (p - 1) Q) paths names)
+  pub object_opened : (ys : List Openings) (K : Held Description) (Q : Process) (n : ℕ) (e : Descriptor) (D : Description) →
+      Q ≡ record P { table = filled P.table n e } → lowest_free P.table ≡ Some n →
+      e.description ≡ length H.places → Adds D H K → HoldsNothing D → CountsOneMore D xs ys →
+      IsState ys ls K fs (state_of os K (set ps (p - 1) Q) paths names)
   object_opened ys K Q n e D new lowest last adds none more =
       process_kept xs ls H os ps paths names state p P live at ys K Q more.long (rw adds.places (held_push H.places D none.refs))
       (rw adds.places (counted_push H.places xs ys D state.opened more)) (rw adds.places (paired-push H.places D none.peer state.paired))
@@ -131,14 +150,18 @@ module _ {fs : ℕ → ℕ} (xs : List Openings) (ls : List ℕ) (H : Held Descr
       omega (arith, a, b, c, f, g))
 
   -- two sockets' descriptions more, which are tied to one another
-  pub pair_opened : (J K : Held Description) (Q : Process) (n m : ℕ) (e f : Descriptor) (D E : Description) → Q ≡ record P { table = filled (filled P.table n e) m f } → two_lowest_free P.table ≡ Some (n, m) →
-      e.description ≡ length H.places → f.description ≡ length H.places + 1 → Adds D H J → Adds E J K → Paired ((H.places ++ Some D ∷ []) ++ Some E ∷ []) →
-      ((k : ℕ) → target_refs k D.target ≡ 0) → ((k : ℕ) → target_refs k E.target ≡ 0) → CountsOneMore D xs xs → CountsOneMore E xs xs → IsState xs ls K fs (state_of os K (set ps (p - 1) Q) paths names)
+  pub pair_opened : (J K : Held Description) (Q : Process) (n m : ℕ) (e f : Descriptor) (D E : Description) →
+      Q ≡ record P { table = filled (filled P.table n e) m f } → two_lowest_free P.table ≡ Some (n, m) →
+      e.description ≡ length H.places → f.description ≡ length H.places + 1 → Adds D H J → Adds E J K →
+      Paired ((H.places ++ Some D ∷ []) ++ Some E ∷ []) →
+      ((k : ℕ) → target_refs k D.target ≡ 0) → ((k : ℕ) → target_refs k E.target ≡ 0) → CountsOneMore D xs xs → CountsOneMore E xs xs →
+      IsState xs ls K fs (state_of os K (set ps (p - 1) Q) paths names)
   pair_opened J K Q n m e f D E new lowest first second adds adds' ties d_holds e_holds d_more e_more =
       let two : K.places ≡ (H.places ++ Some D ∷ []) ++ Some E ∷ [] = adds'.places ∙ ap (λ ds. ds ++ Some E ∷ []) adds.places in
       process_kept xs ls H os ps paths names state p P live at xs K Q refl (rw two (held_push_two H.places D E d_holds e_holds))
       (rw two (counted_push _ xs xs E (counted_push H.places xs xs D state.opened d_more) e_more)) (rw two ties)
-      (rw two (owned_still _ _ names (names_push (H.places ++ Some D ∷ []) E) (owned_still H.places _ names (names_push H.places D) state.owned)))
+      (rw two (owned_still _ _ names (names_push (H.places ++ Some D ∷ []) E)
+      (owned_still H.places _ names (names_push H.places D) state.owned)))
       (λ k.
       let low = first_free P.table n m lowest in
       let a = table_filled k P.table n e low.0 in
@@ -158,7 +181,8 @@ module _ {fs : ℕ → ℕ} (xs : List Openings) (ls : List ℕ) (H : Held Descr
 -- ---- entries
 
 -- an entry that was put into a process's table, where descriptions were added before
-pub entries_put : (V S T : State) (p : ℕ) (P R : Process) (ds : List (Option Description)) (table t : List (Option Descriptor)) → is_live S p ≡ true → V ≡ S →
+pub entries_put : (V S T : State) (p : ℕ) (P R : Process) (ds : List (Option Description)) (table t : List (Option Descriptor)) →
+    is_live S p ≡ true → V ≡ S →
     P ≡ get_or V.processes (p - 1) P → R ≡ P → record V { descriptions = ds } ≡ T → table ≡ t →
     record V { descriptions = ds; processes = set V.processes (p - 1) (record R { table = table }) } ≡ with_table T p t
 entries_put V S T p P R ds table t live same here r end e =
@@ -171,7 +195,8 @@ pub same_places : (V S : State) (ds : List (Option Description)) → V ≡ S →
 same_places V S ds same e = (λ j. record V { descriptions = e j }) ∙ same
 
 -- one process more
-pub child_put : (V S : State) (ds : List (Option Description)) (ps : List Process) (Q P : Process) → V ≡ S → ds ≡ V.descriptions → ps ≡ V.processes ++ Q ∷ [] → Q ≡ child_of P →
+pub child_put : (V S : State) (ds : List (Option Description)) (ps : List Process) (Q P : Process) → V ≡ S → ds ≡ V.descriptions →
+    ps ≡ V.processes ++ Q ∷ [] → Q ≡ child_of P →
     record V { descriptions = ds; processes = ps } ≡ with_child S (child_of P)
 child_put V S ds ps Q P same e pushed copy =
     (λ j. record V { descriptions = e j; processes = pushed j })
@@ -179,22 +204,29 @@ child_put V S ds ps Q P same e pushed copy =
     ∙ ap (λ U. with_child U (child_of P)) same
 
 -- the table of the process, through its parts
-pub table_is : (V S : State) (p : ℕ) (P R : Process) → is_live S p ≡ true → V ≡ S → P ≡ get_or V.processes (p - 1) P → R ≡ P → R.table ≡ table_of S p
+pub table_is : (V S : State) (p : ℕ) (P R : Process) → is_live S p ≡ true → V ≡ S → P ≡ get_or V.processes (p - 1) P → R ≡ P →
+    R.table ≡ table_of S p
 table_is V S p P R live same here r =
     ap (λ Q. Process.table Q) r ∙ sym (table_here V p P (ap (λ U. is_live U p) same ∙ live) here) ∙ ap (λ U. table_of U p) same
 
-pub new_one : (V S : State) (D : Description) (ds : List (Option Description)) → V ≡ S → ds ≡ V.descriptions ++ Some D ∷ [] → record V { descriptions = ds } ≡ with_new S D
+pub new_one : (V S : State) (D : Description) (ds : List (Option Description)) → V ≡ S → ds ≡ V.descriptions ++ Some D ∷ [] →
+    record V { descriptions = ds } ≡ with_new S D
 new_one V S D ds same e = (λ j. record V { descriptions = e j }) ∙ ap (λ U. with_new U D) same
 
 pub new_two : (V S : State) (kind : SockType) (flags : OpenFlags) (cred : Cred) (ds : List (Option Description)) → V ≡ S →
-    ds ≡ V.descriptions ++ Some (socket_description flags (pair_end kind (length V.descriptions + 1) cred)) ∷ [] ++ Some (socket_description flags (pair_end kind (length V.descriptions) cred)) ∷ [] →
+    ds ≡ V.descriptions ++ Some (socket_description flags (pair_end kind (length V.descriptions + 1) cred)) ∷ [] ++ Some
+    (socket_description flags (pair_end kind (length V.descriptions) cred)) ∷ [] →
     record V { descriptions = ds } ≡ with_pair S kind flags cred
 new_two V S kind flags cred ds same e =
     let next : length V.descriptions + 1 ≡ suc (length V.descriptions) = omega arith in
     (λ j. record V { descriptions = e j })
-    ∙ (λ j. record V { descriptions = V.descriptions ++ Some (socket_description flags (pair_end kind (next j) cred)) ∷ [] ++ Some (socket_description flags (pair_end kind (length V.descriptions) cred)) ∷ [] })
+    ∙ (λ j. record V {
+      descriptions = V.descriptions ++ Some (socket_description flags (pair_end kind (next j) cred)) ∷ [] ++ Some
+          (socket_description flags (pair_end kind (length V.descriptions) cred)) ∷ [];
+    })
     ∙ ap (λ U. with_pair U kind flags cred) same
 
 -- the entries that lead to them
-pub entry_is : (V S : State) (flags : OpenFlags) (d : ℕ) (place : ℕ → ℕ) (e : Descriptor) → V ≡ S → d ≡ length V.descriptions → e ≡ descriptor flags (place d) → e ≡ descriptor flags (place (next_description S))
+pub entry_is : (V S : State) (flags : OpenFlags) (d : ℕ) (place : ℕ → ℕ) (e : Descriptor) → V ≡ S → d ≡ length V.descriptions →
+    e ≡ descriptor flags (place d) → e ≡ descriptor flags (place (next_description S))
 entry_is V S flags d place e same number is = is ∙ ap (λ n. descriptor flags (place n)) (number ∙ ap next_description same)

@@ -1,5 +1,6 @@
 -- Counts of many references, one after another, and of those that a queue or a backlog holds.
-use Rattle.std.proofs.Common.{◌≡◌, ℕ, ◌+◌, ◌<◌, ◌≤◌, ◌==◌, cond, List, [], ◌∷◌, length, get_or, take, drop, Option, Some, None, option_map, refl, ap, arith}
+use Rattle.std.proofs.Common.{◌≡◌, ℕ, ◌+◌, ◌<◌, ◌≤◌, ◌==◌, cond, List, [], ◌∷◌, length, get_or, take, drop, Option, Some, None, option_map}
+use Rattle.std.proofs.Common.{refl, ap, arith}
 use Rattle.std.specs.Prelude.{slice_get}
 use Rattle.std.proofs.lemmas.Bool.{eq-eqb}
 use Rattle.std.proofs.lemmas.List.Sums.{sum_by_more, sum_by-take-le, sum_by-cons}
@@ -23,7 +24,8 @@ times_at xs i inside =
     omega (arith, a, b, c)
 
 -- the first message holds its rights, and the others the rest
-pub queue_popped : (k : ℕ) (q : List Message) (rights : List ℕ) (uid : ℕ) → ◌≡◌ {A = Option (List ℕ × ℕ)} (Some (rights, uid)) (option_map (λ m. (Message.rights m, Message.uid m)) (slice_get q 0)) →
+pub queue_popped : (k : ℕ) (q : List Message) (rights : List ℕ) (uid : ℕ) →
+    ◌≡◌ {A = Option (List ℕ × ℕ)} (Some (rights, uid)) (option_map (λ m. (Message.rights m, Message.uid m)) (slice_get q 0)) →
     queue_refs k (drop 1 q) + times k rights ≡ queue_refs k q
 queue_popped k [] rights uid e = absurd (cc e)
 queue_popped k (m ∷ ms) rights uid e =
@@ -33,7 +35,8 @@ queue_popped k (m ∷ ms) rights uid e =
     omega (arith, a, b)
 
 -- and so for its rights in flight
-pub flying_popped : (u : ℕ) (q : List Message) (rights : List ℕ) (uid : ℕ) → ◌≡◌ {A = Option (List ℕ × ℕ)} (Some (rights, uid)) (option_map (λ m. (Message.rights m, Message.uid m)) (slice_get q 0)) →
+pub flying_popped : (u : ℕ) (q : List Message) (rights : List ℕ) (uid : ℕ) →
+    ◌≡◌ {A = Option (List ℕ × ℕ)} (Some (rights, uid)) (option_map (λ m. (Message.rights m, Message.uid m)) (slice_get q 0)) →
     rights_sent_by u (drop 1 q) + of_user u uid (length rights) ≡ rights_sent_by u q
 flying_popped u [] rights uid e = absurd (cc e)
 flying_popped u (m ∷ ms) rights uid e =
@@ -46,15 +49,19 @@ flying_popped u (m ∷ ms) rights uid e =
 pub of_itself : (u count : ℕ) → of_user u u count ≡ count
 of_itself u count = ap (λ b. cond {A = ℕ} b count 0) (eq-eqb u u refl)
 
-pub no_flying : (u : ℕ) (q : List Message) → ◌≡◌ {A = Option (List ℕ × ℕ)} None (option_map (λ m. (Message.rights m, Message.uid m)) (slice_get q 0)) → rights_sent_by u q ≡ 0
+pub no_flying : (u : ℕ) (q : List Message) →
+    ◌≡◌ {A = Option (List ℕ × ℕ)} None (option_map (λ m. (Message.rights m, Message.uid m)) (slice_get q 0)) → rights_sent_by u q ≡ 0
 no_flying u [] e = refl
 no_flying u (m ∷ ms) e = absurd (cc e)
 
-pub fewer_messages : (q : List Message) (r : List ℕ × ℕ) → ◌≡◌ {A = Option (List ℕ × ℕ)} (Some r) (option_map (λ m. (Message.rights m, Message.uid m)) (slice_get q 0)) → length (drop 1 q) < length q
+pub fewer_messages : (q : List Message) (r : List ℕ × ℕ) →
+    ◌≡◌ {A = Option (List ℕ × ℕ)} (Some r) (option_map (λ m. (Message.rights m, Message.uid m)) (slice_get q 0)) →
+    length (drop 1 q) < length q
 fewer_messages [] r e = absurd (cc e)
 fewer_messages (m ∷ ms) r e = omega arith
 
-pub no_messages : (k : ℕ) (q : List Message) → ◌≡◌ {A = Option (List ℕ × ℕ)} None (option_map (λ m. (Message.rights m, Message.uid m)) (slice_get q 0)) → queue_refs k q ≡ 0
+pub no_messages : (k : ℕ) (q : List Message) →
+    ◌≡◌ {A = Option (List ℕ × ℕ)} None (option_map (λ m. (Message.rights m, Message.uid m)) (slice_get q 0)) → queue_refs k q ≡ 0
 no_messages k [] e = refl
 no_messages k (m ∷ ms) e = absurd (cc e)
 

@@ -1,5 +1,6 @@
 -- Counts where the table of a process changes.
-use Rattle.std.proofs.Common.{◌≡◌, ℕ, zero, suc, ◌+◌, ◌-◌, ◌<◌, ◌≤◌, true, List, [], ◌∷◌, ◌++◌, length, get_or, set, map, take, Option, Some, None, option_map, refl, sym, ◌∙◌, ap, arith}
+use Rattle.std.proofs.Common.{◌≡◌, ℕ, zero, suc, ◌+◌, ◌-◌, ◌<◌, ◌≤◌, true, List, [], ◌∷◌, ◌++◌, length, get_or, set, map, take, Option}
+use Rattle.std.proofs.Common.{Some, None, option_map, refl, sym, ◌∙◌, ap, arith}
 use Rattle.std.specs.List.{sum_by}
 use Rattle.std.specs.Prelude.{Bool, false, ◌==◌, if◌then◌else◌, cond, slice_set}
 use Rattle.std.proofs.lemmas.List.{length-set, length-append, length-map}
@@ -16,7 +17,7 @@ use Rattle.ux_model.specs.References.{table_refs, description_refs, refs}
 use Rattle.ux_model.specs.Peers.{Paired}
 use Rattle.ux_model.specs.Flight.{flying_in, in_flight}
 use Rattle.ux_model.specs.Owning.{AreOwned}
-use Rattle.ux_model.proofs.Moves.{table_emptied, process_counts, child_counts}
+use Rattle.ux_model.proofs.Counting.Moves.{table_emptied, process_counts, child_counts}
 use Rattle.ux_slots.specs.Held.{Held, count_at}
 use Rattle.ux_state.specs.declared.openings.Openings.{Openings}
 use Rattle.ux_state.specs.Counting.{Counted}
@@ -31,7 +32,8 @@ pub record HoldAlike (old new : List (Option Description)) : Type 0 where
   pub holds : (k : ℕ) → sum_by (description_refs k) new ≡ sum_by (description_refs k) old
   pub flies : (u : ℕ) → sum_by (flying_in u) new ≡ sum_by (flying_in u) old
 
-pub same_refs : (os : List (Option View)) (H K : Held Description) (ps : List Process) (paths : List (Name × PathTarget)) (names : List (Name × ℕ)) (k : ℕ) → HoldAlike H.places K.places →
+pub same_refs : (os : List (Option View)) (H K : Held Description) (ps : List Process) (paths : List (Name × PathTarget))
+    (names : List (Name × ℕ)) (k : ℕ) → HoldAlike H.places K.places →
     refs (state_of os K ps paths names) k ≡ refs (state_of os H ps paths names) k
 unfolding refs
 same_refs os H K ps paths names k alike = ap (λ n. sum_by (λ P. table_refs k (Process.table P)) ps + n) (alike.holds k)
@@ -40,19 +42,23 @@ pub held_same : (ds es : List (Option Description)) → es ≡ ds → HoldAlike 
 held_same ds es same = record { holds = λ k. ap (sum_by (description_refs k)) same; flies = λ u. ap (sum_by (flying_in u)) same }
 
 -- each user's count stays
-pub same_flight : {fs : ℕ → ℕ} (os : List (Option View)) (H K : Held Description) (ps qs : List Process) (paths more : List (Name × PathTarget)) (names shown : List (Name × ℕ)) → HoldAlike H.places K.places →
+pub same_flight : {fs : ℕ → ℕ} (os : List (Option View)) (H K : Held Description) (ps qs : List Process)
+    (paths more : List (Name × PathTarget)) (names shown : List (Name × ℕ)) → HoldAlike H.places K.places →
     ((u : ℕ) → fs u ≡ in_flight (state_of os H ps paths names) u) → (u : ℕ) → fs u ≡ in_flight (state_of os K qs more shown) u
 unfolding in_flight
 same_flight os H K ps qs paths more names shown alike counted u = counted u ∙ sym (alike.flies u)
 
-module _ {fs : ℕ → ℕ} (xs : List Openings) (ls : List ℕ) (H : Held Description) (os : List (Option View)) (ps : List Process) (paths : List (Name × PathTarget)) (names : List (Name × ℕ)) (state : IsState xs ls H fs (state_of os H ps paths names)) where
+module _ {fs : ℕ → ℕ} (xs : List Openings) (ls : List ℕ) (H : Held Description) (os : List (Option View)) (ps : List Process)
+    (paths : List (Name × PathTarget)) (names : List (Name × ℕ)) (state : IsState xs ls H fs (state_of os H ps paths names)) where
   module _ (p : ℕ) (P : Process) (live : is_live (state_of os H ps paths names) p ≡ true) (at : P ≡ get_or ps (p - 1) P) where
     abbrev S : State
     S = state_of os H ps paths names
 
     -- another process stands in its place, and the counts follow
-    pub process_kept : (ys : List Openings) (K : Held Description) (Q : Process) → length ys ≡ length xs → HoldAlike H.places K.places → Counted K.places ys → Paired K.places → AreOwned K.places names →
-        ((k : ℕ) → count_at K k + table_refs k P.table ≡ count_at H k + table_refs k Q.table) → IsState ys ls K fs (state_of os K (set ps (p - 1) Q) paths names)
+    pub process_kept : (ys : List Openings) (K : Held Description) (Q : Process) → length ys ≡ length xs → HoldAlike H.places K.places →
+        Counted K.places ys → Paired K.places → AreOwned K.places names →
+        ((k : ℕ) → count_at K k + table_refs k P.table ≡ count_at H k + table_refs k Q.table) →
+        IsState ys ls K fs (state_of os K (set ps (p - 1) Q) paths names)
     process_kept ys K Q long alike opened paired owned counts = record {
       few_objects = state.few_objects;
       few_processes = let e = length-set ps (p - 1) Q in let few = state.few_processes in omega (arith, e, few);
@@ -74,9 +80,11 @@ module _ {fs : ℕ → ℕ} (xs : List Openings) (ls : List ℕ) (H : Held Descr
 
     -- it has another table, with the same descriptions
     pub table_kept : (K : Held Description) (Q : Process) → K.places ≡ H.places →
-        ((k : ℕ) → count_at K k + table_refs k P.table ≡ count_at H k + table_refs k Q.table) → IsState xs ls K fs (state_of os K (set ps (p - 1) Q) paths names)
+        ((k : ℕ) → count_at K k + table_refs k P.table ≡ count_at H k + table_refs k Q.table) →
+        IsState xs ls K fs (state_of os K (set ps (p - 1) Q) paths names)
     table_kept K Q same counts =
-        process_kept xs K Q refl (held_same H.places K.places same) (rw same state.opened) (rw same state.paired) (rw same state.owned) counts
+        process_kept xs K Q refl (held_same H.places K.places same) (rw same state.opened) (rw same state.paired) (rw same state.owned)
+        counts
 
     -- what its table refers to is counted
     pub table_counted : (k : ℕ) → table_refs k P.table ≤ count_at H k
@@ -88,7 +96,8 @@ module _ {fs : ℕ → ℕ} (xs : List Openings) (ls : List ℕ) (H : Held Descr
         omega (arith, a, b, c)
 
   -- a further process, whose entries are counted
-  pub child_kept : (K : Held Description) (Q : Process) → length ps < made_limit → K.places ≡ H.places → ((k : ℕ) → count_at K k ≡ count_at H k + table_refs k Q.table) →
+  pub child_kept : (K : Held Description) (Q : Process) → length ps < made_limit → K.places ≡ H.places →
+      ((k : ℕ) → count_at K k ≡ count_at H k + table_refs k Q.table) →
       IsState xs ls K fs (state_of os K (ps ++ Q ∷ []) paths names)
   child_kept K Q few same counts = record {
     few_objects = state.few_objects;
@@ -99,7 +108,8 @@ module _ {fs : ℕ → ℕ} (xs : List Openings) (ls : List ℕ) (H : Held Descr
     opened = rw same state.opened;
     counted = λ k.
         let a = child_counts (state_of os H ps paths names) Q k in
-        let b : refs (state_of os K (ps ++ Q ∷ []) paths names) k ≡ refs (state_of os H (ps ++ Q ∷ []) paths names) k = same_refs os H K (ps ++ Q ∷ []) paths names k (held_same H.places K.places same) in
+        let b : refs (state_of os K (ps ++ Q ∷ []) paths names) k ≡ refs (state_of os H (ps ++ Q ∷ []) paths names) k =
+        same_refs os H K (ps ++ Q ∷ []) paths names k (held_same H.places K.places same) in
         let c = counts k in
         let e = state.counted k in
         omega (arith, a, b, c, e);
@@ -125,7 +135,8 @@ module _ {fs : ℕ → ℕ} (xs : List Openings) (ls : List ℕ) (H : Held Descr
   }
 
   -- nor do other paths
-  pub paths_kept : (left : List (Name × PathTarget)) (ms : List ℕ) → length ms ≡ length ls → AreLinked left ms → IsState xs ms H fs (state_of os H ps left names)
+  pub paths_kept : (left : List (Name × PathTarget)) (ms : List ℕ) → length ms ≡ length ls → AreLinked left ms →
+      IsState xs ms H fs (state_of os H ps left names)
   unfolding refs in_flight
   paths_kept left ms long linked = record {
     few_objects = state.few_objects;
@@ -146,7 +157,8 @@ pub entry_in_table : (k : ℕ) (table : List (Option Descriptor)) (n : ℕ) → 
 entry_in_table k table n = let e = table_emptied k table n in omega (arith, e)
 
 -- what exec takes out of a table and what it leaves are the whole
-pub table_parted : (k : ℕ) (table : List (Option Descriptor)) → table_refs k (map closed_on_exec table) + table_refs k (map kept_on_exec table) ≡ table_refs k table
+pub table_parted : (k : ℕ) (table : List (Option Descriptor)) →
+    table_refs k (map closed_on_exec table) + table_refs k (map kept_on_exec table) ≡ table_refs k table
 table_parted k [] = refl
 table_parted k (x ∷ xs) =
     let gone = sum_by-cons (entry_refs k) (closed_on_exec x) (map closed_on_exec xs) in
@@ -165,7 +177,8 @@ table_parted k (x ∷ xs) =
         go false = omega arith
 
 -- the entry at a number counts among those up to it, and these among all
-pub table_at : (k : ℕ) (table : List (Option Descriptor)) (i : ℕ) → i < length table → table_refs k (take i table) + entry_refs k (place table i) ≤ table_refs k table
+pub table_at : (k : ℕ) (table : List (Option Descriptor)) (i : ℕ) → i < length table →
+    table_refs k (take i table) + entry_refs k (place table i) ≤ table_refs k table
 table_at k table i inside =
     let a = sum_by_more (entry_refs k) table i None inside in
     let b = sum_by-take-le (entry_refs k) table (i + 1) in
@@ -178,15 +191,18 @@ closed_place (x ∷ xs) zero = refl
 closed_place (x ∷ xs) (suc i) = closed_place xs i
 
 pub marked_more : (k : ℕ) (table : List (Option Descriptor)) (i : ℕ) → i < length table →
-    table_refs k (take (i + 1) (map closed_on_exec table)) ≡ table_refs k (take i (map closed_on_exec table)) + entry_refs k (closed_on_exec (place table i))
+    table_refs k (take (i + 1) (map closed_on_exec table)) ≡ table_refs k (take i (map closed_on_exec table)) + entry_refs k
+    (closed_on_exec (place table i))
 marked_more k table i inside =
     let long = length-map table closed_on_exec in
     let a = sum_by_more (entry_refs k) (map closed_on_exec table) i None (omega (arith, inside, long)) in
-    let here : entry_refs k (place (map closed_on_exec table) i) ≡ entry_refs k (closed_on_exec (place table i)) = ap (entry_refs k) (closed_place table i) in
+    let here : entry_refs k (place (map closed_on_exec table) i) ≡ entry_refs k (closed_on_exec (place table i)) =
+    ap (entry_refs k) (closed_place table i) in
     omega (arith, a, here)
 
 pub marked_at : (k : ℕ) (table : List (Option Descriptor)) (i : ℕ) → i < length table →
-    table_refs k (take i (map closed_on_exec table)) + entry_refs k (closed_on_exec (place table i)) ≤ table_refs k (map closed_on_exec table)
+    table_refs k (take i (map closed_on_exec table)) + entry_refs k (closed_on_exec (place table i)) ≤ table_refs k
+    (map closed_on_exec table)
 marked_at k table i inside =
     let a = marked_more k table i inside in
     let b = sum_by-take-le (entry_refs k) (map closed_on_exec table) (i + 1) in
@@ -195,7 +211,8 @@ marked_at k table i inside =
 -- there are no more than places
 pub table_refs_few : (k : ℕ) (table : List (Option Descriptor)) → table_refs k table ≤ length table
 table_refs_few k [] = omega arith
-table_refs_few k (x ∷ xs) = let all = sum_by-cons (entry_refs k) x xs in let first = one_few x in let rest = table_refs_few k xs in omega (arith, all, first, rest)
+table_refs_few k (x ∷ xs) = let all = sum_by-cons (entry_refs k) x xs in let first = one_few x in let rest = table_refs_few k xs in
+    omega (arith, all, first, rest)
   where
     one_few : (x : Option Descriptor) → entry_refs k x ≤ 1
     one_few None = omega arith
@@ -206,10 +223,12 @@ table_refs_few k (x ∷ xs) = let all = sum_by-cons (entry_refs k) x xs in let f
         go false = omega arith
 
 -- another close-on-exec leads to the same description
-pub table_marked : (k : ℕ) (on : Bool) (table : List (Option Descriptor)) (n : ℕ) → table_refs k (slice_set table n (option_map (with_cloexec on) (place table n))) ≡ table_refs k table
+pub table_marked : (k : ℕ) (on : Bool) (table : List (Option Descriptor)) (n : ℕ) →
+    table_refs k (slice_set table n (option_map (with_cloexec on) (place table n))) ≡ table_refs k table
 table_marked k on [] n = refl
 table_marked k on (x ∷ xs) zero =
-    let new : table_refs k (option_map (with_cloexec on) x ∷ xs) ≡ entry_refs k (option_map (with_cloexec on) x) + table_refs k xs = sum_by-cons (entry_refs k) (option_map (with_cloexec on) x) xs in
+    let new : table_refs k (option_map (with_cloexec on) x ∷ xs) ≡ entry_refs k (option_map (with_cloexec on) x) + table_refs k xs =
+    sum_by-cons (entry_refs k) (option_map (with_cloexec on) x) xs in
     let old : table_refs k (x ∷ xs) ≡ entry_refs k x + table_refs k xs = sum_by-cons (entry_refs k) x xs in
     let same = one_alike x in
     omega (arith, new, old, same)
@@ -226,7 +245,8 @@ table_marked k on (x ∷ xs) (suc n) =
 -- ---- a whole table
 
 -- the entries in front of a place, and what stands there, are among all
-pub table_front : (k : ℕ) (table : List (Option Descriptor)) (i : ℕ) → i < length table → table_refs k (take i table) + entry_refs k (place table i) ≤ table_refs k table
+pub table_front : (k : ℕ) (table : List (Option Descriptor)) (i : ℕ) → i < length table →
+    table_refs k (take i table) + entry_refs k (place table i) ≤ table_refs k table
 table_front k table i inside =
     let a = sum_by_more (entry_refs k) table i None inside in
     let b = sum_by-take-le (entry_refs k) table (i + 1) in
@@ -235,6 +255,7 @@ table_front k table i inside =
 pub none_open : (k : ℕ) (table : List (Option Descriptor)) → ◌≡◌ {A = ℕ} (table_refs k (map (λ _. None) table)) 0
 none_open k [] = refl
 none_open k (x ∷ xs) =
-    let a : table_refs k (None ∷ map (λ _. None) xs) ≡ 0 + table_refs k (map (λ _. None) xs) = sum_by-cons (entry_refs k) None (map (λ _. None) xs) in
+    let a : table_refs k (None ∷ map (λ _. None) xs) ≡ 0 + table_refs k (map (λ _. None) xs) =
+    sum_by-cons (entry_refs k) None (map (λ _. None) xs) in
     let b = none_open k xs in
     omega (arith, a, b)

@@ -1,5 +1,6 @@
 -- Moves of sockets by which others connect: a name given, listening, a connection, an accept.
-use Rattle.std.proofs.Common.{◌≡◌, ℕ, ◌+◌, ◌<◌, ◌==◌, Bool, true, false, cond, List, [], ◌∷◌, ◌++◌, length, Option, Some, None, is_some, option_map, option_and_then, refl, ap, sym, ◌∙◌, arith}
+use Rattle.std.proofs.Common.{◌≡◌, ℕ, ◌+◌, ◌<◌, ◌==◌, Bool, true, false, cond, List, [], ◌∷◌, ◌++◌, length, Option, Some, None, is_some}
+use Rattle.std.proofs.Common.{option_map, option_and_then, refl, ap, sym, ◌∙◌, arith}
 use Rattle.std.specs.Prelude.{IsSome, IsSomeAnd, is_none, slice_get, sum_by}
 use Rattle.std.proofs.lemmas.Bool.{eq-eqb, ne_eqb}
 use Rattle.std.proofs.lemmas.List.{length_push}
@@ -8,7 +9,8 @@ use Rattle.ux_model.specs.Types.{Name, Addr, Cred, Mode, OpenFlags}
 use Rattle.ux_model.specs.Names.{PathTarget, bound, named, is_unnamed_addr, autobind_name, IsFreeName, free_name}
 use Rattle.ux_model.specs.Places.{place, changed_place}
 use Rattle.ux_model.specs.Object.{View}
-use Rattle.ux_model.specs.Socket.{Socket, Phase, idle, listening, connected, associated, peer_of, pending_ends, awaiting, phase_with_pending}
+use Rattle.ux_model.specs.Socket.{Socket, Phase, idle, listening, connected, associated, peer_of, pending_ends, awaiting}
+use Rattle.ux_model.specs.Socket.{phase_with_pending}
 use Rattle.ux_model.specs.Description.{Description, Target, to_object, to_socket, socket_of, socket_in, changed, changed_target}
 use Rattle.ux_model.specs.Process.{Process}
 use Rattle.ux_model.specs.State.{State, socket_at, with_description_by, with_socket_by}
@@ -21,13 +23,13 @@ use Rattle.ux_model.specs.Owning.{target_name, name_in}
 use Rattle.ux_model.specs.Binding.{with_name}
 use Rattle.ux_model.specs.Connecting.{Listener, listener_of, with_listening, server_end, no_open_flags, tied, with_connection}
 use Rattle.ux_model.specs.Accepting.{accepted_with, as_accepted, without_first_end}
-use Rattle.ux_model.proofs.ChangedPlaces.{place-changed, length-changed, sum_by-changed}
-use Rattle.ux_model.proofs.LeastNames.{free_name_is_least}
-use Rattle.ux_model.proofs.Flying.{flying_at-changed, flying_changed}
-use Rattle.ux_model.proofs.Making.{place-push, paired-tied}
-use Rattle.ux_model.proofs.OneGoes.{paired-changed}
-use Rattle.ux_model.proofs.Owning.{owned_still, names_given, names_changed_socket, names_push, owned-push}
-use Rattle.ux_model.proofs.Sockets.{peer_in-changed, peer_left, peer_awaiting, end_count, phase_left}
+use Rattle.ux_model.proofs.Lists.ChangedPlaces.{place-changed, length-changed, sum_by-changed}
+use Rattle.ux_model.proofs.Changes.LeastNames.{free_name_is_least}
+use Rattle.ux_model.proofs.Messages.Flying.{flying_at-changed, flying_changed}
+use Rattle.ux_model.proofs.Counting.Making.{place-push, paired-tied}
+use Rattle.ux_model.proofs.Releasing.OneGoes.{paired-changed}
+use Rattle.ux_model.proofs.Counting.Owning.{owned_still, names_given, names_changed_socket, names_push, owned-push}
+use Rattle.ux_model.proofs.Counting.Sockets.{peer_in-changed, peer_left, peer_awaiting, end_count, phase_left}
 use Rattle.ux_slots.specs.Held.{Held, count_at, once, Adds}
 use Rattle.ux_state.specs.declared.openings.Openings.{Openings}
 use Rattle.ux_state.specs.Keeping.{state_of, IsState}
@@ -80,7 +82,8 @@ unnamed (Some D) s e none = by_target D.target e
     by_target (to_object o) e = absurd (cc e)
     by_target (to_socket u) e = let same : u ≡ s = cc e in by_name u.name (ap (λ t. is_unnamed_addr (Socket.name t)) same ∙ none) u
 
-gets : (n : Name) (x : Option Description) (s : Socket) → socket_in x ≡ Some s → name_in (option_map (changed (with_name (Addr.Abstract n))) x) ≡ Some n
+gets : (n : Name) (x : Option Description) (s : Socket) → socket_in x ≡ Some s →
+    name_in (option_map (changed (with_name (Addr.Abstract n))) x) ≡ Some n
 gets n None s e = absurd (cc e)
 gets n (Some D) s e = by_target D.target e
   where
@@ -93,19 +96,23 @@ gets n (Some D) s e = by_target D.target e
 abbrev pub first_of : Option Socket → Option ℕ
 first_of o = option_and_then (λ s. slice_get (pending_ends s.phase) 0) o
 
-place_left : (k : ℕ) (x : Option Description) → description_refs k (option_map (changed without_first_end) x) + end_count k (first_of (socket_in x)) ≡ description_refs k x + 0
+place_left : (k : ℕ) (x : Option Description) →
+    description_refs k (option_map (changed without_first_end) x) + end_count k (first_of (socket_in x)) ≡ description_refs k x + 0
 place_left k None = refl
 place_left k (Some D) = by_target D.target
   where
-    by_target : (t : Target) → target_refs k (changed_target without_first_end t) + end_count k (first_of (socket_of t)) ≡ target_refs k t + 0
+    by_target : (t : Target) → target_refs k (changed_target without_first_end t) + end_count k (first_of (socket_of t)) ≡ target_refs k
+        t + 0
     by_target (to_object o) = refl
     by_target (to_socket s) = let a = phase_left k s.phase in omega (arith, a)
 
 -- a further end counts at a listener
-awaiting_refs : (k e : ℕ) (s : Socket) (kept : Listener) → listener_of s.phase ≡ Some kept → socket_refs k (awaiting e s) ≡ socket_refs k s + one e k
+awaiting_refs : (k e : ℕ) (s : Socket) (kept : Listener) → listener_of s.phase ≡ Some kept →
+    socket_refs k (awaiting e s) ≡ socket_refs k s + one e k
 awaiting_refs k e s kept = by_phase s.phase
   where
-    by_phase : (p : Phase) → listener_of p ≡ Some kept → queue_refs k s.queue + times k (pending_ends (phase_with_pending e p)) ≡ queue_refs k s.queue + times k (pending_ends p) + one e k
+    by_phase : (p : Phase) → listener_of p ≡ Some kept →
+        queue_refs k s.queue + times k (pending_ends (phase_with_pending e p)) ≡ queue_refs k s.queue + times k (pending_ends p) + one e k
     by_phase idle h = absurd (cc h)
     by_phase (listening backlog cred) h = let a = sum_by_push (λ n. cond {A = ℕ} (n == k) 1 0) backlog.pending e in omega (arith, a)
     by_phase (connected peer) h = absurd (cc h)
@@ -129,7 +136,9 @@ accepted_alike flags x y e = record {
   flies = λ u. ap (λ D. flying_at u (Description.target D)) e ∙ flying_at-changed u as_accepted (λ s. refl) x.target;
 }
   where
-    opens : (allows : Mode → Bool) (o : ℕ) (t : Target) → is_opening allows o (Some (record x { target = changed_target as_accepted t })) ≡ is_opening allows o (Some (record x { target = t }))
+    opens : (allows : Mode → Bool) (o : ℕ) (t : Target) →
+        is_opening allows o (Some (record x { target = changed_target as_accepted t })) ≡ is_opening allows o
+        (Some (record x { target = t }))
     opens allows o (to_object n) = refl
     opens allows o (to_socket s) = refl
 
@@ -149,7 +158,8 @@ accepted_alike flags x y e = record {
 pub waiting_referenced : (S : State) (d e : ℕ) → first_end S d ≡ Some e → 0 < refs S e
 unfolding refs
 waiting_referenced S d e waits =
-    let a = sum_by-changed (description_refs e) (changed without_first_end) (λ x. 0) (λ x. end_count e (first_of (socket_in x))) (place_left e) S.descriptions d in
+    let a = sum_by-changed (description_refs e) (changed without_first_end) (λ x. 0)
+    (λ x. end_count e (first_of (socket_in x))) (place_left e) S.descriptions d in
     let b : end_count e (first_of (socket_at S d)) ≡ one e e = ap (end_count e) waits in
     let c : one e e ≡ 1 = ap (λ b. cond {A = ℕ} b 1 0) (eq-eqb e e refl) in
     omega (arith, a, b, c)
@@ -170,26 +180,32 @@ ties_peer e cred (Some D) s h none = (D, refl, by_target D.target h, ties D.targ
     ties (to_socket u) h = refl
 
 -- what a connect leaves, step by step
-places_tied : (hs rs us ks ms : List (Option Description)) (c l i : ℕ) (lcred kcred : Cred) (E F : Description) → rs ≡ hs → i ≡ length rs → us ≡ changed_place rs l (changed (awaiting i)) → ks ≡ us ++ Some E ∷ [] →
-    ms ≡ changed_place ks c (changed (tied i lcred)) → E ≡ F → lcred ≡ kcred → ms ≡ changed_place (changed_place hs l (changed (awaiting (length hs))) ++ Some F ∷ []) c (changed (tied (length hs) kcred))
+places_tied : (hs rs us ks ms : List (Option Description)) (c l i : ℕ) (lcred kcred : Cred) (E F : Description) → rs ≡ hs → i ≡ length rs →
+    us ≡ changed_place rs l (changed (awaiting i)) → ks ≡ us ++ Some E ∷ [] →
+    ms ≡ changed_place ks c (changed (tied i lcred)) → E ≡ F → lcred ≡ kcred →
+    ms ≡ changed_place (changed_place hs l (changed (awaiting (length hs))) ++ Some F ∷ []) c (changed (tied (length hs) kcred))
 places_tied hs rs us ks ms c l i lcred kcred E F r last u k m e creds =
     let number : i ≡ length hs = last ∙ ap length r in
     m ∙ ap (λ ds. changed_place ds c (changed (tied i lcred))) (k ∙ ap (λ ds. ds ++ Some E ∷ []) u)
-    ∙ (λ j. changed_place (changed_place (r j) l (changed (awaiting (number j))) ++ Some (e j) ∷ []) c (changed (tied (number j) (creds j))))
+    ∙ (λ j. changed_place (changed_place (r j) l (changed (awaiting (number j))) ++ Some (e j) ∷ []) c
+    (changed (tied (number j) (creds j))))
 
-on_both : (T : State) (l : ℕ) (P Q R : Socket → Listener → Type 0) → ((s : Socket) (kept : Listener) → P s kept → Q s kept → R s kept) → OnListener T l P → OnListener T l Q → OnListener T l R
+on_both : (T : State) (l : ℕ) (P Q R : Socket → Listener → Type 0) → ((s : Socket) (kept : Listener) → P s kept → Q s kept → R s kept) →
+    OnListener T l P → OnListener T l Q → OnListener T l R
 on_both T l P Q R both = go (socket_at T l)
   where
     at : (s : Socket) (o : Option Listener) → IsSomeAnd o (P s) → IsSomeAnd o (Q s) → IsSomeAnd o (R s)
     at s None p q = absurd p
     at s (Some kept) p q = both s kept p q
 
-    go : (o : Option Socket) → IsSomeAnd o (λ s. IsSomeAnd (listener_of (Socket.phase s)) (P s)) → IsSomeAnd o (λ s. IsSomeAnd (listener_of (Socket.phase s)) (Q s)) →
+    go : (o : Option Socket) → IsSomeAnd o (λ s. IsSomeAnd (listener_of (Socket.phase s)) (P s)) →
+        IsSomeAnd o (λ s. IsSomeAnd (listener_of (Socket.phase s)) (Q s)) →
         IsSomeAnd o (λ s. IsSomeAnd (listener_of (Socket.phase s)) (R s))
     go None p q = absurd p
     go (Some s) p q = at s (listener_of s.phase) p q
 
-module _ {fs : ℕ → ℕ} (xs : List Openings) (ls : List ℕ) (H : Held Description) (os : List (Option View)) (ps : List Process) (paths : List (Name × PathTarget)) (names : List (Name × ℕ)) (state : IsState xs ls H fs (state_of os H ps paths names)) where
+module _ {fs : ℕ → ℕ} (xs : List Openings) (ls : List ℕ) (H : Held Description) (os : List (Option View)) (ps : List Process)
+    (paths : List (Name × PathTarget)) (names : List (Name × ℕ)) (state : IsState xs ls H fs (state_of os H ps paths names)) where
   abbrev S : State
   S = state_of os H ps paths names
 
@@ -197,35 +213,44 @@ module _ {fs : ℕ → ℕ} (xs : List Openings) (ls : List ℕ) (H : Held Descr
   same_counts K same k = ap (λ cs. count_at (record H { counts = cs }) k) same
 
   -- a path more, of a socket that had no name
-  pub path_given : (K : Held Description) (more : List (Name × PathTarget)) (d : ℕ) (name other : Name) → IsUnnamedAt S d → named name paths ≡ None → more ≡ paths ++ (name, bound d) ∷ [] →
-      K.places ≡ changed_place H.places d (changed (with_name (Addr.Path other))) → K.counts ≡ H.counts → IsState xs ls K fs (state_of os K ps more names)
+  pub path_given : (K : Held Description) (more : List (Name × PathTarget)) (d : ℕ) (name other : Name) → IsUnnamedAt S d →
+      named name paths ≡ None → more ≡ paths ++ (name, bound d) ∷ [] →
+      K.places ≡ changed_place H.places d (changed (with_name (Addr.Path other))) → K.counts ≡ H.counts →
+      IsState xs ls K fs (state_of os K ps more names)
   path_given K more d name other free none is places counts =
       let f = that (λ s. is_unnamed_addr (Socket.name s) ≡ true) (socket_at S d) free in
-      socket_changed xs ls H os ps paths names state K more names d (with_name (Addr.Path other)) f.0 f.1 places refl (λ k. let a = same_counts K counts k in omega (arith, a)) (λ u. refl)
+      socket_changed xs ls H os ps paths names state K more names d (with_name (Addr.Path other)) f.0 f.1 places refl
+      (λ k. let a = same_counts K counts k in omega (arith, a)) (λ u. refl)
       (rw is (socket_linked name d paths ls none state.linked))
       (owned_still H.places _ names (names_given H.places d _ (unnamed (place H.places d) f.0 f.1 f.2)) state.owned)
 
   -- a name of the abstract namespace more
-  pub abstract_given : (K : Held Description) (shown : List (Name × ℕ)) (d : ℕ) (name other : Name) → other ≡ name → IsUnnamedAt S d → named name names ≡ None → shown ≡ names ++ (name, d) ∷ [] →
-      K.places ≡ changed_place H.places d (changed (with_name (Addr.Abstract other))) → K.counts ≡ H.counts → IsState xs ls K fs (state_of os K ps paths shown)
+  pub abstract_given : (K : Held Description) (shown : List (Name × ℕ)) (d : ℕ) (name other : Name) → other ≡ name → IsUnnamedAt S d →
+      named name names ≡ None → shown ≡ names ++ (name, d) ∷ [] →
+      K.places ≡ changed_place H.places d (changed (with_name (Addr.Abstract other))) → K.counts ≡ H.counts →
+      IsState xs ls K fs (state_of os K ps paths shown)
   abstract_given K shown d name other same free none is places counts =
       let f = that (λ s. is_unnamed_addr (Socket.name s) ≡ true) (socket_at S d) free in
       let change : Description → Description = changed (with_name (Addr.Abstract other)) in
       let here : place (changed_place H.places d change) d ≡ option_map change (place H.places d) =
       place-changed H.places d d change ∙ ap (λ b. cond b (option_map change (place H.places d)) (place H.places d)) (eq-eqb d d refl) in
-      socket_changed xs ls H os ps paths names state K paths shown d (with_name (Addr.Abstract other)) f.0 f.1 places refl (λ k. let a = same_counts K counts k in omega (arith, a)) (λ u. refl) state.linked
+      socket_changed xs ls H os ps paths names state K paths shown d (with_name (Addr.Abstract other)) f.0 f.1 places refl
+      (λ k. let a = same_counts K counts k in omega (arith, a)) (λ u. refl) state.linked
       (rw is (owned-push _ name d names none (ap name_in here ∙ gets other (place H.places d) f.0 f.1 ∙ ap (λ n. Some n) same)
       (owned_still H.places _ names (names_given H.places d _ (unnamed (place H.places d) f.0 f.1 f.2)) state.owned)))
 
   -- one that listens from now on
-  pub listened : (K : Held Description) (d limit : ℕ) (cred : Cred) → IsUnconnectedAt S d → K.places ≡ changed_place H.places d (changed (with_listening limit cred)) → K.counts ≡ H.counts →
+  pub listened : (K : Held Description) (d limit : ℕ) (cred : Cred) → IsUnconnectedAt S d →
+      K.places ≡ changed_place H.places d (changed (with_listening limit cred)) → K.counts ≡ H.counts →
       IsState xs ls K fs (state_of os K ps paths names)
   listened K d limit cred free places counts =
       let f = that (λ s. is_some (peer_of (Socket.phase s)) ≡ false) (socket_at S d) free in
-      socket_kept xs ls H os ps paths names state K d (with_listening limit cred) f.0 f.1 places (sym (nothing (peer_of (Socket.phase f.0)) f.2)) (λ t. refl) (λ k. let a = same_counts K counts k in omega (arith, a)) (λ u. refl)
+      socket_kept xs ls H os ps paths names state K d (with_listening limit cred) f.0 f.1 places
+      (sym (nothing (peer_of (Socket.phase f.0)) f.2)) (λ t. refl) (λ k. let a = same_counts K counts k in omega (arith, a)) (λ u. refl)
 
   -- an end that is taken off was counted
-  pub end_counted : (P : Held Description) (n e : ℕ) → first_of (socket_in (place H.places n)) ≡ Some e → P.counts ≡ H.counts → 0 < count_at P e
+  pub end_counted : (P : Held Description) (n e : ℕ) → first_of (socket_in (place H.places n)) ≡ Some e → P.counts ≡ H.counts →
+      0 < count_at P e
   end_counted P n e waits counts =
       let a = waiting_referenced S n e waits in
       let b = state.counted e in
@@ -233,7 +258,8 @@ module _ {fs : ℕ → ℕ} (xs : List Openings) (ls : List ℕ) (H : Held Descr
       omega (arith, a, b, c)
 
   -- and is no longer
-  pub end_gone : (P K : Held Description) (n : ℕ) (o : Option ℕ) → o ≡ first_of (socket_in (place H.places n)) → P.places ≡ changed_place H.places n (changed without_first_end) → P.counts ≡ H.counts →
+  pub end_gone : (P K : Held Description) (n : ℕ) (o : Option ℕ) → o ≡ first_of (socket_in (place H.places n)) →
+      P.places ≡ changed_place H.places n (changed without_first_end) → P.counts ≡ H.counts →
       K.places ≡ P.places → ((k : ℕ) → count_at P k ≡ count_at K k + end_count k o) → IsState xs ls K fs (state_of os K ps paths names)
   unfolding refs in_flight
   end_gone P K n o first leaves counts places less =
@@ -246,7 +272,8 @@ module _ {fs : ℕ → ℕ} (xs : List Openings) (ls : List ℕ) (H : Held Descr
         opened = rw all (counted_changed without_first_end H.places n xs state.opened);
         linked = state.linked;
         counted = λ k.
-            let a = sum_by-changed (description_refs k) (changed without_first_end) (λ x. 0) (λ x. end_count k (first_of (socket_in x))) (place_left k) H.places n in
+            let a = sum_by-changed (description_refs k) (changed without_first_end) (λ x. 0)
+            (λ x. end_count k (first_of (socket_in x))) (place_left k) H.places n in
             let b = ap (sum_by (description_refs k)) all in
             let c = ap (end_count k) first in
             let d = less k in
@@ -254,12 +281,14 @@ module _ {fs : ℕ → ℕ} (xs : List Openings) (ls : List ℕ) (H : Held Descr
             let f = state.counted k in
             omega (arith, a, b, c, d, e, f);
         flying = λ u. state.flying u ∙ sym (ap (sum_by (flying_in u)) all ∙ flying_changed u without_first_end (λ s. refl) H.places n);
-        paired = rw all (paired-changed H.places n (changed without_first_end) (peer_in-changed without_first_end (λ s. peer_left s.phase)) state.paired);
+        paired = rw all (paired-changed H.places n (changed without_first_end) (peer_in-changed without_first_end (λ s. peer_left s.phase))
+            state.paired);
         owned = rw all (owned_still H.places _ names (names_changed_socket H.places n without_first_end (λ s. refl)) state.owned);
       }
 
   -- one that waits at listener l is connected to c
-  module _ (c l : ℕ) (cred lcred : Cred) (s t : Socket) (kept : Listener) (client : socket_in (place H.places c) ≡ Some s) (no_peer : peer_of s.phase ≡ None) (no_listener : listener_of s.phase ≡ None)
+  module _ (c l : ℕ) (cred lcred : Cred) (s t : Socket) (kept : Listener) (client : socket_in (place H.places c) ≡ Some s)
+      (no_peer : peer_of s.phase ≡ None) (no_listener : listener_of s.phase ≡ None)
       (listener : socket_in (place H.places l) ≡ Some t) (listens : listener_of t.phase ≡ Some kept) where
     abbrev e : ℕ
     e = length H.places
@@ -284,22 +313,27 @@ module _ {fs : ℕ → ℕ} (xs : List Openings) (ls : List ℕ) (H : Held Descr
     long = length-changed H.places l (changed (awaiting e))
 
     at_c : place awaited c ≡ place H.places c
-    at_c = place-changed H.places l c (changed (awaiting e)) ∙ ap (λ b. cond b (option_map (changed (awaiting e)) (place H.places c)) (place H.places c)) other
+    at_c = place-changed H.places l c (changed (awaiting e))
+        ∙ ap (λ b. cond b (option_map (changed (awaiting e)) (place H.places c)) (place H.places c)) other
 
     inside : c < length H.places
     inside = there H.places c s client
 
     still : place (awaited ++ Some E ∷ []) c ≡ place H.places c
-    still = place-push awaited (Some E) c ∙ ap (λ b. cond b (Some E) (place awaited c)) (ne_eqb c (length awaited) (λ h. let a = inside in let b = long in omega (arith, h, a, b))) ∙ at_c
+    still = place-push awaited (Some E) c ∙ ap
+        (λ b. cond b (Some E) (place awaited c)) (ne_eqb c (length awaited) (λ h. let a = inside in let b = long in omega (arith, h, a, b)))
+        ∙ at_c
 
     held : (k : ℕ) → sum_by (description_refs k) all ≡ sum_by (description_refs k) H.places + one e k
     held k =
-        let a1 = sum_by-set (description_refs k) H.places l (option_map (changed (awaiting e)) (place H.places l)) None (there H.places l t listener) in
+        let a1 = sum_by-set (description_refs k) H.places l (option_map (changed (awaiting e)) (place H.places l)) None
+        (there H.places l t listener) in
         let a2 = held_by k (place H.places l) t listener in
         let a3 = held_by_changed k (awaiting e) (place H.places l) t listener in
         let a4 = awaiting_refs k e t kept listens in
         let b = sum_by_push (description_refs k) awaited (Some E) in
-        let c1 = sum_by-set (description_refs k) (awaited ++ Some E ∷ []) c (option_map (changed (tied e lcred)) (place (awaited ++ Some E ∷ []) c)) None
+        let c1 = sum_by-set (description_refs k) (awaited ++ Some E ∷ []) c
+        (option_map (changed (tied e lcred)) (place (awaited ++ Some E ∷ []) c)) None
         (let i = inside in let j = long in let m = length_push awaited (Some E) in omega (arith, i, j, m)) in
         let c2 = held_by k (place (awaited ++ Some E ∷ []) c) s (ap socket_in still ∙ client) in
         let c3 = held_by_changed k (tied e lcred) (place (awaited ++ Some E ∷ []) c) s (ap socket_in still ∙ client) in
@@ -321,7 +355,8 @@ module _ {fs : ℕ → ℕ} (xs : List Openings) (ls : List ℕ) (H : Held Descr
         (paired-changed H.places l (changed (awaiting e)) (peer_in-changed (awaiting e) (λ u. peer_awaiting e u.phase)) state.paired)
         (at_c ∙ f.1) f.2 refl refl (f.3 ∙ ap (λ n. Some n) (sym long))
 
-    pub connected_kept : (M : Held Description) → M.places ≡ all → ((k : ℕ) → count_at M k ≡ count_at H k + once e k) → IsState xs ls M fs (state_of os M ps paths names)
+    pub connected_kept : (M : Held Description) → M.places ≡ all → ((k : ℕ) → count_at M k ≡ count_at H k + once e k) →
+        IsState xs ls M fs (state_of os M ps paths names)
     unfolding refs in_flight
     connected_kept M places counts = record {
       few_objects = state.few_objects;
@@ -329,28 +364,36 @@ module _ {fs : ℕ → ℕ} (xs : List Openings) (ls : List ℕ) (H : Held Descr
       one_each = state.one_each;
       link_each = state.link_each;
       opened = rw places (counted_changed (tied e lcred) (awaited ++ Some E ∷ []) c xs
-          (counted_push awaited xs xs E (counted_changed (awaiting e) H.places l xs state.opened) (any_socket_counted xs no_open_flags (server_end t c cred) E refl)));
+          (counted_push awaited xs xs E (counted_changed (awaiting e) H.places l xs state.opened)
+          (any_socket_counted xs no_open_flags (server_end t c cred) E refl)));
       linked = state.linked;
-      counted = λ k. let a = held k in let b = ap (sum_by (description_refs k)) places in let d = counts k in let f = state.counted k in omega (arith, a, b, d, f);
+      counted = λ k. let a = held k in let b = ap (sum_by (description_refs k)) places in let d = counts k in let f = state.counted k in
+          omega (arith, a, b, d, f);
       flying = λ u. let a = flown u in let b = ap (sum_by (flying_in u)) places in let c = state.flying u in omega (arith, a, b, c);
       paired = rw places paired;
       owned = rw places (owned_still _ _ names (names_changed_socket (awaited ++ Some E ∷ []) c (tied e lcred) (λ u. refl))
-          (owned_still _ _ names (names_push awaited E) (owned_still H.places _ names (names_changed_socket H.places l (awaiting e) (λ u. refl)) state.owned)));
+          (owned_still _ _ names (names_push awaited E)
+          (owned_still H.places _ names (names_changed_socket H.places l (awaiting e) (λ u. refl)) state.owned)));
     }
 
   -- the same, by what the calls of a connect say
-  pub connection_kept : (R P K M : Held Description) (c l i : ℕ) (cred lcred : Cred) (E : Description) → IsUnconnectedAt S c → IsNoListenerAt S c → IsListenerAt S l →
-      OnListener S l (λ t kept. E ≡ socket_description no_open_flags (server_end t c cred)) → R.places ≡ H.places → R.counts ≡ H.counts → i ≡ length R.places →
-      P.places ≡ changed_place R.places l (changed (awaiting i)) → P.counts ≡ R.counts → Adds E P K → M.places ≡ changed_place K.places c (changed (tied i lcred)) → M.counts ≡ K.counts →
+  pub connection_kept : (R P K M : Held Description) (c l i : ℕ) (cred lcred : Cred) (E : Description) → IsUnconnectedAt S c →
+      IsNoListenerAt S c → IsListenerAt S l →
+      OnListener S l (λ t kept. E ≡ socket_description no_open_flags (server_end t c cred)) → R.places ≡ H.places → R.counts ≡ H.counts →
+      i ≡ length R.places →
+      P.places ≡ changed_place R.places l (changed (awaiting i)) → P.counts ≡ R.counts → Adds E P K →
+      M.places ≡ changed_place K.places c (changed (tied i lcred)) → M.counts ≡ K.counts →
       IsState xs ls M fs (state_of os M ps paths names)
   connection_kept R P K M c l i cred lcred E free deaf listens end r_places r_counts last p_places p_counts adds m_places m_counts =
       let f = that (λ s. is_some (peer_of (Socket.phase s)) ≡ false) (socket_at S c) free in
       let g = that (λ s. is_some (listener_of (Socket.phase s)) ≡ false) (socket_at S c) deaf in
       let one_socket : Some g.0 ≡ Some f.0 = sym g.1 ∙ f.1 in
       let same : g.0 ≡ f.0 = cc one_socket in
-      let h = that (λ t. IsSomeAnd (listener_of (Socket.phase t)) (λ kept. E ≡ socket_description no_open_flags (server_end t c cred))) (socket_at S l) end in
+      let h = that (λ t. IsSomeAnd (listener_of (Socket.phase t)) (λ kept. E ≡ socket_description no_open_flags (server_end t c cred)))
+      (socket_at S l) end in
       let k = that (λ kept. E ≡ socket_description no_open_flags (server_end h.0 c cred)) (listener_of (Socket.phase h.0)) h.2 in
-      connected_kept c l cred lcred f.0 h.0 k.0 f.1 (nothing _ f.2) (ap (λ s. listener_of (Socket.phase s)) (sym same) ∙ nothing _ g.2) h.1 k.1 M
+      connected_kept c l cred lcred f.0 h.0 k.0 f.1 (nothing _ f.2) (ap (λ s. listener_of (Socket.phase s)) (sym same) ∙ nothing _ g.2) h.1
+      k.1 M
       (places_tied H.places R.places P.places K.places M.places c l i lcred lcred E _ r_places last p_places adds.places m_places k.2 refl)
       (λ n.
       let a : count_at M n ≡ count_at K n = ap (λ cs. count_at (record H { counts = cs }) n) m_counts in
@@ -362,21 +405,33 @@ module _ {fs : ℕ → ℕ} (xs : List Openings) (ls : List ℕ) (H : Held Descr
 
 -- the state that a connect leaves
 pub connection_made : (V T : State) (R P K M : Held Description) (c l i : ℕ) (cred lcred : Cred) (E : Description) → V ≡ T →
-    OnListener T l (λ t kept. E ≡ socket_description no_open_flags (server_end t c cred)) → OnListener T l (λ t kept. lcred ≡ kept.cred) → R.places ≡ V.descriptions → i ≡ length R.places →
+    OnListener T l (λ t kept. E ≡ socket_description no_open_flags (server_end t c cred)) → OnListener T l (λ t kept. lcred ≡ kept.cred) →
+    R.places ≡ V.descriptions → i ≡ length R.places →
     P.places ≡ changed_place R.places l (changed (awaiting i)) → Adds E P K → M.places ≡ changed_place K.places c (changed (tied i lcred)) →
-    OnListener T l (λ t kept. record V { descriptions = M.places } ≡ with_connection T (record { client = c; client_cred = cred; listener = l; socket = t; listener_cred = kept.cred }))
+    OnListener T l (λ t kept. record V { descriptions = M.places } ≡ with_connection T
+    (record { client = c; client_cred = cred; listener = l; socket = t; listener_cred = kept.cred }))
 connection_made V T R P K M c l i cred lcred E same end creds r_places last p_places adds m_places =
-    on_both T l (λ t kept. E ≡ socket_description no_open_flags (server_end t c cred)) (λ t kept. lcred ≡ kept.cred) (λ t kept. record V { descriptions = M.places } ≡ with_connection T (record { client = c; client_cred = cred; listener = l; socket = t; listener_cred = kept.cred }))
+    on_both T l (λ t kept. E ≡ socket_description no_open_flags (server_end t c cred)) (λ t kept. lcred ≡ kept.cred)
+    (λ t kept. record V { descriptions = M.places } ≡ with_connection T
+    (record { client = c; client_cred = cred; listener = l; socket = t; listener_cred = kept.cred }))
     (λ t kept is_end is_cred.
-    (λ j. record V { descriptions = places_tied V.descriptions R.places P.places K.places M.places c l i lcred kept.cred E _ r_places last p_places adds.places m_places is_end is_cred j })
-    ∙ ap (λ U. with_connection U (record { client = c; client_cred = cred; listener = l; socket = t; listener_cred = kept.cred })) same) end creds
+    (λ j. record V {
+      descriptions = places_tied V.descriptions R.places P.places K.places M.places c l i lcred kept.cred E _ r_places last
+          p_places adds.places m_places is_end is_cred j;
+    })
+    ∙ ap (λ U. with_connection U (record { client = c; client_cred = cred; listener = l; socket = t; listener_cred = kept.cred })) same) end
+    creds
 
 -- one description changed
-pub one_changed : (V T : State) (d : ℕ) (change : Description → Description) (ds : List (Option Description)) → V ≡ T → ds ≡ changed_place V.descriptions d change →
+pub one_changed : (V T : State) (d : ℕ) (change : Description → Description) (ds : List (Option Description)) → V ≡ T →
+    ds ≡ changed_place V.descriptions d change →
     record V { descriptions = ds } ≡ with_description_by T d change
 one_changed V T d change ds same e = (λ j. record V { descriptions = e j }) ∙ ap (λ U. with_description_by U d change) same
 
 -- one listens
-pub listening_made : (V T : State) (d limit due : ℕ) (cred : Cred) (ds : List (Option Description)) → V ≡ T → ds ≡ changed_place V.descriptions d (changed (with_listening limit cred)) → limit ≡ due →
+pub listening_made : (V T : State) (d limit due : ℕ) (cred : Cred) (ds : List (Option Description)) → V ≡ T →
+    ds ≡ changed_place V.descriptions d (changed (with_listening limit cred)) → limit ≡ due →
     record V { descriptions = ds } ≡ with_socket_by T d (with_listening due cred)
-listening_made V T d limit due cred ds same e is = one_changed V T d (changed (with_listening due cred)) ds same (e ∙ ap (λ n. changed_place V.descriptions d (changed (with_listening n cred))) is)
+listening_made V T d limit due cred ds same e is =
+    one_changed V T d (changed (with_listening due cred)) ds same
+    (e ∙ ap (λ n. changed_place V.descriptions d (changed (with_listening n cred))) is)

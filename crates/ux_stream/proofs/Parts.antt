@@ -21,7 +21,8 @@ first_of_two k older newer = elim (cases_lt (length older) k) [
 ]
 
 -- so much of the first part, and then the rest from the second
-pub front_in_parts : (n k first : ℕ) (older newer items : List ℕ) → older ++ newer ≡ items → k ≡ min n (length items) → first ≡ min k (length older) →
+pub front_in_parts : (n k first : ℕ) (older newer items : List ℕ) → older ++ newer ≡ items → k ≡ min n (length items) →
+    first ≡ min k (length older) →
     take first older ++ take (k - first) newer ≡ take n items
 front_in_parts n k first older newer items whole k_is first_is =
     (λ j. take (first_is j) older ++ take (k - first_is j) newer) ∙
@@ -31,8 +32,10 @@ front_in_parts n k first older newer items whole k_is first_is =
     take_min n items
 
 -- the second part written behind the first
-pub put_behind : (k : ℕ) (first second one two rest : List ℕ) → one ≡ first → two ≡ second → take (length first + length second) (put_mid (length first) k (one ++ rest) two) ≡ first ++ second
+pub put_behind : (k : ℕ) (first second one two rest : List ℕ) → one ≡ first → two ≡ second →
+    take (length first + length second) (put_mid (length first) k (one ++ rest) two) ≡ first ++ second
 put_behind k first second one two rest same_one same_two =
     (λ j. take (length first + length second) (put_mid (length first) k (same_one j ++ rest) (same_two j))) ∙
     take-put_mid (length first) k (first ++ rest) second (length first + length second) refl (omega (arith, length-append first rest)) ∙
-    ap (λ (xs : List ℕ). xs ++ second) (take-append-le (length first) first rest (omega arith) ∙ take_all (length first) first (omega arith))
+    ap (λ (xs : List ℕ). xs ++ second) (take-append-le (length first) first rest (omega arith)
+    ∙ take_all (length first) first (omega arith))

@@ -6,8 +6,13 @@ use Rattle.ux_syntax.specs.declared.fault.Fault.{Fault}
 use Rattle.ux_syntax.specs.declared.fault.Fault.TheVariants.{BadLine}
 use Rattle.ux_trace.specs.declared.call_word.CallWord.{CallWord}
 use Rattle.ux_trace.specs.Trace.{word_text, request_word}
-use Rattle.ux_syntax.specs.Spelling.{Written, open_path, read_fd, write_fd, seek, dup_fd, dup_onto, dup_above, get_flags, set_flags, close, unlink_path, socket, pair, bind, listen, connect, accept, shut, get_opt, set_opt, sock_name, peer_name, send, recv, poll, set_ids, fork, exec, exit, meaning, args_of, FitsCall}
-use Rattle.ux_syntax.specs.Reading.{◌>>=◌, open_at, read_at, write_at, lseek_at, dup_at, dup2_at, dup_from_at, get_flags_at, set_flags_at, close_at, unlink_at, socket_at, pair_at, bind_at, listen_at, connect_at, accept_at, shut_at, get_opt_at, set_opt_at, sock_name_at, peer_name_at, send_at, recv_at, poll_at, set_ids_at, fork_at, exec_at, exit_at, all_words, word_at, args_at}
+use Rattle.ux_syntax.specs.Spelling.{Written, open_path, read_fd, write_fd, seek, dup_fd, dup_onto, dup_above, get_flags, set_flags, close}
+use Rattle.ux_syntax.specs.Spelling.{unlink_path, socket, pair, bind, listen, connect, accept, shut, get_opt, set_opt, sock_name, peer_name}
+use Rattle.ux_syntax.specs.Spelling.{send, recv, poll, set_ids, fork, exec, exit, meaning, args_of, FitsCall}
+use Rattle.ux_syntax.specs.Reading.{◌>>=◌, open_at, read_at, write_at, lseek_at, dup_at, dup2_at, dup_from_at, get_flags_at, set_flags_at}
+use Rattle.ux_syntax.specs.Reading.{close_at, unlink_at, socket_at, pair_at, bind_at, listen_at, connect_at, accept_at, shut_at, get_opt_at}
+use Rattle.ux_syntax.specs.Reading.{set_opt_at, sock_name_at, peer_name_at, send_at, recv_at, poll_at, set_ids_at, fork_at, exec_at}
+use Rattle.ux_syntax.specs.Reading.{exit_at, all_words, word_at, args_at}
 use Rattle.ux_syntax.proofs.Rows.{IsSolid, IsBadOrOk, IsRow, solid_from, ends_row, row_then, number_kind}
 use Rattle.ux_syntax.proofs.Bytes.{hex_kind}
 use Rattle.ux_syntax.proofs.Flags.{open_flags_kind, msg_flags_kind}
@@ -30,8 +35,10 @@ IsReading word ws (Ok r) = Spelled word ws r
 IsReading word ws (Err f) = f ≡ BadLine
 
 -- what a row of words makes is spelled by them, if that holds of each value of the row
-made : {X : Type 0} {read : List (List ℕ) → Result X Fault} {words : X → List (List ℕ)} {Fits : X → Type 0} (word : CallWord) (make : X → Written)
-    → IsRow read words Fits → ((x : X) → Fits x → (request_word (meaning (make x)) ≡ word) × (words x ≡ args_of (make x)) × FitsCall (make x))
+made : {X : Type 0} {read : List (List ℕ) → Result X Fault} {words : X → List (List ℕ)} {Fits : X → Type 0} (word : CallWord)
+    (make : X → Written)
+    → IsRow read words Fits → ((x : X) → Fits x →
+    (request_word (meaning (make x)) ≡ word) × (words x ≡ args_of (make x)) × FitsCall (make x))
     → (ws : List (List ℕ)) → IsReading word ws (read ws >>= λ x. Ok (meaning (make x)))
 made {X = X} {read = read} word make row spelled ws = made_of (read ws) refl
   where
@@ -45,40 +52,70 @@ made {X = X} {read = read} word make row spelled ws = made_of (read ws) refl
 -- ---- three laws a word, and its letters in `word_facts`
 
 args_read : (word : CallWord) (ws : List (List ℕ)) → IsReading word ws (args_at word ws)
-unfolding open_at read_at write_at lseek_at dup_at dup2_at dup_from_at get_flags_at set_flags_at close_at unlink_at socket_at pair_at bind_at listen_at connect_at accept_at shut_at get_opt_at set_opt_at sock_name_at peer_name_at send_at recv_at poll_at set_ids_at fork_at exec_at exit_at
-args_read CallWord.Open = made CallWord.Open (λ x. open_path x.0 x.1.0 x.1.1.0) (row_then path_kind (row_then mode_kind (row_then open_flags_kind ends_row))) (λ x f. (refl, refl, (f.0, f.1.1.0)))
-args_read CallWord.Read = made CallWord.Read (λ x. read_fd x.0 x.1.0) (row_then number_kind (row_then number_kind ends_row)) (λ x f. (refl, refl, (f.0, f.1.0)))
-args_read CallWord.Write = made CallWord.Write (λ x. write_fd x.0 x.1.0) (row_then number_kind (row_then hex_kind ends_row)) (λ x f. (refl, refl, (f.0, f.1.0)))
-args_read CallWord.Lseek = made CallWord.Lseek (λ x. seek x.0 x.1.0 x.1.1.0) (row_then number_kind (row_then offset_kind (row_then whence_kind ends_row))) (λ x f. (refl, refl, (f.0, f.1.0)))
+unfolding open_at read_at write_at lseek_at dup_at dup2_at dup_from_at get_flags_at set_flags_at close_at unlink_at socket_at pair_at
+    bind_at listen_at connect_at accept_at shut_at get_opt_at set_opt_at sock_name_at peer_name_at send_at recv_at poll_at set_ids_at
+    fork_at exec_at exit_at
+args_read CallWord.Open = made CallWord.Open
+    (λ x. open_path x.0 x.1.0 x.1.1.0) (row_then path_kind (row_then mode_kind (row_then open_flags_kind ends_row)))
+    (λ x f. (refl, refl, (f.0, f.1.1.0)))
+args_read CallWord.Read = made CallWord.Read (λ x. read_fd x.0 x.1.0) (row_then number_kind (row_then number_kind ends_row))
+    (λ x f. (refl, refl, (f.0, f.1.0)))
+args_read CallWord.Write = made CallWord.Write (λ x. write_fd x.0 x.1.0) (row_then number_kind (row_then hex_kind ends_row))
+    (λ x f. (refl, refl, (f.0, f.1.0)))
+args_read CallWord.Lseek = made CallWord.Lseek
+    (λ x. seek x.0 x.1.0 x.1.1.0) (row_then number_kind (row_then offset_kind (row_then whence_kind ends_row)))
+    (λ x f. (refl, refl, (f.0, f.1.0)))
 args_read CallWord.Dup = made CallWord.Dup (λ x. dup_fd x.0) (row_then number_kind ends_row) (λ x f. (refl, refl, f.0))
-args_read CallWord.Dup2 = made CallWord.Dup2 (λ x. dup_onto x.0 x.1.0) (row_then number_kind (row_then number_kind ends_row)) (λ x f. (refl, refl, (f.0, f.1.0)))
-args_read CallWord.DupFrom = made CallWord.DupFrom (λ x. dup_above x.0 x.1.0) (row_then number_kind (row_then number_kind ends_row)) (λ x f. (refl, refl, (f.0, f.1.0)))
+args_read CallWord.Dup2 = made CallWord.Dup2 (λ x. dup_onto x.0 x.1.0) (row_then number_kind (row_then number_kind ends_row))
+    (λ x f. (refl, refl, (f.0, f.1.0)))
+args_read CallWord.DupFrom = made CallWord.DupFrom (λ x. dup_above x.0 x.1.0) (row_then number_kind (row_then number_kind ends_row))
+    (λ x f. (refl, refl, (f.0, f.1.0)))
 args_read CallWord.GetFlags = made CallWord.GetFlags (λ x. get_flags x.0) (row_then number_kind ends_row) (λ x f. (refl, refl, f.0))
-args_read CallWord.Flags = made CallWord.Flags (λ x. set_flags x.0 x.1.0) (row_then number_kind (row_then open_flags_kind ends_row)) (λ x f. (refl, refl, (f.0, f.1.0)))
+args_read CallWord.Flags = made CallWord.Flags (λ x. set_flags x.0 x.1.0) (row_then number_kind (row_then open_flags_kind ends_row))
+    (λ x f. (refl, refl, (f.0, f.1.0)))
 args_read CallWord.Close = made CallWord.Close (λ x. close x.0) (row_then number_kind ends_row) (λ x f. (refl, refl, f.0))
 args_read CallWord.Unlink = made CallWord.Unlink (λ x. unlink_path x.0) (row_then path_kind ends_row) (λ x f. (refl, refl, f.0))
-args_read CallWord.Socket = made CallWord.Socket (λ x. socket x.0 x.1.0) (row_then type_kind (row_then open_flags_kind ends_row)) (λ x f. (refl, refl, f.1.0))
-args_read CallWord.Pair = made CallWord.Pair (λ x. pair x.0 x.1.0) (row_then type_kind (row_then open_flags_kind ends_row)) (λ x f. (refl, refl, f.1.0))
-args_read CallWord.Bind = made CallWord.Bind (λ x. bind x.0 x.1.0) (row_then number_kind (row_then addr_kind ends_row)) (λ x f. (refl, refl, (f.0, f.1.0)))
-args_read CallWord.Listen = made CallWord.Listen (λ x. listen x.0 x.1.0) (row_then number_kind (row_then backlog_kind ends_row)) (λ x f. (refl, refl, (f.0, f.1.0)))
-args_read CallWord.Connect = made CallWord.Connect (λ x. connect x.0 x.1.0) (row_then number_kind (row_then addr_kind ends_row)) (λ x f. (refl, refl, (f.0, f.1.0)))
-args_read CallWord.Accept = made CallWord.Accept (λ x. accept x.0 x.1.0) (row_then number_kind (row_then open_flags_kind ends_row)) (λ x f. (refl, refl, (f.0, f.1.0)))
-args_read CallWord.Shut = made CallWord.Shut (λ x. shut x.0 x.1.0) (row_then number_kind (row_then mode_kind ends_row)) (λ x f. (refl, refl, f.0))
-args_read CallWord.GetOpt = made CallWord.GetOpt (λ x. get_opt x.0 x.1.0) (row_then number_kind (row_then option_kind ends_row)) (λ x f. (refl, refl, f.0))
-args_read CallWord.SetOpt = made CallWord.SetOpt (λ x. set_opt x.0 x.1.0 x.1.1.0) (row_then number_kind (row_then option_kind (row_then number_kind ends_row))) (λ x f. (refl, refl, (f.0, f.1.1.0)))
+args_read CallWord.Socket = made CallWord.Socket (λ x. socket x.0 x.1.0) (row_then type_kind (row_then open_flags_kind ends_row))
+    (λ x f. (refl, refl, f.1.0))
+args_read CallWord.Pair = made CallWord.Pair (λ x. pair x.0 x.1.0) (row_then type_kind (row_then open_flags_kind ends_row))
+    (λ x f. (refl, refl, f.1.0))
+args_read CallWord.Bind = made CallWord.Bind (λ x. bind x.0 x.1.0) (row_then number_kind (row_then addr_kind ends_row))
+    (λ x f. (refl, refl, (f.0, f.1.0)))
+args_read CallWord.Listen = made CallWord.Listen (λ x. listen x.0 x.1.0) (row_then number_kind (row_then backlog_kind ends_row))
+    (λ x f. (refl, refl, (f.0, f.1.0)))
+args_read CallWord.Connect = made CallWord.Connect (λ x. connect x.0 x.1.0) (row_then number_kind (row_then addr_kind ends_row))
+    (λ x f. (refl, refl, (f.0, f.1.0)))
+args_read CallWord.Accept = made CallWord.Accept (λ x. accept x.0 x.1.0) (row_then number_kind (row_then open_flags_kind ends_row))
+    (λ x f. (refl, refl, (f.0, f.1.0)))
+args_read CallWord.Shut = made CallWord.Shut (λ x. shut x.0 x.1.0) (row_then number_kind (row_then mode_kind ends_row))
+    (λ x f. (refl, refl, f.0))
+args_read CallWord.GetOpt = made CallWord.GetOpt (λ x. get_opt x.0 x.1.0) (row_then number_kind (row_then option_kind ends_row))
+    (λ x f. (refl, refl, f.0))
+args_read CallWord.SetOpt = made CallWord.SetOpt
+    (λ x. set_opt x.0 x.1.0 x.1.1.0) (row_then number_kind (row_then option_kind (row_then number_kind ends_row)))
+    (λ x f. (refl, refl, (f.0, f.1.1.0)))
 args_read CallWord.SockName = made CallWord.SockName (λ x. sock_name x.0) (row_then number_kind ends_row) (λ x f. (refl, refl, f.0))
 args_read CallWord.PeerName = made CallWord.PeerName (λ x. peer_name x.0) (row_then number_kind ends_row) (λ x f. (refl, refl, f.0))
-args_read CallWord.Send = made CallWord.Send (λ x. send x.0 x.1.0 x.1.1.0 x.1.1.1.0 x.1.1.1.1.0) (row_then number_kind (row_then addr_or_dash_kind (row_then hex_kind (row_then control_kind (row_then msg_flags_kind ends_row))))) (λ x f. (refl, refl, (f.0, f.1.0, f.1.1.0, f.1.1.1.0, f.1.1.1.1.0)))
-args_read CallWord.Recv = made CallWord.Recv (λ x. recv x.0 x.1.0 x.1.1.0 x.1.1.1.0) (row_then number_kind (row_then number_kind (row_then number_kind (row_then msg_flags_kind ends_row)))) (λ x f. (refl, refl, (f.0, f.1.0, f.1.1.0, f.1.1.1.0)))
+args_read CallWord.Send = made CallWord.Send
+    (λ x. send x.0 x.1.0 x.1.1.0 x.1.1.1.0 x.1.1.1.1.0)
+    (row_then number_kind (row_then addr_or_dash_kind (row_then hex_kind (row_then control_kind (row_then msg_flags_kind ends_row)))))
+    (λ x f. (refl, refl, (f.0, f.1.0, f.1.1.0, f.1.1.1.0, f.1.1.1.1.0)))
+args_read CallWord.Recv = made CallWord.Recv
+    (λ x. recv x.0 x.1.0 x.1.1.0 x.1.1.1.0) (row_then number_kind
+    (row_then number_kind (row_then number_kind (row_then msg_flags_kind ends_row))))
+    (λ x f. (refl, refl, (f.0, f.1.0, f.1.1.0, f.1.1.1.0)))
 args_read CallWord.Poll = made CallWord.Poll (λ x. poll x.0) (row_then number_kind ends_row) (λ x f. (refl, refl, f.0))
-args_read CallWord.SetIds = made CallWord.SetIds (λ x. set_ids x.0 x.1.0) (row_then number_kind (row_then number_kind ends_row)) (λ x f. (refl, refl, (f.0, f.1.0)))
+args_read CallWord.SetIds = made CallWord.SetIds (λ x. set_ids x.0 x.1.0) (row_then number_kind (row_then number_kind ends_row))
+    (λ x f. (refl, refl, (f.0, f.1.0)))
 args_read CallWord.Fork = made CallWord.Fork (λ x. fork) ends_row (λ x f. (refl, refl, tt))
 args_read CallWord.Exec = made CallWord.Exec (λ x. exec) ends_row (λ x f. (refl, refl, tt))
 args_read CallWord.Exit = made CallWord.Exit (λ x. exit) ends_row (λ x f. (refl, refl, tt))
 args_read CallWord.Off = λ ws. refl
 
 pub args_again : (c : Written) → FitsCall c → args_at (request_word (meaning c)) (args_of c) ≡ Ok (meaning c)
-unfolding open_at read_at write_at lseek_at dup_at dup2_at dup_from_at get_flags_at set_flags_at close_at unlink_at socket_at pair_at bind_at listen_at connect_at accept_at shut_at get_opt_at set_opt_at sock_name_at peer_name_at send_at recv_at poll_at set_ids_at fork_at exec_at exit_at
+unfolding open_at read_at write_at lseek_at dup_at dup2_at dup_from_at get_flags_at set_flags_at close_at unlink_at socket_at pair_at
+    bind_at listen_at connect_at accept_at shut_at get_opt_at set_opt_at sock_name_at peer_name_at send_at recv_at poll_at set_ids_at
+    fork_at exec_at exit_at
 args_again (open_path path mode flags) f = rw (path_kind.again path f.0, mode_kind.again mode tt, open_flags_kind.again flags f.1) refl
 args_again (read_fd fd n) f = rw (number_kind.again fd f.0, number_kind.again n f.1) refl
 args_again (write_fd fd bytes) f = rw (number_kind.again fd f.0, hex_kind.again bytes f.1) refl
@@ -102,8 +139,15 @@ args_again (set_opt fd opt value) f = rw (number_kind.again fd f.0, option_kind.
 args_again (sock_name fd) f = rw (number_kind.again fd f) refl
 args_again (peer_name fd) f = rw (number_kind.again fd f) refl
 args_again (send fd addr bytes control flags) f =
-    rw (number_kind.again fd f.0, addr_or_dash_kind.again addr f.1, hex_kind.again bytes f.2, control_kind.again control f.3, msg_flags_kind.again flags f.4) refl
-args_again (recv fd n space flags) f = rw (number_kind.again fd f.0, number_kind.again n f.1, number_kind.again space f.2, msg_flags_kind.again flags f.3) refl
+    rw (
+      number_kind.again fd f.0,
+      addr_or_dash_kind.again addr f.1,
+      hex_kind.again bytes f.2,
+      control_kind.again control f.3,
+      msg_flags_kind.again flags f.4,
+    ) refl
+args_again (recv fd n space flags) f = rw
+    (number_kind.again fd f.0, number_kind.again n f.1, number_kind.again space f.2, msg_flags_kind.again flags f.3) refl
 args_again (poll fd) f = rw (number_kind.again fd f) refl
 args_again (set_ids uid gid) f = rw (number_kind.again uid f.0, number_kind.again gid f.1) refl
 args_again fork f = refl
@@ -133,9 +177,17 @@ args_solid (get_opt fd opt) f = (number_kind.solid fd f, (option_kind.solid opt 
 args_solid (set_opt fd opt value) f = (number_kind.solid fd f.0, (option_kind.solid opt tt, (number_kind.solid value f.1, tt)))
 args_solid (sock_name fd) f = (number_kind.solid fd f, tt)
 args_solid (peer_name fd) f = (number_kind.solid fd f, tt)
-args_solid (send fd addr bytes control flags) f =
-    (number_kind.solid fd f.0, (addr_or_dash_kind.solid addr f.1, (hex_kind.solid bytes f.2, (control_kind.solid control f.3, (msg_flags_kind.solid flags f.4, tt)))))
-args_solid (recv fd n space flags) f = (number_kind.solid fd f.0, (number_kind.solid n f.1, (number_kind.solid space f.2, (msg_flags_kind.solid flags f.3, tt))))
+args_solid (send fd addr bytes control flags) f = (
+  number_kind.solid fd f.0,
+  (
+    addr_or_dash_kind.solid addr f.1,
+    (hex_kind.solid bytes f.2, (control_kind.solid control f.3, (msg_flags_kind.solid flags f.4, tt))),
+  ),
+)
+args_solid (recv fd n space flags) f = (
+  number_kind.solid fd f.0,
+  (number_kind.solid n f.1, (number_kind.solid space f.2, (msg_flags_kind.solid flags f.3, tt))),
+)
 args_solid (poll fd) f = (number_kind.solid fd f, tt)
 args_solid (set_ids uid gid) f = (number_kind.solid uid f.0, (number_kind.solid gid f.1, tt))
 args_solid fork f = tt
@@ -143,7 +195,8 @@ args_solid exec f = tt
 args_solid exit f = tt
 
 -- each call's word is found by its text, which has no blank
-word_facts : (c : Written) → (word_at (word_text (request_word (meaning c))) ≡ Ok (request_word (meaning c))) × (list_all (λ b. ltb 32 b) (word_text (request_word (meaning c))) ≡ true)
+word_facts : (c : Written) → (word_at (word_text (request_word (meaning c))) ≡ Ok (request_word (meaning c)))
+    × (list_all (λ b. ltb 32 b) (word_text (request_word (meaning c))) ≡ true)
 unfolding word_at
 word_facts (open_path path mode flags) = (refl, refl)
 word_facts (read_fd fd n) = (refl, refl)

@@ -10,14 +10,16 @@ use Rattle.ux_syntax.specs.declared.script.Act.{Act}
 use Rattle.ux_trace.specs.Trace.{word_text, request_word}
 use Rattle.ux_syntax.specs.Spelling.{Written, meaning, Asked, call, wait, act_of, asked_words, FitsAsked}
 use Rattle.ux_syntax.specs.Reading.{◌>>=◌, number_at, ends, ◌>>◌, word_at, args_at, wait_at, call_at, act_at}
-use Rattle.ux_syntax.proofs.Rows.{IsSolid, solid_from, IsBadOrOk, either_bad, bind_bad, bind_ok, done, ok_is, number_kind, ends_row, row_then}
+use Rattle.ux_syntax.proofs.Rows.{IsSolid, solid_from, IsBadOrOk, either_bad, bind_bad, bind_ok, done, ok_is, number_kind, ends_row}
+use Rattle.ux_syntax.proofs.Rows.{row_then}
 use Rattle.ux_syntax.proofs.Args.{args_takes, args_bad, word_bad, args_again, args_solid, word_takes, word_again, word_solid}
 
 err_ok : {A : Type 0} (x : A) → Err BadLine ≡ done x → ⊥
 err_ok x e = cc
 
 -- a word that is read is none that is refused
-pub other_than : {A : Type 0} (read : List ℕ → Result A Fault) (v w : List ℕ) (x : A) → read v ≡ Ok x → read w ≡ Err BadLine → bytes_eq v w ≡ false
+pub other_than : {A : Type 0} (read : List ℕ → Result A Fault) (v w : List ℕ) (x : A) → read v ≡ Ok x → read w ≡ Err BadLine →
+    bytes_eq v w ≡ false
 other_than read v w x e r = go (bytes_eq v w) (bytes_eq-Decides v w)
   where
     go : (t : Bool) → Decides t (v ≡ w) → t ≡ false
@@ -32,8 +34,12 @@ wait_takes : (ws : List (List ℕ)) (act : Act) → wait_at ws ≡ Ok act → As
 unfolding wait_at
 wait_takes ws act e =
     let a = bind_ok ((number_at >> number_at >> ends) ws) (λ x. Ok (Act.Wait (record { 0 = x.0 }) x.1.0)) act e in
-    let p = (row_then number_kind (row_then number_kind ends_row)).takes ws a.0 a.1 in
-    (wait a.0.0 a.0.1.0, ok_is (Act.Wait (record { 0 = a.0.0 }) a.0.1.0) act a.2, ap (λ (xs : List (List ℕ)). codes "wait" ∷ xs) p.0, (p.1.0, p.1.1.0))
+    let p = (row_then number_kind (row_then number_kind ends_row)).takes ws a.0 a.1 in (
+      wait a.0.0 a.0.1.0,
+      ok_is (Act.Wait (record { 0 = a.0.0 }) a.0.1.0) act a.2,
+      ap (λ (xs : List (List ℕ)). codes "wait" ∷ xs) p.0,
+      (p.1.0, p.1.1.0),
+    )
 
 call_takes : (w : List ℕ) (ws : List (List ℕ)) (act : Act) → call_at w ws ≡ Ok act → AsksFor (w ∷ ws) act
 call_takes w ws act e =
@@ -47,7 +53,8 @@ call_takes w ws act e =
       p.fits,
     )
 
-act_chosen : (w : List ℕ) (ws : List (List ℕ)) (act : Act) (t : Bool) → (t ≡ true → w ≡ codes "wait") → cond t (wait_at ws) (call_at w ws) ≡ Ok act → AsksFor (w ∷ ws) act
+act_chosen : (w : List ℕ) (ws : List (List ℕ)) (act : Act) (t : Bool) → (t ≡ true → w ≡ codes "wait") →
+    cond t (wait_at ws) (call_at w ws) ≡ Ok act → AsksFor (w ∷ ws) act
 act_chosen w ws act true d e = subst (λ (x : List ℕ). AsksFor (x ∷ ws) act) (sym (d refl)) (wait_takes ws act e)
 act_chosen w ws act false d e = call_takes w ws act e
 

@@ -1,5 +1,6 @@
 -- Bytes in pairs of digits.
-use Rattle.std.proofs.Common.{◌≡◌, ℕ, ◌+◌, ◌*◌, ◌/◌, ◌%◌, ◌-◌, ◌<◌, ◌&&◌, leb, Bool, true, false, cond, List, [], ◌∷◌, length, Ok, refl, ap, ◌∙◌, subst, arith, Decides}
+use Rattle.std.proofs.Common.{◌≡◌, ℕ, ◌+◌, ◌*◌, ◌/◌, ◌%◌, ◌-◌, ◌<◌, ◌&&◌, leb, Bool, true, false, cond, List, [], ◌∷◌, length, Ok, refl, ap}
+use Rattle.std.proofs.Common.{◌∙◌, subst, arith, Decides}
 use Rattle.std.specs.List.{flat_map}
 use Rattle.std.specs.Fmt.{digit_glyph}
 use Rattle.std.specs.Str.{bytes_eq}
@@ -34,7 +35,9 @@ pairs_takes (h ∷ l ∷ rest) bs e =
     let back : b.0 ≡ n % 16 = omega arith in
     let p = pairs_takes rest c.0 c.1 in
     subst (λ (x : List ℕ). (h ∷ l ∷ rest ≡ flat_map digit_pair x) × AreBytes x) (ok_is (n ∷ c.0) bs c.2) (
-      ap (λ (x : ℕ). x ∷ l ∷ rest) (high.0 ∙ ap (digit_glyph false) front) ∙ ap (λ (x : ℕ). digit_glyph false (n / 16) ∷ x ∷ rest) (low.0 ∙ ap (digit_glyph false) back) ∙ ap (λ (x : List ℕ). digit_glyph false (n / 16) ∷ digit_glyph false (n % 16) ∷ x) p.0,
+      ap (λ (x : ℕ). x ∷ l ∷ rest) (high.0 ∙ ap (digit_glyph false) front)
+          ∙ ap (λ (x : ℕ). digit_glyph false (n / 16) ∷ x ∷ rest) (low.0 ∙ ap (digit_glyph false) back)
+          ∙ ap (λ (x : List ℕ). digit_glyph false (n / 16) ∷ digit_glyph false (n % 16) ∷ x) p.0,
       (omega (arith, high.1, low.1), p.1),
     )
 
@@ -52,7 +55,8 @@ pub pairs_long : (bs : List ℕ) → 0 < length (flat_map digit_pair bs) → 0 <
 pairs_long [] h = absurd (omega arith)
 pairs_long (b ∷ bs) h = omega arith
 
-hex_chosen : (w bs : List ℕ) (t : Bool) → 0 < length w → Decides t (w ≡ dash) → cond t (done []) (pairs_at w) ≡ Ok bs → (w ≡ hex bs) × AreBytes bs
+hex_chosen : (w bs : List ℕ) (t : Bool) → 0 < length w → Decides t (w ≡ dash) → cond t (done []) (pairs_at w) ≡ Ok bs →
+    (w ≡ hex bs) × AreBytes bs
 hex_chosen w bs true long d e = subst (λ (x : List ℕ). (w ≡ hex x) × AreBytes x) (ok_is [] bs e) (d.0 refl, tt)
 hex_chosen w bs false long d e =
     let p = pairs_takes w bs e in
@@ -72,7 +76,8 @@ unfolding hex_at
 hex_again [] f = refl
 hex_again (b ∷ bs) f =
     let w = flat_map digit_pair (b ∷ bs) in
-    let other : bytes_eq w dash ≡ false = no_dash (digit_glyph false (b / 16)) (digit_glyph false (b % 16)) (flat_map digit_pair bs) (bytes_eq w dash) (bytes_eq-Decides w dash) in
+    let other : bytes_eq w dash ≡ false = no_dash (digit_glyph false (b / 16)) (digit_glyph false (b % 16)) (flat_map digit_pair bs)
+    (bytes_eq w dash) (bytes_eq-Decides w dash) in
     rw other (pairs_again (b ∷ bs) f)
 
 pub dash_solid : IsSolid dash
@@ -88,7 +93,8 @@ digit_bad c = either_bad (leb 48 c && leb c 57) (Ok (c - 48)) _ tt (guard_bad (l
 pub pairs_bad : (w : List ℕ) → IsBadOrOk (pairs_at w)
 pairs_bad [] = tt
 pairs_bad (h ∷ []) = refl
-pairs_bad (h ∷ l ∷ rest) = bind_bad (digit_at h) _ (digit_bad h) (λ high. bind_bad (digit_at l) _ (digit_bad l) (λ low. bind_bad (pairs_at rest) _ (pairs_bad rest) (λ bytes. tt)))
+pairs_bad (h ∷ l ∷ rest) = bind_bad (digit_at h) _ (digit_bad h)
+    (λ high. bind_bad (digit_at l) _ (digit_bad l) (λ low. bind_bad (pairs_at rest) _ (pairs_bad rest) (λ bytes. tt)))
 
 hex_bad : (w : List ℕ) → IsBadOrOk (hex_at w)
 unfolding hex_at

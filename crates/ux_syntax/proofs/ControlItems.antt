@@ -1,5 +1,6 @@
 -- Items of control data: descriptor numbers and credentials.
-use Rattle.std.proofs.Common.{◌≡◌, lit<, ℕ, ◌<◌, ◌≤◌, ◌&&◌, map, Bool, true, false, cond, eqb, leb, List, [], ◌∷◌, ◌++◌, length, All, Ok, Err, refl, ap, sym, ◌∙◌, subst, arith}
+use Rattle.std.proofs.Common.{◌≡◌, lit<, ℕ, ◌<◌, ◌≤◌, ◌&&◌, map, Bool, true, false, cond, eqb, leb, List, [], ◌∷◌, ◌++◌, length, All, Ok}
+use Rattle.std.proofs.Common.{Err, refl, ap, sym, ◌∙◌, subst, arith}
 use Rattle.std.specs.Prelude.{decimal}
 use Rattle.std.specs.List.{AllByRecursion, slice_split, join_with_byte, list_all}
 use Rattle.std.specs.Char.{is_ascii_digit}
@@ -14,7 +15,8 @@ use Rattle.ux_syntax.specs.declared.control.ControlWord.{ControlWord}
 use Rattle.ux_syntax.specs.declared.fault.Fault.TheVariants.{BadLine}
 use Rattle.ux_trace.specs.Trace.{rights_text, cred_text}
 use Rattle.ux_syntax.specs.Spelling.{IsNumber, control_text, FitsRights, FitsCred, FitsControl}
-use Rattle.ux_syntax.specs.Reading.{◌>>=◌, ◌>>◌, ends, number_at, each_number_at, numbers_at, cred_at, control_item_at, alone, paired, each_item_at, control_items_at}
+use Rattle.ux_syntax.specs.Reading.{◌>>=◌, ◌>>◌, ends, number_at, each_number_at, numbers_at, cred_at, control_item_at, alone, paired}
+use Rattle.ux_syntax.specs.Reading.{each_item_at, control_items_at}
 use Rattle.ux_syntax.proofs.Numbers.{own}
 use Rattle.ux_syntax.proofs.Rows.{IsSolid, IsBadOrOk, IsRow, bind_ok, ok_is, either_bad, bind_bad, number_kind, ends_row, row_then}
 use Rattle.ux_syntax.proofs.Flags.{solid_append}
@@ -47,10 +49,12 @@ no_such_digit byte n low h = no_digit byte (decimal n) low (digits_decimal own n
 no_comma : (n : ℕ) → IsNumber n → All (λ b. is_comma b ≡ false) (decimal n)
 no_comma n h = all_other 44 (decimal n) (no_such_digit 44 n (lit< tt) h)
 
-split_numbers : (n : ℕ) (ns : List ℕ) → AllByRecursion IsNumber (n ∷ ns) → slice_split is_comma (with_commas (n ∷ ns)) ≡ map decimal (n ∷ ns)
+split_numbers : (n : ℕ) (ns : List ℕ) → AllByRecursion IsNumber (n ∷ ns) →
+    slice_split is_comma (with_commas (n ∷ ns)) ≡ map decimal (n ∷ ns)
 split_numbers n [] h = slice_split_none is_comma (decimal n) (no_comma n h.0)
 split_numbers n (m ∷ ns) h =
-    slice_split_at is_comma (decimal n) 44 (with_commas (m ∷ ns)) (no_comma n h.0) refl ∙ ap (λ (ws : List (List ℕ)). decimal n ∷ ws) (split_numbers m ns h.1)
+    slice_split_at is_comma (decimal n) 44 (with_commas (m ∷ ns)) (no_comma n h.0) refl
+    ∙ ap (λ (ws : List (List ℕ)). decimal n ∷ ws) (split_numbers m ns h.1)
 
 commas_solid : (n : ℕ) (ns : List ℕ) → AllByRecursion IsNumber (n ∷ ns) → IsSolid (with_commas (n ∷ ns))
 commas_solid n [] h = number_kind.solid n h.0
@@ -105,7 +109,8 @@ Three = ℕ × (ℕ × (ℕ × Unit {0}))
 abbrev cred_made : Three → Cred
 cred_made x = record { pid = record { 0 = x.0 }; uid = x.1.0; gid = x.1.1.0 }
 
-three_row : IsRow (number_at >> number_at >> number_at >> ends) (λ (x : Three). decimal x.0 ∷ decimal x.1.0 ∷ decimal x.1.1.0 ∷ []) (λ (x : Three). IsNumber x.0 × (IsNumber x.1.0 × (IsNumber x.1.1.0 × Unit {0})))
+three_row : IsRow (number_at >> number_at >> number_at >> ends) (λ (x : Three). decimal x.0 ∷ decimal x.1.0 ∷ decimal x.1.1.0 ∷ [])
+    (λ (x : Three). IsNumber x.0 × (IsNumber x.1.0 × (IsNumber x.1.1.0 × Unit {0})))
 three_row = row_then number_kind (row_then number_kind (row_then number_kind ends_row))
 
 all_numbers : (c : Cred) → FitsCred c → AllByRecursion IsNumber (cred_numbers c)
@@ -121,12 +126,14 @@ cred_takes w c e =
 
 cred_bad : (w : List ℕ) → IsBadOrOk (cred_at w)
 unfolding cred_at
-cred_bad w = bind_bad ((number_at >> number_at >> number_at >> ends) (slice_split is_comma w)) _ (three_row.bad (slice_split is_comma w)) (λ x. tt)
+cred_bad w = bind_bad ((number_at >> number_at >> number_at >> ends) (slice_split is_comma w)) _ (three_row.bad (slice_split is_comma w))
+    (λ x. tt)
 
 cred_again : (c : Cred) → FitsCred c → cred_at (with_commas (cred_numbers c)) ≡ Ok c
 unfolding cred_at
 cred_again c f =
-    ap (λ (ws : List (List ℕ)). (number_at >> number_at >> number_at >> ends) ws >>= λ x. Ok (cred_made x)) (split_numbers c.pid.0 (c.uid ∷ c.gid ∷ []) (all_numbers c f))
+    ap (λ (ws : List (List ℕ)). (number_at >> number_at >> number_at >> ends) ws >>= λ x. Ok (cred_made x))
+    (split_numbers c.pid.0 (c.uid ∷ c.gid ∷ []) (all_numbers c f))
     ∙ rw (number_kind.again c.pid.0 f.0, number_kind.again c.uid f.1, number_kind.again c.gid f.2) refl
 
 -- ---- one item
@@ -148,20 +155,23 @@ behind letter d colon rest h =
     let p = and_parts (eqb d letter) (eqb colon 58) h in
     ap (λ (x : ℕ). x ∷ colon ∷ rest) (eqb-true d letter p.0) ∙ ap (λ (x : ℕ). letter ∷ x ∷ rest) (eqb-true colon 58 p.1)
 
-rights_takes : (w rest : List ℕ) (i : ControlItem) → w ≡ 114 ∷ 58 ∷ rest → (numbers_at rest >>= λ numbers. Ok (ControlItem.Rights numbers)) ≡ Ok i → IsItemText w i
+rights_takes : (w rest : List ℕ) (i : ControlItem) → w ≡ 114 ∷ 58 ∷ rest →
+    (numbers_at rest >>= λ numbers. Ok (ControlItem.Rights numbers)) ≡ Ok i → IsItemText w i
 rights_takes w rest i d e =
     let x = bind_ok (numbers_at rest) (λ numbers. Ok (ControlItem.Rights numbers)) i e in
     let p = numbers_takes rest x.0 x.1 in
     subst (IsItemText w) (ok_is (ControlItem.Rights x.0) i x.2) (d ∙ ap (λ (v : List ℕ). 114 ∷ 58 ∷ v) p.0, p.1)
 
-credentials_takes : (w rest : List ℕ) (i : ControlItem) → w ≡ 99 ∷ 58 ∷ rest → (cred_at rest >>= λ cred. Ok (ControlItem.Credentials cred)) ≡ Ok i → IsItemText w i
+credentials_takes : (w rest : List ℕ) (i : ControlItem) → w ≡ 99 ∷ 58 ∷ rest →
+    (cred_at rest >>= λ cred. Ok (ControlItem.Credentials cred)) ≡ Ok i → IsItemText w i
 credentials_takes w rest i d e =
     let x = bind_ok (cred_at rest) (λ cred. Ok (ControlItem.Credentials cred)) i e in
     let p = cred_takes rest x.0 x.1 in
     subst (IsItemText w) (ok_is (ControlItem.Credentials x.0) i x.2) (d ∙ ap (λ (v : List ℕ). 99 ∷ 58 ∷ v) p.0, p.1)
 
 item_chosen : (w rest : List ℕ) (i : ControlItem) (t u : Bool) → (t ≡ true → w ≡ 114 ∷ 58 ∷ rest) → (u ≡ true → w ≡ 99 ∷ 58 ∷ rest)
-    → cond t (numbers_at rest >>= λ numbers. Ok (ControlItem.Rights numbers)) (cond u (cred_at rest >>= λ cred. Ok (ControlItem.Credentials cred)) (Err BadLine)) ≡ Ok i → IsItemText w i
+    → cond t (numbers_at rest >>= λ numbers. Ok (ControlItem.Rights numbers))
+    (cond u (cred_at rest >>= λ cred. Ok (ControlItem.Credentials cred)) (Err BadLine)) ≡ Ok i → IsItemText w i
 item_chosen w rest i true u d f e = rights_takes w rest i (d refl) e
 item_chosen w rest i false true d f e = credentials_takes w rest i (f refl) e
 item_chosen w rest i false false d f e = absurd cc
@@ -171,7 +181,8 @@ unfolding control_item_at
 item_takes [] i e = absurd cc
 item_takes (d ∷ []) i e = absurd cc
 item_takes (d ∷ colon ∷ rest) i e =
-    item_chosen (d ∷ colon ∷ rest) rest i (eqb d 114 && eqb colon 58) (eqb d 99 && eqb colon 58) (behind 114 d colon rest) (behind 99 d colon rest) e
+    item_chosen (d ∷ colon ∷ rest) rest i (eqb d 114 && eqb colon 58) (eqb d 99 && eqb colon 58) (behind 114 d colon rest)
+    (behind 99 d colon rest) e
 
 item_bad : (w : List ℕ) → IsBadOrOk (control_item_at w)
 unfolding control_item_at
@@ -202,7 +213,8 @@ no_plus_append (c ∷ cs) w p q = (p.0, no_plus_append cs w p.1 q)
 commas_no_plus : (ns : List ℕ) → AllByRecursion IsNumber ns → HasNo 43 (with_commas ns)
 commas_no_plus [] h = tt
 commas_no_plus (n ∷ []) h = no_such_digit 43 n (lit< tt) h.0
-commas_no_plus (n ∷ m ∷ ns) h = no_plus_append (decimal n) (44 ∷ with_commas (m ∷ ns)) (no_such_digit 43 n (lit< tt) h.0) (refl, commas_no_plus (m ∷ ns) h.1)
+commas_no_plus (n ∷ m ∷ ns) h = no_plus_append (decimal n) (44 ∷ with_commas (m ∷ ns)) (no_such_digit 43 n (lit< tt) h.0)
+    (refl, commas_no_plus (m ∷ ns) h.1)
 
 item_no_plus : (i : ControlItem) → FitsItem i → HasNo 43 (control_item_text i)
 item_no_plus (ControlItem.Rights numbers) f = (refl, (refl, commas_no_plus numbers f.1))
@@ -219,7 +231,8 @@ alone_fits : (i : ControlItem) → FitsItem i → AreItems (control_item_text i 
 alone_fits (ControlItem.Rights numbers) f = (refl, f)
 alone_fits (ControlItem.Credentials cred) f = (refl, f)
 
-paired_fits : (i j : ControlItem) (c : ControlWord) → FitsItem i → FitsItem j → paired i j ≡ Ok c → AreItems (control_item_text i ∷ control_item_text j ∷ []) c
+paired_fits : (i j : ControlItem) (c : ControlWord) → FitsItem i → FitsItem j → paired i j ≡ Ok c →
+    AreItems (control_item_text i ∷ control_item_text j ∷ []) c
 paired_fits (ControlItem.Rights ns) (ControlItem.Rights ms) c f g e = absurd cc
 paired_fits (ControlItem.Rights ns) (ControlItem.Credentials d) c f g e =
     subst (AreItems (rights_text ns ∷ cred_text d ∷ [])) (ok_is (ControlWord.RightsFirst ns d) c e) (refl, (f, g))
@@ -245,14 +258,18 @@ each_item_takes (v ∷ w ∷ []) c e =
     let b = bind_ok (control_item_at w) (λ second. paired a.0 second) c a.2 in
     let p = item_takes v a.0 a.1 in
     let q = item_takes w b.0 b.1 in
-    let fits = paired_fits a.0 b.0 c p.1 q.1 b.2 in
-    (ap (λ (x : List ℕ). join_with_byte 43 (x ∷ w ∷ [])) p.0 ∙ ap (λ (x : List ℕ). join_with_byte 43 (control_item_text a.0 ∷ x ∷ [])) q.0 ∙ fits.0, fits.1)
+    let fits = paired_fits a.0 b.0 c p.1 q.1 b.2 in (
+      ap (λ (x : List ℕ). join_with_byte 43 (x ∷ w ∷ [])) p.0 ∙ ap (λ (x : List ℕ). join_with_byte 43 (control_item_text a.0 ∷ x ∷ [])) q.0
+          ∙ fits.0,
+      fits.1,
+    )
 each_item_takes (u ∷ v ∷ w ∷ ws) c e = absurd cc
 
 each_item_bad : (ws : List (List ℕ)) → IsBadOrOk (each_item_at ws)
 each_item_bad [] = refl
 each_item_bad (w ∷ []) = bind_bad (control_item_at w) _ (item_bad w) (λ item. tt)
-each_item_bad (v ∷ w ∷ []) = bind_bad (control_item_at v) _ (item_bad v) (λ first. bind_bad (control_item_at w) _ (item_bad w) (λ second. paired_bad first second))
+each_item_bad (v ∷ w ∷ []) = bind_bad (control_item_at v) _ (item_bad v)
+    (λ first. bind_bad (control_item_at w) _ (item_bad w) (λ second. paired_bad first second))
 each_item_bad (u ∷ v ∷ w ∷ ws) = refl
 
 pub items_takes : (w : List ℕ) (c : ControlWord) → control_items_at w ≡ Ok c → (w ≡ control_text c) × FitsControl c
@@ -270,7 +287,8 @@ unfolding control_items_at
 one_again i f = ap each_item_at (slice_split_none is_plus (control_item_text i) (no_plus i f)) ∙ rw (item_again i f) refl
 
 split_two : (i j : ControlItem) → FitsItem i → FitsItem j
-    → slice_split is_plus (join_with_byte 43 (control_item_text i ∷ control_item_text j ∷ [])) ≡ control_item_text i ∷ control_item_text j ∷ []
+    → slice_split is_plus (join_with_byte 43 (control_item_text i ∷ control_item_text j ∷ [])) ≡ control_item_text i ∷ control_item_text
+    j ∷ []
 split_two i j f g =
     slice_split_at is_plus (control_item_text i) 43 (control_item_text j) (no_plus i f) refl
     ∙ ap (λ (ws : List (List ℕ)). control_item_text i ∷ ws) (slice_split_none is_plus (control_item_text j) (no_plus j g))

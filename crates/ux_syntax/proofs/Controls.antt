@@ -21,7 +21,8 @@ use Rattle.ux_syntax.proofs.ControlItems.{behind, item_solid, items_takes, items
 abbrev IsAddrText : List ℕ → Option Addr → Type 0
 IsAddrText w a = (w ≡ addr_or_dash a) × FitsAddrOrDash a
 
-addr_chosen : (w : List ℕ) (a : Option Addr) (t : Bool) → (t ≡ true → w ≡ dash) → cond t (done None) (addr_at w >>= λ addr. Ok (Some addr)) ≡ Ok a → IsAddrText w a
+addr_chosen : (w : List ℕ) (a : Option Addr) (t : Bool) → (t ≡ true → w ≡ dash) →
+    cond t (done None) (addr_at w >>= λ addr. Ok (Some addr)) ≡ Ok a → IsAddrText w a
 addr_chosen w a true d e = subst (IsAddrText w) (ok_is None a e) (d refl, tt)
 addr_chosen w a false d e =
     let x = bind_ok (addr_at w) (λ addr. Ok (Some addr)) a e in
@@ -75,17 +76,20 @@ some_pairs_again (b ∷ bs) f = pairs_again (b ∷ bs) f.1
 abbrev IsControlText : List ℕ → ControlWord → Type 0
 IsControlText w c = (w ≡ control_text c) × FitsControl c
 
-raw_takes : (w rest : List ℕ) (c : ControlWord) → w ≡ 120 ∷ 58 ∷ rest → (some_pairs_at rest >>= λ bytes. Ok (ControlWord.Raw bytes)) ≡ Ok c → IsControlText w c
+raw_takes : (w rest : List ℕ) (c : ControlWord) → w ≡ 120 ∷ 58 ∷ rest →
+    (some_pairs_at rest >>= λ bytes. Ok (ControlWord.Raw bytes)) ≡ Ok c → IsControlText w c
 raw_takes w rest c d e =
     let x = bind_ok (some_pairs_at rest) (λ bytes. Ok (ControlWord.Raw bytes)) c e in
     let p = some_pairs_takes rest x.0 x.1 in
     subst (IsControlText w) (ok_is (ControlWord.Raw x.0) c x.2) (d ∙ ap (λ (v : List ℕ). 120 ∷ 58 ∷ v) p.0, p.1)
 
-bare_chosen : (w : List ℕ) (c : ControlWord) (t : Bool) → (t ≡ true → w ≡ dash) → cond t (done ControlWord.Bare) (control_items_at w) ≡ Ok c → IsControlText w c
+bare_chosen : (w : List ℕ) (c : ControlWord) (t : Bool) → (t ≡ true → w ≡ dash) →
+    cond t (done ControlWord.Bare) (control_items_at w) ≡ Ok c → IsControlText w c
 bare_chosen w c true d e = subst (IsControlText w) (ok_is ControlWord.Bare c e) (d refl, tt)
 bare_chosen w c false d e = items_takes w c e
 
-raw_chosen : (w rest : List ℕ) (c : ControlWord) (t : Bool) → (t ≡ true → w ≡ 120 ∷ 58 ∷ rest) → cond t (some_pairs_at rest >>= λ bytes. Ok (ControlWord.Raw bytes)) (control_items_at w) ≡ Ok c → IsControlText w c
+raw_chosen : (w rest : List ℕ) (c : ControlWord) (t : Bool) → (t ≡ true → w ≡ 120 ∷ 58 ∷ rest) →
+    cond t (some_pairs_at rest >>= λ bytes. Ok (ControlWord.Raw bytes)) (control_items_at w) ≡ Ok c → IsControlText w c
 raw_chosen w rest c true d e = raw_takes w rest c (d refl) e
 raw_chosen w rest c false d e = items_takes w c e
 
@@ -100,7 +104,8 @@ unfolding control_at
 control_bad [] = items_bad []
 control_bad (d ∷ []) = either_bad (eqb d 45) (done ControlWord.Bare) _ tt (items_bad (d ∷ []))
 control_bad (d ∷ colon ∷ rest) =
-    either_bad (eqb d 120 && eqb colon 58) _ _ (bind_bad (some_pairs_at rest) _ (some_pairs_bad rest) (λ bytes. tt)) (items_bad (d ∷ colon ∷ rest))
+    either_bad (eqb d 120 && eqb colon 58) _ _ (bind_bad (some_pairs_at rest) _ (some_pairs_bad rest) (λ bytes. tt))
+    (items_bad (d ∷ colon ∷ rest))
 
 control_again : (c : ControlWord) → FitsControl c → control_at (control_text c) ≡ Ok c
 unfolding control_at
@@ -108,8 +113,10 @@ control_again ControlWord.Bare f = refl
 control_again (ControlWord.Raw bytes) f = rw (some_pairs_again bytes f) refl
 control_again (ControlWord.Rights numbers) f = one_again (ControlItem.Rights numbers) f
 control_again (ControlWord.Credentials cred) f = one_again (ControlItem.Credentials cred) f
-control_again (ControlWord.CredentialsFirst cred numbers) f = two_again (ControlItem.Credentials cred) (ControlItem.Rights numbers) (ControlWord.CredentialsFirst cred numbers) f.0 f.1 refl
-control_again (ControlWord.RightsFirst numbers cred) f = two_again (ControlItem.Rights numbers) (ControlItem.Credentials cred) (ControlWord.RightsFirst numbers cred) f.0 f.1 refl
+control_again (ControlWord.CredentialsFirst cred numbers) f =
+    two_again (ControlItem.Credentials cred) (ControlItem.Rights numbers) (ControlWord.CredentialsFirst cred numbers) f.0 f.1 refl
+control_again (ControlWord.RightsFirst numbers cred) f =
+    two_again (ControlItem.Rights numbers) (ControlItem.Credentials cred) (ControlWord.RightsFirst numbers cred) f.0 f.1 refl
 
 control_solid : (c : ControlWord) → FitsControl c → IsSolid (control_text c)
 control_solid ControlWord.Bare f = dash_solid

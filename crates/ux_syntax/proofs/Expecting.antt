@@ -1,6 +1,6 @@
 -- What the comments of a text expect, as far as a loop has come.
-use Rattle.std.proofs.Common.{◌≡◌, ℕ, zero, suc, ◌+◌, ◌-◌, ◌<◌, ◌≤◌, ◌⊎◌, inl, inr, ◌&&◌, Bool, Bor, true, false, cond, not}
-use Rattle.std.proofs.Common.{None, map, List, [], ◌∷◌, ◌++◌, length, refl, ap, sym, ◌∙◌, subst, append_assoc, arith}
+use Rattle.std.proofs.Common.{◌≡◌, ℕ, zero, suc, ◌+◌, ◌-◌, ◌<◌, ◌≤◌, ◌⊎◌, inl, inr, ◌&&◌, Bool, Bor, true, false, cond, not, None, map}
+use Rattle.std.proofs.Common.{List, [], ◌∷◌, ◌++◌, length, refl, ap, sym, ◌∙◌, subst, append_assoc, arith}
 use Rattle.std.specs.Prelude.{slice_index_or}
 use Rattle.std.specs.List.{flat_map, range_with_len}
 use Rattle.std.specs.Option.{is_some}
@@ -10,8 +10,8 @@ use Rattle.ux_syntax.specs.declared.expectations.Expectation.{Expectation}
 use Rattle.ux_syntax.specs.declared.fault.ScriptFault.{ScriptFault}
 use Rattle.ux_syntax.specs.Text.{fields_of, plain_line}
 use Rattle.ux_syntax.specs.Reading.{item_at}
-use Rattle.ux_syntax.specs.Expectations.{line_numbered, asks_call, expected_in, expecting, expectation_of, expectations}
-use Rattle.ux_syntax.specs.Expectations.{is_misplaced, IsFaultOfPlace}
+use Rattle.ux_syntax.specs.Expectations.{line_numbered, asks_call, expected_in, expecting, expectation_of, expectations, is_misplaced}
+use Rattle.ux_syntax.specs.Expectations.{IsFaultOfPlace}
 
 no_call : false ≡ asks_call []
 unfolding asks_call item_at

@@ -1,5 +1,6 @@
 -- Flags in letters.
-use Rattle.std.proofs.Common.{◌≡◌, ℕ, zero, suc, ◌<◌, ◌+◌, Bool, true, false, cond, eqb, List, [], ◌∷◌, ◌++◌, length, bit_or, Ok, Err, refl, ap, sym, ◌∙◌, subst, arith, Decides, lit<}
+use Rattle.std.proofs.Common.{◌≡◌, ℕ, zero, suc, ◌<◌, ◌+◌, Bool, true, false, cond, eqb, List, [], ◌∷◌, ◌++◌, length, bit_or, Ok, Err, refl}
+use Rattle.std.proofs.Common.{ap, sym, ◌∙◌, subst, arith, Decides, lit<}
 use Rattle.std.specs.Str.{bytes_eq}
 use Rattle.std.proofs.lemmas.Bool.{eqb-true}
 use Rattle.std.proofs.lemmas.List.{append-nil, nil_from_length}
@@ -15,7 +16,8 @@ use Rattle.ux_syntax.proofs.Bytes.{dash_solid}
 
 -- ---- letters in a row
 
-letter_test : (c d : ℕ) (ds : List ℕ) (t : Bool) → (t ≡ true → d ≡ c) → d ∷ ds ≡ letter (cond {A = Bool × List ℕ} t (true, ds) (false, d ∷ ds)).0 c ++ (cond {A = Bool × List ℕ} t (true, ds) (false, d ∷ ds)).1
+letter_test : (c d : ℕ) (ds : List ℕ) (t : Bool) → (t ≡ true → d ≡ c) →
+    d ∷ ds ≡ letter (cond {A = Bool × List ℕ} t (true, ds) (false, d ∷ ds)).0 c ++ (cond {A = Bool × List ℕ} t (true, ds) (false, d ∷ ds)).1
 letter_test c d ds true h = ap (λ (x : ℕ). x ∷ ds) (h refl)
 letter_test c d ds false h = refl
 
@@ -28,7 +30,8 @@ long_or_dash [] h = absurd (omega arith)
 long_or_dash (c ∷ cs) h = refl
 
 -- A word of letters, or a dash for none. The flags are those of the front, and nothing is left behind it.
-flags_end : {F : Type 0} (text : F → List ℕ) (Fits : F → Type 0) (f g : F) (w front rest : List ℕ) (t : Bool) → 0 < length w → (t ≡ true → length rest ≡ 0)
+flags_end : {F : Type 0} (text : F → List ℕ) (Fits : F → Type 0) (f g : F) (w front rest : List ℕ) (t : Bool) → 0 < length w →
+    (t ≡ true → length rest ≡ 0)
     → w ≡ front ++ rest → text f ≡ or_dash front → Fits f → cond t (done f) (Err BadLine) ≡ Ok g → (w ≡ text g) × Fits g
 flags_end {F = F} text Fits f g w front rest true long h e p fits k =
     let none : rest ≡ [] = nil_from_length rest (h refl) in
@@ -36,9 +39,12 @@ flags_end {F = F} text Fits f g w front rest true long h e p fits k =
     subst (λ (x : F). (w ≡ text x) × Fits x) (ok_is f g k) (long_or_dash w long ∙ ap or_dash whole ∙ sym p, fits)
 flags_end text Fits f g w front rest false long h e p fits k = absurd cc
 
-flags_chosen : {F : Type 0} (text : F → List ℕ) (Fits : F → Type 0) (none f g : F) (w front rest : List ℕ) (t u : Bool) → 0 < length w → Decides t (w ≡ dash) → (u ≡ true → length rest ≡ 0)
-    → text none ≡ dash → Fits none → w ≡ front ++ rest → text f ≡ or_dash front → Fits f → cond t (done none) (cond u (done f) (Err BadLine)) ≡ Ok g → (w ≡ text g) × Fits g
-flags_chosen {F = F} text Fits none f g w front rest true u long d h n m e p fits k = subst (λ (x : F). (w ≡ text x) × Fits x) (ok_is none g k) (d.0 refl ∙ sym n, m)
+flags_chosen : {F : Type 0} (text : F → List ℕ) (Fits : F → Type 0) (none f g : F) (w front rest : List ℕ) (t u : Bool) → 0 < length w →
+    Decides t (w ≡ dash) → (u ≡ true → length rest ≡ 0)
+    → text none ≡ dash → Fits none → w ≡ front ++ rest → text f ≡ or_dash front → Fits f →
+    cond t (done none) (cond u (done f) (Err BadLine)) ≡ Ok g → (w ≡ text g) × Fits g
+flags_chosen {F = F} text Fits none f g w front rest true u long d h n m e p fits k =
+    subst (λ (x : F). (w ≡ text x) × Fits x) (ok_is none g k) (d.0 refl ∙ sym n, m)
 flags_chosen text Fits none f g w front rest false u long d h n m e p fits k = flags_end text Fits f g w front rest u long h e p fits k
 
 pub solid_append : (v w : List ℕ) → IsSolid v → IsSolid w → IsSolid (v ++ w)
@@ -63,7 +69,8 @@ From P n (suc count) = P n × From P (n + 1) count
 from_at : (P : ℕ → Type 0) (n count i : ℕ) → From P n count → i < count → P (n + i)
 from_at P n zero i h lt = absurd (omega (arith, lt))
 from_at P n (suc count) zero h lt = let same : n ≡ n + 0 = omega arith in subst P same h.0
-from_at P n (suc count) (suc i) h lt = let same : n + 1 + i ≡ n + suc i = omega arith in subst P same (from_at P (n + 1) count i h.1 (omega (arith, lt)))
+from_at P n (suc count) (suc i) h lt = let same : n + 1 + i ≡ n + suc i = omega arith in
+    subst P same (from_at P (n + 1) count i h.1 (omega (arith, lt)))
 
 below_at : (P : ℕ → Type 0) (count i : ℕ) → From P 0 count → i < count → P i
 below_at P count i h lt = let same : 0 + i ≡ i = omega arith in subst P same (from_at P 0 count i h lt)
@@ -100,9 +107,12 @@ open_takes (c ∷ cs) g e =
     let n = letter_at 110 a.1 in
     let x = letter_at 120 n.1 in
     let parts : w ≡ letter a.0 97 ++ (letter n.0 110 ++ (letter x.0 120 ++ x.1)) =
-    letter_takes 97 w ∙ ap (λ (r : List ℕ). letter a.0 97 ++ r) (letter_takes 110 a.1 ∙ ap (λ (r : List ℕ). letter n.0 110 ++ r) (letter_takes 120 n.1)) in
+    letter_takes 97 w ∙ ap (λ (r : List ℕ). letter a.0 97 ++ r)
+    (letter_takes 110 a.1 ∙ ap (λ (r : List ℕ). letter n.0 110 ++ r) (letter_takes 120 n.1)) in
     let text = open_text a.0 n.0 x.0 in
-    flags_chosen open_flags FitsOpenFlags (record { 0 = 0 }) (open_made a.0 n.0 x.0) g w (open_letters a.0 n.0 x.0) x.1 (bytes_eq w dash) (eqb (length x.1) 0) (omega arith) (bytes_eq-Decides w dash) (eqb-true (length x.1) 0) refl (lit< tt) (parts ∙ text.2 x.1) text.0 text.1 e
+    flags_chosen open_flags FitsOpenFlags (record { 0 = 0 }) (open_made a.0 n.0 x.0) g w (open_letters a.0 n.0 x.0) x.1 (bytes_eq w dash)
+    (eqb (length x.1) 0) (omega arith) (bytes_eq-Decides w dash) (eqb-true (length x.1) 0) refl (lit< tt) (parts ∙ text.2 x.1) text.0 text.1
+    e
 
 open_bad : (w : List ℕ) → IsBadOrOk (open_flags_at w)
 unfolding open_flags_at
@@ -121,7 +131,8 @@ open_letters_solid a n x = solid_append (letter a 97) (letter n 110 ++ letter x 
     (solid_append (letter n 110) (letter x 120) (letter_solid n 110 (lit< tt)) (letter_solid x 120 (lit< tt)))
 
 open_solid : (f : OpenFlags) → FitsOpenFlags f → IsSolid (open_flags f)
-open_solid f h = or_dash_solid (open_letters (has_bits f.0 1) (has_bits f.0 2) (has_bits f.0 4)) (open_letters_solid (has_bits f.0 1) (has_bits f.0 2) (has_bits f.0 4))
+open_solid f h = or_dash_solid (open_letters (has_bits f.0 1) (has_bits f.0 2) (has_bits f.0 4))
+    (open_letters_solid (has_bits f.0 1) (has_bits f.0 2) (has_bits f.0 4))
 
 pub open_flags_kind : IsKind open_flags_at open_flags FitsOpenFlags
 open_flags_kind = record { takes = open_takes; bad = open_bad; again = λ f h. below_at OpenAgain 8 f.0 each_open h; solid = open_solid }
@@ -167,9 +178,13 @@ msg_takes (c ∷ cs) g e =
     let t = letter_at 116 p.1 in
     let x = letter_at 120 t.1 in
     let parts : w ≡ letter d.0 100 ++ (letter p.0 112 ++ (letter t.0 116 ++ (letter x.0 120 ++ x.1))) =
-    letter_takes 100 w ∙ ap (λ (r : List ℕ). letter d.0 100 ++ r) (letter_takes 112 d.1 ∙ ap (λ (r : List ℕ). letter p.0 112 ++ r) (letter_takes 116 p.1 ∙ ap (λ (r : List ℕ). letter t.0 116 ++ r) (letter_takes 120 t.1))) in
+    letter_takes 100 w ∙ ap (λ (r : List ℕ). letter d.0 100 ++ r)
+    (letter_takes 112 d.1 ∙ ap (λ (r : List ℕ). letter p.0 112 ++ r)
+    (letter_takes 116 p.1 ∙ ap (λ (r : List ℕ). letter t.0 116 ++ r) (letter_takes 120 t.1))) in
     let text = msg_text d.0 p.0 t.0 x.0 in
-    flags_chosen msg_flags FitsMsgFlags (record { 0 = 0 }) (msg_made d.0 p.0 t.0 x.0) g w (msg_letters d.0 p.0 t.0 x.0) x.1 (bytes_eq w dash) (eqb (length x.1) 0) (omega arith) (bytes_eq-Decides w dash) (eqb-true (length x.1) 0) refl (lit< tt) (parts ∙ text.2 x.1) text.0 text.1 e
+    flags_chosen msg_flags FitsMsgFlags (record { 0 = 0 }) (msg_made d.0 p.0 t.0 x.0) g w (msg_letters d.0 p.0 t.0 x.0) x.1
+    (bytes_eq w dash) (eqb (length x.1) 0) (omega arith) (bytes_eq-Decides w dash) (eqb-true (length x.1) 0) refl (lit< tt)
+    (parts ∙ text.2 x.1) text.0 text.1 e
 
 msg_bad : (w : List ℕ) → IsBadOrOk (msg_flags_at w)
 unfolding msg_flags_at
@@ -181,7 +196,22 @@ MsgAgain n = msg_flags_at (msg_flags (record { 0 = n })) ≡ Ok (record { 0 = n 
 
 each_msg : From MsgAgain 0 16
 unfolding msg_flags_at
-each_msg = (refl, (refl, (refl, (refl, (refl, (refl, (refl, (refl, (refl, (refl, (refl, (refl, (refl, (refl, (refl, (refl, tt))))))))))))))))
+each_msg = (
+  refl,
+  (
+    refl,
+    (
+      refl,
+      (
+        refl,
+        (
+          refl,
+          (refl, (refl, (refl, (refl, (refl, (refl, (refl, (refl, (refl, (refl, (refl, tt))))))))))),
+        ),
+      ),
+    ),
+  ),
+)
 
 msg_letters_solid : (d p t x : Bool) → IsSolid (msg_letters d p t x)
 msg_letters_solid d p t x = solid_append (letter d 100) (letter p 112 ++ (letter t 116 ++ letter x 120)) (letter_solid d 100 (lit< tt))
@@ -189,7 +219,8 @@ msg_letters_solid d p t x = solid_append (letter d 100) (letter p 112 ++ (letter
     (solid_append (letter t 116) (letter x 120) (letter_solid t 116 (lit< tt)) (letter_solid x 120 (lit< tt))))
 
 msg_solid : (f : MsgFlags) → FitsMsgFlags f → IsSolid (msg_flags f)
-msg_solid f h = or_dash_solid (msg_letters (has_bits f.0 4) (has_bits f.0 1) (has_bits f.0 2) (has_bits f.0 8)) (msg_letters_solid (has_bits f.0 4) (has_bits f.0 1) (has_bits f.0 2) (has_bits f.0 8))
+msg_solid f h = or_dash_solid (msg_letters (has_bits f.0 4) (has_bits f.0 1) (has_bits f.0 2) (has_bits f.0 8))
+    (msg_letters_solid (has_bits f.0 4) (has_bits f.0 1) (has_bits f.0 2) (has_bits f.0 8))
 
 pub msg_flags_kind : IsKind msg_flags_at msg_flags FitsMsgFlags
 msg_flags_kind = record { takes = msg_takes; bad = msg_bad; again = λ f h. below_at MsgAgain 16 f.0 each_msg h; solid = msg_solid }

@@ -1,5 +1,6 @@
 -- A header line's words that are read are the spelling of what was read, and each spelling is read again.
-use Rattle.std.proofs.Common.{◌≡◌, ℕ, zero, suc, ◌<◌, Bool, true, false, cond, eqb, List, [], ◌∷◌, ◌++◌, codes, Result, Ok, Err, refl, ap, sym, ◌∙◌, subst, arith}
+use Rattle.std.proofs.Common.{◌≡◌, ℕ, zero, suc, ◌<◌, Bool, true, false, cond, eqb, List, [], ◌∷◌, ◌++◌, codes, Result, Ok, Err, refl, ap}
+use Rattle.std.proofs.Common.{sym, ◌∙◌, subst, arith}
 use Rattle.std.specs.Prelude.{Option, Some, None, decimal}
 use Rattle.std.specs.List.{AllByRecursion}
 use Rattle.std.specs.Str.{bytes_eq}
@@ -13,8 +14,10 @@ use Rattle.ux_syntax.specs.declared.script.ObjectLine.{ObjectLine}
 use Rattle.ux_syntax.specs.declared.script.Header.{Header}
 use Rattle.ux_trace.specs.Trace.{hex, path_text}
 use Rattle.ux_syntax.specs.Spelling.{bit, kind_text, fail_words, body_words, AreBytes, FitsFail, FitsBody, FitsHeader}
-use Rattle.ux_syntax.specs.Reading.{◌>>=◌, number_at, one, ends, ◌>>◌, hex_at, path_at, kind_at, fail_at, body_at, contents_at, described_at, object_at, proc_at}
-use Rattle.ux_syntax.proofs.Rows.{IsSolid, solid_from, IsBadOrOk, IsRow, either_bad, bind_ok, bind_bad, one_bad, ok_is, ends_row, row_then, number_kind}
+use Rattle.ux_syntax.specs.Reading.{◌>>=◌, number_at, one, ends, ◌>>◌, hex_at, path_at, kind_at, fail_at, body_at, contents_at}
+use Rattle.ux_syntax.specs.Reading.{described_at, object_at, proc_at}
+use Rattle.ux_syntax.proofs.Rows.{IsSolid, solid_from, IsBadOrOk, IsRow, either_bad, bind_ok, bind_bad, one_bad, ok_is, ends_row, row_then}
+use Rattle.ux_syntax.proofs.Rows.{number_kind}
 use Rattle.ux_syntax.proofs.Bytes.{hex_kind}
 use Rattle.ux_syntax.proofs.Choices.{bit_kind, kind_kind}
 use Rattle.ux_syntax.proofs.Names.{path_kind}
@@ -27,7 +30,8 @@ IsBody kind ws body = (ws ≡ body_words kind body) × FitsBody kind body
 hex_row : IsRow (hex_at >> ends) (λ x. hex x.0 ∷ []) (λ x. AreBytes x.0 × Unit {0})
 hex_row = row_then hex_kind ends_row
 
-none_takes : (kind : ObjKind) (ws : List (List ℕ)) (body : List ℕ) → IsBody kind [] [] → (ends ws >>= λ x. Ok []) ≡ Ok body → IsBody kind ws body
+none_takes : (kind : ObjKind) (ws : List (List ℕ)) (body : List ℕ) → IsBody kind [] [] → (ends ws >>= λ x. Ok []) ≡ Ok body →
+    IsBody kind ws body
 none_takes kind [] body h e = subst (IsBody kind []) (ok_is [] body e) h
 none_takes kind (w ∷ ws) body h e = absurd cc
 
@@ -76,7 +80,8 @@ contents_takes (w ∷ ws) x e =
 contents_row : IsRow contents_at contents_words (λ x. FitsBody x.0 x.1)
 contents_row = record {
   takes = contents_takes;
-  bad = λ ws. bind_bad (one kind_at ws) _ (one_bad kind_at kind_kind.bad ws) (λ x. bind_bad (body_at x.0 x.1) _ (body_bad x.0 x.1) (λ body. tt));
+  bad = λ ws. bind_bad (one kind_at ws) _ (one_bad kind_at kind_kind.bad ws)
+      (λ x. bind_bad (body_at x.0 x.1) _ (body_bad x.0 x.1) (λ body. tt));
   again = λ x f. rw (kind_kind.again x.0 tt, body_again x.0 x.1 f) refl;
   solid = λ x f. (kind_kind.solid x.0 tt, body_solid x.0 x.1 f);
 }
@@ -115,7 +120,8 @@ above_zero : (n : ℕ) (rest : List (List ℕ)) (f : Option ℕ × List (List �
 above_zero zero rest f e = absurd cc
 above_zero (suc n) rest f e = (omega arith, ok_is (Some (suc n), rest) f (sym (numbered_is n rest) ∙ e))
 
-some_described : (ws : List (List ℕ)) (x : Described) → ((one number_at ws >>= numbered) >>= with_contents) ≡ Ok x → AreDescribed (codes "fail" ∷ ws) x
+some_described : (ws : List (List ℕ)) (x : Described) → ((one number_at ws >>= numbered) >>= with_contents) ≡ Ok x →
+    AreDescribed (codes "fail" ∷ ws) x
 some_described [] x e = absurd cc
 some_described (w ∷ ws) x e =
     let a = bind_ok (one number_at (w ∷ ws) >>= numbered) with_contents x e in
@@ -126,8 +132,11 @@ some_described (w ∷ ws) x e =
     let word = number_kind.takes w c.0 c.1 in
     let d = bind_ok (contents_at ws) (λ y. Ok (Some c.0, y)) x (ap with_contents counted.1 ∙ a.2) in
     let p = contents_takes ws d.0 d.1 in
-    subst (AreDescribed (codes "fail" ∷ w ∷ ws)) (ok_is (Some c.0, d.0) x d.2)
-    (ap (λ (v : List ℕ). codes "fail" ∷ v ∷ ws) word.0 ∙ ap (λ (vs : List (List ℕ)). codes "fail" ∷ decimal c.0 ∷ vs) p.0, ((counted.0, word.1), p.1))
+    subst (AreDescribed (codes "fail" ∷ w ∷ ws)) (ok_is (Some c.0, d.0) x d.2) (
+      ap (λ (v : List ℕ). codes "fail" ∷ v ∷ ws) word.0
+          ∙ ap (λ (vs : List (List ℕ)). codes "fail" ∷ decimal c.0 ∷ vs) p.0,
+      ((counted.0, word.1), p.1),
+    )
 
 described_chosen : (w : List ℕ) (ws : List (List ℕ)) (x : Described) (b : Bool) → (b ≡ true → w ≡ codes "fail")
     → (cond b (one number_at ws >>= numbered) (Ok (None, w ∷ ws)) >>= with_contents) ≡ Ok x → AreDescribed (w ∷ ws) x
@@ -180,12 +189,14 @@ header_args (Header.Proc p) = decimal p.uid ∷ decimal p.gid ∷ bit p.privileg
 abbrev AreArgs : Header → List (List ℕ) → Type 0
 AreArgs h ws = (ws ≡ header_args h) × FitsHeader h
 
-pub object_takes : (ws : List (List ℕ)) (o : ObjectLine) → object_at ws ≡ Ok o → (ws ≡ header_args (Header.Object o)) × FitsHeader (Header.Object o)
+pub object_takes : (ws : List (List ℕ)) (o : ObjectLine) → object_at ws ≡ Ok o →
+    (ws ≡ header_args (Header.Object o)) × FitsHeader (Header.Object o)
 unfolding object_at
 object_takes ws o e =
     let b = bind_ok ((path_at >> described_at) ws) (λ x. Ok (record { name = x.0; fail = x.1.0; kind = x.1.1.0; body = x.1.1.1 })) o e in
     let q = (row_then path_kind described_row).takes ws b.0 b.1 in
-    subst (λ (y : ObjectLine). AreArgs (Header.Object y) ws) (ok_is (record { name = b.0.0; fail = b.0.1.0; kind = b.0.1.1.0; body = b.0.1.1.1 }) o b.2) (q.0, (q.1.0, q.1.1.0, q.1.1.1))
+    subst (λ (y : ObjectLine). AreArgs (Header.Object y) ws)
+    (ok_is (record { name = b.0.0; fail = b.0.1.0; kind = b.0.1.1.0; body = b.0.1.1.1 }) o b.2) (q.0, (q.1.0, q.1.1.0, q.1.1.1))
 
 pub object_bad : (ws : List (List ℕ)) → IsBadOrOk (object_at ws)
 unfolding object_at
@@ -197,7 +208,8 @@ proc_takes ws p e =
     let row = row_then number_kind (row_then number_kind (row_then bit_kind (row_then number_kind ends_row))) in
     let b = bind_ok _ (λ x. Ok (record { uid = x.0; gid = x.1.0; privileged = x.1.1.0; limit = x.1.1.1.0 })) p e in
     let q = row.takes ws b.0 b.1 in
-    subst (λ (y : ProcSpec). AreArgs (Header.Proc y) ws) (ok_is (record { uid = b.0.0; gid = b.0.1.0; privileged = b.0.1.1.0; limit = b.0.1.1.1.0 }) p b.2) (q.0, (q.1.0, q.1.1.0, q.1.1.1.1.0))
+    subst (λ (y : ProcSpec). AreArgs (Header.Proc y) ws)
+    (ok_is (record { uid = b.0.0; gid = b.0.1.0; privileged = b.0.1.1.0; limit = b.0.1.1.1.0 }) p b.2) (q.0, (q.1.0, q.1.1.0, q.1.1.1.1.0))
 
 pub proc_bad : (ws : List (List ℕ)) → IsBadOrOk (proc_at ws)
 unfolding proc_at
@@ -211,8 +223,16 @@ object_again o f = rw (path_kind.again o.name f.0, described_again (o.fail, (o.k
 
 pub proc_again : (p : ProcSpec) → FitsHeader (Header.Proc p) → proc_at (header_args (Header.Proc p)) ≡ Ok p
 unfolding proc_at
-proc_again p f = rw (number_kind.again p.uid f.0, number_kind.again p.gid f.1, bit_kind.again p.privileged tt, number_kind.again p.limit f.2) refl
+proc_again p f = rw (
+  number_kind.again p.uid f.0,
+  number_kind.again p.gid f.1,
+  bit_kind.again p.privileged tt,
+  number_kind.again p.limit f.2,
+) refl
 
 pub header_solid : (h : Header) → FitsHeader h → AllByRecursion IsSolid (header_args h)
 header_solid (Header.Object o) f = (path_kind.solid o.name f.0, described_solid (o.fail, (o.kind, o.body)) (f.1, f.2))
-header_solid (Header.Proc p) f = (number_kind.solid p.uid f.0, (number_kind.solid p.gid f.1, (bit_kind.solid p.privileged tt, (number_kind.solid p.limit f.2, tt))))
+header_solid (Header.Proc p) f = (
+  number_kind.solid p.uid f.0,
+  (number_kind.solid p.gid f.1, (bit_kind.solid p.privileged tt, (number_kind.solid p.limit f.2, tt))),
+)

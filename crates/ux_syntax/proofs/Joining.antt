@@ -11,7 +11,8 @@ use Rattle.ux_syntax.specs.declared.script.Header.{Header}
 use Rattle.ux_syntax.specs.Lines.{Line}
 use Rattle.ux_syntax.specs.Spelling.{Plan, asks_fork, known_count}
 use Rattle.ux_syntax.specs.Turns.{has_exited, is_known, awaits_known}
-use Rattle.ux_syntax.specs.Reading.{◌>>=◌, item_at, with_header, with_line, with_off, with_serial, is_unsaid, may_fork, joined_by_line, joined_by_fork, is_barred, joined_by_allowed, joined_by_other, joined_by, is_skipped, added, line_at}
+use Rattle.ux_syntax.specs.Reading.{◌>>=◌, item_at, with_header, with_line, with_off, with_serial, is_unsaid, may_fork, joined_by_line}
+use Rattle.ux_syntax.specs.Reading.{joined_by_fork, is_barred, joined_by_allowed, joined_by_other, joined_by, is_skipped, added, line_at}
 use Rattle.ux_syntax.specs.Results.{Leaves}
 use Rattle.ux_syntax.specs.Joining.{is_begun, Continues}
 
@@ -40,7 +41,8 @@ fork_stays : (s : Plan) (line : Line) (may : Bool) → Stays s (if may then Ok (
 fork_stays s line true = line_stays s line
 fork_stays s line false = tt
 
-own_stays : (s : Plan) (line : Line) (exited there : Bool) → Stays s (if exited then Err Fault.BadLine else if there then Ok (with_line s line) else Err Fault.UnknownProcess)
+own_stays : (s : Plan) (line : Line) (exited there : Bool) →
+    Stays s (if exited then Err Fault.BadLine else if there then Ok (with_line s line) else Err Fault.UnknownProcess)
 own_stays s line true there = tt
 own_stays s line false true = line_stays s line
 own_stays s line false false = tt
@@ -58,7 +60,8 @@ turn_stays s line true = fork_stays s line (may_fork s line.pid.0)
 turn_stays s line false = other_stays s line (is_barred s.serial line.act)
 
 -- a header's line is refused: a process has a line, since the end of the layer wasn't said
-header_stays : (s : Plan) (h : Header) (none : Bool) → (length s.lines == 0) ≡ none → is_begun s ≡ true → (s.off && true) ≡ false → Stays s (if none then Ok (with_header s h) else Err Fault.BadLine)
+header_stays : (s : Plan) (h : Header) (none : Bool) → (length s.lines == 0) ≡ none → is_begun s ≡ true → (s.off && true) ≡ false →
+    Stays s (if none then Ok (with_header s h) else Err Fault.BadLine)
 header_stays s h false e b n = tt
 header_stays s h true e b n =
     let off : s.off ≡ true = sym (λ j. not (e j) || s.off) ∙ b in
@@ -75,7 +78,8 @@ joined_stays s (Item.Line line) b n = turn_stays s line (asks_fork line.act)
 joined_stays s Item.Off b n = off_stays s
 joined_stays s Item.Serial b n = serial_or_not s (is_unsaid s) b
 
-added_stays : (s : Plan) (item : Item) (after : Bool) → (s.off && not (is_skipped item)) ≡ after → is_begun s ≡ true → Stays s (if after then Err Fault.BadLine else joined_by s item)
+added_stays : (s : Plan) (item : Item) (after : Bool) → (s.off && not (is_skipped item)) ≡ after → is_begun s ≡ true →
+    Stays s (if after then Err Fault.BadLine else joined_by s item)
 added_stays s item true e b = tt
 added_stays s item false e b = joined_stays s item b e
 
@@ -91,6 +95,7 @@ line_continues : (s t : Plan) (text : List ℕ) → is_begun s ≡ true → line
 unfolding line_at
 line_continues s t text b e = read_stays s t (line_at s text) (item_stays s (item_at _ text) b) e
 
-pub read_continues : (s t : Plan) (text : List ℕ) (result : Result (Unit {0}) LineError) → Leaves t result (line_at s text) → OnErr result (t ≡ s) → is_begun s ≡ true → Continues s t
+pub read_continues : (s t : Plan) (text : List ℕ) (result : Result (Unit {0}) LineError) → Leaves t result (line_at s text) →
+    OnErr result (t ≡ s) → is_begun s ≡ true → Continues s t
 read_continues s t text (Ok x) leaves same b = line_continues s t text b leaves
 read_continues s t text (Err e) leaves same b = subst (Continues s) (sym same) (same_continues s b)

@@ -23,7 +23,8 @@ not_small : (n : ℕ) → (n < 2 ^ 32 → ⊥) → 2 ^ 32 ≤ n
 not_small n h = omega arith
 
 -- what parse says of digits with one form
-pub number_read : {E : Type 0} (w t : List ℕ) (r : Result ℕ E) → is_plain w ≡ true → list_all is_ascii_digit w ≡ true → t ≡ w → ParsesUnsigned 32 10 t r
+pub number_read : {E : Type 0} (w t : List ℕ) (r : Result ℕ E) → is_plain w ≡ true → list_all is_ascii_digit w ≡ true → t ≡ w →
+    ParsesUnsigned 32 10 t r
     → MatchResult r (λ n. number_at w ≡ Ok n) (λ _. number_at w ≡ Err BadLine)
 unfolding number_at
 number_read {E = E} w t (Ok n) plain digits e h =

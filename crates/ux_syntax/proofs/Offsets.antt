@@ -1,5 +1,6 @@
 -- Offsets: digits, behind a minus below 0.
-use Rattle.std.proofs.Common.{◌≡◌, ℕ, zero, suc, ◌<◌, ◌≤◌, ◌^◌, ◌&&◌, Bool, true, false, cond, eqb, leb, not, List, [], ◌∷◌, length, Result, Ok, Err, refl, ap, sym, ◌∙◌, subst, arith}
+use Rattle.std.proofs.Common.{◌≡◌, ℕ, zero, suc, ◌<◌, ◌≤◌, ◌^◌, ◌&&◌, Bool, true, false, cond, eqb, leb, not, List, [], ◌∷◌, length, Result}
+use Rattle.std.proofs.Common.{Ok, Err, refl, ap, sym, ◌∙◌, subst, arith}
 use Rattle.std.specs.Prelude.{decimal, ℤ, pos, negsuc, neg_ℤ, FitsSigned, MatchResult}
 use Rattle.std.specs.Int.{w64}
 use Rattle.std.specs.Fmt.{signed_decimal}
@@ -15,7 +16,8 @@ use Rattle.ux_syntax.specs.declared.fault.Fault.TheVariants.{BadLine}
 use Rattle.ux_syntax.specs.Spelling.{IsSigned, IsOffset, IsBacklog}
 use Rattle.ux_syntax.specs.Reading.{is_plain, without_minus, is_signed, is_i64, offset_at, backlog_at}
 use Rattle.ux_syntax.proofs.Numbers.{own}
-use Rattle.ux_syntax.proofs.Rows.{IsSolid, IsBadOrOk, IsKind, done, bind_ok, bind_bad, guard_ok, guard_bad, numeral_text, decimal_plain, digits_solid}
+use Rattle.ux_syntax.proofs.Rows.{IsSolid, IsBadOrOk, IsKind, done, bind_ok, bind_bad, guard_ok, guard_bad, numeral_text, decimal_plain}
+use Rattle.ux_syntax.proofs.Rows.{digits_solid}
 
 abbrev all_digits : List ℕ → Bool
 all_digits w = list_all is_ascii_digit w
@@ -48,7 +50,8 @@ natural_text w plain h i =
 
 -- ---- digits behind a minus
 
-negative_text : (v : ℕ) (w : List ℕ) → digits_value 10 w ≡ v → is_plain w ≡ true → all_digits w ≡ true → bytes_eq (45 ∷ w) minus_zero ≡ false → is_i64 (neg_ℤ (pos v)) ≡ true
+negative_text : (v : ℕ) (w : List ℕ) → digits_value 10 w ≡ v → is_plain w ≡ true → all_digits w ≡ true →
+    bytes_eq (45 ∷ w) minus_zero ≡ false → is_i64 (neg_ℤ (pos v)) ≡ true
     → (45 ∷ w ≡ signed_decimal (neg_ℤ (pos v))) × IsOffset (neg_ℤ (pos v))
 negative_text zero w e plain h n i =
     let text : decimal (digits_value 10 w) ≡ w = numeral_text w plain h (omega arith) in
@@ -65,7 +68,8 @@ abbrev HasForm : List ℕ → Type 0
 HasForm w = (is_plain (without_minus w) ≡ true) × (all_digits (without_minus w) ≡ true) × (bytes_eq w minus_zero ≡ false)
 
 abbrev IsText : List ℕ → Type 0
-IsText w = HasForm w → is_i64 (signed_digits_value 10 w) ≡ true → (w ≡ signed_decimal (signed_digits_value 10 w)) × IsOffset (signed_digits_value 10 w)
+IsText w = HasForm w → is_i64 (signed_digits_value 10 w) ≡ true →
+    (w ≡ signed_decimal (signed_digits_value 10 w)) × IsOffset (signed_digits_value 10 w)
 
 text_behind : (cs : List ℕ) → IsText (45 ∷ cs)
 text_behind cs f i = negative_text (digits_value 10 cs) cs refl f.0 f.1 f.2 i
@@ -113,7 +117,8 @@ offset_again (negsuc n) h =
     let digits : all_digits (decimal (suc n)) ≡ true = digits_decimal own (suc n) (omega arith) in
     let value : digits_value 10 (decimal (suc n)) ≡ suc n = digits_value-decimal own (suc n) (omega arith) in
     let other : bytes_eq (45 ∷ decimal (suc n)) minus_zero ≡ false =
-    false_from_ne_true (bytes_eq (45 ∷ decimal (suc n)) minus_zero) (λ t. not_zero n h ((bytes_eq-Decides (45 ∷ decimal (suc n)) minus_zero).0 t)) in
+    false_from_ne_true (bytes_eq (45 ∷ decimal (suc n)) minus_zero)
+    (λ t. not_zero n h ((bytes_eq-Decides (45 ∷ decimal (suc n)) minus_zero).0 t)) in
     offset_given (45 ∷ decimal (suc n)) (negsuc n) (plain, digits, other) (ap (λ (m : ℕ). neg_ℤ (pos m)) value) (is_within 63 (negsuc n) h)
   where
     not_zero : (m : ℕ) → m < 2 ^ 63 → 45 ∷ decimal (suc m) ≡ minus_zero → ⊥
@@ -128,7 +133,8 @@ offset_solid (negsuc n) h = (omega arith, digits_solid (decimal (suc n)) (digits
 
 offset_bad : (w : List ℕ) → IsBadOrOk (offset_at w)
 unfolding offset_at
-offset_bad w = guard_bad (is_plain (without_minus w) && all_digits (without_minus w) && not (bytes_eq w minus_zero) && is_i64 (signed_digits_value 10 w)) (signed_digits_value 10 w)
+offset_bad w = guard_bad (is_plain (without_minus w) && all_digits (without_minus w) && not (bytes_eq w minus_zero)
+    && is_i64 (signed_digits_value 10 w)) (signed_digits_value 10 w)
 
 pub offset_kind : IsKind offset_at signed_decimal IsOffset
 offset_kind = record { takes = offset_takes; bad = offset_bad; again = offset_again; solid = offset_solid }
@@ -169,7 +175,8 @@ i64_fits : (z : ℤ) → is_i64 z ≡ true → FitsSigned w64 z
 i64_fits (pos n) h = record { sfits = ltb-true n (2 ^ 63) h }
 i64_fits (negsuc n) h = record { sfits = ltb-true n (2 ^ 63) h }
 
-unsigned_by : (c : ℕ) (cs : List ℕ) (s : Bool) → eqb c 45 ≡ s → all_digits (without_minus (c ∷ cs)) ≡ true → without_leading_sign (c ∷ cs) ≡ without_minus (c ∷ cs)
+unsigned_by : (c : ℕ) (cs : List ℕ) (s : Bool) → eqb c 45 ≡ s → all_digits (without_minus (c ∷ cs)) ≡ true →
+    without_leading_sign (c ∷ cs) ≡ without_minus (c ∷ cs)
 unsigned_by c cs true s h = rw s refl
 unsigned_by c cs false s h = let digits : all_digits (c ∷ cs) ≡ true = rw s at h in rw (s, (digit_first c cs digits).1) refl
 
@@ -185,17 +192,21 @@ offset_none : (w : List ℕ) → HasForm w → is_i64 (signed_digits_value 10 w)
 unfolding offset_at
 offset_none w f i = rw (f.0, f.1, f.2, i) refl
 
-pub offset_read : {E : Type 0} (w t : List ℕ) (r : Result ℤ E) → HasForm w → t ≡ w → ParsesSigned w64 10 t r → MatchResult r (λ z. offset_at w ≡ Ok z) (λ _. offset_at w ≡ Err BadLine)
+pub offset_read : {E : Type 0} (w t : List ℕ) (r : Result ℤ E) → HasForm w → t ≡ w → ParsesSigned w64 10 t r →
+    MatchResult r (λ z. offset_at w ≡ Ok z) (λ _. offset_at w ≡ Err BadLine)
 offset_read w t (Ok z) f e h =
     let value : z ≡ signed_digits_value 10 w = h.1 ∙ ap (signed_digits_value 10) e in
     let fits : is_i64 (signed_digits_value 10 t) ≡ true = fits_i64 _ h.0.1 in
     offset_given w z f (sym value) (rw h.1 fits)
 offset_read w t (Err d) f e h =
-    let numeral : IsNumeral 10 (without_leading_sign w) = rw (unsigned w f.0 f.1) (some_plain (without_minus w) f.0, own.to (without_minus w) f.1) in
-    offset_none w f (false_from_ne_true (is_i64 (signed_digits_value 10 w)) (λ i. h (rw e (numeral, i64_fits (signed_digits_value 10 w) i))))
+    let numeral : IsNumeral 10 (without_leading_sign w) =
+    rw (unsigned w f.0 f.1) (some_plain (without_minus w) f.0, own.to (without_minus w) f.1) in
+    offset_none w f (false_from_ne_true (is_i64 (signed_digits_value 10 w))
+    (λ i. h (rw e (numeral, i64_fits (signed_digits_value 10 w) i))))
 
 -- a word that is no offset
-pub offset_refused : (w : List ℕ) → (is_plain (without_minus w) && all_digits (without_minus w) && not (bytes_eq w minus_zero)) ≡ false → offset_at w ≡ Err BadLine
+pub offset_refused : (w : List ℕ) → (is_plain (without_minus w) && all_digits (without_minus w) && not (bytes_eq w minus_zero)) ≡ false →
+    offset_at w ≡ Err BadLine
 unfolding offset_at
 offset_refused w h = rw h refl
 

@@ -1,5 +1,7 @@
 -- Lines with text in them, as a loop reads them, and lines without.
-use Rattle.std.proofs.Common.{◌≡◌, ℕ, zero, suc, ◌+◌, ◌-◌, ◌*◌, ◌<◌, ◌≤◌, ◌&&◌, Bool, true, false, cond, not, eqb, ltb, List, [], ◌∷◌, ◌++◌, length, take, drop, codes, Option, Some, None, Result, Ok, Err, refl, ap, sym, ◌∙◌, append_assoc, arith, Decides}
+use Rattle.std.proofs.Common.{◌≡◌, ℕ, zero, suc, ◌+◌, ◌-◌, ◌*◌, ◌<◌, ◌≤◌, ◌&&◌, Bool, true, false, cond, not, eqb, ltb, List, [], ◌∷◌, ◌++◌}
+use Rattle.std.proofs.Common.{length, take, drop, codes, Option, Some, None, Result, Ok, Err, refl, ap, sym, ◌∙◌, append_assoc, arith}
+use Rattle.std.proofs.Common.{Decides}
 use Rattle.std.specs.List.{list_any, position_or_len}
 use Rattle.std.specs.Str.{bytes_eq}
 use Rattle.std.proofs.lemmas.Bool.{ltb-false, or_parts}
@@ -9,7 +11,8 @@ use Rattle.ux_syntax.specs.declared.fault.Fault.{Fault}
 use Rattle.ux_syntax.specs.declared.fault.Fault.TheVariants.{BadLine}
 use Rattle.ux_syntax.specs.declared.plain.Field.{Field}
 use Rattle.ux_syntax.specs.Digits.{◌>>=◌, digit_at, number_at}
-use Rattle.ux_syntax.specs.Text.{escape_at, pair_at, escaped_byte_at, text_byte_at, text_upto, text_at, hex_word_at, raw_word_at, first_word, space_of, space_at, space_word_at, special_word_at, or_as_written, plain_fields, is_marked}
+use Rattle.ux_syntax.specs.Text.{escape_at, pair_at, escaped_byte_at, text_byte_at, text_upto, text_at, hex_word_at, raw_word_at}
+use Rattle.ux_syntax.specs.Text.{first_word, space_of, space_at, space_word_at, special_word_at, or_as_written, plain_fields, is_marked}
 
 -- ---- the first word
 
@@ -35,8 +38,10 @@ none_found : (p : ℕ) (b : Bool) → None ≡ cond b (Some p) None → b ≡ fa
 none_found p true e = absurd cc
 none_found p false e = refl
 
-pub word_to_blank : (cs word rest : List ℕ) (n : ℕ) → word ≡ take n cs → rest ≡ drop n cs → Some n ≡ found (blank_at cs) (length cs) → (word, rest) ≡ first_word cs
-word_to_blank cs word rest n w r e = rw (w, r) (ap (λ m. (take m cs, drop m cs)) (some_found n (blank_at cs) (ltb (blank_at cs) (length cs)) e))
+pub word_to_blank : (cs word rest : List ℕ) (n : ℕ) → word ≡ take n cs → rest ≡ drop n cs → Some n ≡ found (blank_at cs) (length cs) →
+    (word, rest) ≡ first_word cs
+word_to_blank cs word rest n w r e = rw (w, r)
+    (ap (λ m. (take m cs, drop m cs)) (some_found n (blank_at cs) (ltb (blank_at cs) (length cs)) e))
 
 pub word_to_end : (cs : List ℕ) → None ≡ found (blank_at cs) (length cs) → (cs, []) ≡ first_word cs
 word_to_end cs e =
@@ -54,7 +59,8 @@ word_to_end cs e =
 abbrev with_bytes : List ℕ → Result (List ℕ × List ℕ) Fault → Result (List ℕ × List ℕ) Fault
 with_bytes front read = read >>= λ y. Ok (front ++ y.0, y.1)
 
-bytes_regroup : (front : List ℕ) (b : ℕ) (read : Result (List ℕ × List ℕ) Fault) → with_bytes front (read >>= λ y. Ok (b ∷ y.0, y.1)) ≡ with_bytes (front ++ b ∷ []) read
+bytes_regroup : (front : List ℕ) (b : ℕ) (read : Result (List ℕ × List ℕ) Fault) →
+    with_bytes front (read >>= λ y. Ok (b ∷ y.0, y.1)) ≡ with_bytes (front ++ b ∷ []) read
 bytes_regroup front b (Ok y) = ap (λ (bs : List ℕ). Ok (bs, y.1)) (sym (append_assoc front (b ∷ []) y.0))
 bytes_regroup front b (Err f) = refl
 
@@ -105,17 +111,20 @@ abbrev pub closes : List ℕ → Bool
 closes [] = false
 closes (c ∷ cs) = eqb c 34
 
-pub upto_step : (n : ℕ) (w : List ℕ) (x : ℕ × List ℕ) → closes w ≡ false → text_byte_at w ≡ Ok x → text_upto (suc n) w ≡ (text_upto n x.1 >>= λ y. Ok (x.0 ∷ y.0, y.1))
+pub upto_step : (n : ℕ) (w : List ℕ) (x : ℕ × List ℕ) → closes w ≡ false → text_byte_at w ≡ Ok x →
+    text_upto (suc n) w ≡ (text_upto n x.1 >>= λ y. Ok (x.0 ∷ y.0, y.1))
 upto_step n [] x o e = absurd cc
 upto_step n (c ∷ cs) x o e = rw (o, e) refl
 
-pub text_more : (w front rest : List ℕ) (x : ℕ × List ℕ) → closes rest ≡ false → text_byte_at rest ≡ Ok x → IsTextSoFar w front rest → IsTextSoFar w (front ++ x.0 ∷ []) x.1
+pub text_more : (w front rest : List ℕ) (x : ℕ × List ℕ) → closes rest ≡ false → text_byte_at rest ≡ Ok x → IsTextSoFar w front rest →
+    IsTextSoFar w (front ++ x.0 ∷ []) x.1
 text_more w front rest x o e h =
     let shorter : length x.1 < length rest = text_shorter rest x e in
     let count : length (front ++ x.0 ∷ []) ≡ length front + 1 = length-append front (x.0 ∷ []) in
     let k = length w - length (front ++ x.0 ∷ []) in
     let next : length w - length front ≡ suc k = omega (arith, h.room, shorter, count) in
-    let step : text_upto (length w - length front) rest ≡ (text_upto k x.1 >>= λ y. Ok (x.0 ∷ y.0, y.1)) = rw next (upto_step k rest x o e) in
+    let step : text_upto (length w - length front) rest ≡ (text_upto k x.1 >>= λ y. Ok (x.0 ∷ y.0, y.1)) =
+    rw next (upto_step k rest x o e) in
     record {
       room = omega (arith, h.room, shorter, count);
       whole = sym (bytes_regroup front x.0 (text_upto k x.1)) ∙ ap (with_bytes front) (sym step) ∙ h.whole;
@@ -127,7 +136,8 @@ upto_mark (suc n) c cs o some = rw o refl
 
 pub text_ends : (w front : List ℕ) (c : ℕ) (cs : List ℕ) → eqb c 34 ≡ true → IsTextSoFar w front (c ∷ cs) → text_at w ≡ Ok (front, cs)
 text_ends w front c cs o h =
-    sym h.whole ∙ ap (with_bytes front) (upto_mark (length w - length front) c cs o (omega (arith, h.room))) ∙ ap (λ (bs : List ℕ). Ok (bs, cs)) (append-nil front)
+    sym h.whole ∙ ap (with_bytes front) (upto_mark (length w - length front) c cs o (omega (arith, h.room)))
+    ∙ ap (λ (bs : List ℕ). Ok (bs, cs)) (append-nil front)
 
 upto_none : (n : ℕ) → text_upto n [] ≡ Err BadLine
 upto_none zero = refl
@@ -141,8 +151,10 @@ upto_fails zero w f o some long e = absurd (omega arith)
 upto_fails (suc n) [] f o some long e = absurd (omega arith)
 upto_fails (suc n) (c ∷ cs) f o some long e = rw (o, e) refl
 
-pub text_fails : (w front rest : List ℕ) (f : Fault) → closes rest ≡ false → 0 < length rest → text_byte_at rest ≡ Err f → IsTextSoFar w front rest → text_at w ≡ Err f
-text_fails w front rest f o some e h = sym h.whole ∙ ap (with_bytes front) (upto_fails (length w - length front) rest f o (omega (arith, some, h.room)) some e)
+pub text_fails : (w front rest : List ℕ) (f : Fault) → closes rest ≡ false → 0 < length rest → text_byte_at rest ≡ Err f →
+    IsTextSoFar w front rest → text_at w ≡ Err f
+text_fails w front rest f o some e h = sym h.whole
+    ∙ ap (with_bytes front) (upto_fails (length w - length front) rest f o (omega (arith, some, h.room)) some e)
 
 -- ---- plain lines
 
@@ -153,7 +165,8 @@ parts_of (c ∷ cs) zero = refl
 parts_of (c ∷ cs) (suc n) = ap (λ (l : List ℕ). c ∷ l) (parts_of cs n)
 
 -- a field that stays as it is, and further fields behind it
-pub field_stays : (field : Field) (fields : List Field) (cs : List ℕ) → special_word_at field cs ≡ Err BadLine → plain_fields fields (drop 1 (first_word cs).1) ≡ drop 1 (first_word cs).1
+pub field_stays : (field : Field) (fields : List Field) (cs : List ℕ) → special_word_at field cs ≡ Err BadLine →
+    plain_fields fields (drop 1 (first_word cs).1) ≡ drop 1 (first_word cs).1
     → plain_fields (field ∷ fields) cs ≡ cs
 field_stays field fields cs e h =
     ap (λ x. (x.0 ++ take 1 x.1) ++ plain_fields fields (drop 1 x.1)) (ap (or_as_written cs) e)
@@ -193,7 +206,8 @@ unfolding space_at
 no_rights w h = go (bytes_eq (take 7 w) (codes "rights:")) (bytes_eq-Decides (take 7 w) (codes "rights:"))
   where
     go : (t : Bool) → Decides t (take 7 w ≡ codes "rights:") → cond t (number_at (drop 7 w) >>= λ n. space_of n) (Err BadLine) ≡ Err BadLine
-    go true d = let colon : list_any (λ b. eqb b 58) (codes "rights:") ≡ false = ap (list_any (λ b. eqb b 58)) (sym (d.0 refl)) ∙ none_taken (λ b. eqb b 58) 7 w h in absurd cc
+    go true d = let colon : list_any (λ b. eqb b 58) (codes "rights:") ≡ false = ap (list_any (λ b. eqb b 58)) (sym (d.0 refl))
+        ∙ none_taken (λ b. eqb b 58) 7 w h in absurd cc
     go false d = refl
 
 no_space : (cs : List ℕ) → list_any (λ b. eqb b 58) cs ≡ false → space_word_at cs ≡ Err BadLine
@@ -212,12 +226,15 @@ mark_left Field.Hex n cs h = none_left (λ b. eqb b 34) n cs h
 mark_left Field.Raw n cs h = none_left (λ b. eqb b 34) n cs h
 mark_left Field.Space n cs h = none_left (λ b. eqb b 58) n cs h
 
-marks_left : (fields : List Field) (n : ℕ) (cs : List ℕ) → list_any (λ f. is_marked f cs) fields ≡ false → list_any (λ f. is_marked f (drop n cs)) fields ≡ false
+marks_left : (fields : List Field) (n : ℕ) (cs : List ℕ) → list_any (λ f. is_marked f cs) fields ≡ false →
+    list_any (λ f. is_marked f (drop n cs)) fields ≡ false
 marks_left [] n cs h = refl
-marks_left (f ∷ fs) n cs h = let q = or_parts (is_marked f cs) (list_any (λ g. is_marked g cs) fs) h in rw (mark_left f n cs q.0, marks_left fs n cs q.1) refl
+marks_left (f ∷ fs) n cs h = let q = or_parts (is_marked f cs) (list_any (λ g. is_marked g cs) fs) h in
+    rw (mark_left f n cs q.0, marks_left fs n cs q.1) refl
 
 pub no_mark : (fields : List Field) (cs : List ℕ) → list_any (λ f. is_marked f cs) fields ≡ false → plain_fields fields cs ≡ cs
 no_mark [] cs h = refl
 no_mark (f ∷ fs) cs h =
     let q = or_parts (is_marked f cs) (list_any (λ g. is_marked g cs) fs) h in
-    field_stays f fs cs (no_special f cs q.0) (no_mark fs (drop 1 (drop (blank_at cs) cs)) (marks_left fs 1 (drop (blank_at cs) cs) (marks_left fs (blank_at cs) cs q.1)))
+    field_stays f fs cs (no_special f cs q.0)
+    (no_mark fs (drop 1 (drop (blank_at cs) cs)) (marks_left fs 1 (drop (blank_at cs) cs) (marks_left fs (blank_at cs) cs q.1)))

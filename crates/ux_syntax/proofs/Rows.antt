@@ -1,12 +1,14 @@
 -- A word or a row of words that is read is the spelling of what was read, and each spelling is read again.
-use Rattle.std.proofs.Common.{◌≡◌, ℕ, zero, suc, not, ◌<◌, ◌^◌, Bool, true, false, cond, ◌&&◌, ltb, eqb, List, [], ◌∷◌, length, get_or, Result, Ok, Err, refl, ap, sym, ◌∙◌, subst, arith}
+use Rattle.std.proofs.Common.{◌≡◌, ℕ, zero, suc, not, ◌<◌, ◌^◌, Bool, true, false, cond, ◌&&◌, ltb, eqb, List, [], ◌∷◌, length, get_or}
+use Rattle.std.proofs.Common.{Result, Ok, Err, refl, ap, sym, ◌∙◌, subst, arith}
 use Rattle.std.specs.Prelude.{decimal}
 use Rattle.std.specs.List.{list_all, AllByRecursion}
 use Rattle.std.specs.Char.{is_ascii_digit}
 use Rattle.std.specs.Str.Parse.{digits_value}
 use Rattle.std.proofs.lemmas.Bool.{lt-ltb, ltb-true, ne_eqb, and_parts, not_from_false}
 use Rattle.std.proofs.lemmas.Bool.Decides.{nat_tests}
-use Rattle.std.proofs.lemmas.Fmt.{digits_decimal, digits_value-decimal, decimal-digits_value, first_decimal, decimal_nonempty, decimal_digit}
+use Rattle.std.proofs.lemmas.Fmt.{digits_decimal, digits_value-decimal, decimal-digits_value, first_decimal, decimal_nonempty}
+use Rattle.std.proofs.lemmas.Fmt.{decimal_digit}
 use Rattle.ux_syntax.specs.declared.fault.Fault.{Fault}
 use Rattle.ux_syntax.specs.declared.fault.Fault.TheVariants.{BadLine}
 use Rattle.ux_syntax.specs.Spelling.{IsNumber}
@@ -53,11 +55,13 @@ pub either_bad : {A : Type 0} (b : Bool) (r s : Result A Fault) → IsBadOrOk r 
 either_bad true r s p q = p
 either_bad false r s p q = q
 
-pub bind_bad : {A B : Type 0} (r : Result A Fault) (f : A → Result B Fault) → IsBadOrOk r → ((x : A) → IsBadOrOk (f x)) → IsBadOrOk (r >>= f)
+pub bind_bad : {A B : Type 0} (r : Result A Fault) (f : A → Result B Fault) → IsBadOrOk r → ((x : A) → IsBadOrOk (f x)) →
+    IsBadOrOk (r >>= f)
 bind_bad (Ok x) f p q = q x
 bind_bad (Err e) f p q = p
 
-pub one_bad : {A : Type 0} (kind : List ℕ → Result A Fault) → ((w : List ℕ) → IsBadOrOk (kind w)) → (ws : List (List ℕ)) → IsBadOrOk (one kind ws)
+pub one_bad : {A : Type 0} (kind : List ℕ → Result A Fault) → ((w : List ℕ) → IsBadOrOk (kind w)) → (ws : List (List ℕ)) →
+    IsBadOrOk (one kind ws)
 one_bad kind h [] = refl
 one_bad kind h (w ∷ ws) = bind_bad (kind w) (λ x. Ok (x, ws)) (h w) (λ x. tt)
 
@@ -80,8 +84,10 @@ bind_ok (Err d) f y e = absurd cc
 pub ok_is : {A : Type 0} (x y : A) → done x ≡ done y → x ≡ y
 ok_is x y e = cc
 
-row_takes : {A B : Type 0} (k : List ℕ → Result A Fault) (text : A → List ℕ) (F : A → Type 0) (r : List (List ℕ) → Result B Fault) (words : B → List (List ℕ)) (G : B → Type 0)
-    → IsKind k text F → IsRow r words G → (ws : List (List ℕ)) (x : A × B) → (k >> r) ws ≡ Ok x → (ws ≡ text x.0 ∷ words x.1) × (F x.0 × G x.1)
+row_takes : {A B : Type 0} (k : List ℕ → Result A Fault) (text : A → List ℕ) (F : A → Type 0) (r : List (List ℕ) → Result B Fault)
+    (words : B → List (List ℕ)) (G : B → Type 0)
+    → IsKind k text F → IsRow r words G → (ws : List (List ℕ)) (x : A × B) → (k >> r) ws ≡ Ok x →
+    (ws ≡ text x.0 ∷ words x.1) × (F x.0 × G x.1)
 row_takes k text F r words G kind row [] x e = absurd cc
 row_takes {A = A} {B = B} k text F r words G kind row (w ∷ ws) x e =
     let a = bind_ok (one k (w ∷ ws)) (λ v. r v.1 >>= λ y. Ok (v.0, y)) x e in
@@ -96,11 +102,13 @@ row_takes {A = A} {B = B} k text F r words G kind row (w ∷ ws) x e =
     subst (λ (y : A × B). (w ∷ ws ≡ text y.0 ∷ words y.1) × (F y.0 × G y.1)) whole
     (ap (λ (v : List ℕ). v ∷ ws) p.0 ∙ ap (λ (vs : List (List ℕ)). text a.0.0 ∷ vs) (rest ∙ q.0), (p.1, q.1))
 
-pub row_then : {A B : Type 0} {k : List ℕ → Result A Fault} {text : A → List ℕ} {F : A → Type 0} {r : List (List ℕ) → Result B Fault} {words : B → List (List ℕ)} {G : B → Type 0}
+pub row_then : {A B : Type 0} {k : List ℕ → Result A Fault} {text : A → List ℕ} {F : A → Type 0} {r : List (List ℕ) → Result B Fault}
+    {words : B → List (List ℕ)} {G : B → Type 0}
     → IsKind k text F → IsRow r words G → IsRow (k >> r) (λ x. text x.0 ∷ words x.1) (λ x. F x.0 × G x.1)
 row_then {k = k} {text = text} {F = F} {r = r} {words = words} {G = G} kind row = record {
   takes = row_takes k text F r words G kind row;
-  bad = λ ws. bind_bad (one k ws) (λ x. r x.1 >>= λ y. Ok (x.0, y)) (one_bad k kind.bad ws) (λ x. bind_bad (r x.1) (λ y. Ok (x.0, y)) (row.bad x.1) (λ y. tt));
+  bad = λ ws. bind_bad (one k ws) (λ x. r x.1 >>= λ y. Ok (x.0, y)) (one_bad k kind.bad ws)
+      (λ x. bind_bad (r x.1) (λ y. Ok (x.0, y)) (row.bad x.1) (λ y. tt));
   again = λ x f. rw (kind.again x.0 f.0, row.again x.1 f.1) refl;
   solid = λ x f. (kind.solid x.0 f.0, row.solid x.1 f.1);
 }
@@ -144,7 +152,8 @@ form_plain (c ∷ []) h k = refl
 form_plain (c ∷ d ∷ ds) h k = plain_from c (λ e. two_long d ds (k e))
 
 -- digits in their one form are those of the number
-pub numeral_text : (w : List ℕ) → is_plain w ≡ true → list_all is_ascii_digit w ≡ true → digits_value 10 w < 2 ^ 64 → decimal (digits_value 10 w) ≡ w
+pub numeral_text : (w : List ℕ) → is_plain w ≡ true → list_all is_ascii_digit w ≡ true → digits_value 10 w < 2 ^ 64 →
+    decimal (digits_value 10 w) ≡ w
 numeral_text w plain digits small = let form = plain_form w plain in decimal-digits_value own w digits form.0 form.1 small
 
 number_takes : (w : List ℕ) (n : ℕ) → number_at w ≡ Ok n → (w ≡ decimal n) × IsNumber n
@@ -172,4 +181,10 @@ unfolding number_at
 number_bad w = guard_bad (is_plain w && list_all is_ascii_digit w && ltb (digits_value 10 w) (2 ^ 32)) (digits_value 10 w)
 
 pub number_kind : IsKind number_at decimal IsNumber
-number_kind = record { takes = number_takes; bad = number_bad; again = number_again; solid = λ n h. digits_solid (decimal n) (digits_decimal own n (omega arith)) }
+number_kind = record {
+  takes = number_takes;
+  bad = number_bad;
+  again = number_again;
+  solid =
+      λ n h. digits_solid (decimal n) (digits_decimal own n (omega arith));
+}

@@ -1,5 +1,6 @@
 -- Lines in plain words are their own plain lines.
-use Rattle.std.proofs.Common.{◌≡◌, ℕ, ◌+◌, ◌-◌, ◌/◌, ◌<◌, Bool, true, false, eqb, ltb, List, [], ◌∷◌, ◌++◌, length, map, take, drop, codes, get_or, Option, Some, None, Result, Ok, Err, refl, ap, sym, ◌∙◌, arith}
+use Rattle.std.proofs.Common.{◌≡◌, ℕ, ◌+◌, ◌-◌, ◌/◌, ◌<◌, Bool, true, false, eqb, ltb, List, [], ◌∷◌, ◌++◌, length, map, take, drop, codes}
+use Rattle.std.proofs.Common.{get_or, Option, Some, None, Result, Ok, Err, refl, ap, sym, ◌∙◌, arith}
 use Rattle.std.specs.Prelude.{decimal}
 use Rattle.std.specs.List.{list_any, list_all, AllByRecursion, join_with_byte}
 use Rattle.std.specs.Char.{is_ascii_digit}
@@ -16,8 +17,13 @@ use Rattle.ux_syntax.specs.declared.plain.Field.{Field}
 use Rattle.ux_syntax.specs.declared.script.Header.{Header}
 use Rattle.ux_trace.specs.Trace.{hex, path_text}
 use Rattle.ux_syntax.specs.Digits.{◌>>=◌}
-use Rattle.ux_syntax.specs.Text.{hex_word_at, raw_word_at, first_word, space_at, space_word_at, special_word_at, plain_fields, behind, call_fields, fields_by, fields_of, plain_line}
-use Rattle.ux_syntax.specs.Spelling.{open_path, read_fd, write_fd, seek, dup_fd, dup_onto, dup_above, get_flags, set_flags, close, unlink_path, socket, pair, bind, listen, connect, accept, shut, get_opt, set_opt, sock_name, peer_name, send, recv, poll, set_ids, fork, exec, exit, Asked, call, wait, Turn, asked_words, turn_line, kind_text, fail_words, body_words, header_words, header_line, serial_lines, off_lines, control_text, msg_flags, AreBytes, IsNumber, FitsBody, FitsControl, FitsAsked, FitsTurn, FitsHeader}
+use Rattle.ux_syntax.specs.Text.{hex_word_at, raw_word_at, first_word, space_at, space_word_at, special_word_at, plain_fields, behind}
+use Rattle.ux_syntax.specs.Text.{call_fields, fields_by, fields_of, plain_line}
+use Rattle.ux_syntax.specs.Spelling.{open_path, read_fd, write_fd, seek, dup_fd, dup_onto, dup_above, get_flags, set_flags, close}
+use Rattle.ux_syntax.specs.Spelling.{unlink_path, socket, pair, bind, listen, connect, accept, shut, get_opt, set_opt, sock_name, peer_name}
+use Rattle.ux_syntax.specs.Spelling.{send, recv, poll, set_ids, fork, exec, exit, Asked, call, wait, Turn, asked_words, turn_line}
+use Rattle.ux_syntax.specs.Spelling.{kind_text, fail_words, body_words, header_words, header_line, serial_lines, off_lines, control_text}
+use Rattle.ux_syntax.specs.Spelling.{msg_flags, AreBytes, IsNumber, FitsBody, FitsControl, FitsAsked, FitsTurn, FitsHeader}
 use Rattle.ux_syntax.specs.PlainLines.{PlainLinesStay}
 use Rattle.ux_syntax.proofs.Rows.{IsSolid, solid_from, number_kind}
 use Rattle.ux_syntax.proofs.Asking.{asked_solid}
@@ -74,13 +80,15 @@ by_second first second = by_third first second.0 (first_word (drop 1 second.1))
 abbrev by_first : List ℕ × List ℕ → List Field
 by_first first = by_second first.0 (first_word (drop 1 first.1))
 
-fields_are : (ws : List (List ℕ)) → AllByRecursion IsSolid ws → fields_of (join_with_byte 32 ws) ≡ fields_by (get_or ws 0 []) (get_or ws 1 []) (get_or ws 2 [])
+fields_are : (ws : List (List ℕ)) → AllByRecursion IsSolid ws →
+    fields_of (join_with_byte 32 ws) ≡ fields_by (get_or ws 0 []) (get_or ws 1 []) (get_or ws 2 [])
 unfolding fields_of
 fields_are [] h = refl
 fields_are (a ∷ []) h = ap by_first (word_first a [] h.0)
 fields_are (a ∷ b ∷ []) h = ap by_first (word_first a (b ∷ []) h.0) ∙ ap (by_second a) (word_first b [] h.1.0)
 fields_are (a ∷ b ∷ c ∷ ws) h =
-    ap by_first (word_first a (b ∷ c ∷ ws) h.0) ∙ ap (by_second a) (word_first b (c ∷ ws) h.1.0) ∙ ap (by_third a b) (word_first c ws h.1.1.0)
+    ap by_first (word_first a (b ∷ c ∷ ws) h.0) ∙ ap (by_second a) (word_first b (c ∷ ws) h.1.0)
+    ∙ ap (by_third a b) (word_first c ws h.1.1.0)
 
 -- each word is written plainly where the field might be written otherwise
 abbrev AreStaying : List Field → List (List ℕ) → Type 0
@@ -88,16 +96,21 @@ AreStaying [] ws = Unit {0}
 AreStaying (field ∷ fields) [] = (special_word_at field [] ≡ Err BadLine) × AreStaying fields []
 AreStaying (field ∷ fields) (w ∷ ws) = (special_word_at field (join_with_byte 32 (w ∷ ws)) ≡ Err BadLine) × AreStaying fields ws
 
-fields_stay : (fields : List Field) (ws : List (List ℕ)) → AllByRecursion IsSolid ws → AreStaying fields ws → plain_fields fields (join_with_byte 32 ws) ≡ join_with_byte 32 ws
+fields_stay : (fields : List Field) (ws : List (List ℕ)) → AllByRecursion IsSolid ws → AreStaying fields ws →
+    plain_fields fields (join_with_byte 32 ws) ≡ join_with_byte 32 ws
 fields_stay [] ws solid h = refl
 fields_stay (field ∷ fields) [] solid h = field_stays field fields [] h.0 (fields_stay fields [] tt h.1)
 fields_stay (field ∷ fields) (w ∷ ws) solid h =
-    let next : drop 1 (first_word (join_with_byte 32 (w ∷ ws))).1 ≡ join_with_byte 32 ws = ap (λ (x : List ℕ × List ℕ). drop 1 x.1) (word_first w ws solid.0) ∙ next_words ws in
+    let next : drop 1 (first_word (join_with_byte 32 (w ∷ ws))).1 ≡ join_with_byte 32 ws =
+    ap (λ (x : List ℕ × List ℕ). drop 1 x.1) (word_first w ws solid.0) ∙ next_words ws in
     field_stays field fields (join_with_byte 32 (w ∷ ws)) h.0 (rw next (fields_stay fields ws solid.1 h.1))
 
-line_stays : (ws : List (List ℕ)) (fields : List Field) → AllByRecursion IsSolid ws → fields_by (get_or ws 0 []) (get_or ws 1 []) (get_or ws 2 []) ≡ fields → AreStaying fields ws → plain_line (join_with_byte 32 ws) ≡ join_with_byte 32 ws
+line_stays : (ws : List (List ℕ)) (fields : List Field) → AllByRecursion IsSolid ws →
+    fields_by (get_or ws 0 []) (get_or ws 1 []) (get_or ws 2 []) ≡ fields → AreStaying fields ws →
+    plain_line (join_with_byte 32 ws) ≡ join_with_byte 32 ws
 unfolding plain_line
-line_stays ws fields solid e h = ap (λ (fs : List Field). plain_fields fs (join_with_byte 32 ws)) (fields_are ws solid ∙ e) ∙ fields_stay fields ws solid h
+line_stays ws fields solid e h = ap (λ (fs : List Field). plain_fields fs (join_with_byte 32 ws)) (fields_are ws solid ∙ e)
+    ∙ fields_stay fields ws solid h
 
 -- ---- words where text may stand
 
@@ -111,7 +124,8 @@ hex_stays [] (w ∷ ws) f = refl
 hex_stays (b ∷ bs) [] f = rw (no_quote (b / 16) (omega (arith, f.0))) refl
 hex_stays (b ∷ bs) (w ∷ ws) f = rw (no_quote (b / 16) (omega (arith, f.0))) refl
 
-control_stays : (c : ControlWord) (w : List ℕ) (ws : List (List ℕ)) → FitsControl c → raw_word_at (join_with_byte 32 (control_text c ∷ w ∷ ws)) ≡ Err BadLine
+control_stays : (c : ControlWord) (w : List ℕ) (ws : List (List ℕ)) → FitsControl c →
+    raw_word_at (join_with_byte 32 (control_text c ∷ w ∷ ws)) ≡ Err BadLine
 control_stays ControlWord.Bare w ws f = refl
 control_stays (ControlWord.Raw bytes) w ws f = rw (hex_stays bytes (w ∷ ws) f.1) refl
 control_stays (ControlWord.Rights numbers) w ws f = refl
@@ -135,26 +149,48 @@ by_word x = space_at x.0 >>= with_digits x.1
 space_stays : (n : ℕ) (ws : List (List ℕ)) → IsNumber n → space_word_at (join_with_byte 32 (decimal n ∷ ws)) ≡ Err BadLine
 space_stays n ws h =
     let digits : list_all is_ascii_digit (decimal n) ≡ true = digits_decimal own n (omega arith) in
-    ap by_word (word_first (decimal n) ws (number_kind.solid n h)) ∙ ap (λ (r : Result (List ℕ) Fault). r >>= with_digits (behind_word ws)) (no_rights (decimal n) (no_colon (decimal n) digits))
+    ap by_word (word_first (decimal n) ws (number_kind.solid n h))
+    ∙ ap (λ (r : Result (List ℕ) Fault). r >>= with_digits (behind_word ws)) (no_rights (decimal n) (no_colon (decimal n) digits))
 
 -- ---- lines
 
 of_number : (n : ℕ) (second third : List ℕ) → IsNumber n → fields_by (decimal n) second third ≡ call_fields second
-of_number n second third h = rw (other_word n (codes "object") (number_refused (codes "object") refl) h, other_word n (codes "#=") (number_refused (codes "#=") refl) h) refl
+of_number n second third h = rw (
+  other_word n (codes "object") (number_refused (codes "object") refl) h,
+  other_word n (codes "#=") (number_refused (codes "#=") refl) h,
+) refl
 
-turn_stays_by : (pid : ℕ) (a : Asked) (fields : List Field) → IsNumber pid → FitsAsked a → call_fields (get_or (asked_words a) 0 []) ≡ fields → AreStaying fields (decimal pid ∷ asked_words a)
+turn_stays_by : (pid : ℕ) (a : Asked) (fields : List Field) → IsNumber pid → FitsAsked a →
+    call_fields (get_or (asked_words a) 0 []) ≡ fields → AreStaying fields (decimal pid ∷ asked_words a)
     → plain_line (join_with_byte 32 (decimal pid ∷ asked_words a)) ≡ join_with_byte 32 (decimal pid ∷ asked_words a)
-turn_stays_by pid a fields p f e h = line_stays (decimal pid ∷ asked_words a) fields (number_kind.solid pid p, asked_solid a f) (of_number pid (get_or (asked_words a) 0 []) (get_or (asked_words a) 1 []) p ∙ e) h
+turn_stays_by pid a fields p f e h = line_stays (decimal pid ∷ asked_words a) fields (number_kind.solid pid p, asked_solid a f)
+    (of_number pid (get_or (asked_words a) 0 []) (get_or (asked_words a) 1 []) p ∙ e) h
 
-asked_stays : (pid : ℕ) (a : Asked) → IsNumber pid → FitsAsked a → plain_line (join_with_byte 32 (decimal pid ∷ asked_words a)) ≡ join_with_byte 32 (decimal pid ∷ asked_words a)
+asked_stays : (pid : ℕ) (a : Asked) → IsNumber pid → FitsAsked a →
+    plain_line (join_with_byte 32 (decimal pid ∷ asked_words a)) ≡ join_with_byte 32 (decimal pid ∷ asked_words a)
 asked_stays pid (wait other calls) p f = turn_stays_by pid (wait other calls) [] p f refl tt
 asked_stays pid (call (write_fd fd bytes)) p f =
     turn_stays_by pid (call (write_fd fd bytes)) (behind 3 (Field.Hex ∷ [])) p f refl (refl, (refl, (refl, (hex_stays bytes [] f.1, tt))))
 asked_stays pid (call (send fd addr bytes control flags)) p f =
-    turn_stays_by pid (call (send fd addr bytes control flags)) (behind 4 (Field.Hex ∷ Field.Raw ∷ [])) p f refl
-    (refl, (refl, (refl, (refl, (hex_stays bytes (control_text control ∷ msg_flags flags ∷ []) f.2, (control_stays control (msg_flags flags) [] f.3, tt))))))
+    turn_stays_by pid (call (send fd addr bytes control flags)) (behind 4 (Field.Hex ∷ Field.Raw ∷ [])) p f refl (
+      refl,
+      (
+        refl,
+        (
+          refl,
+          (
+            refl,
+            (
+              hex_stays bytes (control_text control ∷ msg_flags flags ∷ []) f.2,
+              (control_stays control (msg_flags flags) [] f.3, tt),
+            ),
+          ),
+        ),
+      ),
+    )
 asked_stays pid (call (recv fd n space flags)) p f =
-    turn_stays_by pid (call (recv fd n space flags)) (behind 4 (Field.Space ∷ [])) p f refl (refl, (refl, (refl, (refl, (space_stays space (msg_flags flags ∷ []) f.2, tt)))))
+    turn_stays_by pid (call (recv fd n space flags)) (behind 4 (Field.Space ∷ [])) p f refl
+    (refl, (refl, (refl, (refl, (space_stays space (msg_flags flags ∷ []) f.2, tt)))))
 asked_stays pid (call (open_path path mode flags)) p f = turn_stays_by pid (call (open_path path mode flags)) [] p f refl tt
 asked_stays pid (call (read_fd fd n)) p f = turn_stays_by pid (call (read_fd fd n)) [] p f refl tt
 asked_stays pid (call (seek fd offset whence)) p f = turn_stays_by pid (call (seek fd offset whence)) [] p f refl tt
@@ -194,16 +230,21 @@ no_text_left = refl
 
 object_stays : (path : List ℕ) (fail : Option ℕ) (kind : ObjKind) (body : List ℕ) → FitsBody kind body
     → AllByRecursion IsSolid (path ∷ (fail_words fail ++ (kind_text kind ∷ body_words kind body)))
-    → plain_line (join_with_byte 32 (codes "object" ∷ path ∷ (fail_words fail ++ (kind_text kind ∷ body_words kind body)))) ≡ join_with_byte 32 (codes "object" ∷ path ∷ (fail_words fail ++ (kind_text kind ∷ body_words kind body)))
+    → plain_line (join_with_byte 32 (codes "object" ∷ path ∷ (fail_words fail ++ (kind_text kind ∷ body_words kind body)))) ≡ join_with_byte
+    32 (codes "object" ∷ path ∷ (fail_words fail ++ (kind_text kind ∷ body_words kind body)))
 object_stays path None ObjKind.Memory body f solid =
-    line_stays (codes "object" ∷ path ∷ codes "mem" ∷ hex body ∷ []) (behind 3 (Field.Hex ∷ [])) (object_solid, solid) refl (refl, (refl, (refl, (hex_stays body [] f, tt))))
-object_stays path None ObjKind.Counter body f solid = line_stays (codes "object" ∷ path ∷ codes "counter" ∷ []) [] (object_solid, solid) refl tt
+    line_stays (codes "object" ∷ path ∷ codes "mem" ∷ hex body ∷ []) (behind 3 (Field.Hex ∷ [])) (object_solid, solid) refl
+    (refl, (refl, (refl, (hex_stays body [] f, tt))))
+object_stays path None ObjKind.Counter body f solid =
+    line_stays (codes "object" ∷ path ∷ codes "counter" ∷ []) [] (object_solid, solid) refl tt
 object_stays path None ObjKind.Pipe body f solid = line_stays (codes "object" ∷ path ∷ codes "pipe" ∷ []) [] (object_solid, solid) refl tt
 object_stays path (Some n) ObjKind.Memory body f solid =
-    line_stays (codes "object" ∷ path ∷ codes "fail" ∷ decimal n ∷ codes "mem" ∷ hex body ∷ []) (behind 5 (Field.Hex ∷ [])) (object_solid, solid) refl
+    line_stays (codes "object" ∷ path ∷ codes "fail" ∷ decimal n ∷ codes "mem" ∷ hex body ∷ []) (behind 5 (Field.Hex ∷ []))
+    (object_solid, solid) refl
     (refl, (refl, (refl, (refl, (refl, (hex_stays body [] f, tt))))))
 object_stays path (Some n) ObjKind.Counter body f solid =
-    line_stays (codes "object" ∷ path ∷ codes "fail" ∷ decimal n ∷ codes "counter" ∷ []) (behind 5 (Field.Hex ∷ [])) (object_solid, solid) refl
+    line_stays (codes "object" ∷ path ∷ codes "fail" ∷ decimal n ∷ codes "counter" ∷ []) (behind 5 (Field.Hex ∷ [])) (object_solid, solid)
+    refl
     (refl, (refl, (refl, (refl, (refl, (no_text_left, tt))))))
 object_stays path (Some n) ObjKind.Pipe body f solid =
     line_stays (codes "object" ∷ path ∷ codes "fail" ∷ decimal n ∷ codes "pipe" ∷ []) (behind 5 (Field.Hex ∷ [])) (object_solid, solid) refl
@@ -211,7 +252,12 @@ object_stays path (Some n) ObjKind.Pipe body f solid =
 
 header_stays : (h : Header) → FitsHeader h → plain_line (header_line h) ≡ header_line h
 header_stays (Header.Proc p) f =
-    line_stays (header_words (Header.Proc p)) [] (solid_from (codes "proc") refl, header_solid (Header.Proc p) f) (rw (other_word p.uid (codes "write") (number_refused (codes "write") refl) f.0, other_word p.uid (codes "send") (number_refused (codes "send") refl) f.0, other_word p.uid (codes "recv") (number_refused (codes "recv") refl) f.0) refl) tt
+    line_stays (header_words (Header.Proc p)) [] (solid_from (codes "proc") refl, header_solid (Header.Proc p) f)
+    (rw (
+      other_word p.uid (codes "write") (number_refused (codes "write") refl) f.0,
+      other_word p.uid (codes "send") (number_refused (codes "send") refl) f.0,
+      other_word p.uid (codes "recv") (number_refused (codes "recv") refl) f.0,
+    ) refl) tt
 header_stays (Header.Object o) f = object_stays (path_text o.name) o.fail o.kind o.body f.2 (header_solid (Header.Object o) f)
 
 -- ---- all lines of a script
@@ -238,4 +284,11 @@ off_stays false = refl
 pub plain_stays : PlainLinesStay
 plain_stays serial headers turns off f g =
     map-append plain_line (serial_lines serial) (map header_line headers ++ (map turn_line turns ++ off_lines off))
-    ∙ rw (serial_stays serial, map-append plain_line (map header_line headers) (map turn_line turns ++ off_lines off), headers_stay headers f, map-append plain_line (map turn_line turns) (off_lines off), turns_stay turns g, off_stays off) refl
+    ∙ rw (
+      serial_stays serial,
+      map-append plain_line (map header_line headers) (map turn_line turns ++ off_lines off),
+      headers_stay headers f,
+      map-append plain_line (map turn_line turns) (off_lines off),
+      turns_stay turns g,
+      off_stays off,
+    ) refl

@@ -10,4 +10,5 @@ no_place = (record { 0 = 0 }, 0)
 -- one more process that waits
 pub place_more : (places : List (Pid × ℕ)) (i : ℕ) → i < length places
     → further_places (take i places) ++ (codes ", " ++ place_text (get_or places i no_place)) ≡ further_places (take (i + 1) places)
-place_more places i lt = rw (take_more places i no_place lt) (flat_map_more (λ p. codes ", " ++ place_text p) [] (take i places) (get_or places i no_place))
+place_more places i lt = rw (take_more places i no_place lt)
+    (flat_map_more (λ p. codes ", " ++ place_text p) [] (take i places) (get_or places i no_place))

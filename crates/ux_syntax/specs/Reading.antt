@@ -24,10 +24,10 @@ use Rattle.ux_trace.specs.Trace.{dash, stands, word_text}
 pub use Rattle.ux_syntax.specs.Digits.{◌>>=◌, is_plain, digit_at}
 unfoldable pub use Rattle.ux_syntax.specs.Digits.{number_at}
 use Rattle.ux_syntax.specs.Text.{plain_line}
-use Rattle.ux_syntax.specs.Spelling.{Plan, open_path, read_fd, write_fd, seek, dup_fd, dup_onto, dup_above, get_flags, set_flags, close, unlink_path, socket}
-use Rattle.ux_syntax.specs.Spelling.{pair, bind, listen, connect, accept, shut, get_opt, set_opt, sock_name, peer_name, send, recv, poll, set_ids}
-use Rattle.ux_syntax.specs.Spelling.{fork, exec, exit, meaning, bit, mode_text, type_text, option_text, whence_text, kind_text, is_meant}
-use Rattle.ux_syntax.specs.Spelling.{asks_fork, asks_recorded, known_count, line_limit}
+use Rattle.ux_syntax.specs.Spelling.{Plan, open_path, read_fd, write_fd, seek, dup_fd, dup_onto, dup_above, get_flags, set_flags, close}
+use Rattle.ux_syntax.specs.Spelling.{unlink_path, socket, pair, bind, listen, connect, accept, shut, get_opt, set_opt, sock_name, peer_name}
+use Rattle.ux_syntax.specs.Spelling.{send, recv, poll, set_ids, fork, exec, exit, meaning, bit, mode_text, type_text, option_text}
+use Rattle.ux_syntax.specs.Spelling.{whence_text, kind_text, is_meant, asks_fork, asks_recorded, known_count, line_limit}
 use Rattle.ux_syntax.specs.Turns.{has_exited, is_known, awaits_known}
 
 -- ---- a word
@@ -475,10 +475,12 @@ joined_by_line s line =
     if has_exited s.lines line.pid.0 then Err BadLine else
     if awaits_known (known_count s) line.act then Ok (with_line s line) else Err UnknownProcess
 
--- A fork of the process may come next: it is there and has made no exit, it is process 1 where the script has more orders than one, and there
+-- A fork of the process may come next: it is there and has made no exit, it is process 1 where the script has more orders than one, and
+-- there
 -- are fewer processes than may be made.
 abbrev pub may_fork : Plan → ℕ → Bool
-may_fork s pid = ((s.serial || pid == 1) && nat_lt (known_count s) made_limit) && (is_known (known_count s) pid && not (has_exited s.lines pid))
+may_fork s pid = ((s.serial || pid == 1) && nat_lt (known_count s) made_limit)
+    && (is_known (known_count s) pid && not (has_exited s.lines pid))
 
 -- the script with one fork line more
 abbrev pub joined_by_fork : Plan → Line → Result Plan Fault

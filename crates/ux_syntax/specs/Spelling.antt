@@ -1,7 +1,7 @@
 -- Which lines spell which script.
-use Rattle.std.specs.Prelude.{◌≡◌, ◌≢◌, ℕ, ◌+◌, ◌<◌, ◌≤◌, ◌^◌, ℤ, pos, negsuc, take, Bool, true, false, List, [], ◌∷◌, ◌++◌, length}
-use Rattle.std.specs.Prelude.{◌-◌, replicate, map, filter, count_by, codes, decimal, Option, Some, None, IfSome, if◌then◌else◌, ◌==◌, ◌&&◌, ◌||◌, not}
-use Rattle.std.specs.Prelude.{slice_index_or}
+use Rattle.std.specs.Prelude.{◌≡◌, ◌≢◌, ℕ, ◌+◌, ◌<◌, ◌≤◌, ◌^◌, ℤ, pos, negsuc, take, Bool, true, false, List, [], ◌∷◌, ◌++◌, length, ◌-◌}
+use Rattle.std.specs.Prelude.{replicate, map, filter, count_by, codes, decimal, Option, Some, None, IfSome, if◌then◌else◌, ◌==◌, ◌&&◌, ◌||◌}
+use Rattle.std.specs.Prelude.{not, slice_index_or}
 use Rattle.std.specs.List.{AllByRecursion, slice_split, join_with_byte}
 use Rattle.std.specs.Fmt.{signed_decimal}
 use Rattle.ux_model.specs.Types.{Cred, Name, Addr, OpenFlags, MsgFlags, SockType, SockOpt, Mode, Whence, ProcSpec, Request}
@@ -447,13 +447,15 @@ abbrev pub AreShort : Bool → Bool → List (List ℕ) → Type 0
 AreShort serial behind [] = Unit {0}
 AreShort serial behind (text ∷ texts) = (length text ≤ line_limit (serial && behind)) × AreShort serial (behind || is_meant text) texts
 
--- The lines, which are short, spell the script. Of the plain lines of those that say something `serial` is the first where the script has one
+-- The lines, which are short, spell the script. Of the plain lines of those that say something `serial` is the first where the script has
+-- one
 -- order alone, then come the header's, then the processes' as they are written, and `off` at last where the script has it.
 pub record SpellScript (texts : List (List ℕ)) (s : Plan) : Type 0 where
   pub headers : List Header
   pub turns : List Turn
   pub short : AreShort s.serial false texts
-  pub spelled : map plain_line (filter is_meant texts) ≡ serial_lines s.serial ++ (map header_line headers ++ (map turn_line turns ++ off_lines s.off))
+  pub spelled : map plain_line (filter is_meant texts) ≡ serial_lines
+      s.serial ++ (map header_line headers ++ (map turn_line turns ++ off_lines s.off))
   pub objects : objects_of headers ≡ s.objects
   pub procs : procs_of headers ≡ s.procs
   pub meant : map line_of turns ≡ s.lines

@@ -1,7 +1,7 @@
 -- Lines with text in them: which plain line each stands for. Wherever HEX may stand, bytes may be written as text between quotation marks,
 -- and for the SPACE of a receive `rights:N`. A word that isn't well written so stays as it is, and is then no word that may stand there.
-use Rattle.std.specs.Prelude.{ℕ, zero, suc, ◌+◌, ◌*◌, Bool, true, false, List, [], ◌∷◌, ◌++◌, length, take, drop, codes, decimal, Option, Some, None}
-use Rattle.std.specs.Prelude.{Result, Ok, Err, nat_le, ◌==◌, ◌&&◌, if◌then◌else◌}
+use Rattle.std.specs.Prelude.{ℕ, zero, suc, ◌+◌, ◌*◌, Bool, true, false, List, [], ◌∷◌, ◌++◌, length, take, drop, codes, decimal, Option}
+use Rattle.std.specs.Prelude.{Some, None, Result, Ok, Err, nat_le, ◌==◌, ◌&&◌, if◌then◌else◌}
 use Rattle.std.specs.List.{list_any, position_or_len}
 use Rattle.std.specs.Str.{bytes_eq}
 use Rattle.ux_model.specs.Limits.{rights_limit}

@@ -1,5 +1,6 @@
 -- Lemmas on numbers as the bits of a word.
-use Rattle.std.proofs.Common.{◌≡◌, ◌≢◌, ℕ, zero, suc, ◌+◌, ◌==◌, ◌<◌, ◌≤◌, ◌^◌, true, List, [], ◌∷◌, ◌++◌, length, cond, refl, ap, sym, subst, ◌∙◌, arith, inl, inr, append-nil, eqb-true}
+use Rattle.std.proofs.Common.{◌≡◌, ◌≢◌, ℕ, zero, suc, ◌+◌, ◌==◌, ◌<◌, ◌≤◌, ◌^◌, true, List, [], ◌∷◌, ◌++◌, length, cond, refl, ap, sym}
+use Rattle.std.proofs.Common.{subst, ◌∙◌, arith, inl, inr, append-nil, eqb-true}
 use Rattle.std.specs.Prelude.{filter}
 use Rattle.std.specs.List.{range_with_len, AllByRecursion}
 use Rattle.std.specs.Int.{bit_at}
@@ -12,17 +13,20 @@ use Rattle.ux_types.specs.Numbers.{numbers_below}
 
 one_more : (a n : ℕ) → range_with_len a (suc n) ≡ range_with_len a n ++ (a + n) ∷ []
 one_more a zero = let e : a ≡ a + 0 = omega arith in ap (λ k. k ∷ []) e
-one_more a (suc n) = let e : (a + 1) + n ≡ a + suc n = omega arith in ap (λ ks. a ∷ ks) (one_more (a + 1) n ∙ ap (λ k. range_with_len (a + 1) n ++ k ∷ []) e)
+one_more a (suc n) = let e : (a + 1) + n ≡ a + suc n = omega arith in
+    ap (λ ks. a ∷ ks) (one_more (a + 1) n ∙ ap (λ k. range_with_len (a + 1) n ++ k ∷ []) e)
 
 pub numbers_more : (n bits : ℕ) → numbers_below (suc n) bits ≡ numbers_below n bits ++ cond (bit_at bits n == 1) (n ∷ []) []
 unfolding numbers_below
 numbers_more n bits =
     let at : 0 + n ≡ n = omega arith in
-    ap (filter (λ k. bit_at bits k == 1)) (one_more 0 n ∙ ap (λ k. range_with_len 0 n ++ k ∷ []) at) ∙ filter-append (λ k. bit_at bits k == 1) (range_with_len 0 n) (n ∷ [])
+    ap (filter (λ k. bit_at bits k == 1)) (one_more 0 n ∙ ap (λ k. range_with_len 0 n ++ k ∷ []) at)
+    ∙ filter-append (λ k. bit_at bits k == 1) (range_with_len 0 n) (n ∷ [])
 
 -- where the bit is clear
 pub numbers_same : (n bits : ℕ) → bit_at bits n ≡ 0 → numbers_below (suc n) bits ≡ numbers_below n bits
-numbers_same n bits e = numbers_more n bits ∙ ap (λ b. numbers_below n bits ++ cond (b == 1) (n ∷ []) []) e ∙ append-nil (numbers_below n bits)
+numbers_same n bits e = numbers_more n bits ∙ ap (λ b. numbers_below n bits ++ cond (b == 1) (n ∷ []) []) e
+    ∙ append-nil (numbers_below n bits)
 
 -- where it is set
 pub numbers_another : (n bits : ℕ) → bit_at bits n ≡ 1 → numbers_below (suc n) bits ≡ numbers_below n bits ++ n ∷ []
@@ -47,7 +51,8 @@ numbers_agree (suc n) a b same =
     ∙ sym (numbers_more n b)
 
 -- one bit more, above all that are set
-pub numbers_push : (n number old new : ℕ) → number < n → bit_at new number ≡ 1 → ((i : ℕ) → i ≢ number → bit_at new i ≡ bit_at old i) → ((i : ℕ) → i < n → bit_at old i ≡ 1 → i < number) →
+pub numbers_push : (n number old new : ℕ) → number < n → bit_at new number ≡ 1 → ((i : ℕ) → i ≢ number → bit_at new i ≡ bit_at old i) →
+    ((i : ℕ) → i < n → bit_at old i ≡ 1 → i < number) →
     numbers_below n new ≡ numbers_below n old ++ number ∷ []
 numbers_push zero number old new inside this others above = absurd (omega (arith, inside))
 numbers_push (suc n) number old new inside this others above = elim (cases_eq n number) [
@@ -77,7 +82,8 @@ front P (x ∷ xs) ys h = let rest = front P xs ys h.1 in ((h.0, rest.0), rest.1
 pub at_set_bit : (P : ℕ → Type 0) (n i bits : ℕ) → AllByRecursion P (numbers_below n bits) → i < n → bit_at bits i ≡ 1 → P i
 at_set_bit P zero i bits all inside set = absurd (omega (arith, inside))
 at_set_bit P (suc n) i bits all inside set =
-    let parts = front P (numbers_below n bits) (cond (bit_at bits n == 1) (n ∷ []) []) (subst (AllByRecursion P) (numbers_more n bits) all) in
+    let parts = front P (numbers_below n bits) (cond (bit_at bits n == 1) (n ∷ []) []) (subst (AllByRecursion P) (numbers_more n bits) all)
+    in
     elim (cases_eq i n) [
       | inl e ↦ subst P (sym e) (subst (λ b. AllByRecursion P (cond (b == 1) (n ∷ []) [])) (ap (bit_at bits) (sym e) ∙ set) parts.1).0
       | inr away ↦ at_set_bit P n i bits parts.0 (omega (arith, inside, away)) set
@@ -87,8 +93,10 @@ at_set_bit P (suc n) i bits all inside set =
 bit_from : (n i a b : ℕ) → numbers_below n a ≡ numbers_below n b → i < n → bit_at a i ≡ 1 → bit_at b i ≡ 1
 unfolding numbers_below
 bit_from n i a b same inside set =
-    let all : AllByRecursion (λ k. (bit_at b k == 1) ≡ true) (numbers_below n b) = recursion_from_All (λ k. (bit_at b k == 1) ≡ true) (numbers_below n b) (filter_passes (λ k. bit_at b k == 1) (range_with_len 0 n)) in
-    eqb-true (bit_at b i) 1 (at_set_bit (λ k. (bit_at b k == 1) ≡ true) n i a (subst (AllByRecursion (λ k. (bit_at b k == 1) ≡ true)) (sym same) all) inside set)
+    let all : AllByRecursion (λ k. (bit_at b k == 1) ≡ true) (numbers_below n b) =
+    recursion_from_All (λ k. (bit_at b k == 1) ≡ true) (numbers_below n b) (filter_passes (λ k. bit_at b k == 1) (range_with_len 0 n)) in
+    eqb-true (bit_at b i) 1 (at_set_bit (λ k. (bit_at b k == 1) ≡ true) n i a
+    (subst (AllByRecursion (λ k. (bit_at b k == 1) ≡ true)) (sym same) all) inside set)
 
 pub bits_from : (a b : ℕ) → a < 2 ^ 64 → b < 2 ^ 64 → numbers_below 64 a ≡ numbers_below 64 b → a ≡ b
 bits_from a b small small' same = same_from_bits_below 64 a b small small' (λ i inside. elim (cases_eq (bit_at a i) 1) [
@@ -101,4 +109,10 @@ bits_from a b small small' same = same_from_bits_below 64 a b small small' (λ i
 
 pub length_numbers : (n bits : ℕ) → length (numbers_below n bits) ≤ n
 unfolding numbers_below
-length_numbers n bits = omega (arith, length-filter (λ k. bit_at bits k == 1) (range_with_len 0 n), count_by-le-length (λ k. bit_at bits k == 1) (range_with_len 0 n), length-range_with_len 0 n)
+length_numbers n bits = omega (
+  arith,
+  length-filter (λ k. bit_at bits k == 1) (range_with_len 0 n),
+  count_by-le-length
+      (λ k. bit_at bits k == 1) (range_with_len 0 n),
+  length-range_with_len 0 n,
+)

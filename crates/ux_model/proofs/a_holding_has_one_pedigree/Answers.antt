@@ -1,4 +1,4 @@
-use Rattle.ux_model.proofs.OneChain.{chain_is_one}
+use Rattle.ux_model.proofs.Pedigrees.OneChain.{chain_is_one}
 use Rattle.ux_model.proofs.a_holding_has_one_pedigree.Goals as goal
 
 pub returns : goal.returns

@@ -1,4 +1,4 @@
-use Rattle.ux_model.proofs.Numbering.{no_call_before_made}
+use Rattle.ux_model.proofs.Processes.Numbering.{no_call_before_made}
 use Rattle.ux_model.proofs.processes_call_once_they_are_made.Goals as goal
 
 pub returns : goal.returns

@@ -1,4 +1,4 @@
-use Rattle.ux_model.proofs.OneDescription.{holds_only_its_own}
+use Rattle.ux_model.proofs.Pedigrees.OneDescription.{holds_only_its_own}
 use Rattle.ux_model.proofs.who_was_sent_nothing_holds_only_its_own.Goals as goal
 
 pub returns : goal.returns

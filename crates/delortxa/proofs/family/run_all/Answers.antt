@@ -12,6 +12,7 @@ returns-clause-each g c =
     let seats = c.args.seats.items in
     let long : IfOk c.map_vec.result (λ outputs. length outputs.items ≡ length seats) = search rules in
     both_ok c.map_vec.result _ _ _
-    (λ outputs long each. each_promises (Ended (g.P.FamilyProgram.promise g.W.BookName.boot)) c.args.program.now seats outputs.items c.requires.fresh long
+    (λ outputs long each. each_promises (Ended (g.P.FamilyProgram.promise g.W.BookName.boot)) c.args.program.now seats outputs.items
+    c.requires.fresh long
     (λ i d lt. let given = (each i d lt).1 in (given.job, given.job_read, given.call.met)))
     long c.map_vec.ensures.each

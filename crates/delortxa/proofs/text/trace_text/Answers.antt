@@ -6,7 +6,8 @@ use Rattle.delortxa.proofs.text.trace_text.Goals as goal
 
 pub loop-number-preserved : goal.loop-number-preserved
 loop-number-preserved c =
-    let told : c.as_str.result.now ≡ entry_line c.loop-number.number c.index-entries-number.result = c.as_str.ensures.value ∙ c.in_ok-line.ensures in
+    let told : c.as_str.result.now ≡ entry_line c.loop-number.number c.index-entries-number.result = c.as_str.ensures.value
+    ∙ c.in_ok-line.ensures in
     c.in_ok-push_str.ensures.bytes
     ∙ ap (λ (t : List ℕ). string_bytes c.loop-number.text ++ t) told
     ∙ ap (λ (t : List ℕ). t ++ entry_line c.loop-number.number c.index-entries-number.result) c.loop-number.invariant

@@ -9,4 +9,5 @@ loop-pid-preserved c =
     let tables = c.args.tables.now in
     let row = c.index-tables-pid.result in
     c.in_ok-list_row.ensures (mark_at tables)
-    (λ n. sym (mark_at_read tables c.loop-pid.pid n row (omega arith) c.index-tables-pid.is) ∙ sym (ap (λ xs. place xs n) c.as_slice.ensures.value)) c.loop-pid.invariant
+    (λ n. sym (mark_at_read tables c.loop-pid.pid n row (omega arith) c.index-tables-pid.is)
+    ∙ sym (ap (λ xs. place xs n) c.as_slice.ensures.value)) c.loop-pid.invariant

@@ -4,7 +4,8 @@ use Rattle.ux_audit.proofs.held.list_row.Goals as goal
 
 pub loop-n-preserved : goal.loop-n-preserved
 loop-n-preserved c = λ flags are start.
-    listed_next flags c.args.pid c.loop-n.n c.loop-n.held.items c.list_number.new.held.items _ (are c.loop-n.n) (c.loop-n.invariant flags are start) c.in_ok-list_number.ensures
+    listed_next flags c.args.pid c.loop-n.n c.loop-n.held.items c.list_number.new.held.items _ (are c.loop-n.n)
+    (c.loop-n.invariant flags are start) c.in_ok-list_number.ensures
 
 pub returns : goal.returns
 returns c = λ flags are start.

@@ -17,6 +17,7 @@ returns-clause-flags c = OnOk_then c.put_all.result c.put_all.ensures.flags (λ 
     (λ same. each n
     ∙ ap (λ (x : Bool). if list_any (λ m. m == n) numbers then Some x else place c.leave.new.row.items n) c.cloexec_of.ensures
     ∙ ap (λ (m : Option Bool). if list_any (λ m. m == n) numbers then Some (cloexec_of e.request) else m)
-    (c.leave.ensures.flags n ∙ ap (flag_left e.request n) (mark_at_read mid e.pid.0 n c.index_mut-row.result.now c.in_ok-reach.ensures.within c.index_mut-row.ensures.value
+    (c.leave.ensures.flags n ∙ ap (flag_left e.request n)
+    (mark_at_read mid e.pid.0 n c.index_mut-row.result.now c.in_ok-reach.ensures.within c.index_mut-row.ensures.value
     ∙ c.reach.ensures.same e.pid.0 n ∙ ap (λ p. mark_at old p n) same)))
     ∙ ap (λ (m : Option Bool). if e.pid.0 == q then flag_own e.request numbers n (mark_at old q n) else m) (c.reach.ensures.same q n))

@@ -8,14 +8,18 @@ use Rattle.ux_audit.proofs.walk.last_own.Goals as goal
 pub last_in-requires : goal.last_in-requires
 last_in-requires c = record {
   rising = subst (λ (xs : List (Vec ℕ)). Rises (items_at xs c.args.fd.0))
-      (sym (c.as_slice.ensures.value ∙ items_at-read c.args.rows.now c.args.pid.0 c.index-rows-p.result (omega arith) c.index-rows-p.is)) c.requires.rising;
+      (sym (c.as_slice.ensures.value ∙ items_at-read c.args.rows.now c.args.pid.0 c.index-rows-p.result (omega arith) c.index-rows-p.is))
+      c.requires.rising;
 }
 
 pub returns-then-p-rows : goal.returns-then-p-rows
 returns-then-p-rows c =
-    none_below c.args.until (places_at c.args.rows.now c.args.pid.0 c.args.fd.0) (ap (λ (xs : List (Vec ℕ)). items_at xs c.args.fd.0) (items_past c.args.rows.now c.args.pid.0 (omega arith)))
+    none_below c.args.until (places_at c.args.rows.now c.args.pid.0 c.args.fd.0)
+    (ap (λ (xs : List (Vec ℕ)). items_at xs c.args.fd.0) (items_past c.args.rows.now c.args.pid.0 (omega arith)))
 
 pub returns : goal.returns
 returns c =
-    subst (λ (xs : List (Vec ℕ)). MatchOption c.last_in.result (NoneBelow c.args.until (items_at xs c.args.fd.0)) (IsLastBelow c.args.until (items_at xs c.args.fd.0)))
-    (c.as_slice.ensures.value ∙ items_at-read c.args.rows.now c.args.pid.0 c.index-rows-p.result (omega arith) c.index-rows-p.is) c.last_in.ensures
+    subst (λ (xs : List (Vec ℕ)). MatchOption c.last_in.result (NoneBelow c.args.until (items_at xs c.args.fd.0))
+    (IsLastBelow c.args.until (items_at xs c.args.fd.0)))
+    (c.as_slice.ensures.value ∙ items_at-read c.args.rows.now c.args.pid.0 c.index-rows-p.result (omega arith) c.index-rows-p.is)
+    c.last_in.ensures

@@ -12,8 +12,12 @@ loop-spent-preserved g c =
     let w = c.spent-item.result in
     let ws = c.args.spents.now in (
       c.confirm.ensures.trail ∙ i.0,
-      ap (λ (x : Caller). set c.loop-spent.spents c.loop-spent.spent-index x) c.confirm.ensures.spent ∙ (set-get_or c.loop-spent.spents c.loop-spent.spent-index w ∙ i.1),
-      exact_more c.args.trail.now.entries ws c.loop-spent.spent-index w (subst (λ (l : List Caller). w ≡ get_or l c.loop-spent.spent-index w) i.1 c.spent-item.is) (subst (λ (t : Trailed). calls_by w.pid.0 t.entries ≡ w.past) i.0 (subst (λ (x : Caller). calls_by x.pid.0 c.loop-spent.trail.entries ≡ x.past) (sym c.spent-item.is) c.confirm.ensures.exact)) i.2,
+      ap (λ (x : Caller). set c.loop-spent.spents c.loop-spent.spent-index x) c.confirm.ensures.spent
+          ∙ (set-get_or c.loop-spent.spents c.loop-spent.spent-index w ∙ i.1),
+      exact_more c.args.trail.now.entries ws c.loop-spent.spent-index w
+          (subst (λ (l : List Caller). w ≡ get_or l c.loop-spent.spent-index w) i.1 c.spent-item.is)
+          (subst (λ (t : Trailed). calls_by w.pid.0 t.entries ≡ w.past) i.0
+          (subst (λ (x : Caller). calls_by x.pid.0 c.loop-spent.trail.entries ≡ x.past) (sym c.spent-item.is) c.confirm.ensures.exact)) i.2,
     )
 
 pub returns-clause-exact : goal.returns-clause-exact

@@ -13,5 +13,6 @@ loop-pid-preserved g c =
     ∙ ap (λ (o : Owned). record { pid = record { 0 = p }; past = o.past }) c.open.ensures.token
     ∙ ap (λ (t : Trailed). record { pid = record { 0 = p }; past = calls_by t.given t.entries }) so_far.0 in (
       c.open.ensures.trail ∙ ap (λ (t : Trailed). record t { given = t.given + 1 }) so_far.0,
-      c.in_ok-push.ensures.items ∙ (λ j. so_far.1 j ++ share j ∷ []) ∙ fresh_more p (let first = c.loop-pid.auto.pid in omega (arith, first)),
+      c.in_ok-push.ensures.items ∙ (λ j. so_far.1 j ++ share j ∷ [])
+          ∙ fresh_more p (let first = c.loop-pid.auto.pid in omega (arith, first)),
     )

@@ -12,4 +12,5 @@ push-requires-clause-above g c =
     let i = c.loop-object.object-index in
     subst (AllByRecursion (λ (n : ℕ). n < c.number.result)) (sym c.loop-object.invariant)
     (below_later (λ (r : ℕ × Option View). r.0) rs i c.number.result c.requires.rising c.loop-object-test.true
-    (λ d. get_or-map (λ (r : ℕ × Option View). r.0) rs i c.object-item.result d c.loop-object-test.true ∙ ap (λ (r : ℕ × Option View). r.0) (sym c.object-item.is) ∙ sym c.number.ensures.number))
+    (λ d. get_or-map (λ (r : ℕ × Option View). r.0) rs i c.object-item.result d c.loop-object-test.true
+    ∙ ap (λ (r : ℕ × Option View). r.0) (sym c.object-item.is) ∙ sym c.number.ensures.number))

@@ -11,5 +11,12 @@ store-requires g c =
     let v = c.args.keeper.now.me.0 in (
       c.requires.table.0,
       omega (arith, one),
-      λ s h long at small. (noted v g.T.Told.entry, keeps, tt, adds s.views c.args.keeper.now.id v g.T.Told.entry c.requires.keeper.0 c.requires.keeper.1 (ap (λ (e : Entry). e.pid.0) c.requires.told) h at, refl),
+      λ s h long at small. (
+        noted v g.T.Told.entry,
+        keeps,
+        tt,
+        adds s.views c.args.keeper.now.id v g.T.Told.entry c.requires.keeper.0 c.requires.keeper.1
+            (ap (λ (e : Entry). e.pid.0) c.requires.told) h at,
+        refl,
+      ),
     )

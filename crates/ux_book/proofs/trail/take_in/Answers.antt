@@ -19,5 +19,6 @@ join_seat-requires c =
       split.3 ∙ c.requires.table.1,
       ap (λ m. m.1) split.4,
       omega (arith, one),
-      λ s h at apart there. takes_in s.views c.args.keeper.now.id k c.split_seat-seat.result.id c.split_seat-seat.result.me.0 whole alone h at apart there,
+      λ s h at apart there. takes_in s.views c.args.keeper.now.id k c.split_seat-seat.result.id c.split_seat-seat.result.me.0 whole alone h
+          at apart there,
     )

@@ -6,7 +6,8 @@ use Rattle.ux_cmsg.proofs.reading.read_control.Goals as goal
 
 pub returns-in_err-read_parts-clause-no_memory : goal.returns-in_err-read_parts-clause-no_memory
 returns-in_err-read_parts-clause-no_memory g c =
-    λ e. has_bytes c.args.bytes.now (control_of (parts_view c.in_ok-parts.parts)) (rw c.in_ok-parts.ensures.ok_part at c.read_items.ensures) (λ f. absurd (cc (c.in_err-read_parts.ensures.none f)))
+    λ e. has_bytes c.args.bytes.now (control_of (parts_view c.in_ok-parts.parts)) (rw c.in_ok-parts.ensures.ok_part at c.read_items.ensures)
+    (λ f. absurd (cc (c.in_err-read_parts.ensures.none f)))
 
 pub returns-in_err-parts-clause-spells_none : goal.returns-in_err-parts-clause-spells_none
 returns-in_err-parts-clause-spells_none g c =
@@ -14,7 +15,8 @@ returns-in_err-parts-clause-spells_none g c =
 
 pub returns-in_err-read_parts-clause-spells_none : goal.returns-in_err-read_parts-clause-spells_none
 returns-in_err-read_parts-clause-spells_none g c =
-    where_some c.args.bytes.now (control_of (parts_view c.in_ok-parts.parts)) (λ i. omega (arith, c.type_inv.bytes i)) (rw c.in_ok-parts.ensures.ok_part at c.read_items.ensures)
+    where_some c.args.bytes.now (control_of (parts_view c.in_ok-parts.parts))
+    (λ i. omega (arith, c.type_inv.bytes i)) (rw c.in_ok-parts.ensures.ok_part at c.read_items.ensures)
     (λ e. search rules)
 
 pub returns-clause-spelled : goal.returns-clause-spelled
@@ -23,5 +25,6 @@ returns-clause-spelled g c =
 
 pub returns-clause-spells_none : goal.returns-clause-spells_none
 returns-clause-spells_none g c =
-    where_some c.args.bytes.now (control_of (parts_view c.in_ok-parts.parts)) (λ i. omega (arith, c.type_inv.bytes i)) (rw c.in_ok-parts.ensures.ok_part at c.read_items.ensures)
+    where_some c.args.bytes.now (control_of (parts_view c.in_ok-parts.parts))
+    (λ i. omega (arith, c.type_inv.bytes i)) (rw c.in_ok-parts.ensures.ok_part at c.read_items.ensures)
     (λ e. cc e)

@@ -6,5 +6,7 @@ use Rattle.ux_compare.proofs.check.behind.Given as goal
 -- what follows the calls that are left follows all of them, and the other way round
 abbrev pub invariant-loop-line : goal.invariant-loop-line
 invariant-loop-line l =
-    ((more : List Request) → asked l.pid (drop l.line-index l.lines) ++ more ≡ requests_of l.pid l.rest → asked l.pid l.lines ++ more ≡ requests_of l.pid l.entries)
-    × ((more : List Request) → asked l.pid l.lines ++ more ≡ requests_of l.pid l.entries → asked l.pid (drop l.line-index l.lines) ++ more ≡ requests_of l.pid l.rest)
+    ((more : List Request) → asked l.pid (drop l.line-index l.lines) ++ more ≡ requests_of l.pid l.rest →
+    asked l.pid l.lines ++ more ≡ requests_of l.pid l.entries)
+    × ((more : List Request) → asked l.pid l.lines ++ more ≡ requests_of l.pid l.entries →
+    asked l.pid (drop l.line-index l.lines) ++ more ≡ requests_of l.pid l.rest)

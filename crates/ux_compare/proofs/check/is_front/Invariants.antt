@@ -6,5 +6,7 @@ use Rattle.ux_compare.proofs.check.is_front.Given as goal
 -- what the calls that are left lack, all of them lack, and the other way round
 abbrev pub invariant-loop-line : goal.invariant-loop-line
 invariant-loop-line l =
-    ((more : List Request) → requests_of l.pid l.rest ++ more ≡ asked l.pid (drop l.line-index l.lines) → requests_of l.pid l.entries ++ more ≡ asked l.pid l.lines)
-    × ((more : List Request) → requests_of l.pid l.entries ++ more ≡ asked l.pid l.lines → requests_of l.pid l.rest ++ more ≡ asked l.pid (drop l.line-index l.lines))
+    ((more : List Request) → requests_of l.pid l.rest ++ more ≡ asked l.pid (drop l.line-index l.lines) →
+    requests_of l.pid l.entries ++ more ≡ asked l.pid l.lines)
+    × ((more : List Request) → requests_of l.pid l.entries ++ more ≡ asked l.pid l.lines →
+    requests_of l.pid l.rest ++ more ≡ asked l.pid (drop l.line-index l.lines))

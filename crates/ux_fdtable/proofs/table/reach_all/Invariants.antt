@@ -6,7 +6,8 @@ abbrev pub invariant-loop-fd : goal.invariant-loop-fd
 invariant-loop-fd l = record {
   -- what is left is of the whole, and the others are reached
   of_all : (limit : ℕ) → AreBelow limit (map (λ fd. fd.0) l.numbers) → AreBelow limit (map (λ fd. fd.0) l.left);
-  reached : (limit : ℕ) → length l.places.items ≤ limit → AreBelow limit (map (λ fd. fd.0) l.left) → AreBelow limit (map (λ fd. fd.0) l.numbers);
+  reached : (limit : ℕ) → length l.places.items ≤ limit → AreBelow limit (map (λ fd. fd.0) l.left) →
+      AreBelow limit (map (λ fd. fd.0) l.numbers);
   none : l.numbers ≡ [] → l.left ≡ [];
   kept : IsReaching (map (λ fd. fd.0) l.numbers) l.fn.places.items l.places.items;
 }

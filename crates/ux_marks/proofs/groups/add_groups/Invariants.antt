@@ -3,7 +3,8 @@ use Rattle.ux_marks.specs.Groups.{AddsGroups}
 use Rattle.ux_marks.proofs.groups.add_groups.Given as goal
 
 abbrev pub invariant-loop-groups : goal.invariant-loop-groups
-invariant-loop-groups l = (length l.groups.items ≤ max (length l.initial.groups.items) l.count) × AddsGroups l.initial.groups.items l.groups.items
+invariant-loop-groups l = (length l.groups.items ≤ max (length l.initial.groups.items) l.count)
+    × AddsGroups l.initial.groups.items l.groups.items
 
 abbrev pub decreases-loop-groups : goal.decreases-loop-groups
 decreases-loop-groups l = l.count - length l.groups.items

@@ -5,9 +5,11 @@ use Rattle.ux_msg.proofs.receiving.recv_msg.Goals as goal
 
 pub returns-clause-gives : goal.returns-clause-gives
 returns-clause-gives g c =
-    received_gives c.args.state.now c.recv_at.new.state c.args.pid.0 c.args.fd c.args.asked.n c.args.asked.space c.args.asked.flags c.in-Ok.found.id _ c.in-Ok.found.socket.now (reply_of c.recv_at.result) c.in-Ok.ensures (search rules)
+    received_gives c.args.state.now c.recv_at.new.state c.args.pid.0 c.args.fd c.args.asked.n c.args.asked.space c.args.asked.flags
+    c.in-Ok.found.id _ c.in-Ok.found.socket.now (reply_of c.recv_at.result) c.in-Ok.ensures (search rules)
     c.recv_at.ensures.gives (search rules)
 
 pub returns-clause-told : goal.returns-clause-told
 returns-clause-told g c =
-    received_told c.args.state.now c.args.pid.0 c.args.fd c.args.asked.n c.args.asked.space c.args.asked.flags c.in-Ok.found.id _ c.in-Ok.found.socket.now c.recv_at.result c.in-Ok.ensures (search rules) c.recv_at.ensures.told
+    received_told c.args.state.now c.args.pid.0 c.args.fd c.args.asked.n c.args.asked.space c.args.asked.flags c.in-Ok.found.id _
+    c.in-Ok.found.socket.now c.recv_at.result c.in-Ok.ensures (search rules) c.recv_at.ensures.told

@@ -5,7 +5,8 @@ use Rattle.ux_msg.proofs.sending.rights_behind.Given as goal
 
 abbrev pub invariant-loop-fd : goal.invariant-loop-fd
 invariant-loop-fd l = record {
-  so_far : descriptions_behind l.table (map (λ fd. fd.0) l.numbers) ≡ option_map (λ ds. l.rights ++ ds) (descriptions_behind l.table (map (λ fd. fd.0) l.left));
+  so_far : descriptions_behind l.table (map (λ fd. fd.0) l.numbers) ≡ option_map
+      (λ ds. l.rights ++ ds) (descriptions_behind l.table (map (λ fd. fd.0) l.left));
   fewer : length l.left ≤ length l.numbers;
 }
 

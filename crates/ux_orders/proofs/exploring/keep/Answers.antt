@@ -11,13 +11,15 @@ returns-then-entries c =
     let items = c.args.outcomes.now.items in
     let place = c.in-Some.place in
     let within : place < length items = rw c.deref.ensures.value at c.in-Some.ensures.within in
-    let same : SameOutcome c.args.count c.args.ran (slice_index_or items place c.args.ran) = rw c.deref.ensures.value at c.in-Some.ensures.same in
+    let same : SameOutcome c.args.count c.args.ran (slice_index_or items place c.args.ran) =
+    rw c.deref.ensures.value at c.in-Some.ensures.same in
     let here : c.index.result.now ≡ slice_index_or items place c.args.ran =
     get_or_read_under items place (length items) c.index.result.now c.args.ran c.index.ensures within refl in
     let one = ap (λ (es : List Entry). length es) c.entries.ensures in
     let other = ap (λ (es : List Entry). length es) c.entries-2.ensures ∙ ap (λ (r : Ran). length (entries_of r)) here in
     let less = c.if-entries.true in
-    let short : length (entries_of c.args.ran) ≤ length (entries_of (slice_index_or items place c.args.ran)) = omega (arith, less, one, other) in
+    let short : length (entries_of c.args.ran) ≤ length (entries_of (slice_index_or items place c.args.ran)) =
+    omega (arith, less, one, other) in
     Keeps.replaced place within same short refl
 
 pub returns-else-entries : goal.returns-else-entries
@@ -25,11 +27,13 @@ returns-else-entries c =
     let items = c.args.outcomes.now.items in
     let place = c.in-Some.place in
     let within : place < length items = rw c.deref.ensures.value at c.in-Some.ensures.within in
-    let same : SameOutcome c.args.count c.args.ran (slice_index_or items place c.args.ran) = rw c.deref.ensures.value at c.in-Some.ensures.same in
+    let same : SameOutcome c.args.count c.args.ran (slice_index_or items place c.args.ran) =
+    rw c.deref.ensures.value at c.in-Some.ensures.same in
     let here : c.index.result.now ≡ slice_index_or items place c.args.ran =
     get_or_read_under items place (length items) c.index.result.now c.args.ran c.index.ensures within refl in
     let one = ap (λ (es : List Entry). length es) c.entries.ensures in
     let other = ap (λ (es : List Entry). length es) c.entries-2.ensures ∙ ap (λ (r : Ran). length (entries_of r)) here in
     let less = c.if-entries.false in
-    let short : length (entries_of (slice_index_or items place c.args.ran)) ≤ length (entries_of c.args.ran) = omega (arith, less, one, other) in
+    let short : length (entries_of (slice_index_or items place c.args.ran)) ≤ length (entries_of c.args.ran) =
+    omega (arith, less, one, other) in
     Keeps.known place within same short refl

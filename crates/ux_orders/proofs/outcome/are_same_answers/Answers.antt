@@ -8,5 +8,7 @@ pub returns : goal.returns
 returns c =
     let n = c.args.count + 1 in
     let P = λ (p : ℕ). answers_of p c.args.one.now ≡ answers_of p c.args.other.now in
-    let each = decides_below n c.all.result P (cases_from_all _ _ _ P (λ p. ¬ P p) c.all.ensures.ran (YieldsList-from_range 0 n n (search rules) (omega arith)) (λ x q k. search (rules, tests)) (λ x q k. search (rules, tests))) in
+    let each = decides_below n c.all.result P
+    (cases_from_all _ _ _ P (λ p. ¬ P p) c.all.ensures.ran (YieldsList-from_range 0 n n (search rules) (omega arith))
+    (λ x q k. search (rules, tests)) (λ x q k. search (rules, tests))) in
     (λ t p within. each.0 t p (omega arith), λ all. each.1 (λ p below. all p (omega arith)))

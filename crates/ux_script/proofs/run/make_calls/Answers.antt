@@ -31,7 +31,8 @@ loop-index-preserved g c =
           record {
             so_far = subst (λ (h : KeptHistory). Makes h (plan_of script) (call_lines (take (i + 1) lines))) (sym w.serial-is)
                 (makes_same _ script _ _ (call_made lines i line request inside item (act_is ∙ w.in-Call.is))
-                (makes_more old w.make_call.new.serial script line.pid request (call_lines (take i lines)) one w.in_ok-make_call-in-Call.ensures.made c.loop-index.invariant.so_far));
+                (makes_more old w.make_call.new.serial script line.pid request (call_lines (take i lines)) one
+                w.in_ok-make_call-in-Call.ensures.made c.loop-index.invariant.so_far));
             same_boot = subst (λ (h : KeptHistory). h.boot ≡ c.args.serial.now.boot) (sym w.serial-is)
                 (boot_kept old w.make_call.new.serial line.pid request one ∙ c.loop-index.invariant.same_boot);
             grows = subst (λ (h : KeptHistory). Grows c.args.serial.now.entries h.entries) (sym w.serial-is)
@@ -56,6 +57,7 @@ returns-in_err-make_call-in-Call-clause-stranger g c =
     let item = rw c.as_slice-lines.ensures.value at c.index-lines-index.is in
     let p = err_from_is_err_and c.from_residual.result c.from_residual.ensures.1 in
     rw (p.1, p.2) (λ stranger orderly.
-    let here = no_stranger c.loop-index.serial script i line request orderly c.loop-index.invariant.so_far inside item (ap (λ (l : Line). l.act) (sym c.line.view_is) ∙ c.in-Call.is) in
+    let here = no_stranger c.loop-index.serial script i line request orderly c.loop-index.invariant.so_far inside item
+    (ap (λ (l : Line). l.act) (sym c.line.view_is) ∙ c.in-Call.is) in
     let lives = subst (λ (l : Line). is_live (state_of c.loop-index.serial) l.pid.0 ≡ true) (sym c.line.view_is) here.1 in
     false≢true (sym (c.in_err-make_call-in-Call.ensures.stranger stranger here.0) ∙ lives))

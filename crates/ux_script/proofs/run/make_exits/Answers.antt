@@ -22,11 +22,13 @@ loop-index-preserved g c =
     let known = c.is_live.ensures ∙ exit_known old script n so_far inside in
     elim c.if-is_live.branch [
       | then-is_live+in_ok-exit w ↦
-          let one : MakesOne old w.exit.new.self (record { 0 = n + 1 }) Request.Exit = record { reply = _; answers = w.in_ok-exit.ensures.made } in
+          let one : MakesOne old w.exit.new.self (record { 0 = n + 1 }) Request.Exit =
+          record { reply = _; answers = w.in_ok-exit.ensures.made } in
           record {
             so_far = subst (λ (h : KeptHistory). Makes h (plan_of script) (call_lines lines ++ exits_of lines (n + 1))) (sym w.serial-is)
                 (makes_same _ script _ _ (exit_made lines made n (not-true _ (sym known ∙ w.if-is_live.true)) refl)
-                (makes_more old w.exit.new.self script (record { 0 = n + 1 }) Request.Exit made one (let same = w.in_ok-exit.ensures.many in omega (arith, same)) so_far));
+                (makes_more old w.exit.new.self script (record { 0 = n + 1 }) Request.Exit made one
+                (let same = w.in_ok-exit.ensures.many in omega (arith, same)) so_far));
             same_boot = subst (λ (h : KeptHistory). h.boot ≡ c.args.serial.now.boot) (sym w.serial-is)
                 (boot_kept old w.exit.new.self (record { 0 = n + 1 }) Request.Exit one ∙ c.loop-index.invariant.same_boot);
             grows = subst (λ (h : KeptHistory). Grows c.args.serial.now.entries h.entries) (sym w.serial-is)
@@ -44,4 +46,5 @@ pub returns-clause-made : goal.returns-clause-made
 returns-clause-made g c =
     let script = c.args.script.now in
     let over : c.loop-index.index ≡ c.args.count = omega arith in
-    makes_same c.loop-index.serial script _ _ (ap (λ m. call_lines script.lines.items ++ exits_of script.lines.items m) over) c.loop-index.invariant.so_far
+    makes_same c.loop-index.serial script _ _ (ap (λ m. call_lines script.lines.items ++ exits_of script.lines.items m) over)
+    c.loop-index.invariant.so_far

@@ -9,7 +9,8 @@ loop-place-init g c = ([], refl, appends_none _)
 pub loop-place-preserved : goal.loop-place-preserved
 loop-place-preserved g c =
     let line = c.in_ok-write_call.ensures.ok in
-    told_more _ _ _ c.args.lines.now c.args.history.now c.loop-place.place c.index-history-place.result line.0 c.loop-place-test.true c.index-history-place.is
+    told_more _ _ _ c.args.lines.now c.args.history.now c.loop-place.place c.index-history-place.result line.0 c.loop-place-test.true
+    c.index-history-place.is
     c.loop-place.invariant line.1 line.2
 
 pub returns-clause-ok : goal.returns-clause-ok

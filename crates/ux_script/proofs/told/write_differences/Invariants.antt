@@ -4,4 +4,5 @@ use Rattle.ux_script.proofs.told.write_differences.Given as goal
 
 -- what is expected before this was compared
 abbrev pub invariant-loop-one : goal.invariant-loop-one
-invariant-loop-one g l = Compared (g.W.Write.contents l.fn.writer) (g.W.Write.contents l.writer) l.lines l.history (take l.one-index l.expected)
+invariant-loop-one g l = Compared (g.W.Write.contents l.fn.writer) (g.W.Write.contents l.writer) l.lines l.history
+    (take l.one-index l.expected)

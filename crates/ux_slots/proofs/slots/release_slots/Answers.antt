@@ -12,4 +12,5 @@ loop-key-preserved g c = (
 )
 
 pub returns-clause-released : goal.returns-clause-released
-returns-clause-released g c = all_released _ _ _ _ c.loop-key.invariant.0 (λ q high. get_or_past _ q _ (omega (arith, high, c.loop-key.invariant.1, c.capacity-key-end.ensures.slots, c.loop-key-test.false)))
+returns-clause-released g c = all_released _ _ _ _ c.loop-key.invariant.0
+    (λ q high. get_or_past _ q _ (omega (arith, high, c.loop-key.invariant.1, c.capacity-key-end.ensures.slots, c.loop-key-test.false)))

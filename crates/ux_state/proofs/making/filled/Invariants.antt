@@ -13,6 +13,8 @@ invariant-loop-name g l =
     (vec_len l.places + length (into_iter_items l.name-iterator) ≤ vec_capacity l.places) ×
     (length (into_iter_items l.name-iterator) ≤ l.paths.room) ×
     (vec_len l.places + length (into_iter_items l.name-iterator) ≡ length l.fn.objects.items) ×
-    (l.places.items ++ map (λ o. Some (g.O.FileObject.view o.1)) (into_iter_items l.name-iterator) ≡ map (λ o. Some (g.O.FileObject.view o.1)) l.fn.objects.items) ×
-    (l.paths.names ++ map (λ e. (e.1.0, file e.0)) (enumerate_from (vec_len l.places) (into_iter_items l.name-iterator)) ≡ map (λ e. (e.1.0, file e.0)) (enumerate_from 0 l.fn.objects.items)) ×
+    (l.places.items ++ map (λ o. Some (g.O.FileObject.view o.1)) (into_iter_items l.name-iterator) ≡ map
+    (λ o. Some (g.O.FileObject.view o.1)) l.fn.objects.items) ×
+    (l.paths.names ++ map (λ e. (e.1.0, file e.0)) (enumerate_from (vec_len l.places) (into_iter_items l.name-iterator)) ≡ map
+    (λ e. (e.1.0, file e.0)) (enumerate_from 0 l.fn.objects.items)) ×
     (list_all (λ o. View.opened (g.O.FileObject.view o.1)) (into_iter_items l.name-iterator) ≡ true)

@@ -7,7 +7,8 @@ use Rattle.ux_state.proofs.references.release_all.Goals as goal
 pub release_ref-requires : goal.release_ref-requires
 release_ref-requires c =
     let r : ℕ = slice_index_or c.args.references.now c.loop-reference.reference-index 0 in
-    let here = c.description.ensures ∙ get_or_read c.args.references.now c.loop-reference.reference-index c.reference-item.result c.loop-reference-test.true c.reference-item.is 0 in
+    let here = c.description.ensures ∙ get_or_read c.args.references.now c.loop-reference.reference-index c.reference-item.result
+    c.loop-reference-test.true c.reference-item.is 0 in
     let a = times_at c.args.references.now c.loop-reference.reference-index c.loop-reference-test.true in
     let b = c.requires r in
     let e = c.loop-reference.invariant.counts r in

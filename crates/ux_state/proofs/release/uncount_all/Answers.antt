@@ -12,4 +12,5 @@ loop-counts-preserved c =
     let inside : c.loop-counts.counts-index < length items = omega arith in
     let new : c.new.result ≡ none_open = λ j. record { readers = c.new.ensures.readers j; writers = c.new.ensures.writers j } in
     ap (set items c.loop-counts.counts-index) new
-    ∙ map_over_more (λ _. none_open) c.deref_mut-counts-items.result.now items c.loop-counts.counts-index here c.loop-counts-test.true c.loop-counts.invariant (get_or_default items c.loop-counts.counts-index none_open here inside)
+    ∙ map_over_more (λ _. none_open) c.deref_mut-counts-items.result.now items c.loop-counts.counts-index here c.loop-counts-test.true
+    c.loop-counts.invariant (get_or_default items c.loop-counts.counts-index none_open here inside)

@@ -21,10 +21,13 @@ returns-in_err-add_expected-clause-fault c =
 pub loop-line-preserved : goal.loop-line-preserved
 loop-line-preserved c =
     let line = next_line c.args.texts.now c.loop-line.line none c.loop-line-test.true in
-    has_more (map now c.args.texts.now) _ _ _ _ _ _ c.loop-line.invariant line c.in_ok-add_expected.ensures.found c.in_ok-add_expected.ensures.placed c.in_ok-behind_call.ensures
+    has_more (map now c.args.texts.now) _ _ _ _ _ _ c.loop-line.invariant line c.in_ok-add_expected.ensures.found
+    c.in_ok-add_expected.ensures.placed c.in_ok-behind_call.ensures
 
 pub returns-clause-found : goal.returns-clause-found
-returns-clause-found c = all_found (map now c.args.texts.now) _ _ _ c.loop-line.invariant (omega (arith, c.loop-line-test.false, length-map c.args.texts.now now))
+returns-clause-found c = all_found (map now c.args.texts.now) _ _ _ c.loop-line.invariant
+    (omega (arith, c.loop-line-test.false, length-map c.args.texts.now now))
 
 pub returns-clause-placed : goal.returns-clause-placed
-returns-clause-placed c = all_placed (map now c.args.texts.now) _ _ _ c.loop-line.invariant (omega (arith, c.loop-line-test.false, length-map c.args.texts.now now))
+returns-clause-placed c = all_placed (map now c.args.texts.now) _ _ _ c.loop-line.invariant
+    (omega (arith, c.loop-line-test.false, length-map c.args.texts.now now))

@@ -8,4 +8,5 @@ abbrev pub invariant-loop-turn : goal.invariant-loop-turn
 invariant-loop-turn g l =
     Marks (plan_of l.progress.reader.script) l.progress.reader.exited.items
     × (l.progress.number ≤ 1 + 4096 * l.turn)
-    × IsReadOn (g.R.Read.remaining l.initial.reader) (g.R.Read.remaining l.reader) (plan_of l.progress.reader.script) l.progress.number l.progress.line.items
+    × IsReadOn (g.R.Read.remaining l.initial.reader) (g.R.Read.remaining l.reader) (plan_of l.progress.reader.script) l.progress.number
+    l.progress.line.items

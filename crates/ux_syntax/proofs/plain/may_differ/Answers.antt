@@ -7,5 +7,6 @@ use Rattle.ux_syntax.proofs.plain.may_differ.Goals as goal
 
 pub returns : goal.returns
 returns c = λ none.
-    let found = any_from_yields_List (λ f. is_marked f c.args.text.now) _ _ c.any.result c.any.ensures.ran (YieldsList-from_slice c.args.fields.now (search rules)) (λ x b q k. search (rules, tests)) in
+    let found = any_from_yields_List (λ f. is_marked f c.args.text.now) _ _ c.any.result c.any.ensures.ran
+    (YieldsList-from_slice c.args.fields.now (search rules)) (λ x b q k. search (rules, tests)) in
     no_mark c.args.fields.now c.args.text.now (sym found ∙ none)

@@ -9,7 +9,8 @@ loop-rest-init c = rw c.new-bytes.ensures.items (text_starts c.args.text.now)
 pub loop-rest-preserved : goal.loop-rest-preserved
 loop-rest-preserved c =
     rw c.in_ok-push.ensures.items
-    (text_more c.args.text.now c.loop-rest.bytes.items c.loop-rest.rest.now (c.in_ok-byte.byte, c.in_ok-byte.after.now) (open_first c.loop-rest.rest.now c.in-len1-up.len_at_least c.if-first-eq34.false) c.in_ok-byte.ensures c.loop-rest.invariant)
+    (text_more c.args.text.now c.loop-rest.bytes.items c.loop-rest.rest.now (c.in_ok-byte.byte, c.in_ok-byte.after.now)
+    (open_first c.loop-rest.rest.now c.in-len1-up.len_at_least c.if-first-eq34.false) c.in_ok-byte.ensures c.loop-rest.invariant)
   where
     open_first : (cs : List ℕ) → 1 ≤ length cs → (get_or cs 0 0 ≡ 34 → ⊥) → closes cs ≡ false
     open_first [] long e = absurd (omega arith)

@@ -7,4 +7,5 @@ use Rattle.ux_syntax.proofs.reading.read_lines.Given as goal
 abbrev pub invariant-loop-index : goal.invariant-loop-index
 invariant-loop-index l =
     Marks (plan_of l.reader.script) l.reader.exited.items
-    × (lines_at (suc l.index) (plan_of l.reader.script) (map (λ text. text.now) (drop l.index l.texts)) ≡ script_at (map (λ text. text.now) l.texts))
+    × (lines_at (suc l.index) (plan_of l.reader.script) (map (λ text. text.now) (drop l.index l.texts)) ≡ script_at
+    (map (λ text. text.now) l.texts))

@@ -16,9 +16,11 @@ returns-clause-refused g c = elim c.match-fork.branch [
   | in-Ok+in-None w ↦
       let made : Happens g.W.BookName.boot c.args.self.now c.fork.new.self Request.Fork w.in-Ok.reply false = search (rules, happens) in
       erred c.match-fork.result _ _ w.result-is
-      (tells is_child (λ reply. Happens g.W.BookName.boot c.args.self.now c.fork.new.self Request.Fork reply false) (λ f. f ≡ CallFault.NoMemory)
+      (tells is_child (λ reply. Happens g.W.BookName.boot c.args.self.now c.fork.new.self Request.Fork reply false)
+      (λ f. f ≡ CallFault.NoMemory)
       c.args.self.now c.fork.new.self w.in-Ok.reply w.other_reply.result made
-      (subst (λ e. IsOther is_child w.in-Ok.reply e) (sym w.other_reply.ensures) (no_child w.in-Ok.reply (sym w.in-None.is ∙ w.in-Ok.ensures.child)))
+      (subst (λ e. IsOther is_child w.in-Ok.reply e) (sym w.other_reply.ensures)
+      (no_child w.in-Ok.reply (sym w.in-None.is ∙ w.in-Ok.ensures.child)))
       (reply_happens g.W.BookName.boot c.args.self.now c.fork.new.self Request.Fork w.in-Ok.reply false made))
   | in-Err w ↦ erred c.match-fork.result _ _ w.result-is (search rules)
 ]

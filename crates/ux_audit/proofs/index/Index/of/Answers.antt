@@ -4,7 +4,7 @@ use Rattle.std.proofs.lemmas.Option.{slice_get_read}
 use Rattle.ux_model.specs.Types.{Entry}
 use Rattle.ux_model.specs.History.{replay}
 use Rattle.ux_model.specs.Pedigree.{before}
-use Rattle.ux_model.proofs.Moments.{moment}
+use Rattle.ux_model.proofs.Pedigrees.Moments.{moment}
 use Rattle.ux_audit.specs.Marks.{AreMarks}
 use Rattle.ux_audit.specs.Givers.{AreGivers}
 use Rattle.ux_audit.proofs.Told.{shown_given}
@@ -29,10 +29,12 @@ loop-place-preserved c =
     let next : suc i ≡ i + 1 = omega arith in
     record {
       givers = subst (λ (k : ℕ). AreGivers es k c.follow.new.self.births.items c.follow.new.self.rows.items) next
-          (givers_more es i e c.loop-place.index.births.items c.follow.new.self.births.items c.loop-place.index.rows.items c.follow.new.self.rows.items at
+          (givers_more es i e c.loop-place.index.births.items c.follow.new.self.births.items c.loop-place.index.rows.items
+          c.follow.new.self.rows.items at
           c.in_ok-follow.ensures.births c.in_ok-follow.ensures.rows c.loop-place.invariant.givers);
       flags = λ boot legal. subst (λ (k : ℕ). AreMarks (replay boot (take k es)) c.follow.new.self.tables.items) next
-          (marks_follow (before boot es i) (before boot es (suc i)) e c.loop-place.index.tables.items c.follow.new.self.tables.items (moment boot es i e legal at).changes
+          (marks_follow (before boot es i) (before boot es (suc i)) e c.loop-place.index.tables.items c.follow.new.self.tables.items
+          (moment boot es i e legal at).changes
           (shown_given boot es i e legal at) (c.loop-place.invariant.flags boot legal) c.in_ok-follow.ensures.flags);
       small = c.follow.ensures.small c.loop-place.invariant.small;
     }
@@ -40,4 +42,5 @@ loop-place-preserved c =
 pub returns-clause-flags : goal.returns-clause-flags
 returns-clause-flags c = λ boot legal.
     let es = c.args.entries.now in
-    subst (λ (l : List Entry). AreMarks (replay boot l) c.loop-place.index.tables.items) (take_all c.loop-place.place es c.loop-place-test.false) (c.loop-place.invariant.flags boot legal)
+    subst (λ (l : List Entry). AreMarks (replay boot l) c.loop-place.index.tables.items)
+    (take_all c.loop-place.place es c.loop-place-test.false) (c.loop-place.invariant.flags boot legal)

@@ -7,4 +7,5 @@ pub loop-link-preserved : goal.loop-link-preserved
 loop-link-preserved g c = λ p.
     let links = c.args.self.now.0.now in
     let i = c.loop-link.link-index in
-    has_written_of_eq _ _ _ _ _ (further_more links i c.loop-link-test.true) (has_written_append _ _ _ _ _ _ (c.loop-link.invariant p) (search rules))
+    has_written_of_eq _ _ _ _ _ (further_more links i c.loop-link-test.true)
+    (has_written_append _ _ _ _ _ _ (c.loop-link.invariant p) (search rules))

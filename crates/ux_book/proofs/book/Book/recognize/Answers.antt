@@ -15,7 +15,8 @@ returns-clause-live g c =
     let given = book.given in
     let at = ap (λ (U : State). length U.processes) book.at_replay in
     subst (λ (b : KeptHistory). is_live (state_of b) c.args.share.now.pid.0 ≡ true) c.self.view_is
-    (subst (λ (x : Caller). is_live (state_of (record { boot = g.W.BookName.boot; entries = c.self.inside.trail.entries })) x.pid.0 ≡ true) c.share.view_is
+    (subst (λ (x : Caller). is_live (state_of (record { boot = g.W.BookName.boot; entries = c.self.inside.trail.entries })) x.pid.0 ≡ true)
+    c.share.view_is
     (lives g.W.BookName.boot c.self.inside.trail.entries c.share.inside.pid.0 book.legal share.3 (omega (arith, is_pid, within, given, at))
     (ap (λ (p : ℕ). has_exit (calls_by p c.self.inside.trail.entries)) (sym is_pid) ∙ ap has_exit (sym c.check.ensures.past) ∙ share.4)))
 

@@ -13,8 +13,13 @@ loop-receipt-preserved g c =
     let w = c.receipt-item.result in
     let slips = c.args.receipts.now in (
       c.confirm.ensures.book ∙ i.0,
-      ap (λ (x : Slip). set c.loop-receipt.receipts c.loop-receipt.receipt-index x) c.confirm.ensures.receipt ∙ (set-get_or c.loop-receipt.receipts c.loop-receipt.receipt-index w ∙ i.1),
-      stands_more c.args.self.now.entries slips c.loop-receipt.receipt-index w (subst (λ (l : List Slip). w ≡ get_or l c.loop-receipt.receipt-index w) i.1 c.receipt-item.is) (subst (λ (h : KeptHistory). slice_get h.entries w.number ≡ Some w.entry) i.0 (subst (λ (x : Slip). slice_get c.loop-receipt.self.entries x.number ≡ Some x.entry) (sym c.receipt-item.is) c.confirm.ensures.stands)) i.2,
+      ap (λ (x : Slip). set c.loop-receipt.receipts c.loop-receipt.receipt-index x) c.confirm.ensures.receipt
+          ∙ (set-get_or c.loop-receipt.receipts c.loop-receipt.receipt-index w ∙ i.1),
+      stands_more c.args.self.now.entries slips c.loop-receipt.receipt-index w
+          (subst (λ (l : List Slip). w ≡ get_or l c.loop-receipt.receipt-index w) i.1 c.receipt-item.is)
+          (subst (λ (h : KeptHistory). slice_get h.entries w.number ≡ Some w.entry) i.0
+          (subst (λ (x : Slip). slice_get c.loop-receipt.self.entries x.number ≡ Some x.entry) (sym c.receipt-item.is)
+          c.confirm.ensures.stands)) i.2,
     )
 
 pub returns-clause-stand : goal.returns-clause-stand

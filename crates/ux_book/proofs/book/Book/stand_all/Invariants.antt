@@ -8,4 +8,5 @@ abbrev pub invariant-loop-receipt : goal.invariant-loop-receipt
 invariant-loop-receipt g l =
     (l.self ≡ l.initial.self)
     × (l.receipts ≡ l.initial.receipts)
-    × ((k : ℕ) (s : Slip) → k < l.receipt-index → slice_get l.initial.receipts k ≡ Some s → slice_get l.initial.self.entries s.number ≡ Some s.entry)
+    × ((k : ℕ) (s : Slip) → k < l.receipt-index → slice_get l.initial.receipts k ≡ Some s →
+    slice_get l.initial.self.entries s.number ≡ Some s.entry)

@@ -13,8 +13,11 @@ invariant_of-self-2 g c =
 pub returns-clause-made : goal.returns-clause-made
 returns-clause-made g c =
     subst (λ (b : KeptHistory). Answers b c.exit-spent.new.self c.args.pid Request.Exit Reply.Ok) c.self.view_is
-    (made_by c.self.inside.book c.exit-spent.new.self c.self.inside.shares.items c.args.pid Request.Exit Reply.Ok c.in-Some.share c.self.invariant c.in-Some.ensures.share (record { k = _; released = _; adds = c.exit-spent.ensures.entry }))
+    (made_by c.self.inside.book c.exit-spent.new.self c.self.inside.shares.items c.args.pid Request.Exit Reply.Ok c.in-Some.share
+    c.self.invariant c.in-Some.ensures.share (record { k = _; released = _; adds = c.exit-spent.ensures.entry }))
 
 pub returns-clause-many : goal.returns-clause-many
 returns-clause-many g c =
-    as_many c.self.inside.book c.exit-spent.new.self c.in-Some.share.pid Request.Exit (record { reply = Reply.Ok; answers = record { k = _; released = _; adds = c.exit-spent.ensures.entry } }) refl ∙ ap processes c.self.view_is
+    as_many c.self.inside.book c.exit-spent.new.self c.in-Some.share.pid Request.Exit
+    (record { reply = Reply.Ok; answers = record { k = _; released = _; adds = c.exit-spent.ensures.entry } }) refl
+    ∙ ap processes c.self.view_is

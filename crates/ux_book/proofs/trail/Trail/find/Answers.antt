@@ -6,8 +6,12 @@ use Rattle.ux_book.proofs.trail.Trail.find.Goals as goal
 
 pub split_seat-again-requires : goal.split_seat-again-requires
 split_seat-again-requires c =
-    let one : c.self.inside.table.shared.table_id.words ≡ 1 = c.self.invariant.0 in
-    (ap (λ (m : Marked). m.id) c.mark.view_is ∙ c.requires ∙ sym (ap (λ (t : Trailed). t.id) c.self.view_is), omega (arith, one), λ s h at. copies s.views c.mark.inside.seat.id c.mark.inside.seat.me.0 h at)
+    let one : c.self.inside.table.shared.table_id.words ≡ 1 = c.self.invariant.0 in (
+      ap (λ (m : Marked). m.id) c.mark.view_is ∙ c.requires
+          ∙ sym (ap (λ (t : Trailed). t.id) c.self.view_is),
+      omega (arith, one),
+      λ s h at. copies s.views c.mark.inside.seat.id c.mark.inside.seat.me.0 h at,
+    )
 
 pub join_seat-requires : goal.join_seat-requires
 join_seat-requires c =
@@ -20,7 +24,8 @@ join_seat-requires c =
       again.3 ∙ ap (λ (m : Marked). m.id) c.mark.view_is ∙ c.requires ∙ sym (ap (λ (t : Trailed). t.id) c.self.view_is),
       ap (λ m. m.1) again.4,
       omega (arith, one),
-      λ s h at apart there. takes_in s.views k.id k.me.0 c.split_seat-again.result.id c.split_seat-again.result.me.0 whole alone h at apart there,
+      λ s h at apart there. takes_in s.views k.id k.me.0 c.split_seat-again.result.id c.split_seat-again.result.me.0 whole alone h at apart
+          there,
     )
 
 pub load-requires : goal.load-requires

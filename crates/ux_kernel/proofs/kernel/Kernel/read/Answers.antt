@@ -6,6 +6,7 @@ use Rattle.ux_kernel.proofs.kernel.Kernel.read.Goals as goal
 
 pub returns : goal.returns
 returns g c =
-    read_found c.args.self.now c.read_at.new.self c.args.pid.0 c.args.fd c.args.n _ _ c.in-Ok.found.descriptor c.in-Ok.found.description.now c.read_at.result
+    read_found c.args.self.now c.read_at.new.self c.args.pid.0 c.args.fd c.args.n _ _ c.in-Ok.found.descriptor c.in-Ok.found.description.now
+    c.read_at.result
     (ap (λ S. find_description S c.args.pid.0 c.args.fd) (sym c.self.view_is) ∙ c.in-Ok.ensures)
     (ap (λ e. Descriptor.description e) c.entry.view_is) c.min.ensures c.read_at.ensures

@@ -5,5 +5,6 @@ use Rattle.ux_names.proofs.abstract_names.AbstractNames.in_order.Goals as goal
 
 pub returns : goal.returns
 returns c =
-    let all = take_all c.loop-entry.entry-index c.deref-entry-items.result.now c.loop-entry-test.false ∙ c.deref-entry-items.ensures.value in
+    let all = take_all c.loop-entry.entry-index c.deref-entry-items.result.now c.loop-entry-test.false
+    ∙ c.deref-entry-items.ensures.value in
     rw (← c.self.view_is) (c.loop-entry.invariant ∙ ap (map {B = Name × ℕ} (λ e. (e.0.now, e.1.now))) all ∙ c.in-Ok.ensures)

@@ -2,4 +2,5 @@ use Rattle.ux_names.proofs.FreeNames.{free_name_found}
 use Rattle.ux_names.proofs.abstract_names.AbstractNames.lowest_free.Goals as goal
 
 pub returns-clause-name : goal.returns-clause-name
-returns-clause-name c = rw (← c.self.view_is) (free_name_found c.self.inside.listing.names c.self.inside.numbers c.first_clear.result c.self.invariant c.first_clear.ensures)
+returns-clause-name c = rw (← c.self.view_is)
+    (free_name_found c.self.inside.listing.names c.self.inside.numbers c.first_clear.result c.self.invariant c.first_clear.ensures)

@@ -9,4 +9,6 @@ invariant_of-self c =
     rw (c.remove.ensures.names, nothing_without c.args.name.now c.self.inside.listing.names absent) c.self.invariant
 
 pub invariant_of-self-2 : goal.invariant_of-self-2
-invariant_of-self-2 c = rw c.remove.ensures.names (released_unmarked c.self.inside.listing.names c.args.name.now c.self.inside.numbers c.unmark.new.numbers c.self.invariant c.unmark.ensures)
+invariant_of-self-2 c = rw c.remove.ensures.names
+    (released_unmarked c.self.inside.listing.names c.args.name.now c.self.inside.numbers c.unmark.new.numbers c.self.invariant
+    c.unmark.ensures)

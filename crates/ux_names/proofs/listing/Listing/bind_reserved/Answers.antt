@@ -11,7 +11,8 @@ invariant_of-self g c =
     let name = c.args.name in
     let es = c.self.inside.bound.entries in
     let next = c.self.inside.next in
-    let free : lookup (same_name name) es ≡ None = absent_from_map name es next c.self.invariant.0 c.self.invariant.1 (rw (← c.self.view_is) at c.requires.free) in
+    let free : lookup (same_name name) es ≡ None =
+    absent_from_map name es next c.self.invariant.0 c.self.invariant.1 (rw (← c.self.view_is) at c.requires.free) in
     let entries = c.in-Ok.ensures.entries ∙ insert_entry-new same_name c.self.inside.bound name _ free in
     (c.insert.ensures.unique, subst (λ l. AreNumbered l (next + 1)) (sym entries) (bound_numbered es next c.self.invariant.1 name _ refl))
 
@@ -20,6 +21,7 @@ returns-clause-names g c =
     let name = c.args.name in
     let es = c.self.inside.bound.entries in
     let next = c.self.inside.next in
-    let free : lookup (same_name name) es ≡ None = absent_from_map name es next c.self.invariant.0 c.self.invariant.1 (rw (← c.self.view_is) at c.requires.free) in
+    let free : lookup (same_name name) es ≡ None =
+    absent_from_map name es next c.self.invariant.0 c.self.invariant.1 (rw (← c.self.view_is) at c.requires.free) in
     let entries = c.in-Ok.ensures.entries ∙ insert_entry-new same_name c.self.inside.bound name _ free in
     rw (← c.self.view_is) (ap (λ l. in_order l (next + 1)) entries ∙ bound_in_order es next c.self.invariant.1 name _ refl)

@@ -10,7 +10,8 @@ returns-clause-leads g c =
     let s = plan_of c.args.script.now in
     IfOk-weaker c.look_named.result _ _
     (λ next leads all.
-    subst (λ (boot : State). Leads boot s c.look_named.new.self.found.outcomes.items c.args.pids.now next.items) c.in_ok-kernel.ensures.state (leads all))
+    subst (λ (boot : State). Leads boot s c.look_named.new.self.found.outcomes.items c.args.pids.now next.items)
+    c.in_ok-kernel.ensures.state (leads all))
     c.look_named.ensures.leads
 
 pub returns-clause-walk : goal.returns-clause-walk

@@ -6,7 +6,8 @@ use Rattle.ux_orders.specs.declared.chooser.Ready.{Ready}
 use Rattle.ux_orders.specs.declared.each.Walk.{Walk}
 use Rattle.ux_orders.proofs.Covering.{keeps_old, keeps_own}
 use Rattle.ux_orders.proofs.Threads.{IsSure}
-use Rattle.ux_orders.proofs.Walking.{grows_noted, grows_added, grows_then, walk_noted, walk_added, not_refused, run_of, stop_leads, go_leads, end_leads}
+use Rattle.ux_orders.proofs.Walking.{grows_noted, grows_added, grows_then, walk_noted, walk_added, not_refused, run_of, stop_leads}
+use Rattle.ux_orders.proofs.Walking.{go_leads, end_leads}
 use Rattle.ux_orders.proofs.each.Walk.look_named.Goals as goal
 
 pub returns-then-not-branch-clause-grows : goal.returns-then-not-branch-clause-grows
@@ -23,7 +24,8 @@ returns-clause-grows g c =
     let noted = grows_noted s c.args.self.now c.note-2.new.self c.note-2.ensures.all c.note-2.ensures.rest in
     let added = c.in_ok-add.ensures in
     grows_then s c.args.self.now c.note-2.new.self _ noted
-    (grows_added s c.note-2.new.self c.add.new.self added.all (λ ran has. keeps_old (known_count s) _ _ c.in_ok-ran.ran ran added.keeps has))
+    (grows_added s c.note-2.new.self c.add.new.self added.all
+    (λ ran has. keeps_old (known_count s) _ _ c.in_ok-ran.ran ran added.keeps has))
 
 pub add-requires-clause-ended : goal.add-requires-clause-ended
 add-requires-clause-ended g c = not_refused g.W.BookName.boot c.make_any.new.self.book.entries c.in_ok-ran.ran c.in_ok-ran.ensures.calls

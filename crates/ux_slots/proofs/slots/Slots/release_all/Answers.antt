@@ -8,7 +8,8 @@ pub invariant_of-self : goal.invariant_of-self
 invariant_of-self g c = released_kept _ _ _ _ _ _ c.self.invariant c.release_slots-head.ensures.released
 
 pub returns-clause-places : goal.returns-clause-places
-returns-clause-places g c = rw (← c.self.view_is) (seen_same value_in _ _ c.self.inside.next (released_values _ _ _ _ _ _ c.self.invariant c.release_slots-head.ensures.released))
+returns-clause-places g c = rw (← c.self.view_is)
+    (seen_same value_in _ _ c.self.inside.next (released_values _ _ _ _ _ _ c.self.invariant c.release_slots-head.ensures.released))
 
 pub returns-clause-counts : goal.returns-clause-counts
 returns-clause-counts g c = λ d.

@@ -6,7 +6,8 @@ use Rattle.ux_slots.proofs.Keeping.{count_is, none_past, key_found, slot_found, 
 use Rattle.ux_slots.proofs.slots.Slots.release_ref.Goals as goal
 
 pub index-key-requires : goal.index-key-requires
-index-key-requires g c = key_found _ _ _ _ c.self.invariant _ (rw (← c.self.view_is, ← c.number-number.ensures, count_is _ _ _ _ c.self.invariant) at c.requires)
+index-key-requires g c = key_found _ _ _ _ c.self.invariant _
+    (rw (← c.self.view_is, ← c.number-number.ensures, count_is _ _ _ _ c.self.invariant) at c.requires)
 
 pub index_mut-slot-requires : goal.index_mut-slot-requires
 index_mut-slot-requires g c = let found = slot_found _ _ _ _ c.self.invariant _ _ c.index-key.ensures in rw found.1
@@ -41,7 +42,8 @@ returns-then-slot-eq0-clause-counted g c =
     let puts = changed_puts _ _ _ _ _ _ _ _ _ c.self.invariant c.index-key.ensures was (written c.self.inside.slots _ _ _ was) in
     rw (← c.self.view_is, ← c.number-number.ensures) record {
       places = sym (seen_same_but value_in _ _ c.self.inside.next _ _ puts (sym (ap value_in here)));
-      counts = counted_less _ _ c.self.inside.next (none_past _ _ _ c.self.invariant.young) (none_past _ _ _ c.self.invariant.young) _ _ puts (omega (arith, some, ap count_in here));
+      counts = counted_less _ _ c.self.inside.next (none_past _ _ _ c.self.invariant.young) (none_past _ _ _ c.self.invariant.young) _ _
+          puts (omega (arith, some, ap count_in here));
     }
 
 pub returns-else-slot-eq0-clause-counted : goal.returns-else-slot-eq0-clause-counted
@@ -52,5 +54,6 @@ returns-else-slot-eq0-clause-counted g c =
     let puts = changed_puts _ _ _ _ _ _ _ _ _ c.self.invariant c.index-key.ensures was (written c.self.inside.slots _ _ _ was) in
     rw (← c.self.view_is, ← c.number-number.ensures) record {
       places = sym (seen_same_but value_in _ _ c.self.inside.next _ _ puts (sym (ap value_in here)));
-      counts = counted_less _ _ c.self.inside.next (none_past _ _ _ c.self.invariant.young) (none_past _ _ _ c.self.invariant.young) _ _ puts (omega (arith, some, ap count_in here));
+      counts = counted_less _ _ c.self.inside.next (none_past _ _ _ c.self.invariant.young) (none_past _ _ _ c.self.invariant.young) _ _
+          puts (omega (arith, some, ap count_in here));
     }

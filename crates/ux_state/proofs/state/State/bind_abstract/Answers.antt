@@ -6,6 +6,8 @@ use Rattle.ux_state.proofs.state.State.bind_abstract.Goals as goal
 
 pub invariant_of-self-2 : goal.invariant_of-self-2
 invariant_of-self-2 g c =
-    abstract_given _ _ _ _ _ _ _ c.self.invariant c.set_name.new.slots _ c.args.id c.in_ok-listed.listed c.in_ok-listed.shown (c.in_ok-listed.ensures.second ∙ sym c.in_ok-listed.ensures.first)
+    abstract_given _ _ _ _ _ _ _ c.self.invariant c.set_name.new.slots _ c.args.id c.in_ok-listed.listed c.in_ok-listed.shown
+    (c.in_ok-listed.ensures.second ∙ sym c.in_ok-listed.ensures.first)
     (subst (λ (S : State). IsUnnamedAt S c.args.id) (sym c.self.view_is) c.requires)
-    (not_some _ (λ some. absurd (cc (c.in_ok-bind.ensures.taken.1 some)))) c.in_ok-bind.ensures.ok c.set_name.ensures.places c.set_name.ensures.counts
+    (not_some _ (λ some. absurd (cc (c.in_ok-bind.ensures.taken.1 some)))) c.in_ok-bind.ensures.ok c.set_name.ensures.places
+    c.set_name.ensures.counts

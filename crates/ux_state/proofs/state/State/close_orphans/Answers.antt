@@ -20,9 +20,13 @@ loop-o-preserved g c =
     let long = ap (λ S. length (State.objects S)) c.self.view_is in
     let inside : c.loop-o.o < length c.args.self.now.objects = omega (arith, long) in
     elim c.if-is_orphan.branch [
-      | then-is_orphan w ↦ Passed-gone c.args.self.now c.loop-o.self c.if-is_orphan.self c.loop-o.o c.loop-o.released c.if-is_orphan.released (option_map g.O.FileObject.view w.take_closed-object.result) c.loop-o.invariant inside
-          (sym c.is_orphan.ensures ∙ w.if-is_orphan.true) w.take_closed-object.ensures.object (w.self-is ∙ w.take_closed-object.ensures.state) (rw w.released-is w.hand_out.ensures)
-      | else-is_orphan w ↦ rw (w.self-is, w.released-is) (Passed-kept c.args.self.now c.loop-o.self c.loop-o.o c.loop-o.released c.loop-o.invariant inside (sym c.is_orphan.ensures ∙ w.if-is_orphan.false))
+      | then-is_orphan w ↦ Passed-gone c.args.self.now c.loop-o.self c.if-is_orphan.self c.loop-o.o c.loop-o.released
+          c.if-is_orphan.released (option_map g.O.FileObject.view w.take_closed-object.result) c.loop-o.invariant inside
+          (sym c.is_orphan.ensures ∙ w.if-is_orphan.true) w.take_closed-object.ensures.object
+          (w.self-is ∙ w.take_closed-object.ensures.state) (rw w.released-is w.hand_out.ensures)
+      | else-is_orphan w ↦ rw (w.self-is, w.released-is)
+          (Passed-kept c.args.self.now c.loop-o.self c.loop-o.o c.loop-o.released c.loop-o.invariant inside
+          (sym c.is_orphan.ensures ∙ w.if-is_orphan.false))
     ]
 
 pub returns-clause-released : goal.returns-clause-released

@@ -1,7 +1,7 @@
 use Rattle.std.proofs.Common.{◌∙◌}
 use Rattle.ux_model.specs.Release.{none, another}
-use Rattle.ux_model.proofs.AnyOrder.{ends_alike}
-use Rattle.ux_model.proofs.OneGoes.{fewer_live_without}
+use Rattle.ux_model.proofs.Releasing.AnyOrder.{ends_alike}
+use Rattle.ux_model.proofs.Releasing.OneGoes.{fewer_live_without}
 use Rattle.ux_state.proofs.state.State.drop_unreferenced.Goals as goal
 
 pub loop-d-init : goal.loop-d-init

@@ -1,5 +1,5 @@
 use Rattle.ux_model.specs.Release.{Drops}
-use Rattle.ux_model.proofs.AnyOrder.{live_in}
+use Rattle.ux_model.proofs.Releasing.AnyOrder.{live_in}
 use Rattle.ux_state.proofs.state.State.drop_unreferenced.Given as goal
 
 abbrev pub invariant-loop-d : goal.invariant-loop-d

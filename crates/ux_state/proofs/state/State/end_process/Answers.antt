@@ -10,13 +10,15 @@ use Rattle.ux_state.proofs.state.State.end_process.Goals as goal
 pub release_table-requires : goal.release_table-requires
 release_table-requires g c =
     let live = ap (λ S. is_live S c.args.pid.0) c.self.view_is ∙ c.requires in
-    let at = at_view c.self.inside.processes.items (c.args.pid.0 - 1) _ (process.the_view c.process.inside) c.process_mut-process.ensures.value c.process.view_is in
+    let at = at_view c.self.inside.processes.items (c.args.pid.0 - 1) _ (process.the_view c.process.inside)
+    c.process_mut-process.ensures.value c.process.view_is in
     table_counted _ _ _ _ _ _ _ c.self.invariant c.args.pid.0 (process.the_view c.process.inside) live at
 
 pub invariant_of-self : goal.invariant_of-self
 invariant_of-self g c =
     let live = ap (λ S. is_live S c.args.pid.0) c.self.view_is ∙ c.requires in
-    process_kept _ _ _ _ _ _ _ c.self.invariant c.args.pid.0 c.process_mut-process.result.now live c.process_mut-process.ensures.value _ c.release_table.new.slots c.exit.new.self refl (held_same _ _ (sym c.release_table.ensures.places))
+    process_kept _ _ _ _ _ _ _ c.self.invariant c.args.pid.0 c.process_mut-process.result.now live c.process_mut-process.ensures.value _
+    c.release_table.new.slots c.exit.new.self refl (held_same _ _ (sym c.release_table.ensures.places))
     (rw (sym c.release_table.ensures.places) c.self.invariant.opened) (rw (sym c.release_table.ensures.places) c.self.invariant.paired)
     (rw (sym c.release_table.ensures.places) c.self.invariant.owned)
     (λ k.

@@ -20,7 +20,8 @@ pub invariant_of-self-2 : goal.invariant_of-self-2
 invariant_of-self-2 g c =
     let long = ap (λ S. length (State.processes S)) c.self.view_is in
     let pushed = c.in_ok-push.ensures.items ∙ ap (λ ps. ps ++ c.in_ok-child.child ∷ []) c.in_ok-reserve.ensures.items in
-    rw pushed (child_kept _ _ _ _ _ _ _ c.self.invariant c.retain_table.new.slots c.in_ok-child.child (omega (arith, c.requires.few, long)) c.retain_table.ensures.places (λ k.
+    rw pushed (child_kept _ _ _ _ _ _ _ c.self.invariant c.retain_table.new.slots c.in_ok-child.child (omega (arith, c.requires.few, long))
+    c.retain_table.ensures.places (λ k.
     let counts = c.retain_table.ensures.counts k in
     let table = ap (λ P. table_refs k (Process.table P)) c.child.view_is in
     omega (arith, counts, table)))
@@ -29,5 +30,7 @@ pub returns-clause-made : goal.returns-clause-made
 returns-clause-made g c = λ P h.
     let one : Some c.process.result.now ≡ Some P = sym c.process.ensures ∙ h in
     let same : c.process.result.now ≡ P = cc one in
-    child_put _ c.args.self.now c.retain_table.new.slots.places c.push.new.self.items c.in_ok-child.child P c.self.view_is c.retain_table.ensures.places
-    (c.in_ok-push.ensures.items ∙ ap (λ ps. ps ++ c.in_ok-child.child ∷ []) c.in_ok-reserve.ensures.items) (c.in_ok-child.ensures ∙ ap child_of same)
+    child_put _ c.args.self.now c.retain_table.new.slots.places c.push.new.self.items c.in_ok-child.child P c.self.view_is
+    c.retain_table.ensures.places
+    (c.in_ok-push.ensures.items ∙ ap (λ ps. ps ++ c.in_ok-child.child ∷ []) c.in_ok-reserve.ensures.items)
+    (c.in_ok-child.ensures ∙ ap child_of same)

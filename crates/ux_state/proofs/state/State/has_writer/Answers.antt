@@ -8,6 +8,7 @@ use Rattle.ux_state.proofs.state.State.has_writer.Goals as goal
 
 pub returns : goal.returns
 returns g c =
-    let held : is_some (place c.self.inside.objects.items c.args.number) ≡ true = ap (λ S. is_some (place (State.objects S) c.args.number)) c.self.view_is ∙ c.requires in
+    let held : is_some (place c.self.inside.objects.items c.args.number) ≡ true =
+    ap (λ S. is_some (place (State.objects S) c.args.number)) c.self.view_is ∙ c.requires in
     ap (nat_lt 0) (writers_there _ _ _ _ c.args.number c.index-counts.result.now c.self.invariant held c.index-counts.ensures)
     ∙ ap (λ S. is_open_for can_write S c.args.number) c.self.view_is

@@ -6,7 +6,8 @@ use Rattle.ux_state.proofs.state.State.listen.Goals as goal
 
 pub invariant_of-self : goal.invariant_of-self
 invariant_of-self g c =
-    listened _ _ _ _ _ _ _ c.self.invariant c.start_listening.new.slots c.args.id _ c.args.cred (subst (λ (S : State). IsUnconnectedAt S c.args.id) (sym c.self.view_is) c.requires)
+    listened _ _ _ _ _ _ _ c.self.invariant c.start_listening.new.slots c.args.id _ c.args.cred
+    (subst (λ (S : State). IsUnconnectedAt S c.args.id) (sym c.self.view_is) c.requires)
     c.start_listening.ensures.places c.start_listening.ensures.counts
 
 pub returns : goal.returns

@@ -9,14 +9,17 @@ use Rattle.ux_slots.specs.Held.{count_at}
 use Rattle.ux_state.specs.contracts.process.Process as process
 use Rattle.ux_state.proofs.Lookups.{at_view}
 use Rattle.ux_state.proofs.TableCounts.{table_kept}
-use Rattle.ux_state.proofs.Opening.{pair_opened, pair_paired, end_holds, any_socket_counted, adds_from, entries_put, table_is, new_two, entry_is}
+use Rattle.ux_state.proofs.Opening.{pair_opened, pair_paired, end_holds, any_socket_counted, adds_from, entries_put, table_is, new_two}
+use Rattle.ux_state.proofs.Opening.{entry_is}
 use Rattle.ux_state.proofs.state.State.open_pair.Goals as goal
 
 pub invariant_of-self-in_err-two : goal.invariant_of-self-in_err-two
 invariant_of-self-in_err-two g c =
     let live = ap (λ S. is_live S c.args.pid.0) c.self.view_is ∙ c.requires in
-    let at = at_view c.self.inside.processes.items (c.args.pid.0 - 1) _ (process.the_view c.process.inside) c.process_mut-process.ensures.value c.process.view_is in
-    table_kept _ _ _ _ _ _ _ c.self.invariant c.args.pid.0 (process.the_view c.process.inside) live at c.reserve.new.self _ c.reserve.ensures.places (λ k.
+    let at = at_view c.self.inside.processes.items (c.args.pid.0 - 1) _ (process.the_view c.process.inside)
+    c.process_mut-process.ensures.value c.process.view_is in
+    table_kept _ _ _ _ _ _ _ c.self.invariant c.args.pid.0 (process.the_view c.process.inside) live at c.reserve.new.self _
+    c.reserve.ensures.places (λ k.
     let same = ap (λ cs. count_at (record c.self.inside.descriptions { counts = cs }) k) c.reserve.ensures.counts in
     let table = ap (table_refs k) c.in_err-two.ensures.err in
     omega (arith, same, table))
@@ -24,14 +27,19 @@ invariant_of-self-in_err-two g c =
 pub invariant_of-self-2 : goal.invariant_of-self-2
 invariant_of-self-2 g c =
     let live = ap (λ S. is_live S c.args.pid.0) c.self.view_is ∙ c.requires in
-    let at = at_view c.self.inside.processes.items (c.args.pid.0 - 1) _ (process.the_view c.process.inside) c.process_mut-process.ensures.value c.process.view_is in
-    let first : c.next_id-first.result ≡ length c.self.inside.descriptions.places = c.next_id-first.ensures ∙ ap length c.reserve.ensures.places in
-    let second : c.new-second.result ≡ length c.self.inside.descriptions.places + 1 = c.new-second.ensures ∙ ap (λ n. n + 1) (c.number.ensures ∙ first) in
-    pair_opened _ _ _ _ _ _ _ c.self.invariant c.args.pid.0 (process.the_view c.process.inside) live at c.insert_reserved-first.new.self c.insert_reserved-second.new.self _
+    let at = at_view c.self.inside.processes.items (c.args.pid.0 - 1) _ (process.the_view c.process.inside)
+    c.process_mut-process.ensures.value c.process.view_is in
+    let first : c.next_id-first.result ≡ length c.self.inside.descriptions.places = c.next_id-first.ensures
+    ∙ ap length c.reserve.ensures.places in
+    let second : c.new-second.result ≡ length c.self.inside.descriptions.places + 1 = c.new-second.ensures
+    ∙ ap (λ n. n + 1) (c.number.ensures ∙ first) in
+    pair_opened _ _ _ _ _ _ _ c.self.invariant c.args.pid.0 (process.the_view c.process.inside) live at c.insert_reserved-first.new.self
+    c.insert_reserved-second.new.self _
     c.in_ok-two.two.0.0 c.in_ok-two.two.1.0 c.new_entry.result c.new_entry-2.result c.pair_end.result c.pair_end-2.result
     (ap (λ t. record (process.the_view c.process.inside) { table = t }) c.in_ok-two.ensures.opened) c.in_ok-two.ensures.lowest
     (ap (λ e. Descriptor.description e) c.new_entry.ensures ∙ first) (ap (λ e. Descriptor.description e) c.new_entry-2.ensures ∙ second)
-    (adds_from _ c.reserve.new.self _ _ c.reserve.ensures.places c.reserve.ensures.counts c.insert_reserved-first.ensures.added) c.insert_reserved-second.ensures.added
+    (adds_from _ c.reserve.new.self _ _ c.reserve.ensures.places c.reserve.ensures.counts c.insert_reserved-first.ensures.added)
+    c.insert_reserved-second.ensures.added
     (pair_paired c.args.kind c.self.inside.descriptions.places c.args.flags c.args.cred c.pair_end.result c.pair_end-2.result
     (c.pair_end.ensures ∙ ap (λ n. socket_description c.args.flags (pair_end c.args.kind n c.args.cred)) second)
     (c.pair_end-2.ensures ∙ ap (λ n. socket_description c.args.flags (pair_end c.args.kind n c.args.cred)) first) c.self.invariant.paired)
@@ -40,20 +48,28 @@ invariant_of-self-2 g c =
 
 pub returns-clause-lowest : goal.returns-clause-lowest
 returns-clause-lowest g c =
-    ap two_lowest_free (sym (table_is _ c.args.self.now c.args.pid.0 c.process_mut-process.result.now (process.the_view c.process.inside) c.requires c.self.view_is c.process_mut-process.ensures.value c.process.view_is))
+    ap two_lowest_free (sym (table_is _ c.args.self.now c.args.pid.0 c.process_mut-process.result.now (process.the_view c.process.inside)
+    c.requires c.self.view_is c.process_mut-process.ensures.value c.process.view_is))
     ∙ c.in_ok-two.ensures.lowest
 
 pub returns-clause-opened : goal.returns-clause-opened
 returns-clause-opened g c =
-    let first : c.next_id-first.result ≡ length c.self.inside.descriptions.places = c.next_id-first.ensures ∙ ap length c.reserve.ensures.places in
+    let first : c.next_id-first.result ≡ length c.self.inside.descriptions.places = c.next_id-first.ensures
+    ∙ ap length c.reserve.ensures.places in
     let second : c.new-second.result ≡ c.next_id-first.result + 1 = c.new-second.ensures ∙ ap (λ n. n + 1) c.number.ensures in
-    let ahead = c.pair_end.ensures ∙ (λ j. socket_description c.args.flags (pair_end c.args.kind ((second ∙ ap (λ n. n + 1) first) j) c.args.cred)) in
+    let ahead = c.pair_end.ensures ∙ (λ j. socket_description c.args.flags
+    (pair_end c.args.kind ((second ∙ ap (λ n. n + 1) first) j) c.args.cred)) in
     let back = c.pair_end-2.ensures ∙ (λ j. socket_description c.args.flags (pair_end c.args.kind (first j) c.args.cred)) in
     let added = c.insert_reserved-second.ensures.added.places
-    ∙ (λ j. (c.insert_reserved-first.ensures.added.places ∙ (λ i. c.reserve.ensures.places i ++ Some (ahead i) ∷ [])) j ++ Some (back j) ∷ []) in
-    let table = table_is _ c.args.self.now c.args.pid.0 c.process_mut-process.result.now (process.the_view c.process.inside) c.requires c.self.view_is c.process_mut-process.ensures.value c.process.view_is in
-    let low = entry_is _ c.args.self.now c.args.flags c.next_id-first.result (λ n. n) c.new_entry.result c.self.view_is first c.new_entry.ensures in
-    let high = entry_is _ c.args.self.now c.args.flags c.next_id-first.result (λ n. n + 1) c.new_entry-2.result c.self.view_is first (c.new_entry-2.ensures ∙ ap (descriptor c.args.flags) second) in
-    entries_put _ c.args.self.now _ c.args.pid.0 c.process_mut-process.result.now (process.the_view c.process.inside) _ _ _ c.requires c.self.view_is c.process_mut-process.ensures.value c.process.view_is
+    ∙ (λ j. (c.insert_reserved-first.ensures.added.places ∙ (λ i. c.reserve.ensures.places i ++ Some (ahead i) ∷ [])) j ++ Some
+    (back j) ∷ []) in
+    let table = table_is _ c.args.self.now c.args.pid.0 c.process_mut-process.result.now (process.the_view c.process.inside) c.requires
+    c.self.view_is c.process_mut-process.ensures.value c.process.view_is in
+    let low = entry_is _ c.args.self.now c.args.flags c.next_id-first.result
+    (λ n. n) c.new_entry.result c.self.view_is first c.new_entry.ensures in
+    let high = entry_is _ c.args.self.now c.args.flags c.next_id-first.result
+    (λ n. n + 1) c.new_entry-2.result c.self.view_is first (c.new_entry-2.ensures ∙ ap (descriptor c.args.flags) second) in
+    entries_put _ c.args.self.now _ c.args.pid.0 c.process_mut-process.result.now (process.the_view c.process.inside) _ _ _ c.requires
+    c.self.view_is c.process_mut-process.ensures.value c.process.view_is
     (new_two _ c.args.self.now c.args.kind c.args.flags c.args.cred _ c.self.view_is added)
     (c.in_ok-two.ensures.opened ∙ λ j. filled (filled (table j) c.in_ok-two.two.0.0 (low j)) c.in_ok-two.two.1.0 (high j))

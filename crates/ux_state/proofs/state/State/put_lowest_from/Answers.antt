@@ -4,7 +4,7 @@ use Rattle.ux_model.specs.Places.{filled}
 use Rattle.ux_model.specs.Process.{Descriptor, lowest_free_from}
 use Rattle.ux_model.specs.State.{is_live}
 use Rattle.ux_model.specs.References.{table_refs}
-use Rattle.ux_model.proofs.Moves.{one, table_filled}
+use Rattle.ux_model.proofs.Counting.Moves.{one, table_filled}
 use Rattle.ux_fdtable.proofs.TwoFree.{free_from_at}
 use Rattle.ux_slots.specs.Held.{once}
 use Rattle.ux_state.specs.contracts.process.Process as process
@@ -16,8 +16,10 @@ use Rattle.ux_state.proofs.state.State.put_lowest_from.Goals as goal
 pub invariant_of-self-2 : goal.invariant_of-self-2
 invariant_of-self-2 g c =
     let live = ap (λ S. is_live S c.args.pid.0) c.self.view_is ∙ c.requires.live in
-    let at = at_view c.self.inside.processes.items (c.args.pid.0 - 1) _ (process.the_view c.process.inside) c.process_mut-process.ensures.value c.process.view_is in
-    table_kept _ _ _ _ _ _ _ c.self.invariant c.args.pid.0 (process.the_view c.process.inside) live at c.retain.new.slots _ c.retain.ensures.places (λ k.
+    let at = at_view c.self.inside.processes.items (c.args.pid.0 - 1) _ (process.the_view c.process.inside)
+    c.process_mut-process.ensures.value c.process.view_is in
+    table_kept _ _ _ _ _ _ _ c.self.invariant c.args.pid.0 (process.the_view c.process.inside) live at c.retain.new.slots _
+    c.retain.ensures.places (λ k.
     let free = free_from_at c.process.inside.table c.args.minimum.0 c.in_ok-fd.fd.0 c.in_ok-fd.ensures.lowest in
     let put = table_filled k c.process.inside.table c.in_ok-fd.fd.0 c.args.entry free.0 in
     let none = ap (one k) free.1 in
@@ -28,14 +30,19 @@ invariant_of-self-2 g c =
 
 pub returns-clause-lowest : goal.returns-clause-lowest
 returns-clause-lowest g c =
-    ap (lowest_free_from c.args.minimum.0) (sym (table_is _ c.args.self.now c.args.pid.0 c.process_mut-process.result.now (process.the_view c.process.inside) c.requires.live c.self.view_is c.process_mut-process.ensures.value c.process.view_is))
+    ap (lowest_free_from c.args.minimum.0) (sym
+    (table_is _ c.args.self.now c.args.pid.0 c.process_mut-process.result.now (process.the_view c.process.inside) c.requires.live
+    c.self.view_is c.process_mut-process.ensures.value c.process.view_is))
     ∙ c.in_ok-fd.ensures.lowest
 
 pub returns-clause-opened : goal.returns-clause-opened
 returns-clause-opened g c =
-    entries_put _ c.args.self.now _ c.args.pid.0 c.process_mut-process.result.now (process.the_view c.process.inside) _ _ _ c.requires.live c.self.view_is c.process_mut-process.ensures.value c.process.view_is
+    entries_put _ c.args.self.now _ c.args.pid.0 c.process_mut-process.result.now (process.the_view c.process.inside) _ _ _ c.requires.live
+    c.self.view_is c.process_mut-process.ensures.value c.process.view_is
     (same_places _ c.args.self.now _ c.self.view_is c.retain.ensures.places)
-    (c.in_ok-fd.ensures.opened ∙ ap (λ t. filled t c.in_ok-fd.fd.0 c.args.entry) (table_is _ c.args.self.now c.args.pid.0 c.process_mut-process.result.now (process.the_view c.process.inside) c.requires.live c.self.view_is c.process_mut-process.ensures.value c.process.view_is))
+    (c.in_ok-fd.ensures.opened ∙ ap (λ t. filled t c.in_ok-fd.fd.0 c.args.entry)
+    (table_is _ c.args.self.now c.args.pid.0 c.process_mut-process.result.now (process.the_view c.process.inside) c.requires.live
+    c.self.view_is c.process_mut-process.ensures.value c.process.view_is))
 
 pub invariant_of-self : goal.invariant_of-self
 invariant_of-self g c = grind (arith, common_steps)

@@ -7,7 +7,8 @@ use Rattle.ux_state.proofs.state.State.set_queue_limit.Goals.{in-Some, in_defaul
 
 pub invariant_of-self : goal.invariant_of-self
 invariant_of-self g c = elim c.match-get_mut.branch [
-  | in-Some w ↦ rw w.self-inside-is (changed_kept _ _ _ _ _ _ _ _ _ w.in-Some.x.now w.set_queue_limit.new.self c.self.invariant (sym c.get_mut.ensures.value ∙ ap option_copied_mut w.in-Some.is) refl refl
+  | in-Some w ↦ rw w.self-inside-is (changed_kept _ _ _ _ _ _ _ _ _ w.in-Some.x.now w.set_queue_limit.new.self c.self.invariant
+      (sym c.get_mut.ensures.value ∙ ap option_copied_mut w.in-Some.is) refl refl
       (changed_alike (with_queue_limit c.args.limit) _ _ (λ s. refl) (λ s. refl) (λ s. refl) (λ k s. refl) w.set_queue_limit.ensures))
   | in_default w ↦ rw w.self-inside-is c.self.invariant
 ]

@@ -3,4 +3,5 @@ use Rattle.ux_state.proofs.TableCounts.{objects_kept}
 use Rattle.ux_state.proofs.state.State.write_object.Goals as goal
 
 pub invariant_of-self : goal.invariant_of-self
-invariant_of-self g c = objects_kept _ _ _ _ _ _ _ c.self.invariant _ (length-set c.self.inside.objects.items c.args.number c.write.new.self)
+invariant_of-self g c = objects_kept _ _ _ _ _ _ _ c.self.invariant _
+    (length-set c.self.inside.objects.items c.args.number c.write.new.self)

@@ -9,13 +9,18 @@ pub take_bytes-rights-requires-clause-within : goal.take_bytes-rights-requires-c
 take_bytes-rights-requires-clause-within g c = reach_within _ _ _ _ c.reach_of-reach.ensures
 
 pub invariant_of-self : goal.invariant_of-self
-invariant_of-self g c = rw (c.take_bytes-rights.ensures.left, c.drop_front.ensures) (queue_off c.reach_of-reach.result.count c.self.inside.marks.items c.self.inside.ring.items c.self.invariant)
+invariant_of-self g c = rw (c.take_bytes-rights.ensures.left, c.drop_front.ensures)
+    (queue_off c.reach_of-reach.result.count c.self.inside.marks.items c.self.inside.ring.items c.self.invariant)
 
 pub returns-clause-rights : goal.returns-clause-rights
-returns-clause-rights g c = rw (← c.self.view_is) (front_rights _ _ _ _ _ _ c.reach_of-reach.ensures c.self.invariant c.take_bytes-rights.ensures.rights)
+returns-clause-rights g c = rw (← c.self.view_is)
+    (front_rights _ _ _ _ _ _ c.reach_of-reach.ensures c.self.invariant c.take_bytes-rights.ensures.rights)
 
 pub returns-clause-origin : goal.returns-clause-origin
-returns-clause-origin g c = rw (← c.self.view_is) (front_origin _ _ _ _ _ _ c.reach_of-reach.ensures c.self.invariant c.take_bytes-rights.ensures.origin)
+returns-clause-origin g c = rw (← c.self.view_is)
+    (front_origin _ _ _ _ _ _ c.reach_of-reach.ensures c.self.invariant c.take_bytes-rights.ensures.origin)
 
 pub returns-clause-rest : goal.returns-clause-rest
-returns-clause-rest g c = rw (← c.self.view_is) (front_rest _ _ _ _ _ _ c.reach_of-reach.ensures c.self.invariant (λ j. cut_by (c.take_bytes-rights.ensures.left j) (c.drop_front.ensures j)))
+returns-clause-rest g c = rw (← c.self.view_is)
+    (front_rest _ _ _ _ _ _ c.reach_of-reach.ensures c.self.invariant
+    (λ j. cut_by (c.take_bytes-rights.ensures.left j) (c.drop_front.ensures j)))

@@ -16,8 +16,10 @@ loop-byte-preserved g c = λ p.
     elim c.if-is_shown.branch [
       | then-is_shown+in_ok-write-2 w ↦
           let plain : is_shown b ≡ true = sym c.is_shown.ensures ∙ w.if-is_shown.true in
-          rw w.f-is (has_written_of_eq _ _ _ _ _ (quoted_more bytes i _ lt (shown_text b plain)) (has_written_append _ _ _ _ _ _ so_far (search rules)))
+          rw w.f-is (has_written_of_eq _ _ _ _ _ (quoted_more bytes i _ lt (shown_text b plain))
+          (has_written_append _ _ _ _ _ _ so_far (search rules)))
       | else-is_shown+in_ok-write-3 w ↦
           let other : is_shown b ≡ false = sym c.is_shown.ensures ∙ w.if-is_shown.false in
-          rw w.f-is (has_written_of_eq _ _ _ _ _ (quoted_more bytes i _ lt (hidden_text b other small)) (has_written_append _ _ _ _ _ _ so_far (search rules)))
+          rw w.f-is (has_written_of_eq _ _ _ _ _ (quoted_more bytes i _ lt (hidden_text b other small))
+          (has_written_append _ _ _ _ _ _ so_far (search rules)))
     ]

@@ -7,4 +7,5 @@ pub loop-number-preserved : goal.loop-number-preserved
 loop-number-preserved g c = λ p.
     let numbers = c.args.self.now.0.now in
     let i = c.loop-number.number-index in
-    has_written_of_eq _ _ _ _ _ (spaced_more numbers i c.loop-number-test.true) (has_written_append _ _ _ _ _ _ (c.loop-number.invariant p) (search rules))
+    has_written_of_eq _ _ _ _ _ (spaced_more numbers i c.loop-number-test.true)
+    (has_written_append _ _ _ _ _ _ (c.loop-number.invariant p) (search rules))

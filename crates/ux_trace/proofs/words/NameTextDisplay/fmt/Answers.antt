@@ -16,8 +16,10 @@ loop-byte-preserved g c = λ p.
     elim c.if-stands.branch [
       | then-stands+in_ok-write w ↦
           let plain : stands b ≡ true = sym c.stands.ensures ∙ w.if-stands.true in
-          rw w.f-is (has_written_of_eq _ _ _ _ _ (text_more bytes i _ lt (plain_text b plain)) (has_written_append _ _ _ _ _ _ so_far (search rules)))
+          rw w.f-is (has_written_of_eq _ _ _ _ _ (text_more bytes i _ lt (plain_text b plain))
+          (has_written_append _ _ _ _ _ _ so_far (search rules)))
       | else-stands+in_ok-write-2 w ↦
           let other : stands b ≡ false = sym c.stands.ensures ∙ w.if-stands.false in
-          rw w.f-is (has_written_of_eq _ _ _ _ _ (text_more bytes i _ lt (escaped_text b other small)) (has_written_append _ _ _ _ _ _ so_far (search rules)))
+          rw w.f-is (has_written_of_eq _ _ _ _ _ (text_more bytes i _ lt (escaped_text b other small))
+          (has_written_append _ _ _ _ _ _ so_far (search rules)))
     ]

@@ -9,7 +9,15 @@ pub loop-number-init : goal.loop-number-init
 loop-number-init c = c.new-numbers.ensures ∙ sym (numbers_none c.self.inside.bits)
 
 pub push-requires : goal.push-requires
-push-requires c = (omega arith, omega (arith, ap length c.loop-number.invariant, length_numbers c.loop-number.number c.self.inside.bits, c.loop-number-test.true))
+push-requires c = (
+  omega arith,
+  omega (
+    arith,
+    ap length c.loop-number.invariant,
+    length_numbers c.loop-number.number c.self.inside.bits,
+    c.loop-number-test.true,
+  ),
+)
 
 pub loop-number-preserved : goal.loop-number-preserved
 loop-number-preserved c =
@@ -20,7 +28,8 @@ loop-number-preserved c =
       | then-bits-number-eq1 w ↦ ap (λ v. v.items) w.numbers-is ∙ w.push.ensures.items ∙ ap (λ ns. ns ++ n ∷ []) c.loop-number.invariant
           ∙ sym (numbers_another n bits (sym (shr_and_one bits n) ∙ w.if-bits-number-eq1.true)) ∙ ap (λ m. numbers_below m bits) on
       | else-bits-number-eq1 w ↦ ap (λ v. v.items) w.numbers-is ∙ c.loop-number.invariant
-          ∙ sym (numbers_same n bits (omega (arith, shr_and_one bits n, w.if-bits-number-eq1.false, bit_at-lt bits n))) ∙ ap (λ m. numbers_below m bits) on
+          ∙ sym (numbers_same n bits (omega (arith, shr_and_one bits n, w.if-bits-number-eq1.false, bit_at-lt bits n)))
+          ∙ ap (λ m. numbers_below m bits) on
     ]
 
 pub returns : goal.returns

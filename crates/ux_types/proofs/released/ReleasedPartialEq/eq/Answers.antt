@@ -10,7 +10,9 @@ pub returns : goal.returns
 returns c =
     let lists = pointwise_decides unsigned_Decides c.args.self.now c.args.other.now in
     let words = unsigned_Decides c.self.inside.bits c.other.inside.bits in
-    same_from_decides {P = c.self.inside.bits ≡ c.other.inside.bits} (nat_eq c.self.inside.bits c.other.inside.bits) (pointwise ◌==◌ c.args.self.now c.args.other.now) words (
-      (λ h. bits_from c.self.inside.bits c.other.inside.bits (omega arith) (omega arith) (c.self.view_is ∙ lists.0 h ∙ sym c.other.view_is)),
+    same_from_decides {P = c.self.inside.bits ≡ c.other.inside.bits} (nat_eq c.self.inside.bits c.other.inside.bits)
+    (pointwise ◌==◌ c.args.self.now c.args.other.now) words (
+      (λ h. bits_from c.self.inside.bits c.other.inside.bits (omega arith) (omega arith)
+          (c.self.view_is ∙ lists.0 h ∙ sym c.other.view_is)),
       (λ e. lists.1 (sym c.self.view_is ∙ ap (numbers_below 64) e ∙ c.other.view_is)),
     )

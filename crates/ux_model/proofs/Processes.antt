@@ -1,0 +1,3 @@
+-- Which processes live, and their numbers.
+pub mod Living
+pub mod Numbering

@@ -1,0 +1,3 @@
+-- How large replies are.
+pub mod ReceivedSizes
+pub mod ReplySizes

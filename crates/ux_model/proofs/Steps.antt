@@ -1,0 +1,7 @@
+-- Each call comes of such changes; histories are made again.
+pub mod NameCalls
+pub mod OptionCalls
+pub mod MessageCalls
+pub mod Calls
+pub mod ChangedIds
+pub mod Replays

@@ -1,0 +1,206 @@
+-- So does each call, whatever was chosen, and each message with rights that waits was sent.
+use Rattle.std.proofs.Common.{◌≡◌, ◌⊎◌, ℕ, zero, suc, ◌<◌, ◌≤◌, Bool, true, false, not, ◌&&◌, ◌||◌, ◌==◌, cond, if◌then◌else◌, List, []}
+use Rattle.std.proofs.Common.{◌∷◌, ◌++◌, length, take, map, min, Option, Some, None, Result, Ok, Err, option_map, refl, ap, sym, ◌∙◌, subst}
+use Rattle.std.proofs.Common.{inl, inr, arith, slice_get, slice_set}
+use Rattle.std.specs.Prelude.{nat_le, nat_lt, ℤ, pos, negsuc, ◌+ℤ◌, is_some, is_none, IsTrue}
+use Rattle.std.proofs.lemmas.Bool.{eqb-true, eqb-false, leb-false, false≢true, ne_eqb, and_parts}
+use Rattle.ux_model.specs.Types.{Errno, Fd, Cred, Name, Addr, SockType, SockOpt, Mode, OpenFlags, MsgFlags, Whence, Request, Reply}
+use Rattle.ux_model.specs.Places.{place, filled, emptied}
+use Rattle.ux_model.specs.Limits.{made_limit, read_limit, offset_limit, record_bytes_limit}
+use Rattle.ux_model.specs.Flags.{can_read, can_write, asks_cloexec, asks_cloexec_rights, asks_peek, are_receive_flags, are_send_flags}
+use Rattle.ux_model.specs.Flags.{no_flags}
+use Rattle.ux_model.specs.Object.{Body, View, ObjectError, would_block, full, invalid, read_body, write_body, is_memory, is_pipe}
+use Rattle.ux_model.specs.Names.{named, is_valid_path, is_valid_addr, is_unnamed_addr, free_name}
+use Rattle.ux_model.specs.Message.{Message, queued_bytes}
+use Rattle.ux_model.specs.Stream.{joined_run, rights_within}
+use Rattle.ux_model.specs.Front.{Front, stream_front, record_front, front_of}
+use Rattle.ux_model.specs.Control.{Control}
+use Rattle.ux_model.specs.ControlReading.{control_in}
+use Rattle.ux_model.specs.Backlog.{backlog_of}
+use Rattle.ux_model.specs.Socket.{Socket, new_socket, pair_end, is_stream, is_dgram, pending_ends, peer_of, association_of, tied_socket}
+use Rattle.ux_model.specs.Socket.{takes_from, has_room, sent_part, sent, with_reset, with_association, with_passcred, with_queue_limit}
+use Rattle.ux_model.specs.Socket.{with_queue, shut_down, awaiting}
+use Rattle.ux_model.specs.Description.{Description, Target, to_object, to_socket, socket_of, socket_in}
+use Rattle.ux_model.specs.Process.{Process, Descriptor, own_cred, free_numbers, lowest_free, lowest_free_from, two_lowest_free, descriptor}
+use Rattle.ux_model.specs.Process.{copy_of, kept_on_exec, with_cloexec, fd_of, pid_of}
+use Rattle.ux_model.specs.Delivery.{delivery, installed, install_count, space_for_rights}
+use Rattle.ux_model.specs.State.{State, process_at, is_live, description_at, socket_at, table_of, next_description, next_process}
+use Rattle.ux_model.specs.State.{with_child, with_description, with_socket_by, with_process, with_table, with_new}
+use Rattle.ux_model.specs.Outcome.{Outcome, Chosen, own, lacking_memory, failing, refuse, answer, taking_memory, descriptor_at, find_socket}
+use Rattle.ux_model.specs.Outcome.{on_socket}
+use Rattle.ux_model.specs.Delivered.{Brought, nothing_brought, brought, brought_from}
+use Rattle.ux_model.specs.Naming.{unlink}
+use Rattle.ux_model.specs.Pairing.{make_pair, with_pair, socket_description}
+use Rattle.ux_model.specs.Binding.{bind_to, bind, get_sock_name, with_name}
+use Rattle.ux_model.specs.Connecting.{make_socket, listener_of, with_listening, listen, connect_to, connect_stream, connect_datagram}
+use Rattle.ux_model.specs.Connecting.{connect, get_peer_name, shutdown, with_connection, server_end, tied, no_open_flags}
+use Rattle.ux_model.specs.Accepting.{Acceptance, accept_first, accept, with_accepted, without_first_end, as_accepted, accepted_with}
+use Rattle.ux_model.specs.Accepting.{client_name}
+use Rattle.ux_model.specs.Sending.{sending, message_of, flight_limit, is_over_limit, enqueue, is_too_long, send_connected, send_stream}
+use Rattle.ux_model.specs.Sending.{send_from, is_sendable_addr, is_sendable_control, sender_cred_refusal, sent_cred, send_as, send_with}
+use Rattle.ux_model.specs.Sending.{send_read, send_msg, descriptions_behind}
+use Rattle.ux_model.proofs.Messages.Datagrams.{send_to_target, send_by_association, send_by}
+use Rattle.ux_model.specs.Receiving.{Incoming, incoming, with_installed, receive_front, nothing_received, at_end, receive, recv_msg}
+use Rattle.ux_model.specs.Receiving.{bytes_alone}
+use Rattle.ux_model.specs.FileObjects.{holds_bytes, is_open_for}
+use Rattle.ux_model.specs.Opening.{open_file, file_description}
+use Rattle.ux_model.specs.Reading.{read, read_answer, is_short_read, offset_after_read}
+use Rattle.ux_model.specs.Writing.{write, write_answer, offset_after_write, write_place}
+use Rattle.ux_model.specs.Seeking.{lseek, seek_to, seek_base}
+use Rattle.ux_model.specs.Options.{tell_cred, tell_option, get_opt, pass_cred_on, may_limit, change_option, set_opt}
+use Rattle.ux_model.specs.Readiness.{poll}
+use Rattle.ux_model.specs.Descriptors.{dup, dup2, dup_from, get_flags, set_flags, with_flags}
+use Rattle.ux_model.specs.Users.{no_id, may_become, with_ids, set_ids}
+use Rattle.ux_model.specs.Forking.{fork, exec, child_of}
+use Rattle.ux_model.specs.Closing.{close, exit, off, with_nothing_open}
+use Rattle.ux_model.specs.Release.{settled, drop_unreferenced}
+use Rattle.ux_model.specs.Step.{Step, outcome}
+use Rattle.ux_model.specs.History.{is_off, has_live, is_allowed}
+use Rattle.ux_model.specs.Giving.{held_at, description_in, given, sent_by, rights_in}
+use Rattle.ux_model.specs.Changes.{cloexec_of, sources, oldest_end, as_list, ChangesTables, StepChangesTables}
+use Rattle.ux_model.proofs.Changes.Walk.{either, maybe, by_target, by_path, by_queue, found, found_named, found_peer}
+use Rattle.ux_model.proofs.Changes.Named.{table_in}
+use Rattle.ux_model.proofs.Lists.ChangedPlaces.{bool_cases, place_within}
+use Rattle.ux_model.proofs.Lists.ByPlace.{take_none, take_few, get_below, get_pushed_other}
+use Rattle.ux_model.proofs.Lists.Induction.{get_pushed}
+use Rattle.ux_model.proofs.Lists.Rising.{Rise, rise_one, rise_free, rise_take, lowest_below, place_filled, place_other, place_mapped}
+use Rattle.ux_model.proofs.Lists.Rising.{lowest_from_within}
+use Rattle.ux_model.proofs.Changes.Reaching.{may_change}
+use Rattle.ux_model.proofs.Changes.Obeying.{Obeys}
+use Rattle.ux_model.proofs.Steps.Calls.{each_obeys}
+use Rattle.ux_model.proofs.Processes.Living.{settled_keeps}
+use Rattle.ux_model.proofs.Tables.Queues.{queue_of, queue_in, Quiet, Mail, MayCarry, quiet_mail, quiet_after, quiet_table, quiet_new}
+use Rattle.ux_model.proofs.Tables.Queues.{quiet_put, quiet_by, quiet_socket, quiet_target, sent_mail, taken_mail, Waits, settled_waits}
+use Rattle.ux_model.proofs.Tables.Replacing.{Replaces, replaced_process, replaced_table, replaced_none, replaced_alike, tells_child}
+use Rattle.ux_model.proofs.Tables.Replacing.{live_process, held_alike, gives_none, IsPlain, changes, refusal, keeps_table, installs}
+use Rattle.ux_model.proofs.Tables.Shows.{Shows}
+use Rattle.ux_model.proofs.Tables.DescriptorShows.{dup_shows, dup2_shows, dup_from_shows, get_flags_shows, flags_show, close_shows}
+use Rattle.ux_model.proofs.Tables.DescriptorShows.{exit_shows, exec_shows, ids_show, fork_shows, off_shows}
+use Rattle.ux_model.proofs.Tables.SocketShows.{open_shows, socket_shows, pair_shows, accept_shows, unlink_shows, bind_shows}
+use Rattle.ux_model.proofs.Tables.SocketShows.{sock_name_shows, peer_name_shows, listen_shows, shutdown_shows, connect_shows, get_opt_shows}
+use Rattle.ux_model.proofs.Tables.SocketShows.{set_opt_shows, poll_shows}
+use Rattle.ux_model.proofs.Tables.MessageShows.{shown_alike, send_shows, recv_shows}
+use Rattle.ux_model.proofs.Tables.FileShows.{read_shows, write_shows, lseek_shows}
+
+-- ---- all calls
+
+pub each_shows : (S : State) (p tag : ℕ) (request : Request) (P : Process) → process_at S p ≡ Some P →
+    Shows S p tag request (outcome S p tag request)
+unfolding outcome
+each_shows S p tag (Request.Open path mode flags) P here = open_shows S p tag path mode flags P here
+each_shows S p tag (Request.Read fd n) P here = read_shows S p tag fd n P here
+each_shows S p tag (Request.Write fd bytes) P here = write_shows S p tag fd bytes
+each_shows S p tag (Request.Lseek fd offset whence) P here = lseek_shows S p tag fd offset whence
+each_shows S p tag (Request.Dup fd) P here = dup_shows S p tag fd P here
+each_shows S p tag (Request.Dup2 fd to) P here = dup2_shows S p tag fd to P here
+each_shows S p tag (Request.DupFrom fd minimum) P here = dup_from_shows S p tag fd minimum P here
+each_shows S p tag (Request.GetFlags fd) P here = get_flags_shows S p tag fd
+each_shows S p tag (Request.SetFlags fd flags) P here = flags_show S p tag fd flags P here
+each_shows S p tag (Request.Close fd) P here = close_shows S p tag fd P here
+each_shows S p tag (Request.Unlink path) P here = unlink_shows S p tag path
+each_shows S p tag (Request.Socket kind flags) P here = socket_shows S p tag kind flags P here
+each_shows S p tag (Request.SocketPair kind flags) P here = pair_shows S p tag kind flags
+each_shows S p tag (Request.Bind fd addr) P here = bind_shows S p tag fd addr
+each_shows S p tag (Request.Listen fd backlog) P here = listen_shows S p tag fd backlog
+each_shows S p tag (Request.Connect fd addr) P here = connect_shows S p tag fd addr
+each_shows S p tag (Request.Accept fd flags) P here = accept_shows S p tag fd flags P here
+each_shows S p tag (Request.Shutdown fd how) P here = shutdown_shows S p tag fd how
+each_shows S p tag (Request.GetOpt fd opt) P here = get_opt_shows S p tag fd opt
+each_shows S p tag (Request.SetOpt fd opt value) P here = set_opt_shows S p tag fd opt value
+each_shows S p tag (Request.GetSockName fd) P here = sock_name_shows S p tag fd
+each_shows S p tag (Request.GetPeerName fd) P here = peer_name_shows S p tag fd
+each_shows S p tag (Request.SendMsg fd addr bytes control flags) P here = send_shows S p tag fd addr bytes control flags
+each_shows S p tag (Request.RecvMsg fd n space flags) P here = recv_shows S p tag fd n space flags P here
+each_shows S p tag (Request.Poll fd) P here = poll_shows S p tag fd
+each_shows S p tag (Request.SetIds uid gid) P here = ids_show S p tag uid gid
+each_shows S p tag Request.Fork P here = fork_shows S p tag
+each_shows S p tag Request.Exec P here = exec_shows S p tag
+each_shows S p tag Request.Exit P here = exit_shows S p tag
+each_shows S p tag Request.Off P here = off_shows S p tag
+
+-- ---- what was chosen
+
+-- an error that leaves the processes and the queues
+error_shows : (S T : State) (p tag : ℕ) (request : Request) (e : Errno) → is_off request ≡ false → T.processes ≡ S.processes → Quiet S T →
+    ChangesTables S p request (Reply.Err e) T × Mail S p tag request T
+error_shows S T p tag request e on same quiet = (refusal S T p request e (replaced_none S T p same) on, quiet_mail S T p tag request quiet)
+
+quiet_same : (S T : State) → T.descriptions ≡ S.descriptions → Quiet S T
+quiet_same S T same d = ap (λ (ds : List (Option Description)). queue_in (place ds d)) same
+
+pub chosen_shows : (S T : State) (p tag : ℕ) (request : Request) (reply : Reply) → Shows S p tag request (outcome S p tag request) →
+    Obeys S (may_change request) (outcome S p tag request) →
+    is_off request ≡ false → Chosen S (outcome S p tag request) reply T → ChangesTables S p request reply T × Mail S p tag request T
+chosen_shows S T p tag request reply shows obeys on (own e f) =
+    let s : Shows S p tag request (record (outcome S p tag request) { reply = reply; next = T }) =
+    shown_alike (outcome S p tag request) (record (outcome S p tag request) { reply = reply; next = T }) e f shows in
+    (s.tables, s.mail)
+chosen_shows S T p tag request reply shows obeys on (lacking_memory e may f) =
+    subst (λ (x : Reply). ChangesTables S p request x T × Mail S p tag request T) (sym e)
+    (error_shows S T p tag request Errno.ENOMEM on (ap (λ (U : State). U.processes) f)
+    (quiet_same S T (ap (λ (U : State). U.descriptions) f)))
+chosen_shows S T p tag request reply shows obeys on (failing e f) =
+    let one = (obeys.failed T f).0 in
+    subst (λ (x : Reply). ChangesTables S p request x T × Mail S p tag request T) (sym e)
+    (error_shows S T p tag request Errno.EIO on (ap (λ (U : State). U.processes) one.left)
+    (quiet_same S T (ap (λ (U : State). U.descriptions) one.left)))
+
+-- the end of the layer makes no choice
+off_lacks_none : (S : State) → IsTrue (off S).may_lack_memory → ⊥
+unfolding off
+off_lacks_none S may = cc may
+
+off_fails_not : (S : State) → (off S).failure ≡ None
+unfolding off
+off_fails_not S = refl
+
+off_chosen : (S T : State) (p tag : ℕ) (reply : Reply) → Chosen S (off S) reply T →
+    ChangesTables S p Request.Off reply T × Mail S p tag Request.Off T
+off_chosen S T p tag reply (own e f) =
+    let s : Shows S p tag Request.Off (record (off S) { reply = reply; next = T }) =
+    shown_alike (off S) (record (off S) { reply = reply; next = T }) e f (off_shows S p tag) in
+    (s.tables, s.mail)
+off_chosen S T p tag reply (lacking_memory e may f) = absurd (off_lacks_none S may)
+off_chosen S T p tag reply (failing e f) = absurd (cc (f, off_fails_not S))
+
+allowed_live : (S : State) (p k : ℕ) (request : Request) → is_off request ≡ false → is_allowed S p k request ≡ true → is_live S p ≡ true
+allowed_live S p k request on may = sym (ap (λ b. if b then (p == 0) && ((k == 0) && not (has_live S)) else is_live S p) on) ∙ may
+
+call_shows : (S T : State) (p k tag : ℕ) (request : Request) (reply : Reply) → is_allowed S p k request ≡ true →
+    Chosen S (outcome S p tag request) reply T →
+    ChangesTables S p request reply T × Mail S p tag request T
+unfolding outcome
+call_shows S T p k tag Request.Off reply may c = off_chosen S T p tag reply c
+call_shows S T p k tag request reply may c =
+    let P = live_process S p (allowed_live S p k request refl may) in
+    chosen_shows S T p tag request reply (each_shows S p tag request P.0 P.1) (each_obeys S p tag request) refl c
+
+-- what goes at the end of a call changes no table
+settled_mail : (S U T : State) (p tag : ℕ) (request : Request) → T ≡ settled U → Mail S p tag request U → Mail S p tag request T
+settled_mail S U T p tag request is mail m rich w = mail m rich (settled_waits U m (subst (λ (V : State). Waits V m) is w))
+
+settled_tables : (S U T : State) (p : ℕ) (request : Request) (reply : Reply) → T.processes ≡ U.processes →
+    ChangesTables S p request reply U → ChangesTables S p request reply T
+settled_tables S U T p request reply same c = record {
+  others = λ q n d m. held_alike U T q n same ∙ c.others q n d m;
+  child = λ q n m. held_alike U T q n same ∙ c.child q n m;
+  own = λ n g. held_alike U T p n same ∙ c.own n g;
+  new = λ i n g. let w = c.new i n g in (w.0, w.1, held_alike U T p n same ∙ w.2);
+  once = c.once;
+}
+
+step_shows : (S T : State) (p k tag : ℕ) (request : Request) (reply : Reply) (gone : List ℕ) → Step S p tag request reply gone T →
+    is_allowed S p k request ≡ true →
+    ChangesTables S p request reply T × Mail S p tag request T
+unfolding Step settled drop_unreferenced
+step_shows S T p k tag request reply gone s may =
+    let shown = call_shows S s.0 p k tag request reply may s.1 in
+    let same : T.processes ≡ (State.processes s.0) = ap State.processes s.3 ∙ settled_keeps (length (State.descriptions s.0)) s.0 in
+    (settled_tables S s.0 T p request reply same shown.0, settled_mail S s.0 T p tag request s.3 shown.1)
+
+pub step_changes_tables : StepChangesTables
+step_changes_tables S T p k tag request reply gone s may = (step_shows S T p k tag request reply gone s may).0
+
+pub step_mail : (S T : State) (p k tag : ℕ) (request : Request) (reply : Reply) (gone : List ℕ) → Step S p tag request reply gone T →
+    is_allowed S p k request ≡ true → Mail S p tag request T
+step_mail S T p k tag request reply gone s may = (step_shows S T p k tag request reply gone s may).1

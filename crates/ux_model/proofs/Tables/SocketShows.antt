@@ -1,0 +1,374 @@
+-- So do calls that make sockets, name and connect them, or look at them.
+use Rattle.std.proofs.Common.{◌≡◌, ◌⊎◌, ℕ, zero, suc, ◌<◌, ◌≤◌, Bool, true, false, not, ◌&&◌, ◌||◌, ◌==◌, cond, if◌then◌else◌, List, []}
+use Rattle.std.proofs.Common.{◌∷◌, ◌++◌, length, take, map, min, Option, Some, None, Result, Ok, Err, option_map, refl, ap, sym, ◌∙◌, subst}
+use Rattle.std.proofs.Common.{inl, inr, arith, slice_get, slice_set}
+use Rattle.std.specs.Prelude.{nat_le, nat_lt, ℤ, pos, negsuc, ◌+ℤ◌, is_some, is_none, IsTrue}
+use Rattle.std.proofs.lemmas.Bool.{eqb-true, eqb-false, leb-false, false≢true, ne_eqb, and_parts}
+use Rattle.ux_model.specs.Types.{Errno, Fd, Cred, Name, Addr, SockType, SockOpt, Mode, OpenFlags, MsgFlags, Whence, Request, Reply}
+use Rattle.ux_model.specs.Places.{place, filled, emptied}
+use Rattle.ux_model.specs.Limits.{made_limit, read_limit, offset_limit, record_bytes_limit}
+use Rattle.ux_model.specs.Flags.{can_read, can_write, asks_cloexec, asks_cloexec_rights, asks_peek, are_receive_flags, are_send_flags}
+use Rattle.ux_model.specs.Flags.{no_flags}
+use Rattle.ux_model.specs.Object.{Body, View, ObjectError, would_block, full, invalid, read_body, write_body, is_memory, is_pipe}
+use Rattle.ux_model.specs.Names.{named, is_valid_path, is_valid_addr, is_unnamed_addr, free_name}
+use Rattle.ux_model.specs.Message.{Message, queued_bytes}
+use Rattle.ux_model.specs.Stream.{joined_run, rights_within}
+use Rattle.ux_model.specs.Front.{Front, stream_front, record_front, front_of}
+use Rattle.ux_model.specs.Control.{Control}
+use Rattle.ux_model.specs.ControlReading.{control_in}
+use Rattle.ux_model.specs.Backlog.{backlog_of}
+use Rattle.ux_model.specs.Socket.{Socket, new_socket, pair_end, is_stream, is_dgram, pending_ends, peer_of, association_of, tied_socket}
+use Rattle.ux_model.specs.Socket.{takes_from, has_room, sent_part, sent, with_reset, with_association, with_passcred, with_queue_limit}
+use Rattle.ux_model.specs.Socket.{with_queue, shut_down, awaiting}
+use Rattle.ux_model.specs.Description.{Description, Target, to_object, to_socket, socket_of, socket_in}
+use Rattle.ux_model.specs.Process.{Process, Descriptor, own_cred, free_numbers, lowest_free, lowest_free_from, two_lowest_free, descriptor}
+use Rattle.ux_model.specs.Process.{copy_of, kept_on_exec, with_cloexec, fd_of, pid_of}
+use Rattle.ux_model.specs.Delivery.{delivery, installed, install_count, space_for_rights}
+use Rattle.ux_model.specs.State.{State, process_at, is_live, description_at, socket_at, table_of, next_description, next_process}
+use Rattle.ux_model.specs.State.{with_child, with_description, with_socket_by, with_process, with_table, with_new}
+use Rattle.ux_model.specs.Outcome.{Outcome, Chosen, own, lacking_memory, failing, refuse, answer, taking_memory, descriptor_at, find_socket}
+use Rattle.ux_model.specs.Outcome.{on_socket}
+use Rattle.ux_model.specs.Delivered.{Brought, nothing_brought, brought, brought_from}
+use Rattle.ux_model.specs.Naming.{unlink}
+use Rattle.ux_model.specs.Pairing.{make_pair, with_pair, socket_description}
+use Rattle.ux_model.specs.Binding.{bind_to, bind, get_sock_name, with_name}
+use Rattle.ux_model.specs.Connecting.{make_socket, listener_of, with_listening, listen, connect_to, connect_stream, connect_datagram}
+use Rattle.ux_model.specs.Connecting.{connect, get_peer_name, shutdown, with_connection, server_end, tied, no_open_flags}
+use Rattle.ux_model.specs.Accepting.{Acceptance, accept_first, accept, with_accepted, without_first_end, as_accepted, accepted_with}
+use Rattle.ux_model.specs.Accepting.{client_name}
+use Rattle.ux_model.specs.Sending.{sending, message_of, flight_limit, is_over_limit, enqueue, is_too_long, send_connected, send_stream}
+use Rattle.ux_model.specs.Sending.{send_from, is_sendable_addr, is_sendable_control, sender_cred_refusal, sent_cred, send_as, send_with}
+use Rattle.ux_model.specs.Sending.{send_read, send_msg, descriptions_behind}
+use Rattle.ux_model.proofs.Messages.Datagrams.{send_to_target, send_by_association, send_by}
+use Rattle.ux_model.specs.Receiving.{Incoming, incoming, with_installed, receive_front, nothing_received, at_end, receive, recv_msg}
+use Rattle.ux_model.specs.Receiving.{bytes_alone}
+use Rattle.ux_model.specs.FileObjects.{holds_bytes, is_open_for}
+use Rattle.ux_model.specs.Opening.{open_file, file_description}
+use Rattle.ux_model.specs.Reading.{read, read_answer, is_short_read, offset_after_read}
+use Rattle.ux_model.specs.Writing.{write, write_answer, offset_after_write, write_place}
+use Rattle.ux_model.specs.Seeking.{lseek, seek_to, seek_base}
+use Rattle.ux_model.specs.Options.{tell_cred, tell_option, get_opt, pass_cred_on, may_limit, change_option, set_opt}
+use Rattle.ux_model.specs.Readiness.{poll}
+use Rattle.ux_model.specs.Descriptors.{dup, dup2, dup_from, get_flags, set_flags, with_flags}
+use Rattle.ux_model.specs.Users.{no_id, may_become, with_ids, set_ids}
+use Rattle.ux_model.specs.Forking.{fork, exec, child_of}
+use Rattle.ux_model.specs.Closing.{close, exit, off, with_nothing_open}
+use Rattle.ux_model.specs.Release.{settled, drop_unreferenced}
+use Rattle.ux_model.specs.Step.{Step, outcome}
+use Rattle.ux_model.specs.History.{is_off, has_live, is_allowed}
+use Rattle.ux_model.specs.Giving.{held_at, description_in, given, sent_by, rights_in}
+use Rattle.ux_model.specs.Changes.{cloexec_of, sources, oldest_end, as_list, ChangesTables, StepChangesTables}
+use Rattle.ux_model.proofs.Changes.Walk.{either, maybe, by_target, by_path, by_queue, found, found_named, found_peer}
+use Rattle.ux_model.proofs.Changes.Named.{table_in}
+use Rattle.ux_model.proofs.Lists.ChangedPlaces.{bool_cases, place_within}
+use Rattle.ux_model.proofs.Lists.ByPlace.{take_none, take_few, get_below, get_pushed_other}
+use Rattle.ux_model.proofs.Lists.Induction.{get_pushed}
+use Rattle.ux_model.proofs.Lists.Rising.{Rise, rise_one, rise_free, rise_take, lowest_below, place_filled, place_other, place_mapped}
+use Rattle.ux_model.proofs.Lists.Rising.{lowest_from_within}
+use Rattle.ux_model.proofs.Changes.Reaching.{may_change}
+use Rattle.ux_model.proofs.Changes.Obeying.{Obeys}
+use Rattle.ux_model.proofs.Steps.Calls.{each_obeys}
+use Rattle.ux_model.proofs.Processes.Living.{settled_keeps}
+use Rattle.ux_model.proofs.Tables.Queues.{queue_of, queue_in, Quiet, Mail, MayCarry, quiet_mail, quiet_after, quiet_table, quiet_new}
+use Rattle.ux_model.proofs.Tables.Queues.{quiet_put, quiet_by, quiet_socket, quiet_target, sent_mail, taken_mail, Waits, settled_waits}
+use Rattle.ux_model.proofs.Tables.Replacing.{Replaces, replaced_process, replaced_table, replaced_none, replaced_alike, tells_child}
+use Rattle.ux_model.proofs.Tables.Replacing.{live_process, held_alike, gives_none, IsPlain, changes, refusal, keeps_table, installs}
+use Rattle.ux_model.proofs.Tables.Shows.{Shows, silent, refuses, answers, by_socket}
+
+-- ---- new descriptions
+
+-- a new one of no queue, at the lowest free number
+made_shows : (S : State) (p tag n : ℕ) (request : Request) (D : Description) (flags : OpenFlags) (Q : Process) → process_at S p ≡ Some Q →
+    IsPlain request → lowest_free (table_of S p) ≡ Some n →
+    queue_of D.target ≡ [] → sources S p request ≡ next_description S ∷ [] → cloexec_of request ≡ asks_cloexec flags →
+    given S p request (Reply.Fd (fd_of n)) ≡ n ∷ [] →
+    Shows S p tag request (taking_memory (Reply.Fd (fd_of n))
+    (with_table (with_new S D) p (filled (table_of S p) n (descriptor flags (next_description S)))))
+made_shows S p tag n request D flags Q here plain low none source flag tells =
+    let table : List (Option Descriptor) = filled (table_of S p) n (descriptor flags (next_description S)) in
+    let r = replaced_table (with_new S D) p table Q here in
+    let long : length (sources S p request) ≡ 1 = ap (λ (l : List ℕ). length l) source in
+    record {
+      tables = installs S (with_table (with_new S D) p table) p request (Reply.Fd (fd_of n)) (n ∷ []) plain
+          (subst (λ (ds : List ℕ). Replaces S p (installed (cloexec_of request) (n ∷ []) ds (table_of S p))
+          (with_table (with_new S D) p table)) (sym source)
+          (subst (λ (c : Bool). Replaces S p (installed c (n ∷ []) (next_description S ∷ []) (table_of S p))
+          (with_table (with_new S D) p table)) (sym flag) (record { same = r.same; other = r.other })))
+          (rise_one n (length (table_of S p)) (lowest_below (table_of S p) n low)) (omega (arith, long)) tells refl;
+      mail = quiet_after S (with_new S D) (with_table (with_new S D) p table) p tag request (quiet_table (with_new S D) p table)
+          (quiet_mail S (with_new S D) p tag request (quiet_new S D none));
+    }
+
+pub open_shows : (S : State) (p tag : ℕ) (path : Name) (mode : Mode) (flags : OpenFlags) (Q : Process) → process_at S p ≡ Some Q →
+    Shows S p tag (Request.Open path mode flags) (open_file S p path mode flags)
+unfolding open_file
+open_shows S p tag path mode flags Q here =
+    either (Shows S p tag (Request.Open path mode flags)) (not (is_valid_path path)) _ _ (λ b. refuses refl)
+    (λ b. maybe (Shows S p tag (Request.Open path mode flags)) (named path S.paths) _ _ (refuses refl)
+    (λ t is. by_path (Shows S p tag (Request.Open path mode flags)) t _ _
+    (λ o led. maybe (Shows S p tag (Request.Open path mode flags)) (lowest_free (table_of S p)) _ _ (refuses refl)
+    (λ n low. made_shows S p tag n (Request.Open path mode flags) (file_description o mode flags) flags Q here
+    (record { no_end = refl; keeps = λ n held. refl }) low refl refl refl refl))
+    (λ d led. refuses refl)))
+
+pub socket_shows : (S : State) (p tag : ℕ) (kind : SockType) (flags : OpenFlags) (Q : Process) → process_at S p ≡ Some Q →
+    Shows S p tag (Request.Socket kind flags) (make_socket S p kind flags)
+unfolding make_socket
+socket_shows S p tag kind flags Q here = maybe (Shows S p tag (Request.Socket kind flags)) (lowest_free (table_of S p)) _ _ (refuses refl)
+    (λ n low. made_shows S p tag n (Request.Socket kind flags) (socket_description flags (new_socket kind)) flags Q here
+    (record { no_end = refl; keeps = λ n held. refl }) low refl refl refl refl)
+
+two_rise : (table : List (Option Descriptor)) (n : ℕ × ℕ) → two_lowest_free table ≡ Some n → Rise 0 (length table) (n.0 ∷ n.1 ∷ [])
+two_rise table n h = go (free_numbers table) refl (rise_free table)
+  where
+    go : (ns : List ℕ) → free_numbers table ≡ ns → Rise 0 (length table) ns → Rise 0 (length table) (n.0 ∷ n.1 ∷ [])
+    go [] e r = absurd (cc (rw e at h))
+    go (a ∷ []) e r = absurd (cc (rw e at h))
+    go (a ∷ b ∷ ns) e r =
+        let two : Some (a, b) ≡ Some n = rw e at h in
+        let same : (a, b) ≡ n = cc two in
+        subst (λ (m : ℕ × ℕ). Rise 0 (length table) (m.0 ∷ m.1 ∷ [])) same (r.0, r.1, (r.2.0, r.2.1, tt))
+
+pub pair_shows : (S : State) (p tag : ℕ) (kind : SockType) (flags : OpenFlags) →
+    Shows S p tag (Request.SocketPair kind flags) (make_pair S p kind flags)
+unfolding make_pair
+pair_shows S p tag kind flags = maybe (Shows S p tag (Request.SocketPair kind flags)) (process_at S p) _ _ (refuses refl)
+    (λ P h. maybe (Shows S p tag (Request.SocketPair kind flags)) (two_lowest_free P.table) _ _ (refuses refl) (λ n low. both P h n low))
+  where
+    both : (P : Process) → process_at S p ≡ Some P → (n : ℕ × ℕ) → two_lowest_free P.table ≡ Some n →
+        Shows S p tag (Request.SocketPair kind flags)
+        (taking_memory (Reply.Fds (fd_of n.0) (fd_of n.1)) (with_table (with_pair S kind flags (own_cred p P)) p
+        (filled (filled P.table n.0 (descriptor flags (next_description S))) n.1 (descriptor flags (suc (next_description S))))))
+    both P h n low =
+        let U : State = with_pair S kind flags (own_cred p P) in
+        let one : State = with_new S (socket_description flags (pair_end kind (suc (next_description S)) (own_cred p P))) in
+        let table : List (Option Descriptor) = filled (filled P.table n.0 (descriptor flags (next_description S))) n.1
+        (descriptor flags (suc (next_description S))) in
+        let same : P.table ≡ table_of S p = sym (ap table_in h) in
+        let r = replaced_table U p table P h in
+        record {
+          tables = installs S (with_table U p table) p (Request.SocketPair kind flags) (Reply.Fds (fd_of n.0) (fd_of n.1)) (n.0 ∷ n.1 ∷ [])
+              (record { no_end = refl; keeps = λ n held. refl })
+              (subst (λ (t : List (Option Descriptor)). Replaces S p
+              (installed (asks_cloexec flags) (n.0 ∷ n.1 ∷ []) (next_description S ∷ suc (next_description S) ∷ []) t)
+              (with_table U p table)) same
+              (record { same = r.same; other = r.other }))
+              (subst (λ (t : List (Option Descriptor)). Rise 0 (length t) (n.0 ∷ n.1 ∷ [])) same (two_rise P.table n low)) (omega arith)
+              refl refl;
+          mail = quiet_after S U (with_table U p table) p tag (Request.SocketPair kind flags) (quiet_table U p table)
+              (quiet_after S one U p tag (Request.SocketPair kind flags)
+              (quiet_new one (socket_description flags (pair_end kind (next_description S) (own_cred p P))) refl)
+              (quiet_mail S one p tag (Request.SocketPair kind flags)
+              (quiet_new S (socket_description flags (pair_end kind (suc (next_description S)) (own_cred p P))) refl)));
+        }
+
+-- ---- accept
+
+first_taken : (xs : List ℕ) (e : ℕ) → slice_get xs 0 ≡ Some e → take 1 xs ≡ e ∷ []
+first_taken [] e h = absurd (cc h)
+first_taken (x ∷ xs) e h = let same : x ≡ e = cc h in ap (λ l. x ∷ l) (take_none xs) ∙ ap (λ k. k ∷ []) same
+
+pub accept_shows : (S : State) (p tag : ℕ) (fd : Fd) (flags : OpenFlags) (Q : Process) → process_at S p ≡ Some Q →
+    Shows S p tag (Request.Accept fd flags) (accept S p fd flags)
+unfolding accept
+accept_shows S p tag fd flags Q here = by_socket (Shows S p tag (Request.Accept fd flags)) S p fd _ (λ e. refuses refl)
+    (λ d s h there. either (Shows S p tag (Request.Accept fd flags)) (is_dgram s.kind) _ _ (λ a. refuses refl)
+    (λ a. either (Shows S p tag (Request.Accept fd flags)) (is_none (listener_of s.phase)) _ _ (λ b. refuses refl)
+    (λ b. maybe (Shows S p tag (Request.Accept fd flags)) (lowest_free (table_of S p)) _ _ (refuses refl)
+    (λ n low. oldest d s h n low (slice_get (pending_ends s.phase) 0) refl))))
+  where
+    oldest : (d : ℕ) (s : Socket) → find_socket S p fd ≡ Ok (d, s) → (n : ℕ) → lowest_free (table_of S p) ≡ Some n → (o : Option ℕ) →
+        slice_get (pending_ends s.phase) 0 ≡ o →
+        Shows S p tag (Request.Accept fd flags) (accept_first S p n d flags o)
+    oldest d s h n low None first = refuses refl
+    oldest d s h n low (Some e) first =
+        let table : List (Option Descriptor) = filled (table_of S p) n (descriptor flags e) in
+        let T : State = with_table S p table in
+        let U : State = with_socket_by T d without_first_end in
+        let accepted : Acceptance = record { process = p; number = n; flags = flags; listener = d; oldest = e } in
+        let source : oldest_end S p fd ≡ e ∷ [] =
+        ap (λ r. elim r as (λ _. List ℕ) [ Err x ↦ [] | Ok w ↦ take 1 (pending_ends w.1.phase) ]) h
+        ∙ first_taken (pending_ends s.phase) e first in
+        let long : length (oldest_end S p fd) ≡ 1 = ap (λ (l : List ℕ). length l) source in
+        let r = replaced_table S p table Q here in
+        record {
+          tables = installs S (with_accepted S accepted) p (Request.Accept fd flags) (Reply.Accepted (fd_of n) (client_name S e)) (n ∷ [])
+              (record { no_end = refl; keeps = λ n held. refl })
+              (subst (λ (ds : List ℕ). Replaces S p (installed (asks_cloexec flags) (n ∷ []) ds (table_of S p)) (with_accepted S accepted))
+              (sym source)
+              (replaced_alike S T (with_accepted S accepted) p table refl r))
+              (rise_one n (length (table_of S p)) (lowest_below (table_of S p) n low)) (omega (arith, long)) refl refl;
+          mail = quiet_after S U (with_accepted S accepted) p tag (Request.Accept fd flags)
+              (quiet_by U e (accepted_with flags) (λ D. quiet_target as_accepted (λ s. refl) D.target))
+              (quiet_after S T U p tag (Request.Accept fd flags) (quiet_socket T d without_first_end (λ s. refl))
+              (quiet_mail S T p tag (Request.Accept fd flags) (quiet_table S p table)));
+        }
+
+-- ---- names and connections
+
+-- what was learnt of a call that touches no table, and leaves the processes
+silent_answer : {S : State} {p tag : ℕ} {request : Request} {reply : Reply} → IsPlain request → given S p request reply ≡ [] →
+    tells_child reply ≡ false → Shows S p tag request (taking_memory reply S)
+silent_answer {S} {p} {tag} {request} {reply} plain none childless = answers plain refl none childless (silent S)
+
+pub unlink_shows : (S : State) (p tag : ℕ) (path : Name) → Shows S p tag (Request.Unlink path) (unlink S path)
+unfolding unlink
+unlink_shows S p tag path = either (Shows S p tag (Request.Unlink path)) (not (is_valid_path path)) _ _ (λ b. refuses refl)
+    (λ b. either (Shows S p tag (Request.Unlink path)) (not (is_some (named path S.paths))) _ _ (λ b. refuses refl)
+    (λ b. answers (record { no_end = refl; keeps = λ n held. refl }) refl refl refl (λ d. refl)))
+
+bound_shows : (S : State) (p tag d : ℕ) (fd : Fd) (asked addr : Addr) → Shows S p tag (Request.Bind fd asked) (bind_to S d addr)
+bound_shows S p tag d fd asked Addr.Unnamed = maybe (Shows S p tag (Request.Bind fd asked)) (free_name S.abstract_names) _ _ (refuses refl)
+    (λ name h. answers (record { no_end = refl; keeps = λ n held. refl }) refl refl refl
+    (quiet_socket S d (with_name (Addr.Abstract name)) (λ s. refl)))
+bound_shows S p tag d fd asked (Addr.Path name) =
+    either (Shows S p tag (Request.Bind fd asked)) (is_some (named name S.paths)) _ _ (λ b. refuses refl)
+    (λ b. answers (record { no_end = refl; keeps = λ n held. refl }) refl refl refl
+    (quiet_socket S d (with_name (Addr.Path name)) (λ s. refl)))
+bound_shows S p tag d fd asked (Addr.Abstract name) =
+    either (Shows S p tag (Request.Bind fd asked)) (is_some (named name S.abstract_names)) _ _ (λ b. refuses refl)
+    (λ b. answers (record { no_end = refl; keeps = λ n held. refl }) refl refl refl
+    (quiet_socket S d (with_name (Addr.Abstract name)) (λ s. refl)))
+
+pub bind_shows : (S : State) (p tag : ℕ) (fd : Fd) (addr : Addr) → Shows S p tag (Request.Bind fd addr) (bind S p fd addr)
+unfolding bind
+bind_shows S p tag fd addr = by_socket (Shows S p tag (Request.Bind fd addr)) S p fd _ (λ e. refuses refl)
+    (λ d s h there. either (Shows S p tag (Request.Bind fd addr)) (not (is_unnamed_addr s.name) || not (is_valid_addr addr)) _ _
+    (λ b. refuses refl) (λ b. bound_shows S p tag d fd addr addr))
+
+pub sock_name_shows : (S : State) (p tag : ℕ) (fd : Fd) → Shows S p tag (Request.GetSockName fd) (get_sock_name S p fd)
+unfolding get_sock_name
+sock_name_shows S p tag fd = by_socket (Shows S p tag (Request.GetSockName fd)) S p fd _ (λ e. refuses refl)
+    (λ d s h there. silent_answer (record { no_end = refl; keeps = λ n held. refl }) refl refl)
+
+pub peer_name_shows : (S : State) (p tag : ℕ) (fd : Fd) → Shows S p tag (Request.GetPeerName fd) (get_peer_name S p fd)
+unfolding get_peer_name
+peer_name_shows S p tag fd = by_socket (Shows S p tag (Request.GetPeerName fd)) S p fd _ (λ e. refuses refl)
+    (λ d s h there. found_peer (Shows S p tag (Request.GetPeerName fd)) S s.phase _ (refuses refl)
+    (λ peer other there. silent_answer (record { no_end = refl; keeps = λ n held. refl }) refl refl))
+
+pub listen_shows : (S : State) (p tag : ℕ) (fd : Fd) (backlog : ℤ) → Shows S p tag (Request.Listen fd backlog) (listen S p fd backlog)
+unfolding listen
+listen_shows S p tag fd backlog = maybe (Shows S p tag (Request.Listen fd backlog)) (process_at S p) _ _ (refuses refl)
+    (λ P here. by_socket (Shows S p tag (Request.Listen fd backlog)) S p fd _ (λ e. refuses refl)
+    (λ d s h there. either (Shows S p tag (Request.Listen fd backlog)) (is_dgram s.kind) _ _ (λ b. refuses refl)
+    (λ b. either (Shows S p tag (Request.Listen fd backlog)) (is_some (peer_of s.phase)) _ _ (λ b. refuses refl)
+    (λ b. either (Shows S p tag (Request.Listen fd backlog)) (is_unnamed_addr s.name) _ _ (λ b. refuses refl)
+    (λ b. answers (record { no_end = refl; keeps = λ n held. refl }) refl refl refl
+    (quiet_socket S d (with_listening (backlog_of backlog) (own_cred p P)) (λ s. refl)))))))
+
+pub shutdown_shows : (S : State) (p tag : ℕ) (fd : Fd) (how : Mode) → Shows S p tag (Request.Shutdown fd how) (shutdown S p fd how)
+unfolding shutdown
+shutdown_shows S p tag fd how = by_socket (Shows S p tag (Request.Shutdown fd how)) S p fd _ (λ e. refuses refl)
+    (λ d s h there. either (Shows S p tag (Request.Shutdown fd how)) (is_none (tied_socket s.phase)) _ _ (λ b. refuses refl)
+    (λ b. answers (record { no_end = refl; keeps = λ n held. refl }) refl refl refl (quiet_socket S d (shut_down how) (λ s. refl))))
+
+quiet_connection : (S : State) (d : ℕ) (cred : Cred) (l : ℕ) (listener : Socket) (listener_cred : Cred) →
+    Quiet S (with_connection S (record { client = d; client_cred = cred; listener = l; socket = listener; listener_cred = listener_cred }))
+quiet_connection S d cred l listener listener_cred i =
+    let e : ℕ = next_description S in
+    let T : State = with_socket_by S l (awaiting e) in
+    let D : Description = socket_description no_open_flags (server_end listener d cred) in
+    quiet_socket (with_new T D) d (tied e listener_cred) (λ s. refl) i ∙ quiet_new T D refl i ∙ quiet_socket S l (awaiting e) (λ s. refl) i
+
+pub connect_shows : (S : State) (p tag : ℕ) (fd : Fd) (addr : Addr) → Shows S p tag (Request.Connect fd addr) (connect S p fd addr)
+unfolding connect
+connect_shows S p tag fd addr = maybe Q (process_at S p) _ _ (refuses refl) (λ P here. by_socket Q S p fd _ (λ e. refuses refl)
+    (λ d s h there. either Q (is_dgram s.kind) _ _ (λ b. datagram d s.kind) (λ b. stream d s (own_cred p P))))
+  where
+    Q : Outcome → Type 0
+    Q o = Shows S p tag (Request.Connect fd addr) o
+
+    plain : IsPlain (Request.Connect fd addr)
+    plain = record { no_end = refl; keeps = λ n held. refl }
+
+    associated : (d : ℕ) (target : Option ℕ) →
+        Shows S p tag (Request.Connect fd addr) (answer Reply.Ok (with_socket_by S d (with_association target)))
+    associated d target = answers plain refl refl refl (quiet_socket S d (with_association target) (λ s. refl))
+
+    datagram : (d : ℕ) (kind : SockType) → Shows S p tag (Request.Connect fd addr) (connect_datagram S d kind addr)
+    datagram d kind = either Q (not (is_valid_addr addr)) _ _ (λ b. refuses refl)
+        (λ b. either Q (is_unnamed_addr addr) _ _ (λ c. associated d None)
+        (λ c. found_named Q S kind addr _ (refuses refl) (refuses refl) (refuses refl) (refuses refl)
+        (λ t target there. either Q (takes_from d target.phase) _ _ (λ e. associated d (Some t)) (λ e. refuses refl))))
+
+    connected_to : (d : ℕ) (cred : Cred) (l : ℕ) (other : Socket) → Shows S p tag (Request.Connect fd addr) (connect_to S d cred l other)
+    connected_to d cred l other = maybe Q (listener_of other.phase) _ _ (refuses refl)
+        (λ kept h. either Q (nat_le kept.backlog.limit (length kept.backlog.pending)) _ _ (λ b. refuses refl)
+        (λ b. answers plain refl refl refl (quiet_connection S d cred l other kept.cred)))
+
+    stream : (d : ℕ) (s : Socket) (cred : Cred) → Shows S p tag (Request.Connect fd addr) (connect_stream S d s addr cred)
+    stream d s cred = either Q (not (is_valid_addr addr) || is_unnamed_addr addr || is_some (listener_of s.phase)) _ _ (λ b. refuses refl)
+        (λ b. either Q (is_some (peer_of s.phase)) _ _ (λ c. refuses refl)
+        (λ c. found_named Q S s.kind addr _ (refuses refl) (refuses refl) (refuses refl) (refuses refl)
+        (λ l other there. connected_to d cred l other)))
+
+-- ---- options and readiness
+
+cred_shows : (S : State) (p tag : ℕ) (fd : Fd) (opt : SockOpt) (cred : Option Cred) →
+    Shows S p tag (Request.GetOpt fd opt) (tell_cred S cred)
+cred_shows S p tag fd opt None = refuses refl
+cred_shows S p tag fd opt (Some cred) = answers (record { no_end = refl; keeps = λ n held. refl }) refl refl refl (silent S)
+
+option_shows : (S : State) (p tag d : ℕ) (fd : Fd) (s : Socket) (asked opt : SockOpt) →
+    Shows S p tag (Request.GetOpt fd asked) (tell_option S d s opt)
+option_shows S p tag d fd s asked SockOpt.Kind = answers (record { no_end = refl; keeps = λ n held. refl }) refl refl refl (silent S)
+option_shows S p tag d fd s asked SockOpt.Error =
+    answers (record { no_end = refl; keeps = λ n held. refl }) refl refl refl (quiet_socket S d (with_reset false) (λ s. refl))
+option_shows S p tag d fd s asked SockOpt.PassCred = answers (record { no_end = refl; keeps = λ n held. refl }) refl refl refl (silent S)
+option_shows S p tag d fd s asked SockOpt.PeerCred = cred_shows S p tag fd asked s.peer_cred
+option_shows S p tag d fd s asked SockOpt.AcceptConn = answers (record { no_end = refl; keeps = λ n held. refl }) refl refl refl (silent S)
+option_shows S p tag d fd s asked SockOpt.QueueLimit = either (Shows S p tag (Request.GetOpt fd asked)) (is_stream s.kind) _ _
+    (λ b. answers (record { no_end = refl; keeps = λ n held. refl }) refl refl refl (silent S)) (λ b. refuses refl)
+
+pub get_opt_shows : (S : State) (p tag : ℕ) (fd : Fd) (opt : SockOpt) → Shows S p tag (Request.GetOpt fd opt) (get_opt S p fd opt)
+unfolding get_opt
+get_opt_shows S p tag fd opt = by_socket (Shows S p tag (Request.GetOpt fd opt)) S p fd _ (λ e. refuses refl)
+    (λ d s h there. option_shows S p tag d fd s opt opt)
+
+change_shows : (S : State) (p tag d : ℕ) (fd : Fd) (s : Socket) (asked opt : SockOpt) (value : ℕ) →
+    Shows S p tag (Request.SetOpt fd asked value) (change_option S d s value opt)
+change_shows S p tag d fd s asked opt value = by_option opt
+  where
+    Q : Outcome → Type 0
+    Q o = Shows S p tag (Request.SetOpt fd asked value) o
+
+    plain : IsPlain (Request.SetOpt fd asked value)
+    plain = record { no_end = refl; keeps = λ n held. refl }
+
+    passing : (on : Bool) → Shows S p tag (Request.SetOpt fd asked value) (answer Reply.Ok (with_socket_by S d (with_passcred on)))
+    passing on = answers plain refl refl refl (quiet_socket S d (with_passcred on) (λ s. refl))
+
+    bound : (name : Name) → Quiet S (with_socket_by
+        (record (with_socket_by S d (with_name (Addr.Abstract name))) { abstract_names = S.abstract_names ++ (name, d) ∷ [] }) d
+        (with_passcred true))
+    bound name i = quiet_socket (with_socket_by S d (with_name (Addr.Abstract name))) d (with_passcred true) (λ s. refl) i
+        ∙ quiet_socket S d (with_name (Addr.Abstract name)) (λ s. refl) i
+
+    on : Shows S p tag (Request.SetOpt fd asked value) (pass_cred_on S d s)
+    on = either Q (not (is_unnamed_addr s.name) || is_some (tied_socket s.phase)) _ _ (λ b. passing true)
+        (λ b. maybe Q (free_name S.abstract_names) _ _ (refuses refl) (λ name free. answers plain refl refl refl (bound name)))
+
+    by_option : (o : SockOpt) → Shows S p tag (Request.SetOpt fd asked value) (change_option S d s value o)
+    by_option SockOpt.Kind = refuses refl
+    by_option SockOpt.Error = refuses refl
+    by_option SockOpt.PassCred = either Q (value == 0) _ _ (λ b. passing false) (λ b. on)
+    by_option SockOpt.PeerCred = refuses refl
+    by_option SockOpt.AcceptConn = refuses refl
+    by_option SockOpt.QueueLimit = either Q (not (is_stream s.kind)) _ _ (λ b. refuses refl)
+        (λ b. either Q (not (may_limit value)) _ _ (λ c. refuses refl)
+        (λ c. answers plain refl refl refl (quiet_socket S d (with_queue_limit value) (λ s. refl))))
+
+pub set_opt_shows : (S : State) (p tag : ℕ) (fd : Fd) (opt : SockOpt) (value : ℕ) →
+    Shows S p tag (Request.SetOpt fd opt value) (set_opt S p fd opt value)
+unfolding set_opt
+set_opt_shows S p tag fd opt value = by_socket (Shows S p tag (Request.SetOpt fd opt value)) S p fd _ (λ e. refuses refl)
+    (λ d s h there. change_shows S p tag d fd s opt opt value)
+
+pub poll_shows : (S : State) (p tag : ℕ) (fd : Fd) → Shows S p tag (Request.Poll fd) (poll S p fd)
+unfolding poll
+poll_shows S p tag fd = maybe (Shows S p tag (Request.Poll fd)) (descriptor_at S p fd) _ _ (answers plain refl refl refl (silent S))
+    (λ e h. answers plain refl refl refl (silent S))
+  where
+    plain : IsPlain (Request.Poll fd)
+    plain = record { no_end = refl; keeps = λ n held. refl }
