@@ -1,7 +1,7 @@
 //! The command line.
 
 use crate::forms::with_forms;
-use crate::orders::{LIMIT, NO_LIMIT, NO_ORDER, with_orders};
+use crate::orders::{LIMIT, NO_LIMIT, NO_ORDER, Orders, with_orders};
 use crate::point::{Point, number_of};
 use crate::views::{NO_POINT, point_of, with_views};
 use clap::error::ErrorKind;
@@ -33,8 +33,8 @@ pub struct Args<'a> {
     pub sequence: bool,
     /// In which order the processes' lines are made, where it isn't that of the script.
     pub order: Option<Order>,
-    /// How many orders are made at most, where all are asked for.
-    pub orders: Option<u32>,
+    /// Which orders are made, where all are asked for.
+    pub orders: Option<Orders>,
     /// Whether what is printed is JSON, one value a line.
     pub json: bool,
     /// Whether each line is run as soon as it is read.
@@ -139,11 +139,12 @@ fn order_of(alloc: Global, matches: &ArgMatches<'_>) -> Result<Option<Option<Ord
     }
 }
 
-/// How many orders are made at most, where all are asked for. None where that isn't a number.
-fn orders_of(matches: &ArgMatches<'_>) -> Option<Option<u32>> {
+/// Which orders are made, where all are asked for. None where the limit isn't a number.
+fn orders_of(matches: &ArgMatches<'_>) -> Option<Option<Orders>> {
     let limit = match matches.get_str("limit") {
         Some(text) => number_of(text)?,
         None => LIMIT,
     };
-    Some(matches.get_flag("orders").then_some(limit))
+    let each = matches.get_flag("each");
+    Some(matches.get_flag("orders").then_some(Orders { limit, each }))
 }

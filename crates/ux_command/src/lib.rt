@@ -13,5 +13,6 @@ mod views;
 pub use args::{Args, read_args};
 pub use fault::Fault;
 pub use meter::Meter;
+pub use orders::Orders;
 pub use point::Point;
 pub use source::{Kept, Source};

@@ -2,7 +2,16 @@
 use clap::{Arg, ArgAction, Command};
 use std::alloc::{AllocError, Global};
 
-/// How many orders are made where all are asked for, and no limit is given.
+/// Which orders are made, where all are asked for.
+#[derive(Debug, Clone, Copy, PartialEq, Eq)]
+pub struct Orders {
+    /// At most so many runs are begun.
+    pub limit: u32,
+    /// Whether each is made by itself, also where it comes to the same as another.
+    pub each: bool,
+}
+
+/// How many runs are begun where all orders are asked for, and no limit is given.
 pub(crate) const LIMIT: u32 = 1_000_000;
 
 /// Why the value of `--order` isn't taken.
@@ -13,7 +22,7 @@ pub(crate) const NO_ORDER: &str =
 pub(crate) const NO_LIMIT: &str =
     "N of --limit is a number from 0 to 4294967295, without leading zeros";
 
-/// The command with the options for one order, for all, and for how many of all at most.
+/// The command with the options for one order, for all, for how many runs at most, and for those that come to the same.
 pub(crate) fn with_orders<'a>(
     alloc: Global,
     command: Command<'a>,
@@ -44,5 +53,10 @@ pub(crate) fn with_orders<'a>(
         .action(ArgAction::Set)
         .requires_arg("orders")?
         .help("Makes at most N orders, a million where it isn't given");
-    command.arg(order)?.arg(orders)?.arg(limit)
+    let each = Arg::new(alloc, "each")
+        .long("each")
+        .action(ArgAction::SetTrue)
+        .requires_arg("orders")?
+        .help("Makes each order by itself, also where others come to the same");
+    command.arg(order)?.arg(orders)?.arg(limit)?.arg(each)
 }

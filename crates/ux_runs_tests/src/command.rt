@@ -4,7 +4,7 @@ use hoard::Purse;
 use std::alloc::{AllocError, Global};
 use std::process::Abort;
 use std::test::Fail;
-use ux_command::{Fault, Point, read_args};
+use ux_command::{Fault, Orders, Point, read_args};
 use ux_kernel::BootFault;
 use ux_object::ObjError;
 use ux_syntax::ScriptFault;
@@ -130,6 +130,51 @@ fn an_echo_and_a_comparison_are_asked_for(rt: HostRuntime) -> Result<(), Fail> {
         };
         assert!(rt; args.echo == echo && args.expect == expect);
         assert!(rt; !args.check && !args.threads && args.script == "a.ux");
+    }
+    Ok(())
+}
+
+/// What is asked for beside `--orders`, and which orders are made then.
+const ALL_ORDERS: &[(&[&str], Orders)] = &[
+    (
+        &["uxrun", "--orders", "a.ux"],
+        Orders {
+            limit: 1_000_000,
+            each: false,
+        },
+    ),
+    (
+        &["uxrun", "--orders", "--limit", "0", "a.ux"],
+        Orders {
+            limit: 0,
+            each: false,
+        },
+    ),
+    (
+        &["uxrun", "--each", "--orders", "--limit=7", "a.ux"],
+        Orders {
+            limit: 7,
+            each: true,
+        },
+    ),
+];
+
+#[test]
+fn all_orders_are_asked_for(rt: HostRuntime) -> Result<(), Fail> {
+    for (words, orders) in ALL_ORDERS {
+        let words = texts(rt.alloc(), words)?;
+        let Ok(args) = read_args(rt.alloc(), words.as_slice()) else {
+            return Err(Fail::from("not understood"));
+        };
+        assert!(rt; args.orders == Some(*orders) && args.order.is_none());
+        assert_eq!(rt; args.script, "a.ux");
+    }
+    for option in ["--each", "--limit=7"] {
+        let words = texts(rt.alloc(), &["uxrun", option, "a.ux"])?;
+        let told = read_args(rt.alloc(), words.as_slice())
+            .err()
+            .ok_or("understood")?;
+        assert!(rt; told.kind() == ErrorKind::MissingRequiredArgument);
     }
     Ok(())
 }

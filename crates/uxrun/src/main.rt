@@ -51,9 +51,9 @@ fn run<
     if script.serial && (args.order.is_some() || args.orders.is_some()) {
         return Err(Fault::Script(ScriptFault::OneOrder));
     }
-    if let Some(limit) = args.orders {
+    if let Some(orders) = args.orders {
         let expected = args.expect.then_some(expected.as_slice());
-        return tell_orders(rt, &script, expected, limit, args.progress);
+        return tell_orders(rt, &script, expected, orders, args.progress);
     }
     let history = history_of(rt, args, &script, &expected)?;
     print_run(rt, args, &script, &expected, &history)?;

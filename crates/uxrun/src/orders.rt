@@ -10,10 +10,12 @@ use std::io;
 use std::io::BufWriter;
 use std::random::RandomSource;
 use std::rt::Clock;
-use ux_command::{Fault, Meter};
+use ux_command::{Fault, Meter, Orders};
 use ux_kernel::Kernel;
 use ux_objects::FailAt;
-use ux_orders::{Boot, Order, OrderFault, OrderList, Ran, Reduction, explore, make_order};
+use ux_orders::{
+    Boot, Found, Order, OrderFault, OrderList, Ran, Reduction, explore, explore_each, make_order,
+};
 use ux_script::{differences, finish_trace, line_numbers, put_all};
 use ux_syntax::{Expectation, Script, ScriptFault, Waiting};
 use ux_types::{Entry, Pid};
@@ -85,13 +87,32 @@ pub fn run_in_order<R: RandomSource + AllocGlobal>(
     }
 }
 
+/// What the orders of the script come to.
+fn found_of<R: Clock + Eprint + RandomSource + AllocGlobal>(
+    alloc: Global,
+    script: &Script,
+    machine: &mut Machine<'_, R>,
+    orders: Orders,
+) -> Result<Found, Fault> {
+    let limit = u64::from(orders.limit);
+    let found = if orders.each {
+        explore_each(alloc, script, machine, limit)
+    } else {
+        explore(alloc, script, machine, limit, Reduction::all())
+    };
+    match found {
+        Ok(found) => Ok(found),
+        Err(fault) => Err(machine.fault.take().unwrap_or(Fault::from(fault))),
+    }
+}
+
 /// Runs the script in all orders, but at most in so many, and prints what they come to: how many orders and outcomes
 /// there are, and of each outcome the order, the trace, and where answers are expected which of them differ.
 pub fn tell_orders<R: Print + Clock + Eprint + RandomSource + AllocGlobal>(
     rt: &R,
     script: &Script,
     expected: Option<&[Expectation]>,
-    limit: u32,
+    orders: Orders,
     is_shown: bool,
 ) -> Result<(), Fault> {
     let mut machine = Machine {
@@ -99,11 +120,7 @@ pub fn tell_orders<R: Print + Clock + Eprint + RandomSource + AllocGlobal>(
         meter: Meter::new(rt, is_shown, "orders begun"),
         fault: None,
     };
-    let limit = u64::from(limit);
-    let found = match explore(rt.alloc(), script, &mut machine, limit, Reduction::all()) {
-        Ok(found) => found,
-        Err(fault) => return Err(machine.fault.take().unwrap_or(Fault::from(fault))),
-    };
+    let found = found_of(rt.alloc(), script, &mut machine, orders)?;
     let count = found.outcomes.len();
     let deadlocks = found
         .outcomes
