@@ -252,6 +252,35 @@ fn print_time<R: Clock + Eprint, L: Layer>(
     Ok(())
 }
 
+/// Prints the names of all kinds of calls.
+pub(crate) fn print_names(rt: &impl Print) -> Result<()> {
+    for (name, _) in ALL {
+        println!(rt; "{name}")?;
+    }
+    Ok(())
+}
+
+/// Makes the calls of this name so many times over: what they cost is counted from beside the program.
+pub(crate) fn make_turns<L: Layer>(
+    alloc: Global,
+    layer: &mut L,
+    name: &str,
+    turns: u32,
+) -> Result<()> {
+    let Some((_, calls)) = ALL.iter().find(|(known, _)| *known == name) else {
+        return Err(anyhow!("no calls are named {name}"));
+    };
+    let measured = Requests::of(alloc, calls.measured)?;
+    let requests = measured.as_slice();
+    make_rows(alloc, layer, CALLER, calls.before)?;
+    for _ in 0..turns {
+        if count_granted(layer, requests) != requests.len() {
+            return Err(anyhow!("a call wasn't granted"));
+        }
+    }
+    Ok(())
+}
+
 /// Prints the time of each kind of call on a layer.
 pub(crate) fn measure<R: Clock + Eprint, L: Layer>(
     rt: &R,

@@ -2,6 +2,9 @@
 //! descriptions made before, names in use, and entries in the book. Then calls by seats: by 1, 2, 4 and 8 threads,
 //! none of which waits for another, over a book that keeps each call and over one that keeps none, and by two
 //! threads that wait for one another. The times go to standard error.
+//!
+//! With arguments it makes the calls of one kind so many times over, for a counter of instructions
+//! (`bench/instructions`).
 #![tactic(auto)]
 
 mod alone;
@@ -15,13 +18,14 @@ ghost use Rattle.std.specs.Prelude.{◌≡◌, []};
 ghost use Rattle.ux_model.specs.Boot.{IsBootState};
 
 use crate::alone::{measure_alone, time_apart, time_running};
-use crate::calls::{measure, measure_connection};
+use crate::calls::{make_turns, measure, measure_connection, print_names};
 use crate::layers::{Layer, PROCESSES, Recorded, Stepped, boot, fill, hold_names, make_before};
 use crate::rows::Giving;
 use crate::seats::{TURNS, each};
 use crate::together::time_in_turns;
 use anyhow::{Result, anyhow};
 use std::alloc::Global;
+use std::env;
 use std::marker::Brand;
 use std::rt::Clock;
 use std::sync::Wait;
@@ -34,7 +38,7 @@ use ux_objects::Plain;
 
 /// What is measured on a layer that isn't shared.
 #[derive(Clone, Copy)]
-enum Measured {
+enum Measured<'a> {
     /// Each kind of call, with so many descriptors open, after so many descriptions of sockets were made and
     /// closed.
     Calls { open: u32, made: u32 },
@@ -42,10 +46,12 @@ enum Measured {
     Connections { names: u32, title: &'static str },
     /// An exchange of one byte.
     Exchange,
+    /// The calls of this name, so many times over, without a clock.
+    Turns { name: &'a str, turns: u32 },
 }
 
 /// Connections with few and with many names in use.
-const CONNECTIONS: [Measured; 3] = [
+const CONNECTIONS: [Measured<'static>; 3] = [
     Measured::Connections {
         names: 10,
         title: "socket, connect, accept, two closes, 10 names",
@@ -66,7 +72,7 @@ fn measure_on<R: Clock + Eprint, L: Layer>(
     alloc: Global,
     what: &str,
     layer: &mut L,
-    measured: Measured,
+    measured: Measured<'_>,
 ) -> Result<()> {
     match measured {
         Measured::Calls { open, made } => {
@@ -80,11 +86,15 @@ fn measure_on<R: Clock + Eprint, L: Layer>(
             measure_connection(rt, alloc, what, layer, title)
         }
         Measured::Exchange => measure_alone(rt, alloc, what, layer),
+        Measured::Turns { name, turns } => {
+            fill(alloc, layer, 4)?;
+            make_turns(alloc, layer, name, turns)
+        }
     }
 }
 
 /// Measures a kernel alone.
-fn by_step<R: Clock + Eprint>(rt: &R, alloc: Global, measured: Measured) -> Result<()> {
+fn by_step<R: Clock + Eprint>(rt: &R, alloc: Global, measured: Measured<'_>) -> Result<()> {
     let mut layer = Stepped::new(alloc)?;
     measure_on(rt, alloc, "step", &mut layer, measured)
 }
@@ -94,7 +104,7 @@ fn by_record<R: Clock + Eprint>(
     rt: &R,
     alloc: Global,
     giving: Giving,
-    measured: Measured,
+    measured: Measured<'_>,
 ) -> Result<()> {
     let kernel = boot(alloc, PROCESSES)?;
     record_named::<Brand, R>(rt, alloc, giving, Trail::new(alloc)?, kernel, measured)
@@ -107,7 +117,7 @@ fn record_named<W: BookName, R: Clock + Eprint>(
     giving: Giving,
     trail: Trail,
     kernel: Kernel<Plain>,
-    measured: Measured,
+    measured: Measured<'_>,
 ) -> Result<()>
     requires trail { trail ≡ record { id = W.trail; entries = []; given = 0 } }
     requires boots { IsBootState kernel }
@@ -227,7 +237,38 @@ fn measure_layers<R: Clock + Eprint>(rt: &R, alloc: Global) -> Result<()> {
     Ok(())
 }
 
+/// How the program is called where it measures no times.
+const USAGE: &str = "bench_calls [names | step NAME TURNS | record NAME TURNS]";
+
+/// Prints the names of the kinds of calls, or makes the calls of one kind so many times over.
+fn make_asked<R: Clock + Print + Eprint + AllocGlobal>(rt: &R, words: &[String]) -> Result<()> {
+    let [layer, name, turns] = words else {
+        return match words {
+            [word] if word.as_str() == "names" => print_names(rt),
+            _ => Err(anyhow!("{USAGE}")),
+        };
+    };
+    let Ok(turns) = turns.parse::<u32>() else {
+        return Err(anyhow!("{USAGE}"));
+    };
+    let name = name.as_str();
+    match layer.as_str() {
+        "step" => by_step(rt, rt.alloc(), Measured::Turns { name, turns }),
+        "record" => by_record(
+            rt,
+            rt.alloc(),
+            Giving::Again,
+            Measured::Turns { name, turns },
+        ),
+        _ => Err(anyhow!("{USAGE}")),
+    }
+}
+
 fn main(rt: HostRuntime) -> Result<()> {
+    let words = env::args(&rt)?.collect::<Vec<String>>(rt.alloc())?;
+    if words.len() > 1 {
+        return make_asked(&rt, &words[1..]);
+    }
     measure_layers(&rt, rt.alloc())?;
     measure_threads(&rt)?;
     println!(rt; "done")?;

@@ -1,4 +1,6 @@
 //! A queue of whole messages: taken, peeked at, cut, and with little memory.
+ghost use Rattle.std.specs.Prelude.{◌<◌, length};
+
 use crate::values::{expect_references, is_refused, path, references};
 use hoard::Hoard;
 use linked_list_allocator::LocalHeap;
