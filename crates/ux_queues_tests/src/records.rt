@@ -70,7 +70,10 @@ fn receive<A: Allocator + Copy>(
     let received = queue.peek(n)?;
     match queue.pop_message() {
         Some((rights, uid)) => {
-            assert_eq!(rt; (rights.len(), uid), (received.rights.len(), 1000));
+            assert_eq!(rt; rights.len(), received.rights.len());
+            if let Some(origin) = &received.origin {
+                assert_eq!(rt; origin.uid, uid);
+            }
         }
         None => assert!(rt; false),
     }
