@@ -7,7 +7,7 @@ ghost use Rattle.ux_book.specs.Keeping.{IsReady};
 
 use crate::fault::CallFault;
 use std::alloc::{AllocError, Global};
-use ux_room::ReplyRoom;
+use ux_reply_room::ReplyRoom;
 use ux_types::{Done, Entry, Pid, Released, Request};
 
 /// What keeps the entries of a book, or counts them.

@@ -6,7 +6,7 @@ use Rattle.std.proofs.lemmas.Bool.{cases_lt}
 use Rattle.std.proofs.lemmas.List.{at_drop_more, drop_all}
 use Rattle.ux_model.specs.Places.{place, empty_places_from}
 use Rattle.ux_model.specs.Process.{Descriptor}
-use Rattle.ux_marks.specs.Marking.{is_marked, IsFirstClear, FindsClear}
+use Rattle.ux_number_sets.specs.Marking.{is_marked, IsFirstClear, FindsClear}
 use Rattle.ux_fdtable.specs.Padded.{padded, IsTable, FindsFree}
 use Rattle.ux_fdtable.proofs.Places.{length-padded, place_padded}
 

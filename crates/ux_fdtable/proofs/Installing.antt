@@ -9,7 +9,7 @@ use Rattle.ux_model.specs.Places.{filled, empty_places_from}
 use Rattle.ux_model.specs.Process.{Descriptor, free_numbers}
 use Rattle.ux_model.specs.Delivery.{installed}
 use Rattle.ux_types.specs.declared.identity.Fd.{Fd}
-use Rattle.ux_marks.specs.Marking.{PutsMark}
+use Rattle.ux_number_sets.specs.Marking.{PutsMark}
 use Rattle.ux_fdtable.specs.Padded.{AreBelow, IsReaching, IsTable, padded}
 use Rattle.ux_fdtable.proofs.Places.{length-padded, padded_padded, place_padded, set_padded}
 

@@ -8,7 +8,7 @@ use Rattle.std.proofs.lemmas.List.{length-take-le, get_or_append_left, get_or-ap
 use Rattle.std.proofs.lemmas.List.{get_or-set_other, set-append_left, set-append_right, set-get_or, drop_more, map_more}
 use Rattle.ux_model.specs.Places.{place}
 use Rattle.ux_model.specs.Process.{Descriptor}
-use Rattle.ux_marks.specs.Marking.{PutsMark}
+use Rattle.ux_number_sets.specs.Marking.{PutsMark}
 use Rattle.ux_fdtable.specs.Padded.{padded, IsTable}
 
 pub length-padded : (xs : List (Option Descriptor)) (n : ℕ) → length (padded xs n) ≡ max (length xs) n

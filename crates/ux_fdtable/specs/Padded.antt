@@ -5,7 +5,7 @@ use Rattle.std.specs.List.{AllByRecursion}
 use Rattle.ux_model.specs.Limits.{table_limit}
 use Rattle.ux_model.specs.Places.{place, empty_places_from}
 use Rattle.ux_model.specs.Process.{Descriptor}
-use Rattle.ux_marks.specs.Marking.{is_marked}
+use Rattle.ux_number_sets.specs.Marking.{is_marked}
 
 -- the places of a table, with empty ones up to its limit
 abbrev pub padded : List (Option Descriptor) → ℕ → List (Option Descriptor)

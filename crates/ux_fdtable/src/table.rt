@@ -15,7 +15,7 @@ use super::descriptor::Descriptor;
 use std::alloc::{AllocError, Global};
 use std::marker::Model;
 use thiserror::Error;
-use ux_marks::Marks;
+use ux_number_sets::Marks;
 use ux_rights::Reference;
 use ux_types::{DescriptionId, Errno, Fd, Refusal, TABLE_LIMIT};
 

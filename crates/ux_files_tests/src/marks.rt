@@ -3,7 +3,7 @@ use hoard::Hoard;
 use std::alloc::AllocError;
 use std::process::Abort;
 use std::test::Fail;
-use ux_marks::{GroupedMarks, Marks};
+use ux_number_sets::{GroupedMarks, Marks};
 
 /// Marks so many numbers, each of which is the first that isn't marked.
 fn fill(rt: &impl Abort, marks: &mut Marks, numbers: usize) {

@@ -7,7 +7,7 @@ use crate::listed::add;
 use crate::rows::{DescriptionRow, TargetRow};
 use crate::sockets::socket_row;
 use std::alloc::{AllocError, Global};
-use ux_desc::Description;
+use ux_description::Description;
 use ux_object::FileObject;
 use ux_state::State;
 use ux_types::DescriptionId;

@@ -8,7 +8,7 @@ use crate::listed::add;
 use crate::rows::{MessageRow, SocketRow};
 use std::alloc::{AllocError, Global};
 use ux_backlog::Backlog;
-use ux_desc::Socket;
+use ux_description::Socket;
 use ux_rights::Reference;
 use ux_types::DescriptionId;
 

@@ -7,7 +7,7 @@ ghost use Rattle.ux_model.specs.Descriptors as model;
 
 use crate::kernel::Kernel;
 use bitflags::Flags;
-use ux_desc::Description;
+use ux_description::Description;
 use ux_fdtable::Descriptor;
 use ux_object::FileObject;
 use ux_types::{Errno, Fd, OpenFlags, Pid, Refusal, Reply};

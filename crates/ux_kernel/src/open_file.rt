@@ -3,7 +3,7 @@ ghost use Rattle.std.specs.Prelude.{◌≡◌, Some, None, MatchOption};
 ghost use Rattle.ux_model.specs.Description.{object_of};
 ghost use Rattle.ux_kernel.specs.FileCalls.{description_of, errno_of};
 
-use ux_desc::Description;
+use ux_description::Description;
 use ux_object::ObjError;
 use ux_types::{DescriptionId, Errno, Mode};
 

@@ -5,7 +5,7 @@ ghost use Rattle.ux_model.specs.Options as model;
 ghost use Rattle.ux_msg.specs.Answers.{Gives};
 
 use crate::kernel::Kernel;
-use ux_desc::Socket;
+use ux_description::Socket;
 use ux_object::FileObject;
 use ux_state::FoundSocket;
 use ux_types::{Errno, Fd, GREATEST_QUEUE_LIMIT, Pid, Refusal, Reply, SockOpt, SockType};

@@ -17,7 +17,7 @@ use crate::flight::is_over_limit;
 use bitflags::Flags;
 use std::alloc::Global;
 use ux_cmsg::{Control, check_cred, read_control};
-use ux_desc::Socket;
+use ux_description::Socket;
 use ux_fdtable::Table;
 use ux_names::{is_unnamed, is_valid_addr};
 use ux_object::FileObject;

@@ -6,7 +6,7 @@ use Rattle.std.proofs.lemmas.Bool.{cases_eq, cases_lt, lt-ltb, le-ltb}
 use Rattle.ux_model.specs.Types.{Name}
 use Rattle.ux_model.specs.Limits.{autobind_names}
 use Rattle.ux_model.specs.Names.{named, without_name, hex_digit, autobind_name, lowest_from, free_name}
-use Rattle.ux_marks.specs.Marking.{is_marked, IsUnmarked, IsFirstClear, FindsClear, PutsMark}
+use Rattle.ux_number_sets.specs.Marking.{is_marked, IsUnmarked, IsFirstClear, FindsClear, PutsMark}
 use Rattle.ux_names.specs.Marked.{AreMarked, PutsName}
 use Rattle.ux_names.proofs.NameLaws.{same_name_tells, named_appended, other_appended, named_without, other_without}
 

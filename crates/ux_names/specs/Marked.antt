@@ -3,7 +3,7 @@ use Rattle.std.specs.Prelude.{◌≡◌, ◌≢◌, ℕ, ◌<◌, Bool, List, le
 use Rattle.ux_model.specs.Types.{Name}
 use Rattle.ux_model.specs.Limits.{autobind_names}
 use Rattle.ux_model.specs.Names.{named, autobind_name}
-use Rattle.ux_marks.specs.Marking.{is_marked}
+use Rattle.ux_number_sets.specs.Marking.{is_marked}
 
 -- the numbers whose names are in use are marked
 pub record AreMarked (names : List (Name × ℕ)) (numbers : List Bool) : Type 0 where

@@ -10,7 +10,7 @@ use crate::refusals::{AutobindError, BindError};
 use crate::seed::Seed;
 use std::alloc::{AllocError, Global};
 use std::marker::Model;
-use ux_marks::GroupedMarks;
+use ux_number_sets::GroupedMarks;
 use ux_types::{DescriptionId, Name};
 
 /// How many groups of marks the numbers of autobind take.

@@ -3,7 +3,7 @@ use crate::spelled::Spelled;
 use crate::touched::bytes_taken;
 use std::alloc::{AllocError, Global};
 use ux_backlog::Backlog;
-use ux_desc::{Description, Socket, Unread};
+use ux_description::{Description, Socket, Unread};
 use ux_names::PathTarget;
 use ux_object::FileObject;
 use ux_state::State;

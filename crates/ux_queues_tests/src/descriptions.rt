@@ -6,7 +6,7 @@ use crate::values::{expect_references, path, references};
 use std::alloc::{AllocError, Global};
 use std::process::Abort;
 use ux_backlog::PushError;
-use ux_desc::{Description, Socket, Target};
+use ux_description::{Description, Socket, Target};
 use ux_record::Received;
 use ux_rights::{Draft, RefList, SendError};
 use ux_types::{Addr, Bytes, Cred, DescriptionId, Mode, OpenFlags, Pid, SockType};

@@ -3,7 +3,7 @@
 use crate::values::{path, references};
 use std::alloc::AllocError;
 use std::process::Abort;
-use ux_desc::Socket;
+use ux_description::Socket;
 use ux_rights::{Draft, RefList};
 use ux_types::{Addr, Bytes, Cred, DescriptionId, Pid, SockType};
 

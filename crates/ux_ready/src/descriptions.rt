@@ -5,7 +5,7 @@ ghost use Rattle.ux_model.specs.Readiness as model;
 use crate::conditions::Conditions;
 use crate::files::object_conditions;
 use crate::sockets::socket_conditions;
-use ux_desc::Description;
+use ux_description::Description;
 use ux_object::FileObject;
 use ux_state::State;
 use ux_types::{DescriptionId, PollFlags};

@@ -4,7 +4,7 @@ ghost use Rattle.ux_model.specs.Places.{place};
 ghost use Rattle.ux_model.specs.Readiness as model;
 
 use crate::conditions::Conditions;
-use ux_desc::Description;
+use ux_description::Description;
 use ux_object::{FileObject, ObjKind};
 use ux_state::State;
 

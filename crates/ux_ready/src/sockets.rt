@@ -4,7 +4,7 @@ ghost use Rattle.ux_model.specs.Connecting.{listener_of};
 ghost use Rattle.ux_model.specs.Readiness as model;
 
 use crate::conditions::Conditions;
-use ux_desc::Socket;
+use ux_description::Socket;
 use ux_object::FileObject;
 use ux_state::State;
 use ux_types::DescriptionId;

@@ -11,7 +11,7 @@ ghost use Rattle.ux_state.specs.Moves.{IsUnnamedAt};
 
 use crate::state::State;
 use std::alloc::AllocError;
-use ux_desc::Description;
+use ux_description::Description;
 use ux_names::{AbstractNames, AutobindError, BindError, PathTarget};
 use ux_object::FileObject;
 use ux_slots::Slots;

@@ -16,7 +16,7 @@ use crate::entries::new_entry;
 use crate::state::State;
 use std::alloc::Global;
 use ux_backlog::PushError;
-use ux_desc::{Description, Socket};
+use ux_description::{Description, Socket};
 use ux_fdtable::InstallError;
 use ux_object::FileObject;
 use ux_slots::Slots;

@@ -11,7 +11,7 @@ ghost use Rattle.ux_state.specs.Moves.{at_offset, IsSocketAt, AreReferenced};
 
 use crate::references::{have_room, release_all, retain_all};
 use crate::state::State;
-use ux_desc::Description;
+use ux_description::Description;
 use ux_object::FileObject;
 use ux_rights::{Draft, RefList, SendError};
 use ux_slots::Slots;

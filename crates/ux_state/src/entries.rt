@@ -16,7 +16,7 @@ use crate::references::{release, release_table, retain};
 use crate::state::State;
 use bitflags::Flags;
 use std::alloc::Global;
-use ux_desc::{Description, Socket};
+use ux_description::{Description, Socket};
 use ux_fdtable::{Descriptor, DupError, InstallError};
 use ux_object::FileObject;
 use ux_types::{Cred, DescriptionId, Fd, Mode, OpenFlags, Pid, SockType};

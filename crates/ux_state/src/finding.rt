@@ -13,7 +13,7 @@ ghost use Rattle.ux_model.specs.History.{has_live};
 
 use crate::process::Process;
 use crate::state::State;
-use ux_desc::{Description, Socket};
+use ux_description::{Description, Socket};
 use ux_fdtable::{Descriptor, Table};
 use ux_object::FileObject;
 use ux_types::{Cred, DescriptionId, Errno, Fd, Pid};

@@ -3,7 +3,7 @@ ghost use Rattle.std.specs.Prelude.{◌≡◌, ◌+◌, ◌<◌, ◌≤◌, ◌^
 ghost use Rattle.ux_model.specs.Flags.{can_read, can_write};
 ghost use Rattle.ux_state.specs.Counting.{Counted, CountsOneMore, HasRoom, IsAmong, more, one_if};
 
-use ux_desc::Description;
+use ux_description::Description;
 use ux_types::Mode;
 
 /// How many descriptions of one file object are open for what. There are fewer than numbers of

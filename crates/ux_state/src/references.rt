@@ -8,7 +8,7 @@ ghost use Rattle.ux_state.specs.Flights.{flights_of};
 ghost use Rattle.ux_state.specs.EntryCounts.{entry_refs, closed_on_exec, AreHeld, HaveRoom, TableHasRoom};
 
 use crate::flights::Flights;
-use ux_desc::{Description, Socket, Target};
+use ux_description::{Description, Socket, Target};
 use ux_fdtable::{Descriptor, Table};
 use ux_rights::Reference;
 use ux_slots::Slots;

@@ -19,7 +19,7 @@ use crate::process::Process;
 use crate::references::release_held;
 use crate::released_objects::{ReleasedObject, ReleasedObjects};
 use crate::state::State;
-use ux_desc::Description;
+use ux_description::Description;
 use ux_object::FileObject;
 use ux_slots::Slots;
 use ux_types::DescriptionId;

@@ -4,7 +4,7 @@ use crate::object_place::ObjectPlace;
 use crate::openings::Openings;
 use crate::process::Process;
 use std::marker::Model;
-use ux_desc::Description;
+use ux_description::Description;
 use ux_names::{AbstractNames, Paths};
 use ux_object::FileObject;
 use ux_slots::Slots;

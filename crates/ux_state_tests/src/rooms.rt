@@ -7,13 +7,13 @@ use hoard::Hoard;
 use std::alloc::{AllocError, Global};
 use std::process::Abort;
 use std::test::Fail;
-use ux_room::ReplyRoom;
+use ux_reply_room::ReplyRoom;
 use ux_types::{
     Addr, Bytes, Cred, Errno, Fd, MsgFlags, Name, OpenFlags, Pid, PollFlags, Reply, Request,
 };
 
 /// Makes room for the reply to a request, and copies a reply while every allocation is refused.
-#[tactic(auto, using(ux_room::proofs::Fitting::fits_trans))]
+#[tactic(auto, using(ux_reply_room::proofs::Fitting::fits_trans))]
 fn copy_without_memory(alloc: Global, request: &Request, reply: &Reply) -> Result<Reply, AllocError>
     requires { Fits (size_of reply.now) (room_for request.now) }
 {

@@ -1,5 +1,0 @@
-use Rattle.std.proofs.Common.{rules}
-use Rattle.ux_desc.proofs.description.Description.lost_peer.Goals as goal
-
-pub returns-in-Socket : goal.returns-in-Socket
-returns-in-Socket c = search rules

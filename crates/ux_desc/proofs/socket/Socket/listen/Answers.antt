@@ -1,5 +1,0 @@
-use Rattle.std.proofs.Common.{rules}
-use Rattle.ux_desc.proofs.socket.Socket.listen.Goals as goal
-
-pub returns-in-Listening : goal.returns-in-Listening
-returns-in-Listening c = search rules

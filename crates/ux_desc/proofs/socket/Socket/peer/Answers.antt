@@ -1,5 +1,0 @@
-use Rattle.std.proofs.Common.{rules}
-use Rattle.ux_desc.proofs.socket.Socket.peer.Goals as goal
-
-pub returns-in-Connected : goal.returns-in-Connected
-returns-in-Connected c = search rules

@@ -1,5 +1,0 @@
-use Rattle.std.proofs.Common.{rules}
-use Rattle.ux_room.proofs.copying.addr_copy.Goals as goal
-
-pub returns-in-Abstract : goal.returns-in-Abstract
-returns-in-Abstract c = search rules
