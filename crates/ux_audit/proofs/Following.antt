@@ -15,7 +15,7 @@ use Rattle.ux_model.proofs.Lists.ChangedPlaces.{bool_cases}
 use Rattle.ux_model.proofs.Lists.ByPlace.{member_place}
 use Rattle.ux_model.proofs.Tables.Replacing.{gives_none}
 use Rattle.ux_audit.specs.Shown.{shown}
-use Rattle.ux_audit.specs.Marks.{flag_on_exec, flag_left, flag_of_others, flag_own, mark_at, mark_after, AreMarks, AreSmall}
+use Rattle.ux_audit.specs.Flags.{flag_on_exec, flag_left, flag_of_others, flag_own, flag_at, flag_after, AreFlags, AreSmall}
 
 abbrev flag : Option Descriptor → Option Bool
 flag o = option_map (λ (x : Descriptor). x.cloexec) o
@@ -101,7 +101,7 @@ other_told S T e m k fine q n other childless =
     ∙ ap flag (sym (ap (λ b. cond b (held_at S q n) (others_left_by e.request (held_at S q n))) fine))
     ∙ ap flag (sym (k.changes.others q n other childless))
 
-told : (S T : State) (e : Entry) (m : ℕ → ℕ → Option Bool) → Known S T e m → (q n : ℕ) → mark_after m e q n ≡ flag (held_at T q n)
+told : (S T : State) (e : Entry) (m : ℕ → ℕ → Option Bool) → Known S T e m → (q n : ℕ) → flag_after m e q n ≡ flag (held_at T q n)
 told S T e m k q n = bool_cases (is_err e.reply)
     (λ err. ap (λ b. cond b (m q n) answered) err ∙ refused_told S T e m k err q n)
     (λ fine. ap (λ b. cond b (m q n) answered) fine ∙ bool_cases (makes q e.request e.reply)
@@ -122,15 +122,15 @@ told S T e m k q n = bool_cases (is_err e.reply)
     answered = cond (makes q e.request e.reply) (m e.pid.0 n) unborn
 
 pub marks_follow : (S T : State) (e : Entry) (old new : List (Vec (Option Bool))) → ChangesTables S e.pid.0 e.request e.reply T →
-    shown e.request e.reply ≡ given S e.pid.0 e.request e.reply → AreMarks S old →
-    ((q n : ℕ) → mark_at new q n ≡ mark_after (mark_at old) e q n) → AreMarks T new
+    shown e.request e.reply ≡ given S e.pid.0 e.request e.reply → AreFlags S old →
+    ((q n : ℕ) → flag_at new q n ≡ flag_after (flag_at old) e q n) → AreFlags T new
 marks_follow S T e old new changes gave are follows q n = follows q n
-    ∙ told S T e (mark_at old) (record { changes = changes; gave = gave; before = are }) q n
+    ∙ told S T e (flag_at old) (record { changes = changes; gave = gave; before = are }) q n
 
 -- ---- at first
 
 pub small_none : (tables : List (Vec (Option Bool))) → tables ≡ [] → AreSmall tables
 small_none tables h = subst AreSmall (sym h) (record { count = omega arith; rows = search rules })
 
-pub marks_none : (S : State) (tables : List (Vec (Option Bool))) → tables ≡ [] → ((p n : ℕ) → held_at S p n ≡ None) → AreMarks S tables
-marks_none S tables h none q n = ap (λ (t : List (Vec (Option Bool))). mark_at t q n) h ∙ sym (ap flag (none q n))
+pub marks_none : (S : State) (tables : List (Vec (Option Bool))) → tables ≡ [] → ((p n : ℕ) → held_at S p n ≡ None) → AreFlags S tables
+marks_none S tables h none q n = ap (λ (t : List (Vec (Option Bool))). flag_at t q n) h ∙ sym (ap flag (none q n))

@@ -1,5 +1,5 @@
 pub mod Controls
-pub mod Told
+pub mod Reported
 pub mod Rows
 pub mod Following
 pub mod Listing

@@ -12,7 +12,7 @@ use Rattle.ux_model.specs.Places.{place}
 use Rattle.ux_model.specs.Process.{Descriptor, fd_of, pid_of}
 use Rattle.ux_model.specs.State.{State}
 use Rattle.ux_model.specs.Giving.{held_at, is_held}
-use Rattle.ux_audit.specs.Marks.{mark_at, AreMarks}
+use Rattle.ux_audit.specs.Flags.{flag_at, AreFlags}
 use Rattle.ux_audit.specs.Holdings.{IsBefore, Precedes, AreHoldings, AreListed}
 
 not_in_nothing : {X : Type 0} (x : X) → Contains [] x → ⊥
@@ -72,10 +72,10 @@ listed_skip flags p n pairs none so_far = record {
   rising = so_far.rising;
 }
 
-pub listed_next : (flags : ℕ → ℕ → Option Bool) (p n : ℕ) (pairs new : List (Pid × Fd)) (mark : Option Bool) → flags p n ≡ mark →
+pub listed_next : (flags : ℕ → ℕ → Option Bool) (p n : ℕ) (pairs new : List (Pid × Fd)) (flag : Option Bool) → flags p n ≡ flag →
     AreListed flags p n pairs →
-    new ≡ cond (is_some mark) (pairs ++ (pid_of p, fd_of n) ∷ []) pairs → AreListed flags p (n + 1) new
-listed_next flags p n pairs new mark here so_far is = bool_cases (is_some mark)
+    new ≡ cond (is_some flag) (pairs ++ (pid_of p, fd_of n) ∷ []) pairs → AreListed flags p (n + 1) new
+listed_next flags p n pairs new flag here so_far is = bool_cases (is_some flag)
     (λ b. subst (AreListed flags p (n + 1)) (sym (is ∙ ap (λ t. cond t (pairs ++ (pid_of p, fd_of n) ∷ []) pairs) b))
     (listed_push flags p n pairs (ap is_some here ∙ b) so_far))
     (λ b. subst (AreListed flags p (n + 1)) (sym (is ∙ ap (λ t. cond t (pairs ++ (pid_of p, fd_of n) ∷ []) pairs) b))
@@ -109,28 +109,28 @@ listed_row flags p n row pairs are past so_far = record {
 
 -- ---- the tables of a state
 
-mark_at-past : (tables : List (Vec (Option Bool))) (q n : ℕ) → length tables ≤ q → mark_at tables q n ≡ None
-mark_at-past [] q n h = refl
-mark_at-past (t ∷ tables) zero n h = absurd (omega (arith, h))
-mark_at-past (t ∷ tables) (suc q) n h = mark_at-past tables q n (omega (arith, h))
+flag_at-past : (tables : List (Vec (Option Bool))) (q n : ℕ) → length tables ≤ q → flag_at tables q n ≡ None
+flag_at-past [] q n h = refl
+flag_at-past (t ∷ tables) zero n h = absurd (omega (arith, h))
+flag_at-past (t ∷ tables) (suc q) n h = flag_at-past tables q n (omega (arith, h))
 
 is_some-map : {A B : Type 0} (f : A → B) (o : Option A) → is_some (option_map f o) ≡ is_some o
 is_some-map f None = refl
 is_some-map f (Some x) = refl
 
-pub flag_held : (S : State) (tables : List (Vec (Option Bool))) (p n : ℕ) → AreMarks S tables → is_some (mark_at tables p n) ≡ is_held S p n
+pub flag_held : (S : State) (tables : List (Vec (Option Bool))) (p n : ℕ) → AreFlags S tables → is_some (flag_at tables p n) ≡ is_held S p n
 flag_held S tables p n are = ap is_some (are p n) ∙ is_some-map (λ (x : Descriptor). x.cloexec) (held_at S p n)
 
-pub listed_all : (S : State) (tables : List (Vec (Option Bool))) (pairs : List (Pid × Fd)) → AreMarks S tables →
-    AreListed (mark_at tables) (length tables) 0 pairs → AreHoldings S pairs
+pub listed_all : (S : State) (tables : List (Vec (Option Bool))) (pairs : List (Pid × Fd)) → AreFlags S tables →
+    AreListed (flag_at tables) (length tables) 0 pairs → AreHoldings S pairs
 listed_all S tables pairs are listed = record {
   each = λ p n. (
     λ c. sym (flag_held S tables p n are) ∙ (listed.only p n c).0,
     λ h.
-        let open' : is_some (mark_at tables p n) ≡ true = flag_held S tables p n are ∙ h in
+        let open' : is_some (flag_at tables p n) ≡ true = flag_held S tables p n are ∙ h in
         bool_cases (nat_lt p (length tables)) (λ l. listed.all p n open' (inl (ltb-true p (length tables) l)))
         (λ l. let past = ltb-false p (length tables) l in
-        let none : is_some (mark_at tables p n) ≡ false = ap is_some (mark_at-past tables p n past) in
+        let none : is_some (flag_at tables p n) ≡ false = ap is_some (flag_at-past tables p n past) in
         absurd (false≢true (sym none ∙ open'))),
   );
   rising = listed.rising;

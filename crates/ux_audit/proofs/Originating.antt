@@ -16,10 +16,10 @@ use Rattle.ux_model.proofs.Lists.ByPlace.{place_member}
 use Rattle.ux_model.proofs.Pedigrees.Moments.{moment}
 use Rattle.ux_model.proofs.Pedigrees.Passing.{receive_no_fork, IsOwn, own_number, IsDelivered, receive_delivered, gives_nothing}
 use Rattle.ux_audit.specs.declared.hands.Giver.{Giver}
-use Rattle.ux_audit.specs.declared.hands.Origin.{Origin}
+use Rattle.ux_audit.specs.declared.hands.HoldingOrigin.{HoldingOrigin}
 use Rattle.ux_audit.specs.Shown.{shown, gave}
 use Rattle.ux_audit.specs.Origins.{NeverGiven, IsGiver, IsOrigin}
-use Rattle.ux_audit.proofs.Told.{shown_given, gave_gives, told_delivered}
+use Rattle.ux_audit.proofs.Reported.{shown_given, gave_gives, reported_delivered}
 
 pub one_entry : (es : List Entry) (j : ℕ) (e f : Entry) → slice_get es j ≡ Some e → slice_get es j ≡ Some f → e ≡ f
 one_entry es j e f h k = let both : Some e ≡ Some f = sym h ∙ k in cc both
@@ -49,7 +49,7 @@ came_at boot es j place n e legal at is shows =
     let there : slice_get (given (before boot es j) e.pid.0 e.request e.reply) place ≡ Some n =
     sym (ap (λ l. slice_get l place) (shown_given boot es j e legal at)) ∙ shows in
     let d = receive_delivered boot es j place n e legal at is there in
-    record { place = place; shows = shows; tag = d.0; told = told_delivered boot es j e legal at ∙ d.1; message = d.2 }
+    record { place = place; shows = shows; tag = d.0; told = reported_delivered boot es j e legal at ∙ d.1; message = d.2 }
 
 came : (boot : State) (es : List Entry) (j q n : ℕ) (e : Entry) → IsLegal boot es → slice_get es j ≡ Some e → IsReceive e.request →
     gave e q n ≡ true → Came boot es j n e
@@ -104,7 +104,7 @@ place_found e n i o is found = subst (λ (x : Option ℕ). MatchOption x (list_a
 pub origin_received : (es : List Entry) (j n tag place right : ℕ) (e s : Entry) → slice_get es j ≡ Some e → IsReceive e.request →
     e.delivered ≡ Some tag → tag < j → slice_get es tag ≡ Some s →
     slice_get (shown e.request e.reply) place ≡ Some n → slice_get (sent_by s.request) place ≡ Some right →
-    IsOrigin es j n e (record { how = How.Received tag; from = Some (record { pid = s.pid; fd = fd_of right; moment = tag }) })
+    IsOrigin es j n e (record { how = How.Received tag; from = Some (record { pid = s.pid; fd = fd_of right; until = tag }) })
 origin_received es j n tag place right e s at is told early there shows sends = record {
   way = how_receive e.request e.delivered tag is told;
   from = record {
@@ -132,14 +132,14 @@ origin_made es j n e way = record { way = way; from = refl }
 
 pub origin_dup : (es : List Entry) (j n : ℕ) (e : Entry) (source : Fd) → how_of e.request e.delivered ≡ Some How.Dup →
     copied e.request ≡ Some source.0 →
-    IsOrigin es j n e (record { how = How.Dup; from = Some (record { pid = e.pid; fd = source; moment = j }) })
+    IsOrigin es j n e (record { how = How.Dup; from = Some (record { pid = e.pid; fd = source; until = j }) })
 origin_dup es j n e source way copies = record {
   way = way;
   from = record { earlier = omega arith; hands_on = λ boot a b legal p k at m. (sym at, p, copies ∙ ap Some (sym k)) };
 }
 
 pub origin_forked : (es : List Entry) (j : ℕ) (n : Fd) (e : Entry) → e.request ≡ Request.Fork →
-    IsOrigin es j n.0 e (record { how = How.Forked; from = Some (record { pid = e.pid; fd = n; moment = j }) })
+    IsOrigin es j n.0 e (record { how = How.Forked; from = Some (record { pid = e.pid; fd = n; until = j }) })
 origin_forked es j n e is = record {
   way = ap (λ (r : Request). how_of r e.delivered) is;
   from = record { earlier = omega arith; hands_on = λ boot a b legal p k at m. (sym at, p, k ∙ sym m) };
@@ -148,12 +148,12 @@ origin_forked es j n e is = record {
 -- ---- looking for the entry that gave
 
 -- what is said of the entry that was read holds of the entry that is there
-pub origin_there : (es : List Entry) (j n : ℕ) (f e : Entry) (o : Origin) → j < length es → f ≡ get_or es j f → slice_get es j ≡ Some e →
+pub origin_there : (es : List Entry) (j n : ℕ) (f e : Entry) (o : HoldingOrigin) → j < length es → f ≡ get_or es j f → slice_get es j ≡ Some e →
     IsOrigin es j n f o → IsOrigin es j n e o
 origin_there es j n f e o within read at origin =
     subst (λ (x : Entry). IsOrigin es j n x o) (one_entry es j f e (read_entry es j f within read) at) origin
 
-pub giver_earlier : (es : List Entry) (j n : ℕ) (e : Entry) (o : Origin) (g : Giver) → IsOrigin es j n e o → o.from ≡ Some g → g.moment ≤ j
+pub giver_earlier : (es : List Entry) (j n : ℕ) (e : Entry) (o : HoldingOrigin) (g : Giver) → IsOrigin es j n e o → o.from ≡ Some g → g.until ≤ j
 giver_earlier es j n e o g origin more =
     let giver : IsGiver es j n e o.how g = subst
     (λ (f : Option Giver). MatchOption f (o.how ≡ How.Made) (IsGiver es j n e o.how)) more origin.from in giver.earlier
@@ -210,14 +210,14 @@ copies_way r o source (inr (inr w)) = (ap (λ (x : Request). how_of x o) w.1, ap
 
 -- ---- what was found
 
-pub origin_found : (es : List Entry) (j n : ℕ) (e : Entry) (x : Option Origin) (o : Origin) → x ≡ Some o →
+pub origin_found : (es : List Entry) (j n : ℕ) (e : Entry) (x : Option HoldingOrigin) (o : HoldingOrigin) → x ≡ Some o →
     IfSome x (λ o. (f : Entry) → slice_get es j ≡ Some f → IsOrigin es j n f o) → slice_get es j ≡ Some e →
     IsOrigin es j n e o
 origin_found es j n e x o is found at =
     let here : (f : Entry) → slice_get es j ≡ Some f →
-    IsOrigin es j n f o = subst (λ (y : Option Origin). IfSome y (λ o. (f : Entry) → slice_get es j ≡ Some f → IsOrigin es j n f o)) is
+    IsOrigin es j n f o = subst (λ (y : Option HoldingOrigin). IfSome y (λ o. (f : Entry) → slice_get es j ≡ Some f → IsOrigin es j n f o)) is
     found in
     here e at
 
-pub never_found : (es : List Entry) (j n : ℕ) (x : Option Origin) → x ≡ None → IfNone x (NeverGiven es n j) → NeverGiven es n j
-never_found es j n x is none = subst (λ (y : Option Origin). IfNone y (NeverGiven es n j)) is none
+pub never_found : (es : List Entry) (j n : ℕ) (x : Option HoldingOrigin) → x ≡ None → IfNone x (NeverGiven es n j) → NeverGiven es n j
+never_found es j n x is none = subst (λ (y : Option HoldingOrigin). IfNone y (NeverGiven es n j)) is none

@@ -7,7 +7,7 @@ use Rattle.std.proofs.lemmas.Bool.{eqb-true, eqb-false}
 use Rattle.std.specs.Global.{Vec}
 use Rattle.ux_model.specs.Places.{place}
 use Rattle.ux_model.proofs.Lists.ChangedPlaces.{bool_cases}
-use Rattle.ux_audit.specs.Marks.{flag_in, mark_at}
+use Rattle.ux_audit.specs.Flags.{flag_in, flag_at}
 use Rattle.ux_audit.specs.Givers.{items_in, items_at}
 
 pub OnOk_then : {T E P Q : Type 0} (r : Result T E) → OnOk r P → (P → Q) → OnOk r Q
@@ -76,30 +76,30 @@ items_past (l ∷ lists) (suc k) h = items_past lists k (omega (arith, h))
 -- ---- flags
 
 -- what a list of places has at one of them
-pub mark_is : (tables : List (Vec (Option Bool))) (p n : ℕ) → mark_at tables p n ≡ place (items_at tables p) n
+pub mark_is : (tables : List (Vec (Option Bool))) (p n : ℕ) → flag_at tables p n ≡ place (items_at tables p) n
 mark_is tables p n = go (slice_get tables p)
   where
     go : (o : Option (Vec (Option Bool))) → flag_in o n ≡ place (items_in o) n
     go None = refl
     go (Some row) = refl
 
-pub mark_at-push : (tables : List (Vec (Option Bool))) (row : Vec (Option Bool)) (q n : ℕ) → row.items ≡ [] →
-    mark_at (tables ++ row ∷ []) q n ≡ mark_at tables q n
-mark_at-push tables row q n h = mark_is (tables ++ row ∷ []) q n ∙ ap (λ xs. place xs n) (items_at-push tables row q h)
+pub flag_at-push : (tables : List (Vec (Option Bool))) (row : Vec (Option Bool)) (q n : ℕ) → row.items ≡ [] →
+    flag_at (tables ++ row ∷ []) q n ≡ flag_at tables q n
+flag_at-push tables row q n h = mark_is (tables ++ row ∷ []) q n ∙ ap (λ xs. place xs n) (items_at-push tables row q h)
     ∙ sym (mark_is tables q n)
 
 -- one row in another's place, of which each place is known
-pub mark_at-set : (tables : List (Vec (Option Bool))) (p q n : ℕ) (row : Vec (Option Bool)) (here : Option Bool) → p < length tables →
+pub flag_at-set : (tables : List (Vec (Option Bool))) (p q n : ℕ) (row : Vec (Option Bool)) (here : Option Bool) → p < length tables →
     (p ≡ q → place row.items n ≡ here) →
-    mark_at (set tables p row) q n ≡ cond (p == q) here (mark_at tables q n)
-mark_at-set tables p q n row here h each = mark_is (set tables p row) q n ∙ ap (λ xs. place xs n) (items_at-set tables p q row h)
+    flag_at (set tables p row) q n ≡ cond (p == q) here (flag_at tables q n)
+flag_at-set tables p q n row here h each = mark_is (set tables p row) q n ∙ ap (λ xs. place xs n) (items_at-set tables p q row h)
     ∙ bool_cases (p == q)
     (λ e. ap (λ b. place (cond b row.items (items_at tables q)) n) e ∙ each (eqb-true p q e)
-    ∙ sym (ap (λ b. cond b here (mark_at tables q n)) e))
+    ∙ sym (ap (λ b. cond b here (flag_at tables q n)) e))
     (λ e. ap (λ b. place (cond b row.items (items_at tables q)) n) e ∙ sym (mark_is tables q n)
-    ∙ sym (ap (λ b. cond b here (mark_at tables q n)) e))
+    ∙ sym (ap (λ b. cond b here (flag_at tables q n)) e))
 
 -- a row that was read
 pub mark_at_read : (tables : List (Vec (Option Bool))) (p n : ℕ) (row : Vec (Option Bool)) → p < length tables → row ≡ get_or tables p row →
-    place row.items n ≡ mark_at tables p n
+    place row.items n ≡ flag_at tables p n
 mark_at_read tables p n row h e = ap (λ xs. place xs n) (items_at-read tables p row h e) ∙ sym (mark_is tables p n)

@@ -17,15 +17,15 @@ use Rattle.ux_model.proofs.Lists.ByPlace.{get_within, take_none}
 use Rattle.ux_model.proofs.Pedigrees.Moments.{moment, kept_description, held_leads, leads_held}
 use Rattle.ux_model.proofs.Pedigrees.Passing.{passed_same}
 use Rattle.ux_audit.specs.declared.hands.Giver.{Giver}
-use Rattle.ux_audit.specs.declared.hands.Origin.{Origin}
+use Rattle.ux_audit.specs.declared.hands.HoldingOrigin.{HoldingOrigin}
 use Rattle.ux_audit.specs.Origins.{GivesAt, NoneGives, IsGiver, IsOrigin}
-use Rattle.ux_audit.proofs.Told.{gave_gives, told_delivered}
+use Rattle.ux_audit.proofs.Reported.{gave_gives, reported_delivered}
 
 -- The walk is at a number that was held at this moment; with the links so far, the last holding first, a chain that leads to it is a
 -- pedigree of the number that was asked for.
-pub record IsWalking (boot : State) (es : List Entry) (P N : ℕ) (links : List Link) (p n moment : ℕ) : Type 0 where
-  pub held : is_held (before boot es moment) p n ≡ true
-  pub completes : (chain : List Link) (a : Link) → IsChain boot es chain a → a.pid.0 ≡ p → a.fd.0 ≡ n → Stands boot es a moment →
+pub record IsWalking (boot : State) (es : List Entry) (P N : ℕ) (links : List Link) (p n until : ℕ) : Type 0 where
+  pub held : is_held (before boot es until) p n ≡ true
+  pub completes : (chain : List Link) (a : Link) → IsChain boot es chain a → a.pid.0 ≡ p → a.fd.0 ≡ n → Stands boot es a until →
       IsPedigree boot es (chain ++ reverse links) P N
 
 pub walk_starts : (boot : State) (es : List Entry) (P N : ℕ) → is_held (replay boot es) P N ≡ true →
@@ -73,19 +73,19 @@ stands_since boot es b until legal within early none held = record {
 abbrev pub link : ℕ → Pid → Fd → How → Link
 link j p n how = record { entry = j; pid = p; fd = n; how = how }
 
-given_link : (boot : State) (es : List Entry) (j : ℕ) (p : Pid) (n : Fd) (e : Entry) (o : Origin) → IsLegal boot es →
+given_link : (boot : State) (es : List Entry) (j : ℕ) (p : Pid) (n : Fd) (e : Entry) (o : HoldingOrigin) → IsLegal boot es →
     slice_get es j ≡ Some e → GivesAt es p.0 n.0 j → IsOrigin es j n.0 e o →
     IsGiven boot es (link j p n o.how) e
 given_link boot es j p n e o legal at gave origin = record {
   there = at;
   gave = sym (gave_gives boot es j p.0 n.0 e legal at) ∙ gave e at;
-  way = sym (ap (how_of e.request) (told_delivered boot es j e legal at)) ∙ origin.way;
+  way = sym (ap (how_of e.request) (reported_delivered boot es j e legal at)) ∙ origin.way;
 }
 
 reversed_more : (links : List Link) (b : Link) (chain : List Link) → chain ++ reverse (links ++ b ∷ []) ≡ (chain ++ b ∷ []) ++ reverse links
 reversed_more links b chain = ap (λ l. chain ++ l) (reverse-append links (b ∷ [])) ∙ sym (append_assoc chain (b ∷ []) (reverse links))
 
-pub walk_ends : (boot : State) (es : List Entry) (P N : ℕ) (links : List Link) (j until : ℕ) (p : Pid) (n : Fd) (e : Entry) (o : Origin) →
+pub walk_ends : (boot : State) (es : List Entry) (P N : ℕ) (links : List Link) (j until : ℕ) (p : Pid) (n : Fd) (e : Entry) (o : HoldingOrigin) →
     IsLegal boot es → until ≤ length es →
     IsWalking boot es P N links p.0 n.0 until → j < until → slice_get es j ≡ Some e → GivesAt es p.0 n.0 j →
     NoneGives es p.0 n.0 (suc j) until → IsOrigin es j n.0 e o → o.from ≡ None →
@@ -98,11 +98,11 @@ walk_ends boot es P N links j until p n e o legal within walking early at gave n
     subst (λ (l : List Link). IsPedigree boot es l P N) (sym (reversed_more links b []))
     (walking.completes (b ∷ []) b (first b e (given_link boot es j p n e o legal at gave origin) made) refl refl stands)
 
-pub walk_goes_on : (boot : State) (es : List Entry) (P N : ℕ) (links : List Link) (j until : ℕ) (p : Pid) (n : Fd) (e : Entry) (o : Origin)
+pub walk_goes_on : (boot : State) (es : List Entry) (P N : ℕ) (links : List Link) (j until : ℕ) (p : Pid) (n : Fd) (e : Entry) (o : HoldingOrigin)
     (g : Giver) → IsLegal boot es → until ≤ length es →
     IsWalking boot es P N links p.0 n.0 until → j < until → slice_get es j ≡ Some e → GivesAt es p.0 n.0 j →
     NoneGives es p.0 n.0 (suc j) until → IsOrigin es j n.0 e o → o.from ≡ Some g →
-    IsWalking boot es P N (links ++ link j p n o.how ∷ []) g.pid.0 g.fd.0 g.moment
+    IsWalking boot es P N (links ++ link j p n o.how ∷ []) g.pid.0 g.fd.0 g.until
 walk_goes_on boot es P N links j until p n e o g legal within walking early at gave none origin more =
     let b : Link = link j p n o.how in
     let giver : IsGiver es j n.0 e o.how g =
@@ -113,12 +113,12 @@ walk_goes_on boot es P N links j until p n e o g legal within walking early at g
     (omega arith) in
     let leads = held_leads (before boot es (suc j)) p.0 n.0 here in
     let source : Link = link 0 g.pid g.fd How.Made in
-    let same = passed_same boot es o.how source b e g.moment legal given refl (giver.hands_on boot source b legal refl refl refl refl) in
+    let same = passed_same boot es o.how source b e g.until legal given refl (giver.hands_on boot source b legal refl refl refl refl) in
     record {
-      held = leads_held (before boot es g.moment) g.pid.0 g.fd.0 leads.0 (same ∙ leads.1);
+      held = leads_held (before boot es g.until) g.pid.0 g.fd.0 leads.0 (same ∙ leads.1);
       completes = λ chain a chained p' n' stood.
           subst (λ (l : List Link). IsPedigree boot es l P N) (sym (reversed_more links b chain))
-          (walking.completes (chain ++ b ∷ []) b (onward a b e g.moment chained stood given (giver.hands_on boot a b legal p' n' refl refl))
+          (walking.completes (chain ++ b ∷ []) b (onward a b e g.until chained stood given (giver.hands_on boot a b legal p' n' refl refl))
           refl refl stands);
     }
 

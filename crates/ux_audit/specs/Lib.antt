@@ -1,6 +1,6 @@
 -- In the order in which they are read.
 pub mod Shown
-pub mod Marks
+pub mod Flags
 pub mod Givers
 pub mod Holdings
 pub mod Origins

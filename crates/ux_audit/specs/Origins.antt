@@ -8,7 +8,7 @@ use Rattle.ux_model.specs.Giving.{how_of}
 use Rattle.ux_model.specs.Pedigree.{IsFrom}
 use Rattle.ux_audit.specs.Shown.{gave}
 use Rattle.ux_audit.specs.declared.hands.Giver.{Giver}
-use Rattle.ux_audit.specs.declared.hands.Origin.{Origin}
+use Rattle.ux_audit.specs.declared.hands.HoldingOrigin.{HoldingOrigin}
 
 -- the entry at place j gave the process the number
 abbrev pub GivesAt : List Entry → ℕ → ℕ → ℕ → Type 0
@@ -24,10 +24,10 @@ NeverGiven entries n j = (boot : State) (q : ℕ) (e : Entry) → IsLegal boot e
 
 -- whoever holds the giver's number, a holding that entry e at place j gave with number n is from that one
 pub record IsGiver (entries : List Entry) (j n : ℕ) (e : Entry) (how : How) (g : Giver) : Type 0 where
-  pub earlier : g.moment ≤ j
+  pub earlier : g.until ≤ j
   pub hands_on : (boot : State) (a b : Link) → IsLegal boot entries → a.pid.0 ≡ g.pid.0 → a.fd.0 ≡ g.fd.0 → b.entry ≡ j → b.fd.0 ≡ n →
-      IsFrom boot entries how a b e g.moment
+      IsFrom boot entries how a b e g.until
 
-pub record IsOrigin (entries : List Entry) (j n : ℕ) (e : Entry) (o : Origin) : Type 0 where
+pub record IsOrigin (entries : List Entry) (j n : ℕ) (e : Entry) (o : HoldingOrigin) : Type 0 where
   pub way : how_of e.request e.delivered ≡ Some o.how
   pub from : MatchOption o.from (o.how ≡ How.Made) (IsGiver entries j n e o.how)

@@ -1,7 +1,7 @@
 //! Which numbers are open, by rows of flags.
 ghost use Rattle.std.specs.Prelude.{◌≡◌, ◌+◌, ◌≤◌, ◌^◌, ℕ, Bool, Option, [], ◌∷◌, ◌++◌, length, is_some, if◌then◌else◌, IfOk, OnOk};
 ghost use Rattle.ux_model.specs.Places.{place};
-ghost use Rattle.ux_audit.specs.Marks.{mark_at, AreSmall};
+ghost use Rattle.ux_audit.specs.Flags.{flag_at, AreSmall};
 ghost use Rattle.ux_audit.specs.Holdings.{AreListed};
 
 use std::alloc::{AllocError, Global};
@@ -9,11 +9,11 @@ use ux_types::{Fd, Pid};
 
 /// Whether the number is open.
 pub(crate) fn is_open(tables: &[Vec<Option<bool>>], pid: Pid, fd: Fd) -> bool
-    ensures { result ≡ is_some (mark_at tables.now pid.0 fd.0) }
+    ensures { result ≡ is_some (flag_at tables.now pid.0 fd.0) }
 {
     match tables.get(pid.0 as usize) {
         Some(row) => match row.get(fd.0 as usize) {
-            Some(mark) => mark.is_some(),
+            Some(flag) => flag.is_some(),
             None => false,
         },
         None => false,
@@ -25,11 +25,11 @@ fn list_number(
     held: &mut Vec<(Pid, Fd)>,
     pid: Pid,
     fd: Fd,
-    mark: Option<bool>,
+    flag: Option<bool>,
 ) -> Result<(), AllocError>
-    ensures { OnOk result (held.new.items ≡ (if is_some mark then held.old.items ++ (pid, fd) ∷ [] else held.old.items)) }
+    ensures { OnOk result (held.new.items ≡ (if is_some flag then held.old.items ++ (pid, fd) ∷ [] else held.old.items)) }
 {
-    if mark.is_some() {
+    if flag.is_some() {
         held.push((pid, fd))?;
     }
     Ok(())
@@ -41,8 +41,8 @@ fn list_row(held: &mut Vec<(Pid, Fd)>, pid: u32, row: &[Option<bool>]) -> Result
     ensures { OnOk result ((flags : ℕ → ℕ → Option Bool) → ((n : ℕ) → flags pid n ≡ place row.now n) →
         AreListed flags pid 0 held.old.items → AreListed flags (pid + 1) 0 held.new.items) }
 {
-    for (n, mark) in row.iter().enumerate() {
-        list_number(held, Pid(pid), Fd(n as u32), *mark)?;
+    for (n, flag) in row.iter().enumerate() {
+        list_number(held, Pid(pid), Fd(n as u32), *flag)?;
     }
     Ok(())
 }
@@ -53,7 +53,7 @@ pub(crate) fn list_all(
     tables: &[Vec<Option<bool>>],
 ) -> Result<Vec<(Pid, Fd)>, AllocError>
     requires small { AreSmall tables.now }
-    ensures { IfOk result (λ held. AreListed (mark_at tables.now) (length tables.now) 0 held.items) }
+    ensures { IfOk result (λ held. AreListed (flag_at tables.now) (length tables.now) 0 held.items) }
 {
     let mut held = Vec::new(alloc);
     for (pid, row) in tables.iter().enumerate() {

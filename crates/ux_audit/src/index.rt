@@ -4,7 +4,7 @@ ghost use Rattle.ux_model.specs.References.{times};
 ghost use Rattle.ux_model.specs.State.{State};
 ghost use Rattle.ux_model.specs.History.{replay, makes, IsLegal};
 ghost use Rattle.ux_audit.specs.Shown.{shown};
-ghost use Rattle.ux_audit.specs.Marks.{mark_at, mark_after, AreMarks, AreSmall};
+ghost use Rattle.ux_audit.specs.Flags.{flag_at, flag_after, AreFlags, AreSmall};
 ghost use Rattle.ux_audit.specs.Givers.{items_at, places_at, AreGivers};
 
 use crate::lists::{note, note_all};
@@ -73,7 +73,7 @@ impl Index {
             ≡ (if makes p entry.now.request entry.now.reply then items_at self.old.births.items p ++ place ∷ [] else items_at self.old.births.items p)) }
         ensures rows { OnOk result ((p n : ℕ) → places_at self.new.rows.items p n
             ≡ (if entry.now.pid.0 == p then places_at self.old.rows.items p n ++ replicate (times n (shown entry.now.request entry.now.reply)) place else places_at self.old.rows.items p n)) }
-        ensures flags { OnOk result ((q n : ℕ) → mark_at self.new.tables.items q n ≡ mark_after (mark_at self.old.tables.items) entry.now q n) }
+        ensures flags { OnOk result ((q n : ℕ) → flag_at self.new.tables.items q n ≡ flag_after (flag_at self.old.tables.items) entry.now q n) }
         ensures small { AreSmall self.old.tables.items → AreSmall self.new.tables.items }
     {
         let numbers = numbers_shown(alloc, entry)?;
@@ -85,7 +85,7 @@ impl Index {
     /// What is found in the entries of a history.
     pub(crate) fn of(alloc: Global, entries: &[Entry]) -> Result<Index, AllocError>
         ensures givers { IfOk result (λ index. AreGivers entries.now (length entries.now) index.births.items index.rows.items) }
-        ensures flags { IfOk result (λ index. (boot : State) → IsLegal boot entries.now → AreMarks (replay boot entries.now) index.tables.items) }
+        ensures flags { IfOk result (λ index. (boot : State) → IsLegal boot entries.now → AreFlags (replay boot entries.now) index.tables.items) }
         ensures small { IfOk result (λ index. AreSmall index.tables.items) }
     {
         let mut index = Index {

@@ -4,18 +4,18 @@
 
 mod audit;
 mod chain;
+mod flags;
 mod hands;
 mod held;
 mod index;
 mod lists;
-mod marks;
 mod origin;
 mod shown;
 mod tables;
 mod text;
 mod walk;
 
-pub use audit::{Audit, check_pedigree, holdings, pedigree};
+pub use audit::{Audit, holdings};
 pub use chain::Chain;
 pub use text::chain_text;
 pub use ux_types::{How, Link};

@@ -6,7 +6,7 @@ ghost use Rattle.ux_model.specs.Giving.{sent_by, IsReceive};
 ghost use Rattle.ux_audit.specs.Shown.{shown};
 ghost use Rattle.ux_audit.specs.Origins.{NeverGiven, IsOrigin};
 
-use crate::hands::{Giver, Origin};
+use crate::hands::{Giver, HoldingOrigin};
 use crate::shown::{numbers_sent, numbers_shown};
 use std::alloc::{AllocError, Global};
 use ux_types::{Entry, Fd, How, Request};
@@ -47,7 +47,7 @@ fn received(
     j: usize,
     entry: &Entry,
     fd: Fd,
-) -> Result<Option<Origin>, AllocError>
+) -> Result<Option<HoldingOrigin>, AllocError>
     requires within { j < length entries.now }
     requires at { slice_get entries.now j ≡ Some entry.now }
     requires receiving { IsReceive entry.now.request }
@@ -60,34 +60,34 @@ fn received(
     let Some(place) = place_shown(alloc, entry, fd)? else {
         return Ok(None);
     };
-    let moment = tag as usize;
-    if moment >= j {
+    let sent = tag as usize;
+    if sent >= j {
         return Ok(None);
     }
-    let sending = &entries[moment];
+    let sending = &entries[sent];
     let Some(right) = right_sent(alloc, &sending.request, place)? else {
         return Ok(None);
     };
-    Ok(Some(Origin {
+    Ok(Some(HoldingOrigin {
         how: How::Received(tag),
         from: Some(Giver {
             pid: sending.pid,
             fd: right,
-            moment,
+            until: sent,
         }),
     }))
 }
 
 /// The origin of what this entry's process copied from another of its numbers, or handed to its child.
-fn own(entry: &Entry, j: usize, how: How, fd: Fd) -> Origin
-    ensures { result ≡ record { how = how; from = Some (record { pid = entry.now.pid; fd = fd; moment = j }) } }
+fn own(entry: &Entry, j: usize, how: How, fd: Fd) -> HoldingOrigin
+    ensures { result ≡ record { how = how; from = Some (record { pid = entry.now.pid; fd = fd; until = j }) } }
 {
-    Origin {
+    HoldingOrigin {
         how,
         from: Some(Giver {
             pid: entry.pid,
             fd,
-            moment: j,
+            until: j,
         }),
     }
 }
@@ -98,7 +98,7 @@ pub(crate) fn origin(
     entries: &[Entry],
     j: usize,
     fd: Fd,
-) -> Result<Option<Origin>, AllocError>
+) -> Result<Option<HoldingOrigin>, AllocError>
     requires within { j < length entries.now }
     ensures found { IfOk result (λ origin. IfSome origin (λ o. (e : Entry) → slice_get entries.now j ≡ Some e → IsOrigin entries.now j fd.0 e o)) }
     ensures none { IfOk result (λ origin. IfNone origin (NeverGiven entries.now fd.0 j)) }
@@ -108,7 +108,7 @@ pub(crate) fn origin(
         Request::Open { .. }
         | Request::Socket { .. }
         | Request::SocketPair { .. }
-        | Request::Accept { .. } => Some(Origin {
+        | Request::Accept { .. } => Some(HoldingOrigin {
             how: How::Made,
             from: None,
         }),

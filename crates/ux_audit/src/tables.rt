@@ -2,9 +2,9 @@
 ghost use Rattle.std.specs.Prelude.{◌≡◌, ◌==◌, ℕ, ◌<◌, ◌≤◌, ◌^◌, All, length, map, if◌then◌else◌, IfOk, OnOk};
 ghost use Rattle.ux_model.specs.History.{makes};
 ghost use Rattle.ux_audit.specs.Shown.{shown};
-ghost use Rattle.ux_audit.specs.Marks.{mark_at, flag_own, flag_of_others, mark_after, AreSmall};
+ghost use Rattle.ux_audit.specs.Flags.{flag_at, flag_own, flag_of_others, flag_after, AreSmall};
 
-use crate::marks::{leave, put_all};
+use crate::flags::{leave, put_all};
 use crate::shown::{cloexec_of, is_err};
 use std::alloc::{AllocError, Global};
 use ux_types::{Entry, Fd, Pid, Reply, Request};
@@ -14,7 +14,7 @@ fn reach(alloc: Global, tables: &mut Vec<Vec<Option<bool>>>, pid: Pid) -> Result
     ensures within { OnOk result (pid.0 < length tables.new.items) }
     ensures more { length tables.old.items ≤ length tables.new.items }
     ensures small { AreSmall tables.old.items → AreSmall tables.new.items }
-    ensures same { (q n : ℕ) → mark_at tables.new.items q n ≡ mark_at tables.old.items q n }
+    ensures same { (q n : ℕ) → flag_at tables.new.items q n ≡ flag_at tables.old.items q n }
 {
     while tables.len() <= pid.0 as usize {
         tables.push(Vec::new(alloc))?;
@@ -29,8 +29,8 @@ fn fork(
     parent: Pid,
     child: Pid,
 ) -> Result<(), AllocError>
-    ensures flags { OnOk result ((q n : ℕ) → mark_at tables.new.items q n
-        ≡ (if child.0 == q then mark_at tables.old.items parent.0 n else mark_at tables.old.items q n)) }
+    ensures flags { OnOk result ((q n : ℕ) → flag_at tables.new.items q n
+        ≡ (if child.0 == q then flag_at tables.old.items parent.0 n else flag_at tables.old.items q n)) }
     ensures small { AreSmall tables.old.items → AreSmall tables.new.items }
 {
     reach(alloc, tables, parent)?;
@@ -47,8 +47,8 @@ fn change(
     entry: &Entry,
     numbers: &[Fd],
 ) -> Result<(), AllocError>
-    ensures flags { OnOk result ((q n : ℕ) → mark_at tables.new.items q n
-        ≡ (if entry.now.pid.0 == q then flag_own entry.now.request (map (λ fd. fd.0) numbers.now) n (mark_at tables.old.items q n) else mark_at tables.old.items q n)) }
+    ensures flags { OnOk result ((q n : ℕ) → flag_at tables.new.items q n
+        ≡ (if entry.now.pid.0 == q then flag_own entry.now.request (map (λ fd. fd.0) numbers.now) n (flag_at tables.old.items q n) else flag_at tables.old.items q n)) }
     ensures small { AreSmall tables.old.items → AreSmall tables.new.items }
 {
     reach(alloc, tables, entry.pid)?;
@@ -59,7 +59,7 @@ fn change(
 
 /// Empties all tables at the end of the layer.
 fn leave_others(tables: &mut Vec<Vec<Option<bool>>>, request: &Request)
-    ensures flags { (q n : ℕ) → mark_at tables.new.items q n ≡ flag_of_others request.now (mark_at tables.old.items q n) }
+    ensures flags { (q n : ℕ) → flag_at tables.new.items q n ≡ flag_of_others request.now (flag_at tables.old.items q n) }
     ensures small { AreSmall tables.old.items → AreSmall tables.new.items }
 {
     if let Request::Off = request {
@@ -75,7 +75,7 @@ pub(crate) fn follow(
     numbers: &[Fd],
 ) -> Result<(), AllocError>
     requires shown { map (λ fd. fd.0) numbers.now ≡ shown entry.now.request entry.now.reply }
-    ensures flags { OnOk result ((q n : ℕ) → mark_at tables.new.items q n ≡ mark_after (mark_at tables.old.items) entry.now q n) }
+    ensures flags { OnOk result ((q n : ℕ) → flag_at tables.new.items q n ≡ flag_after (flag_at tables.old.items) entry.now q n) }
     ensures small { AreSmall tables.old.items → AreSmall tables.new.items }
 {
     if is_err(&entry.reply) {

@@ -52,8 +52,8 @@ pub(crate) fn walk(
     let mut links = Vec::new(alloc);
     let mut holder = pid;
     let mut number = fd;
-    let mut moment = entries.len();
-    while let Some(j) = last_given(entries, index, moment, holder, number) {
+    let mut until = entries.len();
+    while let Some(j) = last_given(entries, index, until, holder, number) {
         let Some(origin) = origin(alloc, entries, j, number)? else {
             return Ok(links);
         };
@@ -68,7 +68,7 @@ pub(crate) fn walk(
         };
         holder = giver.pid;
         number = giver.fd;
-        moment = giver.moment;
+        until = giver.until;
     }
     Ok(links)
 }

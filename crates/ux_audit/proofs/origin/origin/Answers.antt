@@ -1,6 +1,6 @@
 use Rattle.std.proofs.Common.{sym, subst}
 use Rattle.ux_model.specs.Giving.{IsReceive, receive}
-use Rattle.ux_audit.specs.declared.hands.Origin.{Origin}
+use Rattle.ux_audit.specs.declared.hands.HoldingOrigin.{HoldingOrigin}
 use Rattle.ux_audit.specs.Origins.{IsOrigin}
 use Rattle.ux_audit.proofs.Rows.{IfOk_then}
 use Rattle.ux_audit.proofs.Originating.{read_entry, never_otherwise, origin_made, origin_dup, origin_forked, origin_there, makes_way}
@@ -21,7 +21,7 @@ pub returns-in-Fork-clause-found : goal.returns-in-Fork-clause-found
 returns-in-Fork-clause-found c = λ e at.
     let f = c.index-entries-j.result in
     origin_there c.args.entries.now c.args.j c.args.fd.0 f e c.own.result c.requires.within c.index-entries-j.is at
-    (subst (λ (o : Origin). IsOrigin c.args.entries.now c.args.j c.args.fd.0 f o) (sym c.own.ensures)
+    (subst (λ (o : HoldingOrigin). IsOrigin c.args.entries.now c.args.j c.args.fd.0 f o) (sym c.own.ensures)
     (origin_forked c.args.entries.now c.args.j c.args.fd f c.in-Fork.is))
 
 pub returns-in_default : goal.returns-in_default
@@ -73,5 +73,5 @@ returns-in-Dup-clause-found c = λ e at.
     let f = c.index-entries-j.result in
     let w = copies_way f.request f.delivered c.in-Dup.source c.in-Dup.is in
     origin_there c.args.entries.now c.args.j c.args.fd.0 f e c.own-in-Dup.result c.requires.within c.index-entries-j.is at
-    (subst (λ (o : Origin). IsOrigin c.args.entries.now c.args.j c.args.fd.0 f o) (sym c.own-in-Dup.ensures)
+    (subst (λ (o : HoldingOrigin). IsOrigin c.args.entries.now c.args.j c.args.fd.0 f o) (sym c.own-in-Dup.ensures)
     (origin_dup c.args.entries.now c.args.j c.args.fd.0 f c.in-Dup.source w.0 w.1))

@@ -1,10 +1,10 @@
 use Rattle.std.proofs.Common.{◌≡◌, ℕ, ◌+◌, ◌-◌, ◌≤◌, length, vec_len}
-use Rattle.ux_audit.specs.Marks.{mark_at, AreSmall}
+use Rattle.ux_audit.specs.Flags.{flag_at, AreSmall}
 use Rattle.ux_audit.proofs.tables.reach.Given as goal
 
 abbrev pub invariant-loop-alloc : goal.invariant-loop-alloc
 invariant-loop-alloc l = record {
-  same : (q n : ℕ) → mark_at l.tables.items q n ≡ mark_at l.initial.tables.items q n;
+  same : (q n : ℕ) → flag_at l.tables.items q n ≡ flag_at l.initial.tables.items q n;
   small : AreSmall l.initial.tables.items → AreSmall l.tables.items;
   more : length l.initial.tables.items ≤ length l.tables.items;
 }

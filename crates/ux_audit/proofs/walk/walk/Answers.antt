@@ -22,7 +22,7 @@ returns-in_default-from c = λ boot legal held.
     let from = origin_found es c.in-Some.j c.loop-j.number.0 at.0 c.in_ok-origin.field-0 c.in-Some-2.origin c.in-Some-2.is
     c.in_ok-origin.ensures.found at.1 in
     subst (λ (l : List Link). IsPedigree boot es (reverse l) c.args.pid.0 c.args.fd.0) (sym c.in_ok-push.ensures.items)
-    (walk_ends boot es c.args.pid.0 c.args.fd.0 c.loop-j.links.items c.in-Some.j c.loop-j.moment c.loop-j.holder c.loop-j.number at.0
+    (walk_ends boot es c.args.pid.0 c.args.fd.0 c.loop-j.links.items c.in-Some.j c.loop-j.until c.loop-j.holder c.loop-j.number at.0
     c.in-Some-2.origin legal c.loop-j.invariant.within
     (c.loop-j.invariant.walking boot legal held) g.0 at.1 g.1 g.2 from c.in_default-from.is)
 
@@ -48,14 +48,14 @@ loop-j-preserved c =
       within = omega (arith, g.0, early, c.loop-j.invariant.within);
       walking = λ boot legal held.
           subst (λ (l : List Link). IsWalking boot es c.args.pid.0 c.args.fd.0 l c.in-Some-from.giver.pid.0 c.in-Some-from.giver.fd.0
-          c.in-Some-from.giver.moment) (sym c.in_ok-push.ensures.items)
-          (walk_goes_on boot es c.args.pid.0 c.args.fd.0 c.loop-j.links.items c.in-Some.j c.loop-j.moment c.loop-j.holder c.loop-j.number
+          c.in-Some-from.giver.until) (sym c.in_ok-push.ensures.items)
+          (walk_goes_on boot es c.args.pid.0 c.args.fd.0 c.loop-j.links.items c.in-Some.j c.loop-j.until c.loop-j.holder c.loop-j.number
           at.0 c.in-Some-2.origin c.in-Some-from.giver legal
           c.loop-j.invariant.within (c.loop-j.invariant.walking boot legal held) g.0 at.1 g.1 g.2 from c.in-Some-from.is);
     }
 
 pub returns : goal.returns
 returns c = λ boot legal held.
-    absurd (walk_finds boot c.args.entries.now c.args.pid.0 c.args.fd.0 c.loop-j.links.items c.loop-j.moment c.loop-j.holder.0
+    absurd (walk_finds boot c.args.entries.now c.args.pid.0 c.args.fd.0 c.loop-j.links.items c.loop-j.until c.loop-j.holder.0
     c.loop-j.number.0 legal c.loop-j.invariant.within
     (c.loop-j.invariant.walking boot legal held) c.in_default.ensures)

@@ -7,10 +7,10 @@ use Rattle.ux_audit.proofs.walk.walk.Given as goal
 
 abbrev pub invariant-loop-j : goal.invariant-loop-j
 invariant-loop-j l = record {
-  within : l.moment ≤ length l.entries;
+  within : l.until ≤ length l.entries;
   walking : (boot : State) → IsLegal boot l.entries → is_held (replay boot l.entries) l.fn.pid.0 l.fn.fd.0 ≡ true →
-      IsWalking boot l.entries l.fn.pid.0 l.fn.fd.0 l.links.items l.holder.0 l.number.0 l.moment;
+      IsWalking boot l.entries l.fn.pid.0 l.fn.fd.0 l.links.items l.holder.0 l.number.0 l.until;
 }
 
 abbrev pub decreases-loop-j : goal.decreases-loop-j
-decreases-loop-j l = l.moment
+decreases-loop-j l = l.until

@@ -5,9 +5,9 @@ use Rattle.ux_model.specs.Types.{Entry}
 use Rattle.ux_model.specs.History.{replay}
 use Rattle.ux_model.specs.Pedigree.{before}
 use Rattle.ux_model.proofs.Pedigrees.Moments.{moment}
-use Rattle.ux_audit.specs.Marks.{AreMarks}
+use Rattle.ux_audit.specs.Flags.{AreFlags}
 use Rattle.ux_audit.specs.Givers.{AreGivers}
-use Rattle.ux_audit.proofs.Told.{shown_given}
+use Rattle.ux_audit.proofs.Reported.{shown_given}
 use Rattle.ux_audit.proofs.Following.{marks_follow, marks_none, small_none}
 use Rattle.ux_audit.proofs.Placing.{givers_more, givers_none}
 use Rattle.ux_audit.proofs.Walking.{boot_empty}
@@ -32,7 +32,7 @@ loop-place-preserved c =
           (givers_more es i e c.loop-place.index.births.items c.follow.new.self.births.items c.loop-place.index.rows.items
           c.follow.new.self.rows.items at
           c.in_ok-follow.ensures.births c.in_ok-follow.ensures.rows c.loop-place.invariant.givers);
-      flags = λ boot legal. subst (λ (k : ℕ). AreMarks (replay boot (take k es)) c.follow.new.self.tables.items) next
+      flags = λ boot legal. subst (λ (k : ℕ). AreFlags (replay boot (take k es)) c.follow.new.self.tables.items) next
           (marks_follow (before boot es i) (before boot es (suc i)) e c.loop-place.index.tables.items c.follow.new.self.tables.items
           (moment boot es i e legal at).changes
           (shown_given boot es i e legal at) (c.loop-place.invariant.flags boot legal) c.in_ok-follow.ensures.flags);
@@ -42,5 +42,5 @@ loop-place-preserved c =
 pub returns-clause-flags : goal.returns-clause-flags
 returns-clause-flags c = λ boot legal.
     let es = c.args.entries.now in
-    subst (λ (l : List Entry). AreMarks (replay boot l) c.loop-place.index.tables.items)
+    subst (λ (l : List Entry). AreFlags (replay boot l) c.loop-place.index.tables.items)
     (take_all c.loop-place.place es c.loop-place-test.false) (c.loop-place.invariant.flags boot legal)

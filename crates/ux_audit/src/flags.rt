@@ -2,7 +2,7 @@
 ghost use Rattle.std.specs.Prelude.{◌≡◌, ◌==◌, ℕ, ◌<◌, ◌≤◌, ◌^◌, None, Some, Option, Bool, length, map, option_map, if◌then◌else◌, IfOk, OnOk};
 ghost use Rattle.std.specs.List.{list_any};
 ghost use Rattle.ux_model.specs.Places.{place};
-ghost use Rattle.ux_audit.specs.Marks.{flag_on_exec, flag_left};
+ghost use Rattle.ux_audit.specs.Flags.{flag_on_exec, flag_left};
 
 use bitflags::Flags;
 use std::alloc::AllocError;
@@ -69,12 +69,12 @@ fn take(row: &mut Vec<Option<bool>>, n: u32)
 }
 
 /// Takes the numbers away that have the flag.
-fn take_marked(row: &mut [Option<bool>])
+fn take_flagged(row: &mut [Option<bool>])
     ensures { (k : ℕ) → place row.new k ≡ flag_on_exec (place row.old k) }
 {
-    for mark in row.iter_mut() {
-        if let Some(true) = *mark {
-            *mark = None;
+    for flag in row.iter_mut() {
+        if let Some(true) = *flag {
+            *flag = None;
         }
     }
 }
@@ -89,7 +89,7 @@ pub(crate) fn leave(row: &mut Vec<Option<bool>>, request: &Request)
             set_flag(row, fd.0, flags.contains(OpenFlags::CLOEXEC));
         }
         Request::Close { fd } => take(row, fd.0),
-        Request::Exec => take_marked(row.as_mut_slice()),
+        Request::Exec => take_flagged(row.as_mut_slice()),
         Request::Exit | Request::Off => row.clear(),
         _ => {}
     }

@@ -1,6 +1,6 @@
 use Rattle.std.proofs.Common.{◌≡◌, ℕ, ◌+◌, ◌-◌, ◌≤◌, ◌^◌, length, vec_len}
 use Rattle.ux_model.specs.Places.{place}
-use Rattle.ux_audit.proofs.marks.reach.Given as goal
+use Rattle.ux_audit.proofs.flags.reach.Given as goal
 
 abbrev pub invariant-loop-row : goal.invariant-loop-row
 invariant-loop-row l = record {

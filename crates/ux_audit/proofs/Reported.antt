@@ -42,6 +42,6 @@ gave_gives boot es j p n e legal at = ap
     (λ l. makes p e.request e.reply || ((e.pid.0 == p) && list_any (λ m. m == n) l)) (shown_given boot es j e legal at)
 
 -- the message that its rights were of
-pub told_delivered : (boot : State) (es : List Entry) (j : ℕ) (e : Entry) → IsLegal boot es → slice_get es j ≡ Some e →
+pub reported_delivered : (boot : State) (es : List Entry) (j : ℕ) (e : Entry) → IsLegal boot es → slice_get es j ≡ Some e →
     e.delivered ≡ delivered (before boot es j) e
-told_delivered boot es j e legal at = (legal.each j e at).told
+reported_delivered boot es j e legal at = (legal.each j e at).told

@@ -17,8 +17,8 @@ flag_in None n = None
 flag_in (Some row) n = place row.items n
 
 -- the flag of the number in the row of the process, if it is open
-abbrev pub mark_at : List (Vec (Option Bool)) → ℕ → ℕ → Option Bool
-mark_at tables p n = flag_in (slice_get tables p) n
+abbrev pub flag_at : List (Vec (Option Bool)) → ℕ → ℕ → Option Bool
+flag_at tables p n = flag_in (slice_get tables p) n
 
 abbrev pub flag_on_exec : Option Bool → Option Bool
 flag_on_exec None = None
@@ -43,16 +43,16 @@ abbrev pub flag_own : Request → List ℕ → ℕ → Option Bool → Option Bo
 flag_own request numbers n held = if list_any (λ m. m == n) numbers then Some (cloexec_of request) else flag_left request n held
 
 -- the flags after an entry, by those before
-abbrev pub mark_after : (ℕ → ℕ → Option Bool) → Entry → ℕ → ℕ → Option Bool
-mark_after marks e q n =
-    if is_err e.reply then marks q n else
-    if makes q e.request e.reply then marks e.pid.0 n else
-    if e.pid.0 == q then flag_own e.request (shown e.request e.reply) n (marks q n) else
-    flag_of_others e.request (marks q n)
+abbrev pub flag_after : (ℕ → ℕ → Option Bool) → Entry → ℕ → ℕ → Option Bool
+flag_after flags e q n =
+    if is_err e.reply then flags q n else
+    if makes q e.request e.reply then flags e.pid.0 n else
+    if e.pid.0 == q then flag_own e.request (shown e.request e.reply) n (flags q n) else
+    flag_of_others e.request (flags q n)
 
 -- the rows are the flags of the tables
-abbrev pub AreMarks : State → List (Vec (Option Bool)) → Type 0
-AreMarks S tables = (q n : ℕ) → mark_at tables q n ≡ option_map (λ (e : Descriptor). e.cloexec) (held_at S q n)
+abbrev pub AreFlags : State → List (Vec (Option Bool)) → Type 0
+AreFlags S tables = (q n : ℕ) → flag_at tables q n ≡ option_map (λ (e : Descriptor). e.cloexec) (held_at S q n)
 
 -- each number of a row, and of a process, is one of 32 bits
 pub record AreSmall (tables : List (Vec (Option Bool))) : Type 0 where

@@ -1,7 +1,7 @@
 use Rattle.std.proofs.Common.{◌≡◌, ℕ, ◌==◌, cond, take, map, ◌≤◌, ◌^◌, length, Some}
 use Rattle.std.specs.List.{list_any}
 use Rattle.ux_model.specs.Places.{place}
-use Rattle.ux_audit.proofs.marks.put_all.Given as goal
+use Rattle.ux_audit.proofs.flags.put_all.Given as goal
 
 abbrev pub invariant-loop-fd : goal.invariant-loop-fd
 invariant-loop-fd l = record {
