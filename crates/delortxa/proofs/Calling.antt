@@ -4,15 +4,15 @@ use Rattle.ux_model.specs.Types.{Fd, SockOpt, Request, Reply}
 use Rattle.ux_laws.specs.ReplyKinds.{is_value, is_refusal, option_kind, kind_of, is_reply_to}
 use Rattle.ux_book.specs.declared.fault.CallFault.{CallFault}
 use Rattle.delortxa.specs.declared.fault.CallError.{CallError}
-use Rattle.delortxa.specs.Answering.{IsOther, Tells, Fails, FailsAsNumber}
+use Rattle.delortxa.specs.Answering.{IsOther, Explains, Fails, FailsAsNumber}
 
 -- an error that is reported of a reply is one of the call, whose reply is a refusal or as it was looked for
-pub tells : {S : Type 0} (wanted : Reply → Bool) (did : Reply → Type 0) (unmade : CallFault → Type 0) (old new : S) (reply : Reply)
+pub explains : {S : Type 0} (wanted : Reply → Bool) (did : Reply → Type 0) (unmade : CallFault → Type 0) (old new : S) (reply : Reply)
     (error : CallError) →
-    did reply → IsOther wanted reply error → (wanted reply || is_refusal reply) ≡ true → Tells did unmade old new error
-tells wanted did unmade old new reply (CallError.Refused errno) made is suits = subst did is made
-tells wanted did unmade old new reply (CallError.Fault fault) made is suits = absurd is
-tells wanted did unmade old new reply CallError.Unlike made is suits =
+    did reply → IsOther wanted reply error → (wanted reply || is_refusal reply) ≡ true → Explains did unmade old new error
+explains wanted did unmade old new reply (CallError.Refused errno) made is suits = subst did is made
+explains wanted did unmade old new reply (CallError.Fault fault) made is suits = absurd is
+explains wanted did unmade old new reply CallError.Unlike made is suits =
     absurd (cc (sym (ap (λ b. b || is_refusal reply) is.0 ∙ is.1) ∙ suits))
 
 module _ {C S : Type 0} (did : C → S → S → Request → Reply → Type 0) (unmade : C → S → Request → CallFault → Type 0) where
@@ -20,7 +20,7 @@ module _ {C S : Type 0} (did : C → S → S → Request → Reply → Type 0) (
       did who old new request reply → IsOther wanted reply error → is_reply_to request reply ≡ true → kind_of request ≡ wanted →
       Fails did unmade who old new request error
   fails wanted who old new request reply error made is suits kind =
-      tells wanted (did who old new request) (λ (fault : CallFault). (fault ≡ CallFault.NoMemory) ⊎ unmade who old request fault) old new
+      explains wanted (did who old new request) (λ (fault : CallFault). (fault ≡ CallFault.NoMemory) ⊎ unmade who old request fault) old new
       reply error made is
       (sym (ap (λ k. k reply || is_refusal reply) kind) ∙ suits)
 

@@ -20,16 +20,16 @@ IsOther wanted reply CallError.Unlike = (wanted reply ≡ false) × (is_refusal 
 
 -- What an error says of a call: it was made and refused, or it wasn't made and nothing has changed. No call's reply is of another kind than
 -- its request's.
-abbrev pub Tells : {S : Type 0} → (Reply → Type 0) → (CallFault → Type 0) → S → S → CallError → Type 0
-Tells did unmade old new (CallError.Refused errno) = did (Reply.Err errno)
-Tells did unmade old new (CallError.Fault fault) = (new ≡ old) × unmade fault
-Tells did unmade old new CallError.Unlike = ⊥
+abbrev pub Explains : {S : Type 0} → (Reply → Type 0) → (CallFault → Type 0) → S → S → CallError → Type 0
+Explains did unmade old new (CallError.Refused errno) = did (Reply.Err errno)
+Explains did unmade old new (CallError.Fault fault) = (new ≡ old) × unmade fault
+Explains did unmade old new CallError.Unlike = ⊥
 
 -- So of a call by its name: where it wasn't made there is no memory for its request, or it can't be made.
 abbrev pub Fails : {C S : Type 0} → (C → S → S → Request → Reply → Type 0) → (C → S → Request → CallFault → Type 0) → C → S → S → Request →
     CallError → Type 0
 Fails did unmade who old new request error =
-    Tells (did who old new request) (λ (fault : CallFault). (fault ≡ CallFault.NoMemory) ⊎ unmade who old request fault) old new error
+    Explains (did who old new request) (λ (fault : CallFault). (fault ≡ CallFault.NoMemory) ⊎ unmade who old request fault) old new error
 
 -- So of an option that is asked for as a number: credentials aren't one.
 abbrev pub FailsAsNumber : {C S : Type 0} → (C → S → S → Request → Reply → Type 0) → (C → S → Request → CallFault → Type 0) → C → S → S →

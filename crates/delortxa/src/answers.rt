@@ -52,7 +52,7 @@ pub(crate) fn other_reply(reply: Reply) -> CallError
 /// What a reply holds, by the kind that is looked for.
 pub trait ReplyExt: Sized {
     /// The reply.
-    ghost told: { Self → Reply };
+    ghost reply: { Self → Reply };
 
     /// That the call was done.
     ///
@@ -60,8 +60,8 @@ pub trait ReplyExt: Sized {
     ///
     /// `Refused` exactly for a refusal, else `Unlike` exactly for another reply.
     fn done(self) -> Result<(), CallError>
-        ensures done { OnOk result (told self ≡ Reply.Ok) }
-        ensures refused { IfErr result (IsOther is_done (told self)) };
+        ensures done { OnOk result (reply self ≡ Reply.Ok) }
+        ensures failed { IfErr result (IsOther is_done (reply self)) };
 
     /// The new descriptor.
     ///
@@ -69,8 +69,8 @@ pub trait ReplyExt: Sized {
     ///
     /// `Refused` exactly for a refusal, else `Unlike` exactly for another reply.
     fn fd(self) -> Result<Fd, CallError>
-        ensures fd { IfOk result (λ fd. told self ≡ Reply.Fd fd) }
-        ensures refused { IfErr result (IsOther is_fd (told self)) };
+        ensures fd { IfOk result (λ fd. reply self ≡ Reply.Fd fd) }
+        ensures failed { IfErr result (IsOther is_fd (reply self)) };
 
     /// The two new descriptors.
     ///
@@ -78,8 +78,8 @@ pub trait ReplyExt: Sized {
     ///
     /// `Refused` exactly for a refusal, else `Unlike` exactly for another reply.
     fn fds(self) -> Result<(Fd, Fd), CallError>
-        ensures fds { IfOk result (λ fds. told self ≡ Reply.Fds fds.0 fds.1) }
-        ensures refused { IfErr result (IsOther is_fds (told self)) };
+        ensures fds { IfOk result (λ fds. reply self ≡ Reply.Fds fds.0 fds.1) }
+        ensures failed { IfErr result (IsOther is_fds (reply self)) };
 
     /// How many bytes were taken.
     ///
@@ -87,8 +87,8 @@ pub trait ReplyExt: Sized {
     ///
     /// `Refused` exactly for a refusal, else `Unlike` exactly for another reply.
     fn count(self) -> Result<usize, CallError>
-        ensures count { IfOk result (λ count. told self ≡ Reply.Count count) }
-        ensures refused { IfErr result (IsOther is_count (told self)) };
+        ensures count { IfOk result (λ count. reply self ≡ Reply.Count count) }
+        ensures failed { IfErr result (IsOther is_count (reply self)) };
 
     /// The bytes that were read.
     ///
@@ -96,8 +96,8 @@ pub trait ReplyExt: Sized {
     ///
     /// `Refused` exactly for a refusal, else `Unlike` exactly for another reply.
     fn bytes(self) -> Result<Bytes, CallError>
-        ensures bytes { IfOk result (λ bytes. told self ≡ Reply.Bytes bytes) }
-        ensures refused { IfErr result (IsOther is_bytes (told self)) };
+        ensures bytes { IfOk result (λ bytes. reply self ≡ Reply.Bytes bytes) }
+        ensures failed { IfErr result (IsOther is_bytes (reply self)) };
 
     /// The offset, in bytes from the beginning.
     ///
@@ -105,8 +105,8 @@ pub trait ReplyExt: Sized {
     ///
     /// `Refused` exactly for a refusal, else `Unlike` exactly for another reply.
     fn offset(self) -> Result<u64, CallError>
-        ensures offset { IfOk result (λ offset. told self ≡ Reply.At offset) }
-        ensures refused { IfErr result (IsOther is_offset (told self)) };
+        ensures offset { IfOk result (λ offset. reply self ≡ Reply.At offset) }
+        ensures failed { IfErr result (IsOther is_offset (reply self)) };
 
     /// What was received.
     ///
@@ -114,8 +114,8 @@ pub trait ReplyExt: Sized {
     ///
     /// `Refused` exactly for a refusal, else `Unlike` exactly for another reply.
     fn message(self) -> Result<Message, CallError>
-        ensures message { IfOk result (λ message. told self ≡ Reply.Received message.flags message.count message.bytes message.control message.from) }
-        ensures refused { IfErr result (IsOther is_message (told self)) };
+        ensures message { IfOk result (λ message. reply self ≡ Reply.Received message.flags message.count message.bytes message.control message.from) }
+        ensures failed { IfErr result (IsOther is_message (reply self)) };
 
     /// The descriptor of the connection, and its client's name.
     ///
@@ -123,8 +123,8 @@ pub trait ReplyExt: Sized {
     ///
     /// `Refused` exactly for a refusal, else `Unlike` exactly for another reply.
     fn accepted(self) -> Result<(Fd, Addr), CallError>
-        ensures accepted { IfOk result (λ accepted. told self ≡ Reply.Accepted accepted.0 accepted.1) }
-        ensures refused { IfErr result (IsOther is_accepted (told self)) };
+        ensures accepted { IfOk result (λ accepted. reply self ≡ Reply.Accepted accepted.0 accepted.1) }
+        ensures failed { IfErr result (IsOther is_accepted (reply self)) };
 
     /// The name of a socket.
     ///
@@ -132,8 +132,8 @@ pub trait ReplyExt: Sized {
     ///
     /// `Refused` exactly for a refusal, else `Unlike` exactly for another reply.
     fn addr(self) -> Result<Addr, CallError>
-        ensures addr { IfOk result (λ addr. told self ≡ Reply.Addr addr) }
-        ensures refused { IfErr result (IsOther is_addr (told self)) };
+        ensures addr { IfOk result (λ addr. reply self ≡ Reply.Addr addr) }
+        ensures failed { IfErr result (IsOther is_addr (reply self)) };
 
     /// The value of an option.
     ///
@@ -141,8 +141,8 @@ pub trait ReplyExt: Sized {
     ///
     /// `Refused` exactly for a refusal, else `Unlike` exactly for another reply.
     fn value(self) -> Result<u64, CallError>
-        ensures value { IfOk result (λ value. told self ≡ Reply.Opt value) }
-        ensures refused { IfErr result (IsOther is_value (told self)) };
+        ensures value { IfOk result (λ value. reply self ≡ Reply.Opt value) }
+        ensures failed { IfErr result (IsOther is_value (reply self)) };
 
     /// The credentials of a peer.
     ///
@@ -150,8 +150,8 @@ pub trait ReplyExt: Sized {
     ///
     /// `Refused` exactly for a refusal, else `Unlike` exactly for another reply.
     fn cred(self) -> Result<Cred, CallError>
-        ensures cred { IfOk result (λ cred. told self ≡ Reply.Cred cred) }
-        ensures refused { IfErr result (IsOther is_cred (told self)) };
+        ensures cred { IfOk result (λ cred. reply self ≡ Reply.Cred cred) }
+        ensures failed { IfErr result (IsOther is_cred (reply self)) };
 
     /// Which conditions hold, as poll(2) reports them.
     ///
@@ -159,8 +159,8 @@ pub trait ReplyExt: Sized {
     ///
     /// `Refused` exactly for a refusal, else `Unlike` exactly for another reply.
     fn ready(self) -> Result<PollFlags, CallError>
-        ensures ready { IfOk result (λ ready. told self ≡ Reply.Poll ready) }
-        ensures refused { IfErr result (IsOther is_ready (told self)) };
+        ensures ready { IfOk result (λ ready. reply self ≡ Reply.Poll ready) }
+        ensures failed { IfErr result (IsOther is_ready (reply self)) };
 
     /// The new process.
     ///
@@ -168,8 +168,8 @@ pub trait ReplyExt: Sized {
     ///
     /// `Refused` exactly for a refusal, else `Unlike` exactly for another reply.
     fn child(self) -> Result<Pid, CallError>
-        ensures child { IfOk result (λ child. told self ≡ Reply.Child child) }
-        ensures refused { IfErr result (IsOther is_child (told self)) };
+        ensures child { IfOk result (λ child. reply self ≡ Reply.Child child) }
+        ensures failed { IfErr result (IsOther is_child (reply self)) };
 
     /// The flags of a descriptor and of its description.
     ///
@@ -177,12 +177,12 @@ pub trait ReplyExt: Sized {
     ///
     /// `Refused` exactly for a refusal, else `Unlike` exactly for another reply.
     fn flags(self) -> Result<OpenFlags, CallError>
-        ensures flags { IfOk result (λ flags. told self ≡ Reply.Flags flags) }
-        ensures refused { IfErr result (IsOther is_flags (told self)) };
+        ensures flags { IfOk result (λ flags. reply self ≡ Reply.Flags flags) }
+        ensures failed { IfErr result (IsOther is_flags (reply self)) };
 }
 
 impl ReplyExt for Reply {
-    ghost told = { λ r. r };
+    ghost reply = { λ r. r };
 
     fn done(self) -> Result<(), CallError> {
         match self {

@@ -82,7 +82,7 @@ impl Boot {
     pub fn file(self, path: &[u8], bytes: &[u8]) -> Result<Boot, ObjError>
         ensures made { IfOk result (λ b. b ≡ with_object self path.now ObjKind.Memory bytes.now 0) }
         ensures full { IsErrAnd result (λ e. e ≡ ObjError.Full) ↔ (file_limit < length bytes.now) }
-        ensures refused { IfErr result (λ e. (e ≡ ObjError.Full) ⊎ (e ≡ ObjError.NoMemory)) }
+        ensures failed { IfErr result (λ e. (e ≡ ObjError.Full) ⊎ (e ≡ ObjError.NoMemory)) }
     {
         self.object(path, ObjKind::Memory, bytes, 0)
     }
@@ -95,7 +95,7 @@ impl Boot {
     pub fn failing_file(self, path: &[u8], bytes: &[u8], n: u32) -> Result<Boot, ObjError>
         ensures made { IfOk result (λ b. b ≡ with_object self path.now ObjKind.Memory bytes.now n) }
         ensures full { IsErrAnd result (λ e. e ≡ ObjError.Full) ↔ (file_limit < length bytes.now) }
-        ensures refused { IfErr result (λ e. (e ≡ ObjError.Full) ⊎ (e ≡ ObjError.NoMemory)) }
+        ensures failed { IfErr result (λ e. (e ≡ ObjError.Full) ⊎ (e ≡ ObjError.NoMemory)) }
     {
         self.object(path, ObjKind::Memory, bytes, n)
     }
@@ -107,7 +107,7 @@ impl Boot {
     /// `NoMemory`.
     pub fn counter(self, path: &[u8]) -> Result<Boot, ObjError>
         ensures made { IfOk result (λ b. b ≡ with_object self path.now ObjKind.Counter [] 0) }
-        ensures refused { IfErr result (λ e. e ≡ ObjError.NoMemory) }
+        ensures failed { IfErr result (λ e. e ≡ ObjError.NoMemory) }
     {
         self.object(path, ObjKind::Counter, b"", 0)
     }
@@ -119,7 +119,7 @@ impl Boot {
     /// `NoMemory`.
     pub fn pipe(self, path: &[u8]) -> Result<Boot, ObjError>
         ensures made { IfOk result (λ b. b ≡ with_object self path.now ObjKind.Pipe [] 0) }
-        ensures refused { IfErr result (λ e. e ≡ ObjError.NoMemory) }
+        ensures failed { IfErr result (λ e. e ≡ ObjError.NoMemory) }
     {
         self.object(path, ObjKind::Pipe, b"", 0)
     }
@@ -133,7 +133,7 @@ impl Boot {
     pub fn object(self, path: &[u8], kind: ObjKind, bytes: &[u8], n: u32) -> Result<Boot, ObjError>
         ensures made { IfOk result (λ b. b ≡ with_object self path.now kind bytes.now n) }
         ensures full { IsErrAnd result (λ e. e ≡ ObjError.Full) ↔ ((kind ≡ ObjKind.Memory) × (file_limit < length bytes.now)) }
-        ensures refused { IfErr result (λ e. (e ≡ ObjError.Full) ⊎ (e ≡ ObjError.NoMemory)) }
+        ensures failed { IfErr result (λ e. (e ≡ ObjError.Full) ⊎ (e ≡ ObjError.NoMemory)) }
     {
         let object = AnyObject::new(self.alloc, kind, bytes, n)?;
         let name = Name::from_slice(self.alloc, path)?;

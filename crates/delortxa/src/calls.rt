@@ -56,7 +56,7 @@ pub trait Calls<C: Copy> {
     #[tactic(auto, using(crate::proofs::Calling::fails))]
     final fn open(&mut self, who: C, path: &[u8], mode: Mode) -> Result<Fd, CallError>
         ensures made { IfOk result (λ new. did who self.old self.new (Request.Open path.now mode no_open_flags) (Reply.Fd new)) }
-        ensures refused { IfErr result (λ error. Fails did unmade who self.old self.new (Request.Open path.now mode no_open_flags) error) }
+        ensures failed { IfErr result (λ error. Fails did unmade who self.old self.new (Request.Open path.now mode no_open_flags) error) }
     {
         let request = call::open(self.allocator(), path, mode)?;
         let reply = self.ask(who, &request)?;
@@ -73,7 +73,7 @@ pub trait Calls<C: Copy> {
         flags: OpenFlags,
     ) -> Result<Fd, CallError>
         ensures made { IfOk result (λ new. did who self.old self.new (Request.Open path.now mode flags) (Reply.Fd new)) }
-        ensures refused { IfErr result (λ error. Fails did unmade who self.old self.new (Request.Open path.now mode flags) error) }
+        ensures failed { IfErr result (λ error. Fails did unmade who self.old self.new (Request.Open path.now mode flags) error) }
     {
         let request = call::open_with(self.allocator(), path, mode, flags)?;
         let reply = self.ask(who, &request)?;
@@ -84,7 +84,7 @@ pub trait Calls<C: Copy> {
     #[tactic(auto, using(crate::proofs::Calling::fails))]
     final fn read(&mut self, who: C, fd: Fd, n: usize) -> Result<Bytes, CallError>
         ensures made { IfOk result (λ got. did who self.old self.new (Request.Read fd n) (Reply.Bytes got)) }
-        ensures refused { IfErr result (λ error. Fails did unmade who self.old self.new (Request.Read fd n) error) }
+        ensures failed { IfErr result (λ error. Fails did unmade who self.old self.new (Request.Read fd n) error) }
     {
         let request = call::read(fd, n);
         let reply = self.ask(who, &request)?;
@@ -95,7 +95,7 @@ pub trait Calls<C: Copy> {
     #[tactic(auto, using(crate::proofs::Calling::fails))]
     final fn write(&mut self, who: C, fd: Fd, bytes: &[u8]) -> Result<usize, CallError>
         ensures made { IfOk result (λ taken. did who self.old self.new (Request.Write fd bytes.now) (Reply.Count taken)) }
-        ensures refused { IfErr result (λ error. Fails did unmade who self.old self.new (Request.Write fd bytes.now) error) }
+        ensures failed { IfErr result (λ error. Fails did unmade who self.old self.new (Request.Write fd bytes.now) error) }
     {
         let request = call::write(self.allocator(), fd, bytes)?;
         let reply = self.ask(who, &request)?;
@@ -106,7 +106,7 @@ pub trait Calls<C: Copy> {
     #[tactic(auto, using(crate::proofs::Calling::fails))]
     final fn lseek(&mut self, who: C, fd: Fd, offset: i64, whence: Whence) -> Result<u64, CallError>
         ensures made { IfOk result (λ at. did who self.old self.new (Request.Lseek fd offset whence) (Reply.At at)) }
-        ensures refused { IfErr result (λ error. Fails did unmade who self.old self.new (Request.Lseek fd offset whence) error) }
+        ensures failed { IfErr result (λ error. Fails did unmade who self.old self.new (Request.Lseek fd offset whence) error) }
     {
         let request = call::lseek(fd, offset, whence);
         let reply = self.ask(who, &request)?;
@@ -117,7 +117,7 @@ pub trait Calls<C: Copy> {
     #[tactic(auto, using(crate::proofs::Calling::fails))]
     final fn dup(&mut self, who: C, fd: Fd) -> Result<Fd, CallError>
         ensures made { IfOk result (λ new. did who self.old self.new (Request.Dup fd) (Reply.Fd new)) }
-        ensures refused { IfErr result (λ error. Fails did unmade who self.old self.new (Request.Dup fd) error) }
+        ensures failed { IfErr result (λ error. Fails did unmade who self.old self.new (Request.Dup fd) error) }
     {
         let request = call::dup(fd);
         let reply = self.ask(who, &request)?;
@@ -128,7 +128,7 @@ pub trait Calls<C: Copy> {
     #[tactic(auto, using(crate::proofs::Calling::fails))]
     final fn dup2(&mut self, who: C, fd: Fd, to: Fd) -> Result<Fd, CallError>
         ensures made { IfOk result (λ new. did who self.old self.new (Request.Dup2 fd to) (Reply.Fd new)) }
-        ensures refused { IfErr result (λ error. Fails did unmade who self.old self.new (Request.Dup2 fd to) error) }
+        ensures failed { IfErr result (λ error. Fails did unmade who self.old self.new (Request.Dup2 fd to) error) }
     {
         let request = call::dup2(fd, to);
         let reply = self.ask(who, &request)?;
@@ -139,7 +139,7 @@ pub trait Calls<C: Copy> {
     #[tactic(auto, using(crate::proofs::Calling::fails))]
     final fn dup_from(&mut self, who: C, fd: Fd, minimum: Fd) -> Result<Fd, CallError>
         ensures made { IfOk result (λ new. did who self.old self.new (Request.DupFrom fd minimum) (Reply.Fd new)) }
-        ensures refused { IfErr result (λ error. Fails did unmade who self.old self.new (Request.DupFrom fd minimum) error) }
+        ensures failed { IfErr result (λ error. Fails did unmade who self.old self.new (Request.DupFrom fd minimum) error) }
     {
         let request = call::dup_from(fd, minimum);
         let reply = self.ask(who, &request)?;
@@ -150,7 +150,7 @@ pub trait Calls<C: Copy> {
     #[tactic(auto, using(crate::proofs::Calling::fails))]
     final fn get_flags(&mut self, who: C, fd: Fd) -> Result<OpenFlags, CallError>
         ensures made { IfOk result (λ flags. did who self.old self.new (Request.GetFlags fd) (Reply.Flags flags)) }
-        ensures refused { IfErr result (λ error. Fails did unmade who self.old self.new (Request.GetFlags fd) error) }
+        ensures failed { IfErr result (λ error. Fails did unmade who self.old self.new (Request.GetFlags fd) error) }
     {
         let request = call::get_flags(fd);
         let reply = self.ask(who, &request)?;
@@ -161,7 +161,7 @@ pub trait Calls<C: Copy> {
     #[tactic(auto, using(crate::proofs::Calling::fails))]
     final fn set_flags(&mut self, who: C, fd: Fd, flags: OpenFlags) -> Result<(), CallError>
         ensures made { OnOk result (did who self.old self.new (Request.SetFlags fd flags) Reply.Ok) }
-        ensures refused { IfErr result (λ error. Fails did unmade who self.old self.new (Request.SetFlags fd flags) error) }
+        ensures failed { IfErr result (λ error. Fails did unmade who self.old self.new (Request.SetFlags fd flags) error) }
     {
         let request = call::set_flags(fd, flags);
         let reply = self.ask(who, &request)?;
@@ -172,7 +172,7 @@ pub trait Calls<C: Copy> {
     #[tactic(auto, using(crate::proofs::Calling::fails))]
     final fn close(&mut self, who: C, fd: Fd) -> Result<(), CallError>
         ensures made { OnOk result (did who self.old self.new (Request.Close fd) Reply.Ok) }
-        ensures refused { IfErr result (λ error. Fails did unmade who self.old self.new (Request.Close fd) error) }
+        ensures failed { IfErr result (λ error. Fails did unmade who self.old self.new (Request.Close fd) error) }
     {
         let request = call::close(fd);
         let reply = self.ask(who, &request)?;
@@ -183,7 +183,7 @@ pub trait Calls<C: Copy> {
     #[tactic(auto, using(crate::proofs::Calling::fails))]
     final fn unlink(&mut self, who: C, path: &[u8]) -> Result<(), CallError>
         ensures made { OnOk result (did who self.old self.new (Request.Unlink path.now) Reply.Ok) }
-        ensures refused { IfErr result (λ error. Fails did unmade who self.old self.new (Request.Unlink path.now) error) }
+        ensures failed { IfErr result (λ error. Fails did unmade who self.old self.new (Request.Unlink path.now) error) }
     {
         let request = call::unlink(self.allocator(), path)?;
         let reply = self.ask(who, &request)?;
@@ -194,7 +194,7 @@ pub trait Calls<C: Copy> {
     #[tactic(auto, using(crate::proofs::Calling::fails))]
     final fn socket(&mut self, who: C, kind: SockType) -> Result<Fd, CallError>
         ensures made { IfOk result (λ new. did who self.old self.new (Request.Socket kind no_open_flags) (Reply.Fd new)) }
-        ensures refused { IfErr result (λ error. Fails did unmade who self.old self.new (Request.Socket kind no_open_flags) error) }
+        ensures failed { IfErr result (λ error. Fails did unmade who self.old self.new (Request.Socket kind no_open_flags) error) }
     {
         let request = call::socket(kind);
         let reply = self.ask(who, &request)?;
@@ -210,7 +210,7 @@ pub trait Calls<C: Copy> {
         flags: OpenFlags,
     ) -> Result<Fd, CallError>
         ensures made { IfOk result (λ new. did who self.old self.new (Request.Socket kind flags) (Reply.Fd new)) }
-        ensures refused { IfErr result (λ error. Fails did unmade who self.old self.new (Request.Socket kind flags) error) }
+        ensures failed { IfErr result (λ error. Fails did unmade who self.old self.new (Request.Socket kind flags) error) }
     {
         let request = call::socket_with(kind, flags);
         let reply = self.ask(who, &request)?;
@@ -221,7 +221,7 @@ pub trait Calls<C: Copy> {
     #[tactic(auto, using(crate::proofs::Calling::fails))]
     final fn pair(&mut self, who: C, kind: SockType) -> Result<(Fd, Fd), CallError>
         ensures made { IfOk result (λ fds. did who self.old self.new (Request.SocketPair kind no_open_flags) (Reply.Fds fds.0 fds.1)) }
-        ensures refused { IfErr result (λ error. Fails did unmade who self.old self.new (Request.SocketPair kind no_open_flags) error) }
+        ensures failed { IfErr result (λ error. Fails did unmade who self.old self.new (Request.SocketPair kind no_open_flags) error) }
     {
         let request = call::pair(kind);
         let reply = self.ask(who, &request)?;
@@ -232,7 +232,7 @@ pub trait Calls<C: Copy> {
     #[tactic(auto, using(crate::proofs::Calling::fails))]
     final fn bind_path(&mut self, who: C, fd: Fd, path: &[u8]) -> Result<(), CallError>
         ensures made { OnOk result (did who self.old self.new (Request.Bind fd (Addr.Path path.now)) Reply.Ok) }
-        ensures refused { IfErr result (λ error. Fails did unmade who self.old self.new (Request.Bind fd (Addr.Path path.now)) error) }
+        ensures failed { IfErr result (λ error. Fails did unmade who self.old self.new (Request.Bind fd (Addr.Path path.now)) error) }
     {
         let request = call::bind_path(self.allocator(), fd, path)?;
         let reply = self.ask(who, &request)?;
@@ -243,7 +243,7 @@ pub trait Calls<C: Copy> {
     #[tactic(auto, using(crate::proofs::Calling::fails))]
     final fn bind_abstract(&mut self, who: C, fd: Fd, name: &[u8]) -> Result<(), CallError>
         ensures made { OnOk result (did who self.old self.new (Request.Bind fd (Addr.Abstract name.now)) Reply.Ok) }
-        ensures refused { IfErr result (λ error. Fails did unmade who self.old self.new (Request.Bind fd (Addr.Abstract name.now)) error) }
+        ensures failed { IfErr result (λ error. Fails did unmade who self.old self.new (Request.Bind fd (Addr.Abstract name.now)) error) }
     {
         let request = call::bind_abstract(self.allocator(), fd, name)?;
         let reply = self.ask(who, &request)?;
@@ -254,7 +254,7 @@ pub trait Calls<C: Copy> {
     #[tactic(auto, using(crate::proofs::Calling::fails))]
     final fn listen(&mut self, who: C, fd: Fd, backlog: i32) -> Result<(), CallError>
         ensures made { OnOk result (did who self.old self.new (Request.Listen fd backlog) Reply.Ok) }
-        ensures refused { IfErr result (λ error. Fails did unmade who self.old self.new (Request.Listen fd backlog) error) }
+        ensures failed { IfErr result (λ error. Fails did unmade who self.old self.new (Request.Listen fd backlog) error) }
     {
         let request = call::listen(fd, backlog);
         let reply = self.ask(who, &request)?;
@@ -265,7 +265,7 @@ pub trait Calls<C: Copy> {
     #[tactic(auto, using(crate::proofs::Calling::fails))]
     final fn connect_path(&mut self, who: C, fd: Fd, path: &[u8]) -> Result<(), CallError>
         ensures made { OnOk result (did who self.old self.new (Request.Connect fd (Addr.Path path.now)) Reply.Ok) }
-        ensures refused { IfErr result (λ error. Fails did unmade who self.old self.new (Request.Connect fd (Addr.Path path.now)) error) }
+        ensures failed { IfErr result (λ error. Fails did unmade who self.old self.new (Request.Connect fd (Addr.Path path.now)) error) }
     {
         let request = call::connect_path(self.allocator(), fd, path)?;
         let reply = self.ask(who, &request)?;
@@ -276,7 +276,7 @@ pub trait Calls<C: Copy> {
     #[tactic(auto, using(crate::proofs::Calling::fails))]
     final fn connect_abstract(&mut self, who: C, fd: Fd, name: &[u8]) -> Result<(), CallError>
         ensures made { OnOk result (did who self.old self.new (Request.Connect fd (Addr.Abstract name.now)) Reply.Ok) }
-        ensures refused { IfErr result (λ error. Fails did unmade who self.old self.new (Request.Connect fd (Addr.Abstract name.now)) error) }
+        ensures failed { IfErr result (λ error. Fails did unmade who self.old self.new (Request.Connect fd (Addr.Abstract name.now)) error) }
     {
         let request = call::connect_abstract(self.allocator(), fd, name)?;
         let reply = self.ask(who, &request)?;
@@ -287,7 +287,7 @@ pub trait Calls<C: Copy> {
     #[tactic(auto, using(crate::proofs::Calling::fails))]
     final fn accept(&mut self, who: C, fd: Fd) -> Result<(Fd, Addr), CallError>
         ensures made { IfOk result (λ a. did who self.old self.new (Request.Accept fd no_open_flags) (Reply.Accepted a.0 a.1)) }
-        ensures refused { IfErr result (λ error. Fails did unmade who self.old self.new (Request.Accept fd no_open_flags) error) }
+        ensures failed { IfErr result (λ error. Fails did unmade who self.old self.new (Request.Accept fd no_open_flags) error) }
     {
         let request = call::accept(fd);
         let reply = self.ask(who, &request)?;
@@ -303,7 +303,7 @@ pub trait Calls<C: Copy> {
         flags: OpenFlags,
     ) -> Result<(Fd, Addr), CallError>
         ensures made { IfOk result (λ a. did who self.old self.new (Request.Accept fd flags) (Reply.Accepted a.0 a.1)) }
-        ensures refused { IfErr result (λ error. Fails did unmade who self.old self.new (Request.Accept fd flags) error) }
+        ensures failed { IfErr result (λ error. Fails did unmade who self.old self.new (Request.Accept fd flags) error) }
     {
         let request = call::accept_with(fd, flags);
         let reply = self.ask(who, &request)?;
@@ -314,7 +314,7 @@ pub trait Calls<C: Copy> {
     #[tactic(auto, using(crate::proofs::Calling::fails))]
     final fn shutdown(&mut self, who: C, fd: Fd, how: Mode) -> Result<(), CallError>
         ensures made { OnOk result (did who self.old self.new (Request.Shutdown fd how) Reply.Ok) }
-        ensures refused { IfErr result (λ error. Fails did unmade who self.old self.new (Request.Shutdown fd how) error) }
+        ensures failed { IfErr result (λ error. Fails did unmade who self.old self.new (Request.Shutdown fd how) error) }
     {
         let request = call::shutdown(fd, how);
         let reply = self.ask(who, &request)?;
@@ -325,7 +325,7 @@ pub trait Calls<C: Copy> {
     #[tactic(auto, using(crate::proofs::Calling::fails))]
     final fn getopt(&mut self, who: C, fd: Fd, opt: SockOpt) -> Result<u64, CallError>
         ensures made { IfOk result (λ got. did who self.old self.new (Request.GetOpt fd opt) (Reply.Opt got)) }
-        ensures refused { IfErr result (λ error. FailsAsNumber did unmade who self.old self.new fd opt error) }
+        ensures failed { IfErr result (λ error. FailsAsNumber did unmade who self.old self.new fd opt error) }
     {
         let request = call::getopt(fd, opt);
         let reply = self.ask(who, &request)?;
@@ -336,7 +336,7 @@ pub trait Calls<C: Copy> {
     #[tactic(auto, using(crate::proofs::Calling::fails))]
     final fn peer_cred(&mut self, who: C, fd: Fd) -> Result<Cred, CallError>
         ensures made { IfOk result (λ cred. did who self.old self.new (Request.GetOpt fd SockOpt.PeerCred) (Reply.Cred cred)) }
-        ensures refused { IfErr result (λ error. Fails did unmade who self.old self.new (Request.GetOpt fd SockOpt.PeerCred) error) }
+        ensures failed { IfErr result (λ error. Fails did unmade who self.old self.new (Request.GetOpt fd SockOpt.PeerCred) error) }
     {
         let request = call::getopt(fd, SockOpt::PeerCred);
         let reply = self.ask(who, &request)?;
@@ -347,7 +347,7 @@ pub trait Calls<C: Copy> {
     #[tactic(auto, using(crate::proofs::Calling::fails))]
     final fn setopt(&mut self, who: C, fd: Fd, opt: SockOpt, value: u64) -> Result<(), CallError>
         ensures made { OnOk result (did who self.old self.new (Request.SetOpt fd opt value) Reply.Ok) }
-        ensures refused { IfErr result (λ error. Fails did unmade who self.old self.new (Request.SetOpt fd opt value) error) }
+        ensures failed { IfErr result (λ error. Fails did unmade who self.old self.new (Request.SetOpt fd opt value) error) }
     {
         let request = call::setopt(fd, opt, value);
         let reply = self.ask(who, &request)?;
@@ -358,7 +358,7 @@ pub trait Calls<C: Copy> {
     #[tactic(auto, using(crate::proofs::Calling::fails))]
     final fn getsockname(&mut self, who: C, fd: Fd) -> Result<Addr, CallError>
         ensures made { IfOk result (λ addr. did who self.old self.new (Request.GetSockName fd) (Reply.Addr addr)) }
-        ensures refused { IfErr result (λ error. Fails did unmade who self.old self.new (Request.GetSockName fd) error) }
+        ensures failed { IfErr result (λ error. Fails did unmade who self.old self.new (Request.GetSockName fd) error) }
     {
         let request = call::getsockname(fd);
         let reply = self.ask(who, &request)?;
@@ -369,7 +369,7 @@ pub trait Calls<C: Copy> {
     #[tactic(auto, using(crate::proofs::Calling::fails))]
     final fn getpeername(&mut self, who: C, fd: Fd) -> Result<Addr, CallError>
         ensures made { IfOk result (λ addr. did who self.old self.new (Request.GetPeerName fd) (Reply.Addr addr)) }
-        ensures refused { IfErr result (λ error. Fails did unmade who self.old self.new (Request.GetPeerName fd) error) }
+        ensures failed { IfErr result (λ error. Fails did unmade who self.old self.new (Request.GetPeerName fd) error) }
     {
         let request = call::getpeername(fd);
         let reply = self.ask(who, &request)?;
@@ -380,7 +380,7 @@ pub trait Calls<C: Copy> {
     #[tactic(auto, using(crate::proofs::Calling::fails))]
     final fn send(&mut self, who: C, fd: Fd, bytes: &[u8]) -> Result<usize, CallError>
         ensures made { IfOk result (λ taken. did who self.old self.new (Request.SendMsg fd None bytes.now [] no_msg_flags) (Reply.Count taken)) }
-        ensures refused { IfErr result (λ error. Fails did unmade who self.old self.new (Request.SendMsg fd None bytes.now [] no_msg_flags) error) }
+        ensures failed { IfErr result (λ error. Fails did unmade who self.old self.new (Request.SendMsg fd None bytes.now [] no_msg_flags) error) }
     {
         let request = call::send(self.allocator(), fd, bytes)?;
         let reply = self.ask(who, &request)?;
@@ -397,7 +397,7 @@ pub trait Calls<C: Copy> {
         rights: &[Fd],
     ) -> Result<usize, CallError>
         ensures made { IfOk result (λ taken. did who self.old self.new (Request.SendMsg fd None bytes.now (control_bytes None (map (λ right. right.0) rights.now)) no_msg_flags) (Reply.Count taken)) }
-        ensures refused { IfErr result (λ error. Fails did unmade who self.old self.new (Request.SendMsg fd None bytes.now (control_bytes None (map (λ right. right.0) rights.now)) no_msg_flags) error) }
+        ensures failed { IfErr result (λ error. Fails did unmade who self.old self.new (Request.SendMsg fd None bytes.now (control_bytes None (map (λ right. right.0) rights.now)) no_msg_flags) error) }
     {
         let request = call::send_rights(self.allocator(), fd, bytes, rights)?;
         let reply = self.ask(who, &request)?;
@@ -408,7 +408,7 @@ pub trait Calls<C: Copy> {
     #[tactic(auto, using(crate::proofs::Calling::fails))]
     final fn recv(&mut self, who: C, fd: Fd, n: usize) -> Result<Message, CallError>
         ensures made { IfOk result (λ m. did who self.old self.new (Request.RecvMsg fd n 0 no_msg_flags) (Reply.Received m.flags m.count m.bytes m.control m.from)) }
-        ensures refused { IfErr result (λ error. Fails did unmade who self.old self.new (Request.RecvMsg fd n 0 no_msg_flags) error) }
+        ensures failed { IfErr result (λ error. Fails did unmade who self.old self.new (Request.RecvMsg fd n 0 no_msg_flags) error) }
     {
         let request = call::recv(fd, n);
         let reply = self.ask(who, &request)?;
@@ -426,7 +426,7 @@ pub trait Calls<C: Copy> {
         count: usize,
     ) -> Result<Message, CallError>
         ensures made { IfOk result (λ m. did who self.old self.new (Request.RecvMsg fd n (rights_space (min count rights_limit)) no_msg_flags) (Reply.Received m.flags m.count m.bytes m.control m.from)) }
-        ensures refused { IfErr result (λ error. Fails did unmade who self.old self.new (Request.RecvMsg fd n (rights_space (min count rights_limit)) no_msg_flags) error) }
+        ensures failed { IfErr result (λ error. Fails did unmade who self.old self.new (Request.RecvMsg fd n (rights_space (min count rights_limit)) no_msg_flags) error) }
     {
         let request = call::recv_rights(fd, n, count);
         let reply = self.ask(who, &request)?;
@@ -437,7 +437,7 @@ pub trait Calls<C: Copy> {
     #[tactic(auto, using(crate::proofs::Calling::fails))]
     final fn poll(&mut self, who: C, fd: Fd) -> Result<PollFlags, CallError>
         ensures made { IfOk result (λ flags. did who self.old self.new (Request.Poll fd) (Reply.Poll flags)) }
-        ensures refused { IfErr result (λ error. Fails did unmade who self.old self.new (Request.Poll fd) error) }
+        ensures failed { IfErr result (λ error. Fails did unmade who self.old self.new (Request.Poll fd) error) }
     {
         let request = call::poll(fd);
         let reply = self.ask(who, &request)?;
@@ -451,7 +451,7 @@ pub trait Calls<C: Copy> {
     #[tactic(auto, using(crate::proofs::Calling::fails))]
     final fn set_ids(&mut self, who: C, uid: u32, gid: u32) -> Result<(), CallError>
         ensures made { OnOk result (did who self.old self.new (Request.SetIds uid gid) Reply.Ok) }
-        ensures refused { IfErr result (λ error. Fails did unmade who self.old self.new (Request.SetIds uid gid) error) }
+        ensures failed { IfErr result (λ error. Fails did unmade who self.old self.new (Request.SetIds uid gid) error) }
     {
         let request = call::set_ids(uid, gid);
         let reply = self.ask(who, &request)?;
@@ -462,7 +462,7 @@ pub trait Calls<C: Copy> {
     #[tactic(auto, using(crate::proofs::Calling::fails))]
     final fn exec(&mut self, who: C) -> Result<(), CallError>
         ensures made { OnOk result (did who self.old self.new Request.Exec Reply.Ok) }
-        ensures refused { IfErr result (λ error. Fails did unmade who self.old self.new Request.Exec error) }
+        ensures failed { IfErr result (λ error. Fails did unmade who self.old self.new Request.Exec error) }
     {
         let request = call::exec();
         let reply = self.ask(who, &request)?;

@@ -2,7 +2,7 @@
 ghost use Rattle.std.specs.Prelude.{◌≡◌, [], false, IfOk, IfErr};
 ghost use Rattle.ux_model.specs.Types.{Pid, Request, Reply};
 ghost use Rattle.ux_book.specs.declared.fault.CallFault.{CallFault};
-ghost use Rattle.delortxa.specs.Answering.{Tells};
+ghost use Rattle.delortxa.specs.Answering.{Explains};
 ghost use Rattle.delortxa.specs.Happening.{Happens, Forks};
 
 use crate::fault::CallError;
@@ -105,7 +105,7 @@ impl<W: BookName, T: Drop> Nursery<W, T> {
         task: T,
     ) -> Result<Option<Pid>, CallError>
         ensures made { IfOk result (λ made. Forks W.boot seat.old seat.new made) }
-        ensures refused { IfErr result (λ error. Tells (λ reply. Happens W.boot seat.old seat.new Request.Fork reply false) (λ f. f ≡ CallFault.NoMemory) seat.old seat.new error) }
+        ensures failed { IfErr result (λ error. Explains (λ reply. Happens W.boot seat.old seat.new Request.Fork reply false) (λ f. f ≡ CallFault.NoMemory) seat.old seat.new error) }
     {
         let mut places = self.places.lock(rt);
         if places.is_full() {

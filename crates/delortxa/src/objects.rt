@@ -29,7 +29,7 @@ impl AnyObject {
         ensures made { IfOk result (λ o. any_view o ≡ new_view (first_body kind bytes.now)) }
         ensures fails { IfOk result (λ o. calls_left o ≡ n) }
         ensures full { (result ≡ Err ObjError.Full) ↔ ((kind ≡ ObjKind.Memory) × (file_limit < length bytes.now)) }
-        ensures refused { OnErr result ((result ≡ Err ObjError.Full) ⊎ (result ≡ Err ObjError.NoMemory)) }
+        ensures failed { OnErr result ((result ≡ Err ObjError.Full) ⊎ (result ≡ Err ObjError.NoMemory)) }
     {
         let plain = Plain::new(alloc, kind, bytes)?;
         if n == 0 {

@@ -6,7 +6,7 @@ ghost use Rattle.ux_book.specs.Pasts.{made, IsOf};
 ghost use Rattle.ux_book.specs.Receipts.{IsSlip, IsSlipOf};
 ghost use Rattle.ux_book.specs.declared.fault.CallFault.{CallFault};
 ghost use Rattle.ux_layer.specs.Faults.{RefusesOrWaits};
-ghost use Rattle.delortxa.specs.Answering.{Tells};
+ghost use Rattle.delortxa.specs.Answering.{Explains};
 ghost use Rattle.delortxa.specs.Happening.{Happens};
 
 use crate::answers::other_reply;
@@ -94,11 +94,11 @@ impl<W: BookName> Seat<W> {
     /// # Errors
     ///
     /// `Refused` where the layer refuses it, and `Fault` where no call was made.
-    #[tactic(auto, using(crate::proofs::Calling::tells, crate::proofs::Seatings::happens, crate::proofs::Seatings::no_child, crate::specs::Replying::reply_happens))]
+    #[tactic(auto, using(crate::proofs::Calling::explains, crate::proofs::Seatings::happens, crate::proofs::Seatings::no_child, crate::specs::Replying::reply_happens))]
     pub fn fork<R: Wait>(&mut self, rt: &R) -> Result<Seat<W>, CallError>
         ensures made { IfOk result (λ child. Happens W.boot self.old self.new Request.Fork (Reply.Child child.pid) false) }
         ensures fresh { IfOk result (λ child. child.past ≡ []) }
-        ensures refused { IfErr result (λ error. Tells (λ reply. Happens W.boot self.old self.new Request.Fork reply false) (λ f. f ≡ CallFault.NoMemory) self.old self.new error) }
+        ensures failed { IfErr result (λ error. Explains (λ reply. Happens W.boot self.old self.new Request.Fork reply false) (λ f. f ≡ CallFault.NoMemory) self.old self.new error) }
     {
         let alloc = self.alloc;
         match self.place.fork(rt) {

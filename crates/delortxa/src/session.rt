@@ -9,7 +9,7 @@ ghost use Rattle.ux_book.specs.declared.fault.OffFault.{OffFault};
 ghost use Rattle.ux_book.specs.Books.{has_own_call, state_of, ends_of};
 ghost use Rattle.ux_book.specs.Sitting.{Answers, IsFault};
 ghost use Rattle.ux_audit.specs.Holdings.{AreHoldings};
-ghost use Rattle.delortxa.specs.Answering.{Tells};
+ghost use Rattle.delortxa.specs.Answering.{Explains};
 
 use crate::answers::ReplyExt;
 use crate::calls::Calls;
@@ -122,10 +122,10 @@ impl<W: BookName> Session<W> {
     /// # Errors
     ///
     /// `Refused` where the layer refuses it, and `Fault` where no call was made.
-    #[tactic(auto, using(crate::proofs::Calling::tells, crate::specs::Replying::reply_answers))]
+    #[tactic(auto, using(crate::proofs::Calling::explains, crate::specs::Replying::reply_answers))]
     pub fn fork(&mut self, pid: Pid) -> Result<Pid, CallError>
         ensures made { IfOk result (λ child. Answers self.old self.new pid Request.Fork (Reply.Child child)) }
-        ensures refused { IfErr result (λ error. Tells (Answers self.old self.new pid Request.Fork) (IsFault self.old pid) self.old self.new error) }
+        ensures failed { IfErr result (λ error. Explains (Answers self.old self.new pid Request.Fork) (IsFault self.old pid) self.old self.new error) }
     {
         let reply = self.serial.fork(pid)?;
         reply.child()

@@ -106,7 +106,7 @@ fn give<C: Copy, P: Calls<C>>(
     bytes: &[u8],
 ) -> Result<usize, CallError>
     ensures made { IfOk result (λ taken. P.did who caller.old caller.new (request_of way fd bytes.now) (Reply.Count taken)) }
-    ensures refused { IfErr result (λ error. Fails P.did P.unmade who caller.old caller.new (request_of way fd bytes.now) error) }
+    ensures failed { IfErr result (λ error. Fails P.did P.unmade who caller.old caller.new (request_of way fd bytes.now) error) }
 {
     match way {
         Way::Write => caller.write(who, fd, bytes),

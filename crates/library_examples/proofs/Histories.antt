@@ -23,8 +23,8 @@ same_end : (n : ℕ) (a b : Ran) → SameOutcome n a b → is_deadlock b ≡ fal
 same_end n (Ran.Whole a) b same e = refl
 same_end n (Ran.Deadlock a v) (Ran.Whole b) same e = absurd same
 same_end n (Ran.Deadlock a v) (Ran.Deadlock b w) same e = e
-same_end n (Ran.Deadlock a v) (Ran.Refused b) same e = absurd same
-same_end n (Ran.Refused a) b same e = refl
+same_end n (Ran.Deadlock a v) (Ran.BrokenOff b) same e = absurd same
+same_end n (Ran.BrokenOff a) b same e = refl
 
 no_deadlock : (n : ℕ) (outcomes : List Ran) (ran : Ran) → list_any (λ r. is_deadlock r) outcomes ≡ false → HasOutcome n outcomes ran →
     is_deadlock ran ≡ false
@@ -38,7 +38,7 @@ none_left : (boot : State) (calls : List Entry) (ran : Ran) → HasCalls boot ca
     has_live (replay boot calls) ≡ false
 none_left boot calls (Ran.Whole entries) has e = has.1
 none_left boot calls (Ran.Deadlock entries waits) has e = absurd cc
-none_left boot calls (Ran.Refused entries) has e = absurd has
+none_left boot calls (Ran.BrokenOff entries) has e = absurd has
 
 -- where all is known and no outcome is a deadlock
 pub leaves_none : (boot : State) (s : Plan) (outcomes : List Ran) → KnowsAll boot s outcomes →

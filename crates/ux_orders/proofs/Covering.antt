@@ -8,39 +8,39 @@ use Rattle.ux_model.specs.State.{State}
 use Rattle.ux_syntax.specs.Spelling.{Plan, known_count}
 use Rattle.ux_orders.specs.declared.ran.Ran.{Ran}
 use Rattle.ux_orders.specs.Orders.{entries_of}
-use Rattle.ux_orders.specs.Outcomes.{SameOutcome, HasOutcome, Keeps, IsRun, Cover, is_refused}
+use Rattle.ux_orders.specs.Outcomes.{SameOutcome, HasOutcome, Keeps, IsRun, Cover, is_broken_off}
 
 pub same_then : (n : ℕ) (a b c : Ran) → SameOutcome n a b → SameOutcome n b c → SameOutcome n a c
 same_then n (Ran.Whole a) (Ran.Whole b) (Ran.Whole c) f g = λ p within. f p within ∙ g p within
 same_then n (Ran.Deadlock a v) (Ran.Deadlock b w) (Ran.Deadlock c x) f g = f ∙ g
 same_then n (Ran.Whole a) (Ran.Whole b) (Ran.Deadlock c x) f g = absurd g
-same_then n (Ran.Whole a) (Ran.Whole b) (Ran.Refused c) f g = absurd g
+same_then n (Ran.Whole a) (Ran.Whole b) (Ran.BrokenOff c) f g = absurd g
 same_then n (Ran.Whole a) (Ran.Deadlock b w) c f g = absurd f
-same_then n (Ran.Whole a) (Ran.Refused b) c f g = absurd f
+same_then n (Ran.Whole a) (Ran.BrokenOff b) c f g = absurd f
 same_then n (Ran.Deadlock a v) (Ran.Deadlock b w) (Ran.Whole c) f g = absurd g
-same_then n (Ran.Deadlock a v) (Ran.Deadlock b w) (Ran.Refused c) f g = absurd g
+same_then n (Ran.Deadlock a v) (Ran.Deadlock b w) (Ran.BrokenOff c) f g = absurd g
 same_then n (Ran.Deadlock a v) (Ran.Whole b) c f g = absurd f
-same_then n (Ran.Deadlock a v) (Ran.Refused b) c f g = absurd f
-same_then n (Ran.Refused a) (Ran.Whole b) c f g = absurd f
-same_then n (Ran.Refused a) (Ran.Deadlock b w) c f g = absurd f
-same_then n (Ran.Refused a) (Ran.Refused b) c f g = absurd f
+same_then n (Ran.Deadlock a v) (Ran.BrokenOff b) c f g = absurd f
+same_then n (Ran.BrokenOff a) (Ran.Whole b) c f g = absurd f
+same_then n (Ran.BrokenOff a) (Ran.Deadlock b w) c f g = absurd f
+same_then n (Ran.BrokenOff a) (Ran.BrokenOff b) c f g = absurd f
 
 pub same_back : (n : ℕ) (a b : Ran) → SameOutcome n a b → SameOutcome n b a
 same_back n (Ran.Whole a) (Ran.Whole b) f = λ p within. sym (f p within)
 same_back n (Ran.Deadlock a v) (Ran.Deadlock b w) f = sym f
 same_back n (Ran.Whole a) (Ran.Deadlock b w) f = absurd f
-same_back n (Ran.Whole a) (Ran.Refused b) f = absurd f
+same_back n (Ran.Whole a) (Ran.BrokenOff b) f = absurd f
 same_back n (Ran.Deadlock a v) (Ran.Whole b) f = absurd f
-same_back n (Ran.Deadlock a v) (Ran.Refused b) f = absurd f
-same_back n (Ran.Refused a) (Ran.Whole b) f = absurd f
-same_back n (Ran.Refused a) (Ran.Deadlock b w) f = absurd f
-same_back n (Ran.Refused a) (Ran.Refused b) f = absurd f
+same_back n (Ran.Deadlock a v) (Ran.BrokenOff b) f = absurd f
+same_back n (Ran.BrokenOff a) (Ran.Whole b) f = absurd f
+same_back n (Ran.BrokenOff a) (Ran.Deadlock b w) f = absurd f
+same_back n (Ran.BrokenOff a) (Ran.BrokenOff b) f = absurd f
 
 -- a run that wasn't broken off has its own outcome
-pub same_self : (n : ℕ) (a : Ran) → is_refused a ≡ false → SameOutcome n a a
+pub same_self : (n : ℕ) (a : Ran) → is_broken_off a ≡ false → SameOutcome n a a
 same_self n (Ran.Whole a) e = λ p within. refl
 same_self n (Ran.Deadlock a v) e = refl
-same_self n (Ran.Refused a) e = absurd cc
+same_self n (Ran.BrokenOff a) e = absurd cc
 
 has_more : (n : ℕ) (xs : List Ran) (ran r : Ran) → HasOutcome n xs r → HasOutcome n (xs ++ ran ∷ []) r
 has_more n [] ran r has = absurd has
@@ -103,7 +103,7 @@ keeps_old n old new ran r (Keeps.replaced i inside same short e) has =
     subst (λ (xs : List Ran). HasOutcome n xs r) (sym e) (has_set n old i ran r inside same short has)
 keeps_old n old new ran r (Keeps.known i inside same short e) has = subst (λ (xs : List Ran). HasOutcome n xs r) (sym e) has
 
-pub keeps_own : (n : ℕ) (old new : List Ran) (ran : Ran) → is_refused ran ≡ false → Keeps n old new ran → HasOutcome n new ran
+pub keeps_own : (n : ℕ) (old new : List Ran) (ran : Ran) → is_broken_off ran ≡ false → Keeps n old new ran → HasOutcome n new ran
 keeps_own n old new ran ended (Keeps.added e) =
     subst (λ (xs : List Ran). HasOutcome n xs ran) (sym e) (has_last n old ran (same_self n ran ended))
 keeps_own n old new ran ended (Keeps.replaced i inside same short e) =

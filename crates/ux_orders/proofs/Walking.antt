@@ -17,7 +17,7 @@ use Rattle.ux_orders.specs.declared.each.Walk.{Walk}
 use Rattle.ux_orders.specs.declared.exploring.Found.{Found}
 use Rattle.ux_orders.specs.Lists.{pids_of}
 use Rattle.ux_orders.specs.Orders.{IsRunOf}
-use Rattle.ux_orders.specs.Outcomes.{HasOutcome, Keeps, KeepsAll, IsRun, Cover, is_refused}
+use Rattle.ux_orders.specs.Outcomes.{HasOutcome, Keeps, KeepsAll, IsRun, Cover, is_broken_off}
 use Rattle.ux_orders.specs.Threads.{AreAll, HasCalls, IsKnown, KnowsBehind, KnowsAll}
 use Rattle.ux_orders.specs.Crews.{Crewed, StopsAt, Makes, is_among, HasReady, AreHeld}
 use Rattle.ux_orders.specs.Walks.{Takes, IsWalk, Grows, GoesOn, Leads}
@@ -151,13 +151,13 @@ knows_all boot s outcomes knows = λ calls all. knows calls (pids_of calls) all 
 
 -- ---- a run that has ended
 
-pub not_refused : (boot : State) (calls : List Entry) (ran : Ran) → HasCalls boot calls ran → is_refused ran ≡ false
-not_refused boot calls (Ran.Whole entries) has = refl
-not_refused boot calls (Ran.Deadlock entries waits) has = refl
-not_refused boot calls (Ran.Refused entries) has = absurd has
+pub not_broken_off : (boot : State) (calls : List Entry) (ran : Ran) → HasCalls boot calls ran → is_broken_off ran ≡ false
+not_broken_off boot calls (Ran.Whole entries) has = refl
+not_broken_off boot calls (Ran.Deadlock entries waits) has = refl
+not_broken_off boot calls (Ran.BrokenOff entries) has = absurd has
 
 pub run_of : (boot : State) (s : Plan) (calls : List Entry) (ran : Ran) → IsRunOf boot s ran → HasCalls boot calls ran → IsRun boot s ran
-run_of boot s calls ran run has = record { run = run; ended = not_refused boot calls ran has }
+run_of boot s calls ran run has = record { run = run; ended = not_broken_off boot calls ran has }
 
 -- ---- what one look finds
 

@@ -13,7 +13,7 @@ pids_of (e ∷ es) = if e.pid.0 == 0 then pids_of es else e.pid ∷ pids_of es
 abbrev pub MakesList : List Pid → Ran → Type 0
 MakesList pids (Ran.Whole entries) = (rest : List Pid) × (pids_of entries.items ≡ pids ++ rest)
 MakesList pids (Ran.Deadlock entries waits) = (rest : List Pid) × (pids_of entries.items ≡ pids ++ rest)
-MakesList pids (Ran.Refused entries) = (rest : List Pid) × (pids ≡ pids_of entries.items ++ rest)
+MakesList pids (Ran.BrokenOff entries) = (rest : List Pid) × (pids ≡ pids_of entries.items ++ rest)
 
 -- so, where the order is written out
 abbrev pub MakesOrder : Order → Ran → Type 0

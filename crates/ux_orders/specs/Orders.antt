@@ -10,11 +10,11 @@ use Rattle.ux_orders.specs.declared.ran.Ran.{Ran}
 abbrev pub entries_of : Ran → List Entry
 entries_of (Ran.Whole entries) = entries.items
 entries_of (Ran.Deadlock entries waits) = entries.items
-entries_of (Ran.Refused entries) = entries.items
+entries_of (Ran.BrokenOff entries) = entries.items
 
 -- a legal history from this state, in which each process makes the script's calls for it, in order and no others, or where it was cut
 -- short the first of them
 abbrev pub IsRunOf : State → Plan → Ran → Type 0
 IsRunOf boot s (Ran.Whole entries) = Runs boot s entries.items
 IsRunOf boot s (Ran.Deadlock entries waits) = HasBegun boot s entries.items
-IsRunOf boot s (Ran.Refused entries) = HasBegun boot s entries.items
+IsRunOf boot s (Ran.BrokenOff entries) = HasBegun boot s entries.items

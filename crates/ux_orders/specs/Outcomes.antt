@@ -24,9 +24,9 @@ SameOutcome n (Ran.Deadlock a v) (Ran.Deadlock b w) = v.items ≡ w.items
 SameOutcome n _ _ = ⊥
 
 -- the run was broken off
-abbrev pub is_refused : Ran → Bool
-is_refused (Ran.Refused entries) = true
-is_refused _ = false
+abbrev pub is_broken_off : Ran → Bool
+is_broken_off (Ran.BrokenOff entries) = true
+is_broken_off _ = false
 
 -- each process that is left has to wait
 abbrev pub is_deadlock : Ran → Bool
@@ -36,7 +36,7 @@ is_deadlock _ = false
 -- a run of the script to its end from this state
 pub record IsRun (boot : State) (s : Plan) (ran : Ran) : Type 0 where
   pub run : IsRunOf boot s ran
-  pub ended : is_refused ran ≡ false
+  pub ended : is_broken_off ran ≡ false
 
 -- one of these runs has the outcome of this one, and isn't longer
 abbrev pub HasOutcome : ℕ → List Ran → Ran → Type 0

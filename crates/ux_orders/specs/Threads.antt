@@ -94,7 +94,7 @@ calls_in entries = filter (λ e. not (e.pid.0 == 0)) entries
 abbrev pub HasCalls : State → List Entry → Ran → Type 0
 HasCalls boot calls (Ran.Whole entries) = (calls_in entries.items ≡ calls) × (has_live (replay boot calls) ≡ false)
 HasCalls boot calls (Ran.Deadlock entries waits) = (calls_in entries.items ≡ calls) × (has_live (replay boot calls) ≡ true)
-HasCalls boot calls (Ran.Refused entries) = ⊥
+HasCalls boot calls (Ran.BrokenOff entries) = ⊥
 
 -- a run of the script has made these calls, and one of these has its outcome, and isn't longer
 pub record IsKnown (boot : State) (s : Plan) (outcomes : List Ran) (calls : List Entry) : Type 0 where

@@ -9,14 +9,14 @@ use Rattle.ux_orders.specs.declared.chooser.Ready.{Ready}
 use Rattle.ux_orders.specs.declared.exploring.Found.{Found}
 use Rattle.ux_orders.specs.declared.each.Walk.{Walk}
 use Rattle.ux_orders.specs.Lists.{pids_of}
-use Rattle.ux_orders.specs.Outcomes.{Keeps, KeepsAll, IsRun, Cover, is_refused}
+use Rattle.ux_orders.specs.Outcomes.{Keeps, KeepsAll, IsRun, Cover, is_broken_off}
 use Rattle.ux_orders.specs.Threads.{AreAll, IsKnown}
 use Rattle.ux_orders.specs.Crews.{is_among}
 
 -- The run was counted, and its outcome kept; or it was broken off, and nothing has changed.
 pub data Takes (n : ℕ) (old new : Found) (ran : Ran) : Type 0 where
-  kept : is_refused ran ≡ false → Keeps n old.outcomes.items new.outcomes.items ran → new.orders ≡ old.orders + 1 → Takes n old new ran
-  broken : is_refused ran ≡ true → new ≡ old → Takes n old new ran
+  kept : is_broken_off ran ≡ false → Keeps n old.outcomes.items new.outcomes.items ran → new.orders ≡ old.orders + 1 → Takes n old new ran
+  broken : is_broken_off ran ≡ true → new ≡ old → Takes n old new ran
 
 -- what was found so far is of runs from this state, no more than were begun
 pub record IsWalk (boot : State) (s : Plan) (walk : Walk) : Type 0 where

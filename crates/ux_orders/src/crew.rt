@@ -70,7 +70,7 @@ pub(crate) enum Turn {
     /// A line was made.
     Made,
     /// The chooser named none of the processes that may go on, or knew the point.
-    Refused,
+    BrokenOff,
     /// No process may go on.
     Idle,
 }
@@ -134,15 +134,15 @@ impl<'a, W: BookName, O: FileObject> Crew<'a, W, O> {
         made: usize,
     ) -> Result<Turn, OrderFault> {
         if chooser.is_new(made) && self.is_met(chooser)? {
-            return Ok(Turn::Refused);
+            return Ok(Turn::BrokenOff);
         }
         let mut ready = self.ready()?;
         for _ in 0..ready.len() {
             let Some(place) = chooser.choose(made, &ready)? else {
-                return Ok(Turn::Refused);
+                return Ok(Turn::BrokenOff);
             };
             if place >= ready.len() {
-                return Ok(Turn::Refused);
+                return Ok(Turn::BrokenOff);
             }
             let chosen = ready.remove(place);
             if self.make_next(chosen.pid)? {

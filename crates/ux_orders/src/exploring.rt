@@ -6,7 +6,7 @@ ghost use Rattle.ux_model.specs.Boot.{IsBootState, new_process};
 ghost use Rattle.ux_model.specs.State.{State};
 ghost use Rattle.ux_syntax.specs.Spelling.{Plan, plan_of, known_count};
 ghost use Rattle.ux_orders.specs.Walks.{Takes};
-ghost use Rattle.ux_orders.specs.Outcomes.{SameOutcome, Keeps, IsRun, Cover, is_refused};
+ghost use Rattle.ux_orders.specs.Outcomes.{SameOutcome, Keeps, IsRun, Cover, is_broken_off};
 
 use crate::outcome::is_same_outcome;
 use crate::ran::{OrderFault, Ran};
@@ -109,7 +109,7 @@ impl Found {
         requires room { self.old.orders + 1 < 2 ^ 64 }
         ensures { OnOk result (Takes (known_count (plan_of script.now)) self.old self.new ran) }
     {
-        if ran.is_refused() {
+        if ran.is_broken_off() {
             return Ok(());
         }
         self.add(ran, script)
@@ -118,7 +118,7 @@ impl Found {
     /// Counts a run, and keeps it where none with its outcome was found before, or only longer ones.
     pub(crate) fn add(&mut self, ran: Ran, script: &Script) -> Result<(), OrderFault>
         requires room { self.old.orders + 1 < 2 ^ 64 }
-        requires ended { is_refused ran ≡ false }
+        requires ended { is_broken_off ran ≡ false }
         ensures keeps { OnOk result (Keeps (known_count (plan_of script.now)) self.old.outcomes.items self.new.outcomes.items ran) }
         ensures count { OnOk result (self.new.orders ≡ self.old.orders + 1) }
         ensures all { OnOk result (self.new.is_all ≡ self.old.is_all) }

@@ -6,7 +6,7 @@ ghost use Rattle.ux_model.specs.Boot.{IsBootState, new_process};
 ghost use Rattle.ux_model.specs.History.{IsLegal};
 ghost use Rattle.ux_syntax.specs.Spelling.{Plan, plan_of};
 ghost use Rattle.ux_orders.specs.Orders.{entries_of, IsRunOf};
-ghost use Rattle.ux_orders.specs.Outcomes.{is_refused};
+ghost use Rattle.ux_orders.specs.Outcomes.{is_broken_off};
 ghost use Rattle.ux_orders.specs.Lists.{pids_of, MakesList, MakesOrder};
 
 use crate::chooser::{Chooser, Ready};
@@ -125,7 +125,7 @@ fn asked(ran: Ran, pids: &[Pid]) -> Result<Ran, OrderFault>
     ensures runs { IfOk result (λ asked. (boot : State) (s : Plan) → IsRunOf boot s ran → IsRunOf boot s asked) }
     ensures list { IfOk result (λ asked. MakesList pids.now asked) }
 {
-    if !ran.is_refused() && begins_with(ran.entries(), pids) {
+    if !ran.is_broken_off() && begins_with(ran.entries(), pids) {
         return Ok(ran);
     }
     if !is_begun(ran.entries(), pids) {
@@ -137,15 +137,15 @@ fn asked(ran: Ran, pids: &[Pid]) -> Result<Ran, OrderFault>
 /// The same run, as one that was broken off.
 fn broken_off(ran: Ran) -> Ran
     ensures entries { entries_of result ≡ entries_of ran }
-    ensures refused { is_refused result ≡ true }
+    ensures broken_off { is_broken_off result ≡ true }
 {
     match ran {
-        Ran::Whole(entries) => Ran::Refused(entries),
+        Ran::Whole(entries) => Ran::BrokenOff(entries),
         Ran::Deadlock(entries, waits) => {
             drop(waits);
-            Ran::Refused(entries)
+            Ran::BrokenOff(entries)
         }
-        Ran::Refused(entries) => Ran::Refused(entries),
+        Ran::BrokenOff(entries) => Ran::BrokenOff(entries),
     }
 }
 

@@ -12,20 +12,20 @@ pub enum Ran {
     /// Up to where each process that is left has to wait: which, and in which line.
     Deadlock(Vec<Entry>, Vec<(Pid, usize)>),
     /// Up to where the chooser named none of the processes that may go on.
-    Refused(Vec<Entry>),
+    BrokenOff(Vec<Entry>),
 }
 
 impl Ran {
     ghost use Rattle.std.specs.Prelude.{◌≡◌};
     ghost use Rattle.ux_orders.specs.Orders.{entries_of};
-    ghost use Rattle.ux_orders.specs.Outcomes.{is_refused, is_deadlock};
+    ghost use Rattle.ux_orders.specs.Outcomes.{is_broken_off, is_deadlock};
 
     /// The entries, in order.
     pub fn entries(&self) -> &[Entry]
         ensures { result.now ≡ entries_of self.now }
     {
         match self {
-            Ran::Whole(entries) | Ran::Deadlock(entries, _) | Ran::Refused(entries) => {
+            Ran::Whole(entries) | Ran::Deadlock(entries, _) | Ran::BrokenOff(entries) => {
                 entries.as_slice()
             }
         }
@@ -39,10 +39,10 @@ impl Ran {
     }
 
     /// Whether it was broken off, as the chooser named none of the processes that may go on.
-    pub fn is_refused(&self) -> bool
-        ensures { result ≡ is_refused self.now }
+    pub fn is_broken_off(&self) -> bool
+        ensures { result ≡ is_broken_off self.now }
     {
-        matches!(self, Ran::Refused(_))
+        matches!(self, Ran::BrokenOff(_))
     }
 }
 

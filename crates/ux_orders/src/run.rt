@@ -70,7 +70,7 @@ fn run_named<W: BookName, O: FileObject, C: Chooser>(
         return ended(crew, script, count);
     }
     let entries = begun_history(crew.into_history(false)?, script, count)?;
-    Ok(Ran::Refused(entries))
+    Ok(Ran::BrokenOff(entries))
 }
 
 /// Makes line after line, until nobody may go on. There are no more than the script's, and an exit for each process;
@@ -85,7 +85,7 @@ fn make_lines<W: BookName, O: FileObject, C: Chooser>(
     for made in 0..most.saturating_add(1) {
         match crew.take_turn(chooser, made)? {
             Turn::Made => {}
-            Turn::Refused => return Ok(false),
+            Turn::BrokenOff => return Ok(false),
             Turn::Idle => break,
         }
     }

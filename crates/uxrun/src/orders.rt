@@ -80,7 +80,7 @@ pub fn run_in_order<R: RandomSource + AllocGlobal>(
             let deadlock = ScriptFault::Deadlock(Waiting::new(waits));
             Ok(Made::Cut(entries, Fault::Script(deadlock)))
         }
-        Ran::Refused(entries) => {
+        Ran::BrokenOff(entries) => {
             let made = entries.iter().filter(|entry| entry.pid.0 != 0).count();
             Ok(Made::Cut(entries, Fault::Order(made.saturating_add(1))))
         }

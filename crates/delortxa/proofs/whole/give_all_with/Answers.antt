@@ -15,7 +15,7 @@ pub returns-in-Err-clause-early : goal.returns-in-Err-clause-early
 returns-in-Err-clause-early g c =
     first_failed g.P.Calls.did g.P.Calls.unmade c.args.who (request_of Way.Send c.args.fd) c.args.bytes.now
     (passing c.args.fd c.args.bytes.now c.args.rights.now) c.args.caller.now c.send_rights.new.self
-    (record { taken = 0; error = Some c.in-Err.error }) c.in-Err.error refl refl c.in-Err.ensures.refused
+    (record { taken = 0; error = Some c.in-Err.error }) c.in-Err.error refl refl c.in-Err.ensures.failed
 
 pub returns-in-Err-give_all-clause-early : goal.returns-in-Err-give_all-clause-early
 returns-in-Err-give_all-clause-early g c =

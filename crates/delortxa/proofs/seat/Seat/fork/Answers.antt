@@ -5,18 +5,18 @@ use Rattle.ux_book.specs.declared.fault.CallFault.{CallFault}
 use Rattle.delortxa.specs.Answering.{IsOther}
 use Rattle.delortxa.specs.Happening.{Happens}
 use Rattle.delortxa.specs.Replying.{reply_happens}
-use Rattle.delortxa.proofs.Calling.{tells}
+use Rattle.delortxa.proofs.Calling.{explains}
 use Rattle.delortxa.proofs.Seatings.{happens, no_child, answered, erred}
 use Rattle.delortxa.proofs.seat.Seat.fork.Goals.{in-Ok+in-Some, in-Ok+in-None, in-Err}
 use Rattle.delortxa.proofs.seat.Seat.fork.Goals as goal
 
-pub returns-clause-refused : goal.returns-clause-refused
-returns-clause-refused g c = elim c.match-fork.branch [
+pub returns-clause-failed : goal.returns-clause-failed
+returns-clause-failed g c = elim c.match-fork.branch [
   | in-Ok+in-Some w ↦ answered c.match-fork.result _ _ w.result-is
   | in-Ok+in-None w ↦
       let made : Happens g.W.BookName.boot c.args.self.now c.fork.new.self Request.Fork w.in-Ok.reply false = search (rules, happens) in
       erred c.match-fork.result _ _ w.result-is
-      (tells is_child (λ reply. Happens g.W.BookName.boot c.args.self.now c.fork.new.self Request.Fork reply false)
+      (explains is_child (λ reply. Happens g.W.BookName.boot c.args.self.now c.fork.new.self Request.Fork reply false)
       (λ f. f ≡ CallFault.NoMemory)
       c.args.self.now c.fork.new.self w.in-Ok.reply w.other_reply.result made
       (subst (λ e. IsOther is_child w.in-Ok.reply e) (sym w.other_reply.ensures)

@@ -6,7 +6,7 @@ use Rattle.ux_orders.specs.declared.chooser.Ready.{Ready}
 use Rattle.ux_orders.specs.declared.each.Walk.{Walk}
 use Rattle.ux_orders.proofs.Covering.{keeps_old, keeps_own}
 use Rattle.ux_orders.proofs.Threads.{IsSure}
-use Rattle.ux_orders.proofs.Walking.{grows_noted, grows_added, grows_then, walk_noted, walk_added, not_refused, run_of, stop_leads}
+use Rattle.ux_orders.proofs.Walking.{grows_noted, grows_added, grows_then, walk_noted, walk_added, not_broken_off, run_of, stop_leads}
 use Rattle.ux_orders.proofs.Walking.{go_leads, end_leads}
 use Rattle.ux_orders.proofs.each.Walk.look_named.Goals as goal
 
@@ -28,7 +28,7 @@ returns-clause-grows g c =
     (λ ran has. keeps_old (known_count s) _ _ c.in_ok-ran.ran ran added.keeps has))
 
 pub add-requires-clause-ended : goal.add-requires-clause-ended
-add-requires-clause-ended g c = not_refused g.W.BookName.boot c.make_any.new.self.book.entries c.in_ok-ran.ran c.in_ok-ran.ensures.calls
+add-requires-clause-ended g c = not_broken_off g.W.BookName.boot c.make_any.new.self.book.entries c.in_ok-ran.ran c.in_ok-ran.ensures.calls
 
 pub returns-then-not-branch-clause-walk : goal.returns-then-not-branch-clause-walk
 returns-then-not-branch-clause-walk g c =
