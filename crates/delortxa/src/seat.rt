@@ -5,8 +5,8 @@ ghost use Rattle.ux_book.specs.Books.{has_own_call};
 ghost use Rattle.ux_book.specs.Pasts.{made, IsOf};
 ghost use Rattle.ux_book.specs.Receipts.{IsSlip, IsSlipOf};
 ghost use Rattle.ux_book.specs.declared.fault.CallFault.{CallFault};
-ghost use Rattle.ux_layer.specs.Faults.{RefusesOrWaits};
-ghost use Rattle.delortxa.specs.Answering.{Explains};
+ghost use Rattle.ux_layer.specs.Faults.{WaitsOrCannotKeep};
+ghost use Rattle.delortxa.specs.Answering.{Tells};
 ghost use Rattle.delortxa.specs.Happening.{Happens};
 
 use crate::answers::other_reply;
@@ -83,7 +83,7 @@ impl<W: BookName> Seat<W> {
         ensures of { IfOk result (λ r. IsOf W.boot self.new) }
         ensures receipt { IfOk result (λ r. IsSlipOf self.old request.now r.0 true r.1) }
         ensures shown { IfOk result (λ r. IsSlip W.boot r.1) }
-        ensures fault { IfErr result (λ f. RefusesOrWaits W.boot self.old request.now (λ _ lacks. lacks ≡ CallFault.NoMemory) f) }
+        ensures fault { IfErr result (λ f. WaitsOrCannotKeep W.boot self.old request.now (λ _ lacks. lacks ≡ CallFault.NoMemory) f) }
         ensures same { OnErr result (self.new ≡ self.old) }
     {
         self.place.call_blocking(rt, request)
@@ -129,13 +129,13 @@ impl<W: BookName> Seat<W> {
 impl<'r, W: BookName, R: Wait> Calls<&'r R> for Seat<W> {
     ghost use Rattle.std.specs.Prelude.{◌≡◌, true};
     ghost use Rattle.ux_book.specs.declared.fault.CallFault.{CallFault};
-    ghost use Rattle.ux_layer.specs.Faults.{RefusesOrWaits};
+    ghost use Rattle.ux_layer.specs.Faults.{WaitsOrCannotKeep};
     ghost use Rattle.delortxa.specs.Happening.{Happens};
     ghost use Rattle.delortxa.specs.Replying.{reply_happens};
 
     ghost did = { λ _ old new request reply. Happens W.boot old new request reply true };
 
-    ghost unmade = { λ _ old request fault. RefusesOrWaits W.boot old request (λ _ f. f ≡ CallFault.NoMemory) fault };
+    ghost unmade = { λ _ old request fault. WaitsOrCannotKeep W.boot old request (λ _ f. f ≡ CallFault.NoMemory) fault };
 
     fn allocator(&self) -> Global {
         self.alloc

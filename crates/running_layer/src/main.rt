@@ -11,7 +11,7 @@ ghost use Rattle.std.specs.Prelude.{◌≡◌, [], IfOk};
 ghost use Rattle.ux_model.specs.Boot.{IsBootState};
 
 use crate::memory::print_memory;
-use crate::worker::{Done, put_all, work_all};
+use crate::worker::{Ended, put_all, work_all};
 use anyhow::{Result, anyhow};
 use std::alloc::Global;
 use std::env;
@@ -110,8 +110,8 @@ fn halves<W: BookName>(
 fn settle<W: BookName, R: Wait + Print + AllocGlobal>(
     rt: &R,
     layer: &Layer<W, MemFile, Nothing>,
-    before: Vec<Done<W>>,
-    after: Vec<Done<W>>,
+    before: Vec<Ended<W>>,
+    after: Vec<Ended<W>>,
 ) -> Result<()> {
     let mut spents = Vec::new(rt.alloc());
     let mut receipts = Vec::new(rt.alloc());

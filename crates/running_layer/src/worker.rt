@@ -41,24 +41,24 @@ fn send(alloc: Global) -> Result<Request>
 
 /// What is left of a process that made its calls and exited: its share, and the receipts of its first call and of the
 /// last before the exit.
-pub(crate) struct Done<W: BookName> {
+pub(crate) struct Ended<W: BookName> {
     spent: Spent<W>,
     receipts: Vec<Receipt<W>>,
 }
 
 /// Written out, a drop is a call, and not each of its parts in the proof of each function that drops one.
-impl<W: BookName> Drop for Done<W> {
+impl<W: BookName> Drop for Ended<W> {
     fn drop(self) {
-        let Done { spent, receipts } = self;
+        let Ended { spent, receipts } = self;
         drop(spent);
         drop(receipts);
     }
 }
 
-impl<W: BookName> Done<W> {
+impl<W: BookName> Ended<W> {
     /// Adds the share and the receipts to those of others.
     fn put(self, spents: &mut Vec<Spent<W>>, receipts: &mut Vec<Receipt<W>>) -> Result<()> {
-        let Done {
+        let Ended {
             spent,
             receipts: mine,
         } = self;
@@ -108,14 +108,14 @@ fn work<W: BookName, R: Wait>(
     alloc: Global,
     mut seat: Seat<W, MemFile, Nothing>,
     calls: u64,
-) -> Result<Done<W>> {
+) -> Result<Ended<W>> {
     let send = send(alloc)?;
     let mut receipts = Vec::with_capacity(alloc, 2)?;
     receipts.push(call(rt, &mut seat, &PAIR)?)?;
     let more = (calls / 2).saturating_sub(1);
     receipts.push(exchange(rt, &mut seat, &send, more)?)?;
     let spent = seat.exit(rt);
-    Ok(Done { spent, receipts })
+    Ok(Ended { spent, receipts })
 }
 
 /// Has each seat make so many calls and exit, in a thread of its own where one can be made.
@@ -124,22 +124,22 @@ pub(crate) fn work_all<W: BookName + Send + Sync, R: Threads + Wait + Sync>(
     alloc: Global,
     seats: Vec<Seat<W, MemFile, Nothing>>,
     calls: u64,
-) -> Result<Vec<Done<W>>> {
+) -> Result<Vec<Ended<W>>> {
     let mut all = Vec::with_capacity(alloc, seats.len())?;
-    for done in thread::map_vec(rt, seats, &|seat| work(rt, alloc, seat, calls))? {
-        all.push(done?)?;
+    for ended in thread::map_vec(rt, seats, &|seat| work(rt, alloc, seat, calls))? {
+        all.push(ended?)?;
     }
     Ok(all)
 }
 
 /// Adds the shares and the receipts of all to those of others.
 pub(crate) fn put_all<W: BookName>(
-    all: Vec<Done<W>>,
+    all: Vec<Ended<W>>,
     spents: &mut Vec<Spent<W>>,
     receipts: &mut Vec<Receipt<W>>,
 ) -> Result<()> {
-    for done in all {
-        done.put(spents, receipts)?;
+    for ended in all {
+        ended.put(spents, receipts)?;
     }
     Ok(())
 }

@@ -309,7 +309,7 @@ taken old xs left all pid c d has was e f = record {
     who : c.pid.0 ≡ pid.0
     who = (share_known old pid.0 c own).0
 
--- where a process made a call that made none, and where its call was refused
+-- where a process made a call that made none, and where its call was not made
 called : (old new : KeptHistory) (xs left all : List (Option Caller)) (pid : Pid) (request : Request) (c d : Caller) → HasShares old xs →
     Taken old xs left all pid c d → (one : MakesOne old new c.pid request) →
     makes_one request one.reply ≡ false → is_exit request ≡ false → d ≡ made c request one.reply → HasShares new all
@@ -329,10 +329,10 @@ called old new xs left all pid request c d has t one none stays more =
     none_here : makes_one request here.reply ≡ false
     none_here = both.1
 
-pub refused_shares : (old new : KeptHistory) (xs left all : List (Option Caller)) (pid : Pid) (c d : Caller) → HasShares old xs →
+pub unmade_shares : (old new : KeptHistory) (xs left all : List (Option Caller)) (pid : Pid) (c d : Caller) → HasShares old xs →
     Some c ≡ place xs pid.0 → left ≡ set xs pid.0 None → all ≡ set left d.pid.0 (Some d) →
     new ≡ old → d ≡ c → HasShares new all
-refused_shares old new xs left all pid c d has was e f same kept =
+unmade_shares old new xs left all pid c d has was e f same kept =
     let t = taken old xs left all pid c d has was e f in
     subst (HasShares new) (sym (t.whole (ap (λ (x : Caller). x.pid.0) kept)))
     (subst (λ (b : KeptHistory). HasShares b (set xs pid.0 (Some d))) (sym same)

@@ -89,8 +89,8 @@ call_made boot old now new before known after k request reply released same same
     }
 
 both_no : (w m a : Bool) → w ≡ m → (w ≡ true → a ≡ false) → (m && a) ≡ false
-both_no w true a same refused = refused same
-both_no w false a same refused = refl
+both_no w true a same not_again = not_again same
+both_no w false a same not_again = refl
 
 -- a call that looked whether it may wait isn't one that should have waited
 pub not_yet : (S : State) (p : ℕ) (request : Request) (reply : Reply) (waits tried : Bool) → (tried ≡ true → waits ≡ may_wait S p request) →

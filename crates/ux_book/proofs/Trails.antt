@@ -12,8 +12,8 @@ use Rattle.ux_model.specs.Types.{Request, Reply, Entry}
 use Rattle.ux_book.specs.declared.call.Call.{Call}
 use Rattle.ux_book.specs.declared.trail.Known.{Known}
 use Rattle.ux_book.specs.Pasts.{call_of, calls_by}
-use Rattle.ux_book.specs.Trails.{Marked, knower, claim, nobody, rest_of, own_of, opened, next_owner, place_of, last_of, before_last}
-use Rattle.ux_book.specs.Trails.{claim_if, last_claim, owner_of, shown, Fits, Kept, noted, unclaimed, Checked}
+use Rattle.ux_book.specs.Trails.{Placed, knower, claim, nobody, rest_of, own_of, opened, next_owner, place_of, last_of, before_last}
+use Rattle.ux_book.specs.Trails.{claim_if, last_claim, owner_of, taking_in, Fits, Kept, noted, unclaimed, Checked}
 use Rattle.ux_book.proofs.Pasts.{calls_more, calls_same}
 
 pub length-before_last : (xs : List Entry) (x : Entry) → before_last (xs ++ x ∷ []) ≡ length xs
@@ -117,7 +117,7 @@ adds views by v e whole own is h at =
           });
     }
 
--- who knows the whole compares what it was shown
+-- who knows the whole compares what it took in
 pub checks : (views : List Known) (by : ℕ) (v : Known) → v.keeps ≡ true → Kept views → get_elem? views by ≡ some v →
     Kept (set views by (unclaimed v)) × Checked v (unclaimed v)
 checks views by v whole h at =
@@ -216,12 +216,12 @@ gives views by v own h at =
 -- who knows the whole takes in what another knows
 pub takes_in : (views : List Known) (by : ℕ) (v : Known) (other : ℕ) (w : Known) → v.keeps ≡ true → v.owns ≡ false → Kept views →
     get_elem? views by ≡ some v → ¬ (other ≡ by)
-    → get_elem? (set views by (shown v w)) other ≡ some w → Kept (set (set views by (shown v w)) other nobody)
+    → get_elem? (set views by (taking_in v w)) other ≡ some w → Kept (set (set views by (taking_in v w)) other nobody)
 takes_in views by v other w whole alone h at apart there =
     let known = (h.fits by v at).keeps whole in
     let theirs : Fits h.seat h.log h.count h.owner other w =
-    ⊎_elim (λ (t : (other ≡ by) × (shown v w ≡ w)). absurd (apart t.0))
-    (λ (t : (other ≢ by) × (get_elem? views other ≡ some w)). h.fits other w t.1) (at_set views by other (shown v w) w there) in
+    ⊎_elim (λ (t : (other ≡ by) × (taking_in v w ≡ w)). absurd (apart t.0))
+    (λ (t : (other ≢ by) × (get_elem? views other ≡ some w)). h.fits other w t.1) (at_set views by other (taking_in v w) w there) in
     let owner = owner_after w.owns h.owner w.pid by in
     let Q = Fits h.seat h.log h.count owner in
     record {
@@ -229,8 +229,8 @@ takes_in views by v other w whole alone h at apart there =
       log = h.log;
       count = h.count;
       owner = owner;
-      fits = each_set Q (set views by (shown v w)) other nobody
-          (λ j u off_other e. each_set (λ i y. i ≢ other → Q i y) views by (shown v w)
+      fits = each_set Q (set views by (taking_in v w)) other nobody
+          (λ j u off_other e. each_set (λ i y. i ≢ other → Q i y) views by (taking_in v w)
           (λ i y off_by e' off_o.
           let f = h.fits i y e' in
           record {
@@ -290,7 +290,7 @@ gives_last views by v whole h at =
           λ o. off o;
     }
 
--- who knows a place tells another
+-- who knows a place lets another know it
 pub copies : (views : List Known) (by : ℕ) (v : Known) → Kept views → get_elem? views by ≡ some v → Kept (set views by v ++ place_of v ∷ [])
 copies views by v h at =
     let mine = h.fits by v at in
@@ -311,12 +311,12 @@ new_claim (y ∷ ys) given x = λ i. claim (length-before_last (y ∷ ys) x i) (
 
 -- a place, as contracts see it
 pub marked : (i j : TableId) (v : Known) (n : ℕ) (e : Entry) → i ≡ j → v ≡ claim n e →
-    ◌≡◌ {A = Marked} (record { id = i; number = v.number; entry = v.entry }) (record { id = j; number = n; entry = e })
+    ◌≡◌ {A = Placed} (record { id = i; number = v.number; entry = v.entry }) (record { id = j; number = n; entry = e })
 marked i j v n e p q = λ t. record { id = p t; number = (q t).number; entry = (q t).entry }
 
 -- the place of a call that was just noted, with its process's token taken in and given back
 pub new_place : (v1 v2 v3 r : Known) (all : List Entry) (given pid k : ℕ) (past : List Call) (request : Request) (reply : Reply)
-    (released : List ℕ) (delivered : Option ℕ) → v1 ≡ shown (knower all given) (owner_of pid past)
+    (released : List ℕ) (delivered : Option ℕ) → v1 ≡ taking_in (knower all given) (owner_of pid past)
     → v2 ≡ noted v1 (record {
       pid = record { 0 = v1.pid };
       k = k;

@@ -6,14 +6,14 @@ use Rattle.ux_model.specs.Types.{Pid, Request, Reply}
 use Rattle.ux_model.specs.Object.{View}
 use Rattle.ux_model.specs.HandingOut.{IsHandedOut}
 use Rattle.ux_book.specs.Books.{KeptHistory, state_of, entry_of, Adds}
-use Rattle.ux_book.specs.Trails.{Owned, Marked}
+use Rattle.ux_book.specs.Trails.{Owned, Placed}
 
--- one more entry of the book, whose place the mark is, and one more call of the token
+-- one more entry of the book, which stands at this place, and one more call of the token
 pub record IsAppended (id : TableId) (old new : KeptHistory) (before after : Owned) (pid : Pid) (k : ℕ) (request : Request) (reply : Reply)
-    (mark : Marked) (released : List (ℕ × Option View)) : Type 0 where
+    (place : Placed) (released : List (ℕ × Option View)) : Type 0 where
   pub adds : Adds old new (entry_of (state_of old) pid k request reply (map (λ o. o.0) released))
   pub token : after ≡ record before { past = before.past ++ record { request = request; reply = reply } ∷ [] }
-  pub mark_is : mark
+  pub place_is : place
       ≡ record { id = id; number = length old.entries; entry = entry_of (state_of old) pid k request reply (map (λ o. o.0) released) }
   pub handed_out : AllByRecursion (IsHandedOut (state_of old)) released
 

@@ -16,7 +16,7 @@ pub record Trailed : Type 0 where
   pub given : ℕ
 
 -- which trail it is of, and an entry that stands there, with its number
-pub record Marked : Type 0 where
+pub record Placed : Type 0 where
   pub id : TableId
   pub number : ℕ
   pub entry : Entry
@@ -103,8 +103,8 @@ abbrev pub last_claim : Known → Known
 last_claim v = claim_if v.keeps v.all
 
 -- the whole, with what another knows
-abbrev pub shown : Known → Known → Known
-shown v w = record {
+abbrev pub taking_in : Known → Known → Known
+taking_in v w = record {
   keeps = v.keeps;
   all = v.all;
   given = v.given;

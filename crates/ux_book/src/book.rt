@@ -20,7 +20,7 @@ use crate::fault::{CallFault, NoMemory, OffFault};
 use crate::keeper::{Entries, Keeper, Nothing};
 use crate::receipts::{Receipt, new_receipt};
 use crate::shares::{Share, Spent, new_share};
-use crate::trail::{Mark, Token, Trail};
+use crate::trail::{Place, Token, Trail};
 use std::alloc::{AllocError, Global};
 use std::marker::{Model, PhantomData};
 use ux_kernel::Kernel;
@@ -76,7 +76,7 @@ impl<W: BookName, O: FileObject> Book<W, O, Entries> {
     ///
     /// # Errors
     ///
-    /// The kernel, where an allocation is refused. The trail is spent.
+    /// The kernel, where an allocation fails. The trail is spent.
     pub fn new(
         alloc: Global,
         trail: Trail,
@@ -128,7 +128,7 @@ impl<W: BookName, O: FileObject> Book<W, O, Nothing> {
     ///
     /// # Errors
     ///
-    /// The kernel, where an allocation is refused. The trail is spent.
+    /// The kernel, where an allocation fails. The trail is spent.
     pub fn counting(
         alloc: Global,
         trail: Trail,
@@ -213,7 +213,7 @@ impl<W: BookName, O: FileObject, K: Keeper> Book<W, O, K> {
         ensures book { self.new ≡ self.old }
         ensures receipt { receipt.new ≡ receipt.old }
     {
-        self.trail.find(&mut receipt.mark);
+        self.trail.find(&mut receipt.place);
     }
 
     /// Makes a call of the share's process, and keeps it as one more entry. The file objects that went with the call
@@ -235,7 +235,7 @@ impl<W: BookName, O: FileObject, K: Keeper> Book<W, O, K> {
         ensures knows { Knows W.boot self.old share.old }
         ensures call { IfOk result (λ r. IsCall W.boot self.old self.new share.old share.new request.now r.0 released.new) }
         ensures receipt { IfOk result (λ r. r.1 ≡ next_slip self.old share.old request.now r.0 false (map (λ o. o.0) released.new)) }
-        ensures refused { IfErr result (λ f. K.refuses (length self.old.entries) f) }
+        ensures not_made { IfErr result (λ f. K.cannot_keep (length self.old.entries) f) }
         ensures same { OnErr result (IsKept self.old self.new share.old share.new released.new) }
     {
         match self.make(share, request, false, released) {
@@ -265,7 +265,7 @@ impl<W: BookName, O: FileObject, K: Keeper> Book<W, O, K> {
         ensures done { IfOk result (λ o. IfSome o (λ r. should_wait (state_of self.old) share.old.pid.0 request.now r.0 ≡ false)) }
         ensures waits { IfOk result (λ o. IfNone o (MustWait self.old share.old.pid request.now)) }
         ensures kept { IfOk result (λ o. IfNone o (IsKept self.old self.new share.old share.new released.new)) }
-        ensures refused { IfErr result (λ f. K.refuses (length self.old.entries) f) }
+        ensures not_made { IfErr result (λ f. K.cannot_keep (length self.old.entries) f) }
         ensures same { OnErr result (IsKept self.old self.new share.old share.new released.new) }
     {
         match self.make(share, request, true, released) {
@@ -291,7 +291,7 @@ impl<W: BookName, O: FileObject, K: Keeper> Book<W, O, K> {
         ensures call { IfOk result (λ r. IsCall W.boot self.old self.new share.old share.new Request.Fork r.0 released.new) }
         ensures receipt { IfOk result (λ r. r.1 ≡ next_slip self.old share.old Request.Fork r.0 false (map (λ o. o.0) released.new)) }
         ensures child { IfOk result (λ r. r.2 ≡ child_by Request.Fork r.0) }
-        ensures refused { IfErr result (λ f. K.refuses (length self.old.entries) f) }
+        ensures not_made { IfErr result (λ f. K.cannot_keep (length self.old.entries) f) }
         ensures same { OnErr result (IsKept self.old self.new share.old share.new released.new) }
     {
         match self.make(share, &Request::Fork, false, released) {
@@ -383,14 +383,14 @@ impl<W: BookName, O: FileObject, K: Keeper> Book<W, O, K> {
         ensures tried { IfOk result (λ o. IfNone o (tried ≡ true)) }
         ensures waits { IfOk result (λ o. IfNone o (MustWait self.old share.old.pid request.now)) }
         ensures kept { IfOk result (λ o. IfNone o (IsKept self.old self.new share.old share.new released.new)) }
-        ensures refused { IfErr result (λ f. K.refuses (length self.old.entries) f) }
+        ensures not_made { IfErr result (λ f. K.cannot_keep (length self.old.entries) f) }
         ensures same { OnErr result (IsKept self.old self.new share.old share.new released.new) }
     {
         self.recognize(share);
         let number = self.entry_count();
         let waits = tried && self.may_wait(share.pid, request);
         let (pid, k) = (share.pid, share.k);
-        let Some((reply, mark, child)) = self.append(
+        let Some((reply, place, child)) = self.append(
             &mut share.token,
             pid,
             k,
@@ -402,7 +402,7 @@ impl<W: BookName, O: FileObject, K: Keeper> Book<W, O, K> {
             return Ok(None);
         };
         share.k += 1;
-        Ok(Some((reply, new_receipt(number, mark, tried), child)))
+        Ok(Some((reply, new_receipt(number, place, tried), child)))
     }
 
     /// Makes the next call of a token's process, and keeps it as one more entry, whose place it gives, with the share
@@ -415,7 +415,7 @@ impl<W: BookName, O: FileObject, K: Keeper> Book<W, O, K> {
         request: &Request,
         waits: bool,
         released: &mut ReleasedObjects<O>,
-    ) -> Result<Option<(Reply, Mark, Option<Share<W>>)>, CallFault>
+    ) -> Result<Option<(Reply, Place, Option<Share<W>>)>, CallFault>
         requires token { (token.old.id ≡ W.trail) × (token.old.pid ≡ pid.0) }
         requires call { may_call self.old pid.0 k request.now ≡ true }
         requires last { is_last request.now ≡ false }
@@ -427,7 +427,7 @@ impl<W: BookName, O: FileObject, K: Keeper> Book<W, O, K> {
         ensures waits { IfOk result (λ o. IfNone o (waits ≡ true)) }
         ensures again { IfOk result (λ o. IfNone o (Step (state_of self.old) pid.0 (length self.old.entries) request.now (Reply.Err Errno.EAGAIN) [] (state_of self.old))) }
         ensures idle { IfOk result (λ o. IfNone o (IsIdle self.old self.new token.old token.new released.new)) }
-        ensures refused { IfErr result (λ f. K.refuses (length self.old.entries) f) }
+        ensures not_made { IfErr result (λ f. K.cannot_keep (length self.old.entries) f) }
         ensures same { OnErr result (IsIdle self.old self.new token.old token.new released.new) }
     {
         let room = self.kernel.process_count() + 3;
@@ -439,14 +439,14 @@ impl<W: BookName, O: FileObject, K: Keeper> Book<W, O, K> {
             return Ok(None);
         }
         let numbers = numbers_of(released.as_slice());
-        let mark = self.trail.push(token, k, request, &done, &numbers);
+        let place = self.trail.push(token, k, request, &done, &numbers);
         self.keeper.keep(pid, k, request, &done, numbers);
         let Done {
             reply,
             delivered: _,
         } = done;
         let child = open_child(&mut self.trail, request, &reply);
-        Ok(Some((reply, mark, child)))
+        Ok(Some((reply, place, child)))
     }
 
     /// Makes the last call of a process, for whose entry there is always room.

@@ -1,11 +1,11 @@
-//! Why something was refused.
+//! Why a call, the end of a layer or a settling was not made.
 ghost use Rattle.std.specs.Prelude.{◌≡◌};
 ghost use Rattle.ux_book.specs.declared.fault.CallFault.{CallFault};
 
 use std::alloc::AllocError;
 use thiserror::Error;
 
-/// An allocation was refused.
+/// An allocation failed.
 #[derive(Clone, Copy, Debug, PartialEq, Eq, Error)]
 #[error("out of memory")]
 pub struct NoMemory;
@@ -22,7 +22,7 @@ pub enum CallFault {
     /// No live process has this number: only where a caller gives a number, and no share.
     #[error("no live process has this number")]
     Stranger,
-    /// An allocation was refused.
+    /// An allocation failed.
     #[error("out of memory")]
     NoMemory,
     /// There are so many entries that no more can be counted, but for the last ones.

@@ -27,7 +27,7 @@ pub trait Keeper: Drop {
     ghost ready: { Self → Request → Type 0 };
 
     /// Why it has no room for one more, after so many entries.
-    ghost refuses: { ℕ → CallFault → Type 0 };
+    ghost cannot_keep: { ℕ → CallFault → Type 0 };
 
     /// How many entries there are.
     fn count(&self) -> usize
@@ -38,14 +38,14 @@ pub trait Keeper: Drop {
     ///
     /// # Errors
     ///
-    /// As `refuses` has it; what it keeps is as before.
+    /// As `cannot_keep` has it; what it keeps is as before.
     fn prepare(&mut self, request: &Request, count: usize) -> Result<(), CallFault>
         requires few { count ≤ 1027 }
         ensures ready { OnOk result (ready self.new request.now) }
         ensures room { OnOk result (count ≤ room self.new) }
         ensures more { room self.old ≤ room self.new }
         ensures keeps { (es : List Entry) → keeps self.old es → keeps self.new es }
-        ensures refused { IfErr result (λ f. (es : List Entry) → keeps self.old es → refuses (length es) f) };
+        ensures cannot_keep { IfErr result (λ f. (es : List Entry) → keeps self.old es → cannot_keep (length es) f) };
 
     /// Keeps the entry of a call for which all was made ready. It takes no memory.
     fn keep(&mut self, pid: Pid, k: u64, request: &Request, done: &Done, released: Released)
@@ -61,8 +61,8 @@ pub trait Keeper: Drop {
         ensures keeps { (es : List Entry) → keeps self.old es → keeps self.new (es ++ entry ∷ []) }
         ensures room { room self.old ≤ room self.new + 1 };
 
-    /// What it refuses isn't for others to mend, who wait.
-    ghost goes_on: { (n : ℕ) (f : CallFault) → refuses n f → is_deadlock f ≡ false };
+    /// Why it can't keep one is nothing that others could mend, who wait.
+    ghost no_deadlock: { (n : ℕ) (f : CallFault) → cannot_keep n f → is_deadlock f ≡ false };
 }
 
 /// Keeps all entries.
@@ -131,7 +131,7 @@ impl Keeper for Entries {
 
     ghost ready = { λ k request. IsReady k.copy k.room request };
 
-    ghost refuses = { λ _ f. f ≡ CallFault.NoMemory };
+    ghost cannot_keep = { λ _ f. f ≡ CallFault.NoMemory };
 
     fn count(&self) -> usize {
         self.entries.len()
@@ -163,7 +163,7 @@ impl Keeper for Entries {
         self.entries.push_reserved(entry);
     }
 
-    ghost goes_on = { λ _ f is. ap is_deadlock is };
+    ghost no_deadlock = { λ _ f is. ap is_deadlock is };
 }
 
 /// Keeps no entry, and counts them: a call takes the same room and time whatever came before.
@@ -193,7 +193,7 @@ impl Keeper for Nothing {
 
     ghost ready = { λ _ _. Unit {0} };
 
-    ghost refuses = { λ n f. (f ≡ CallFault.Full) × (2 ^ 62 ≤ n) };
+    ghost cannot_keep = { λ n f. (f ≡ CallFault.Full) × (2 ^ 62 ≤ n) };
 
     fn count(&self) -> usize {
         self.count as usize
@@ -214,5 +214,5 @@ impl Keeper for Nothing {
         self.count += 1;
     }
 
-    ghost goes_on = { λ _ f is. ap is_deadlock is.0 };
+    ghost no_deadlock = { λ _ f is. ap is_deadlock is.0 };
 }

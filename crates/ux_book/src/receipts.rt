@@ -3,7 +3,7 @@ ghost use Rattle.std.specs.Prelude.{◌≡◌};
 ghost use Rattle.ux_book.specs.Receipts.{IsSlip};
 
 use crate::book_name::BookName;
-use crate::trail::Mark;
+use crate::trail::Place;
 use std::marker::{Model, PhantomData};
 
 /// What a call left in a history. Its type says that some legal history from the book's boot state has the entry at
@@ -12,7 +12,7 @@ use std::marker::{Model, PhantomData};
 /// process made needs none: the share knows them.
 pub struct Receipt<W: BookName> {
     pub(crate) number: usize,
-    pub(crate) mark: Mark,
+    pub(crate) place: Place,
     pub(crate) tried: bool,
     pub(crate) of: PhantomData<W>,
 }
@@ -22,11 +22,11 @@ impl<W: BookName> Drop for Receipt<W> {
     fn drop(self) {
         let Receipt {
             number: _,
-            mark,
+            place,
             tried: _,
             of: _,
         } = self;
-        drop(mark)
+        drop(place)
     }
 }
 
@@ -36,9 +36,9 @@ impl<W: BookName> Model for Receipt<W> {
 
     ghost Value = { Slip };
 
-    ghost view = { λ r. record { number = r.number; entry = r.mark.entry; tried = r.tried } };
+    ghost view = { λ r. record { number = r.number; entry = r.place.entry; tried = r.tried } };
 
-    ghost invariant = { λ r. IsSlip W.boot (record { number = r.number; entry = r.mark.entry; tried = r.tried }) × (r.mark.id ≡ W.trail) × (r.mark.number ≡ r.number) };
+    ghost invariant = { λ r. IsSlip W.boot (record { number = r.number; entry = r.place.entry; tried = r.tried }) × (r.place.id ≡ W.trail) × (r.place.number ≡ r.number) };
 }
 
 impl<W: BookName> Receipt<W> {
@@ -59,14 +59,14 @@ impl<W: BookName> Receipt<W> {
 }
 
 /// The receipt of a call.
-pub(crate) fn new_receipt<W: BookName>(number: usize, mark: Mark, tried: bool) -> Receipt<W>
-    requires slip { IsSlip W.boot (record { number = number; entry = mark.entry; tried = tried }) }
-    requires mark { (mark.id ≡ W.trail) × (mark.number ≡ number) }
-    ensures { result ≡ record { number = number; entry = mark.entry; tried = tried } }
+pub(crate) fn new_receipt<W: BookName>(number: usize, place: Place, tried: bool) -> Receipt<W>
+    requires slip { IsSlip W.boot (record { number = number; entry = place.entry; tried = tried }) }
+    requires place { (place.id ≡ W.trail) × (place.number ≡ number) }
+    ensures { result ≡ record { number = number; entry = place.entry; tried = tried } }
 {
     Receipt {
         number,
-        mark,
+        place,
         tried,
         of: PhantomData,
     }

@@ -301,7 +301,7 @@ fn ask<W: BookName, O: FileObject>(
     ensures tried { IfOk result (λ o. IfNone o (tried ≡ true)) }
     ensures waits { IfOk result (λ o. IfNone o (MustWait book.old share.old.pid request.now)) }
     ensures kept { IfOk result (λ o. IfNone o (IsKept book.old book.new share.old share.new released.new)) }
-    ensures refused { IfErr result (λ f. f ≡ CallFault.NoMemory) }
+    ensures not_made { IfErr result (λ f. f ≡ CallFault.NoMemory) }
     ensures same { OnErr result (IsKept book.old book.new share.old share.new released.new) }
 {
     match book.make(share, request, tried, released) {

@@ -3,7 +3,7 @@
 ghost use Rattle.std.specs.Prelude.{◌≡◌, true, ◌+◌, ◌<◌, ◌++◌, ◌∷◌, [], length, Some, IfOk};
 ghost use Rattle.std.specs.List.{slice_get};
 ghost use Rattle.ux_book.specs.Pasts.{calls_by};
-ghost use Rattle.ux_book.specs.Trails.{knower, noted, owner_of, shown, rest_of, own_of};
+ghost use Rattle.ux_book.specs.Trails.{knower, noted, owner_of, taking_in, rest_of, own_of};
 
 use crate::call::Call;
 use atomic_table::{Join, Play, Seat, Split, Table, TableRule};
@@ -68,24 +68,24 @@ impl TableRule<(), Known, ()> for OneTrail {
 }
 
 /// Which entry is added. Each call picks it.
-pub trait Told {
+pub trait Noted {
     ghost use Rattle.ux_model.specs.Types.{Entry};
 
     ghost entry: { Entry };
 }
 
-impl Told for Brand {
+impl Noted for Brand {
     ghost use Rattle.ux_book.specs.Trails.{no_entry};
 
     ghost entry = { no_entry };
 }
 
 /// A step that adds an entry, by who knows the whole and its process's calls.
-pub struct Notes<T: Told> {
+pub struct Notes<T: Noted> {
     of: PhantomData<T>,
 }
 
-impl<T: Told> Play<(), Known> for Notes<T> {
+impl<T: Noted> Play<(), Known> for Notes<T> {
     ghost use Rattle.std.specs.Prelude.{◌≡◌};
     ghost use Rattle.ux_book.specs.Trails.{noted};
 
@@ -146,13 +146,13 @@ impl Split<Known> for Own {
     ghost right = { own_of };
 }
 
-/// What another token knows goes to who knows the whole.
-pub struct Shown;
+/// Who knows the whole takes in what another token knows.
+pub struct TakesIn;
 
-impl Join<Known> for Shown {
-    ghost use Rattle.ux_book.specs.Trails.{shown, nobody};
+impl Join<Known> for TakesIn {
+    ghost use Rattle.ux_book.specs.Trails.{taking_in, nobody};
 
-    ghost both = { shown };
+    ghost both = { taking_in };
 
     ghost spent = { nobody };
 }
@@ -184,15 +184,15 @@ impl Model for Trail {
 
 /// Who knows one place. It has no bytes.
 #[derive(Drop)]
-pub(crate) struct Mark {
+pub(crate) struct Place {
     seat: Seat<(), Known>,
 }
 
-impl Model for Mark {
+impl Model for Place {
     ghost use Rattle.std.specs.Prelude.{◌≡◌, []};
-    ghost use Rattle.ux_book.specs.Trails.{Marked, claim};
+    ghost use Rattle.ux_book.specs.Trails.{Placed, claim};
 
-    ghost Value = { Marked };
+    ghost Value = { Placed };
 
     ghost view = { λ m. record { id = m.seat.table_id; number = m.seat.me.0.number; entry = m.seat.me.0.entry } };
 
@@ -262,30 +262,30 @@ impl Trail {
         request: &Request,
         done: &Done,
         released: &Released,
-    ) -> Mark
+    ) -> Place
         requires { token.old.id ≡ self.old.id }
         ensures trail { self.new ≡ record self.old { entries = self.old.entries ++ record { pid = record { 0 = token.old.pid }; k = k; request = request.now; reply = done.now.reply; released = released.now; delivered = done.now.delivered } ∷ [] } }
         ensures token { token.new ≡ record token.old { past = token.old.past ++ record { request = request.now; reply = done.now.reply } ∷ [] } }
-        ensures mark { result ≡ record { id = self.old.id; number = length self.old.entries; entry = record { pid = record { 0 = token.old.pid }; k = k; request = request.now; reply = done.now.reply; released = released.now; delivered = done.now.delivered } } }
+        ensures place { result ≡ record { id = self.old.id; number = length self.old.entries; entry = record { pid = record { 0 = token.old.pid }; k = k; request = request.now; reply = done.now.reply; released = released.now; delivered = done.now.delivered } } }
     {
         let Trail { table, keeper } = self;
         take_in(table, keeper, &mut token.seat);
         note::<Brand>(table, keeper, k, request, done, released);
         give_back(table, keeper, &mut token.seat);
         let seat = table.shared.split_seat::<Last>(keeper);
-        Mark { seat }
+        Place { seat }
     }
 
     /// Compares a place with the trail, which is some steps on a word: its entry stands at its number.
-    pub(crate) fn find(&mut self, mark: &mut Mark)
-        requires { mark.old.id ≡ self.old.id }
-        ensures found { slice_get self.old.entries mark.old.number ≡ Some mark.old.entry }
+    pub(crate) fn find(&mut self, place: &mut Place)
+        requires { place.old.id ≡ self.old.id }
+        ensures found { slice_get self.old.entries place.old.number ≡ Some place.old.entry }
         ensures trail { self.new ≡ self.old }
-        ensures mark { mark.new ≡ mark.old }
+        ensures place { place.new ≡ place.old }
     {
         let Trail { table, keeper } = self;
-        let again = table.shared.split_seat::<Again>(&mut mark.seat);
-        table.shared.join_seat::<Shown>(keeper, again);
+        let again = table.shared.split_seat::<Again>(&mut place.seat);
+        table.shared.join_seat::<TakesIn>(keeper, again);
         table.shared.load::<Checks>(keeper, 0);
     }
 }
@@ -300,10 +300,10 @@ fn take_in(
     requires keeper { keeper.old.me ≡ (knower keeper.old.me.0.all keeper.old.me.0.given, []) }
     requires token { token.old.me ≡ (owner_of token.old.me.0.pid token.old.me.0.past, []) }
     ensures same { keeper.new.table_id ≡ keeper.old.table_id }
-    ensures keeper { keeper.new.me ≡ (shown (knower keeper.old.me.0.all keeper.old.me.0.given) (owner_of token.old.me.0.pid token.old.me.0.past), []) }
+    ensures keeper { keeper.new.me ≡ (taking_in (knower keeper.old.me.0.all keeper.old.me.0.given) (owner_of token.old.me.0.pid token.old.me.0.past), []) }
 {
     let seat = table.shared.split_seat::<Own>(token);
-    table.shared.join_seat::<Shown>(keeper, seat);
+    table.shared.join_seat::<TakesIn>(keeper, seat);
 }
 
 /// The keeper gives a process's token back.
@@ -322,7 +322,7 @@ fn give_back(
 }
 
 /// Lets the keeper, and with it a process's token, know one more call.
-fn note<T: Told>(
+fn note<T: Noted>(
     table: &Table<(), Known, (), OneTrail, Global>,
     keeper: &mut Seat<(), Known>,
     k: u64,
@@ -332,7 +332,7 @@ fn note<T: Told>(
 )
     requires table { (keeper.old.table_id ≡ table.now.shared.table_id) × (table.now.shared.table_id.words ≡ 1) }
     requires keeper { (keeper.old.me.0.keeps ≡ true) × (keeper.old.me.0.owns ≡ true) × (keeper.old.me.1 ≡ []) }
-    requires told { T.entry ≡ record { pid = record { 0 = keeper.old.me.0.pid }; k = k; request = request.now; reply = done.now.reply; released = released.now; delivered = done.now.delivered } }
+    requires entry { T.entry ≡ record { pid = record { 0 = keeper.old.me.0.pid }; k = k; request = request.now; reply = done.now.reply; released = released.now; delivered = done.now.delivered } }
     ensures same { keeper.new.table_id ≡ keeper.old.table_id }
     ensures keeper { keeper.new.me ≡ (noted keeper.old.me.0 (record { pid = record { 0 = keeper.old.me.0.pid }; k = k; request = request.now; reply = done.now.reply; released = released.now; delivered = done.now.delivered }), []) }
 {

@@ -7,16 +7,16 @@ use Rattle.ux_book.specs.declared.fault.CallFault.{CallFault}
 use Rattle.ux_book.specs.Books.{KeptHistory, MustWait}
 use Rattle.ux_book.specs.Pasts.{Caller}
 use Rattle.ux_book.specs.Recording.{Knows}
-use Rattle.ux_layer.specs.Faults.{Refuses, HasToWait}
+use Rattle.ux_layer.specs.Faults.{CannotKeep, HasToWait}
 
 legal_from : (boot : State) (book : KeptHistory) (c : Caller) → Knows boot book c → IsLegal boot book.entries
 legal_from boot book c knows = subst (λ (S : State). IsLegal S book.entries) knows.boot_is knows.legal
 
--- the keeper refuses one more entry
-pub refuses : (boot : State) (book : KeptHistory) (c : Caller) (keeper : ℕ → CallFault → Type 0) (fault : CallFault) →
-    Knows boot book c → keeper (length book.entries) fault → Refuses boot c keeper fault
-refuses boot book c keeper fault knows refused =
-    record { entries = book.entries; legal = legal_from boot book c knows; exactly = knows.exactly; refused = refused }
+-- the keeper can't keep one more entry
+pub cannot_keep : (boot : State) (book : KeptHistory) (c : Caller) (keeper : ℕ → CallFault → Type 0) (fault : CallFault) →
+    Knows boot book c → keeper (length book.entries) fault → CannotKeep boot c keeper fault
+cannot_keep boot book c keeper fault knows cannot =
+    record { entries = book.entries; legal = legal_from boot book c knows; exactly = knows.exactly; cannot = cannot }
 
 -- the call has to wait
 pub has_to_wait : (boot : State) (book : KeptHistory) (c : Caller) (request : Request) → Knows boot book c → MustWait book c.pid request →

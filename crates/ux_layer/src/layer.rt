@@ -220,7 +220,7 @@ impl<W: BookName, O: FileObject> Layer<W, O> {
 ///
 /// # Errors
 ///
-/// The kernel as it was, where an allocation is refused. The trail is spent.
+/// The kernel as it was, where an allocation fails. The trail is spent.
 pub fn start<W: BookName, O: FileObject, R: Wait>(
     rt: &R,
     alloc: Global,
@@ -262,7 +262,7 @@ pub fn start_counting<W: BookName, O: FileObject, R: Wait>(
 ///
 /// # Errors
 ///
-/// The book's kernel as it was, where an allocation is refused.
+/// The book's kernel as it was, where an allocation fails.
 pub fn start_book<W: BookName, O: FileObject, K: Keeper, R: Wait>(
     rt: &R,
     alloc: Global,

@@ -6,7 +6,7 @@ ghost use Rattle.ux_book.specs.Books.{has_own_call};
 ghost use Rattle.ux_book.specs.Pasts.{made, child_by, IsOf};
 ghost use Rattle.ux_book.specs.Receipts.{IsSlip, IsSlipOf};
 ghost use Rattle.ux_book.specs.Faults.{is_deadlock};
-ghost use Rattle.ux_layer.specs.Faults.{Refuses, RefusesOrWaits};
+ghost use Rattle.ux_layer.specs.Faults.{CannotKeep, WaitsOrCannotKeep};
 
 use crate::layer::{Shared, another};
 use std::alloc::Global;
@@ -73,7 +73,7 @@ impl<W: BookName, O: FileObject, K: Keeper> Seat<W, O, K> {
     /// # Errors
     ///
     /// Those of `Book::record`; no entry was made then.
-    #[tactic(auto, using(crate::proofs::Faults::refuses))]
+    #[tactic(auto, using(crate::proofs::Faults::cannot_keep))]
     pub fn call<R: Wait>(
         &mut self,
         rt: &R,
@@ -84,8 +84,8 @@ impl<W: BookName, O: FileObject, K: Keeper> Seat<W, O, K> {
         ensures of { IfOk result (λ r. IsOf W.boot self.new) }
         ensures receipt { IfOk result (λ r. IsSlipOf self.old request.now r.0 false r.1) }
         ensures shown { IfOk result (λ r. IsSlip W.boot r.1) }
-        ensures refused { IfErr result (λ f. Refuses W.boot self.old K.refuses f) }
-        ensures goes_on { IfErr result (λ f. is_deadlock f ≡ false) }
+        ensures not_made { IfErr result (λ f. CannotKeep W.boot self.old K.cannot_keep f) }
+        ensures no_deadlock { IfErr result (λ f. is_deadlock f ≡ false) }
         ensures same { OnErr result (self.new ≡ self.old) }
     {
         let Seat {
@@ -111,7 +111,7 @@ impl<W: BookName, O: FileObject, K: Keeper> Seat<W, O, K> {
     ///
     /// Those of `call`, and `Deadlock` where the seats of all processes that haven't exited wait: then this call has to
     /// wait after some legal history that has exactly the calls of this process that the seat knows.
-    #[tactic(auto, using(crate::proofs::Faults::refuses, crate::proofs::Faults::has_to_wait))]
+    #[tactic(auto, using(crate::proofs::Faults::cannot_keep, crate::proofs::Faults::has_to_wait))]
     pub fn call_blocking<R: Wait>(
         &mut self,
         rt: &R,
@@ -122,7 +122,7 @@ impl<W: BookName, O: FileObject, K: Keeper> Seat<W, O, K> {
         ensures of { IfOk result (λ r. IsOf W.boot self.new) }
         ensures receipt { IfOk result (λ r. IsSlipOf self.old request.now r.0 true r.1) }
         ensures shown { IfOk result (λ r. IsSlip W.boot r.1) }
-        ensures refused { IfErr result (λ f. RefusesOrWaits W.boot self.old request.now K.refuses f) }
+        ensures not_made { IfErr result (λ f. WaitsOrCannotKeep W.boot self.old request.now K.cannot_keep f) }
         ensures same { OnErr result (self.new ≡ self.old) }
     {
         let Seat {
@@ -165,7 +165,7 @@ impl<W: BookName, O: FileObject, K: Keeper> Seat<W, O, K> {
     /// # Errors
     ///
     /// Those of `Book::fork`, and `NoMemory` where there is none for the new seat; no entry was made then.
-    #[tactic(auto, using(crate::proofs::Faults::refuses))]
+    #[tactic(auto, using(crate::proofs::Faults::cannot_keep))]
     pub fn fork<R: Wait>(
         &mut self,
         rt: &R,
@@ -175,7 +175,7 @@ impl<W: BookName, O: FileObject, K: Keeper> Seat<W, O, K> {
         ensures receipt { IfOk result (λ r. IsSlipOf self.old Request.Fork r.0 false r.1) }
         ensures shown { IfOk result (λ r. IsSlip W.boot r.1) }
         ensures child { IfOk result (λ r. r.2 ≡ child_by Request.Fork r.0) }
-        ensures refused { IfErr result (λ f. (f ≡ CallFault.NoMemory) ⊎ Refuses W.boot self.old K.refuses f) }
+        ensures not_made { IfErr result (λ f. (f ≡ CallFault.NoMemory) ⊎ CannotKeep W.boot self.old K.cannot_keep f) }
         ensures same { OnErr result (self.new ≡ self.old) }
     {
         let Seat {

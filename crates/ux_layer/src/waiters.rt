@@ -4,9 +4,9 @@ use std::alloc::{AllocError, Global};
 use std::test::Fail;
 use ux_types::Pid;
 
-/// Counts the calls of each process, and the seats that wait. A seat that has found that it must wait goes on only
+/// Counts the calls of each process, and the seats that wait. A seat that has found that it must wait continues only
 /// after an entry, since its call is answered by the book alone; so once the seats of all processes that haven't
-/// exited have found it since the last entry, none of them ever goes on.
+/// exited have found it since the last entry, none of them ever continues.
 #[derive(Drop)]
 pub(crate) struct Waiters {
     /// How many calls each process has made, by its number; nobody's first.
@@ -134,13 +134,13 @@ fn a_wait_that_ends_without_an_entry_is_no_longer_counted(rt: HostRuntime) -> Re
     let mut second = waiters.ticket();
     let both = waiters.is_in_vain(&mut second);
     assert_eq!(rt; (alone, still_alone, both), (false, false, true));
-    // The first is told too, and leaves without uncounting one that waits since.
-    let told = waiters.is_in_vain(&mut first);
+    // The first is in vain too, and leaves without uncounting one that waits since.
+    let over = waiters.is_in_vain(&mut first);
     let mut again = waiters.ticket();
     let anew = waiters.is_in_vain(&mut again);
     waiters.leave(first);
     let mut last = waiters.ticket();
     let all = waiters.is_in_vain(&mut last);
-    assert_eq!(rt; (told, anew, all), (true, false, true));
+    assert_eq!(rt; (over, anew, all), (true, false, true));
     Ok(())
 }

@@ -12,11 +12,11 @@ store-requires g c =
       c.requires.table.0,
       omega (arith, one),
       λ s h long at small. (
-        noted v g.T.Told.entry,
+        noted v g.T.Noted.entry,
         keeps,
         tt,
-        adds s.views c.args.keeper.now.id v g.T.Told.entry c.requires.keeper.0 c.requires.keeper.1
-            (ap (λ (e : Entry). e.pid.0) c.requires.told) h at,
+        adds s.views c.args.keeper.now.id v g.T.Noted.entry c.requires.keeper.0 c.requires.keeper.1
+            (ap (λ (e : Entry). e.pid.0) c.requires.entry) h at,
         refl,
       ),
     )

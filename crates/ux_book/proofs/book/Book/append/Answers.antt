@@ -65,7 +65,7 @@ keep-requires-clause-fits g c =
 
 pub open_child-child-requires-clause-child : goal.open_child-child-requires-clause-child
 open_child-child-requires-clause-child g c =
-    rw c.push-mark.ensures.trail (child_number c.step-done.new.self c.args.pid.0 c.count-number.result
+    rw c.push-place.ensures.trail (child_number c.step-done.new.self c.args.pid.0 c.count-number.result
     (map (λ r. r.0) c.step-done.new.released) c.args.request.now c.step-done.result.reply c.self.invariant.0 c.step-done.ensures.step)
 
 pub open_child-child-requires-clause-none : goal.open_child-child-requires-clause-none
@@ -80,7 +80,7 @@ open_child-child-requires-clause-none g c =
       delivered =
           c.step-done.result.delivered;
     })
-    c.self.invariant.0 c.self.view_is (rw (c.requires.token.1) c.requires.call) c.push-mark.ensures.trail
+    c.self.invariant.0 c.self.view_is (rw (c.requires.token.1) c.requires.call) c.push-place.ensures.trail
 
 -- the entry that is noted
 noted_is : (g : Over) (c : goal.After-open_child-child g) →
@@ -119,7 +119,7 @@ grown_here g c =
     (enough_room c.self.inside.kernel t.entries c.args.request.now c.process_count-room.ensures.count c.in_ok-prepare.ensures.room
     c.requires.last) c.keep.ensures.room
     (c.count-number.ensures.count t.entries (c.in_ok-prepare.ensures.keeps t.entries c.self.invariant.1)) c.step-done.ensures.step
-    (c.open_child-child.ensures.trail ∙ ap (λ (x : Trailed). record x { given = x.given + one }) c.push-mark.ensures.trail
+    (c.open_child-child.ensures.trail ∙ ap (λ (x : Trailed). record x { given = x.given + one }) c.push-place.ensures.trail
     ∙ ap (λ (e : Entry). record t { entries = t.entries ++ e ∷ []; given = t.given + one }) (noted_is g c))
     refl refl (no_end c.self.inside.ended c.args.request.now (not_off c.args.request.now c.requires.last))
 
@@ -146,7 +146,7 @@ kept_is g c =
       released = c.numbers_of-numbers.result;
       delivered = c.step-done.result.delivered;
     } ∷ [])
-    ∙ ap (λ (x : Trailed). x.entries) (sym c.push-mark.ensures.trail)
+    ∙ ap (λ (x : Trailed). x.entries) (sym c.push-place.ensures.trail)
     ∙ ap (λ (x : Trailed). x.entries) (sym c.open_child-child.ensures.trail)
 
 pub invariant_of-self-2 : goal.invariant_of-self-2
@@ -166,8 +166,8 @@ returns-clause-appended g c =
     (c.self.invariant.0.at_replay ∙ ap state_of c.self.view_is) in
     record {
       adds = (grown_here g c).adds;
-      token = c.push-mark.ensures.token;
-      mark_is = c.push-mark.ensures.mark ∙ (λ j.
+      token = c.push-place.ensures.token;
+      place_is = c.push-place.ensures.place ∙ (λ j.
           record {
             id = c.self.invariant.0.trail_id j;
             number = length (KeptHistory.entries (c.self.view_is j));

@@ -7,7 +7,7 @@ use Rattle.ux_model.specs.Waiting.{may_wait, should_wait}
 use Rattle.ux_book.specs.Pasts.{Caller, has_exit}
 use Rattle.ux_book.specs.Books.{KeptHistory, state_of, entry_of}
 use Rattle.ux_book.specs.Receipts.{IsSlip}
-use Rattle.ux_book.specs.Trails.{Owned, Marked}
+use Rattle.ux_book.specs.Trails.{Owned, Placed}
 use Rattle.ux_book.proofs.Pasts.{exit_push}
 use Rattle.ux_book.proofs.Slips.{may_call_now, call_made, not_yet, slip}
 use Rattle.ux_book.proofs.Appending.{not_off}
@@ -34,11 +34,11 @@ new_receipt-requires-clause-slip g c =
     ] in
     let done = not_yet (state_of c.recognize.new.self) c.share.inside.pid.0 c.args.request.now c.in-Some.reply c.if-tried.waits c.args.tried
     looked (rw c.in-Some.is at c.in_ok-reply.ensures.done) in
-    subst (λ (n : ℕ). IsSlip g.W.BookName.boot (record { number = n; entry = c.in-Some.mark.entry; tried = c.args.tried }))
+    subst (λ (n : ℕ). IsSlip g.W.BookName.boot (record { number = n; entry = c.in-Some.place.entry; tried = c.args.tried }))
     (sym number.count)
     (subst (λ (x : Entry). IsSlip g.W.BookName.boot
     (record { number = length c.recognize.new.self.entries; entry = x; tried = c.args.tried }))
-    (ap (λ (m : Marked). m.entry) (sym made.mark_is))
+    (ap (λ (m : Placed). m.entry) (sym made.place_is))
     (slip e c.args.tried number.boot number.legal made.adds done))
 
 pub invariant_of-share-2 : goal.invariant_of-share-2

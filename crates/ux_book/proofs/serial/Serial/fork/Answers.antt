@@ -3,7 +3,7 @@ use Rattle.ux_model.specs.Types.{Request}
 use Rattle.ux_book.specs.Books.{KeptHistory}
 use Rattle.ux_book.specs.Pasts.{Caller}
 use Rattle.ux_book.specs.Sitting.{Answers, Forks}
-use Rattle.ux_book.proofs.Sitting.{wider, childless, placed, refused_shares, made_by}
+use Rattle.ux_book.proofs.Sitting.{wider, childless, placed, unmade_shares, made_by}
 use Rattle.ux_book.proofs.serial.Serial.fork.Goals.{in-Some-child, in_default-child}
 use Rattle.ux_book.proofs.serial.Serial.fork.Goals as goal
 
@@ -40,7 +40,7 @@ pub invariant_of-self-in-Err : goal.invariant_of-self-in-Err
 invariant_of-self-in-Err g c =
     let wide = wider c.self.inside.book c.self.inside.shares.items c.push.new.self.items _ c.self.invariant c.push.ensures.items
     (c.is_err.ensures.negation ∙ ap not c.if-is_err.false) in
-    refused_shares c.self.inside.book c.fork-forked.new.book c.push.new.self.items c.take.new.shares.items c.put.new.shares.items c.args.pid
+    unmade_shares c.self.inside.book c.fork-forked.new.book c.push.new.self.items c.take.new.shares.items c.put.new.shares.items c.args.pid
     c.in-Some.share c.fork-forked.new.share
     wide c.in-Some.ensures.share c.take.ensures.left c.put.ensures c.in-Err.ensures.same c.in-Err.ensures.kept
 

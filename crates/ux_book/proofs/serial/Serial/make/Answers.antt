@@ -3,14 +3,14 @@ use Rattle.std.proofs.lemmas.Bool.{or_parts}
 use Rattle.ux_model.specs.History.{is_exit, is_off, is_fork}
 use Rattle.ux_book.specs.Books.{KeptHistory, processes, is_last}
 use Rattle.ux_book.specs.Sitting.{Answers}
-use Rattle.ux_book.proofs.Sitting.{answered, called_shares, refused_shares, made_by, as_many, no_fork}
+use Rattle.ux_book.proofs.Sitting.{answered, called_shares, unmade_shares, made_by, as_many, no_fork}
 use Rattle.ux_book.proofs.serial.Serial.make.Goals as goal
 
 pub invariant_of-self-2 : goal.invariant_of-self-2
 invariant_of-self-2 g c =
     let own = or_parts (is_last c.args.request.now) (is_fork c.args.request.now) c.requires in
     let ends = or_parts (is_exit c.args.request.now) (is_off c.args.request.now) own.0 in
-    let kept = refused_shares c.self.inside.book c.ask-asked.new.book c.self.inside.shares.items c.take.new.shares.items
+    let kept = unmade_shares c.self.inside.book c.ask-asked.new.book c.self.inside.shares.items c.take.new.shares.items
     c.put.new.shares.items c.args.pid
     c.in-Some.share c.ask-asked.new.share c.self.invariant c.in-Some.ensures.share c.take.ensures.left c.put.ensures in
     answered c.ask-asked.result

@@ -1,16 +1,16 @@
 use Rattle.std.proofs.Common.{◌≡◌, true, false, refl, sym, ap, ◌∙◌, arith}
 use Rattle.atomic_table.specs.Table.{keeps}
-use Rattle.ux_book.specs.Trails.{Trailed, Marked, unclaimed}
+use Rattle.ux_book.specs.Trails.{Trailed, Placed, unclaimed}
 use Rattle.ux_book.proofs.Trails.{copies, takes_in, checks}
 use Rattle.ux_book.proofs.trail.Trail.find.Goals as goal
 
 pub split_seat-again-requires : goal.split_seat-again-requires
 split_seat-again-requires c =
     let one : c.self.inside.table.shared.table_id.words ≡ 1 = c.self.invariant.0 in (
-      ap (λ (m : Marked). m.id) c.mark.view_is ∙ c.requires
+      ap (λ (m : Placed). m.id) c.place.view_is ∙ c.requires
           ∙ sym (ap (λ (t : Trailed). t.id) c.self.view_is),
       omega (arith, one),
-      λ s h at. copies s.views c.mark.inside.seat.id c.mark.inside.seat.me.0 h at,
+      λ s h at. copies s.views c.place.inside.seat.id c.place.inside.seat.me.0 h at,
     )
 
 pub join_seat-requires : goal.join_seat-requires
@@ -21,7 +21,7 @@ join_seat-requires c =
     let whole : k.me.0.keeps ≡ true = ap (λ m. m.0.keeps) c.self.invariant.2 in
     let alone : k.me.0.owns ≡ false = ap (λ m. m.0.owns) c.self.invariant.2 in (
       c.self.invariant.1,
-      again.3 ∙ ap (λ (m : Marked). m.id) c.mark.view_is ∙ c.requires ∙ sym (ap (λ (t : Trailed). t.id) c.self.view_is),
+      again.3 ∙ ap (λ (m : Placed). m.id) c.place.view_is ∙ c.requires ∙ sym (ap (λ (t : Trailed). t.id) c.self.view_is),
       ap (λ m. m.1) again.4,
       omega (arith, one),
       λ s h at apart there. takes_in s.views k.id k.me.0 c.split_seat-again.result.id c.split_seat-again.result.me.0 whole alone h at apart

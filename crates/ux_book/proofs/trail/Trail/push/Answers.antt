@@ -15,8 +15,8 @@ split_seat-seat-requires c =
       λ s h at. gives_last s.views c.give_back.new.keeper.id v whole h at,
     )
 
-pub returns-clause-mark : goal.returns-clause-mark
-returns-clause-mark c =
+pub returns-clause-place : goal.returns-clause-place
+returns-clause-place c =
     let split = c.split_seat-seat.ensures in
     let old = c.self.inside.keeper.me.0 in
     let own = c.token.inside.seat.me.0 in
