@@ -1,8 +1,8 @@
 //! The methods of a session.
-use crate::methods::{CALLER, CALLS, MOST, Wrong, boot_all, call_all, refuses};
+use crate::methods::{CALLER, CALLS, MOST, Wrong, boot_all, call_all, gives, refuses};
 use delortxa::{
-    BookName, BookProgram, CallFault, Entry, Errno, OffFault, Pid, Reply, Session, call,
-    trace_text, with_book,
+    BookName, BookProgram, Boot, CallFault, Calls, Entry, Errno, OffFault, Pid, Reply, Session,
+    call, trace_text, with_book,
 };
 use std::alloc::Global;
 use std::process::Abort;
@@ -83,5 +83,34 @@ fn is_traced<R: Abort>(rt: &R, alloc: Global, history: &[Entry]) -> Result<(), F
     let lines = text.as_str().bytes().filter(|byte| *byte == 10).count();
     assert_eq!(rt; lines, history.len());
     assert!(rt; text.as_str().ends_with(" off = ok closed 1 2 3\n"));
+    Ok(())
+}
+
+/// Two processes of one user, of which the first alone has privileges, take another user's ids.
+#[derive(Drop)]
+struct TakeIds;
+
+impl BookProgram for TakeIds {
+    type Output = Result<(), Wrong>;
+
+    fn run<W: BookName>(self, session: &mut Session<W>) -> Self::Output {
+        gives("set_ids", session.set_ids(Pid(1), 2000, 200), ())?;
+        refuses("set_ids", session.set_ids(Pid(2), 2000, 200), Errno::EPERM)
+    }
+}
+
+#[test]
+fn only_a_privileged_process_takes_other_ids(rt: HostRuntime) -> Result<(), Fail> {
+    let alloc = rt.alloc();
+    let (uid, gid) = (CALLER.uid, CALLER.gid);
+    let boot = Boot::new(alloc);
+    let boot = boot.privileged(uid, gid, 4)?.process(uid, gid, 4)?;
+    let Ok(kernel) = boot.start() else {
+        return Err(Fail::from("no kernel"));
+    };
+    let Ok((outcome, _)) = with_book(alloc, kernel, TakeIds) else {
+        return Err(Fail::from("no memory"));
+    };
+    assert_eq!(&rt; outcome, Ok(()));
     Ok(())
 }

@@ -36,13 +36,6 @@ impl FailAt {
         }
     }
 
-    /// The reads and writes up to the one that fails, that one counted: 0 once it has failed.
-    pub fn calls_left(&self) -> u32
-        ensures { result ≡ self.now.left }
-    {
-        self.left
-    }
-
     /// Counts a read or a write, and reports whether it is the one that fails.
     fn fails_now(&mut self) -> bool
         ensures tells { (result ≡ true) ↔ (self.old.left ≡ 1) }

@@ -45,7 +45,7 @@ fn an_order_that_cannot_be_made_ends_before_its_place(rt: HostRuntime) -> Result
             return Err(Fail::from("no order"));
         };
         let ran = run_in(rt.alloc(), SOCKETS, &mut order)?;
-        assert!(rt; ran.is_refused());
+        assert!(rt; ran.is_broken_off());
         assert_eq!(rt; list_of(rt.alloc(), &ran)?.as_str(), made);
     }
     Ok(())
