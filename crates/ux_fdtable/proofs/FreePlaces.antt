@@ -1,4 +1,4 @@
--- The first free place of a table, by the marks of its numbers.
+-- The first free place of a table, by the set of its numbers in use.
 use Rattle.std.proofs.Common.{◌≡◌, ℕ, zero, suc, ◌+◌, ◌-◌, ◌<◌, ◌≤◌, Bool, true, false, List, [], ◌∷◌, length, drop, Option, Some, None}
 use Rattle.std.proofs.Common.{inl, inr, ap, sym, refl, ◌∙◌, arith, add-zero}
 use Rattle.std.specs.Prelude.{is_some}
@@ -6,7 +6,7 @@ use Rattle.std.proofs.lemmas.Bool.{cases_lt}
 use Rattle.std.proofs.lemmas.List.{at_drop_more, drop_all}
 use Rattle.ux_model.specs.Places.{place, empty_places_from}
 use Rattle.ux_model.specs.Process.{Descriptor}
-use Rattle.ux_number_sets.specs.Marking.{is_marked, IsFirstClear, FindsClear}
+use Rattle.ux_number_sets.specs.Sets.{has_number, IsFirstFree, FindsFirstFree}
 use Rattle.ux_fdtable.specs.Padded.{padded, IsTable, FindsFree}
 use Rattle.ux_fdtable.proofs.Places.{length-padded, place_padded}
 
@@ -49,39 +49,39 @@ pass_to T from n low inside held =
 
 -- ---- in a table
 
-held_by_mark : (xs : List (Option Descriptor)) (limit : ℕ) (marks : List Bool) (i : ℕ) (k : Bool) → IsTable xs limit marks → i < limit →
-    is_marked marks i ≡ k → is_some (place (padded xs limit) i) ≡ k
-held_by_mark xs limit marks i k table inside marked = ap is_some (place_padded xs limit i) ∙ sym (table.agrees i inside) ∙ marked
+held_if_in_use : (xs : List (Option Descriptor)) (limit : ℕ) (in_use : List Bool) (i : ℕ) (k : Bool) → IsTable xs limit in_use → i < limit →
+    has_number in_use i ≡ k → is_some (place (padded xs limit) i) ≡ k
+held_if_in_use xs limit in_use i k table inside present = ap is_some (place_padded xs limit i) ∙ sym (table.agrees i inside) ∙ present
 
-pub length_of_table : (xs : List (Option Descriptor)) (limit : ℕ) (marks : List Bool) → IsTable xs limit marks →
+pub length_of_table : (xs : List (Option Descriptor)) (limit : ℕ) (in_use : List Bool) → IsTable xs limit in_use →
     length (padded xs limit) ≡ limit
-length_of_table xs limit marks table = omega (arith, length-padded xs limit, table.within)
+length_of_table xs limit in_use table = omega (arith, length-padded xs limit, table.within)
 
--- every number from here on is marked
-none_free : (xs : List (Option Descriptor)) (limit from : ℕ) (marks : List Bool) → IsTable xs limit marks →
-    ((i : ℕ) → from ≤ i → i < limit → is_marked marks i ≡ true) → empty_places_from from (drop from (padded xs limit)) ≡ []
-none_free xs limit from marks table marked =
-    let long : length (padded xs limit) ≡ limit = length_of_table xs limit marks table in
+-- every number from here on is in use
+none_free : (xs : List (Option Descriptor)) (limit from : ℕ) (in_use : List Bool) → IsTable xs limit in_use →
+    ((i : ℕ) → from ≤ i → i < limit → has_number in_use i ≡ true) → empty_places_from from (drop from (padded xs limit)) ≡ []
+none_free xs limit from in_use table present =
+    let long : length (padded xs limit) ≡ limit = length_of_table xs limit in_use table in
     elim (cases_lt limit from) [
       | inl past ↦ ap (empty_places_from from) (drop_all from (padded xs limit) (omega arith))
       | inr low ↦ pass_to (padded xs limit) from limit low (omega arith)
-          (λ i after before. held_by_mark xs limit marks i true table before (marked i after before))
+          (λ i after before. held_if_in_use xs limit in_use i true table before (present i after before))
           ∙ ap (empty_places_from limit) (drop_all limit (padded xs limit) (omega arith))
     ]
 
-first_free : (xs : List (Option Descriptor)) (limit from n : ℕ) (marks : List Bool) → IsTable xs limit marks → IsFirstClear marks from n →
+first_free : (xs : List (Option Descriptor)) (limit from n : ℕ) (in_use : List Bool) → IsTable xs limit in_use → IsFirstFree in_use from n →
     FindsFree (padded xs limit) from (Some n)
-first_free xs limit from n marks table found =
+first_free xs limit from n in_use table found =
     let small : n < limit = omega (arith, found.within, table.covered) in
-    let long : length (padded xs limit) ≡ limit = length_of_table xs limit marks table in (
+    let long : length (padded xs limit) ≡ limit = length_of_table xs limit in_use table in (
       omega arith,
       pass_to (padded xs limit) from n found.after (omega arith)
-          (λ i low high. held_by_mark xs limit marks i true table (omega arith) (found.before i low high))
-          ∙ free_place (padded xs limit) n (omega arith) (held_by_mark xs limit marks n false table small found.clear),
+          (λ i low high. held_if_in_use xs limit in_use i true table (omega arith) (found.before i low high))
+          ∙ free_place (padded xs limit) n (omega arith) (held_if_in_use xs limit in_use n false table small found.free),
     )
 
-pub finds_free : (xs : List (Option Descriptor)) (limit from : ℕ) (marks : List Bool) (answer : Option ℕ) → IsTable xs limit marks →
-    FindsClear marks from answer → FindsFree (padded xs limit) from answer
-finds_free xs limit from marks None table none =
-    none_free xs limit from marks table (λ i low high. none i low (omega (arith, table.covered)))
-finds_free xs limit from marks (Some n) table found = first_free xs limit from n marks table found
+pub finds_free : (xs : List (Option Descriptor)) (limit from : ℕ) (in_use : List Bool) (answer : Option ℕ) → IsTable xs limit in_use →
+    FindsFirstFree in_use from answer → FindsFree (padded xs limit) from answer
+finds_free xs limit from in_use None table none =
+    none_free xs limit from in_use table (λ i low high. none i low (omega (arith, table.covered)))
+finds_free xs limit from in_use (Some n) table found = first_free xs limit from n in_use table found

@@ -9,7 +9,7 @@ use Rattle.ux_model.specs.Places.{filled, empty_places_from}
 use Rattle.ux_model.specs.Process.{Descriptor, free_numbers}
 use Rattle.ux_model.specs.Delivery.{installed}
 use Rattle.ux_types.specs.declared.identity.Fd.{Fd}
-use Rattle.ux_number_sets.specs.Marking.{PutsMark}
+use Rattle.ux_number_sets.specs.Sets.{PutsNumber}
 use Rattle.ux_fdtable.specs.Padded.{AreBelow, IsReaching, IsTable, padded}
 use Rattle.ux_fdtable.proofs.Places.{length-padded, padded_padded, place_padded, set_padded}
 
@@ -70,9 +70,9 @@ both_below limit left fd behind is first rest = rw is (first, rest)
 pub some_left : {X : Type 0} (left : List Fd) (fd : Fd) (behind : List Fd) → left ≡ fd ∷ behind → left ≡ [] → X
 some_left left fd behind is none = absurd (cc (is, none))
 
-reached_table : (xs : List (Option Descriptor)) (limit n : ℕ) (marks : List Bool) → n < limit → IsTable xs limit marks →
-    IsTable (padded xs (n + 1)) limit marks
-reached_table xs limit n marks small table =
+reached_table : (xs : List (Option Descriptor)) (limit n : ℕ) (in_use : List Bool) → n < limit → IsTable xs limit in_use →
+    IsTable (padded xs (n + 1)) limit in_use
+reached_table xs limit n in_use small table =
     let reached : length (padded xs (n + 1)) ≡ max (length xs) (n + 1) = length-padded xs (n + 1) in
     record {
       within = omega (arith, reached, small, table.within);
@@ -83,9 +83,9 @@ reached_table xs limit n marks small table =
 
 pub reach_more : (n : ℕ) (all : List ℕ) (old xs ys : List (Option Descriptor)) → ((limit : ℕ) → AreBelow limit all → n < limit) →
     IsReaching all old xs → ys ≡ padded xs (n + 1) → IsReaching all old ys
-reach_more n all old xs ys below reaching is limit marks fits table =
-    let before = reaching limit marks fits table in
-    let after = reached_table xs limit n marks (below limit fits) before.0 in
+reach_more n all old xs ys below reaching is limit in_use fits table =
+    let before = reaching limit in_use fits table in
+    let after = reached_table xs limit n in_use (below limit fits) before.0 in
     let same : padded (padded xs (n + 1)) limit ≡ padded xs limit =
     padded_padded xs (n + 1) limit (let small = below limit fits in omega (arith, small)) before.0.within in
     rw is (after, same ∙ before.1)
@@ -94,7 +94,7 @@ pub still_reaching : (all : List ℕ) (old xs ys : List (Option Descriptor)) →
 still_reaching all old xs ys reaching is = rw is reaching
 
 pub reaches_itself : (all : List ℕ) (xs : List (Option Descriptor)) → IsReaching all xs xs
-reaches_itself all xs limit marks fits table = (table, refl)
+reaches_itself all xs limit in_use fits table = (table, refl)
 
 pub below_more : (limit more : ℕ) (ns : List ℕ) → limit ≤ more → AreBelow limit ns → AreBelow more ns
 below_more limit more [] le fits = tt
@@ -102,9 +102,9 @@ below_more limit more (n ∷ ns) le fits = let first = fits.0 in (omega (arith, 
 
 -- ---- places that are filled
 
-pub filled_table : (xs : List (Option Descriptor)) (limit n : ℕ) (marks new : List Bool) (e : Descriptor) → n < length xs →
-    PutsMark marks new n true → IsTable xs limit marks → IsTable (filled xs n e) limit new
-filled_table xs limit n marks new e small put table = record {
+pub filled_table : (xs : List (Option Descriptor)) (limit n : ℕ) (in_use new : List Bool) (e : Descriptor) → n < length xs →
+    PutsNumber in_use new n true → IsTable xs limit in_use → IsTable (filled xs n e) limit new
+filled_table xs limit n in_use new e small put table = record {
   within = omega (arith, length-set xs n (Some e), table.within);
   small = table.small;
   covered = omega (arith, table.covered, put.same_length);

@@ -8,7 +8,7 @@ use Rattle.std.proofs.lemmas.List.{length-take-le, get_or_append_left, get_or-ap
 use Rattle.std.proofs.lemmas.List.{get_or-set_other, set-append_left, set-append_right, set-get_or, drop_more, map_more}
 use Rattle.ux_model.specs.Places.{place}
 use Rattle.ux_model.specs.Process.{Descriptor}
-use Rattle.ux_number_sets.specs.Marking.{PutsMark}
+use Rattle.ux_number_sets.specs.Sets.{PutsNumber}
 use Rattle.ux_fdtable.specs.Padded.{padded, IsTable}
 
 pub length-padded : (xs : List (Option Descriptor)) (n : ℕ) → length (padded xs n) ≡ max (length xs) n
@@ -57,9 +57,9 @@ filled_up_to xs limit n x small within =
     let inside : n < length (padded xs (n + 1)) = omega (arith, length-padded xs (n + 1)) in
     set_padded (padded xs (n + 1)) limit n x inside ∙ ap (λ ys. set ys n x) (padded_padded xs (n + 1) limit (omega arith) within)
 
-pub table_with : (xs : List (Option Descriptor)) (limit n : ℕ) (marks new : List Bool) (e : Descriptor) → n < limit →
-    IsTable xs limit marks → PutsMark marks new n true → IsTable (set (padded xs (n + 1)) n (Some e)) limit new
-table_with xs limit n marks new e small table put =
+pub table_with : (xs : List (Option Descriptor)) (limit n : ℕ) (in_use new : List Bool) (e : Descriptor) → n < limit →
+    IsTable xs limit in_use → PutsNumber in_use new n true → IsTable (set (padded xs (n + 1)) n (Some e)) limit new
+table_with xs limit n in_use new e small table put =
     let reached : length (padded xs (n + 1)) ≡ max (length xs) (n + 1) = length-padded xs (n + 1) in
     record {
       within = omega (arith, reached, length-set (padded xs (n + 1)) n (Some e), table.within);

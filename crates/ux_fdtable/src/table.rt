@@ -15,7 +15,7 @@ use super::descriptor::Descriptor;
 use std::alloc::{AllocError, Global};
 use std::marker::Model;
 use thiserror::Error;
-use ux_number_sets::Marks;
+use ux_number_sets::NumberSet;
 use ux_rights::Reference;
 use ux_types::{DescriptionId, Errno, Fd, Refusal, TABLE_LIMIT};
 
@@ -86,7 +86,7 @@ pub struct Table {
     places: Vec<Option<Descriptor>>,
     limit: usize,
     /// The numbers that are open.
-    marks: Marks,
+    in_use: NumberSet,
 }
 
 // Written out, so that it is proved here and not in each function that drops one.
@@ -95,10 +95,10 @@ impl Drop for Table {
         let Table {
             places,
             limit: _,
-            marks,
+            in_use,
         } = self;
         drop(places);
-        drop(marks);
+        drop(in_use);
     }
 }
 
@@ -111,7 +111,7 @@ impl Model for Table {
 
     ghost view = { λ t. padded t.places.items t.limit };
 
-    ghost invariant = { λ t. IsTable t.places.items t.limit t.marks };
+    ghost invariant = { λ t. IsTable t.places.items t.limit t.in_use };
 }
 
 impl Clone for Table {
@@ -121,7 +121,7 @@ impl Clone for Table {
         Ok(Table {
             places: self.places.clone()?,
             limit: self.limit,
-            marks: self.marks.clone()?,
+            in_use: self.in_use.clone()?,
         })
     }
 }
@@ -135,7 +135,7 @@ impl Table {
         Ok(Table {
             places: Vec::new(alloc),
             limit,
-            marks: Marks::new(alloc, limit)?,
+            in_use: NumberSet::new(alloc, limit)?,
         })
     }
 
@@ -280,7 +280,7 @@ impl Table {
         reach_all(&mut self.places, numbers)?;
         fill_all(
             &mut self.places,
-            &mut self.marks,
+            &mut self.in_use,
             numbers,
             references,
             cloexec,
@@ -321,7 +321,7 @@ impl Table {
         }
         let removed = self.places[number];
         self.places[number] = None;
-        self.marks.put(number, false);
+        self.in_use.put(number, false);
         removed
     }
 
@@ -330,7 +330,7 @@ impl Table {
         ensures { self.new ≡ map kept_on_exec self.old }
     {
         for number in 0..self.limit() {
-            self.close_marked(Fd(number));
+            self.close_one_on_exec(Fd(number));
         }
     }
 
@@ -339,7 +339,7 @@ impl Table {
         ensures { self.new ≡ map (λ _. None) self.old }
     {
         self.places.clear();
-        self.marks.clear();
+        self.in_use.clear();
     }
 
     /// Sets or clears close-on-exec of a number (fcntl(2), F_SETFD). One that isn't open stays so.
@@ -370,11 +370,11 @@ impl Table {
         ensures found { FindsFree self.now from result }
         ensures small { length self.now ≤ table_limit }
     {
-        self.marks.first_clear(from)
+        self.in_use.first_free(from)
     }
 
     /// Closes a number if its descriptor has close-on-exec.
-    fn close_marked(&mut self, fd: Fd)
+    fn close_one_on_exec(&mut self, fd: Fd)
         ensures { self.new ≡ slice_set self.old fd.0 (kept_on_exec (place self.old fd.0)) }
     {
         if let Some(descriptor) = self.get(fd) {
@@ -393,7 +393,7 @@ impl Table {
     {
         reach(&mut self.places, number)?;
         self.places[number] = Some(descriptor);
-        self.marks.put(number, true);
+        self.in_use.put(number, true);
         Ok(())
     }
 }
@@ -430,15 +430,15 @@ fn reach_all(places: &mut Vec<Option<Descriptor>>, numbers: &[Fd]) -> Result<(),
 /// Puts descriptors of these references at numbers that the places of a table reach, the first at the first.
 fn fill_all(
     places: &mut Vec<Option<Descriptor>>,
-    marks: &mut Marks,
+    in_use: &mut NumberSet,
     numbers: &[Fd],
     references: &[Reference],
     cloexec: bool,
 )
     requires inside { AreBelow (length places.old.items) (map (λ fd. fd.0) numbers.now) }
-    requires covered { length places.old.items ≤ length marks.old }
+    requires covered { length places.old.items ≤ length in_use.old }
     ensures filled { places.new.items ≡ installed cloexec (map (λ fd. fd.0) numbers.now) references.now places.old.items }
-    ensures marked { (limit : ℕ) → IsTable places.old.items limit marks.old → IsTable places.new.items limit marks.new }
+    ensures table { (limit : ℕ) → IsTable places.old.items limit in_use.old → IsTable places.new.items limit in_use.new }
 {
     let mut left = numbers;
     let mut rest = references;
@@ -451,7 +451,7 @@ fn fill_all(
             description: reference.description(),
             cloexec,
         });
-        marks.put(number, true);
+        in_use.put(number, true);
         left = behind;
         rest = others;
     }

@@ -1,4 +1,4 @@
-//! Tests of what files and descriptors are made of: plain types, file objects, slots, marks, tables, and
+//! Tests of what files and descriptors are made of: plain types, file objects, slots, sets of numbers, tables, and
 //! rights. Beside their crates they would have each proved once more.
 #![tactic(auto)]
 
@@ -7,7 +7,7 @@ mod broken_object;
 #[cfg(test)]
 mod bytes;
 #[cfg(test)]
-mod marks;
+mod number_sets;
 #[cfg(test)]
 mod objects;
 #[cfg(test)]

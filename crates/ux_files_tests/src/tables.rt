@@ -350,7 +350,7 @@ fn a_copy_starts_without_close_on_exec(rt: HostRuntime) -> Result<(), Fail> {
 }
 
 #[test]
-fn marked_numbers_are_closed_on_exec(rt: HostRuntime) -> Result<(), Fail> {
+fn numbers_with_the_flag_are_closed_on_exec(rt: HostRuntime) -> Result<(), Fail> {
     let mut table = make_table(rt.alloc(), 5)?;
     open(&rt, &mut table, 0, 10, true);
     open(&rt, &mut table, 1, 11, false);

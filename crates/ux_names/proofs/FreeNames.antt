@@ -6,8 +6,8 @@ use Rattle.std.proofs.lemmas.Bool.{cases_eq, cases_lt, lt-ltb, le-ltb}
 use Rattle.ux_model.specs.Types.{Name}
 use Rattle.ux_model.specs.Limits.{autobind_names}
 use Rattle.ux_model.specs.Names.{named, without_name, hex_digit, autobind_name, lowest_from, free_name}
-use Rattle.ux_number_sets.specs.Marking.{is_marked, IsUnmarked, IsFirstClear, FindsClear, PutsMark}
-use Rattle.ux_names.specs.Marked.{AreMarked, PutsName}
+use Rattle.ux_number_sets.specs.Sets.{has_number, IsEmptySet, IsFirstFree, FindsFirstFree, PutsNumber}
+use Rattle.ux_names.specs.NumbersInUse.{AreInUse, PutsName}
 use Rattle.ux_names.proofs.NameLaws.{same_name_tells, named_appended, other_appended, named_without, other_without}
 
 -- ---- the lowest number that passes a test
@@ -37,39 +37,39 @@ is_none_from : {X : Type 0} (o : Option X) (b : Bool) → is_some o ≡ b → is
 is_none_from None b e = ap not e
 is_none_from (Some x) b e = ap not e
 
-free_name_at : (names : List (Name × ℕ)) (numbers : List Bool) (n : ℕ) → AreMarked names numbers → IsFirstClear numbers 0 n →
+free_name_at : (names : List (Name × ℕ)) (numbers : List Bool) (n : ℕ) → AreInUse names numbers → IsFirstFree numbers 0 n →
     free_name names ≡ Some (autobind_name n)
 unfolding free_name
-free_name_at names numbers n marked first =
-    let inside : n < autobind_names = omega (arith, first.within, marked.all) in
+free_name_at names numbers n in_use first =
+    let inside : n < autobind_names = omega (arith, first.within, in_use.all) in
     ap (option_map autobind_name) (lowest_found
     (λ i. is_none (named (autobind_name i) names)) 0 autobind_names n (omega arith) (omega (arith, inside))
-    (is_none_from (named (autobind_name n) names) false (sym (marked.agrees n inside) ∙ first.clear))
+    (is_none_from (named (autobind_name n) names) false (sym (in_use.agrees n inside) ∙ first.free))
     (λ i after low. is_none_from (named (autobind_name i) names) true
-    (sym (marked.agrees i (omega (arith, low, inside))) ∙ first.before i after low)))
+    (sym (in_use.agrees i (omega (arith, low, inside))) ∙ first.before i after low)))
 
-pub first_unused : (names : List (Name × ℕ)) (numbers : List Bool) (n : ℕ) → AreMarked names numbers → IsFirstClear numbers 0 n →
+pub first_unused : (names : List (Name × ℕ)) (numbers : List Bool) (n : ℕ) → AreInUse names numbers → IsFirstFree numbers 0 n →
     named (autobind_name n) names ≡ None
-first_unused names numbers n marked first =
-    none_from (named (autobind_name n) names) (sym (marked.agrees n (omega (arith, first.within, marked.all))) ∙ first.clear)
+first_unused names numbers n in_use first =
+    none_from (named (autobind_name n) names) (sym (in_use.agrees n (omega (arith, first.within, in_use.all))) ∙ first.free)
   where
     none_from : (o : Option ℕ) → is_some o ≡ false → o ≡ None
     none_from None e = refl
     none_from (Some d) e = absurd (cc e)
 
-no_free_name : (names : List (Name × ℕ)) (numbers : List Bool) → AreMarked names numbers →
-    ((i : ℕ) → 0 ≤ i → i < length numbers → is_marked numbers i ≡ true) → free_name names ≡ None
+no_free_name : (names : List (Name × ℕ)) (numbers : List Bool) → AreInUse names numbers →
+    ((i : ℕ) → 0 ≤ i → i < length numbers → has_number numbers i ≡ true) → free_name names ≡ None
 unfolding free_name
-no_free_name names numbers marked full =
+no_free_name names numbers in_use full =
     ap (option_map autobind_name) (none_found (λ i. is_none (named (autobind_name i) names)) 0 autobind_names
     (λ i after low. is_none_from (named (autobind_name i) names) true
-    (sym (marked.agrees i (omega (arith, low))) ∙ full i after (omega (arith, low, marked.all)))))
+    (sym (in_use.agrees i (omega (arith, low))) ∙ full i after (omega (arith, low, in_use.all)))))
 
 -- what a search for a number finds is the name that is free
-pub free_name_found : (names : List (Name × ℕ)) (numbers : List Bool) (answer : Option ℕ) → AreMarked names numbers →
-    FindsClear numbers 0 answer → option_map autobind_name answer ≡ free_name names
-free_name_found names numbers None marked full = sym (no_free_name names numbers marked full)
-free_name_found names numbers (Some n) marked first = sym (free_name_at names numbers n marked first)
+pub free_name_found : (names : List (Name × ℕ)) (numbers : List Bool) (answer : Option ℕ) → AreInUse names numbers →
+    FindsFirstFree numbers 0 answer → option_map autobind_name answer ≡ free_name names
+free_name_found names numbers None in_use full = sym (no_free_name names numbers in_use full)
+free_name_found names numbers (Some n) in_use first = sym (free_name_at names numbers n in_use first)
 
 -- ---- numbers have names of their own
 
@@ -105,45 +105,45 @@ name_apart n m small low same =
     let e : n % 16 ≡ m % 16 = digit_apart (n % 16) (m % 16) (omega arith) (omega arith) (cc same) in
     omega (arith, number_from n small, number_from m low, a, b, c, d, e)
 
--- ---- marks
+-- ---- numbers in use
 
-pub none_marked : (numbers : List Bool) → IsUnmarked autobind_names numbers → AreMarked [] numbers
-none_marked numbers clear = record { all = clear.len; agrees = λ n low. clear.none n }
+pub none_in_use : (numbers : List Bool) → IsEmptySet autobind_names numbers → AreInUse [] numbers
+none_in_use numbers empty = record { all = empty.len; agrees = λ n low. empty.none n }
 
 -- the one number that has a name
-pub number_put : (old new : List Bool) (name : Name) (number : ℕ) (on : Bool) → number < autobind_names → autobind_name number ≡ name →
-    PutsMark old new number on → PutsName old new name on
-number_put old new name number on small is put = record {
+pub number_put : (old new : List Bool) (name : Name) (number : ℕ) (is_in : Bool) → number < autobind_names → autobind_name number ≡ name →
+    PutsNumber old new number is_in → PutsName old new name is_in
+number_put old new name number is_in small is put = record {
   same_length = put.same_length;
-  this = λ n low same. let here : n ≡ number = name_apart n number low small (same ∙ sym is) in ap (is_marked new) here ∙ put.this;
+  this = λ n low same. let here : n ≡ number = name_apart n number low small (same ∙ sym is) in ap (has_number new) here ∙ put.this;
   others = λ n low apart. put.others n (λ here. apart (ap autobind_name here ∙ is));
 }
 
-pub nothing_put : (marks : List Bool) (name : Name) (on : Bool) → ((n : ℕ) → n < autobind_names → autobind_name n ≢ name) →
-    PutsName marks marks name on
-nothing_put marks name on apart = record {
+pub nothing_put : (numbers : List Bool) (name : Name) (is_in : Bool) → ((n : ℕ) → n < autobind_names → autobind_name n ≢ name) →
+    PutsName numbers numbers name is_in
+nothing_put numbers name is_in apart = record {
   same_length = refl;
   this = λ n low same. absurd (apart n low same);
   others = λ n low other. refl;
 }
 
-module _ (names : List (Name × ℕ)) (name : Name) (old new : List Bool) (marked : AreMarked names old) where
-  pub bound_marked : (d : ℕ) → PutsName old new name true → AreMarked (names ++ (name, d) ∷ []) new
-  bound_marked d put = record {
-    all = put.same_length ∙ marked.all;
+module _ (names : List (Name × ℕ)) (name : Name) (old new : List Bool) (in_use : AreInUse names old) where
+  pub bound_in_use : (d : ℕ) → PutsName old new name true → AreInUse (names ++ (name, d) ∷ []) new
+  bound_in_use d put = record {
+    all = put.same_length ∙ in_use.all;
     agrees = λ n low. elim (same_name_tells (autobind_name n) name) [
       | inl here ↦ put.this n low here.1 ∙ sym
           (ap (λ (k : Name). is_some (named k (names ++ (name, d) ∷ []))) here.1 ∙ named_appended name d names)
-      | inr other ↦ put.others n low other.1 ∙ marked.agrees n low ∙ sym (other_appended name (autobind_name n) d names other.1)
+      | inr other ↦ put.others n low other.1 ∙ in_use.agrees n low ∙ sym (other_appended name (autobind_name n) d names other.1)
     ];
   }
 
-  pub released_unmarked : PutsName old new name false → AreMarked (without_name name names) new
-  released_unmarked put = record {
-    all = put.same_length ∙ marked.all;
+  pub released_free : PutsName old new name false → AreInUse (without_name name names) new
+  released_free put = record {
+    all = put.same_length ∙ in_use.all;
     agrees = λ n low. elim (same_name_tells (autobind_name n) name) [
       | inl here ↦ put.this n low here.1 ∙ sym
           (ap (λ (k : Name). is_some (named k (without_name name names))) here.1 ∙ ap is_some (named_without name names))
-      | inr other ↦ put.others n low other.1 ∙ marked.agrees n low ∙ sym (ap is_some (other_without name (autobind_name n) names other.1))
+      | inr other ↦ put.others n low other.1 ∙ in_use.agrees n low ∙ sym (ap is_some (other_without name (autobind_name n) names other.1))
     ];
   }

@@ -1,6 +1,6 @@
 pub mod Refusals
 pub mod Listed
 pub mod Targets
-pub mod Marked
+pub mod NumbersInUse
 pub mod Order
 pub mod Seeds

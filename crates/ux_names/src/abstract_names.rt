@@ -2,7 +2,7 @@
 ghost use Rattle.std.specs.Prelude.{◌≡◌, ◌<◌, ◌↔◌, true, false, [], ◌∷◌, ◌++◌, length, IsTrue, IsSome, IfSome, None, Some, IfOk, OnOk, OnErr, map, option_map};
 ghost use Rattle.ux_model.specs.Limits.{autobind_names};
 ghost use Rattle.ux_model.specs.Names.{named, without_name, autobind_name, free_name};
-ghost use Rattle.ux_names.specs.Marked.{PutsName};
+ghost use Rattle.ux_names.specs.NumbersInUse.{PutsName};
 
 use crate::digits::{name_of, number_of};
 use crate::listing::Listing;
@@ -10,10 +10,10 @@ use crate::refusals::{AutobindError, BindError};
 use crate::seed::Seed;
 use std::alloc::{AllocError, Global};
 use std::marker::Model;
-use ux_number_sets::GroupedMarks;
+use ux_number_sets::GroupedSet;
 use ux_types::{DescriptionId, Name};
 
-/// How many groups of marks the numbers of autobind take.
+/// How many groups the numbers of autobind take.
 const GROUPS: usize = 256;
 
 /// Names of the abstract namespace in order of binding. Contracts see the list of the names, each with
@@ -21,7 +21,7 @@ const GROUPS: usize = 256;
 pub struct AbstractNames {
     listing: Listing<DescriptionId>,
     /// The numbers below 2^20 whose names are in use, whoever bound them.
-    numbers: GroupedMarks,
+    numbers: GroupedSet,
 }
 
 // Written out, so that it is proved here and not in each function that drops one.
@@ -36,13 +36,13 @@ impl Drop for AbstractNames {
 impl Model for AbstractNames {
     ghost use Rattle.std.specs.Prelude.{List, ℕ};
     ghost use Rattle.ux_model.specs.Types.{Name};
-    ghost use Rattle.ux_names.specs.Marked.{AreMarked};
+    ghost use Rattle.ux_names.specs.NumbersInUse.{AreInUse};
 
     ghost Value = { List (Name × ℕ) };
 
     ghost view = { λ a. a.listing.names };
 
-    ghost invariant = { λ a. AreMarked a.listing.names a.numbers };
+    ghost invariant = { λ a. AreInUse a.listing.names a.numbers };
 }
 
 impl AbstractNames {
@@ -67,7 +67,7 @@ impl AbstractNames {
     {
         Ok(AbstractNames {
             listing: Listing::new(alloc, seed),
-            numbers: GroupedMarks::new(alloc, GROUPS)?,
+            numbers: GroupedSet::new(alloc, GROUPS)?,
         })
     }
 
@@ -151,7 +151,7 @@ impl AbstractNames {
         ensures names { self.new ≡ without_name name.now self.old }
     {
         let id = self.listing.remove(name)?;
-        unmark(&mut self.numbers, name);
+        remove_number(&mut self.numbers, name);
         Some(id)
     }
 
@@ -169,7 +169,7 @@ impl AbstractNames {
         ensures small { IfSome result (λ n. n < autobind_names) }
         ensures free { IfSome result (λ n. named (autobind_name n) self.now ≡ None) }
     {
-        self.numbers.first_clear()
+        self.numbers.first_free()
     }
 
     /// Lists the name of a number, and answers it.
@@ -193,30 +193,30 @@ impl AbstractNames {
         ensures err { OnErr result (self.new ≡ self.old) }
     {
         self.listing.reserve(1)?;
-        mark(&mut self.numbers, &name)?;
+        insert_number(&mut self.numbers, &name)?;
         self.listing.bind_reserved(name, id);
         Ok(())
     }
 }
 
-/// Marks the number of a name, if it is one that autobind gives.
-fn mark(numbers: &mut GroupedMarks, name: &Name) -> Result<(), AllocError>
+/// Puts the number of a name in, if it is one that autobind gives.
+fn insert_number(numbers: &mut GroupedSet, name: &Name) -> Result<(), AllocError>
     requires { length numbers.old ≡ autobind_names }
     ensures ok { OnOk result (PutsName numbers.old numbers.new name.now true) }
     ensures err { OnErr result (numbers.new ≡ numbers.old) }
 {
     match number_of(name) {
-        Some(number) => numbers.mark(number),
+        Some(number) => numbers.insert(number),
         None => Ok(()),
     }
 }
 
-/// Takes the mark of a name's number away.
-fn unmark(numbers: &mut GroupedMarks, name: &Name)
+/// Takes the number of a name out.
+fn remove_number(numbers: &mut GroupedSet, name: &Name)
     requires { length numbers.old ≡ autobind_names }
     ensures { PutsName numbers.old numbers.new name.now false }
 {
     if let Some(number) = number_of(name) {
-        numbers.unmark(number);
+        numbers.remove(number);
     }
 }

@@ -1,3 +1,3 @@
 pub mod BitLaws
-pub mod MarkLaws
+pub mod SetLaws
 pub mod GroupLaws

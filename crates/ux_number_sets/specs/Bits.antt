@@ -8,9 +8,9 @@ use Rattle.std.specs.Int.{bit_at}
 abbrev pub bit_of : List ℕ → ℕ → ℕ
 bit_of words n = bit_at (slice_index words (n / 64)) (n % 64)
 
--- the numbers below a length whose bits are set
-abbrev pub marks_in : List ℕ → ℕ → List Bool
-marks_in words len = map (λ n. bit_of words n == 1) (range_with_len 0 len)
+-- the set of the numbers below a capacity whose bits are set
+abbrev pub set_of_bits : List ℕ → ℕ → List Bool
+set_of_bits words capacity = map (λ n. bit_of words n == 1) (range_with_len 0 capacity)
 
 -- a word whose bits are all set
 abbrev pub all_set : ℕ

@@ -1,3 +1,3 @@
-pub mod Marking
+pub mod Sets
 pub mod Bits
 pub mod Groups

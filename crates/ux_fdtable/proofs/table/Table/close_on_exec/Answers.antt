@@ -9,7 +9,7 @@ loop-number-preserved c =
     let inside : c.loop-number.number < length c.args.self.now = omega (arith, c.limit-number-end.ensures) in
     let rest : List (Option Descriptor) = map kept_on_exec (take c.loop-number.number c.args.self.now) ++ drop c.loop-number.number
     c.args.self.now in
-    c.close_marked.ensures
+    c.close_one_on_exec.ensures
     ∙ ap (λ (T : List (Option Descriptor)). set T c.loop-number.number (kept_on_exec (place T c.loop-number.number)))
     c.loop-number.invariant
     ∙ ap (λ (x : Option Descriptor). set rest c.loop-number.number (kept_on_exec x))

@@ -9,11 +9,11 @@ invariant_of-self-2 c =
     omega (
       arith,
       ap length c.self.view_is,
-      length_of_table c.self.inside.places.items c.self.inside.limit c.self.inside.marks
+      length_of_table c.self.inside.places.items c.self.inside.limit c.self.inside.in_use
           c.self.invariant,
       c.requires,
     ) in
-    rw c.in_ok-reach.ensures.ok (table_with c.self.inside.places.items c.self.inside.limit c.args.number c.self.inside.marks c.put.new.self
+    rw c.in_ok-reach.ensures.ok (table_with c.self.inside.places.items c.self.inside.limit c.args.number c.self.inside.in_use c.put.new.self
     c.args.descriptor small c.self.invariant c.put.ensures)
 
 pub returns-clause-ok : goal.returns-clause-ok
@@ -22,7 +22,7 @@ returns-clause-ok c =
     omega (
       arith,
       ap length c.self.view_is,
-      length_of_table c.self.inside.places.items c.self.inside.limit c.self.inside.marks
+      length_of_table c.self.inside.places.items c.self.inside.limit c.self.inside.in_use
           c.self.invariant,
       c.requires,
     ) in

@@ -3,4 +3,4 @@ use Rattle.ux_names.proofs.abstract_names.AbstractNames.lowest_free.Goals as goa
 
 pub returns-clause-name : goal.returns-clause-name
 returns-clause-name c = rw (← c.self.view_is)
-    (free_name_found c.self.inside.listing.names c.self.inside.numbers c.first_clear.result c.self.invariant c.first_clear.ensures)
+    (free_name_found c.self.inside.listing.names c.self.inside.numbers c.first_free.result c.self.invariant c.first_free.ensures)
