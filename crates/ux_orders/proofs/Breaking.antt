@@ -4,7 +4,7 @@ use Rattle.ux_model.specs.Types.{Pid, Entry}
 use Rattle.ux_model.specs.State.{State}
 use Rattle.ux_model.specs.History.{IsLegal}
 use Rattle.ux_syntax.specs.Spelling.{Plan}
-use Rattle.ux_compare.specs.Runs.{HasBegun, requests_of}
+use Rattle.ux_replay.specs.Runs.{HasBegun, requests_of}
 use Rattle.ux_orders.specs.declared.ran.Ran.{Ran}
 use Rattle.ux_orders.specs.Orders.{entries_of, IsRunOf}
 use Rattle.ux_orders.specs.Outcomes.{is_broken_off}

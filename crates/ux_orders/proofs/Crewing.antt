@@ -23,7 +23,7 @@ use Rattle.ux_book.specs.Sitting.{Answers}
 use Rattle.ux_syntax.specs.declared.script.Act.{Act}
 use Rattle.ux_syntax.specs.Lines.{Line}
 use Rattle.ux_syntax.specs.Spelling.{Plan}
-use Rattle.ux_compare.specs.Runs.{Runs, HasBegun, MakesAll, MakesFirst}
+use Rattle.ux_replay.specs.Runs.{Runs, HasBegun, MakesAll, MakesFirst}
 use Rattle.ux_book.proofs.Sitting.{no_fork}
 use Rattle.ux_orders.specs.declared.chooser.Ready.{Ready}
 use Rattle.ux_orders.specs.declared.member.Next.{Next}

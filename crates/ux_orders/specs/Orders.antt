@@ -3,7 +3,7 @@ use Rattle.std.specs.Prelude.{List}
 use Rattle.ux_model.specs.Types.{Entry}
 use Rattle.ux_model.specs.State.{State}
 use Rattle.ux_syntax.specs.Spelling.{Plan}
-use Rattle.ux_compare.specs.Runs.{Runs, HasBegun}
+use Rattle.ux_replay.specs.Runs.{Runs, HasBegun}
 use Rattle.ux_orders.specs.declared.ran.Ran.{Ran}
 
 -- its entries, in order

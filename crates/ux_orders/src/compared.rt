@@ -2,10 +2,10 @@
 ghost use Rattle.std.specs.Prelude.{◌≡◌, ◌≤◌, IfOk};
 ghost use Rattle.ux_model.specs.Limits.{made_limit};
 ghost use Rattle.ux_syntax.specs.Spelling.{plan_of, known_count};
-ghost use Rattle.ux_compare.specs.Runs.{MakesAll, MakesFirst};
+ghost use Rattle.ux_replay.specs.Runs.{MakesAll, MakesFirst};
 
 use crate::ran::OrderFault;
-use ux_compare::{makes_all, makes_first};
+use ux_replay::{makes_all, makes_first};
 use ux_syntax::Script;
 use ux_types::Entry;
 

@@ -2,12 +2,12 @@
 ghost use Rattle.std.specs.Prelude.{◌≡◌, ◌≤◌, ◌⊎◌, length, IfOk, IfErr};
 ghost use Rattle.ux_model.specs.Limits.{made_limit};
 ghost use Rattle.ux_syntax.specs.Spelling.{plan_of, known_count};
-ghost use Rattle.ux_compare.specs.Runs.{Runs, HasBegun, MakesAll, MakesFirst};
+ghost use Rattle.ux_replay.specs.Runs.{Runs, HasBegun, MakesAll, MakesFirst};
 
 use std::alloc::Global;
 use ux_book::{Book, BookName, copy_entries};
-use ux_compare::{makes_all, makes_first};
 use ux_object::FileObject;
+use ux_replay::{makes_all, makes_first};
 use ux_syntax::{Script, ScriptFault};
 use ux_types::Entry;
 

@@ -1,6 +1,6 @@
 use Rattle.std.proofs.Common.{◌≡◌, ◌+◌, ℕ, rules, tests, arith}
 use Rattle.std.proofs.lemmas.Iterator.{YieldsList-from_range, cases_from_all}
-use Rattle.ux_compare.proofs.Ranges.{decides_below}
+use Rattle.ux_replay.proofs.Ranges.{decides_below}
 use Rattle.ux_orders.specs.Outcomes.{answers_of}
 use Rattle.ux_orders.proofs.outcome.are_same_answers.Goals as goal
 

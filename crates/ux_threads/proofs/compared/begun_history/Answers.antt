@@ -2,7 +2,7 @@ use Rattle.std.proofs.Common.{◌≡◌, List, true, IfOk, sym, subst, rules}
 use Rattle.std.proofs.lemmas.Result.{IfOk-weaker}
 use Rattle.ux_model.specs.Types.{Entry}
 use Rattle.ux_syntax.specs.Spelling.{plan_of}
-use Rattle.ux_compare.specs.Runs.{HasBegun}
+use Rattle.ux_replay.specs.Runs.{HasBegun}
 use Rattle.ux_threads.proofs.compared.begun_history.Goals as goal
 
 pub returns-clause-begun : goal.returns-clause-begun

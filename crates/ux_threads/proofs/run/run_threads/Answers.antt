@@ -1,5 +1,5 @@
 use Rattle.ux_syntax.specs.Spelling.{plan_of}
-use Rattle.ux_compare.specs.Runs.{HasBegun}
+use Rattle.ux_replay.specs.Runs.{HasBegun}
 use Rattle.ux_threads.proofs.Beginnings.{begun_either}
 use Rattle.ux_threads.proofs.run.run_threads.Goals as goal
 

@@ -1,6 +1,6 @@
 use Rattle.std.proofs.Common.{◌≡◌, [], ◌++◌, drop, ap, rules}
-use Rattle.ux_compare.specs.Runs.{requests_of, asked}
-use Rattle.ux_compare.proofs.check.is_front.Goals as goal
+use Rattle.ux_replay.specs.Runs.{requests_of, asked}
+use Rattle.ux_replay.proofs.script_calls.is_front.Goals as goal
 
 -- what the process has not made yet is what it lacks
 pub returns-in_default-next_of-clause-front : goal.returns-in_default-next_of-clause-front

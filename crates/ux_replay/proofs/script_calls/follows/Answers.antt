@@ -1,8 +1,8 @@
 use Rattle.std.proofs.Common.{◌≡◌, ◌++◌}
 use Rattle.ux_syntax.specs.Spelling.{plan_of}
-use Rattle.ux_compare.specs.Runs.{requests_of, asked, ending}
-use Rattle.ux_compare.proofs.Fronts.{same_behind}
-use Rattle.ux_compare.proofs.check.follows.Goals as goal
+use Rattle.ux_replay.specs.Runs.{requests_of, asked, ending}
+use Rattle.ux_replay.proofs.Fronts.{same_behind}
+use Rattle.ux_replay.proofs.script_calls.follows.Goals as goal
 
 pub returns-in-Some : goal.returns-in-Some
 returns-in-Some c =

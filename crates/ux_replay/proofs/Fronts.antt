@@ -6,7 +6,7 @@ use Rattle.std.proofs.lemmas.List.{append_cancel_left}
 use Rattle.ux_model.specs.Types.{Request}
 use Rattle.ux_syntax.specs.Spelling.{Plan}
 use Rattle.ux_syntax.specs.Turns.{has_exited}
-use Rattle.ux_compare.specs.Runs.{IsFront, ending}
+use Rattle.ux_replay.specs.Runs.{IsFront, ending}
 
 pub front_more : (a b c : List Request) → IsFront a b → IsFront a (b ++ c)
 front_more a b c front = (front.0 ++ c, sym (append_assoc a front.0 c) ∙ ap (λ (t : List Request). t ++ c) front.1)

@@ -3,7 +3,7 @@ ghost use Rattle.std.specs.Prelude.{◌≡◌, ◌++◌, ◌∷◌, ◌≤◌, �
 ghost use Rattle.ux_model.specs.Limits.{made_limit};
 ghost use Rattle.ux_syntax.specs.Spelling.{plan_of, known_count};
 ghost use Rattle.ux_syntax.specs.Turns.{has_exited};
-ghost use Rattle.ux_compare.specs.Runs.{requests_of, asked, ending, turns, MakesAll, MakesFirst, IsFront};
+ghost use Rattle.ux_replay.specs.Runs.{requests_of, asked, ending, turns, MakesAll, MakesFirst, IsFront};
 
 use crate::same::is_same_request;
 use ux_syntax::{Act, Line, Script};

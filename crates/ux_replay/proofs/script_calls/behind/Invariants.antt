@@ -1,7 +1,7 @@
 use Rattle.std.proofs.Common.{◌≡◌, List, ◌++◌, drop}
 use Rattle.ux_model.specs.Types.{Request}
-use Rattle.ux_compare.specs.Runs.{asked, requests_of}
-use Rattle.ux_compare.proofs.check.behind.Given as goal
+use Rattle.ux_replay.specs.Runs.{asked, requests_of}
+use Rattle.ux_replay.proofs.script_calls.behind.Given as goal
 
 -- what follows the calls that are left follows all of them, and the other way round
 abbrev pub invariant-loop-line : goal.invariant-loop-line

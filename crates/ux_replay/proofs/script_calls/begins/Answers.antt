@@ -1,9 +1,9 @@
 use Rattle.std.proofs.Common.{◌≡◌, List, [], ◌++◌, ⊎_elim, append-nil, ◌∙◌}
 use Rattle.ux_model.specs.Types.{Request}
 use Rattle.ux_syntax.specs.Spelling.{plan_of}
-use Rattle.ux_compare.specs.Runs.{requests_of, asked, ending}
-use Rattle.ux_compare.proofs.Fronts.{front_more, front_or_all, ending_short}
-use Rattle.ux_compare.proofs.check.begins.Goals as goal
+use Rattle.ux_replay.specs.Runs.{requests_of, asked, ending}
+use Rattle.ux_replay.proofs.Fronts.{front_more, front_or_all, ending_short}
+use Rattle.ux_replay.proofs.script_calls.begins.Goals as goal
 
 pub returns-then-is_front : goal.returns-then-is_front
 returns-then-is_front c =
