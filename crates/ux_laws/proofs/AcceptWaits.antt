@@ -25,9 +25,11 @@ use Rattle.ux_model.proofs.Steps.Calls.{each_obeys}
 use Rattle.ux_model.proofs.Pedigrees.Moments.{moment}
 use Rattle.ux_model.proofs.Tables.Shows.{by_socket}
 use Rattle.ux_laws.specs.Waits.{AwaitsEnds, AcceptsWait, ConnectsTo, AcceptWaitsEnd}
-use Rattle.ux_laws.proofs.Doing.{by_addr}
-use Rattle.ux_laws.proofs.Near.{none_in, awaits, awaits_of, awaits_in, awaits_on, is_connect, pushed_other, none_past, NearAt, stays}
-use Rattle.ux_laws.proofs.Near.{reached, new, gone as dropped, chosen_near}
+use Rattle.ux_laws.proofs.Doing.Naming.{by_addr}
+use Rattle.ux_laws.proofs.Near.Single.{none_in, awaits, awaits_of, awaits_in, awaits_on, is_connect, pushed_other, none_past, NearAt}
+use Rattle.ux_laws.proofs.Near.Single.{stays}
+use Rattle.ux_laws.proofs.Near.Single.{reached, new, gone as dropped}
+use Rattle.ux_laws.proofs.Near.Calls.{chosen_near}
 use Rattle.ux_laws.proofs.WaitEnds.{chosen_again}
 use Rattle.ux_laws.proofs.LeftAlone.{Lost, same, lost, reset, settled_lost}
 

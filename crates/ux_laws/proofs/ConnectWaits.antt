@@ -29,10 +29,12 @@ use Rattle.ux_model.proofs.Pedigrees.Moments.{moment}
 use Rattle.ux_model.proofs.Tables.Shows.{by_socket}
 use Rattle.ux_laws.specs.Credentials.{socket_behind}
 use Rattle.ux_laws.specs.Waits.{AwaitsPlace, FindsNoPlace, ConnectsWait, GivesPlace, by_accept, by_listen, ConnectWaitsEnd}
-use Rattle.ux_laws.proofs.Doing.{by_addr}
+use Rattle.ux_laws.proofs.Doing.Naming.{by_addr}
 use Rattle.ux_laws.proofs.Makers.{behind_is}
-use Rattle.ux_laws.proofs.Near.{is_full, full_of, full_in, full_on, may_give_place, pushed_other, none_past, NearAt, stays, reached, new}
-use Rattle.ux_laws.proofs.Near.{gone as dropped, chosen_near}
+use Rattle.ux_laws.proofs.Near.Single.{is_full, full_of, full_in, full_on, may_give_place, pushed_other, none_past, NearAt, stays}
+use Rattle.ux_laws.proofs.Near.Single.{reached, new}
+use Rattle.ux_laws.proofs.Near.Single.{gone as dropped}
+use Rattle.ux_laws.proofs.Near.Calls.{chosen_near}
 use Rattle.ux_laws.proofs.LeftAlone.{Lost, same, lost, reset, settled_lost}
 use Rattle.ux_laws.proofs.WaitEnds.{chosen_again}
 use Rattle.ux_laws.proofs.AcceptWaits.{still_there}

@@ -29,8 +29,9 @@ use Rattle.ux_laws.specs.Ends.{HasEnded, StaysEnded, EndsAreForEver, ResetsAreOf
 use Rattle.ux_laws.proofs.Parts.{PhaseParts, SocketParts, socket_parts, socket_seen, Glance, glance, glance_target, glance_at, glance_new}
 use Rattle.ux_laws.proofs.Parts.{Shrinks, Seen, seen_changed, seen_new, seen_shrunk, seen_socket, awaiting_parts}
 use Rattle.ux_laws.proofs.Acts.{is_silent, Did, quiet, opened, one_made, pair_made, listened, tied_to, connected, put, took}
-use Rattle.ux_laws.proofs.Doing.{step_between, step_did}
-use Rattle.ux_laws.proofs.Near.{reset_of, reset_in, NearAt, stays, reached, new, gone as dropped, chosen_near}
+use Rattle.ux_laws.proofs.Doing.Calls.{step_between, step_did}
+use Rattle.ux_laws.proofs.Near.Single.{reset_of, reset_in, NearAt, stays, reached, new, gone as dropped}
+use Rattle.ux_laws.proofs.Near.Calls.{chosen_near}
 use Rattle.ux_laws.proofs.LeftAlone.{Lost, same as unchanged, lost, reset, settled_lost}
 use Rattle.ux_laws.proofs.Opened.{did_at, made_more}
 

@@ -26,7 +26,7 @@ use Rattle.ux_laws.proofs.Parts.{SocketParts, socket_parts, Glance, glance_targe
 use Rattle.ux_laws.proofs.Parts.{glance_changed, glance_new}
 use Rattle.ux_laws.proofs.Acts.{is_silent, MovesNothing, silent, IsSending, IsTaking, Did, quiet, opened, one_made, pair_made, listened}
 use Rattle.ux_laws.proofs.Acts.{tied_to, connected, put, took}
-use Rattle.ux_laws.proofs.Doing.{step_did}
+use Rattle.ux_laws.proofs.Doing.Calls.{step_did}
 
 abbrev pub waiting_in : Option SocketParts → List Message
 waiting_in None = []

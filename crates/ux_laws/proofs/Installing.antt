@@ -32,7 +32,7 @@ use Rattle.ux_model.proofs.Tables.Shows.{by_socket}
 use Rattle.ux_model.proofs.Tables.MessageShows.{by_receive, brought_is, nothing_is_brought}
 use Rattle.ux_laws.specs.Talking.{is_peek, given_bytes, socket_through}
 use Rattle.ux_laws.proofs.Parts.{kept_same, Shrinks, kept_shrinks, shrunk_after, settled_shrinks}
-use Rattle.ux_laws.proofs.Doing.{through_is}
+use Rattle.ux_laws.proofs.Doing.Outcomes.{through_is}
 
 -- ---- which message the rights within some bytes are of
 

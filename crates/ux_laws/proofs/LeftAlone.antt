@@ -20,7 +20,8 @@ use Rattle.ux_model.proofs.Releasing.ReleaseLaws.{description_at-without}
 use Rattle.ux_model.proofs.Lists.ChangedPlaces.{bool_cases}
 use Rattle.ux_model.proofs.Pedigrees.Moments.{moment}
 use Rattle.ux_laws.specs.Reach.{LosesPeer, IsLeft, alone, in_reach, freed, loses_peer, CallsLeaveOthersAlone, CallsLeaveTablesAlone}
-use Rattle.ux_laws.proofs.Near.{NearAt, stays, reached, new, gone as dropped, Near, chosen_near}
+use Rattle.ux_laws.proofs.Near.Single.{NearAt, stays, reached, new, gone as dropped, Near}
+use Rattle.ux_laws.proofs.Near.Calls.{chosen_near}
 
 -- ---- what goes at the end of a call
 

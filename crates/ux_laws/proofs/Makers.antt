@@ -38,7 +38,7 @@ use Rattle.ux_laws.specs.Credentials.{of_listener, PeersAreTheMakers}
 use Rattle.ux_laws.proofs.Parts.{SocketParts, socket_parts, awaiting_parts, Glance, glance, glance_at, glance_changed, Shrinks}
 use Rattle.ux_laws.proofs.Parts.{settled_shrinks, Seen, seen_changed, seen_new, seen_shrunk, seen_socket}
 use Rattle.ux_laws.proofs.Acts.{Did, quiet, opened, one_made, pair_made, listened, tied_to, connected, put, took}
-use Rattle.ux_laws.proofs.Doing.{step_did}
+use Rattle.ux_laws.proofs.Doing.Calls.{step_did}
 
 -- ---- longer histories
 

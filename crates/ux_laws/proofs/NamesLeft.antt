@@ -26,9 +26,11 @@ use Rattle.ux_model.proofs.Lists.Rising.{place_mapped}
 use Rattle.ux_model.proofs.Steps.Calls.{each_obeys}
 use Rattle.ux_model.proofs.Pedigrees.Moments.{moment}
 use Rattle.ux_laws.specs.Reach.{is_path, names_path, CallsLeavePathsAlone, AbstractNamesStay, AbstractNamesAreBound}
-use Rattle.ux_laws.proofs.Near.{by_own}
+use Rattle.ux_laws.proofs.Near.Leading.{by_own}
 use Rattle.ux_laws.proofs.LeftAlone.{Lost, stays_gone, rounds_lost, settled_lost}
-use Rattle.ux_laws.proofs.Touching.{NamesSame, each_names, names_equal}
+use Rattle.ux_laws.proofs.Touching.Contents.{NamesSame}
+use Rattle.ux_laws.proofs.Touching.Calls.{each_names}
+use Rattle.ux_laws.proofs.Touching.Paths.{names_equal}
 
 -- ---- lists of names
 

@@ -27,7 +27,9 @@ use Rattle.ux_laws.specs.Talking.{if_found}
 use Rattle.ux_laws.specs.Files.{body_in, body_at, object_behind, HasWay, IsChange, by_write, by_read, ChangesHaveAWay, ReadsHaveAWay}
 use Rattle.ux_laws.specs.Files.{FilesKeepTheirPath, WereSentNothing, AreStrangers, StrangersHaveNoWay, StrangersChangeNothing}
 use Rattle.ux_laws.proofs.Opened.{Begins, chain_begins, way_there}
-use Rattle.ux_laws.proofs.Touching.{Touches, untouched, written, read_from, NamesNoMore, names_equal, step_files}
+use Rattle.ux_laws.proofs.Touching.Contents.{Touches, untouched, written, read_from}
+use Rattle.ux_laws.proofs.Touching.Paths.{NamesNoMore, names_equal}
+use Rattle.ux_laws.proofs.Touching.Ends.{step_files}
 
 -- ---- what a descriptor leads to
 

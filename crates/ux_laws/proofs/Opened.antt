@@ -33,7 +33,7 @@ use Rattle.ux_model.proofs.Tables.Shows.{socket_found}
 use Rattle.ux_laws.specs.Files.{IsOpening, HasWay}
 use Rattle.ux_laws.proofs.Parts.{Glance, glance, glance_target, glance_at, glance_socket, glance_new, Shrinks}
 use Rattle.ux_laws.proofs.Acts.{Did, quiet, opened, one_made, pair_made, listened, tied_to, connected, put, took}
-use Rattle.ux_laws.proofs.Doing.{step_did}
+use Rattle.ux_laws.proofs.Doing.Calls.{step_did}
 use Rattle.ux_laws.proofs.Flows.{unmade}
 use Rattle.ux_laws.proofs.Ways.{every_holding_has_a_pedigree}
 

@@ -38,11 +38,12 @@ use Rattle.ux_laws.specs.Credentials.{socket_behind}
 use Rattle.ux_laws.specs.Waits.{AwaitsRoom, SendsWait, WritesWait, GivesRoom, by_receive, by_limit, by_shut, by_end, SendWaitsEnd}
 use Rattle.ux_laws.proofs.Parts.{Glance, glance_socket, Shrinks}
 use Rattle.ux_laws.proofs.Acts.{Did}
-use Rattle.ux_laws.proofs.Doing.{step_between, step_did}
+use Rattle.ux_laws.proofs.Doing.Calls.{step_between, step_did}
 use Rattle.ux_laws.proofs.Delivering.{receives_there}
 use Rattle.ux_laws.proofs.Flows.{waiting_in, waiting_at, waiting_is, Flow, calm, put_in, taken, step_flow, changed_waiting}
 use Rattle.ux_laws.proofs.Makers.{behind_is}
-use Rattle.ux_laws.proofs.Near.{limit_of, limit_in, sets_option, NearAt, stays, reached, new, gone as dropped, chosen_near}
+use Rattle.ux_laws.proofs.Near.Single.{limit_of, limit_in, sets_option, NearAt, stays, reached, new, gone as dropped}
+use Rattle.ux_laws.proofs.Near.Calls.{chosen_near}
 use Rattle.ux_laws.proofs.LeftAlone.{Lost, same, lost, reset, settled_lost}
 use Rattle.ux_laws.proofs.Telling.{LeadsToSocket, socket_is_found, leads_to_socket}
 use Rattle.ux_laws.proofs.WaitEnds.{chosen_again, Elsewhere, by_shutting, flags_kept, there_of, parts_stay, socket_stays}

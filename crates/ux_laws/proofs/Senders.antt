@@ -31,7 +31,8 @@ use Rattle.ux_model.proofs.Tables.Shows.{by_socket}
 use Rattle.ux_model.proofs.Tables.MessageShows.{by_receive}
 use Rattle.ux_laws.specs.Talking.{socket_through}
 use Rattle.ux_laws.specs.Credentials.{SentWith, IsHonest, no_cred, of_sender, CredentialsAreTheSenders}
-use Rattle.ux_laws.proofs.Doing.{through_is, same_creds}
+use Rattle.ux_laws.proofs.Doing.Outcomes.{through_is}
+use Rattle.ux_laws.proofs.Doing.Sending.{same_creds}
 use Rattle.ux_laws.proofs.Acts.{IsSending}
 use Rattle.ux_laws.proofs.Parts.{glance}
 use Rattle.ux_laws.proofs.Flows.{waiting_in, waiting_at, waiting_is, step_flow, flow_waits, IsOf}

@@ -30,7 +30,7 @@ use Rattle.ux_laws.specs.Talking.{endpoint, given_bytes, if_found, socket_throug
 use Rattle.ux_laws.specs.Records.{is_given}
 use Rattle.ux_laws.specs.Ends.{HasEnded, WritesBreak, IsAtEnd, queued, lacking, reset as reset_told, ended as end_told, ReadsTellTheEnd}
 use Rattle.ux_laws.specs.Ends.{ReceivesTellTheEnd}
-use Rattle.ux_laws.proofs.Near.{reset_of, reset_in}
+use Rattle.ux_laws.proofs.Near.Single.{reset_of, reset_in}
 use Rattle.ux_laws.proofs.LeftAlone.{Lost, settled_lost}
 use Rattle.ux_laws.proofs.Ended.{reset_is, lost_reset}
 

@@ -27,7 +27,8 @@ use Rattle.ux_model.proofs.Pedigrees.Passing.{how_fork, own_number}
 use Rattle.ux_laws.specs.Files.{body_in, body_at, object_behind, HasWay, IsNeverOpened, UnwrittenFilesStay, IsRunOf, ReadsTellTheFile}
 use Rattle.ux_laws.specs.Files.{HoldOnlyWhatTheyMade}
 use Rattle.ux_laws.proofs.Opened.{chain_begins, way_there}
-use Rattle.ux_laws.proofs.Touching.{Touches, untouched, written, read_from, step_files}
+use Rattle.ux_laws.proofs.Touching.Contents.{Touches, untouched, written, read_from}
+use Rattle.ux_laws.proofs.Touching.Ends.{step_files}
 use Rattle.ux_laws.proofs.NoWay.{LeadsToObject, behind_leads, all_theirs}
 
 -- ---- what is in it

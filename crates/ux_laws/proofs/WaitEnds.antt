@@ -29,10 +29,11 @@ use Rattle.ux_laws.specs.Waits.{IsWaiting, for_peer, for_datagram, ReceivesWait,
 use Rattle.ux_laws.specs.Waits.{WaitsEnd}
 use Rattle.ux_laws.proofs.Parts.{SocketParts, socket_parts, Glance, glance_socket, glance_target, glance, Shrinks, seen_socket}
 use Rattle.ux_laws.proofs.Acts.{Did}
-use Rattle.ux_laws.proofs.Doing.{step_between, step_did}
+use Rattle.ux_laws.proofs.Doing.Calls.{step_between, step_did}
 use Rattle.ux_laws.proofs.Delivering.{sends_there}
 use Rattle.ux_laws.proofs.Flows.{waiting_in, waiting_at, waiting_is, Flow, calm, put_in, taken, step_flow, changed_waiting}
-use Rattle.ux_laws.proofs.Near.{reset_in, shut_of, shut_in, is_shutdown, NearAt, stays, reached, new, gone as dropped, chosen_near}
+use Rattle.ux_laws.proofs.Near.Single.{reset_in, shut_of, shut_in, is_shutdown, NearAt, stays, reached, new, gone as dropped}
+use Rattle.ux_laws.proofs.Near.Calls.{chosen_near}
 use Rattle.ux_laws.proofs.LeftAlone.{Lost, same, lost, reset, settled_lost}
 use Rattle.ux_laws.proofs.Makers.{behind_is}
 use Rattle.ux_laws.proofs.Opened.{Leads, did_leads}

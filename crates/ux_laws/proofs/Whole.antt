@@ -23,7 +23,8 @@ use Rattle.ux_model.proofs.Tables.Shows.{by_socket}
 use Rattle.ux_model.proofs.Tables.MessageShows.{by_receive}
 use Rattle.ux_laws.specs.Talking.{socket_through}
 use Rattle.ux_laws.specs.Records.{IsGiven, RecordsArriveWhole, ReadRecordsArriveWhole}
-use Rattle.ux_laws.proofs.Doing.{through_is, no_socket_at, found_at}
+use Rattle.ux_laws.proofs.Doing.Outcomes.{through_is}
+use Rattle.ux_laws.proofs.Doing.Files.{no_socket_at, found_at}
 
 -- where fewer bytes are given than there were, MSG_TRUNC says so
 trunc_told : (cut control_cut ends_record : Bool) → has_bits (received_flags cut control_cut ends_record).0 msg_trunc ≡ cut
