@@ -44,4 +44,4 @@ gave_gives boot es j p n e legal at = ap
 -- the message that its rights were of
 pub reported_delivered : (boot : State) (es : List Entry) (j : ℕ) (e : Entry) → IsLegal boot es → slice_get es j ≡ Some e →
     e.delivered ≡ delivered (before boot es j) e
-reported_delivered boot es j e legal at = (legal.each j e at).told
+reported_delivered boot es j e legal at = (legal.each j e at).delivers

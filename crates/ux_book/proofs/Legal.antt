@@ -47,7 +47,7 @@ may_follow boot S T es e at allowed step k told =
           (step_replay boot T es e from_end) from_end;
       numbered = k;
       allowed = ap (λ (U : State). is_allowed U e.pid.0 e.k e.request) (sym at) ∙ allowed;
-      told = told ∙ ap (λ (U : State). delivered_by U e.pid.0 e.request e.reply) at;
+      delivers = told ∙ ap (λ (U : State). delivered_by U e.pid.0 e.request e.reply) at;
     }
 
 -- the end of the layer is a call of nobody

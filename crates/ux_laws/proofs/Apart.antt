@@ -63,7 +63,7 @@ kept_files_are_separated boot es path keeper o bytes legal at_first has leave =
     let never = never_to_write boot es path keeper o legal at_first leave in
     record {
       unchanged = λ j body is. unwritten_files_stay boot es j o bytes body legal has never is;
-      told = λ j n e fd given at request behind reply. reads_tell_the_file boot es j o n e fd bytes given legal has never at request behind
+      read = λ j n e fd given at request behind reply. reads_tell_the_file boot es j o n e fd bytes given legal has never at request behind
           reply;
       withheld = λ j q fd of_start other sent_nothing. stranger_has_no_way boot es path j o q fd legal at_first of_start.1 sent_nothing
           (λ i e mode flags at own asked. other

@@ -171,12 +171,12 @@ now_state boot es e = ap (λ (l : List Entry). replay boot l) (take_pushed es (e
 
 record AllMet (boot : State) (es : List Entry) (S : State) : Type 0 where
   pub reached : S ≡ replay boot es
-  pub peers : (d : ℕ) (q : SocketParts) (cred : Cred) → Seen S d q → q.told ≡ Some cred → IsPeersCred boot es d cred
+  pub peers : (d : ℕ) (q : SocketParts) (cred : Cred) → Seen S d q → q.peer_cred ≡ Some cred → IsPeersCred boot es d cred
   pub listeners : (d : ℕ) (q : SocketParts) (cred : Cred) → Seen S d q → q.tie.listener ≡ Some cred → HasListened boot es d (length es) cred
 
 -- of one socket, after one more entry
 abbrev Met : State → List Entry → Entry → ℕ → SocketParts → Type 0
-Met boot es e d q = ((cred : Cred) → q.told ≡ Some cred → IsPeersCred boot (es ++ e ∷ []) d cred)
+Met boot es e d q = ((cred : Cred) → q.peer_cred ≡ Some cred → IsPeersCred boot (es ++ e ∷ []) d cred)
     × (listens_on (replay boot es) d e.pid.0 e.request e.reply ≡ false → (cred : Cred) → q.tie.listener ≡ Some cred →
     HasListened boot (es ++ e ∷ []) d (length (es ++ e ∷ [])) cred)
 
@@ -189,7 +189,7 @@ old_met boot es e S d q all h = (
 )
 
 -- nothing is known of whoever has neither
-none_met : (boot : State) (es : List Entry) (e : Entry) (d : ℕ) (q : SocketParts) → q.told ≡ None → q.tie.listener ≡ None →
+none_met : (boot : State) (es : List Entry) (e : Entry) (d : ℕ) (q : SocketParts) → q.peer_cred ≡ None → q.tie.listener ≡ None →
     Met boot es e d q
 none_met boot es e d q told tie = (
   (λ cred h. let nobody : None ≡ Some cred = sym told ∙ h in absurd (cc nobody)),
@@ -197,7 +197,7 @@ none_met boot es e d q told tie = (
 )
 
 -- it has what another has
-alike_met : (boot : State) (es : List Entry) (e : Entry) (d : ℕ) (q r : SocketParts) → q.told ≡ r.told → q.tie.listener ≡ r.tie.listener →
+alike_met : (boot : State) (es : List Entry) (e : Entry) (d : ℕ) (q r : SocketParts) → q.peer_cred ≡ r.peer_cred → q.tie.listener ≡ r.tie.listener →
     Met boot es e d r → Met boot es e d q
 alike_met boot es e d q r told tie m = ((λ cred h. m.0 cred (sym told ∙ h)), (λ elsewhere cred h. m.1 elsewhere cred (sym tie ∙ h)))
 
@@ -226,7 +226,7 @@ changed_met : (boot : State) (es : List Entry) (e : Entry) (S T : State) (t d : 
     ((s : Socket) → (change s).peer_cred ≡ s.peer_cred) → ((s : Socket) → listening_cred (change s).phase ≡ listening_cred s.phase) →
     Shrinks (with_socket_by S t change) T → Seen T d q → Met boot es e d q
 changed_met boot es e S T t d change q all told tie k h = ⊎_elim {C = Met boot es e d q}
-    (λ w. alike_met boot es e d q (socket_parts w.1) (ap (λ (r : SocketParts). r.told) w.3 ∙ told w.1)
+    (λ w. alike_met boot es e d q (socket_parts w.1) (ap (λ (r : SocketParts). r.peer_cred) w.3 ∙ told w.1)
     (ap (λ (r : SocketParts). r.tie.listener) w.3 ∙ tie w.1) (old_met boot es e S d (socket_parts w.1) all (seen_socket S d w.1 w.2)))
     (λ old. old_met boot es e S d q all old) (seen_changed S t d change q (seen_shrunk _ T d q k h))
 
@@ -244,7 +244,7 @@ did_met boot es e T d q all (opened path mode flags o a b c k) h =
 did_met boot es e T d q all (one_made kind flags a k) h =
     new_met boot es e (replay boot es) T d (socket_description flags (new_socket kind)) q all
     (λ is. let same : socket_parts (new_socket kind) ≡ q = cc is in
-    none_met boot es e d q (sym (ap (λ (r : SocketParts). r.told) same)) (sym (ap (λ (r : SocketParts). r.tie.listener) same))) k h
+    none_met boot es e d q (sym (ap (λ (r : SocketParts). r.peer_cred) same)) (sym (ap (λ (r : SocketParts). r.tie.listener) same))) k h
 did_met boot es e T d q all (pair_made kind flags P x y asked answered here k) h =
     ⊎_elim {C = Met boot es e d q} (λ w. made (next_description S) (inr (w.0 ∙ long)) w.1)
     (λ old. ⊎_elim {C = Met boot es e d q} (λ w. made (suc (next_description S)) (inl w.0) w.1)
@@ -273,7 +273,7 @@ did_met boot es e T d q all (pair_made kind flags P x y asked answered here k) h
     made peer number is =
         let same : socket_parts (pair_end kind peer (own_cred e.pid.0 P)) ≡ q = cc is in (
           (λ cred told.
-              let both : Some (own_cred e.pid.0 P) ≡ Some cred = ap (λ (r : SocketParts). r.told) same ∙ told in
+              let both : Some (own_cred e.pid.0 P) ≡ Some cred = ap (λ (r : SocketParts). r.peer_cred) same ∙ told in
               subst (λ (c : Cred). IsPeersCred boot (es ++ e ∷ []) d c) (cc both)
               (of_maker (length es) kind flags x y (called_now boot es e (Request.SocketPair kind flags) (Reply.Fds x y) P asked answered
               here)
@@ -285,7 +285,7 @@ did_met boot es e T d q all (listened fd backlog P t limit s asked answered here
     ⊎_elim {C = Met boot es e d q}
     (λ w. (
       (λ cred told. met_before boot es e d cred
-          (all.peers d (socket_parts w.1) cred (seen_socket S d w.1 w.2) (sym (ap (λ (r : SocketParts). r.told) w.3) ∙ told))),
+          (all.peers d (socket_parts w.1) cred (seen_socket S d w.1 w.2) (sym (ap (λ (r : SocketParts). r.peer_cred) w.3) ∙ told))),
       (λ elsewhere cred told.
           let both : Some (own_cred e.pid.0 P) ≡ Some cred = sym (ap (λ (r : SocketParts). r.tie.listener) w.3) ∙ told in
           subst (λ (c : Cred). HasListened boot (es ++ e ∷ []) d (length (es ++ e ∷ [])) c) (cc both) (record {
@@ -309,7 +309,7 @@ did_met boot es e T d q all (connected fd addr P t l s other kept asked answered
     (λ old. ⊎_elim {C = Met boot es e d q} (λ w. server (w.0 ∙ long) w.1)
     (λ older. ⊎_elim {C = Met boot es e d q}
     (λ w. let same : q ≡ socket_parts w.1 = w.3 ∙ awaiting_parts new w.1 in
-    alike_met boot es e d q (socket_parts w.1) (ap (λ (r : SocketParts). r.told) same) (ap (λ (r : SocketParts). r.tie.listener) same)
+    alike_met boot es e d q (socket_parts w.1) (ap (λ (r : SocketParts). r.peer_cred) same) (ap (λ (r : SocketParts). r.tie.listener) same)
     (old_met boot es e S d (socket_parts w.1) all (seen_socket S d w.1 w.2)))
     (λ oldest. old_met boot es e S d q all oldest) (seen_changed S l d (awaiting new) q older))
     (seen_new U D d q old))
@@ -334,7 +334,7 @@ did_met boot es e T d q all (connected fd addr P t l s other kept asked answered
     server number is =
         let same : socket_parts (server_end other t (own_cred e.pid.0 P)) ≡ q = cc is in (
           (λ cred told.
-              let both : Some (own_cred e.pid.0 P) ≡ Some cred = ap (λ (r : SocketParts). r.told) same ∙ told in
+              let both : Some (own_cred e.pid.0 P) ≡ Some cred = ap (λ (r : SocketParts). r.peer_cred) same ∙ told in
               subst (λ (c : Cred). IsPeersCred boot (es ++ e ∷ []) d c) (cc both)
               (of_client (length es) fd addr (called_now boot es e (Request.Connect fd addr) Reply.Ok P asked answered here)
               (subst (λ (V : State). d ≡ next_description V) (sym (now_state boot es e)) number))),
@@ -345,7 +345,7 @@ did_met boot es e T d q all (connected fd addr P t l s other kept asked answered
     client : t ≡ d → (u : Socket) → q ≡ socket_parts (tied new kept.cred u) → Met boot es e d q
     client number u same = (
       (λ cred told.
-          let both : Some kept.cred ≡ Some cred = sym (ap (λ (r : SocketParts). r.told) same) ∙ told in
+          let both : Some kept.cred ≡ Some cred = sym (ap (λ (r : SocketParts). r.peer_cred) same) ∙ told in
           subst (λ (c : Cred). IsPeersCred boot (es ++ e ∷ []) d c) (cc both) (of_listener (record {
             at = length es;
             fd = fd;

@@ -37,10 +37,10 @@ pub record SocketParts : Type 0 where
   pub kind : SockType
   pub waiting : List Message
   pub tie : PhaseParts
-  pub told : Option Cred
+  pub peer_cred : Option Cred
 
 abbrev pub socket_parts : Socket → SocketParts
-socket_parts s = record { kind = s.kind; waiting = s.queue; tie = phase_parts s.phase; told = s.peer_cred }
+socket_parts s = record { kind = s.kind; waiting = s.queue; tie = phase_parts s.phase; peer_cred = s.peer_cred }
 
 -- the parts of a socket, or the file object and the mode
 abbrev pub Glance : Type 0
@@ -136,7 +136,7 @@ awaiting_phase e (associated target) = refl
 
 pub awaiting_parts : (e : ℕ) (s : Socket) → socket_parts (awaiting e s) ≡ socket_parts s
 awaiting_parts e s = ap (λ (t : PhaseParts). let q : SocketParts =
-    record { kind = s.kind; waiting = s.queue; tie = t; told = s.peer_cred } in q) (awaiting_phase e s.phase)
+    record { kind = s.kind; waiting = s.queue; tie = t; peer_cred = s.peer_cred } in q) (awaiting_phase e s.phase)
 
 left_phase : (phase : Phase) → phase_parts (phase_without_first_end phase) ≡ phase_parts phase
 left_phase idle = refl
@@ -145,7 +145,7 @@ left_phase (connected peer) = refl
 left_phase (associated target) = refl
 
 pub left_parts : (s : Socket) → socket_parts (without_first_end s) ≡ socket_parts s
-left_parts s = ap (λ (t : PhaseParts). let q : SocketParts = record { kind = s.kind; waiting = s.queue; tie = t; told = s.peer_cred } in q)
+left_parts s = ap (λ (t : PhaseParts). let q : SocketParts = record { kind = s.kind; waiting = s.queue; tie = t; peer_cred = s.peer_cred } in q)
     (left_phase s.phase)
 
 -- ---- what goes at most

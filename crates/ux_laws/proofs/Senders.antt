@@ -267,7 +267,7 @@ honest boot es j e bytes control legal at (of_front d n space s m ms through the
       numbers = numbers;
       through = through;
       waits = q;
-      told = h;
+      reported = h;
       earlier = (sent 0 m refl).0;
       sent = (sent 0 m refl).1;
       each = λ k x here few.

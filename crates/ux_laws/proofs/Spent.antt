@@ -334,13 +334,13 @@ rights_come_once boot es i j tag legal t u =
     (kept_throughout boot (AllSpent boot) (spent_kept boot) es legal).once i j tag (took i t) (took j u)
   where
     took : (k : ℕ) → TakesRights es k tag → Took boot es k tag
-    took k t = record { call = t.call; there = t.there; takes = t.takes; told = sym (legal.each k t.call t.there).told ∙ t.told }
+    took k t = record { call = t.call; there = t.there; takes = t.takes; told = sym (legal.each k t.call t.there).delivers ∙ t.delivers }
 
 pub rights_come_with_their_message : RightsComeWithTheirMessage
 rights_come_with_their_message boot es j n space count tag e fd asked flags bytes control from legal at request reply told =
     let S : State = before boot es j in
     let step = (moment boot es j e legal at).steps in
-    let delivers : delivered S e ≡ Some tag = sym (legal.each j e at).told ∙ told in
+    let delivers : delivered S e ≡ Some tag = sym (legal.each j e at).delivers ∙ told in
     let w = step_installs S (before boot es (suc j)) e.pid.0 j e.request e.reply e.released step tag delivers in
     let c = w.carried in
     let given : bytes ≡ (front_of w.n w.socket w.first w.rest).bytes = sym (ap given_bytes reply) ∙ w.bytes in

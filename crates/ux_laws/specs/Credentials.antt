@@ -51,7 +51,7 @@ pub record IsOfSender (boot : State) (entries : List Entry) (j : ℕ) (e : Entry
   pub through : socket_through (before boot entries j) e.pid.0 e.request ≡ Some (number, socket)
   pub waits : socket.queue ≡ oldest ∷ later
   -- and rights behind them
-  pub told : control ≡ control_bytes (Some oldest.cred) numbers
+  pub reported : control ≡ control_bytes (Some oldest.cred) numbers
   -- They were sent before.
   pub earlier : oldest.tag < j
   pub sent : SentWith boot entries oldest.tag oldest.cred

@@ -4,7 +4,7 @@ use Rattle.ux_model.specs.Types.{Entry}
 use Rattle.ux_model.specs.State.{State}
 use Rattle.ux_model.specs.Step.{after}
 
--- by what each does, told by its number and the state that it is made in, where the first has number n
+-- by what each does, given by its number and the state that it is made in, where the first has number n
 abbrev pub gather_from : {X : Type 0} → (ℕ → State → Entry → List X) → ℕ → State → List Entry → List X
 gather_from does n S [] = []
 gather_from does n S (e ∷ es) = does n S e ++ gather_from does (n + 1) (after S e.pid.0 n e.request e.reply) es

@@ -83,7 +83,7 @@ RecordsArriveOnce = (boot : State) (entries : List Entry) (d i k : ℕ) (s : Soc
 -- MSG_TRUNC asked for, the length that it had; and its sender's name.
 pub record IsGiven (m : Message) (n : ℕ) (asked flags : MsgFlags) (count : ℕ) (bytes : List ℕ) (from : Option Addr) : Type 0 where
   pub cut : bytes ≡ take n m.bytes
-  pub told : has_bits flags.0 msg_trunc ≡ nat_lt n (length m.bytes)
+  pub truncated : has_bits flags.0 msg_trunc ≡ nat_lt n (length m.bytes)
   pub counted : count ≡ (if asks_real_length asked then length m.bytes else length bytes)
   pub sender : from ≡ m.from
 

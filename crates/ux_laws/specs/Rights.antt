@@ -17,7 +17,7 @@ pub record TakesRights (entries : List Entry) (i tag : ℕ) : Type 0 where
   pub call : Entry
   pub there : slice_get entries i ≡ Some call
   pub takes : is_peek call.request ≡ false
-  pub told : call.delivered ≡ Some tag
+  pub delivers : call.delivered ≡ Some tag
 
 -- one call at most does, of the rights of one send
 abbrev pub RightsComeOnce : Type 0

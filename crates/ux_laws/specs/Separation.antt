@@ -23,7 +23,7 @@ pub record IsSeparated (boot : State) (entries : List Entry) (keeper o : ℕ) (b
   -- it has its bytes at each moment, as long as it is there
   pub unchanged : (j : ℕ) (body : Body) → body_at (before boot entries j) o ≡ Some body → body ≡ memory bytes
   -- what a read of it is answered is a run of them
-  pub told : (j n : ℕ) (e : Entry) (fd : Fd) (given : List ℕ) → slice_get entries j ≡ Some e → e.request ≡ Request.Read fd n →
+  pub read : (j n : ℕ) (e : Entry) (fd : Fd) (given : List ℕ) → slice_get entries j ≡ Some e → e.request ≡ Request.Read fd n →
       object_behind (before boot entries j) e.pid.0 fd ≡ Some o → e.reply ≡ Reply.Bytes given → IsRunOf given bytes
   -- no number of another process that was sent nothing leads to it
   pub withheld : (j q : ℕ) (fd : Fd) → IsOfTheStart boot q → q ≢ keeper → WasSentNothing boot entries q →

@@ -42,9 +42,9 @@ abbrev pub FailedAsOften : State → State → ℕ → Type 0
 FailedAsOften S T o = (old new : View) → place S.objects o ≡ Some old → place T.objects o ≡ Some new → new.faults ≡ old.faults
 
 -- what a reply reports of failures, where its call leads from S to T
-pub record TellsFailure (S : State) (reply : Reply) (T : State) : Type 0 where
+pub record ReportsFailure (S : State) (reply : Reply) (T : State) : Type 0 where
   -- EIO, exactly where a file object has failed once more
-  pub told : (reply ≡ Reply.Err Errno.EIO) ↔ ((o : ℕ) × HasFailed S T o)
+  pub reported : (reply ≡ Reply.Err Errno.EIO) ↔ ((o : ℕ) × HasFailed S T o)
   pub one_alone : (o n : ℕ) → HasFailed S T o → HasFailed S T n → o ≡ n
   pub others_alike : (o : ℕ) → ¬ (HasFailed S T o) → FailedAsOften S T o
 
@@ -52,4 +52,4 @@ pub record TellsFailure (S : State) (reply : Reply) (T : State) : Type 0 where
 abbrev pub FailsWhereAnObjectFailed : Type 0
 FailsWhereAnObjectFailed =
     (S T : State) (p tag : ℕ) (request : Request) (reply : Reply) (gone : List ℕ) → Step S p tag request reply gone T →
-    TellsFailure S reply T
+    ReportsFailure S reply T

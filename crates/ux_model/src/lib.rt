@@ -214,7 +214,7 @@ pub fn some_calls_never_lack_memory()
 /// A step answers EIO exactly where a file object, which is there still, has failed once more. It is one
 /// alone, and each other that stays has failed as often as before. That holds of every state.
 #[tactic(auto, using(crate::proofs::Invariants::FreeChoices::fails_where_an_object_failed))]
-pub fn failure_is_told()
+pub fn failure_is_reported()
     ensures { FailsWhereAnObjectFailed }
 {}
 

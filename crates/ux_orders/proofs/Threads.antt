@@ -170,11 +170,11 @@ only_one boot lines before e f one other who sure_e sure_f =
 
     told : e.delivered ≡ f.delivered
     told =
-        one.legal.told
+        one.legal.delivers
         ∙ ap (λ (pid : Pid). delivered_by S pid.0 e.request e.reply) who
         ∙ ap (λ (request : Request). delivered_by S f.pid.0 request e.reply) asked
         ∙ ap (λ (reply : Reply). delivered_by S f.pid.0 f.request reply) replied
-        ∙ sym other.legal.told
+        ∙ sym other.legal.delivers
 
 -- none of two lists has a choice
 sure_parts : (a b : List Entry) → has_choice (a ++ b) ≡ false → (has_choice a ≡ false) × (has_choice b ≡ false)

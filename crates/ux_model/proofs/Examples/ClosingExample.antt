@@ -66,19 +66,19 @@ boots = record {
 
 first : MayFollow boot [] opening
 unfolding computing
-first = record { steps = (_, own refl refl, refl, refl); numbered = refl; allowed = refl; told = refl }
+first = record { steps = (_, own refl refl, refl, refl); numbered = refl; allowed = refl; delivers = refl }
 
 second : MayFollow boot (opening ∷ []) unlinking
 unfolding computing
-second = record { steps = (_, own refl refl, refl, refl); numbered = refl; allowed = refl; told = refl }
+second = record { steps = (_, own refl refl, refl, refl); numbered = refl; allowed = refl; delivers = refl }
 
 third : MayFollow boot (opening ∷ unlinking ∷ []) failing_close
 unfolding computing
-third = record { steps = (_, own refl refl, refl, refl); numbered = refl; allowed = refl; told = refl }
+third = record { steps = (_, own refl refl, refl, refl); numbered = refl; allowed = refl; delivers = refl }
 
 fourth : MayFollow boot before closing
 unfolding computing
-fourth = record { steps = (_, own refl refl, refl, refl); numbered = refl; allowed = refl; told = refl }
+fourth = record { steps = (_, own refl refl, refl, refl); numbered = refl; allowed = refl; delivers = refl }
 
 legal_so_far : IsLegal boot before
 legal_so_far = legal_push boot _ _ (legal_push boot _ _ (legal_push boot [] _ (legal_empty boot boots) first) second) third

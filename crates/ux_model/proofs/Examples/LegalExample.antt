@@ -38,19 +38,19 @@ boots = record {
 
 first : MayFollow one_process [] making
 unfolding computing
-first = record { steps = (_, own refl refl, refl, refl); numbered = refl; allowed = refl; told = refl }
+first = record { steps = (_, own refl refl, refl, refl); numbered = refl; allowed = refl; delivers = refl }
 
 second : MayFollow one_process (making ∷ []) sending
 unfolding computing
-second = record { steps = (_, own refl refl, refl, refl); numbered = refl; allowed = refl; told = refl }
+second = record { steps = (_, own refl refl, refl, refl); numbered = refl; allowed = refl; delivers = refl }
 
 third : MayFollow one_process (making ∷ sending ∷ []) receiving
 unfolding computing
-third = record { steps = (_, own refl refl, refl, refl); numbered = refl; allowed = refl; told = refl }
+third = record { steps = (_, own refl refl, refl, refl); numbered = refl; allowed = refl; delivers = refl }
 
 fourth : MayFollow one_process (making ∷ sending ∷ receiving ∷ []) leaving
 unfolding computing
-fourth = record { steps = (_, own refl refl, refl, refl); numbered = refl; allowed = refl; told = refl }
+fourth = record { steps = (_, own refl refl, refl, refl); numbered = refl; allowed = refl; delivers = refl }
 
 is_legal : IsLegal one_process (making ∷ sending ∷ receiving ∷ leaving ∷ [])
 is_legal = legal_push one_process _ _ (legal_push one_process _ _

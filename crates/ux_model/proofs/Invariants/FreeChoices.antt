@@ -26,7 +26,7 @@ use Rattle.ux_model.specs.Forking.{exec}
 use Rattle.ux_model.specs.Closing.{close, exit, off}
 use Rattle.ux_model.specs.Step.{Step, outcome, lacks_memory, fails}
 use Rattle.ux_model.specs.Invariants.{OneMoreFailure}
-use Rattle.ux_model.specs.FreeChoices.{takes_no_memory, NeverLacksMemory, HasFailed, FailedAsOften, TellsFailure, FailsWhereAnObjectFailed}
+use Rattle.ux_model.specs.FreeChoices.{takes_no_memory, NeverLacksMemory, HasFailed, FailedAsOften, ReportsFailure, FailsWhereAnObjectFailed}
 use Rattle.ux_model.proofs.Changes.Reaching.{May, may_change}
 use Rattle.ux_model.proofs.Changes.Walk.{either, maybe, by_target, found, found_socket}
 use Rattle.ux_model.proofs.Lists.ChangedPlaces.{place_within}
@@ -260,9 +260,9 @@ but_one_alike S U one kept o not_failed old new was is = ⊎_elim {C = new.fault
     (λ other. ap View.faults (same_view (sym (was_there U o new is) ∙ elsewhere S U one o other ∙ was)))
     (cases_eq o one.object)
 
-one_tells : (S U : State) (reply : Reply) → HasOneFailed S U reply → TellsFailure S reply (settled U)
+one_tells : (S U : State) (reply : Reply) → HasOneFailed S U reply → ReportsFailure S reply (settled U)
 one_tells S U reply h = record {
-  told = (λ e. (h.1.object, has_failed S U h.1 h.2), λ failed. h.0);
+  reported = (λ e. (h.1.object, has_failed S U h.1 h.2), λ failed. h.0);
   one_alone = λ o n first second. is_that S U h.1 o first ∙ sym (is_that S U h.1 n second);
   others_alike = but_one_alike S U h.1 h.2;
 }
@@ -280,9 +280,9 @@ none_failed S U alike o failed =
     let n : failed.0.faults + 1 ≡ failed.0.faults = all_alike S U alike o failed.0 (after_failure failed.0) failed.1 failed.2 in
     omega (arith, n)
 
-none_tells : (S U : State) (reply : Reply) → HasNoneFailed S U reply → TellsFailure S reply (settled U)
+none_tells : (S U : State) (reply : Reply) → HasNoneFailed S U reply → ReportsFailure S reply (settled U)
 none_tells S U reply h = record {
-  told = (λ e. absurd (cc (sym h.0 ∙ ap fails e)), λ failed. absurd (none_failed S U h.1 failed.0 failed.1));
+  reported = (λ e. absurd (cc (sym h.0 ∙ ap fails e)), λ failed. absurd (none_failed S U h.1 failed.0 failed.1));
   one_alone = λ o n first second. absurd (none_failed S U h.1 o first);
   others_alike = λ o not_failed. all_alike S U h.1 o;
 }
@@ -292,7 +292,7 @@ none_tells S U reply h = record {
 pub fails_where_an_object_failed : FailsWhereAnObjectFailed
 unfolding Step
 fails_where_an_object_failed S T p tag request reply gone s =
-    subst (TellsFailure S reply) (sym s.3) (⊎_elim {C = TellsFailure S reply (settled s.0)}
+    subst (ReportsFailure S reply) (sym s.3) (⊎_elim {C = ReportsFailure S reply (settled s.0)}
     (one_tells S s.0 reply)
     (none_tells S s.0 reply)
     (which S s.0 (may_change request) (outcome S p tag request) reply (each_obeys S p tag request) s.1))

@@ -1,78 +1,20 @@
 -- Of each call: what its outcome shows of the tables, and which messages it leaves.
-use Rattle.std.proofs.Common.{◌≡◌, ◌⊎◌, ℕ, zero, suc, ◌<◌, ◌≤◌, Bool, true, false, not, ◌&&◌, ◌||◌, ◌==◌, cond, if◌then◌else◌, List, []}
-use Rattle.std.proofs.Common.{◌∷◌, ◌++◌, length, take, map, min, Option, Some, None, Result, Ok, Err, option_map, refl, ap, sym, ◌∙◌, subst}
-use Rattle.std.proofs.Common.{inl, inr, arith, slice_get, slice_set}
-use Rattle.std.specs.Prelude.{nat_le, nat_lt, ℤ, pos, negsuc, ◌+ℤ◌, is_some, is_none, IsTrue}
-use Rattle.std.proofs.lemmas.Bool.{eqb-true, eqb-false, leb-false, false≢true, ne_eqb, and_parts}
-use Rattle.ux_model.specs.Types.{Errno, Fd, Cred, Name, Addr, SockType, SockOpt, Mode, OpenFlags, MsgFlags, Whence, Request, Reply}
-use Rattle.ux_model.specs.Places.{place, filled, emptied}
-use Rattle.ux_model.specs.Limits.{made_limit, read_limit, offset_limit, record_bytes_limit}
-use Rattle.ux_model.specs.Flags.{can_read, can_write, asks_cloexec, asks_cloexec_rights, asks_peek, are_receive_flags, are_send_flags}
-use Rattle.ux_model.specs.Flags.{no_flags}
-use Rattle.ux_model.specs.Object.{Body, View, ObjectError, would_block, full, invalid, read_body, write_body, is_memory, is_pipe}
-use Rattle.ux_model.specs.Names.{named, is_valid_path, is_valid_addr, is_unnamed_addr, free_name}
-use Rattle.ux_model.specs.Message.{Message, queued_bytes}
-use Rattle.ux_model.specs.Stream.{joined_run, rights_within}
-use Rattle.ux_model.specs.Front.{Front, stream_front, record_front, front_of}
-use Rattle.ux_model.specs.Control.{Control}
-use Rattle.ux_model.specs.ControlReading.{control_in}
-use Rattle.ux_model.specs.Backlog.{backlog_of}
-use Rattle.ux_model.specs.Socket.{Socket, new_socket, pair_end, is_stream, is_dgram, pending_ends, peer_of, association_of, tied_socket}
-use Rattle.ux_model.specs.Socket.{takes_from, has_room, sent_part, sent, with_reset, with_association, with_passcred, with_queue_limit}
-use Rattle.ux_model.specs.Socket.{with_queue, shut_down, awaiting}
+use Rattle.std.proofs.Common.{◌≡◌, ℕ, false, []}
+use Rattle.std.proofs.Common.{Option, Some, None, Result, Ok, Err, refl, ap, ◌∙◌, subst}
+use Rattle.ux_model.specs.Types.{Errno, Fd, Request}
+use Rattle.ux_model.specs.Socket.{Socket}
 use Rattle.ux_model.specs.Description.{Description, Target, to_object, to_socket, socket_of, socket_in}
-use Rattle.ux_model.specs.Process.{Process, Descriptor, own_cred, free_numbers, lowest_free, lowest_free_from, two_lowest_free, descriptor}
-use Rattle.ux_model.specs.Process.{copy_of, kept_on_exec, with_cloexec, fd_of, pid_of}
-use Rattle.ux_model.specs.Delivery.{delivery, installed, install_count, space_for_rights}
-use Rattle.ux_model.specs.State.{State, process_at, is_live, description_at, socket_at, table_of, next_description, next_process}
-use Rattle.ux_model.specs.State.{with_child, with_description, with_socket_by, with_process, with_table, with_new}
-use Rattle.ux_model.specs.Outcome.{Outcome, Chosen, own, lacking_memory, failing, refuse, answer, taking_memory, descriptor_at, find_socket}
+use Rattle.ux_model.specs.Process.{Descriptor}
+use Rattle.ux_model.specs.State.{State, description_at, socket_at}
+use Rattle.ux_model.specs.Outcome.{Outcome, refuse, descriptor_at, find_socket}
 use Rattle.ux_model.specs.Outcome.{on_socket}
-use Rattle.ux_model.specs.Delivered.{Brought, nothing_brought, brought, brought_from}
-use Rattle.ux_model.specs.Naming.{unlink}
-use Rattle.ux_model.specs.Pairing.{make_pair, with_pair, socket_description}
-use Rattle.ux_model.specs.Binding.{bind_to, bind, get_sock_name, with_name}
-use Rattle.ux_model.specs.Connecting.{make_socket, listener_of, with_listening, listen, connect_to, connect_stream, connect_datagram}
-use Rattle.ux_model.specs.Connecting.{connect, get_peer_name, shutdown, with_connection, server_end, tied, no_open_flags}
-use Rattle.ux_model.specs.Accepting.{Acceptance, accept_first, accept, with_accepted, without_first_end, as_accepted, accepted_with}
-use Rattle.ux_model.specs.Accepting.{client_name}
-use Rattle.ux_model.specs.Sending.{sending, message_of, flight_limit, is_over_limit, enqueue, is_too_long, send_connected, send_stream}
-use Rattle.ux_model.specs.Sending.{send_from, is_sendable_addr, is_sendable_control, sender_cred_refusal, sent_cred, send_as, send_with}
-use Rattle.ux_model.specs.Sending.{send_read, send_msg, descriptions_behind}
-use Rattle.ux_model.proofs.Messages.Datagrams.{send_to_target, send_by_association, send_by}
-use Rattle.ux_model.specs.Receiving.{Incoming, incoming, with_installed, receive_front, nothing_received, at_end, receive, recv_msg}
-use Rattle.ux_model.specs.Receiving.{bytes_alone}
-use Rattle.ux_model.specs.FileObjects.{holds_bytes, is_open_for}
-use Rattle.ux_model.specs.Opening.{open_file, file_description}
-use Rattle.ux_model.specs.Reading.{read, read_answer, is_short_read, offset_after_read}
-use Rattle.ux_model.specs.Writing.{write, write_answer, offset_after_write, write_place}
-use Rattle.ux_model.specs.Seeking.{lseek, seek_to, seek_base}
-use Rattle.ux_model.specs.Options.{tell_cred, tell_option, get_opt, pass_cred_on, may_limit, change_option, set_opt}
-use Rattle.ux_model.specs.Readiness.{poll}
-use Rattle.ux_model.specs.Descriptors.{dup, dup2, dup_from, get_flags, set_flags, with_flags}
-use Rattle.ux_model.specs.Users.{no_id, may_become, with_ids, set_ids}
-use Rattle.ux_model.specs.Forking.{fork, exec, child_of}
-use Rattle.ux_model.specs.Closing.{close, exit, off, with_nothing_open}
-use Rattle.ux_model.specs.Release.{settled, drop_unreferenced}
-use Rattle.ux_model.specs.Step.{Step, outcome}
-use Rattle.ux_model.specs.History.{is_off, has_live, is_allowed}
-use Rattle.ux_model.specs.Giving.{held_at, description_in, given, sent_by, rights_in}
-use Rattle.ux_model.specs.Changes.{cloexec_of, sources, oldest_end, as_list, ChangesTables, StepChangesTables}
-use Rattle.ux_model.proofs.Changes.Walk.{either, maybe, by_target, by_path, by_queue, found, found_named, found_peer}
-use Rattle.ux_model.proofs.Changes.Named.{table_in}
-use Rattle.ux_model.proofs.Lists.ChangedPlaces.{bool_cases, place_within}
-use Rattle.ux_model.proofs.Lists.ByPlace.{take_none, take_few, get_below, get_pushed_other}
-use Rattle.ux_model.proofs.Lists.Induction.{get_pushed}
-use Rattle.ux_model.proofs.Lists.Rising.{Rise, rise_one, rise_free, rise_take, lowest_below, place_filled, place_other, place_mapped}
-use Rattle.ux_model.proofs.Lists.Rising.{lowest_from_within}
-use Rattle.ux_model.proofs.Changes.Reaching.{may_change}
-use Rattle.ux_model.proofs.Changes.Obeying.{Obeys}
-use Rattle.ux_model.proofs.Steps.Calls.{each_obeys}
-use Rattle.ux_model.proofs.Processes.Living.{settled_keeps}
-use Rattle.ux_model.proofs.Tables.Queues.{queue_of, queue_in, Quiet, Mail, MayCarry, quiet_mail, quiet_after, quiet_table, quiet_new}
-use Rattle.ux_model.proofs.Tables.Queues.{quiet_put, quiet_by, quiet_socket, quiet_target, sent_mail, taken_mail, Waits, settled_waits}
-use Rattle.ux_model.proofs.Tables.Replacing.{Replaces, replaced_process, replaced_table, replaced_none, replaced_alike, tells_child}
-use Rattle.ux_model.proofs.Tables.Replacing.{live_process, held_alike, gives_none, IsPlain, changes, refusal, keeps_table, installs}
+use Rattle.ux_model.specs.History.{is_off}
+use Rattle.ux_model.specs.Giving.{given}
+use Rattle.ux_model.specs.Changes.{ChangesTables}
+use Rattle.ux_model.proofs.Changes.Walk.{found}
+use Rattle.ux_model.proofs.Tables.Queues.{Quiet, Mail, quiet_mail}
+use Rattle.ux_model.proofs.Tables.Replacing.{replaced_none, tells_child}
+use Rattle.ux_model.proofs.Tables.Replacing.{IsPlain, refusal, keeps_table}
 
 -- of an outcome in S
 pub record Shows (S : State) (p tag : ℕ) (request : Request) (o : Outcome) : Type 0 where
