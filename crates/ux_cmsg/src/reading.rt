@@ -68,7 +68,7 @@ fn with_item<'a>(parts: Parts<'a>, item: Item<'a>) -> Option<Parts<'a>>
     }
 }
 
-/// Goes over the items, if the bytes are a list of items with no type twice.
+/// Reads the items, if the bytes are a list of items with no type twice.
 fn read_items(bytes: &[u8]) -> Option<Parts<'_>>
     ensures { control_in bytes.now ≡ option_map (λ parts. control_of (parts_view parts)) result }
 {
@@ -112,7 +112,7 @@ fn read_parts<A: Allocator>(alloc: A, parts: Parts<'_>) -> Result<Control<A>, Al
 /// of 8 with its length in 8 bytes, its level (SOL_SOCKET) and its type in 4 each, the lowest byte first; the
 /// length counts these 16 bytes and the payload. Descriptor numbers take 4 bytes each, credentials 12. The items
 /// come in either order, and none twice. What stands in the padding between them is ignored; behind the last
-/// it may be cut short. How many numbers may go in one message is the caller's to say.
+/// it may be cut short. How many numbers one message may carry is the caller's to check.
 ///
 /// # Errors
 ///

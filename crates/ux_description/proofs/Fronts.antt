@@ -5,9 +5,9 @@ use Rattle.std.proofs.lemmas.List.Concat.{length-flat_map}
 use Rattle.ux_model.specs.Message.{Message, queued_bytes, all_bytes}
 use Rattle.ux_model.specs.Stream.{joined_run, first_bytes}
 use Rattle.ux_model.specs.Front.{OnStreamFront}
-use Rattle.ux_stream.specs.declared.queue.Received as stream
+use Rattle.ux_stream.specs.declared.queue.PeekedBytes as stream
 use Rattle.ux_stream.specs.Shown as shown
-use Rattle.ux_record.specs.declared.record.Received.{Received}
+use Rattle.ux_record.specs.declared.record.Peeked.{Peeked}
 use Rattle.ux_record.specs.Shown.{Shows}
 
 first_length : (n : ℕ) (run : List Message) → length (first_bytes (min n (queued_bytes run)) run) ≡ min n (queued_bytes run)
@@ -17,7 +17,7 @@ first_length n run =
     omega (arith, all, some)
 
 -- what a queue gives, as the socket gives it: the bytes are all that the front has
-pub stream_shows : (wants : Bool) (n : ℕ) (q : List Message) (given : stream.Received) (r : Received) →
+pub stream_shows : (wants : Bool) (n : ℕ) (q : List Message) (given : stream.PeekedBytes) (r : Peeked) →
     OnStreamFront wants n q (λ f. shown.Shows f given) →
     r ≡ record {
       bytes = given.bytes;

@@ -14,7 +14,7 @@ use crate::socket::Socket;
 use bitflags::Flags;
 use std::marker::Model;
 use ux_rights::{Draft, RefList, SendError};
-use ux_stream::Refused;
+use ux_stream::Unsent;
 use ux_types::{Addr, DescriptionId, Mode, OpenFlags};
 
 /// What a description leads to.
@@ -154,14 +154,14 @@ impl Description {
     ///
     /// # Errors
     ///
-    /// `Full` exactly where there is no room, else `NoMemory`. The rights come back, and the description stands
+    /// `Full` exactly where there is no room, else `NoMemory`. The rights are given back, and the description stands
     /// as before.
     pub fn send(
         &mut self,
         draft: Draft<'_>,
         rights: RefList,
         from: Option<Addr>,
-    ) -> Result<usize, Refused>
+    ) -> Result<usize, Unsent>
         requires some { IsSomeAnd (socket_of self.old.target) (λ s. IsTrue (is_stream s.kind) → 0 < length draft.bytes.now) }
         ensures count { IfOk result (λ count. IsSomeAnd (socket_of self.old.target) (λ s. count ≡ length (sent_part s (drafted draft.entry rights from)).bytes)) }
         ensures ok { OnOk result (self.new ≡ changed (sent (drafted draft.entry rights from)) self.old) }
@@ -170,6 +170,7 @@ impl Description {
         ensures err { OnErr result (self.new ≡ self.old) }
     {
         match &mut self.target {
+            // It is a socket, as the contract requires.
             Target::Object(_) => unreachable!(),
             Target::Socket(s) => s.send(draft, rights, from),
         }
@@ -184,6 +185,7 @@ impl Description {
         ensures rest { IsSomeAnd (socket_of self.old.target) (λ s. OnFront n s (λ f. self.new ≡ changed (with_queue f.rest) self.old)) }
     {
         match &mut self.target {
+            // It is a socket, as the contract requires.
             Target::Object(_) => unreachable!(),
             Target::Socket(s) => s.skip(n),
         }

@@ -113,6 +113,7 @@ impl Socket {
     {
         match &mut self.phase {
             Phase::Listening(listener) => listener.backlog.push(end),
+            // It listens, as the contract requires.
             _ => unreachable!(),
         }
     }

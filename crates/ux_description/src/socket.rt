@@ -13,9 +13,9 @@ use crate::phase::Phase;
 use crate::queue::Queue;
 use std::alloc::{AllocError, Global};
 use std::marker::Model;
-use ux_record::{Received, RecordQueue};
+use ux_record::{Peeked, RecordQueue};
 use ux_rights::{Draft, RefList, SendError};
-use ux_stream::{Refused, StreamQueue};
+use ux_stream::{StreamQueue, Unsent};
 use ux_types::{Addr, Cred, DescriptionId, FIRST_QUEUE_LIMIT, Mode, SockType};
 
 /// A socket, without what its descriptors and its description say (unix(7)).
@@ -262,14 +262,14 @@ impl Socket {
     ///
     /// # Errors
     ///
-    /// `Full` exactly where there is no room, else `NoMemory`. The rights come back, and the socket stands as
+    /// `Full` exactly where there is no room, else `NoMemory`. The rights are given back, and the socket stands as
     /// before.
     pub fn send(
         &mut self,
         draft: Draft<'_>,
         rights: RefList,
         from: Option<Addr>,
-    ) -> Result<usize, Refused>
+    ) -> Result<usize, Unsent>
         requires some { IsTrue (is_stream self.old.kind) → 0 < length draft.bytes.now }
         ensures count { IfOk result (λ count. count ≡ length (sent_part self.old (drafted draft.entry rights from)).bytes) }
         ensures ok { OnOk result (self.new ≡ sent (drafted draft.entry rights from) self.old) }
@@ -293,7 +293,7 @@ impl Socket {
     /// # Errors
     ///
     /// Out of memory.
-    pub fn peek(&self, alloc: Global, n: usize) -> Result<Received, AllocError>
+    pub fn peek(&self, alloc: Global, n: usize) -> Result<Peeked, AllocError>
         requires some { 0 < length self.now.queue }
         ensures { IfOk result (λ r. OnFront n self.now (λ f. Shows f r)) }
     {
@@ -401,7 +401,7 @@ fn send_whole(
     draft: Draft<'_>,
     rights: RefList,
     from: Option<Addr>,
-) -> Result<usize, Refused>
+) -> Result<usize, Unsent>
     ensures count { IfOk result (λ count. count ≡ length draft.entry.bytes.now) }
     ensures ok { OnOk result (queue.new ≡ queue.old ++ drafted draft.entry rights from ∷ []) }
     ensures full { IsErrAnd result (λ e. e.error ≡ SendError.Full) ↔ (record_limit ≤ length queue.old) }
@@ -410,9 +410,9 @@ fn send_whole(
 {
     match queue.send(draft, rights, from) {
         Ok(()) => Ok(draft.bytes.len()),
-        Err(refused) => Err(Refused {
-            error: refused.error,
-            rights: refused.rights,
+        Err(unsent) => Err(Unsent {
+            error: unsent.error,
+            rights: unsent.rights,
         }),
     }
 }
@@ -423,12 +423,12 @@ fn peek_stream(
     alloc: Global,
     n: usize,
     wants_cred: bool,
-) -> Result<Received, AllocError>
+) -> Result<Peeked, AllocError>
     requires { 0 < length queue.now }
     ensures { IfOk result (λ r. OnStreamFront wants_cred n queue.now (λ f. Shows f r)) }
 {
     let front = queue.peek(alloc, n, wants_cred)?;
-    Ok(Received {
+    Ok(Peeked {
         whole: front.bytes.len(),
         bytes: front.bytes,
         rights: front.rights,
@@ -462,6 +462,7 @@ fn first_rights(queue: &mut RecordQueue) -> (RefList, Option<u32>)
     match queue.pop_message() {
         Some((rights, _)) if rights.is_empty() => (rights, None),
         Some((rights, uid)) => (rights, Some(uid)),
+        // One waits, as the contract requires.
         None => unreachable!(),
     }
 }

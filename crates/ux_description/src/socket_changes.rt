@@ -56,6 +56,7 @@ impl Description {
         ensures err { OnErr result (self.new ≡ self.old) }
     {
         match &mut self.target {
+            // It is a socket, as the contract requires.
             Target::Object(_) => unreachable!(),
             Target::Socket(s) => s.push_pending(end),
         }

@@ -3,33 +3,28 @@ use hoard::Hoard;
 use std::alloc::{AllocError, Global};
 use std::process::Abort;
 use std::test::Fail;
-use ux_rights::{Plan, RefList, SendError, plan_rights};
+use ux_rights::{RefList, SendError, install_count};
 use ux_types::{DescriptionId, Errno, Refusal};
 
-/// Rights, control space and free numbers, and then how many are installed and left out. An item's head has 16
+/// Rights, control space and free numbers, and then how many are installed. An item's head has 16
 /// bytes and a number 4 (cmsg(3) on a machine with 64 bits).
-const PLANS: &[(usize, usize, usize, usize, usize)] = &[
-    (0, 64, 9, 0, 0),
-    (1, 19, 9, 0, 1),
-    (1, 20, 9, 1, 0),
-    (3, 27, 9, 2, 1),
-    (3, 28, 9, 3, 0),
-    (3, 64, 2, 2, 1),
-    (253, 1028, 1024, 253, 0),
-    (5, usize::MAX, usize::MAX, 5, 0),
+const COUNTS: &[(usize, usize, usize, usize)] = &[
+    (0, 64, 9, 0),
+    (1, 19, 9, 0),
+    (1, 20, 9, 1),
+    (3, 27, 9, 2),
+    (3, 28, 9, 3),
+    (3, 64, 2, 2),
+    (253, 1028, 1024, 253),
+    (5, usize::MAX, usize::MAX, 5),
 ];
 
 #[test]
 fn least_of_rights_space_and_numbers(rt: HostRuntime) {
-    for (count, space, free, install, dropped) in PLANS {
-        let wanted = Plan {
-            install: *install,
-            dropped: *dropped,
-            truncated: *dropped > 0,
-        };
+    for (count, space, free, install) in COUNTS {
         assert_eq!(rt;
-            plan_rights(*count, *space, *free),
-            wanted,
+            install_count(*count, *space, *free),
+            *install,
             "{count} {space} {free}"
         );
     }

@@ -8,8 +8,8 @@ ghost use Rattle.ux_state.specs.Moves.{AreReferenced};
 use std::alloc::{AllocError, Global};
 use ux_cmsg::{Control, write_control};
 use ux_object::FileObject;
-use ux_record::Received;
-use ux_rights::plan_rights;
+use ux_record::Peeked;
+use ux_rights::install_count;
 use ux_state::State;
 use ux_types::{Bytes, CMSG_CRED_LEN, CMSG_CRED_SPACE, Cred, Fd, Pid};
 
@@ -46,7 +46,7 @@ pub(crate) fn deliver<O: FileObject>(
     state: &mut State<O>,
     alloc: Global,
     pid: Pid,
-    received: &Received,
+    received: &Peeked,
     wanted: Wanted,
 ) -> Result<Delivered, AllocError>
     requires live { IsTrue (is_live state.old pid.0) }
@@ -86,8 +86,8 @@ fn find_numbers<O: FileObject>(
         (install_count count space (length (free_numbers (table_of state.now pid.0)))) (free_numbers (table_of state.now pid.0))) }
 {
     let table = state.table(pid);
-    let plan = plan_rights(count, space, table.limit() as usize);
-    table.lowest_numbers(alloc, plan.install)
+    let count = install_count(count, space, table.limit() as usize);
+    table.lowest_numbers(alloc, count)
 }
 
 /// The credentials, where they are wanted and the space holds them whole.

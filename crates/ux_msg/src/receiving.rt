@@ -15,7 +15,7 @@ use crate::delivering::{Delivered, Wanted, deliver};
 use bitflags::Flags;
 use std::alloc::Global;
 use ux_object::FileObject;
-use ux_record::Received;
+use ux_record::Peeked;
 use ux_rights::Origin;
 use ux_state::State;
 use ux_types::{Bytes, DescriptionId, Done, Errno, Fd, MsgFlags, Pid, Refusal, Reply, SockType};
@@ -225,7 +225,7 @@ fn recv_nothing<O: FileObject>(
 
 /// The reply that reports what was received at a socket of this type by a call with these flags, and what was
 /// delivered with it.
-fn received(kind: SockType, flags: MsgFlags, front: Received, delivery: Delivered) -> Reply
+fn received(kind: SockType, flags: MsgFlags, front: Peeked, delivery: Delivered) -> Reply
     ensures { result ≡ Reply.Received (received_flags (nat_lt (length front.bytes) front.whole) delivery.truncated (marks_records kind))
         (if asks_real_length flags then front.whole else length front.bytes) front.bytes delivery.control front.from }
 {

@@ -24,7 +24,7 @@ module _ {X : Type 0} where
   unfoldable pub in_order : List (Name × Binding X) → ℕ → List (Name × X)
   in_order es next = flat_map (bound_as es) (range_with_len 0 next)
 
-  -- no number stands twice, and none is still to come
+  -- no number stands twice, and none is still to be given
   pub record AreNumbered (es : List (Name × Binding X)) (next : ℕ) : Type 0 where
     pub once : (n : ℕ) → length (filter (has_number n) es) ≤ 1
     pub given : (n : ℕ) → next ≤ n → length (filter (has_number n) es) ≤ 0

@@ -21,4 +21,4 @@ pub use seed::Seed;
 #[doc(hidden)]
 pub use listing::{Binding, Listing};
 #[doc(hidden)]
-pub use paths::Target;
+pub use paths::KeptTarget;

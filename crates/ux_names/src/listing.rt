@@ -21,7 +21,7 @@ pub struct Binding<X> {
 /// Names, each once, in order of binding, with what they name. Contracts see the list of the pairs, and
 /// how many more names there is room for.
 pub struct Listing<X> {
-    /// In any order, so that a name goes without moving the others.
+    /// In any order, so that taking a name away moves no other.
     bound: IndexMap<Name, Binding<X>, Seed>,
     /// The number of the next binding.
     next: u64,
@@ -124,6 +124,7 @@ impl<X: Drop> Listing<X> {
     {
         let number = self.next;
         let Ok(_known) = self.bound.insert(name, Binding { number, value }) else {
+            // There is room, as the contract requires.
             unreachable!();
         };
         self.next = number + 1;

@@ -21,11 +21,11 @@ pub enum PathTarget {
 
 /// A path's target as it is kept.
 #[derive(Drop)]
-pub struct Target {
+pub struct KeptTarget {
     target: PathTarget,
 }
 
-impl Model for Target {
+impl Model for KeptTarget {
     ghost use Rattle.ux_model.specs.Names as model;
     ghost use Rattle.ux_names.specs.Targets.{target_of};
 
@@ -34,12 +34,12 @@ impl Model for Target {
     ghost view = { λ t. target_of t.target };
 }
 
-impl Target {
+impl KeptTarget {
     /// This target.
-    fn new(target: PathTarget) -> Target
+    fn new(target: PathTarget) -> KeptTarget
         ensures { result ≡ target_of target }
     {
-        Target { target }
+        KeptTarget { target }
     }
 
     /// What is kept.
@@ -53,7 +53,7 @@ impl Target {
 /// Paths in order of binding. Contracts see the list of the paths, each with what it names, and how many
 /// more can be bound without memory.
 pub struct Paths {
-    listing: Listing<Target>,
+    listing: Listing<KeptTarget>,
 }
 
 // Written out, so that it is proved here and not in each function that drops one.
@@ -164,7 +164,7 @@ impl Paths {
             return Err(BindError::Taken);
         }
         self.listing.reserve(1)?;
-        self.listing.bind_reserved(name, Target::new(target));
+        self.listing.bind_reserved(name, KeptTarget::new(target));
         Ok(())
     }
 

@@ -1,4 +1,4 @@
-//! The interface at a box: each call goes to the object inside. Nothing else names the box.
+//! The interface at a box: each call is made on the object inside. Nothing else names the box.
 
 use super::{FileObject, ObjError, ObjKind};
 

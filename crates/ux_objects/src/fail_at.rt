@@ -38,7 +38,7 @@ impl FailAt {
 
     /// Counts a read or a write, and reports whether it is the one that fails.
     fn fails_now(&mut self) -> bool
-        ensures tells { (result ≡ true) ↔ (self.old.left ≡ 1) }
+        ensures reported { (result ≡ true) ↔ (self.old.left ≡ 1) }
         ensures counts { self.new.left ≡ self.old.left - 1 }
         ensures failed { result ≡ true → IsFailure self.old.seen self.new.seen }
         ensures same { result ≡ false → self.new.seen ≡ self.old.seen }

@@ -36,7 +36,7 @@ impl MemFile {
     pub fn new(alloc: Global, bytes: &[u8]) -> Result<MemFile, ObjError>
         ensures made { IfOk result (λ f. f ≡ opened_with bytes.now) }
         ensures full { (result ≡ Err ObjError.Full) ↔ (file_limit < length bytes.now) }
-        ensures refused { OnErr result ((result ≡ Err ObjError.Full) ⊎ (result ≡ Err ObjError.NoMemory)) }
+        ensures errors { OnErr result ((result ≡ Err ObjError.Full) ⊎ (result ≡ Err ObjError.NoMemory)) }
     {
         if bytes.len() > LIMIT {
             return Err(ObjError::Full);
@@ -139,7 +139,7 @@ fn append_behind_gap(file: &mut Vec<u8>, start: usize, bytes: &[u8]) -> Result<(
     ensures err { OnErr result (file.new.items ≡ file.old.items) }
     ensures grows { OnErr result (length file.old.items < start + length bytes.now) }
 {
-    // All the room is taken first, so that neither of the two growths is refused.
+    // All the room is taken first, so that neither of the two growths fails.
     file.reserve(start - file.len() + bytes.len())?;
     file.resize(start, 0)?;
     file.extend_from_slice(bytes)?;

@@ -38,7 +38,7 @@ impl Pipe {
     /// `NoMemory` alone.
     pub fn new(alloc: Global) -> Result<Pipe, ObjError>
         ensures made { IfOk result (λ p. p ≡ opened_with []) }
-        ensures refused { IfErr result (λ e. e ≡ ObjError.NoMemory) }
+        ensures errors { IfErr result (λ e. e ≡ ObjError.NoMemory) }
     {
         Ok(Pipe {
             bytes: HeapCircularBuffer::with_capacity(alloc, LIMIT)?,

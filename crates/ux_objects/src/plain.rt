@@ -26,7 +26,7 @@ impl Plain {
     pub fn new(alloc: Global, kind: ObjKind, bytes: &[u8]) -> Result<Plain, ObjError>
         ensures made { IfOk result (λ p. plain_view p ≡ new_view (first_body kind bytes.now)) }
         ensures full { (result ≡ Err ObjError.Full) ↔ ((kind ≡ ObjKind.Memory) × (file_limit < length bytes.now)) }
-        ensures refused { OnErr result ((result ≡ Err ObjError.Full) ⊎ (result ≡ Err ObjError.NoMemory)) }
+        ensures errors { OnErr result ((result ≡ Err ObjError.Full) ⊎ (result ≡ Err ObjError.NoMemory)) }
     {
         match kind {
             ObjKind::Memory => Ok(Plain::Memory(MemFile::new(alloc, bytes)?)),

@@ -7,7 +7,7 @@ use std::alloc::{AllocError, Global};
 use std::process::Abort;
 use ux_backlog::PushError;
 use ux_description::{Description, Socket, Target};
-use ux_record::Received;
+use ux_record::Peeked;
 use ux_rights::{Draft, RefList, SendError};
 use ux_types::{Addr, Bytes, Cred, DescriptionId, Mode, OpenFlags, Pid, SockType};
 
@@ -56,15 +56,15 @@ fn expect_skip(rt: &impl Abort, skipped: (RefList, Option<u32>), numbers: &[u128
 fn expect_full(rt: &impl Abort, s: &mut Socket, rights: RefList, numbers: &[u128]) {
     match s.send(draft(3, &Bytes::short(b"z")), rights, None) {
         Ok(_) => assert!(rt; false),
-        Err(refused) => {
-            assert!(rt; refused.error == SendError::Full);
-            expect_references(rt, &refused.rights, numbers);
+        Err(unsent) => {
+            assert!(rt; unsent.error == SendError::Full);
+            expect_references(rt, &unsent.rights, numbers);
         }
     }
 }
 
 /// Sees what a receive gave.
-fn expect(rt: &impl Abort, received: Received, bytes: &[u8], numbers: &[u128]) {
+fn expect(rt: &impl Abort, received: Peeked, bytes: &[u8], numbers: &[u128]) {
     assert!(rt; received.bytes.as_slice() == bytes);
     expect_references(rt, &received.rights, numbers);
 }

@@ -6,7 +6,7 @@ use hoard::Hoard;
 use linked_list_allocator::LocalHeap;
 use std::alloc::{AllocError, Allocator, Global};
 use std::process::Abort;
-use ux_record::{Received, RecordQueue};
+use ux_record::{Peeked, RecordQueue};
 use ux_rights::{Draft, Origin, RefList, SendError};
 use ux_types::{Addr, Bytes, Cred, Pid};
 
@@ -20,7 +20,7 @@ const CRED: Cred = Cred {
 const RIGHTS: &[u128] = &[7, 8, 7];
 
 /// The message of call 9, of which two bytes were asked for.
-fn assert_cut(rt: &impl Abort, received: Received, from: &Option<Addr>) {
+fn assert_cut(rt: &impl Abort, received: Peeked, from: &Option<Addr>) {
     assert_eq!(rt; received.bytes.as_slice(), b"ab".as_slice());
     expect_references(rt, &received.rights, RIGHTS);
     let origin = Some(Origin { tag: 9, uid: 1000 });
@@ -32,7 +32,7 @@ fn assert_cut(rt: &impl Abort, received: Received, from: &Option<Addr>) {
 }
 
 /// A message without bytes, rights and a sender's name.
-fn assert_nothing(rt: &impl Abort, received: Received) {
+fn assert_nothing(rt: &impl Abort, received: Peeked) {
     assert_eq!(rt;
         (received.bytes.len(), received.whole, received.origin),
         (0, 0, None)
@@ -64,7 +64,7 @@ fn receive<A: Allocator + Copy>(
     rt: &impl Abort,
     queue: &mut RecordQueue<A>,
     n: usize,
-) -> Result<Received, AllocError>
+) -> Result<Peeked, AllocError>
     requires { 0 < length queue.old }
 {
     let received = queue.peek(n)?;
@@ -161,10 +161,10 @@ fn expect_full(
     };
     match queue.send(draft, rights, from.clone()?) {
         Ok(()) => assert!(rt; false),
-        Err(refused) => {
-            assert_eq!(rt; refused.error, SendError::Full);
-            expect_references(rt, &refused.rights, RIGHTS);
-            assert!(rt; refused.from == *from);
+        Err(unsent) => {
+            assert_eq!(rt; unsent.error, SendError::Full);
+            expect_references(rt, &unsent.rights, RIGHTS);
+            assert!(rt; unsent.from == *from);
         }
     }
     Ok(())
@@ -211,17 +211,17 @@ fn is_queued<A: Allocator + Copy>(
     };
     match queue.send(draft, rights, name) {
         Ok(()) => Ok(true),
-        Err(refused) => {
-            assert_eq!(rt; refused.error, SendError::NoMemory);
-            expect_references(rt, &refused.rights, RIGHTS);
-            assert!(rt; refused.from == *from);
+        Err(unsent) => {
+            assert_eq!(rt; unsent.error, SendError::NoMemory);
+            expect_references(rt, &unsent.rights, RIGHTS);
+            assert!(rt; unsent.from == *from);
             Ok(false)
         }
     }
 }
 
 /// Sees what a receive gives of a message with 20 bytes.
-fn expect_whole(rt: &impl Abort, received: Received, tag: u8, from: &Option<Addr>) {
+fn expect_whole(rt: &impl Abort, received: Peeked, tag: u8, from: &Option<Addr>) {
     assert_eq!(rt; received.bytes.as_slice(), [tag; 20].as_slice());
     expect_references(rt, &received.rights, RIGHTS);
     assert!(rt; received.from == *from);
@@ -304,7 +304,7 @@ fn what_cannot_be_copied_moves(rt: HostRuntime) -> Result<(), AllocError> {
 }
 
 /// Sees what a receive of at most n bytes gives of a message without rights.
-fn expect_first(rt: &impl Abort, received: Received, n: usize, bytes: &[u8], from: &Option<Addr>) {
+fn expect_first(rt: &impl Abort, received: Peeked, n: usize, bytes: &[u8], from: &Option<Addr>) {
     assert_eq!(rt; received.bytes.as_slice(), &bytes[..n.min(bytes.len())]);
     assert_eq!(rt; (received.whole, received.rights.len()), (bytes.len(), 0));
     assert!(rt; received.from == *from);

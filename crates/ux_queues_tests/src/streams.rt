@@ -10,7 +10,7 @@ use list_queue::{ListFront, ListMessage, ListQueue};
 use std::alloc::{AllocError, Allocator, Global};
 use std::process::Abort;
 use ux_rights::{Draft, Origin, RefList, SendError};
-use ux_stream::{Received, StreamQueue};
+use ux_stream::{PeekedBytes, StreamQueue};
 use ux_types::{Bytes, Cred, Pid, SHORT_BYTES};
 
 /// Pseudo-random numbers, by a linear congruence (Knuth's MMIX).
@@ -58,7 +58,7 @@ impl Dice {
     }
 }
 
-fn assert_front(rt: &impl Abort, received: Received, wanted: &ListFront) {
+fn assert_front(rt: &impl Abort, received: PeekedBytes, wanted: &ListFront) {
     assert_eq!(rt; received.bytes.as_slice(), wanted.bytes.as_slice());
     expect_references(rt, &received.rights, &wanted.rights);
     assert_eq!(rt;
@@ -136,9 +136,9 @@ impl<A: Allocator + Copy> Both<A> {
                 m.bytes.truncate(room);
                 self.list.messages.push_back(m)?;
             }
-            Err(refused) => {
-                expect_references(rt, &refused.rights, &m.rights);
-                assert_eq!(rt; refused.error == SendError::Full, room == 0);
+            Err(unsent) => {
+                expect_references(rt, &unsent.rights, &m.rights);
+                assert_eq!(rt; unsent.error == SendError::Full, room == 0);
                 if room > 0 {
                     self.refused_sends = self.refused_sends.saturating_add(1);
                 }

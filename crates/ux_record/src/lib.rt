@@ -4,5 +4,5 @@
 mod queue;
 mod record;
 
-pub use queue::{RecordQueue, Refused};
-pub use record::{Received, Record};
+pub use queue::{RecordQueue, UnsentRecord};
+pub use record::{Peeked, Record};

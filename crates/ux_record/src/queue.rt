@@ -5,18 +5,17 @@ ghost use Rattle.ux_model.specs.Front.{OnRecordFront};
 ghost use Rattle.ux_record.specs.Shown.{Shows};
 ghost use Rattle.ux_rights.specs.Drafts.{drafted};
 
-use crate::record::{Received, Record};
+use crate::record::{Peeked, Record};
 use std::alloc::{AllocError, Allocator, Global};
 use std::collections::VecDeque;
 use std::marker::Model;
 use ux_rights::{Draft, RefList, SendError};
 use ux_types::{Addr, RECORD_LIMIT};
 
-/// A send that was refused.
+/// A send that failed, with what was to be sent.
 #[derive(Drop)]
-pub struct Refused {
+pub struct UnsentRecord {
     pub error: SendError,
-    /// The rights that were to be sent.
     pub rights: RefList,
     /// The sender's name.
     pub from: Option<Addr>,
@@ -91,14 +90,14 @@ impl<A: Allocator + Copy> RecordQueue<A> {
     ///
     /// # Errors
     ///
-    /// `Full` exactly where as many wait as may, else `NoMemory`. The rights and the name come back, and the
+    /// `Full` exactly where as many wait as may, else `NoMemory`. The rights and the name are given back, and the
     /// queue stands as before.
     pub fn send(
         &mut self,
         draft: Draft<'_>,
         rights: RefList,
         from: Option<Addr>,
-    ) -> Result<(), Refused>
+    ) -> Result<(), UnsentRecord>
         ensures ok { OnOk result (self.new ≡ self.old ++ drafted draft.entry rights from ∷ []) }
         ensures full { IsErrAnd result (λ e. e.error ≡ SendError.Full) ↔ (record_limit ≤ length self.old) }
         ensures rights_back { IfErr result (λ e. e.rights ≡ rights) }
@@ -106,7 +105,7 @@ impl<A: Allocator + Copy> RecordQueue<A> {
         ensures err { OnErr result (self.new ≡ self.old) }
     {
         if self.is_full() {
-            return Err(Refused {
+            return Err(UnsentRecord {
                 error: SendError::Full,
                 rights,
                 from,
@@ -114,7 +113,7 @@ impl<A: Allocator + Copy> RecordQueue<A> {
         }
         let error = SendError::NoMemory;
         let Ok(bytes) = draft.bytes.clone() else {
-            return Err(Refused {
+            return Err(UnsentRecord {
                 error,
                 rights,
                 from,
@@ -123,7 +122,7 @@ impl<A: Allocator + Copy> RecordQueue<A> {
         let record = Record::new(draft.tag, bytes, rights, draft.cred, draft.uid, from);
         if let Err(failed) = self.records.push_back(record) {
             let (rights, from) = failed.value.into_parts();
-            return Err(Refused {
+            return Err(UnsentRecord {
                 error,
                 rights,
                 from,
@@ -138,12 +137,12 @@ impl<A: Allocator + Copy> RecordQueue<A> {
     /// # Errors
     ///
     /// Out of memory.
-    pub fn peek(&self, n: usize) -> Result<Received, AllocError>
+    pub fn peek(&self, n: usize) -> Result<Peeked, AllocError>
         requires { 0 < length self.now }
         ensures shows { IfOk result (λ r. OnRecordFront n self.now (λ f. Shows f r)) }
         ensures some_origin { IfOk result (λ r. IsSome r.origin ↔ (0 < length r.rights)) }
     {
-        self.records[0].copy_received(n)
+        self.records[0].peek(n)
     }
 
     /// Takes the first message off, and gives its rights and the user of the process that sent it. None

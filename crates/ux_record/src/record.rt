@@ -7,9 +7,9 @@ use std::marker::Model;
 use ux_rights::{Origin, RefList, Reference};
 use ux_types::{Addr, Bytes, Cred};
 
-/// What a receive gives.
+/// What a receive gives of a message that stays in its queue.
 #[derive(Drop)]
-pub struct Received {
+pub struct Peeked {
     /// The message's first bytes, no more than were asked for.
     pub bytes: Bytes,
     /// How many bytes the message had. With more than were asked for it is truncated (MSG_TRUNC of
@@ -120,7 +120,7 @@ impl Record {
     }
 
     /// What a receive of at most n bytes gives. The message stays where it is.
-    pub fn copy_received(&self, n: usize) -> Result<Received, AllocError>
+    pub fn peek(&self, n: usize) -> Result<Peeked, AllocError>
         ensures bytes { IfOk result (λ r. r.bytes ≡ take n self.now.bytes) }
         ensures whole { IfOk result (λ r. r.whole ≡ length self.now.bytes) }
         ensures rights { IfOk result (λ r. r.rights ≡ self.now.rights) }
@@ -128,7 +128,7 @@ impl Record {
         ensures cred { IfOk result (λ r. r.cred ≡ self.now.cred) }
         ensures from { IfOk result (λ r. r.from ≡ self.now.from) }
     {
-        Ok(Received {
+        Ok(Peeked {
             bytes: self.bytes.clone()?.first(n),
             whole: self.bytes.len(),
             rights: self.rights.clone()?,

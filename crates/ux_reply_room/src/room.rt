@@ -68,7 +68,7 @@ impl ReplyRoom {
     ///
     /// # Errors
     ///
-    /// An allocation was refused.
+    /// An allocation failed.
     pub fn for_request(alloc: Global, request: &Request) -> Result<ReplyRoom, AllocError>
         ensures { IfOk result (λ room. Fits (room_for request.now) room) }
     {
@@ -92,7 +92,7 @@ impl ReplyRoom {
     ///
     /// # Errors
     ///
-    /// An allocation was refused.
+    /// An allocation failed.
     pub fn provide(
         kept: &mut Option<ReplyRoom>,
         alloc: Global,
@@ -122,6 +122,7 @@ impl ReplyRoom {
         }
         match kept.take() {
             Some(room) => room.copy(reply),
+            // There is room, as the contract requires.
             None => unreachable!(),
         }
     }

@@ -3,13 +3,13 @@
 #![tactic(auto)]
 
 mod draft;
+mod installing;
 mod origin;
-mod plan;
 mod references;
 mod refusals;
 
 pub use draft::Draft;
+pub use installing::install_count;
 pub use origin::Origin;
-pub use plan::{Plan, plan_rights};
 pub use references::{INLINE, RefList, Reference};
 pub use refusals::SendError;

@@ -66,7 +66,7 @@ module _ {T : Type 0} where
     pub found : (d k : ℕ) → key d ≡ Some k → number_in (slot k) ≡ Some d
     -- and each slot is found so
     pub indexed : (k : ℕ) (s : Slot T) → slot k ≡ Some s → key s.number ≡ Some k
-    -- a number that is still to come leads nowhere
+    -- a number that is still to be given leads nowhere
     pub young : (d k : ℕ) → key d ≡ Some k → d < next
     pub released : IsReleaseList slot head
 

@@ -159,6 +159,7 @@ impl<T> Slots<T> {
         let number = self.next;
         let key = self.slots.vacant_key();
         let known = self.index.insert(number, key);
+        // There is room, as the contract requires.
         if known.is_err() {
             unreachable!();
         }
@@ -233,7 +234,7 @@ impl<T> Slots<T> {
         }
     }
 
-    /// Counts no reference to any value. It goes through all slots, and takes no memory.
+    /// Counts no reference to any value. It visits all slots, and takes no memory.
     pub fn release_all(&mut self)
         ensures places { self.new.places ≡ self.old.places }
         ensures counts { (d : ℕ) → count_at self.new d ≡ 0 }
@@ -257,6 +258,7 @@ impl<T> Slots<T> {
         let key = self.head?;
         let slot = self.slots.remove(key);
         let number = slot.number;
+        // It has a name, since the proof cites the call by it.
         let _key = self.index.remove(&number);
         self.head = slot.next;
         Some((DescriptionId::new(number), slot.value))

@@ -1,4 +1,4 @@
-//! Names that sockets get, and names that go.
+//! Names that sockets get, and names that are freed.
 ghost use Rattle.std.specs.Prelude.{◌≡◌, ◌≤◌, ◌<◌, ◌↔◌, ℕ, None, Err, IsSome, IsSomeAnd, IfOk, OnOk, OnErr, length, map, option_map};
 ghost use Rattle.ux_model.specs.Places.{changed_place};
 ghost use Rattle.ux_model.specs.Names.{named, without_name, free_name};
@@ -39,7 +39,7 @@ impl<O: FileObject> State<O> {
         Ok(())
     }
 
-    /// Gives a socket without a name one of the abstract namespace (bind(2)), which goes with the socket.
+    /// Gives a socket without a name one of the abstract namespace (bind(2)), which is freed with the socket.
     ///
     /// # Errors
     ///
@@ -107,7 +107,7 @@ pub(crate) fn unlink_all(links: &mut Vec<usize>)
     }
 }
 
-/// The name that the socket of a description shows goes with it, if that leads to it. A server's end
+/// Frees the name that the socket of a description shows, if that leads to it. A server's end
 /// shows its listener's name, which stays.
 pub(crate) fn drop_name(names: &mut AbstractNames, gone: &Description, id: DescriptionId)
     ensures { names.new ≡ without_shown (target_name gone.now.target) id names.old }

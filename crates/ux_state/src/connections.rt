@@ -57,6 +57,7 @@ impl<O: FileObject> State<O> {
         self.descriptions.reserve(1)?;
         let id = self.descriptions.next_id();
         push_pending(&mut self.descriptions, listener, id)?;
+        // It has a name, since the proof cites the call by it.
         let _id = self.descriptions.insert_reserved(end);
         tie(&mut self.descriptions, client, id, listener_cred);
         Ok(())
@@ -84,6 +85,7 @@ impl<O: FileObject> State<O> {
         ensures err { OnErr result (self.new ≡ self.old) }
     {
         let Some(end) = self.first_pending(listener) else {
+            // An end waits, as the contract requires.
             unreachable!();
         };
         // Its new descriptor counts before the listener no longer does.
@@ -154,9 +156,11 @@ impl<O: FileObject> State<O> {
         ensures full { (result ≡ Err PushError.Full) ↔ OnListener self.now listener (λ s kept. kept.backlog.limit ≤ length kept.backlog.pending) }
     {
         let Some(socket) = self.socket(listener) else {
+            // It is a listener, as the contract requires.
             unreachable!();
         };
         let (Some(backlog), Some(listener_cred)) = (socket.backlog(), socket.listener_cred()) else {
+            // It is a listener, as the contract requires.
             unreachable!();
         };
         // A full backlog comes before ENOMEM.
@@ -219,6 +223,7 @@ fn push_pending(
 {
     match slots.get_mut(id) {
         Some(x) => x.push_pending(end),
+        // It is a listener, as the contract requires.
         None => unreachable!(),
     }
 }

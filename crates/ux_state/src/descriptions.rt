@@ -67,6 +67,7 @@ impl<O: FileObject> State<O> {
     {
         match self.socket(id) {
             Some(socket) => socket.has_room(),
+            // It is a socket, as the contract requires.
             None => unreachable!(),
         }
     }
@@ -165,8 +166,9 @@ fn push_message(
     match slots.get_mut(id) {
         Some(x) => match x.send(draft, rights, from) {
             Ok(count) => Ok(count),
-            Err(refused) => Err(refused.rights),
+            Err(unsent) => Err(unsent.rights),
         },
+        // It is a socket, as the contract requires.
         None => unreachable!(),
     }
 }
@@ -186,6 +188,7 @@ fn skip_message(
 {
     match slots.get_mut(id) {
         Some(x) => x.skip(n),
+        // It is a socket, as the contract requires.
         None => unreachable!(),
     }
 }

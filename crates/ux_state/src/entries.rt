@@ -95,6 +95,7 @@ impl<O: FileObject> State<O> {
         let process = process_mut(&mut self.processes, pid);
         let fd = process.table.install(new_entry(flags, id))?;
         count_in(&mut self.openings, &description);
+        // It has a name, since the proof cites the call by it.
         let _id = self.descriptions.insert_reserved(description);
         Ok(fd)
     }
@@ -130,6 +131,7 @@ impl<O: FileObject> State<O> {
         let process = process_mut(&mut self.processes, pid);
         let entries = (new_entry(flags, first), new_entry(flags, second));
         let two = process.table.install_two(entries.0, entries.1)?;
+        // They have names, since the proof cites the calls by them.
         let _first = self
             .descriptions
             .insert_reserved(pair_end(alloc, kind, flags, second, cred));

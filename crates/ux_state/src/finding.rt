@@ -164,10 +164,7 @@ impl<O: FileObject> State<O> {
         requires { IsTrue (is_live self.now pid.0) }
         ensures { MatchResult result (λ r. find_socket self.now pid.0 fd ≡ Ok (r.id, r.socket.now)) (λ e. find_socket self.now pid.0 fd ≡ Err e) }
     {
-        let found = match self.find_description(pid, fd) {
-            Ok(found) => found,
-            Err(error) => return Err(error),
-        };
+        let found = self.find_description(pid, fd)?;
         match found.description.socket() {
             Some(socket) => Ok(FoundSocket {
                 id: found.descriptor.description,

@@ -1,6 +1,6 @@
 //! The whole state of the layer as one value: file objects, open file descriptions, processes with their
 //! descriptor tables, and paths. It changes by named moves, each a method with its own clause, and
-//! `settle` lets go of what nothing refers to any more. Whatever counts or refers lies behind it.
+//! `settle` frees what nothing refers to any more. Whatever counts or refers lies behind it.
 #![tactic(auto)]
 
 mod binding;

@@ -144,6 +144,7 @@ fn bind_file(paths: &mut Paths, name: Name, object: u32)
 {
     match paths.bind(name, PathTarget::File(object)) {
         Ok(()) => {}
+        // The name is new and has room, as the contract requires.
         Err(BindError::Taken) => unreachable!(),
         Err(BindError::NoMemory) => unreachable!(),
     }

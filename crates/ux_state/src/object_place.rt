@@ -50,6 +50,7 @@ impl<O: FileObject> ObjectPlace<O> {
     {
         match &mut self.object {
             Some(object) => object.read(at, buf),
+            // It is there, as the contract requires.
             None => unreachable!(),
         }
     }
@@ -61,6 +62,7 @@ impl<O: FileObject> ObjectPlace<O> {
     {
         match &mut self.object {
             Some(object) => object.write(at, bytes),
+            // It is there, as the contract requires.
             None => unreachable!(),
         }
     }

@@ -64,7 +64,7 @@ pub(crate) fn count_in(openings: &mut Vec<Openings>, description: &Description)
     }
 }
 
-/// No longer counts a description that goes.
+/// No longer counts a description that is freed.
 pub(crate) fn count_out(openings: &mut Vec<Openings>, description: &Description)
     requires { IsAmong description.now openings.old.items }
     ensures { CountsOneMore description.now openings.new.items openings.old.items }

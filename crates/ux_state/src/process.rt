@@ -57,7 +57,7 @@ impl Process {
         })
     }
 
-    /// Gives it other ids. Its privileges go where it was user 0 and is another now (capabilities(7)).
+    /// Gives it other ids. It loses its privileges where it was user 0 and is another now (capabilities(7)).
     pub(crate) fn set_ids(&mut self, uid: u32, gid: u32)
         ensures { self.new ≡ with_ids uid gid self.old }
     {

@@ -21,6 +21,7 @@ pub(crate) fn retain(slots: &mut Slots<Description>, id: DescriptionId)
     ensures { HasMore (once id) slots.old slots.new }
 {
     if slots.retain_ref(id).is_err() {
+        // There is room, as the contract requires.
         unreachable!();
     }
 }
@@ -154,7 +155,7 @@ fn release_pending(slots: &mut Slots<Description>, socket: &mut Socket)
     }
 }
 
-/// Counts the references less that a description holds, which has gone, and its rights in flight.
+/// Counts the references less that a description holds, which was freed, and its rights in flight.
 pub(crate) fn release_held(slots: &mut Slots<Description>, flights: &mut Flights, gone: Description)
     requires counted { (k : ℕ) → target_refs k gone.target ≤ count_at slots.old k }
     requires flying { (u : ℕ) → flying_at u gone.target ≤ flights_of flights.old u }

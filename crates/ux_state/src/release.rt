@@ -1,4 +1,4 @@
-//! The end of a call: what nothing refers to goes.
+//! The end of a call: what nothing refers to is freed.
 ghost use Rattle.std.specs.Prelude.{◌≡◌, ℕ, ◌<◌, ◌==◌, [], length, map, option_map, true, false, MatchOption, None, is_some, filter, ◌++◌, ◌∷◌};
 ghost use Rattle.std.specs.List.{list_any};
 ghost use Rattle.ux_model.specs.Limits.{object_limit};
@@ -53,10 +53,11 @@ impl<O: FileObject> State<O> {
     }
 
     /// Drops each description that nothing refers to, again until none is left. It looks at none but
-    /// those that go and the peer of each.
+    /// those that it drops and the peer of each.
     fn drop_unreferenced(&mut self)
         ensures { self.new ≡ drop_unreferenced self.old }
     {
+        // The proof names the loop by what it binds.
         while let Some(d) = self.drop_dead() {}
     }
 
@@ -136,7 +137,7 @@ fn hand_out<O: FileObject>(released: &mut ReleasedObjects<O>, number: u32, objec
     }
 }
 
-/// ECONNRESET is pending at the peer of one that goes, if it is still there.
+/// ECONNRESET is pending at the peer of one that is freed, if the peer is still there.
 fn reset_peer(slots: &mut Slots<Description>, peer: Option<DescriptionId>)
     ensures places { slots.new.places ≡ with_peer_reset peer slots.old.places }
     ensures counts { slots.new.counts ≡ slots.old.counts }
@@ -148,12 +149,13 @@ fn reset_peer(slots: &mut Slots<Description>, peer: Option<DescriptionId>)
     }
 }
 
-/// Each description goes, whatever refers to it.
+/// Frees each description, whatever refers to it.
 fn forget(slots: &mut Slots<Description>)
     ensures places { slots.new.places ≡ map (λ _. None) slots.old.places }
     ensures counts { (d : ℕ) → count_at slots.new d ≡ 0 }
 {
     slots.release_all();
+    // The proof names the loop by what it binds.
     while let Some(gone) = slots.next_dead() {}
 }
 

@@ -1,4 +1,4 @@
-//! The file objects that one call let go of.
+//! The file objects that one call closed.
 ghost use Rattle.std.specs.Prelude.{◌≡◌, ◌<◌, ◌≤◌, ◌==◌, ◌++◌, ◌∷◌, [], Some, IfOk, length};
 ghost use Rattle.ux_model.specs.Limits.{object_limit};
 
@@ -52,8 +52,8 @@ impl<O: FileObject> ReleasedObject<O> {
     }
 }
 
-/// The file objects that one call let go of, by rising number. Their room is made before, so a call that
-/// lets go of them takes no memory. Contracts see them as a list.
+/// The file objects that one call closed, by rising number. Their room is made before, so a call that
+/// closes them takes no memory. Contracts see them as a list.
 pub struct ReleasedObjects<O: FileObject> {
     objects: Vec<ReleasedObject<O>>,
 }

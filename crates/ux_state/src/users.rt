@@ -10,7 +10,7 @@ use ux_object::FileObject;
 use ux_types::Pid;
 
 impl<O: FileObject> State<O> {
-    /// Gives a process other ids (setresuid(2), setresgid(2)). Its privileges go where it was user 0 and is another
+    /// Gives a process other ids (setresuid(2), setresgid(2)). It loses its privileges where it was user 0 and is another
     /// now (capabilities(7)). Rights in flight stay counted to the user that sent them.
     pub fn set_ids(&mut self, pid: Pid, uid: u32, gid: u32)
         requires { IsTrue (is_live self.old pid.0) }

@@ -3,7 +3,7 @@ use Rattle.std.proofs.Common.{◌≡◌, ℕ, Bool, List, [], ◌∷◌}
 use Rattle.ux_model.specs.Message.{Message}
 use Rattle.ux_model.specs.Front.{OnStreamFront}
 use Rattle.ux_stream.specs.declared.marks.Reach.{Reach}
-use Rattle.ux_stream.specs.declared.queue.Received.{Received}
+use Rattle.ux_stream.specs.declared.queue.PeekedBytes.{PeekedBytes}
 use Rattle.ux_stream.specs.Marks.{Stretch, cut_by, IsReach}
 use Rattle.ux_stream.specs.Shown.{Shows}
 
@@ -12,7 +12,7 @@ pub front_cred : (wants : Bool) (n : ℕ) (reach : Reach) (ms : List Stretch) (b
 front_cred wants n reach [] bs reached = tt
 front_cred wants n reach (m ∷ ms) bs reached = reached.0
 
-pub front_shows : (wants : Bool) (n : ℕ) (q : List Message) (r : Received) → OnStreamFront wants n q (λ f. r.bytes ≡ f.bytes) →
+pub front_shows : (wants : Bool) (n : ℕ) (q : List Message) (r : PeekedBytes) → OnStreamFront wants n q (λ f. r.bytes ≡ f.bytes) →
     OnStreamFront wants n q (λ f. r.rights ≡ f.rights) →
     OnStreamFront wants n q (λ f. r.origin ≡ f.origin) → OnStreamFront wants n q (λ f. r.cred ≡ f.cred) →
     OnStreamFront wants n q (λ f. Shows f r)

@@ -11,7 +11,7 @@ use ux_types::{Bytes, SHORT_BYTES};
 /// The places of the smallest ring.
 const SMALLEST: usize = 64;
 
-/// Bytes in order, in one ring, which is made before the first byte comes and grows by doubling.
+/// Bytes in order, in one ring, which is made before the first byte is put in, and grows by doubling.
 /// Contracts see the bytes and how many there is room for.
 #[derive(Drop)]
 pub struct ByteRing<A: Allocator + Copy = Global> {

@@ -83,7 +83,7 @@ impl Mark {
         wants_cred && self.cred != cred
     }
 
-    /// Whether no rights go with it.
+    /// Whether it carries no rights.
     pub fn is_plain(&self) -> bool
         ensures { result ≡ (length self.now.rights == 0) }
     {

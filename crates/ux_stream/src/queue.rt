@@ -16,17 +16,16 @@ use std::marker::Model;
 use ux_rights::{Draft, Origin, RefList, SendError};
 use ux_types::{Bytes, Cred};
 
-/// A send that was refused.
+/// A send that failed, with what was to be sent.
 #[derive(Drop)]
-pub struct Refused {
+pub struct Unsent {
     pub error: SendError,
-    /// The rights that were to be sent.
     pub rights: RefList,
 }
 
-/// What a receive gives.
+/// What a receive gives of bytes that stay in their queue.
 #[derive(Drop)]
-pub struct Received {
+pub struct PeekedBytes {
     pub bytes: Bytes,
     pub rights: RefList,
     /// The send that the rights come from, where there are any.
@@ -120,9 +119,9 @@ impl<A: Allocator + Copy> StreamQueue<A> {
     ///
     /// # Errors
     ///
-    /// `Full` exactly where there is no room, else `NoMemory`. The rights come back, and the queue stands as
+    /// `Full` exactly where there is no room, else `NoMemory`. The rights are given back, and the queue stands as
     /// before.
-    pub fn send(&mut self, draft: Draft<'_>, room: usize, rights: RefList) -> Result<usize, Refused>
+    pub fn send(&mut self, draft: Draft<'_>, room: usize, rights: RefList) -> Result<usize, Unsent>
         requires { 0 < length draft.bytes.now }
         ensures count { IfOk result (λ count. count ≡ min room (length draft.entry.bytes.now)) }
         ensures ok { OnOk result (self.new ≡ self.old ++ record (drafted draft.entry rights None) { bytes = take room draft.entry.bytes.now } ∷ []) }
@@ -132,18 +131,18 @@ impl<A: Allocator + Copy> StreamQueue<A> {
     {
         if room == 0 {
             let error = SendError::Full;
-            return Err(Refused { error, rights });
+            return Err(Unsent { error, rights });
         }
         let error = SendError::NoMemory;
         let bytes = draft.bytes.as_slice();
         let count = room.min(bytes.len());
         if self.ring.reserve(self.alloc, count).is_err() {
-            return Err(Refused { error, rights });
+            return Err(Unsent { error, rights });
         }
         let mark = Mark::new(draft, count, rights);
         if let Err(failed) = self.marks.push_back(mark) {
             let rights = failed.value.into_rights();
-            return Err(Refused { error, rights });
+            return Err(Unsent { error, rights });
         }
         self.ring.append(&bytes[..count]);
         Ok(count)
@@ -169,7 +168,7 @@ impl<A: Allocator + Copy> StreamQueue<A> {
     /// # Errors
     ///
     /// Out of memory.
-    pub fn peek(&self, alloc: Global, n: usize, wants_cred: bool) -> Result<Received, AllocError>
+    pub fn peek(&self, alloc: Global, n: usize, wants_cred: bool) -> Result<PeekedBytes, AllocError>
         requires { 0 < length self.now }
         ensures shows { IfOk result (λ r. OnStreamFront wants_cred n self.now (λ f. Shows f r)) }
         ensures some_origin { IfOk result (λ r. IsSome r.origin ↔ (0 < length r.rights)) }
@@ -177,7 +176,7 @@ impl<A: Allocator + Copy> StreamQueue<A> {
         let reach = reach_of(&self.marks, n, wants_cred);
         let bytes = self.ring.front(alloc, reach.count)?;
         let rights = copy_rights(&self.marks, reach.count)?;
-        Ok(Received {
+        Ok(PeekedBytes {
             bytes,
             rights: rights.references,
             origin: rights.origin,

@@ -9,5 +9,5 @@ returns g c =
     let T : List (Option Descriptor) = table_of c.args.state.now c.args.pid.0 in
     let long : length T ≡ c.limit.result = ap length (sym c.table-table.ensures) ∙ sym c.limit.ensures in
     subst (λ ns. IfOk c.lowest_numbers.result (λ numbers. map (λ fd. fd.0) numbers.items ≡ ns))
-    ((λ j. take (c.plan_rights-plan.ensures.install j) (free_numbers (c.table-table.ensures j)))
+    ((λ j. take (c.install_count-count.ensures j) (free_numbers (c.table-table.ensures j)))
     ∙ planned c.args.count c.args.space c.limit.result T long) c.lowest_numbers.ensures.numbers
