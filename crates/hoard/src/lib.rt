@@ -1,4 +1,4 @@
-//! For tests: takes all memory that there is, so that the next allocation is refused, or all but so many bytes.
+//! For tests: takes all memory that there is, so that the next allocation fails, or all but so many bytes.
 #![tactic(auto)]
 
 ghost use Rattle.std.specs.Prelude.{◌≤◌};
@@ -61,14 +61,14 @@ mod tests {
     use std::test::Fail;
 
     #[test]
-    fn the_next_allocation_is_refused(rt: HostRuntime) -> Result<(), Fail> {
+    fn the_next_allocation_fails(rt: HostRuntime) -> Result<(), Fail> {
         let alloc = rt.alloc();
         let hoard = Hoard::take_all(alloc)?;
         let one: Result<Vec<u8>, AllocError> = Vec::with_capacity(alloc, 1);
         let page: Result<Vec<u8>, AllocError> = Vec::with_capacity(alloc, 4096);
-        let refused = one.is_err() && page.is_err();
+        let failed = one.is_err() && page.is_err();
         drop(hoard);
-        assert!(rt; refused);
+        assert!(rt; failed);
         let again: Result<Vec<u8>, AllocError> = Vec::with_capacity(alloc, 4096);
         assert!(rt; again.is_ok());
         Ok(())
@@ -93,9 +93,9 @@ mod tests {
         let alloc = rt.alloc();
         let mut purse = Purse::new(alloc)?;
         let mut right = true;
-        for (left, given, refused) in LEFT {
+        for (left, given, larger) in LEFT {
             purse.leave(alloc, *left);
-            right = right && !is_given(alloc, *refused) && is_given(alloc, *given);
+            right = right && !is_given(alloc, *larger) && is_given(alloc, *given);
             purse.refill(alloc);
             right = right && !is_given(alloc, 1);
             purse.open();

@@ -21,8 +21,8 @@ struct Hall<W: BookName> {
     seats: Vec<Option<Seat<W, Plain>>>,
     receipts: Vec<Receipt<W>>,
     spents: Vec<Spent<W>>,
-    /// How many calls were refused memory.
-    refusals: usize,
+    /// How many calls lacked memory.
+    failures: usize,
 }
 
 /// Written out, a drop is a call, and not each of its parts in the proof of each function that drops one.
@@ -33,7 +33,7 @@ impl<W: BookName> Drop for Hall<W> {
             seats,
             receipts,
             spents,
-            refusals: _,
+            failures: _,
         } = self;
         drop(seats);
         drop(receipts);
@@ -46,8 +46,9 @@ impl<W: BookName> Drop for Hall<W> {
 #[derive(Clone, Copy, PartialEq, Eq)]
 enum Made {
     Answered,
-    /// It was refused memory: by the book, which made no entry, or by the kernel, which made one.
-    Refused,
+    /// An allocation failed: the book didn't make the call, and there is no entry, or the kernel answered ENOMEM, and there
+    /// is one.
+    OutOfMemory,
 }
 
 impl<W: BookName> Hall<W> {
@@ -71,7 +72,7 @@ impl<W: BookName> Hall<W> {
             seats: places,
             receipts: Vec::with_capacity(alloc, calls)?,
             spents,
-            refusals: 0,
+            failures: 0,
         })
     }
 
@@ -122,12 +123,12 @@ impl<W: BookName> Hall<W> {
                 }
                 self.keep(child)?;
                 Ok(if refused {
-                    Made::Refused
+                    Made::OutOfMemory
                 } else {
                     Made::Answered
                 })
             }
-            Err(CallFault::NoMemory) if (counted, entered) == (0, 0) => Ok(Made::Refused),
+            Err(CallFault::NoMemory) if (counted, entered) == (0, 0) => Ok(Made::OutOfMemory),
             Err(fault) => Err(anyhow!("{fault}")),
         }
     }
@@ -146,7 +147,7 @@ impl<W: BookName> Hall<W> {
         Ok(())
     }
 
-    /// Makes a call with no memory, and with more while it is refused.
+    /// Makes a call with no memory, and with more while an allocation fails.
     fn call_at_last<R: Wait + AllocGlobal>(
         &mut self,
         rt: &R,
@@ -158,11 +159,11 @@ impl<W: BookName> Hall<W> {
             if self.call(rt, purse, Some(bytes_at(step)), pid, request)? == Made::Answered {
                 return Ok(());
             }
-            self.refusals = self.refusals.saturating_add(1);
+            self.failures = self.failures.saturating_add(1);
         }
         // It wants more than a purse leaves.
-        if self.call(rt, purse, None, pid, request)? == Made::Refused {
-            return Err(anyhow!("refused with ample memory"));
+        if self.call(rt, purse, None, pid, request)? == Made::OutOfMemory {
+            return Err(anyhow!("out of memory with ample memory"));
         }
         Ok(())
     }
@@ -179,8 +180,8 @@ impl<W: BookName> Hall<W> {
         Ok(())
     }
 
-    /// Makes a line's call, which is the script's call of this number. A process that a refused fork didn't make
-    /// makes none.
+    /// Makes a line's call, which is the script's call of this number. A process that no fork made for lack
+    /// of memory makes none.
     fn make<R: Wait + AllocGlobal>(
         &mut self,
         rt: &R,
@@ -204,8 +205,8 @@ impl<W: BookName> Hall<W> {
                 Ok(())
             }
             Supply::Ample | Supply::NoneAfter(_) => {
-                if self.call(rt, purse, None, pid, request)? == Made::Refused {
-                    return Err(anyhow!("refused with ample memory"));
+                if self.call(rt, purse, None, pid, request)? == Made::OutOfMemory {
+                    return Err(anyhow!("out of memory with ample memory"));
                 }
                 Ok(())
             }
@@ -248,7 +249,7 @@ impl<W: BookName> Hall<W> {
             seats,
             mut receipts,
             mut spents,
-            refusals: _,
+            failures: _,
         } = self;
         drop(seats);
         let settled = layer.settle_with(rt, &mut spents, &mut receipts);
@@ -309,8 +310,8 @@ pub fn run_by_seats<W: BookName, R: Wait + AllocGlobal>(
     let mut hall = Hall::new(alloc, layer, seats, script.lines.len())?;
     hall.make_calls(rt, purse, supply, script)?;
     if matches!(supply, Supply::Scarce(_)) {
-        if hall.refusals == 0 {
-            return Err(anyhow!("no call is refused"));
+        if hall.failures == 0 {
+            return Err(anyhow!("no call lacks memory"));
         }
         purse.refill(alloc);
     }

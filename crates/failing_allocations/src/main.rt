@@ -1,4 +1,4 @@
-//! Runs each script of `data/` while each growth is refused in turn: with as little memory as each call can do with,
+//! Runs each script of `data/` where each allocation fails in turn: with as little memory as each call can do with,
 //! and with none from some call on.
 #![tactic(auto)]
 
@@ -68,7 +68,7 @@ fn objects_of(alloc: Global, script: &Script) -> Result<Vec<(Name, Plain)>, Allo
     Ok(objects)
 }
 
-/// A kernel of the script's processes and file objects, which is refused for lack of memory alone.
+/// A kernel of the script's processes and file objects. It fails for lack of memory alone.
 fn kernel_of(alloc: Global, script: &Script) -> Result<Kernel<Plain>, AllocError>
     ensures boots { IfOk result (λ kernel. IsBootState kernel) }
     ensures processes { IfOk result (λ kernel. kernel.processes ≡ map new_process script.now.procs.items) }
@@ -103,8 +103,8 @@ fn are_as_made(script: &Script, objects: &[(Name, Plain)]) -> bool {
             .all(|(line, object)| is_as_made(line, &object.0, &object.1))
 }
 
-/// Boots with no memory, and with more while that is refused: the objects come back as they were, and the next
-/// boot has them. Tells how often it was refused.
+/// Boots with no memory, and with more while that fails: the objects come back as they were, and the next
+/// boot has them. Gives how often it failed.
 fn boot_at_last(alloc: Global, purse: &mut Purse, script: &Script) -> Result<usize> {
     let mut objects = objects_of(alloc, script)?;
     for step in 0..STEPS {
@@ -125,17 +125,17 @@ fn boot_at_last(alloc: Global, purse: &mut Purse, script: &Script) -> Result<usi
     Err(anyhow!("no boot"))
 }
 
-/// Whether an entry reports a refused growth.
-fn is_refused(entry: &Entry) -> bool {
+/// Whether an entry's call was answered ENOMEM.
+fn lacks_memory(entry: &Entry) -> bool {
     matches!(entry.reply, Reply::Err(Errno::ENOMEM))
 }
 
-/// Whether a history is that of another run, but for calls that were refused memory. Those count, so a message may have
+/// Whether a history is that of another run, but for calls that were answered ENOMEM. Those count, so a message may have
 /// another tag.
-fn is_but_for_refusals(history: &[Entry], undisturbed: &[Entry]) -> bool {
+fn is_but_for_failures(history: &[Entry], undisturbed: &[Entry]) -> bool {
     let mut rest = undisturbed.iter();
     for entry in history {
-        if is_refused(entry) {
+        if lacks_memory(entry) {
             continue;
         }
         let Some(other) = rest.next() else {
@@ -196,7 +196,7 @@ fn history_with<R: Wait + AllocGlobal>(
     Ok(ran)
 }
 
-/// Starts with no memory, and with more while that is refused; then makes each call so.
+/// Starts with no memory, and with more while that fails; then makes each call so.
 fn run_scarce<R: Wait + AllocGlobal>(
     rt: &R,
     purse: &mut Purse,
@@ -211,7 +211,7 @@ fn run_scarce<R: Wait + AllocGlobal>(
         if step == 0 {
             return Err(anyhow!("it starts with no memory"));
         }
-        if !is_but_for_refusals(&history, undisturbed) {
+        if !is_but_for_failures(&history, undisturbed) {
             return Err(anyhow!("another history with little memory"));
         }
         return Ok(());
@@ -229,7 +229,7 @@ fn run_dry<R: Wait + AllocGlobal>(rt: &R, purse: &mut Purse, script: &Script) ->
     Ok(())
 }
 
-/// Runs a script while each growth is refused in turn.
+/// Runs a script where each allocation fails in turn.
 fn must_bear<R: Files + Wait + AllocGlobal>(rt: &R, purse: &mut Purse, name: &str) -> Result<()> {
     let alloc: Global = rt.alloc();
     let text = fs::read(rt, format!(in alloc; "{name}.ux")?.as_str())?;

@@ -1,5 +1,5 @@
-/* Counts the allocations of a program that is started with this in LD_PRELOAD, from its main on, and refuses the one
- * whose number REFUSE_NTH gives; 0 is none. When it ends by _exit(2), descriptor 3 is told how many there were. */
+/* Counts the allocations of a program that is started with this in LD_PRELOAD, from its main on, and fails the one
+ * whose number FAIL_NTH gives; 0 is none. When it ends by _exit(2), how many there were is written to descriptor 3. */
 #define _GNU_SOURCE
 #include <errno.h>
 #include <stdatomic.h>
@@ -14,23 +14,23 @@ void *__libc_realloc(void *block, size_t size);
 void *__libc_memalign(size_t alignment, size_t size);
 
 static atomic_ulong made;
-static unsigned long refused;
+static unsigned long failing;
 
-static int is_refused(void) {
-    if (atomic_fetch_add(&made, 1) + 1 != refused) {
+static int fails(void) {
+    if (atomic_fetch_add(&made, 1) + 1 != failing) {
         return 0;
     }
     errno = ENOMEM;
     return 1;
 }
 
-void *malloc(size_t size) { return is_refused() ? NULL : __libc_malloc(size); }
+void *malloc(size_t size) { return fails() ? NULL : __libc_malloc(size); }
 
-void *calloc(size_t count, size_t size) { return is_refused() ? NULL : __libc_calloc(count, size); }
+void *calloc(size_t count, size_t size) { return fails() ? NULL : __libc_calloc(count, size); }
 
-void *realloc(void *block, size_t size) { return is_refused() ? NULL : __libc_realloc(block, size); }
+void *realloc(void *block, size_t size) { return fails() ? NULL : __libc_realloc(block, size); }
 
-void *memalign(size_t alignment, size_t size) { return is_refused() ? NULL : __libc_memalign(alignment, size); }
+void *memalign(size_t alignment, size_t size) { return fails() ? NULL : __libc_memalign(alignment, size); }
 
 void *aligned_alloc(size_t alignment, size_t size) { return memalign(alignment, size); }
 
@@ -44,9 +44,9 @@ int posix_memalign(void **place, size_t alignment, size_t size) {
 }
 
 __attribute__((constructor)) static void begin(void) {
-    const char *number = getenv("REFUSE_NTH");
+    const char *number = getenv("FAIL_NTH");
     if (number != NULL) {
-        refused = strtoul(number, NULL, 10);
+        failing = strtoul(number, NULL, 10);
     }
     atomic_store(&made, 0);
 }

@@ -1,4 +1,4 @@
-use Rattle.refused_growths.proofs.history_with.Given as goal
+use Rattle.failing_allocations.proofs.history_with.Given as goal
 
 -- the trail that was just made, and the state that the kernel was booted in
 abbrev pub ghosts-run_by_seats : goal.ghosts-run_by_seats

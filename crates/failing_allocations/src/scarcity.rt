@@ -5,7 +5,7 @@
 pub enum Supply {
     /// As much as any call wants.
     Ample,
-    /// So many bytes for the start. Each call is made with none, and with more while it is refused; the ends of
+    /// So many bytes for the start. Each call is made with none, and with more while an allocation fails; the ends of
     /// processes and of the layer are made with none.
     Scarce(usize),
     /// As much as any call wants for so many calls, and none from then on.

@@ -16,12 +16,12 @@ use ux_types::Entry;
 #[derive(Clone, Copy, PartialEq, Eq)]
 enum Tried {
     Done,
-    Refused,
+    OutOfMemory,
     /// Not as with ample memory, and no word of want of it.
     Wrong,
 }
 
-/// What takes memory, and may be tried again where it was refused.
+/// What takes memory, and may be tried again where an allocation failed.
 trait Attempt {
     fn attempt(&self, alloc: Global) -> Tried;
 }
@@ -30,7 +30,7 @@ trait Attempt {
 fn tried_to_read(found: Result<Script, ScriptFault>) -> Tried {
     match found {
         Ok(_script) => Tried::Done,
-        Err(ScriptFault::NoMemory) => Tried::Refused,
+        Err(ScriptFault::NoMemory) => Tried::OutOfMemory,
         Err(_) => Tried::Wrong,
     }
 }
@@ -56,8 +56,8 @@ impl Attempt for Read<'_> {
     }
 }
 
-/// A script that one thread runs, and its trace. What is written is the trace with each refused call in it, or a
-/// beginning of that. There is room for it, so that no write fails.
+/// A script that one thread runs, and its trace. What is written is the trace with each call in it that was answered
+/// ENOMEM, or a beginning of that. There is room for it, so that no write fails.
 #[derive(Clone, Copy)]
 struct Run<'a> {
     script: &'a Script,
@@ -67,15 +67,15 @@ struct Run<'a> {
 impl Attempt for Run<'_> {
     fn attempt(&self, alloc: Global) -> Tried {
         let Ok(kernel) = kernel_of(alloc, self.script) else {
-            return Tried::Refused;
+            return Tried::OutOfMemory;
         };
         let Ok(mut trace) = Vec::with_capacity(alloc, self.trace.len().saturating_mul(2)) else {
-            return Tried::Refused;
+            return Tried::OutOfMemory;
         };
         match run_serial(alloc, self.script, &mut trace, kernel) {
             Ok(_history) if trace.as_slice() == self.trace => Tried::Done,
-            Ok(_history) => Tried::Refused,
-            Err(ScriptFault::NoMemory) => Tried::Refused,
+            Ok(_history) => Tried::OutOfMemory,
+            Err(ScriptFault::NoMemory) => Tried::OutOfMemory,
             Err(_) => Tried::Wrong,
         }
     }
@@ -91,25 +91,25 @@ struct Again<'a> {
 impl Attempt for Again<'_> {
     fn attempt(&self, alloc: Global) -> Tried {
         let Ok(kernel) = kernel_of(alloc, self.script) else {
-            return Tried::Refused;
+            return Tried::OutOfMemory;
         };
         match replay(alloc, self.history, kernel) {
             Ok(_count) => Tried::Done,
-            Err(ReplayFault::NoMemory(_)) => Tried::Refused,
+            Err(ReplayFault::NoMemory(_)) => Tried::OutOfMemory,
             Err(ReplayFault::Differs(_)) => Tried::Wrong,
         }
     }
 }
 
-/// An entry whose line is reported.
+/// An entry whose line of the trace is made.
 #[derive(Clone, Copy)]
-struct Told<'a>(&'a Entry);
+struct Line<'a>(&'a Entry);
 
-impl Attempt for Told<'_> {
+impl Attempt for Line<'_> {
     fn attempt(&self, alloc: Global) -> Tried {
         match entry_text(alloc, 0, self.0) {
             Ok(_text) => Tried::Done,
-            Err(_) => Tried::Refused,
+            Err(_) => Tried::OutOfMemory,
         }
     }
 }
@@ -123,19 +123,19 @@ impl Attempt for Copied<'_> {
         match copy_entries(alloc, self.0) {
             Ok(copied) if copied.as_slice() == self.0 => Tried::Done,
             Ok(_copied) => Tried::Wrong,
-            Err(_) => Tried::Refused,
+            Err(_) => Tried::OutOfMemory,
         }
     }
 }
 
-/// Attempts this with no memory, and with more while it is refused.
+/// Attempts this with no memory, and with more while an allocation fails.
 fn must_be_done<A: Attempt>(alloc: Global, purse: &mut Purse, what: &str, task: &A) -> Result<()> {
     for step in 0..STEPS {
         purse.leave(alloc, bytes_at(step));
         let tried = task.attempt(alloc);
         purse.open();
         match tried {
-            Tried::Refused => {}
+            Tried::OutOfMemory => {}
             Tried::Done if step > 0 => return Ok(()),
             Tried::Done => return Err(anyhow!("{what} takes no memory")),
             Tried::Wrong => return Err(anyhow!("{what} goes wrong with little memory")),
@@ -145,11 +145,11 @@ fn must_be_done<A: Attempt>(alloc: Global, purse: &mut Purse, what: &str, task: 
     if task.attempt(alloc) == Tried::Done {
         return Ok(());
     }
-    Err(anyhow!("{what} is refused with ample memory"))
+    Err(anyhow!("{what} fails with ample memory"))
 }
 
-/// Reads and runs a script, makes its history again, copies it, and reports its first entry, with as little memory as each can
-/// do with.
+/// Reads and runs a script, makes its history again, copies it, and makes the line of its first entry, with as little memory as
+/// each can do with.
 pub fn bear_the_rest(
     alloc: Global,
     purse: &mut Purse,
@@ -169,7 +169,7 @@ pub fn bear_the_rest(
     must_be_done(alloc, purse, "a replay", &Again { script, history })?;
     must_be_done(alloc, purse, "a copy", &Copied(history))?;
     match history.first() {
-        Some(entry) => must_be_done(alloc, purse, "a line", &Told(entry)),
+        Some(entry) => must_be_done(alloc, purse, "a line", &Line(entry)),
         None => Err(anyhow!("no entry")),
     }
 }
