@@ -5,10 +5,10 @@ use crate::rows::{
 };
 use crate::snapshot::Snapshot;
 use crate::text::{DescriptionText, MessageText, ObjectText};
-use crate::words::NameText;
 use std::alloc::{AllocError, Global};
 use std::fmt;
 use ux_names::PathTarget;
+use ux_trace::NameText;
 use ux_types::DescriptionId;
 
 /// A text between the quotation marks of a label.

@@ -5,10 +5,11 @@ use crate::rows::{
     DescriptionRow, MessageRow, NumberRow, ObjectRow, PathRow, ProcessRow, SocketRow, TargetRow,
 };
 use crate::snapshot::Snapshot;
-use crate::words::{AddrText, Counted, NameText, kind_word, mode_word, object_word};
+use crate::words::{Counted, object_word};
 use std::fmt;
 use ux_names::PathTarget;
 use ux_object::ObjKind;
+use ux_trace::{AddrText, NameText, mode_word, type_word};
 use ux_types::{Addr, DescriptionId};
 
 /// Processes with their numbers, then descriptions with who holds them and what waits, then file objects, then paths.
@@ -141,7 +142,7 @@ struct SocketText<'a> {
 impl fmt::Display for SocketText<'_> {
     fn fmt<W: fmt::Write>(&self, f: &mut fmt::Formatter<W>) -> fmt::Result {
         let socket = self.socket;
-        let kind = kind_word(socket.kind);
+        let kind = type_word(socket.kind);
         let name = Named(&socket.name);
         let tie = TieText {
             snapshot: self.snapshot,

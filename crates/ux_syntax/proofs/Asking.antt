@@ -17,7 +17,7 @@ use Rattle.ux_syntax.proofs.Args.{args_takes, args_bad, word_bad, args_again, ar
 err_ok : {A : Type 0} (x : A) → Err BadLine ≡ done x → ⊥
 err_ok x e = cc
 
--- a word that is read is none that is refused
+-- a word that is read is none at which the reading fails
 pub other_than : {A : Type 0} (read : List ℕ → Result A Fault) (v w : List ℕ) (x : A) → read v ≡ Ok x → read w ≡ Err BadLine →
     bytes_eq v w ≡ false
 other_than read v w x e r = go (bytes_eq v w) (bytes_eq-Decides v w)

@@ -13,7 +13,7 @@ use Rattle.ux_syntax.specs.declared.fault.ScriptFault.{ScriptFault}
 use Rattle.ux_syntax.specs.declared.script.Script.{Script}
 use Rattle.ux_syntax.specs.Spelling.{Plan, plan_of, lines_of, line_limit, SpellScript, IsOrderly}
 use Rattle.ux_syntax.specs.Reading.{item_at, line_at, line_fault, on_line, lines_at, no_lines, script_at}
-use Rattle.ux_syntax.specs.Results.{Fails, FailsAt, Refuses, fault_at, GivesScript}
+use Rattle.ux_syntax.specs.Results.{Fails, FailsAt, HasFault, fault_at, GivesScript}
 use Rattle.ux_syntax.specs.Continuing.{onto_front, continued, Found}
 use Rattle.ux_syntax.proofs.Scripts.{gives_found, gives_orderly, gives_only, gives_fault}
 
@@ -38,21 +38,21 @@ at_line : (s : Plan) (n : ℕ) (line : List ℕ) (go : Plan → Result Plan Scri
     on_line n go (line_at s (line ++ [])) ≡ Err (line_fault n f)
 at_line s n line go f h = ap (λ l. on_line n go (line_at s l)) (append-nil line) ∙ ap (on_line n go) h
 
-told : (n : ℕ) (f : Fault) (read : Result Plan ScriptFault) → read ≡ Err (line_fault n f) → FailsAt (line_fault n f) read
-told n BadLine read h = h
-told n UnknownProcess read h = h
-told n TooLong read h = h
+fails_at : (n : ℕ) (f : Fault) (read : Result Plan ScriptFault) → read ≡ Err (line_fault n f) → FailsAt (line_fault n f) read
+fails_at n BadLine read h = h
+fails_at n UnknownProcess read h = h
+fails_at n TooLong read h = h
 
 -- a line at fault is reported, whatever follows
 pub line_fails : (s : Plan) (n : ℕ) (line rest : List ℕ) (e : LineError) → Fails e (line_at s line) →
     FailsAt (fault_at n e) (continued s n line (10 ∷ rest))
 line_fails s n line rest LineError.Memory h = tt
-line_fails s n line rest (LineError.Fault f) h = told n f _ (at_line s n line (λ u. lines_at (suc n) u (lines_of rest)) f h)
+line_fails s n line rest (LineError.Fault f) h = fails_at n f _ (at_line s n line (λ u. lines_at (suc n) u (lines_of rest)) f h)
 
 pub last_fails : (s : Plan) (n : ℕ) (line : List ℕ) (e : LineError) → Fails e (line_at s line) →
     FailsAt (fault_at n e) (continued s n line [])
 last_fails s n line LineError.Memory h = tt
-last_fails s n line (LineError.Fault f) h = told n f _ (at_line s n line (λ u. Ok u) f h)
+last_fails s n line (LineError.Fault f) h = fails_at n f _ (at_line s n line (λ u. Ok u) f h)
 
 pub last_line : (s t : Plan) (n : ℕ) (line : List ℕ) → line_at s line ≡ Ok t → continued s n line [] ≡ Ok t
 last_line s t n line h = ap (λ l. on_line n (λ u. Ok u) (line_at s l)) (append-nil line) ∙ ap (on_line n (λ u. Ok u)) h
@@ -199,12 +199,12 @@ spelled_reads (Some bytes) r (inr (text, e, h)) =
     λ s k. inr (gives_only r (lines_of text) s h (subst (λ t. SpellScript (lines_of t) s) e k))
 
 pub read_refuses : (known : Option (List ℕ)) (r : Result Script ScriptFault) → IsRead known r →
-    IfErr r (λ f. (f ≡ ScriptFault.Reading) ⊎ IfSome known (λ text. Refuses (lines_of text) f))
+    IfErr r (λ f. (f ≡ ScriptFault.Reading) ⊎ IfSome known (λ text. HasFault (lines_of text) f))
 read_refuses known (Ok s) h = tt
 read_refuses known (Err f) (inl e) = inl cc
 read_refuses None (Err f) (inr found) = inr tt
 read_refuses (Some bytes) (Err f) (inr (text, e, h)) =
-    inr (subst (λ t. Refuses (lines_of t) f) (sym e) (gives_fault (Err f) (lines_of text) h))
+    inr (subst (λ t. HasFault (lines_of t) f) (sym e) (gives_fault (Err f) (lines_of text) h))
 
 -- a lack of memory says nothing of the text
 pub no_memory_found : (known left : Option (List ℕ)) (s : Plan) (n : ℕ) (line : List ℕ) → IsReadOn known left s n line →

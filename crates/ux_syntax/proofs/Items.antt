@@ -12,7 +12,7 @@ use Rattle.ux_syntax.specs.declared.fault.Fault.{Fault}
 use Rattle.ux_syntax.specs.declared.fault.Fault.TheVariants.{BadLine, TooLong}
 use Rattle.ux_syntax.specs.declared.script.Act.{Act}
 use Rattle.ux_syntax.specs.declared.script.Header.{Header}
-use Rattle.ux_syntax.specs.declared.reading.Item.{Item}
+use Rattle.ux_syntax.specs.declared.reading.Parsed.{Parsed}
 use Rattle.ux_syntax.specs.Text.{plain_line}
 use Rattle.ux_syntax.specs.Spelling.{Turn, line_of, header_words, header_line, turn_words, turn_line, is_meant, IsNumber, FitsTurn}
 use Rattle.ux_syntax.specs.Spelling.{FitsHeader}
@@ -55,75 +55,77 @@ abbrev serial_words : List (List ℕ)
 serial_words = codes "serial" ∷ []
 
 -- the words are the item's, as it may be written
-abbrev AreWords : List (List ℕ) → Item → Type 0
-AreWords ws Item.Skipped = ⊥
-AreWords ws (Item.Header h) = (ws ≡ header_words h) × FitsHeader h
-AreWords ws (Item.Line line) = (t : Turn) × (line_of t ≡ line) × (ws ≡ turn_words t) × FitsTurn t
-AreWords ws Item.Off = ws ≡ off_words
-AreWords ws Item.Serial = ws ≡ serial_words
+abbrev AreWords : List (List ℕ) → Parsed → Type 0
+AreWords ws Parsed.Skipped = ⊥
+AreWords ws (Parsed.Header h) = (ws ≡ header_words h) × FitsHeader h
+AreWords ws (Parsed.Line line) = (t : Turn) × (line_of t ≡ line) × (ws ≡ turn_words t) × FitsTurn t
+AreWords ws Parsed.Off = ws ≡ off_words
+AreWords ws Parsed.Serial = ws ≡ serial_words
 
-turn_takes : (pid : ℕ) (ws : List (List ℕ)) (item : Item) → IsNumber pid → turn_at pid ws ≡ Ok item → AreWords (decimal pid ∷ ws) item
+turn_takes : (pid : ℕ) (ws : List (List ℕ)) (item : Parsed) → IsNumber pid → turn_at pid ws ≡ Ok item → AreWords (decimal pid ∷ ws) item
 turn_takes pid ws item h e =
-    let a = bind_ok (act_at ws) (λ act. Ok (Item.Line (record { pid = record { 0 = pid }; act = act }))) item e in
+    let a = bind_ok (act_at ws) (λ act. Ok (Parsed.Line (record { pid = record { 0 = pid }; act = act }))) item e in
     let p = act_takes ws a.0 a.1 in
     let t : Turn = record { pid = pid; asked = p.0 } in
     let line : line_of t ≡ record { pid = record { 0 = pid }; act = a.0 } =
     ap (λ (act : Act). record { pid = record { 0 = pid }; act = act }) p.1 in
-    subst (λ (y : Item). AreWords (decimal pid ∷ ws) y) (ok_is (Item.Line (record { pid = record { 0 = pid }; act = a.0 })) item a.2)
+    subst (λ (y : Parsed). AreWords (decimal pid ∷ ws) y) (ok_is (Parsed.Line (record { pid = record { 0 = pid }; act = a.0 })) item a.2)
     (t, line, ap (λ (xs : List (List ℕ)). decimal pid ∷ xs) p.2, (h, p.3))
 
 -- ---- a first word that names the kind of line
 
-abbrev proc_item : List (List ℕ) → Result Item Fault
-proc_item ws = proc_at ws >>= λ p. Ok (Item.Header (Header.Proc p))
+abbrev proc_item : List (List ℕ) → Result Parsed Fault
+proc_item ws = proc_at ws >>= λ p. Ok (Parsed.Header (Header.Proc p))
 
-abbrev object_item : List (List ℕ) → Result Item Fault
-object_item ws = object_at ws >>= λ o. Ok (Item.Header (Header.Object o))
+abbrev object_item : List (List ℕ) → Result Parsed Fault
+object_item ws = object_at ws >>= λ o. Ok (Parsed.Header (Header.Object o))
 
-abbrev off_item : List (List ℕ) → Result Item Fault
-off_item ws = ends ws >>= λ x. Ok Item.Off
+abbrev off_item : List (List ℕ) → Result Parsed Fault
+off_item ws = ends ws >>= λ x. Ok Parsed.Off
 
-abbrev serial_item : List (List ℕ) → Result Item Fault
-serial_item ws = ends ws >>= λ x. Ok Item.Serial
+abbrev serial_item : List (List ℕ) → Result Parsed Fault
+serial_item ws = ends ws >>= λ x. Ok Parsed.Serial
 
-abbrev turn_item : List ℕ → List (List ℕ) → Result Item Fault
+abbrev turn_item : List ℕ → List (List ℕ) → Result Parsed Fault
 turn_item w ws = number_at w >>= λ pid. turn_at pid ws
 
-proc_item_takes : (w : List ℕ) (ws : List (List ℕ)) (item : Item) → w ≡ codes "proc" → proc_item ws ≡ Ok item → AreWords (w ∷ ws) item
+proc_item_takes : (w : List ℕ) (ws : List (List ℕ)) (item : Parsed) → w ≡ codes "proc" → proc_item ws ≡ Ok item → AreWords (w ∷ ws) item
 proc_item_takes w ws item d e =
-    let a = bind_ok (proc_at ws) (λ p. Ok (Item.Header (Header.Proc p))) item e in
+    let a = bind_ok (proc_at ws) (λ p. Ok (Parsed.Header (Header.Proc p))) item e in
     let p = proc_takes ws a.0 a.1 in
-    subst (λ (y : Item). AreWords (w ∷ ws) y) (ok_is (Item.Header (Header.Proc a.0)) item a.2)
+    subst (λ (y : Parsed). AreWords (w ∷ ws) y) (ok_is (Parsed.Header (Header.Proc a.0)) item a.2)
     (ap (λ (x : List ℕ). x ∷ ws) d ∙ ap (λ (xs : List (List ℕ)). codes "proc" ∷ xs) p.0, p.1)
 
-object_item_takes : (w : List ℕ) (ws : List (List ℕ)) (item : Item) → w ≡ codes "object" → object_item ws ≡ Ok item → AreWords (w ∷ ws) item
+object_item_takes : (w : List ℕ) (ws : List (List ℕ)) (item : Parsed) → w ≡ codes "object" → object_item ws ≡ Ok item →
+    AreWords (w ∷ ws) item
 object_item_takes w ws item d e =
-    let a = bind_ok (object_at ws) (λ o. Ok (Item.Header (Header.Object o))) item e in
+    let a = bind_ok (object_at ws) (λ o. Ok (Parsed.Header (Header.Object o))) item e in
     let p = object_takes ws a.0 a.1 in
-    subst (λ (y : Item). AreWords (w ∷ ws) y) (ok_is (Item.Header (Header.Object a.0)) item a.2)
+    subst (λ (y : Parsed). AreWords (w ∷ ws) y) (ok_is (Parsed.Header (Header.Object a.0)) item a.2)
     (ap (λ (x : List ℕ). x ∷ ws) d ∙ ap (λ (xs : List (List ℕ)). codes "object" ∷ xs) p.0, p.1)
 
-off_item_takes : (w : List ℕ) (ws : List (List ℕ)) (item : Item) → w ≡ codes "off" → off_item ws ≡ Ok item → AreWords (w ∷ ws) item
+off_item_takes : (w : List ℕ) (ws : List (List ℕ)) (item : Parsed) → w ≡ codes "off" → off_item ws ≡ Ok item → AreWords (w ∷ ws) item
 off_item_takes w ws item d e =
-    let a = bind_ok (ends ws) (λ x. Ok Item.Off) item e in
+    let a = bind_ok (ends ws) (λ x. Ok Parsed.Off) item e in
     let p = ends_row.takes ws a.0 a.1 in
-    subst (λ (y : Item). AreWords (w ∷ ws) y) (ok_is Item.Off item a.2)
+    subst (λ (y : Parsed). AreWords (w ∷ ws) y) (ok_is Parsed.Off item a.2)
     (ap (λ (x : List ℕ). x ∷ ws) d ∙ ap (λ (xs : List (List ℕ)). codes "off" ∷ xs) p.0)
 
-serial_item_takes : (w : List ℕ) (ws : List (List ℕ)) (item : Item) → w ≡ codes "serial" → serial_item ws ≡ Ok item → AreWords (w ∷ ws) item
+serial_item_takes : (w : List ℕ) (ws : List (List ℕ)) (item : Parsed) → w ≡ codes "serial" → serial_item ws ≡ Ok item →
+    AreWords (w ∷ ws) item
 serial_item_takes w ws item d e =
-    let a = bind_ok (ends ws) (λ x. Ok Item.Serial) item e in
+    let a = bind_ok (ends ws) (λ x. Ok Parsed.Serial) item e in
     let p = ends_row.takes ws a.0 a.1 in
-    subst (λ (y : Item). AreWords (w ∷ ws) y) (ok_is Item.Serial item a.2)
+    subst (λ (y : Parsed). AreWords (w ∷ ws) y) (ok_is Parsed.Serial item a.2)
     (ap (λ (x : List ℕ). x ∷ ws) d ∙ ap (λ (xs : List (List ℕ)). codes "serial" ∷ xs) p.0)
 
-turn_item_takes : (w : List ℕ) (ws : List (List ℕ)) (item : Item) → turn_item w ws ≡ Ok item → AreWords (w ∷ ws) item
+turn_item_takes : (w : List ℕ) (ws : List (List ℕ)) (item : Parsed) → turn_item w ws ≡ Ok item → AreWords (w ∷ ws) item
 turn_item_takes w ws item e =
     let a = bind_ok (number_at w) (λ pid. turn_at pid ws) item e in
     let n = number_kind.takes w a.0 a.1 in
     subst (λ (x : List ℕ). AreWords (x ∷ ws) item) (sym n.0) (turn_takes a.0 ws item n.1 a.2)
 
-words_chosen : (w : List ℕ) (ws : List (List ℕ)) (item : Item) (t u v s : Bool) → (t ≡ true → w ≡ codes "proc") →
+words_chosen : (w : List ℕ) (ws : List (List ℕ)) (item : Parsed) (t u v s : Bool) → (t ≡ true → w ≡ codes "proc") →
     (u ≡ true → w ≡ codes "object") → (v ≡ true → w ≡ codes "off") → (s ≡ true → w ≡ codes "serial")
     → cond t (proc_item ws) (cond u (object_item ws) (cond v (off_item ws) (cond s (serial_item ws) (turn_item w ws)))) ≡ Ok item →
     AreWords (w ∷ ws) item
@@ -133,7 +135,7 @@ words_chosen w ws item false false true s d f g h e = off_item_takes w ws item (
 words_chosen w ws item false false false true d f g h e = serial_item_takes w ws item (h refl) e
 words_chosen w ws item false false false false d f g h e = turn_item_takes w ws item e
 
-words_takes : (ws : List (List ℕ)) (item : Item) → words_at ws ≡ Ok item → AreWords ws item
+words_takes : (ws : List (List ℕ)) (item : Parsed) → words_at ws ≡ Ok item → AreWords ws item
 unfolding words_at
 words_takes [] item e = absurd cc
 words_takes (w ∷ ws) item e = words_chosen w ws item (bytes_eq w (codes "proc")) (bytes_eq w (codes "object")) (bytes_eq w (codes "off"))
@@ -153,16 +155,16 @@ words_bad (w ∷ ws) = either_bad (bytes_eq w (codes "proc")) (proc_item ws) _ (
     (either_bad (bytes_eq w (codes "serial")) (serial_item ws) (turn_item w ws) (bind_bad (ends ws) _ (ends_row.bad ws) (λ x. tt))
     (bind_bad (number_at w) _ (number_kind.bad w) (λ pid. turn_bad pid ws)))))
 
-header_words_again : (h : Header) → FitsHeader h → words_at (header_words h) ≡ Ok (Item.Header h)
+header_words_again : (h : Header) → FitsHeader h → words_at (header_words h) ≡ Ok (Parsed.Header h)
 unfolding words_at
 header_words_again (Header.Object o) f = rw (object_again o f) refl
 header_words_again (Header.Proc p) f = rw (proc_again p f) refl
 
-off_words_again : words_at off_words ≡ Ok Item.Off
+off_words_again : words_at off_words ≡ Ok Parsed.Off
 unfolding words_at
 off_words_again = refl
 
-serial_words_again : words_at serial_words ≡ Ok Item.Serial
+serial_words_again : words_at serial_words ≡ Ok Parsed.Serial
 unfolding words_at
 serial_words_again = refl
 
@@ -170,7 +172,7 @@ serial_words_again = refl
 pub other_word : (n : ℕ) (w : List ℕ) → number_at w ≡ Err BadLine → IsNumber n → bytes_eq (decimal n) w ≡ false
 other_word n w r h = other_than number_at (decimal n) w n (number_kind.again n h) r
 
-turn_words_again : (t : Turn) → FitsTurn t → words_at (turn_words t) ≡ Ok (Item.Line (line_of t))
+turn_words_again : (t : Turn) → FitsTurn t → words_at (turn_words t) ≡ Ok (Parsed.Line (line_of t))
 unfolding words_at
 turn_words_again t f =
     let no_proc = other_word t.pid (codes "proc") (number_refused (codes "proc") refl) f.0 in
@@ -182,29 +184,29 @@ turn_words_again t f =
 -- ---- what a line says
 
 -- a line says nothing, or it is a writing of the item
-abbrev pub Says : Item → List ℕ → Type 0
-Says Item.Skipped text = is_meant text ≡ false
-Says (Item.Header h) text = (is_meant text ≡ true) × (plain_line text ≡ header_line h) × FitsHeader h
-Says (Item.Line line) text = (is_meant text ≡ true) × ((t : Turn) × (line_of t ≡ line) × (plain_line text ≡ turn_line t) × FitsTurn t)
-Says Item.Off text = (is_meant text ≡ true) × (plain_line text ≡ codes "off")
-Says Item.Serial text = (is_meant text ≡ true) × (plain_line text ≡ codes "serial")
+abbrev pub Says : Parsed → List ℕ → Type 0
+Says Parsed.Skipped text = is_meant text ≡ false
+Says (Parsed.Header h) text = (is_meant text ≡ true) × (plain_line text ≡ header_line h) × FitsHeader h
+Says (Parsed.Line line) text = (is_meant text ≡ true) × ((t : Turn) × (line_of t ≡ line) × (plain_line text ≡ turn_line t) × FitsTurn t)
+Says Parsed.Off text = (is_meant text ≡ true) × (plain_line text ≡ codes "off")
+Says Parsed.Serial text = (is_meant text ≡ true) × (plain_line text ≡ codes "serial")
 
-said : (item : Item) (text : List ℕ) → is_meant text ≡ true → AreWords (slice_split is_blank (plain_line text)) item → Says item text
-said Item.Skipped text m e = absurd e
-said (Item.Header h) text m e = (m, sym (join_with_byte-slice_split 32 (plain_line text)) ∙ ap (join_with_byte 32) e.0, e.1)
-said (Item.Line line) text m e = (m, (e.0, e.1, sym (join_with_byte-slice_split 32 (plain_line text)) ∙ ap (join_with_byte 32) e.2, e.3))
-said Item.Off text m e = (m, sym (join_with_byte-slice_split 32 (plain_line text)) ∙ ap (join_with_byte 32) e)
-said Item.Serial text m e = (m, sym (join_with_byte-slice_split 32 (plain_line text)) ∙ ap (join_with_byte 32) e)
+said : (item : Parsed) (text : List ℕ) → is_meant text ≡ true → AreWords (slice_split is_blank (plain_line text)) item → Says item text
+said Parsed.Skipped text m e = absurd e
+said (Parsed.Header h) text m e = (m, sym (join_with_byte-slice_split 32 (plain_line text)) ∙ ap (join_with_byte 32) e.0, e.1)
+said (Parsed.Line line) text m e = (m, (e.0, e.1, sym (join_with_byte-slice_split 32 (plain_line text)) ∙ ap (join_with_byte 32) e.2, e.3))
+said Parsed.Off text m e = (m, sym (join_with_byte-slice_split 32 (plain_line text)) ∙ ap (join_with_byte 32) e)
+said Parsed.Serial text m e = (m, sym (join_with_byte-slice_split 32 (plain_line text)) ∙ ap (join_with_byte 32) e)
 
-item_chosen : (limit : ℕ) (text : List ℕ) (item : Item) (t u : Bool) → is_meant text ≡ u → (t ≡ false → length text ≤ limit) →
-    cond t (Err TooLong) (cond u (words_at (slice_split is_blank (plain_line text))) (Ok Item.Skipped)) ≡ Ok item →
+item_chosen : (limit : ℕ) (text : List ℕ) (item : Parsed) (t u : Bool) → is_meant text ≡ u → (t ≡ false → length text ≤ limit) →
+    cond t (Err TooLong) (cond u (words_at (slice_split is_blank (plain_line text))) (Ok Parsed.Skipped)) ≡ Ok item →
     (length text ≤ limit) × Says item text
 item_chosen limit text item true u m short e = absurd cc
 item_chosen limit text item false true m short e =
     (short refl, said item text m (words_takes (slice_split is_blank (plain_line text)) item e))
-item_chosen limit text item false false m short e = (short refl, subst (λ (y : Item). Says y text) (ok_is Item.Skipped item e) m)
+item_chosen limit text item false false m short e = (short refl, subst (λ (y : Parsed). Says y text) (ok_is Parsed.Skipped item e) m)
 
-pub item_takes : (limit : ℕ) (text : List ℕ) (item : Item) → item_at limit text ≡ Ok item → (length text ≤ limit) × Says item text
+pub item_takes : (limit : ℕ) (text : List ℕ) (item : Parsed) → item_at limit text ≡ Ok item → (length text ≤ limit) × Says item text
 unfolding item_at
 item_takes limit text item e = item_chosen limit text item (ltb limit (length text)) (is_meant text) refl (ltb-false limit (length text)) e
 
@@ -217,32 +219,32 @@ split_header (Header.Proc p) f = split_join (codes "proc") (header_args (Header.
 split_turn : (t : Turn) → FitsTurn t → slice_split is_blank (turn_line t) ≡ turn_words t
 split_turn t f = split_join (decimal t.pid) _ (number_kind.solid t.pid f.0) (asked_solid t.asked f.1)
 
-spelled_again : (item : Item) (limit : ℕ) (text spelling : List ℕ) (ws : List (List ℕ)) → length text ≤ limit → is_meant text ≡ true →
+spelled_again : (item : Parsed) (limit : ℕ) (text spelling : List ℕ) (ws : List (List ℕ)) → length text ≤ limit → is_meant text ≡ true →
     plain_line text ≡ spelling → slice_split is_blank spelling ≡ ws → words_at ws ≡ Ok item → item_at limit text ≡ Ok item
 unfolding item_at
 spelled_again item limit text spelling ws short m e w again =
     let words : slice_split is_blank (plain_line text) ≡ ws = ap (slice_split is_blank) e ∙ w in
     rw (le-ltb limit (length text) short, m, words) again
 
-pub skip_again : (limit : ℕ) (text : List ℕ) → length text ≤ limit → is_meant text ≡ false → item_at limit text ≡ Ok Item.Skipped
+pub skip_again : (limit : ℕ) (text : List ℕ) → length text ≤ limit → is_meant text ≡ false → item_at limit text ≡ Ok Parsed.Skipped
 unfolding item_at
 skip_again limit text short m = rw (le-ltb limit (length text) short, m) refl
 
 pub header_again_line : (h : Header) (limit : ℕ) (text : List ℕ) → length text ≤ limit → is_meant text ≡ true →
-    plain_line text ≡ header_line h → FitsHeader h → item_at limit text ≡ Ok (Item.Header h)
+    plain_line text ≡ header_line h → FitsHeader h → item_at limit text ≡ Ok (Parsed.Header h)
 header_again_line h limit text short m e f =
-    spelled_again (Item.Header h) limit text (header_line h) (header_words h) short m e (split_header h f) (header_words_again h f)
+    spelled_again (Parsed.Header h) limit text (header_line h) (header_words h) short m e (split_header h f) (header_words_again h f)
 
 pub off_again_line : (limit : ℕ) (text : List ℕ) → length text ≤ limit → is_meant text ≡ true → plain_line text ≡ codes "off" →
-    item_at limit text ≡ Ok Item.Off
-off_again_line limit text short m e = spelled_again Item.Off limit text (codes "off") off_words short m e refl off_words_again
+    item_at limit text ≡ Ok Parsed.Off
+off_again_line limit text short m e = spelled_again Parsed.Off limit text (codes "off") off_words short m e refl off_words_again
 
 pub serial_again_line : (limit : ℕ) (text : List ℕ) → length text ≤ limit → is_meant text ≡ true → plain_line text ≡ codes "serial" →
-    item_at limit text ≡ Ok Item.Serial
+    item_at limit text ≡ Ok Parsed.Serial
 serial_again_line limit text short m e =
-    spelled_again Item.Serial limit text (codes "serial") serial_words short m e refl serial_words_again
+    spelled_again Parsed.Serial limit text (codes "serial") serial_words short m e refl serial_words_again
 
 pub turn_again_line : (t : Turn) (limit : ℕ) (text : List ℕ) → length text ≤ limit → is_meant text ≡ true → plain_line text ≡ turn_line t →
-    FitsTurn t → item_at limit text ≡ Ok (Item.Line (line_of t))
+    FitsTurn t → item_at limit text ≡ Ok (Parsed.Line (line_of t))
 turn_again_line t limit text short m e f =
-    spelled_again (Item.Line (line_of t)) limit text (turn_line t) (turn_words t) short m e (split_turn t f) (turn_words_again t f)
+    spelled_again (Parsed.Line (line_of t)) limit text (turn_line t) (turn_words t) short m e (split_turn t f) (turn_words_again t f)

@@ -6,7 +6,7 @@ use Rattle.std.proofs.lemmas.Bool.{ne_eqb, false≢true}
 use Rattle.std.proofs.lemmas.List.{append-nil, length-append}
 use Rattle.ux_syntax.specs.declared.fault.Fault.{Fault}
 use Rattle.ux_syntax.specs.declared.fault.LineError.{LineError}
-use Rattle.ux_syntax.specs.declared.reading.Item.{Item}
+use Rattle.ux_syntax.specs.declared.reading.Parsed.{Parsed}
 use Rattle.ux_syntax.specs.declared.script.Header.{Header}
 use Rattle.ux_syntax.specs.Lines.{Line}
 use Rattle.ux_syntax.specs.Spelling.{Plan, asks_fork, known_count}
@@ -59,7 +59,7 @@ turn_stays : (s : Plan) (line : Line) (forks : Bool) → Stays s (if forks then 
 turn_stays s line true = fork_stays s line (may_fork s line.pid.0)
 turn_stays s line false = other_stays s line (is_barred s.serial line.act)
 
--- a header's line is refused: a process has a line, since the end of the layer wasn't said
+-- a header's line is at fault: a process has a line, since the end of the layer wasn't said
 header_stays : (s : Plan) (h : Header) (none : Bool) → (length s.lines == 0) ≡ none → is_begun s ≡ true → (s.off && true) ≡ false →
     Stays s (if none then Ok (with_header s h) else Err Fault.BadLine)
 header_stays s h false e b n = tt
@@ -71,19 +71,19 @@ serial_or_not : (s : Plan) (unsaid : Bool) → is_begun s ≡ true → Stays s (
 serial_or_not s true b = serial_stays s b
 serial_or_not s false b = tt
 
-joined_stays : (s : Plan) (item : Item) → is_begun s ≡ true → (s.off && not (is_skipped item)) ≡ false → Stays s (joined_by s item)
-joined_stays s Item.Skipped b n = same_continues s b
-joined_stays s (Item.Header h) b n = header_stays s h (length s.lines == 0) refl b n
-joined_stays s (Item.Line line) b n = turn_stays s line (asks_fork line.act)
-joined_stays s Item.Off b n = off_stays s
-joined_stays s Item.Serial b n = serial_or_not s (is_unsaid s) b
+joined_stays : (s : Plan) (item : Parsed) → is_begun s ≡ true → (s.off && not (is_skipped item)) ≡ false → Stays s (joined_by s item)
+joined_stays s Parsed.Skipped b n = same_continues s b
+joined_stays s (Parsed.Header h) b n = header_stays s h (length s.lines == 0) refl b n
+joined_stays s (Parsed.Line line) b n = turn_stays s line (asks_fork line.act)
+joined_stays s Parsed.Off b n = off_stays s
+joined_stays s Parsed.Serial b n = serial_or_not s (is_unsaid s) b
 
-added_stays : (s : Plan) (item : Item) (after : Bool) → (s.off && not (is_skipped item)) ≡ after → is_begun s ≡ true →
+added_stays : (s : Plan) (item : Parsed) (after : Bool) → (s.off && not (is_skipped item)) ≡ after → is_begun s ≡ true →
     Stays s (if after then Err Fault.BadLine else joined_by s item)
 added_stays s item true e b = tt
 added_stays s item false e b = joined_stays s item b e
 
-item_stays : (s : Plan) (read : Result Item Fault) → is_begun s ≡ true → Stays s (read >>= λ item. added s item)
+item_stays : (s : Plan) (read : Result Parsed Fault) → is_begun s ≡ true → Stays s (read >>= λ item. added s item)
 item_stays s (Ok item) b = added_stays s item (s.off && not (is_skipped item)) refl b
 item_stays s (Err f) b = tt
 

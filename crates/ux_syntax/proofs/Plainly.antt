@@ -12,7 +12,7 @@ use Rattle.ux_syntax.specs.declared.fault.Fault.TheVariants.{BadLine}
 use Rattle.ux_syntax.specs.declared.plain.Field.{Field}
 use Rattle.ux_syntax.specs.Digits.{◌>>=◌, digit_at, number_at}
 use Rattle.ux_syntax.specs.Text.{escape_at, pair_at, escaped_byte_at, text_byte_at, text_upto, text_at, hex_word_at, raw_word_at}
-use Rattle.ux_syntax.specs.Text.{first_word, space_of, space_at, space_word_at, special_word_at, or_as_written, plain_fields, is_marked}
+use Rattle.ux_syntax.specs.Text.{first_word, space_of, space_at, space_word_at, special_word_at, or_as_written, plain_fields, may_be_special}
 
 -- ---- the first word
 
@@ -213,28 +213,28 @@ no_rights w h = go (bytes_eq (take 7 w) (codes "rights:")) (bytes_eq-Decides (ta
 no_space : (cs : List ℕ) → list_any (λ b. eqb b 58) cs ≡ false → space_word_at cs ≡ Err BadLine
 no_space cs h = rw (no_rights (first_word cs).0 (none_taken (λ b. eqb b 58) (blank_at cs) cs h)) refl
 
-no_special : (field : Field) (cs : List ℕ) → is_marked field cs ≡ false → special_word_at field cs ≡ Err BadLine
+no_special : (field : Field) (cs : List ℕ) → may_be_special field cs ≡ false → special_word_at field cs ≡ Err BadLine
 no_special Field.Plain cs h = refl
 no_special Field.Hex cs h = no_text cs h
 no_special Field.Raw cs h = no_raw cs h
 no_special Field.Space cs h = no_space cs h
 
 -- what follows a word has no mark that the line doesn't have
-mark_left : (field : Field) (n : ℕ) (cs : List ℕ) → is_marked field cs ≡ false → is_marked field (drop n cs) ≡ false
-mark_left Field.Plain n cs h = refl
-mark_left Field.Hex n cs h = none_left (λ b. eqb b 34) n cs h
-mark_left Field.Raw n cs h = none_left (λ b. eqb b 34) n cs h
-mark_left Field.Space n cs h = none_left (λ b. eqb b 58) n cs h
+special_left : (field : Field) (n : ℕ) (cs : List ℕ) → may_be_special field cs ≡ false → may_be_special field (drop n cs) ≡ false
+special_left Field.Plain n cs h = refl
+special_left Field.Hex n cs h = none_left (λ b. eqb b 34) n cs h
+special_left Field.Raw n cs h = none_left (λ b. eqb b 34) n cs h
+special_left Field.Space n cs h = none_left (λ b. eqb b 58) n cs h
 
-marks_left : (fields : List Field) (n : ℕ) (cs : List ℕ) → list_any (λ f. is_marked f cs) fields ≡ false →
-    list_any (λ f. is_marked f (drop n cs)) fields ≡ false
-marks_left [] n cs h = refl
-marks_left (f ∷ fs) n cs h = let q = or_parts (is_marked f cs) (list_any (λ g. is_marked g cs) fs) h in
-    rw (mark_left f n cs q.0, marks_left fs n cs q.1) refl
+specials_left : (fields : List Field) (n : ℕ) (cs : List ℕ) → list_any (λ f. may_be_special f cs) fields ≡ false →
+    list_any (λ f. may_be_special f (drop n cs)) fields ≡ false
+specials_left [] n cs h = refl
+specials_left (f ∷ fs) n cs h = let q = or_parts (may_be_special f cs) (list_any (λ g. may_be_special g cs) fs) h in
+    rw (special_left f n cs q.0, specials_left fs n cs q.1) refl
 
-pub no_mark : (fields : List Field) (cs : List ℕ) → list_any (λ f. is_marked f cs) fields ≡ false → plain_fields fields cs ≡ cs
-no_mark [] cs h = refl
-no_mark (f ∷ fs) cs h =
-    let q = or_parts (is_marked f cs) (list_any (λ g. is_marked g cs) fs) h in
+pub none_special : (fields : List Field) (cs : List ℕ) → list_any (λ f. may_be_special f cs) fields ≡ false → plain_fields fields cs ≡ cs
+none_special [] cs h = refl
+none_special (f ∷ fs) cs h =
+    let q = or_parts (may_be_special f cs) (list_any (λ g. may_be_special g cs) fs) h in
     field_stays f fs cs (no_special f cs q.0)
-    (no_mark fs (drop 1 (drop (blank_at cs) cs)) (marks_left fs 1 (drop (blank_at cs) cs) (marks_left fs (blank_at cs) cs q.1)))
+    (none_special fs (drop 1 (drop (blank_at cs) cs)) (specials_left fs 1 (drop (blank_at cs) cs) (specials_left fs (blank_at cs) cs q.1)))

@@ -41,7 +41,7 @@ pub record IsRow {A : Type 0} (read : List (List ℕ) → Result A Fault) (words
   pub again : (x : A) → Fits x → read (words x) ≡ Ok x
   pub solid : (x : A) → Fits x → AllByRecursion IsSolid (words x)
 
--- a test that refuses a word
+-- a test that fails at a word
 pub guard_bad : {A : Type 0} (b : Bool) (x : A) → IsBadOrOk (cond b (done x) (Err BadLine))
 guard_bad true x = tt
 guard_bad false x = refl

@@ -19,7 +19,7 @@ use Rattle.ux_syntax.specs.declared.script.Header.{Header}
 use Rattle.ux_syntax.specs.declared.script.Act.{Act}
 use Rattle.ux_syntax.specs.Lines.{Line}
 use Rattle.ux_syntax.specs.declared.script.Script.{Script}
-use Rattle.ux_syntax.specs.declared.reading.Item.{Item}
+use Rattle.ux_syntax.specs.declared.reading.Parsed.{Parsed}
 use Rattle.ux_syntax.specs.Text.{plain_line}
 use Rattle.ux_syntax.specs.Spelling.{Written, open_path, read_fd, write_fd, seek, dup_fd, dup_onto, dup_above, get_flags, set_flags, close}
 use Rattle.ux_syntax.specs.Spelling.{unlink_path, socket, pair, bind, listen, connect, accept, shut, get_opt, set_opt, sock_name, peer_name}
@@ -32,7 +32,7 @@ use Rattle.ux_syntax.specs.Turns.{has_exited, is_known, awaits_known}
 use Rattle.ux_syntax.specs.Reading.{◌>>=◌, line_fault, words_at, item_at, with_header, with_line, with_off, with_serial, is_unsaid}
 use Rattle.ux_syntax.specs.Reading.{may_fork, joined_by_fork, is_barred, joined_by_allowed, joined_by_other, joined_by, is_skipped, added}
 use Rattle.ux_syntax.specs.Reading.{line_at, on_line, lines_at, no_lines}
-use Rattle.ux_syntax.specs.Results.{FailsAt, Refuses, GivesScript}
+use Rattle.ux_syntax.specs.Results.{FailsAt, HasFault, GivesScript}
 use Rattle.ux_syntax.proofs.Rows.{IsBadOrOk, bind_ok, ok_is, guard_ok}
 use Rattle.ux_syntax.proofs.Items.{words_bad, Says, item_takes, skip_again, header_again_line, turn_again_line, off_again_line}
 use Rattle.ux_syntax.proofs.Items.{serial_again_line}
@@ -443,7 +443,7 @@ allowed_ok true r y e = absurd cc
 allowed_ok false r y e = (refl, e)
 
 -- a line that joined the script might stand there
-line_joined : (s : Plan) (line : Line) (t : Plan) → joined_by s (Item.Line line) ≡ Ok t → MayJoin s line × (with_line s line ≡ t)
+line_joined : (s : Plan) (line : Line) (t : Plan) → joined_by s (Parsed.Line line) ≡ Ok t → MayJoin s line × (with_line s line ≡ t)
 line_joined s line t e = go (asks_fork line.act) refl e
   where
     count : ℕ
@@ -468,7 +468,7 @@ line_joined s line t e = go (asks_fork line.act) refl e
         )
 
 -- a line that may stand there joins the script
-line_joins : (s : Plan) (line : Line) → MayJoin s line → joined_by s (Item.Line line) ≡ Ok (with_line s line)
+line_joins : (s : Plan) (line : Line) → MayJoin s line → joined_by s (Parsed.Line line) ≡ Ok (with_line s line)
 line_joins s line may = go (asks_fork line.act) refl
   where
     go : (b : Bool) → asks_fork line.act ≡ b → cond b (joined_by_fork s line) (joined_by_other s line) ≡ Ok (with_line s line)
@@ -516,7 +516,7 @@ skip_takes ls s l h short says = record {
 }
 
 header_takes : (ls : List (List ℕ)) (s : Plan) (l : List ℕ) (x : Header) → (h : SpellScript ls s) → s.lines ≡ [] → s.off ≡ false →
-    is_short s l → Says (Item.Header x) l → SpellScript (ls ++ l ∷ []) (with_header s x)
+    is_short s l → Says (Parsed.Header x) l → SpellScript (ls ++ l ∷ []) (with_header s x)
 header_takes ls s l x h none no_off short says =
     let bare : h.turns ≡ [] = no_turns h.turns (h.meant ∙ none) in
     let before : meant_lines ls ≡ texts_of s.serial h.headers [] false = h.spelled
@@ -575,7 +575,7 @@ asked_no_end (call c) = is_no_end c
 asked_no_end (wait pid calls) = refl
 
 turn_takes : (ls : List (List ℕ)) (s : Plan) (l : List ℕ) (line : Line) → (h : SpellScript ls s) → s.off ≡ false → MayJoin s line →
-    is_short s l → Says (Item.Line line) l → SpellScript (ls ++ l ∷ []) (with_line s line)
+    is_short s l → Says (Parsed.Line line) l → SpellScript (ls ++ l ∷ []) (with_line s line)
 turn_takes ls s l line h no_off may short says =
     let w = says.1 in
     let before : meant_lines ls ≡ texts_of s.serial h.headers h.turns false = h.spelled
@@ -601,7 +601,7 @@ turn_takes ls s l line h no_off may short says =
       };
     }
 
-off_takes : (ls : List (List ℕ)) (s : Plan) (l : List ℕ) → (h : SpellScript ls s) → s.off ≡ false → is_short s l → Says Item.Off l →
+off_takes : (ls : List (List ℕ)) (s : Plan) (l : List ℕ) → (h : SpellScript ls s) → s.off ≡ false → is_short s l → Says Parsed.Off l →
     SpellScript (ls ++ l ∷ []) (with_off s)
 off_takes ls s l h no_off short says = record {
   headers = h.headers;
@@ -642,7 +642,7 @@ unsaid_spelled ls h =
     let ts = no_turns h.turns h.meant in
     h.spelled ∙ ap (λ (xs : List Header). texts_of false xs h.turns false) hs ∙ ap (λ (xs : List Turn). texts_of false [] xs false) ts
 
-first_takes : (ls : List (List ℕ)) (l : List ℕ) → SpellScript ls (plan_from false []) → length l ≤ 4096 → Says Item.Serial l →
+first_takes : (ls : List (List ℕ)) (l : List ℕ) → SpellScript ls (plan_from false []) → length l ≤ 4096 → Says Parsed.Serial l →
     SpellScript (ls ++ l ∷ []) (plan_from true [])
 first_takes ls l h short says =
     let before = unsaid_spelled ls h in
@@ -660,44 +660,44 @@ first_takes ls l h short says =
     }
 
 serial_takes : (ls : List (List ℕ)) (s : Plan) (l : List ℕ) → SpellScript ls s → is_unsaid s ≡ true → s.off ≡ false → is_short s l →
-    Says Item.Serial l → SpellScript (ls ++ l ∷ []) (with_serial s)
+    Says Parsed.Serial l → SpellScript (ls ++ l ∷ []) (with_serial s)
 serial_takes ls s l h unsaid no_off short says =
     let same = unsaid_is s unsaid no_off in
     subst (λ (y : Plan). SpellScript (ls ++ l ∷ []) (with_serial y)) (sym same)
     (first_takes ls l (subst (λ (y : Plan). SpellScript ls y) same h) (subst (λ (y : Plan). is_short y l) same short) says)
 
-joined_takes : (item : Item) (ls : List (List ℕ)) (s : Plan) (l : List ℕ) (t : Plan) → SpellScript ls s → s.off ≡ false → is_short s l →
+joined_takes : (item : Parsed) (ls : List (List ℕ)) (s : Plan) (l : List ℕ) (t : Plan) → SpellScript ls s → s.off ≡ false → is_short s l →
     Says item l → joined_by s item ≡ Ok t → SpellScript (ls ++ l ∷ []) t
-joined_takes Item.Skipped ls s l t h no_off short says e =
+joined_takes Parsed.Skipped ls s l t h no_off short says e =
     subst (λ (y : Plan). SpellScript (ls ++ l ∷ []) y) (ok_is s t e) (skip_takes ls s l h short says)
-joined_takes (Item.Header x) ls s l t h no_off short says e =
+joined_takes (Parsed.Header x) ls s l t h no_off short says e =
     let g = guard_ok (eqb (length s.lines) 0) (with_header s x) t e in
     let none : s.lines ≡ [] = nil_from_length s.lines (eqb-true (length s.lines) 0 g.0) in
     subst (λ (y : Plan). SpellScript (ls ++ l ∷ []) y) g.1 (header_takes ls s l x h none no_off short says)
-joined_takes (Item.Line line) ls s l t h no_off short says e =
+joined_takes (Parsed.Line line) ls s l t h no_off short says e =
     let g = line_joined s line t e in
     subst (λ (y : Plan). SpellScript (ls ++ l ∷ []) y) g.1 (turn_takes ls s l line h no_off g.0 short says)
-joined_takes Item.Off ls s l t h no_off short says e =
+joined_takes Parsed.Off ls s l t h no_off short says e =
     subst (λ (y : Plan). SpellScript (ls ++ l ∷ []) y) (ok_is (with_off s) t e) (off_takes ls s l h no_off short says)
-joined_takes Item.Serial ls s l t h no_off short says e =
+joined_takes Parsed.Serial ls s l t h no_off short says e =
     let g = guard_ok (is_unsaid s) (with_serial s) t e in
     subst (λ (y : Plan). SpellScript (ls ++ l ∷ []) y) g.1 (serial_takes ls s l h g.0 no_off short says)
 
-is_skip : (item : Item) (l : List ℕ) → is_skipped item ≡ true → Says item l → is_meant l ≡ false
-is_skip Item.Skipped l k says = says
-is_skip (Item.Header x) l k says = absurd cc
-is_skip (Item.Line line) l k says = absurd cc
-is_skip Item.Off l k says = absurd cc
-is_skip Item.Serial l k says = absurd cc
+is_skip : (item : Parsed) (l : List ℕ) → is_skipped item ≡ true → Says item l → is_meant l ≡ false
+is_skip Parsed.Skipped l k says = says
+is_skip (Parsed.Header x) l k says = absurd cc
+is_skip (Parsed.Line line) l k says = absurd cc
+is_skip Parsed.Off l k says = absurd cc
+is_skip Parsed.Serial l k says = absurd cc
 
-skip_joins : (s : Plan) (item : Item) → is_skipped item ≡ true → joined_by s item ≡ Ok s
-skip_joins s Item.Skipped k = refl
-skip_joins s (Item.Header x) k = absurd cc
-skip_joins s (Item.Line line) k = absurd cc
-skip_joins s Item.Off k = absurd cc
-skip_joins s Item.Serial k = absurd cc
+skip_joins : (s : Plan) (item : Parsed) → is_skipped item ≡ true → joined_by s item ≡ Ok s
+skip_joins s Parsed.Skipped k = refl
+skip_joins s (Parsed.Header x) k = absurd cc
+skip_joins s (Parsed.Line line) k = absurd cc
+skip_joins s Parsed.Off k = absurd cc
+skip_joins s Parsed.Serial k = absurd cc
 
-added_by : (item : Item) (ls : List (List ℕ)) (s : Plan) (l : List ℕ) (t : Plan) (off skipped : Bool) → s.off ≡ off →
+added_by : (item : Parsed) (ls : List (List ℕ)) (s : Plan) (l : List ℕ) (t : Plan) (off skipped : Bool) → s.off ≡ off →
     is_skipped item ≡ skipped → SpellScript ls s → is_short s l → Says item l
     → cond (off && not skipped) (Err BadLine) (joined_by s item) ≡ Ok t → SpellScript (ls ++ l ∷ []) t
 added_by item ls s l t false skipped f k h short says e = joined_takes item ls s l t h f short says e
@@ -717,7 +717,7 @@ line_takes ls s l t h e =
 abbrev CanStep : List (List ℕ) → List ℕ → Plan → Type 0
 CanStep ls l t = (s : Plan) × SpellScript ls s × (line_at s l ≡ Ok t)
 
-line_from : (s : Plan) (l : List ℕ) (item : Item) (t : Plan) → item_at (line_limit s.serial) l ≡ Ok item → added s item ≡ Ok t →
+line_from : (s : Plan) (l : List ℕ) (item : Parsed) (t : Plan) → item_at (line_limit s.serial) l ≡ Ok item → added s item ≡ Ok t →
     line_at s l ≡ Ok t
 unfolding line_at
 line_from s l item t e a = rw e a
@@ -756,7 +756,7 @@ step_off ls l t m h on =
                   h.orderly.recorded;
             };
       },
-      line_from before l Item.Off t (off_again_line (line_limit t.serial) l short.1 m ends.1) (ap (λ (y : Plan). Ok y) whole),
+      line_from before l Parsed.Off t (off_again_line (line_limit t.serial) l short.1 m ends.1) (ap (λ (y : Plan). Ok y) whole),
     )
 
 step_turn : (ls : List (List ℕ)) (l : List ℕ) (t : Plan) (ts : List Turn) (u : Turn) → is_meant l ≡ true →
@@ -780,7 +780,7 @@ step_turn ls l t ts u m h no_off same =
     let recorded = each_less (MayAsk t.serial) (map line_of ts) (line_of u)
     (subst (λ (vs : List Line). AllByRecursion (MayAsk t.serial) vs) lines h.orderly.recorded) in
     let before : Plan = with_lines t (map line_of ts) in
-    let adds : joined_by before (Item.Line (line_of u)) ≡ Ok (with_lines t (map line_of ts ++ line_of u ∷ [])) =
+    let adds : joined_by before (Parsed.Line (line_of u)) ≡ Ok (with_lines t (map line_of ts ++ line_of u ∷ [])) =
     line_joins before (line_of u) (record { names = processes.1; forks = forks.1; quiet = exits.1; asks = recorded.1 }) in
     let whole : with_lines t (map line_of ts ++ line_of u ∷ []) ≡ t = ap (λ (vs : List Line). with_lines t vs) (sym lines)
     ∙ rw (← no_off) refl in (
@@ -799,7 +799,7 @@ step_turn ls l t ts u m h no_off same =
         orderly =
             record { processes = processes.0; forks = forks.0; exits = exits.0; calls = calls.0; recorded = recorded.0 };
       },
-      line_from before l (Item.Line (line_of u)) t (turn_again_line u (line_limit t.serial) l short.1 m ends.1 fits.1)
+      line_from before l (Parsed.Line (line_of u)) t (turn_again_line u (line_limit t.serial) l short.1 m ends.1 fits.1)
           (adds ∙ ap (λ (y : Plan). Ok y) whole),
     )
 
@@ -830,7 +830,7 @@ step_header ls l t hs x m h no_off none same =
         fit_turns = tt;
         orderly = record { processes = tt; forks = tt; exits = tt; calls = tt; recorded = tt };
       },
-      line_from before l (Item.Header x) t (header_again_line x (line_limit t.serial) l short.1 m ends.1 fits.1)
+      line_from before l (Parsed.Header x) t (header_again_line x (line_limit t.serial) l short.1 m ends.1 fits.1)
           (ap (λ (y : Plan). Ok y) whole),
     )
 
@@ -872,10 +872,10 @@ step_serial ls l t m h one no_off none empty =
         orderly =
             record { processes = tt; forks = tt; exits = tt; calls = tt; recorded = tt };
       },
-      line_from (plan_from false []) l Item.Serial t (serial_again_line 4096 l short m ends.1) (ap (λ (y : Plan). Ok y) whole),
+      line_from (plan_from false []) l Parsed.Serial t (serial_again_line 4096 l short m ends.1) (ap (λ (y : Plan). Ok y) whole),
     )
 
-skip_added : (s : Plan) (off : Bool) → cond (off && not true) (Err BadLine) (joined_by s Item.Skipped) ≡ Ok s
+skip_added : (s : Plan) (off : Bool) → cond (off && not true) (Err BadLine) (joined_by s Parsed.Skipped) ≡ Ok s
 skip_added s true = refl
 skip_added s false = refl
 
@@ -896,7 +896,7 @@ step_skip ls l t m h =
         fit_turns = h.fit_turns;
         orderly = h.orderly;
       },
-      line_from t l Item.Skipped t (skip_again (line_limit t.serial) l short.1 m) (skip_added t t.off),
+      line_from t l Parsed.Skipped t (skip_again (line_limit t.serial) l short.1 m) (skip_added t t.off),
     )
 
 step_meant : (ls : List (List ℕ)) (l : List ℕ) (t : Plan) (off serial : Bool) → is_meant l ≡ true → (h : SpellScript (ls ++ l ∷ []) t) →
@@ -986,7 +986,7 @@ script_unique lines a b p q = same_plan a b (sym (script_only lines a p) ∙ scr
 abbrev failed : {X : Type 0} → Fault → Result X Fault
 failed f = Err f
 
-abbrev said : Item → Result Item Fault
+abbrev said : Parsed → Result Parsed Fault
 said item = Ok item
 
 err_is : {X : Type 0} (f g : Fault) → failed {X = X} f ≡ failed g → f ≡ g
@@ -995,24 +995,24 @@ err_is f g e = cc
 ok_no_fault : {X : Type 0} (x : X) (f : Fault) → Ok x ≡ failed f → ⊥
 ok_no_fault x f e = cc
 
-same_line : (a b : Line) → said (Item.Line a) ≡ said (Item.Line b) → a ≡ b
+same_line : (a b : Line) → said (Parsed.Line a) ≡ said (Parsed.Line b) → a ≡ b
 same_line a b e = cc
 
-line_no_serial : (a : Line) → said (Item.Line a) ≡ said Item.Serial → ⊥
+line_no_serial : (a : Line) → said (Parsed.Line a) ≡ said Parsed.Serial → ⊥
 line_no_serial a e = cc
 
-line_no_header : (a : Line) (x : Header) → said (Item.Line a) ≡ said (Item.Header x) → ⊥
+line_no_header : (a : Line) (x : Header) → said (Parsed.Line a) ≡ said (Parsed.Header x) → ⊥
 line_no_header a x e = cc
 
 -- the line of a stranger is read as that line
 stranger_reads : (s : Plan) (l : List ℕ) (w : IsCallOfStranger s l) → is_short s l → is_meant l ≡ true →
-    item_at (line_limit s.serial) l ≡ Ok (Item.Line (line_of w.0))
+    item_at (line_limit s.serial) l ≡ Ok (Parsed.Line (line_of w.0))
 stranger_reads s l w short m = turn_again_line w.0 (line_limit s.serial) l short m w.1 w.2
 
 no_stranger : (s : Plan) (l : List ℕ) (m : Bool) → is_meant l ≡ m → is_short s l → item_at (line_limit s.serial) l ≡ Err BadLine →
     IsCallOfStranger s l → ⊥
-no_stranger s l true m short e w = ok_no_fault (Item.Line (line_of w.0)) BadLine (sym (stranger_reads s l w short m) ∙ e)
-no_stranger s l false m short e w = ok_no_fault Item.Skipped BadLine (sym (skip_again (line_limit s.serial) l short m) ∙ e)
+no_stranger s l true m short e w = ok_no_fault (Parsed.Line (line_of w.0)) BadLine (sym (stranger_reads s l w short m) ∙ e)
+no_stranger s l false m short e w = ok_no_fault Parsed.Skipped BadLine (sym (skip_again (line_limit s.serial) l short m) ∙ e)
 
 -- a line whose words aren't read
 abbrev IsUnread : ℕ → List ℕ → Fault → Type 0
@@ -1021,12 +1021,12 @@ IsUnread limit l BadLine = length l ≤ limit
 IsUnread limit l UnknownProcess = ⊥
 
 unread_by : (limit : ℕ) (l : List ℕ) (f : Fault) (t u : Bool) → ltb limit (length l) ≡ t →
-    cond t (Err TooLong) (cond u (words_at (slice_split (λ b. eqb b 32) (plain_line l))) (Ok Item.Skipped)) ≡ Err f → IsUnread limit l f
-unread_by limit l f true u m e = subst (IsUnread limit l) (err_is {X = Item} TooLong f e) (ltb-true limit (length l) m)
+    cond t (Err TooLong) (cond u (words_at (slice_split (λ b. eqb b 32) (plain_line l))) (Ok Parsed.Skipped)) ≡ Err f → IsUnread limit l f
+unread_by limit l f true u m e = subst (IsUnread limit l) (err_is {X = Parsed} TooLong f e) (ltb-true limit (length l) m)
 unread_by limit l f false true m e =
     let bad : f ≡ BadLine = subst IsBadOrOk e (words_bad (slice_split (λ b. eqb b 32) (plain_line l))) in
     subst (IsUnread limit l) (sym bad) (ltb-false limit (length l) m)
-unread_by limit l f false false m e = absurd (ok_no_fault Item.Skipped f e)
+unread_by limit l f false false m e = absurd (ok_no_fault Parsed.Skipped f e)
 
 unread : (limit : ℕ) (l : List ℕ) (f : Fault) → item_at limit l ≡ Err f → IsUnread limit l f
 unfolding item_at
@@ -1039,14 +1039,14 @@ unread_why s l BadLine p e = (p, λ w. no_stranger s l (is_meant l) refl p e w)
 unread_why s l UnknownProcess p e = absurd p
 
 header_why : (s : Plan) (l : List ℕ) (x : Header) (f : Fault) (y : Plan) (b : Bool) → is_short s l → is_meant l ≡ true →
-    item_at (line_limit s.serial) l ≡ Ok (Item.Header x) → cond b (Ok y) (Err BadLine) ≡ Err f → IsFaultOf f s l
+    item_at (line_limit s.serial) l ≡ Ok (Parsed.Header x) → cond b (Ok y) (Err BadLine) ≡ Err f → IsFaultOf f s l
 header_why s l x f y true short m k e = absurd (ok_no_fault y f e)
 header_why s l x f y false short m k e =
     subst (λ g. IsFaultOf g s l) (err_is {X = Plan} BadLine f e)
     (short, λ w. line_no_header (line_of w.0) x (sym (stranger_reads s l w short m) ∙ k))
 
 serial_why : (s : Plan) (l : List ℕ) (f : Fault) (y : Plan) (b : Bool) → is_short s l → is_meant l ≡ true →
-    item_at (line_limit s.serial) l ≡ Ok Item.Serial → cond b (Ok y) (Err BadLine) ≡ Err f → IsFaultOf f s l
+    item_at (line_limit s.serial) l ≡ Ok Parsed.Serial → cond b (Ok y) (Err BadLine) ≡ Err f → IsFaultOf f s l
 serial_why s l f y true short m k e = absurd (ok_no_fault y f e)
 serial_why s l f y false short m k e =
     subst (λ g. IsFaultOf g s l) (err_is {X = Plan} BadLine f e)
@@ -1063,7 +1063,7 @@ may_ask serial line other same asks h = asks (ap (λ (y : Line). asks_recorded y
 
 -- a fork line is none that names a stranger
 fork_why : (s : Plan) (l : List ℕ) (line : Line) (f : Fault) (x : Plan) (may : Bool) → asks_fork line.act ≡ true → is_short s l →
-    Says (Item.Line line) l → item_at (line_limit s.serial) l ≡ Ok (Item.Line line) → cond may (Ok x) (Err BadLine) ≡ Err f →
+    Says (Parsed.Line line) l → item_at (line_limit s.serial) l ≡ Ok (Parsed.Line line) → cond may (Ok x) (Err BadLine) ≡ Err f →
     IsFaultOf f s l
 fork_why s l line f x true forks short says k e = absurd (ok_no_fault x f e)
 fork_why s l line f x false forks short says k e =
@@ -1077,7 +1077,7 @@ fork_why s l line f x false forks short says k e =
 turn_why : (s : Plan) (l : List ℕ) (line : Line) (f : Fault) (x : Plan) (known exited awaited : Bool) → IsOrderly s → s.off ≡ false →
     asks_fork line.act ≡ false → MayAsk s.serial line → is_known (known_count s) line.pid.0 ≡ known →
     has_exited s.lines line.pid.0 ≡ exited → awaits_known (known_count s) line.act ≡ awaited
-    → is_short s l → Says (Item.Line line) l → item_at (line_limit s.serial) l ≡ Ok (Item.Line line)
+    → is_short s l → Says (Parsed.Line line) l → item_at (line_limit s.serial) l ≡ Ok (Parsed.Line line)
     → cond known (cond exited (Err BadLine) (cond awaited (Ok x) (Err UnknownProcess))) (Err UnknownProcess) ≡ Err f → IsFaultOf f s l
 turn_why s l line f x true true awaited orderly no_off other asks known exited there short says k e =
     subst (λ g. IsFaultOf g s l) (err_is {X = Plan} BadLine f e) (
@@ -1127,7 +1127,7 @@ turn_why s l line f x false exited awaited orderly no_off other asks known gone 
 -- nor is one whose call doesn't stand in the script
 other_why : (s : Plan) (l : List ℕ) (line : Line) (f : Fault) (barred : Bool) → IsOrderly s → s.off ≡ false → asks_fork line.act ≡ false →
     is_barred s.serial line.act ≡ barred
-    → is_short s l → Says (Item.Line line) l → item_at (line_limit s.serial) l ≡ Ok (Item.Line line) →
+    → is_short s l → Says (Parsed.Line line) l → item_at (line_limit s.serial) l ≡ Ok (Parsed.Line line) →
     cond barred (Err BadLine) (joined_by_allowed s line) ≡ Err f → IsFaultOf f s l
 other_why s l line f true orderly no_off other barred short says k e =
     subst (λ g. IsFaultOf g s l) (err_is {X = Plan} BadLine f e) (
@@ -1142,22 +1142,22 @@ other_why s l line f false orderly no_off other allowed short says k e =
     orderly no_off other (not_barred s.serial (asks_recorded line.act) allowed) refl refl refl short says k e
 
 line_why : (s : Plan) (l : List ℕ) (line : Line) (f : Fault) (forks : Bool) → IsOrderly s → s.off ≡ false → asks_fork line.act ≡ forks →
-    is_short s l → Says (Item.Line line) l → item_at (line_limit s.serial) l ≡ Ok (Item.Line line)
+    is_short s l → Says (Parsed.Line line) l → item_at (line_limit s.serial) l ≡ Ok (Parsed.Line line)
     → cond forks (joined_by_fork s line) (joined_by_other s line) ≡ Err f → IsFaultOf f s l
 line_why s l line f true orderly no_off forks short says k e = fork_why s l line f _ (may_fork s line.pid.0) forks short says k e
 line_why s l line f false orderly no_off other short says k e =
     other_why s l line f (is_barred s.serial line.act) orderly no_off other refl short says k e
 
-joined_why : (s : Plan) (l : List ℕ) (item : Item) (f : Fault) → IsOrderly s → s.off ≡ false → is_short s l → Says item l →
+joined_why : (s : Plan) (l : List ℕ) (item : Parsed) (f : Fault) → IsOrderly s → s.off ≡ false → is_short s l → Says item l →
     item_at (line_limit s.serial) l ≡ Ok item → joined_by s item ≡ Err f → IsFaultOf f s l
-joined_why s l Item.Skipped f orderly no_off short says k e = absurd (ok_no_fault s f e)
-joined_why s l (Item.Header x) f orderly no_off short says k e = header_why s l x f _ (eqb (length s.lines) 0) short says.0 k e
-joined_why s l (Item.Line line) f orderly no_off short says k e =
+joined_why s l Parsed.Skipped f orderly no_off short says k e = absurd (ok_no_fault s f e)
+joined_why s l (Parsed.Header x) f orderly no_off short says k e = header_why s l x f _ (eqb (length s.lines) 0) short says.0 k e
+joined_why s l (Parsed.Line line) f orderly no_off short says k e =
     line_why s l line f (asks_fork line.act) orderly no_off refl short says k e
-joined_why s l Item.Off f orderly no_off short says k e = absurd (ok_no_fault (with_off s) f e)
-joined_why s l Item.Serial f orderly no_off short says k e = serial_why s l f _ (is_unsaid s) short says.0 k e
+joined_why s l Parsed.Off f orderly no_off short says k e = absurd (ok_no_fault (with_off s) f e)
+joined_why s l Parsed.Serial f orderly no_off short says k e = serial_why s l f _ (is_unsaid s) short says.0 k e
 
-added_why : (s : Plan) (l : List ℕ) (item : Item) (f : Fault) (off skipped : Bool) → IsOrderly s → s.off ≡ off → is_skipped item ≡ skipped →
+added_why : (s : Plan) (l : List ℕ) (item : Parsed) (f : Fault) (off skipped : Bool) → IsOrderly s → s.off ≡ off → is_skipped item ≡ skipped →
     is_short s l → Says item l → item_at (line_limit s.serial) l ≡ Ok item
     → cond (off && not skipped) (Err BadLine) (joined_by s item) ≡ Err f → IsFaultOf f s l
 added_why s l item f false skipped orderly o n short says k e = joined_why s l item f orderly o short says k e
@@ -1165,7 +1165,7 @@ added_why s l item f true true orderly o n short says k e = absurd (ok_no_fault 
 added_why s l item f true false orderly o n short says k e =
     subst (λ g. IsFaultOf g s l) (err_is {X = Plan} BadLine f e) (short, λ w. both_ways s.off w.3 o)
 
-why_of : (s : Plan) (l : List ℕ) (f : Fault) (r : Result Item Fault) → IsOrderly s → item_at (line_limit s.serial) l ≡ r →
+why_of : (s : Plan) (l : List ℕ) (f : Fault) (r : Result Parsed Fault) → IsOrderly s → item_at (line_limit s.serial) l ≡ r →
     (r >>= λ item. added s item) ≡ Err f → IsFaultOf f s l
 why_of s l f (Ok item) orderly k e = let p = item_takes (line_limit s.serial) l item k in
     added_why s l item f s.off (is_skipped item) orderly refl refl p.0 p.1 k e
@@ -1201,30 +1201,30 @@ first_fault front s l ls f h e =
       why = rw (back, this) (fault_is s l f h.orderly e);
     }
 
-named : (lines : List (List ℕ)) (n : ℕ) (f : Fault) → IsFirstFault lines n f → Refuses lines (line_fault n f)
+named : (lines : List (List ℕ)) (n : ℕ) (f : Fault) → IsFirstFault lines n f → HasFault lines (line_fault n f)
 named lines n BadLine h = h
 named lines n UnknownProcess h = h
 named lines n TooLong h = h
 
 refused_on : (front : List (List ℕ)) (s : Plan) (l : List ℕ) (ls : List (List ℕ)) (e : ScriptFault) → SpellScript front s →
     (r : Result Plan Fault) → line_at s l ≡ r
-    → ((t : Plan) → line_at s l ≡ Ok t → lines_at (suc (suc (length front))) t ls ≡ Err e → Refuses (front ++ l ∷ ls) e)
-    → on_line (suc (length front)) (λ t. lines_at (suc (suc (length front))) t ls) r ≡ Err e → Refuses (front ++ l ∷ ls) e
+    → ((t : Plan) → line_at s l ≡ Ok t → lines_at (suc (suc (length front))) t ls ≡ Err e → HasFault (front ++ l ∷ ls) e)
+    → on_line (suc (length front)) (λ t. lines_at (suc (suc (length front))) t ls) r ≡ Err e → HasFault (front ++ l ∷ ls) e
 refused_on front s l ls e h (Ok t) g later k = later t g k
 refused_on front s l ls e h (Err f) g later k =
-    subst (λ (x : ScriptFault). Refuses (front ++ l ∷ ls) x) (same_fault (line_fault (suc (length front)) f) e k)
+    subst (λ (x : ScriptFault). HasFault (front ++ l ∷ ls) x) (same_fault (line_fault (suc (length front)) f) e k)
     (named (front ++ l ∷ ls) (suc (length front)) f (first_fault front s l ls f h g))
 
 lines_refused : (front : List (List ℕ)) (s : Plan) (lines : List (List ℕ)) (e : ScriptFault) → SpellScript front s →
-    lines_at (suc (length front)) s lines ≡ Err e → Refuses (front ++ lines) e
+    lines_at (suc (length front)) s lines ≡ Err e → HasFault (front ++ lines) e
 lines_refused front s [] e h k = absurd (ok_no_err s e k)
 lines_refused front s (l ∷ ls) e h k = refused_on front s l ls e h (line_at s l) refl (λ t g q.
     let long : length (front ++ l ∷ []) ≡ suc (length front) = omega (arith, length-append front (l ∷ [])) in
-    subst (λ (xs : List (List ℕ)). Refuses xs e) (append_assoc front (l ∷ []) ls)
+    subst (λ (xs : List (List ℕ)). HasFault xs e) (append_assoc front (l ∷ []) ls)
     (lines_refused (front ++ l ∷ []) t ls e (line_takes front s l t h g) (ap (λ (n : ℕ). lines_at (suc n) t ls) long ∙ q))) k
 
-pub script_refused : (lines : List (List ℕ)) (e : ScriptFault) → lines_at 1 no_lines lines ≡ Err e → Refuses lines e
-script_refused lines e k = lines_refused [] no_lines lines e none_spelled k
+pub script_fault : (lines : List (List ℕ)) (e : ScriptFault) → lines_at 1 no_lines lines ≡ Err e → HasFault lines e
+script_fault lines e k = lines_refused [] no_lines lines e none_spelled k
 
 -- ---- what a function returned
 
@@ -1242,10 +1242,10 @@ pub gives_only : (r : Result Script ScriptFault) (lines : List (List ℕ)) (s : 
     SpellScript lines s → GivesScript r (Ok s)
 gives_only r lines s h k = subst (λ (read : Result Plan ScriptFault). GivesScript r read) (script_only lines s k) h
 
-fails_named : (e : ScriptFault) (lines : List (List ℕ)) → FailsAt e (lines_at 1 no_lines lines) → Refuses lines e
-fails_named (ScriptFault.BadLine n) lines h = script_refused lines (ScriptFault.BadLine n) h
-fails_named (ScriptFault.UnknownProcess n) lines h = script_refused lines (ScriptFault.UnknownProcess n) h
-fails_named (ScriptFault.TooLong n) lines h = script_refused lines (ScriptFault.TooLong n) h
+fails_named : (e : ScriptFault) (lines : List (List ℕ)) → FailsAt e (lines_at 1 no_lines lines) → HasFault lines e
+fails_named (ScriptFault.BadLine n) lines h = script_fault lines (ScriptFault.BadLine n) h
+fails_named (ScriptFault.UnknownProcess n) lines h = script_fault lines (ScriptFault.UnknownProcess n) h
+fails_named (ScriptFault.TooLong n) lines h = script_fault lines (ScriptFault.TooLong n) h
 fails_named ScriptFault.Reading lines h = h
 fails_named ScriptFault.Writing lines h = h
 fails_named ScriptFault.NoMemory lines h = tt
@@ -1254,6 +1254,6 @@ fails_named ScriptFault.OneOrder lines h = elim h [ ]
 fails_named (ScriptFault.Deadlock waiting) lines h = elim h [ ]
 
 pub gives_fault : (r : Result Script ScriptFault) (lines : List (List ℕ)) → GivesScript r (lines_at 1 no_lines lines) →
-    IfErr r (λ f. Refuses lines f)
+    IfErr r (λ f. HasFault lines f)
 gives_fault (Ok s) lines h = tt
 gives_fault (Err f) lines h = fails_named f lines h

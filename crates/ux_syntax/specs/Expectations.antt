@@ -6,7 +6,7 @@ use Rattle.std.specs.Option.{is_some}
 use Rattle.ux_syntax.specs.declared.expectations.Expectation.{Expectation}
 use Rattle.ux_syntax.specs.declared.fault.Fault.{Fault}
 use Rattle.ux_syntax.specs.declared.fault.ScriptFault.{ScriptFault}
-use Rattle.ux_syntax.specs.declared.reading.Item.{Item}
+use Rattle.ux_syntax.specs.declared.reading.Parsed.{Parsed}
 use Rattle.ux_syntax.specs.Spelling.{line_limit}
 use Rattle.ux_syntax.specs.Text.{plain_line}
 use Rattle.ux_syntax.specs.Turns.{is_call}
@@ -16,8 +16,8 @@ use Rattle.ux_syntax.specs.Reading.{item_at}
 abbrev pub line_numbered : List (List ℕ) → ℕ → List ℕ
 line_numbered texts n = slice_index_or ([] ∷ texts) n []
 
-abbrev pub is_call_item : Result Item Fault → Bool
-is_call_item (Ok (Item.Line line)) = is_call line.act
+abbrev pub is_call_item : Result Parsed Fault → Bool
+is_call_item (Ok (Parsed.Line line)) = is_call line.act
 is_call_item (Ok other) = false
 is_call_item (Err fault) = false
 

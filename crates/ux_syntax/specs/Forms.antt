@@ -1,11 +1,11 @@
 -- Which bytes are a line, whatever stands before it.
 use Rattle.std.specs.Prelude.{ℕ, Bool, true, false, List, Result, Ok, Err}
 use Rattle.ux_syntax.specs.declared.fault.Fault.{Fault}
-use Rattle.ux_syntax.specs.declared.reading.Item.{Item}
+use Rattle.ux_syntax.specs.declared.reading.Parsed.{Parsed}
 use Rattle.ux_syntax.specs.Reading.{item_at}
 
 -- something was read
-abbrev pub is_read : Result Item Fault → Bool
+abbrev pub is_read : Result Parsed Fault → Bool
 is_read (Ok item) = true
 is_read (Err fault) = false
 

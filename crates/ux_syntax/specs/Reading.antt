@@ -19,7 +19,7 @@ use Rattle.ux_syntax.specs.declared.script.ObjectLine.{ObjectLine}
 use Rattle.ux_syntax.specs.declared.script.Header.{Header}
 use Rattle.ux_syntax.specs.declared.script.Act.{Act}
 use Rattle.ux_syntax.specs.Lines.{Line}
-use Rattle.ux_syntax.specs.declared.reading.Item.{Item}
+use Rattle.ux_syntax.specs.declared.reading.Parsed.{Parsed}
 use Rattle.ux_trace.specs.Trace.{dash, stands, word_text}
 pub use Rattle.ux_syntax.specs.Digits.{◌>>=◌, is_plain, digit_at}
 unfoldable pub use Rattle.ux_syntax.specs.Digits.{number_at}
@@ -432,23 +432,23 @@ unfoldable pub act_at : List (List ℕ) → Result Act Fault
 act_at [] = Err BadLine
 act_at (w ∷ ws) = if bytes_eq w (codes "wait") then wait_at ws else call_at w ws
 
-abbrev pub turn_at : ℕ → List (List ℕ) → Result Item Fault
-turn_at pid ws = act_at ws >>= λ act. Ok (Item.Line (record { pid = record { 0 = pid }; act = act }))
+abbrev pub turn_at : ℕ → List (List ℕ) → Result Parsed Fault
+turn_at pid ws = act_at ws >>= λ act. Ok (Parsed.Line (record { pid = record { 0 = pid }; act = act }))
 
-unfoldable pub words_at : List (List ℕ) → Result Item Fault
+unfoldable pub words_at : List (List ℕ) → Result Parsed Fault
 words_at [] = Err BadLine
 words_at (w ∷ ws) =
-    if bytes_eq w (codes "proc") then (proc_at ws >>= λ p. Ok (Item.Header (Header.Proc p)))
-    else if bytes_eq w (codes "object") then (object_at ws >>= λ o. Ok (Item.Header (Header.Object o)))
-    else if bytes_eq w (codes "off") then (ends ws >>= λ x. Ok Item.Off)
-    else if bytes_eq w (codes "serial") then (ends ws >>= λ x. Ok Item.Serial)
+    if bytes_eq w (codes "proc") then (proc_at ws >>= λ p. Ok (Parsed.Header (Header.Proc p)))
+    else if bytes_eq w (codes "object") then (object_at ws >>= λ o. Ok (Parsed.Header (Header.Object o)))
+    else if bytes_eq w (codes "off") then (ends ws >>= λ x. Ok Parsed.Off)
+    else if bytes_eq w (codes "serial") then (ends ws >>= λ x. Ok Parsed.Serial)
     else (number_at w >>= λ pid. turn_at pid ws)
 
 -- what a line says that may have so many bytes, as it is written; the words are those of its plain line
-unfoldable pub item_at : ℕ → List ℕ → Result Item Fault
+unfoldable pub item_at : ℕ → List ℕ → Result Parsed Fault
 item_at limit text =
     if nat_lt limit (length text) then Err TooLong else
-    if is_meant text then words_at (slice_split (λ b. b == 32) (plain_line text)) else Ok Item.Skipped
+    if is_meant text then words_at (slice_split (λ b. b == 32) (plain_line text)) else Ok Parsed.Skipped
 
 abbrev pub with_header : Plan → Header → Plan
 with_header s (Header.Object o) =
@@ -499,22 +499,22 @@ abbrev pub joined_by_other : Plan → Line → Result Plan Fault
 joined_by_other s line = if is_barred s.serial line.act then Err BadLine else joined_by_allowed s line
 
 -- The script with one item more where `off` was not said. A process that isn't there has no lines, so it has made no exit.
-abbrev pub joined_by : Plan → Item → Result Plan Fault
-joined_by s Item.Skipped = Ok s
-joined_by s (Item.Header h) = if length s.lines == 0 then Ok (with_header s h) else Err BadLine
-joined_by s (Item.Line line) = if asks_fork line.act then joined_by_fork s line else joined_by_other s line
-joined_by s Item.Off = Ok (with_off s)
-joined_by s Item.Serial = if is_unsaid s then Ok (with_serial s) else Err BadLine
+abbrev pub joined_by : Plan → Parsed → Result Plan Fault
+joined_by s Parsed.Skipped = Ok s
+joined_by s (Parsed.Header h) = if length s.lines == 0 then Ok (with_header s h) else Err BadLine
+joined_by s (Parsed.Line line) = if asks_fork line.act then joined_by_fork s line else joined_by_other s line
+joined_by s Parsed.Off = Ok (with_off s)
+joined_by s Parsed.Serial = if is_unsaid s then Ok (with_serial s) else Err BadLine
 
-abbrev pub is_skipped : Item → Bool
-is_skipped Item.Skipped = true
-is_skipped (Item.Header h) = false
-is_skipped (Item.Line line) = false
-is_skipped Item.Off = false
-is_skipped Item.Serial = false
+abbrev pub is_skipped : Parsed → Bool
+is_skipped Parsed.Skipped = true
+is_skipped (Parsed.Header h) = false
+is_skipped (Parsed.Line line) = false
+is_skipped Parsed.Off = false
+is_skipped Parsed.Serial = false
 
 -- the script with one item more: nothing is said after `off`
-abbrev pub added : Plan → Item → Result Plan Fault
+abbrev pub added : Plan → Parsed → Result Plan Fault
 added s item = if s.off && not (is_skipped item) then Err BadLine else joined_by s item
 
 unfoldable pub line_at : Plan → List ℕ → Result Plan Fault

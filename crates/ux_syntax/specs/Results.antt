@@ -48,18 +48,18 @@ ReadsOn (Ok x) new read = read ≡ Ok new
 ReadsOn (Err f) new read = FailsAt f read
 
 -- a fault names the first line at fault and says why, unless memory ran out
-abbrev pub Refuses : List (List ℕ) → ScriptFault → Type 0
-Refuses texts (ScriptFault.BadLine n) = IsFirstFault texts n Fault.BadLine
-Refuses texts (ScriptFault.UnknownProcess n) = IsFirstFault texts n Fault.UnknownProcess
-Refuses texts (ScriptFault.TooLong n) = IsFirstFault texts n Fault.TooLong
-Refuses texts ScriptFault.Reading = ⊥
-Refuses texts ScriptFault.Writing = ⊥
-Refuses texts ScriptFault.NoMemory = Unit {0}
-Refuses texts ScriptFault.Stranger = ⊥
-Refuses texts ScriptFault.OneOrder = ⊥
-Refuses texts (ScriptFault.Deadlock waiting) = ⊥
+abbrev pub HasFault : List (List ℕ) → ScriptFault → Type 0
+HasFault texts (ScriptFault.BadLine n) = IsFirstFault texts n Fault.BadLine
+HasFault texts (ScriptFault.UnknownProcess n) = IsFirstFault texts n Fault.UnknownProcess
+HasFault texts (ScriptFault.TooLong n) = IsFirstFault texts n Fault.TooLong
+HasFault texts ScriptFault.Reading = ⊥
+HasFault texts ScriptFault.Writing = ⊥
+HasFault texts ScriptFault.NoMemory = Unit {0}
+HasFault texts ScriptFault.Stranger = ⊥
+HasFault texts ScriptFault.OneOrder = ⊥
+HasFault texts (ScriptFault.Deadlock waiting) = ⊥
 
--- one mark for each process that is known so far, which says whether the process has made its exit; no other process has
-pub record Marks (s : Plan) (exited : List Bool) : Type 0 where
+-- one flag for each process that is known so far, which says whether the process has made its exit; no other process has
+pub record KnowsExits (s : Plan) (exited : List Bool) : Type 0 where
   pub long : length exited ≡ known_count s
   pub each : (i : ℕ) → slice_index_or exited i false ≡ has_exited s.lines (suc i)

@@ -151,11 +151,11 @@ line_or cs None = cs
 line_or cs (Some plain) = plain
 
 -- whether a line has a byte without which the field is a plain word: a quotation mark, or a colon
-abbrev pub is_marked : Field → List ℕ → Bool
-is_marked Field.Plain cs = false
-is_marked Field.Hex cs = list_any (λ b. b == 34) cs
-is_marked Field.Raw cs = list_any (λ b. b == 34) cs
-is_marked Field.Space cs = list_any (λ b. b == 58) cs
+abbrev pub may_be_special : Field → List ℕ → Bool
+may_be_special Field.Plain cs = false
+may_be_special Field.Hex cs = list_any (λ b. b == 34) cs
+may_be_special Field.Raw cs = list_any (λ b. b == 34) cs
+may_be_special Field.Space cs = list_any (λ b. b == 58) cs
 
 -- the plain line that a line stands for
 unfoldable pub plain_line : List ℕ → List ℕ

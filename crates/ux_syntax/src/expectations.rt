@@ -8,7 +8,7 @@ ghost use Rattle.ux_syntax.specs.Expectations.{asks_call, behind_mark, expected_
 
 use crate::fault::{LineError, ScriptFault};
 use crate::plain::plain_line;
-use crate::reading::{Item, item_of, split_lines};
+use crate::reading::{Parsed, item_of, split_lines};
 use crate::script::{Act, SERIAL_LINE_LIMIT};
 use std::alloc::{AllocError, Global};
 use ux_types::Bytes;
@@ -37,7 +37,7 @@ fn asks_call(alloc: Global, text: &[u8]) -> Result<bool, AllocError>
     ensures { IfOk result (λ yes. yes ≡ asks_call text.now) }
 {
     match item_of(alloc, 0, SERIAL_LINE_LIMIT, text) {
-        Ok(Item::Line(line)) => Ok(is_call(&line.act)),
+        Ok(Parsed::Line(line)) => Ok(is_call(&line.act)),
         Ok(_) => Ok(false),
         Err(LineError::Memory) => Err(AllocError),
         Err(LineError::Fault(_)) => Ok(false),
@@ -112,7 +112,7 @@ fn expected_by(alloc: Global, texts: &[&[u8]]) -> Result<Vec<Expectation>, Scrip
 
 /// What the calls of a script are expected to answer. A comment line `#= REPLY` right behind a call's line says so of that
 /// call: what a trace is to have behind `=`, with ` closed` and the numbers of the file objects that are closed.
-/// Where nothing stands behind `#=`, nothing is expected. The script's own faults are `parse_script`'s to tell.
+/// Where nothing stands behind `#=`, nothing is expected. The script's own faults are reported by `parse_script`.
 ///
 /// # Errors
 ///

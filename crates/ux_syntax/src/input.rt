@@ -3,7 +3,7 @@
 ghost use Rattle.std.specs.Prelude.{◌≡◌, ◌⊎◌, Ok, Err, IfOk, OnOk, IfErr, IfSome};
 ghost use Rattle.std.specs.Io.KnownBytes.{IsAtEnd};
 ghost use Rattle.ux_syntax.specs.Spelling.{Plan, plan_of, SpellScript, IsOrderly, lines_of};
-ghost use Rattle.ux_syntax.specs.Results.{GivesScript, Refuses};
+ghost use Rattle.ux_syntax.specs.Results.{GivesScript, HasFault};
 ghost use Rattle.ux_syntax.specs.Continuing.{Found};
 
 use crate::fault::ScriptFault;
@@ -34,7 +34,7 @@ pub fn read_script<R: Read>(alloc: Global, reader: &mut R) -> Result<Script, Scr
     // None of the reader's bytes is left.
     ensures end { OnOk result (IsAtEnd (R.remaining reader.new)) }
     // The read failed, or the fault is that of the first line at fault, and says why.
-    ensures fault { IfErr result (λ f. (f ≡ ScriptFault.Reading) ⊎ IfSome (R.remaining reader.old) (λ text. Refuses (lines_of text) f)) }
+    ensures fault { IfErr result (λ f. (f ≡ ScriptFault.Reading) ⊎ IfSome (R.remaining reader.old) (λ text. HasFault (lines_of text) f)) }
 {
     read_lines_of(alloc, reader)
 }

@@ -2,15 +2,15 @@
 
 ghost use Rattle.std.specs.Prelude.{◌≡◌, ◌<◌, ◌++◌, false, take, drop, IfOk, OnOk};
 ghost use Rattle.std.specs.Option.{option_map};
-ghost use Rattle.std.specs.Fmt.{digit_glyph};
-ghost use Rattle.ux_trace.specs.Trace.{digit_pair, hex};
-ghost use Rattle.ux_syntax.specs.Text.{escape_at, pair_at, escaped_byte_at, text_byte_at, text_at, is_behind_word, hex_word_at, raw_word_at, first_word, space_of, space_at, space_word_at, special_word_at, field_at, plain_fields, object_fields, reply_fields, call_fields, fields_of, line_or, is_marked, plain_line};
+ghost use Rattle.ux_trace.specs.Trace.{hex};
+ghost use Rattle.ux_syntax.specs.Text.{escape_at, pair_at, escaped_byte_at, text_byte_at, text_at, is_behind_word, hex_word_at, raw_word_at, first_word, space_of, space_at, space_word_at, special_word_at, field_at, plain_fields, object_fields, reply_fields, call_fields, fields_of, line_or, may_be_special, plain_line};
 ghost use Rattle.ux_syntax.specs.PlainLines.{PlainLinesStay, EchoesAreRead};
 ghost use Rattle.ux_syntax.specs.Results.{IsAsRead};
 
 use crate::fault::{BAD, LineError};
 use crate::words::{Word, digit_of};
 use std::alloc::{AllocError, Global};
+use ux_trace::HexText;
 use ux_types::RIGHTS_LIMIT;
 
 /// How a word of a line may be written.
@@ -97,39 +97,12 @@ fn text_of<'a>(alloc: Global, text: &'a [u8]) -> Result<(Vec<u8>, &'a [u8]), Lin
     Err(BAD)
 }
 
-/// The digit of a number below 16.
-fn digit(number: u8) -> u8
-    requires { number < 16 }
-    ensures { result ≡ digit_glyph false number }
-{
-    if number < 10 {
-        b'0' + number
-    } else {
-        b'a' + (number - 10)
-    }
-}
-
-/// Adds the two digits of a byte.
-fn add_digits(digits: &mut Vec<u8>, byte: u8) -> Result<(), AllocError>
-    ensures { OnOk result (digits.new.items ≡ digits.old.items ++ digit_pair byte) }
-{
-    digits.push(digit(byte / 16))?;
-    digits.push(digit(byte % 16))?;
-    Ok(())
-}
-
 /// Bytes as pairs of digits, or `-` for none.
 fn hex_of(alloc: Global, bytes: &[u8]) -> Result<Vec<u8>, AllocError>
     ensures { IfOk result (λ word. word.items ≡ hex bytes.now) }
 {
-    if bytes.is_empty() {
-        return Vec::from_slice(alloc, b"-");
-    }
-    let mut digits = Vec::new(alloc);
-    for byte in bytes {
-        add_digits(&mut digits, *byte)?;
-    }
-    Ok(digits)
+    let word = format!(in alloc; "{}", HexText(bytes))?;
+    Ok(word.into_bytes())
 }
 
 /// Whether nothing stands there, or a blank.
@@ -397,8 +370,8 @@ fn fields_of(text: &[u8]) -> &'static [Field]
 }
 
 /// Whether a line has a byte without which a field is a plain word.
-fn is_marked(field: Field, text: &[u8]) -> bool
-    ensures { result ≡ is_marked field text.now }
+fn may_be_special(field: Field, text: &[u8]) -> bool
+    ensures { result ≡ may_be_special field text.now }
 {
     match field {
         Field::Plain => false,
@@ -411,7 +384,7 @@ fn is_marked(field: Field, text: &[u8]) -> bool
 fn may_differ(fields: &[Field], text: &[u8]) -> bool
     ensures { result ≡ false → plain_fields fields.now text.now ≡ text.now }
 {
-    fields.iter().any(|field| is_marked(*field, text))
+    fields.iter().any(|field| may_be_special(*field, text))
 }
 
 /// The plain line that a line stands for, where it isn't that line itself.

@@ -3,7 +3,7 @@
 ghost use Rattle.std.specs.Prelude.{◌≡◌, ◌+◌, ◌^◌, ◌<◌, ◌≤◌, ℕ, List, [], ◌∷◌, ◌++◌, length, IfErr, OnOk};
 ghost use Rattle.ux_syntax.specs.Spelling.{plan_of};
 ghost use Rattle.ux_syntax.specs.Reading.{no_lines};
-ghost use Rattle.ux_syntax.specs.Results.{FailsAt, GivesScript, Marks};
+ghost use Rattle.ux_syntax.specs.Results.{FailsAt, GivesScript, KnowsExits};
 ghost use Rattle.ux_syntax.specs.Continuing.{continued};
 
 use crate::fault::ScriptFault;
@@ -26,7 +26,7 @@ impl Progress {
         ensures nothing { plan_of result.reader.script ≡ no_lines }
         ensures number { result.number ≡ 1 }
         ensures line { result.line.items ≡ [] }
-        ensures marks { Marks (plan_of result.reader.script) result.reader.exited.items }
+        ensures exits { KnowsExits (plan_of result.reader.script) result.reader.exited.items }
     {
         Progress {
             reader: Reader::new(alloc),
@@ -41,11 +41,11 @@ impl Progress {
     ///
     /// The fault of the first line that has one, or `NoMemory`.
     pub(crate) fn take_bytes(&mut self, alloc: Global, bytes: &[u8]) -> Result<(), ScriptFault>
-        requires marks { Marks (plan_of self.old.reader.script) self.old.reader.exited.items }
+        requires exits { KnowsExits (plan_of self.old.reader.script) self.old.reader.exited.items }
         requires numbers { self.old.number + length bytes.now < 2 ^ 64 }
         ensures ok { OnOk result ((rest : List ℕ) → continued (plan_of self.old.reader.script) self.old.number self.old.line.items (bytes.now ++ rest)
             ≡ continued (plan_of self.new.reader.script) self.new.number self.new.line.items rest) }
-        ensures marks { OnOk result (Marks (plan_of self.new.reader.script) self.new.reader.exited.items) }
+        ensures exits { OnOk result (KnowsExits (plan_of self.new.reader.script) self.new.reader.exited.items) }
         ensures number { OnOk result (self.new.number ≤ self.old.number + length bytes.now) }
         ensures fault { IfErr result (λ f. (rest : List ℕ) → FailsAt f (continued (plan_of self.old.reader.script) self.old.number self.old.line.items (bytes.now ++ rest))) }
     {
@@ -58,11 +58,11 @@ impl Progress {
     /// Takes in one byte: the end of a line, or a further byte of it.
     #[tactic(auto, using(crate::proofs::Feeding::too_long, crate::proofs::Feeding::byte_joins))]
     fn take_byte(&mut self, alloc: Global, byte: u8) -> Result<(), ScriptFault>
-        requires marks { Marks (plan_of self.old.reader.script) self.old.reader.exited.items }
+        requires exits { KnowsExits (plan_of self.old.reader.script) self.old.reader.exited.items }
         requires numbers { self.old.number + 1 < 2 ^ 64 }
         ensures ok { OnOk result ((rest : List ℕ) → continued (plan_of self.old.reader.script) self.old.number self.old.line.items (byte ∷ rest)
             ≡ continued (plan_of self.new.reader.script) self.new.number self.new.line.items rest) }
-        ensures marks { OnOk result (Marks (plan_of self.new.reader.script) self.new.reader.exited.items) }
+        ensures exits { OnOk result (KnowsExits (plan_of self.new.reader.script) self.new.reader.exited.items) }
         ensures number { OnOk result (self.new.number ≤ self.old.number + 1) }
         ensures fault { IfErr result (λ f. (rest : List ℕ) → FailsAt f (continued (plan_of self.old.reader.script) self.old.number self.old.line.items (byte ∷ rest))) }
     {
@@ -79,11 +79,11 @@ impl Progress {
     /// Reads the line that has ended, and begins the next.
     #[tactic(auto, using(crate::proofs::Feeding::line_ends, crate::proofs::Feeding::line_fails))]
     fn end_line(&mut self, alloc: Global) -> Result<(), ScriptFault>
-        requires marks { Marks (plan_of self.old.reader.script) self.old.reader.exited.items }
+        requires exits { KnowsExits (plan_of self.old.reader.script) self.old.reader.exited.items }
         requires numbers { self.old.number + 1 < 2 ^ 64 }
         ensures ok { OnOk result ((rest : List ℕ) → continued (plan_of self.old.reader.script) self.old.number self.old.line.items (10 ∷ rest)
             ≡ continued (plan_of self.new.reader.script) self.new.number self.new.line.items rest) }
-        ensures marks { OnOk result (Marks (plan_of self.new.reader.script) self.new.reader.exited.items) }
+        ensures exits { OnOk result (KnowsExits (plan_of self.new.reader.script) self.new.reader.exited.items) }
         ensures number { OnOk result (self.new.number ≤ self.old.number + 1) }
         ensures fault { IfErr result (λ f. (rest : List ℕ) → FailsAt f (continued (plan_of self.old.reader.script) self.old.number self.old.line.items (10 ∷ rest))) }
     {
@@ -98,7 +98,7 @@ impl Progress {
     /// The script, where no byte is left. The last line may have no line feed.
     #[tactic(auto, using(crate::proofs::Feeding::last_line, crate::proofs::Feeding::last_fails))]
     pub(crate) fn finish(self, alloc: Global) -> Result<Script, ScriptFault>
-        requires { Marks (plan_of self.reader.script) self.reader.exited.items }
+        requires { KnowsExits (plan_of self.reader.script) self.reader.exited.items }
         ensures { GivesScript result (continued (plan_of self.reader.script) self.number self.line.items []) }
     {
         let Progress {

@@ -5,7 +5,7 @@ ghost use Rattle.std.specs.List.{slice_split};
 ghost use Rattle.ux_syntax.specs.Spelling.{Plan, plan_of, SpellScript, IsOrderly, OneScript, lines_of, is_meant, asks_fork};
 ghost use Rattle.ux_syntax.specs.Turns.{is_known, awaits_known};
 ghost use Rattle.ux_syntax.specs.Reading.{words_at, item_at, may_fork, is_unsaid, joined_by, joined_by_fork, line_at, no_lines, script_at};
-ghost use Rattle.ux_syntax.specs.Results.{IsAsRead, Leaves, GivesScript, Refuses, Marks};
+ghost use Rattle.ux_syntax.specs.Results.{IsAsRead, Leaves, GivesScript, HasFault, KnowsExits};
 
 use crate::acts::act_of;
 use crate::fault::{BAD, Fault, LineError, ScriptFault};
@@ -19,7 +19,7 @@ use ux_types::{MADE_LIMIT, Pid};
 
 /// What a line says.
 #[derive(Drop)]
-pub(crate) enum Item {
+pub(crate) enum Parsed {
     /// Nothing: it is empty or a comment.
     Skipped,
     /// A line of the header.
@@ -33,27 +33,27 @@ pub(crate) enum Item {
 }
 
 #[tactic(auto, unfolding(crate::specs::Reading::words_at))]
-fn words_of(alloc: Global, number: usize, words: &[&[u8]]) -> Result<Item, LineError>
+fn words_of(alloc: Global, number: usize, words: &[&[u8]]) -> Result<Parsed, LineError>
     ensures { IsAsRead (λ item. item) result (words_at (map (λ w. w.now) words.now)) }
 {
     let (first, rest) = next(words)?;
     if first == b"proc".as_slice() {
-        return Ok(Item::Header(Header::Proc(proc_of(alloc, rest)?)));
+        return Ok(Parsed::Header(Header::Proc(proc_of(alloc, rest)?)));
     }
     if first == b"object".as_slice() {
-        return Ok(Item::Header(Header::Object(object_of(alloc, rest)?)));
+        return Ok(Parsed::Header(Header::Object(object_of(alloc, rest)?)));
     }
     if first == b"off".as_slice() {
         end(rest)?;
-        return Ok(Item::Off);
+        return Ok(Parsed::Off);
     }
     if first == b"serial".as_slice() {
         end(rest)?;
-        return Ok(Item::Serial);
+        return Ok(Parsed::Serial);
     }
     let pid = Pid(u32::of(alloc, first)?);
     let act = act_of(alloc, rest)?;
-    Ok(Item::Line(Line { pid, act, number }))
+    Ok(Parsed::Line(Line { pid, act, number }))
 }
 
 fn says_nothing(text: &[u8]) -> bool
@@ -78,7 +78,7 @@ pub(crate) fn split_lines<'a>(alloc: Global, text: &'a [u8]) -> Result<Vec<&'a [
 }
 
 /// What the plain line of this number says.
-fn plain_item_of(alloc: Global, number: usize, line: &[u8]) -> Result<Item, LineError>
+fn plain_item_of(alloc: Global, number: usize, line: &[u8]) -> Result<Parsed, LineError>
     ensures { IsAsRead (λ item. item) result (words_at (slice_split (λ b. b == 32) line.now)) }
 {
     let words = split_words(alloc, line)?;
@@ -92,14 +92,14 @@ pub(crate) fn item_of(
     number: usize,
     limit: usize,
     text: &[u8],
-) -> Result<Item, LineError>
+) -> Result<Parsed, LineError>
     ensures { IsAsRead (λ item. item) result (item_at limit text.now) }
 {
     if text.len() > limit {
         return Err(LineError::Fault(Fault::TooLong));
     }
     if says_nothing(text) {
-        return Ok(Item::Skipped);
+        return Ok(Parsed::Skipped);
     }
     match plain_line(alloc, text)? {
         Some(plain) => plain_item_of(alloc, number, &plain),
@@ -107,7 +107,7 @@ pub(crate) fn item_of(
     }
 }
 
-/// A script as far as it was read, with a mark for each process that is known so far: whether it has made its exit.
+/// A script as far as it was read, with a flag for each process that is known so far: whether it has made its exit.
 #[derive(Drop)]
 pub(crate) struct Reader {
     pub(crate) script: Script,
@@ -118,7 +118,7 @@ impl Reader {
     /// Nothing was read yet.
     pub(crate) fn new(alloc: Global) -> Reader
         ensures nothing { plan_of result.script ≡ no_lines }
-        ensures marks { Marks (plan_of result.script) result.exited.items }
+        ensures exits { KnowsExits (plan_of result.script) result.exited.items }
     {
         Reader {
             script: Script {
@@ -149,11 +149,11 @@ impl Reader {
     }
 
     fn add_header(&mut self, header: Header) -> Result<(), LineError>
-        requires { Marks (plan_of self.old.script) self.old.exited.items }
-        ensures reads { Leaves (plan_of self.new.script) result (joined_by (plan_of self.old.script) (Item.Header header)) }
-        ensures marks { OnOk result (Marks (plan_of self.new.script) self.new.exited.items) }
+        requires { KnowsExits (plan_of self.old.script) self.old.exited.items }
+        ensures reads { Leaves (plan_of self.new.script) result (joined_by (plan_of self.old.script) (Parsed.Header header)) }
+        ensures exits { OnOk result (KnowsExits (plan_of self.new.script) self.new.exited.items) }
         ensures kept { OnErr result (plan_of self.new.script ≡ plan_of self.old.script) }
-        ensures marked { OnErr result (self.new.exited.items ≡ self.old.exited.items) }
+        ensures exits_kept { OnErr result (self.new.exited.items ≡ self.old.exited.items) }
     {
         if !self.script.lines.is_empty() {
             return Err(BAD);
@@ -172,7 +172,7 @@ impl Reader {
 
     /// Whether a fork of this process may come next.
     fn may_fork(&self, pid: Pid) -> bool
-        requires { Marks (plan_of self.now.script) self.now.exited.items }
+        requires { KnowsExits (plan_of self.now.script) self.now.exited.items }
         ensures { result ≡ may_fork (plan_of self.now.script) pid.0 }
     {
         let asked = self.script.serial || pid.0 == 1;
@@ -185,11 +185,11 @@ impl Reader {
     /// Adds a fork line, behind which there is one process more.
     fn add_fork(&mut self, line: Line) -> Result<(), LineError>
         requires forks { asks_fork line.act ≡ true }
-        requires marks { Marks (plan_of self.old.script) self.old.exited.items }
+        requires exits { KnowsExits (plan_of self.old.script) self.old.exited.items }
         ensures reads { Leaves (plan_of self.new.script) result (joined_by_fork (plan_of self.old.script) line) }
-        ensures marks { OnOk result (Marks (plan_of self.new.script) self.new.exited.items) }
+        ensures exits { OnOk result (KnowsExits (plan_of self.new.script) self.new.exited.items) }
         ensures kept { OnErr result (plan_of self.new.script ≡ plan_of self.old.script) }
-        ensures marked { OnErr result (self.new.exited.items ≡ self.old.exited.items) }
+        ensures exits_kept { OnErr result (self.new.exited.items ≡ self.old.exited.items) }
     {
         if !self.may_fork(line.pid) {
             return Err(BAD);
@@ -201,11 +201,11 @@ impl Reader {
     }
 
     fn add_line(&mut self, line: Line) -> Result<(), LineError>
-        requires { Marks (plan_of self.old.script) self.old.exited.items }
-        ensures reads { Leaves (plan_of self.new.script) result (joined_by (plan_of self.old.script) (Item.Line line)) }
-        ensures marks { OnOk result (Marks (plan_of self.new.script) self.new.exited.items) }
+        requires { KnowsExits (plan_of self.old.script) self.old.exited.items }
+        ensures reads { Leaves (plan_of self.new.script) result (joined_by (plan_of self.old.script) (Parsed.Line line)) }
+        ensures exits { OnOk result (KnowsExits (plan_of self.new.script) self.new.exited.items) }
         ensures kept { OnErr result (plan_of self.new.script ≡ plan_of self.old.script) }
-        ensures marked { OnErr result (self.new.exited.items ≡ self.old.exited.items) }
+        ensures exits_kept { OnErr result (self.new.exited.items ≡ self.old.exited.items) }
     {
         if line.act.asks_fork() {
             return self.add_fork(line);
@@ -245,11 +245,11 @@ impl Reader {
 
     /// Gives the script one order alone, which the first line that says something may do.
     fn add_serial(&mut self) -> Result<(), LineError>
-        requires { Marks (plan_of self.old.script) self.old.exited.items }
-        ensures reads { Leaves (plan_of self.new.script) result (joined_by (plan_of self.old.script) Item.Serial) }
-        ensures marks { OnOk result (Marks (plan_of self.new.script) self.new.exited.items) }
+        requires { KnowsExits (plan_of self.old.script) self.old.exited.items }
+        ensures reads { Leaves (plan_of self.new.script) result (joined_by (plan_of self.old.script) Parsed.Serial) }
+        ensures exits { OnOk result (KnowsExits (plan_of self.new.script) self.new.exited.items) }
         ensures kept { OnErr result (plan_of self.new.script ≡ plan_of self.old.script) }
-        ensures marked { OnErr result (self.new.exited.items ≡ self.old.exited.items) }
+        ensures exits_kept { OnErr result (self.new.exited.items ≡ self.old.exited.items) }
     {
         if !self.is_unsaid() {
             return Err(BAD);
@@ -266,25 +266,25 @@ impl Reader {
         number: usize,
         text: &[u8],
     ) -> Result<(), LineError>
-        requires { Marks (plan_of self.old.script) self.old.exited.items }
+        requires { KnowsExits (plan_of self.old.script) self.old.exited.items }
         ensures reads { Leaves (plan_of self.new.script) result (line_at (plan_of self.old.script) text.now) }
-        ensures marks { OnOk result (Marks (plan_of self.new.script) self.new.exited.items) }
+        ensures exits { OnOk result (KnowsExits (plan_of self.new.script) self.new.exited.items) }
         ensures kept { OnErr result (plan_of self.new.script ≡ plan_of self.old.script) }
-        ensures marked { OnErr result (self.new.exited.items ≡ self.old.exited.items) }
+        ensures exits_kept { OnErr result (self.new.exited.items ≡ self.old.exited.items) }
     {
         let item = item_of(alloc, number, self.script.line_limit(), text)?;
-        if self.script.off && !matches!(item, Item::Skipped) {
+        if self.script.off && !matches!(item, Parsed::Skipped) {
             return Err(BAD);
         }
         match item {
-            Item::Skipped => Ok(()),
-            Item::Header(header) => self.add_header(header),
-            Item::Line(line) => self.add_line(line),
-            Item::Off => {
+            Parsed::Skipped => Ok(()),
+            Parsed::Header(header) => self.add_header(header),
+            Parsed::Line(line) => self.add_line(line),
+            Parsed::Off => {
                 self.script.off = true;
                 Ok(())
             }
-            Item::Serial => self.add_serial(),
+            Parsed::Serial => self.add_serial(),
         }
     }
 }
@@ -325,7 +325,7 @@ fn read_text(alloc: Global, text: &[u8]) -> Result<Script, ScriptFault>
 /// `socket TYPE OFLAGS`, `pair TYPE OFLAGS`, `bind FD ADDR`, `listen FD BACKLOG`, `connect FD ADDR`,
 /// `accept FD OFLAGS`, `shut FD MODE`, `getopt FD OPTION`, `setopt FD OPTION N`, `sockname FD`, `peername FD`,
 /// `send FD ADDR HEX CONTROL MFLAGS`, `recv FD N SPACE MFLAGS`, `poll FD`, `fork`, `exec`, `exit`, or `wait PID N`,
-/// which isn't a call: where processes are threads, the process goes on when that one has N entries or more, or has
+/// which isn't a call: where processes are threads, the process continues when that one has N entries or more, or has
 /// exited. Each `fork` makes one more process, whose number is the next: it is known to the lines behind that line,
 /// as their own process and as one that is waited for, and to none before. Each process may fork in a
 /// script with the line `serial`, and process 1 alone in one without, and only where fewer than 1,024 processes are
@@ -346,7 +346,7 @@ pub fn parse_script(alloc: Global, text: &[u8]) -> Result<Script, ScriptFault>
     // What is spelled so is read, unless memory runs out.
     ensures only { (s : Plan) → SpellScript (lines_of text.now) s → GivesScript result (Ok s) }
     // A fault is that of the first line at fault, and says why.
-    ensures fault { IfErr result (λ f. Refuses (lines_of text.now) f) }
+    ensures fault { IfErr result (λ f. HasFault (lines_of text.now) f) }
 {
     read_text(alloc, text)
 }

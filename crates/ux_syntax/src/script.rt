@@ -29,7 +29,7 @@ pub struct ObjectLine {
 pub enum Act {
     /// A call.
     Call(Request),
-    /// To go on when a process has so many entries or more, or has exited.
+    /// To continue when a process has so many entries or more, or has exited.
     Wait(Pid, u32),
 }
 

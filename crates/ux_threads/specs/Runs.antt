@@ -7,8 +7,8 @@ use Rattle.ux_syntax.specs.Spelling.{Plan}
 use Rattle.ux_trace.specs.Trace.{trace}
 use Rattle.ux_script.specs.Writes.{AppendsBeginning}
 use Rattle.ux_syntax.specs.declared.fault.ScriptFault.{ScriptFault}
-use Rattle.ux_compare.specs.Runs.{Runs, HasBegun}
-use Rattle.ux_threads.specs.declared.run.Ran.{Ran}
+use Rattle.ux_replay.specs.Runs.{Runs, HasBegun}
+use Rattle.ux_threads.specs.declared.run.ThreadedRun.{ThreadedRun}
 
 -- nothing was written, or a beginning of the trace of a history that is such a run
 abbrev pub WritesBeginning : State → Plan → Option (List ℕ) → Option (List ℕ) → Type 0
@@ -24,6 +24,6 @@ is_deadlock (ScriptFault.Deadlock waiting) = true
 is_deadlock f = false
 
 -- the history of the whole script, or of its beginning
-abbrev pub IsOfScript : State → Plan → Ran → Type 0
-IsOfScript boot s (Ran.Whole entries) = Runs boot s entries.items
-IsOfScript boot s (Ran.Begun entries waiting) = HasBegun boot s entries.items
+abbrev pub IsOfScript : State → Plan → ThreadedRun → Type 0
+IsOfScript boot s (ThreadedRun.Whole entries) = Runs boot s entries.items
+IsOfScript boot s (ThreadedRun.Begun entries waiting) = HasBegun boot s entries.items

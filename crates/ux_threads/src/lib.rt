@@ -7,4 +7,4 @@ mod run;
 mod work;
 
 pub use gate::{Gate, NoGate};
-pub use run::{Ran, make_threads, run_threads};
+pub use run::{ThreadedRun, make_threads, run_threads};

@@ -7,12 +7,12 @@ ghost use Rattle.ux_model.specs.History.{IsLegal};
 ghost use Rattle.ux_syntax.specs.Spelling.{plan_of, known_count};
 ghost use Rattle.ux_trace.specs.Trace.{trace};
 ghost use Rattle.ux_script.specs.Runs.{IsRunFault};
-ghost use Rattle.ux_compare.specs.Runs.{requests_of, turns, Runs};
+ghost use Rattle.ux_replay.specs.Runs.{requests_of, turns, Runs};
 ghost use Rattle.ux_threads.specs.Runs.{WritesBeginning, WritesBegun, IsOfScript, is_deadlock};
 
 use crate::compared::{begun_history, whole_history};
 use crate::gate::Gate;
-use crate::work::{Done, Stop, work_all};
+use crate::work::{Ended, Stop, work_all};
 use std::alloc::Global;
 use std::io::Write;
 use std::marker::Brand;
@@ -64,11 +64,11 @@ pub fn run_threads<O: FileObject + Send, G: Gate, Out: Write>(
     ensures fault { IfErr result (λ f. is_deadlock f ≡ false → script.now.serial ≡ false → IsRunFault f) }
 {
     match make_threads(rt, alloc, script, kernel, gate)? {
-        Ran::Whole(entries) => {
+        ThreadedRun::Whole(entries) => {
             finish_trace(alloc, writer, &entries)?;
             Ok(entries)
         }
-        Ran::Begun(entries, waiting) => {
+        ThreadedRun::Begun(entries, waiting) => {
             // The deadlock is what is reported, also where the trace can't be written.
             let _written = finish_trace(alloc, writer, &entries);
             Err(ScriptFault::Deadlock(waiting))
@@ -88,7 +88,7 @@ pub fn make_threads<O: FileObject + Send, G: Gate>(
     script: &Script,
     kernel: Kernel<O>,
     gate: &G,
-) -> Result<Ran, ScriptFault>
+) -> Result<ThreadedRun, ScriptFault>
     requires boots { IsBootState kernel }
     requires processes { kernel.processes ≡ map new_process script.now.procs.items }
     // The history is a legal one from the kernel's state, in which each process made the script's calls, or the first of them.
@@ -110,7 +110,7 @@ pub fn make_threads<O: FileObject + Send, G: Gate>(
 
 /// The history of a run.
 #[derive(Drop)]
-pub enum Ran {
+pub enum ThreadedRun {
     /// Of the whole script.
     Whole(Vec<Entry>),
     /// Up to where every process waits, each in its line.
@@ -125,7 +125,7 @@ fn run_named<W: BookName + Send + Sync, O: FileObject + Send, R: Threads + Wait 
     script: &Script,
     kernel: Kernel<O>,
     gate: &G,
-) -> Result<Ran, ScriptFault>
+) -> Result<ThreadedRun, ScriptFault>
     requires trail { trail ≡ record { id = W.trail; entries = []; given = 0 } }
     requires boots { IsBootState kernel }
     requires named { kernel ≡ W.boot }
@@ -146,11 +146,11 @@ fn run_named<W: BookName + Send + Sync, O: FileObject + Send, R: Threads + Wait 
     let brought = gather(alloc, done)?;
     if brought.waits.is_empty() {
         let entries = finish(rt, alloc, script, &layer, brought, count)?;
-        return Ok(Ran::Whole(entries));
+        return Ok(ThreadedRun::Whole(entries));
     }
     let guard = layer.book(rt);
     let entries = begun_history(alloc, guard.book(), script, count)?;
-    Ok(Ran::Begun(entries, Waiting::new(brought.waits)))
+    Ok(ThreadedRun::Begun(entries, Waiting::new(brought.waits)))
 }
 
 /// Ends the layer where the script says so, and compares its history with what the workers brought back.
@@ -190,7 +190,7 @@ struct Brought<W: BookName> {
 
 /// What the workers brought back, where each either exited or waits with all others. Lack of memory is reported
 /// before all else, then a stranger.
-fn gather<W: BookName>(alloc: Global, done: Vec<Done<W>>) -> Result<Brought<W>, ScriptFault>
+fn gather<W: BookName>(alloc: Global, done: Vec<Ended<W>>) -> Result<Brought<W>, ScriptFault>
     ensures { IfErr result (λ f. (f ≡ ScriptFault.NoMemory) ⊎ (f ≡ ScriptFault.Stranger)) }
 {
     if done.iter().any(|one| one.stop == Some(Stop::NoMemory)) {
@@ -207,10 +207,10 @@ fn gather<W: BookName>(alloc: Global, done: Vec<Done<W>>) -> Result<Brought<W>, 
 }
 
 /// Adds what one worker brought back.
-fn add<W: BookName>(brought: &mut Brought<W>, done: Done<W>) -> Result<(), ScriptFault>
+fn add<W: BookName>(brought: &mut Brought<W>, done: Ended<W>) -> Result<(), ScriptFault>
     ensures { IfErr result (λ f. (f ≡ ScriptFault.NoMemory) ⊎ (f ≡ ScriptFault.Stranger)) }
 {
-    let Done { spent, stop } = done;
+    let Ended { spent, stop } = done;
     let kept = match (spent, stop) {
         (Some(spent), None) => brought.spents.push(spent).is_ok(),
         (None, Some(Stop::Deadlock(pid, line))) => brought.waits.push((pid, line)).is_ok(),

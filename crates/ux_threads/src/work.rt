@@ -27,7 +27,7 @@ pub(crate) enum Stop {
 
 /// What a worker brings back. With no `spent` it stopped where every process waits.
 #[derive(Drop)]
-pub(crate) struct Done<W: BookName> {
+pub(crate) struct Ended<W: BookName> {
     pub(crate) spent: Option<Spent<W>>,
     pub(crate) stop: Option<Stop>,
 }
@@ -65,7 +65,7 @@ pub(crate) fn work_all<
     script: &Script,
     seats: Vec<Seat<W, O>>,
     gate: &G,
-) -> Result<Vec<Done<W>>, NoMemory> {
+) -> Result<Vec<Ended<W>>, NoMemory> {
     let stop = AtomicBool::new(false);
     let shared = Shared {
         rt,
@@ -85,11 +85,11 @@ pub(crate) fn work_all<
 fn join_scope<W: BookName + Send + Sync, O: FileObject + Send, R: Threads + Wait + Sync, G: Gate>(
     shared: Shared<'_, R, G>,
     seats: Vec<Seat<W, O>>,
-) -> Result<Vec<Done<W>>, AllocError> {
+) -> Result<Vec<Ended<W>>, AllocError> {
     thread::scope(
         thread::scope_env(),
         shared.rt,
-        move |scope| -> Result<Vec<Done<W>>, AllocError> {
+        move |scope| -> Result<Vec<Ended<W>>, AllocError> {
             let count = shared.script.process_count();
             let mut threads = Vec::with_capacity(shared.alloc, count)?;
             let mut done = Vec::with_capacity(shared.alloc, count)?;
@@ -122,7 +122,7 @@ fn start_work<
     scope: &Scope<'s, E>,
     shared: Shared<'a, R, G>,
     seat: Seat<W, O>,
-    threads: &mut Vec<JoinHandle<Done<W>>>,
+    threads: &mut Vec<JoinHandle<Ended<W>>>,
 ) {
     if threads.reserve(1).is_err() {
         shared.stop.store(true, Ordering::SeqCst);
@@ -151,8 +151,8 @@ fn lead<
     scope: &Scope<'s, E>,
     shared: Shared<'a, R, G>,
     seat: Seat<W, O>,
-    threads: &mut Vec<JoinHandle<Done<W>>>,
-) -> Done<W> {
+    threads: &mut Vec<JoinHandle<Ended<W>>>,
+) -> Ended<W> {
     let mut worker = Worker::new(seat);
     let mut left = shared.script.lines.as_slice();
     while let Some((child, more)) = worker.next_child(shared, left) {
@@ -166,7 +166,7 @@ fn lead<
 fn work<W: BookName, O: FileObject, R: Wait, G: Gate>(
     shared: Shared<'_, R, G>,
     seat: Seat<W, O>,
-) -> Done<W> {
+) -> Ended<W> {
     let mut worker = Worker::new(seat);
     let left = worker.make_calls(shared, &shared.script.lines);
     if !left.is_empty() {
@@ -299,13 +299,13 @@ impl<W: BookName, O: FileObject> Worker<W, O> {
     }
 
     /// Exits the seat. Where every process waits the history ends there, without exits.
-    fn end<R: Wait, G: Gate>(self, shared: Shared<'_, R, G>) -> Done<W> {
+    fn end<R: Wait, G: Gate>(self, shared: Shared<'_, R, G>) -> Ended<W> {
         let Worker { seat, stopped } = self;
         let spent = match stopped {
             Some(Stop::Deadlock(..)) => None,
             _ => Some(exit(shared, seat)),
         };
-        Done {
+        Ended {
             spent,
             stop: stopped,
         }

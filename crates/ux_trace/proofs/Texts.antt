@@ -16,13 +16,13 @@ hex_is [] h = absurd (omega arith)
 hex_is (b ∷ bs) h = refl
 
 -- what stands between these texts and a next one, where this byte joins them
-abbrev pub mark : ℕ → List (List ℕ) → List ℕ
-mark byte [] = []
-mark byte (text ∷ texts) = byte ∷ []
+abbrev pub separator_of : ℕ → List (List ℕ) → List ℕ
+separator_of byte [] = []
+separator_of byte (text ∷ texts) = byte ∷ []
 
-mark_more : (byte : ℕ) (texts : List (List ℕ)) (text : List ℕ) → byte ∷ [] ≡ mark byte (texts ++ text ∷ [])
-mark_more byte [] text = refl
-mark_more byte (a ∷ texts) text = refl
+separator_of_more : (byte : ℕ) (texts : List (List ℕ)) (text : List ℕ) → byte ∷ [] ≡ separator_of byte (texts ++ text ∷ [])
+separator_of_more byte [] text = refl
+separator_of_more byte (a ∷ texts) text = refl
 
 pub set_names_more : (rows : List (Bool × List ℕ)) (row : Bool × List ℕ) →
     set_names (rows ++ row ∷ []) ≡ set_names rows ++ set_names (row ∷ [])
@@ -35,7 +35,7 @@ set_names_more (first ∷ rows) row = elim first.0 as
     ]
 
 join_more : (byte : ℕ) (texts : List (List ℕ)) (text : List ℕ) →
-    join_with_byte byte (texts ++ text ∷ []) ≡ join_with_byte byte texts ++ (mark byte texts ++ text)
+    join_with_byte byte (texts ++ text ∷ []) ≡ join_with_byte byte texts ++ (separator_of byte texts ++ text)
 join_more byte [] text = refl
 join_more byte (a ∷ []) text = refl
 join_more byte (a ∷ b ∷ texts) text = rw (join_more byte (b ∷ texts) text)
@@ -59,11 +59,11 @@ closed_is (n ∷ ns) h = refl
 
 -- one more name, which is set
 pub name_more : (rows more : List (Bool × List ℕ)) (row : Bool × List ℕ) → more ≡ rows ++ row ∷ [] → row.0 ≡ true
-    → (join_with_byte 124 (set_names rows) ++ (mark 124 (set_names rows) ++ row.1) ≡ join_with_byte 124 (set_names more))
-    × (124 ∷ [] ≡ mark 124 (set_names more))
+    → (join_with_byte 124 (set_names rows) ++ (separator_of 124 (set_names rows) ++ row.1) ≡ join_with_byte 124 (set_names more))
+    × (124 ∷ [] ≡ separator_of 124 (set_names more))
 name_more rows more row e set =
     let step : set_names more ≡ set_names rows ++ row.1 ∷ [] = rw (e, set_names_more rows row, set) refl in
-    rw step (sym (join_more 124 (set_names rows) row.1), mark_more 124 (set_names rows) row.1)
+    rw step (sym (join_more 124 (set_names rows) row.1), separator_of_more 124 (set_names rows) row.1)
 
 -- one more name, which is not set
 pub name_skipped : (rows more : List (Bool × List ℕ)) (row : Bool × List ℕ) → more ≡ rows ++ row ∷ [] → row.0 ≡ false →
@@ -78,14 +78,14 @@ number_texts number xs = map decimal (map number xs)
 -- one more number
 pub rights_more : {X : Type 0} (number : X → ℕ) (xs : List X) (i : ℕ) (d : X) → i < length xs
     → (join_with_byte 44 (number_texts number (take i xs)) ++
-    (mark 44 (number_texts number (take i xs)) ++ decimal (number (get_or xs i d)))
-    ≡ join_with_byte 44 (number_texts number (take (i + 1) xs))) × (44 ∷ [] ≡ mark 44 (number_texts number (take (i + 1) xs)))
+    (separator_of 44 (number_texts number (take i xs)) ++ decimal (number (get_or xs i d)))
+    ≡ join_with_byte 44 (number_texts number (take (i + 1) xs))) × (44 ∷ [] ≡ separator_of 44 (number_texts number (take (i + 1) xs)))
 rights_more number xs i d lt =
     let before = number_texts number (take i xs) in
     let text = decimal (number (get_or xs i d)) in
     let step : number_texts number (take (i + 1) xs) ≡ before ++ text ∷ [] = ap (map decimal) (map_more number xs i d lt)
     ∙ map-append decimal (map number (take i xs)) (number (get_or xs i d) ∷ []) in
-    rw step (sym (join_more 44 before text), mark_more 44 before text)
+    rw step (sym (join_more 44 before text), separator_of_more 44 before text)
 
 -- ---- a name
 

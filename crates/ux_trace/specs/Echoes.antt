@@ -6,7 +6,7 @@ use Rattle.ux_model.specs.Types.{OpenFlags, MsgFlags, SockType, SockOpt, Mode, W
 use Rattle.ux_model.specs.Control.{Control}
 use Rattle.ux_model.specs.ControlReading.{control_in}
 use Rattle.ux_model.specs.Flags.{has_bits}
-use Rattle.ux_trace.specs.Trace.{dash, digit_pair, path_text, addr_text, addr_or_dash, told_text, reply_text, closed_text, word_text}
+use Rattle.ux_trace.specs.Trace.{dash, digit_pair, path_text, addr_text, addr_or_dash, parsed_control_text, reply_text, closed_text, word_text}
 use Rattle.ux_trace.specs.Trace.{request_word}
 
 -- ---- words that scripts have too
@@ -94,7 +94,7 @@ arguments_telling read (Request.SetOpt fd opt value) = decimal fd.0 ∷ option_t
 arguments_telling read (Request.GetSockName fd) = decimal fd.0 ∷ []
 arguments_telling read (Request.GetPeerName fd) = decimal fd.0 ∷ []
 arguments_telling read (Request.SendMsg fd addr bytes control flags) =
-    decimal fd.0 ∷ addr_or_dash addr ∷ quoted bytes ∷ told_text control read ∷ msg_flags flags ∷ []
+    decimal fd.0 ∷ addr_or_dash addr ∷ quoted bytes ∷ parsed_control_text control read ∷ msg_flags flags ∷ []
 arguments_telling read (Request.RecvMsg fd n space flags) = decimal fd.0 ∷ decimal n ∷ decimal space ∷ msg_flags flags ∷ []
 arguments_telling read (Request.Poll fd) = decimal fd.0 ∷ []
 arguments_telling read (Request.SetIds uid gid) = decimal uid ∷ decimal gid ∷ []

@@ -113,13 +113,13 @@ abbrev pub said_text : Control → List ℕ
 said_text control = joined 43 (cred_parts control.cred ++ rights_parts control.rights)
 
 -- what control bytes say that read as this, or the bytes themselves where they read as nothing
-abbrev pub told_text : List ℕ → Option Control → List ℕ
-told_text bytes None = raw_text bytes
-told_text bytes (Some control) = said_text control
+abbrev pub parsed_control_text : List ℕ → Option Control → List ℕ
+parsed_control_text bytes None = raw_text bytes
+parsed_control_text bytes (Some control) = said_text control
 
 -- what control bytes spell: what they say, or the bytes themselves where they spell no items
 abbrev pub items_text : List ℕ → List ℕ
-items_text bytes = told_text bytes (control_in bytes)
+items_text bytes = parsed_control_text bytes (control_in bytes)
 
 -- what a receive got: the count, the bytes, the flags, the items of its control bytes, and the sender's address
 abbrev pub got_text : ℕ → List ℕ → MsgFlags → List ℕ → Option Addr → List ℕ
@@ -172,9 +172,9 @@ reply_text (Reply.Flags flags) = codes "flags " ++ open_flags_text flags
 reply_text (Reply.Err e) = codes "err " ++ errno_text e
 
 -- the same where the control bytes of a receive read as this
-abbrev pub reply_telling : Option Control → Reply → List ℕ
-reply_telling read (Reply.Received flags count bytes control from) = got_text count bytes flags (told_text control read) from
-reply_telling read reply = reply_text reply
+abbrev pub reply_reading : Option Control → Reply → List ℕ
+reply_reading read (Reply.Received flags count bytes control from) = got_text count bytes flags (parsed_control_text control read) from
+reply_reading read reply = reply_text reply
 
 -- the word that names a call, in a script and in a trace
 abbrev pub word_text : CallWord → List ℕ

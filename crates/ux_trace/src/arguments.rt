@@ -5,7 +5,7 @@ ghost use Rattle.ux_trace.specs.Echoes.{call_telling, call_text, is_shown, quote
 
 use crate::call_word::CallWord;
 use crate::choices::{MessageLetters, OpenLetters, mode_word, option_word, type_word, whence_word};
-use crate::words::{AddrOrDash, AddrText, NameText, ToldText};
+use crate::words::{AddrOrDash, AddrText, NameText, ParsedControl};
 use std::alloc::{AllocError, Global};
 use std::fmt;
 use ux_cmsg::{Control, ControlError, read_control};
@@ -111,13 +111,13 @@ impl fmt::Display for CallText<'_> {
                 flags,
             } => {
                 let (addr, bytes) = (AddrOrDash(addr), Quoted(bytes.as_slice()));
-                let told = ToldText {
+                let control = ParsedControl {
                     bytes: control.as_slice(),
                     read: self.read,
                 };
                 write!(
                     f,
-                    "{word}({}, {addr}, {bytes}, {told}, {})",
+                    "{word}({}, {addr}, {bytes}, {control}, {})",
                     fd.0,
                     MessageLetters(*flags)
                 )

@@ -14,4 +14,4 @@ pub use choices::{mode_word, option_word, type_word, whence_word};
 pub use echo::echo_text;
 pub use entry::{answer_text, entry_text};
 pub use reply::errno_name;
-pub use words::{AddrText, NameText, stands};
+pub use words::{AddrText, HexText, NameText, stands};

@@ -1,9 +1,11 @@
 //! A reply as a trace has it.
 
 ghost use Rattle.std.specs.Prelude.{◌≡◌, IfOk, Some};
-ghost use Rattle.ux_trace.specs.Trace.{errno_text, reply_text, reply_telling};
+ghost use Rattle.ux_trace.specs.Trace.{errno_text, reply_text, reply_reading};
 
-use crate::words::{AddrOrDash, AddrText, Conditions, Hex, OpenFlagNames, ReceivedFlags, ToldText};
+use crate::words::{
+    AddrOrDash, AddrText, HexText, OpenFlagNames, ParsedControl, PollFlagNames, ReceivedFlags,
+};
 use std::alloc::{AllocError, Global};
 use std::fmt;
 use ux_cmsg::{Control, ControlError, read_control};
@@ -43,7 +45,7 @@ pub fn errno_name(errno: Errno) -> &'static str
 
 /// What the control bytes of a reply read as: nothing where they spell no items, or where it has none.
 pub(crate) fn control_of(alloc: Global, reply: &Reply) -> Result<Option<Control>, AllocError>
-    ensures { IfOk result (λ read. reply_telling read reply.now ≡ reply_text reply.now) }
+    ensures { IfOk result (λ read. reply_reading read reply.now ≡ reply_text reply.now) }
 {
     let Reply::Received { control, .. } = reply else {
         return Ok(None);
@@ -63,7 +65,7 @@ pub(crate) struct ReplyText<'a> {
 }
 
 impl fmt::Display for ReplyText<'_> {
-    ghost output = { λ r. Some (reply_telling r.read.now r.reply.now) };
+    ghost output = { λ r. Some (reply_reading r.read.now r.reply.now) };
 
     fn fmt<W: fmt::Write>(&self, f: &mut fmt::Formatter<W>) -> fmt::Result {
         match self.reply {
@@ -71,7 +73,7 @@ impl fmt::Display for ReplyText<'_> {
             Reply::Fd(fd) => write!(f, "fd {}", fd.0),
             Reply::Fds(first, second) => write!(f, "fds {} {}", first.0, second.0),
             Reply::Count(count) => write!(f, "n {count}"),
-            Reply::Bytes(bytes) => write!(f, "bytes {}", Hex(bytes.as_slice())),
+            Reply::Bytes(bytes) => write!(f, "bytes {}", HexText(bytes.as_slice())),
             Reply::At(offset) => write!(f, "at {offset}"),
             Reply::Received {
                 flags,
@@ -80,9 +82,9 @@ impl fmt::Display for ReplyText<'_> {
                 control,
                 from,
             } => {
-                let bytes = Hex(bytes.as_slice());
+                let bytes = HexText(bytes.as_slice());
                 let flags = ReceivedFlags(*flags);
-                let items = ToldText {
+                let items = ParsedControl {
                     bytes: control.as_slice(),
                     read: self.read,
                 };
@@ -93,7 +95,7 @@ impl fmt::Display for ReplyText<'_> {
             Reply::Addr(addr) => write!(f, "addr {}", AddrText(addr)),
             Reply::Opt(value) => write!(f, "opt {value}"),
             Reply::Cred(cred) => write!(f, "cred {} {} {}", cred.pid.0, cred.uid, cred.gid),
-            Reply::Poll(flags) => write!(f, "poll {}", Conditions(*flags)),
+            Reply::Poll(flags) => write!(f, "poll {}", PollFlagNames(*flags)),
             Reply::Child(pid) => write!(f, "child {}", pid.0),
             Reply::Flags(flags) => write!(f, "flags {}", OpenFlagNames(*flags)),
             Reply::Err(errno) => write!(f, "err {}", errno_name(*errno)),

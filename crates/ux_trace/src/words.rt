@@ -1,7 +1,7 @@
 //! The words of a reply: bytes, names, addresses, flags, and what control bytes spell.
 
 ghost use Rattle.std.specs.Prelude.{◌≡◌, Some, map};
-ghost use Rattle.ux_trace.specs.Trace.{hex, stands, name_text, addr_text, addr_or_dash, flags_text, received_flags_text, poll_flags_text, open_flags_text, rights_text, cred_text, said_text, told_text};
+ghost use Rattle.ux_trace.specs.Trace.{hex, stands, name_text, addr_text, addr_or_dash, flags_text, received_flags_text, poll_flags_text, open_flags_text, rights_text, cred_text, said_text, parsed_control_text};
 
 use bitflags::Flags;
 use std::fmt;
@@ -10,9 +10,9 @@ use ux_types::{Addr, Cred, Fd, MsgFlags, OpenFlags, PollFlags};
 
 /// Bytes as pairs of hexadecimal digits, or `-` where there is none.
 #[derive(Clone, Copy)]
-pub(crate) struct Hex<'a>(pub(crate) &'a [u8]);
+pub struct HexText<'a>(pub &'a [u8]);
 
-impl fmt::Display for Hex<'_> {
+impl fmt::Display for HexText<'_> {
     ghost output = { λ h. Some (hex h.0.now) };
 
     fn fmt<W: fmt::Write>(&self, f: &mut fmt::Formatter<W>) -> fmt::Result {
@@ -132,11 +132,11 @@ impl fmt::Display for ReceivedFlags {
     }
 }
 
-/// The conditions that a poll found.
+/// The conditions that a poll found (poll(2)).
 #[derive(Clone, Copy)]
-pub(crate) struct Conditions(pub(crate) PollFlags);
+pub(crate) struct PollFlagNames(pub(crate) PollFlags);
 
-impl fmt::Display for Conditions {
+impl fmt::Display for PollFlagNames {
     ghost output = { λ flags. Some (poll_flags_text flags.0) };
 
     fn fmt<W: fmt::Write>(&self, f: &mut fmt::Formatter<W>) -> fmt::Result {
@@ -231,18 +231,18 @@ impl fmt::Display for SaidText<'_> {
 
 /// What control bytes spell that read so: what they say, or `x:` and the bytes where they read as nothing.
 #[derive(Clone, Copy)]
-pub(crate) struct ToldText<'a> {
+pub(crate) struct ParsedControl<'a> {
     pub(crate) bytes: &'a [u8],
     pub(crate) read: &'a Option<Control>,
 }
 
-impl fmt::Display for ToldText<'_> {
-    ghost output = { λ told. Some (told_text told.bytes.now told.read.now) };
+impl fmt::Display for ParsedControl<'_> {
+    ghost output = { λ control. Some (parsed_control_text control.bytes.now control.read.now) };
 
     fn fmt<W: fmt::Write>(&self, f: &mut fmt::Formatter<W>) -> fmt::Result {
         match self.read {
             Some(control) => write!(f, "{}", SaidText(control)),
-            None => write!(f, "x:{}", Hex(self.bytes)),
+            None => write!(f, "x:{}", HexText(self.bytes)),
         }
     }
 }

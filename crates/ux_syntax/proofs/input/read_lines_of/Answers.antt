@@ -2,14 +2,14 @@ use Rattle.std.proofs.Common.{◌+◌, ◌*◌, ◌≤◌, arith, inl, inr, refl
 use Rattle.std.proofs.lemmas.List.{length-take}
 use Rattle.ux_syntax.specs.declared.progress.Progress.{Progress}
 use Rattle.ux_syntax.specs.Spelling.{plan_of}
-use Rattle.ux_syntax.specs.Results.{Marks}
+use Rattle.ux_syntax.specs.Results.{KnowsExits}
 use Rattle.ux_syntax.proofs.Feeding.{IsReadOn, nothing_read, read_more, read_none, fault_found, fault_handed_on, end_read, no_memory_found}
 use Rattle.ux_syntax.proofs.input.read_lines_of.Goals as goal
 use Rattle.ux_syntax.proofs.input.read_lines_of.Goals.{in-Ok+in_ok-take_bytes-in-Ok, in-Err}
 
 pub loop-turn-init : goal.loop-turn-init
 loop-turn-init g c = (
-  c.new-progress.ensures.marks,
+  c.new-progress.ensures.exits,
   omega (arith, c.new-progress.ensures.number),
   rw (c.new-progress.ensures.nothing, c.new-progress.ensures.number, c.new-progress.ensures.line)
       (nothing_read (g.R.Read.remaining c.args.reader.now)),
@@ -38,13 +38,13 @@ returns-in-Err-3-clause-found g c = inl refl
 
 pub loop-turn-preserved : goal.loop-turn-preserved
 loop-turn-preserved g c =
-    let Keeps : Progress → Type 0 = λ p. Marks (plan_of p.reader.script) p.reader.exited.items
+    let Keeps : Progress → Type 0 = λ p. KnowsExits (plan_of p.reader.script) p.reader.exited.items
     × (p.number ≤ 1 + 4096 * (c.loop-turn.turn + 1))
     × IsReadOn (g.R.Read.remaining c.args.reader.now) (g.R.Read.remaining c.read.new.self) (plan_of p.reader.script) p.number p.line.items
     in
     elim c.match-read.branch [
       | in-Ok+in_ok-take_bytes-in-Ok w ↦ subst Keeps (sym w.progress-is) (
-        w.in_ok-take_bytes-in-Ok.ensures.marks,
+        w.in_ok-take_bytes-in-Ok.ensures.exits,
         omega (
           arith,
           w.in_ok-take_bytes-in-Ok.ensures.number,

@@ -1,12 +1,12 @@
 use Rattle.std.proofs.Common.{rules, tests, sym, ◌∙◌}
 use Rattle.std.proofs.lemmas.Iterator.{YieldsList-from_slice}
 use Rattle.std.proofs.lemmas.Iterator.Search.{any_from_yields_List}
-use Rattle.ux_syntax.specs.Text.{is_marked}
-use Rattle.ux_syntax.proofs.Plainly.{no_mark}
+use Rattle.ux_syntax.specs.Text.{may_be_special}
+use Rattle.ux_syntax.proofs.Plainly.{none_special}
 use Rattle.ux_syntax.proofs.plain.may_differ.Goals as goal
 
 pub returns : goal.returns
 returns c = λ none.
-    let found = any_from_yields_List (λ f. is_marked f c.args.text.now) _ _ c.any.result c.any.ensures.ran
+    let found = any_from_yields_List (λ f. may_be_special f c.args.text.now) _ _ c.any.result c.any.ensures.ran
     (YieldsList-from_slice c.args.fields.now (search rules)) (λ x b q k. search (rules, tests)) in
-    no_mark c.args.fields.now c.args.text.now (sym found ∙ none)
+    none_special c.args.fields.now c.args.text.now (sym found ∙ none)

@@ -1,7 +1,7 @@
 use Rattle.std.proofs.Common.{◌<◌, get_or, rules}
 use Rattle.std.proofs.Output.{has_written_append, has_written_of_eq}
 use Rattle.ux_trace.proofs.Texts.{pairs_more}
-use Rattle.ux_trace.proofs.words.HexDisplay.fmt.Goals as goal
+use Rattle.ux_trace.proofs.words.HexTextDisplay.fmt.Goals as goal
 
 pub loop-byte-preserved : goal.loop-byte-preserved
 loop-byte-preserved g c = λ p.

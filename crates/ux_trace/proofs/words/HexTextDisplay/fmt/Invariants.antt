@@ -2,7 +2,7 @@ use Rattle.std.proofs.Common.{take}
 use Rattle.std.specs.Fmt.{HasWritten, IsPlainFormatter}
 use Rattle.std.specs.List.{flat_map}
 use Rattle.ux_trace.specs.Trace.{digit_pair}
-use Rattle.ux_trace.proofs.words.HexDisplay.fmt.Given as goal
+use Rattle.ux_trace.proofs.words.HexTextDisplay.fmt.Given as goal
 
 abbrev pub invariant-loop-byte : goal.invariant-loop-byte
 invariant-loop-byte g l =
