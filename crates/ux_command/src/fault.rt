@@ -10,7 +10,7 @@ use ux_types::{Fd, Pid};
 
 /// Why no whole trace was printed. Its text stands behind `uxrun: ` on standard error.
 #[derive(Debug, Drop, Error)]
-pub enum Fault {
+pub enum CommandFault {
     /// The script was refused, or couldn't be read or run.
     #[error("{0}")]
     Script(ScriptFault),
@@ -46,42 +46,44 @@ pub enum Fault {
     Limit,
 }
 
-impl From<ScriptFault> for Fault {
-    fn from(fault: ScriptFault) -> Fault {
-        Fault::Script(fault)
+impl From<ScriptFault> for CommandFault {
+    fn from(fault: ScriptFault) -> CommandFault {
+        CommandFault::Script(fault)
     }
 }
 
-impl From<BootFault> for Fault {
-    fn from(fault: BootFault) -> Fault {
-        Fault::Boot(fault as u8)
+impl From<BootFault> for CommandFault {
+    fn from(fault: BootFault) -> CommandFault {
+        CommandFault::Boot(fault as u8)
     }
 }
 
-impl From<OrderFault> for Fault {
-    fn from(fault: OrderFault) -> Fault {
+impl From<OrderFault> for CommandFault {
+    fn from(fault: OrderFault) -> CommandFault {
         match fault {
-            OrderFault::Stranger => Fault::Script(ScriptFault::Stranger),
-            OrderFault::NoMemory | OrderFault::NoKernel => Fault::Script(ScriptFault::NoMemory),
+            OrderFault::Stranger => CommandFault::Script(ScriptFault::Stranger),
+            OrderFault::NoMemory | OrderFault::NoKernel => CommandFault::Script(
+                ScriptFault::NoMemory,
+            ),
         }
     }
 }
 
-impl From<AllocError> for Fault {
-    fn from(_error: AllocError) -> Fault {
-        Fault::Script(ScriptFault::NoMemory)
+impl From<AllocError> for CommandFault {
+    fn from(_error: AllocError) -> CommandFault {
+        CommandFault::Script(ScriptFault::NoMemory)
     }
 }
 
-impl<T: Drop> From<AllocFailed<T>> for Fault {
-    fn from(_error: AllocFailed<T>) -> Fault {
-        Fault::Script(ScriptFault::NoMemory)
+impl<T: Drop> From<AllocFailed<T>> for CommandFault {
+    fn from(_error: AllocFailed<T>) -> CommandFault {
+        CommandFault::Script(ScriptFault::NoMemory)
     }
 }
 
-impl From<ObjError> for Fault {
+impl From<ObjError> for CommandFault {
     /// A file object that isn't made lacks memory: no line of a script is as long as a file may be.
-    fn from(_error: ObjError) -> Fault {
-        Fault::Script(ScriptFault::NoMemory)
+    fn from(_error: ObjError) -> CommandFault {
+        CommandFault::Script(ScriptFault::NoMemory)
     }
 }

@@ -11,8 +11,8 @@ mod source;
 mod views;
 
 pub use args::{Args, read_args};
-pub use fault::Fault;
+pub use fault::CommandFault;
 pub use meter::Meter;
 pub use orders::Orders;
 pub use point::Point;
-pub use source::{Kept, Source};
+pub use source::{Kept, Source, line_reason};

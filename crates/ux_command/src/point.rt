@@ -1,7 +1,7 @@
 //! Up to which call of a run something is told.
 ghost use Rattle.std.specs.Prelude.{◌≡◌, ◌≤◌, ℕ, min, length, Ok, IfOk, IfSome};
 
-use crate::fault::Fault;
+use crate::fault::CommandFault;
 
 /// A moment of a run.
 #[derive(Clone, Copy, Debug, PartialEq, Eq)]
@@ -37,7 +37,7 @@ impl Point {
     /// # Errors
     ///
     /// `NoCall` where the line makes no call.
-    pub fn count(self, lines: &[Option<usize>]) -> Result<usize, Fault>
+    pub fn count(self, lines: &[Option<usize>]) -> Result<usize, CommandFault>
         ensures within { IfOk result (λ n. n ≤ length lines.now) }
         ensures calls { (n : ℕ) → self ≡ Point.Calls n → result ≡ Ok (min (length lines.now) n) }
         ensures all { self ≡ Point.All → result ≡ Ok (length lines.now) }
@@ -46,7 +46,7 @@ impl Point {
             Point::Calls(count) => Ok(lines.len().min(count as usize)),
             Point::Line(line) => match behind(lines, line as usize) {
                 Some(count) => Ok(count),
-                None => Err(Fault::NoCall(line)),
+                None => Err(CommandFault::NoCall(line)),
             },
             Point::End => Ok(last_of(lines)),
             Point::All => Ok(lines.len()),

@@ -1,11 +1,11 @@
 //! What was read of a script, and why a fault of it is one.
 
-use crate::fault::Fault;
+use crate::fault::CommandFault;
 use std::alloc::{AllocError, Global};
 use std::io;
 use std::io::{ErrorKind, Read};
-use ux_explain::{explain, explain_boot};
-use ux_syntax::ScriptFault;
+use ux_explain::{explain, explain_boot, explain_line};
+use ux_syntax::{LineReader, ScriptFault};
 
 /// How many bytes of a script are kept at most: none where it has more, so that a script that never ends takes no more
 /// memory than its lines need.
@@ -52,19 +52,8 @@ impl Source {
         self.keep(b"\n");
     }
 
-    /// Empties the line that was added last, and had so many bytes.
-    pub fn empty_line(&mut self, len: usize) {
-        let Some(mut text) = self.text.take() else {
-            return;
-        };
-        text.truncate(text.len().saturating_sub(len).saturating_sub(1));
-        if text.push(b'\n').is_ok() {
-            self.text = Some(text);
-        }
-    }
-
-    /// Why a fault of the script of this name is one, in lines for standard error, if there is more to tell than the
-    /// fault itself tells.
+    /// Why a fault of the script of this name is one, in lines for standard error, if there is more to say than the
+    /// fault's own text says.
     ///
     /// # Errors
     ///
@@ -73,12 +62,14 @@ impl Source {
         &self,
         alloc: Global,
         name: &str,
-        fault: &Fault,
+        fault: &CommandFault,
     ) -> Result<Option<String>, AllocError> {
         match fault {
-            Fault::Script(ScriptFault::Reading) => Ok(Some(self.reading_reason(alloc, name)?)),
-            Fault::Script(fault) => self.line_reason(alloc, fault),
-            Fault::Boot(number) => self.boot_reason(alloc, *number),
+            CommandFault::Script(ScriptFault::Reading) => Ok(Some(self.reading_reason(
+                alloc, name,
+            )?)),
+            CommandFault::Script(fault) => self.script_reason(alloc, fault),
+            CommandFault::Boot(number) => self.boot_reason(alloc, *number),
             _ => Ok(None),
         }
     }
@@ -92,12 +83,8 @@ impl Source {
         }
     }
 
-    /// Why a line is at fault, in lines for standard error.
-    ///
-    /// # Errors
-    ///
-    /// `AllocError` where memory runs out.
-    pub fn line_reason(
+    /// Why a line of the kept text is at fault, in lines for standard error.
+    fn script_reason(
         &self,
         alloc: Global,
         fault: &ScriptFault,
@@ -118,6 +105,24 @@ impl Source {
         };
         let explanation = explain_boot(alloc, text, fault)?;
         Ok(Some(format!(in alloc; "{explanation}")?))
+    }
+}
+
+/// Why a line is at fault behind those that were read, in lines for standard error. It takes time in proportion to the
+/// line, however many were read.
+///
+/// # Errors
+///
+/// `AllocError` where memory runs out.
+pub fn line_reason(
+    alloc: Global,
+    read: &LineReader,
+    line: &[u8],
+    fault: &ScriptFault,
+) -> Result<Option<String>, AllocError> {
+    match explain_line(alloc, read, line, fault)? {
+        Some(explanation) => Ok(Some(format!(in alloc; "{explanation}")?)),
+        None => Ok(None),
     }
 }
 

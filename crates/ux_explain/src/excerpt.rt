@@ -23,9 +23,9 @@ pub struct Excerpt {
 
 /// A byte as it is shown.
 #[derive(Clone, Copy)]
-pub(crate) struct Shown(pub(crate) u8);
+pub(crate) struct ShownByte(pub(crate) u8);
 
-impl fmt::Display for Shown {
+impl fmt::Display for ShownByte {
     fn fmt<W: fmt::Write>(&self, f: &mut fmt::Formatter<W>) -> fmt::Result {
         let byte = self.0;
         if (0x20..=0x7e).contains(&byte) {
@@ -66,7 +66,7 @@ pub(crate) struct Text<'a>(pub(crate) &'a [u8]);
 impl fmt::Display for Text<'_> {
     fn fmt<W: fmt::Write>(&self, f: &mut fmt::Formatter<W>) -> fmt::Result {
         for byte in self.0 {
-            let byte = Shown(*byte);
+            let byte = ShownByte(*byte);
             write!(f, "{byte}")?;
         }
         Ok(())

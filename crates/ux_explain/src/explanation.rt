@@ -8,12 +8,12 @@ use crate::cause::Cause;
 use crate::context::context_fault;
 use crate::excerpt::{Excerpt, Text};
 use crate::forms::Form;
-use crate::lines::Found;
+use crate::lines::Mistake;
 use crate::place::{is_any_line, place_of};
 use crate::texts::{split_lines, word_around};
 use std::alloc::{AllocError, Global};
 use std::fmt;
-use ux_syntax::{Script, ScriptFault, parse_script};
+use ux_syntax::{LineReader, ScriptFault};
 use ux_types::Bytes;
 
 /// What is wrong with a line of a script, and where. It is written in three lines: the line, a caret below the first byte
@@ -79,65 +79,50 @@ fn line_of<'a>(lines: &[&'a [u8]], number: usize) -> Option<&'a [u8]>
     Some(lines[number - 1])
 }
 
-/// The bytes of the lines before the one of this number.
-fn before<'a>(text: &'a [u8], lines: &[&[u8]], number: usize) -> &'a [u8] {
-    let mut length: usize = 0;
-    for line in lines.iter().take(number.saturating_sub(1)) {
-        length = length.saturating_add(line.len()).saturating_add(1);
+/// The script of these lines, without those at fault.
+fn read_all(alloc: Global, lines: &[&[u8]]) -> Result<LineReader, AllocError> {
+    let mut read = LineReader::new(alloc);
+    for (index, line) in lines.iter().enumerate() {
+        if let Err(ScriptFault::NoMemory) = read.read_line(alloc, index + 1, line) {
+            return Err(AllocError);
+        }
     }
-    text.get(..length.saturating_sub(1)).unwrap_or(text)
-}
-
-/// The script of these lines, or one that says nothing where one of them is at fault.
-fn script_of(alloc: Global, text: &[u8]) -> Result<Script, AllocError> {
-    match parse_script(alloc, text) {
-        Ok(script) => Ok(script),
-        Err(ScriptFault::NoMemory) => Err(AllocError),
-        Err(_) => Ok(Script {
-            serial: false,
-            objects: Vec::new(alloc),
-            procs: Vec::new(alloc),
-            lines: Vec::new(alloc),
-            off: false,
-        }),
-    }
+    Ok(read)
 }
 
 /// What is wrong with a line that is too long behind these lines.
-fn long_fault(alloc: Global, before: &[u8]) -> Result<Found, AllocError>
-    ensures { IfOk result (λ found. IsLimit found.column) }
+fn long_fault(read: &LineReader) -> Mistake
+    ensures { IsLimit result.column }
 {
-    let script = script_of(alloc, before)?;
-    let limit = script.line_limit();
-    Ok(Found::at(limit, Cause::TooLong(limit)))
+    let limit = read.script().line_limit();
+    Mistake::at(limit, Cause::TooLong(limit))
 }
 
 /// What is wrong with a line behind these lines: its words, or that they come there.
-fn bad_fault(alloc: Global, before: &[u8], line: &[u8]) -> Result<Found, AllocError>
+fn bad_fault(alloc: Global, read: &LineReader, line: &[u8]) -> Result<Mistake, AllocError>
     ensures { IfOk result (λ found. IsPlace line.now found.column) }
 {
     if !is_any_line(alloc, line)? {
         return place_of(alloc, line);
     }
-    let script = script_of(alloc, before)?;
-    Ok(context_fault(&script, line))
+    Ok(context_fault(read, line))
 }
 
-/// What is wrong with the line that a fault names, by its number.
+/// What is wrong with a line that has this fault; none where the fault is of no line.
 fn found_in(
     alloc: Global,
-    before: &[u8],
+    read: &LineReader,
     line: &[u8],
     fault: &ScriptFault,
-) -> Result<Option<Found>, AllocError>
+) -> Result<Option<Mistake>, AllocError>
     ensures none { IfOk result (λ found. IfNone found ((lines : List (List ℕ)) → NamesNone lines fault.now)) }
     ensures some { IfOk result (λ found. IfSome found (λ f. IsPlaceIn line.now fault.now f.column)) }
 {
     match fault {
         ScriptFault::BadLine(_) | ScriptFault::UnknownProcess(_) => {
-            Ok(Some(bad_fault(alloc, before, line)?))
+            Ok(Some(bad_fault(alloc, read, line)?))
         }
-        ScriptFault::TooLong(_) => Ok(Some(long_fault(alloc, before)?)),
+        ScriptFault::TooLong(_) => Ok(Some(long_fault(read))),
         _ => Ok(None),
     }
 }
@@ -153,6 +138,43 @@ fn named_line(fault: &ScriptFault) -> Option<usize>
         | ScriptFault::TooLong(number) => Some(*number),
         _ => None,
     }
+}
+
+/// What is wrong with a line, which has this fault behind the lines that were read; none where the fault is of no line.
+/// It takes time in proportion to the line, however many were read.
+///
+/// # Errors
+///
+/// `AllocError` where memory runs out.
+pub fn explain_line(
+    alloc: Global,
+    read: &LineReader,
+    line: &[u8],
+    fault: &ScriptFault,
+) -> Result<Option<Explanation>, AllocError>
+    // None is given only where the fault names no line.
+    ensures none { IfOk result (λ found. IfNone found ((lines : List (List ℕ)) → NamesNone lines fault.now)) }
+    // It shows this line, by the number that the fault has.
+    ensures named { IfOk result (λ found. IfSome found (λ e. IsNamed fault.now e.excerpt.line)) }
+    ensures shown { IfOk result (λ found. IfSome found (λ e. e.excerpt.text ≡ line.now)) }
+    // What stands before its column can still become a line; of a line too long that is how long it may be.
+    ensures place { IfOk result (λ found. IfSome found (λ e. IsPlaceOf fault.now e.excerpt)) }
+{
+    let Some(number) = named_line(fault) else {
+        return Ok(None);
+    };
+    let Some(found) = found_in(alloc, read, line, fault)? else {
+        return Ok(None);
+    };
+    let excerpt = Excerpt {
+        line: number,
+        text: Bytes::from_slice(alloc, line)?,
+        column: found.column,
+    };
+    Ok(Some(Explanation {
+        excerpt,
+        cause: found.cause,
+    }))
 }
 
 /// What is wrong with the line that a fault of this text names; none where the fault names no line of it.
@@ -181,17 +203,7 @@ pub fn explain(
     let Some(line) = line_of(&lines, number) else {
         return Ok(None);
     };
-    let before = before(text, &lines, number);
-    let Some(found) = found_in(alloc, before, line, fault)? else {
-        return Ok(None);
-    };
-    let excerpt = Excerpt {
-        line: number,
-        text: Bytes::from_slice(alloc, line)?,
-        column: found.column,
-    };
-    Ok(Some(Explanation {
-        excerpt,
-        cause: found.cause,
-    }))
+    let before = lines.get(..number.saturating_sub(1)).unwrap_or(&[]);
+    let read = read_all(alloc, before)?;
+    explain_line(alloc, &read, line, fault)
 }

@@ -98,7 +98,7 @@ impl fmt::Display for Form {
 
 /// A first word, and what stands behind it.
 #[derive(Clone, Copy, Debug)]
-pub(crate) struct Row {
+pub(crate) struct FirstWord {
     pub(crate) word: &'static str,
     pub(crate) forms: &'static [Form],
 }
@@ -132,176 +132,176 @@ const OPT: Form = Form::Choice(
 pub(crate) const TURN: &[Form] = &[PID, Form::Call];
 
 /// The calls, and `wait`.
-pub(crate) const CALLS: &[Row] = &[
-    Row {
+pub(crate) const CALLS: &[FirstWord] = &[
+    FirstWord {
         word: "open",
         forms: &[Form::Path, MODE, OFLAGS],
     },
-    Row {
+    FirstWord {
         word: "read",
         forms: &[FD, N],
     },
-    Row {
+    FirstWord {
         word: "write",
         forms: &[FD, Form::Hex],
     },
-    Row {
+    FirstWord {
         word: "lseek",
         forms: &[FD, Form::Signed("OFFSET", 64), WHENCE],
     },
-    Row {
+    FirstWord {
         word: "dup",
         forms: &[FD],
     },
-    Row {
+    FirstWord {
         word: "dup2",
         forms: &[FD, FD],
     },
-    Row {
+    FirstWord {
         word: "dupfd",
         forms: &[FD, Form::Number("MIN", 0)],
     },
-    Row {
+    FirstWord {
         word: "getfl",
         forms: &[FD],
     },
-    Row {
+    FirstWord {
         word: "flags",
         forms: &[FD, OFLAGS],
     },
-    Row {
+    FirstWord {
         word: "close",
         forms: &[FD],
     },
-    Row {
+    FirstWord {
         word: "unlink",
         forms: &[Form::Path],
     },
-    Row {
+    FirstWord {
         word: "socket",
         forms: &[TYPE, OFLAGS],
     },
-    Row {
+    FirstWord {
         word: "pair",
         forms: &[TYPE, OFLAGS],
     },
-    Row {
+    FirstWord {
         word: "bind",
         forms: &[FD, Form::Address],
     },
-    Row {
+    FirstWord {
         word: "listen",
         forms: &[FD, Form::Signed("BACKLOG", 32)],
     },
-    Row {
+    FirstWord {
         word: "connect",
         forms: &[FD, Form::Address],
     },
-    Row {
+    FirstWord {
         word: "accept",
         forms: &[FD, OFLAGS],
     },
-    Row {
+    FirstWord {
         word: "shut",
         forms: &[FD, MODE],
     },
-    Row {
+    FirstWord {
         word: "getopt",
         forms: &[FD, OPT],
     },
-    Row {
+    FirstWord {
         word: "setopt",
         forms: &[FD, OPT, Form::Number("VALUE", 0)],
     },
-    Row {
+    FirstWord {
         word: "sockname",
         forms: &[FD],
     },
-    Row {
+    FirstWord {
         word: "peername",
         forms: &[FD],
     },
-    Row {
+    FirstWord {
         word: "send",
         forms: &[FD, Form::Target, Form::Hex, Form::Control, MFLAGS],
     },
-    Row {
+    FirstWord {
         word: "recv",
         forms: &[FD, N, Form::Space, MFLAGS],
     },
-    Row {
+    FirstWord {
         word: "poll",
         forms: &[FD],
     },
-    Row {
+    FirstWord {
         word: "setids",
         forms: &[UID, GID],
     },
-    Row {
+    FirstWord {
         word: "fork",
         forms: &[],
     },
-    Row {
+    FirstWord {
         word: "exec",
         forms: &[],
     },
-    Row {
+    FirstWord {
         word: "exit",
         forms: &[],
     },
-    Row {
+    FirstWord {
         word: "wait",
         forms: &[PID, N],
     },
 ];
 
 /// The kinds of a file object, in front of which `fail` may stand.
-pub(crate) const KINDS: &[Row] = &[
-    Row {
+pub(crate) const KINDS: &[FirstWord] = &[
+    FirstWord {
         word: "counter",
         forms: &[],
     },
-    Row {
+    FirstWord {
         word: "pipe",
         forms: &[],
     },
-    Row {
+    FirstWord {
         word: "mem",
         forms: &[Form::Hex],
     },
-    Row {
+    FirstWord {
         word: "fail",
         forms: &[Form::Number("N", 1), Form::Kind(false)],
     },
 ];
 
 /// The kinds behind `fail N`.
-pub(crate) const LATER_KINDS: &[Row] = &[
-    Row {
+pub(crate) const LATER_KINDS: &[FirstWord] = &[
+    FirstWord {
         word: "counter",
         forms: &[],
     },
-    Row {
+    FirstWord {
         word: "pipe",
         forms: &[],
     },
-    Row {
+    FirstWord {
         word: "mem",
         forms: &[Form::Hex],
     },
 ];
 
 /// The words that begin a line, but for a process's number.
-pub(crate) const HEADS: &[Row] = &[
-    Row {
+pub(crate) const HEADS: &[FirstWord] = &[
+    FirstWord {
         word: "serial",
         forms: &[],
     },
-    Row {
+    FirstWord {
         word: "object",
         forms: &[Form::Path, Form::Kind(true)],
     },
-    Row {
+    FirstWord {
         word: "proc",
         forms: &[
             UID,
@@ -310,7 +310,7 @@ pub(crate) const HEADS: &[Row] = &[
             Form::Number("LIMIT", 0),
         ],
     },
-    Row {
+    FirstWord {
         word: "off",
         forms: &[],
     },
@@ -337,7 +337,7 @@ impl Form {
     }
 
     /// The words of this form that decide what stands behind them.
-    pub(crate) fn rows(self) -> Option<&'static [Row]> {
+    pub(crate) fn rows(self) -> Option<&'static [FirstWord]> {
         match self {
             Form::Head => Some(HEADS),
             Form::Call => Some(CALLS),

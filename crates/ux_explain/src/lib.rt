@@ -20,5 +20,5 @@ mod words;
 pub use boot::{BootExplanation, explain_boot};
 pub use cause::Cause;
 pub use excerpt::Excerpt;
-pub use explanation::{Explanation, explain};
+pub use explanation::{Explanation, explain, explain_line};
 pub use forms::Form;

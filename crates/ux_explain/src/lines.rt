@@ -12,7 +12,7 @@ use std::alloc::{AllocError, Global};
 
 /// The first byte of a line that is wrong, and what can stand there.
 #[derive(Clone, Copy, Debug)]
-pub(crate) struct Found {
+pub(crate) struct Mistake {
     /// Counted from 0; at the line's length the line ends too early.
     pub(crate) column: usize,
     pub(crate) cause: Cause,
@@ -22,12 +22,12 @@ pub(crate) struct Found {
     pub(crate) forms: &'static [Form],
 }
 
-impl Found {
+impl Mistake {
     /// A fault of the whole line, whose words are as they may be.
-    pub(crate) fn at(column: usize, cause: Cause) -> Found
+    pub(crate) fn at(column: usize, cause: Cause) -> Mistake
         ensures { result.column ≡ column }
     {
-        Found {
+        Mistake {
             column,
             cause,
             start: column,
@@ -44,13 +44,13 @@ struct Walked {
 }
 
 /// Goes over words of these forms from a column on.
-fn walk(text: &[u8], start: usize, forms: &'static [Form]) -> Result<Walked, Found> {
+fn walk(text: &[u8], start: usize, forms: &'static [Form]) -> Result<Walked, Mistake> {
     let mut last = start;
     let mut start = start;
     for (index, form) in forms.iter().enumerate() {
         let forms = forms.get(index..).unwrap_or(&[]);
         let Some(word) = field_from(text, start, *form) else {
-            return Err(Found {
+            return Err(Mistake {
                 column: text.len(),
                 cause: Cause::Missing(*form),
                 start,
@@ -58,7 +58,7 @@ fn walk(text: &[u8], start: usize, forms: &'static [Form]) -> Result<Walked, Fou
             });
         };
         if let Some(miss) = miss_of(*form, word) {
-            return Err(Found {
+            return Err(Mistake {
                 column: start.saturating_add(miss.at),
                 cause: miss.cause,
                 start,
@@ -73,11 +73,11 @@ fn walk(text: &[u8], start: usize, forms: &'static [Form]) -> Result<Walked, Fou
 }
 
 /// Nothing stands from a column on, which is one behind the blank behind a word.
-fn ends(text: &[u8], start: usize) -> Result<(), Found> {
+fn ends(text: &[u8], start: usize) -> Result<(), Mistake> {
     if start > text.len() {
         return Ok(());
     }
-    Err(Found::at(start.saturating_sub(1), Cause::Further))
+    Err(Mistake::at(start.saturating_sub(1), Cause::Further))
 }
 
 /// The forms behind words of these, which the last of them decides.
@@ -98,7 +98,7 @@ fn forms_behind(forms: &'static [Form], last: &[u8]) -> &'static [Form] {
 const DECISIONS: usize = 4;
 
 /// Goes over a line, which isn't empty and is no comment.
-fn walk_line(text: &[u8]) -> Result<(), Found> {
+fn walk_line(text: &[u8]) -> Result<(), Mistake> {
     let numbered = match text {
         [first, ..] => first.is_ascii_digit(),
         [] => false,
@@ -114,7 +114,7 @@ fn walk_line(text: &[u8]) -> Result<(), Found> {
 }
 
 /// Why a byte is wrong wherever it stands but in a text, else the cause.
-fn cause_of_byte(text: &[u8], found: Found) -> Cause {
+fn cause_of_byte(text: &[u8], found: Mistake) -> Cause {
     if let Cause::Escape = found.cause {
         return found.cause;
     }
@@ -129,7 +129,7 @@ fn cause_of_byte(text: &[u8], found: Found) -> Cause {
 }
 
 /// Why a blank is wrong: it stands in front of a line, behind one, or in place of a word.
-fn cause_of_blank(rest: &[u8], found: Found) -> Cause {
+fn cause_of_blank(rest: &[u8], found: Mistake) -> Cause {
     let last = rest.iter().all(|byte| *byte == b' ');
     if found.column == 0 {
         Cause::FirstBlank
@@ -143,7 +143,7 @@ fn cause_of_blank(rest: &[u8], found: Found) -> Cause {
 }
 
 /// The cause with the nearest word, where a word is none of those that it may be.
-fn with_nearest(alloc: Global, text: &[u8], found: Found) -> Result<Cause, AllocError> {
+fn with_nearest(alloc: Global, text: &[u8], found: Mistake) -> Result<Cause, AllocError> {
     let word = word_from(text, found.start).unwrap_or(&[]);
     let Cause::Expected(form) = found.cause else {
         return Ok(found.cause);
@@ -171,7 +171,7 @@ fn cause_with(form: Form, nearest: Option<&'static str>) -> Cause {
 }
 
 /// Where a line goes wrong, if it does.
-pub(crate) fn line_fault(alloc: Global, text: &[u8]) -> Result<Option<Found>, AllocError> {
+pub(crate) fn line_fault(alloc: Global, text: &[u8]) -> Result<Option<Mistake>, AllocError> {
     let Err(mut found) = walk_line(text) else {
         return Ok(None);
     };

@@ -4,8 +4,8 @@ ghost use Rattle.std.specs.Prelude.{◌≡◌, ℕ, true, IfOk};
 ghost use Rattle.ux_explain.specs.Places.{IsPlace};
 
 use crate::cause::Cause;
-use crate::forms::{Form, Row};
-use crate::lines::{Found, line_fault};
+use crate::forms::{FirstWord, Form};
+use crate::lines::{Mistake, line_fault};
 use std::alloc::{AllocError, Global};
 use ux_syntax::is_line;
 
@@ -67,7 +67,7 @@ fn any_ending_completes(
 fn any_word_completes(
     alloc: Global,
     text: &[u8],
-    found: Found,
+    found: Mistake,
     words: &[&str],
     forms: &[Form],
 ) -> Result<bool, AllocError>
@@ -90,8 +90,8 @@ fn any_word_completes(
 fn any_row_completes(
     alloc: Global,
     text: &[u8],
-    found: Found,
-    rows: &[Row],
+    found: Mistake,
+    rows: &[FirstWord],
 ) -> Result<bool, AllocError>
     ensures { IfOk result (λ yes. yes ≡ true → IsPlace text.now found.column) }
 {
@@ -110,7 +110,7 @@ fn any_row_completes(
 }
 
 /// Whether what was found is so: what stands before the column can become a line.
-fn is_place(alloc: Global, text: &[u8], found: Found) -> Result<bool, AllocError>
+fn is_place(alloc: Global, text: &[u8], found: Mistake) -> Result<bool, AllocError>
     ensures { IfOk result (λ yes. yes ≡ true → IsPlace text.now found.column) }
 {
     let [form, more @ ..] = found.forms else {
@@ -129,7 +129,7 @@ fn is_place(alloc: Global, text: &[u8], found: Found) -> Result<bool, AllocError
 }
 
 /// Where a line goes wrong that is none. Where the place that was found can't be right, it is the line's beginning.
-pub(crate) fn place_of(alloc: Global, text: &[u8]) -> Result<Found, AllocError>
+pub(crate) fn place_of(alloc: Global, text: &[u8]) -> Result<Mistake, AllocError>
     ensures { IfOk result (λ found. IsPlace text.now found.column) }
 {
     if let Some(found) = line_fault(alloc, text)? {
@@ -137,5 +137,5 @@ pub(crate) fn place_of(alloc: Global, text: &[u8]) -> Result<Found, AllocError>
             return Ok(found);
         }
     }
-    Ok(Found::at(0, Cause::NoLine))
+    Ok(Mistake::at(0, Cause::NoLine))
 }

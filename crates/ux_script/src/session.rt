@@ -26,13 +26,13 @@ use ux_types::Entry;
 /// How many lines are read at most, so that each line's number fits.
 const LINES: usize = usize::MAX / 8192;
 
-/// Who is told of the lines.
+/// What is done with each line when it was read.
 pub trait Listener {
     /// A line was taken.
     fn taken(&mut self, text: &[u8]);
 
-    /// A line is at fault, and nothing is made of it. The fault has its number.
-    fn left_out(&mut self, text: &[u8], fault: &ScriptFault);
+    /// A line is at fault behind those that were taken, and nothing is made of it. The fault has its number.
+    fn left_out(&mut self, taken: &LineReader, text: &[u8], fault: &ScriptFault);
 }
 
 /// The lines of a reader, counted from 1.
@@ -60,7 +60,7 @@ impl<R: BufRead> LineSource<R> {
         self.failure
     }
 
-    /// Reads the next line, without its line feed. Tells whether there was one.
+    /// Reads the next line, without its line feed. Gives whether there was one.
     fn next_line(&mut self) -> Result<bool, ScriptFault> {
         self.text.clear();
         match self.source.read_until(b'\n', &mut self.text) {
@@ -91,7 +91,7 @@ pub struct Followed {
     pub history: Vec<Entry>,
 }
 
-/// Takes the source's line, or tells that it is at fault and leaves it out.
+/// Takes the source's line, or reports that it is at fault and leaves it out.
 fn take_line<R, L: Listener>(
     alloc: Global,
     reader: &mut LineReader,
@@ -107,14 +107,14 @@ fn take_line<R, L: Listener>(
         }
         Err(ScriptFault::NoMemory) => Err(ScriptFault::NoMemory),
         Err(fault) => {
-            listener.left_out(&source.text, &fault);
+            listener.left_out(reader, &source.text, &fault);
             Ok(())
         }
     }
 }
 
 /// Reads lines up to the end of the header: the first line of a process, which is taken too, or the end of the layer. A
-/// line at fault is told of, and left out.
+/// line at fault is reported, and left out.
 ///
 /// # Errors
 ///
@@ -295,7 +295,7 @@ fn run_lines<B: BookName, O: FileObject, R: BufRead, W: Write, L: Listener>(
 
 /// Runs a script as it comes, on a kernel that has just started with the processes of its header, which was read
 /// before. Each line's call is made as soon as the line is read, and its line of the trace is written at once; lines that
-/// wait for a process are skipped. A line at fault is told of and left out, as is a line of the header. At the end come
+/// wait for a process are skipped. A line at fault is reported and left out, as is a line of the header. At the end come
 /// an exit of each process that is left, and the end of the layer where the script has it.
 ///
 /// # Errors
