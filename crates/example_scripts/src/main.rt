@@ -9,7 +9,7 @@ ghost use Rattle.ux_model.specs.Boot.{IsBootState, new_process};
 mod seats;
 
 use anyhow::{Result, anyhow};
-use seats::{goes_by_counting_seats, goes_by_seats};
+use seats::{is_alike_by_counting_seats, is_alike_by_seats};
 use std::alloc::Global;
 use std::fs;
 use std::marker::Brand;
@@ -18,10 +18,9 @@ use std::sync::Wait;
 use ux_book::Trail;
 use ux_kernel::Kernel;
 use ux_object::FileObject;
-use ux_objects::{FailAt, Plain};
 use ux_replay::check_history;
-use ux_script::{differences, line_numbers, run_serial};
-use ux_syntax::{ObjectLine, Script, expectations_of, parse_script};
+use ux_script::{differences, line_numbers, objects_of, run_serial};
+use ux_syntax::{Script, expectations_of, parse_script};
 use ux_types::{Entry, Name};
 
 /// The scripts by their names.
@@ -159,12 +158,9 @@ enum Pass {
 }
 
 impl Pass {
-    /// Which read or write of an object is to fail: none where the calls are made again, without those that failed.
-    fn failing_call(self, line: &ObjectLine) -> Option<u32> {
-        match self {
-            Pass::Serial | Pass::Seats | Pass::RunningSeats => line.fail,
-            Pass::Again => None,
-        }
+    /// Whether file objects fail where their lines have it: not where the calls are made again, without those that failed.
+    fn fails(self) -> bool {
+        !matches!(self, Pass::Again)
     }
 }
 
@@ -208,7 +204,7 @@ fn seat<O: FileObject, R: Wait + AllocGlobal>(
 ) -> Result<()> {
     let kernel = kernel_of(rt.alloc(), script, objects)?;
     let trail = Trail::new(rt.alloc())?;
-    if goes_by_seats::<Brand, O, R>(rt, trail, kernel, script, history, wanted)? {
+    if is_alike_by_seats::<Brand, O, R>(rt, trail, kernel, script, history, wanted)? {
         return Ok(());
     }
     Err(anyhow!("another trace by seats"))
@@ -223,7 +219,7 @@ fn seat_running<O: FileObject, R: Wait + AllocGlobal>(
 ) -> Result<()> {
     let kernel = kernel_of(rt.alloc(), script, objects)?;
     let trail = Trail::new(rt.alloc())?;
-    if goes_by_counting_seats::<Brand, O, R>(rt, trail, kernel, script, history)? {
+    if is_alike_by_counting_seats::<Brand, O, R>(rt, trail, kernel, script, history)? {
         return Ok(());
     }
     Err(anyhow!("other accounts by running seats"))
@@ -240,13 +236,9 @@ fn perform<R: Wait + AllocGlobal>(
 ) -> Result<Vec<Entry>> {
     let alloc = rt.alloc();
     let mut objects: Vec<(Name, Boxed)> = Vec::new(alloc);
-    for line in &script.objects {
-        let plain = Plain::new(alloc, line.kind, line.body.as_slice())?;
-        let object: Boxed = match pass.failing_call(line) {
-            Some(number) => Box::new(alloc, FailAt::new(plain, number))?,
-            None => Box::new(alloc, plain)?,
-        };
-        objects.push((line.name.clone()?, object))?;
+    for (name, object) in objects_of(alloc, script, pass.fails())? {
+        let boxed: Boxed = Box::new(alloc, object)?;
+        objects.push((name, boxed))?;
     }
     match pass {
         Pass::Serial => return run_over(alloc, script, wanted, objects),
@@ -287,8 +279,8 @@ fn must_answer_as_expected(
     if expected.len() != calls {
         return Err(anyhow!("{calls} calls, and another number of expectations"));
     }
-    let told = differences(alloc, &expected, &lines, history)?;
-    if told.is_empty() {
+    let differing = differences(alloc, &expected, &lines, history)?;
+    if differing.is_empty() {
         return Ok(());
     }
     Err(anyhow!("other answers than the script expects"))
@@ -349,7 +341,7 @@ fn push_line(
     Ok(())
 }
 
-/// Its trace: the whole chain goes with its last socket, and the file with it.
+/// Its trace: the whole chain is freed with its last socket, and the file is closed with it.
 fn chain_trace(alloc: Global, closes: bool) -> Result<Vec<u8>> {
     let mut trace = Vec::from_slice(alloc, b"0 1 0 open = fd 0\n1 1 1 unlink = ok\n")?;
     let mut number: usize = 2;
@@ -368,8 +360,8 @@ fn chain_trace(alloc: Global, closes: bool) -> Result<Vec<u8>> {
     Ok(trace)
 }
 
-/// Runs a chain, which must go as it should.
-fn must_go<R: Wait + AllocGlobal>(rt: &R, closes: bool) -> Result<()> {
+/// Runs a chain, which must have its trace.
+fn must_be_freed<R: Wait + AllocGlobal>(rt: &R, closes: bool) -> Result<()> {
     let alloc = rt.alloc();
     let text = chain_script(alloc, closes)?;
     let wanted = chain_trace(alloc, closes)?;
@@ -380,7 +372,7 @@ fn must_go<R: Wait + AllocGlobal>(rt: &R, closes: bool) -> Result<()> {
 
 fn run<R: Files + Wait + Print + AllocGlobal>(rt: &R) -> Result<()> {
     for closes in [true, false] {
-        if let Err(error) = must_go(rt, closes) {
+        if let Err(error) = must_be_freed(rt, closes) {
             return Err(anyhow!("a chain of passed sockets: {error}"));
         }
     }

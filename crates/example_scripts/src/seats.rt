@@ -126,7 +126,7 @@ impl<W: BookName, O: FileObject, K: Keeper> Hall<W, O, K> {
         Ok(())
     }
 
-    /// Makes the calls of the script's lines. A wait is over at its turn, as the calls go in the lines' order.
+    /// Makes the calls of the script's lines. A wait is over at its turn, as the calls are made in the lines' order.
     fn make_calls<R: Wait>(&mut self, rt: &R, script: &Script, history: &[Entry]) -> Result<()> {
         for line in &script.lines {
             match &line.act {
@@ -211,7 +211,7 @@ fn is_right<W: BookName, O: FileObject, R: Wait + AllocGlobal>(
 
 /// Whether the script has this trace when its calls are made by seats, is answered as in this history, and settles
 /// then.
-pub fn goes_by_seats<W: BookName, O: FileObject, R: Wait + AllocGlobal>(
+pub fn is_alike_by_seats<W: BookName, O: FileObject, R: Wait + AllocGlobal>(
     rt: &R,
     trail: Trail,
     kernel: Kernel<O>,
@@ -232,7 +232,7 @@ pub fn goes_by_seats<W: BookName, O: FileObject, R: Wait + AllocGlobal>(
 
 /// Whether the script is answered as in this history when its calls are made by seats over a book that keeps none
 /// of them, and settles then with as many entries.
-pub fn goes_by_counting_seats<W: BookName, O: FileObject, R: Wait + AllocGlobal>(
+pub fn is_alike_by_counting_seats<W: BookName, O: FileObject, R: Wait + AllocGlobal>(
     rt: &R,
     trail: Trail,
     kernel: Kernel<O>,

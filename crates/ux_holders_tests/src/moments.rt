@@ -6,12 +6,12 @@ use std::alloc::Global;
 use std::test::Fail;
 use ux_holders::{Snapshot, take_snapshot};
 use ux_kernel::Kernel;
-use ux_objects::Plain;
+use ux_objects::FailAt;
 use ux_replay::replay_on;
-use ux_script::{line_numbers, make_serial};
+use ux_script::{line_numbers, make_serial, objects_of};
 use ux_sequence::sequence;
 use ux_syntax::{Script, parse_script};
-use ux_types::{Entry, Name};
+use ux_types::Entry;
 
 /// A script with its history.
 #[derive(Drop)]
@@ -58,17 +58,11 @@ impl Run {
 }
 
 /// A kernel of a script's processes over its file objects.
-fn kernel_of(alloc: Global, script: &Script) -> Result<Kernel<Plain>, Fail>
+fn kernel_of(alloc: Global, script: &Script) -> Result<Kernel<FailAt>, Fail>
     ensures boots { IfOk result (λ kernel. IsBootState kernel) }
     ensures processes { IfOk result (λ kernel. kernel.processes ≡ map new_process script.now.procs.items) }
 {
-    let mut objects: Vec<(Name, Plain)> = Vec::new(alloc);
-    for line in &script.objects {
-        let Ok(plain) = Plain::new(alloc, line.kind, line.body.as_slice()) else {
-            return Err(Fail::from("no object"));
-        };
-        objects.push((line.name.clone()?, plain))?;
-    }
+    let objects = objects_of(alloc, script, true)?;
     match Kernel::boot(alloc, objects, &script.procs) {
         Ok(kernel) => Ok(kernel),
         Err(_) => Err(Fail::from("no kernel")),

@@ -1,18 +1,18 @@
 //! Kernels for scripts, and runs on them.
 ghost use Rattle.std.specs.Prelude.{◌≡◌, map, IfOk};
 ghost use Rattle.ux_model.specs.Boot.{IsBootState, new_process, boot_state};
-ghost use Rattle.ux_orders_tests.specs.Starts.{object_of};
+ghost use Rattle.ux_script.specs.Objects.{object_of};
 
 use std::alloc::Global;
 use std::test::Fail;
 use ux_kernel::Kernel;
-use ux_objects::{FailAt, Plain};
+use ux_objects::FailAt;
 use ux_orders::{
     Boot, Chooser, Found, Order, OrderFault, OrderList, Ran, Reduction, explore, explore_each,
     make_order, run_order,
 };
+use ux_script::objects_of;
 use ux_syntax::{Script, parse_script};
-use ux_types::Name;
 
 /// Makes kernels over the file objects of a script.
 #[derive(Drop)]
@@ -36,14 +36,7 @@ fn kernel_of(alloc: Global, script: &Script) -> Result<Kernel<FailAt>, OrderFaul
     ensures processes { IfOk result (λ kernel. kernel.processes ≡ map new_process script.now.procs.items) }
     ensures state { IfOk result (λ kernel. kernel ≡ boot_state (map object_of script.now.objects.items) script.now.procs.items) }
 {
-    let mut objects: Vec<(Name, FailAt)> = Vec::new(alloc);
-    for line in &script.objects {
-        let Ok(plain) = Plain::new(alloc, line.kind, line.body.as_slice()) else {
-            return Err(OrderFault::NoMemory);
-        };
-        let object = FailAt::new(plain, line.fail.unwrap_or(0));
-        objects.push((line.name.clone()?, object))?;
-    }
+    let objects = objects_of(alloc, script, true)?;
     match Kernel::boot(alloc, objects, &script.procs) {
         Ok(kernel) => Ok(kernel),
         Err(_) => Err(OrderFault::NoKernel),

@@ -12,7 +12,7 @@ use ux_kernel::Kernel;
 use ux_objects::Counter;
 use ux_script::{differences, finish_echo, line_numbers, make_serial};
 use ux_syntax::{Script, ScriptFault, expectations_of, parse_script};
-use ux_threads::{NoGate, Ran, make_threads};
+use ux_threads::{NoGate, ThreadedRun, make_threads};
 use ux_types::{Entry, Name};
 
 /// A kernel of a script's processes, with a counter for each of its objects.
@@ -44,8 +44,8 @@ fn threads_history<R: Threads + Wait + Sync>(
 ) -> Result<Vec<Entry>, Fail> {
     let kernel = kernel_of(alloc, script)?;
     match make_threads(rt, alloc, script, kernel, &NoGate) {
-        Ok(Ran::Whole(entries)) => Ok(entries),
-        Ok(Ran::Begun(entries, _waiting)) => Ok(entries),
+        Ok(ThreadedRun::Whole(entries)) => Ok(entries),
+        Ok(ThreadedRun::Begun(entries, _waiting)) => Ok(entries),
         Err(_fault) => Err(Fail::from("a fault")),
     }
 }

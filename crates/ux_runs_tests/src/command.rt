@@ -4,7 +4,7 @@ use hoard::Purse;
 use std::alloc::{AllocError, Global};
 use std::process::Abort;
 use std::test::Fail;
-use ux_command::{Fault, Orders, Point, read_args};
+use ux_command::{CommandFault, Orders, Point, read_args};
 use ux_kernel::BootFault;
 use ux_object::ObjError;
 use ux_syntax::ScriptFault;
@@ -73,7 +73,7 @@ fn a_moment_is_so_many_calls(rt: HostRuntime) {
             "{count}"
         );
     }
-    assert!(rt; matches!(Point::Line(5).count(&LINES), Err(Fault::NoCall(5))));
+    assert!(rt; matches!(Point::Line(5).count(&LINES), Err(CommandFault::NoCall(5))));
     assert!(rt; Point::End.count(&[]).is_ok_and(|found| found == 0));
 }
 
@@ -245,21 +245,28 @@ fn help_is_no_fault(rt: HostRuntime) -> Result<(), Fail> {
 #[test]
 fn faults_have_their_texts(rt: HostRuntime) -> Result<(), Fail> {
     let rows = [
-        (Fault::from(ScriptFault::BadLine(3)), "line 3: bad line"),
-        (Fault::from(ScriptFault::Reading), "reading failed"),
-        (Fault::from(AllocError), "out of memory"),
-        (Fault::from(ObjError::NoMemory), "out of memory"),
-        (Fault::Differs(7), "check differs at 7"),
-        (Fault::Unexpected, "expect differs"),
-        (Fault::Audit(Pid(2), Fd(5)), "audit fails at 2 5"),
-        (Fault::Order(3), "order: the process at place 3 can't go on"),
-        (Fault::Deadlocks(1, 3), "deadlock in 1 of 3 outcomes"),
         (
-            Fault::UnexpectedIn(2, 3),
+            CommandFault::from(ScriptFault::BadLine(3)),
+            "line 3: bad line",
+        ),
+        (CommandFault::from(ScriptFault::Reading), "reading failed"),
+        (CommandFault::from(AllocError), "out of memory"),
+        (CommandFault::from(ObjError::NoMemory), "out of memory"),
+        (CommandFault::Differs(7), "check differs at 7"),
+        (CommandFault::Unexpected, "expect differs"),
+        (CommandFault::Audit(Pid(2), Fd(5)), "audit fails at 2 5"),
+        (
+            CommandFault::Order(3),
+            "order: the process at place 3 can't go on",
+        ),
+        (CommandFault::Deadlocks(1, 3), "deadlock in 1 of 3 outcomes"),
+        (
+            CommandFault::UnexpectedIn(2, 3),
             "expect differs in 2 of 3 outcomes",
         ),
-        (Fault::Limit, "not all orders were made"),
-        (Fault::NoCall(3), "line 3 makes no call"),
+        (CommandFault::Limit, "not all orders were made"),
+        (CommandFault::NoCall(3), "line 3 makes no call"),
+        (CommandFault::LeftOut(2), "left out 2 of the lines"),
     ];
     for (fault, text) in rows {
         assert_eq!(rt; fault.to_string(rt.alloc())?.as_str(), text);
@@ -278,7 +285,10 @@ fn boot_faults_are_told_by_their_numbers(rt: HostRuntime) -> Result<(), Fail> {
         (BootFault::BadPath, "boot fault 6"),
     ];
     for (fault, text) in rows {
-        assert_eq!(rt; Fault::from(fault).to_string(rt.alloc())?.as_str(), text);
+        assert_eq!(rt;
+            CommandFault::from(fault).to_string(rt.alloc())?.as_str(),
+            text
+        );
     }
     Ok(())
 }

@@ -8,9 +8,9 @@ use std::io::Write;
 use std::process::Abort;
 use std::test::Fail;
 use ux_script::{Followed, LineSource, Listener, follow, read_header};
-use ux_syntax::ScriptFault;
+use ux_syntax::{LineReader, ScriptFault};
 
-/// Keeps what is told of lines that are left out, a line each.
+/// Keeps what is reported of lines that are left out, a line each.
 #[derive(Drop)]
 struct Told {
     text: String,
@@ -19,7 +19,7 @@ struct Told {
 impl Listener for Told {
     fn taken(&mut self, _text: &[u8]) {}
 
-    fn left_out(&mut self, _text: &[u8], fault: &ScriptFault) {
+    fn left_out(&mut self, _taken: &LineReader, _text: &[u8], fault: &ScriptFault) {
         let _ = self.text.push_str(match fault {
             ScriptFault::BadLine(7) => "7 is bad\n",
             ScriptFault::BadLine(9) => "9 is bad\n",
@@ -43,7 +43,7 @@ fn run<W: Write>(
     Ok(follow(alloc, reader, &mut source, writer, told, kernel))
 }
 
-/// Sees what is written of a text, and what is told of its lines.
+/// Sees what is written of a text, and what is reported of its lines.
 fn expect(
     rt: &impl Abort,
     alloc: Global,
@@ -87,7 +87,7 @@ const SESSION_TRACE: &str = "0 1 0 pair = fds 0 1
 ";
 
 #[test]
-fn a_line_at_fault_is_told_of_and_left_out(rt: HostRuntime) -> Result<(), Fail> {
+fn a_line_at_fault_is_reported_and_left_out(rt: HostRuntime) -> Result<(), Fail> {
     let faults = "5 has no process\n7 is bad\n9 is bad\n";
     expect(&rt, rt.alloc(), SESSION, SESSION_TRACE, faults)
 }

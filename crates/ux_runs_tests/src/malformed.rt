@@ -2,29 +2,18 @@
 use std::alloc::{AllocError, Global};
 use std::process::Abort;
 use std::test::Fail;
-use ux_command::Fault;
+use ux_command::CommandFault;
 use ux_kernel::Kernel;
-use ux_objects::Plain;
-use ux_syntax::{Script, parse_script};
-use ux_types::Name;
-
-/// The file objects of a script, without the failures that they are to have.
-fn objects_of(alloc: Global, script: &Script) -> Result<Vec<(Name, Plain)>, Fault> {
-    let mut objects = Vec::new(alloc);
-    for line in &script.objects {
-        let object = Plain::new(alloc, line.kind, line.body.as_slice())?;
-        objects.push((line.name.clone()?, object))?;
-    }
-    Ok(objects)
-}
+use ux_script::objects_of;
+use ux_syntax::parse_script;
 
 /// Reads a script and starts a kernel with it.
-fn start(alloc: Global, text: &[u8]) -> Result<(), Fault> {
+fn start(alloc: Global, text: &[u8]) -> Result<(), CommandFault> {
     let script = parse_script(alloc, text)?;
-    let objects = objects_of(alloc, &script)?;
+    let objects = objects_of(alloc, &script, false)?;
     match Kernel::boot(alloc, objects, &script.procs) {
         Ok(_kernel) => Ok(()),
-        Err((fault, _objects)) => Err(Fault::from(fault)),
+        Err((fault, _objects)) => Err(CommandFault::from(fault)),
     }
 }
 

@@ -3,3 +3,4 @@ pub mod Runs
 pub mod Comparing
 pub mod Telling
 pub mod Following
+pub mod Objects

@@ -4,6 +4,7 @@
 
 mod comparing;
 mod echo;
+mod objects;
 mod places;
 mod run;
 mod session;
@@ -12,6 +13,7 @@ mod write;
 
 pub use comparing::differences;
 pub use echo::finish_echo;
+pub use objects::objects_of;
 pub use places::line_numbers;
 pub use run::{NoWatch, Watch, finish_trace, make_serial, make_watched, run_serial};
 pub use session::{Followed, LineSource, Listener, follow, read_header};

@@ -1,8 +1,8 @@
 //! A script that is run as it comes.
 
 use crate::machines::boot;
+use crate::print_rest;
 use crate::reading::fault_of;
-use crate::tell_rest;
 use std::alloc::{AllocError, Global};
 use std::io::{BufReader, BufWriter, Read};
 use std::random::RandomSource;
@@ -10,11 +10,11 @@ use std::rt::{Clock, Files};
 use std::sync::Wait;
 use std::thread::Threads;
 use std::{fs, io};
-use ux_command::{Args, Fault, Source};
+use ux_command::{Args, CommandFault, Source, line_reason};
 use ux_script::{Followed, LineSource, Listener, follow, read_header};
-use ux_syntax::ScriptFault;
+use ux_syntax::{LineReader, ScriptFault};
 
-/// Reports the lines that are left out, counts them, and keeps the others for what comes to be explained.
+/// Reports the lines that are left out, counts them, and keeps the others, from which a boot fault is explained.
 struct Report<'a, R> {
     rt: &'a R,
     kept: &'a mut Source,
@@ -37,13 +37,13 @@ impl<R: Eprint + AllocGlobal> Listener for Report<'_, R> {
         self.kept.add_line(text);
     }
 
-    fn left_out(&mut self, text: &[u8], fault: &ScriptFault) {
+    fn left_out(&mut self, taken: &LineReader, text: &[u8], fault: &ScriptFault) {
         let _ = eprintln!(self.rt; "uxrun: {fault}");
-        self.kept.add_line(text);
-        if let Ok(Some(reason)) = self.kept.line_reason(self.rt.alloc(), fault) {
+        if let Ok(Some(reason)) = line_reason(self.rt.alloc(), taken, text, fault) {
             let _ = eprintln!(self.rt; "{reason}");
         }
-        self.kept.empty_line(text.len());
+        // An empty line, so that the lines behind it keep their numbers.
+        self.kept.add_line(b"");
         self.count = self.count.saturating_add(1);
     }
 }
@@ -51,7 +51,7 @@ impl<R: Eprint + AllocGlobal> Listener for Report<'_, R> {
 /// Runs the script that was named as it comes, and prints its trace line by line.
 pub fn follow_script<
     R: Files + Input + Threads + Wait + Clock + Print + Eprint + RandomSource + AllocGlobal + Sync,
->(rt: &R, args: &Args<'_>, kept: &mut Source) -> Result<(), Fault> {
+>(rt: &R, args: &Args<'_>, kept: &mut Source) -> Result<(), CommandFault> {
     if args.script == "-" {
         return follow_source(rt, args, rt.reader(), kept);
     }
@@ -59,7 +59,7 @@ pub fn follow_script<
         Ok(file) => follow_source(rt, args, file, kept),
         Err(error) => {
             kept.fail(error);
-            Err(Fault::Script(fault_of(&error)))
+            Err(CommandFault::Script(fault_of(&error)))
         }
     }
 }
@@ -68,7 +68,7 @@ pub fn follow_script<
 fn follow_source<
     R: Threads + Wait + Clock + Print + Eprint + RandomSource + AllocGlobal + Sync,
     S: Read + Drop,
->(rt: &R, args: &Args<'_>, source: S, kept: &mut Source) -> Result<(), Fault> {
+>(rt: &R, args: &Args<'_>, source: S, kept: &mut Source) -> Result<(), CommandFault> {
     let alloc: Global = rt.alloc();
     let buffer = BufReader::new(alloc, source).map_err(|_| AllocError)?;
     let mut lines = LineSource::new(alloc, buffer);
@@ -79,9 +79,9 @@ fn follow_source<
     }
     let Followed { reader, history } = run?;
     let count = report.count;
-    tell_rest(rt, args, reader.script(), history)?;
+    print_rest(rt, args, reader.script(), history)?;
     if count > 0 {
-        return Err(Fault::LeftOut(count));
+        return Err(CommandFault::LeftOut(count));
     }
     Ok(())
 }
@@ -91,7 +91,7 @@ fn follow_lines<R: Print + Eprint + RandomSource + AllocGlobal, S: Read + Drop>(
     rt: &R,
     lines: &mut LineSource<BufReader<S>>,
     report: &mut Report<'_, R>,
-) -> Result<Followed, Fault> {
+) -> Result<Followed, CommandFault> {
     let alloc: Global = rt.alloc();
     let reader = read_header(alloc, lines, report)?;
     let kernel = boot(rt, reader.script())?;

@@ -6,20 +6,19 @@ mod follow;
 mod json;
 mod machines;
 mod moments;
-mod objects;
 mod orders;
 mod printing;
 mod progress;
 mod reading;
+mod runs;
 
-use audit::tell_audit;
+use audit::print_audit;
 use clap::Error;
 use clap::error::ErrorKind;
 use follow::follow_script;
 use json::print_json;
-use moments::{calls_until, tell_moments};
-use objects::{check_script, run_script};
-use orders::{Made, run_in_order, tell_orders};
+use moments::{calls_until, print_moments};
+use orders::{Made, print_orders, run_in_order};
 use printing::{print_comparison, print_run};
 use reading::script_of;
 use std::io::IsTerminal;
@@ -29,10 +28,10 @@ use std::rt::{Clock, Files};
 use std::sync::Wait;
 use std::thread::Threads;
 use std::{env, io};
-use ux_command::{Args, Fault, Meter, Source, read_args};
+use ux_command::{Args, CommandFault, Meter, Source, read_args};
 use ux_json::check_value;
 use ux_syntax::{Expectation, Script, ScriptFault};
-use ux_threads::Ran;
+use ux_threads::ThreadedRun;
 use ux_types::Entry;
 
 /// The exit status where the command line wasn't understood, as clap has it.
@@ -43,45 +42,49 @@ const NOT_UNDERSTOOD: u8 = 2;
 /// whom.
 fn run<
     R: Files + Input + Threads + Wait + Clock + Print + Eprint + RandomSource + AllocGlobal + Sync,
->(rt: &R, args: &mut Args<'_>, source: &mut Source) -> Result<(), Fault> {
+>(rt: &R, args: &mut Args<'_>, source: &mut Source) -> Result<(), CommandFault> {
     if args.follow {
         return follow_script(rt, args, source);
     }
     let (script, expected) = script_of(rt, args, source)?;
     if script.serial && (args.order.is_some() || args.orders.is_some()) {
-        return Err(Fault::Script(ScriptFault::OneOrder));
+        return Err(CommandFault::Script(ScriptFault::OneOrder));
     }
     if let Some(orders) = args.orders {
         let expected = args.expect.then_some(expected.as_slice());
-        return tell_orders(rt, &script, expected, orders, args.progress);
+        return print_orders(rt, &script, expected, orders, args.progress);
     }
     let history = history_of(rt, args, &script, &expected)?;
     print_run(rt, args, &script, &expected, &history)?;
-    tell_rest(rt, args, &script, history)
+    print_rest(rt, args, &script, history)
 }
 
-/// What is told behind the trace: makes the calls once more, and tells who holds which descriptor, where it is asked for.
-fn tell_rest<R: Threads + Wait + Clock + Print + Eprint + RandomSource + AllocGlobal + Sync>(
+/// Prints what stands behind the trace: makes the calls once more, and reports who holds which descriptor, where it is
+/// asked for.
+fn print_rest<R: Threads + Wait + Clock + Print + Eprint + RandomSource + AllocGlobal + Sync>(
     rt: &R,
     args: &Args<'_>,
     script: &Script,
     history: Vec<Entry>,
-) -> Result<(), Fault> {
-    let mut history = history;
+) -> Result<(), CommandFault> {
     if args.check {
         let meter = Meter::new(rt, args.progress, "calls made again");
-        history = check_script(rt, script, history, &meter)?;
-        tell_check(rt, args, history.len())?;
+        check_script(rt, script, &history, &meter)?;
+        print_check(rt, args, history.len())?;
     }
     if let Some(point) = args.audit {
         let count = calls_until(rt.alloc(), script, &history, point)?;
-        tell_audit(rt, &history[..count], args.json)?;
+        print_audit(rt, &history[..count], args.json)?;
     }
-    tell_moments(rt, args, script, &history)
+    print_moments(rt, args, script, &history)
 }
 
-/// Tells how many calls were made again and answered alike.
-fn tell_check<R: Print + AllocGlobal>(rt: &R, args: &Args<'_>, calls: usize) -> Result<(), Fault> {
+/// Prints how many calls were made again and answered alike.
+fn print_check<R: Print + AllocGlobal>(
+    rt: &R,
+    args: &Args<'_>,
+    calls: usize,
+) -> Result<(), CommandFault> {
     if args.json {
         return print_json(rt, &check_value(rt.alloc(), calls)?);
     }
@@ -96,7 +99,7 @@ fn history_of<R: Threads + Wait + Clock + Print + Eprint + RandomSource + AllocG
     args: &mut Args<'_>,
     script: &Script,
     expected: &[Expectation],
-) -> Result<Vec<Entry>, Fault> {
+) -> Result<Vec<Entry>, CommandFault> {
     match run_as_asked(rt, args, script) {
         Ok(Made::Whole(history)) => Ok(history),
         Ok(Made::Cut(history, fault)) => {
@@ -105,7 +108,7 @@ fn history_of<R: Threads + Wait + Clock + Print + Eprint + RandomSource + AllocG
         }
         Err(fault) => {
             if args.expect {
-                let _told = print_comparison(rt, args, expected, &[], &[]);
+                let _printed = print_comparison(rt, args, expected, &[], &[]);
             }
             Err(fault)
         }
@@ -117,32 +120,32 @@ fn run_as_asked<R: Threads + Wait + Clock + Eprint + RandomSource + AllocGlobal 
     rt: &R,
     args: &mut Args<'_>,
     script: &Script,
-) -> Result<Made, Fault> {
+) -> Result<Made, CommandFault> {
     if let Some(order) = &mut args.order {
         return run_in_order(rt, script, order);
     }
     let meter = Meter::new(rt, args.progress, "calls made");
     match run_script(rt, script, args.threads, &meter)? {
-        Ran::Whole(history) => Ok(Made::Whole(history)),
-        Ran::Begun(history, waiting) => {
+        ThreadedRun::Whole(history) => Ok(Made::Whole(history)),
+        ThreadedRun::Begun(history, waiting) => {
             let deadlock = ScriptFault::Deadlock(waiting);
-            Ok(Made::Cut(history, Fault::Script(deadlock)))
+            Ok(Made::Cut(history, CommandFault::Script(deadlock)))
         }
     }
 }
 
-/// Tells why no whole trace was printed.
-fn failed(rt: &impl Eprint, fault: &Fault) -> ExitCode {
+/// Prints why no whole trace was printed.
+fn failed(rt: &impl Eprint, fault: &CommandFault) -> ExitCode {
     let _ = eprintln!(rt; "uxrun: {fault}");
     ExitCode::FAILURE
 }
 
-/// Tells why no whole trace was printed, and behind that why so, where the script has more to tell.
+/// Prints why no whole trace was printed, and behind that the place in the script and what is expected there, if any.
 fn explained<R: Eprint + AllocGlobal>(
     rt: &R,
     name: &str,
     source: &Source,
-    fault: &Fault,
+    fault: &CommandFault,
 ) -> ExitCode {
     let code = failed(rt, fault);
     if let Ok(Some(reason)) = source.reason_of(rt.alloc(), name, fault) {
@@ -151,10 +154,10 @@ fn explained<R: Eprint + AllocGlobal>(
     code
 }
 
-/// Tells why the command line wasn't understood, or what was asked of the program itself.
-fn told<R: Print + Eprint>(rt: &R, error: &Error) -> ExitCode {
+/// Prints why the command line wasn't understood, or what was asked of the program itself.
+fn answered<R: Print + Eprint>(rt: &R, error: &Error) -> ExitCode {
     if error.print(rt).is_err() && !error.use_stderr() {
-        return failed(rt, &Fault::Script(ScriptFault::Writing));
+        return failed(rt, &CommandFault::Script(ScriptFault::Writing));
     }
     ExitCode::from(error.exit_code() as u8)
 }
@@ -162,14 +165,14 @@ fn told<R: Print + Eprint>(rt: &R, error: &Error) -> ExitCode {
 /// Reports why the command line has no valid words.
 fn no_words(rt: &impl Eprint, error: &io::Error) -> ExitCode {
     if error.kind() == io::ErrorKind::OutOfMemory {
-        return failed(rt, &Fault::Script(ScriptFault::NoMemory));
+        return failed(rt, &CommandFault::Script(ScriptFault::NoMemory));
     }
     let _ = eprintln!(rt; "uxrun: an argument isn't UTF-8");
     ExitCode::from(NOT_UNDERSTOOD)
 }
 
 fn main(rt: HostRuntime) -> ExitCode {
-    let no_memory = Fault::Script(ScriptFault::NoMemory);
+    let no_memory = CommandFault::Script(ScriptFault::NoMemory);
     let words = match env::args(&rt) {
         Ok(words) => words,
         Err(error) => return no_words(&rt, &error),
@@ -180,7 +183,7 @@ fn main(rt: HostRuntime) -> ExitCode {
     let mut args = match read_args(rt.alloc(), words.as_slice()) {
         Ok(args) => args,
         Err(error) if error.kind() == ErrorKind::OutOfMemory => return failed(&rt, &no_memory),
-        Err(error) => return told(&rt, &error),
+        Err(error) => return answered(&rt, &error),
     };
     if args.may_follow() && rt.stdin().is_terminal() {
         args.follow = true;

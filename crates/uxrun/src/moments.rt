@@ -6,7 +6,7 @@ use crate::json::print_json_holders;
 use crate::machines::boot_without_faults;
 use std::alloc::Global;
 use std::random::RandomSource;
-use ux_command::{Args, Fault, Point};
+use ux_command::{Args, CommandFault, Point};
 use ux_holders::{Snapshot, dot, take_snapshot};
 use ux_replay::{ReplayFault, replay_on};
 use ux_script::line_numbers;
@@ -20,23 +20,23 @@ pub fn calls_until(
     script: &Script,
     history: &[Entry],
     point: Point,
-) -> Result<usize, Fault>
+) -> Result<usize, CommandFault>
     ensures { IfOk result (λ count. count ≤ length history.now) }
 {
     let lines = line_numbers(alloc, script, history)?;
     point.count(&lines)
 }
 
-/// Tells who holds what at the moments that were asked for, and prints the diagram that was.
-pub fn tell_moments<R: Print + RandomSource + AllocGlobal>(
+/// Prints who holds what at the moments that were asked for, and the diagram that was.
+pub fn print_moments<R: Print + RandomSource + AllocGlobal>(
     rt: &R,
     args: &Args<'_>,
     script: &Script,
     history: &[Entry],
-) -> Result<(), Fault> {
+) -> Result<(), CommandFault> {
     if let Some(point) = args.holders {
         let held = snapshot_at(rt, script, history, point)?;
-        tell_held(rt, &held, args.json)?;
+        print_held(rt, &held, args.json)?;
     }
     if let Some(point) = args.dot {
         let held = snapshot_at(rt, script, history, point)?;
@@ -50,8 +50,12 @@ pub fn tell_moments<R: Print + RandomSource + AllocGlobal>(
     Ok(())
 }
 
-/// Tells who holds what, as a list or as JSON.
-fn tell_held<R: Print + AllocGlobal>(rt: &R, held: &Snapshot, json: bool) -> Result<(), Fault> {
+/// Prints who holds what, as a list or as JSON.
+fn print_held<R: Print + AllocGlobal>(
+    rt: &R,
+    held: &Snapshot,
+    json: bool,
+) -> Result<(), CommandFault> {
     if json {
         return print_json_holders(rt, held);
     }
@@ -64,7 +68,7 @@ fn sequence_of<R: RandomSource + AllocGlobal>(
     rt: &R,
     script: &Script,
     history: &[Entry],
-) -> Result<String, Fault> {
+) -> Result<String, CommandFault> {
     let alloc: Global = rt.alloc();
     let lines = line_numbers(alloc, script, history)?;
     let kernel = boot_without_faults(rt, script)?;
@@ -72,10 +76,10 @@ fn sequence_of<R: RandomSource + AllocGlobal>(
 }
 
 /// Why the calls weren't all made once more.
-fn fault_of(fault: ReplayFault) -> Fault {
+fn fault_of(fault: ReplayFault) -> CommandFault {
     match fault {
-        ReplayFault::Differs(number) => Fault::Differs(number),
-        ReplayFault::NoMemory(_) => Fault::Script(ScriptFault::NoMemory),
+        ReplayFault::Differs(number) => CommandFault::Differs(number),
+        ReplayFault::NoMemory(_) => CommandFault::Script(ScriptFault::NoMemory),
     }
 }
 
@@ -85,7 +89,7 @@ fn snapshot_at<R: RandomSource + AllocGlobal>(
     script: &Script,
     history: &[Entry],
     point: Point,
-) -> Result<Snapshot, Fault> {
+) -> Result<Snapshot, CommandFault> {
     let alloc: Global = rt.alloc();
     let count = calls_until(alloc, script, history, point)?;
     let mut kernel = boot_without_faults(rt, script)?;

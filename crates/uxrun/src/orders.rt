@@ -1,22 +1,21 @@
 //! Runs of a script in one order, and in all.
 ghost use Rattle.std.specs.Prelude.{map};
 ghost use Rattle.ux_model.specs.Boot.{boot_state};
-ghost use Rattle.uxrun.specs.Starts.{object_of};
+ghost use Rattle.ux_script.specs.Objects.{object_of};
 
 use crate::machines::boot;
-use crate::printing::tell_expected;
-use std::alloc::{AllocError, Global};
+use crate::printing::{print_expected, print_trace};
+use std::alloc::Global;
 use std::io;
-use std::io::BufWriter;
 use std::random::RandomSource;
 use std::rt::Clock;
-use ux_command::{Fault, Meter, Orders};
+use ux_command::{CommandFault, Meter, Orders};
 use ux_kernel::Kernel;
 use ux_objects::FailAt;
 use ux_orders::{
     Boot, Found, Order, OrderFault, OrderList, Ran, Reduction, explore, explore_each, make_order,
 };
-use ux_script::{differences, finish_trace, line_numbers, put_all};
+use ux_script::{differences, line_numbers, put_all};
 use ux_syntax::{Expectation, Script, ScriptFault, Waiting};
 use ux_types::{Entry, Pid};
 
@@ -25,7 +24,7 @@ struct Machine<'a, R> {
     rt: &'a R,
     meter: Meter<'a, R>,
     /// Why the last kernel wasn't made.
-    fault: Option<Fault>,
+    fault: Option<CommandFault>,
 }
 
 // Not derived, since it asks nothing of `R`.
@@ -64,7 +63,7 @@ pub enum Made {
     /// To its end.
     Whole(Vec<Entry>),
     /// Up to where it was cut short, and why.
-    Cut(Vec<Entry>, Fault),
+    Cut(Vec<Entry>, CommandFault),
 }
 
 /// Runs the script in one order.
@@ -72,17 +71,17 @@ pub fn run_in_order<R: RandomSource + AllocGlobal>(
     rt: &R,
     script: &Script,
     order: &mut Order,
-) -> Result<Made, Fault> {
+) -> Result<Made, CommandFault> {
     let kernel = boot(rt, script)?;
     match make_order(rt.alloc(), script, kernel, order)? {
         Ran::Whole(entries) => Ok(Made::Whole(entries)),
         Ran::Deadlock(entries, waits) => {
             let deadlock = ScriptFault::Deadlock(Waiting::new(waits));
-            Ok(Made::Cut(entries, Fault::Script(deadlock)))
+            Ok(Made::Cut(entries, CommandFault::Script(deadlock)))
         }
         Ran::BrokenOff(entries) => {
             let made = entries.iter().filter(|entry| entry.pid.0 != 0).count();
-            Ok(Made::Cut(entries, Fault::Order(made.saturating_add(1))))
+            Ok(Made::Cut(entries, CommandFault::Order(made.saturating_add(1))))
         }
     }
 }
@@ -93,7 +92,7 @@ fn found_of<R: Clock + Eprint + RandomSource + AllocGlobal>(
     script: &Script,
     machine: &mut Machine<'_, R>,
     orders: Orders,
-) -> Result<Found, Fault> {
+) -> Result<Found, CommandFault> {
     let limit = u64::from(orders.limit);
     let found = if orders.each {
         explore_each(alloc, script, machine, limit)
@@ -102,19 +101,19 @@ fn found_of<R: Clock + Eprint + RandomSource + AllocGlobal>(
     };
     match found {
         Ok(found) => Ok(found),
-        Err(fault) => Err(machine.fault.take().unwrap_or(Fault::from(fault))),
+        Err(fault) => Err(machine.fault.take().unwrap_or(CommandFault::from(fault))),
     }
 }
 
 /// Runs the script in all orders, but at most in so many, and prints what they come to: how many orders and outcomes
 /// there are, and of each outcome the order, the trace, and where answers are expected which of them differ.
-pub fn tell_orders<R: Print + Clock + Eprint + RandomSource + AllocGlobal>(
+pub fn print_orders<R: Print + Clock + Eprint + RandomSource + AllocGlobal>(
     rt: &R,
     script: &Script,
     expected: Option<&[Expectation]>,
     orders: Orders,
     is_shown: bool,
-) -> Result<(), Fault> {
+) -> Result<(), CommandFault> {
     let mut machine = Machine {
         rt,
         meter: Meter::new(rt, is_shown, "orders begun"),
@@ -128,39 +127,39 @@ pub fn tell_orders<R: Print + Clock + Eprint + RandomSource + AllocGlobal>(
         .filter(|ran| ran.is_deadlock())
         .count();
     println!(rt; "orders {}\noutcomes {count}", found.orders).map_err(|_| ScriptFault::Writing)?;
-    let unexpected = tell_outcomes(rt, script, expected, &found.outcomes)?;
+    let unexpected = print_outcomes(rt, script, expected, &found.outcomes)?;
     if !found.is_all {
         println!(rt; "not all orders were made").map_err(|_| ScriptFault::Writing)?;
     }
     if deadlocks > 0 {
-        return Err(Fault::Deadlocks(deadlocks, count));
+        return Err(CommandFault::Deadlocks(deadlocks, count));
     }
     if unexpected > 0 {
-        return Err(Fault::UnexpectedIn(unexpected, count));
+        return Err(CommandFault::UnexpectedIn(unexpected, count));
     }
     if !found.is_all {
-        return Err(Fault::Limit);
+        return Err(CommandFault::Limit);
     }
     match expected {
-        Some(expected) => tell_expected(rt, expected.len()),
+        Some(expected) => print_expected(rt, expected.len()),
         None => Ok(()),
     }
 }
 
 /// Prints the outcomes in their order: in how many of them an answer isn't the expected one.
-fn tell_outcomes<R: Print + AllocGlobal>(
+fn print_outcomes<R: Print + AllocGlobal>(
     rt: &R,
     script: &Script,
     expected: Option<&[Expectation]>,
     outcomes: &[Ran],
-) -> Result<usize, Fault> {
+) -> Result<usize, CommandFault> {
     let mut last: Option<&Ran> = None;
     let mut unexpected: usize = 0;
     for _ in 0..outcomes.len() {
         let Some(next) = next_behind(outcomes, last) else {
             return Ok(unexpected);
         };
-        tell_outcome(rt, next)?;
+        print_outcome(rt, next)?;
         if !is_expected(rt, script, expected, next.entries())? {
             unexpected = unexpected.saturating_add(1);
         }
@@ -175,14 +174,14 @@ fn is_expected<R: Print + AllocGlobal>(
     script: &Script,
     expected: Option<&[Expectation]>,
     entries: &[Entry],
-) -> Result<bool, Fault> {
+) -> Result<bool, CommandFault> {
     let Some(expected) = expected else {
         return Ok(true);
     };
     let lines = line_numbers(rt.alloc(), script, entries)?;
-    let told = differences(rt.alloc(), expected, &lines, entries)?;
-    put_all(&mut io::writer(rt), &told)?;
-    Ok(told.is_empty())
+    let differing = differences(rt.alloc(), expected, &lines, entries)?;
+    put_all(&mut io::writer(rt), &differing)?;
+    Ok(differing.is_empty())
 }
 
 /// The first outcome behind this one, or of all.
@@ -215,7 +214,7 @@ fn is_before(one: &Ran, other: &Ran) -> bool {
 }
 
 /// Prints an outcome's order, who waits where it is a deadlock, and its trace.
-fn tell_outcome<R: Print + AllocGlobal>(rt: &R, ran: &Ran) -> Result<(), Fault> {
+fn print_outcome<R: Print + AllocGlobal>(rt: &R, ran: &Ran) -> Result<(), CommandFault> {
     let list = OrderList(ran.entries());
     match ran {
         Ran::Deadlock(_, waits) => {
@@ -224,13 +223,5 @@ fn tell_outcome<R: Print + AllocGlobal>(rt: &R, ran: &Ran) -> Result<(), Fault> 
         }
         _ => println!(rt; "order {list}").map_err(|_| ScriptFault::Writing)?,
     }
-    tell_trace(rt, ran.entries())
-}
-
-/// Prints a trace.
-fn tell_trace<R: Print + AllocGlobal>(rt: &R, entries: &[Entry]) -> Result<(), Fault> {
-    let alloc: Global = rt.alloc();
-    let mut writer = BufWriter::new(alloc, io::writer(rt)).map_err(|_| AllocError)?;
-    finish_trace(alloc, &mut writer, entries)?;
-    Ok(())
+    print_trace(rt, ran.entries())
 }

@@ -4,13 +4,13 @@ use crate::json::{print_json_calls, print_json_comparison};
 use std::alloc::{AllocError, Global};
 use std::io;
 use std::io::BufWriter;
-use ux_command::{Args, Fault};
+use ux_command::{Args, CommandFault};
 use ux_script::{differences, finish_echo, finish_trace, line_numbers, put_all};
 use ux_syntax::{Expectation, Script, ScriptFault};
 use ux_types::Entry;
 
 /// Prints the history of a run to standard output, as a trace or beside the script; where it is asked for, compares the
-/// answers with those that are expected, and tells how many are, or which answers differ. Where a graph or a
+/// answers with those that are expected, and prints how many are, or which answers differ. Where a graph or a
 /// diagram is asked for, that alone is printed.
 pub fn print_run<R: Print + AllocGlobal>(
     rt: &R,
@@ -18,7 +18,7 @@ pub fn print_run<R: Print + AllocGlobal>(
     script: &Script,
     expected: &[Expectation],
     history: &[Entry],
-) -> Result<(), Fault> {
+) -> Result<(), CommandFault> {
     if args.dot.is_some() || args.sequence {
         return Ok(());
     }
@@ -39,7 +39,8 @@ pub fn print_run<R: Print + AllocGlobal>(
     Ok(())
 }
 
-fn print_trace<R: Print + AllocGlobal>(rt: &R, history: &[Entry]) -> Result<(), Fault> {
+/// Prints the trace of a history.
+pub fn print_trace<R: Print + AllocGlobal>(rt: &R, history: &[Entry]) -> Result<(), CommandFault> {
     let alloc: Global = rt.alloc();
     let mut writer = BufWriter::new(alloc, io::writer(rt)).map_err(|_| AllocError)?;
     Ok(finish_trace(alloc, &mut writer, history)?)
@@ -49,33 +50,33 @@ fn print_echo<R: Print + AllocGlobal>(
     rt: &R,
     lines: &[Option<usize>],
     history: &[Entry],
-) -> Result<(), Fault> {
+) -> Result<(), CommandFault> {
     let alloc: Global = rt.alloc();
     let mut writer = BufWriter::new(alloc, io::writer(rt)).map_err(|_| AllocError)?;
     Ok(finish_echo(alloc, &mut writer, lines, history)?)
 }
 
-/// Tells which answers aren't those that are expected, or how many were compared where all are.
+/// Prints which answers aren't those that are expected, or how many were compared where all are.
 pub fn print_comparison<R: Print + AllocGlobal>(
     rt: &R,
     args: &Args<'_>,
     expected: &[Expectation],
     lines: &[Option<usize>],
     history: &[Entry],
-) -> Result<(), Fault> {
+) -> Result<(), CommandFault> {
     if args.json {
         return print_json_comparison(rt, expected, lines, history);
     }
-    let told = differences(rt.alloc(), expected, lines, history)?;
-    if told.is_empty() {
-        return tell_expected(rt, expected.len());
+    let differing = differences(rt.alloc(), expected, lines, history)?;
+    if differing.is_empty() {
+        return print_expected(rt, expected.len());
     }
-    put_all(&mut io::writer(rt), &told)?;
-    Err(Fault::Unexpected)
+    put_all(&mut io::writer(rt), &differing)?;
+    Err(CommandFault::Unexpected)
 }
 
-/// Tells how many answers were compared, of which none differs.
-pub fn tell_expected(rt: &impl Print, count: usize) -> Result<(), Fault> {
+/// Prints how many answers were compared, of which none differs.
+pub fn print_expected(rt: &impl Print, count: usize) -> Result<(), CommandFault> {
     println!(rt; "expect ok {count}").map_err(|_| ScriptFault::Writing)?;
     Ok(())
 }

@@ -1,5 +1,5 @@
 use Rattle.example_scripts.proofs.seat.Given as goal
 
 -- the trail that was just made, and the state that the kernel was booted in
-abbrev pub ghosts-goes_by_seats : goal.ghosts-goes_by_seats
-ghosts-goes_by_seats g a = record { boot = a.kernel; trail = a.trail.id }
+abbrev pub ghosts-is_alike_by_seats : goal.ghosts-is_alike_by_seats
+ghosts-is_alike_by_seats g a = record { boot = a.kernel; trail = a.trail.id }

@@ -6,10 +6,11 @@ use std::io;
 use std::io::Read;
 use std::process::Abort;
 use std::test::*;
-use ux_syntax::{ScriptFault, parse_script, read_script};
+use ux_syntax::{ScriptFault, Waiting, parse_script, read_script};
+use ux_types::Pid;
 
 #[test]
-fn faults_have_their_texts(rt: HostRuntime) {
+fn faults_have_their_texts(rt: HostRuntime) -> Result<(), Fail> {
     let alloc = rt.alloc();
     expect_told(&rt, alloc, &ScriptFault::BadLine(1), "line 1: bad line");
     let unknown = ScriptFault::UnknownProcess(20);
@@ -21,6 +22,11 @@ fn faults_have_their_texts(rt: HostRuntime) {
     expect_told(&rt, alloc, &ScriptFault::Stranger, "stranger");
     let serial = "a serial script has one order, and no threads";
     expect_told(&rt, alloc, &ScriptFault::OneOrder, serial);
+    let places = Vec::from_slice(alloc, &[(Pid(1), 4), (Pid(3), 7)])?;
+    let deadlock = ScriptFault::Deadlock(Waiting::new(places));
+    let waits = "deadlock: process 1 waits in line 4, process 3 waits in line 7";
+    expect_told(&rt, alloc, &deadlock, waits);
+    Ok(())
 }
 
 /// A reader whose reads fail.

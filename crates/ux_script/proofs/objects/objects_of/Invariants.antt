@@ -1,6 +1,6 @@
 use Rattle.std.proofs.Common.{◌≡◌, map, take}
-use Rattle.ux_orders_tests.specs.Starts.{object_of}
-use Rattle.ux_orders_tests.proofs.machine.kernel_of.Given as goal
+use Rattle.ux_script.specs.Objects.{object_of}
+use Rattle.ux_script.proofs.objects.objects_of.Given as goal
 
 -- what is seen of the objects so far is what their lines say
 abbrev pub invariant-loop-line : goal.invariant-loop-line

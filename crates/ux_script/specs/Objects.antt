@@ -1,4 +1,4 @@
--- What kernels of a script start with.
+-- What the file objects of a script are at first.
 use Rattle.std.specs.Prelude.{ℕ, List}
 use Rattle.ux_model.specs.Object.{View, new_view}
 use Rattle.ux_objects.specs.Failing.{first_body}
