@@ -3,7 +3,6 @@ use Rattle.std.proofs.Common.{◌≡◌, ℕ, ◌+◌, ◌-◌, ◌≤◌, ◌==
 use Rattle.std.proofs.Common.{if◌then◌else◌, refl, ap, sym, ◌∙◌, subst, arith}
 use Rattle.std.proofs.lemmas.List.Sums.{sum_by_push, count_by-le-length}
 use Rattle.std.proofs.lemmas.Bool.{false≢true, eqb-true, ne_eqb, and_parts, and_from}
-use Rattle.atomic_table.specs.Seated.{TableId}
 use Rattle.ux_model.specs.Types.{Request, Reply, Errno, Entry}
 use Rattle.ux_model.specs.Process.{Process}
 use Rattle.ux_model.specs.State.{State, is_live}
@@ -13,14 +12,12 @@ use Rattle.ux_model.specs.Release.{settled}
 use Rattle.ux_model.specs.Waiting.{is_again}
 use Rattle.ux_model.specs.History.{calls_of, is_exit, is_off, has_live, live_count, makes_one, is_allowed, replay, MayFollow, IsLegal}
 use Rattle.ux_model.proofs.Steps.Replays.{step_replay}
-use Rattle.ux_model.proofs.Lists.Appending.{legal_push}
 use Rattle.ux_model.proofs.Releasing.Settling.{stays_settled}
 use Rattle.ux_model.proofs.Invariants.Refusals.{refusal_changes_nothing}
 use Rattle.ux_model.proofs.Processes.Living.{live_ones_counted, fork_alone_makes}
 use Rattle.ux_state.proofs.Lookups.{live_positive}
 use Rattle.ux_kernel.specs.Calling.{IsCaller}
-use Rattle.ux_book.specs.Books.{KeptHistory, state_of, processes, ends_of, is_last, Adds, last_entries, IsBook}
-use Rattle.ux_book.specs.Trails.{Trailed, Owned}
+use Rattle.ux_book.specs.Books.{KeptHistory, state_of, processes, ends_of, is_last, Adds, last_entries}
 
 pub few_live : (S : State) → live_count S ≤ length S.processes
 few_live S = count_by-le-length (λ (P : Process). not P.exited) S.processes
@@ -69,7 +66,7 @@ first_end S p k request allowed off = go (is_off request) off allowed
 pub ends_push : (es : List Entry) (e : Entry) → ends_of (es ++ e ∷ []) ≡ ends_of es + cond {A = ℕ} (is_off e.request) 1 0
 ends_push es e = sum_by_push (λ (x : Entry). cond {A = ℕ} (is_off x.request) 1 0) es e
 
-ends_alike : (es : List Entry) (e : Entry) → calls_of 0 es ≡ ends_of es → (e.pid.0 == 0) ≡ is_off e.request →
+pub ends_alike : (es : List Entry) (e : Entry) → calls_of 0 es ≡ ends_of es → (e.pid.0 == 0) ≡ is_off e.request →
     calls_of 0 (es ++ e ∷ []) ≡ ends_of (es ++ e ∷ [])
 ends_alike es e ends who =
     sum_by_push (λ (x : Entry). cond {A = ℕ} (x.pid.0 == 0) 1 0) es e
@@ -89,7 +86,7 @@ exit_no_end Request.Exit h = absurd (false≢true h)
 exit_no_end request h = refl
 
 -- a last call takes one of the last entries, and a process that was made brings one
-last_after : (S T : State) (es : List Entry) (e : Entry) (n : ℕ) → is_allowed S e.pid.0 e.k e.request ≡ true → e.k ≡ calls_of e.pid.0 es →
+pub last_after : (S T : State) (es : List Entry) (e : Entry) (n : ℕ) → is_allowed S e.pid.0 e.k e.request ≡ true → e.k ≡ calls_of e.pid.0 es →
     calls_of 0 es ≡ ends_of es → ends_of es ≤ 1 →
     Step S e.pid.0 n e.request e.reply e.released T →
     last_entries T (es ++ e ∷ []) + cond {A = ℕ} (is_last e.request) 1 0 ≡ last_entries S es + cond {A = ℕ} (makes_one e.request e.reply) 1
@@ -135,70 +132,17 @@ last_after S T es e n allowed k ends once step =
         omega (arith, more, same, last)
 
 -- no process is made by a last call
-last_makes_none : (request : Request) (reply : Reply) → is_last request ≡ true → makes_one request reply ≡ false
+pub last_makes_none : (request : Request) (reply : Reply) → is_last request ≡ true → makes_one request reply ≡ false
 last_makes_none Request.Exit reply h = refl
 last_makes_none Request.Off reply h = refl
 last_makes_none request reply h = absurd (false≢true h)
 
 -- the room that a call takes, and what it frees
-room_taken : (last one : Bool) → (last ≡ true → one ≡ false) → 1 + cond {A = ℕ} one 1 0 ≤ cond {A = ℕ} last 1 0 + cond {A = ℕ} last 0 2
+pub room_taken : (last one : Bool) → (last ≡ true → one ≡ false) → 1 + cond {A = ℕ} one 1 0 ≤ cond {A = ℕ} last 1 0 + cond {A = ℕ} last 0 2
 room_taken true true none = absurd (false≢true (sym (none refl)))
 room_taken true false none = omega arith
 room_taken false true none = omega arith
 room_taken false false none = omega arith
-
--- a book with one more entry
-pub record Pushed (boot : State) (id : TableId) (T : State) (t t' : Trailed) (own' : Owned) (ended' : Bool) (room' : ℕ) (e : Entry) : Type 0
-  where
-    pub book : IsBook boot id T t' own' ended' room'
-    pub next : MayFollow boot t.entries e
-
-pub book_push : {boot S T : State} {id : TableId} {t t' : Trailed} {own own' : Owned} {ended ended' : Bool} {room kept room' n : ℕ}
-    (e : Entry) → IsBook boot id S t own ended room → room ≤ kept →
-    is_allowed S e.pid.0 e.k e.request ≡ true → e.k ≡ calls_of e.pid.0 t.entries →
-    last_entries S t.entries + cond {A = ℕ} (is_last e.request) 0 2 ≤ kept → kept ≤ room' + 1 →
-    Step S e.pid.0 n e.request e.reply e.released T → e.delivered ≡ delivered_by S e.pid.0 e.request e.reply → n ≡ length t.entries →
-    t' ≡ record t { entries = t.entries ++ e ∷ []; given = t.given + cond {A = ℕ} (makes_one e.request e.reply) 1 0 } → own'.id ≡ own.id →
-    own'.pid ≡ own.pid →
-    cond {A = ℕ} ended' 1 0 ≡ cond {A = ℕ} ended 1 0 + cond {A = ℕ} (is_off e.request) 1 0 → Pushed boot id T t t' own' ended' room' e
-book_push {boot} {S} {T} {id} {t} {t'} {own} {own'} {ended} {ended'} {room} {kept} {room'} {n} e book wider allowed k enough more step told
-    number is_t is_id is_pid ends =
-    let es = t.entries in
-    let step_here : Step S e.pid.0 (length es) e.request e.reply e.released T =
-    subst (λ (i : ℕ). Step S e.pid.0 i e.request e.reply e.released T) number step in
-    let may = may_follow boot S T es e book.at_replay allowed step_here k told in
-    let who = nobodys S e.pid.0 e.k e.request allowed in
-    let was = book.ends in
-    let push = ends_push es e in
-    let entries_is : t'.entries ≡ es ++ e ∷ [] = ap (λ (x : Trailed). x.entries) is_t in
-    record {
-      book = record {
-        legal = subst (λ (l : List Entry). IsLegal boot l) (sym entries_is) (legal_push boot es e book.legal may);
-        at_replay = step_replay boot T es e (subst
-            (λ (U : State). Step U e.pid.0 (length es) e.request e.reply e.released T) book.at_replay step_here)
-            ∙ ap (replay boot) (sym entries_is);
-        trail_id = ap (λ (x : Trailed). x.id) is_t ∙ book.trail_id;
-        given =
-            let now : t'.given ≡ t.given + cond {A = ℕ} (makes_one e.request e.reply) 1 0 = ap (λ (x : Trailed). x.given) is_t in
-            let before = book.given in
-            let one = fork_alone_makes S T e.pid.0 n e.request e.reply e.released step in
-            omega (arith, now, before, one);
-        own_id = is_id ∙ book.own_id;
-        own_pid = is_pid ∙ book.own_pid;
-        ends = ap ends_of entries_is ∙ push ∙ ap (λ m. m + cond {A = ℕ} (is_off e.request) 1 0) was ∙ sym ends;
-        nobodys = ap (calls_of 0) entries_is ∙ ends_alike es e book.nobodys who ∙ ap ends_of (sym entries_is);
-        room =
-            let once : ends_of es ≤ 1 = (let small = one_at_most ended in omega (arith, was, small)) in
-            let left = last_after S T es e n allowed k book.nobodys once step in
-            let taken = room_taken (is_last e.request) (makes_one e.request e.reply) (last_makes_none e.request e.reply) in
-            subst (λ (l : List Entry). last_entries T l ≤ room') (sym entries_is) (omega (arith, left, taken, enough, more));
-      };
-      next = may;
-    }
-  where
-    one_at_most : (b : Bool) → cond {A = ℕ} b 1 0 ≤ 1
-    one_at_most true = omega arith
-    one_at_most false = omega arith
 
 -- what the kernel asks of a caller
 pub allowed_caller : (S : State) (p k : ℕ) (request : Request) → is_allowed S p k request ≡ true → IsCaller S p request
