@@ -60,8 +60,9 @@ fn must_go_wrong(alloc: Global, line: &[u8], place: usize) -> Result<()> {
         return Err(anyhow!("a script of a line that is none"));
     };
     match explain(alloc, line, &fault)? {
-        Some(told) if told.excerpt.column < place || matches!(told.cause, Cause::NoLine) => {
-            Err(anyhow!("not at {place}, but\n{told}"))
+        Some(reported)
+            if reported.excerpt.column < place || matches!(reported.cause, Cause::NoLine) => {
+            Err(anyhow!("not at {place}, but\n{reported}"))
         }
         Some(_) => Ok(()),
         None => Err(anyhow!("no explanation of {fault}")),

@@ -119,7 +119,7 @@ fn fault_of(alloc: Global, text: &[u8]) -> Result<ScriptFault> {
 }
 
 /// What is written of a faulty line.
-fn told_of_line(alloc: Global, text: &[u8]) -> Result<String> {
+fn explained_line(alloc: Global, text: &[u8]) -> Result<String> {
     let fault = fault_of(alloc, text)?;
     match explain(alloc, text, &fault)? {
         Some(explanation) => Ok(format!(in alloc; "uxrun: {fault}\n{explanation}\n")?),
@@ -128,21 +128,21 @@ fn told_of_line(alloc: Global, text: &[u8]) -> Result<String> {
 }
 
 /// What is written of a boot fault.
-fn told_of_boot(alloc: Global, text: &[u8], fault: u8) -> Result<String> {
+fn explained_boot(alloc: Global, text: &[u8], fault: u8) -> Result<String> {
     let explanation = explain_boot(alloc, text, fault)?;
     Ok(format!(in alloc; "uxrun: boot fault {fault}\n{explanation}\n")?)
 }
 
 /// What is written of the fault of a script, which is one of its lines' where no boot fault is given.
-fn told_of(alloc: Global, text: &[u8], boot_fault: Option<u8>) -> Result<String> {
+fn explained(alloc: Global, text: &[u8], boot_fault: Option<u8>) -> Result<String> {
     match boot_fault {
-        Some(fault) => told_of_boot(alloc, text, fault),
-        None => told_of_line(alloc, text),
+        Some(fault) => explained_boot(alloc, text, fault),
+        None => explained_line(alloc, text),
     }
 }
 
 /// Reads a script, and compares what is written of its fault with what lies beside it.
-fn must_tell<R: Files + Print + AllocGlobal>(
+fn must_explain<R: Files + Print + AllocGlobal>(
     rt: &R,
     name: &str,
     boot_fault: Option<u8>,
@@ -152,9 +152,9 @@ fn must_tell<R: Files + Print + AllocGlobal>(
     let wanted = format!(in alloc; "{name}.err")?;
     let text = fs::read(rt, script.as_str())?;
     let wanted = fs::read(rt, wanted.as_str())?;
-    let told = told_of(alloc, &text, boot_fault)?;
-    if told.as_bytes() != wanted.as_slice() {
-        return Err(anyhow!("{name}: {told}"));
+    let reported = explained(alloc, &text, boot_fault)?;
+    if reported.as_bytes() != wanted.as_slice() {
+        return Err(anyhow!("{name}: {reported}"));
     }
     println!(rt; "{name}: ok")?;
     Ok(())
@@ -162,10 +162,10 @@ fn must_tell<R: Files + Print + AllocGlobal>(
 
 fn main(rt: HostRuntime) -> Result<()> {
     for name in LINES {
-        must_tell(&rt, name, None)?;
+        must_explain(&rt, name, None)?;
     }
     for (name, fault) in BOOTS {
-        must_tell(&rt, name, Some(*fault))?;
+        must_explain(&rt, name, Some(*fault))?;
     }
     must_find_changes(rt.alloc())?;
     println!(rt; "changed lines: ok")?;

@@ -39,7 +39,7 @@ pub struct Args<'a> {
     pub json: bool,
     /// Whether each line is run as soon as it is read.
     pub follow: bool,
-    /// Whether it is told on standard error how far a long run is. No option asks for it.
+    /// Whether it is reported on standard error how far a long run is. No option asks for it.
     pub progress: bool,
     /// A path, or `-` for standard input.
     pub script: &'a str,

@@ -11,7 +11,7 @@ use ux_types::{Fd, Pid};
 /// Why no whole trace was printed. Its text stands behind `uxrun: ` on standard error.
 #[derive(Debug, Drop, Error)]
 pub enum CommandFault {
-    /// The script was refused, or couldn't be read or run.
+    /// The script is at fault, or couldn't be read or run.
     #[error("{0}")]
     Script(ScriptFault),
     /// No kernel could be made for the script's file objects and processes, for the reason of this number.
@@ -29,7 +29,7 @@ pub enum CommandFault {
     /// What was asked about has no such moment: this line makes no call.
     #[error("line {0} makes no call")]
     NoCall(u32),
-    /// In the order that was asked for, the process at this place, counted from 1, can't go on.
+    /// In the order that was asked for, the process at this place, counted from 1, can make no call.
     #[error("order: the process at place {0} can't go on")]
     Order(usize),
     /// In some orders each process that is left waits: so many outcomes are deadlocks, of so many.

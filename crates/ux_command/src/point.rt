@@ -1,4 +1,4 @@
-//! Up to which call of a run something is told.
+//! Up to which call of a run something is reported.
 ghost use Rattle.std.specs.Prelude.{◌≡◌, ◌≤◌, ℕ, min, length, Ok, IfOk, IfSome};
 
 use crate::fault::CommandFault;

@@ -1,4 +1,4 @@
-//! The options that tell who holds what at a moment of the run.
+//! The options that report who holds what at a moment of the run.
 use crate::point::Point;
 use clap::{Arg, ArgAction, ArgMatches, Command};
 use std::alloc::{AllocError, Global};

@@ -33,14 +33,14 @@ proc 1000 1000 0 8
 1 exit
 ";
 
-/// How many references a line of a description tells of.
-fn told(line: &str) -> Option<usize> {
+/// How many references a line of a description announces.
+fn announced(line: &str) -> Option<usize> {
     let (_, behind) = line.split_once(": ")?;
     let (count, _) = behind.split_once(" reference")?;
     count.parse().ok()
 }
 
-/// Sees that behind each description's line as many lines tell where its references are.
+/// Sees that behind each description's line as many lines say where its references are.
 fn expect_counted(rt: &impl Abort, text: &str) {
     let mut left: usize = 0;
     for line in text.lines() {
@@ -49,7 +49,7 @@ fn expect_counted(rt: &impl Abort, text: &str) {
             left -= 1;
         } else if line.starts_with("description ") {
             assert!(rt; left == 0, "{line}");
-            left = told(line).unwrap_or(usize::MAX);
+            left = announced(line).unwrap_or(usize::MAX);
         }
     }
     assert!(rt; left == 0);

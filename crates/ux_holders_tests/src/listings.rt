@@ -110,7 +110,7 @@ path p:log -> object 0
 path p:in%20box -> description 3
 ";
 
-/// Whose peer is gone is told, and a path to a socket that is gone.
+/// Whose peer is gone is reported, and a path to a socket that is gone.
 const CLOSED: &str = "\
 process 1
   0 -> 0 cloexec

@@ -159,9 +159,9 @@ const LINES: [&str; 10] = [
 #[test]
 fn each_row_is_a_line(rt: HostRuntime) -> Result<(), Fail> {
     let alloc = rt.alloc();
-    let told = snapshot_values(alloc, &snapshot(alloc)?)?;
-    assert_eq!(&rt; told.len(), LINES.len());
-    for (value, wanted) in told.iter().zip(&LINES) {
+    let values = snapshot_values(alloc, &snapshot(alloc)?)?;
+    assert_eq!(&rt; values.len(), LINES.len());
+    for (value, wanted) in values.iter().zip(&LINES) {
         let line = line_of(alloc, value)?;
         let read = Value::from_str(alloc, line.as_str().trim_end())?;
         assert!(rt; read == Value::from_str(alloc, wanted)?, "{wanted}");

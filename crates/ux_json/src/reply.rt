@@ -7,7 +7,7 @@ use std::alloc::{AllocError, Global};
 use ux_trace::errno_name;
 use ux_types::{Addr, Bytes, Cred, Errno, Fd, OpenFlags, Pid, PollFlags, Reply};
 
-/// A reply as an object: its member `kind` is the first word that a trace has for it, and tells which other members it has.
+/// A reply as an object: its member `kind` is the first word that a trace has for it, and says which other members it has.
 ///
 /// # Errors
 ///

@@ -122,9 +122,9 @@ fn rights_of_another_message_differ(rt: HostRuntime) -> Result<(), Fail> {
     let alloc = rt.alloc();
     let mut entries = passing(&rt, alloc)?;
     assert_eq!(rt; found(alloc, &entries, 16)?, Ok(4));
-    for told in [None, Some(0)].as_slice() {
+    for delivered in [None, Some(0)].as_slice() {
         let receive = entries.get_mut(2).ok_or("no receive")?;
-        receive.delivered = *told;
+        receive.delivered = *delivered;
         assert_eq!(rt; found(alloc, &entries, 16)?, Err(2));
     }
     Ok(())

@@ -60,8 +60,8 @@ fn expect_echo(
 ) -> Result<(), Fail> {
     let lines = line_numbers(alloc, script, history)?;
     let mut written: Vec<u8> = Vec::new(alloc);
-    let told = finish_echo(alloc, &mut written, &lines, history);
-    assert!(rt; told.is_ok() && written.as_slice() == wanted.as_bytes());
+    let reported = finish_echo(alloc, &mut written, &lines, history);
+    assert!(rt; reported.is_ok() && written.as_slice() == wanted.as_bytes());
     Ok(())
 }
 
@@ -76,8 +76,8 @@ fn expect_differences(
 ) -> Result<(), Fail> {
     let expected = expectations_of(alloc, text.as_bytes())?;
     let lines = line_numbers(alloc, script, history)?;
-    let told = differences(alloc, &expected, &lines, history)?;
-    assert!(rt; told.as_slice() == wanted.as_bytes(), "{text}");
+    let reported = differences(alloc, &expected, &lines, history)?;
+    assert!(rt; reported.as_slice() == wanted.as_bytes(), "{text}");
     Ok(())
 }
 
@@ -177,7 +177,7 @@ const COMPARED: &[(&str, &str)] = &[
 ];
 
 #[test]
-fn what_answers_otherwise_is_told_with_its_line(rt: HostRuntime) -> Result<(), Fail> {
+fn what_answers_otherwise_is_reported_with_its_line(rt: HostRuntime) -> Result<(), Fail> {
     let alloc = rt.alloc();
     for (text, wanted) in COMPARED {
         let script = parse_script(alloc, text.as_bytes())?;
@@ -226,8 +226,8 @@ fn expect_cut(
     fails_at: usize,
 ) {
     let mut writer = Fake::new(alloc, 100, fails_at);
-    let told = finish_echo(alloc, &mut writer, lines, history);
-    assert!(rt; matches!(told, Err(ScriptFault::Writing)));
+    let reported = finish_echo(alloc, &mut writer, lines, history);
+    assert!(rt; matches!(reported, Err(ScriptFault::Writing)));
     let taken = writer.taken.as_slice();
     let whole = taken.iter().filter(|byte| **byte == b'\n').count();
     assert_eq!(rt; whole, fails_at.saturating_sub(1));

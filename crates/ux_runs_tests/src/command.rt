@@ -91,10 +91,10 @@ fn what_is_no_moment_is_refused(rt: HostRuntime) -> Result<(), Fail> {
         "End",
     ] {
         let words = texts(rt.alloc(), &["uxrun", "--audit", text, "a.ux"])?;
-        let told = read_args(rt.alloc(), words.as_slice())
+        let reported = read_args(rt.alloc(), words.as_slice())
             .err()
             .ok_or("understood")?;
-        assert_eq!(rt; told.exit_code(), 2);
+        assert_eq!(rt; reported.exit_code(), 2);
     }
     Ok(())
 }
@@ -171,10 +171,10 @@ fn all_orders_are_asked_for(rt: HostRuntime) -> Result<(), Fail> {
     }
     for option in ["--each", "--limit=7"] {
         let words = texts(rt.alloc(), &["uxrun", option, "a.ux"])?;
-        let told = read_args(rt.alloc(), words.as_slice())
+        let reported = read_args(rt.alloc(), words.as_slice())
             .err()
             .ok_or("understood")?;
-        assert!(rt; told.kind() == ErrorKind::MissingRequiredArgument);
+        assert!(rt; reported.kind() == ErrorKind::MissingRequiredArgument);
     }
     Ok(())
 }
@@ -194,10 +194,10 @@ fn other_command_lines_are_refused(rt: HostRuntime) -> Result<(), Fail> {
         valued.as_slice(),
     ] {
         let words = texts(rt.alloc(), words)?;
-        let told = read_args(rt.alloc(), words.as_slice())
+        let reported = read_args(rt.alloc(), words.as_slice())
             .err()
             .ok_or("understood")?;
-        assert_eq!(rt; told.exit_code(), 2);
+        assert_eq!(rt; reported.exit_code(), 2);
     }
     Ok(())
 }
@@ -225,7 +225,7 @@ fn refusals_of(rt: &impl Abort, alloc: Global, words: &[String]) -> Result<usize
 }
 
 #[test]
-fn want_of_memory_is_told_of_a_command_line(rt: HostRuntime) -> Result<(), Fail> {
+fn want_of_memory_is_reported_of_a_command_line(rt: HostRuntime) -> Result<(), Fail> {
     let words = texts(rt.alloc(), &["uxrun", "--check", "a.ux"])?;
     let refusals = refusals_of(&rt, rt.alloc(), words.as_slice())?;
     assert!(rt; refusals > 0);
@@ -235,10 +235,10 @@ fn want_of_memory_is_told_of_a_command_line(rt: HostRuntime) -> Result<(), Fail>
 #[test]
 fn help_is_no_fault(rt: HostRuntime) -> Result<(), Fail> {
     let words = texts(rt.alloc(), &["uxrun", "--help"])?;
-    let told = read_args(rt.alloc(), words.as_slice())
+    let reported = read_args(rt.alloc(), words.as_slice())
         .err()
         .ok_or("no help")?;
-    assert_eq!(rt; told.exit_code(), 0);
+    assert_eq!(rt; reported.exit_code(), 0);
     Ok(())
 }
 
@@ -275,7 +275,7 @@ fn faults_have_their_texts(rt: HostRuntime) -> Result<(), Fail> {
 }
 
 #[test]
-fn boot_faults_are_told_by_their_numbers(rt: HostRuntime) -> Result<(), Fail> {
+fn boot_faults_are_reported_by_their_numbers(rt: HostRuntime) -> Result<(), Fail> {
     let rows = [
         (BootFault::TooManyObjects, "boot fault 1"),
         (BootFault::TooManyProcesses, "boot fault 2"),
@@ -323,10 +323,10 @@ fn json_and_following_are_asked_for(rt: HostRuntime) -> Result<(), Fail> {
     assert!(rt; args.follow && args.check && !args.json);
     for [one, other] in EXCLUDING {
         let words = texts(rt.alloc(), &["uxrun", one, other, "-"])?;
-        let told = read_args(rt.alloc(), words.as_slice())
+        let reported = read_args(rt.alloc(), words.as_slice())
             .err()
             .ok_or("understood")?;
-        assert!(rt; told.kind() == ErrorKind::ArgumentConflict);
+        assert!(rt; reported.kind() == ErrorKind::ArgumentConflict);
     }
     Ok(())
 }

@@ -12,11 +12,11 @@ use ux_syntax::{LineReader, ScriptFault};
 
 /// Keeps what is reported of lines that are left out, a line each.
 #[derive(Drop)]
-struct Told {
+struct Reports {
     text: String,
 }
 
-impl Listener for Told {
+impl Listener for Reports {
     fn taken(&mut self, _text: &[u8]) {}
 
     fn left_out(&mut self, _taken: &LineReader, _text: &[u8], fault: &ScriptFault) {
@@ -35,12 +35,12 @@ fn run<W: Write>(
     alloc: Global,
     text: &[u8],
     writer: &mut W,
-    told: &mut Told,
+    reported: &mut Reports,
 ) -> Result<Result<Followed, ScriptFault>, Fail> {
     let mut source = LineSource::new(alloc, text);
-    let reader = read_header(alloc, &mut source, told)?;
+    let reader = read_header(alloc, &mut source, reported)?;
     let kernel = kernel_of(alloc, reader.script())?;
-    Ok(follow(alloc, reader, &mut source, writer, told, kernel))
+    Ok(follow(alloc, reader, &mut source, writer, reported, kernel))
 }
 
 /// Sees what is written of a text, and what is reported of its lines.
@@ -52,12 +52,12 @@ fn expect(
     faults: &str,
 ) -> Result<(), Fail> {
     let mut written: Vec<u8> = Vec::new(alloc);
-    let mut told = Told {
+    let mut reported = Reports {
         text: String::new(alloc),
     };
-    let run = run(alloc, text.as_bytes(), &mut written, &mut told)??;
+    let run = run(alloc, text.as_bytes(), &mut written, &mut reported)??;
     assert!(rt; written.as_slice() == trace.as_bytes(), "{text}");
-    assert!(rt; told.text.as_str() == faults, "{text}");
+    assert!(rt; reported.text.as_str() == faults, "{text}");
     assert_eq!(rt; run.history.len(), trace.lines().count());
     Ok(())
 }
@@ -138,10 +138,10 @@ fn a_line_that_is_too_long_is_left_out(rt: HostRuntime) -> Result<(), Fail> {
 /// Sees that a write may fail at each line, and that the lines before it are written.
 fn expect_cut(rt: &impl Abort, alloc: Global, fails_at: usize) -> Result<(), Fail> {
     let mut writer = Fake::new(alloc, 100, fails_at);
-    let mut told = Told {
+    let mut reported = Reports {
         text: String::new(alloc),
     };
-    let ran = run(alloc, SESSION.as_bytes(), &mut writer, &mut told)?;
+    let ran = run(alloc, SESSION.as_bytes(), &mut writer, &mut reported)?;
     assert!(rt; matches!(ran, Err(ScriptFault::Writing)));
     let taken = writer.taken.as_slice();
     assert!(rt; SESSION_TRACE.as_bytes().starts_with(taken));
@@ -173,15 +173,22 @@ impl io::Read for Torn<'_> {
 #[test]
 fn a_read_that_fails_ends_the_run(rt: HostRuntime) -> Result<(), Fail> {
     let alloc = rt.alloc();
-    let mut told = Told {
+    let mut reported = Reports {
         text: String::new(alloc),
     };
     let buffer = io::BufReader::new(alloc, Torn(b"proc 0 0 1 4\n1 pair seq -\n"))?;
     let mut source = LineSource::new(alloc, buffer);
-    let reader = read_header(alloc, &mut source, &mut told)?;
+    let reader = read_header(alloc, &mut source, &mut reported)?;
     let kernel = kernel_of(alloc, reader.script())?;
     let mut written: Vec<u8> = Vec::new(alloc);
-    let ran = follow(alloc, reader, &mut source, &mut written, &mut told, kernel);
+    let ran = follow(
+        alloc,
+        reader,
+        &mut source,
+        &mut written,
+        &mut reported,
+        kernel,
+    );
     assert!(rt; matches!(ran, Err(ScriptFault::Reading)));
     assert!(rt; written.as_slice() == b"0 1 0 pair = fds 0 1\n".as_slice());
     Ok(())

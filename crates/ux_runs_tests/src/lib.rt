@@ -11,6 +11,8 @@ mod command;
 #[cfg(test)]
 mod following;
 #[cfg(test)]
+mod json_lines;
+#[cfg(test)]
 mod malformed;
 #[cfg(test)]
 mod metering;
@@ -18,5 +20,3 @@ mod metering;
 mod serial;
 #[cfg(test)]
 mod threads;
-#[cfg(test)]
-mod told;

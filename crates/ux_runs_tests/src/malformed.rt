@@ -18,12 +18,17 @@ fn start(alloc: Global, text: &[u8]) -> Result<(), CommandFault> {
 }
 
 /// Sees what is reported of a text; nothing of one that starts a kernel.
-fn expect_told(rt: &impl Abort, alloc: Global, text: &[u8], told: &str) -> Result<(), AllocError> {
+fn expect_report(
+    rt: &impl Abort,
+    alloc: Global,
+    text: &[u8],
+    reported: &str,
+) -> Result<(), AllocError> {
     let found = match start(alloc, text) {
         Ok(()) => String::new(alloc),
         Err(fault) => fault.to_string(alloc)?,
     };
-    assert_eq!(rt; found.as_str(), told);
+    assert_eq!(rt; found.as_str(), reported);
     Ok(())
 }
 
@@ -84,9 +89,9 @@ const FAULTS: &[(&str, &str)] = &[
 ];
 
 #[test]
-fn a_text_that_is_no_script_is_told(rt: HostRuntime) -> Result<(), Fail> {
-    for (text, told) in FAULTS {
-        expect_told(&rt, rt.alloc(), text.as_bytes(), told)?;
+fn a_text_that_is_no_script_is_reported(rt: HostRuntime) -> Result<(), Fail> {
+    for (text, reported) in FAULTS {
+        expect_report(&rt, rt.alloc(), text.as_bytes(), reported)?;
     }
     Ok(())
 }
@@ -111,9 +116,9 @@ const COMMENTS: &[(usize, &str, &str)] = &[
 #[test]
 fn a_line_has_4096_bytes_at_most(rt: HostRuntime) -> Result<(), Fail> {
     let alloc = rt.alloc();
-    for (length, end, told) in COMMENTS {
+    for (length, end, reported) in COMMENTS {
         let text = comment(alloc, *length, end.as_bytes())?;
-        expect_told(&rt, alloc, &text, told)?;
+        expect_report(&rt, alloc, &text, reported)?;
     }
     Ok(())
 }
@@ -141,9 +146,9 @@ const HEADERS: &[(usize, usize, &str)] = &[
 #[test]
 fn a_kernel_has_64_objects_and_64_processes_at_most(rt: HostRuntime) -> Result<(), Fail> {
     let alloc = rt.alloc();
-    for (objects, procs, told) in HEADERS {
+    for (objects, procs, reported) in HEADERS {
         let text = header(alloc, *objects, *procs)?;
-        expect_told(&rt, alloc, text.as_bytes(), told)?;
+        expect_report(&rt, alloc, text.as_bytes(), reported)?;
     }
     Ok(())
 }

@@ -1,4 +1,4 @@
-//! How far a long run is told to be, and how often.
+//! How far a long run is reported to be, and how often.
 
 use std::fmt::Display;
 use std::io;
@@ -13,7 +13,7 @@ use ux_command::Meter;
 #[derive(Drop)]
 struct Hand {
     now: AtomicU64,
-    told: AtomicU64,
+    reported: AtomicU64,
 }
 
 impl Clock for Hand {
@@ -32,13 +32,13 @@ impl Eprint for Hand {
     }
 
     fn eprintln<D: Display + Drop>(&self, _value: D) -> io::Result<()> {
-        self.told.fetch_add(1, Ordering::SeqCst);
+        self.reported.fetch_add(1, Ordering::SeqCst);
         Ok(())
     }
 }
 
-/// The time after the beginning, and how many lines were told by then: one a second at most.
-const TOLD: &[(u64, u64)] = &[
+/// The time after the beginning, and how many lines were reported by then: one a second at most.
+const REPORTED: &[(u64, u64)] = &[
     (0, 0),
     (999, 0),
     (1000, 1),
@@ -53,27 +53,27 @@ const TOLD: &[(u64, u64)] = &[
 fn expect(rt: &impl Abort, is_shown: bool) {
     let hand = Hand {
         now: AtomicU64::new(7),
-        told: AtomicU64::new(0),
+        reported: AtomicU64::new(0),
     };
     let meter = Meter::new(&hand, is_shown, "calls");
-    for (time, told) in TOLD {
+    for (time, reported) in REPORTED {
         hand.now.store(time.saturating_add(7), Ordering::SeqCst);
         for _ in 0..40 {
             meter.step();
         }
-        let wanted = if is_shown { *told } else { 0 };
-        assert_eq!(rt; hand.told.load(Ordering::SeqCst), wanted, "{time}");
+        let wanted = if is_shown { *reported } else { 0 };
+        assert_eq!(rt; hand.reported.load(Ordering::SeqCst), wanted, "{time}");
     }
 }
 
 #[test]
-fn it_is_told_once_a_second(rt: HostRuntime) -> Result<(), Fail> {
+fn it_is_reported_once_a_second(rt: HostRuntime) -> Result<(), Fail> {
     expect(&rt, true);
     Ok(())
 }
 
 #[test]
-fn nothing_is_told_where_it_isnt_shown(rt: HostRuntime) -> Result<(), Fail> {
+fn nothing_is_reported_where_it_isnt_shown(rt: HostRuntime) -> Result<(), Fail> {
     expect(&rt, false);
     Ok(())
 }

@@ -254,8 +254,8 @@ fn a_process_has_4096_descriptors_at_most(rt: HostRuntime) -> Result<(), Fail> {
 fn expect_fault(rt: &impl Abort, alloc: Global, script: &str, text: &str) -> Result<(), Fail> {
     let mut written: Vec<u8> = Vec::new(alloc);
     let fault = run(alloc, script, &mut written).err().ok_or("a run")?;
-    let told = fault.to_string(alloc)?;
-    assert_eq!(rt; told.as_str(), text);
+    let reported = fault.to_string(alloc)?;
+    assert_eq!(rt; reported.as_str(), text);
     assert!(rt; written.is_empty());
     Ok(())
 }
@@ -278,8 +278,8 @@ fn a_faulty_script_runs_nothing(rt: HostRuntime) -> Result<(), Fail> {
 
 /// Sees that a run reports a failed write.
 fn expect_failure(rt: &impl Abort, alloc: Global, script: &str, writer: &mut Fake) {
-    let told = run(alloc, script, writer);
-    assert!(rt; matches!(told, Err(ScriptFault::Writing)));
+    let reported = run(alloc, script, writer);
+    assert!(rt; matches!(reported, Err(ScriptFault::Writing)));
 }
 
 /// How many lines were written whole.
@@ -362,9 +362,9 @@ fn refusals_of(
     for step in 0..STEPS {
         written.clear();
         purse.leave(alloc, step.saturating_mul(16));
-        let told = write_trace(alloc, &mut written, history);
+        let reported = write_trace(alloc, &mut written, history);
         purse.open();
-        match told {
+        match reported {
             Ok(()) => {
                 assert!(rt; written.as_slice() == trace);
                 return Ok(step);
@@ -402,8 +402,8 @@ fn a_call_of_nobody_is_a_stranger(rt: HostRuntime) -> Result<(), Fail> {
         number: 1,
     })?;
     let mut written: Vec<u8> = Vec::new(alloc);
-    let told = run_over(alloc, &script, &mut written);
-    assert!(rt; matches!(told, Err(ScriptFault::Stranger)));
+    let reported = run_over(alloc, &script, &mut written);
+    assert!(rt; matches!(reported, Err(ScriptFault::Stranger)));
     assert!(rt; written.is_empty());
     Ok(())
 }

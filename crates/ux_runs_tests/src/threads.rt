@@ -160,11 +160,11 @@ fn expect_deadlock<R: Threads + Wait + Abort + Sync>(
     let script = parse_script(alloc, script.as_bytes())?;
     let kernel = kernel_of(alloc, &script)?;
     let mut written = Vec::new(alloc);
-    let told = match run_threads(rt, alloc, &script, &mut written, kernel, &NoGate) {
+    let reported = match run_threads(rt, alloc, &script, &mut written, kernel, &NoGate) {
         Ok(_entries) => String::new(alloc),
         Err(fault) => format!(in alloc; "{fault}")?,
     };
-    assert!(rt; told.as_str() == text && written.as_slice() == trace.as_bytes());
+    assert!(rt; reported.as_str() == text && written.as_slice() == trace.as_bytes());
     Ok(())
 }
 

@@ -57,8 +57,8 @@ fn repeated(alloc: Global, line: &str, count: usize) -> Result<String, Fail> {
 
 /// Sees which fault a script has, if any.
 fn expect_fault(rt: &impl Abort, alloc: Global, text: &str, fault: &str) -> Result<(), Fail> {
-    let told = fault_of(alloc, text.as_bytes())?;
-    assert_eq!(rt; told.as_str(), fault, "{text}");
+    let reported = fault_of(alloc, text.as_bytes())?;
+    assert_eq!(rt; reported.as_str(), fault, "{text}");
     Ok(())
 }
 
@@ -139,9 +139,9 @@ fn expect_request(
 }
 
 /// Sees the text of a fault.
-fn expect_told(rt: &impl Abort, alloc: Global, fault: &ScriptFault, text: &str) {
+fn expect_report(rt: &impl Abort, alloc: Global, fault: &ScriptFault, text: &str) {
     match fault.to_string(alloc) {
-        Ok(told) => assert_eq!(rt; told.as_str(), text),
+        Ok(reported) => assert_eq!(rt; reported.as_str(), text),
         Err(_) => assert!(rt; false, "no memory"),
     }
 }

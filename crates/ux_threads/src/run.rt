@@ -28,8 +28,8 @@ use ux_types::{Entry, MADE_LIMIT, Pid};
 
 /// Runs the script on a kernel that has just started with its processes, one thread for each, and writes the
 /// trace. Each process makes its lines in their order, by calls that wait where they have to, and exits; a child's
-/// lines begin when its fork was answered. Then the layer is ended, where the script says so. The gate hears of
-/// each call.
+/// lines begin when its fork was answered. Then the layer is ended, where the script says so. The gate is called
+/// before and after each call.
 ///
 /// # Errors
 ///
@@ -57,8 +57,8 @@ pub fn run_threads<O: FileObject + Send, G: Gate, Out: Write>(
     ensures beginning { IfErr result (λ f. is_deadlock f ≡ false → WritesBeginning kernel (plan_of script.now) (Out.contents writer.old) (Out.contents writer.new)) }
     // Where every process waits, a beginning of the trace of a history that has begun as such a run.
     ensures begun { IfErr result (λ f. is_deadlock f ≡ true → WritesBegun kernel (plan_of script.now) (Out.contents writer.old) (Out.contents writer.new)) }
-    // A script that is to run in the order of its lines alone is refused, and no other is for that reason.
-    ensures refused { (result ≡ Err ScriptFault.OneOrder) ↔ (script.now.serial ≡ true) }
+    // A script that is to run in the order of its lines alone isn't run, and no other is left out for that reason.
+    ensures one_order { (result ≡ Err ScriptFault.OneOrder) ↔ (script.now.serial ≡ true) }
     // Nothing of it is written.
     ensures unwritten { script.now.serial ≡ true → Keeps (Out.contents writer.old) (Out.contents writer.new) }
     ensures fault { IfErr result (λ f. is_deadlock f ≡ false → script.now.serial ≡ false → IsRunFault f) }
@@ -93,10 +93,10 @@ pub fn make_threads<O: FileObject + Send, G: Gate>(
     requires processes { kernel.processes ≡ map new_process script.now.procs.items }
     // The history is a legal one from the kernel's state, in which each process made the script's calls, or the first of them.
     ensures runs { IfOk result (λ ran. IsOfScript kernel (plan_of script.now) ran) }
-    // A script that is to run in the order of its lines alone is refused, and no other is for that reason.
-    ensures refused { (result ≡ Err ScriptFault.OneOrder) ↔ (script.now.serial ≡ true) }
+    // A script that is to run in the order of its lines alone isn't run, and no other is left out for that reason.
+    ensures one_order { (result ≡ Err ScriptFault.OneOrder) ↔ (script.now.serial ≡ true) }
     ensures fault { IfErr result (λ f. script.now.serial ≡ false → (f ≡ ScriptFault.NoMemory) ⊎ (f ≡ ScriptFault.Stranger)) }
-    // Where every process waits, that isn't told as a fault.
+    // Where every process waits, that isn't reported as a fault.
     ensures begun { IfErr result (λ f. is_deadlock f ≡ false) }
 {
     if script.serial {

@@ -131,9 +131,9 @@ fn start_work<
     }
     match scope.spawn(move || work(shared, seat)) {
         Ok(thread) => threads.push_reserved(thread),
-        Err(refused) => {
+        Err(unstarted) => {
             shared.stop.store(true, Ordering::SeqCst);
-            let _exited = (refused.value)();
+            let _exited = (unstarted.value)();
         }
     }
 }
@@ -212,8 +212,8 @@ impl<W: BookName, O: FileObject> Worker<W, O> {
         }
     }
 
-    /// Goes through the seat's lines up to its exit or its next fork: makes its calls, and waits for other
-    /// processes. Gives the lines from that fork on, and none where it came to none.
+    /// Makes the seat's lines up to its exit or its next fork: makes its calls, and waits for other processes. Gives the
+    /// lines from that fork on, and none where there is none.
     fn make_calls<'a, R: Wait, G: Gate>(
         &mut self,
         shared: Shared<'_, R, G>,

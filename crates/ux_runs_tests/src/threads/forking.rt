@@ -36,8 +36,8 @@ fn a_fork_of_another_process_is_a_strangers(rt: HostRuntime) -> Result<(), Fail>
     }
     let kernel = kernel_of(alloc, &script)?;
     let mut written: Vec<u8> = Vec::new(alloc);
-    let told = run_threads(&rt, alloc, &script, &mut written, kernel, &NoGate);
-    assert!(rt; matches!(told, Err(ScriptFault::Stranger)));
+    let reported = run_threads(&rt, alloc, &script, &mut written, kernel, &NoGate);
+    assert!(rt; matches!(reported, Err(ScriptFault::Stranger)));
     assert!(rt; written.is_empty());
     Ok(())
 }
@@ -56,8 +56,8 @@ fn a_serial_script_is_not_run_by_threads(rt: HostRuntime) -> Result<(), Fail> {
     let script = parse_script(alloc, SERIAL.as_bytes())?;
     let kernel = kernel_of(alloc, &script)?;
     let mut written: Vec<u8> = Vec::new(alloc);
-    let told = run_threads(&rt, alloc, &script, &mut written, kernel, &NoGate);
-    assert!(rt; matches!(told, Err(ScriptFault::OneOrder)));
+    let reported = run_threads(&rt, alloc, &script, &mut written, kernel, &NoGate);
+    assert!(rt; matches!(reported, Err(ScriptFault::OneOrder)));
     assert!(rt; written.is_empty());
     Ok(())
 }

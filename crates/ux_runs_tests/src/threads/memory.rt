@@ -91,17 +91,17 @@ fn expect_refusal<R: Threads + Wait + Abort + Sync>(
         came: AtomicU64::new(0),
     };
     let mut written: Vec<u8> = Vec::new(alloc);
-    let told = run_threads(rt, alloc, &script, &mut written, kernel, &thief);
+    let reported = run_threads(rt, alloc, &script, &mut written, kernel, &thief);
     let seen = thief.came.load(Ordering::SeqCst);
     drop(thief);
-    assert!(rt; matches!(told, Err(ScriptFault::NoMemory)));
+    assert!(rt; matches!(reported, Err(ScriptFault::NoMemory)));
     assert!(rt; written.is_empty());
     assert_eq!(rt; seen, came);
     Ok(())
 }
 
 #[test]
-fn a_worker_without_memory_exits_and_the_run_tells_so(rt: HostRuntime) -> Result<(), Fail> {
+fn a_worker_without_memory_exits_and_the_run_reports_it(rt: HostRuntime) -> Result<(), Fail> {
     let text = script_text(rt.alloc())?;
     // The first makes no call after the one that was refused, but exits; so the second, which waits for that,
     // makes its two calls and exits, too.

@@ -78,7 +78,7 @@ const BAD_LINES: &[&str] = &[
 ];
 
 #[test]
-fn bad_calls_are_told(rt: HostRuntime) -> Result<(), Fail> {
+fn bad_calls_are_reported(rt: HostRuntime) -> Result<(), Fail> {
     expect_bad_lines(&rt, rt.alloc(), "", BAD_LINES, "")
 }
 
@@ -129,7 +129,7 @@ const BAD_CALLS: &[&str] = &[
 ];
 
 #[test]
-fn bad_calls_on_files_are_told(rt: HostRuntime) -> Result<(), Fail> {
+fn bad_calls_on_files_are_reported(rt: HostRuntime) -> Result<(), Fail> {
     expect_bad_lines(&rt, rt.alloc(), "1 ", BAD_CALLS, "")
 }
 
@@ -233,6 +233,6 @@ fn offsets_are_read(rt: HostRuntime) -> Result<(), Fail> {
 }
 
 #[test]
-fn bad_offsets_are_told(rt: HostRuntime) -> Result<(), Fail> {
+fn bad_offsets_are_reported(rt: HostRuntime) -> Result<(), Fail> {
     expect_bad_lines(&rt, rt.alloc(), "1 lseek 0 ", BAD_OFFSETS, " set")
 }

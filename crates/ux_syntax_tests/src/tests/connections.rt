@@ -97,7 +97,7 @@ const BAD_ADDRESSES: &[&str] = &[
 ];
 
 #[test]
-fn bad_addresses_are_told(rt: HostRuntime) -> Result<(), Fail> {
+fn bad_addresses_are_reported(rt: HostRuntime) -> Result<(), Fail> {
     expect_bad_lines(&rt, rt.alloc(), "1 bind 3 ", BAD_ADDRESSES, "")?;
     expect_bad_lines(&rt, rt.alloc(), "1 connect 3 ", BAD_ADDRESSES, "")
 }
@@ -144,7 +144,7 @@ const BAD_BACKLOGS: &[&str] = &[
 ];
 
 #[test]
-fn bad_backlogs_are_told(rt: HostRuntime) -> Result<(), Fail> {
+fn bad_backlogs_are_reported(rt: HostRuntime) -> Result<(), Fail> {
     expect_bad_lines(&rt, rt.alloc(), "1 listen 0 ", BAD_BACKLOGS, "")
 }
 
@@ -194,6 +194,6 @@ const BAD_CALLS: &[&str] = &[
 ];
 
 #[test]
-fn bad_calls_of_connections_are_told(rt: HostRuntime) -> Result<(), Fail> {
+fn bad_calls_of_connections_are_reported(rt: HostRuntime) -> Result<(), Fail> {
     expect_bad_lines(&rt, rt.alloc(), "1 ", BAD_CALLS, "")
 }

@@ -5,22 +5,22 @@ use std::test::*;
 use ux_syntax::{Expectation, expectations_of};
 
 /// What is expected, as `LINE=REPLY;` for each.
-fn told_of(alloc: Global, expected: &[Expectation]) -> Result<String, Fail> {
-    let mut told = String::new(alloc);
+fn list_of(alloc: Global, expected: &[Expectation]) -> Result<String, Fail> {
+    let mut reported = String::new(alloc);
     for one in expected {
         let line = one.line;
         let reply = String::from_utf8(Vec::from_slice(alloc, one.reply.as_slice())?).map_err(
             |_| "no text",
         )?;
-        told.push_str(&format!(in alloc; "{line}={reply};")?)?;
+        reported.push_str(&format!(in alloc; "{line}={reply};")?)?;
     }
-    Ok(told)
+    Ok(reported)
 }
 
 /// What the calls of a text are expected to answer, or the text of its fault.
 fn found_in(alloc: Global, text: &str) -> Result<String, Fail> {
     match expectations_of(alloc, text.as_bytes()) {
-        Ok(expected) => told_of(alloc, &expected),
+        Ok(expected) => list_of(alloc, &expected),
         Err(fault) => Ok(fault.to_string(alloc)?),
     }
 }
@@ -28,8 +28,8 @@ fn found_in(alloc: Global, text: &str) -> Result<String, Fail> {
 /// Sees what is found in each of these texts.
 fn expect_found(rt: &impl Abort, alloc: Global, rows: &[(&str, &str)]) -> Result<(), Fail> {
     for (text, found) in rows {
-        let told = found_in(alloc, text)?;
-        assert_eq!(rt; told.as_str(), *found, "{text}");
+        let reported = found_in(alloc, text)?;
+        assert_eq!(rt; reported.as_str(), *found, "{text}");
     }
     Ok(())
 }

@@ -91,7 +91,7 @@ const BAD_CALLS: &[&str] = &[
 ];
 
 #[test]
-fn bad_calls_of_options_are_told(rt: HostRuntime) -> Result<(), Fail> {
+fn bad_calls_of_options_are_reported(rt: HostRuntime) -> Result<(), Fail> {
     expect_bad_lines(&rt, rt.alloc(), "1 ", BAD_CALLS, "")
 }
 

@@ -1,5 +1,5 @@
 //! Readers that end, fail, are interrupted or never end; out of memory; the texts of faults.
-use super::expect_told;
+use super::expect_report;
 use hoard::Hoard;
 use std::alloc::Global;
 use std::io;
@@ -12,20 +12,20 @@ use ux_types::Pid;
 #[test]
 fn faults_have_their_texts(rt: HostRuntime) -> Result<(), Fail> {
     let alloc = rt.alloc();
-    expect_told(&rt, alloc, &ScriptFault::BadLine(1), "line 1: bad line");
+    expect_report(&rt, alloc, &ScriptFault::BadLine(1), "line 1: bad line");
     let unknown = ScriptFault::UnknownProcess(20);
-    expect_told(&rt, alloc, &unknown, "line 20: unknown process");
-    expect_told(&rt, alloc, &ScriptFault::TooLong(300), "line 300: too long");
-    expect_told(&rt, alloc, &ScriptFault::Reading, "reading failed");
-    expect_told(&rt, alloc, &ScriptFault::Writing, "writing failed");
-    expect_told(&rt, alloc, &ScriptFault::NoMemory, "out of memory");
-    expect_told(&rt, alloc, &ScriptFault::Stranger, "stranger");
+    expect_report(&rt, alloc, &unknown, "line 20: unknown process");
+    expect_report(&rt, alloc, &ScriptFault::TooLong(300), "line 300: too long");
+    expect_report(&rt, alloc, &ScriptFault::Reading, "reading failed");
+    expect_report(&rt, alloc, &ScriptFault::Writing, "writing failed");
+    expect_report(&rt, alloc, &ScriptFault::NoMemory, "out of memory");
+    expect_report(&rt, alloc, &ScriptFault::Stranger, "stranger");
     let serial = "a serial script has one order, and no threads";
-    expect_told(&rt, alloc, &ScriptFault::OneOrder, serial);
+    expect_report(&rt, alloc, &ScriptFault::OneOrder, serial);
     let places = Vec::from_slice(alloc, &[(Pid(1), 4), (Pid(3), 7)])?;
     let deadlock = ScriptFault::Deadlock(Waiting::new(places));
     let waits = "deadlock: process 1 waits in line 4, process 3 waits in line 7";
-    expect_told(&rt, alloc, &deadlock, waits);
+    expect_report(&rt, alloc, &deadlock, waits);
     Ok(())
 }
 
@@ -60,13 +60,13 @@ fn expect_reading(
 ) -> Result<(), Fail> {
     let front = READ.get(..place).ok_or("no such place")?;
     let mut reader = front.chain(Broken(kind));
-    let told = read_script(alloc, &mut reader).err().ok_or("a script")?;
-    expect_told(rt, alloc, &told, fault);
+    let reported = read_script(alloc, &mut reader).err().ok_or("a script")?;
+    expect_report(rt, alloc, &reported, fault);
     Ok(())
 }
 
 #[test]
-fn a_read_that_fails_is_told(rt: HostRuntime) -> Result<(), Fail> {
+fn a_read_that_fails_is_reported(rt: HostRuntime) -> Result<(), Fail> {
     let alloc = rt.alloc();
     let reset = io::ErrorKind::ConnectionReset;
     expect_reading(&rt, alloc, 0, reset, "reading failed")?;
@@ -102,8 +102,8 @@ fn expect_endless(rt: &impl Abort, alloc: Global, bytes: &[u8], fault: &str) -> 
         bytes: Vec::from_slice(alloc, bytes)?,
         interrupted: false,
     };
-    let told = read_script(alloc, &mut reader).err().ok_or("a script")?;
-    expect_told(rt, alloc, &told, fault);
+    let reported = read_script(alloc, &mut reader).err().ok_or("a script")?;
+    expect_report(rt, alloc, &reported, fault);
     Ok(())
 }
 
@@ -119,7 +119,7 @@ fn an_endless_input_ends_at_its_first_fault(rt: HostRuntime) -> Result<(), Fail>
 }
 
 #[test]
-fn a_script_that_is_refused_memory_is_told_so(rt: HostRuntime) -> Result<(), Fail> {
+fn a_script_that_is_refused_memory_is_reported(rt: HostRuntime) -> Result<(), Fail> {
     let alloc = rt.alloc();
     let mut reader = READ;
     let hoard = Hoard::take_all(alloc)?;

@@ -102,7 +102,7 @@ const LINES: &[(&str, &str)] = &[
 ];
 
 #[test]
-fn bad_lines_are_told(rt: HostRuntime) -> Result<(), Fail> {
+fn bad_lines_are_reported(rt: HostRuntime) -> Result<(), Fail> {
     expect_faults(&rt, rt.alloc(), "", LINES)
 }
 
@@ -175,7 +175,7 @@ const BAD_HEADERS: &[&str] = &[
 ];
 
 #[test]
-fn bad_headers_are_told(rt: HostRuntime) -> Result<(), Fail> {
+fn bad_headers_are_reported(rt: HostRuntime) -> Result<(), Fail> {
     expect_bad_lines(&rt, rt.alloc(), "", BAD_HEADERS, "")
 }
 

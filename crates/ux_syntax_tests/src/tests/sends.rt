@@ -52,7 +52,7 @@ const BAD_ADDRESSES: &[&str] = &[
 ];
 
 #[test]
-fn bad_addresses_of_sends_are_told(rt: HostRuntime) -> Result<(), Fail> {
+fn bad_addresses_of_sends_are_reported(rt: HostRuntime) -> Result<(), Fail> {
     expect_bad_lines(&rt, rt.alloc(), "1 send 0 ", BAD_ADDRESSES, " 6869 - p")
 }
 
@@ -234,12 +234,12 @@ const BAD_ITEMS: &[&str] = &[
 ];
 
 #[test]
-fn bad_control_data_is_told(rt: HostRuntime) -> Result<(), Fail> {
+fn bad_control_data_is_reported(rt: HostRuntime) -> Result<(), Fail> {
     expect_bad_lines(&rt, rt.alloc(), "1 send 0 - 6869 ", BAD_CONTROLS, " p")
 }
 
 #[test]
-fn bad_items_are_told(rt: HostRuntime) -> Result<(), Fail> {
+fn bad_items_are_reported(rt: HostRuntime) -> Result<(), Fail> {
     expect_bad_lines(&rt, rt.alloc(), "1 send 0 - 6869 ", BAD_ITEMS, " p")
 }
 
@@ -268,7 +268,7 @@ fn a_line_of_numbers_is_read_up_to_its_limit(rt: HostRuntime) -> Result<(), Fail
     assert_eq!(rt; control_len(alloc, &call)?, 16 + 4 * 2040);
     let call = send_of_rights(alloc, 2041)?;
     let text = format!(in alloc; "proc 0 0 0 1\n1 {call}")?;
-    let told = fault_of(alloc, text.as_bytes())?;
-    assert_eq!(rt; told.as_str(), "line 2: too long");
+    let reported = fault_of(alloc, text.as_bytes())?;
+    assert_eq!(rt; reported.as_str(), "line 2: too long");
     Ok(())
 }

@@ -186,8 +186,8 @@ fn no_more_than_1024_processes_are_made_by_all(rt: HostRuntime) -> Result<(), Fa
     for (count, last, fault) in LAST_FORKS {
         let forks = repeated(alloc, "1 fork\n", *count)?;
         let text = format!(in alloc; "serial\nproc 0 0 0 1\n{forks}{last}")?;
-        let told = super::fault_of(alloc, text.as_bytes())?;
-        assert_eq!(rt; told.as_str(), *fault);
+        let reported = super::fault_of(alloc, text.as_bytes())?;
+        assert_eq!(rt; reported.as_str(), *fault);
     }
     Ok(())
 }

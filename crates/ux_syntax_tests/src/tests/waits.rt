@@ -46,7 +46,7 @@ const WAITS_OF_STRANGERS: &[(&str, &str)] = &[
 ];
 
 #[test]
-fn a_wait_for_a_process_that_is_not_there_is_told(rt: HostRuntime) -> Result<(), Fail> {
+fn a_wait_for_a_process_that_is_not_there_is_reported(rt: HostRuntime) -> Result<(), Fail> {
     expect_faults(&rt, rt.alloc(), "proc 0 0 0 1\n", WAITS_OF_STRANGERS)
 }
 

@@ -1,4 +1,4 @@
-//! Runs as JSON: a line for each call, and what a comparison tells.
+//! Runs as JSON: a line for each call, and what a comparison gives.
 
 use crate::beside::serial_history;
 use crate::serial::Fake;
@@ -62,13 +62,13 @@ fn each_write_may_fail(rt: HostRuntime) -> Result<(), Fail> {
     let history = serial_history(alloc, &script)?;
     for fails_at in 1..5 {
         let mut writer = Fake::new(alloc, 1000, fails_at);
-        let told = finish_json(alloc, &mut writer, &[], &history);
-        assert!(rt; matches!(told, Err(ScriptFault::Writing)));
+        let reported = finish_json(alloc, &mut writer, &[], &history);
+        assert!(rt; matches!(reported, Err(ScriptFault::Writing)));
     }
     Ok(())
 }
 
-/// Sees what a comparison of the script's history tells, where so many of its calls were made.
+/// Sees what a comparison of the script's history gives, where so many of its calls were made.
 fn expect_differences(
     rt: &impl Abort,
     alloc: Global,
