@@ -54,10 +54,10 @@ pub more_differences : (lines : List (Option ℕ)) (es : List Entry) (expected :
     (got : Option (List ℕ)) (before after : List ℕ)
     → before ≡ differences lines es (take i expected) → i < length expected → x ≡ get_or expected i x → got ≡ answer_at x.line lines es
     → after ≡ before ++ difference x got → after ≡ differences lines es (take (i + 1) expected)
-more_differences lines es expected i x got before after so_far lt item told e =
+more_differences lines es expected i x got before after so_far lt item said e =
     let more : take (i + 1) expected ≡ take i expected ++ x ∷ [] = take_more expected i x lt
     ∙ ap (λ d. take i expected ++ d ∷ []) (sym item) in
-    e ∙ rw (more, so_far, told) (flat_map_more (λ (y : Expectation). difference y (answer_at y.line lines es)) [] (take i expected) x)
+    e ∙ rw (more, so_far, said) (flat_map_more (λ (y : Expectation). difference y (answer_at y.line lines es)) [] (take i expected) x)
 
 pub all_differences : (lines : List (Option ℕ)) (es : List Entry) (expected : List Expectation) (i : ℕ) (text : List ℕ)
     → text ≡ differences lines es (take i expected) → length expected ≤ i → text ≡ differences lines es expected

@@ -45,9 +45,9 @@ comes (n ∷ ns) (e ∷ es) (suc i) d lt =
 -- the line of the entry at this place comes
 pub next_comes : (lines : List (Option ℕ)) (es : List Entry) (i : ℕ) (e : Entry) (line : List ℕ) → i < length es → e ≡ get_or es i e
     → line ≡ echo_line (slice_index_or lines i None) e → Comes lines es i line
-next_comes lines es i e line lt item told =
+next_comes lines es i e line lt item said =
     let next = comes lines es i e lt in
-    rw (told ∙ ap (echo_line (slice_index_or lines i None)) item) next
+    rw (said ∙ ap (echo_line (slice_index_or lines i None)) item) next
 
 pub echo_more : (lines : List (Option ℕ)) (es : List Entry) (i : ℕ) (line : List ℕ) → Comes lines es i line →
     echo lines (take i es) ++ line ≡ echo lines (take (i + 1) es)

@@ -1,10 +1,12 @@
 -- A script that is run as it comes.
-use Rattle.std.proofs.Common.{◌≡◌, ℕ, ◌+◌, ◌<◌, ◌≤◌, List, [], ◌++◌, length, take, get_or, map, ap, sym, subst, ◌∙◌, arith}
+use Rattle.std.proofs.Common.{◌≡◌, inr, ℕ, ◌+◌, ◌<◌, ◌≤◌, List, [], ◌++◌, length, take, get_or, map, ap, sym, subst, ◌∙◌, arith}
 use Rattle.std.specs.Prelude.{Option}
 use Rattle.std.specs.Io.KnownBytes.{Appends, Keeps}
-use Rattle.std.proofs.lemmas.List.{length-append, take_all, take-append-le}
+use Rattle.std.proofs.lemmas.List.{length-append, take_all, take-append-le, append-nil}
 use Rattle.ux_model.specs.Types.{Entry}
 use Rattle.ux_model.specs.Boot.{new_process}
+use Rattle.ux_model.specs.State.{State}
+use Rattle.ux_model.specs.History.{IsLegal}
 use Rattle.ux_book.specs.Books.{KeptHistory}
 use Rattle.ux_syntax.specs.Lines.{Line}
 use Rattle.ux_syntax.specs.Spelling.{Plan, forks_of}
@@ -12,8 +14,9 @@ use Rattle.ux_syntax.specs.Turns.{call_lines}
 use Rattle.ux_syntax.specs.Joining.{Continues}
 use Rattle.ux_trace.specs.Trace.{entry_line, trace}
 use Rattle.ux_script.specs.Runs.{Makes, Grows}
-use Rattle.ux_script.specs.Following.{Follows, Prints}
-use Rattle.ux_script.proofs.Traces.{appends_then, keeps_then, appends_none, trace_more}
+use Rattle.ux_script.specs.Following.{Follows, Prints, PrintsBeginning, Breaks, WritesFront}
+use Rattle.ux_script.specs.Writes.{AppendsBeginning}
+use Rattle.ux_script.proofs.Traces.{appends_then, keeps_then, appends_none, trace_more, line_begun, line_unbegun}
 
 -- ---- books
 
@@ -48,25 +51,54 @@ grown_long old new g = let long = ap (λ (es : List Entry). length es) g.1 ∙ l
 -- ---- what is written
 
 pub prints_same : (a : Option (List ℕ)) (es : List Entry) → Prints a a es es
-prints_same a es = λ start told. told
+prints_same a es = λ start written. written
 
 pub prints_then : (a b c : Option (List ℕ)) (xs ys zs : List Entry) → Prints a b xs ys → Prints b c ys zs → Prints a c xs zs
-prints_then a b c xs ys zs p q = λ start told. q start (p start told)
+prints_then a b c xs ys zs p q = λ start written. q start (p start written)
 
 -- one line more
 pub prints_more : (a b c : Option (List ℕ)) (before es : List Entry) (n : ℕ) (e : Entry) (line : List ℕ) → n < length es →
     e ≡ get_or es n e → line ≡ entry_line n e →
     Prints a b before (take n es) → Appends b c line → Prints a c before (take (n + 1) es)
 prints_more a b c before es n e line inside item said so_far more =
-    λ start told. appends_then start b c (trace (take n es)) line (trace (take (n + 1) es)) (so_far start told) more
+    λ start written. appends_then start b c (trace (take n es)) line (trace (take (n + 1) es)) (so_far start written) more
     (ap (λ (t : List ℕ). trace (take n es) ++ t) said ∙ trace_more es n e inside item)
 
 -- no line more
 pub prints_all : (a b c : Option (List ℕ)) (before es : List Entry) (n : ℕ) → length es ≤ n → Prints a b before (take n es) → Keeps b c →
     Prints a c before es
 prints_all a b c before es n over so_far kept =
-    λ start told. keeps_then start b c (trace es)
-    (subst (λ (xs : List Entry). Appends start b (trace xs)) (take_all n es over) (so_far start told)) kept
+    λ start written. keeps_then start b c (trace es)
+    (subst (λ (xs : List Entry). Appends start b (trace xs)) (take_all n es over) (so_far start written)) kept
 
 pub prints_whole : (a b : Option (List ℕ)) (es : List Entry) → Prints a b [] es → Appends a b (trace es)
 prints_whole a b es p = p a (appends_none a)
+
+-- ---- what a fault leaves
+
+-- a whole trace is a beginning of itself
+pub prints_begin : (a b : Option (List ℕ)) (before after : List Entry) → Prints a b before after → PrintsBeginning a b before after
+prints_begin a b before after p = λ start so_far. (trace after, [], sym (append-nil (trace after)), p start so_far)
+
+-- a beginning of the next line was written, or nothing of it
+pub begins_line : (a b c : Option (List ℕ)) (before es : List Entry) (n : ℕ) (e : Entry) (line : List ℕ) → n < length es →
+    e ≡ get_or es n e → line ≡ entry_line n e →
+    Prints a b before (take n es) → AppendsBeginning b c line → PrintsBeginning a c before es
+begins_line a b c before es n e line inside item said printed begun =
+    λ start so_far. line_begun start b c es n e line inside item said (printed start so_far) begun
+
+pub begins_no_line : (a b : Option (List ℕ)) (before es : List Entry) (n : ℕ) (e : Entry) → n < length es → e ≡ get_or es n e →
+    Prints a b before (take n es) → PrintsBeginning a b before es
+begins_no_line a b before es n e inside item printed = λ start so_far. line_unbegun start b es n e inside item (printed start so_far)
+
+-- no further call was printed
+pub breaks_here : (boot : State) (a b : Option (List ℕ)) (before after : List Entry) → IsLegal boot after → Prints a b before after →
+    Breaks boot a b before
+breaks_here boot a b before after legal printed = (after, legal, prints_begin a b before after printed)
+
+pub breaks_then : (boot : State) (a b c : Option (List ℕ)) (xs ys : List Entry) → Prints a b xs ys → Breaks boot b c ys → Breaks boot a c xs
+breaks_then boot a b c xs ys printed broken = (broken.0, broken.1, λ start so_far. broken.2 start (printed start so_far))
+
+-- the run began with nothing
+pub breaks_front : (boot : State) (a b : Option (List ℕ)) → Breaks boot a b [] → WritesFront boot a b
+breaks_front boot a b broken = inr (broken.0, broken.1, broken.2 a (appends_none a))

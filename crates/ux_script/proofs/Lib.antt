@@ -2,5 +2,5 @@ pub mod Traces
 pub mod Runs
 pub mod Echoing
 pub mod Answering
-pub mod Tellings
+pub mod JsonTexts
 pub mod Following

@@ -53,10 +53,10 @@ trace_more es i e lt item =
 -- a front of the trace and a beginning of the next line
 pub line_begun : (a b c : Option (List ℕ)) (es : List Entry) (i : ℕ) (e : Entry) (line : List ℕ) → i < length es → e ≡ get_or es i e →
     line ≡ entry_line i e → Appends a b (trace (take i es)) → AppendsBeginning b c line → AppendsBeginning a c (trace es)
-line_begun a b c es i e line lt item told so_far begun =
+line_begun a b c es i e line lt item written so_far begun =
     let whole = trace_line es i e lt item in
     let front = trace (take i es) in
-    let split : entry_line i e ≡ begun.0 ++ begun.1 = sym told ∙ begun.2 in (
+    let split : entry_line i e ≡ begun.0 ++ begun.1 = sym written ∙ begun.2 in (
       front ++ begun.0,
       begun.1 ++ whole.0,
       whole.1 ∙ ap (λ (t : List ℕ). front ++ (t ++ whole.0)) split ∙ ap (λ (t : List ℕ). front ++ t) (append_assoc begun.0 begun.1 whole.0)

@@ -1,6 +1,6 @@
 pub mod Writes
 pub mod Runs
 pub mod Comparing
-pub mod Telling
+pub mod JsonLines
 pub mod Following
 pub mod Objects

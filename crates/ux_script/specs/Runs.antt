@@ -34,7 +34,7 @@ IsRunFault f = (f ≡ ScriptFault.Writing) ⊎ (f ≡ ScriptFault.NoMemory) ⊎ 
 abbrev pub exits_of : List Line → ℕ → List Line
 exits_of lines n = map exit_line (filter (λ pid. not (has_exited lines pid)) (range_with_len 1 n))
 
--- a book of the script's processes has come so far: these lines were made, and each fork among them made a process
+-- what a book of the script's processes has made: these lines, and each fork among them made a process
 pub record Makes (book : KeptHistory) (s : Plan) (lines : List Line) : Type 0 where
   pub processes : book.boot.processes ≡ map new_process s.procs
   pub legal : IsLegal book.boot book.entries

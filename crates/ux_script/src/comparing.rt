@@ -95,7 +95,7 @@ fn add_difference(
     add_line(alloc, text, expected, got)
 }
 
-/// The lines that tell which calls answered otherwise than expected: `line L: expected REPLY, got REPLY`, or
+/// The lines that say which calls answered otherwise than expected: `line L: expected REPLY, got REPLY`, or
 /// `got nothing` of a call that wasn't made. None where each answered so. Beside each call of the history stands the
 /// number of its script's line. It takes time in proportion to the expectations times the calls.
 pub fn differences(

@@ -100,7 +100,7 @@ pub fn make_serial<O: FileObject>(
     make_watched(alloc, script, kernel, &NoWatch)
 }
 
-/// As `make_serial`, and tells of each line that its turn came.
+/// As `make_serial`, and reports to `watch` each line whose turn it is.
 ///
 /// # Errors
 ///
@@ -258,7 +258,7 @@ fn make_exits<W: BookName, O: FileObject>(
 }
 
 /// Makes the call of a line. It is a stranger's where its process doesn't live, or where it asks for the layer's end. A
-/// fork that makes no process is refused as out of memory.
+/// fork that makes no process fails as out of memory.
 fn make_call<W: BookName, O: FileObject>(
     serial: &mut Serial<W, O>,
     pid: Pid,

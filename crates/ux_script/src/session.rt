@@ -1,6 +1,6 @@
 //! A script that is run as it comes: each line is read, its call is made, and its line of the trace is written.
 
-ghost use Rattle.std.specs.Prelude.{◌≡◌, ◌≤◌, [], true, length, map, take, IfOk, OnOk};
+ghost use Rattle.std.specs.Prelude.{◌≡◌, ◌≤◌, ◌⊎◌, [], true, length, map, take, IfOk, OnOk, IfErr, OnErr};
 ghost use Rattle.std.specs.Io.KnownBytes.{Appends};
 ghost use Rattle.ux_model.specs.Boot.{IsBootState, new_process};
 ghost use Rattle.ux_model.specs.History.{IsLegal};
@@ -9,7 +9,7 @@ ghost use Rattle.ux_syntax.specs.Turns.{all_turns};
 ghost use Rattle.ux_syntax.specs.Joining.{is_begun, Continues};
 ghost use Rattle.ux_trace.specs.Trace.{trace};
 ghost use Rattle.ux_script.specs.Runs.{line_of_entry};
-ghost use Rattle.ux_script.specs.Following.{Follows, Prints};
+ghost use Rattle.ux_script.specs.Following.{Follows, Prints, PrintsBeginning, Breaks, WritesFront, IsFollowFault};
 
 use crate::run::{NoWatch, make_calls, make_rest};
 use crate::write::put_all;
@@ -61,7 +61,9 @@ impl<R: BufRead> LineSource<R> {
     }
 
     /// Reads the next line, without its line feed. Gives whether there was one.
-    fn next_line(&mut self) -> Result<bool, ScriptFault> {
+    fn next_line(&mut self) -> Result<bool, ScriptFault>
+        ensures { IfErr result (λ f. (f ≡ ScriptFault.Reading) ⊎ (f ≡ ScriptFault.NoMemory)) }
+    {
         self.text.clear();
         match self.source.read_until(b'\n', &mut self.text) {
             Ok(0) => return Ok(false),
@@ -98,7 +100,8 @@ fn take_line<R, L: Listener>(
     source: &LineSource<R>,
     listener: &mut L,
 ) -> Result<(), ScriptFault>
-    ensures { OnOk result (is_begun reader.old ≡ true → Continues reader.old reader.new) }
+    ensures begun { OnOk result (is_begun reader.old ≡ true → Continues reader.old reader.new) }
+    ensures fault { IfErr result (λ f. f ≡ ScriptFault.NoMemory) }
 {
     match reader.read_line(alloc, source.number, &source.text) {
         Ok(()) => {
@@ -123,7 +126,9 @@ pub fn read_header<R: BufRead, L: Listener>(
     alloc: Global,
     source: &mut LineSource<R>,
     listener: &mut L,
-) -> Result<LineReader, ScriptFault> {
+) -> Result<LineReader, ScriptFault>
+    ensures { IfErr result (λ f. (f ≡ ScriptFault.Reading) ⊎ (f ≡ ScriptFault.NoMemory)) }
+{
     let mut reader = LineReader::new(alloc);
     for _ in 0..LINES {
         if reader.is_begun() || !source.next_line()? {
@@ -135,7 +140,9 @@ pub fn read_header<R: BufRead, L: Listener>(
 }
 
 /// Why a run came to no end.
-fn fault_of(fault: CallFault) -> ScriptFault {
+fn fault_of(fault: CallFault) -> ScriptFault
+    ensures { (result ≡ ScriptFault.Stranger) ⊎ (result ≡ ScriptFault.NoMemory) }
+{
     match fault {
         CallFault::Stranger => ScriptFault::Stranger,
         _ => ScriptFault::NoMemory,
@@ -150,7 +157,9 @@ fn print_from<W: Write>(
     from: usize,
 ) -> Result<(), ScriptFault>
     requires { from ≤ length entries.now }
-    ensures { OnOk result (Prints (W.contents writer.old) (W.contents writer.new) (take from entries.now) entries.now) }
+    ensures printed { OnOk result (Prints (W.contents writer.old) (W.contents writer.new) (take from entries.now) entries.now) }
+    ensures begun { OnErr result (PrintsBeginning (W.contents writer.old) (W.contents writer.new) (take from entries.now) entries.now) }
+    ensures fault { IfErr result (λ f. (f ≡ ScriptFault.Writing) ⊎ (f ≡ ScriptFault.NoMemory)) }
 {
     for number in from..entries.len() {
         let text = entry_text(alloc, number, &entries[number])?;
@@ -174,6 +183,8 @@ fn run_from<B: BookName, O: FileObject, W: Write>(
     ensures made { OnOk result (Follows serial.new (plan_of script.now) (length script.now.lines.items)) }
     ensures boot { OnOk result (serial.new.boot ≡ serial.old.boot) }
     ensures printed { OnOk result (Prints (W.contents writer.old) (W.contents writer.new) serial.old.entries serial.new.entries) }
+    ensures broken { OnErr result (Breaks serial.old.boot (W.contents writer.old) (W.contents writer.new) serial.old.entries) }
+    ensures fault { IfErr result (λ f. IsFollowFault f) }
 {
     let printed = serial.entries().len();
     if let Err(fault) = make_calls(serial, script, from, &NoWatch) {
@@ -197,6 +208,8 @@ fn follow_line<B: BookName, O: FileObject, R: BufRead, W: Write, L: Listener>(
     ensures made { OnOk result (Follows serial.new reader.new (length (Plan.lines reader.new))) }
     ensures boot { OnOk result (serial.new.boot ≡ serial.old.boot) }
     ensures printed { OnOk result (Prints (W.contents writer.old) (W.contents writer.new) serial.old.entries serial.new.entries) }
+    ensures broken { OnErr result (Breaks serial.old.boot (W.contents writer.old) (W.contents writer.new) serial.old.entries) }
+    ensures fault { IfErr result (λ f. IsFollowFault f) }
 {
     let made = reader.script().lines.len();
     take_line(alloc, reader, source, listener)?;
@@ -217,6 +230,8 @@ fn follow_lines<B: BookName, O: FileObject, R: BufRead, W: Write, L: Listener>(
     ensures made { OnOk result (Follows serial.new reader.new (length (Plan.lines reader.new))) }
     ensures boot { OnOk result (serial.new.boot ≡ serial.old.boot) }
     ensures printed { OnOk result (Prints (W.contents writer.old) (W.contents writer.new) serial.old.entries serial.new.entries) }
+    ensures broken { OnErr result (Breaks serial.old.boot (W.contents writer.old) (W.contents writer.new) serial.old.entries) }
+    ensures fault { IfErr result (λ f. IsFollowFault f) }
 {
     for _ in 0..LINES {
         if !source.next_line()? {
@@ -240,6 +255,8 @@ fn follow_all<B: BookName, O: FileObject, R: BufRead, W: Write, L: Listener>(
     ensures made { OnOk result (Follows serial.new reader.new (length (Plan.lines reader.new))) }
     ensures boot { OnOk result (serial.new.boot ≡ serial.old.boot) }
     ensures printed { OnOk result (Prints (W.contents writer.old) (W.contents writer.new) serial.old.entries serial.new.entries) }
+    ensures broken { OnErr result (Breaks serial.old.boot (W.contents writer.old) (W.contents writer.new) serial.old.entries) }
+    ensures fault { IfErr result (λ f. IsFollowFault f) }
 {
     run_from(alloc, serial, reader.script(), 0, writer)?;
     if !reader.is_begun() {
@@ -259,6 +276,8 @@ fn finish<B: BookName, O: FileObject, W: Write>(
     ensures calls { OnOk result (map line_of_entry serial.new.entries ≡ all_turns (plan_of script.now)) }
     ensures boot { OnOk result (serial.new.boot ≡ serial.old.boot) }
     ensures printed { OnOk result (Prints (W.contents writer.old) (W.contents writer.new) serial.old.entries serial.new.entries) }
+    ensures broken { OnErr result (Breaks serial.old.boot (W.contents writer.old) (W.contents writer.new) serial.old.entries) }
+    ensures fault { IfErr result (λ f. IsFollowFault f) }
 {
     let printed = serial.entries().len();
     if let Err(fault) = make_rest(serial, script) {
@@ -284,6 +303,8 @@ fn run_lines<B: BookName, O: FileObject, R: BufRead, W: Write, L: Listener>(
     ensures legal { IfOk result (λ entries. IsLegal kernel entries.items) }
     ensures calls { IfOk result (λ entries. map line_of_entry entries.items ≡ all_turns reader.new) }
     ensures trace { IfOk result (λ entries. Appends (W.contents writer.old) (W.contents writer.new) (trace entries.items)) }
+    ensures front { OnErr result (WritesFront kernel (W.contents writer.old) (W.contents writer.new)) }
+    ensures fault { IfErr result (λ f. IsFollowFault f) }
 {
     let Ok(mut serial) = Serial::<B, O>::new(alloc, trail, kernel) else {
         return Err(ScriptFault::NoMemory);
@@ -300,7 +321,8 @@ fn run_lines<B: BookName, O: FileObject, R: BufRead, W: Write, L: Listener>(
 ///
 /// # Errors
 ///
-/// `Reading` where a read fails, `Writing`, and `NoMemory`, also where a fork makes no process.
+/// `Reading` where a read fails, `Writing`, and `NoMemory`, also where a fork makes no process. Then what was written is a
+/// beginning of the trace of the calls that were made.
 pub fn follow<O: FileObject, R: BufRead, W: Write, L: Listener>(
     alloc: Global,
     reader: LineReader,
@@ -317,6 +339,9 @@ pub fn follow<O: FileObject, R: BufRead, W: Write, L: Listener>(
     ensures calls { IfOk result (λ run. map line_of_entry run.history.items ≡ all_turns run.reader) }
     // What was written is its trace.
     ensures trace { IfOk result (λ run. Appends (W.contents writer.old) (W.contents writer.new) (trace run.history.items)) }
+    // After a fault nothing was written, or a beginning of the trace of a legal history.
+    ensures front { OnErr result (WritesFront kernel (W.contents writer.old) (W.contents writer.new)) }
+    ensures fault { IfErr result (λ f. IsFollowFault f) }
 {
     let mut reader = reader;
     let Ok(trail) = Trail::new(alloc) else {

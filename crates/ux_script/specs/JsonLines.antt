@@ -8,7 +8,7 @@ use Rattle.ux_trace.specs.Trace.{word_text, request_word}
 use Rattle.ux_json.specs.Lines.{IsLineOf, or_null}
 use Rattle.ux_script.specs.Comparing.{answer_at, is_met}
 
--- one line, which reads as an object that tells this call: its place in the history, its script's line, its process, its number among that
+-- one line, which reads as an object for this call: its place in the history, its script's line, its process, its number among that
 -- process's, and its word
 abbrev pub CallLine : ℕ → Option ℕ → Entry → List ℕ → Type 0
 CallLine place line e text =
@@ -24,7 +24,7 @@ CallLines lines place (e ∷ es) text =
     (first rest : List ℕ) × CallLine place (slice_index_or lines place None) e first × CallLines lines (place + 1) es rest
     × (text ≡ first ++ rest)
 
--- one line, which reads as an object that tells that the call of this line didn't answer as expected; or nothing where it did
+-- one line, which reads as an object that says that the call of this line didn't answer as expected; or nothing where it did
 abbrev pub DifferenceText : Bool → Expectation → List ℕ → Type 0
 DifferenceText true x text = text ≡ []
 DifferenceText false x text =

@@ -1,6 +1,6 @@
 use Rattle.std.proofs.Common.{take}
-use Rattle.ux_script.proofs.Tellings.{Compared}
-use Rattle.ux_script.proofs.told.write_differences.Given as goal
+use Rattle.ux_script.proofs.JsonTexts.{Compared}
+use Rattle.ux_script.proofs.json_lines.write_differences.Given as goal
 
 -- what is expected before this was compared
 abbrev pub invariant-loop-one : goal.invariant-loop-one

@@ -6,7 +6,7 @@ ghost use Rattle.serde_json.specs.View.{view};
 ghost use Rattle.ux_json.specs.Lines.{IsLineOf};
 ghost use Rattle.ux_syntax.specs.declared.fault.ScriptFault.{ScriptFault};
 ghost use Rattle.ux_script.specs.Comparing.{answer_at, is_met};
-ghost use Rattle.ux_script.specs.Telling.{CallLine, CallLines, DifferenceText, DifferenceLines};
+ghost use Rattle.ux_script.specs.JsonLines.{CallLine, CallLines, DifferenceText, DifferenceLines};
 
 use crate::comparing::{answer_of, is_met};
 use crate::echo::line_at;
@@ -48,7 +48,7 @@ pub fn finish_json<W: Write>(
     lines: &[Option<usize>],
     history: &[Entry],
 ) -> Result<(), ScriptFault>
-    // What was written is a line for each call, which reads as an object that tells it.
+    // What was written is a line for each call, which reads as an object for it.
     ensures ok { OnOk result ((text : List ℕ) × CallLines lines.now 0 history.now text × Appends (W.contents writer.old) (W.contents writer.new) text) }
     ensures fault { IfErr result (λ f. (f ≡ ScriptFault.Writing) ⊎ (f ≡ ScriptFault.NoMemory)) }
 {
@@ -107,7 +107,7 @@ fn write_difference<W: Write>(
     write_value(alloc, writer, &value)
 }
 
-/// Writes the calls that answered otherwise than expected, a line each, and none for another: those that `differences` tells.
+/// Writes the calls that answered otherwise than expected, a line each, and none for another: those that `differences` gives.
 ///
 /// # Errors
 ///

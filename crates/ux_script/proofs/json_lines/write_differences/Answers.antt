@@ -1,7 +1,7 @@
 use Rattle.std.proofs.Common.{[], refl}
 use Rattle.ux_script.proofs.Traces.{appends_none}
-use Rattle.ux_script.proofs.Tellings.{compared_more, compared_all}
-use Rattle.ux_script.proofs.told.write_differences.Goals as goal
+use Rattle.ux_script.proofs.JsonTexts.{compared_more, compared_all}
+use Rattle.ux_script.proofs.json_lines.write_differences.Goals as goal
 
 pub loop-one-init : goal.loop-one-init
 loop-one-init g c = ([], refl, appends_none _)
