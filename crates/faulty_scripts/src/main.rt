@@ -9,8 +9,8 @@ use changed::must_find_changes;
 use std::alloc::Global;
 use std::fs;
 use std::rt::Files;
-use ux_explain::{explain, explain_boot};
-use ux_syntax::{ScriptFault, expectations_of, parse_script};
+use ux_explain::{explain, explain_boot, explain_line};
+use ux_syntax::{LineReader, ScriptFault, expectations_of, parse_script};
 
 /// Scripts of which a line is at fault.
 const LINES: &[&str] = &[
@@ -127,6 +127,23 @@ fn explained_line(alloc: Global, text: &[u8]) -> Result<String> {
     }
 }
 
+/// The same of a script that is read line by line; none where each line can be read.
+fn explained_as_read(alloc: Global, text: &[u8]) -> Result<Option<String>> {
+    let mut read = LineReader::new(alloc);
+    let mut number: usize = 0;
+    for line in text.split(|byte| *byte == b'\n') {
+        number = number.saturating_add(1);
+        let Err(fault) = read.read_line(alloc, number, line) else {
+            continue;
+        };
+        return match explain_line(alloc, &read, line, &fault)? {
+            Some(explanation) => Ok(Some(format!(in alloc; "uxrun: {fault}\n{explanation}\n")?)),
+            None => Err(anyhow!("no explanation of {fault}")),
+        };
+    }
+    Ok(None)
+}
+
 /// What is written of a boot fault.
 fn explained_boot(alloc: Global, text: &[u8], fault: u8) -> Result<String> {
     let explanation = explain_boot(alloc, text, fault)?;
@@ -155,6 +172,11 @@ fn must_explain<R: Files + Print + AllocGlobal>(
     let reported = explained(alloc, &text, boot_fault)?;
     if reported.as_bytes() != wanted.as_slice() {
         return Err(anyhow!("{name}: {reported}"));
+    }
+    if let Some(reported) = explained_as_read(alloc, &text)? {
+        if reported.as_bytes() != wanted.as_slice() {
+            return Err(anyhow!("{name}, line by line: {reported}"));
+        }
     }
     println!(rt; "{name}: ok")?;
     Ok(())

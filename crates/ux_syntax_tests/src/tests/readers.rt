@@ -6,7 +6,7 @@ use std::io;
 use std::io::Read;
 use std::process::Abort;
 use std::test::*;
-use ux_syntax::{ScriptFault, Waiting, parse_script, read_script};
+use ux_syntax::{LineReader, ScriptFault, Waiting, parse_script, read_script};
 use ux_types::Pid;
 
 #[test]
@@ -26,6 +26,27 @@ fn faults_have_their_texts(rt: HostRuntime) -> Result<(), Fail> {
     let deadlock = ScriptFault::Deadlock(Waiting::new(places));
     let waits = "deadlock: process 1 waits in line 4, process 3 waits in line 7";
     expect_report(&rt, alloc, &deadlock, waits);
+    Ok(())
+}
+
+/// Lines of a script, how many processes are known behind each, and whether the first has made its exit.
+const KNOWN: &[(&str, usize, bool)] = &[
+    ("serial", 0, false),
+    ("proc 0 0 1 16", 1, false),
+    ("1 fork", 2, false),
+    ("1 exit", 2, true),
+    ("2 fork", 3, true),
+];
+
+#[test]
+fn a_line_reader_knows_processes_and_exits(rt: HostRuntime) -> Result<(), Fail> {
+    let mut reader = LineReader::new(rt.alloc());
+    for (line, processes, exited) in KNOWN {
+        reader.read_line(rt.alloc(), 1, line.as_bytes())?;
+        let others = reader.has_exited(Pid(0)) || reader.has_exited(Pid(3));
+        assert_eq!(rt; reader.process_count(), *processes, "{line}");
+        assert!(rt; reader.has_exited(Pid(1)) == *exited && !others, "{line}");
+    }
     Ok(())
 }
 
