@@ -15,7 +15,7 @@ pub enum ReplayFault {
     /// The call of the entry of this number may not be made, has another reply, receives the rights of another
     /// message, or releases other file objects.
     Differs(u64),
-    /// Memory ran out at the entry of this number, whose call wasn't refused it the first time.
+    /// Memory ran out at the entry of this number, whose call had enough the first time.
     NoMemory(u64),
 }
 
@@ -31,7 +31,7 @@ impl ReplayFault {
 }
 
 /// Makes the calls of a history on this kernel, in order, and gives how many entries it has. Calls that were
-/// answered EIO or ENOMEM are left out: what an object or the allocator refused once, it needn't refuse again.
+/// answered EIO or ENOMEM are left out: a read, a write or an allocation that failed once needn't fail again.
 ///
 /// # Errors
 ///
@@ -132,11 +132,11 @@ enum Repeated {
     Same,
     /// It may not be made, or has another outcome.
     Different,
-    /// It is refused for lack of memory, which it wasn't the first time.
+    /// It lacks memory, which it didn't the first time.
     NoMemory,
 }
 
-/// Whether the call was refused by an object or for lack of memory.
+/// Whether an object failed the call, or memory ran out.
 fn is_left_out(reply: &Reply) -> bool {
     matches!(reply, Reply::Err(Errno::EIO | Errno::ENOMEM))
 }

@@ -1,7 +1,5 @@
 //! Scripts that threads run: two that wait for one another, and eight that make calls of all kinds.
-ghost use Rattle.std.specs.Prelude.{◌≡◌, map, IfOk};
-ghost use Rattle.ux_model.specs.Boot.{IsBootState, new_process};
-
+use crate::beside::kernel_of;
 use std::alloc::Global;
 use std::process::Abort;
 use std::sync::Wait;
@@ -9,12 +7,10 @@ use std::sync::atomic::{AtomicU64, Ordering};
 use std::test::Fail;
 use std::thread;
 use std::thread::Threads;
-use ux_kernel::Kernel;
-use ux_objects::Counter;
 use ux_replay::check_history;
 use ux_syntax::{Script, parse_script};
 use ux_threads::{Gate, NoGate, run_threads};
-use ux_types::{Entry, Name, Pid};
+use ux_types::{Entry, Pid};
 
 mod forking;
 mod memory;
@@ -22,21 +18,6 @@ mod stress;
 
 /// How often a thread looks for what another is to do, before it gives up.
 const PATIENCE: u32 = 1_000_000;
-
-/// A kernel of a script's processes, with a counter for each of its objects.
-fn kernel_of(alloc: Global, script: &Script) -> Result<Kernel<Counter>, Fail>
-    ensures boots { IfOk result (λ kernel. IsBootState kernel) }
-    ensures processes { IfOk result (λ kernel. kernel.processes ≡ map new_process script.now.procs.items) }
-{
-    let mut objects: Vec<(Name, Counter)> = Vec::new(alloc);
-    for line in &script.objects {
-        objects.push((line.name.clone()?, Counter::new()))?;
-    }
-    match Kernel::boot(alloc, objects, &script.procs) {
-        Ok(kernel) => Ok(kernel),
-        Err(_) => Err(Fail::from("no kernel")),
-    }
-}
 
 /// The history of a script that threads ran, and its trace.
 fn history_of<R: Threads + Wait + Sync, G: Gate>(

@@ -1,6 +1,7 @@
 //! Forks that are never made, one of another process than the first, and a script in which each process may fork.
 
-use super::{RUNS, history_of, kernel_of, repeat};
+use super::{RUNS, history_of, repeat};
+use crate::beside::kernel_of;
 use std::test::Fail;
 use ux_syntax::{ScriptFault, parse_script};
 use ux_threads::{NoGate, run_threads};

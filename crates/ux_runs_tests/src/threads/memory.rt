@@ -1,5 +1,5 @@
 //! Runs by threads in which no memory is left from some call on.
-use super::kernel_of;
+use crate::beside::kernel_of;
 use hoard::Hoard;
 use std::alloc::{AllocError, Global};
 use std::process::Abort;
