@@ -11,8 +11,8 @@ use Rattle.ux_script.specs.JsonLines.{CallLine, CallLines, DifferenceText, Diffe
 use Rattle.ux_script.proofs.Traces.{appends_then}
 
 -- what was written of these calls
-abbrev pub AreWritten : Option (List ℕ) → Option (List ℕ) → List (Option ℕ) → List Entry → Type 0
-AreWritten old new lines es = (text : List ℕ) × CallLines lines 0 es text × Appends old new text
+abbrev pub Wrote : Option (List ℕ) → Option (List ℕ) → List (Option ℕ) → List Entry → Type 0
+Wrote old new lines es = (text : List ℕ) × CallLines lines 0 es text × Appends old new text
 
 -- one call more
 lines_then : (lines : List (Option ℕ)) (n : ℕ) (es : List Entry) (e : Entry) (text line : List ℕ) → CallLines lines n es text
@@ -31,10 +31,10 @@ lines_then lines n (x ∷ xs) e text line so_far one =
       ap (λ (t : List ℕ). t ++ line) so_far.4 ∙ append_assoc so_far.0 so_far.1 line,
     )
 
-pub written_more : (a b c : Option (List ℕ)) (lines : List (Option ℕ)) (es : List Entry) (i : ℕ) (e : Entry) (line : List ℕ) → i < length es →
+pub wrote_more : (a b c : Option (List ℕ)) (lines : List (Option ℕ)) (es : List Entry) (i : ℕ) (e : Entry) (line : List ℕ) → i < length es →
     e ≡ get_or es i e
-    → AreWritten a b lines (take i es) → CallLine i (slice_index_or lines i None) e line → Appends b c line → AreWritten a c lines (take (i + 1) es)
-written_more a b c lines es i e line lt item so_far one more =
+    → Wrote a b lines (take i es) → CallLine i (slice_index_or lines i None) e line → Appends b c line → Wrote a c lines (take (i + 1) es)
+wrote_more a b c lines es i e line lt item so_far one more =
     let long : 0 + length (take i es) ≡ i = omega (arith, length-take i es) in
     let whole : take (i + 1) es ≡ take i es ++ e ∷ [] = take_more es i e lt ∙ ap (λ d. take i es ++ d ∷ []) (sym item) in
     let next = subst (λ (n : ℕ). CallLine n (slice_index_or lines n None) e line) (sym long) one in (
@@ -43,9 +43,9 @@ written_more a b c lines es i e line lt item so_far one more =
       appends_then a b c so_far.0 line (so_far.0 ++ line) so_far.2 more refl,
     )
 
-pub written_all : (a b : Option (List ℕ)) (lines : List (Option ℕ)) (es : List Entry) (i : ℕ) → length es ≤ i → AreWritten a b lines (take i es) →
-    AreWritten a b lines es
-written_all a b lines es i end so_far = rw (take_all i es end) at so_far
+pub wrote_all : (a b : Option (List ℕ)) (lines : List (Option ℕ)) (es : List Entry) (i : ℕ) → length es ≤ i → Wrote a b lines (take i es) →
+    Wrote a b lines es
+wrote_all a b lines es i end so_far = rw (take_all i es end) at so_far
 
 -- what was written of these expectations
 abbrev pub Compared : Option (List ℕ) → Option (List ℕ) → List (Option ℕ) → List Entry → List Expectation → Type 0

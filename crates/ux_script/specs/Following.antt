@@ -22,7 +22,8 @@ Prints old new before after = (start : Option (List ℕ)) → Appends start old 
 
 -- where the trace of the first entries was written before, a beginning of that of these others is written now
 abbrev pub PrintsBeginning : Option (List ℕ) → Option (List ℕ) → List Entry → List Entry → Type 0
-PrintsBeginning old new before after = (start : Option (List ℕ)) → Appends start old (trace before) → AppendsBeginning start new (trace after)
+PrintsBeginning old new before after =
+    (start : Option (List ℕ)) → Appends start old (trace before) → AppendsBeginning start new (trace after)
 
 -- the same of a legal history from this state
 abbrev pub Breaks : State → Option (List ℕ) → Option (List ℕ) → List Entry → Type 0

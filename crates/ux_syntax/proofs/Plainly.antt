@@ -12,7 +12,8 @@ use Rattle.ux_syntax.specs.declared.fault.Fault.TheVariants.{BadLine}
 use Rattle.ux_syntax.specs.declared.plain.Field.{Field}
 use Rattle.ux_syntax.specs.Digits.{◌>>=◌, digit_at, number_at}
 use Rattle.ux_syntax.specs.Text.{escape_at, pair_at, escaped_byte_at, text_byte_at, text_upto, text_at, hex_word_at, raw_word_at}
-use Rattle.ux_syntax.specs.Text.{first_word, space_of, space_at, space_word_at, special_word_at, or_as_written, plain_fields, may_be_special}
+use Rattle.ux_syntax.specs.Text.{first_word, space_of, space_at, space_word_at}
+use Rattle.ux_syntax.specs.Text.{special_word_at, or_as_written, plain_fields, may_be_special}
 
 -- ---- the first word
 

@@ -1157,8 +1157,8 @@ joined_why s l (Parsed.Line line) f orderly no_off short says k e =
 joined_why s l Parsed.Off f orderly no_off short says k e = absurd (ok_no_fault (with_off s) f e)
 joined_why s l Parsed.Serial f orderly no_off short says k e = serial_why s l f _ (is_unsaid s) short says.0 k e
 
-added_why : (s : Plan) (l : List ℕ) (item : Parsed) (f : Fault) (off skipped : Bool) → IsOrderly s → s.off ≡ off → is_skipped item ≡ skipped →
-    is_short s l → Says item l → item_at (line_limit s.serial) l ≡ Ok item
+added_why : (s : Plan) (l : List ℕ) (item : Parsed) (f : Fault) (off skipped : Bool) → IsOrderly s → s.off ≡ off →
+    is_skipped item ≡ skipped → is_short s l → Says item l → item_at (line_limit s.serial) l ≡ Ok item
     → cond (off && not skipped) (Err BadLine) (joined_by s item) ≡ Err f → IsFaultOf f s l
 added_why s l item f false skipped orderly o n short says k e = joined_why s l item f orderly o short says k e
 added_why s l item f true true orderly o n short says k e = absurd (ok_no_fault s f (sym (skip_joins s item n) ∙ e))

@@ -6,7 +6,8 @@ use Rattle.ux_model.specs.Types.{OpenFlags, MsgFlags, SockType, SockOpt, Mode, W
 use Rattle.ux_model.specs.Control.{Control}
 use Rattle.ux_model.specs.ControlReading.{control_in}
 use Rattle.ux_model.specs.Flags.{has_bits}
-use Rattle.ux_trace.specs.Trace.{dash, digit_pair, path_text, addr_text, addr_or_dash, parsed_control_text, reply_text, closed_text, word_text}
+use Rattle.ux_trace.specs.Trace.{dash, digit_pair, path_text, addr_text}
+use Rattle.ux_trace.specs.Trace.{addr_or_dash, parsed_control_text, reply_text, closed_text, word_text}
 use Rattle.ux_trace.specs.Trace.{request_word}
 
 -- ---- words that scripts have too
