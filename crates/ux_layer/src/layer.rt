@@ -7,7 +7,7 @@ ghost use Rattle.ux_book.specs.Pasts.{fresh};
 ghost use Rattle.ux_book.specs.Settling.{Exact, IsSettled, IsSettledWith, IsWhole};
 
 use crate::seat::{Seat, make_seat};
-use crate::waiters::Waiters;
+use crate::waiters::{Ticket, Waiters};
 use std::alloc::{AllocError, Global};
 use std::sync::{Arc, Condvar, Mutex, MutexGuard, OnceLock, Wait};
 use ux_book::{
@@ -36,7 +36,7 @@ impl<W: BookName, O: FileObject, K: Keeper> Drop for Desk<W, O, K> {
 
 impl<W: BookName, O: FileObject, K: Keeper> Desk<W, O, K> {
     /// Whether this process has made so many calls, or has exited, or was never made and process 1 has exited.
-    pub(crate) fn has_come(&self, pid: Pid, calls: u64) -> bool {
+    pub(crate) fn has_made(&self, pid: Pid, calls: u64) -> bool {
         let is_made = pid.0 as usize <= self.book.process_count();
         let awaited = if is_made { pid } else { Pid(1) };
         self.waiters.calls_of(pid) >= calls || !self.book.is_live(awaited)
@@ -74,6 +74,34 @@ impl<W: BookName, O: FileObject, K: Keeper> Shared<W, O, K> {
             unreachable!()
         };
         desk.lock(rt)
+    }
+
+    /// Gives the lock back, wakes all who wait, and then drops the file objects that went with a call.
+    pub(crate) fn release(
+        &self,
+        desk: MutexGuard<'_, Desk<W, O, K>>,
+        released: &mut ReleasedObjects<O>,
+    )
+        ensures { released.new ≡ [] }
+    {
+        drop(desk);
+        self.changed.notify_all();
+        released.clear();
+    }
+
+    /// Gives the lock back until one more entry was made. `None` where the seats of all processes that haven't exited
+    /// wait: then all are woken.
+    pub(crate) fn next_entry<'a, R: Wait>(
+        &'a self,
+        rt: &R,
+        mut desk: MutexGuard<'a, Desk<W, O, K>>,
+        ticket: &mut Ticket,
+    ) -> Option<MutexGuard<'a, Desk<W, O, K>>> {
+        if desk.waiters.is_in_vain(ticket) {
+            self.changed.notify_all();
+            return None;
+        }
+        Some(self.changed.wait(rt, desk))
     }
 }
 
@@ -167,7 +195,7 @@ impl<W: BookName, O: FileObject, K: Keeper> Layer<W, O, K> {
     pub fn wait_for<R: Wait>(&self, rt: &R, pid: Pid, calls: u64) {
         let mut desk = self.shared.lock(rt);
         for _ in rt.forever() {
-            if desk.has_come(pid, calls) {
+            if desk.has_made(pid, calls) {
                 return;
             }
             desk = self.shared.changed.wait(rt, desk);
@@ -186,9 +214,7 @@ impl<W: BookName, O: FileObject, K: Keeper> Layer<W, O, K> {
         released.clear();
         let mut desk = self.shared.lock(rt);
         let ended = desk.book.off(&mut *released);
-        drop(desk);
-        self.shared.changed.notify_all();
-        released.clear();
+        self.shared.release(desk, &mut *released);
         ended
     }
 }

@@ -97,9 +97,7 @@ impl<W: BookName, O: FileObject, K: Keeper> Seat<W, O, K> {
         let desk = &mut *guard;
         let (reply, receipt) = desk.book.record(share, request, released)?;
         desk.waiters.entry_made(share.pid());
-        drop(guard);
-        shared.changed.notify_all();
-        released.clear();
+        shared.release(guard, released);
         receipt.shows();
         Ok((reply, receipt))
     }
@@ -137,9 +135,7 @@ impl<W: BookName, O: FileObject, K: Keeper> Seat<W, O, K> {
             match desk.book.try_record(share, request, released) {
                 Ok(Some((reply, receipt))) => {
                     desk.waiters.entry_made(share.pid());
-                    drop(guard);
-                    shared.changed.notify_all();
-                    released.clear();
+                    shared.release(guard, released);
                     receipt.shows();
                     return Ok((reply, receipt));
                 }
@@ -150,11 +146,10 @@ impl<W: BookName, O: FileObject, K: Keeper> Seat<W, O, K> {
                     return Err(fault);
                 }
             }
-            if desk.waiters.is_in_vain(&mut ticket) {
-                shared.changed.notify_all();
+            let Some(again) = shared.next_entry(rt, guard, &mut ticket) else {
                 return Err(CallFault::Deadlock);
-            }
-            guard = shared.changed.wait(rt, guard);
+            };
+            guard = again;
         }
         unreachable!()
     }
@@ -190,9 +185,7 @@ impl<W: BookName, O: FileObject, K: Keeper> Seat<W, O, K> {
         desk.waiters.reserve()?;
         let (reply, receipt, child) = desk.book.fork(share, released)?;
         desk.waiters.fork_made(share.pid(), child.is_some());
-        drop(guard);
-        shared.changed.notify_all();
-        released.clear();
+        shared.release(guard, released);
         receipt.shows();
         let seat = match child {
             Some(share) => Some(make_seat(share, owner, list)),
@@ -212,16 +205,14 @@ impl<W: BookName, O: FileObject, K: Keeper> Seat<W, O, K> {
         let mut guard = self.shared.lock(rt);
         let mut ticket = guard.waiters.ticket();
         for _ in rt.forever() {
-            let desk = &mut *guard;
-            if desk.has_come(pid, calls) {
-                desk.waiters.leave(ticket);
+            if guard.has_made(pid, calls) {
+                guard.waiters.leave(ticket);
                 return Ok(());
             }
-            if desk.waiters.is_in_vain(&mut ticket) {
-                self.shared.changed.notify_all();
+            let Some(again) = self.shared.next_entry(rt, guard, &mut ticket) else {
                 return Err(CallFault::Deadlock);
-            }
-            guard = self.shared.changed.wait(rt, guard);
+            };
+            guard = again;
         }
         unreachable!()
     }
@@ -240,9 +231,7 @@ impl<W: BookName, O: FileObject, K: Keeper> Seat<W, O, K> {
         let mut desk = shared.lock(rt);
         let spent = desk.book.exit(share, &mut released);
         desk.waiters.exit_made(spent.pid());
-        drop(desk);
-        shared.changed.notify_all();
-        released.clear();
+        shared.release(desk, &mut released);
         spent
     }
 }

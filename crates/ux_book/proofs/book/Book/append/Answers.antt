@@ -6,12 +6,13 @@ use Rattle.ux_book.specs.Trails.{Trailed}
 use Rattle.ux_book.proofs.Appending.{Asked, ask, Stepped, Noting, Grown, few_calls, released_rise, all_handed_out, reply_fits, waits, waits_there}
 use Rattle.ux_book.proofs.Appending.{unchanged, child_number, new_past, place_there, kept_is, adds, book_after, enough_room, not_off, no_end}
 use Rattle.ux_book.proofs.book.Book.append.Given.{Over}
+use Rattle.ux_book.proofs.book.Book.append.Goals.{After-step-done}
 use Rattle.ux_book.proofs.book.Book.append.Goals as goal
 
-abbrev asked : (g : Over) → goal.After-step-done g → Asked
+abbrev asked : (g : Over) → After-step-done g → Asked
 asked g c = ask c.args.pid c.args.k c.args.request.now c.self.invariant.0 c.self.view_is c.requires.call
 
-abbrev stepped : (g : Over) (c : goal.After-step-done g) → Stepped (asked g c)
+abbrev stepped : (g : Over) (c : After-step-done g) → Stepped (asked g c)
 stepped g c = record {
   number = c.count-number.result;
   after = c.step-done.new.self;
@@ -42,7 +43,7 @@ returns-then-is_again-clause-idle g c =
     let waited = waits (stepped g then) (sym c.is_again.ensures ∙ c.if-is_again.true) in
     record {
       book = c.self.view_is;
-      token = refl;
+      token = refl {a = c.args.token.now};
       none = nil_from_length c.step-done.new.released (sym (length-map c.step-done.new.released (λ r. r.0)) ∙ ap length waited.none);
     }
 
@@ -76,7 +77,7 @@ returns-clause-fits g c =
 
 -- ---- the book then
 
-abbrev before : (g : Over) → goal.After-open_child-child g → goal.After-step-done g
+abbrev before : (g : Over) → goal.After-open_child-child g → After-step-done g
 before g c = (goal.at.returns-clause-appended g c).After-step-done
 
 abbrev noting : (g : Over) (c : goal.After-open_child-child g) → Noting (asked g (before g c)) (stepped g (before g c))

@@ -5,12 +5,13 @@ use Rattle.ux_book.specs.Books.{is_last}
 use Rattle.ux_book.proofs.Appending.{Asked, ask, Stepped, Noting, Grown, few_calls, released_rise, exits, kept_is, adds_ok, book_after, no_end}
 use Rattle.ux_book.proofs.Appending.{last_room, last_trail, room_to_exit}
 use Rattle.ux_book.proofs.book.Book.append_last.Given.{Over}
+use Rattle.ux_book.proofs.book.Book.append_last.Goals.{After-step-done}
 use Rattle.ux_book.proofs.book.Book.append_last.Goals as goal
 
-abbrev asked : (g : Over) → goal.After-step-done g → Asked
+abbrev asked : (g : Over) → After-step-done g → Asked
 asked g c = ask c.args.pid c.args.k c.args.request c.self.invariant.0 c.self.view_is c.requires.call
 
-abbrev stepped : (g : Over) (c : goal.After-step-done g) → Stepped (asked g c)
+abbrev stepped : (g : Over) (c : After-step-done g) → Stepped (asked g c)
 stepped g c = record {
   number = c.count-number.result;
   after = c.step-done.new.self;
@@ -37,7 +38,7 @@ returns-clause-fits g c =
 
 -- ---- the book then
 
-abbrev before : (g : Over) → goal.After-keep_last g → goal.After-step-done g
+abbrev before : (g : Over) → goal.After-keep_last g → After-step-done g
 before g c = (goal.at.returns-clause-adds g c).After-step-done
 
 abbrev noting : (g : Over) (c : goal.After-keep_last g) → Noting (asked g (before g c)) (stepped g (before g c))

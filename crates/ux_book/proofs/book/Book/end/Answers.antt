@@ -5,13 +5,14 @@ use Rattle.ux_book.specs.Trails.{Owned}
 use Rattle.ux_book.proofs.Appending.{Asked, ask, Stepped, Noting, Grown, released_rise, all_handed_out, ends_well, kept_is, adds_ok, book_after}
 use Rattle.ux_book.proofs.Appending.{last_room, last_trail, may_end}
 use Rattle.ux_book.proofs.book.Book.end.Given.{Over}
+use Rattle.ux_book.proofs.book.Book.end.Goals.{After-step-done}
 use Rattle.ux_book.proofs.book.Book.end.Goals as goal
 
-abbrev asked : (g : Over) → goal.After-step-done g → Asked
+abbrev asked : (g : Over) → After-step-done g → Asked
 asked g c = ask (record { 0 = 0 }) 0 Request.Off c.self.invariant.0 c.self.view_is
     (may_end c.self.invariant.0 c.self.view_is c.requires.gone c.requires.first)
 
-abbrev stepped : (g : Over) (c : goal.After-step-done g) → Stepped (asked g c)
+abbrev stepped : (g : Over) (c : After-step-done g) → Stepped (asked g c)
 stepped g c = record {
   number = c.count-number.result;
   after = c.step-done.new.self;
@@ -28,7 +29,7 @@ numbers_of-numbers-requires g c =
 
 -- ---- the book then
 
-abbrev before : (g : Over) → goal.After-self-1 g → goal.After-step-done g
+abbrev before : (g : Over) → goal.After-self-1 g → After-step-done g
 before g c = (goal.at.returns g c).After-step-done
 
 abbrev noting : (g : Over) (c : goal.After-self-1 g) → Noting (asked g (before g c)) (stepped g (before g c))
