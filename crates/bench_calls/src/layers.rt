@@ -2,7 +2,7 @@
 ghost use Rattle.std.specs.Prelude.{◌≡◌, [], IfOk};
 ghost use Rattle.ux_model.specs.Boot.{IsBootState};
 
-use crate::rows::{FILE, Giving, PAIR_AND_CLOSES, PIPE, Requests, Row};
+use crate::rows::{FILE, Giving, PAIR_AND_CLOSES, PIPE, Requests, Row, made_anew};
 use anyhow::{Result, anyhow};
 use std::alloc::Global;
 use ux_book::{Book, BookName, Share, Trail, has_own_call};
@@ -191,9 +191,12 @@ impl<W: BookName> Layer for Recorded<W> {
             return false;
         };
         self.released.clear();
-        match self.giving.give(self.alloc, request) {
-            Ok(request) => is_recorded(&mut self.book, share, &request, &mut self.released),
-            Err(_) => false,
+        match self.giving {
+            Giving::Again => is_recorded(&mut self.book, share, request, &mut self.released),
+            Giving::Anew => match made_anew(self.alloc, request) {
+                Ok(request) => is_recorded(&mut self.book, share, &request, &mut self.released),
+                Err(_) => false,
+            },
         }
     }
 }

@@ -207,7 +207,7 @@ fn sent_anew(
 }
 
 /// The request that a caller gives who makes the bytes for it.
-fn made_anew(alloc: Global, request: &Request) -> Result<Request, AllocError> {
+pub(crate) fn made_anew(alloc: Global, request: &Request) -> Result<Request, AllocError> {
     match request {
         Request::Write { fd, bytes } => Ok(Request::Write {
             fd: *fd,
@@ -234,14 +234,6 @@ pub(crate) enum Giving {
 }
 
 impl Giving {
-    /// A request like this one, to be given to a book.
-    pub(crate) fn give(self, alloc: Global, request: &Request) -> Result<Request, AllocError> {
-        match self {
-            Giving::Again => request.clone(),
-            Giving::Anew => made_anew(alloc, request),
-        }
-    }
-
     /// What the times of such calls are called.
     pub(crate) fn title(self) -> &'static str {
         match self {
