@@ -1,5 +1,5 @@
-/* Counts the allocations of a program that is started with this in LD_PRELOAD, from its main on, and fails the one
- * whose number FAIL_NTH gives; 0 is none. When it ends by _exit(2), how many there were is written to descriptor 3. */
+/* Counts the allocations of a program that is started with this in LD_PRELOAD, from its main on, and lets the one fail
+ * whose number FAIL_NTH gives; 0 is none. When it ends by _exit(2), it writes their number to descriptor 3. */
 #define _GNU_SOURCE
 #include <errno.h>
 #include <stdatomic.h>
