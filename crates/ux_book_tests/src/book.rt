@@ -350,16 +350,16 @@ fn end_without_memory<W: BookName>(
 }
 
 #[test]
-fn a_book_that_is_refused_memory_gives_the_kernel_back(rt: HostRuntime) -> Result<(), Fail> {
+fn a_book_without_memory_gives_the_kernel_back(rt: HostRuntime) -> Result<(), Fail> {
     let alloc = rt.alloc();
     let Ok(kernel) = Kernel::boot(alloc, Vec::new(alloc), &ONE) else {
         return Err(Fail::from("no kernel"));
     };
-    refuse_book::<Brand>(&rt, alloc, Trail::new(alloc)?, kernel)?;
+    open_book::<Brand>(&rt, alloc, Trail::new(alloc)?, kernel)?;
     Ok(())
 }
 
-fn refuse_book<W: BookName>(
+fn open_book<W: BookName>(
     rt: &impl Abort,
     alloc: Global,
     trail: Trail,
@@ -370,9 +370,9 @@ fn refuse_book<W: BookName>(
     requires named { kernel ≡ W.boot }
 {
     let hoard = Hoard::take_all(alloc)?;
-    let refused = Book::<W, Counter>::new(alloc, trail, kernel).err();
+    let failed = Book::<W, Counter>::new(alloc, trail, kernel).err();
     drop(hoard);
-    let Some((kernel, _)) = refused else {
+    let Some((kernel, _)) = failed else {
         panic!(rt; "a book without memory");
     };
     assert!(rt; kernel.is_live(Pid(1)) && kernel.process_count() == 1);
@@ -385,10 +385,10 @@ const STEPS: usize = 3800;
 /// How a fork went.
 #[derive(Clone, Copy, Debug, PartialEq, Eq)]
 enum Forked {
-    /// The book was refused memory, and made no entry.
+    /// The book had no memory, and didn't make the call.
+    NotMade,
+    /// The kernel had none, and answered ENOMEM, which is an entry.
     Refused,
-    /// The kernel was refused memory, which is an entry.
-    Told,
     /// There is a process 2 that has made no call.
     Child,
     Otherwise,
@@ -398,8 +398,8 @@ impl Forked {
     /// How many calls, entries and processes there are more.
     fn more(self) -> (u64, usize, usize) {
         match self {
-            Forked::Refused | Forked::Otherwise => (0, 0, 0),
-            Forked::Told => (1, 1, 0),
+            Forked::NotMade | Forked::Otherwise => (0, 0, 0),
+            Forked::Refused => (1, 1, 0),
             Forked::Child => (1, 1, 1),
         }
     }
@@ -409,7 +409,7 @@ impl Forked {
 fn outcome_of<W: BookName>(reply: Reply, child: Option<Share<W>>) -> Forked {
     let Some(share) = child else {
         if reply == Reply::Err(Errno::ENOMEM) {
-            return Forked::Told;
+            return Forked::Refused;
         }
         return Forked::Otherwise;
     };
@@ -435,7 +435,7 @@ fn fork_with<W: BookName>(
             drop(receipt);
             outcome_of(reply, child)
         }
-        Err(CallFault::NoMemory) => Forked::Refused,
+        Err(CallFault::NoMemory) => Forked::NotMade,
         Err(_) => Forked::Otherwise,
     }
 }
@@ -450,8 +450,8 @@ fn counts<W: BookName>(shelf: &Shelf<W>) -> (u64, usize, usize) {
     )
 }
 
-/// Forks with no memory, and with more while that is refused, and reports how often it was. What is refused leaves book
-/// and share as they were, but for an entry that reports it.
+/// Forks with no memory, and with more each time until a process is made, and gives how often none was. Book and share
+/// are then as they were, but for the entry of a call that was made.
 fn fork_at_last<W: BookName>(
     rt: &impl Abort,
     alloc: Global,
@@ -475,16 +475,16 @@ fn fork_at_last<W: BookName>(
 }
 
 #[test]
-fn a_fork_that_is_refused_memory_makes_no_process(rt: HostRuntime) -> Result<(), Fail> {
+fn a_fork_without_memory_makes_no_process(rt: HostRuntime) -> Result<(), Fail> {
     let alloc = rt.alloc();
     let Ok(kernel) = Kernel::boot(alloc, Vec::new(alloc), &ONE) else {
         return Err(Fail::from("no kernel"));
     };
-    refuse_forks::<Brand>(&rt, alloc, Trail::new(alloc)?, kernel)?;
+    fork_often::<Brand>(&rt, alloc, Trail::new(alloc)?, kernel)?;
     Ok(())
 }
 
-fn refuse_forks<W: BookName>(
+fn fork_often<W: BookName>(
     rt: &impl Abort,
     alloc: Global,
     trail: Trail,
@@ -500,8 +500,8 @@ fn refuse_forks<W: BookName>(
     assert_eq!(rt; reply, Reply::Fds(Fd(0), Fd(1)));
     drop(reply);
     let mut purse = Purse::new(alloc)?;
-    let refusals = fork_at_last(rt, alloc, s, &mut purse);
+    let failures = fork_at_last(rt, alloc, s, &mut purse);
     drop(purse);
-    assert!(rt; refusals > 0);
+    assert!(rt; failures > 0);
     Ok(())
 }

@@ -338,12 +338,12 @@ fn call_once<W: BookName, R: Wait + Abort>(
 }
 
 #[test]
-fn a_blocking_call_that_is_refused_memory_is_no_entry(rt: HostRuntime) -> Result<(), Fail> {
+fn a_blocking_call_without_memory_is_no_entry(rt: HostRuntime) -> Result<(), Fail> {
     let kernel = two_processes(rt.alloc())?;
-    refuse_call::<Brand, _>(&rt, rt.alloc(), Trail::new(rt.alloc())?, kernel)
+    call_without_memory::<Brand, _>(&rt, rt.alloc(), Trail::new(rt.alloc())?, kernel)
 }
 
-fn refuse_call<W: BookName, R: Wait + Abort>(
+fn call_without_memory<W: BookName, R: Wait + Abort>(
     rt: &R,
     alloc: Global,
     trail: Trail,
@@ -359,10 +359,10 @@ fn refuse_call<W: BookName, R: Wait + Abort>(
     let other = seats.pop().ok_or("no seat")?;
     let mut seat = seats.pop().ok_or("no seat")?;
     let hoard = Hoard::take_all(alloc)?;
-    let told = seat.call_blocking(rt, &receive(0)).err();
+    let fault = seat.call_blocking(rt, &receive(0)).err();
     let exited = has_exited(rt, seat);
     drop(hoard);
-    assert_eq!(rt; told, Some(CallFault::NoMemory));
+    assert_eq!(rt; fault, Some(CallFault::NoMemory));
     assert!(rt; exited);
     assert_eq!(rt; layer.book(rt).book().entries().len(), 1);
     assert!(rt; calls_and_exits(rt, other));

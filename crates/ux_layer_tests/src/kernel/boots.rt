@@ -116,7 +116,7 @@ fn a_path_that_cannot_be_stops_a_boot(rt: HostRuntime) -> Result<(), AllocError>
 }
 
 #[test]
-fn a_boot_that_is_refused_memory_gives_the_objects_back(rt: HostRuntime) -> Result<(), AllocError> {
+fn a_boot_without_memory_gives_the_objects_back(rt: HostRuntime) -> Result<(), AllocError> {
     let alloc = rt.alloc();
     let one = [process(16)];
     let (objects, as_before) = two_alike(&rt, alloc, &[b"a", b"b"])?;

@@ -165,7 +165,7 @@ const WITHOUT_MEMORY: &[Row] = &[
 ];
 
 #[test]
-fn a_connection_that_is_refused_memory_is_not_there(rt: HostRuntime) -> Result<(), AllocError> {
+fn a_connection_without_memory_is_not_there(rt: HostRuntime) -> Result<(), AllocError> {
     let alloc = rt.alloc();
     let mut machine = bare(alloc, &[process(16)])?;
     let k = &mut machine;

@@ -31,7 +31,7 @@ const RECEIVED: &[Row] = &[
 const SENT_ONCE: &[Row] = &[(1, Asked::Recv(0, 8, 0), Told::Err(Errno::EAGAIN))];
 
 #[test]
-fn a_datagram_that_is_refused_memory_is_not_sent(rt: HostRuntime) -> Result<(), AllocError> {
+fn a_datagram_without_memory_is_not_sent(rt: HostRuntime) -> Result<(), AllocError> {
     let alloc = rt.alloc();
     let mut machine = bare(alloc, &[process(16)])?;
     expect_rows(&rt, alloc, &mut machine, MADE)?;

@@ -26,7 +26,7 @@ const NAMED: &[Row] = &[
 ];
 
 #[test]
-fn an_option_that_is_refused_memory_stays_off(rt: HostRuntime) -> Result<(), AllocError> {
+fn an_option_without_memory_stays_off(rt: HostRuntime) -> Result<(), AllocError> {
     let alloc = rt.alloc();
     let mut machine = bare(alloc, &[process(16)])?;
     expect_rows(&rt, alloc, &mut machine, SOCKET)?;

@@ -58,7 +58,7 @@ const AFTERWARDS: &[Row] = &[
 ];
 
 #[test]
-fn a_call_that_is_refused_memory_changes_nothing(rt: HostRuntime) -> Result<(), AllocError> {
+fn a_call_without_memory_changes_nothing(rt: HostRuntime) -> Result<(), AllocError> {
     let alloc = rt.alloc();
     let mut machine = bare(alloc, &[process(16)])?;
     let k = &mut machine;

@@ -32,7 +32,7 @@ const PASSED_ONCE: &[Row] = &[
 ];
 
 #[test]
-fn rights_that_are_refused_memory_stay(rt: HostRuntime) -> Result<(), AllocError> {
+fn rights_without_memory_stay(rt: HostRuntime) -> Result<(), AllocError> {
     let alloc = rt.alloc();
     let mut machine = bare(alloc, &[process(16)])?;
     expect_rows(&rt, alloc, &mut machine, PAIR)?;
