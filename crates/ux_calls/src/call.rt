@@ -308,7 +308,7 @@ pub fn recv(fd: Fd, n: usize) -> Request
     }
 }
 
-/// recvmsg(2) of at most `n` bytes, with room for so many descriptors, at most as many as go in one message. A
+/// recvmsg(2) of at most `n` bytes, with room for so many descriptors, at most as many as one message may pass. A
 /// socket with SO_PASSCRED takes 32 bytes of that room for credentials.
 pub fn recv_rights(fd: Fd, n: usize, count: usize) -> Request
     ensures request { result ≡ Request.RecvMsg fd n (rights_space (min count rights_limit)) no_msg_flags }

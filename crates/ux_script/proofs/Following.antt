@@ -1,7 +1,8 @@
 -- A script that is run as it comes.
 use Rattle.std.proofs.Common.{◌≡◌, inr, ℕ, ◌+◌, ◌<◌, ◌≤◌, List, [], ◌++◌, length, take, get_or, map, ap, sym, subst, ◌∙◌, arith}
-use Rattle.std.specs.Prelude.{Option}
+use Rattle.std.specs.Prelude.{Option, Result, OnErr}
 use Rattle.std.specs.Io.KnownBytes.{Appends, Keeps}
+use Rattle.std.proofs.lemmas.Result.{on_err_weaker}
 use Rattle.std.proofs.lemmas.List.{length-append, take_all, take-append-le, append-nil}
 use Rattle.ux_model.specs.Types.{Entry}
 use Rattle.ux_model.specs.Boot.{new_process}
@@ -98,6 +99,13 @@ breaks_here boot a b before after legal printed = (after, legal, prints_begin a 
 
 pub breaks_then : (boot : State) (a b c : Option (List ℕ)) (xs ys : List Entry) → Prints a b xs ys → Breaks boot b c ys → Breaks boot a c xs
 breaks_then boot a b c xs ys printed broken = (broken.0, broken.1, λ start so_far. broken.2 start (printed start so_far))
+
+-- behind further calls, whose lines are printed
+pub breaks_behind : {E : Type 0} (r : Result (Unit {0}) E) (boot : State) (a b : Option (List ℕ)) (old new : List Entry) → IsLegal boot new →
+    Grows old new → OnErr r (PrintsBeginning a b (take (length old) new) new) → OnErr r (Breaks boot a b old)
+breaks_behind r boot a b old new legal grown begun =
+    on_err_weaker {P = PrintsBeginning a b (take (length old) new) new} {Q = Breaks boot a b old} r
+    (λ p. (new, legal, subst (λ (es : List Entry). PrintsBeginning a b es new) (grown_front old new grown) p)) begun
 
 -- the run began with nothing
 pub breaks_front : (boot : State) (a b : Option (List ℕ)) → Breaks boot a b [] → WritesFront boot a b

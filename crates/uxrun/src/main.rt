@@ -21,6 +21,7 @@ use moments::{calls_until, print_moments};
 use orders::{Made, print_orders, run_in_order};
 use printing::{print_comparison, print_run};
 use reading::script_of;
+use runs::{check_script, run_script};
 use std::io::IsTerminal;
 use std::process::ExitCode;
 use std::random::RandomSource;
