@@ -151,7 +151,7 @@ const WORDS: &[(ObjError, &str)] = &[
 ];
 
 #[test]
-fn errors_are_told_in_words(rt: HostRuntime) -> Result<(), Fail> {
+fn errors_are_printed_in_words(rt: HostRuntime) -> Result<(), Fail> {
     for (error, words) in WORDS {
         let text = format!(in rt.alloc(); "{error}")?;
         assert_eq!(rt; text.as_str(), *words);

@@ -207,10 +207,10 @@ fn the_last_owner_gives_its_vector_out(rt: HostRuntime) -> Result<(), Fail> {
     let other = bytes.clone()?;
     let mut purse = Purse::new(alloc)?;
     purse.refill(alloc);
-    let refused = bytes.into_vec(alloc).is_err();
+    let failed = bytes.into_vec(alloc).is_err();
     let given = other.into_vec(alloc);
     drop(purse);
-    assert!(rt; refused, "another owner has the bytes");
+    assert!(rt; failed, "another owner has the bytes");
     expect_vec(&rt, &given?, text);
     Ok(())
 }

@@ -237,7 +237,7 @@ const SMALL_WRITES: &[(usize, usize, Result<usize, ObjError>, bool)] = &[
 ];
 
 #[test]
-fn a_small_write_goes_whole_or_not_at_all(rt: HostRuntime) -> Result<(), Fail> {
+fn a_small_write_is_whole_or_fails(rt: HostRuntime) -> Result<(), Fail> {
     for (waiting, length, answer, has_room) in SMALL_WRITES {
         write_behind(&rt, rt.alloc(), *waiting, *length, *answer, *has_room)?;
     }
@@ -268,7 +268,7 @@ fn a_pipe_keeps_its_order_round_its_end(rt: HostRuntime) -> Result<(), Fail> {
     Ok(())
 }
 
-/// A file that is refused memory for a write at this place is as it was before.
+/// A file that lacks memory for a write at this place is as it was before.
 fn grow(rt: &impl Abort, alloc: Global, at: u64) -> Result<(), Fail> {
     let mut file = made(MemFile::new(alloc, b"abcdef"))?;
     let mut buf = [0; 8];
@@ -283,7 +283,7 @@ fn grow(rt: &impl Abort, alloc: Global, at: u64) -> Result<(), Fail> {
 }
 
 #[test]
-fn a_growth_is_refused_and_changes_nothing(rt: HostRuntime) -> Result<(), Fail> {
+fn a_failed_growth_changes_nothing(rt: HostRuntime) -> Result<(), Fail> {
     let alloc = rt.alloc();
     // A few bytes more may fit into the block that is there.
     grow(&rt, alloc, 5000)?;
@@ -291,7 +291,7 @@ fn a_growth_is_refused_and_changes_nothing(rt: HostRuntime) -> Result<(), Fail> 
 }
 
 #[test]
-fn an_object_is_refused_memory(rt: HostRuntime) -> Result<(), Fail> {
+fn an_object_needs_memory(rt: HostRuntime) -> Result<(), Fail> {
     let alloc = rt.alloc();
     let hoard = Hoard::take_all(alloc)?;
     let pipe = Pipe::new(alloc).err();

@@ -73,7 +73,7 @@ fn references_in_order(rt: HostRuntime) -> Result<(), AllocError> {
 }
 
 #[test]
-fn refused_growth_changes_nothing(rt: HostRuntime) -> Result<(), AllocError> {
+fn a_failed_growth_changes_nothing(rt: HostRuntime) -> Result<(), AllocError> {
     let alloc = rt.alloc();
     let ids = [5, 7, 5, 9, 1].map(DescriptionId::new);
     let mut short = RefList::from_slice(alloc, &ids[..4])?;

@@ -173,11 +173,11 @@ fn counts_and_room_end(rt: HostRuntime) -> Result<(), Fail> {
     Ok(())
 }
 
-/// Puts in files until one is refused, and answers which.
+/// Puts in files until there is no memory for one, and answers which.
 fn fill_up(slots: &mut Slots<File>) -> Option<u32> {
     for inode in 0..10_000 {
-        if let Err(refused) = slots.insert(File { inode }) {
-            return Some(refused.value.inode);
+        if let Err(failed) = slots.insert(File { inode }) {
+            return Some(failed.value.inode);
         }
     }
     None
@@ -194,7 +194,7 @@ fn end(slots: &mut Slots<File>) -> u32 {
     10_000
 }
 
-/// With so many bytes of memory left puts in files until one is refused, and takes them all out.
+/// With so many bytes of memory left puts in files until there is none for one, and takes them all out.
 fn pass_with_memory(
     alloc: Global,
     slots: &mut Slots<File>,
@@ -203,22 +203,22 @@ fn pass_with_memory(
     let left: Vec<u8> = Vec::with_capacity(alloc, bytes)?;
     let hoard = Hoard::take_all(alloc)?;
     drop(left);
-    let refused = fill_up(slots);
+    let failed = fill_up(slots);
     let taken = end(slots);
     drop(hoard);
-    Ok((refused, taken))
+    Ok((failed, taken))
 }
 
 #[test]
-fn a_growth_is_refused_and_changes_nothing(rt: HostRuntime) -> Result<(), Fail> {
+fn a_failed_growth_changes_nothing(rt: HostRuntime) -> Result<(), Fail> {
     let alloc = rt.alloc();
     let mut slots = Slots::new(alloc);
     assert_eq!(&rt; pass_with_memory(alloc, &mut slots, 0)?, (Some(0), 0));
-    let (refused, taken) = pass_with_memory(alloc, &mut slots, 80_000)?;
-    assert!(&rt; refused == Some(taken) && taken >= 100, "{taken}");
+    let (failed, taken) = pass_with_memory(alloc, &mut slots, 80_000)?;
+    assert!(&rt; failed == Some(taken) && taken >= 100, "{taken}");
     slots.reserve(2_000)?;
-    let (refused, more) = pass_with_memory(alloc, &mut slots, 0)?;
-    assert!(&rt; refused == Some(more) && more >= 2_000, "{more}");
+    let (failed, more) = pass_with_memory(alloc, &mut slots, 0)?;
+    assert!(&rt; failed == Some(more) && more >= 2_000, "{more}");
     assert_eq!(&rt;
         slots.next_id().number(),
         u128::from(taken) + u128::from(more)
@@ -226,7 +226,7 @@ fn a_growth_is_refused_and_changes_nothing(rt: HostRuntime) -> Result<(), Fail> 
     Ok(())
 }
 
-/// With so many bytes of memory left asks for room for so many values, which is refused.
+/// With so many bytes of memory left asks for room for so many values, which fails.
 fn ask_with_memory(
     rt: &impl Abort,
     alloc: Global,
@@ -237,14 +237,14 @@ fn ask_with_memory(
     let left: Vec<u8> = Vec::with_capacity(alloc, bytes)?;
     let hoard = Hoard::take_all(alloc)?;
     drop(left);
-    let refused = slots.reserve(values).is_err();
+    let failed = slots.reserve(values).is_err();
     drop(hoard);
-    assert!(rt; refused);
+    assert!(rt; failed);
     Ok(())
 }
 
 #[test]
-fn room_is_refused_with_memory_for_the_slots_alone(rt: HostRuntime) -> Result<(), Fail> {
+fn room_fails_with_memory_for_the_slots_alone(rt: HostRuntime) -> Result<(), Fail> {
     let alloc = rt.alloc();
     let mut slots = Slots::new(alloc);
     let a = open(&rt, &mut slots, 1)?;
@@ -252,8 +252,8 @@ fn room_is_refused_with_memory_for_the_slots_alone(rt: HostRuntime) -> Result<()
     expect(&rt, &slots, a, 1, 1);
     let b = open(&rt, &mut slots, 2)?;
     assert_eq!(&rt; b.number(), 1);
-    let (refused, taken) = pass_with_memory(alloc, &mut slots, 0)?;
-    assert_eq!(&rt; refused, taken.checked_sub(2));
+    let (failed, taken) = pass_with_memory(alloc, &mut slots, 0)?;
+    assert_eq!(&rt; failed, taken.checked_sub(2));
     assert!(&rt; taken < 1_000, "{taken}");
     Ok(())
 }

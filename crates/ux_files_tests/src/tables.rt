@@ -285,7 +285,7 @@ fn open_all(
     table.install_all(&numbers, references.as_slice(), cloexec)
 }
 
-/// The same, where it is refused memory.
+/// The same, where it lacks memory.
 #[tactic(auto, using(ux_fdtable::proofs::Installing::free_below))]
 fn refuse_all(
     rt: &impl Abort,
@@ -387,14 +387,14 @@ fn a_copy_of_a_table_is_a_table_of_its_own(rt: HostRuntime) -> Result<(), Fail> 
 }
 
 #[test]
-fn a_copy_of_a_table_is_refused_memory(rt: HostRuntime) -> Result<(), Fail> {
+fn a_copy_of_a_table_needs_memory(rt: HostRuntime) -> Result<(), Fail> {
     let alloc = rt.alloc();
     let mut table = make_table(alloc, 1024)?;
     open(&rt, &mut table, 0, 10, true);
     let hoard = Hoard::take_all(alloc)?;
-    let refused = table.clone().is_err();
+    let failed = table.clone().is_err();
     drop(hoard);
-    assert!(rt; refused);
+    assert!(rt; failed);
     expect_open(&rt, &table, 0, 10, true);
     expect_lowest(&rt, &table, 1);
     Ok(())
@@ -419,7 +419,7 @@ fn numbers_are_closed_without_memory(rt: HostRuntime) -> Result<(), Fail> {
 }
 
 #[test]
-fn a_growth_is_refused_and_changes_nothing(rt: HostRuntime) -> Result<(), Fail> {
+fn a_failed_growth_changes_nothing(rt: HostRuntime) -> Result<(), Fail> {
     let alloc = rt.alloc();
     let mut table = make_table(alloc, 1024)?;
     let hoard = Hoard::take_all(alloc)?;
@@ -436,17 +436,17 @@ fn a_growth_is_refused_and_changes_nothing(rt: HostRuntime) -> Result<(), Fail> 
 }
 
 #[test]
-fn a_table_is_refused_memory(rt: HostRuntime) -> Result<(), Fail> {
+fn a_table_needs_memory(rt: HostRuntime) -> Result<(), Fail> {
     let alloc = rt.alloc();
     let hoard = Hoard::take_all(alloc)?;
-    let refused = make_table(alloc, 1024).is_err();
+    let failed = make_table(alloc, 1024).is_err();
     drop(hoard);
-    assert!(rt; refused);
+    assert!(rt; failed);
     Ok(())
 }
 
 #[test]
-fn errors_are_told_in_words(rt: HostRuntime) -> Result<(), Fail> {
+fn errors_are_printed_in_words(rt: HostRuntime) -> Result<(), Fail> {
     let full = InstallError::Full;
     let bad = DupError::BadNumber;
     let text = format!(in rt.alloc(); "{full}, {bad}")?;

@@ -1,7 +1,7 @@
 //! A queue of whole messages: taken, peeked at, cut, and with little memory.
 ghost use Rattle.std.specs.Prelude.{◌<◌, length};
 
-use crate::values::{expect_references, is_refused, path, references};
+use crate::values::{expect_references, fails, path, references};
 use hoard::Hoard;
 use linked_list_allocator::LocalHeap;
 use std::alloc::{AllocError, Allocator, Global};
@@ -240,20 +240,20 @@ fn take<A: Allocator + Copy>(
     Ok(())
 }
 
-/// Sends twelve messages, takes those that were queued, and says how many sends were refused.
+/// Sends twelve messages, takes those that were queued, and says how many sends failed.
 fn pass<A: Allocator + Copy>(
     rt: &impl Abort,
     alloc: Global,
     queue: &mut RecordQueue<A>,
 ) -> Result<u64, AllocError> {
-    let mut refused: u64 = 0;
+    let mut failed: u64 = 0;
     let from = Some(path(alloc, b"/c")?);
     let mut queued = Vec::new(alloc);
     for tag in 0..12_u8 {
         if is_queued(rt, alloc, queue, tag, &from)? {
             queued.push(tag)?;
         } else {
-            refused = refused.saturating_add(1);
+            failed = failed.saturating_add(1);
         }
         assert_eq!(rt; queue.len(), queued.len());
     }
@@ -261,29 +261,29 @@ fn pass<A: Allocator + Copy>(
         take(rt, queue, *tag, &from)?;
     }
     assert!(rt; queue.is_empty());
-    Ok(refused)
+    Ok(failed)
 }
 
-/// On a heap that is 16 bytes larger each time, each allocation is at some time the first that is refused.
+/// On a heap that is 16 bytes larger each time, each allocation is at some time the first that fails.
 /// The queue is then as before.
 #[test]
-fn refused_allocations_change_nothing(rt: HostRuntime) -> Result<(), AllocError> {
+fn failed_allocations_change_nothing(rt: HostRuntime) -> Result<(), AllocError> {
     let alloc = rt.alloc();
     let mut all: u64 = 0;
     for blocks in 0..1000_usize {
         let heap = LocalHeap::new(alloc, blocks * 16)?;
-        let refused = pass(&rt, alloc, &mut RecordQueue::new(&heap))?;
-        if refused == 0 {
+        let failed = pass(&rt, alloc, &mut RecordQueue::new(&heap))?;
+        if failed == 0 {
             assert!(rt; all > 0, "{all}");
             return Ok(());
         }
-        all = all.saturating_add(refused);
+        all = all.saturating_add(failed);
     }
     assert!(rt; false, "no heap was enough");
     Ok(())
 }
 
-/// Where there is no memory, a peek at many rights is refused, and they can still be taken off.
+/// Where there is no memory, a peek at many rights fails, and they can still be taken off.
 #[test]
 fn what_cannot_be_copied_moves(rt: HostRuntime) -> Result<(), AllocError> {
     let alloc = rt.alloc();
@@ -292,10 +292,10 @@ fn what_cannot_be_copied_moves(rt: HostRuntime) -> Result<(), AllocError> {
     send(&rt, &mut queue, &Bytes::short(b"a"), 1, rights, None);
     assert!(rt; !queue.is_empty());
     let hoard = Hoard::take_all(alloc)?;
-    let refused = is_refused(queue.peek(1));
+    let failed = fails(queue.peek(1));
     let first = queue.pop_message();
     drop(hoard);
-    assert!(rt; refused);
+    assert!(rt; failed);
     match first {
         Some((rights, uid)) => assert_eq!(rt; (rights.len(), uid), (5, 1000)),
         None => assert!(rt; false),

@@ -3,7 +3,7 @@ ghost use Rattle.std.specs.Prelude.{◌<◌};
 
 mod list_queue;
 
-use crate::values::{expect_references, is_refused, references};
+use crate::values::{expect_references, fails, references};
 use hoard::Hoard;
 use linked_list_allocator::LocalHeap;
 use list_queue::{ListFront, ListMessage, ListQueue};
@@ -81,9 +81,9 @@ struct Both<A: Allocator + Copy> {
     alloc: Global,
     /// How many bytes were sent.
     sent: u64,
-    /// How many sends and receives were refused as out of memory.
-    refused_sends: u64,
-    refused_receives: u64,
+    /// How many sends and receives found no memory.
+    failed_sends: u64,
+    failed_receives: u64,
 }
 
 /// As of the messages of a list.
@@ -94,8 +94,8 @@ impl<A: Allocator + Copy> Drop for Both<A> {
             list,
             alloc: _,
             sent: _,
-            refused_sends: _,
-            refused_receives: _,
+            failed_sends: _,
+            failed_receives: _,
         } = self;
         drop(queue);
         drop(list);
@@ -111,8 +111,8 @@ impl<A: Allocator + Copy> Both<A> {
             list: ListQueue::new(alloc),
             alloc,
             sent: 0,
-            refused_sends: 0,
-            refused_receives: 0,
+            failed_sends: 0,
+            failed_receives: 0,
         }
     }
 
@@ -140,7 +140,7 @@ impl<A: Allocator + Copy> Both<A> {
                 expect_references(rt, &unsent.rights, &m.rights);
                 assert_eq!(rt; unsent.error == SendError::Full, room == 0);
                 if room > 0 {
-                    self.refused_sends = self.refused_sends.saturating_add(1);
+                    self.failed_sends = self.failed_sends.saturating_add(1);
                 }
             }
         }
@@ -154,7 +154,7 @@ impl<A: Allocator + Copy> Both<A> {
             match self.queue.peek(self.alloc, n, wants_cred) {
                 Ok(received) => assert_front(rt, received, &wanted),
                 Err(AllocError) => {
-                    self.refused_receives = self.refused_receives.saturating_add(1);
+                    self.failed_receives = self.failed_receives.saturating_add(1);
                 }
             }
         }
@@ -172,14 +172,14 @@ impl<A: Allocator + Copy> Both<A> {
                     expect_skipped(rt, self.queue.skip(n, wants_cred), &wanted);
                 }
                 Err(AllocError) => {
-                    self.refused_receives = self.refused_receives.saturating_add(1);
+                    self.failed_receives = self.failed_receives.saturating_add(1);
                 }
             }
         }
         Ok(())
     }
 
-    /// Takes where there is no memory at all: at most 14 bytes need none, and more are refused and stay.
+    /// Takes where there is no memory at all: at most 14 bytes need none, and more fail and stay.
     fn take_without_memory(
         &mut self,
         rt: &impl Abort,
@@ -200,7 +200,7 @@ impl<A: Allocator + Copy> Both<A> {
                     expect_skipped(rt, self.queue.skip(n, wants_cred), &wanted);
                 }
                 Err(AllocError) => {
-                    self.refused_receives = self.refused_receives.saturating_add(1);
+                    self.failed_receives = self.failed_receives.saturating_add(1);
                 }
             }
         }
@@ -255,16 +255,16 @@ fn two_queues_agree(rt: HostRuntime) -> Result<(), AllocError> {
     }
     // The ring has 512 places at most, so its end was passed often.
     assert!(rt; both.sent > 50_000, "{} bytes", both.sent);
-    assert!(rt; both.refused_sends == 0 && both.refused_receives == 0);
+    assert!(rt; both.failed_sends == 0 && both.failed_receives == 0);
     Ok(())
 }
 
-/// On a heap that is 16 bytes larger each time, each allocation is at some time the first that is refused.
+/// On a heap that is 16 bytes larger each time, each allocation is at some time the first that fails.
 /// The queue is then as before.
 #[test]
-fn refused_allocations_change_nothing(rt: HostRuntime) -> Result<(), AllocError> {
+fn failed_allocations_change_nothing(rt: HostRuntime) -> Result<(), AllocError> {
     let alloc = rt.alloc();
-    let mut refused_sends: u64 = 0;
+    let mut failed_sends: u64 = 0;
     for blocks in 0..1000_usize {
         let heap = LocalHeap::new(alloc, blocks * 16)?;
         let mut both = Both::new(StreamQueue::new(&heap), alloc);
@@ -276,17 +276,17 @@ fn refused_allocations_change_nothing(rt: HostRuntime) -> Result<(), AllocError>
             both.pop(&rt);
         }
         assert!(rt; both.queue.is_empty());
-        if both.refused_sends == 0 {
-            assert!(rt; refused_sends > 10, "{refused_sends}");
+        if both.failed_sends == 0 {
+            assert!(rt; failed_sends > 10, "{failed_sends}");
             return Ok(());
         }
-        refused_sends = refused_sends.saturating_add(both.refused_sends);
+        failed_sends = failed_sends.saturating_add(both.failed_sends);
     }
     assert!(rt; false, "no heap was enough");
     Ok(())
 }
 
-/// A receive that is refused as out of memory leaves the queue as before, as the next one shows.
+/// A receive without memory leaves the queue as before, as the next one shows.
 #[test]
 fn few_bytes_are_received_without_memory(rt: HostRuntime) -> Result<(), AllocError> {
     let alloc = rt.alloc();
@@ -299,11 +299,11 @@ fn few_bytes_are_received_without_memory(rt: HostRuntime) -> Result<(), AllocErr
         both.take_without_memory(&rt, n, true)?;
         both.take(&rt, n, true)?;
     }
-    assert!(rt; both.refused_receives > 1, "{}", both.refused_receives);
+    assert!(rt; both.failed_receives > 1, "{}", both.failed_receives);
     Ok(())
 }
 
-/// Two bytes need no memory, so only the copy of the rights is refused.
+/// Two bytes need no memory, so only the copy of the rights fails.
 #[test]
 fn rights_move_where_they_cannot_be_copied(rt: HostRuntime) -> Result<(), AllocError> {
     let alloc = rt.alloc();
@@ -325,10 +325,10 @@ fn rights_move_where_they_cannot_be_copied(rt: HostRuntime) -> Result<(), AllocE
     assert!(rt; sent.is_ok());
     assert!(rt; !queue.is_empty());
     let hoard = Hoard::take_all(alloc)?;
-    let refused = is_refused(queue.peek(alloc, 2, true));
+    let failed = fails(queue.peek(alloc, 2, true));
     let (rights, origin) = queue.skip(2, true);
     drop(hoard);
-    assert!(rt; refused);
+    assert!(rt; failed);
     expect_references(&rt, &rights, &numbers);
     assert_eq!(rt; origin, Some(Origin { tag: 7, uid: 2 }));
     assert_eq!(rt; queue.len_bytes(), 1);

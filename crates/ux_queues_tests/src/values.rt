@@ -27,6 +27,6 @@ pub(crate) fn path(alloc: Global, bytes: &[u8]) -> Result<Addr, AllocError> {
 }
 
 /// Whether an answer is a refusal. Of a value of any type its drop is a call, and not each of its parts.
-pub(crate) fn is_refused<T: Drop, E: Drop>(answer: Result<T, E>) -> bool {
+pub(crate) fn fails<T: Drop, E: Drop>(answer: Result<T, E>) -> bool {
     answer.is_err()
 }

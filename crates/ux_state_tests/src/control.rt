@@ -227,7 +227,7 @@ fn write_lacks_memory(rt: &impl Abort, alloc: Global, units: usize) -> Result<bo
 }
 
 #[test]
-fn a_refused_allocation_is_told(rt: HostRuntime) -> Result<(), Fail> {
+fn a_failed_allocation_is_reported(rt: HostRuntime) -> Result<(), Fail> {
     for units in 0..25 {
         assert!(rt; read_lacks_memory(&rt, rt.alloc(), units)?, "{units}");
         assert!(rt; write_lacks_memory(&rt, rt.alloc(), units)?, "{units}");
@@ -246,7 +246,7 @@ fn errors_are_refusals(rt: HostRuntime) {
 }
 
 #[test]
-fn errors_are_told_in_words(rt: HostRuntime) -> Result<(), Fail> {
+fn errors_are_printed_in_words(rt: HostRuntime) -> Result<(), Fail> {
     let invalid = ControlError::Invalid;
     let no_memory = ControlError::NoMemory;
     let text = format!(in rt.alloc(); "{invalid}, {no_memory}")?;

@@ -366,7 +366,7 @@ fn each_of_the_names_is_given_once(rt: HostRuntime) -> Result<(), Fail> {
 }
 
 #[test]
-fn a_refused_name_changes_nothing(rt: HostRuntime) -> Result<(), Fail> {
+fn a_name_without_memory_changes_nothing(rt: HostRuntime) -> Result<(), Fail> {
     let alloc = rt.alloc();
     let mut paths = Paths::new(alloc);
     let mut names = AbstractNames::new(alloc)?;
@@ -412,7 +412,7 @@ fn names_go_without_memory(rt: HostRuntime) -> Result<(), Fail> {
 }
 
 #[test]
-fn refusals_are_answered_and_told(rt: HostRuntime) -> Result<(), Fail> {
+fn refusals_are_answered_and_printed(rt: HostRuntime) -> Result<(), Fail> {
     let answers = [
         Refusal::from(BindError::Taken),
         Refusal::from(BindError::NoMemory),

@@ -1,4 +1,4 @@
-//! Copies while every allocation is refused.
+//! Copies while every allocation fails.
 ghost use Rattle.std.specs.Prelude.{◌≡◌, IfOk};
 ghost use Rattle.ux_model.specs.Limits.{name_limit};
 ghost use Rattle.ux_model.specs.Rooms.{sender_bytes, size_of, room_for, Fits};
@@ -12,7 +12,7 @@ use ux_types::{
     Addr, Bytes, Cred, Errno, Fd, MsgFlags, Name, OpenFlags, Pid, PollFlags, Reply, Request,
 };
 
-/// Makes room for the reply to a request, and copies a reply while every allocation is refused.
+/// Makes room for the reply to a request, and copies a reply while every allocation fails.
 #[tactic(auto, using(ux_reply_room::proofs::Fitting::fits_trans))]
 fn copy_without_memory(alloc: Global, request: &Request, reply: &Reply) -> Result<Reply, AllocError>
     requires { Fits (size_of reply.now) (room_for request.now) }
@@ -121,24 +121,24 @@ fn messages_are_copied(rt: HostRuntime) -> Result<(), Fail> {
     Ok(())
 }
 
-/// Whether room for the reply to a request is refused.
-fn is_refused(alloc: Global, request: Request) -> bool {
-    let refused = ReplyRoom::for_request(alloc, &request).is_err();
+/// Whether there is no room for the reply to a request.
+fn fails(alloc: Global, request: Request) -> bool {
+    let failed = ReplyRoom::for_request(alloc, &request).is_err();
     drop(request);
-    refused
+    failed
 }
 
 #[test]
-fn room_is_refused_without_memory(rt: HostRuntime) -> Result<(), Fail> {
+fn room_needs_memory(rt: HostRuntime) -> Result<(), Fail> {
     let alloc = rt.alloc();
     let fd = Fd(0);
     let hoard = Hoard::take_all(alloc)?;
-    let few = is_refused(alloc, Request::Read { fd, n: 14 });
-    let read = is_refused(alloc, Request::Read { fd, n: 15 });
-    let named = is_refused(alloc, Request::GetSockName { fd });
-    let plain = is_refused(alloc, Request::Close { fd });
+    let few = fails(alloc, Request::Read { fd, n: 14 });
+    let read = fails(alloc, Request::Read { fd, n: 15 });
+    let named = fails(alloc, Request::GetSockName { fd });
+    let plain = fails(alloc, Request::Close { fd });
     drop(hoard);
-    assert!(rt; read && named, "nothing was refused");
+    assert!(rt; read && named, "nothing failed");
     assert!(rt;
         !plain && !few,
         "a reply without bytes, or with 14, takes memory"

@@ -213,7 +213,7 @@ fn expect_queue<O: FileObject>(
     Ok(())
 }
 
-/// Ends a call, and sees which file objects come out, each closed and gone from the state.
+/// Ends a call, and sees which file objects are released, each closed and gone from the state.
 fn settle<O: FileObject>(rt: &(impl Abort + AllocGlobal), state: &mut State<O>, numbers: &[u32]) {
     let Ok(mut released) = ReleasedObjects::new(rt.alloc()) else {
         assert!(rt; false);

@@ -5,7 +5,7 @@ use std::collections::VecDeque;
 use ux_rights::Origin;
 use ux_types::Cred;
 
-/// A message with all that goes along.
+/// A message with all that is sent with it.
 pub struct ListMessage {
     pub bytes: Vec<u8>,
     pub rights: Vec<u128>,

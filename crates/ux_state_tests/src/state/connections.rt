@@ -216,7 +216,7 @@ fn a_name_leads_to_sockets_of_one_type(rt: HostRuntime) -> Result<(), Fail> {
 }
 
 #[test]
-fn an_abstract_name_goes_with_its_socket(rt: HostRuntime) -> Result<(), Fail> {
+fn an_abstract_name_is_freed_with_its_socket(rt: HostRuntime) -> Result<(), Fail> {
     let alloc = rt.alloc();
     let mut held = start_alone(&rt, alloc, 8)?;
     let s = &mut held.state;

@@ -1,4 +1,4 @@
-//! File objects, descriptors and descriptions, and how a file object goes.
+//! File objects, descriptors and descriptions, and how a file object is released.
 use super::{
     append, close, end, open, open_pair, process, settle, start, start_with, start_with_files,
 };
@@ -233,7 +233,7 @@ fn entries_are_put_from_a_minimum_on(rt: HostRuntime) -> Result<(), Fail> {
 }
 
 #[test]
-fn a_file_goes_with_its_last_descriptor(rt: HostRuntime) -> Result<(), Fail> {
+fn a_file_is_released_with_its_last_descriptor(rt: HostRuntime) -> Result<(), Fail> {
     let alloc = rt.alloc();
     let mut held = start(&rt, alloc, Counter::new(), Counter::new())?;
     let s = &mut held.state;
@@ -253,7 +253,7 @@ fn a_file_goes_with_its_last_descriptor(rt: HostRuntime) -> Result<(), Fail> {
 }
 
 #[test]
-fn a_file_goes_with_its_last_path(rt: HostRuntime) -> Result<(), Fail> {
+fn a_file_is_released_with_its_last_path(rt: HostRuntime) -> Result<(), Fail> {
     let alloc = rt.alloc();
     let mut held = start(&rt, alloc, Counter::new(), Counter::new())?;
     let s = &mut held.state;
@@ -267,7 +267,7 @@ fn a_file_goes_with_its_last_path(rt: HostRuntime) -> Result<(), Fail> {
 }
 
 #[test]
-fn all_goes_at_the_end(rt: HostRuntime) -> Result<(), Fail> {
+fn all_is_freed_at_the_end(rt: HostRuntime) -> Result<(), Fail> {
     let alloc = rt.alloc();
     let a = Pipe::new(alloc)?;
     let b = Pipe::new(alloc)?;

@@ -65,7 +65,7 @@ fn sends_count_and_receives_count_back(rt: HostRuntime) -> Result<(), Fail> {
 }
 
 #[test]
-fn a_queue_that_goes_counts_back(rt: HostRuntime) -> Result<(), Fail> {
+fn a_freed_queue_counts_back(rt: HostRuntime) -> Result<(), Fail> {
     let alloc = rt.alloc();
     let mut held = start_with_files(&rt, alloc)?;
     let s = &mut held.state;
@@ -99,7 +99,7 @@ fn the_end_counts_all_back(rt: HostRuntime) -> Result<(), Fail> {
 }
 
 #[test]
-fn a_chain_goes_with_its_counts(rt: HostRuntime) -> Result<(), Fail> {
+fn a_chain_is_freed_with_its_counts(rt: HostRuntime) -> Result<(), Fail> {
     let alloc = rt.alloc();
     let mut held = start_with_files(&rt, alloc)?;
     let s = &mut held.state;

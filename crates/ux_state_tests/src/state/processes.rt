@@ -27,7 +27,7 @@ fn exec<O: FileObject>(rt: &impl Abort, state: &mut State<O>, pid: u32) {
 }
 
 /// Opens the first file object in process 1 with close-on-exec, at this number.
-fn open_marked<O: FileObject>(rt: &impl Abort, state: &mut State<O>, fd: u32) {
+fn open_with_cloexec<O: FileObject>(rt: &impl Abort, state: &mut State<O>, fd: u32) {
     assert!(rt; state.is_live(Pid(1)));
     let opened = state.open_object(Pid(1), 0, Mode::Both, OpenFlags(4));
     assert!(rt; opened == Ok(Fd(fd)));
@@ -46,7 +46,7 @@ fn a_child_refers_to_all_that_its_parent_does(rt: HostRuntime) -> Result<(), Fai
     let alloc = rt.alloc();
     let mut held = start_with_files(&rt, alloc)?;
     let s = &mut held.state;
-    open_marked(&rt, s, 0);
+    open_with_cloexec(&rt, s, 0);
     open_pair(&rt, s, 1, 2);
     pass(&rt, alloc, s, 1, 2, 1000)?;
     expect_counts(&rt, s, [1, 1, 2]);
@@ -167,7 +167,7 @@ fn rights_in_flight_stay_with_the_user_that_sent_them(rt: HostRuntime) -> Result
     let alloc = rt.alloc();
     let mut held = start_with_files(&rt, alloc)?;
     let s = &mut held.state;
-    open_marked(&rt, s, 0);
+    open_with_cloexec(&rt, s, 0);
     open_pair(&rt, s, 1, 2);
     pass(&rt, alloc, s, 1, 0, 1000)?;
     set_ids(&rt, s, 1, 1001, 1001);
@@ -193,11 +193,11 @@ fn forks_without_memory<O: FileObject>(
 }
 
 #[test]
-fn a_refused_fork_counts_nothing_and_exec_needs_no_memory(rt: HostRuntime) -> Result<(), Fail> {
+fn a_fork_without_memory_counts_nothing_and_exec_needs_none(rt: HostRuntime) -> Result<(), Fail> {
     let alloc = rt.alloc();
     let mut held = start_with_files(&rt, alloc)?;
     let s = &mut held.state;
-    open_marked(&rt, s, 0);
+    open_with_cloexec(&rt, s, 0);
     open_pair(&rt, s, 1, 2);
     append(&rt, alloc, s, 1, b"ab");
     let made = forks_without_memory(&rt, alloc, s)?;

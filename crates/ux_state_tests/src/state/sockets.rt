@@ -1,4 +1,4 @@
-//! Connected sockets: messages, resets, and what goes with their queues.
+//! Connected sockets: messages, resets, and what is freed with their queues.
 use super::{
     append, close, expect_queue, expect_socket, open, open_pair, pass, settle, start,
     start_with_files, user,
@@ -53,8 +53,8 @@ fn expect_count<O: FileObject>(rt: &impl Abort, state: &State<O>, id: u128, coun
     assert!(rt; state.count(DescriptionId::new(id)) == count);
 }
 
-/// Delivers where there is no memory left, and nothing has come of it.
-fn refuse_delivery<O: FileObject>(
+/// Delivers where there is no memory left, and nothing was installed.
+fn fail_delivery<O: FileObject>(
     rt: &impl Abort,
     alloc: Global,
     state: &mut State<O>,
@@ -75,7 +75,7 @@ fn delivered_rights_are_counted(rt: HostRuntime) -> Result<(), Fail> {
     open(&rt, s, 1, 0, Mode::Both, Ok(Fd(0)));
     open_pair(&rt, s, 1, 2);
     close(&rt, s, 1, 1);
-    refuse_delivery(&rt, alloc, s, 0)?;
+    fail_delivery(&rt, alloc, s, 0)?;
     expect_count(&rt, s, 0, 1);
     expect_socket(&rt, s, 1, Err(Errno::EBADF));
     deliver(&rt, alloc, s, 0, true)?;
@@ -189,7 +189,7 @@ fn pairs_with_unread_bytes_leave_no_slot_taken(rt: HostRuntime) -> Result<(), Fa
 }
 
 #[test]
-fn a_chain_of_passed_sockets_goes_at_once(rt: HostRuntime) -> Result<(), Fail> {
+fn a_chain_of_passed_sockets_is_freed_at_once(rt: HostRuntime) -> Result<(), Fail> {
     let alloc = rt.alloc();
     let mut held = start_with_files(&rt, alloc)?;
     let s = &mut held.state;
@@ -216,7 +216,7 @@ fn a_chain_of_passed_sockets_goes_at_once(rt: HostRuntime) -> Result<(), Fail> {
     Ok(())
 }
 
-/// Ends a call and opens a pair where there is no memory left: how many file objects come out, and whether
+/// Ends a call and opens a pair where there is no memory left: how many file objects are released, and whether
 /// there is a pair.
 fn settle_without_memory<O: FileObject>(
     alloc: Global,
@@ -231,7 +231,7 @@ fn settle_without_memory<O: FileObject>(
 }
 
 #[test]
-fn a_state_settles_under_refused_memory(rt: HostRuntime) -> Result<(), Fail> {
+fn a_state_settles_without_memory(rt: HostRuntime) -> Result<(), Fail> {
     let alloc = rt.alloc();
     let mut held = start(&rt, alloc, Counter::new(), Counter::new())?;
     let s = &mut held.state;
