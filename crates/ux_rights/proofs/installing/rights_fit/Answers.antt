@@ -1,5 +1,5 @@
 use Rattle.std.proofs.Common.{rules}
-use Rattle.ux_rights.proofs.plan.rights_fit.Goals as goal
+use Rattle.ux_rights.proofs.installing.rights_fit.Goals as goal
 
 pub returns : goal.returns
 returns c = search rules
