@@ -15,7 +15,7 @@ use Rattle.ux_syntax.specs.Spelling.{Plan, plan_of, lines_of, line_limit, SpellS
 use Rattle.ux_syntax.specs.Reading.{item_at, line_at, line_fault, on_line, lines_at, no_lines, script_at}
 use Rattle.ux_syntax.specs.Results.{Fails, FailsAt, HasFault, fault_at, GivesScript}
 use Rattle.ux_syntax.specs.Continuing.{onto_front, continued, Found}
-use Rattle.ux_syntax.proofs.Scripts.{gives_found, gives_orderly, gives_only, gives_fault}
+use Rattle.ux_syntax.proofs.Scripts.Results.{gives_found, gives_orderly, gives_only, gives_fault}
 
 -- what stands before a line feed, or no byte, is a line
 front_nil : (rest : List ℕ) → onto_front [] (lines_of rest) ≡ lines_of rest

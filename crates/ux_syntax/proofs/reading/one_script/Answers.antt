@@ -1,5 +1,5 @@
 use Rattle.ux_syntax.specs.Spelling.{lines_of}
-use Rattle.ux_syntax.proofs.Scripts.{script_unique}
+use Rattle.ux_syntax.proofs.Scripts.Whole.{script_unique}
 use Rattle.ux_syntax.proofs.reading.one_script.Goals as goal
 
 pub returns : goal.returns

@@ -1,5 +1,5 @@
 use Rattle.ux_syntax.specs.Spelling.{lines_of}
-use Rattle.ux_syntax.proofs.Scripts.{gives_found, gives_orderly, gives_only, gives_fault}
+use Rattle.ux_syntax.proofs.Scripts.Results.{gives_found, gives_orderly, gives_only, gives_fault}
 use Rattle.ux_syntax.proofs.reading.parse_script.Goals as goal
 
 pub returns-clause-found : goal.returns-clause-found
