@@ -92,11 +92,11 @@ received_gives S T p fd n space flags d k s r h ok g same =
     subst P (ap (λ x. receive_at S p x (incoming n space flags)) same ∙ received_at S p fd n space flags d s h ok) g
 
 -- and what it brings is what the call does
-pub received_told : (S : State) (p : ℕ) (fd : Fd) (n space : ℕ) (flags : MsgFlags) (d k : ℕ) (s : Socket) (r : Result Done Refusal) →
+pub received_delivered : (S : State) (p : ℕ) (fd : Fd) (n space : ℕ) (flags : MsgFlags) (d k : ℕ) (s : Socket) (r : Result Done Refusal) →
     find_socket S p fd ≡ Ok (d, s) → k ≡ d →
     IfOk r (λ done. done.delivered ≡ told_of (brought_at S p k n space) done.reply) →
     IfOk r (λ done. done.delivered ≡ delivered_by S p (Request.RecvMsg fd n space flags) done.reply)
-received_told S p fd n space flags d k s r h same told =
+received_delivered S p fd n space flags d k s r h same told =
     let here : socket_at S k ≡ Some s = ap (socket_at S) same ∙ socket_found S p d fd s h in
     let there : brought_at S p k n space ≡ brought_from s n space (table_of S p) s.queue =
     ap (λ o. elim o as (λ _. Brought) [ None ↦ nothing_brought | Some s ↦ brought_from s n space (table_of S p) s.queue ]) here in

@@ -32,6 +32,7 @@ pub(crate) fn send_datagram<O: FileObject>(
         return Err(Errno::EMSGSIZE.into());
     }
     let Some(socket) = state.socket(id) else {
+        // It is a socket, as the contract requires.
         unreachable!();
     };
     if socket.is_write_shut() {
@@ -58,6 +59,7 @@ fn send_by_name<O: FileObject>(
         (λ t target. send_to_target state.old limit id t target (drafted draft.entry rights (Some s.name)))) result state.new) }
 {
     let Some(socket) = state.socket(id) else {
+        // It is a socket, as the contract requires.
         unreachable!();
     };
     let target = match state.socket_named(socket.kind(), addr) {
@@ -81,6 +83,7 @@ fn send_by_association<O: FileObject>(
         (λ t target. send_to_target state.old limit id t target (drafted draft.entry rights (Some s.name)))) result state.new) }
 {
     let Some(socket) = state.socket(id) else {
+        // It is a socket, as the contract requires.
         unreachable!();
     };
     let Some(target) = socket.association() else {
@@ -109,6 +112,7 @@ fn send_to_target<O: FileObject>(
         (send_to_target state.old limit id target t (drafted draft.entry rights (Some s.name))) result state.new)) }
 {
     let (Some(sender), Some(other)) = (state.socket(id), state.socket(target)) else {
+        // Both are sockets, as the contract requires.
         unreachable!();
     };
     if !other.takes_from(id) {

@@ -59,11 +59,11 @@ pub(crate) fn deliver<O: FileObject>(
     ensures err { OnErr result (state.new ≡ state.old) }
 {
     let rights = received.rights.as_slice();
-    let told = cred_told(wanted, received.cred);
+    let cred = written_cred(wanted, received.cred);
     let numbers = find_numbers(state, alloc, pid, rights.len(), space_for_rights(wanted))?;
-    let truncated = numbers.len() < rights.len() || (wanted.cred && told.is_none());
+    let truncated = numbers.len() < rights.len() || (wanted.cred && cred.is_none());
     let installs = !numbers.is_empty();
-    let control = Control::new(told, numbers);
+    let control = Control::new(cred, numbers);
     let bytes = Bytes::new(write_control(alloc, &control)?)?;
     state.install_rights(pid, control.rights(), rights, wanted.cloexec)?;
     Ok(Delivered {
@@ -91,7 +91,7 @@ fn find_numbers<O: FileObject>(
 }
 
 /// The credentials, where they are wanted and the space holds them whole.
-fn cred_told(wanted: Wanted, cred: Cred) -> Option<Cred>
+fn written_cred(wanted: Wanted, cred: Cred) -> Option<Cred>
     ensures { result ≡ (if writes_cred wanted.cred wanted.space then Some cred else None) }
 {
     if wanted.cred && wanted.space >= CMSG_CRED_LEN {

@@ -48,7 +48,7 @@ pub fn recv_msg<O: FileObject>(
 ) -> Result<Done, Refusal>
     requires { IsTrue (is_live state.old pid.0) }
     ensures gives { Gives state.old (model.recv_msg state.old pid.0 fd asked.n asked.space asked.flags) (reply_of result) state.new }
-    ensures told { IfOk result (λ done. done.delivered ≡ delivered_by state.old pid.0 (Request.RecvMsg fd asked.n asked.space asked.flags) done.reply) }
+    ensures delivered { IfOk result (λ done. done.delivered ≡ delivered_by state.old pid.0 (Request.RecvMsg fd asked.n asked.space asked.flags) done.reply) }
 {
     let id = match state.find_socket(pid, fd) {
         Ok(found) => found.id,
@@ -105,7 +105,7 @@ fn recv_at<O: FileObject>(
 ) -> Result<Done, Refusal>
     requires { IsTrue (is_live state.old pid.0) }
     ensures gives { Gives state.old (receive_at state.old pid.0 id (model.incoming asked.n asked.space asked.flags)) (reply_of result) state.new }
-    ensures told { IfOk result (λ done. done.delivered ≡ told_of (brought_at state.old pid.0 id asked.n asked.space) done.reply) }
+    ensures delivered { IfOk result (λ done. done.delivered ≡ told_of (brought_at state.old pid.0 id asked.n asked.space) done.reply) }
 {
     let Some(socket) = state.socket(id) else {
         return Err(Errno::EBADF.into());
@@ -134,9 +134,10 @@ fn recv_from_peer<O: FileObject>(
     requires live { IsTrue (is_live state.old pid.0) }
     requires socket { IsSocketAt state.old id }
     ensures gives { IsSomeAnd (socket_at state.old id) (λ s. Gives state.old (model.receive_from_peer state.old pid.0 id s (model.incoming asked.n asked.space asked.flags)) (reply_of result) state.new) }
-    ensures told { IfOk result (λ done. done.delivered ≡ told_of (brought_at state.old pid.0 id asked.n asked.space) done.reply) }
+    ensures delivered { IfOk result (λ done. done.delivered ≡ told_of (brought_at state.old pid.0 id asked.n asked.space) done.reply) }
 {
     let Some(socket) = state.socket(id) else {
+        // It is a socket, as the contract requires.
         unreachable!();
     };
     let Some(peer) = socket.peer() else {
@@ -165,9 +166,10 @@ fn recv_front<O: FileObject>(
     requires some { IsSomeAnd (socket_at state.old id) (λ s. 0 < length s.queue) }
     ensures gives { IsSomeAnd (socket_at state.old id) (λ s. OnFront asked.n s (λ front.
         Gives state.old (model.receive_front state.old pid.0 id s (model.incoming asked.n asked.space asked.flags) front) (reply_of result) state.new)) }
-    ensures told { IfOk result (λ done. done.delivered ≡ told_of (brought_at state.old pid.0 id asked.n asked.space) done.reply) }
+    ensures delivered { IfOk result (λ done. done.delivered ≡ told_of (brought_at state.old pid.0 id asked.n asked.space) done.reply) }
 {
     let Some(socket) = state.socket(id) else {
+        // It is a socket, as the contract requires.
         unreachable!();
     };
     let wanted = Wanted {
@@ -236,7 +238,7 @@ fn received(kind: SockType, flags: MsgFlags, front: Peeked, delivery: Delivered)
         taken
     };
     Reply::Received {
-        flags: flags_told(taken < front.whole, delivery.truncated, marks_records(kind)),
+        flags: received_flags(taken < front.whole, delivery.truncated, marks_records(kind)),
         count,
         bytes: front.bytes,
         control: delivery.control,
@@ -245,20 +247,20 @@ fn received(kind: SockType, flags: MsgFlags, front: Peeked, delivery: Delivered)
 }
 
 /// The flags that report that data was cut off, that control data was left out, and that a record ends.
-fn flags_told(cut: bool, control_cut: bool, ends_record: bool) -> MsgFlags
+fn received_flags(cut: bool, control_cut: bool, ends_record: bool) -> MsgFlags
     ensures { result ≡ received_flags cut control_cut ends_record }
 {
-    let mut told = MsgFlags(0);
+    let mut reported = MsgFlags(0);
     if cut {
-        told = told.union(MsgFlags::TRUNC);
+        reported = reported.union(MsgFlags::TRUNC);
     }
     if control_cut {
-        told = told.union(MsgFlags::CTRUNC);
+        reported = reported.union(MsgFlags::CTRUNC);
     }
     if ends_record {
-        told = told.union(MsgFlags::EOR);
+        reported = reported.union(MsgFlags::EOR);
     }
-    told
+    reported
 }
 
 /// Whether a receive at a socket of this type reports where a record ends (MSG_EOR).

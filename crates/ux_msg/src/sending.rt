@@ -31,7 +31,7 @@ use ux_types::{
 /// What a sendmsg(2) is given beside its descriptor.
 #[derive(Clone, Copy)]
 pub struct Outgoing<'a> {
-    /// Where it is to go, if not to the socket's peer.
+    /// Where it is sent, if not to the socket's peer.
     pub addr: Option<&'a Addr>,
     /// The data.
     pub bytes: &'a Bytes,
@@ -226,7 +226,7 @@ fn refusal_of_addr(is_connected: bool) -> Errno
 /// References to what these numbers of a table lead to. EBADF where one isn't open.
 fn rights_behind(table: &Table, alloc: Global, numbers: &[Fd]) -> Result<RefList, Refusal>
     ensures rights { IfOk result (λ rights. model.descriptions_behind table.now (map (λ fd. fd.0) numbers.now) ≡ Some rights) }
-    ensures refused { IfErr result (IsRefusedBehind table.now (map (λ fd. fd.0) numbers.now)) }
+    ensures unsent { IfErr result (IsRefusedBehind table.now (map (λ fd. fd.0) numbers.now)) }
 {
     let mut rights = RefList::new(alloc);
     let mut left = numbers;
@@ -285,8 +285,8 @@ fn flight_limit<O: FileObject>(state: &State<O>, pid: Pid) -> Option<u32>
     }
 }
 
-/// Whether a control buffer may go with these bytes: with few rights or none, which on a stream have a byte to
-/// go with.
+/// Whether a control buffer may be sent with these bytes: with few rights or none, which on a stream are sent with
+/// a byte at least.
 fn is_sendable_control(socket: &Socket, bytes: &Bytes, control: &Control) -> bool
     ensures { result ≡ model.is_sendable_control socket.now.kind bytes.now control.now }
 {

@@ -13,7 +13,7 @@ pub(crate) struct Conditions {
     pub(crate) readable: bool,
     /// POLLOUT: so has a write.
     pub(crate) writable: bool,
-    /// POLLRDHUP: no more will come.
+    /// POLLRDHUP: nothing more will arrive.
     pub(crate) read_hung: bool,
     /// POLLHUP: and no more can be sent.
     pub(crate) hung: bool,
@@ -49,22 +49,22 @@ impl Conditions {
     pub(crate) fn flags(self) -> PollFlags
         ensures { result ≡ model.poll_flags self }
     {
-        let mut told = PollFlags(0);
+        let mut flags = PollFlags(0);
         if self.readable {
-            told = told.union(PollFlags::IN);
+            flags = flags.union(PollFlags::IN);
         }
         if self.writable {
-            told = told.union(PollFlags::OUT);
+            flags = flags.union(PollFlags::OUT);
         }
         if self.read_hung {
-            told = told.union(PollFlags::RDHUP);
+            flags = flags.union(PollFlags::RDHUP);
         }
         if self.hung {
-            told = told.union(PollFlags::HUP);
+            flags = flags.union(PollFlags::HUP);
         }
         if self.failed {
-            told = told.union(PollFlags::ERR);
+            flags = flags.union(PollFlags::ERR);
         }
-        told
+        flags
     }
 }

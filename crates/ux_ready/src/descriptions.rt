@@ -33,6 +33,7 @@ fn conditions<O: FileObject>(
     }
     match description.object() {
         Some(number) => object_conditions(state, description, number),
+        // A description leads to a file object or to a socket.
         None => unreachable!(),
     }
 }

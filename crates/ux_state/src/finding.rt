@@ -18,6 +18,7 @@ use ux_fdtable::{Descriptor, Table};
 use ux_object::FileObject;
 use ux_types::{Cred, DescriptionId, Errno, Fd, Pid};
 
+// `?` gets no proof where the answer lends what owns memory, so who looks one of these two up writes `match`.
 /// A descriptor that is open, and the description that it leads to.
 #[derive(Clone, Copy)]
 pub struct FoundDescription<'a> {
@@ -164,7 +165,10 @@ impl<O: FileObject> State<O> {
         requires { IsTrue (is_live self.now pid.0) }
         ensures { MatchResult result (λ r. find_socket self.now pid.0 fd ≡ Ok (r.id, r.socket.now)) (λ e. find_socket self.now pid.0 fd ≡ Err e) }
     {
-        let found = self.find_description(pid, fd)?;
+        let found = match self.find_description(pid, fd) {
+            Ok(found) => found,
+            Err(error) => return Err(error),
+        };
         match found.description.socket() {
             Some(socket) => Ok(FoundSocket {
                 id: found.descriptor.description,

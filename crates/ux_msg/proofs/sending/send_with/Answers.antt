@@ -14,7 +14,7 @@ returns-in_err-rights g c =
     let sendable : is_sendable_control c.in-Some.socket.now.kind c.args.message.bytes.now c.args.control.now ≡ true = search rules in
     let refused : IsRefusedBehind (table_of c.args.state.now c.args.pid.0) c.args.control.now.rights c.in_err-rights.field-0.0 =
     subst (λ t. IsRefusedBehind t c.args.control.now.rights c.in_err-rights.field-0.0) c.table.ensures
-    (subst (λ ns. IsRefusedBehind c.table.result.now ns c.in_err-rights.field-0.0) c.rights.ensures c.in_err-rights.ensures.refused) in
+    (subst (λ ns. IsRefusedBehind c.table.result.now ns c.in_err-rights.field-0.0) c.rights.ensures c.in_err-rights.ensures.unsent) in
     let p = err_from_is_err_and c.from_residual.result c.from_residual.ensures.1 in
     rw (p.1, p.2) (on_live c.args.state.now c.args.pid.0 _
     (λ (o : Outcome). GivesRefusal c.args.state.now o c.in_err-rights.field-0.0 c.args.state.now) c.requires.live (λ P.
