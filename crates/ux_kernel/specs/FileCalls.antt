@@ -1,7 +1,7 @@
 -- Calls on a file object by what is known of its description, which may be gone.
 use Rattle.std.specs.Prelude.{◌≡◌, ℕ, ◌+◌, ◌≤◌, ◌<◌, ◌^◌, true, false, not, ◌&&◌, ◌==◌, nat_lt, if◌then◌else◌, List, length, Option, Some}
 use Rattle.std.specs.Prelude.{None, ℤ, pos, negsuc}
-use Rattle.ux_model.specs.Types.{Errno}
+use Rattle.ux_model.specs.Types.{Errno, Refusal}
 use Rattle.ux_model.specs.Limits.{offset_limit, read_limit}
 use Rattle.ux_model.specs.Places.{place}
 use Rattle.ux_model.specs.Flags.{can_read, can_write}
@@ -29,12 +29,12 @@ abbrev pub description_of : OpenFile → Description
 description_of f = record { offset = f.offset; mode = f.mode; append = f.append; nonblock = f.nonblock; target = to_object f.object }
 
 -- the refusal that stands for an error of a file object
-abbrev pub errno_of : ObjError → Errno
-errno_of ObjError.WouldBlock = Errno.EAGAIN
-errno_of ObjError.Io = Errno.EIO
-errno_of ObjError.Full = Errno.EFBIG
-errno_of ObjError.NoMemory = Errno.ENOMEM
-errno_of ObjError.Invalid = Errno.EINVAL
+abbrev pub refusal_of : ObjError → Refusal
+refusal_of ObjError.WouldBlock = Refusal.Answer Errno.EAGAIN
+refusal_of ObjError.Io = Refusal.Answer Errno.EIO
+refusal_of ObjError.Full = Refusal.Answer Errno.EFBIG
+refusal_of ObjError.NoMemory = Refusal.NoMemory
+refusal_of ObjError.Invalid = Refusal.Answer Errno.EINVAL
 
 -- ---- read
 

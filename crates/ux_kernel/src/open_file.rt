@@ -1,11 +1,11 @@
 //! What is known of an open file object by its description.
 ghost use Rattle.std.specs.Prelude.{◌≡◌, Some, None, MatchOption};
 ghost use Rattle.ux_model.specs.Description.{object_of};
-ghost use Rattle.ux_kernel.specs.FileCalls.{description_of, errno_of};
+ghost use Rattle.ux_kernel.specs.FileCalls.{description_of, refusal_of};
 
 use ux_description::Description;
 use ux_object::ObjError;
-use ux_types::{DescriptionId, Errno, Mode};
+use ux_types::{DescriptionId, Errno, Mode, Refusal};
 
 /// An open file object, with all that its description says.
 #[derive(Clone, Copy)]
@@ -36,14 +36,14 @@ impl OpenFile {
 }
 
 /// The refusal that stands for an error of a file object.
-pub(crate) fn errno_of(error: ObjError) -> Errno
-    ensures { result ≡ errno_of error }
+pub(crate) fn refusal_of(error: ObjError) -> Refusal
+    ensures { result ≡ refusal_of error }
 {
     match error {
-        ObjError::WouldBlock => Errno::EAGAIN,
-        ObjError::Io => Errno::EIO,
-        ObjError::Full => Errno::EFBIG,
-        ObjError::NoMemory => Errno::ENOMEM,
-        ObjError::Invalid => Errno::EINVAL,
+        ObjError::WouldBlock => Errno::EAGAIN.into(),
+        ObjError::Io => Errno::EIO.into(),
+        ObjError::Full => Errno::EFBIG.into(),
+        ObjError::NoMemory => Refusal::NoMemory,
+        ObjError::Invalid => Errno::EINVAL.into(),
     }
 }

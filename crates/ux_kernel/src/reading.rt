@@ -10,7 +10,7 @@ ghost use Rattle.ux_kernel.specs.FileCalls.{description_of, read_file, read_at, 
 
 use crate::kernel::Kernel;
 use crate::object_bytes::read_bytes;
-use crate::open_file::{OpenFile, errno_of};
+use crate::open_file::{OpenFile, refusal_of};
 use ux_msg::read_socket;
 use ux_object::{FileObject, ObjKind};
 use ux_types::{Bytes, DescriptionId, Errno, Fd, Pid, READ_LIMIT, Refusal, Reply};
@@ -100,7 +100,7 @@ impl<O: FileObject> Kernel<O> {
                 }
                 Ok(Reply::Bytes(bytes))
             }
-            Err(error) => Err(errno_of(error).into()),
+            Err(error) => Err(refusal_of(error)),
         }
     }
 }

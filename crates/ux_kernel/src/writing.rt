@@ -6,9 +6,9 @@ ghost use Rattle.ux_model.specs.Writing as model;
 ghost use Rattle.ux_kernel.specs.FileCalls.{description_of, write_file, write_at, IsWritable};
 
 use crate::kernel::Kernel;
-use crate::open_file::{OpenFile, errno_of};
+use crate::open_file::{OpenFile, refusal_of};
 use ux_msg::write_socket;
-use ux_object::{FileObject, ObjError, ObjKind};
+use ux_object::{FileObject, ObjKind};
 use ux_types::{Bytes, DescriptionId, Errno, Fd, Pid, Refusal, Reply};
 
 impl<O: FileObject> Kernel<O> {
@@ -48,6 +48,7 @@ impl<O: FileObject> Kernel<O> {
         match (OpenFile::of(id, description), description.socket()) {
             (Some(file), _) => self.write_file(file, bytes),
             (None, Some(_)) => write_socket(&mut self.state, self.alloc, pid, id, tag, bytes),
+            // A description leads to a file object or to a socket.
             (None, None) => unreachable!(),
         }
     }
@@ -95,8 +96,7 @@ impl<O: FileObject> Kernel<O> {
                 }
                 Ok(Reply::Count(count))
             }
-            Err(ObjError::NoMemory) => Err(Refusal::NoMemory),
-            Err(error) => Err(errno_of(error).into()),
+            Err(error) => Err(refusal_of(error)),
         }
     }
 }
