@@ -33,7 +33,7 @@ impl<O: FileObject> Kernel<O> {
         Reply::Ok
     }
 
-    /// The end of the layer: every path and every description goes. It is never refused.
+    /// The end of the layer: every path and every description is freed. It is never refused.
     #[tactic(auto, unfolding(ux_model::specs::Closing::off))]
     pub(crate) fn off(&mut self) -> Reply
         ensures reply { result ≡ (model.off self.old).reply }

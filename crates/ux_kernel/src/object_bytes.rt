@@ -46,10 +46,8 @@ fn read_short<O: FileObject>(
     ensures reads { ReadsObject state.old number at n result state.new }
 {
     let mut buf = [0u8; SHORT_BYTES];
-    match state.read_object(number, at, &mut buf[..n]) {
-        Ok(count) => Ok(Bytes::short(&buf[..count])),
-        Err(error) => Err(error),
-    }
+    let count = state.read_object(number, at, &mut buf[..n])?;
+    Ok(Bytes::short(&buf[..count]))
 }
 
 /// Reads bytes into memory that the reply then shares.

@@ -16,10 +16,10 @@ impl<O: FileObject> Kernel<O> {
         requires { IsTrue (is_live self.now pid.0) }
         ensures { Gives self.now (model.poll self.now pid.0 fd) result self.now }
     {
-        let told = match self.state.table(pid).get(fd) {
+        let flags = match self.state.table(pid).get(fd) {
             Some(entry) => readiness(&self.state, entry.description),
             None => PollFlags::NVAL,
         };
-        Ok(Reply::Poll(told))
+        Ok(Reply::Poll(flags))
     }
 }

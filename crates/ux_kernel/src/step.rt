@@ -16,7 +16,7 @@ use ux_types::{Done, Errno, Pid, Refusal, Reply, Request};
 
 impl<O: FileObject> Kernel<O> {
     /// Makes one call of a process that hasn't exited, or the end of the layer once none is left, and
-    /// releases what nothing refers to any more: the file objects that went with the call are put into an
+    /// releases what nothing refers to any more: the file objects that nothing leads to are put into an
     /// empty list by rising number, closed and otherwise as they were. `tag` is the number of the call, which
     /// a message that it sends keeps; the answer reports that of the message of which rights were received. A
     /// refusal is the reply. One with ENOMEM leaves the kernel as it was, and
@@ -34,7 +34,7 @@ impl<O: FileObject> Kernel<O> {
         requires caller { IsCaller self.old pid.0 request.now }
         requires empty { released.old ≡ [] }
         ensures step { Step self.old pid.0 tag request.now result.reply (map (λ r. r.0) released.new) self.new }
-        ensures told { result.delivered ≡ delivered_by self.old pid.0 request.now result.reply }
+        ensures delivered { result.delivered ≡ delivered_by self.old pid.0 request.now result.reply }
         ensures handed_out { AllByRecursion (IsHandedOut self.old) released.new }
     {
         let done = self.call(pid, tag, request);
@@ -42,11 +42,11 @@ impl<O: FileObject> Kernel<O> {
         done
     }
 
-    /// Makes the call, and leaves what it lets go of.
+    /// Makes the call, and leaves what nothing refers to any more to `settle`.
     fn call(&mut self, pid: Pid, tag: u64, request: &Request) -> Done
         requires { IsCaller self.old pid.0 request.now }
         ensures chosen { Chosen self.old (outcome self.old pid.0 tag request.now) result.reply self.new }
-        ensures told { result.delivered ≡ delivered_by self.old pid.0 request.now result.reply }
+        ensures delivered { result.delivered ≡ delivered_by self.old pid.0 request.now result.reply }
     {
         match self.dispatch(pid, tag, request) {
             Ok(done) => done,
@@ -60,7 +60,7 @@ impl<O: FileObject> Kernel<O> {
     fn dispatch(&mut self, pid: Pid, tag: u64, request: &Request) -> Result<Done, Refusal>
         requires { IsCaller self.old pid.0 request.now }
         ensures gives { GivesOrFails self.old (outcome self.old pid.0 tag request.now) (reply_of result) self.new }
-        ensures told { IfOk result (λ done. done.delivered ≡ delivered_by self.old pid.0 request.now done.reply) }
+        ensures delivered { IfOk result (λ done. done.delivered ≡ delivered_by self.old pid.0 request.now done.reply) }
     {
         let answer = match request {
             Request::Open { path, mode, flags } => self.open_file(pid, path, *mode, *flags),

@@ -13,7 +13,7 @@ const NO_ID: u32 = 4_294_967_295;
 
 impl<O: FileObject> Kernel<O> {
     /// setresuid(2) and setresgid(2) at once, with one id for the real, the effective and the saved. EINVAL where one
-    /// is no id, else EPERM where the process is unprivileged and they aren't its own. Privileges go where user 0
+    /// is no id, else EPERM where the process is unprivileged and they aren't its own. Privileges are lost where user 0
     /// becomes another (capabilities(7)).
     #[tactic(auto, using(crate::proofs::Processes::no_ids_refused, crate::proofs::Processes::others_ids_refused))]
     pub(crate) fn set_ids(&mut self, pid: Pid, uid: u32, gid: u32) -> Result<Reply, Refusal>
