@@ -96,8 +96,8 @@ more_are_groups old new full groups r few = record {
 
 -- ---- one number
 
-pub put_are_groups : (old new : List (List Bool)) (before after : List Bool) (g i : ℕ) (is_in : Bool) → AreGroups old before → g < length old →
-    PutsInGroup old new g i is_in → PutsFull (group new g) before after g → AreGroups new after
+pub put_are_groups : (old new : List (List Bool)) (before after : List Bool) (g i : ℕ) (is_in : Bool) → AreGroups old before →
+    g < length old → PutsInGroup old new g i is_in → PutsFull (group new g) before after g → AreGroups new after
 put_are_groups old new before after g i is_in groups there put put_full = record {
   few = omega (arith, groups.few, put.same_length, put_full.same_length);
   small = omega (arith, groups.small, put_full.same_length);

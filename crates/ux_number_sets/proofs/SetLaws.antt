@@ -44,7 +44,8 @@ none_in words capacity k e = record {
   ];
 }
 
-pub first_free : (words : List ℕ) (capacity from n : ℕ) → IsFirstBit words from n → n < capacity → IsFirstFree (set_of_bits words capacity) from n
+pub first_free : (words : List ℕ) (capacity from n : ℕ) → IsFirstBit words from n → n < capacity →
+    IsFirstFree (set_of_bits words capacity) from n
 first_free words capacity from n found low = record {
   within = omega (arith, low, set_length words capacity);
   after = found.after;
