@@ -26,7 +26,8 @@ use Rattle.ux_book.specs.Books.{KeptHistory, state_of, may_call, ends_of, is_las
 use Rattle.ux_book.specs.Trails.{Trailed, Owned, Placed}
 use Rattle.ux_book.proofs.Pasts.{calls_same}
 use Rattle.ux_book.proofs.LastReplies.{exit_is_ok, off_is_ok}
-use Rattle.ux_book.proofs.Legal.{few_live, nobodys, ends_push, ends_alike, last_after, last_makes_none, room_taken, may_follow, Waited, waited}
+use Rattle.ux_book.proofs.Legal.{few_live, nobodys, ends_push, ends_alike, last_after}
+use Rattle.ux_book.proofs.Legal.{last_makes_none, room_taken, may_follow, Waited, waited}
 use Rattle.ux_book.proofs.Slips.{nothing_yet}
 
 -- ---- what is at hand
@@ -188,8 +189,8 @@ ends_well {a} s is = off_is_ok a.kernel s.after a.pid.0 s.number s.reply s.gone
 
 pub waits : {a : Asked} (s : Stepped a) → is_again s.reply ≡ true →
     Waited a.boot a.kernel s.after a.trail.entries a.pid.0 a.request s.gone
-waits {a} s again = waited a.boot a.kernel s.after a.trail.entries a.pid.0 s.number a.request s.reply s.gone a.book.legal a.book.at_replay again
-    s.number_is s.step
+waits {a} s again = waited a.boot a.kernel s.after a.trail.entries a.pid.0 s.number a.request s.reply s.gone a.book.legal
+    a.book.at_replay again s.number_is s.step
 
 pub waits_there : {a : Asked} (s : Stepped a) → is_again s.reply ≡ true →
     Step (state_of a.view) a.pid.0 (length a.view.entries) a.request (Reply.Err Errno.EAGAIN) [] (state_of a.view)
@@ -288,7 +289,8 @@ ends_once a = let ends = a.book.ends in let small = one_at_most a.ended in omega
     one_at_most false = omega arith
 
 -- there is room for the last entries
-room_after : {a : Asked} {s : Stepped a} {n : Noting a s} (b : Grown a s n) → last_entries s.after (a.trail.entries ++ made s ∷ []) ≤ b.space
+room_after : {a : Asked} {s : Stepped a} {n : Noting a s} (b : Grown a s n) →
+    last_entries s.after (a.trail.entries ++ made s ∷ []) ≤ b.space
 room_after {a} {s} {n} b =
     let last = last_after a.kernel s.after a.trail.entries (made s) s.number (allowed a) (counted a) a.book.nobodys (ends_once a) s.step in
     let taken = room_taken (is_last a.request) (makes_one a.request s.reply) (last_makes_none a.request s.reply) in
@@ -307,7 +309,8 @@ book_after {a} {s} {n} b =
           a.book.at_replay (step_there s)) ∙ ap (replay a.boot) (sym is);
       trail_id = ap (λ (t : Trailed). t.id) b.trail_is ∙ a.book.trail_id;
       given =
-          let now : b.trail.given ≡ a.trail.given + cond {A = ℕ} (makes_one a.request s.reply) 1 0 = ap (λ (t : Trailed). t.given) b.trail_is in
+          let now : b.trail.given ≡ a.trail.given + cond {A = ℕ} (makes_one a.request s.reply) 1 0 =
+          ap (λ (t : Trailed). t.given) b.trail_is in
           let before = a.book.given in
           let one = fork_alone_makes a.kernel s.after a.pid.0 s.number a.request s.reply s.gone s.step in
           omega (arith, now, before, one);

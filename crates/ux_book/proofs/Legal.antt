@@ -86,8 +86,8 @@ exit_no_end Request.Exit h = absurd (false≢true h)
 exit_no_end request h = refl
 
 -- a last call takes one of the last entries, and a process that was made brings one
-pub last_after : (S T : State) (es : List Entry) (e : Entry) (n : ℕ) → is_allowed S e.pid.0 e.k e.request ≡ true → e.k ≡ calls_of e.pid.0 es →
-    calls_of 0 es ≡ ends_of es → ends_of es ≤ 1 →
+pub last_after : (S T : State) (es : List Entry) (e : Entry) (n : ℕ) → is_allowed S e.pid.0 e.k e.request ≡ true →
+    e.k ≡ calls_of e.pid.0 es → calls_of 0 es ≡ ends_of es → ends_of es ≤ 1 →
     Step S e.pid.0 n e.request e.reply e.released T →
     last_entries T (es ++ e ∷ []) + cond {A = ℕ} (is_last e.request) 1 0 ≡ last_entries S es + cond {A = ℕ} (makes_one e.request e.reply) 1
     0

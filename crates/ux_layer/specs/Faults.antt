@@ -23,4 +23,5 @@ pub record HasToWait (boot : State) (c : Caller) (request : Request) : Type 0 wh
 
 -- the call has to wait, as each other process's has, or the book's keeper can't keep it
 abbrev pub WaitsOrCannotKeep : State → Caller → Request → (ℕ → CallFault → Type 0) → CallFault → Type 0
-WaitsOrCannotKeep boot c request cannot_keep fault = ((fault ≡ CallFault.Deadlock) × HasToWait boot c request) ⊎ CannotKeep boot c cannot_keep fault
+WaitsOrCannotKeep boot c request cannot_keep fault =
+    ((fault ≡ CallFault.Deadlock) × HasToWait boot c request) ⊎ CannotKeep boot c cannot_keep fault

@@ -3,8 +3,10 @@ use Rattle.std.proofs.lemmas.List.{nil_from_length, length-map}
 use Rattle.ux_model.specs.Types.{Entry}
 use Rattle.ux_model.specs.History.{makes_one}
 use Rattle.ux_book.specs.Trails.{Trailed}
-use Rattle.ux_book.proofs.Appending.{Asked, ask, Stepped, Noting, Grown, few_calls, released_rise, all_handed_out, reply_fits, waits, waits_there}
-use Rattle.ux_book.proofs.Appending.{unchanged, child_number, new_past, place_there, kept_is, adds, book_after, enough_room, not_off, no_end}
+use Rattle.ux_book.proofs.Appending.{Asked, ask, Stepped, Noting, Grown}
+use Rattle.ux_book.proofs.Appending.{few_calls, released_rise, all_handed_out, reply_fits, waits, waits_there}
+use Rattle.ux_book.proofs.Appending.{unchanged, child_number, new_past, place_there, kept_is}
+use Rattle.ux_book.proofs.Appending.{adds, book_after, enough_room, not_off, no_end}
 use Rattle.ux_book.proofs.book.Book.append.Given.{Over}
 use Rattle.ux_book.proofs.book.Book.append.Goals.{After-step-done}
 use Rattle.ux_book.proofs.book.Book.append.Goals as goal

@@ -2,7 +2,8 @@ use Rattle.std.proofs.Common.{map, ap, subst, ◌∙◌, ◌++◌, ◌∷◌, []
 use Rattle.ux_model.specs.Types.{Reply, Entry}
 use Rattle.ux_model.specs.History.{is_off}
 use Rattle.ux_book.specs.Books.{is_last}
-use Rattle.ux_book.proofs.Appending.{Asked, ask, Stepped, Noting, Grown, few_calls, released_rise, exits, kept_is, adds_ok, book_after, no_end}
+use Rattle.ux_book.proofs.Appending.{Asked, ask, Stepped, Noting, Grown, few_calls}
+use Rattle.ux_book.proofs.Appending.{released_rise, exits, kept_is, adds_ok, book_after, no_end}
 use Rattle.ux_book.proofs.Appending.{last_room, last_trail, room_to_exit}
 use Rattle.ux_book.proofs.book.Book.append_last.Given.{Over}
 use Rattle.ux_book.proofs.book.Book.append_last.Goals.{After-step-done}

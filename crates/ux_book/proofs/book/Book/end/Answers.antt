@@ -2,7 +2,8 @@ use Rattle.std.proofs.Common.{map, ap, subst, ◌∙◌, ◌++◌, ◌∷◌, []
 use Rattle.ux_model.specs.Types.{Request, Entry}
 use Rattle.ux_book.specs.Books.{KeptHistory, ends_of}
 use Rattle.ux_book.specs.Trails.{Owned}
-use Rattle.ux_book.proofs.Appending.{Asked, ask, Stepped, Noting, Grown, released_rise, all_handed_out, ends_well, kept_is, adds_ok, book_after}
+use Rattle.ux_book.proofs.Appending.{Asked, ask, Stepped, Noting, Grown}
+use Rattle.ux_book.proofs.Appending.{released_rise, all_handed_out, ends_well, kept_is, adds_ok, book_after}
 use Rattle.ux_book.proofs.Appending.{last_room, last_trail, may_end}
 use Rattle.ux_book.proofs.book.Book.end.Given.{Over}
 use Rattle.ux_book.proofs.book.Book.end.Goals.{After-step-done}
