@@ -148,12 +148,14 @@ origin_forked es j n e is = record {
 -- ---- looking for the entry that gave
 
 -- what is said of the entry that was read holds of the entry that is there
-pub origin_there : (es : List Entry) (j n : ℕ) (f e : Entry) (o : HoldingOrigin) → j < length es → f ≡ get_or es j f → slice_get es j ≡ Some e →
+pub origin_there : (es : List Entry) (j n : ℕ) (f e : Entry) (o : HoldingOrigin) → j < length es → f ≡ get_or es j f →
+    slice_get es j ≡ Some e →
     IsOrigin es j n f o → IsOrigin es j n e o
 origin_there es j n f e o within read at origin =
     subst (λ (x : Entry). IsOrigin es j n x o) (one_entry es j f e (read_entry es j f within read) at) origin
 
-pub giver_earlier : (es : List Entry) (j n : ℕ) (e : Entry) (o : HoldingOrigin) (g : Giver) → IsOrigin es j n e o → o.from ≡ Some g → g.until ≤ j
+pub giver_earlier : (es : List Entry) (j n : ℕ) (e : Entry) (o : HoldingOrigin) (g : Giver) → IsOrigin es j n e o →
+    o.from ≡ Some g → g.until ≤ j
 giver_earlier es j n e o g origin more =
     let giver : IsGiver es j n e o.how g = subst
     (λ (f : Option Giver). MatchOption f (o.how ≡ How.Made) (IsGiver es j n e o.how)) more origin.from in giver.earlier
@@ -215,7 +217,8 @@ pub origin_found : (es : List Entry) (j n : ℕ) (e : Entry) (x : Option Holding
     IsOrigin es j n e o
 origin_found es j n e x o is found at =
     let here : (f : Entry) → slice_get es j ≡ Some f →
-    IsOrigin es j n f o = subst (λ (y : Option HoldingOrigin). IfSome y (λ o. (f : Entry) → slice_get es j ≡ Some f → IsOrigin es j n f o)) is
+    IsOrigin es j n f o = subst (λ (y : Option HoldingOrigin). IfSome y
+    (λ o. (f : Entry) → slice_get es j ≡ Some f → IsOrigin es j n f o)) is
     found in
     here e at
 

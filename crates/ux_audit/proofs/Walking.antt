@@ -85,7 +85,8 @@ given_link boot es j p n e o legal at gave origin = record {
 reversed_more : (links : List Link) (b : Link) (chain : List Link) → chain ++ reverse (links ++ b ∷ []) ≡ (chain ++ b ∷ []) ++ reverse links
 reversed_more links b chain = ap (λ l. chain ++ l) (reverse-append links (b ∷ [])) ∙ sym (append_assoc chain (b ∷ []) (reverse links))
 
-pub walk_ends : (boot : State) (es : List Entry) (P N : ℕ) (links : List Link) (j until : ℕ) (p : Pid) (n : Fd) (e : Entry) (o : HoldingOrigin) →
+pub walk_ends : (boot : State) (es : List Entry) (P N : ℕ) (links : List Link) (j until : ℕ) (p : Pid) (n : Fd) (e : Entry)
+    (o : HoldingOrigin) →
     IsLegal boot es → until ≤ length es →
     IsWalking boot es P N links p.0 n.0 until → j < until → slice_get es j ≡ Some e → GivesAt es p.0 n.0 j →
     NoneGives es p.0 n.0 (suc j) until → IsOrigin es j n.0 e o → o.from ≡ None →
@@ -98,7 +99,8 @@ walk_ends boot es P N links j until p n e o legal within walking early at gave n
     subst (λ (l : List Link). IsPedigree boot es l P N) (sym (reversed_more links b []))
     (walking.completes (b ∷ []) b (first b e (given_link boot es j p n e o legal at gave origin) made) refl refl stands)
 
-pub walk_goes_on : (boot : State) (es : List Entry) (P N : ℕ) (links : List Link) (j until : ℕ) (p : Pid) (n : Fd) (e : Entry) (o : HoldingOrigin)
+pub walk_goes_on : (boot : State) (es : List Entry) (P N : ℕ) (links : List Link) (j until : ℕ) (p : Pid) (n : Fd) (e : Entry)
+    (o : HoldingOrigin)
     (g : Giver) → IsLegal boot es → until ≤ length es →
     IsWalking boot es P N links p.0 n.0 until → j < until → slice_get es j ≡ Some e → GivesAt es p.0 n.0 j →
     NoneGives es p.0 n.0 (suc j) until → IsOrigin es j n.0 e o → o.from ≡ Some g →

@@ -197,7 +197,8 @@ none_met boot es e d q told tie = (
 )
 
 -- it has what another has
-alike_met : (boot : State) (es : List Entry) (e : Entry) (d : ℕ) (q r : SocketParts) → q.peer_cred ≡ r.peer_cred → q.tie.listener ≡ r.tie.listener →
+alike_met : (boot : State) (es : List Entry) (e : Entry) (d : ℕ) (q r : SocketParts) → q.peer_cred ≡ r.peer_cred →
+    q.tie.listener ≡ r.tie.listener →
     Met boot es e d r → Met boot es e d q
 alike_met boot es e d q r told tie m = ((λ cred h. m.0 cred (sym told ∙ h)), (λ elsewhere cred h. m.1 elsewhere cred (sym tie ∙ h)))
 

@@ -145,7 +145,8 @@ left_phase (connected peer) = refl
 left_phase (associated target) = refl
 
 pub left_parts : (s : Socket) → socket_parts (without_first_end s) ≡ socket_parts s
-left_parts s = ap (λ (t : PhaseParts). let q : SocketParts = record { kind = s.kind; waiting = s.queue; tie = t; peer_cred = s.peer_cred } in q)
+left_parts s =
+    ap (λ (t : PhaseParts). let q : SocketParts = record { kind = s.kind; waiting = s.queue; tie = t; peer_cred = s.peer_cred } in q)
     (left_phase s.phase)
 
 -- ---- what goes at most

@@ -75,7 +75,8 @@ gives_front asked n m ms front cut ends control is flags count bytes ctl from h 
     let given : bytes ≡ take n m.bytes = sym b ∙ ap (λ (f : Front). f.bytes) is in
     record {
       cut = given;
-      truncated = ap (λ (r : Reply). has_bits (flags_of r).0 msg_trunc) (sym h) ∙ trunc_told (nat_lt (length front.bytes) front.whole) cut ends
+      truncated = ap (λ (r : Reply). has_bits (flags_of r).0 msg_trunc) (sym h)
+          ∙ trunc_told (nat_lt (length front.bytes) front.whole) cut ends
           ∙ ap (λ (f : Front). nat_lt (length f.bytes) f.whole) is ∙ cut_told n m.bytes;
       counted = ap count_of (sym h) ∙ ap (λ (f : Front). if asks_real_length asked then f.whole else length f.bytes) is
           ∙ ap (λ (l : List ℕ). if asks_real_length asked then length m.bytes else length l) (sym given);

@@ -20,7 +20,8 @@ begun boot s (Ran.Whole entries) run = record {
 begun boot s (Ran.Deadlock entries waits) run = run
 begun boot s (Ran.BrokenOff entries) run = run
 
-pub broken : (boot : State) (s : Plan) (a r : Ran) → entries_of r ≡ entries_of a → is_broken_off r ≡ true → IsRunOf boot s a → IsRunOf boot s r
+pub broken : (boot : State) (s : Plan) (a r : Ran) → entries_of r ≡ entries_of a → is_broken_off r ≡ true →
+    IsRunOf boot s a → IsRunOf boot s r
 broken boot s a (Ran.Whole entries) same e run = absurd cc
 broken boot s a (Ran.Deadlock entries waits) same e run = absurd cc
 broken boot s a (Ran.BrokenOff entries) same e run = subst (λ (es : List Entry). HasBegun boot s es) (sym same) (begun boot s a run)

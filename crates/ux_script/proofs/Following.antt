@@ -100,7 +100,8 @@ breaks_here boot a b before after legal printed = (after, legal, prints_begin a 
 pub breaks_then : (boot : State) (a b c : Option (List ℕ)) (xs ys : List Entry) → Prints a b xs ys → Breaks boot b c ys → Breaks boot a c xs
 breaks_then boot a b c xs ys printed broken = (broken.0, broken.1, λ start so_far. broken.2 start (printed start so_far))
 
-pub breaks_on : (boot other : State) (a b c : Option (List ℕ)) (xs ys : List Entry) → other ≡ boot → Prints a b xs ys → Breaks other b c ys →
+pub breaks_on : (boot other : State) (a b c : Option (List ℕ)) (xs ys : List Entry) → other ≡ boot → Prints a b xs ys →
+    Breaks other b c ys →
     Breaks boot a c xs
 breaks_on boot other a b c xs ys same printed broken =
     breaks_then boot a b c xs ys printed (subst (λ (S : State). Breaks S b c ys) same broken)
@@ -111,7 +112,8 @@ breaks_after r boot other a b c xs ys same printed broken =
     on_err_weaker {P = Breaks other b c ys} {Q = Breaks boot a c xs} r (λ p. breaks_on boot other a b c xs ys same printed p) broken
 
 -- behind further calls, whose lines are printed
-pub breaks_behind : {E : Type 0} (r : Result (Unit {0}) E) (boot : State) (a b : Option (List ℕ)) (old new : List Entry) → IsLegal boot new →
+pub breaks_behind : {E : Type 0} (r : Result (Unit {0}) E) (boot : State) (a b : Option (List ℕ)) (old new : List Entry) →
+    IsLegal boot new →
     Grows old new → OnErr r (PrintsBeginning a b (take (length old) new) new) → OnErr r (Breaks boot a b old)
 breaks_behind r boot a b old new legal grown begun =
     on_err_weaker {P = PrintsBeginning a b (take (length old) new) new} {Q = Breaks boot a b old} r

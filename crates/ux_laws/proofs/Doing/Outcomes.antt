@@ -39,7 +39,8 @@ TakesNothing s n = (s.queue ≡ []) ⊎ ((is_stream s.kind && (n == 0)) ≡ true
 found_is : (d e : ℕ) (s u : Socket) (o : Option (ℕ × Socket)) → o ≡ Some (d, s) → is_first e o ≡ true → d ≡ e
 found_is d e s u o h by = eqb-true d e (sym (ap (is_first e) h) ∙ by)
 
-pub empty_handed : {S : State} {p : ℕ} {request : Request} {reply : Reply} (d n : ℕ) (s : Socket) → socket_through S p request ≡ Some (d, s) →
+pub empty_handed : {S : State} {p : ℕ} {request : Request} {reply : Reply} (d n : ℕ) (s : Socket) →
+    socket_through S p request ≡ Some (d, s) →
     socket_at S d ≡ Some s → TakesNothing s n →
     taken_count reply ≡ 0 → given_bytes reply ≡ [] → is_count reply ≡ false → MovesNothing S p request reply
 empty_handed {S} {p} {request} {reply} d n s through there none count bytes counts = record {
@@ -56,7 +57,8 @@ empty_handed {S} {p} {request} {reply} d n s through there none count bytes coun
       );
 }
 
-pub peeked : {S : State} {p : ℕ} {request : Request} {reply : Reply} → is_peek request ≡ true → taken_count reply ≡ 0 → is_count reply ≡ false →
+pub peeked : {S : State} {p : ℕ} {request : Request} {reply : Reply} → is_peek request ≡ true → taken_count reply ≡ 0 →
+    is_count reply ≡ false →
     MovesNothing S p request reply
 peeked {S} {p} {request} {reply} peek count counts = record {
   bytes_out = λ d. either_none (sends_to S d p request) (take (taken_count reply) (offered_bytes request))

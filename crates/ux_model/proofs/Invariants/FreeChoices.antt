@@ -26,7 +26,8 @@ use Rattle.ux_model.specs.Forking.{exec}
 use Rattle.ux_model.specs.Closing.{close, exit, off}
 use Rattle.ux_model.specs.Step.{Step, outcome, lacks_memory, fails}
 use Rattle.ux_model.specs.Invariants.{OneMoreFailure}
-use Rattle.ux_model.specs.FreeChoices.{takes_no_memory, NeverLacksMemory, HasFailed, FailedAsOften, ReportsFailure, FailsWhereAnObjectFailed}
+use Rattle.ux_model.specs.FreeChoices.{takes_no_memory, NeverLacksMemory, HasFailed, FailedAsOften, ReportsFailure}
+use Rattle.ux_model.specs.FreeChoices.{FailsWhereAnObjectFailed}
 use Rattle.ux_model.proofs.Changes.Reaching.{May, may_change}
 use Rattle.ux_model.proofs.Changes.Walk.{either, maybe, by_target, found, found_socket}
 use Rattle.ux_model.proofs.Lists.ChangedPlaces.{place_within}

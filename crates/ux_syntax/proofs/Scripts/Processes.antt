@@ -34,7 +34,8 @@ awaits_to count (Act.Wait pid calls) o = known_to count pid.0 o
 known_on : (count : ℕ) (u : Line) (us : List Line) → (count + forks_of (u ∷ [])) + forks_of us ≡ count + forks_of (u ∷ us)
 known_on count u us = omega (arith, sum_by-cons (λ (line : Line). cond (asks_fork line.act) 1 0) u us)
 
-pub known_more : (IsSo : ℕ → Line → Type 0) (count : ℕ) (ls : List Line) (l : Line) → EachKnowing IsSo count ls → IsSo (count + forks_of ls) l →
+pub known_more : (IsSo : ℕ → Line → Type 0) (count : ℕ) (ls : List Line) (l : Line) → EachKnowing IsSo count ls →
+    IsSo (count + forks_of ls) l →
     EachKnowing IsSo count (ls ++ l ∷ [])
 known_more IsSo count [] l h p = (subst (λ n. IsSo n l) (omega arith) p, tt)
 known_more IsSo count (u ∷ us) l h p = (
