@@ -1,6 +1,6 @@
 -- Beginnings of lines.
 use Rattle.std.proofs.Common.{◌≡◌, inl, inr, ℕ, Bool, true, false, List, [], ◌++◌, refl, ap, sym, ◌∙◌, subst, take, drop, take-append-drop}
-use Rattle.std.specs.Prelude.{Result, Ok, Err, IfOk, Option, None, IfNone}
+use Rattle.std.specs.Prelude.{Result, Ok, Err, IfOk, Option, Some, None, IfNone}
 use Rattle.ux_syntax.specs.Reading.{item_at}
 use Rattle.ux_syntax.specs.Spelling.{line_limit}
 use Rattle.ux_syntax.specs.Forms.{is_line}
@@ -45,3 +45,10 @@ names_none lines (ScriptFault.Deadlock waiting) n named none = tt
 -- what holds where there is no value
 pub where_none : {A : Type 0} (P : Type 0) (o : Option A) → o ≡ None → IfNone o P → P
 where_none P o none holds = subst (λ (p : Option _). IfNone p P) none holds
+
+-- and what holds of all there holds of one
+pub none_at : {A E L : Type 0} (P : L → Type 0) (one : L) (r : Result (Option A) E) → IfOk r (λ found. IfNone found ((all : L) → P all)) →
+    IfOk r (λ found. IfNone found (P one))
+none_at P one (Ok None) holds = holds one
+none_at P one (Ok (Some x)) holds = holds
+none_at P one (Err e) holds = holds
