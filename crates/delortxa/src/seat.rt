@@ -6,7 +6,7 @@ ghost use Rattle.ux_book.specs.Pasts.{made, IsOf};
 ghost use Rattle.ux_book.specs.Receipts.{IsSlip, IsSlipOf};
 ghost use Rattle.ux_book.specs.declared.fault.CallFault.{CallFault};
 ghost use Rattle.ux_layer.specs.Faults.{WaitsOrCannotKeep};
-ghost use Rattle.delortxa.specs.Answering.{Tells};
+ghost use Rattle.delortxa.specs.Answering.{Explains};
 ghost use Rattle.delortxa.specs.Happening.{Happens};
 
 use crate::answers::other_reply;

@@ -68,113 +68,8 @@ open_child-child-requires-clause-child g c =
 
 pub open_child-child-requires-clause-none : goal.open_child-child-requires-clause-none
 open_child-child-requires-clause-none g c =
-    new_past c.args.k c.args.request.now (record {
-      pid = record { 0 = c.args.token.now.pid };
-      k = c.args.k;
-      request =
-          c.args.request.now;
-      reply = c.step-done.result.reply;
-      released = c.numbers_of-numbers.result;
-      delivered =
-          c.step-done.result.delivered;
-    })
-    c.self.invariant.0 c.self.view_is (rw (c.requires.token.1) c.requires.call) c.push-mark.ensures.trail
-
--- the entry that is noted
-noted_is : (g : Over) (c : goal.After-open_child-child g) →
-    record {
-      pid = record { 0 = c.args.token.now.pid };
-      k = c.args.k;
-      request = c.args.request.now;
-      reply =
-          c.step-done.result.reply;
-      released = c.numbers_of-numbers.result;
-      delivered = c.step-done.result.delivered;
-    } ≡ entry_of
-    c.self.inside.kernel c.args.pid c.args.k c.args.request.now c.step-done.result.reply (map (λ r. r.0) c.step-done.new.released)
-noted_is g c =
-    let numbers : c.numbers_of-numbers.result ≡ map (λ r. r.0) c.step-done.new.released = c.numbers_of-numbers.ensures
-    ∙ ap (map (λ r. r.0)) c.as_slice.ensures.objects in
-    λ j. record {
-      pid = record { 0 = c.requires.token.1 j };
-      k = c.args.k;
-      request = c.args.request.now;
-      reply =
-          c.step-done.result.reply;
-      released = numbers j;
-      delivered = c.step-done.ensures.delivered j;
-    }
-
-grown_here : (g : Over) (c : goal.After-open_child-child g) →
-    Grown g.W.BookName.boot g.W.BookName.trail c.step-done.new.self c.open_child-child.new.trail c.self.inside.own c.self.inside.ended
-    (g.K.Keeper.room c.keep.new.self) c.args.self.now c.args.pid c.args.k c.args.request.now c.step-done.result.reply
-    (map (λ r. r.0) c.step-done.new.released)
-grown_here g c =
-    let t = c.self.inside.trail in
-    let one = cond {A = ℕ} (makes_one c.args.request.now c.step-done.result.reply) 1 0 in
-    grown c.args.pid c.args.k c.args.request.now c.step-done.result.reply (map (λ r. r.0) c.step-done.new.released) c.self.invariant.0
-    c.self.view_is c.requires.call c.in_ok-prepare.ensures.more
-    (enough_room c.self.inside.kernel t.entries c.args.request.now c.process_count-room.ensures.count c.in_ok-prepare.ensures.room
-    c.requires.last) c.keep.ensures.room
-    (c.count-number.ensures.count t.entries (c.in_ok-prepare.ensures.keeps t.entries c.self.invariant.1)) c.step-done.ensures.step
-    (c.open_child-child.ensures.trail ∙ ap (λ (x : Trailed). record x { given = x.given + one }) c.push-mark.ensures.trail
-    ∙ ap (λ (e : Entry). record t { entries = t.entries ++ e ∷ []; given = t.given + one }) (noted_is g c))
-    refl refl (no_end c.self.inside.ended c.args.request.now (not_off c.args.request.now c.requires.last))
-
--- what is kept of it
-kept_is : (g : Over) (c : goal.After-open_child-child g) →
-    c.self.inside.trail.entries ++ record {
-      pid = c.args.pid;
-      k = c.args.k;
-      request = c.args.request.now;
-      reply =
-          c.step-done.result.reply;
-      released = c.numbers_of-numbers.result;
-      delivered = c.step-done.result.delivered;
-    } ∷ [] ≡
-    c.open_child-child.new.trail.entries
-kept_is g c =
-    let t = c.self.inside.trail in
-    (λ j. t.entries ++ record {
-      pid = record { 0 = sym c.requires.token.1 j };
-      k = c.args.k;
-      request = c.args.request.now;
-      reply =
-          c.step-done.result.reply;
-      released = c.numbers_of-numbers.result;
-      delivered = c.step-done.result.delivered;
-    } ∷ [])
-    ∙ ap (λ (x : Trailed). x.entries) (sym c.push-mark.ensures.trail)
-    ∙ ap (λ (x : Trailed). x.entries) (sym c.open_child-child.ensures.trail)
-
-pub invariant_of-self-2 : goal.invariant_of-self-2
-invariant_of-self-2 g c =
-    let t = c.self.inside.trail in (
-      (grown_here g c).book,
-      subst (λ (es : List Entry). g.K.Keeper.keeps c.keep.new.self es) (kept_is g c)
-          (c.keep.ensures.keeps t.entries (c.in_ok-prepare.ensures.keeps t.entries c.self.invariant.1)),
-    )
-
-pub returns-clause-appended : goal.returns-clause-appended
-returns-clause-appended g c =
-    let at : entry_of c.self.inside.kernel c.args.pid c.args.k c.args.request.now c.step-done.result.reply
-    (map (λ r. r.0) c.step-done.new.released) ≡ entry_of (state_of c.args.self.now) c.args.pid c.args.k c.args.request.now
-    c.step-done.result.reply (map (λ r. r.0) c.step-done.new.released) =
-    ap (λ (U : State). entry_of U c.args.pid c.args.k c.args.request.now c.step-done.result.reply (map (λ r. r.0) c.step-done.new.released))
-    (c.self.invariant.0.at_replay ∙ ap state_of c.self.view_is) in
-    record {
-      adds = (grown_here g c).adds;
-      token = c.push-mark.ensures.token;
-      mark_is = c.push-mark.ensures.mark ∙ (λ j.
-          record {
-            id = c.self.invariant.0.trail_id j;
-            number = length (KeptHistory.entries (c.self.view_is j));
-            entry =
-                (noted_is g c ∙ at) j;
-          });
-      handed_out = subst (λ (S : State). AllByRecursion (IsHandedOut S) c.step-done.new.released)
-          (c.self.invariant.0.at_replay ∙ ap state_of c.self.view_is) c.step-done.ensures.handed_out;
-    }
+    let then = (goal.at.open_child-child-requires-clause-none g c).After-step-done in
+    new_past (asked g then) _ c.requires.token.1 c.push-place.ensures.trail
 
 pub returns-clause-fits : goal.returns-clause-fits
 returns-clause-fits g c =
@@ -194,7 +89,7 @@ noting g c = record {
   delivered = c.step-done.result.delivered;
   who_is = c.requires.token.1;
   released_is = c.numbers_of-numbers.ensures ∙ ap (map (λ r. r.0)) c.as_slice.ensures.objects;
-  delivered_is = c.step-done.ensures.told;
+  delivered_is = c.step-done.ensures.delivered;
 }
 
 abbrev grown : (g : Over) (c : goal.After-open_child-child g) → Grown (asked g (before g c)) (stepped g (before g c)) (noting g c)

@@ -49,80 +49,23 @@ noting g c = record {
   delivered = c.step-done.result.delivered;
   who_is = c.requires.token.1;
   released_is = c.numbers_of-numbers.ensures ∙ ap (map (λ r. r.0)) c.as_slice.ensures.objects;
-  delivered_is = c.step-done.ensures.told;
+  delivered_is = c.step-done.ensures.delivered;
 }
 
--- its reply
-ok_here : (g : Over) (c : goal.After-keep_last g) → c.step-done.result.reply ≡ Reply.Ok
-ok_here g c =
-    let live : is_live c.self.inside.kernel c.args.pid.0 ≡ true =
-    ap (λ (r : Request). is_allowed c.self.inside.kernel c.args.pid.0 c.args.k r) (sym c.requires.exit)
-    ∙ allowed_now c.args.pid.0 c.args.k c.args.request c.self.invariant.0 c.self.view_is c.requires.call in
-    exit_is_ok c.self.inside.kernel c.step-done.new.self c.args.pid.0 c.count-number.result c.args.request c.step-done.result.reply
-    (map (λ r. r.0) c.step-done.new.released) c.requires.exit live c.step-done.ensures.step
-
--- the entry that is noted
-noted_is : (g : Over) (c : goal.After-keep_last g) →
-    record {
-      pid = record { 0 = c.args.token.now.pid };
-      k = c.args.k;
-      request = c.args.request;
-      reply = c.step-done.result.reply;
-      released =
-          c.numbers_of-numbers.result;
-      delivered = c.step-done.result.delivered;
-    } ≡ entry_of c.self.inside.kernel c.args.pid c.args.k
-    c.args.request Reply.Ok (map (λ r. r.0) c.step-done.new.released)
-noted_is g c =
-    let numbers : c.numbers_of-numbers.result ≡ map (λ r. r.0) c.step-done.new.released = c.numbers_of-numbers.ensures
-    ∙ ap (map (λ r. r.0)) c.as_slice.ensures.objects in
-    let told : c.step-done.result.delivered ≡ delivered_by c.self.inside.kernel c.args.pid.0 c.args.request Reply.Ok =
-    c.step-done.ensures.delivered ∙ ap (λ (y : Reply). delivered_by c.self.inside.kernel c.args.pid.0 c.args.request y) (ok_here g c) in
-    λ j. record {
-      pid = record { 0 = c.requires.token.1 j };
-      k = c.args.k;
-      request = c.args.request;
-      reply = ok_here g c j;
-      released =
-          numbers j;
-      delivered = told j;
-    }
-
-grown_here : (g : Over) (c : goal.After-keep_last g) →
-    Grown g.W.BookName.boot g.W.BookName.trail c.step-done.new.self c.push.new.self c.self.inside.own c.self.inside.ended
-    (g.K.Keeper.room c.keep_last.new.self) c.args.self.now c.args.pid c.args.k c.args.request Reply.Ok
-    (map (λ r. r.0) c.step-done.new.released)
-grown_here g c =
-    let t = c.self.inside.trail in
-    let room = c.self.invariant.0.room in
-    let none : cond {A = ℕ} (is_last c.args.request) 0 2 ≡ 0 = ap (λ (r : Request). cond {A = ℕ} (is_last r) 0 2) c.requires.exit in
-    let one : cond {A = ℕ} (makes_one c.args.request Reply.Ok) 1 0 ≡ 0 =
-    ap (λ (r : Request). cond {A = ℕ} (makes_one r Reply.Ok) 1 0) c.requires.exit in
-    let given : t.given ≡ t.given + cond {A = ℕ} (makes_one c.args.request Reply.Ok) 1 0 = omega (arith, one) in
-    grown c.args.pid c.args.k c.args.request Reply.Ok (map (λ r. r.0) c.step-done.new.released) c.self.invariant.0 c.self.view_is
-    c.requires.call (let same : g.K.Keeper.room c.self.inside.keeper ≤ g.K.Keeper.room c.self.inside.keeper = omega arith in same)
-    (omega (arith, room, none)) c.keep_last.ensures.room
-    (c.count-number.ensures.count t.entries c.self.invariant.1)
-    (subst (λ (y : Reply). Step c.self.inside.kernel c.args.pid.0 c.count-number.result c.args.request y
-    (map (λ r. r.0) c.step-done.new.released) c.step-done.new.self) (ok_here g c) c.step-done.ensures.step)
-    (c.push.ensures.trail ∙ (λ j. record t { entries = t.entries ++ noted_is g c j ∷ []; given = given j }))
-    refl refl (no_end c.self.inside.ended c.args.request (ap is_off c.requires.exit))
-
--- what is kept of it
-kept_is : (g : Over) (c : goal.After-keep_last g) → c.self.inside.trail.entries ++ c.last_entry.result ∷ [] ≡ c.push.new.self.entries
-kept_is g c =
-    let t = c.self.inside.trail in
-    ap (λ (e : Entry). t.entries ++ e ∷ []) (c.last_entry.ensures
-    ∙ (λ j. record {
-      pid = record { 0 = sym c.requires.token.1 j };
-      k = c.args.k;
-      request = c.args.request;
-      reply =
-          c.step-done.result.reply;
-      released = c.numbers_of-numbers.result;
-      delivered = c.step-done.result.delivered;
-    }))
-    ∙ ap (λ (x : Trailed). x.entries) (sym c.push.ensures.trail)
+abbrev grown : (g : Over) (c : goal.After-keep_last g) → Grown (asked g (before g c)) (stepped g (before g c)) (noting g c)
+grown g c = record {
+  trail = c.push.new.self;
+  own = c.self.inside.own;
+  ended = c.self.inside.ended;
+  room = g.K.Keeper.room c.self.inside.keeper;
+  space = g.K.Keeper.room c.keep_last.new.self;
+  enough = last_room (asked g (before g c)) (ap is_last c.requires.exit);
+  left = c.keep_last.ensures.room;
+  trail_is = last_trail (noting g c) (ap is_last c.requires.exit) c.push.ensures.trail;
+  own_id = refl;
+  own_pid = refl;
+  ends = no_end c.self.inside.ended c.args.request (ap is_off c.requires.exit);
+}
 
 pub invariant_of-self : goal.invariant_of-self
 invariant_of-self g c = (

@@ -28,32 +28,7 @@ numbers_of-numbers-requires g c =
     let then = (goal.at.numbers_of-numbers-requires g c).After-step-done in
     record { rising = released_rise (stepped g then) (ap (map (λ r. r.0)) c.as_slice.ensures.objects) }
 
--- the entry that is noted
-noted_is : (g : Over) (c : goal.After-self-1 g) →
-    record {
-      pid = record { 0 = c.self.inside.own.pid };
-      k = 0;
-      request = Request.Off;
-      reply = c.step-done.result.reply;
-      released =
-          c.numbers_of-numbers.result;
-      delivered = c.step-done.result.delivered;
-    } ≡ entry_of c.self.inside.kernel (record { 0 = 0 }) 0 Request.Off
-    Reply.Ok (map (λ r. r.0) c.step-done.new.released)
-noted_is g c =
-    let numbers : c.numbers_of-numbers.result ≡ map (λ r. r.0) c.step-done.new.released = c.numbers_of-numbers.ensures
-    ∙ ap (map (λ r. r.0)) c.as_slice.ensures.objects in
-    let told : c.step-done.result.delivered ≡ delivered_by c.self.inside.kernel 0 Request.Off Reply.Ok = c.step-done.ensures.delivered
-    ∙ ap (λ (y : Reply). delivered_by c.self.inside.kernel 0 Request.Off y) (ok_here g c) in
-    λ j. record {
-      pid = record { 0 = c.self.invariant.0.own_pid j };
-      k = 0;
-      request = Request.Off;
-      reply = ok_here g c j;
-      released =
-          numbers j;
-      delivered = told j;
-    }
+-- ---- the book then
 
 abbrev before : (g : Over) → goal.After-self-1 g → After-step-done g
 before g c = (goal.at.returns g c).After-step-done
@@ -65,7 +40,7 @@ noting g c = record {
   delivered = c.step-done.result.delivered;
   who_is = c.self.invariant.0.own_pid;
   released_is = c.numbers_of-numbers.ensures ∙ ap (map (λ r. r.0)) c.as_slice.ensures.objects;
-  delivered_is = c.step-done.ensures.told;
+  delivered_is = c.step-done.ensures.delivered;
 }
 
 abbrev grown : (g : Over) (c : goal.After-self-1 g) → Grown (asked g (before g c)) (stepped g (before g c)) (noting g c)
