@@ -1,5 +1,11 @@
 //! The arguments of a call as an object.
 
+ghost use Rattle.std.specs.Prelude.{◌≡◌, codes, Some, None, IfOk, option_map};
+ghost use Rattle.serde_json.specs.Data.{number, unsigned};
+ghost use Rattle.serde_json.specs.Find.{get};
+ghost use Rattle.serde_json.specs.View.{view};
+ghost use Rattle.ux_json.specs.Lines.{descriptor_of};
+
 use crate::control::control_value;
 use crate::words::{addr_or_null, addr_text, flag_names, hex_text, path_text};
 use serde_json::{Value, json};
@@ -15,7 +21,9 @@ use ux_types::{
 /// # Errors
 ///
 /// Out of memory.
-pub fn arguments_value(alloc: Global, request: &Request) -> Result<Value, AllocError> {
+pub fn arguments_value(alloc: Global, request: &Request) -> Result<Value, AllocError>
+    ensures { IfOk result (λ v. get (codes "fd") (view v) ≡ option_map (λ n. number (unsigned n)) (descriptor_of request.now)) }
+{
     match request {
         Request::Open { path, mode, flags } => opened(alloc, path, *mode, *flags),
         Request::Read { fd, n } => read(alloc, *fd, *n),
@@ -41,7 +49,7 @@ pub fn arguments_value(alloc: Global, request: &Request) -> Result<Value, AllocE
         Request::Shutdown { fd, how } => shut(alloc, *fd, *how),
         Request::GetOpt { fd, opt } => option_asked(alloc, *fd, *opt),
         Request::SetOpt { fd, opt, value } => option_set(alloc, *fd, *opt, *value),
-        Request::SendMsg { .. } => sent(alloc, request),
+        Request::SendMsg { fd, .. } => sent(alloc, *fd, request),
         Request::RecvMsg {
             fd,
             n,
@@ -53,88 +61,122 @@ pub fn arguments_value(alloc: Global, request: &Request) -> Result<Value, AllocE
     }
 }
 
-fn opened(alloc: Global, path: &Name, mode: Mode, flags: OpenFlags) -> Result<Value, AllocError> {
+fn opened(alloc: Global, path: &Name, mode: Mode, flags: OpenFlags) -> Result<Value, AllocError>
+    ensures { IfOk result (λ v. get (codes "fd") (view v) ≡ None) }
+{
     let path = path_text(alloc, path)?;
     let flags = flag_names(alloc, &flags)?;
     json!(in alloc; {"path": path, "mode": mode_word(mode), "flags": flags})
 }
 
-fn read(alloc: Global, fd: Fd, n: usize) -> Result<Value, AllocError> {
+fn read(alloc: Global, fd: Fd, n: usize) -> Result<Value, AllocError>
+    ensures { IfOk result (λ v. get (codes "fd") (view v) ≡ Some (number (unsigned fd.0))) }
+{
     json!(in alloc; {"fd": fd.0, "n": n})
 }
 
-fn written(alloc: Global, fd: Fd, bytes: &Bytes) -> Result<Value, AllocError> {
+fn written(alloc: Global, fd: Fd, bytes: &Bytes) -> Result<Value, AllocError>
+    ensures { IfOk result (λ v. get (codes "fd") (view v) ≡ Some (number (unsigned fd.0))) }
+{
     let bytes = hex_text(alloc, bytes.as_slice())?;
     json!(in alloc; {"fd": fd.0, "bytes": bytes})
 }
 
-fn sought(alloc: Global, fd: Fd, offset: i64, whence: Whence) -> Result<Value, AllocError> {
+fn sought(alloc: Global, fd: Fd, offset: i64, whence: Whence) -> Result<Value, AllocError>
+    ensures { IfOk result (λ v. get (codes "fd") (view v) ≡ Some (number (unsigned fd.0))) }
+{
     json!(in alloc; {"fd": fd.0, "offset": offset, "whence": whence_word(whence)})
 }
 
-fn duplicated(alloc: Global, fd: Fd, to: Fd) -> Result<Value, AllocError> {
+fn duplicated(alloc: Global, fd: Fd, to: Fd) -> Result<Value, AllocError>
+    ensures { IfOk result (λ v. get (codes "fd") (view v) ≡ Some (number (unsigned fd.0))) }
+{
     json!(in alloc; {"fd": fd.0, "to": to.0})
 }
 
-fn copied_from(alloc: Global, fd: Fd, minimum: Fd) -> Result<Value, AllocError> {
+fn copied_from(alloc: Global, fd: Fd, minimum: Fd) -> Result<Value, AllocError>
+    ensures { IfOk result (λ v. get (codes "fd") (view v) ≡ Some (number (unsigned fd.0))) }
+{
     json!(in alloc; {"fd": fd.0, "minimum": minimum.0})
 }
 
-fn flagged(alloc: Global, fd: Fd, flags: OpenFlags) -> Result<Value, AllocError> {
+fn flagged(alloc: Global, fd: Fd, flags: OpenFlags) -> Result<Value, AllocError>
+    ensures { IfOk result (λ v. get (codes "fd") (view v) ≡ Some (number (unsigned fd.0))) }
+{
     let flags = flag_names(alloc, &flags)?;
     json!(in alloc; {"fd": fd.0, "flags": flags})
 }
 
-fn descriptor(alloc: Global, fd: Fd) -> Result<Value, AllocError> {
+fn descriptor(alloc: Global, fd: Fd) -> Result<Value, AllocError>
+    ensures { IfOk result (λ v. get (codes "fd") (view v) ≡ Some (number (unsigned fd.0))) }
+{
     json!(in alloc; {"fd": fd.0})
 }
 
-fn unlinked(alloc: Global, path: &Name) -> Result<Value, AllocError> {
+fn unlinked(alloc: Global, path: &Name) -> Result<Value, AllocError>
+    ensures { IfOk result (λ v. get (codes "fd") (view v) ≡ None) }
+{
     let path = path_text(alloc, path)?;
     json!(in alloc; {"path": path})
 }
 
-fn typed(alloc: Global, kind: SockType, flags: OpenFlags) -> Result<Value, AllocError> {
+fn typed(alloc: Global, kind: SockType, flags: OpenFlags) -> Result<Value, AllocError>
+    ensures { IfOk result (λ v. get (codes "fd") (view v) ≡ None) }
+{
     let flags = flag_names(alloc, &flags)?;
     json!(in alloc; {"type": type_word(kind), "flags": flags})
 }
 
-fn addressed(alloc: Global, fd: Fd, addr: &Addr) -> Result<Value, AllocError> {
+fn addressed(alloc: Global, fd: Fd, addr: &Addr) -> Result<Value, AllocError>
+    ensures { IfOk result (λ v. get (codes "fd") (view v) ≡ Some (number (unsigned fd.0))) }
+{
     let addr = addr_text(alloc, addr)?;
     json!(in alloc; {"fd": fd.0, "addr": addr})
 }
 
-fn listening(alloc: Global, fd: Fd, backlog: i32) -> Result<Value, AllocError> {
+fn listening(alloc: Global, fd: Fd, backlog: i32) -> Result<Value, AllocError>
+    ensures { IfOk result (λ v. get (codes "fd") (view v) ≡ Some (number (unsigned fd.0))) }
+{
     json!(in alloc; {"fd": fd.0, "backlog": backlog})
 }
 
-fn shut(alloc: Global, fd: Fd, how: Mode) -> Result<Value, AllocError> {
+fn shut(alloc: Global, fd: Fd, how: Mode) -> Result<Value, AllocError>
+    ensures { IfOk result (λ v. get (codes "fd") (view v) ≡ Some (number (unsigned fd.0))) }
+{
     json!(in alloc; {"fd": fd.0, "how": mode_word(how)})
 }
 
-fn option_asked(alloc: Global, fd: Fd, opt: SockOpt) -> Result<Value, AllocError> {
+fn option_asked(alloc: Global, fd: Fd, opt: SockOpt) -> Result<Value, AllocError>
+    ensures { IfOk result (λ v. get (codes "fd") (view v) ≡ Some (number (unsigned fd.0))) }
+{
     json!(in alloc; {"fd": fd.0, "opt": option_word(opt)})
 }
 
-fn option_set(alloc: Global, fd: Fd, opt: SockOpt, value: u64) -> Result<Value, AllocError> {
+fn option_set(alloc: Global, fd: Fd, opt: SockOpt, value: u64) -> Result<Value, AllocError>
+    ensures { IfOk result (λ v. get (codes "fd") (view v) ≡ Some (number (unsigned fd.0))) }
+{
     json!(in alloc; {"fd": fd.0, "opt": option_word(opt), "value": value})
 }
 
-fn users(alloc: Global, uid: u32, gid: u32) -> Result<Value, AllocError> {
+fn users(alloc: Global, uid: u32, gid: u32) -> Result<Value, AllocError>
+    ensures { IfOk result (λ v. get (codes "fd") (view v) ≡ None) }
+{
     json!(in alloc; {"uid": uid, "gid": gid})
 }
 
-/// The arguments of a send; an empty object for another call.
-fn sent(alloc: Global, request: &Request) -> Result<Value, AllocError> {
+/// The arguments of a send by this descriptor; the descriptor alone for another call.
+fn sent(alloc: Global, fd: Fd, request: &Request) -> Result<Value, AllocError>
+    ensures { IfOk result (λ v. get (codes "fd") (view v) ≡ Some (number (unsigned fd.0))) }
+{
     let Request::SendMsg {
-        fd,
         addr,
         bytes,
         control,
         flags,
+        ..
     } = request
     else {
-        return json!(in alloc; {});
+        return descriptor(alloc, fd);
     };
     let addr = addr_or_null(alloc, addr)?;
     let bytes = hex_text(alloc, bytes.as_slice())?;
@@ -149,7 +191,9 @@ fn received(
     n: usize,
     space: usize,
     flags: MsgFlags,
-) -> Result<Value, AllocError> {
+) -> Result<Value, AllocError>
+    ensures { IfOk result (λ v. get (codes "fd") (view v) ≡ Some (number (unsigned fd.0))) }
+{
     let flags = flag_names(alloc, &flags)?;
     json!(in alloc; {"fd": fd.0, "n": n, "space": space, "flags": flags})
 }

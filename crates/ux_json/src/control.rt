@@ -1,5 +1,10 @@
 //! What control bytes say (cmsg(3)).
 
+ghost use Rattle.std.specs.Prelude.{◌≡◌, codes, Some, IfOk};
+ghost use Rattle.serde_json.specs.Data.{number, unsigned};
+ghost use Rattle.serde_json.specs.Find.{get};
+ghost use Rattle.serde_json.specs.View.{view};
+
 use crate::words::hex_text;
 use serde_json::{Value, json};
 use std::alloc::{AllocError, Global};
@@ -29,7 +34,11 @@ fn said(alloc: Global, control: &Control) -> Result<Value, AllocError> {
 /// # Errors
 ///
 /// Out of memory.
-pub fn cred_value(alloc: Global, cred: Cred) -> Result<Value, AllocError> {
+pub fn cred_value(alloc: Global, cred: Cred) -> Result<Value, AllocError>
+    ensures pid { IfOk result (λ v. get (codes "pid") (view v) ≡ Some (number (unsigned cred.pid.0))) }
+    ensures uid { IfOk result (λ v. get (codes "uid") (view v) ≡ Some (number (unsigned cred.uid))) }
+    ensures gid { IfOk result (λ v. get (codes "gid") (view v) ≡ Some (number (unsigned cred.gid))) }
+{
     json!(in alloc; {"pid": cred.pid.0, "uid": cred.uid, "gid": cred.gid})
 }
 

@@ -1,5 +1,8 @@
 //! Names, addresses, bytes and flags as JSON texts.
 
+ghost use Rattle.std.specs.Prelude.{◌≡◌, IfOk, string_bytes};
+ghost use Rattle.ux_trace.specs.Trace.{path_text, addr_text};
+
 use bitflags::Flags;
 use serde_json::Value;
 use std::alloc::{AllocError, Global};
@@ -11,7 +14,9 @@ use ux_types::{Addr, Name};
 /// # Errors
 ///
 /// Out of memory.
-pub fn path_text(alloc: Global, path: &Name) -> Result<String, AllocError> {
+pub fn path_text(alloc: Global, path: &Name) -> Result<String, AllocError>
+    ensures { IfOk result (λ text. string_bytes text ≡ path_text path.now) }
+{
     format!(in alloc; "p:{}", NameText(path.as_bytes()))
 }
 
@@ -20,7 +25,9 @@ pub fn path_text(alloc: Global, path: &Name) -> Result<String, AllocError> {
 /// # Errors
 ///
 /// Out of memory.
-pub fn addr_text(alloc: Global, addr: &Addr) -> Result<String, AllocError> {
+pub fn addr_text(alloc: Global, addr: &Addr) -> Result<String, AllocError>
+    ensures { IfOk result (λ text. string_bytes text ≡ addr_text addr.now) }
+{
     format!(in alloc; "{}", AddrText(addr))
 }
 
