@@ -1,10 +1,37 @@
 //! The limits of the layer, each where it is named in the calls' pages. What bounds one kind of file object alone
 //! stands with it.
 
+ghost use Rattle.std.specs.Prelude.{◌≡◌};
+ghost use Rattle.ux_types.specs.ObjectLimits.{most_objects};
+
 use crate::control_layout::{CMSG_CRED_SPACE, CMSG_FD_LEN, CMSG_HEAD_LEN};
 
 /// The most file objects that one kernel may have.
 pub const OBJECT_LIMIT: usize = 64;
+
+/// The most where more are asked for.
+pub const RAISED_OBJECT_LIMIT: usize = 4096;
+
+/// How many file objects a kernel may be booted with.
+#[derive(Clone, Copy, Debug, PartialEq, Eq)]
+pub enum ObjectLimit {
+    /// 64.
+    Usual,
+    /// 4,096.
+    Raised,
+}
+
+impl ObjectLimit {
+    /// The most file objects.
+    pub fn count(self) -> usize
+        ensures { result ≡ most_objects self }
+    {
+        match self {
+            ObjectLimit::Usual => OBJECT_LIMIT,
+            ObjectLimit::Raised => RAISED_OBJECT_LIMIT,
+        }
+    }
+}
 
 /// The most processes that a kernel is booted with.
 pub const PROCESS_LIMIT: usize = 64;
