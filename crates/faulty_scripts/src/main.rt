@@ -182,6 +182,35 @@ fn must_explain<R: Files + Print + AllocGlobal>(
     Ok(())
 }
 
+/// One more file object than there may be behind a line `serial`.
+const CROWD: usize = 4097;
+
+/// A script of so many file objects.
+fn crowded_script(alloc: Global) -> Result<Vec<u8>> {
+    let mut text = Vec::from_slice(alloc, b"serial\n")?;
+    for number in 0..CROWD {
+        let line = format!(in alloc; "object p:f{number} pipe\n")?;
+        text.extend_from_slice(line.as_bytes())?;
+    }
+    Ok(text)
+}
+
+/// What is written of it: its last line is concerned.
+const CROWDED: &str = "uxrun: boot fault 1
+4098 | object p:f4096 pipe
+       ^
+more than 4,096 file objects
+";
+
+/// Compares what is written of such a script with that.
+fn must_explain_a_crowd(alloc: Global) -> Result<()> {
+    let reported = explained_boot(alloc, &crowded_script(alloc)?, 1)?;
+    if reported.as_str() != CROWDED {
+        return Err(anyhow!("4,097 objects: {reported}"));
+    }
+    Ok(())
+}
+
 fn main(rt: HostRuntime) -> Result<()> {
     for name in LINES {
         must_explain(&rt, name, None)?;
@@ -189,6 +218,8 @@ fn main(rt: HostRuntime) -> Result<()> {
     for (name, fault) in BOOTS {
         must_explain(&rt, name, Some(*fault))?;
     }
+    must_explain_a_crowd(rt.alloc())?;
+    println!(rt; "4097 objects: ok")?;
     must_find_changes(rt.alloc())?;
     println!(rt; "changed lines: ok")?;
     Ok(())

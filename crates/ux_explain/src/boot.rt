@@ -6,7 +6,7 @@ use std::alloc::{AllocError, Global};
 use std::fmt;
 use ux_names::is_valid_path;
 use ux_syntax::{Script, ScriptFault, parse_script};
-use ux_types::{Bytes, OBJECT_LIMIT, PROCESS_LIMIT};
+use ux_types::{Bytes, ObjectLimit, PROCESS_LIMIT};
 
 /// Why no layer could be made: the lines concerned, as they are written, and the reason in words.
 #[derive(Debug, Drop)]
@@ -105,7 +105,10 @@ fn excerpts_of(
     let mut excerpts = Vec::new(alloc);
     let object = |number| header_line(&lines, b"object", number);
     match fault {
-        1 => add_excerpt(alloc, &mut excerpts, &lines, object(OBJECT_LIMIT), 0)?,
+        1 => {
+            let line = object(script.object_limit().count());
+            add_excerpt(alloc, &mut excerpts, &lines, line, 0)?;
+        }
         2 => {
             let line = header_line(&lines, b"proc", PROCESS_LIMIT);
             add_excerpt(alloc, &mut excerpts, &lines, line, 0)?;
@@ -126,10 +129,18 @@ fn excerpts_of(
     Ok(excerpts)
 }
 
+/// Of a script that may have so many file objects and has more.
+fn too_many_objects(limit: ObjectLimit) -> &'static str {
+    match limit {
+        ObjectLimit::Usual => "more than 64 file objects",
+        ObjectLimit::Raised => "more than 4,096 file objects",
+    }
+}
+
 /// The reason of a boot fault in words.
-fn reason_of(fault: u8) -> &'static str {
+fn reason_of(script: &Script, fault: u8) -> &'static str {
     match fault {
-        1 => "more than 64 file objects",
+        1 => too_many_objects(script.object_limit()),
         2 => "more than 64 processes",
         3 => "a path that stands twice",
         4 => "a file object that was closed already",
@@ -150,6 +161,6 @@ pub fn explain_boot(alloc: Global, text: &[u8], fault: u8) -> Result<BootExplana
     };
     Ok(BootExplanation {
         excerpts: excerpts_of(alloc, text, &script, fault)?,
-        reason: reason_of(fault),
+        reason: reason_of(&script, fault),
     })
 }

@@ -17,7 +17,7 @@ use ux_types::{Entry, Released};
 /// The numbers of the file objects that a call closed, rising.
 fn closed_value(alloc: Global, released: &Released) -> Result<Value, AllocError> {
     let mut numbers = Vec::new(alloc);
-    for number in released.numbers().as_slice() {
+    for number in released.iter() {
         numbers.push(Value::from(*number))?;
     }
     Ok(Value::Array(numbers))

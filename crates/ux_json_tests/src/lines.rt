@@ -1,7 +1,7 @@
 //! Lines: calls, descriptors with their chains, and what a check and a comparison came to.
 
 use serde_json::Value;
-use std::alloc::Global;
+use std::alloc::{AllocError, Global};
 use std::process::Abort;
 use std::test::Fail;
 use ux_audit::Chain;
@@ -32,23 +32,35 @@ fn entry(pid: u32, k: u64, request: Request, released: Released) -> Entry {
     }
 }
 
+/// The numbers of closed file objects, in this order.
+fn closing(alloc: Global, numbers: &[u32]) -> Result<Released, AllocError> {
+    let mut released = Released::new(alloc);
+    for number in numbers {
+        released.push_back(*number)?;
+    }
+    Ok(released)
+}
+
 #[test]
 fn a_call_has_its_numbers(rt: HostRuntime) -> Result<(), Fail> {
     let alloc = rt.alloc();
-    let mut released = Released::new();
-    released.push(0);
-    released.push(63);
+    let released = closing(alloc, &[0, 63, 64, 4095])?;
     let close = entry(1, 5, Request::Close { fd: Fd(2) }, released);
     expect(
         &rt,
         alloc,
         &call_value(alloc, 8, Some(7), &close)?,
-        r#"{"kind": "call", "call": 8, "pid": 1, "k": 5, "line": 7, "word": "close", "arguments": {"fd": 2}, "reply": {"kind": "ok"}, "closed": [0, 63]}"#,
+        r#"{"kind": "call", "call": 8, "pid": 1, "k": 5, "line": 7, "word": "close", "arguments": {"fd": 2}, "reply": {"kind": "ok"}, "closed": [0, 63, 64, 4095]}"#,
     )?;
     expect(
         &rt,
         alloc,
-        &call_value(alloc, 9, None, &entry(0, 0, Request::Off, Released::new()))?,
+        &call_value(
+            alloc,
+            9,
+            None,
+            &entry(0, 0, Request::Off, Released::new(alloc)),
+        )?,
         r#"{"kind": "call", "call": 9, "pid": 0, "k": 0, "line": null, "word": "off", "arguments": {}, "reply": {"kind": "ok"}, "closed": []}"#,
     )
 }

@@ -1,11 +1,11 @@
 //! Scripts: file objects, processes, and what their lines ask for.
 
-ghost use Rattle.std.specs.Prelude.{◌≡◌};
+ghost use Rattle.std.specs.Prelude.{◌≡◌, if◌then◌else◌};
 ghost use Rattle.ux_syntax.specs.Spelling.{plan_of, known_count, line_limit, asks_exit, asks_fork, asks_recorded};
 
 use std::marker::Model;
 use ux_object::ObjKind;
-use ux_types::{Bytes, Name, Pid, ProcSpec, Request};
+use ux_types::{Bytes, Name, ObjectLimit, Pid, ProcSpec, Request};
 
 /// How many bytes a line may have, without its line feed.
 const LINE_LIMIT: usize = 4096;
@@ -81,7 +81,8 @@ impl Model for Line {
 /// has number 1, and their lines in order.
 #[derive(Debug, Drop)]
 pub struct Script {
-    /// Whether its calls are made in the order of its lines, and in no other. Then any process may fork.
+    /// Whether its calls are made in the order of its lines, and in no other. Then any process may fork, a line may be longer,
+    /// and there may be more file objects.
     pub serial: bool,
     pub objects: Vec<ObjectLine>,
     pub procs: Vec<ProcSpec>,
@@ -107,6 +108,17 @@ impl Script {
             SERIAL_LINE_LIMIT
         } else {
             LINE_LIMIT
+        }
+    }
+
+    /// How many file objects a layer for it may start with. Reading doesn't count them.
+    pub fn object_limit(&self) -> ObjectLimit
+        ensures { result ≡ (if self.now.serial then ObjectLimit.Raised else ObjectLimit.Usual) }
+    {
+        if self.serial {
+            ObjectLimit::Raised
+        } else {
+            ObjectLimit::Usual
         }
     }
 }

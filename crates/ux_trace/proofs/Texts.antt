@@ -49,9 +49,8 @@ pairs_more bytes i lt small = rw (hex_byte false (get_or bytes i 0) small, take_
     (flat_map_more digit_pair [] (take i bytes) (get_or bytes i 0))
 
 -- one more number
-pub spaced_more : (numbers : List ℕ) (i : ℕ) → i < length numbers →
-    spaced (take i numbers) ++ (32 ∷ decimal (get_or numbers i 0)) ≡ spaced (take (i + 1) numbers)
-spaced_more numbers i lt = rw (take_more numbers i 0 lt) (flat_map_more (λ n. 32 ∷ decimal n) [] (take i numbers) (get_or numbers i 0))
+pub spaced_more : (numbers : List ℕ) (number : ℕ) → spaced numbers ++ (32 ∷ decimal number) ≡ spaced (numbers ++ number ∷ [])
+spaced_more numbers number = flat_map_more (λ n. 32 ∷ decimal n) [] numbers number
 
 pub closed_is : (numbers : List ℕ) → 0 < length numbers → codes " closed" ++ spaced numbers ≡ closed_text numbers
 closed_is [] h = absurd (omega arith)

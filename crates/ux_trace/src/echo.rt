@@ -42,8 +42,7 @@ pub fn echo_text(alloc: Global, line: Option<usize>, entry: &Entry) -> Result<St
         reply: &entry.reply,
         read: &read,
     };
-    let numbers = entry.released.numbers();
-    let closed = Closed(numbers.as_slice());
+    let closed = Closed(&entry.released);
     let line = NumberOrDash(line);
     format!(in alloc; "{line} {pid} {call} = {reply}{closed}\n")
 }

@@ -8,11 +8,11 @@ use crate::call_word::CallWord;
 use crate::reply::{ReplyText, control_of};
 use std::alloc::{AllocError, Global};
 use std::fmt;
-use ux_types::Entry;
+use ux_types::{Entry, Released};
 
 /// The file objects that were closed at the end of a call, or nothing where none was.
 #[derive(Clone, Copy)]
-pub(crate) struct Closed<'a>(pub(crate) &'a [u8]);
+pub(crate) struct Closed<'a>(pub(crate) &'a Released);
 
 impl fmt::Display for Closed<'_> {
     ghost output = { λ c. Some (closed_text c.0.now) };
@@ -22,8 +22,7 @@ impl fmt::Display for Closed<'_> {
             return Ok(());
         }
         write!(f, " closed")?;
-        for number in self.0 {
-            let number = *number;
+        for number in self.0.iter() {
             write!(f, " {number}")?;
         }
         Ok(())
@@ -44,8 +43,7 @@ pub fn entry_text(alloc: Global, number: usize, entry: &Entry) -> Result<String,
         reply: &entry.reply,
         read: &read,
     };
-    let numbers = entry.released.numbers();
-    let closed = Closed(numbers.as_slice());
+    let closed = Closed(&entry.released);
     format!(in alloc; "{number} {pid} {k} {word} = {reply}{closed}\n")
 }
 
@@ -59,7 +57,6 @@ pub fn answer_text(alloc: Global, entry: &Entry) -> Result<String, AllocError>
         reply: &entry.reply,
         read: &read,
     };
-    let numbers = entry.released.numbers();
-    let closed = Closed(numbers.as_slice());
+    let closed = Closed(&entry.released);
     format!(in alloc; "{reply}{closed}")
 }

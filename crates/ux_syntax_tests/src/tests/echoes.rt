@@ -7,8 +7,8 @@ use ux_trace::{answer_text, echo_text};
 use ux_types::{Bytes, Entry, Errno, Fd, Pid, Released, Reply, Request};
 
 /// An entry of process 1, the eighth of its calls, at whose end no file object was closed.
-fn entry_of(request: Request, reply: Reply) -> Entry {
-    closing_entry(request, reply, Released::new())
+fn entry_of(alloc: Global, request: Request, reply: Reply) -> Entry {
+    closing_entry(request, reply, Released::new(alloc))
 }
 
 /// The same, at whose end these were.
@@ -25,7 +25,7 @@ fn closing_entry(request: Request, reply: Reply, released: Released) -> Entry {
 
 /// Sees how a call is written that stands so in line 12 of a script and answers `ok`.
 fn expect_call(rt: &impl Abort, alloc: Global, call: &str, written: &str) -> Result<(), Fail> {
-    let entry = entry_of(request_in(alloc, call)?, Reply::Ok);
+    let entry = entry_of(alloc, request_in(alloc, call)?, Reply::Ok);
     let text = echo_text(alloc, Some(12), &entry)?;
     let wanted = format!(in alloc; "12 1 {written} = ok\n")?;
     assert_eq!(rt; text, wanted);
@@ -125,7 +125,7 @@ fn expect_line(
 
 #[test]
 fn a_call_without_a_line_has_a_dash(rt: HostRuntime) -> Result<(), Fail> {
-    let entry = entry_of(Request::Exit, Reply::Ok);
+    let entry = entry_of(rt.alloc(), Request::Exit, Reply::Ok);
     expect_line(&rt, rt.alloc(), None, &entry, ("- 1 exit() = ok\n", "ok"))
 }
 
@@ -134,19 +134,26 @@ fn a_reply_is_written_as_in_a_trace(rt: HostRuntime) -> Result<(), Fail> {
     let alloc = rt.alloc();
     let bytes = Bytes::from_slice(alloc, b"hi")?;
     let (request, reply) = beside(request_in(alloc, "read 0 8"), Reply::Bytes(bytes))?;
-    let entry = entry_of(request, reply);
+    let entry = entry_of(alloc, request, reply);
     let texts = ("3 1 read(0, 8) = bytes 6869\n", "bytes 6869");
     expect_line(&rt, alloc, Some(3), &entry, texts)
 }
 
+/// Closed file objects.
+const CLOSED: &[u32] = &[0, 5, 64, 4095];
+
 #[test]
 fn closed_objects_stand_behind_the_reply(rt: HostRuntime) -> Result<(), Fail> {
     let alloc = rt.alloc();
-    let mut released = Released::new();
-    released.push(0);
-    released.push(5);
+    let mut released = Released::new(alloc);
+    for number in CLOSED {
+        released.push_back(*number)?;
+    }
     let close = Request::Close { fd: Fd(1) };
     let entry = closing_entry(close, Reply::Err(Errno::EIO), released);
-    let texts = ("9 1 close(1) = err EIO closed 0 5\n", "err EIO closed 0 5");
+    let texts = (
+        "9 1 close(1) = err EIO closed 0 5 64 4095\n",
+        "err EIO closed 0 5 64 4095",
+    );
     expect_line(&rt, alloc, Some(9), &entry, texts)
 }

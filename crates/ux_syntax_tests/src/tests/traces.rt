@@ -1,6 +1,6 @@
 //! The lines of a trace.
 use super::{addr_of, beside, request_in};
-use std::alloc::Global;
+use std::alloc::{AllocError, Global};
 use std::process::Abort;
 use std::test::*;
 use ux_trace::{entry_text, errno_name};
@@ -41,7 +41,7 @@ fn expect_text(
         k,
         request,
         reply,
-        released: Released::new(),
+        released: Released::new(alloc),
         delivered: None,
     };
     expect_entry(rt, alloc, number, &entry, line)
@@ -466,11 +466,19 @@ fn expect_closed(
     expect_entry(rt, alloc, number, &entry, line)
 }
 
+/// The numbers of closed file objects, in this order.
+fn closing(alloc: Global, numbers: &[u32]) -> Result<Released, AllocError> {
+    let mut released = Released::new(alloc);
+    for number in numbers {
+        released.push_back(*number)?;
+    }
+    Ok(released)
+}
+
 #[test]
 fn closed_objects_are_printed(rt: HostRuntime) -> Result<(), Fail> {
     let alloc = rt.alloc();
-    let mut one = Released::new();
-    one.push(0);
+    let one = closing(alloc, &[0])?;
     let close = Request::Close { fd: Fd(0) };
     expect_closed(
         &rt,
@@ -481,13 +489,10 @@ fn closed_objects_are_printed(rt: HostRuntime) -> Result<(), Fail> {
         one,
         "14 1 14 close = ok closed 0\n",
     )?;
-    let mut three = Released::new();
-    three.push(2);
-    three.push(10);
-    three.push(63);
-    let line = "15 0 15 off = ok closed 2 10 63\n";
-    expect_closed(&rt, alloc, 15, 0, Request::Off, three, line)?;
-    let none = Released::new();
+    let many = closing(alloc, &[2, 10, 63, 64, 4095])?;
+    let line = "15 0 15 off = ok closed 2 10 63 64 4095\n";
+    expect_closed(&rt, alloc, 15, 0, Request::Off, many, line)?;
+    let none = Released::new(alloc);
     expect_closed(
         &rt,
         alloc,
