@@ -113,16 +113,17 @@ held_set ds d x y here alike = record {
       omega (arith, s, old, new);
 }
 
-pub changed_kept : {fs : ℕ → ℕ} (xs : List Openings) (ls : List ℕ) (H K : Held Description) (os : List (Option View)) (ps : List Process)
-    (paths : List (Name × PathTarget)) (names : List (Name × ℕ)) (d : ℕ) (x y : Description) →
-    IsState xs ls H fs (state_of os H ps paths names) → place H.places d ≡ Some x → K.places ≡ filled H.places d y → K.counts ≡ H.counts →
-    IsAlike x y → IsState xs ls K fs (state_of os K ps paths names)
+pub changed_kept : {ks : List Bool} {fs : ℕ → ℕ} (xs : List Openings) (ls : List ℕ) (H K : Held Description) (os : List (Option View))
+    (ps : List Process) (paths : List (Name × PathTarget)) (names : List (Name × ℕ)) (d : ℕ) (x y : Description) →
+    IsState ks xs ls H fs (state_of os H ps paths names) → place H.places d ≡ Some x → K.places ≡ filled H.places d y →
+    K.counts ≡ H.counts → IsAlike x y → IsState ks xs ls K fs (state_of os K ps paths names)
 changed_kept xs ls H K os ps paths names d x y state here places counts alike = record {
   few_objects = state.few_objects;
   few_processes = state.few_processes;
   one_each = state.one_each;
   link_each = state.link_each;
   linked = state.linked;
+  settled = state.settled;
   opened = rw places (counted_set H.places xs d x y here alike state.opened);
   counted = λ k. ap (λ cs. count_at (record H { counts = cs }) k) counts ∙ state.counted k
       ∙ sym (same_refs os H K ps paths names k (rw places (held_set H.places d x y here alike)));

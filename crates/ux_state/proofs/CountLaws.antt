@@ -3,6 +3,8 @@ use Rattle.std.proofs.Common.{◌≡◌, ℕ, zero, suc, ◌+◌, Bool, List, []
 use Rattle.std.specs.List.{count_by, sum_by}
 use Rattle.std.proofs.lemmas.List.Sums.{sum_by-cons}
 use Rattle.std.proofs.lemmas.List.{length-map}
+use Rattle.ux_number_sets.specs.Sets.{IsEmptySet}
+use Rattle.ux_state.proofs.Settling.{none_settled}
 use Rattle.ux_model.specs.Types.{Mode, Name}
 use Rattle.ux_model.specs.Names.{PathTarget}
 use Rattle.ux_model.specs.Flags.{can_read, can_write}
@@ -20,7 +22,8 @@ use Rattle.ux_state.specs.declared.openings.Openings.{Openings}
 use Rattle.ux_state.specs.Counting.{one_if, counts_of, Counted}
 use Rattle.ux_state.specs.Counting as counts
 use Rattle.ux_model.proofs.Counting.Owning.{owned_none}
-use Rattle.ux_state.specs.Keeping.{state_of, links_of, IsState}
+use Rattle.ux_state.specs.Keeping.{state_of, IsState}
+use Rattle.ux_state.specs.Links.{links_of}
 use Rattle.ux_state.proofs.TableCounts.{none_open}
 
 count_none : (allows : Mode → Bool) (o : ℕ) (ds : List (Option Description)) → count_by (is_opening allows o) (map (λ _. None) ds) ≡ 0
@@ -75,26 +78,29 @@ links_none (l ∷ ls) zero = refl
 links_none (l ∷ ls) (suc o) = links_none ls o
 
 -- all descriptors, all descriptions and all names went
-pub forgotten_kept : {fs gs : ℕ → ℕ} (xs ys : List Openings) (ls ms : List ℕ) (H K : Held Description) (os : List (Option View))
-    (ps qs : List Process) (old new : List (Name × PathTarget)) (names left : List (Name × ℕ)) →
-    IsState xs ls H fs (state_of os H ps old names) → qs ≡ map with_nothing_open ps → K.places ≡ map (λ _. None) H.places →
+pub forgotten_kept : {ks ns : List Bool} {fs gs : ℕ → ℕ} (xs ys : List Openings) (ls ms : List ℕ) (H K : Held Description)
+    (os : List (Option View)) (ps qs : List Process) (old new : List (Name × PathTarget)) (names left : List (Name × ℕ)) →
+    IsState ks xs ls H fs (state_of os H ps old names) → qs ≡ map with_nothing_open ps → K.places ≡ map (λ _. None) H.places →
     ((k : ℕ) → count_at K k ≡ 0) → ys ≡ map (λ _. counts.none_open) xs →
-    ms ≡ map (λ _. 0) ls → new ≡ [] → left ≡ [] → ((u : ℕ) → gs u ≡ 0) → IsState ys ms K gs (state_of os K qs new left)
+    ms ≡ map (λ _. 0) ls → new ≡ [] → left ≡ [] → ((u : ℕ) → gs u ≡ 0) → IsEmptySet (length ks) ns →
+    IsState ns ys ms K gs (state_of os K qs new left)
 unfolding refs in_flight
-forgotten_kept xs ys ls ms H K os ps qs old new names left state cleared places counts counted unlinked no_paths no_names flights = record {
-  few_objects = state.few_objects;
-  few_processes = let e = ap length cleared ∙ length-map ps with_nothing_open in let few = state.few_processes in omega (arith, e, few);
-  one_each = rw (counted, length-map) state.one_each;
-  link_each = rw (unlinked, length-map) state.link_each;
-  opened = rw (places, counted) (Counted-none H.places xs);
-  linked = rw no_paths (record { once = refl; counted = λ o h. ap (λ ns. links_of ns o) unlinked ∙ links_none ls o });
-  counted = λ k.
-      let a = counts k in
-      let b : sum_by (description_refs k) K.places ≡ 0 = ap (sum_by (description_refs k)) places ∙ held_by_none k H.places in
-      let c : sum_by (λ P. table_refs k (Process.table P)) qs ≡ 0 = ap (sum_by (λ P. table_refs k (Process.table P))) cleared
-      ∙ nothing_open k ps in
-      omega (arith, a, b, c);
-  flying = λ u. flights u ∙ sym (ap (sum_by (flying_in u)) places ∙ none_flying u H.places);
-  paired = rw places (nobody H.places);
-  owned = rw no_names (owned_none K.places);
-}
+forgotten_kept {ks = ks} {ns = ns} xs ys ls ms H K os ps qs old new names left state cleared places counts counted unlinked no_paths
+    no_names flights none = record {
+      few_objects = state.few_objects;
+      few_processes = let e = ap length cleared ∙ length-map ps with_nothing_open in let few = state.few_processes in omega (arith, e, few);
+      one_each = rw (counted, length-map) state.one_each;
+      link_each = rw (unlinked, length-map) state.link_each;
+      opened = rw (places, counted) (Counted-none H.places xs);
+      linked = rw no_paths (record { once = refl; counted = λ o h. ap (λ ns. links_of ns o) unlinked ∙ links_none ls o });
+      settled = none_settled ns ys ms os (length ks) none state.settled.long;
+      counted = λ k.
+          let a = counts k in
+          let b : sum_by (description_refs k) K.places ≡ 0 = ap (sum_by (description_refs k)) places ∙ held_by_none k H.places in
+          let c : sum_by (λ P. table_refs k (Process.table P)) qs ≡ 0 = ap (sum_by (λ P. table_refs k (Process.table P))) cleared
+          ∙ nothing_open k ps in
+          omega (arith, a, b, c);
+      flying = λ u. flights u ∙ sym (ap (sum_by (flying_in u)) places ∙ none_flying u H.places);
+      paired = rw places (nobody H.places);
+      owned = rw no_names (owned_none K.places);
+    }

@@ -3,6 +3,9 @@ use Rattle.std.proofs.Common.{◌≡◌, ℕ, zero, suc, ◌+◌, ◌<◌, ◌�
 use Rattle.std.proofs.Common.{None, option_map, refl, sym, ◌∙◌, ap, arith}
 use Rattle.std.specs.Prelude.{not, filter, count_by, sum_by, IsSome}
 use Rattle.std.proofs.lemmas.List.Sums.{sum_by-cons, sum_by-set}
+use Rattle.ux_state.specs.Settling.{LooksAgain}
+use Rattle.ux_state.proofs.Settling.{settled_less}
+use Rattle.ux_model.specs.Description.{object_of}
 use Rattle.ux_model.specs.Types.{Mode, Name}
 use Rattle.ux_model.specs.Names.{PathTarget}
 use Rattle.ux_model.specs.Flags.{can_read, can_write}
@@ -85,8 +88,9 @@ counted_left ds xs ys d D here counted more = record {
 
 -- ---- the state
 
-module _ {fs : ℕ → ℕ} (xs : List Openings) (ls : List ℕ) (H : Held Description) (os : List (Option View)) (ps : List Process)
-    (paths : List (Name × PathTarget)) (names : List (Name × ℕ)) (state : IsState xs ls H fs (state_of os H ps paths names)) where
+module _ {ks : List Bool} {fs : ℕ → ℕ} (xs : List Openings) (ls : List ℕ) (H : Held Description) (os : List (Option View))
+    (ps : List Process) (paths : List (Name × PathTarget)) (names : List (Name × ℕ))
+    (state : IsState ks xs ls H fs (state_of os H ps paths names)) where
   -- what the lost one held is counted
   pub all_counted : (T : Held Description) (d k : ℕ) (D : Description) → place H.places d ≡ Some D → T.counts ≡ H.counts →
       target_refs k D.target ≤ count_at T k
@@ -107,19 +111,21 @@ module _ {fs : ℕ → ℕ} (xs : List Openings) (ls : List ℕ) (H : Held Descr
   left_names d D left here shown = shown ∙ ap (λ x. without_shown (name_in x) d names) (sym here)
       ∙ name_goes (state_of os H ps paths names) d state.owned
 
-  pub left_kept : {gs : ℕ → ℕ} (ys : List Openings) (T K : Held Description) (left : List (Name × ℕ)) (d : ℕ) (D : Description) →
-      place H.places d ≡ Some D → K.places ≡ with_peer_reset (lost_peer D) (emptied H.places d) → T.counts ≡ H.counts →
+  pub left_kept : {ns : List Bool} {gs : ℕ → ℕ} (ys : List Openings) (T K : Held Description) (left : List (Name × ℕ)) (d : ℕ)
+      (D : Description) → place H.places d ≡ Some D → K.places ≡ with_peer_reset (lost_peer D) (emptied H.places d) → T.counts ≡ H.counts →
       ((k : ℕ) → count_at T k ≡ count_at K k + target_refs k D.target) → ((u : ℕ) → fs u ≡ gs u + flying_at u D.target) →
-      CountsOneMore D ys xs → left ≡ without_shown (target_name D.target) d names →
-      IsState ys ls K gs (state_of os K ps paths left)
+      CountsOneMore D ys xs → left ≡ without_shown (target_name D.target) d names → LooksAgain (object_of D.target) ks ns →
+      IsState ns ys ls K gs (state_of os K ps paths left)
   unfolding in_flight
-  left_kept ys T K left d D here places same counts flights more shown = record {
+  left_kept {ns = ns} ys T K left d D here places same counts flights more shown again = record {
     few_objects = state.few_objects;
     few_processes = state.few_processes;
     one_each = sym more.long ∙ state.one_each;
     link_each = state.link_each;
     opened = rw places (counted_left H.places xs ys d D here state.opened more);
     linked = state.linked;
+    settled = let long = more.long in let each = state.one_each in
+        settled_less ks ns xs ys ls os D state.settled (sym long ∙ each) more again;
     counted = λ k.
         let a = left_refs (state_of os H ps paths names) (state_of os K ps paths left) d k D here refl places in
         let b = state.counted k in

@@ -2,6 +2,7 @@
 use Rattle.std.proofs.Common.{◌≡◌, ℕ, zero, suc, ◌<◌, true, List, [], ◌∷◌, length, get_or, Option, is_some, ◌∙◌, ap, arith}
 use Rattle.std.specs.Prelude.{count_by}
 use Rattle.std.proofs.lemmas.List.{get_or_read}
+use Rattle.std.specs.Prelude.{Bool}
 use Rattle.ux_model.specs.Places.{place}
 use Rattle.ux_model.specs.Flags.{can_read, can_write}
 use Rattle.ux_model.specs.Description.{Description}
@@ -17,8 +18,9 @@ held_inside [] o e = absurd (cc e)
 held_inside (x ∷ xs) zero e = omega arith
 held_inside (x ∷ xs) (suc o) e = let h = held_inside xs o e in omega (arith, h)
 
-pub readers_there : {fs : ℕ → ℕ} (xs : List Openings) (ls : List ℕ) (H : Held Description) (S : State) (o : ℕ) (x : Openings) →
-    IsState xs ls H fs S → is_some (place S.objects o) ≡ true → x ≡ get_or xs o x →
+pub readers_there : {ks : List Bool} {fs : ℕ → ℕ} (xs : List Openings) (ls : List ℕ) (H : Held Description) (S : State) (o : ℕ)
+    (x : Openings) →
+    IsState ks xs ls H fs S → is_some (place S.objects o) ≡ true → x ≡ get_or xs o x →
     x.readers ≡ count_by (is_opening can_read o) S.descriptions
 readers_there xs ls H S o x state held e =
     let inside = held_inside S.objects o held in
@@ -26,8 +28,9 @@ readers_there xs ls H S o x state held e =
     let within : o < length xs = omega (arith, inside, each) in
     ap (λ (y : Openings). y.readers) (get_or_read xs o x within e none_open) ∙ state.opened.readers o within
 
-pub writers_there : {fs : ℕ → ℕ} (xs : List Openings) (ls : List ℕ) (H : Held Description) (S : State) (o : ℕ) (x : Openings) →
-    IsState xs ls H fs S → is_some (place S.objects o) ≡ true → x ≡ get_or xs o x →
+pub writers_there : {ks : List Bool} {fs : ℕ → ℕ} (xs : List Openings) (ls : List ℕ) (H : Held Description) (S : State) (o : ℕ)
+    (x : Openings) →
+    IsState ks xs ls H fs S → is_some (place S.objects o) ≡ true → x ≡ get_or xs o x →
     x.writers ≡ count_by (is_opening can_write o) S.descriptions
 writers_there xs ls H S o x state held e =
     let inside = held_inside S.objects o held in

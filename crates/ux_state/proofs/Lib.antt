@@ -6,6 +6,7 @@ pub mod Opening
 pub mod CountLaws
 pub mod Dropping
 pub mod Orphans
+pub mod Settling
 pub mod Links
 pub mod Made
 pub mod Queues

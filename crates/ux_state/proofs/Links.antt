@@ -12,7 +12,7 @@ use Rattle.ux_model.specs.Boot.{are_distinct}
 use Rattle.ux_model.specs.References.{path_names}
 use Rattle.ux_model.proofs.Counting.Owning.{IsOnce, counted, sum_without, once-filter, once-push, not_before}
 use Rattle.ux_state.specs.Counting.{one_if}
-use Rattle.ux_state.specs.Keeping.{links_of, link_at, LosesLink, AreLinked}
+use Rattle.ux_state.specs.Links.{links_of, link_at, LosesLink, AreLinked}
 use Rattle.ux_state.proofs.Orphans.{any_counted}
 
 -- ---- a path less

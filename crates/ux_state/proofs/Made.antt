@@ -1,11 +1,11 @@
 -- A state that was just made.
 use Rattle.std.proofs.Common.{◌≡◌, ℕ, zero, suc, ◌+◌, ◌<◌, ◌≤◌, true, List, [], ◌∷◌, length, map, Option, Some, None, refl, sym, ◌∙◌, ap}
 use Rattle.std.proofs.Common.{arith}
-use Rattle.std.specs.Prelude.{max, min, replicate}
+use Rattle.std.specs.Prelude.{Bool, max, min, replicate}
 use Rattle.std.specs.List.{enumerate_from, slice_get, sum_by}
 use Rattle.std.proofs.lemmas.List.{length-map, length-replicate}
 use Rattle.std.proofs.lemmas.List.Sums.{sum_by-cons}
-use Rattle.ux_model.specs.Limits.{table_limit, object_limit, process_limit}
+use Rattle.ux_model.specs.Limits.{table_limit, raised_object_limit, process_limit}
 use Rattle.ux_model.specs.Types.{Name, ProcSpec}
 use Rattle.ux_model.specs.Names.{PathTarget, file}
 use Rattle.ux_model.specs.Object.{View}
@@ -17,11 +17,14 @@ use Rattle.ux_model.specs.Flight.{flying_in, in_flight}
 use Rattle.ux_model.specs.Boot.{boot_state, are_distinct, new_process}
 use Rattle.ux_slots.specs.Held.{Held, count_at}
 use Rattle.ux_state.specs.declared.openings.Openings.{Openings}
+use Rattle.ux_number_sets.specs.Sets.{IsEmptySet}
 use Rattle.ux_state.specs.Counting.{none_open, counts_of}
 use Rattle.ux_state.specs.EntryCounts.{entry_refs}
 use Rattle.ux_model.proofs.Counting.Owning.{owned_none}
-use Rattle.ux_state.specs.Keeping.{state_of, links_of, IsState}
+use Rattle.ux_state.specs.Keeping.{state_of, IsState}
+use Rattle.ux_state.specs.Links.{links_of}
 use Rattle.ux_state.proofs.CountLaws.{nobody}
+use Rattle.ux_state.proofs.Settling.{none_settled}
 use Rattle.ux_state.proofs.Links.{file_paths, names_of, one_path_each}
 
 -- the views of the objects, and their paths
@@ -81,16 +84,16 @@ ones zero o inside = absurd (omega (arith, inside))
 ones (suc n) zero inside = refl
 ones (suc n) (suc o) inside = ones n o (omega (arith, inside))
 
-pub made_kept : {X : Type 0} {fs : ℕ → ℕ} (view : X → View) (objects : List (Name × X)) (n : ℕ) (xs : List Openings) (ls : List ℕ)
-    (H : Held Description) (os : List (Option View)) (ps : List Process) (paths : List (Name × PathTarget)) (names : List (Name × ℕ))
-    (specs : List ProcSpec) →
+pub made_kept : {X : Type 0} {ks : List Bool} {fs : ℕ → ℕ} (view : X → View) (objects : List (Name × X)) (n : ℕ) (xs : List Openings)
+    (ls : List ℕ) (H : Held Description) (os : List (Option View)) (ps : List Process) (paths : List (Name × PathTarget))
+    (names : List (Name × ℕ)) (specs : List ProcSpec) →
     os ≡ map (λ o. Some (view o.1)) objects → H.places ≡ [] → H.counts ≡ [] → ps ≡ map new_process specs → xs ≡ replicate n none_open →
     ls ≡ replicate n 1 → paths ≡ file_paths 0 objects → are_distinct (map (λ o. o.0) objects) ≡ true → names ≡ [] →
-    n ≡ length objects → length objects ≤ object_limit → length specs ≤ process_limit → ((u : ℕ) → fs u ≡ 0) →
-    IsState xs ls H fs (state_of os H ps paths names)
+    n ≡ length objects → length objects ≤ raised_object_limit → length specs ≤ process_limit → ((u : ℕ) → fs u ≡ 0) → IsEmptySet n ks →
+    IsState ks xs ls H fs (state_of os H ps paths names)
 unfolding refs in_flight
 made_kept view objects n xs ls H os ps paths names specs objects_are places counts processes openings links found once none_bound one_each
-    few_objects few_processes flights = record {
+    few_objects few_processes flights none = record {
       few_objects = let a = ap length objects_are in let b = length-map objects (λ o. Some (view o.1)) in omega (arith, a, b, few_objects);
       few_processes = let a = ap length processes in let b = length-map specs new_process in omega (arith, a, b, few_processes);
       one_each =
@@ -111,6 +114,8 @@ made_kept view objects n xs ls H os ps paths names specs objects_are places coun
             let inside : o < n = let c = ap length links in let d = length-replicate {A = ℕ} n 1 in omega (arith, h, c, d) in
             ap (λ ns. links_of ns o) links ∙ ones n o inside ∙ sym (one_path_each o objects (omega (arith, inside, one_each)));
       });
+      settled = none_settled _ xs ls os n none
+          (let a = ap length objects_are in let b = length-map objects (λ o. Some (view o.1)) in omega (arith, a, b, one_each));
       counted = λ k.
           let none = ap (λ cs. count_at (record H { counts = cs }) k) counts in
           let tables = ap (sum_by (λ P. table_refs k (Process.table P))) processes ∙ new_tables k specs in

@@ -30,6 +30,7 @@ use Rattle.ux_state.specs.Counting.{Counted, CountsOneMore, HasRoom, one_if}
 use Rattle.ux_slots.specs.Held.{Held, Adds, count_at, once}
 use Rattle.ux_state.specs.Keeping.{state_of, IsState}
 use Rattle.ux_state.proofs.Lookups.{table_here, table_put}
+use Rattle.ux_state.proofs.Settling.{settled_more}
 use Rattle.ux_state.proofs.TableCounts.{HoldAlike, process_kept}
 
 -- ---- counts
@@ -128,17 +129,19 @@ adds_from H J K D places counts adds = record {
       omega (arith, a, b, c);
 }
 
-module _ {fs : ℕ → ℕ} (xs : List Openings) (ls : List ℕ) (H : Held Description) (os : List (Option View)) (ps : List Process)
-    (paths : List (Name × PathTarget)) (names : List (Name × ℕ)) (state : IsState xs ls H fs (state_of os H ps paths names))
+module _ {ks : List Bool} {fs : ℕ → ℕ} (xs : List Openings) (ls : List ℕ) (H : Held Description) (os : List (Option View))
+    (ps : List Process) (paths : List (Name × PathTarget)) (names : List (Name × ℕ))
+    (state : IsState ks xs ls H fs (state_of os H ps paths names))
     (p : ℕ) (P : Process) (live : is_live (state_of os H ps paths names) p ≡ true) (at : P ≡ get_or ps (p - 1) P) where
   -- a file's description more, to which the lowest free number leads
   pub object_opened : (ys : List Openings) (K : Held Description) (Q : Process) (n : ℕ) (e : Descriptor) (D : Description) →
       Q ≡ record P { table = filled P.table n e } → lowest_free P.table ≡ Some n →
       e.description ≡ length H.places → Adds D H K → HoldsNothing D → CountsOneMore D xs ys →
-      IsState ys ls K fs (state_of os K (set ps (p - 1) Q) paths names)
+      IsState ks ys ls K fs (state_of os K (set ps (p - 1) Q) paths names)
   object_opened ys K Q n e D new lowest last adds none more =
       process_kept xs ls H os ps paths names state p P live at ys K Q more.long (rw adds.places (held_push H.places D none.refs))
-      (rw adds.places (counted_push H.places xs ys D state.opened more)) (rw adds.places (paired-push H.places D none.peer state.paired))
+      (rw adds.places (counted_push H.places xs ys D state.opened more))
+      (settled_more ks xs ys ls os D state.settled state.one_each more) (rw adds.places (paired-push H.places D none.peer state.paired))
       (rw adds.places (owned_still H.places _ names (names_push H.places D) state.owned))
       (λ k.
       let free = free_at P.table 0 n lowest in
@@ -155,11 +158,11 @@ module _ {fs : ℕ → ℕ} (xs : List Openings) (ls : List ℕ) (H : Held Descr
       e.description ≡ length H.places → f.description ≡ length H.places + 1 → Adds D H J → Adds E J K →
       Paired ((H.places ++ Some D ∷ []) ++ Some E ∷ []) →
       ((k : ℕ) → target_refs k D.target ≡ 0) → ((k : ℕ) → target_refs k E.target ≡ 0) → CountsOneMore D xs xs → CountsOneMore E xs xs →
-      IsState xs ls K fs (state_of os K (set ps (p - 1) Q) paths names)
+      IsState ks xs ls K fs (state_of os K (set ps (p - 1) Q) paths names)
   pair_opened J K Q n m e f D E new lowest first second adds adds' ties d_holds e_holds d_more e_more =
       let two : K.places ≡ (H.places ++ Some D ∷ []) ++ Some E ∷ [] = adds'.places ∙ ap (λ ds. ds ++ Some E ∷ []) adds.places in
       process_kept xs ls H os ps paths names state p P live at xs K Q refl (rw two (held_push_two H.places D E d_holds e_holds))
-      (rw two (counted_push _ xs xs E (counted_push H.places xs xs D state.opened d_more) e_more)) (rw two ties)
+      (rw two (counted_push _ xs xs E (counted_push H.places xs xs D state.opened d_more) e_more)) state.settled (rw two ties)
       (rw two (owned_still _ _ names (names_push (H.places ++ Some D ∷ []) E)
       (owned_still H.places _ names (names_push H.places D) state.owned)))
       (λ k.

@@ -1,10 +1,12 @@
 -- The file objects that neither a path nor a description leads to, one at a time.
 use Rattle.std.proofs.Common.{◌≡◌, ℕ, zero, suc, ◌+◌, ◌-◌, ◌<◌, ◌≤◌, Bool, true, false, not, ◌&&◌, ◌||◌, eqb, nat_lt, if◌then◌else◌, List}
 use Rattle.std.proofs.Common.{[], ◌∷◌, ◌++◌, length, cond, get_or, set, take, drop, map, Option, Some, None, is_some, option_map, sym, ◌∙◌}
-use Rattle.std.proofs.Common.{ap, refl, zero-add, arith, append_assoc, length-append, length-drop, length-take-le}
+use Rattle.std.proofs.Common.{subst, ap, refl, zero-add, arith, append_assoc, length-append, length-drop, length-take-le}
+use Rattle.std.specs.Prelude.{MatchOption}
 use Rattle.std.specs.List.{count_by, sum_by, list_any, list_all, enumerate_from, filter}
 use Rattle.std.proofs.lemmas.Bool.{ne_eqb, lt-ltb, and_right}
-use Rattle.std.proofs.lemmas.List.{take_more, append-nil, map-append, set-append_right, set-get_or, get_or-append_right, get_or-drop}
+use Rattle.std.proofs.lemmas.List.{get_or-set_same, take_all, drop_all, take_more, append-nil, map-append}
+use Rattle.std.proofs.lemmas.List.{set-append_right, set-get_or, get_or-append_right, get_or-drop}
 use Rattle.std.proofs.lemmas.List.{drop_more, length-map}
 use Rattle.std.proofs.lemmas.List.Elements.{filter-append}
 use Rattle.std.proofs.lemmas.List.FromFn.{length-enumerate_from}
@@ -12,14 +14,21 @@ use Rattle.std.proofs.lemmas.List.Folds.{sum_by-zero}
 use Rattle.std.proofs.lemmas.List.{get_or_read}
 use Rattle.ux_model.specs.Types.{Mode}
 use Rattle.ux_model.specs.Flags.{can_read, can_write}
+use Rattle.ux_model.specs.Places.{place}
 use Rattle.ux_model.specs.Object.{View, closed}
 use Rattle.ux_model.specs.Description.{Description}
 use Rattle.ux_model.specs.State.{State}
 use Rattle.ux_model.specs.References.{path_names, leads_to, is_open_of, orefs}
 use Rattle.ux_model.specs.FileObjects.{is_opening}
-use Rattle.ux_model.specs.Release.{is_orphan}
+use Rattle.ux_model.specs.Release.{is_orphan, orphans, without_orphans}
 use Rattle.ux_state.specs.declared.openings.Openings.{Openings}
 use Rattle.ux_state.specs.Counting.{one_if, none_open, counts_of, Counted}
+use Rattle.ux_state.specs.Links.{AreLinked}
+use Rattle.ux_slots.specs.Held.{Held}
+use Rattle.ux_number_sets.specs.Sets.{has_number, IsFirstFree}
+use Rattle.ux_state.specs.Keeping.{IsState}
+use Rattle.ux_state.specs.Settling.{left, handed, handed_from, is_loose, AreSettled}
+use Rattle.ux_state.proofs.Settling.{has_within}
 
 -- ---- whether any is counted
 
@@ -122,13 +131,6 @@ first_more xs i d inside =
     ap (enumerate_from 0) (take_more xs i d inside) ∙ enumerate_from-append 0 (take i xs) (get_or xs i d ∷ [])
     ∙ ap (λ n. first i xs ++ (n, get_or xs i d) ∷ []) e
 
--- what a place is after the pass
-abbrev pub left : State → ℕ × Option View → Option View
-left S e = if is_orphan S e then None else e.1
-
-abbrev pub handed : ℕ × Option View → ℕ × Option View
-handed e = (e.0, option_map closed e.1)
-
 -- the places where the pass has come to place i, and what it has handed out
 abbrev pub places_at : State → ℕ → List (Option View)
 places_at S i = map (left S) (first i S.objects) ++ drop i S.objects
@@ -174,7 +176,7 @@ set-places_at S i y inside e =
     ∙ ap (λ ys. map (left S) ys ++ rest) (sym (first_more S.objects i None inside))
 
 handed_more : (S : State) (i : ℕ) → i < length S.objects →
-    handed_at S (i + 1) ≡ handed_at S i ++ map handed (filter (is_orphan S) ((i, get_or S.objects i None) ∷ []))
+    handed_at S (i + 1) ≡ handed_at S i ++ handed_from S (i, get_or S.objects i None)
 handed_more S i inside =
     let x : ℕ × Option View = (i, get_or S.objects i None) in
     ap (λ es. map handed (filter (is_orphan S) es)) (first_more S.objects i None inside)
@@ -196,57 +198,185 @@ inside_then S T i gone passed inside =
 
 -- ---- one place of a pass
 
-left_kept : (b : Bool) (x : Option View) → b ≡ false → x ≡ (if is_some x && b then None else x)
-left_kept b x e = sym (ap (λ t. if t then None else x) (and_right (is_some x) b e))
+-- its object's references are what they were
+orphan_then : (S T : State) (i : ℕ) (gone : List (ℕ × Option View)) → Passed S i T gone → (x : ℕ × Option View) →
+    is_orphan T x ≡ is_orphan S x
+orphan_then S T i gone passed x = ap (λ b. is_some x.1 && b) (orefs_then S T i x.0 gone passed)
 
-left_gone : (b : Bool) (x : Option View) → b ≡ true → None ≡ (if is_some x && b then None else x)
-left_gone b None e = refl
-left_gone b (Some v) e = sym (ap (λ t. if t then None else Some v) e)
+here_then : (S T : State) (i : ℕ) (gone : List (ℕ × Option View)) → Passed S i T gone → i ≤ length S.objects →
+    get_or T.objects i None ≡ get_or S.objects i None
+here_then S T i gone passed le = ap (λ R. get_or (State.objects R) i None) passed.state ∙ here_at S i le
 
-none_out : (b : Bool) (i : ℕ) (x : Option View) → b ≡ false → map handed (cond (is_some x && b) ((i, x) ∷ []) []) ≡ []
-none_out b i x e = ap (λ t. map handed (cond t ((i, x) ∷ []) [])) (and_right (is_some x) b e)
+left_then : (S T : State) (i : ℕ) (gone : List (ℕ × Option View)) → Passed S i T gone → i ≤ length S.objects →
+    left T (i, get_or T.objects i None) ≡ left S (i, get_or S.objects i None)
+left_then S T i gone passed le =
+    ap (λ b. if b then None else get_or T.objects i None) (orphan_then S T i gone passed (i, get_or T.objects i None))
+    ∙ ap (λ x. left S (i, x)) (here_then S T i gone passed le)
 
-one_out : (b : Bool) (i : ℕ) (x : Option View) → b ≡ true →
-    filter (λ e. is_some e.1) ((i, option_map closed x) ∷ []) ≡ map handed (cond (is_some x && b) ((i, x) ∷ []) [])
-one_out b i None e = refl
-one_out b i (Some v) e = sym (ap (λ t. map handed (cond t ((i, Some v) ∷ []) [])) e)
+handed_then : (S T : State) (i : ℕ) (gone : List (ℕ × Option View)) → Passed S i T gone → i ≤ length S.objects →
+    handed_from T (i, get_or T.objects i None) ≡ handed_from S (i, get_or S.objects i None)
+handed_then S T i gone passed le =
+    ap (λ b. map handed (cond b ((i, get_or T.objects i None) ∷ []) [])) (orphan_then S T i gone passed (i, get_or T.objects i None))
+    ∙ ap (λ x. handed_from S (i, x)) (here_then S T i gone passed le)
 
-few_out : (b : Bool) (e : ℕ × Option View) → length (cond b (e ∷ []) []) ≤ 1
+few_out : (b : Bool) (e : ℕ × Option View) → length (map handed (cond b (e ∷ []) [])) ≤ 1
 few_out true e = omega arith
 few_out false e = omega arith
 
-pub Passed-kept : (S T : State) (i : ℕ) (gone : List (ℕ × Option View)) → Passed S i T gone → i < length S.objects →
-    (eqb (orefs T i) 0) ≡ false → Passed S (i + 1) T gone
-Passed-kept S T i gone passed inside kept =
+-- the pass looks at place i
+pub Passed-one : (S T U : State) (i : ℕ) (gone more : List (ℕ × Option View)) → Passed S i T gone → i < length S.objects →
+    U ≡ record T { objects = set T.objects i (left T (i, get_or T.objects i None)) } →
+    more ≡ gone ++ handed_from T (i, get_or T.objects i None) → Passed S (i + 1) U more
+Passed-one S T U i gone more passed inside next out =
     let le : i ≤ length S.objects = omega (arith, inside) in
-    let no : eqb (orefs S i) 0 ≡ false = sym (orefs_then S T i i gone passed) ∙ kept in
-    let same : places_at S i ≡ places_at S (i + 1) =
-    sym (set-get_or (places_at S i) i None) ∙ set-places_at S i (get_or (places_at S i) i None) inside
-    (here_at S i le ∙ left_kept (eqb (orefs S i) 0) (get_or S.objects i None) no) in
+    let one = few_out (is_orphan T (i, get_or T.objects i None)) (i, get_or T.objects i None) in
+    let long : length more ≡ length gone + length (handed_from T (i, get_or T.objects i None)) = ap length out ∙ length-append gone _ in
     record {
-      state = passed.state ∙ ap (λ xs. record S { objects = xs }) same;
-      out = passed.out ∙ sym (handed_more S i inside
-          ∙ ap (λ ys. handed_at S i ++ ys) (none_out (eqb (orefs S i) 0) i (get_or S.objects i None) no) ∙ append-nil (handed_at S i));
-      few = omega (arith, passed.few);
-    }
-
-pub Passed-gone : (S T U : State) (i : ℕ) (gone more : List (ℕ × Option View)) (x : Option View) → Passed S i T gone →
-    i < length S.objects → (eqb (orefs T i) 0) ≡ true →
-    x ≡ option_map closed (get_or T.objects i None) → U ≡ record T { objects = set T.objects i None } →
-    more ≡ gone ++ filter (λ e. is_some e.1) ((i, x) ∷ []) → Passed S (i + 1) U more
-Passed-gone S T U i gone more x passed inside orphan taken next out =
-    let le : i ≤ length S.objects = omega (arith, inside) in
-    let yes : eqb (orefs S i) 0 ≡ true = sym (orefs_then S T i i gone passed) ∙ orphan in
-    let here : get_or T.objects i None ≡ get_or S.objects i None = ap (λ R. get_or (State.objects R) i None) passed.state
-    ∙ here_at S i le in
-    let added : List (ℕ × Option View) = filter (λ e. is_some e.1) ((i, x) ∷ []) in
-    let one : length added ≤ 1 = few_out (is_some x) (i, x) in
-    let long : length more ≡ length gone + length added = ap length out ∙ length-append gone added in
-    record {
-      state = next ∙ ap (λ (R : State). record R { objects = set (State.objects R) i None }) passed.state
-          ∙ ap (λ xs. record S { objects = xs }) (set-places_at S i None inside
-          (left_gone (eqb (orefs S i) 0) (get_or S.objects i None) yes));
-      out = out ∙ (λ j. passed.out j ++ filter (λ e. is_some e.1) ((i, (taken ∙ ap (option_map closed) here) j) ∷ []))
-          ∙ ap (λ ys. handed_at S i ++ ys) (one_out (eqb (orefs S i) 0) i (get_or S.objects i None) yes) ∙ sym (handed_more S i inside);
+      state = next ∙ ap (λ (R : State). record R { objects = set (State.objects R) i (left T (i, get_or T.objects i None)) }) passed.state
+          ∙ ap (λ xs. record S { objects = xs }) (set-places_at S i (left T (i, get_or T.objects i None)) inside
+          (left_then S T i gone passed le));
+      out = out ∙ (λ j. passed.out j ++ handed_then S T i gone passed le j) ∙ sym (handed_more S i inside);
       few = omega (arith, passed.few, one, long);
     }
+
+-- what a look at a place without an orphan would change
+set_same : (T : State) (i : ℕ) → is_orphan T (i, get_or T.objects i None) ≡ false →
+    T ≡ record T { objects = set T.objects i (left T (i, get_or T.objects i None)) }
+set_same T i none =
+    ap (λ xs. record T { objects = xs }) (sym (set-get_or T.objects i None)
+    ∙ ap (set T.objects i) (sym (ap (λ b. if b then None else get_or T.objects i None) none)))
+
+none_out : (T : State) (i : ℕ) (gone : List (ℕ × Option View)) → is_orphan T (i, get_or T.objects i None) ≡ false →
+    gone ≡ gone ++ handed_from T (i, get_or T.objects i None)
+none_out T i gone none = sym (ap (λ b. gone ++ map handed (cond b ((i, get_or T.objects i None) ∷ []) [])) none ∙ append-nil gone)
+
+-- the pass goes over places without orphans
+pub Passed-over : (S T : State) (i k : ℕ) (gone : List (ℕ × Option View)) → Passed S i T gone → i + k ≤ length S.objects →
+    ((n : ℕ) → i ≤ n → n < i + k → is_orphan T (n, get_or T.objects n None) ≡ false) → Passed S (i + k) T gone
+Passed-over S T i zero gone passed within none = let e : i ≡ i + 0 = omega arith in subst (λ n. Passed S n T gone) e passed
+Passed-over S T i (suc k) gone passed within none =
+    let next = Passed-one S T T i gone gone passed (omega (arith, within)) (set_same T i (none i (omega arith) (omega arith)))
+    (none_out T i gone (none i (omega arith) (omega arith))) in
+    let e : (i + 1) + k ≡ i + suc k = omega arith in
+    subst (λ n. Passed S n T gone) e (Passed-over S T (i + 1) k gone next (omega (arith, within))
+    (λ n after before. none n (omega (arith, after)) (omega (arith, before))))
+
+-- ---- settled objects
+
+and_assoc : (a b c : Bool) → ((a && b) && c) ≡ (a && (b && c))
+and_assoc true b c = refl
+and_assoc false b c = refl
+
+zero_open : (ds : List (Option Description)) (o : ℕ) → eqb (count_by (is_open_of o) ds) 0 ≡ (eqb (count_by (is_opening can_read o) ds) 0
+    && eqb (count_by (is_opening can_write o) ds) 0)
+zero_open ds o =
+    count_zero (is_open_of o) ds ∙ ap not (any_or (is_open_of o) (is_opening can_read o) (is_opening can_write o) (open_either o) ds)
+    ∙ sym (not_or (list_any (is_opening can_read o) ds) (list_any (is_opening can_write o) ds))
+    ∙ (λ j. sym (count_zero (is_opening can_read o) ds) j && sym (count_zero (is_opening can_write o) ds) j)
+
+-- what a look leaves is there only where something leads to it
+none_left : (b : Bool) (x : Option View) → (is_some (if is_some x && b then None else x) && b) ≡ false
+none_left true None = refl
+none_left true (Some v) = refl
+none_left false None = refl
+none_left false (Some v) = refl
+
+-- what the counts say is loose has no reference
+pub loose_is : (S : State) (xs : List Openings) (ls : List ℕ) (o : ℕ) → o < length xs → o < length ls → Counted S.descriptions xs →
+    AreLinked S.paths ls → is_loose xs ls o ≡ eqb (orefs S o) 0
+unfolding orefs
+loose_is S xs ls o inside within counted linked =
+    (λ j. eqb (counted.readers o inside j) 0 && (eqb (counted.writers o inside j) 0 && eqb (linked.counted o within j) 0))
+    ∙ sym (and_assoc (eqb (count_by (is_opening can_read o) S.descriptions) 0) (eqb (count_by (is_opening can_write o) S.descriptions) 0) _)
+    ∙ ap (λ b. b && eqb (count_by (λ e. path_names o e.1) S.paths) 0) (sym (zero_open S.descriptions o))
+    ∙ sym (sum_zero (count_by (λ e. path_names o e.1) S.paths) (count_by (is_open_of o) S.descriptions))
+
+-- a settled object is no orphan
+pub settled_stays : (S : State) (ks : List Bool) (xs : List Openings) (ls : List ℕ) (o : ℕ) → AreSettled ks xs ls S.objects →
+    length xs ≡ length S.objects → length ls ≡ length S.objects → Counted S.descriptions xs → AreLinked S.paths ls →
+    has_number ks o ≡ true → is_orphan S (o, get_or S.objects o None) ≡ false
+settled_stays S ks xs ls o settled opened named counted linked here =
+    let inside : o < length S.objects = let a = has_within ks o here in let b = settled.long in omega (arith, a, b) in
+    ap (λ b. is_some (get_or S.objects o None) && b)
+    (sym (loose_is S xs ls o (omega (arith, inside, opened)) (omega (arith, inside, named)) counted linked))
+    ∙ settled.held o here
+
+-- what was looked at is no orphan
+pub settled_here : (S T : State) (o : ℕ) → o < length S.objects →
+    T ≡ record S { objects = set S.objects o (left S (o, place S.objects o)) } → is_orphan T (o, place T.objects o) ≡ false
+settled_here S T o inside next =
+    (λ j. is_some (place (State.objects (next j)) o) && eqb (orefs (next j) o) 0)
+    ∙ (λ j. is_some (get_or-set_same S.objects o (left S (o, place S.objects o)) None inside j)
+    && eqb (orefs-objects S (set S.objects o (left S (o, place S.objects o))) o j) 0)
+    ∙ none_left (eqb (orefs S o) 0) (place S.objects o)
+
+-- what comes out of a place to which nothing leads
+pub taken_out : {C : Type 0} (S : State) (o : ℕ) (x : Option View) (one : C → List (ℕ × Option View)) (taken : Option C) →
+    eqb (orefs S o) 0 ≡ true → x ≡ place S.objects o →
+    MatchOption taken (x ≡ None) (λ c. (is_some x ≡ true) × (one c ≡ (o, option_map closed x) ∷ [])) →
+    (elim taken [ None ↦ [] | Some c ↦ one c ]) ≡ handed_from S (o, place S.objects o)
+taken_out S o x one None orphan here is =
+    ap (λ (y : Option View). map handed (cond (is_some y && eqb (orefs S o) 0) ((o, y) ∷ []) [])) (sym is ∙ here)
+taken_out S o x one (Some c) orphan here is =
+    is.1 ∙ sym (ap (λ b. map handed (cond b ((o, x) ∷ []) [])) ((λ j. is.0 j && orphan j)))
+    ∙ ap (λ (y : Option View). map handed (cond (is_some y && eqb (orefs S o) 0) ((o, y) ∷ []) [])) here
+
+-- and so it is settled
+pub settled_then : (S : State) (xs : List Openings) (ls : List ℕ) (o : ℕ) → o < length S.objects →
+    length xs ≡ length S.objects → length ls ≡ length S.objects → Counted S.descriptions xs → AreLinked S.paths ls →
+    is_orphan S (o, place S.objects o) ≡ false → (is_some (place S.objects o) && is_loose xs ls o) ≡ false
+settled_then S xs ls o inside opened named counted linked none =
+    ap (λ b. is_some (place S.objects o) && b)
+    (loose_is S xs ls o (omega (arith, inside, opened)) (omega (arith, inside, named)) counted linked) ∙ none
+
+-- there are as many places as at first
+pub places_then : {ks : List Bool} {fs : ℕ → ℕ} (xs : List Openings) (ls : List ℕ) (H : Held Description) (S T U : State) →
+    IsState ks xs ls H fs U → U ≡ T → (from : ℕ) (gone : List (ℕ × Option View)) → Passed S from T gone → from ≤ length S.objects →
+    length ks ≡ length S.objects
+places_then xs ls H S T U state same from gone passed le =
+    state.settled.long ∙ ap (λ R. length (State.objects R)) (same ∙ passed.state) ∙ length-places_at S from le
+
+-- the pass goes on to the next place that isn't settled
+pub Passed-next : {ks : List Bool} {fs : ℕ → ℕ} (xs : List Openings) (ls : List ℕ) (H : Held Description) (S T U : State) →
+    IsState ks xs ls H fs U → U ≡ T → (from o : ℕ) (gone : List (ℕ × Option View)) → Passed S from T gone → from ≤ o →
+    o ≤ length S.objects → ((i : ℕ) → from ≤ i → i < o → has_number ks i ≡ true) → Passed S o T gone
+Passed-next {ks = ks} xs ls H S T U state same from o gone passed after within kept =
+    let e : from + (o - from) ≡ o = omega (arith, after) in
+    subst (λ n. Passed S n T gone) e (Passed-over S T from (o - from) gone passed (omega (arith, e, within))
+    (λ i later before. subst (λ (R : State). is_orphan R (i, get_or R.objects i None) ≡ false) same
+    (settled_stays U ks xs ls i state.settled state.one_each state.link_each state.opened state.linked
+    (kept i later (omega (arith, before, e))))))
+
+-- the pass comes to the first place that isn't settled
+pub record Comes (S T : State) (o : ℕ) (gone : List (ℕ × Option View)) : Type 0 where
+  pub passed : Passed S o T gone
+  pub inside : o < length S.objects
+  pub within : o < length T.objects
+
+pub comes : {ks : List Bool} {fs : ℕ → ℕ} (xs : List Openings) (ls : List ℕ) (H : Held Description) (S T U : State) →
+    IsState ks xs ls H fs U → U ≡ T → (from o : ℕ) (gone : List (ℕ × Option View)) → Passed S from T gone → from ≤ length S.objects →
+    IsFirstFree ks from o → Comes S T o gone
+comes {ks = ks} xs ls H S T U state same from o gone passed le first =
+    let long = places_then xs ls H S T U state same from gone passed le in
+    let inside : o < length S.objects = omega (arith, long, first.within) in
+    let here = Passed-next xs ls H S T U state same from o gone passed first.after (omega (arith, inside)) first.before in
+    record { passed = here; inside = inside; within = inside_then S T o gone here inside }
+
+-- or to the end
+pub comes_to_end : {ks : List Bool} {fs : ℕ → ℕ} (xs : List Openings) (ls : List ℕ) (H : Held Description) (S T U : State) →
+    IsState ks xs ls H fs U → U ≡ T → (from : ℕ) (gone : List (ℕ × Option View)) → Passed S from T gone → from ≤ length S.objects →
+    ((i : ℕ) → from ≤ i → i < length ks → has_number ks i ≡ true) → Passed S (length S.objects) T gone
+comes_to_end xs ls H S T U state same from gone passed le none =
+    let long = places_then xs ls H S T U state same from gone passed le in
+    Passed-next xs ls H S T U state same from (length S.objects) gone passed le (omega arith)
+    (λ i after before. none i after (omega (arith, before, long)))
+
+-- the pass is over
+pub Passed-all : (S T : State) (gone : List (ℕ × Option View)) → Passed S (length S.objects) T gone →
+    (gone ≡ map handed (orphans S)) × (T ≡ without_orphans S)
+Passed-all S T gone passed =
+    let all : take (length S.objects) S.objects ≡ S.objects = take_all (length S.objects) S.objects (omega arith) in
+    let rest : drop (length S.objects) S.objects ≡ [] = drop_all (length S.objects) S.objects (omega arith) in (
+      passed.out ∙ ap (λ xs. map handed (filter (is_orphan S) (enumerate_from 0 xs))) all,
+      passed.state ∙ ap (λ xs. record S { objects = xs }) ((λ j. map (left S) (enumerate_from 0 (all j)) ++ rest j) ∙ append-nil _),
+    )

@@ -26,7 +26,8 @@ use Rattle.ux_model.proofs.Messages.Flying.{front_of_flying}
 use Rattle.ux_slots.specs.Held.{Held, count_at, HasMore}
 use Rattle.ux_state.specs.declared.openings.Openings.{Openings}
 use Rattle.ux_state.specs.Counting.{one_if, Counted}
-use Rattle.ux_state.specs.Keeping.{state_of, AreLinked, IsState}
+use Rattle.ux_state.specs.Keeping.{state_of, IsState}
+use Rattle.ux_state.specs.Links.{AreLinked}
 
 pub on_err : {X E P : Type 0} (r : Result X E) → OnErr r P → IsErr r → P
 on_err (Ok x) h err = absurd (cc err)
@@ -120,15 +121,16 @@ found ds n some = go (socket_in (place ds n)) refl some
     go None h some = absurd (cc some)
     go (Some s) h some = (s, h)
 
-module _ {fs : ℕ → ℕ} (xs : List Openings) (ls : List ℕ) (H : Held Description) (os : List (Option View)) (ps : List Process)
-    (paths : List (Name × PathTarget)) (names : List (Name × ℕ)) (state : IsState xs ls H fs (state_of os H ps paths names)) where
+module _ {ks : List Bool} {fs : ℕ → ℕ} (xs : List Openings) (ls : List ℕ) (H : Held Description) (os : List (Option View))
+    (ps : List Process) (paths : List (Name × PathTarget)) (names : List (Name × ℕ))
+    (state : IsState ks xs ls H fs (state_of os H ps paths names)) where
   -- one socket changes, perhaps with a name, and the counts follow
   pub socket_changed : {gs : ℕ → ℕ} (K : Held Description) (more : List (Name × PathTarget)) (shown : List (Name × ℕ)) (n : ℕ)
       (change : Socket → Socket) (s : Socket) → socket_in (place H.places n) ≡ Some s →
       K.places ≡ changed_place H.places n (changed change) → peer_of (change s).phase ≡ peer_of s.phase →
       ((k : ℕ) → count_at K k + socket_refs k s ≡ count_at H k + socket_refs k (change s)) →
       ((u : ℕ) → gs u + rights_sent_by u s.queue ≡ fs u + rights_sent_by u (change s).queue) → AreLinked more ls →
-      AreOwned (changed_place H.places n (changed change)) shown → IsState xs ls K gs (state_of os K ps more shown)
+      AreOwned (changed_place H.places n (changed change)) shown → IsState ks xs ls K gs (state_of os K ps more shown)
   unfolding refs in_flight
   socket_changed K more shown n change s here places ties counts flights linked owned = record {
     few_objects = state.few_objects;
@@ -137,6 +139,7 @@ module _ {fs : ℕ → ℕ} (xs : List Openings) (ls : List ℕ) (H : Held Descr
     link_each = state.link_each;
     opened = rw places (counted_changed change H.places n xs state.opened);
     linked = linked;
+    settled = state.settled;
     counted = λ k.
         let a = sum_by-set (description_refs k) H.places n (option_map (changed change) (place H.places n)) None (there H.places n s here)
         in
@@ -164,14 +167,14 @@ module _ {fs : ℕ → ℕ} (xs : List Openings) (ls : List ℕ) (H : Held Descr
       peer_of (change s).phase ≡ peer_of s.phase → ((t : Socket) → (change t).name ≡ t.name) →
       ((k : ℕ) → count_at K k + socket_refs k s ≡ count_at H k + socket_refs k (change s)) →
       ((u : ℕ) → gs u + rights_sent_by u s.queue ≡ fs u + rights_sent_by u (change s).queue) →
-      IsState xs ls K gs (state_of os K ps paths names)
+      IsState ks xs ls K gs (state_of os K ps paths names)
   socket_kept K n change s here places ties shows counts flights =
       socket_changed K paths names n change s here places ties counts flights state.linked
       (owned_still H.places _ names (names_changed_socket H.places n change shows) state.owned)
 
   -- the same places and counts
   pub same_kept : {gs : ℕ → ℕ} (K : Held Description) → K.places ≡ H.places → ((k : ℕ) → count_at K k ≡ count_at H k) →
-      ((u : ℕ) → gs u ≡ fs u) → IsState xs ls K gs (state_of os K ps paths names)
+      ((u : ℕ) → gs u ≡ fs u) → IsState ks xs ls K gs (state_of os K ps paths names)
   unfolding refs in_flight
   same_kept K places counts flights = record {
     few_objects = state.few_objects;
@@ -180,6 +183,7 @@ module _ {fs : ℕ → ℕ} (xs : List Openings) (ls : List ℕ) (H : Held Descr
     link_each = state.link_each;
     opened = rw places state.opened;
     linked = state.linked;
+    settled = state.settled;
     counted = λ k. let a = counts k in let b = state.counted k in let c = ap (sum_by (description_refs k)) places in omega (arith, a, b, c);
     flying = λ u. flights u ∙ state.flying u ∙ sym (ap (sum_by (flying_in u)) places);
     paired = rw places state.paired;
@@ -190,7 +194,7 @@ module _ {fs : ℕ → ℕ} (xs : List Openings) (ls : List ℕ) (H : Held Descr
   pub message_added : {gs : ℕ → ℕ} (R P : Held Description) (n count : ℕ) (m : Message) (rights : List ℕ) → rights ≡ m.rights →
       HasMore (λ k. times k rights) H R → P.places ≡ changed_place R.places n (changed (sent m)) → P.counts ≡ R.counts →
       IsSome (socket_in (place H.places n)) → count ≡ length m.rights → ((u : ℕ) → gs u ≡ fs u + of_user u m.uid count) →
-      IsState xs ls P gs (state_of os P ps paths names)
+      IsState ks xs ls P gs (state_of os P ps paths names)
   message_added R P n count m rights same more places counts some long flights =
       let f = found H.places n some in
       socket_kept P n (sent m) f.0 f.1 (places ∙ ap (λ ds. changed_place ds n (changed (sent m))) more.places) refl (λ t. refl) (λ k.
@@ -207,7 +211,7 @@ module _ {fs : ℕ → ℕ} (xs : List Openings) (ls : List ℕ) (H : Held Descr
   -- it wasn't, and its rights no longer count
   pub message_back : {gs : ℕ → ℕ} (R P K : Held Description) (rights back : List ℕ) → back ≡ rights → HasMore (λ k. times k rights) H R →
       P.places ≡ R.places → P.counts ≡ R.counts → HasMore (λ k. times k back) K P →
-      ((u : ℕ) → gs u ≡ fs u) → IsState xs ls K gs (state_of os K ps paths names)
+      ((u : ℕ) → gs u ≡ fs u) → IsState ks xs ls K gs (state_of os K ps paths names)
   message_back R P K rights back same more places counts less flights = same_kept K (sym less.places ∙ places ∙ more.places) (λ k.
       let a = more.counts k in
       let b : count_at P k ≡ count_at R k = ap (λ cs. count_at (record H { counts = cs }) k) counts in
@@ -278,14 +282,14 @@ module _ {fs : ℕ → ℕ} (xs : List Openings) (ls : List ℕ) (H : Held Descr
       IsSomeAnd (socket_in (place H.places n)) (λ s. OnFront c s (λ f. P.places ≡ changed_place H.places n (changed (with_queue f.rest)))) →
       IsSomeAnd (socket_in (place H.places n)) (λ s. OnFront c s (λ f. sender ≡ option_map (λ o. o.uid) f.origin)) →
       HasMore (λ k. times k given) K P → ((u : ℕ) → fs u ≡ gs u + of_sender u sender count) →
-      IsState xs ls K gs (state_of os K ps paths names)
+      IsState ks xs ls K gs (state_of os K ps paths names)
   bytes_taken {gs = gs} P K n c count sender rights given handed long same some gives leaves sent less flights =
       go (socket_in (place H.places n)) refl some gives leaves sent
     where
       by_queue : (s : Socket) (q : List Message) → s.queue ≡ q → socket_in (place H.places n) ≡ Some s → 0 < length q →
           OnFrontOf c s q (λ f. rights ≡ f.rights) →
           OnFrontOf c s q (λ f. P.places ≡ changed_place H.places n (changed (with_queue f.rest))) →
-          OnFrontOf c s q (λ f. sender ≡ option_map (λ o. o.uid) f.origin) → IsState xs ls K gs (state_of os K ps paths names)
+          OnFrontOf c s q (λ f. sender ≡ option_map (λ o. o.uid) f.origin) → IsState ks xs ls K gs (state_of os K ps paths names)
       by_queue s [] e here some gives leaves sent = absurd (omega (arith, some))
       by_queue s (m ∷ ms) e here some gives leaves sent =
           socket_kept K n (with_queue (front_of c s m ms).rest) s here (sym less.places ∙ leaves) refl (λ t. refl) (λ k.
@@ -307,6 +311,6 @@ module _ {fs : ℕ → ℕ} (xs : List Openings) (ls : List ℕ) (H : Held Descr
           IsSomeAnd o (λ s. OnFront c s (λ f. rights ≡ f.rights)) →
           IsSomeAnd o (λ s. OnFront c s (λ f. P.places ≡ changed_place H.places n (changed (with_queue f.rest)))) →
           IsSomeAnd o (λ s. OnFront c s (λ f. sender ≡ option_map (λ o. o.uid) f.origin)) →
-          IsState xs ls K gs (state_of os K ps paths names)
+          IsState ks xs ls K gs (state_of os K ps paths names)
       go None here some gives leaves sent = absurd some
       go (Some s) here some gives leaves sent = by_queue s s.queue refl here some gives leaves sent

@@ -2,7 +2,7 @@
 use Rattle.std.proofs.Common.{◌≡◌, ℕ, zero, suc, ◌+◌, ◌-◌, ◌<◌, ◌≤◌, true, List, [], ◌∷◌, ◌++◌, length, get_or, set, map, take, Option}
 use Rattle.std.proofs.Common.{Some, None, option_map, refl, sym, ◌∙◌, ap, arith}
 use Rattle.std.specs.List.{sum_by}
-use Rattle.std.specs.Prelude.{Bool, false, ◌==◌, if◌then◌else◌, cond, slice_set}
+use Rattle.std.specs.Prelude.{Bool, false, ◌==◌, if◌then◌else◌, cond, slice_set, is_some}
 use Rattle.std.proofs.lemmas.List.{length-set, length-append, length-map}
 use Rattle.std.proofs.lemmas.List.Sums.{get_or-le-sum_by, sum_by-cons, sum_by_more, sum_by-take-le}
 use Rattle.ux_model.specs.Types.{Name}
@@ -22,7 +22,10 @@ use Rattle.ux_slots.specs.Held.{Held, count_at}
 use Rattle.ux_state.specs.declared.openings.Openings.{Openings}
 use Rattle.ux_state.specs.Counting.{Counted}
 use Rattle.ux_state.specs.EntryCounts.{entry_refs, closed_on_exec}
-use Rattle.ux_state.specs.Keeping.{state_of, AreLinked, IsState}
+use Rattle.ux_state.specs.Keeping.{state_of, IsState}
+use Rattle.ux_state.specs.Links.{AreLinked}
+use Rattle.ux_state.specs.Settling.{AreSettled}
+use Rattle.ux_state.proofs.Settling.{settled_objects}
 use Rattle.ux_state.proofs.Lookups.{live_at, live_positive, found_process, with_process_is}
 
 -- ---- any change of one process
@@ -48,24 +51,26 @@ pub same_flight : {fs : ℕ → ℕ} (os : List (Option View)) (H K : Held Descr
 unfolding in_flight
 same_flight os H K ps qs paths more names shown alike counted u = counted u ∙ sym (alike.flies u)
 
-module _ {fs : ℕ → ℕ} (xs : List Openings) (ls : List ℕ) (H : Held Description) (os : List (Option View)) (ps : List Process)
-    (paths : List (Name × PathTarget)) (names : List (Name × ℕ)) (state : IsState xs ls H fs (state_of os H ps paths names)) where
+module _ {ks : List Bool} {fs : ℕ → ℕ} (xs : List Openings) (ls : List ℕ) (H : Held Description) (os : List (Option View))
+    (ps : List Process) (paths : List (Name × PathTarget)) (names : List (Name × ℕ))
+    (state : IsState ks xs ls H fs (state_of os H ps paths names)) where
   module _ (p : ℕ) (P : Process) (live : is_live (state_of os H ps paths names) p ≡ true) (at : P ≡ get_or ps (p - 1) P) where
     abbrev S : State
     S = state_of os H ps paths names
 
     -- another process stands in its place, and the counts follow
     pub process_kept : (ys : List Openings) (K : Held Description) (Q : Process) → length ys ≡ length xs → HoldAlike H.places K.places →
-        Counted K.places ys → Paired K.places → AreOwned K.places names →
+        Counted K.places ys → AreSettled ks ys ls os → Paired K.places → AreOwned K.places names →
         ((k : ℕ) → count_at K k + table_refs k P.table ≡ count_at H k + table_refs k Q.table) →
-        IsState ys ls K fs (state_of os K (set ps (p - 1) Q) paths names)
-    process_kept ys K Q long alike opened paired owned counts = record {
+        IsState ks ys ls K fs (state_of os K (set ps (p - 1) Q) paths names)
+    process_kept ys K Q long alike opened settled paired owned counts = record {
       few_objects = state.few_objects;
       few_processes = let e = length-set ps (p - 1) Q in let few = state.few_processes in omega (arith, e, few);
       one_each = long ∙ state.one_each;
       link_each = state.link_each;
       linked = state.linked;
       opened = opened;
+      settled = settled;
       counted = λ k.
           let a = process_counts S p k P Q (found_process S p P live at) in
           let b : refs (state_of os K (set ps (p - 1) Q) paths names) k ≡ refs (with_process S p Q) k =
@@ -81,10 +86,10 @@ module _ {fs : ℕ → ℕ} (xs : List Openings) (ls : List ℕ) (H : Held Descr
     -- it has another table, with the same descriptions
     pub table_kept : (K : Held Description) (Q : Process) → K.places ≡ H.places →
         ((k : ℕ) → count_at K k + table_refs k P.table ≡ count_at H k + table_refs k Q.table) →
-        IsState xs ls K fs (state_of os K (set ps (p - 1) Q) paths names)
+        IsState ks xs ls K fs (state_of os K (set ps (p - 1) Q) paths names)
     table_kept K Q same counts =
-        process_kept xs K Q refl (held_same H.places K.places same) (rw same state.opened) (rw same state.paired) (rw same state.owned)
-        counts
+        process_kept xs K Q refl (held_same H.places K.places same) (rw same state.opened) state.settled (rw same state.paired)
+        (rw same state.owned) counts
 
     -- what its table refers to is counted
     pub table_counted : (k : ℕ) → table_refs k P.table ≤ count_at H k
@@ -98,7 +103,7 @@ module _ {fs : ℕ → ℕ} (xs : List Openings) (ls : List ℕ) (H : Held Descr
   -- a further process, whose entries are counted
   pub child_kept : (K : Held Description) (Q : Process) → length ps < made_limit → K.places ≡ H.places →
       ((k : ℕ) → count_at K k ≡ count_at H k + table_refs k Q.table) →
-      IsState xs ls K fs (state_of os K (ps ++ Q ∷ []) paths names)
+      IsState ks xs ls K fs (state_of os K (ps ++ Q ∷ []) paths names)
   child_kept K Q few same counts = record {
     few_objects = state.few_objects;
     few_processes = let long = length-append ps (Q ∷ []) in omega (arith, few, long);
@@ -106,6 +111,7 @@ module _ {fs : ℕ → ℕ} (xs : List Openings) (ls : List ℕ) (H : Held Descr
     link_each = state.link_each;
     linked = state.linked;
     opened = rw same state.opened;
+    settled = state.settled;
     counted = λ k.
         let a = child_counts (state_of os H ps paths names) Q k in
         let b : refs (state_of os K (ps ++ Q ∷ []) paths names) k ≡ refs (state_of os H (ps ++ Q ∷ []) paths names) k =
@@ -119,15 +125,17 @@ module _ {fs : ℕ → ℕ} (xs : List Openings) (ls : List ℕ) (H : Held Descr
   }
 
   -- other objects, as many, refer to nothing
-  pub objects_kept : (os' : List (Option View)) → length os' ≡ length os → IsState xs ls H fs (state_of os' H ps paths names)
+  pub objects_kept : (os' : List (Option View)) → length os' ≡ length os →
+      ((o : ℕ) → is_some (place os' o) ≡ true → is_some (place os o) ≡ true) → IsState ks xs ls H fs (state_of os' H ps paths names)
   unfolding refs in_flight
-  objects_kept os' long = record {
+  objects_kept os' long there = record {
     few_objects = let few = state.few_objects in omega (arith, few, long);
     few_processes = state.few_processes;
     one_each = state.one_each ∙ sym long;
     link_each = state.link_each ∙ sym long;
     opened = state.opened;
     linked = state.linked;
+    settled = settled_objects ks xs ls os os' state.settled long there;
     counted = state.counted;
     flying = state.flying;
     paired = state.paired;
@@ -135,16 +143,17 @@ module _ {fs : ℕ → ℕ} (xs : List Openings) (ls : List ℕ) (H : Held Descr
   }
 
   -- nor do other paths
-  pub paths_kept : (left : List (Name × PathTarget)) (ms : List ℕ) → length ms ≡ length ls → AreLinked left ms →
-      IsState xs ms H fs (state_of os H ps left names)
+  pub paths_kept : {ns : List Bool} (left : List (Name × PathTarget)) (ms : List ℕ) → length ms ≡ length ls → AreLinked left ms →
+      AreSettled ns xs ms os → IsState ns xs ms H fs (state_of os H ps left names)
   unfolding refs in_flight
-  paths_kept left ms long linked = record {
+  paths_kept left ms long linked settled = record {
     few_objects = state.few_objects;
     few_processes = state.few_processes;
     one_each = state.one_each;
     link_each = long ∙ state.link_each;
     opened = state.opened;
     linked = linked;
+    settled = settled;
     counted = state.counted;
     flying = state.flying;
     paired = state.paired;

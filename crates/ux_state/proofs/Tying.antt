@@ -204,8 +204,9 @@ on_both T l P Q R both = go (socket_at T l)
     go None p q = absurd p
     go (Some s) p q = at s (listener_of s.phase) p q
 
-module _ {fs : ℕ → ℕ} (xs : List Openings) (ls : List ℕ) (H : Held Description) (os : List (Option View)) (ps : List Process)
-    (paths : List (Name × PathTarget)) (names : List (Name × ℕ)) (state : IsState xs ls H fs (state_of os H ps paths names)) where
+module _ {ks : List Bool} {fs : ℕ → ℕ} (xs : List Openings) (ls : List ℕ) (H : Held Description) (os : List (Option View))
+    (ps : List Process) (paths : List (Name × PathTarget)) (names : List (Name × ℕ))
+    (state : IsState ks xs ls H fs (state_of os H ps paths names)) where
   abbrev S : State
   S = state_of os H ps paths names
 
@@ -216,7 +217,7 @@ module _ {fs : ℕ → ℕ} (xs : List Openings) (ls : List ℕ) (H : Held Descr
   pub path_given : (K : Held Description) (more : List (Name × PathTarget)) (d : ℕ) (name other : Name) → IsUnnamedAt S d →
       named name paths ≡ None → more ≡ paths ++ (name, bound d) ∷ [] →
       K.places ≡ changed_place H.places d (changed (with_name (Addr.Path other))) → K.counts ≡ H.counts →
-      IsState xs ls K fs (state_of os K ps more names)
+      IsState ks xs ls K fs (state_of os K ps more names)
   path_given K more d name other free none is places counts =
       let f = that (λ s. is_unnamed_addr (Socket.name s) ≡ true) (socket_at S d) free in
       socket_changed xs ls H os ps paths names state K more names d (with_name (Addr.Path other)) f.0 f.1 places refl
@@ -228,7 +229,7 @@ module _ {fs : ℕ → ℕ} (xs : List Openings) (ls : List ℕ) (H : Held Descr
   pub abstract_given : (K : Held Description) (shown : List (Name × ℕ)) (d : ℕ) (name other : Name) → other ≡ name → IsUnnamedAt S d →
       named name names ≡ None → shown ≡ names ++ (name, d) ∷ [] →
       K.places ≡ changed_place H.places d (changed (with_name (Addr.Abstract other))) → K.counts ≡ H.counts →
-      IsState xs ls K fs (state_of os K ps paths shown)
+      IsState ks xs ls K fs (state_of os K ps paths shown)
   abstract_given K shown d name other same free none is places counts =
       let f = that (λ s. is_unnamed_addr (Socket.name s) ≡ true) (socket_at S d) free in
       let change : Description → Description = changed (with_name (Addr.Abstract other)) in
@@ -242,7 +243,7 @@ module _ {fs : ℕ → ℕ} (xs : List Openings) (ls : List ℕ) (H : Held Descr
   -- one that listens from now on
   pub listened : (K : Held Description) (d limit : ℕ) (cred : Cred) → IsUnconnectedAt S d →
       K.places ≡ changed_place H.places d (changed (with_listening limit cred)) → K.counts ≡ H.counts →
-      IsState xs ls K fs (state_of os K ps paths names)
+      IsState ks xs ls K fs (state_of os K ps paths names)
   listened K d limit cred free places counts =
       let f = that (λ s. is_some (peer_of (Socket.phase s)) ≡ false) (socket_at S d) free in
       socket_kept xs ls H os ps paths names state K d (with_listening limit cred) f.0 f.1 places
@@ -260,7 +261,7 @@ module _ {fs : ℕ → ℕ} (xs : List Openings) (ls : List ℕ) (H : Held Descr
   -- and is no longer
   pub end_gone : (P K : Held Description) (n : ℕ) (o : Option ℕ) → o ≡ first_of (socket_in (place H.places n)) →
       P.places ≡ changed_place H.places n (changed without_first_end) → P.counts ≡ H.counts →
-      K.places ≡ P.places → ((k : ℕ) → count_at P k ≡ count_at K k + end_count k o) → IsState xs ls K fs (state_of os K ps paths names)
+      K.places ≡ P.places → ((k : ℕ) → count_at P k ≡ count_at K k + end_count k o) → IsState ks xs ls K fs (state_of os K ps paths names)
   unfolding refs in_flight
   end_gone P K n o first leaves counts places less =
       let all : K.places ≡ changed_place H.places n (changed without_first_end) = places ∙ leaves in
@@ -271,6 +272,7 @@ module _ {fs : ℕ → ℕ} (xs : List Openings) (ls : List ℕ) (H : Held Descr
         link_each = state.link_each;
         opened = rw all (counted_changed without_first_end H.places n xs state.opened);
         linked = state.linked;
+        settled = state.settled;
         counted = λ k.
             let a = sum_by-changed (description_refs k) (changed without_first_end) (λ x. 0)
             (λ x. end_count k (first_of (socket_in x))) (place_left k) H.places n in
@@ -356,7 +358,7 @@ module _ {fs : ℕ → ℕ} (xs : List Openings) (ls : List ℕ) (H : Held Descr
         (at_c ∙ f.1) f.2 refl refl (f.3 ∙ ap (λ n. Some n) (sym long))
 
     pub connected_kept : (M : Held Description) → M.places ≡ all → ((k : ℕ) → count_at M k ≡ count_at H k + once e k) →
-        IsState xs ls M fs (state_of os M ps paths names)
+        IsState ks xs ls M fs (state_of os M ps paths names)
     unfolding refs in_flight
     connected_kept M places counts = record {
       few_objects = state.few_objects;
@@ -367,6 +369,7 @@ module _ {fs : ℕ → ℕ} (xs : List Openings) (ls : List ℕ) (H : Held Descr
           (counted_push awaited xs xs E (counted_changed (awaiting e) H.places l xs state.opened)
           (any_socket_counted xs no_open_flags (server_end t c cred) E refl)));
       linked = state.linked;
+      settled = state.settled;
       counted = λ k. let a = held k in let b = ap (sum_by (description_refs k)) places in let d = counts k in let f = state.counted k in
           omega (arith, a, b, d, f);
       flying = λ u. let a = flown u in let b = ap (sum_by (flying_in u)) places in let c = state.flying u in omega (arith, a, b, c);
@@ -383,7 +386,7 @@ module _ {fs : ℕ → ℕ} (xs : List Openings) (ls : List ℕ) (H : Held Descr
       i ≡ length R.places →
       P.places ≡ changed_place R.places l (changed (awaiting i)) → P.counts ≡ R.counts → Adds E P K →
       M.places ≡ changed_place K.places c (changed (tied i lcred)) → M.counts ≡ K.counts →
-      IsState xs ls M fs (state_of os M ps paths names)
+      IsState ks xs ls M fs (state_of os M ps paths names)
   connection_kept R P K M c l i cred lcred E free deaf listens end r_places r_counts last p_places p_counts adds m_places m_counts =
       let f = that (λ s. is_some (peer_of (Socket.phase s)) ≡ false) (socket_at S c) free in
       let g = that (λ s. is_some (listener_of (Socket.phase s)) ≡ false) (socket_at S c) deaf in

@@ -2,6 +2,8 @@ pub mod ObjectCalls
 pub mod Counting
 pub mod Flights
 pub mod Keeping
+pub mod Links
+pub mod Settling
 pub mod Moves
 pub mod EntryCounts
 pub mod Releases

@@ -6,9 +6,11 @@ ghost use Rattle.ux_model.specs.Description.{changed};
 ghost use Rattle.ux_model.specs.Binding.{with_name, with_path, with_abstract};
 ghost use Rattle.ux_model.specs.Owning.{target_name, without_shown};
 ghost use Rattle.ux_names.specs.Targets.{target_of};
-ghost use Rattle.ux_state.specs.Keeping.{links_of, link_at, LosesLink};
+ghost use Rattle.ux_state.specs.Links.{links_of, link_at, LosesLink};
+ghost use Rattle.ux_state.specs.Settling.{file_of};
 ghost use Rattle.ux_state.specs.Moves.{IsUnnamedAt};
 
+use crate::release::look_again;
 use crate::state::State;
 use std::alloc::AllocError;
 use ux_description::Description;
@@ -81,7 +83,19 @@ impl<O: FileObject> State<O> {
         ensures { self.new ≡ record self.old { paths = without_name name.now self.old.paths } }
     {
         let target = self.paths.unlink(name);
+        look_again(&mut self.settled, file_of(&target));
         unlink_target(&mut self.links, target);
+    }
+}
+
+/// The file object that a path with this target named.
+fn file_of(target: &Option<PathTarget>) -> Option<u32>
+    ensures { result ≡ file_of (option_map target_of target.now) }
+{
+    match target {
+        Some(PathTarget::File(object)) => Some(*object),
+        Some(PathTarget::Socket(_)) => None,
+        None => None,
     }
 }
 

@@ -1,26 +1,28 @@
 //! The first state.
 ghost use Rattle.std.specs.Prelude.{◌≡◌, ◌+◌, ◌<◌, ◌≤◌, [], ◌∷◌, ◌++◌, IsTrue, IfOk, IfErr, length, map, replicate, vec_len, vec_capacity, None, Some};
 ghost use Rattle.std.specs.List.{list_all, enumerate_from};
-ghost use Rattle.ux_model.specs.Limits.{object_limit, process_limit};
+ghost use Rattle.ux_model.specs.Limits.{raised_object_limit, process_limit};
 ghost use Rattle.ux_model.specs.Names.{file, named};
 ghost use Rattle.ux_model.specs.Boot.{are_distinct, boot_state, new_process};
 ghost use Rattle.ux_state.specs.Counting.{none_open};
 
 use crate::flights::Flights;
-use crate::object_place::ObjectPlace;
+use crate::object_place::{ObjectPlace, ObjectRoom};
 use crate::openings::Openings;
 use crate::process::Process;
 use crate::state::State;
 use std::alloc::{AllocError, Global};
 use ux_names::{AbstractNames, BindError, PathTarget, Paths, Seed};
+use ux_number_sets::NumberSet;
 use ux_object::FileObject;
 use ux_slots::Slots;
 use ux_types::{Name, ProcSpec};
 
-/// The file objects of a state and their paths.
+/// The file objects of a state and their paths, with room for those that are still to come.
 #[derive(Drop)]
 struct Files<O: FileObject> {
     objects: Vec<ObjectPlace<O>>,
+    rooms: Vec<ObjectRoom<O>>,
     paths: Paths,
 }
 
@@ -34,7 +36,7 @@ impl<O: FileObject> State<O> {
         objects: Vec<(Name, O)>,
         procs: &[ProcSpec],
     ) -> Result<State<O>, Vec<(Name, O)>>
-        requires few_objects { length objects.items ≤ object_limit }
+        requires few_objects { length objects.items ≤ raised_object_limit }
         requires few_processes { length procs.now ≤ process_limit }
         requires open { IsTrue (list_all (λ o. (O.view o.1).opened) objects.items) }
         requires own_paths { IsTrue (are_distinct (map (λ o. o.0) objects.items)) }
@@ -49,6 +51,9 @@ impl<O: FileObject> State<O> {
             return Err(objects);
         };
         let Ok(links) = one_for(alloc, count) else {
+            return Err(objects);
+        };
+        let Ok(settled) = NumberSet::new(alloc, count) else {
             return Err(objects);
         };
         let Ok(processes) = new_processes(alloc, procs) else {
@@ -67,6 +72,7 @@ impl<O: FileObject> State<O> {
             links,
             abstract_names,
             flights: Flights::new(alloc),
+            settled,
         })
     }
 }
@@ -74,6 +80,7 @@ impl<O: FileObject> State<O> {
 /// Room for so many file objects.
 fn room_for<O: FileObject>(alloc: Global, seed: Seed, count: usize) -> Result<Files<O>, AllocError>
     ensures objects { IfOk result (λ f. f.objects.items ≡ []) }
+    ensures rooms { IfOk result (λ f. vec_len f.rooms ≡ count) }
     ensures objects_room { IfOk result (λ f. count ≤ vec_capacity f.objects) }
     ensures paths { IfOk result (λ f. f.paths.names ≡ []) }
     ensures paths_room { IfOk result (λ f. count ≤ f.paths.room) }
@@ -82,8 +89,23 @@ fn room_for<O: FileObject>(alloc: Global, seed: Seed, count: usize) -> Result<Fi
     paths.reserve(count)?;
     Ok(Files {
         objects: Vec::with_capacity(alloc, count)?,
+        rooms: object_rooms(alloc, count)?,
         paths,
     })
+}
+
+/// Rooms for so many file objects.
+fn object_rooms<O: FileObject>(
+    alloc: Global,
+    count: usize,
+) -> Result<Vec<ObjectRoom<O>>, AllocError>
+    ensures { IfOk result (λ v. vec_len v ≡ count) }
+{
+    let mut rooms = Vec::with_capacity(alloc, count)?;
+    for _n in 0..count {
+        rooms.push_reserved(ObjectRoom::new(alloc)?);
+    }
+    Ok(rooms)
 }
 
 /// A count for each of so many file objects, of which nothing is open.
@@ -115,22 +137,31 @@ fn new_processes(alloc: Global, procs: &[ProcSpec]) -> Result<Vec<Process>, Allo
 fn filled<O: FileObject>(files: Files<O>, objects: Vec<(Name, O)>) -> Files<O>
     requires no_objects { files.objects.items ≡ [] }
     requires objects_room { vec_len objects ≤ vec_capacity files.objects }
+    requires rooms { vec_len files.rooms ≡ vec_len objects }
     requires no_paths { files.paths.names ≡ [] }
     requires paths_room { vec_len objects ≤ files.paths.room }
     requires own_paths { IsTrue (are_distinct (map (λ o. o.0) objects.items)) }
-    requires few { length objects.items ≤ object_limit }
+    requires few { length objects.items ≤ raised_object_limit }
     requires open { IsTrue (list_all (λ o. (O.view o.1).opened) objects.items) }
     ensures objects { result.objects.items ≡ map (λ o. Some (O.view o.1)) objects.items }
     ensures paths { result.paths.names ≡ map (λ e. (e.1.0, file e.0)) (enumerate_from 0 objects.items) }
 {
-    let mut places = files.objects;
-    let mut paths = files.paths;
+    let Files {
+        objects: mut places,
+        mut rooms,
+        mut paths,
+    } = files;
     for (name, object) in objects {
+        let Some(room) = rooms.pop() else {
+            // There is one for each.
+            unreachable!()
+        };
         bind_file(&mut paths, name, places.len() as u32);
-        places.push_reserved(ObjectPlace::new(object));
+        places.push_reserved(ObjectPlace::new(object, room));
     }
     Files {
         objects: places,
+        rooms,
         paths,
     }
 }

@@ -1,15 +1,89 @@
 //! The place of one file object.
-ghost use Rattle.std.specs.Prelude.{◌≡◌, ◌≤◌, true, Some, None, IsTrue, IfOk, MatchOption, is_some, length, option_map};
+ghost use Rattle.std.specs.Prelude.{◌≡◌, ◌≤◌, ◌<◌, [], ◌∷◌, true, Some, None, IsTrue, IfOk, IfSome, MatchOption, is_some, length, option_map};
+ghost use Rattle.ux_model.specs.Limits.{raised_object_limit};
 ghost use Rattle.ux_model.specs.Object.{closed};
 ghost use Rattle.ux_state.specs.ObjectCalls.{Reads, Writes, bytes_read};
 
+use crate::released_objects::ReleasedObject;
+use std::alloc::{AllocError, Global};
+use std::collections::LinkedList;
 use std::marker::Model;
 use ux_object::{FileObject, ObjError};
+use ux_types::Released;
+
+/// Room in which one file object is handed out, and for its number, made before so that it takes no memory then.
+#[derive(Drop)]
+pub(crate) struct ObjectRoom<O: FileObject> {
+    /// Each has one element.
+    object: LinkedList<ReleasedObject<O>>,
+    number: Released,
+}
+
+impl<O: FileObject> Model for ObjectRoom<O> {
+    ghost use Rattle.std.specs.Prelude.{◌≡◌, ℕ, length};
+
+    ghost Value = { ℕ };
+
+    ghost view = { λ r. length r.object };
+
+    ghost invariant = { λ r. (length r.object ≡ 1) × (length r.number ≡ 1) };
+}
+
+/// A file object that was closed and its number, each in the list in which it is handed out.
+#[derive(Drop)]
+pub(crate) struct ClosedObject<O: FileObject> {
+    pub(crate) object: LinkedList<ReleasedObject<O>>,
+    pub(crate) number: Released,
+}
+
+impl<O: FileObject> ObjectRoom<O> {
+    /// The room.
+    ///
+    /// # Errors
+    ///
+    /// Out of memory.
+    pub(crate) fn new(alloc: Global) -> Result<ObjectRoom<O>, AllocError> {
+        let mut object = LinkedList::new(alloc);
+        object.push_back(ReleasedObject::none())?;
+        let mut number = Released::new(alloc);
+        number.push_back(0)?;
+        Ok(ObjectRoom { object, number })
+    }
+
+    /// Holds an object that was closed.
+    fn holding(self, number: u32, object: O) -> ClosedObject<O>
+        requires { number < raised_object_limit }
+        ensures object { result.object ≡ (number, Some (O.view object)) ∷ [] }
+        ensures number { result.number ≡ number ∷ [] }
+    {
+        let ObjectRoom {
+            object: mut objects,
+            number: mut numbers,
+        } = self;
+        let (Some(one), Some(its)) = (objects.front_mut(), numbers.front_mut()) else {
+            // Each has room for one.
+            unreachable!()
+        };
+        *one = ReleasedObject::new(number, object);
+        *its = number;
+        ClosedObject {
+            object: objects,
+            number: numbers,
+        }
+    }
+}
+
+/// A file object that wasn't closed yet, and the room in which it is handed out.
+#[derive(Drop)]
+struct HeldObject<O: FileObject> {
+    object: O,
+    room: ObjectRoom<O>,
+}
 
 /// A place for a file object, which is open while it is there. Contracts see its view.
 #[derive(Drop)]
 pub(crate) struct ObjectPlace<O: FileObject> {
-    object: Option<O>,
+    held: Option<HeldObject<O>>,
 }
 
 impl<O: FileObject> Model for ObjectPlace<O> {
@@ -19,19 +93,19 @@ impl<O: FileObject> Model for ObjectPlace<O> {
 
     ghost Value = { Option View };
 
-    ghost view = { λ s. option_map O.view s.object };
+    ghost view = { λ s. option_map (λ h. O.view h.object) s.held };
 
-    ghost invariant = { λ s. IsOpen (option_map O.view s.object) };
+    ghost invariant = { λ s. IsOpen (option_map (λ h. O.view h.object) s.held) };
 }
 
 impl<O: FileObject> ObjectPlace<O> {
     /// A place that holds this object.
-    pub(crate) fn new(object: O) -> ObjectPlace<O>
+    pub(crate) fn new(object: O, room: ObjectRoom<O>) -> ObjectPlace<O>
         requires { (O.view object).opened ≡ true }
         ensures { result ≡ Some (O.view object) }
     {
         ObjectPlace {
-            object: Some(object),
+            held: Some(HeldObject { object, room }),
         }
     }
 
@@ -39,7 +113,10 @@ impl<O: FileObject> ObjectPlace<O> {
     pub(crate) fn object(&self) -> Option<&O>
         ensures { MatchOption result (self.now ≡ None) (λ x. self.now ≡ Some (O.view x.now)) }
     {
-        self.object.as_ref()
+        match &self.held {
+            Some(held) => Some(&held.object),
+            None => None,
+        }
     }
 
     /// Reads of the object that is there.
@@ -48,8 +125,8 @@ impl<O: FileObject> ObjectPlace<O> {
         ensures fits { IfOk result (λ n. n ≤ length buf.old) }
         ensures reads { Reads self.old at (length buf.old) (bytes_read result buf.new) self.new }
     {
-        match &mut self.object {
-            Some(object) => object.read(at, buf),
+        match &mut self.held {
+            Some(held) => held.object.read(at, buf),
             // It is there, as the contract requires.
             None => unreachable!(),
         }
@@ -60,20 +137,22 @@ impl<O: FileObject> ObjectPlace<O> {
         requires { IsTrue (is_some self.old) }
         ensures { Writes self.old at bytes.now result self.new }
     {
-        match &mut self.object {
-            Some(object) => object.write(at, bytes),
+        match &mut self.held {
+            Some(held) => held.object.write(at, bytes),
             // It is there, as the contract requires.
             None => unreachable!(),
         }
     }
 
-    /// Takes out the object, closed.
-    pub(crate) fn take_closed(&mut self) -> Option<O>
-        ensures object { option_map O.view result ≡ option_map closed self.old }
+    /// Takes out the object, closed, under this number.
+    pub(crate) fn take_closed(&mut self, number: u32) -> Option<ClosedObject<O>>
+        requires { number < raised_object_limit }
+        ensures object { MatchOption result (self.old ≡ None) (λ c. (is_some self.old ≡ true) × (c.object ≡ (number, option_map closed self.old) ∷ [])) }
+        ensures number { IfSome result (λ c. c.number ≡ number ∷ []) }
         ensures empty { self.new ≡ None }
     {
-        let mut object = self.object.take()?;
+        let HeldObject { mut object, room } = self.held.take()?;
         object.close();
-        Some(object)
+        Some(room.holding(number, object))
     }
 }

@@ -1,6 +1,6 @@
 //! The file objects of a state, and what their descriptions are open for.
 ghost use Rattle.std.specs.Prelude.{◌≡◌, ◌≤◌, Some, None, IsTrue, IfOk, MatchOption, is_some, length};
-ghost use Rattle.ux_model.specs.Limits.{object_limit};
+ghost use Rattle.ux_model.specs.Limits.{raised_object_limit};
 ghost use Rattle.ux_model.specs.Flags.{can_read, can_write};
 ghost use Rattle.ux_model.specs.Places.{place};
 ghost use Rattle.ux_model.specs.FileObjects.{is_open_for};
@@ -13,7 +13,7 @@ impl<O: FileObject> State<O> {
     /// How many file objects there were at first, closed ones too.
     pub fn object_count(&self) -> usize
         ensures count { result ≡ length self.now.objects }
-        ensures most { result ≤ object_limit }
+        ensures most { result ≤ raised_object_limit }
     {
         self.objects.len()
     }

@@ -1,41 +1,45 @@
 //! The end of a call: what nothing refers to is freed.
-ghost use Rattle.std.specs.Prelude.{◌≡◌, ℕ, ◌<◌, ◌==◌, [], length, map, option_map, true, false, MatchOption, None, is_some, filter, ◌++◌, ◌∷◌};
+ghost use Rattle.std.specs.Prelude.{◌≡◌, ℕ, ◌<◌, ◌==◌, [], length, map, option_map, true, false, MatchOption, IfSome, Option, None, Some, ◌++◌, ◌∷◌, slice_set};
 ghost use Rattle.std.specs.List.{list_any};
-ghost use Rattle.ux_model.specs.Limits.{object_limit};
-ghost use Rattle.ux_model.specs.Object.{closed};
-ghost use Rattle.ux_model.specs.Places.{place, emptied};
+ghost use Rattle.ux_model.specs.Limits.{raised_object_limit};
+ghost use Rattle.ux_model.specs.Object.{View, closed};
+ghost use Rattle.ux_model.specs.Places.{place};
 ghost use Rattle.ux_model.specs.References.{path_names, is_open_of, orefs};
-ghost use Rattle.ux_model.specs.Release.{is_unreferenced, has_unreferenced, without, drop_unreferenced, orphans, without_orphans, settled};
+ghost use Rattle.ux_model.specs.Release.{is_orphan, is_unreferenced, has_unreferenced, without, drop_unreferenced, orphans, without_orphans, settled};
 ghost use Rattle.ux_model.specs.Release as release;
 ghost use Rattle.ux_model.specs.Peers.{with_peer_reset};
 ghost use Rattle.ux_model.specs.Closing.{with_nothing_open};
 ghost use Rattle.ux_model.specs.Closing as model;
 ghost use Rattle.ux_slots.specs.Held.{count_at};
 ghost use Rattle.ux_state.specs.Counting.{none_open};
+ghost use Rattle.ux_state.specs.Settling.{LooksAgain, handed_from, left};
 
 use crate::binding::{drop_name, unlink_all};
+use crate::object_place::ClosedObject;
 use crate::openings::{Openings, count_out};
 use crate::process::Process;
 use crate::references::release_held;
-use crate::released_objects::{ReleasedObject, ReleasedObjects};
+use crate::released_objects::ReleasedObjects;
 use crate::state::State;
 use ux_description::Description;
+use ux_number_sets::NumberSet;
 use ux_object::FileObject;
 use ux_slots::Slots;
-use ux_types::DescriptionId;
+use ux_types::{DescriptionId, Released};
 
 impl<O: FileObject> State<O> {
     /// Drops each description that nothing refers to, again until none is left, then closes each file
-    /// object that neither a path nor a description leads to, and puts these into an empty list by rising
-    /// number. It takes no memory.
+    /// object that neither a path nor a description leads to, puts these into an empty list by rising number, and
+    /// gives their numbers. It takes no memory.
     #[tactic(auto, unfolding(ux_model::specs::Release::settled, ux_model::specs::Release::released_objects))]
-    pub fn settle(&mut self, released: &mut ReleasedObjects<O>)
+    pub fn settle(&mut self, released: &mut ReleasedObjects<O>) -> Released
         requires empty { released.old ≡ [] }
         ensures released { released.new ≡ release.released_objects self.old }
+        ensures numbers { result ≡ map (λ r. r.0) released.new }
         ensures settled { self.new ≡ settled self.old }
     {
         self.drop_unreferenced();
-        self.close_orphans(released);
+        self.close_orphans(released)
     }
 
     /// Takes away all names, all descriptors and all descriptions (the end of the layer).
@@ -50,6 +54,7 @@ impl<O: FileObject> State<O> {
         forget(&mut self.descriptions);
         uncount_all(&mut self.openings);
         self.flights.clear();
+        self.settled.clear();
     }
 
     /// Drops each description that nothing refers to, again until none is left. It looks at none but
@@ -72,32 +77,51 @@ impl<O: FileObject> State<O> {
         };
         reset_peer(&mut self.descriptions, gone.1.lost_peer());
         count_out(&mut self.openings, &gone.1);
+        look_again(&mut self.settled, gone.1.object());
         drop_name(&mut self.abstract_names, &gone.1, gone.0);
         release_held(&mut self.descriptions, &mut self.flights, gone.1);
         Some(gone.0)
     }
 
-    /// Closes each file object that neither a path nor a description leads to, and hands it out.
-    fn close_orphans(&mut self, released: &mut ReleasedObjects<O>)
+    /// Closes each file object that neither a path nor a description leads to, hands it out, and gives their numbers. It
+    /// looks at none but those that aren't settled.
+    fn close_orphans(&mut self, released: &mut ReleasedObjects<O>) -> Released
         requires empty { released.old ≡ [] }
         ensures released { released.new ≡ map (λ e. (e.0, option_map closed e.1)) (orphans self.old) }
+        ensures numbers { result ≡ map (λ r. r.0) released.new }
         ensures state { self.new ≡ without_orphans self.old }
     {
-        for o in 0..self.objects.len() {
-            if self.is_orphan(o) {
-                let object = self.take_closed(o);
-                hand_out(released, o as u32, object);
-            }
+        let mut numbers = Released::new(released.allocator());
+        let mut from = 0;
+        while let Some(o) = self.settled.first_free(from) {
+            let orphan = self.take_orphan(o);
+            self.keep_settled(o);
+            hand_out(released, &mut numbers, orphan);
+            from = o + 1;
         }
+        numbers
     }
 
-    /// Takes the file object out of this place, closed.
-    fn take_closed(&mut self, o: usize) -> Option<O>
+    /// Takes the file object out of this place, closed, if neither a path nor a description leads to it.
+    fn take_orphan(&mut self, o: usize) -> Option<ClosedObject<O>>
         requires { o < length self.old.objects }
-        ensures object { option_map O.view result ≡ option_map closed (place self.old.objects o) }
-        ensures state { self.new ≡ record self.old { objects = emptied self.old.objects o } }
+        ensures numbered { IfSome result (λ c. (c.number ≡ map (λ r. r.0) c.object) × (length c.object ≡ 1)) }
+        ensures orphan { (elim result [ None ↦ [] | Some c ↦ c.object ]) ≡ handed_from self.old (o, place self.old.objects o) }
+        ensures state { self.new ≡ record self.old { objects = slice_set self.old.objects o (left self.old (o, place self.old.objects o)) } }
     {
-        self.objects[o].take_closed()
+        if !self.is_orphan(o) {
+            return None;
+        }
+        self.objects[o].take_closed(o as u32)
+    }
+
+    /// The end of a call needn't look at this place again, as long as nothing that led to its file object is lost.
+    fn keep_settled(&mut self, o: usize)
+        requires inside { o < length self.old.objects }
+        requires no_orphan { is_orphan self.old (o, place self.old.objects o) ≡ false }
+        ensures { self.new ≡ self.old }
+    {
+        self.settled.put(o, true);
     }
 
     /// Whether neither a path nor a description leads to the file object in this place.
@@ -126,14 +150,43 @@ impl<O: FileObject> State<O> {
     }
 }
 
-/// Hands out a file object, if one is there, under its number.
-fn hand_out<O: FileObject>(released: &mut ReleasedObjects<O>, number: u32, object: Option<O>)
-    requires room { length released.old < object_limit }
-    requires small { number < object_limit }
-    ensures { released.new ≡ released.old ++ filter (λ e. is_some e.1) ((number, option_map O.view object) ∷ []) }
+/// Hands out a file object and its number, if there is one, behind those that were.
+fn hand_out<O: FileObject>(
+    released: &mut ReleasedObjects<O>,
+    numbers: &mut Released,
+    object: Option<ClosedObject<O>>,
+)
+    requires room { length released.old < raised_object_limit }
+    requires each { numbers.old ≡ map (λ r. r.0) released.old }
+    requires numbered { IfSome object (λ c. (c.number ≡ map (λ r. r.0) c.object) × (length c.object ≡ 1)) }
+    ensures released { released.new ≡ released.old ++ (elim object [ None ↦ [] | Some c ↦ c.object ]) }
+    ensures numbers { numbers.new ≡ map (λ r. r.0) released.new }
+{
+    let Some(
+        ClosedObject {
+            object,
+            number: mut one,
+        },
+    ) = object
+    else {
+        return;
+    };
+    released.push(object);
+    // Far fewer than can be counted.
+    if numbers.append(&mut one).is_err() {
+        unreachable!()
+    }
+}
+
+/// The file object that a description led to, or a path named, is looked at when the call ends.
+pub(crate) fn look_again(settled: &mut NumberSet, object: Option<u32>)
+    ensures { LooksAgain object settled.old settled.new }
 {
     if let Some(object) = object {
-        released.push(ReleasedObject::new(number, object));
+        let o = object as usize;
+        if o < settled.capacity() {
+            settled.put(o, false);
+        }
     }
 }
 

@@ -1,61 +1,73 @@
 //! The file objects that one call closed.
-ghost use Rattle.std.specs.Prelude.{◌≡◌, ◌<◌, ◌≤◌, ◌==◌, ◌++◌, ◌∷◌, [], Some, IfOk, length};
-ghost use Rattle.ux_model.specs.Limits.{object_limit};
+ghost use Rattle.std.specs.Prelude.{◌≡◌, ◌<◌, ◌≤◌, ◌==◌, ◌++◌, ◌∷◌, [], Some, MatchOption, length, option_map};
+ghost use Rattle.ux_model.specs.Limits.{raised_object_limit};
 
-use std::alloc::{AllocError, Global};
+use std::alloc::Global;
+use std::collections::LinkedList;
+use std::collections::linked_list::Iter;
 use std::marker::Model;
 use ux_object::FileObject;
-use ux_types::OBJECT_LIMIT;
 
 /// A file object that was closed at the end of a call, with its number. Contracts see the number beside
 /// its view.
 #[derive(Drop)]
 pub struct ReleasedObject<O: FileObject> {
     number: u32,
-    object: O,
+    object: Option<O>,
 }
 
 impl<O: FileObject> Model for ReleasedObject<O> {
-    ghost use Rattle.std.specs.Prelude.{ℕ, ◌<◌, Option, Some};
-    ghost use Rattle.ux_model.specs.Limits.{object_limit};
+    ghost use Rattle.std.specs.Prelude.{ℕ, ◌<◌, Option, option_map};
+    ghost use Rattle.ux_model.specs.Limits.{raised_object_limit};
     ghost use Rattle.ux_model.specs.Object.{View};
 
     ghost Value = { ℕ × Option View };
 
-    ghost view = { λ r. (r.number, Some (O.view r.object)) };
+    ghost view = { λ r. (r.number, option_map O.view r.object) };
 
-    ghost invariant = { λ r. r.number < object_limit };
+    ghost invariant = { λ r. r.number < raised_object_limit };
 }
 
 impl<O: FileObject> ReleasedObject<O> {
+    /// Room for an object.
+    pub(crate) fn none() -> ReleasedObject<O> {
+        ReleasedObject {
+            number: 0,
+            object: None,
+        }
+    }
+
     /// This object under its number.
     pub(crate) fn new(number: u32, object: O) -> ReleasedObject<O>
-        requires { number < object_limit }
+        requires { number < raised_object_limit }
         ensures { result ≡ (number, Some (O.view object)) }
     {
-        ReleasedObject { number, object }
+        ReleasedObject {
+            number,
+            object: Some(object),
+        }
     }
 
     /// The number that the object had.
     pub fn number(&self) -> u32
         ensures number { result ≡ self.now.0 }
-        ensures small { result < object_limit }
+        ensures small { result < raised_object_limit }
     {
         self.number
     }
 
-    /// The object.
-    pub fn object(&self) -> &O
-        ensures { Some (O.view result.now) ≡ self.now.1 }
+    /// The object. What a call released is there.
+    pub fn object(&self) -> Option<&O>
+        ensures { MatchOption result (self.now.1 ≡ None) (λ o. self.now.1 ≡ Some (O.view o.now)) }
     {
-        &self.object
+        self.object.as_ref()
     }
 }
 
-/// The file objects that one call closed, by rising number. Their room is made before, so a call that
-/// closes them takes no memory. Contracts see them as a list.
+/// The file objects that one call closed, by rising number. Each comes in memory that was made with it, so a call that
+/// closes them takes none. Contracts see them as a list.
 pub struct ReleasedObjects<O: FileObject> {
-    objects: Vec<ReleasedObject<O>>,
+    objects: LinkedList<ReleasedObject<O>>,
 }
 
 // Written out, so that it is proved here and not in each function that drops one.
@@ -67,34 +79,36 @@ impl<O: FileObject> Drop for ReleasedObjects<O> {
 }
 
 impl<O: FileObject> Model for ReleasedObjects<O> {
-    ghost use Rattle.std.specs.Prelude.{ℕ, ◌≤◌, List, Option, length, vec_capacity};
-    ghost use Rattle.ux_model.specs.Limits.{object_limit};
+    ghost use Rattle.std.specs.Prelude.{ℕ, ◌≤◌, List, Option, length};
+    ghost use Rattle.ux_model.specs.Limits.{raised_object_limit};
     ghost use Rattle.ux_model.specs.Object.{View};
 
     ghost Value = { List (ℕ × Option View) };
 
-    ghost view = { λ l. l.objects.items };
+    ghost view = { λ l. l.objects };
 
-    ghost invariant = { λ l. (length l.objects.items ≤ object_limit) × (object_limit ≤ vec_capacity l.objects) };
+    ghost invariant = { λ l. length l.objects ≤ raised_object_limit };
 }
 
 impl<O: FileObject> ReleasedObjects<O> {
-    /// An empty list, with room for all file objects of a kernel.
-    ///
-    /// # Errors
-    ///
-    /// Out of memory.
-    pub fn new(alloc: Global) -> Result<ReleasedObjects<O>, AllocError>
-        ensures { IfOk result (λ l. l ≡ []) }
+    /// An empty list.
+    pub fn new(alloc: Global) -> ReleasedObjects<O>
+        ensures { result ≡ [] }
     {
-        Ok(ReleasedObjects {
-            objects: Vec::with_capacity(alloc, OBJECT_LIMIT)?,
-        })
+        ReleasedObjects {
+            objects: LinkedList::new(alloc),
+        }
+    }
+
+    /// Where its memory comes from.
+    pub(crate) fn allocator(&self) -> Global {
+        *self.objects.allocator()
     }
 
     /// How many there are.
     pub fn len(&self) -> usize
-        ensures { result ≡ length self.now }
+        ensures count { result ≡ length self.now }
+        ensures few { result ≤ raised_object_limit }
     {
         self.objects.len()
     }
@@ -107,25 +121,28 @@ impl<O: FileObject> ReleasedObjects<O> {
     }
 
     /// All of them.
-    pub fn as_slice(&self) -> &[ReleasedObject<O>]
-        ensures objects { result.now ≡ self.now }
-        ensures few { length self.now ≤ object_limit }
+    pub fn iter(&self) -> Iter<'_, ReleasedObject<O>>
+        ensures { result ≡ self.now }
     {
-        self.objects.as_slice()
+        self.objects.iter()
     }
 
-    /// Drops all of them. The room stays.
+    /// Drops all of them.
     pub fn clear(&mut self)
         ensures { self.new ≡ [] }
     {
         self.objects.clear();
     }
 
-    /// One more.
-    pub(crate) fn push(&mut self, released: ReleasedObject<O>)
-        requires { length self.old < object_limit }
-        ensures { self.new ≡ self.old ++ released ∷ [] }
+    /// One more, in the list in which it was kept.
+    pub(crate) fn push(&mut self, mut one: LinkedList<ReleasedObject<O>>)
+        requires few { length self.old < raised_object_limit }
+        requires one { length one ≤ 1 }
+        ensures { self.new ≡ self.old ++ one }
     {
-        self.objects.push_reserved(released);
+        // Far fewer than can be counted.
+        if self.objects.append(&mut one).is_err() {
+            unreachable!()
+        }
     }
 }

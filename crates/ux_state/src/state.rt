@@ -6,6 +6,7 @@ use crate::process::Process;
 use std::marker::Model;
 use ux_description::Description;
 use ux_names::{AbstractNames, Paths};
+use ux_number_sets::NumberSet;
 use ux_object::FileObject;
 use ux_slots::Slots;
 
@@ -27,6 +28,9 @@ pub struct State<O: FileObject> {
     pub(crate) abstract_names: AbstractNames,
     /// How many rights of each user are in messages that nobody has received.
     pub(crate) flights: Flights,
+    /// Those file objects that a description or a path leads to, or that were closed, so that the end of a call looks at
+    /// no other. One that lost a description or a path is taken out.
+    pub(crate) settled: NumberSet,
 }
 
 // Written out, so that it is proved here and not in each function that drops one.
@@ -41,6 +45,7 @@ impl<O: FileObject> Drop for State<O> {
             links,
             abstract_names,
             flights,
+            settled,
         } = self;
         drop(objects);
         drop(openings);
@@ -50,6 +55,7 @@ impl<O: FileObject> Drop for State<O> {
         drop(links);
         drop(abstract_names);
         drop(flights);
+        drop(settled);
     }
 }
 
@@ -62,5 +68,5 @@ impl<O: FileObject> Model for State<O> {
 
     ghost view = { λ s. state_of s.objects.items s.descriptions s.processes.items s.paths.names s.abstract_names };
 
-    ghost invariant = { λ s. IsState s.openings.items s.links.items s.descriptions (flights_of s.flights) (state_of s.objects.items s.descriptions s.processes.items s.paths.names s.abstract_names) };
+    ghost invariant = { λ s. IsState s.settled s.openings.items s.links.items s.descriptions (flights_of s.flights) (state_of s.objects.items s.descriptions s.processes.items s.paths.names s.abstract_names) };
 }

@@ -215,15 +215,13 @@ fn expect_queue<O: FileObject>(
 
 /// Ends a call, and sees which file objects are released, each closed and gone from the state.
 fn settle<O: FileObject>(rt: &(impl Abort + AllocGlobal), state: &mut State<O>, numbers: &[u32]) {
-    let Ok(mut released) = ReleasedObjects::new(rt.alloc()) else {
-        assert!(rt; false);
-        return;
-    };
-    state.settle(&mut released);
+    let mut released = ReleasedObjects::new(rt.alloc());
+    let told = state.settle(&mut released);
     assert!(rt; released.len() == numbers.len());
-    for (gone, number) in released.as_slice().iter().zip(numbers) {
+    assert!(rt; told.iter().eq(numbers.iter()));
+    for (gone, number) in released.iter().zip(numbers) {
         assert!(rt; gone.number() == *number);
         assert!(rt; state.object(*number).is_none());
-        assert!(rt; !gone.object().is_open());
+        assert!(rt; gone.object().is_some_and(|object| !object.is_open()));
     }
 }

@@ -222,9 +222,9 @@ fn settle_without_memory<O: FileObject>(
     alloc: Global,
     state: &mut State<O>,
 ) -> Result<(usize, bool), AllocError> {
-    let mut released = ReleasedObjects::new(alloc)?;
+    let mut released = ReleasedObjects::new(alloc);
     let hoard = Hoard::take_all(alloc)?;
-    state.settle(&mut released);
+    let _numbers = state.settle(&mut released);
     let opened = opens_pair(state);
     drop(hoard);
     Ok((released.len(), opened))

@@ -11,6 +11,7 @@ invariant-loop-name g l =
     (goal.iterator-loop-name g).can_next l.name-iterator ×
     (goal.iterator-loop-name g).is_finite l.name-iterator ×
     (vec_len l.places + length (into_iter_items l.name-iterator) ≤ vec_capacity l.places) ×
+    (vec_len l.rooms ≡ length (into_iter_items l.name-iterator)) ×
     (length (into_iter_items l.name-iterator) ≤ l.paths.room) ×
     (vec_len l.places + length (into_iter_items l.name-iterator) ≡ length l.fn.objects.items) ×
     (l.places.items ++ map (λ o. Some (g.O.FileObject.view o.1)) (into_iter_items l.name-iterator) ≡ map

@@ -1,36 +1,43 @@
-use Rattle.std.proofs.Common.{◌<◌, option_map, length, arith, ap, sym, ◌∙◌}
-use Rattle.std.proofs.lemmas.Grind.{common_steps}
-use Rattle.ux_model.specs.State.{State}
-use Rattle.ux_state.proofs.Orphans.{inside_then, Passed-kept, Passed-gone}
+use Rattle.std.proofs.Common.{◌++◌, ap, sym, ◌∙◌, arith}
+use Rattle.ux_state.proofs.Orphans.{comes, comes_to_end, Passed-one, Passed-all, settled_here}
 use Rattle.ux_state.proofs.state.State.close_orphans.Goals as goal
-use Rattle.ux_state.proofs.state.State.close_orphans.Goals.{then-is_orphan, else-is_orphan}
 
-pub is_orphan-requires : goal.is_orphan-requires
-is_orphan-requires g c =
-    let long = ap (λ S. length (State.objects S)) c.self.view_is in
-    inside_then c.args.self.now c.loop-o.self c.loop-o.o c.loop-o.released c.loop-o.invariant (omega (arith, long))
+pub take_orphan-orphan-requires : goal.take_orphan-orphan-requires
+take_orphan-orphan-requires g c =
+    (comes _ _ _ c.args.self.now c.loop-o.self _ c.self.invariant c.self.view_is c.loop-o.from c.in-Some.o c.loop-o.released
+    c.loop-o.invariant.0 c.loop-o.invariant.1 c.in-Some.ensures).within
 
-pub take_closed-object-requires : goal.take_closed-object-requires
-take_closed-object-requires g c =
-    let long = ap (λ S. length (State.objects S)) c.self.view_is in
-    inside_then c.args.self.now c.loop-o.self c.loop-o.o c.loop-o.released c.loop-o.invariant (omega (arith, long))
+pub keep_settled-requires-clause-no_orphan : goal.keep_settled-requires-clause-no_orphan
+keep_settled-requires-clause-no_orphan g c =
+    let here = comes _ _ _ c.args.self.now c.loop-o.self _ c.self.invariant c.self.view_is c.loop-o.from c.in-Some.o c.loop-o.released
+    c.loop-o.invariant.0 c.loop-o.invariant.1 c.in-Some.ensures in
+    settled_here c.loop-o.self c.take_orphan-orphan.new.self c.in-Some.o here.within c.take_orphan-orphan.ensures.state
+
+pub loop-o-smaller : goal.loop-o-smaller
+loop-o-smaller g c =
+    let here = comes _ _ _ c.args.self.now c.loop-o.self _ c.self.invariant c.self.view_is c.loop-o.from c.in-Some.o c.loop-o.released
+    c.loop-o.invariant.0 c.loop-o.invariant.1 c.in-Some.ensures in
+    omega (arith, here.inside, c.in-Some.ensures.after)
 
 pub loop-o-preserved : goal.loop-o-preserved
 loop-o-preserved g c =
-    let long = ap (λ S. length (State.objects S)) c.self.view_is in
-    let inside : c.loop-o.o < length c.args.self.now.objects = omega (arith, long) in
-    elim c.if-is_orphan.branch [
-      | then-is_orphan w ↦ Passed-gone c.args.self.now c.loop-o.self c.if-is_orphan.self c.loop-o.o c.loop-o.released
-          c.if-is_orphan.released (option_map g.O.FileObject.view w.take_closed-object.result) c.loop-o.invariant inside
-          (sym c.is_orphan.ensures ∙ w.if-is_orphan.true) w.take_closed-object.ensures.object
-          (w.self-is ∙ w.take_closed-object.ensures.state) (rw w.released-is w.hand_out.ensures)
-      | else-is_orphan w ↦ rw (w.self-is, w.released-is)
-          (Passed-kept c.args.self.now c.loop-o.self c.loop-o.o c.loop-o.released c.loop-o.invariant inside
-          (sym c.is_orphan.ensures ∙ w.if-is_orphan.false))
-    ]
+    let here = comes _ _ _ c.args.self.now c.loop-o.self _ c.self.invariant c.self.view_is c.loop-o.from c.in-Some.o c.loop-o.released
+    c.loop-o.invariant.0 c.loop-o.invariant.1 c.in-Some.ensures in (
+      Passed-one c.args.self.now c.loop-o.self c.keep_settled.new.self c.in-Some.o c.loop-o.released c.hand_out.new.released
+          here.passed here.inside (c.keep_settled.ensures ∙ c.take_orphan-orphan.ensures.state)
+          (c.hand_out.ensures.released ∙ ap (λ rs. c.loop-o.released ++ rs) c.take_orphan-orphan.ensures.orphan),
+      omega (arith, here.inside),
+      c.hand_out.ensures.numbers,
+    )
 
 pub returns-clause-released : goal.returns-clause-released
-returns-clause-released g c = grind (arith, common_steps)
+returns-clause-released g c =
+    (Passed-all c.args.self.now c.loop-o.self c.loop-o.released
+    (comes_to_end _ _ _ c.args.self.now c.loop-o.self _ c.self.invariant c.self.view_is c.loop-o.from c.loop-o.released
+    c.loop-o.invariant.0 c.loop-o.invariant.1 c.in_default.ensures)).0
 
 pub returns-clause-state : goal.returns-clause-state
-returns-clause-state g c = grind (arith, common_steps)
+returns-clause-state g c =
+    (Passed-all c.args.self.now c.loop-o.self c.loop-o.released
+    (comes_to_end _ _ _ c.args.self.now c.loop-o.self _ c.self.invariant c.self.view_is c.loop-o.from c.loop-o.released
+    c.loop-o.invariant.0 c.loop-o.invariant.1 c.in_default.ensures)).1

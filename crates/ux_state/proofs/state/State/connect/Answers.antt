@@ -1,9 +1,10 @@
-use Rattle.std.proofs.Common.{◌≡◌, sym, subst, arith}
-use Rattle.std.proofs.lemmas.Grind.{common_steps}
+use Rattle.std.proofs.Common.{◌≡◌, ℕ, List, refl, ap, sym, subst, ◌∙◌}
+use Rattle.ux_slots.specs.Held.{count_at}
 use Rattle.ux_model.specs.State.{State}
 use Rattle.ux_model.specs.Pairing.{socket_description}
 use Rattle.ux_model.specs.Connecting.{server_end, no_open_flags}
 use Rattle.ux_state.specs.Moves.{IsUnconnectedAt, IsNoListenerAt, IsListenerAt, OnListener}
+use Rattle.ux_state.proofs.SocketMoves.{same_kept}
 use Rattle.ux_state.proofs.Tying.{connection_kept, connection_made}
 use Rattle.ux_state.proofs.state.State.connect.Goals as goal
 
@@ -29,7 +30,12 @@ returns-clause-ok g c =
     c.insert_reserved-id.ensures.added c.tie.ensures.places
 
 pub invariant_of-self : goal.invariant_of-self
-invariant_of-self g c = grind (arith, common_steps)
+invariant_of-self g c =
+    same_kept _ _ _ _ _ _ _ c.self.invariant c.reserve.new.self c.reserve.ensures.places
+    (λ k. ap (λ (cs : List ℕ). count_at (record c.self.inside.descriptions { counts = cs }) k) c.reserve.ensures.counts) (λ u. refl)
 
 pub invariant_of-self-in_err-push_pending : goal.invariant_of-self-in_err-push_pending
-invariant_of-self-in_err-push_pending g c = grind (arith, common_steps)
+invariant_of-self-in_err-push_pending g c =
+    same_kept _ _ _ _ _ _ _ c.self.invariant c.push_pending.new.slots (c.in_err-push_pending.ensures.err ∙ c.reserve.ensures.places)
+    (λ k. ap (λ (cs : List ℕ). count_at (record c.self.inside.descriptions { counts = cs }) k)
+    (c.in_err-push_pending.ensures.counts ∙ c.reserve.ensures.counts)) (λ u. refl)

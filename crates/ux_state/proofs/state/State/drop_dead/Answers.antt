@@ -1,7 +1,8 @@
-use Rattle.std.proofs.Common.{◌==◌, ap, refl, sym, ◌∙◌}
+use Rattle.std.proofs.Common.{◌==◌, ap, refl, sym, subst, ◌∙◌}
 use Rattle.ux_model.specs.Release.{is_unreferenced, has_unreferenced, without}
 use Rattle.ux_model.specs.Peers.{with_peer_reset}
 use Rattle.ux_state.specs.Keeping.{state_of}
+use Rattle.ux_state.specs.Settling.{LooksAgain}
 use Rattle.ux_state.proofs.Dropping.{counted_among, all_counted, all_flying, left_kept, is_without, was_dead, none_dead}
 use Rattle.ux_state.proofs.state.State.drop_dead.Goals as goal
 
@@ -32,6 +33,7 @@ invariant_of-self-2 g c =
     ∙ (λ j. with_peer_reset (c.lost_peer.ensures j) (c.in-Some.ensures.taken j)))
     (c.reset_peer.ensures.counts ∙ c.in-Some.ensures.counts) c.release_held.ensures.counted.counts c.release_held.ensures.flying
     c.count_out.ensures c.drop_name.ensures
+    (subst (λ o. LooksAgain o c.self.inside.settled c.look_again.new.settled) c.object.ensures c.look_again.ensures)
 
 pub returns : goal.returns
 returns g c = (

@@ -19,8 +19,8 @@ invariant_of-self g c =
     let live = ap (λ S. is_live S c.args.pid.0) c.self.view_is ∙ c.requires in
     process_kept _ _ _ _ _ _ _ c.self.invariant c.args.pid.0 c.process_mut-process.result.now live c.process_mut-process.ensures.value _
     c.release_table.new.slots c.exit.new.self refl (held_same _ _ (sym c.release_table.ensures.places))
-    (rw (sym c.release_table.ensures.places) c.self.invariant.opened) (rw (sym c.release_table.ensures.places) c.self.invariant.paired)
-    (rw (sym c.release_table.ensures.places) c.self.invariant.owned)
+    (rw (sym c.release_table.ensures.places) c.self.invariant.opened) c.self.invariant.settled
+    (rw (sym c.release_table.ensures.places) c.self.invariant.paired) (rw (sym c.release_table.ensures.places) c.self.invariant.owned)
     (λ k.
     let none = none_open k c.process_mut-process.result.now.table in
     let table = ap (λ P. table_refs k (Process.table P)) c.exit.ensures in
