@@ -10,8 +10,7 @@ use ux_object::ObjKind;
 use ux_objects::Plain;
 use ux_state::ReleasedObjects;
 use ux_types::{
-    Addr, Bytes, Entry, Fd, Mode, MsgFlags, Name, OpenFlags, Pid, ProcSpec, Released, Request,
-    SockType,
+    Addr, Bytes, Entry, Fd, Mode, MsgFlags, Name, OpenFlags, Pid, ProcSpec, Request, SockType,
 };
 
 /// A call that a row of a test makes.
@@ -167,7 +166,7 @@ fn make_recorder(alloc: Global, procs: &[ProcSpec]) -> Result<Recorder, AllocErr
     };
     let mut objects = Vec::new(alloc);
     objects.push((Name::from_slice(alloc, b"f")?, file))?;
-    let released = ReleasedObjects::new(alloc)?;
+    let released = ReleasedObjects::new(alloc);
     match Kernel::boot(alloc, objects, procs) {
         Ok(kernel) => Ok(Recorder {
             kernel,
@@ -190,7 +189,7 @@ fn record(recorder: &mut Recorder, pid: Pid, request: Request) -> Result<(), All
     }
     recorder.released.clear();
     let tag = recorder.entries.len() as u64;
-    let done = recorder
+    let (done, released) = recorder
         .kernel
         .step(pid, tag, &request, &mut recorder.released);
     let k = count_of(recorder.entries.as_slice(), pid);
@@ -199,7 +198,7 @@ fn record(recorder: &mut Recorder, pid: Pid, request: Request) -> Result<(), All
         k,
         request,
         reply: done.reply,
-        released: Released::new(),
+        released,
         delivered: done.delivered,
     })?;
     Ok(())

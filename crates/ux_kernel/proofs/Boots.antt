@@ -8,7 +8,9 @@ use Rattle.std.proofs.lemmas.List.Folds.{list_all-map}
 use Rattle.std.proofs.lemmas.Bool.{ltb-false, le-ltb}
 use Rattle.std.proofs.lemmas.Option.{none-some}
 use Rattle.ux_model.specs.Types.{Name, ProcSpec}
-use Rattle.ux_model.specs.Limits.{object_limit, process_limit, table_limit}
+use Rattle.ux_model.specs.Limits.{raised_object_limit, process_limit, table_limit}
+use Rattle.ux_types.specs.declared.limits.ObjectLimit.{ObjectLimit}
+use Rattle.ux_types.specs.ObjectLimits.{most_objects}
 use Rattle.ux_model.specs.Object.{View}
 use Rattle.ux_model.specs.Process.{Process}
 use Rattle.ux_model.specs.Names.{PathTarget, file, is_valid_path, same_name}
@@ -18,8 +20,8 @@ use Rattle.ux_kernel.specs.Faults.{fault_of}
 
 -- ---- no fault
 
-pub record IsFaultless (objects : List (Name × View)) (specs : List ProcSpec) : Type 0 where
-  pub few_objects : nat_lt object_limit (length objects) ≡ false
+pub record IsFaultless (most : ℕ) (objects : List (Name × View)) (specs : List ProcSpec) : Type 0 where
+  pub few_objects : nat_lt most (length objects) ≡ false
   pub few_processes : nat_lt process_limit (length specs) ≡ false
   pub distinct : are_distinct (map (λ o. o.0) objects) ≡ true
   pub opened : list_all (λ o. View.opened o.1) objects ≡ true
@@ -32,8 +34,9 @@ not_false : (b : Bool) → not b ≡ false → b ≡ true
 not_false true h = refl
 not_false false h = sym h
 
-pub faultless : (objects : List (Name × View)) (specs : List ProcSpec) → fault_of objects specs ≡ None → IsFaultless objects specs
-faultless objects specs h =
+pub faultless : (most : ℕ) (objects : List (Name × View)) (specs : List ProcSpec) → fault_of most objects specs ≡ None →
+    IsFaultless most objects specs
+faultless most objects specs h =
     let a = no_fault_here _ _ _ h in
     let b = no_fault_here _ _ _ a.1 in
     let c = no_fault_here _ _ _ b.1 in
@@ -55,27 +58,33 @@ names_kept : {X : Type 0} (V : X → View) (xs : List (Name × X)) →
 names_kept V [] = refl
 names_kept V (x ∷ xs) = ap (λ ns. x.0 ∷ ns) (names_kept V xs)
 
-pub few_objects_of : {X : Type 0} (V : X → View) (xs : List (Name × X)) (specs : List ProcSpec) →
-    fault_of (map (λ o. (o.0, V o.1)) xs) specs ≡ None → length xs ≤ object_limit
-few_objects_of V xs specs h =
+pub few_objects_of : {X : Type 0} (most : ℕ) (V : X → View) (xs : List (Name × X)) (specs : List ProcSpec) →
+    fault_of most (map (λ o. (o.0, V o.1)) xs) specs ≡ None → length xs ≤ most
+few_objects_of most V xs specs h =
     let long = length_viewed V xs in
-    let few = ltb-false object_limit (length (map (λ o. (o.0, V o.1)) xs)) (faultless (map (λ o. (o.0, V o.1)) xs) specs h).few_objects in
+    let few = ltb-false most (length (map (λ o. (o.0, V o.1)) xs)) (faultless most (map (λ o. (o.0, V o.1)) xs) specs h).few_objects in
     omega (arith, long, few)
 
-pub few_processes_of : {X : Type 0} (V : X → View) (xs : List (Name × X)) (specs : List ProcSpec) →
-    fault_of (map (λ o. (o.0, V o.1)) xs) specs ≡ None → length specs ≤ process_limit
-few_processes_of V xs specs h = ltb-false process_limit (length specs) (faultless (map (λ o. (o.0, V o.1)) xs) specs h).few_processes
+-- no limit is above the raised one
+pub most_bounded : (limit : ObjectLimit) → most_objects limit ≤ raised_object_limit
+most_bounded ObjectLimit.Usual = omega arith
+most_bounded ObjectLimit.Raised = omega arith
 
-pub open_of : {X : Type 0} (V : X → View) (xs : List (Name × X)) (specs : List ProcSpec) →
-    fault_of (map (λ o. (o.0, V o.1)) xs) specs ≡ None →
+pub few_processes_of : {X : Type 0} (most : ℕ) (V : X → View) (xs : List (Name × X)) (specs : List ProcSpec) →
+    fault_of most (map (λ o. (o.0, V o.1)) xs) specs ≡ None → length specs ≤ process_limit
+few_processes_of most V xs specs h =
+    ltb-false process_limit (length specs) (faultless most (map (λ o. (o.0, V o.1)) xs) specs h).few_processes
+
+pub open_of : {X : Type 0} (most : ℕ) (V : X → View) (xs : List (Name × X)) (specs : List ProcSpec) →
+    fault_of most (map (λ o. (o.0, V o.1)) xs) specs ≡ None →
     list_all (λ o. View.opened (V o.1)) xs ≡ true
-open_of V xs specs h = sym (list_all-map (λ o. View.opened o.1) (λ o. (o.0, V o.1)) xs)
-    ∙ (faultless (map (λ o. (o.0, V o.1)) xs) specs h).opened
+open_of most V xs specs h = sym (list_all-map (λ o. View.opened o.1) (λ o. (o.0, V o.1)) xs)
+    ∙ (faultless most (map (λ o. (o.0, V o.1)) xs) specs h).opened
 
-pub distinct_of : {X : Type 0} (V : X → View) (xs : List (Name × X)) (specs : List ProcSpec) →
-    fault_of (map (λ o. (o.0, V o.1)) xs) specs ≡ None →
+pub distinct_of : {X : Type 0} (most : ℕ) (V : X → View) (xs : List (Name × X)) (specs : List ProcSpec) →
+    fault_of most (map (λ o. (o.0, V o.1)) xs) specs ≡ None →
     are_distinct (map (λ o. o.0) xs) ≡ true
-distinct_of V xs specs h = sym (ap are_distinct (names_kept V xs)) ∙ (faultless (map (λ o. (o.0, V o.1)) xs) specs h).distinct
+distinct_of most V xs specs h = sym (ap are_distinct (names_kept V xs)) ∙ (faultless most (map (λ o. (o.0, V o.1)) xs) specs h).distinct
 
 -- the first fault by the tests of the objects themselves
 abbrev pub fault_by : Bool → Bool → Bool → Bool → Bool → Option BootFault
@@ -86,22 +95,23 @@ fault_by many_objects many_processes valid distinct opened =
     if not distinct then Some BootFault.NameTwice else
     if not opened then Some BootFault.ObjectClosed else None
 
-pub fault_is : {X : Type 0} (V : X → View) (xs : List (Name × X)) (specs : List ProcSpec) → fault_of (map (λ o. (o.0, V o.1)) xs) specs
-    ≡ fault_by (nat_lt object_limit (length xs)) (nat_lt process_limit (length specs)) (list_all (λ o. is_valid_path o.0) xs)
+pub fault_is : {X : Type 0} (most : ℕ) (V : X → View) (xs : List (Name × X)) (specs : List ProcSpec) →
+    fault_of most (map (λ o. (o.0, V o.1)) xs) specs ≡ fault_by (nat_lt most (length xs)) (nat_lt process_limit (length specs))
+    (list_all (λ o. is_valid_path o.0) xs)
     (are_distinct (map (λ o. o.0) xs)) (list_all (λ o. View.opened (V o.1)) xs)
-fault_is V xs specs = λ j. fault_by (nat_lt object_limit (length_viewed V xs j)) (nat_lt process_limit (length specs))
+fault_is most V xs specs = λ j. fault_by (nat_lt most (length_viewed V xs j)) (nat_lt process_limit (length specs))
     (list_all-map (λ (o : Name × View). is_valid_path o.0) (λ o. (o.0, V o.1)) xs j)
     (are_distinct (names_kept V xs j))
     (list_all-map (λ (o : Name × View). View.opened o.1) (λ o. (o.0, V o.1)) xs j)
 
-pub fault_told : {X : Type 0} (V : X → View) (xs : List (Name × X)) (specs : List ProcSpec) (valid distinct opened : Bool) →
-    length xs ≤ object_limit → length specs ≤ process_limit →
+pub fault_told : {X : Type 0} (most : ℕ) (V : X → View) (xs : List (Name × X)) (specs : List ProcSpec) (valid distinct opened : Bool) →
+    length xs ≤ most → length specs ≤ process_limit →
     valid ≡ list_all (λ o. is_valid_path o.0) xs → distinct ≡ are_distinct (map (λ o. o.0) xs) →
     opened ≡ list_all (λ o. View.opened (V o.1)) xs →
-    fault_by false false valid distinct opened ≡ fault_of (map (λ o. (o.0, V o.1)) xs) specs
-fault_told V xs specs valid distinct opened few_o few_p v d o =
-    (λ j. fault_by (sym (le-ltb object_limit (length xs) few_o) j) (sym (le-ltb process_limit (length specs) few_p) j) (v j) (d j) (o j))
-    ∙ sym (fault_is V xs specs)
+    fault_by false false valid distinct opened ≡ fault_of most (map (λ o. (o.0, V o.1)) xs) specs
+fault_told most V xs specs valid distinct opened few_o few_p v d o =
+    (λ j. fault_by (sym (le-ltb most (length xs) few_o) j) (sym (le-ltb process_limit (length specs) few_p) j) (v j) (d j) (o j))
+    ∙ sym (fault_is most V xs specs)
 
 -- ---- distinct names, from the first on
 
@@ -154,9 +164,10 @@ names_of : (n : ℕ) (objects : List (Name × View)) →
 names_of n [] = refl
 names_of n (o ∷ os) = ap (λ ns. o.0 ∷ ns) (names_of (n + 1) os)
 
-pub boots : (objects : List (Name × View)) (specs : List ProcSpec) → fault_of objects specs ≡ None → IsBootState (boot_state objects specs)
-boots objects specs h =
-    let f : IsFaultless objects specs = faultless objects specs h in
+pub boots : (most : ℕ) (objects : List (Name × View)) (specs : List ProcSpec) → fault_of most objects specs ≡ None →
+    IsBootState (boot_state objects specs)
+boots most objects specs h =
+    let f : IsFaultless most objects specs = faultless most objects specs h in
     record {
       no_descriptions = refl;
       no_abstract_names = refl;

@@ -3,6 +3,8 @@ ghost use Rattle.std.specs.Prelude.{◌≡◌, IfOk, IfErr, MatchOption, map, Is
 ghost use Rattle.std.specs.List.{list_any, list_all};
 ghost use Rattle.ux_model.specs.Names as model;
 ghost use Rattle.ux_model.specs.Boot.{IsBootState, boot_state, are_distinct};
+ghost use Rattle.ux_model.specs.Limits.{object_limit};
+ghost use Rattle.ux_types.specs.ObjectLimits.{most_objects};
 ghost use Rattle.ux_kernel.specs.Faults.{fault_of};
 
 use crate::kernel::Kernel;
@@ -11,13 +13,13 @@ use thiserror::Error;
 use ux_names::{Seed, is_valid_path};
 use ux_object::FileObject;
 use ux_state::State;
-use ux_types::{Name, OBJECT_LIMIT, PROCESS_LIMIT, ProcSpec};
+use ux_types::{Name, ObjectLimit, PROCESS_LIMIT, ProcSpec};
 
 /// Why no kernel could be made, with the number that a boot fault is reported by.
 #[derive(Clone, Copy, Debug, PartialEq, Eq, Error)]
 pub enum BootFault {
-    /// More than 64 file objects.
-    #[error("more than 64 file objects")]
+    /// More file objects than there may be: 64, or 4,096 where that was asked for.
+    #[error("too many file objects")]
     TooManyObjects = 1,
     /// More than 64 processes.
     #[error("more than 64 processes")]
@@ -51,15 +53,15 @@ impl<O: FileObject> Kernel<O> {
     ) -> Result<Kernel<O>, (BootFault, Vec<(Name, O)>)>
         ensures state { IfOk result (λ k. k ≡ boot_state (map (λ o. (o.0, O.view o.1)) objects.items) procs.now) }
         ensures boots { IfOk result (λ k. IsBootState k) }
-        ensures fault { MatchOption (fault_of (map (λ o. (o.0, O.view o.1)) objects.items) procs.now)
+        ensures fault { MatchOption (fault_of object_limit (map (λ o. (o.0, O.view o.1)) objects.items) procs.now)
             (IfErr result (λ f. f.0 ≡ BootFault.NoMemory))
             (λ due. IsErrAnd result (λ f. f.0 ≡ due)) }
         ensures back { IfErr result (λ f. f.1 ≡ objects) }
     {
-        Kernel::boot_with_seed(alloc, Seed::fixed(), objects, procs)
+        Kernel::boot_with_seed(alloc, Seed::fixed(), ObjectLimit::Usual, objects, procs)
     }
 
-    /// As `boot`, with names that are hashed by this seed.
+    /// As `boot`, with names that are hashed by this seed, and this limit of file objects.
     ///
     /// # Errors
     ///
@@ -68,17 +70,18 @@ impl<O: FileObject> Kernel<O> {
     pub fn boot_with_seed(
         alloc: Global,
         seed: Seed,
+        most: ObjectLimit,
         objects: Vec<(Name, O)>,
         procs: &[ProcSpec],
     ) -> Result<Kernel<O>, (BootFault, Vec<(Name, O)>)>
         ensures state { IfOk result (λ k. k ≡ boot_state (map (λ o. (o.0, O.view o.1)) objects.items) procs.now) }
         ensures boots { IfOk result (λ k. IsBootState k) }
-        ensures fault { MatchOption (fault_of (map (λ o. (o.0, O.view o.1)) objects.items) procs.now)
+        ensures fault { MatchOption (fault_of (most_objects most) (map (λ o. (o.0, O.view o.1)) objects.items) procs.now)
             (IfErr result (λ f. f.0 ≡ BootFault.NoMemory))
             (λ due. IsErrAnd result (λ f. f.0 ≡ due)) }
         ensures back { IfErr result (λ f. f.1 ≡ objects) }
     {
-        if let Some(fault) = find_fault(&objects, procs) {
+        if let Some(fault) = find_fault(most, &objects, procs) {
             return Err((fault, objects));
         }
         match State::new(alloc, seed, objects, procs) {
@@ -89,10 +92,14 @@ impl<O: FileObject> Kernel<O> {
 }
 
 /// The first fault other than out of memory.
-fn find_fault<O: FileObject>(objects: &[(Name, O)], procs: &[ProcSpec]) -> Option<BootFault>
-    ensures { result ≡ fault_of (map (λ o. (o.0, O.view o.1)) objects.now) procs.now }
+fn find_fault<O: FileObject>(
+    most: ObjectLimit,
+    objects: &[(Name, O)],
+    procs: &[ProcSpec],
+) -> Option<BootFault>
+    ensures { result ≡ fault_of (most_objects most) (map (λ o. (o.0, O.view o.1)) objects.now) procs.now }
 {
-    if objects.len() > OBJECT_LIMIT {
+    if objects.len() > most.count() {
         return Some(BootFault::TooManyObjects);
     }
     if procs.len() > PROCESS_LIMIT {

@@ -12,12 +12,12 @@ use crate::kernel::Kernel;
 use ux_msg::{Incoming, Outgoing, recv_msg, send_msg};
 use ux_object::FileObject;
 use ux_state::ReleasedObjects;
-use ux_types::{Done, Errno, Pid, Refusal, Reply, Request};
+use ux_types::{Done, Errno, Pid, Refusal, Released, Reply, Request};
 
 impl<O: FileObject> Kernel<O> {
     /// Makes one call of a process that hasn't exited, or the end of the layer once none is left, and
     /// releases what nothing refers to any more: the file objects that nothing leads to are put into an
-    /// empty list by rising number, closed and otherwise as they were. `tag` is the number of the call, which
+    /// empty list by rising number, closed and otherwise as they were, and their numbers stand beside the answer. `tag` is the number of the call, which
     /// a message that it sends keeps; the answer reports that of the message of which rights were received. A
     /// refusal is the reply. One with ENOMEM leaves the kernel as it was, and
     /// close(2), unlink(2), lseek(2), the flags of fcntl(2), listen(2), shutdown(2), getsockopt(2), poll(2),
@@ -30,16 +30,17 @@ impl<O: FileObject> Kernel<O> {
         tag: u64,
         request: &Request,
         released: &mut ReleasedObjects<O>,
-    ) -> Done
+    ) -> (Done, Released)
         requires caller { IsCaller self.old pid.0 request.now }
         requires empty { released.old ≡ [] }
-        ensures step { Step self.old pid.0 tag request.now result.reply (map (λ r. r.0) released.new) self.new }
-        ensures delivered { result.delivered ≡ delivered_by self.old pid.0 request.now result.reply }
+        ensures step { Step self.old pid.0 tag request.now result.0.reply (map (λ r. r.0) released.new) self.new }
+        ensures delivered { result.0.delivered ≡ delivered_by self.old pid.0 request.now result.0.reply }
+        ensures numbers { result.1 ≡ map (λ r. r.0) released.new }
         ensures handed_out { AllByRecursion (IsHandedOut self.old) released.new }
     {
         let done = self.call(pid, tag, request);
-        self.state.settle(released);
-        done
+        let numbers = self.state.settle(released);
+        (done, numbers)
     }
 
     /// Makes the call, and leaves what nothing refers to any more to `settle`.

@@ -23,8 +23,8 @@ use ux_kernel::Kernel;
 use ux_objects::{Counter, Plain};
 use ux_state::ReleasedObjects;
 use ux_types::{
-    Addr, Bytes, Cred, Done, Errno, Fd, Mode, MsgFlags, Name, OpenFlags, Pid, PollFlags, ProcSpec,
-    Reply, Request, SockOpt, SockType,
+    Addr, Bytes, Cred, Errno, Fd, Mode, MsgFlags, Name, OpenFlags, Pid, PollFlags, ProcSpec, Reply,
+    Request, SockOpt, SockType,
 };
 
 /// A user's process with this descriptor limit.
@@ -194,7 +194,7 @@ fn make_machine(
     objects: Vec<(Name, Plain)>,
     procs: &[ProcSpec],
 ) -> Result<Machine, AllocError> {
-    let released = ReleasedObjects::new(alloc)?;
+    let released = ReleasedObjects::new(alloc);
     match Kernel::boot(alloc, objects, procs) {
         Ok(kernel) => Ok(Machine { kernel, released }),
         Err(_) => Err(AllocError),
@@ -212,13 +212,10 @@ fn ask(machine: &mut Machine, pid: u32, request: &Request) -> Option<Reply> {
         return None;
     }
     machine.released.clear();
-    let Done {
-        reply,
-        delivered: _,
-    } = machine
+    let (done, _numbers) = machine
         .kernel
         .step(Pid(pid), 0, request, &mut machine.released);
-    Some(reply)
+    Some(done.reply)
 }
 
 /// An address of a row.
@@ -522,7 +519,7 @@ fn turns_off(machine: &mut Machine) -> bool {
         return false;
     }
     machine.released.clear();
-    let done = machine
+    let (done, _numbers) = machine
         .kernel
         .step(Pid(0), 0, &Request::Off, &mut machine.released);
     done.reply == Reply::Ok
@@ -564,6 +561,17 @@ fn counters(alloc: Global, paths: &[&[u8]]) -> Result<Vec<(Name, Plain)>, AllocE
             Name::from_slice(alloc, path)?,
             Plain::Counter(Counter::new()),
         ))?;
+    }
+    Ok(objects)
+}
+
+/// So many open counters, each under its number.
+fn numbered_counters(alloc: Global, count: u32) -> Result<Vec<(Name, Plain)>, AllocError> {
+    let mut objects = Vec::with_capacity(alloc, count as usize)?;
+    for number in 0..count {
+        let path = format!(in alloc; "{number}")?;
+        let name = Name::from_slice(alloc, path.as_str().as_bytes())?;
+        objects.push((name, Plain::Counter(Counter::new())))?;
     }
     Ok(objects)
 }

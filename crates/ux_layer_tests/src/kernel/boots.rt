@@ -1,12 +1,14 @@
 //! Kernels that can be booted, and those that can't.
-use super::{Asked, Row, Told, bare, counters, expect_rows, make_machine, process};
+use super::{
+    Asked, Row, Told, bare, counters, expect_rows, make_machine, numbered_counters, process,
+};
 use hoard::Hoard;
 use std::alloc::{AllocError, Global};
 use std::process::Abort;
-use ux_kernel::{BootFault, Kernel};
+use ux_kernel::{BootFault, Kernel, Seed};
 use ux_object::FileObject;
 use ux_objects::{Counter, Plain};
-use ux_types::{Errno, Name, Pid, ProcSpec};
+use ux_types::{Errno, Name, ObjectLimit, Pid, ProcSpec};
 
 /// Two counters, the second of them closed.
 fn one_closed(alloc: Global) -> Result<Vec<(Name, Plain)>, AllocError> {
@@ -144,6 +146,45 @@ fn of_two_faults_one_is_told(rt: HostRuntime) -> Result<(), AllocError> {
     faults_at(&rt, alloc, &[b"", b""], &one, BootFault::BadPath)?;
     let objects = (closed_and_twice(alloc)?, closed_and_twice(alloc)?);
     faults(&rt, alloc, objects, &one, BootFault::NameTwice);
+    Ok(())
+}
+
+/// How many file objects there are, how many there may be, and whether a kernel is made.
+const CROWDS: &[(u32, ObjectLimit, bool)] = &[
+    (64, ObjectLimit::Usual, true),
+    (65, ObjectLimit::Usual, false),
+    (65, ObjectLimit::Raised, true),
+    (4096, ObjectLimit::Raised, true),
+    (4097, ObjectLimit::Raised, false),
+];
+
+/// Sees whether a kernel with so many file objects is made; those of none come back.
+fn expect_boot(
+    rt: &impl Abort,
+    alloc: Global,
+    count: u32,
+    most: ObjectLimit,
+    boots: bool,
+) -> Result<(), AllocError> {
+    let one = [process(2)];
+    let objects = numbered_counters(alloc, count)?;
+    let refused = Kernel::boot_with_seed(alloc, Seed::fixed(), most, objects, &one).err();
+    match refused {
+        Some((fault, back)) => {
+            assert!(rt; !boots);
+            assert_eq!(rt; fault, BootFault::TooManyObjects);
+            assert_eq!(rt; back.len(), count as usize);
+        }
+        None => assert!(rt; boots),
+    }
+    Ok(())
+}
+
+#[test]
+fn a_kernel_has_64_objects_or_4096_at_most(rt: HostRuntime) -> Result<(), AllocError> {
+    for (count, most, boots) in CROWDS {
+        expect_boot(&rt, rt.alloc(), *count, *most, *boots)?;
+    }
     Ok(())
 }
 
