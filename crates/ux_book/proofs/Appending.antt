@@ -2,7 +2,7 @@
 use Rattle.std.proofs.Common.{◌≡◌, ℕ, ◌+◌, ◌<◌, ◌≤◌, ◌^◌, ◌==◌, ◌&&◌, not, List, [], ◌∷◌, ◌++◌, length, Bool, true, false, cond, refl, ap}
 use Rattle.std.proofs.Common.{sym, ◌∙◌, subst, arith}
 use Rattle.std.specs.Prelude.{IfSome, if◌then◌else◌, Option}
-use Rattle.std.specs.List.{AllPairs, AllByRecursion}
+use Rattle.std.specs.List.{AllByRecursion}
 use Rattle.std.proofs.lemmas.Bool.{eqb-true, eq-eqb, and_parts, and_from, or_parts}
 use Rattle.std.proofs.lemmas.List.Sums.{count_by-le-length}
 use Rattle.atomic_table.specs.Seated.{TableId}
@@ -19,7 +19,6 @@ use Rattle.ux_model.specs.History.{calls_of, is_exit, is_off, has_live, live_cou
 use Rattle.ux_model.proofs.Sizes.ReplySizes.{replies_fit}
 use Rattle.ux_model.proofs.Steps.Replays.{step_replay}
 use Rattle.ux_model.proofs.Lists.Appending.{legal_empty, legal_push}
-use Rattle.ux_model.proofs.Releasing.ReleasedNumbers.{step_releases_rising}
 use Rattle.ux_model.proofs.Processes.Living.{live_within, live_ones_counted, fork_tells_the_next, fork_alone_makes}
 use Rattle.ux_book.specs.Pasts.{calls_by, child_by}
 use Rattle.ux_book.specs.Books.{KeptHistory, state_of, may_call, ends_of, is_last, last_entries, entry_of, Adds, IsBook}
@@ -161,11 +160,6 @@ step_there {a} s = subst (λ (i : ℕ). Step a.kernel a.pid.0 i a.request s.repl
 
 follows : {a : Asked} (s : Stepped a) → MayFollow a.boot a.trail.entries (made s)
 follows {a} s = may_follow a.boot a.kernel s.after a.trail.entries (made s) a.book.at_replay (allowed a) (step_there s) (counted a) refl
-
--- the numbers of what it released rise, however they are listed
-pub released_rise : {a : Asked} (s : Stepped a) {listed : List ℕ} → listed ≡ s.gone → AllPairs (λ (i j : ℕ). i < j) listed
-released_rise {a} s is = subst (λ (ns : List ℕ). AllPairs (λ (i j : ℕ). i < j) ns) (sym is)
-    (step_releases_rising a.kernel s.after a.pid.0 s.number a.request s.reply s.gone s.step)
 
 pub all_handed_out : (a : Asked) (released : List (ℕ × Option View)) → AllByRecursion (IsHandedOut a.kernel) released →
     AllByRecursion (IsHandedOut (state_of a.view)) released

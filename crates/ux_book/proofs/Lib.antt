@@ -6,4 +6,3 @@ pub mod Slips
 pub mod Appending
 pub mod Settling
 pub mod Sitting
-pub mod Releasing

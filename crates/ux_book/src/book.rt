@@ -1,6 +1,6 @@
 //! The book: a kernel with all that was called since it started, and the right to call as shares.
 ghost use Rattle.std.specs.Prelude.{◌≡◌, ◌+◌, ◌^◌, ◌<◌, ◌≤◌, ◌++◌, ◌∷◌, [], true, false, length, map, Some, IfOk, IfErr, OnOk, OnErr, IfSome, IfNone, OnSome, IsTrue, ◌↔◌, if◌then◌else◌};
-ghost use Rattle.std.specs.List.{slice_get, AllByRecursion, AllPairs};
+ghost use Rattle.std.specs.List.{slice_get, AllByRecursion};
 ghost use Rattle.ux_model.specs.Limits.{made_limit};
 ghost use Rattle.ux_model.specs.Types.{Request, Reply, Errno};
 ghost use Rattle.ux_model.specs.Boot.{IsBootState};
@@ -25,7 +25,7 @@ use std::alloc::{AllocError, Global};
 use std::marker::{Model, PhantomData};
 use ux_kernel::Kernel;
 use ux_object::FileObject;
-use ux_state::{ReleasedObject, ReleasedObjects, State};
+use ux_state::{ReleasedObjects, State};
 use ux_types::{Done, Entry, Errno, Pid, Released, Reply, Request};
 
 /// A kernel with the history of its calls. Contracts see the boot state and the entries, which are a legal history;
@@ -366,6 +366,8 @@ impl<W: BookName, O: FileObject, K: Keeper> Book<W, O, K> {
 
     /// Makes a call of the share's process, and gives the share of a process that it made; where it is `tried`, only
     /// if it needn't wait.
+    // In the place of its call, as `append` is: an answer moves once less.
+    #[inline(always)]
     pub(crate) fn make(
         &mut self,
         share: &mut Share<W>,
@@ -407,6 +409,7 @@ impl<W: BookName, O: FileObject, K: Keeper> Book<W, O, K> {
 
     /// Makes the next call of a token's process, and keeps it as one more entry, whose place it gives, with the share
     /// of a process that the call made. Where it waits, and would have to, the answer is `None`.
+    #[inline(always)]
     fn append(
         &mut self,
         token: &mut Token,
@@ -433,12 +436,11 @@ impl<W: BookName, O: FileObject, K: Keeper> Book<W, O, K> {
         let room = self.kernel.process_count() + 3;
         self.keeper.prepare(request, room)?;
         let number = self.keeper.count();
-        let done = self.kernel.step(pid, number as u64, request, released);
+        let (done, numbers) = self.kernel.step(pid, number as u64, request, released);
         if waits && is_again(&done.reply) {
             drop(done);
             return Ok(None);
         }
-        let numbers = numbers_of(released.as_slice());
         let place = self.trail.push(token, k, request, &done, &numbers);
         self.keeper.keep(pid, k, request, &done, numbers);
         let Done {
@@ -469,8 +471,7 @@ impl<W: BookName, O: FileObject, K: Keeper> Book<W, O, K> {
     {
         let _made = self.kernel.process_count();
         let number = self.keeper.count();
-        let done = self.kernel.step(pid, number as u64, &request, released);
-        let numbers = numbers_of(released.as_slice());
+        let (done, numbers) = self.kernel.step(pid, number as u64, &request, released);
         self.trail.push(token, k, &request, &done, &numbers);
         self.keeper
             .keep_last(last_entry(pid, k, request, done, numbers));
@@ -486,8 +487,7 @@ impl<W: BookName, O: FileObject, K: Keeper> Book<W, O, K> {
         let _made = self.kernel.process_count();
         let number = self.keeper.count();
         let request = Request::Off;
-        let done = self.kernel.step(Pid(0), number as u64, &request, released);
-        let numbers = numbers_of(released.as_slice());
+        let (done, numbers) = self.kernel.step(Pid(0), number as u64, &request, released);
         self.trail.push(&mut self.own, 0, &request, &done, &numbers);
         self.keeper
             .keep_last(last_entry(Pid(0), 0, request, done, numbers));
@@ -589,16 +589,4 @@ fn open_child<W: BookName>(trail: &mut Trail, request: &Request, reply: &Reply) 
         (Request::Fork, Reply::Child(pid)) => Some(new_share(*pid, trail.open())),
         _ => None,
     }
-}
-
-/// The numbers of file objects.
-fn numbers_of<O: FileObject>(released: &[ReleasedObject<O>]) -> Released
-    requires rising { AllPairs (λ a b. a < b) (map (λ r. r.0) released.now) }
-    ensures { result ≡ map (λ r. r.0) released.now }
-{
-    let mut numbers = Released::new();
-    for object in released {
-        numbers.push(object.number());
-    }
-    numbers
 }

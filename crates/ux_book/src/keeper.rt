@@ -68,7 +68,7 @@ pub trait Keeper: Drop {
 /// Keeps all entries.
 pub struct Entries {
     pub(crate) entries: Vec<Entry>,
-    /// A copy of the request of the next entry.
+    /// A copy of the request of the next entry, where it holds more than numbers.
     copy: Option<Request>,
     /// Room for a copy of its reply, which is used where there can be no further owner of what the reply holds.
     room: Option<ReplyRoom>,
@@ -118,6 +118,30 @@ impl Entries {
     }
 }
 
+/// Makes a copy of a request.
+// Apart, as taking it is: a request of numbers alone then moves no room for it.
+#[inline(never)]
+fn prepare_copy(copy: &mut Option<Request>, request: &Request) -> Result<(), AllocError>
+    ensures { OnOk result (copy.new ≡ Some request.now) }
+{
+    *copy = Some(request.clone()?);
+    Ok(())
+}
+
+/// Takes the copy of this request.
+#[inline(never)]
+fn take_copy(copy: &mut Option<Request>, request: &Request) -> Request
+    requires { copy.old ≡ Some request.now }
+    ensures { result ≡ request.now }
+{
+    // A borrow, by which the clauses see the argument.
+    let _ = request;
+    match copy.take() {
+        Some(copy) => copy,
+        None => unreachable!(),
+    }
+}
+
 impl Keeper for Entries {
     ghost use Rattle.std.specs.Prelude.{◌≡◌, ◌-◌, vec_len, vec_capacity};
     ghost use Rattle.std.proofs.Common.{ap};
@@ -140,13 +164,16 @@ impl Keeper for Entries {
     fn prepare(&mut self, request: &Request, count: usize) -> Result<(), CallFault> {
         self.entries.reserve(count)?;
         ReplyRoom::provide(&mut self.room, *self.entries.allocator(), request)?;
-        self.copy = Some(request.clone()?);
+        if request.has_parts() {
+            prepare_copy(&mut self.copy, request)?;
+        }
         Ok(())
     }
 
-    fn keep(&mut self, pid: Pid, k: u64, _request: &Request, done: &Done, released: Released) {
-        let Some(request) = self.copy.take() else {
-            unreachable!()
+    fn keep(&mut self, pid: Pid, k: u64, request: &Request, done: &Done, released: Released) {
+        let request = match request.numbers() {
+            Some(request) => request,
+            None => take_copy(&mut self.copy, request),
         };
         let reply = ReplyRoom::lend(&mut self.room, &done.reply);
         self.entries.push_reserved(Entry {

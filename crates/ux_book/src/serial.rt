@@ -79,9 +79,7 @@ impl<W: BookName, O: FileObject> Serial<W, O> {
         let Ok(shares) = by_number(alloc, shares) else {
             return Err(NoMemory);
         };
-        let Ok(released) = ReleasedObjects::new(alloc) else {
-            return Err(NoMemory);
-        };
+        let released = ReleasedObjects::new(alloc);
         Ok(Serial {
             book,
             shares,

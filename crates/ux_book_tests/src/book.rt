@@ -68,7 +68,7 @@ fn make_shelf<W: BookName>(
     requires boots { IsBootState kernel }
     requires named { kernel ≡ W.boot }
 {
-    let released = ReleasedObjects::new(alloc)?;
+    let released = ReleasedObjects::new(alloc);
     let Ok((book, mut shares)) = Book::new(alloc, trail, kernel) else {
         return Err(AllocError);
     };

@@ -301,9 +301,6 @@ pub fn start_book<W: BookName, O: FileObject, K: Keeper, R: Wait>(
     let Ok(mut seats) = Vec::with_capacity(alloc, shares.len()) else {
         return Err((book.into_kernel(), NoMemory));
     };
-    let Ok((mut lists, released)) = released_lists::<O>(alloc, shares.len()) else {
-        return Err((book.into_kernel(), NoMemory));
-    };
     let Ok(waiters) = Waiters::new(alloc, shares.len()) else {
         return Err((book.into_kernel(), NoMemory));
     };
@@ -317,30 +314,14 @@ pub fn start_book<W: BookName, O: FileObject, K: Keeper, R: Wait>(
     };
     drop(shared.desk.set(rt, Mutex::new(Desk { book, waiters })));
     for share in shares {
-        let Some(list) = lists.pop() else {
-            unreachable!()
-        };
-        seats.push_reserved(make_seat(share, another(rt, &shared), list));
+        let released = ReleasedObjects::new(alloc);
+        seats.push_reserved(make_seat(share, another(rt, &shared), released));
     }
     let layer = Layer {
         shared,
-        released: Mutex::new(released),
+        released: Mutex::new(ReleasedObjects::new(alloc)),
     };
     Ok((layer, seats))
-}
-
-/// So many empty lists, and one more.
-fn released_lists<O: FileObject>(
-    alloc: Global,
-    count: usize,
-) -> Result<(Vec<ReleasedObjects<O>>, ReleasedObjects<O>), AllocError>
-    ensures { IfOk result (λ r. length r.0.items ≡ count) }
-{
-    let mut lists = Vec::with_capacity(alloc, count)?;
-    for _n in 0..count {
-        lists.push_reserved(ReleasedObjects::new(alloc)?);
-    }
-    Ok((lists, ReleasedObjects::new(alloc)?))
 }
 
 /// One more owner. No program makes so many that there is none left.

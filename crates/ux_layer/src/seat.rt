@@ -178,7 +178,7 @@ impl<W: BookName, O: FileObject, K: Keeper> Seat<W, O, K> {
             shared,
             released,
         } = self;
-        let list = ReleasedObjects::new(shared.alloc)?;
+        let list = ReleasedObjects::new(shared.alloc);
         let owner = another(rt, shared);
         let mut guard = shared.lock(rt);
         let desk = &mut *guard;

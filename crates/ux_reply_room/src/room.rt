@@ -117,6 +117,19 @@ impl ReplyRoom {
         requires fits { IsSomeAnd kept.old (λ room. Fits (size_of reply.now) room) }
         ensures same { result ≡ reply.now }
     {
+        if let Some(copy) = reply.numbers() {
+            return copy;
+        }
+        ReplyRoom::lend_parts(kept, reply)
+    }
+
+    /// A copy of a reply that holds bytes or a name.
+    // Apart, a copy of numbers moves no room for parts.
+    #[inline(never)]
+    fn lend_parts(kept: &mut Option<ReplyRoom>, reply: &Reply) -> Reply
+        requires fits { IsSomeAnd kept.old (λ room. Fits (size_of reply.now) room) }
+        ensures same { result ≡ reply.now }
+    {
         if let Ok(copy) = reply.clone() {
             return copy;
         }

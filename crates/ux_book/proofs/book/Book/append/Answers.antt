@@ -4,7 +4,7 @@ use Rattle.ux_model.specs.Types.{Entry}
 use Rattle.ux_model.specs.History.{makes_one}
 use Rattle.ux_book.specs.Trails.{Trailed}
 use Rattle.ux_book.proofs.Appending.{Asked, ask, Stepped, Noting, Grown}
-use Rattle.ux_book.proofs.Appending.{few_calls, released_rise, all_handed_out, reply_fits, waits, waits_there}
+use Rattle.ux_book.proofs.Appending.{few_calls, all_handed_out, reply_fits, waits, waits_there}
 use Rattle.ux_book.proofs.Appending.{unchanged, child_number, new_past, place_there, kept_is}
 use Rattle.ux_book.proofs.Appending.{adds, book_after, enough_room, not_off, no_end}
 use Rattle.ux_book.proofs.book.Book.append.Given.{Over}
@@ -18,7 +18,7 @@ abbrev stepped : (g : Over) (c : After-step-done g) → Stepped (asked g c)
 stepped g c = record {
   number = c.count-number.result;
   after = c.step-done.new.self;
-  reply = c.step-done.result.reply;
+  reply = c.step-done.result.0.reply;
   gone = map (λ r. r.0) c.step-done.new.released;
   number_is = c.count-number.ensures.count c.self.inside.trail.entries
       (c.in_ok-prepare.ensures.keeps c.self.inside.trail.entries c.self.invariant.1);
@@ -51,11 +51,6 @@ returns-then-is_again-clause-idle g c =
 
 -- ---- where it is an entry
 
-pub numbers_of-numbers-requires : goal.numbers_of-numbers-requires
-numbers_of-numbers-requires g c =
-    let then = (goal.at.numbers_of-numbers-requires g c).After-step-done in
-    record { rising = released_rise (stepped g then) (ap (map (λ r. r.0)) c.as_slice.ensures.objects) }
-
 pub keep-requires-clause-fits : goal.keep-requires-clause-fits
 keep-requires-clause-fits g c =
     let then = (goal.at.keep-requires-clause-fits g c).After-step-done in
@@ -85,10 +80,10 @@ before g c = (goal.at.returns-clause-appended g c).After-step-done
 abbrev noting : (g : Over) (c : goal.After-open_child-child g) → Noting (asked g (before g c)) (stepped g (before g c))
 noting g c = record {
   who = c.args.token.now.pid;
-  released = c.numbers_of-numbers.result;
-  delivered = c.step-done.result.delivered;
+  released = c.step-done.result.1;
+  delivered = c.step-done.result.0.delivered;
   who_is = c.requires.token.1;
-  released_is = c.numbers_of-numbers.ensures ∙ ap (map (λ r. r.0)) c.as_slice.ensures.objects;
+  released_is = c.step-done.ensures.numbers;
   delivered_is = c.step-done.ensures.delivered;
 }
 
@@ -102,7 +97,7 @@ grown g c = record {
   enough = enough_room (asked g (before g c)) c.process_count-room.ensures.count c.in_ok-prepare.ensures.room c.requires.last;
   left = c.keep.ensures.room;
   trail_is = c.open_child-child.ensures.trail
-      ∙ ap (λ (t : Trailed). record t { given = t.given + cond {A = ℕ} (makes_one c.args.request.now c.step-done.result.reply) 1 0 })
+      ∙ ap (λ (t : Trailed). record t { given = t.given + cond {A = ℕ} (makes_one c.args.request.now c.step-done.result.0.reply) 1 0 })
       c.push-place.ensures.trail;
   own_id = refl;
   own_pid = refl;

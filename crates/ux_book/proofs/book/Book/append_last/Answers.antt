@@ -3,7 +3,7 @@ use Rattle.ux_model.specs.Types.{Reply, Entry}
 use Rattle.ux_model.specs.History.{is_off}
 use Rattle.ux_book.specs.Books.{is_last}
 use Rattle.ux_book.proofs.Appending.{Asked, ask, Stepped, Noting, Grown, few_calls}
-use Rattle.ux_book.proofs.Appending.{released_rise, exits, kept_is, adds_ok, book_after, no_end}
+use Rattle.ux_book.proofs.Appending.{exits, kept_is, adds_ok, book_after, no_end}
 use Rattle.ux_book.proofs.Appending.{last_room, last_trail, room_to_exit}
 use Rattle.ux_book.proofs.book.Book.append_last.Given.{Over}
 use Rattle.ux_book.proofs.book.Book.append_last.Goals.{After-step-done}
@@ -16,16 +16,11 @@ abbrev stepped : (g : Over) (c : After-step-done g) → Stepped (asked g c)
 stepped g c = record {
   number = c.count-number.result;
   after = c.step-done.new.self;
-  reply = c.step-done.result.reply;
+  reply = c.step-done.result.0.reply;
   gone = map (λ r. r.0) c.step-done.new.released;
   number_is = c.count-number.ensures.count c.self.inside.trail.entries c.self.invariant.1;
   step = c.step-done.ensures.step;
 }
-
-pub numbers_of-numbers-requires : goal.numbers_of-numbers-requires
-numbers_of-numbers-requires g c =
-    let then = (goal.at.numbers_of-numbers-requires g c).After-step-done in
-    record { rising = released_rise (stepped g then) (ap (map (λ r. r.0)) c.as_slice.ensures.objects) }
 
 pub keep_last-requires : goal.keep_last-requires
 keep_last-requires g c =
@@ -45,10 +40,10 @@ before g c = (goal.at.returns-clause-adds g c).After-step-done
 abbrev noting : (g : Over) (c : goal.After-keep_last g) → Noting (asked g (before g c)) (stepped g (before g c))
 noting g c = record {
   who = c.args.token.now.pid;
-  released = c.numbers_of-numbers.result;
-  delivered = c.step-done.result.delivered;
+  released = c.step-done.result.1;
+  delivered = c.step-done.result.0.delivered;
   who_is = c.requires.token.1;
-  released_is = c.numbers_of-numbers.ensures ∙ ap (map (λ r. r.0)) c.as_slice.ensures.objects;
+  released_is = c.step-done.ensures.numbers;
   delivered_is = c.step-done.ensures.delivered;
 }
 
