@@ -1,12 +1,15 @@
 //! A history against a kernel that has just started.
-ghost use Rattle.std.specs.Prelude.{◌≡◌, ◌≤◌, ℕ, length, IfOk, IfErr, IsTrue};
+ghost use Rattle.std.specs.Prelude.{◌≡◌, ◌≤◌, ℕ, length, IfOk, IfErr, OnOk, IsTrue};
+ghost use Rattle.ux_model.specs.State.{State};
+ghost use Rattle.ux_replay.specs.Again.{is_left_out, IsMadeAgain, IsAgain, AreAgain};
 ghost use Rattle.ux_replay.specs.Faults.{entry_at};
 ghost use Rattle.ux_kernel.specs.Calling.{IsCaller};
 
+use crate::same::is_same_reply;
 use std::alloc::Global;
 use ux_kernel::Kernel;
 use ux_object::FileObject;
-use ux_state::{ReleasedObject, ReleasedObjects};
+use ux_state::ReleasedObjects;
 use ux_types::{Done, Entry, Errno, Reply, Request};
 
 /// Why the calls of a history weren't all made again.
@@ -42,6 +45,8 @@ pub fn check_history<O: FileObject>(
     history: &[Entry],
     kernel: Kernel<O>,
 ) -> Result<u64, u64>
+    // Each call was made again, with the outcome that its entry has, or is left out.
+    ensures again { OnOk result ((end : State) × AreAgain kernel 0 history.now end) }
     ensures all { IfOk result (λ n. n ≡ length history.now) }
     ensures first { IfErr result (λ n. n ≤ length history.now) }
 {
@@ -59,6 +64,8 @@ pub fn replay<O: FileObject>(
     history: &[Entry],
     mut kernel: Kernel<O>,
 ) -> Result<u64, ReplayFault>
+    // Each call was made again, with the outcome that its entry has, or is left out.
+    ensures again { OnOk result ((end : State) × AreAgain kernel 0 history.now end) }
     ensures all { IfOk result (λ n. n ≡ length history.now) }
     ensures first { IfErr result (λ f. entry_at f ≤ length history.now) }
 {
@@ -77,13 +84,12 @@ pub fn replay_on<O: FileObject>(
     history: &[Entry],
     kernel: &mut Kernel<O>,
 ) -> Result<u64, ReplayFault>
+    ensures again { OnOk result (AreAgain kernel.old 0 history.now kernel.new) }
     ensures all { IfOk result (λ n. n ≡ length history.now) }
     ensures first { IfErr result (λ f. entry_at f ≤ length history.now) }
 {
-    match ReleasedObjects::new(alloc) {
-        Ok(mut released) => make_again(kernel, history, &mut released),
-        Err(_) => Err(ReplayFault::NoMemory(0)),
-    }
+    let mut released = ReleasedObjects::new(alloc);
+    make_again(kernel, history, &mut released)
 }
 
 /// Makes the calls, up to the first with another outcome.
@@ -92,6 +98,7 @@ fn make_again<O: FileObject>(
     history: &[Entry],
     released: &mut ReleasedObjects<O>,
 ) -> Result<u64, ReplayFault>
+    ensures again { OnOk result (AreAgain kernel.old 0 history.now kernel.new) }
     ensures all { IfOk result (λ n. n ≡ length history.now) }
     ensures first { IfErr result (λ f. entry_at f ≤ length history.now) }
 {
@@ -113,7 +120,8 @@ pub fn replay_entry<O: FileObject>(
     entry: &Entry,
     released: &mut ReleasedObjects<O>,
 ) -> Result<(), ReplayFault>
-    ensures { IfErr result (λ f. entry_at f ≡ number) }
+    ensures again { OnOk result (IsAgain kernel.old number entry.now kernel.new) }
+    ensures number { IfErr result (λ f. entry_at f ≡ number) }
 {
     if is_left_out(&entry.reply) {
         return Ok(());
@@ -137,7 +145,9 @@ enum Repeated {
 }
 
 /// Whether an object failed the call, or memory ran out.
-fn is_left_out(reply: &Reply) -> bool {
+fn is_left_out(reply: &Reply) -> bool
+    ensures { result ≡ is_left_out reply.now }
+{
     matches!(reply, Reply::Err(Errno::EIO | Errno::ENOMEM))
 }
 
@@ -148,17 +158,17 @@ fn repeat<O: FileObject>(
     number: u64,
     entry: &Entry,
     released: &mut ReleasedObjects<O>,
-) -> Repeated {
+) -> Repeated
+    ensures { result ≡ Repeated.Same → IsMadeAgain kernel.old number entry.now kernel.new }
+{
     if !may_call(kernel, entry) {
         return Repeated::Different;
     }
     released.clear();
-    let done = kernel.step(entry.pid, number, &entry.request, released);
+    let (done, numbers) = kernel.step(entry.pid, number, &entry.request, released);
     let compared = compare(&done, entry);
     drop(done);
-    if matches!(compared, Repeated::Same)
-        && !are_these(released.as_slice(), entry.released.numbers().as_slice())
-    {
+    if matches!(compared, Repeated::Same) && numbers != entry.released {
         return Repeated::Different;
     }
     compared
@@ -175,21 +185,15 @@ fn may_call<O: FileObject>(kernel: &Kernel<O>, entry: &Entry) -> bool
 }
 
 /// Compares a reply, and the message whose rights it received, with those of the first time.
-fn compare(again: &Done, first: &Entry) -> Repeated {
-    if again.reply == first.reply && again.delivered == first.delivered {
+fn compare(again: &Done, first: &Entry) -> Repeated
+    ensures reply { result ≡ Repeated.Same → again.now.reply ≡ first.now.reply }
+    ensures delivered { result ≡ Repeated.Same → again.now.delivered ≡ first.now.delivered }
+{
+    if is_same_reply(&again.reply, &first.reply) && again.delivered == first.delivered {
         Repeated::Same
     } else if matches!(again.reply, Reply::Err(Errno::ENOMEM)) {
         Repeated::NoMemory
     } else {
         Repeated::Different
     }
-}
-
-/// Whether these are the file objects with these numbers.
-fn are_these<O: FileObject>(objects: &[ReleasedObject<O>], numbers: &[u8]) -> bool {
-    objects.len() == numbers.len()
-        && objects
-            .iter()
-            .zip(numbers)
-            .all(|(object, number)| object.number() == u32::from(*number))
 }

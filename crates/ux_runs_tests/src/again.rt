@@ -26,20 +26,20 @@ fn history(alloc: Global) -> Result<Vec<Entry>, AllocError> {
         flags: MsgFlags(0),
     };
     let mut entries = Vec::new(alloc);
-    entries.push(entry(0, pair, Reply::Fds(Fd(0), Fd(1))))?;
-    entries.push(entry(1, send, Reply::Count(2)))?;
-    entries.push(entry(2, Request::Exit, Reply::Ok))?;
+    entries.push(entry(alloc, 0, pair, Reply::Fds(Fd(0), Fd(1))))?;
+    entries.push(entry(alloc, 1, send, Reply::Count(2)))?;
+    entries.push(entry(alloc, 2, Request::Exit, Reply::Ok))?;
     Ok(entries)
 }
 
 /// An entry of the one process, which releases nothing.
-fn entry(k: u64, request: Request, reply: Reply) -> Entry {
+fn entry(alloc: Global, k: u64, request: Request, reply: Reply) -> Entry {
     Entry {
         pid: Pid(1),
         k,
         request,
         reply,
-        released: Released::new(),
+        released: Released::new(alloc),
         delivered: None,
     }
 }
@@ -91,8 +91,7 @@ fn another_reply_differs(rt: HostRuntime) -> Result<(), Fail> {
 fn other_released_objects_differ(rt: HostRuntime) -> Result<(), Fail> {
     let mut entries = history(rt.alloc())?;
     let exit = entries.get_mut(2).ok_or("no exit")?;
-    exit.released = Released::new();
-    exit.released.push(0);
+    exit.released.push_back(0)?;
     assert_eq!(rt; found(rt.alloc(), &entries, 16)?, Err(2));
     Ok(())
 }
@@ -133,7 +132,7 @@ fn rights_of_another_message_differ(rt: HostRuntime) -> Result<(), Fail> {
 #[test]
 fn a_call_after_the_exit_differs(rt: HostRuntime) -> Result<(), Fail> {
     let mut entries = history(rt.alloc())?;
-    entries.push(entry(3, Request::Exit, Reply::Ok))?;
+    entries.push(entry(rt.alloc(), 3, Request::Exit, Reply::Ok))?;
     assert_eq!(rt; found(rt.alloc(), &entries, 16)?, Err(3));
     Ok(())
 }
@@ -143,7 +142,7 @@ fn a_refusal_for_lack_of_memory_is_left_out(rt: HostRuntime) -> Result<(), Fail>
     let mut entries = history(rt.alloc())?;
     let dup = Request::Dup { fd: Fd(0) };
     let exit = entries.pop().ok_or("no exit")?;
-    entries.push(entry(2, dup, Reply::Err(Errno::ENOMEM)))?;
+    entries.push(entry(rt.alloc(), 2, dup, Reply::Err(Errno::ENOMEM)))?;
     entries.push(exit)?;
     assert_eq!(rt; found(rt.alloc(), &entries, 16)?, Ok(4));
     Ok(())

@@ -3,7 +3,7 @@ use std::alloc::{AllocError, Global};
 use std::process::Abort;
 use std::test::Fail;
 use ux_command::CommandFault;
-use ux_kernel::Kernel;
+use ux_kernel::{Kernel, Seed};
 use ux_script::objects_of;
 use ux_syntax::parse_script;
 
@@ -11,7 +11,8 @@ use ux_syntax::parse_script;
 fn start(alloc: Global, text: &[u8]) -> Result<(), CommandFault> {
     let script = parse_script(alloc, text)?;
     let objects = objects_of(alloc, &script, false)?;
-    match Kernel::boot(alloc, objects, &script.procs) {
+    let most = script.object_limit();
+    match Kernel::boot_with_seed(alloc, Seed::fixed(), most, objects, &script.procs) {
         Ok(_kernel) => Ok(()),
         Err((fault, _objects)) => Err(CommandFault::from(fault)),
     }
@@ -123,9 +124,10 @@ fn a_line_has_4096_bytes_at_most(rt: HostRuntime) -> Result<(), Fail> {
     Ok(())
 }
 
-/// A header with so many file objects and processes.
-fn header(alloc: Global, objects: usize, procs: usize) -> Result<String, AllocError> {
+/// A header with so many file objects and processes, behind this line.
+fn header(alloc: Global, first: &str, objects: usize, procs: usize) -> Result<String, AllocError> {
     let mut text = String::new(alloc);
+    text.push_str(first)?;
     for number in 0..objects {
         text.push_str(&format!(in alloc; "object p:{number} counter\n")?)?;
     }
@@ -135,19 +137,25 @@ fn header(alloc: Global, objects: usize, procs: usize) -> Result<String, AllocEr
     Ok(text)
 }
 
-/// How many file objects and processes there are, and what is reported.
-const HEADERS: &[(usize, usize, &str)] = &[
-    (64, 64, ""),
-    (65, 1, "boot fault 1"),
-    (1, 65, "boot fault 2"),
-    (65, 65, "boot fault 1"),
+/// What stands first, how many file objects and processes there are, and what is reported.
+const HEADERS: &[(&str, usize, usize, &str)] = &[
+    ("", 64, 64, ""),
+    ("", 65, 1, "boot fault 1"),
+    ("", 1, 65, "boot fault 2"),
+    ("", 65, 65, "boot fault 1"),
+    ("serial\n", 65, 64, ""),
+    ("serial\n", 4096, 1, ""),
+    ("serial\n", 4097, 1, "boot fault 1"),
+    ("serial\n", 65, 65, "boot fault 2"),
 ];
 
 #[test]
-fn a_kernel_has_64_objects_and_64_processes_at_most(rt: HostRuntime) -> Result<(), Fail> {
+fn a_kernel_has_64_processes_at_most_and_4096_objects_behind_serial(
+    rt: HostRuntime,
+) -> Result<(), Fail> {
     let alloc = rt.alloc();
-    for (objects, procs, reported) in HEADERS {
-        let text = header(alloc, *objects, *procs)?;
+    for (first, objects, procs, reported) in HEADERS {
+        let text = header(alloc, first, *objects, *procs)?;
         expect_report(&rt, alloc, text.as_bytes(), reported)?;
     }
     Ok(())

@@ -7,9 +7,9 @@ use std::io;
 use std::io::Write;
 use std::process::Abort;
 use std::test::Fail;
-use ux_kernel::Kernel;
+use ux_kernel::{Kernel, Seed};
 use ux_objects::Counter;
-use ux_script::{run_serial, write_trace};
+use ux_script::{objects_of, run_serial, write_trace};
 use ux_syntax::{Act, Line, Script, ScriptFault, parse_script};
 use ux_types::{Entry, Name, Pid, Request};
 
@@ -248,6 +248,52 @@ fn a_process_has_4096_descriptors_at_most(rt: HostRuntime) -> Result<(), Fail> {
     script.push_str("1 dup 0\n")?;
     trace.push_str("4095 1 4095 dup = err EMFILE\n4096 1 4096 exit = ok\n")?;
     check_trace(&rt, alloc, (script.as_str(), trace.as_str()))
+}
+
+/// As many file objects as there may be behind a line `serial`.
+const MOST_OBJECTS: usize = 4096;
+
+/// Runs a text over its file objects.
+fn run_with_objects<W: Write>(
+    alloc: Global,
+    text: &str,
+    writer: &mut W,
+) -> Result<Vec<Entry>, ScriptFault> {
+    let script = parse_script(alloc, text.as_bytes())?;
+    let objects = objects_of(alloc, &script, false)?;
+    let most = script.object_limit();
+    match Kernel::boot_with_seed(alloc, Seed::fixed(), most, objects, &script.procs) {
+        Ok(kernel) => run_serial(alloc, &script, writer, kernel),
+        Err(_) => Err(ScriptFault::NoMemory),
+    }
+}
+
+/// Lines made of a text for each file object's number, from 0 on, each with this in front and that behind.
+fn push_numbered(text: &mut String, alloc: Global, front: &str, behind: &str) -> Result<(), Fail> {
+    for number in 0..MOST_OBJECTS {
+        text.push_str(&format!(in alloc; "{front}{number}{behind}")?)?;
+    }
+    Ok(())
+}
+
+/// A process opens each of as many files as there may be, all their paths go, and all files with its exit.
+#[test]
+fn an_exit_closes_4096_objects(rt: HostRuntime) -> Result<(), Fail> {
+    let alloc = rt.alloc();
+    let mut script = String::new(alloc);
+    script.push_str("serial\nproc 0 0 1 4096\n")?;
+    push_numbered(&mut script, alloc, "object p:f", " mem -\n")?;
+    push_numbered(&mut script, alloc, "1 open p:f", " r -\n")?;
+    push_numbered(&mut script, alloc, "1 unlink p:f", "\n")?;
+    let mut last = String::new(alloc);
+    last.push_str("\n8192 1 8192 exit = ok closed")?;
+    push_numbered(&mut last, alloc, " ", "")?;
+    last.push_str("\n")?;
+    let mut written: Vec<u8> = Vec::new(alloc);
+    let entries = run_with_objects(alloc, script.as_str(), &mut written)?;
+    assert_eq!(rt; entries.len(), 2 * MOST_OBJECTS + 1);
+    assert!(rt; written.as_slice().ends_with(last.as_str().as_bytes()));
+    Ok(())
 }
 
 /// Sees that a script has this fault, and that nothing of it is written.
