@@ -1,5 +1,6 @@
 //! Up to which call of a run something is reported.
-ghost use Rattle.std.specs.Prelude.{◌≡◌, ◌≤◌, ℕ, min, length, Ok, IfOk, IfSome};
+ghost use Rattle.std.specs.Prelude.{◌≡◌, ◌≤◌, ℕ, min, length, Ok, IfOk, IfErr, IfSome, IfNone};
+ghost use Rattle.ux_command.specs.Points.{IsBehind, IsOfNone, IsBehindLast};
 
 use crate::fault::CommandFault;
 
@@ -40,6 +41,11 @@ impl Point {
     pub fn count(self, lines: &[Option<usize>]) -> Result<usize, CommandFault>
         ensures within { IfOk result (λ n. n ≤ length lines.now) }
         ensures calls { (n : ℕ) → self ≡ Point.Calls n → result ≡ Ok (min (length lines.now) n) }
+        // Of a line they are those up to the first that it makes.
+        ensures line { (l : ℕ) → self ≡ Point.Line l → IfOk result (IsBehind lines.now l) }
+        ensures no_call { (l : ℕ) → self ≡ Point.Line l → IfErr result (λ f. IsOfNone lines.now l) }
+        ensures end { self ≡ Point.End → IfOk result (IsBehindLast lines.now) }
+        ensures made { IfErr result (λ f. (l : ℕ) × (self ≡ Point.Line l)) }
         ensures all { self ≡ Point.All → result ≡ Ok (length lines.now) }
     {
         match self {
@@ -57,6 +63,8 @@ impl Point {
 /// How many calls there are up to that of a line, if it makes one.
 fn behind(lines: &[Option<usize>], line: usize) -> Option<usize>
     ensures within { IfSome result (λ n. n ≤ length lines.now) }
+    ensures some { IfSome result (IsBehind lines.now line) }
+    ensures none { IfNone result (IsOfNone lines.now line) }
 {
     for index in 0..lines.len() {
         if lines[index] == Some(line) {
@@ -68,7 +76,8 @@ fn behind(lines: &[Option<usize>], line: usize) -> Option<usize>
 
 /// How many calls there are up to the last that a line makes.
 fn last_of(lines: &[Option<usize>]) -> usize
-    ensures { result ≤ length lines.now }
+    ensures within { result ≤ length lines.now }
+    ensures last { IsBehindLast lines.now result }
 {
     let mut count = 0;
     for index in 0..lines.len() {

@@ -1,3 +1,4 @@
 pub mod Rows
 pub mod Targets
 pub mod Listing
+pub mod Kinds

@@ -1,9 +1,10 @@
 //! A snapshot as JSON, an object for each thing.
 
-ghost use Rattle.std.specs.Prelude.{◌≡◌, codes, Some, IfOk};
-ghost use Rattle.serde_json.specs.Data.{number, unsigned};
+ghost use Rattle.std.specs.Prelude.{◌≡◌, ◌++◌, codes, map, Some, IfOk, OnOk};
+ghost use Rattle.serde_json.specs.Data.{number, unsigned, string};
 ghost use Rattle.serde_json.specs.Find.{get};
 ghost use Rattle.serde_json.specs.View.{view};
+ghost use Rattle.ux_holders.specs.Kinds.{each};
 
 use crate::rows::{
     DescriptionRow, MessageRow, NumberRow, ObjectRow, PathRow, ProcessRow, SocketRow, TargetRow,
@@ -62,7 +63,8 @@ fn number_list(alloc: Global, rows: &[NumberRow]) -> Result<Value, AllocError> {
 
 /// A process that lives, with its open numbers.
 fn process_value(alloc: Global, row: &ProcessRow) -> Result<Value, AllocError>
-    ensures { IfOk result (λ v. get (codes "pid") (view v) ≡ Some (number (unsigned row.now.pid.0))) }
+    ensures kind { IfOk result (λ v. get (codes "kind") (view v) ≡ Some (string (codes "process"))) }
+    ensures pid { IfOk result (λ v. get (codes "pid") (view v) ≡ Some (number (unsigned row.now.pid.0))) }
 {
     let numbers = number_list(alloc, &row.numbers)?;
     json!(in alloc; {"kind": "process", "pid": row.pid.0, "numbers": numbers})
@@ -109,7 +111,8 @@ fn socket_value(alloc: Global, row: &SocketRow) -> Result<Value, AllocError> {
 
 /// A description, with how many references it has and what it leads to.
 fn description_value(alloc: Global, row: &DescriptionRow) -> Result<Value, AllocError>
-    ensures { IfOk result (λ v. get (codes "references") (view v) ≡ Some (number (unsigned row.now.references))) }
+    ensures kind { IfOk result (λ v. get (codes "kind") (view v) ≡ Some (string (codes "description"))) }
+    ensures references { IfOk result (λ v. get (codes "references") (view v) ≡ Some (number (unsigned row.now.references))) }
 {
     let id = id_value(alloc, row.id)?;
     let target = target_value(alloc, row)?;
@@ -141,6 +144,7 @@ fn opened_value(alloc: Global, row: &DescriptionRow, object: u32) -> Result<Valu
 
 /// A file object that is open, and of a memory file its length.
 fn object_value(alloc: Global, row: &ObjectRow) -> Result<Value, AllocError>
+    ensures kind { IfOk result (λ v. get (codes "kind") (view v) ≡ Some (string (codes "object"))) }
     ensures object { IfOk result (λ v. get (codes "object") (view v) ≡ Some (number (unsigned row.now.number))) }
     ensures size { IfOk result (λ v. get (codes "size") (view v) ≡ Some (number (unsigned row.now.size))) }
 {
@@ -149,7 +153,9 @@ fn object_value(alloc: Global, row: &ObjectRow) -> Result<Value, AllocError>
 }
 
 /// A path, and the file object or the socket's description that it names.
-fn path_value(alloc: Global, row: &PathRow) -> Result<Value, AllocError> {
+fn path_value(alloc: Global, row: &PathRow) -> Result<Value, AllocError>
+    ensures { IfOk result (λ v. get (codes "kind") (view v) ≡ Some (string (codes "path"))) }
+{
     let path = path_text(alloc, &row.name)?;
     match row.target {
         PathTarget::File(object) => {
@@ -166,7 +172,9 @@ fn add_processes(
     alloc: Global,
     values: &mut Vec<Value>,
     rows: &[ProcessRow],
-) -> Result<(), AllocError> {
+) -> Result<(), AllocError>
+    ensures { OnOk result (map (λ v. get (codes "kind") (view v)) values.new.items ≡ map (λ v. get (codes "kind") (view v)) values.old.items ++ each (codes "process") rows.now) }
+{
     for row in rows {
         values.push(process_value(alloc, row)?)?;
     }
@@ -177,25 +185,27 @@ fn add_descriptions(
     alloc: Global,
     values: &mut Vec<Value>,
     rows: &[DescriptionRow],
-) -> Result<(), AllocError> {
+) -> Result<(), AllocError>
+    ensures { OnOk result (map (λ v. get (codes "kind") (view v)) values.new.items ≡ map (λ v. get (codes "kind") (view v)) values.old.items ++ each (codes "description") rows.now) }
+{
     for row in rows {
         values.push(description_value(alloc, row)?)?;
     }
     Ok(())
 }
 
-fn add_objects(
-    alloc: Global,
-    values: &mut Vec<Value>,
-    rows: &[ObjectRow],
-) -> Result<(), AllocError> {
+fn add_objects(alloc: Global, values: &mut Vec<Value>, rows: &[ObjectRow]) -> Result<(), AllocError>
+    ensures { OnOk result (map (λ v. get (codes "kind") (view v)) values.new.items ≡ map (λ v. get (codes "kind") (view v)) values.old.items ++ each (codes "object") rows.now) }
+{
     for row in rows {
         values.push(object_value(alloc, row)?)?;
     }
     Ok(())
 }
 
-fn add_paths(alloc: Global, values: &mut Vec<Value>, rows: &[PathRow]) -> Result<(), AllocError> {
+fn add_paths(alloc: Global, values: &mut Vec<Value>, rows: &[PathRow]) -> Result<(), AllocError>
+    ensures { OnOk result (map (λ v. get (codes "kind") (view v)) values.new.items ≡ map (λ v. get (codes "kind") (view v)) values.old.items ++ each (codes "path") rows.now) }
+{
     for row in rows {
         values.push(path_value(alloc, row)?)?;
     }
@@ -208,7 +218,11 @@ fn add_paths(alloc: Global, values: &mut Vec<Value>, rows: &[PathRow]) -> Result
 /// # Errors
 ///
 /// Out of memory.
-pub fn snapshot_values(alloc: Global, held: &Snapshot) -> Result<Vec<Value>, AllocError> {
+pub fn snapshot_values(alloc: Global, held: &Snapshot) -> Result<Vec<Value>, AllocError>
+    ensures { IfOk result (λ values. map (λ v. get (codes "kind") (view v)) values.items ≡ each (codes "process") held.now.processes.items
+        ++ (each (codes "description") held.now.descriptions.items
+        ++ (each (codes "object") held.now.objects.items ++ each (codes "path") held.now.paths.items))) }
+{
     let mut values = Vec::new(alloc);
     add_processes(alloc, &mut values, &held.processes)?;
     add_descriptions(alloc, &mut values, &held.descriptions)?;

@@ -39,7 +39,7 @@ impl Answers {
         let mut rows = Vec::new(alloc);
         rows.push(Answer {
             reply: Reply::Ok,
-            released: Released::new(),
+            released: Released::new(alloc),
             object: None,
             next: Vec::new(alloc),
         })?;

@@ -1,5 +1,5 @@
 //! All orders of a script, one after another.
-ghost use Rattle.std.specs.Prelude.{◌<◌, length, IfSome};
+ghost use Rattle.std.specs.Prelude.{◌≡◌, ◌<◌, true, length, IfSome};
 
 use crate::answers::Answers;
 use crate::chooser::{Chooser, Ready};
@@ -20,7 +20,9 @@ pub struct Reduction {
 
 impl Reduction {
     /// All of these.
-    pub fn all() -> Reduction {
+    pub fn all() -> Reduction
+        ensures { result ≡ record { exchanged = true; merged = true } }
+    {
         Reduction {
             exchanged: true,
             merged: true,

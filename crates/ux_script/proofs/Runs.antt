@@ -25,7 +25,7 @@ use Rattle.ux_book.specs.declared.fault.CallFault.{CallFault}
 use Rattle.ux_syntax.specs.declared.script.Act.{Act}
 use Rattle.ux_syntax.specs.Lines.{Line}
 use Rattle.ux_syntax.specs.declared.script.Script.{Script}
-use Rattle.ux_syntax.specs.Spelling.{plan_of, is_exit, is_fork, asks_exit, asks_fork, asks_off, forks_of, known_count, NamesProcesses}
+use Rattle.ux_syntax.specs.Spelling.{Plan, plan_of, is_exit, is_fork, asks_exit, asks_fork, asks_off, forks_of, known_count, NamesProcesses}
 use Rattle.ux_syntax.specs.Spelling.{EachKnowing, IsQuiet, NoneAfterExit, IsCall, IsOrderly}
 use Rattle.ux_syntax.specs.Turns.{has_exited, exit_line, off_line, is_call, call_lines, all_turns}
 use Rattle.ux_script.specs.Runs.{line_of_entry, exits_of, Makes, Grows}
@@ -421,13 +421,13 @@ with_end script n count end =
     (exits_of script.lines.items (known_count (plan_of script)) ++ (if b then off_line ∷ [] else []))) (sym end)
 
 -- a book that was just opened
-pub makes_none : (book : KeptHistory) (script : Script) (boot : State) → book ≡ record { boot = boot; entries = [] } → IsBootState boot →
-    boot.processes ≡ map new_process script.procs.items → Makes book (plan_of script) []
-makes_none book script boot new boots same = subst (λ (h : KeptHistory). Makes h (plan_of script) []) (sym new) (record {
+pub makes_none : (book : KeptHistory) (s : Plan) (boot : State) → book ≡ record { boot = boot; entries = [] } → IsBootState boot →
+    boot.processes ≡ map new_process s.procs → Makes book s []
+makes_none book s boot new boots same = subst (λ (h : KeptHistory). Makes h s []) (sym new) (record {
   processes = same;
   legal = legal_empty boot boots;
   calls = refl;
-  made = let count = ap length same ∙ length-map script.procs.items new_process in omega (arith, count);
+  made = let count = ap length same ∙ length-map s.procs new_process in omega (arith, count);
 })
 
 -- what follows from a success, and from a refusal

@@ -1,7 +1,7 @@
 //! The file objects of a script.
 
 ghost use Rattle.std.specs.Prelude.{◌≡◌, map, IfOk};
-ghost use Rattle.ux_script.specs.Objects.{object_of};
+ghost use Rattle.ux_script.specs.Objects.{object_of, failing_call};
 
 use std::alloc::{AllocError, Global};
 use ux_objects::{FailAt, Plain};
@@ -19,7 +19,9 @@ pub fn objects_of(
     script: &Script,
     fails: bool,
 ) -> Result<Vec<(Name, FailAt)>, AllocError>
-    ensures { IfOk result (λ objects. map (λ o. (o.0, o.1.seen)) objects.items ≡ map object_of script.now.objects.items) }
+    ensures objects { IfOk result (λ objects. map (λ o. (o.0, o.1.seen)) objects.items ≡ map object_of script.now.objects.items) }
+    // Which read or write of each fails, 0 for none.
+    ensures failing { IfOk result (λ objects. map (λ o. o.1.left) objects.items ≡ map (failing_call fails) script.now.objects.items) }
 {
     let mut objects: Vec<(Name, FailAt)> = Vec::new(alloc);
     for line in &script.objects {

@@ -321,8 +321,8 @@ fn run_lines<B: BookName, O: FileObject, R: BufRead, W: Write, L: Listener>(
 ///
 /// # Errors
 ///
-/// `Reading` where a read fails, `Writing`, and `NoMemory`, also where a fork makes no process. Then what was written is a
-/// beginning of the trace of the calls that were made.
+/// `Reading` where a read fails, `Writing`, and `NoMemory`, also where a fork makes no process. Then nothing was written, or
+/// a beginning of the trace of a legal history from the kernel's state; the contract doesn't say which calls it has.
 pub fn follow<O: FileObject, R: BufRead, W: Write, L: Listener>(
     alloc: Global,
     reader: LineReader,

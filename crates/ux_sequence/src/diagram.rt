@@ -42,9 +42,7 @@ pub fn sequence<O: FileObject>(
     history: &[Entry],
     mut kernel: Kernel<O>,
 ) -> Result<String, ReplayFault> {
-    let Ok(mut released) = ReleasedObjects::new(alloc) else {
-        return Err(ReplayFault::NoMemory(0));
-    };
+    let mut released = ReleasedObjects::new(alloc);
     let mut out = String::new(alloc);
     if put_participants(alloc, &mut out, history).is_err() {
         return Err(ReplayFault::NoMemory(0));

@@ -4,7 +4,7 @@ use Rattle.ux_script.proofs.Runs.{makes_none}
 use Rattle.ux_script.proofs.run.run_calls.Goals as goal
 
 pub make_all-requires : goal.make_all-requires
-make_all-requires g c = makes_none c.in-Ok.serial c.args.script.now c.args.kernel c.in-Ok.ensures c.requires.boots c.requires.processes
+make_all-requires g c = makes_none c.in-Ok.serial _ c.args.kernel c.in-Ok.ensures c.requires.boots c.requires.processes
 
 pub returns-in_err-make_all-clause-stranger : goal.returns-in_err-make_all-clause-stranger
 returns-in_err-make_all-clause-stranger g c =

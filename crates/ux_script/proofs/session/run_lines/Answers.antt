@@ -1,6 +1,11 @@
 use Rattle.std.proofs.lemmas.Result.{err_from_is_err_and}
 use Rattle.ux_script.proofs.Following.{breaks_on, breaks_from_start}
+use Rattle.ux_script.proofs.Runs.{makes_none}
 use Rattle.ux_script.proofs.session.run_lines.Goals as goal
+
+pub follow_all-requires : goal.follow_all-requires
+follow_all-requires g c =
+    makes_none c.in-Ok.serial c.args.reader.now c.args.kernel c.in-Ok.ensures c.requires.boots c.requires.processes
 
 pub returns-in_err-follow_all-clause-front : goal.returns-in_err-follow_all-clause-front
 returns-in_err-follow_all-clause-front g c =
