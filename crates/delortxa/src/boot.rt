@@ -4,22 +4,25 @@ ghost use Rattle.ux_model.specs.Limits.{file_limit};
 ghost use Rattle.ux_model.specs.Boot.{IsBootState, boot_state};
 ghost use Rattle.ux_object.specs.declared.ObjKind.{ObjKind};
 ghost use Rattle.ux_kernel.specs.Faults.{fault_of};
-ghost use Rattle.delortxa.specs.Boots.{with_object, with_process, with_processes};
+ghost use Rattle.delortxa.specs.Boots.{with_object, with_process, with_processes, with_raised_limit};
+ghost use Rattle.ux_types.specs.ObjectLimits.{most_objects};
 
 use crate::objects::AnyObject;
 use std::alloc::{AllocError, Global};
 use std::marker::Model;
-use ux_kernel::{BootFault, Kernel};
+use ux_kernel::{BootFault, Kernel, Seed};
 use ux_object::{ObjError, ObjKind};
-use ux_types::{Bytes, Name, ProcSpec};
+use ux_types::{Bytes, Name, ObjectLimit, ProcSpec};
 
 /// The file objects and the processes that a layer is to start with. Objects are numbered from 0 on and
-/// processes from 1 on, in the order in which they are given. Contracts see both lists, and which call of each object fails.
+/// processes from 1 on, in the order in which they are given. Contracts see both lists, which call of each object fails, and
+/// how many objects there may be.
 pub struct Boot {
     alloc: Global,
     objects: Vec<(Name, AnyObject)>,
     /// What each object is made of, so that it can be made anew.
     recipes: Vec<Recipe>,
+    most: ObjectLimit,
     processes: Vec<ProcSpec>,
 }
 
@@ -40,6 +43,7 @@ impl Drop for Boot {
             alloc: _,
             objects,
             recipes,
+            most: _,
             processes,
         } = self;
         drop(objects);
@@ -56,7 +60,7 @@ impl Model for Boot {
 
     ghost Value = { Plan };
 
-    ghost view = { λ b. record { objects = map (λ o. (o.0, any_view o.1)) b.objects.items; failures = map (λ o. calls_left o.1) b.objects.items; processes = b.processes.items } };
+    ghost view = { λ b. record { objects = map (λ o. (o.0, any_view o.1)) b.objects.items; failures = map (λ o. calls_left o.1) b.objects.items; most = b.most; processes = b.processes.items } };
 
     ghost invariant = { λ b. (map (λ o. (o.0, any_view o.1)) b.objects.items ≡ map object_of b.recipes.items) × (map (λ o. calls_left o.1) b.objects.items ≡ map failure_of b.recipes.items) };
 }
@@ -64,14 +68,22 @@ impl Model for Boot {
 impl Boot {
     /// Nothing yet. All that follows is allocated here.
     pub fn new(alloc: Global) -> Boot
-        ensures { result ≡ record { objects = []; failures = []; processes = [] } }
+        ensures { result ≡ record { objects = []; failures = []; most = ObjectLimit.Usual; processes = [] } }
     {
         Boot {
             alloc,
             objects: Vec::new(alloc),
             recipes: Vec::new(alloc),
+            most: ObjectLimit::Usual,
             processes: Vec::new(alloc),
         }
+    }
+
+    /// Lets there be 4,096 objects instead of 64.
+    pub fn raise_object_limit(&mut self)
+        ensures { self.new ≡ with_raised_limit self.old }
+    {
+        self.most = ObjectLimit::Raised;
     }
 
     /// Adds a memory file with a copy of these bytes.
@@ -147,6 +159,7 @@ impl Boot {
             alloc,
             mut objects,
             mut recipes,
+            most,
             processes,
         } = self;
         if recipes.push(recipe).is_err() || objects.push((name, object)).is_err() {
@@ -156,6 +169,7 @@ impl Boot {
             alloc,
             objects,
             recipes,
+            most,
             processes,
         })
     }
@@ -201,7 +215,7 @@ impl Boot {
         Ok(self)
     }
 
-    /// A boot with the same objects, made anew, and these processes.
+    /// A boot with the same objects, made anew, as many of which there may be, and these processes.
     ///
     /// # Errors
     ///
@@ -214,6 +228,7 @@ impl Boot {
             let bytes = recipe.bytes.as_slice();
             boot = boot.object(recipe.path.as_bytes(), recipe.kind, bytes, recipe.fails_at)?;
         }
+        boot.most = self.most;
         boot.processes = Vec::from_slice(self.alloc, processes)?;
         Ok(boot)
     }
@@ -229,20 +244,22 @@ impl Boot {
     ///
     /// # Errors
     ///
-    /// The first of `TooManyObjects` (64), `TooManyProcesses` (64), `BadPath`, `NameTwice` and `NoMemory`.
+    /// The first of `TooManyObjects` (64, or 4,096 where the limit was raised), `TooManyProcesses` (64), `BadPath`, `NameTwice`
+    /// and `NoMemory`.
     pub fn start(self) -> Result<Kernel<AnyObject>, BootFault>
         ensures state { IfOk result (λ kernel. kernel ≡ boot_state self.objects self.processes) }
         ensures boots { IfOk result (λ kernel. IsBootState kernel) }
-        ensures fault { MatchOption (fault_of self.objects self.processes) (IfErr result (λ f. f ≡ BootFault.NoMemory)) (λ due. result ≡ Err due) }
+        ensures fault { MatchOption (fault_of (most_objects self.most) self.objects self.processes) (IfErr result (λ f. f ≡ BootFault.NoMemory)) (λ due. result ≡ Err due) }
     {
         let Boot {
             alloc,
             objects,
             recipes,
+            most,
             processes,
         } = self;
         drop(recipes);
-        match Kernel::boot(alloc, objects, &processes) {
+        match Kernel::boot_with_seed(alloc, Seed::fixed(), most, objects, &processes) {
             Ok(kernel) => Ok(kernel),
             // The objects come back with the fault.
             Err((fault, _objects)) => Err(fault),

@@ -5,6 +5,7 @@ use Rattle.std.specs.Prelude.{codes}
 use Rattle.std.specs.List.{list_all}
 use Rattle.std.proofs.lemmas.Bool.{eq-eqb, and_parts}
 use Rattle.std.proofs.lemmas.List.Folds.{list_all-append}
+use Rattle.ux_types.specs.declared.limits.ObjectLimit.{ObjectLimit}
 use Rattle.ux_model.specs.Types.{Pid, Errno, Request, Reply, Entry}
 use Rattle.ux_model.specs.State.{State}
 use Rattle.ux_model.specs.History.{IsLegal}
@@ -64,7 +65,8 @@ separated {T} outputs es legal long each =
     theirs j e at of_start = by_number e.pid.0 j e refl of_start.0 of_start.1 at
 
 -- what the boot puts together is where it begins
-pub begins : (kernel : State) (b0 b1 b2 b3 b4 : Plan) → b0 ≡ record { objects = []; failures = []; processes = [] } →
+pub begins : (kernel : State) (b0 b1 b2 b3 b4 : Plan) →
+    b0 ≡ record { objects = []; failures = []; most = ObjectLimit.Usual; processes = [] } →
     b1 ≡ with_object b0 (codes "secret") ObjKind.Memory (codes "hunter2") 0 → b2 ≡ with_process b1 (user 0) →
     b3 ≡ with_process b2 (user 1000) →
     b4 ≡ with_process b3 (user 2000) → kernel ≡ boot_state b4.objects b4.processes → kernel ≡ key_boot

@@ -79,7 +79,7 @@ fn fill<W: BookName>(
     mut shares: Vec<Share<W>>,
 ) -> Result<()> {
     let requests = calls(rt.alloc())?;
-    let mut released = ReleasedObjects::new(rt.alloc())?;
+    let mut released = ReleasedObjects::new(rt.alloc());
     let Some(mut share) = shares.pop() else {
         return Err(anyhow!("no process"));
     };
