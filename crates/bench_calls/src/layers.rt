@@ -10,7 +10,7 @@ use ux_kernel::Kernel;
 use ux_object::ObjKind;
 use ux_objects::Plain;
 use ux_state::ReleasedObjects;
-use ux_types::{Done, Name, Pid, ProcSpec, Reply, Request, SockType};
+use ux_types::{Name, Pid, ProcSpec, Reply, Request, SockType};
 
 /// A user's process with the greatest table.
 const PROCESS: ProcSpec = ProcSpec {
@@ -105,7 +105,7 @@ pub(crate) fn boot(alloc: Global, processes: usize) -> Result<Kernel<Plain>>
 impl Stepped {
     /// A kernel with a file and a pipe.
     pub(crate) fn new(alloc: Global) -> Result<Stepped> {
-        let released = ReleasedObjects::new(alloc)?;
+        let released = ReleasedObjects::new(alloc);
         Ok(Stepped {
             kernel: boot(alloc, PROCESSES)?,
             released,
@@ -126,7 +126,7 @@ impl<W: BookName> Recorded<W> {
         requires boots { IsBootState kernel }
         requires named { kernel ≡ W.boot }
     {
-        let released = ReleasedObjects::new(alloc)?;
+        let released = ReleasedObjects::new(alloc);
         match Book::new(alloc, trail, kernel) {
             Ok((book, shares)) => Ok(Recorded {
                 alloc,
@@ -174,11 +174,8 @@ impl Layer for Stepped {
         let tag = self.tag;
         self.tag = tag.wrapping_add(1);
         self.released.clear();
-        let Done {
-            reply,
-            delivered: _,
-        } = self.kernel.step(pid, tag, request, &mut self.released);
-        is_granted(&reply)
+        let (done, _numbers) = self.kernel.step(pid, tag, request, &mut self.released);
+        is_granted(&done.reply)
     }
 }
 

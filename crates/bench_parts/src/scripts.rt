@@ -51,7 +51,7 @@ fn entries_of(alloc: Global, script: Script) -> Result<Vec<Entry>, AllocError> {
                 control: Bytes::empty(),
                 from: None,
             },
-            released: Released::new(),
+            released: Released::new(alloc),
             delivered: None,
         })?;
     }

@@ -16,7 +16,7 @@ use std::marker::Brand;
 use std::rt::Files;
 use std::sync::Wait;
 use ux_book::Trail;
-use ux_kernel::Kernel;
+use ux_kernel::{Kernel, Seed};
 use ux_object::FileObject;
 use ux_replay::check_history;
 use ux_script::{differences, line_numbers, objects_of, run_serial};
@@ -124,6 +124,7 @@ const SCRIPTS: &[&str] = &[
     "passed_file_closed_by_either",
     "child_dies_at_any_point",
     "message_of_the_day",
+    "more_than_64_files",
 ];
 
 /// A file object as a kernel holds it.
@@ -138,7 +139,8 @@ fn kernel_of<O: FileObject>(
     ensures boots { IfOk result (λ kernel. IsBootState kernel) }
     ensures processes { IfOk result (λ kernel. kernel.processes ≡ map new_process script.now.procs.items) }
 {
-    match Kernel::boot(alloc, objects, &script.procs) {
+    let most = script.object_limit();
+    match Kernel::boot_with_seed(alloc, Seed::fixed(), most, objects, &script.procs) {
         Ok(kernel) => Ok(kernel),
         Err((fault, _objects)) => Err(anyhow!("{fault}")),
     }

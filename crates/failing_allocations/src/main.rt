@@ -157,8 +157,8 @@ fn is_but_for_failures(history: &[Entry], undisturbed: &[Entry]) -> bool {
 fn closes_each_once(history: &[Entry], count: usize) -> bool {
     let mut closed = [0u8; 64];
     for entry in history {
-        for number in entry.released.numbers().as_slice() {
-            let place = usize::from(*number);
+        for number in entry.released.iter() {
+            let place = *number as usize;
             if place >= count || place >= 64 || closed[place] > 0 {
                 return false;
             }

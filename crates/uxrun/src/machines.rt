@@ -11,7 +11,6 @@ use ux_kernel::{BootFault, Kernel, Seed};
 use ux_objects::FailAt;
 use ux_script::objects_of;
 use ux_syntax::{Script, ScriptFault};
-use ux_types::OBJECT_LIMIT;
 
 /// A kernel of the script's processes over its file objects. More than it may have are counted before any is made.
 pub fn boot<R: RandomSource + AllocGlobal>(
@@ -47,12 +46,13 @@ fn boot_over<R: RandomSource + AllocGlobal>(
     ensures processes { IfOk result (λ kernel. kernel.processes ≡ map new_process script.now.procs.items) }
     ensures state { IfOk result (λ kernel. kernel ≡ boot_state (map object_of script.now.objects.items) script.now.procs.items) }
 {
-    if script.objects.len() > OBJECT_LIMIT {
+    let most = script.object_limit();
+    if script.objects.len() > most.count() {
         return Err(CommandFault::from(BootFault::TooManyObjects));
     }
     let objects = objects_of(rt.alloc(), script, fails)?;
     let keys = RandomState::new(rt).map_err(|_| ScriptFault::Reading)?;
-    match Kernel::boot_with_seed(rt.alloc(), Seed::random(keys), objects, &script.procs) {
+    match Kernel::boot_with_seed(rt.alloc(), Seed::random(keys), most, objects, &script.procs) {
         Ok(kernel) => Ok(kernel),
         Err((fault, _objects)) => Err(CommandFault::from(fault)),
     }

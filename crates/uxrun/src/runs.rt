@@ -42,7 +42,7 @@ pub fn check_script<R: Clock + Eprint + RandomSource + AllocGlobal>(
     meter: &Meter<'_, R>,
 ) -> Result<(), CommandFault> {
     let mut kernel = boot_without_faults(rt, script)?;
-    let mut released = ReleasedObjects::new(rt.alloc())?;
+    let mut released = ReleasedObjects::new(rt.alloc());
     match make_again(&mut kernel, history, &mut released, meter) {
         Ok(_count) => Ok(()),
         Err(ReplayFault::Differs(number)) => Err(CommandFault::Differs(number)),
