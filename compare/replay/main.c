@@ -116,10 +116,12 @@ static void take_line(const char *line, unsigned row) {
     else run_line(line);
 }
 
-/* A line `serial` is the first that says anything, and of a run in which the processes don't go on by themselves. */
+/* A line `serial` is the first that says anything, and of a run in which the processes don't go on by themselves. Behind
+ * it there may be more file objects. */
 static void check_serial(int has_said) {
     if (has_said) give_up("a bad line");
     if (shared->waits) give_up("a serial script has one order");
+    object_limit = MOST_OBJECTS;
 }
 
 static void run_script(char *text) {

@@ -8,20 +8,25 @@
 #include <unistd.h>
 
 struct object objects[MOST_OBJECTS];
-unsigned object_count;
+unsigned object_count, object_limit = USUAL_OBJECTS;
 
 /* A line `object p:NAME [fail N] KIND [HEX]`. That a call of it fails can't be had, and is left out. */
 void add_object(char **word, size_t count) {
-    if (object_count == MOST_OBJECTS) give_up("too many objects");
+    static char name[LINE + 1];
+    if (object_count == object_limit) give_up("too many objects");
     size_t kind = count > 4 && strcmp(word[2], "fail") == 0 ? 4 : 2;
     struct object *made = &objects[object_count];
     if (strncmp(word[1], "p:", 2) || strlen(word[1]) > LINE || count <= kind) give_up("a bad line of an object");
     *made = (struct object){.counter = -1, .watch = -1, .has_path = 1, .kind = word[kind][0]};
-    if (!file_in(word[1], made->name)) give_up(reply);
-    made->bytes = malloc(LINE);
-    if (made->bytes == NULL) fail("malloc");
+    if (!file_in(word[1], name)) give_up(reply);
+    made->name = strdup(name);
+    if (made->name == NULL) fail("strdup");
     if (made->kind == 'm' && (count <= kind + 1 || !is_hex(word[kind + 1]))) give_up("a bad line of an object");
-    if (made->kind == 'm') made->length = bytes_in(word[kind + 1], made->bytes);
+    if (made->kind == 'm') {
+        made->bytes = malloc(strlen(word[kind + 1]));
+        if (made->bytes == NULL) fail("malloc");
+        made->length = bytes_in(word[kind + 1], made->bytes);
+    }
     object_count++;
 }
 

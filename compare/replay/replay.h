@@ -12,8 +12,8 @@
 #include <sys/un.h>
 
 enum {
-    MOST_PROCESSES = 1024, MOST_OBJECTS = 64, MOST_DESCRIPTORS = 4096, CHANNEL = MOST_DESCRIPTORS, MEMORY, HANDED,
-    MOST_USERS = 64, MOST_WORDS = 8, LINE = 200000, MOST_BYTES = 1 << 20, CHUNK = 1 << 16, MOST_CONTROL = 1 << 21, MOST_ALIASES = 8192,
+    MOST_PROCESSES = 1024, USUAL_OBJECTS = 64, MOST_OBJECTS = 4096, MOST_DESCRIPTORS = 4096, CHANNEL = MOST_DESCRIPTORS, MEMORY,
+    HANDED, MOST_USERS = 64, MOST_WORDS = 8, LINE = 200000, MOST_BYTES = 1 << 20, CHUNK = 1 << 16, MOST_CONTROL = 1 << 21, MOST_ALIASES = 8192,
     PREFIX = 9, KEPT_LENGTH = 90, SECONDS = 10, NO_DESCRIPTOR = INT_MAX, NO_PROCESS = 0x7ffffff0, MOST_TOLD_APART = 100
 };
 
@@ -45,7 +45,7 @@ struct shared {
 };
 
 struct object {
-    char name[LINE + 1];
+    char *name;
     char kind;
     unsigned char *bytes;
     size_t length;
@@ -68,7 +68,7 @@ struct address {
 };
 
 extern struct object objects[MOST_OBJECTS];
-extern unsigned object_count, me, user;
+extern unsigned object_count, object_limit, me, user;
 extern struct shared *shared;
 extern int memory, passed;
 extern char prefix[PREFIX + 1];
