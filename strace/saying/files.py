@@ -64,7 +64,7 @@ def say_pipe(world, block, process, args, result):
                                   inode=inode_of(note_of(end)), thing=thing)
         made.append(description)
     if thing is None:
-        block.otherwise("a pipe as an opaque object: more than 64 objects, or O_DIRECT")
+        block.otherwise("a pipe as an opaque object: more than 4,096 objects, or O_DIRECT")
     else:
         thing.ends = 2
     for number, description, mode in zip(numbers, made, ("r", "w")):

@@ -2,7 +2,7 @@
 import re
 from dataclasses import dataclass
 
-from .world import OUTSIDE
+from .world import MOST_OBJECTS, OUTSIDE
 
 MARK = re.compile("\0(\\d+)\0")
 LIMIT = 4096
@@ -34,7 +34,7 @@ class Script:
 def header_of(world):
     objects = [f"object {OUTSIDE} mem -"]
     objects += [f"object {thing.name} {thing.kind.value}{' -' if thing.kind.value == 'mem' else ''}" for thing in world.things]
-    room = 64 - len(objects)
+    room = MOST_OBJECTS - len(objects)
     objects += [f"object {word} mem -" for word in dict.fromkeys(world.names.files[:room])]
     lines = ["serial", *objects]
     seats = [seat for seat in world.seats if not seat.forked]

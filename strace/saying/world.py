@@ -15,7 +15,7 @@ from .waiting import POLLS, must_wait
 
 HIGHEST = 4095
 MOST_HEADER = 64
-MOST_OBJECTS = 64
+MOST_OBJECTS = 4096
 OUTSIDE = "p:~outside"
 AUTOMATIC = re.compile(r'\[(\d+)(?:->\d+)?,@"([0-9a-f]{5})"\]')
 NOTED = re.compile(r"\d<[^>]*>")
@@ -242,7 +242,7 @@ class World:
         return found
 
     def thing(self, kind):
-        """A new file object, or None where there are 64."""
+        """A new file object, or None where there are 4,096."""
         if self.object_count >= MOST_OBJECTS:
             return None
         self.object_count += 1

@@ -3,6 +3,7 @@ import sys
 import tempfile
 import unittest
 from pathlib import Path
+from unittest import mock
 
 HERE = Path(__file__).resolve().parent
 sys.path.insert(0, str(HERE.parent))
@@ -92,6 +93,25 @@ class LargeSends(unittest.TestCase):
         log = PAIR + "9 1.2 sendmsg" + message(0, 40000, 0) + "9 1.3 recvmsg" + message(1, 36544, 2)
         self.assertEqual(self.calls(log), ["# n 40000", "1 send 0 - *40000 r:0 -", "# got 1900 *1900 - r:2 ?", "1 recv 1 1900 4096 -",
                                            "# got 34644 *34644 ? ? ?", "1 recv 1 34644 0 d"])
+
+
+class ManyObjects(unittest.TestCase):
+    """Each pipe that is open is a file object, up to the layer's limit, with one for what is opaque."""
+
+    def pipes(self, count):
+        """The pipes of a script, of a log that makes so many, and the lines that open something opaque."""
+        log = "".join(f"9 1.{number:04} pipe([{2 * number}<pipe:[{number}]>, {2 * number + 1}<pipe:[{number}]>]) = 0\n"
+                      for number in range(count))
+        lines = shown(said(HEAD + log)[0]).splitlines()
+        return [line for line in lines if line.startswith("object p:~pipe")], [line for line in lines if " open p:~outside " in line]
+
+    def test_more_than_64_pipes(self):
+        self.assertEqual(self.pipes(100), ([f"object p:~pipe{number} pipe" for number in range(100)], []))
+
+    def test_what_is_more_than_there_may_be_is_opaque(self):
+        with mock.patch("saying.world.MOST_OBJECTS", 3):
+            made, opaque = self.pipes(3)
+        self.assertEqual((made, len(opaque)), (["object p:~pipe0 pipe", "object p:~pipe1 pipe"], 2))
 
 
 if __name__ == "__main__":
