@@ -5,6 +5,7 @@ mod DatagramExamples
 mod OptionExamples
 mod LimitExamples
 mod FileExamples
+mod MakingExamples
 mod ControlExamples
 mod ChoiceExamples
 mod LegalExample

@@ -9,5 +9,6 @@ pub mod FlightLaws
 pub mod StaysBounded
 pub mod SmallTables
 pub mod Closed
+pub mod MadeObjects
 pub mod HandingOut
 pub mod FreeChoices

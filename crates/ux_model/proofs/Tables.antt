@@ -4,6 +4,7 @@ pub mod Replacing
 pub mod Shows
 pub mod DescriptorShows
 pub mod SocketShows
+pub mod MakingShows
 pub mod MessageShows
 pub mod FileShows
 pub mod CallShows

@@ -17,6 +17,10 @@ use Rattle.ux_model.specs.Giving.{held_at, description_in, given}
 -- the flag of a descriptor that the call gives
 abbrev pub cloexec_of : Request → Bool
 cloexec_of (Request.Open path mode flags) = asks_cloexec flags
+cloexec_of (Request.Create path mode flags) = asks_cloexec flags
+cloexec_of (Request.MemFd flags) = asks_cloexec flags
+cloexec_of (Request.EventFd value flags) = asks_cloexec flags
+cloexec_of (Request.Pipe flags) = asks_cloexec flags
 cloexec_of (Request.Socket kind flags) = asks_cloexec flags
 cloexec_of (Request.SocketPair kind flags) = asks_cloexec flags
 cloexec_of (Request.Accept fd flags) = asks_cloexec flags
@@ -59,6 +63,10 @@ oldest_end S p fd = elim (find_socket S p fd) [ Err e ↦ [] | Ok found ↦ take
 -- the descriptions of the numbers that a call gives to its process, in order
 abbrev pub sources : State → ℕ → Request → List ℕ
 sources S p (Request.Open path mode flags) = next_description S ∷ []
+sources S p (Request.Create path mode flags) = next_description S ∷ []
+sources S p (Request.MemFd flags) = next_description S ∷ []
+sources S p (Request.EventFd value flags) = next_description S ∷ []
+sources S p (Request.Pipe flags) = next_description S ∷ suc (next_description S) ∷ []
 sources S p (Request.Socket kind flags) = next_description S ∷ []
 sources S p (Request.SocketPair kind flags) = next_description S ∷ suc (next_description S) ∷ []
 sources S p (Request.Accept fd flags) = oldest_end S p fd

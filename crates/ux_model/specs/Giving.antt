@@ -63,6 +63,10 @@ how_received delivered = option_map (λ tag. How.Received tag) delivered
 -- how a call gives numbers, which delivered rights of the message with this tag
 abbrev pub how_of : Request → Option ℕ → Option How
 how_of (Request.Open path mode flags) delivered = Some How.Made
+how_of (Request.Create path mode flags) delivered = Some How.Made
+how_of (Request.MemFd flags) delivered = Some How.Made
+how_of (Request.EventFd value flags) delivered = Some How.Made
+how_of (Request.Pipe flags) delivered = Some How.Made
 how_of (Request.Socket kind flags) delivered = Some How.Made
 how_of (Request.SocketPair kind flags) delivered = Some How.Made
 how_of (Request.Accept fd flags) delivered = Some How.Made

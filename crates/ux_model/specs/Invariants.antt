@@ -1,6 +1,6 @@
 -- Laws: what holds in every state that a legal history leads to, or any chain of calls. Nothing here defines a call.
-use Rattle.std.specs.Prelude.{◌≡◌, ◌⊎◌, ℕ, suc, ◌<◌, ◌≤◌, true, false, List, [], ◌∷◌, ◌++◌, take, Some, Option, None, is_some, nat_lt}
-use Rattle.std.specs.Prelude.{slice_get, sum_by}
+use Rattle.std.specs.Prelude.{◌≡◌, ◌⊎◌, ℕ, suc, ◌<◌, ◌≤◌, true, false, List, [], ◌∷◌, ◌++◌, take, length, Some, Option, None, is_some}
+use Rattle.std.specs.Prelude.{nat_lt, slice_get, sum_by, ◌+◌, Bool, if◌then◌else◌}
 use Rattle.ux_model.specs.Types.{Errno, Name, Addr, Request, Reply, Entry}
 use Rattle.ux_model.specs.Places.{place}
 use Rattle.ux_model.specs.Object.{View, after_failure}
@@ -124,10 +124,12 @@ NothingDangles = (boot : State) (entries : List Entry) → IsLegal boot entries 
 abbrev pub times_released : ℕ → List Entry → ℕ
 times_released o entries = sum_by (λ e. times o e.released) entries
 
--- With the entry at place i a file object loses its last reference: it has none after that, and had one after all fewer entries.
+-- With the entry at place i a file object that was made before it loses its last reference: it has none after that, and had one after all
+-- fewer entries after which it had been made.
 abbrev pub LosesLast : State → List Entry → ℕ → ℕ → Type 0
 LosesLast boot entries i o =
-    (orefs (replay boot (take (suc i) entries)) o ≡ 0) × ((n : ℕ) → n ≤ i → 0 < orefs (replay boot (take n entries)) o)
+    (o < length (replay boot (take i entries)).objects) × (orefs (replay boot (take (suc i) entries)) o ≡ 0)
+    × ((n : ℕ) → n ≤ i → o < length (replay boot (take n entries)).objects → 0 < orefs (replay boot (take n entries)) o)
 
 -- Of a file object: one entry at most reports that it was closed, that by which it loses its last reference; and it is there in no state
 -- after that.
@@ -140,3 +142,36 @@ pub record IsClosedOnce (boot : State) (entries : List Entry) (o : ℕ) : Type 0
 
 abbrev pub ClosedOnce : Type 0
 ClosedOnce = (boot : State) (entries : List Entry) (o : ℕ) → IsLegal boot entries → IsClosedOnce boot entries o
+
+-- With the entry at place i a file object of the boot state loses its last reference: it has none after that, and had one after all fewer
+-- entries.
+abbrev pub LosesLastOfBoot : State → List Entry → ℕ → ℕ → Type 0
+LosesLastOfBoot boot entries i o =
+    (orefs (replay boot (take (suc i) entries)) o ≡ 0) × ((n : ℕ) → n ≤ i → 0 < orefs (replay boot (take n entries)) o)
+
+-- The same of a file object that was there from the start.
+pub record IsClosedOnceSinceBoot (boot : State) (entries : List Entry) (o : ℕ) : Type 0 where
+  pub once : times_released o entries ≤ 1
+  pub only_at_the_last : (i : ℕ) (e : Entry) → slice_get entries i ≡ Some e → 0 < times o e.released → LosesLastOfBoot boot entries i o
+  pub surely_at_the_last : (i : ℕ) (e : Entry) → slice_get entries i ≡ Some e → LosesLastOfBoot boot entries i o → times o e.released ≡ 1
+  pub gone_for_good : (i n : ℕ) (e : Entry) → slice_get entries i ≡ Some e → 0 < times o e.released → i < n →
+      place (replay boot (take n entries)).objects o ≡ None
+
+abbrev pub BootObjectsClosedOnce : Type 0
+BootObjectsClosedOnce = (boot : State) (entries : List Entry) (o : ℕ) → IsLegal boot entries → o < length boot.objects →
+    IsClosedOnceSinceBoot boot entries o
+
+-- ---- who makes file objects
+
+-- the call made one
+abbrev pub makes_object : Request → Reply → Bool
+makes_object (Request.Create path mode flags) (Reply.Fd fd) = true
+makes_object (Request.MemFd flags) (Reply.Fd fd) = true
+makes_object (Request.EventFd value flags) (Reply.Fd fd) = true
+makes_object (Request.Pipe flags) (Reply.Fds first second) = true
+makes_object _ _ = false
+
+-- no step forgets a file object's number, so none is given twice; and these calls alone make one
+abbrev pub TheseAloneMakeObjects : Type 0
+TheseAloneMakeObjects = (S T : State) (p tag : ℕ) (request : Request) (reply : Reply) (gone : List ℕ) → Step S p tag request reply gone T →
+    length T.objects ≡ length S.objects + (if makes_object request reply then 1 else 0)

@@ -35,6 +35,7 @@ pub mod Sending
 pub mod Receiving
 pub mod FileObjects
 pub mod Opening
+pub mod Making
 pub mod Reading
 pub mod Writing
 pub mod Seeking

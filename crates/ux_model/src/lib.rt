@@ -10,7 +10,7 @@ ghost use Rattle.ux_model.specs.HandingOut.{HandsOutWhatWasHeld};
 ghost use Rattle.ux_model.specs.FreeChoices.{NeverLacksMemory, FailsWhereAnObjectFailed};
 ghost use Rattle.ux_model.specs.History.{LeadsToOne, FrontIsLegal, ExitAndForkAlone, LiveOnesCounted, ForkAloneMakes, ForkTellsTheNext, LivesUntilExit, NumberedFromOne, NoCallBeforeMade};
 ghost use Rattle.ux_model.specs.Peers.{OneGoes};
-ghost use Rattle.ux_model.specs.Invariants.{NoneLeftUnreferenced, SettlesAtOnce, StaysSettled, RefusalChangesNothing, RefusedEntryChangesNothing, WholeAfterAnyCalls, NothingDangles, ClosedOnce};
+ghost use Rattle.ux_model.specs.Invariants.{NoneLeftUnreferenced, SettlesAtOnce, StaysSettled, RefusalChangesNothing, RefusedEntryChangesNothing, WholeAfterAnyCalls, NothingDangles, ClosedOnce, BootObjectsClosedOnce, TheseAloneMakeObjects};
 ghost use Rattle.ux_model.specs.ReadyCalls.{TellsInput, TellsRoom};
 ghost use Rattle.ux_model.specs.FlightLaws.{FlightIsLimited, FlightOfUsersIsLimited};
 ghost use Rattle.ux_model.specs.RoomLaws.{RepliesFit};
@@ -193,9 +193,24 @@ pub fn nothing_dangles()
 {}
 
 /// One entry of a legal history at most reports that a file object was closed: the one by which its
-/// last reference goes, and that one does. The file object is there in no state after that.
+/// last reference goes, and that one does. From the call that made it until then it has a reference,
+/// and it is there in no state after that.
 pub fn objects_are_closed_once()
     ensures { ClosedOnce }
+{}
+
+/// A file object of the boot state has a reference in each state until the one entry that reports that
+/// it was closed, and is there in no state after that.
+pub fn boot_objects_are_closed_once()
+    ensures { BootObjectsClosedOnce }
+{}
+
+/// No step forgets the number of a file object, so each that is made gets a number that none had. A pipe2,
+/// an eventfd, a memfd_create and an open that creates make one where they aren't refused, and no other
+/// call does.
+#[tactic(auto, using(crate::proofs::Invariants::MadeObjects::these_alone_make_objects))]
+pub fn these_calls_alone_make_objects()
+    ensures { TheseAloneMakeObjects }
 {}
 
 /// Each file object that a step hands out is the one that was held under that number before the call,

@@ -5,6 +5,7 @@ use Rattle.ux_types.specs.declared.requests.Request.{Request}
 -- It holds a name, an address or bytes, which a copy allocates, and not numbers alone.
 abbrev pub has_parts : Request → Bool
 has_parts (Request.Open path mode flags) = true
+has_parts (Request.Create path mode flags) = true
 has_parts (Request.Write fd bytes) = true
 has_parts (Request.Unlink path) = true
 has_parts (Request.Bind fd addr) = true

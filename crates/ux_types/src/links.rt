@@ -4,8 +4,8 @@ use crate::identity::{Fd, Pid};
 /// By what a process came to a descriptor.
 #[derive(Clone, Copy, Debug, PartialEq, Eq)]
 pub enum How {
-    /// By a call that made the open file description or took its first descriptor: open(2), socket(2),
-    /// socketpair(2) or accept(2).
+    /// By a call that made the open file description or took its first descriptor: open(2), memfd_create(2),
+    /// eventfd(2), pipe2(2), socket(2), socketpair(2) or accept(2).
     Made,
     /// By dup(2) or dup2(2).
     Dup,

@@ -134,10 +134,12 @@ open_where_there : (o : Option View) → is_some o ≡ true → ((view : View) �
 open_where_there None some all = absurd (cc some)
 open_where_there (Some view) some all = all view refl
 
+pub named_there : (S : State) → IsHeld S → (o : ℕ) → 0 < orefs S o → is_some (place S.objects o) ≡ true
+named_there S held o some = there_or_none (is_some (place S.objects o)) (orefs S o) (held.no_object_dangles o) some
+
 pub named_open : (S : State) → IsHeld S → (o : ℕ) → 0 < orefs S o → is_open (place S.objects o) ≡ true
 named_open S held o some =
-    open_where_there (place S.objects o) (there_or_none (is_some (place S.objects o)) (orefs S o) (held.no_object_dangles o) some)
-    (held.all_open o)
+    open_where_there (place S.objects o) (named_there S held o some) (held.all_open o)
 
 pub described : (S : State) → IsHeld S → (d : ℕ) → 0 < refs S d → is_some (description_at S d) ≡ true
 described S held d some = there_or_none (is_some (description_at S d)) (refs S d) (held.no_description_dangles d) some

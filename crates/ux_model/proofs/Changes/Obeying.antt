@@ -18,9 +18,9 @@ use Rattle.ux_model.proofs.Changes.HeldOpen.{IsHeldOpen, KeepsObjects, same_obje
 abbrev pub failures : Option View → Option ℕ
 failures x = option_map (λ view. View.faults view) x
 
--- each has failed as often
+-- each that was there has failed as often
 abbrev pub FailAlike : State → State → Type 0
-FailAlike S T = (o : ℕ) → failures (place T.objects o) ≡ failures (place S.objects o)
+FailAlike S T = (o : ℕ) → is_some (place S.objects o) ≡ true → failures (place T.objects o) ≡ failures (place S.objects o)
 
 -- a reply that reports which of the two free choices was made
 abbrev pub tells_choice : Reply → Bool
@@ -48,7 +48,7 @@ refuses {S} {may} {e} own_one left = record {
   failed = λ T h. absurd (cc h);
   reached = still;
   objects = same_objects S S refl;
-  alike = λ n. refl;
+  alike = λ n was. refl;
 }
 
 -- an answer that may leave a file object changed, if that is held open then
@@ -67,7 +67,7 @@ uses {S} {may} {o} own_one told n kept alike r = record {
 pub answers : {S : State} {may : May} {o : Outcome} → tells_choice o.reply ≡ false → is_error o.reply ≡ false → o.failure ≡ None →
     o.next.objects ≡ S.objects → Reaches S may o.next → Obeys S may o
 answers {S} {may} {o} own_one told n same r =
-    uses own_one told n (same_objects S o.next same) (λ k. ap (λ (os : List (Option View)). failures (place os k)) same) r
+    uses own_one told n (same_objects S o.next same) (λ k was. ap (λ (os : List (Option View)). failures (place os k)) same) r
 
 -- a call of a file object may leave what a failure does
 pub may_fail : (S : State) (may : May) (o : ℕ) (view : View) (x : Outcome) → IsHeldOpen S o → place S.objects o ≡ Some view →

@@ -1,6 +1,7 @@
 -- What a call may do to a state, part by part: each call's next state comes of its first by such changes. What each of these changes
 -- keeps, every call keeps. A call that changes what none of these do brings a further one, which owes a line of `exits_kept` (Living), of
--- `reached_sound` (ReachedSound), of `reached_there` (Closed), of `reached_within` (FlightLaws) and of `reached_bounded` (StaysBounded).
+-- `reached_sound` (ReachedSound), of `reached_there` (Closed), of `reached_as_many` (MadeObjects), of `reached_within` (FlightLaws), of
+-- `reached_bounded` (StaysBounded) and of `reached_small` (SmallTables).
 use Rattle.std.proofs.Common.{◌≡◌, ℕ, zero, suc, ◌+◌, ◌≤◌, ◌<◌, ◌==◌, Bool, true, false, cond, if◌then◌else◌, List, [], ◌∷◌, ◌++◌, length}
 use Rattle.std.proofs.Common.{map, set, Option, Some, None, refl, ap, sym, subst, ◌∙◌, arith}
 use Rattle.std.specs.Prelude.{is_some, filter, option_map}
@@ -10,7 +11,7 @@ use Rattle.std.proofs.lemmas.List.{length-set, length-map}
 use Rattle.std.proofs.lemmas.List.Sums.{sum_by-cons}
 use Rattle.ux_model.specs.Types.{Cred, Name, Addr, Request}
 use Rattle.ux_model.specs.Places.{place, filled, emptied}
-use Rattle.ux_model.specs.Object.{View}
+use Rattle.ux_model.specs.Object.{Body, View}
 use Rattle.ux_model.specs.Names.{PathTarget, bound}
 use Rattle.ux_model.specs.Message.{Message}
 use Rattle.ux_model.specs.Socket.{Socket, peer_of}
@@ -19,10 +20,11 @@ use Rattle.ux_model.specs.Process.{Process, Descriptor, kept_on_exec}
 use Rattle.ux_model.specs.State.{State, description_at, socket_at, process_at, table_of, with_object, with_description, with_socket_by}
 use Rattle.ux_model.specs.State.{with_process, with_table, with_child, with_new}
 use Rattle.ux_model.specs.References.{names_description, table_refs, queue_refs, socket_refs, target_refs, description_refs, leads_to}
-use Rattle.ux_model.specs.References.{is_open_of, orefs}
+use Rattle.ux_model.specs.References.{is_open_of}
 use Rattle.ux_model.specs.Peers.{target_peer, peer_in, at_target, at_socket, HoldsNothing}
 use Rattle.ux_model.specs.Flight.{rights_sent_by, flying_at, flying_in, in_flight}
 use Rattle.ux_model.specs.FlightLaws.{AreLimited}
+use Rattle.ux_model.specs.Making.{with_made, with_path}
 use Rattle.ux_model.specs.Connecting.{with_connection}
 use Rattle.ux_model.specs.Closing.{with_nothing_open}
 use Rattle.ux_model.specs.Users.{with_ids}
@@ -37,21 +39,26 @@ pub record NamesWhatIsThere (S : State) (old new : List (Option Descriptor)) : T
   pub counts : (d : ℕ) → is_some (description_at S d) ≡ false → table_refs d new ≤ table_refs d old
   pub long : length new ≤ length old
 
--- what of its process a call may change beside the table, or make anew
+-- what a call may change of its process beside the table, or make anew
 pub record May : Type 0 where
   -- who lives: it may end a process, or make one
   pub lives : Bool
   -- who it runs as
   pub users : Bool
+  -- it may make a file object
+  pub objects : Bool
 
 abbrev pub tables_alone : May
-tables_alone = record { lives = false; users = false }
+tables_alone = record { lives = false; users = false; objects = false }
 
 abbrev pub lives_too : May
-lives_too = record { lives = true; users = false }
+lives_too = record { lives = true; users = false; objects = false }
 
 abbrev pub users_too : May
-users_too = record { lives = false; users = true }
+users_too = record { lives = false; users = true; objects = false }
+
+abbrev pub objects_too : May
+objects_too = record { lives = false; users = false; objects = true }
 
 -- a process stays one of the same user and group, privileged as before
 pub record IsOfSameUser (P Q : Process) : Type 0 where
@@ -89,6 +96,10 @@ pub record ArePeers (d : ℕ) (D E : Description) : Type 0 where
   pub first_bounds : IsBoundedTarget D.target
   pub second_bounds : IsBoundedTarget E.target
 
+-- where a description leads to a file object, that is there
+abbrev pub LeadsToThere : State → Description → Type 0
+LeadsToThere S D = (o : ℕ) → leads_to o D.target ≡ true → is_some (place S.objects o) ≡ true
+
 -- T comes of S by changes of one part each. A condition may use that nothing dangles in S.
 pub data Reaches (S : State) (may : May) : State → Type 0 where
   still : Reaches S may S
@@ -100,9 +111,11 @@ pub data Reaches (S : State) (may : May) : State → Type 0 where
   -- a copy of a process comes to be
   process_forked : {T : State} (i : ℕ) (P : Process) → Reaches S may T → slice_get T.processes i ≡ Some P → may.lives ≡ true →
       Reaches S may (with_child T (child_of P))
-  -- a new description refers to nothing, and leads to a file object that something leads to already, or to a socket without a peer
-  description_made : {T : State} (D : Description) → Reaches S may T → (IsSound S → (o : ℕ) → leads_to o D.target ≡ true → 0 < orefs T o) →
-      HoldsNothing D → IsBoundedTarget D.target →
+  -- a file object is made
+  object_made : {T : State} (body : Body) → Reaches S may T → may.objects ≡ true → Reaches S may (with_made T body)
+  -- a new description refers to nothing, and leads to a file object that is there, or to a socket without a peer
+  description_made : {T : State} (D : Description) → Reaches S may T → (IsSound S → LeadsToThere T D) → HoldsNothing D →
+      IsBoundedTarget D.target →
       Reaches S may (with_new T D)
   -- two sockets that are connected to one another
   peers_made : {T : State} (D E : Description) → Reaches S may T → ArePeers (length T.descriptions) D E →
@@ -121,6 +134,8 @@ pub data Reaches (S : State) (may : May) : State → Type 0 where
       Reaches S may (with_object T o new)
   -- paths are taken away
   paths_taken : {T : State} (keep : Name × PathTarget → Bool) → Reaches S may T → Reaches S may (record T { paths = filter keep T.paths })
+  -- a path leads to a file object that is there
+  path_made : {T : State} (name : Name) (o : ℕ) → Reaches S may T → is_some (place T.objects o) ≡ true → Reaches S may (with_path T name o)
   -- a path leads to a socket
   path_bound : {T : State} (name : Name) (d : ℕ) → Reaches S may T → Reaches S may (record T { paths = T.paths ++ (name, bound d) ∷ [] })
   -- a name of the abstract namespace leads to a socket that shows it
@@ -330,6 +345,10 @@ with_table_reached {S} {may} T (suc i) table r names = go (slice_get T.processes
 -- what a call may change
 abbrev pub may_change : Request → May
 may_change (Request.SetIds uid gid) = users_too
+may_change (Request.Create path mode flags) = objects_too
+may_change (Request.MemFd flags) = objects_too
+may_change (Request.EventFd value flags) = objects_too
+may_change (Request.Pipe flags) = objects_too
 may_change Request.Exit = lives_too
 may_change Request.Fork = lives_too
 may_change _ = tables_alone

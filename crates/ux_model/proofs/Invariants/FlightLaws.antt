@@ -33,7 +33,7 @@ use Rattle.ux_model.proofs.Messages.Flying.{nothing_flying, flying_changed}
 use Rattle.ux_model.proofs.Changes.Sound.{IsSound}
 use Rattle.ux_model.proofs.Changes.Reaching.{May, may_change, Reaches, still, process_changed, process_forked, description_made, peers_made}
 use Rattle.ux_model.proofs.Changes.Reaching.{connection_made, description_changed, object_changed, paths_taken, path_bound, name_bound}
-use Rattle.ux_model.proofs.Changes.Reaching.{turned_off, IsOfSameUser, KeepsPlace}
+use Rattle.ux_model.proofs.Changes.Reaching.{object_made, path_made, turned_off, IsOfSameUser, KeepsPlace}
 use Rattle.ux_model.proofs.Steps.Calls.{each_obeys, chosen_reached}
 use Rattle.ux_model.proofs.Processes.Living.{settled_keeps}
 use Rattle.ux_model.proofs.Invariants.Dangling.{keeps_sound}
@@ -206,6 +206,8 @@ reached_within K u limit S may T up stay sound w (process_changed {T = U} i P Q 
     process_within K u limit U i Q (up.shrinks P Q (names sound).long (same stay) (before.0 (suc i) P h)) before
 reached_within K u limit S may T up stay sound w (process_forked {T = U} i P r h makes) =
     child_within K u limit U i P up h (reached_within K u limit S may U up stay sound w r)
+reached_within K u limit S may T up stay sound w (object_made {T = U} body r makes) =
+    same_within K u limit U _ refl refl (reached_within K u limit S may U up stay sound w r)
 reached_within K u limit S may T up stay sound w (description_made {T = U} D r leads nothing bounds) =
     made_within K u limit U D (nothing_flying u D.target nothing.refs) (reached_within K u limit S may U up stay sound w r)
 reached_within K u limit S may T up stay sound w (peers_made {T = U} D E r peers) =
@@ -218,6 +220,8 @@ reached_within K u limit S may T up stay sound w (description_changed {T = U} d 
 reached_within K u limit S may T up stay sound w (object_changed {T = U} o old new r h same) =
     same_within K u limit U _ refl refl (reached_within K u limit S may U up stay sound w r)
 reached_within K u limit S may T up stay sound w (paths_taken {T = U} keep r) =
+    same_within K u limit U _ refl refl (reached_within K u limit S may U up stay sound w r)
+reached_within K u limit S may T up stay sound w (path_made {T = U} name o r there) =
     same_within K u limit U _ refl refl (reached_within K u limit S may U up stay sound w r)
 reached_within K u limit S may T up stay sound w (path_bound {T = U} name d r) =
     same_within K u limit U _ refl refl (reached_within K u limit S may U up stay sound w r)

@@ -1,8 +1,8 @@
 -- The two free choices: which calls never lack memory, and what a failure reports.
-use Rattle.std.proofs.Common.{◌≡◌, ◌⊎◌, inl, inr, ⊎_elim, ℕ, ◌+◌, ◌==◌, Bool, true, false, ◌&&◌, not, if◌then◌else◌, List, Option, Some}
+use Rattle.std.proofs.Common.{◌≡◌, ◌⊎◌, inl, inr, ⊎_elim, ℕ, ◌+◌, ◌==◌, Bool, true, false, ◌&&◌, not, if◌then◌else◌, Option, Some}
 use Rattle.std.proofs.Common.{None, refl, ap, sym, subst, ◌∙◌, arith, ◌||◌}
 use Rattle.std.specs.Prelude.{ℤ, pos, negsuc, ◌+ℤ◌, nat_lt, is_some, is_none}
-use Rattle.std.proofs.lemmas.Bool.{cases_eq, ne_eqb, and_right, or_parts}
+use Rattle.std.proofs.lemmas.Bool.{cases_eq, or_parts}
 use Rattle.std.proofs.lemmas.List.{get_or-set_same, get_or-set_other}
 use Rattle.ux_model.specs.Types.{Errno, Fd, Cred, Name, SockOpt, Mode, OpenFlags, Whence, Request, Reply}
 use Rattle.ux_model.specs.Places.{place}
@@ -31,12 +31,10 @@ use Rattle.ux_model.specs.FreeChoices.{FailsWhereAnObjectFailed}
 use Rattle.ux_model.proofs.Changes.Reaching.{May, may_change}
 use Rattle.ux_model.proofs.Changes.Walk.{either, maybe, by_target, found, found_socket}
 use Rattle.ux_model.proofs.Lists.ChangedPlaces.{place_within}
-use Rattle.ux_model.proofs.Releasing.Settling.{object_left}
-use Rattle.ux_model.proofs.Changes.HeldOpen.{IsHeldOpen, KeepsObjects}
+use Rattle.ux_model.proofs.Changes.HeldOpen.{KeepsObjects}
 use Rattle.ux_model.proofs.Changes.Obeying.{failures, FailAlike, tells_choice, Obeys}
 use Rattle.ux_model.proofs.Steps.Calls.{each_obeys}
-use Rattle.ux_model.proofs.Invariants.Closed.{drop_keeps}
-use Rattle.ux_model.proofs.Invariants.HandingOut.{held_led}
+use Rattle.ux_model.proofs.Invariants.HandingOut.{left_there, held_stays}
 
 -- ---- out of memory
 
@@ -132,6 +130,10 @@ off_spares S = refl
 each_spares : (S : State) (p tag : ℕ) (request : Request) → takes_no_memory request ≡ true → IsSparing (outcome S p tag request)
 unfolding outcome
 each_spares S p tag (Request.Open path mode flags) h = absurd (cc h)
+each_spares S p tag (Request.Create path mode flags) h = absurd (cc h)
+each_spares S p tag (Request.MemFd flags) h = absurd (cc h)
+each_spares S p tag (Request.EventFd value flags) h = absurd (cc h)
+each_spares S p tag (Request.Pipe flags) h = absurd (cc h)
 each_spares S p tag (Request.Read fd n) h = absurd (cc h)
 each_spares S p tag (Request.Write fd bytes) h = absurd (cc h)
 each_spares S p tag (Request.Lseek fd offset whence) h = lseek_spares S p fd offset whence
@@ -190,18 +192,11 @@ HasNoneFailed S U reply = (fails reply ≡ false) × FailAlike S U
 which : (S U : State) (may : May) (o : Outcome) (reply : Reply) → Obeys S may o → Chosen S o reply U →
     HasOneFailed S U reply ⊎ HasNoneFailed S U reply
 which S U may o reply obeys (own e f) = inr
-    (ap fails e ∙ (own_tells o obeys.own_reply).1, λ n. ap (λ (R : State). failures (place R.objects n)) f ∙ obeys.alike n)
-which S U may o reply obeys (lacking_memory e lacks f) = inr (ap fails e, λ n. ap (λ (R : State). failures (place R.objects n)) f)
+    (ap fails e ∙ (own_tells o obeys.own_reply).1, λ n was. ap (λ (R : State). failures (place R.objects n)) f ∙ obeys.alike n was)
+which S U may o reply obeys (lacking_memory e lacks f) = inr (ap fails e, λ n was. ap (λ (R : State). failures (place R.objects n)) f)
 which S U may o reply obeys (failing e f) = let left = obeys.failed U f in inl (e, left.0, left.1)
 
 -- ---- and when the call has ended
-
-left_there : (U : State) (o : ℕ) → place (settled U).objects
-    o ≡ (if is_some (place U.objects o) && (orefs (drop_unreferenced U) o == 0) then None else place U.objects o)
-unfolding settled
-left_there U o = object_left (drop_unreferenced U) o
-    ∙ ap (λ (os : List (Option View)). if is_some (place os o) && (orefs (drop_unreferenced U) o == 0) then None else place os o)
-    (drop_keeps U)
 
 -- what is there then was there before
 was_there : (U : State) (o : ℕ) (view : View) → place (settled U).objects o ≡ Some view → place U.objects o ≡ Some view
@@ -211,14 +206,6 @@ was_there U o view h = go (orefs (drop_unreferenced U) o == 0) (place U.objects 
     go b None e = absurd (cc e)
     go true (Some x) e = absurd (cc e)
     go false (Some x) e = e
-
--- and what is held open stays
-held_stays : (U : State) (o : ℕ) → IsHeldOpen U o → place (settled U).objects o ≡ place U.objects o
-held_stays U o held =
-    let led = held_led U o held in
-    let some : (orefs (drop_unreferenced U) o == 0) ≡ false = ne_eqb (orefs (drop_unreferenced U) o) 0 (λ z. omega (arith, z, led)) in
-    left_there U o ∙ ap (λ b. if b then None else place U.objects o)
-    (and_right (is_some (place U.objects o)) (orefs (drop_unreferenced U) o == 0) some)
 
 -- ---- where one has failed
 
@@ -274,7 +261,7 @@ same_count : {a b : ℕ} → ◌≡◌ {A = Option ℕ} (Some a) (Some b) → a 
 same_count e = cc e
 
 all_alike : (S U : State) → FailAlike S U → (o : ℕ) → FailedAsOften S (settled U) o
-all_alike S U alike o old new was is = same_count (sym (ap failures (was_there U o new is)) ∙ alike o ∙ ap failures was)
+all_alike S U alike o old new was is = same_count (sym (ap failures (was_there U o new is)) ∙ alike o (ap is_some was) ∙ ap failures was)
 
 none_failed : (S U : State) → FailAlike S U → (o : ℕ) → HasFailed S (settled U) o → ⊥
 none_failed S U alike o failed =

@@ -9,15 +9,16 @@ use Rattle.ux_model.specs.Object.{View, closed}
 use Rattle.ux_model.specs.State.{State, description_at, table_of}
 use Rattle.ux_model.specs.References.{refs, orefs}
 use Rattle.ux_model.specs.Release.{without, is_unreferenced, has_unreferenced, drop_all, drop_rounds, drop_unreferenced, released_objects}
+use Rattle.ux_model.specs.Release.{settled}
 use Rattle.ux_model.proofs.Releasing.Losses.{target_after_loss, description_after_loss}
 use Rattle.ux_model.specs.Step.{outcome}
 use Rattle.ux_model.specs.HandingOut.{IsHandedOut, HandsOutWhatWasHeld}
 use Rattle.ux_model.proofs.Changes.Reaching.{may_change}
 use Rattle.ux_model.proofs.Releasing.ReleaseLaws.{description_at-without}
+use Rattle.ux_model.proofs.Releasing.Settling.{drop_keeps, object_left}
 use Rattle.ux_model.proofs.Changes.Named.{entry_counts, opening_counts}
 use Rattle.ux_model.proofs.Changes.HeldOpen.{IsHeldOpen, KeepsObjects}
 use Rattle.ux_model.proofs.Steps.Calls.{each_obeys, chosen_objects}
-use Rattle.ux_model.proofs.Invariants.Closed.{drop_keeps}
 
 -- ---- what is held open stays
 
@@ -62,6 +63,22 @@ pub held_led : (S : State) (o : ℕ) → IsHeldOpen S o → 0 < orefs (drop_unre
 unfolding drop_unreferenced
 held_led S o held = let h = held_rounds (length S.descriptions) S o held in
     opening_counts (drop_unreferenced S) h.entry.description o h.description h.there h.leads
+
+-- what is left of an object when a call has ended
+pub left_there : (U : State) (o : ℕ) → place (settled U).objects
+    o ≡ (if is_some (place U.objects o) && (orefs (drop_unreferenced U) o == 0) then None else place U.objects o)
+unfolding settled
+left_there U o = object_left (drop_unreferenced U) o
+    ∙ ap (λ (os : List (Option View)). if is_some (place os o) && (orefs (drop_unreferenced U) o == 0) then None else place os o)
+    (drop_keeps U)
+
+-- so what is held open stays
+pub held_stays : (U : State) (o : ℕ) → IsHeldOpen U o → place (settled U).objects o ≡ place U.objects o
+held_stays U o held =
+    let led = held_led U o held in
+    let some : (orefs (drop_unreferenced U) o == 0) ≡ false = ne_eqb (orefs (drop_unreferenced U) o) 0 (λ z. omega (arith, z, led)) in
+    left_there U o ∙ ap (λ b. if b then None else place U.objects o)
+    (and_right (is_some (place U.objects o)) (orefs (drop_unreferenced U) o == 0) some)
 
 -- ---- the file objects that go
 

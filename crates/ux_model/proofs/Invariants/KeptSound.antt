@@ -1,19 +1,22 @@
 -- Each change of a call keeps that nothing dangles. One lemma a change, and one line of `reached_sound` (ReachedSound).
-use Rattle.std.proofs.Common.{◌≡◌, ◌⊎◌, inl, inr, ⊎_elim, ℕ, zero, suc, ◌+◌, ◌≤◌, ◌<◌, Bool, true, false, if◌then◌else◌, cond, List, []}
+use Rattle.std.proofs.Common.{◌≡◌, ◌⊎◌, inl, inr, ⊎_elim, ℕ, zero, suc, ◌+◌, ◌≤◌, ◌<◌, ◌==◌, Bool, true, false, if◌then◌else◌, cond, List}
+use Rattle.std.proofs.Common.{[]}
 use Rattle.std.proofs.Common.{◌∷◌, ◌++◌, length, map, set, sum_by, count_by, Option, Some, None, refl, ap, sym, subst, ◌∙◌, arith}
 use Rattle.std.specs.Prelude.{is_some, filter}
 use Rattle.std.specs.List.{slice_get}
+use Rattle.std.proofs.lemmas.Bool.{eqb-true}
 use Rattle.std.proofs.lemmas.List.{length-set}
 use Rattle.std.proofs.lemmas.List.Sums.{sum_by-cons, sum_by_push}
 use Rattle.ux_model.specs.Types.{Name, Addr}
 use Rattle.ux_model.specs.Places.{place, filled}
-use Rattle.ux_model.specs.Object.{View}
-use Rattle.ux_model.specs.Names.{PathTarget, bound}
+use Rattle.ux_model.specs.Object.{Body, View, new_view}
+use Rattle.ux_model.specs.Names.{PathTarget, file, bound}
 use Rattle.ux_model.specs.Description.{Description, Target, to_object, to_socket}
 use Rattle.ux_model.specs.Process.{Process}
 use Rattle.ux_model.specs.State.{State, description_at, with_object, with_child, with_new}
 use Rattle.ux_model.specs.References.{table_refs, target_refs, description_refs, path_names, leads_to, is_open_of, refs, orefs}
 use Rattle.ux_model.specs.Peers.{target_peer, peer_in, at_target, at_socket, HoldsNothing}
+use Rattle.ux_model.specs.Making.{with_made, with_path}
 use Rattle.ux_model.specs.Closing.{with_nothing_open}
 use Rattle.ux_model.specs.Forking.{child_of}
 use Rattle.ux_model.specs.Invariants.{pends, pends_at_all}
@@ -22,7 +25,8 @@ use Rattle.ux_model.proofs.Counting.Making.{paired-push, paired-pair}
 use Rattle.ux_model.proofs.Releasing.OneGoes.{paired-alike}
 use Rattle.ux_model.proofs.Lists.OnePlace.{same_at, no_more_by, at_each}
 use Rattle.ux_model.proofs.Changes.Sound.{IsHeld, IsSound, unaccepted, name_in}
-use Rattle.ux_model.proofs.Changes.Reaching.{NamesWhatIsThere, KeepsReferences, KeepsPlace, ArePeers, none_counts, some_filled, some_more}
+use Rattle.ux_model.proofs.Changes.Reaching.{NamesWhatIsThere, LeadsToThere, KeepsReferences, KeepsPlace, ArePeers, none_counts}
+use Rattle.ux_model.proofs.Changes.Reaching.{some_filled, some_more}
 
 -- ---- what is there stays there
 
@@ -86,12 +90,13 @@ named_more [] ys i a h = absurd (cc h)
 named_more (x ∷ xs) ys zero a h = h
 named_more (x ∷ xs) ys (suc i) a h = named_more xs ys i a h
 
-led_or_not : (b : Bool) (n m : ℕ) → m ≡ n + (if b then 1 else 0) → n ≡ 0 → (b ≡ true → 0 < n) → m ≡ 0
-led_or_not true n m e z h = let p : 0 < n = h refl in absurd (omega (arith, p, z))
-led_or_not false n m e z h = omega (arith, e, z)
+-- one more leads to what is there, so nothing more leads to what isn't
+led_or_not : (b there : Bool) (n m : ℕ) → m ≡ n + (if b then 1 else 0) → n ≡ 0 → (b ≡ true → there ≡ true) → there ≡ false → m ≡ 0
+led_or_not true there n m e z h gone = let is : there ≡ true = h refl in absurd (cc (is, gone))
+led_or_not false there n m e z h gone = omega (arith, e, z)
 
-pub made_held : (S : State) (D : Description) → IsHeld S → ((o : ℕ) → leads_to o D.target ≡ true → 0 < orefs S o) →
-    ((d : ℕ) → ◌≡◌ {A = ℕ} (target_refs d D.target) 0) → IsHeld (with_new S D)
+pub made_held : (S : State) (D : Description) → IsHeld S → LeadsToThere S D → ((d : ℕ) → ◌≡◌ {A = ℕ} (target_refs d D.target) 0) →
+    IsHeld (with_new S D)
 made_held S D held leads none = record {
   no_description_dangles = λ d gone.
       let more = new_counts S D d in
@@ -99,8 +104,8 @@ made_held S D held leads none = record {
       let old : refs S d ≡ 0 = held.no_description_dangles d
       (none_before (place S.descriptions d) (place (S.descriptions ++ Some D ∷ []) d) (some_more S.descriptions (Some D ∷ []) d) gone) in
       omega (arith, more, new, old);
-  no_object_dangles = λ o gone. led_or_not (leads_to o D.target) (orefs S o) (orefs (with_new S D) o) (new_counts_at_object S D o)
-      (held.no_object_dangles o gone) (leads o);
+  no_object_dangles = λ o gone. led_or_not (leads_to o D.target) (is_some (place S.objects o)) (orefs S o) (orefs (with_new S D) o)
+      (new_counts_at_object S D o) (held.no_object_dangles o gone) (leads o) gone;
   all_open = held.all_open;
   ends_wait = λ d.
       let s = sum_by_push (at_socket (pends d)) S.descriptions (Some D) in
@@ -112,8 +117,7 @@ made_held S D held leads none = record {
   names_owned = λ i e h. named_more S.descriptions (Some D ∷ []) e.1 (Addr.Abstract e.0) (held.names_owned i e h);
 }
 
-pub made_sound : (S : State) (D : Description) → IsSound S → ((o : ℕ) → leads_to o D.target ≡ true → 0 < orefs S o) → HoldsNothing D →
-    IsSound (with_new S D)
+pub made_sound : (S : State) (D : Description) → IsSound S → LeadsToThere S D → HoldsNothing D → IsSound (with_new S D)
 made_sound S D sound leads nothing = record {
   held = made_held S D sound.held leads nothing.refs;
   paired = paired-push S.descriptions D nothing.peer sound.paired;
@@ -223,6 +227,28 @@ object_held S n old new held here same = record {
   names_owned = held.names_owned;
 }
 
+-- one that was just made is open, and nothing leads to it yet
+open_pushed : (xs : List (Option View)) (new : View) → new.opened ≡ true →
+    ((o : ℕ) (view : View) → place xs o ≡ Some view → view.opened ≡ true) → (o : ℕ) (view : View) →
+    place (xs ++ Some new ∷ []) o ≡ Some view → view.opened ≡ true
+open_pushed [] new is each zero view h = let e : new ≡ view = cc h in sym (ap (λ (v : View). v.opened) e) ∙ is
+open_pushed [] new is each (suc o) view h = absurd (cc h)
+open_pushed (x ∷ xs) new is each zero view h = each zero view h
+open_pushed (x ∷ xs) new is each (suc o) view h = open_pushed xs new is (λ k. each (suc k)) o view h
+
+pub new_object_held : (S : State) (body : Body) → IsHeld S → IsHeld (with_made S body)
+new_object_held S body held =
+    let more : List (Option View) = S.objects ++ Some (new_view body) ∷ [] in
+    record {
+      no_description_dangles = λ d gone. same_refs_objects S more d ∙ held.no_description_dangles d gone;
+      no_object_dangles = λ o gone. same_orefs_objects S more o
+          ∙ held.no_object_dangles o (none_before (place S.objects o) (place more o)
+          (some_more S.objects (Some (new_view body) ∷ []) o) gone);
+      all_open = open_pushed S.objects (new_view body) refl held.all_open;
+      ends_wait = held.ends_wait;
+      names_owned = held.names_owned;
+    }
+
 filter_counts : {X : Type 0} (p keep : X → Bool) (xs : List X) → count_by p (filter keep xs) ≤ count_by p xs
 filter_counts p keep [] = omega arith
 filter_counts p keep (x ∷ xs) = kept_or_not p x xs (filter keep xs) (keep x) (filter_counts p keep xs)
@@ -248,6 +274,23 @@ paths_held S keep held = record {
   no_description_dangles = λ d gone. same_refs_paths S (filter keep S.paths) d ∙ held.no_description_dangles d gone;
   no_object_dangles = λ o gone. none_less (orefs (record S { paths = filter keep S.paths }) o) (orefs S o) (taken_counts S keep o)
       (held.no_object_dangles o gone);
+  all_open = held.all_open;
+  ends_wait = held.ends_wait;
+  names_owned = held.names_owned;
+}
+
+-- one more leads to a file object that is there
+path_counts : (S : State) (name : Name) (n o : ℕ) → orefs (with_path S name n) o ≡ orefs S o + (if n == o then 1 else 0)
+unfolding orefs
+path_counts S name n o = let s = sum_by_push (λ (e : Name × PathTarget). cond {A = ℕ} (path_names o e.1) 1 0) S.paths (name, file n) in
+    omega (arith, s)
+
+pub new_path_held : (S : State) (name : Name) (n : ℕ) → IsHeld S → is_some (place S.objects n) ≡ true → IsHeld (with_path S name n)
+new_path_held S name n held there = record {
+  no_description_dangles = λ k gone. same_refs_paths S (S.paths ++ (name, file n) ∷ []) k ∙ held.no_description_dangles k gone;
+  no_object_dangles = λ o gone. led_or_not (n == o) (is_some (place S.objects o)) (orefs S o) (orefs (with_path S name n) o)
+      (path_counts S name n o) (held.no_object_dangles o gone)
+      (λ h. subst (λ k. is_some (place S.objects k) ≡ true) (eqb-true n o h) there) gone;
   all_open = held.all_open;
   ends_wait = held.ends_wait;
   names_owned = held.names_owned;

@@ -17,7 +17,7 @@ use Rattle.ux_model.proofs.Changes.Named.{table_in}
 use Rattle.ux_model.proofs.Changes.Sound.{IsSound}
 use Rattle.ux_model.proofs.Changes.Reaching.{May, Reaches, still, process_changed, process_forked, description_made, peers_made}
 use Rattle.ux_model.proofs.Changes.Reaching.{connection_made, description_changed, object_changed, paths_taken, path_bound, name_bound}
-use Rattle.ux_model.proofs.Changes.Reaching.{turned_off, may_change}
+use Rattle.ux_model.proofs.Changes.Reaching.{object_made, path_made, turned_off, may_change}
 use Rattle.ux_model.proofs.Steps.Calls.{step_reached}
 use Rattle.ux_model.proofs.Processes.Living.{settled_keeps}
 use Rattle.ux_model.proofs.Invariants.Dangling.{keeps_sound}
@@ -60,6 +60,7 @@ reached_small S may T sound small (process_changed {T = U} i P Q r there names l
 reached_small S may T sound small (process_forked {T = U} i P r there makes) =
     let so_far = reached_small S may U sound small r in
     pushed_small U.processes (child_of P) (small_at U.processes i P there so_far) so_far
+reached_small S may T sound small (object_made {T = U} body r makes) = reached_small S may U sound small r
 reached_small S may T sound small (description_made {T = U} D r leads holds bounds) = reached_small S may U sound small r
 reached_small S may T sound small (peers_made {T = U} D E r peers) = reached_small S may U sound small r
 reached_small S may T sound small (connection_made {T = U} d l cred listener_cred s listener r here free there) =
@@ -67,6 +68,7 @@ reached_small S may T sound small (connection_made {T = U} d l cred listener_cre
 reached_small S may T sound small (description_changed {T = U} d x r keeps) = reached_small S may U sound small r
 reached_small S may T sound small (object_changed {T = U} o old new r there opened) = reached_small S may U sound small r
 reached_small S may T sound small (paths_taken {T = U} keep r) = reached_small S may U sound small r
+reached_small S may T sound small (path_made {T = U} name o r there) = reached_small S may U sound small r
 reached_small S may T sound small (path_bound {T = U} name d r) = reached_small S may U sound small r
 reached_small S may T sound small (name_bound {T = U} name d r shown) = reached_small S may U sound small r
 reached_small S may T sound small (turned_off {T = U} r) = emptied_small U.processes (reached_small S may U sound small r)

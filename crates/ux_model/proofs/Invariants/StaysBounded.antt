@@ -21,7 +21,7 @@ use Rattle.ux_model.proofs.Changes.Sound.{IsSound}
 use Rattle.ux_model.proofs.Changes.Bounds.{HasBounds, IsBounded, IsBoundedTarget, IsBoundedPlace, AreBounded, socket_bounded}
 use Rattle.ux_model.proofs.Changes.Reaching.{May, may_change, Reaches, still, process_changed, process_forked, description_made, peers_made}
 use Rattle.ux_model.proofs.Changes.Reaching.{connection_made, description_changed, object_changed, paths_taken, path_bound, name_bound}
-use Rattle.ux_model.proofs.Changes.Reaching.{turned_off}
+use Rattle.ux_model.proofs.Changes.Reaching.{object_made, path_made, turned_off}
 use Rattle.ux_model.proofs.Steps.Calls.{step_reached}
 use Rattle.ux_model.proofs.Invariants.Dangling.{keeps_sound}
 
@@ -85,6 +85,7 @@ reached_bounded : (S : State) (may : May) (T : State) → IsSound S → AreBound
 reached_bounded S may T sound all still = all
 reached_bounded S may T sound all (process_changed {T = U} i P Q r h names kept same) = reached_bounded S may U sound all r
 reached_bounded S may T sound all (process_forked {T = U} i P r h makes) = reached_bounded S may U sound all r
+reached_bounded S may T sound all (object_made {T = U} body r makes) = reached_bounded S may U sound all r
 reached_bounded S may T sound all (description_made {T = U} D r leads nothing bounds) =
     made_bounded U D (reached_bounded S may U sound all r) bounds
 reached_bounded S may T sound all (peers_made {T = U} D E r peers) =
@@ -95,6 +96,7 @@ reached_bounded S may T sound all (description_changed {T = U} d x r keeps) =
     let before = reached_bounded S may U sound all r in place_bounded U d x before ((keeps sound).bounds before (before d))
 reached_bounded S may T sound all (object_changed {T = U} o old new r h same) = reached_bounded S may U sound all r
 reached_bounded S may T sound all (paths_taken {T = U} keep r) = reached_bounded S may U sound all r
+reached_bounded S may T sound all (path_made {T = U} name o r there) = reached_bounded S may U sound all r
 reached_bounded S may T sound all (path_bound {T = U} name d r) = reached_bounded S may U sound all r
 reached_bounded S may T sound all (name_bound {T = U} name d r shown) = reached_bounded S may U sound all r
 reached_bounded S may T sound all (turned_off {T = U} r) = nothing_bounded U.descriptions

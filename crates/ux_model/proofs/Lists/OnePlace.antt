@@ -1,5 +1,7 @@
--- A list of places, where another thing or nothing stands in one of them.
-use Rattle.std.proofs.Common.{◌≡◌, ℕ, zero, suc, ◌+◌, ◌≤◌, List, [], ◌∷◌, set, sum_by, Option, refl, ap, arith}
+-- A list of places, where another thing or nothing stands in one of them, or one more is added.
+use Rattle.std.proofs.Common.{◌≡◌, ◌⊎◌, inl, inr, ⊎_elim, ℕ, zero, suc, ◌+◌, ◌≤◌, ◌<◌, true, List, [], ◌∷◌, ◌++◌, length, set, sum_by}
+use Rattle.std.proofs.Common.{Option}
+use Rattle.std.proofs.Common.{None, is_some, refl, ap, arith}
 use Rattle.std.proofs.lemmas.List.Sums.{sum_by-cons}
 use Rattle.ux_model.specs.Places.{place}
 
@@ -38,3 +40,27 @@ at_each Q (y ∷ xs) zero zero x h put = put refl h
 at_each Q (y ∷ xs) zero (suc i) x h put = h
 at_each Q (y ∷ xs) (suc n) zero x h put = h
 at_each Q (y ∷ xs) (suc n) (suc i) x h put = at_each Q xs n i x h (λ e. put (ap suc e))
+
+-- ---- one more place
+
+pub before_pushed : {X : Type 0} (xs : List (Option X)) (x : Option X) (i : ℕ) → i < length xs → place (xs ++ x ∷ []) i ≡ place xs i
+before_pushed [] x i h = absurd (omega (arith, h))
+before_pushed (y ∷ xs) x zero h = refl
+before_pushed (y ∷ xs) x (suc i) h = before_pushed xs x i (omega (arith, h))
+
+-- each place is as it was, or the new one
+pub pushed_or_same : {X : Type 0} (xs : List (Option X)) (x : Option X) (i : ℕ) → (place (xs ++ x ∷ []) i ≡ place xs i) ⊎ (length xs ≡ i)
+pushed_or_same [] x zero = inr refl
+pushed_or_same [] x (suc i) = inl refl
+pushed_or_same (y ∷ xs) x zero = inl refl
+pushed_or_same (y ∷ xs) x (suc i) = ⊎_elim (λ h. inl h) (λ h. inr (ap suc h)) (pushed_or_same xs x i)
+
+pub there_still : {X : Type 0} (xs ys : List (Option X)) (i : ℕ) → is_some (place xs i) ≡ true → place (xs ++ ys) i ≡ place xs i
+there_still [] ys i h = absurd (cc h)
+there_still (x ∷ xs) ys zero h = refl
+there_still (x ∷ xs) ys (suc i) h = there_still xs ys i h
+
+pub past_all : {X : Type 0} (xs : List (Option X)) (i : ℕ) → length xs ≤ i → place xs i ≡ None
+past_all [] i h = refl
+past_all (x ∷ xs) zero h = absurd (omega (arith, h))
+past_all (x ∷ xs) (suc i) h = past_all xs i (omega (arith, h))

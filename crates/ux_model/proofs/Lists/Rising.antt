@@ -5,7 +5,7 @@ use Rattle.std.specs.List.{list_any}
 use Rattle.std.proofs.lemmas.Bool.{eqb-true, eqb-false, or_parts}
 use Rattle.std.proofs.lemmas.List.{get_or-set_other, length-set, length-drop}
 use Rattle.ux_model.specs.Places.{place, filled, empty_places_from}
-use Rattle.ux_model.specs.Process.{Descriptor, free_numbers, lowest_free, lowest_free_from}
+use Rattle.ux_model.specs.Process.{Descriptor, free_numbers, lowest_free, lowest_free_from, two_lowest_free}
 use Rattle.ux_model.specs.Delivery.{installed}
 use Rattle.ux_model.proofs.Lists.ChangedPlaces.{bool_cases}
 
@@ -65,6 +65,17 @@ rise_above low high (m ∷ ns) n r h = bool_cases (m == n)
 
 pub lowest_below : (table : List (Option Descriptor)) (n : ℕ) → lowest_free table ≡ Some n → n < length table
 lowest_below table n h = (rise_at 0 (length table) (free_numbers table) 0 n (rise_free table) h).1
+
+pub two_rise : (table : List (Option Descriptor)) (n : ℕ × ℕ) → two_lowest_free table ≡ Some n → Rise 0 (length table) (n.0 ∷ n.1 ∷ [])
+two_rise table n h = go (free_numbers table) refl (rise_free table)
+  where
+    go : (ns : List ℕ) → free_numbers table ≡ ns → Rise 0 (length table) ns → Rise 0 (length table) (n.0 ∷ n.1 ∷ [])
+    go [] e r = absurd (cc (rw e at h))
+    go (a ∷ []) e r = absurd (cc (rw e at h))
+    go (a ∷ b ∷ ns) e r =
+        let two : Some (a, b) ≡ Some n = rw e at h in
+        let same : (a, b) ≡ n = cc two in
+        subst (λ (m : ℕ × ℕ). Rise 0 (length table) (m.0 ∷ m.1 ∷ [])) same (r.0, r.1, (r.2.0, r.2.1, tt))
 
 pub lowest_from_within : (table : List (Option Descriptor)) (minimum n : ℕ) → lowest_free_from minimum table ≡ Some n →
     (minimum ≤ n) × (n < length table)

@@ -23,7 +23,7 @@ use Rattle.ux_model.proofs.Lists.Induction.{IsKept, kept_throughout}
 use Rattle.ux_model.proofs.Changes.Walk.{either, maybe}
 use Rattle.ux_model.proofs.Changes.Reaching.{May, may_change, Reaches, still, process_changed, process_forked, description_made, peers_made}
 use Rattle.ux_model.proofs.Changes.Reaching.{connection_made, description_changed, object_changed, paths_taken, path_bound, name_bound}
-use Rattle.ux_model.proofs.Changes.Reaching.{turned_off}
+use Rattle.ux_model.proofs.Changes.Reaching.{object_made, path_made, turned_off}
 use Rattle.ux_model.proofs.Steps.Calls.{each_obeys, chosen_reached}
 
 -- for each process, whether it has exited
@@ -80,12 +80,14 @@ exits_kept S may calm T still = refl
 exits_kept S may calm T (process_changed {T = U} i P Q r h names kept same) =
     exits_set U.processes i Q ∙ ap (set (exits U) i) (kept calm) ∙ set_same U.processes i P h ∙ exits_kept S may calm U r
 exits_kept S may calm T (process_forked {T = U} i P r h makes) = absurd (cc (makes, calm))
+exits_kept S may calm T (object_made {T = U} body r makes) = exits_kept S may calm U r
 exits_kept S may calm T (description_made {T = U} D r leads nothing bounds) = exits_kept S may calm U r
 exits_kept S may calm T (peers_made {T = U} D E r peers) = exits_kept S may calm U r
 exits_kept S may calm T (connection_made {T = U} d l cred listener_cred s listener r client free there) = exits_kept S may calm U r
 exits_kept S may calm T (description_changed {T = U} d x r keeps) = exits_kept S may calm U r
 exits_kept S may calm T (object_changed {T = U} o old new r h same) = exits_kept S may calm U r
 exits_kept S may calm T (paths_taken {T = U} keep r) = exits_kept S may calm U r
+exits_kept S may calm T (path_made {T = U} name o r there) = exits_kept S may calm U r
 exits_kept S may calm T (path_bound {T = U} name d r) = exits_kept S may calm U r
 exits_kept S may calm T (name_bound {T = U} name d r shown) = exits_kept S may calm U r
 exits_kept S may calm T (turned_off {T = U} r) = exits_turned U.processes ∙ exits_kept S may calm U r

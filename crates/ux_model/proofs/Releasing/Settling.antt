@@ -11,7 +11,8 @@ use Rattle.ux_model.specs.Object.{View, closed}
 use Rattle.ux_model.specs.Names.{PathTarget, file}
 use Rattle.ux_model.specs.State.{State}
 use Rattle.ux_model.specs.References.{path_names, refs, orefs}
-use Rattle.ux_model.specs.Release.{is_unreferenced, has_unreferenced, drop_all, drop_rounds, drop_unreferenced, is_orphan, without_orphans}
+use Rattle.ux_model.specs.Release.{without, is_unreferenced, has_unreferenced, drop_all, drop_rounds, drop_unreferenced, is_orphan}
+use Rattle.ux_model.specs.Release.{without_orphans}
 use Rattle.ux_model.specs.Release.{settled, released, released_objects, orphans}
 use Rattle.ux_model.specs.Boot.{IsBootState}
 use Rattle.ux_model.specs.Step.{Step}
@@ -46,6 +47,21 @@ unfolding drop_unreferenced
 nothing_dropped S h = no_round (length S.descriptions) S h
 
 -- ---- file objects
+
+-- those that go are descriptions alone
+rounds_keep : (n : ℕ) (S : State) → (drop_rounds n S).objects ≡ S.objects
+unfolding drop_rounds without
+rounds_keep zero S = refl
+rounds_keep (suc n) S = go (has_unreferenced S) (rounds_keep n (drop_all S))
+  where
+    go : (b : Bool) → (drop_rounds n (drop_all S)).objects ≡ S.objects →
+        (elim b as (λ _. State) [ true ↦ drop_rounds n (drop_all S) | false ↦ S ]).objects ≡ S.objects
+    go true h = h
+    go false h = refl
+
+pub drop_keeps : (S : State) → (drop_unreferenced S).objects ≡ S.objects
+unfolding drop_unreferenced
+drop_keeps S = rounds_keep (length S.descriptions) S
 
 -- a file object refers to nothing
 no_description_freed : (S : State) → has_unreferenced (without_orphans S) ≡ has_unreferenced S

@@ -33,6 +33,7 @@ use Rattle.ux_model.proofs.Messages.Datagrams.{send_to_target, send_by_associati
 use Rattle.ux_model.specs.Receiving.{Incoming, incoming, at_end, receive_nothing, receive_front, receive, recv_msg, bytes_alone}
 use Rattle.ux_model.specs.FileObjects.{holds_bytes, is_open_for, or_failing}
 use Rattle.ux_model.specs.Opening.{open_file}
+use Rattle.ux_model.specs.Making.{next_object, object_table_full, with_made, with_path, open_made, make_object, create_file, make_pipe}
 use Rattle.ux_model.specs.Reading.{is_short_read, read_error, read_answer, read}
 use Rattle.ux_model.specs.Writing.{write_place, write_answer, write}
 use Rattle.ux_model.specs.Seeking.{seek_base, seek_to, lseek}
@@ -102,6 +103,25 @@ open_plain S p path mode flags = either Plain (not (is_valid_path path)) _ _ (λ
     (λ b. maybe Plain (named path S.paths) _ _ (plain refl)
     (λ t is. by_path Plain t _ _ (λ o led. maybe Plain (lowest_free (table_of S p)) _ _ (plain refl) (λ n low. plain refl))
     (λ d led. plain refl)))
+
+made_plain : (S T : State) (p : ℕ) (mode : Mode) (flags : OpenFlags) → Plain (open_made S T p mode flags)
+made_plain S T p mode flags = maybe Plain (lowest_free (table_of S p)) _ _ (plain refl)
+    (λ n low. either Plain (object_table_full S) _ _ (λ b. plain refl) (λ b. plain refl))
+
+object_plain : (S : State) (p : ℕ) (body : Body) (flags : OpenFlags) → Plain (make_object S p body flags)
+unfolding make_object
+object_plain S p body flags = made_plain S (with_made S body) p Mode.Both flags
+
+create_plain : (S : State) (p : ℕ) (path : Name) (mode : Mode) (flags : OpenFlags) → Plain (create_file S p path mode flags)
+unfolding create_file
+create_plain S p path mode flags = either Plain (not (is_valid_path path)) _ _ (λ b. plain refl)
+    (λ b. either Plain (is_some (named path S.paths)) _ _ (λ c. plain refl)
+    (λ c. made_plain S (with_path (with_made S (memory [])) path (next_object S)) p mode flags))
+
+pipe_plain : (S : State) (p : ℕ) (flags : OpenFlags) → Plain (make_pipe S p flags)
+unfolding make_pipe
+pipe_plain S p flags = maybe Plain (two_lowest_free (table_of S p)) _ _ (plain refl)
+    (λ n low. either Plain (object_table_full S) _ _ (λ b. plain refl) (λ b. plain refl))
 
 write_answer_plain : (S : State) (d : ℕ) (D : Description) (o : ℕ) (view : View) (r : Result (ℕ × Body) ObjectError) →
     Plain (write_answer S d D o view r)
@@ -539,6 +559,10 @@ read_within S p fd n all = found Q S p fd _ (plain refl) (λ e D g h. by_target 
 each_within : (S : State) (p tag : ℕ) (request : Request) → AreBounded S → Within (room_for request) (outcome S p tag request)
 unfolding outcome room_for
 each_within S p tag (Request.Open path mode flags) all = open_plain S p path mode flags
+each_within S p tag (Request.Create path mode flags) all = create_plain S p path mode flags
+each_within S p tag (Request.MemFd flags) all = object_plain S p (memory []) flags
+each_within S p tag (Request.EventFd value flags) all = object_plain S p (counter value) flags
+each_within S p tag (Request.Pipe flags) all = pipe_plain S p flags
 each_within S p tag (Request.Read fd n) all = read_within S p fd n all
 each_within S p tag (Request.Write fd bytes) all = write_plain S p tag fd bytes
 each_within S p tag (Request.Lseek fd offset whence) all = lseek_plain S p fd offset whence

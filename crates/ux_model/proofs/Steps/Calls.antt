@@ -1,18 +1,18 @@
 -- Of each call: that its outcome obeys what all do. One lemma a call, and one line of `each_obeys`, at the end. Those of names and
 -- connections
--- stand in NameCalls, those of messages in MessageCalls.
-use Rattle.std.proofs.Common.{◌≡◌, ℕ, suc, ◌<◌, Bool, true, false, not, ◌&&◌, ◌==◌, if◌then◌else◌, cond, List, [], ◌∷◌, ◌++◌, length, map}
+-- stand in NameCalls, those of messages in MessageCalls, those that make file objects in MakingCalls.
+use Rattle.std.proofs.Common.{◌≡◌, ℕ, suc, ◌<◌, Bool, true, false, not, ◌&&◌, ◌==◌, if◌then◌else◌, cond, List, [], ◌∷◌, length, map}
 use Rattle.std.proofs.Common.{Option, Some, None, Result, Ok, Err, refl, ap, sym, ◌∙◌, subst, arith, ◌||◌}
 use Rattle.std.specs.Prelude.{min, nat_le, nat_lt, ℤ, pos, negsuc, ◌+ℤ◌, is_some, count_by}
 use Rattle.std.proofs.lemmas.Bool.{eqb-true, eq-eqb}
-use Rattle.std.proofs.lemmas.List.{length_push, length-map}
+use Rattle.std.proofs.lemmas.List.{length-map}
 use Rattle.std.proofs.lemmas.List.Sums.{sum_by-cons}
 use Rattle.ux_model.specs.Types.{Errno, Fd, Name, SockType, Mode, OpenFlags, Whence, Request, Reply}
 use Rattle.ux_model.specs.Places.{place, filled}
 use Rattle.ux_model.specs.Limits.{made_limit, read_limit, offset_limit}
 use Rattle.ux_model.specs.Flags.{asks_cloexec, can_read, can_write, no_flags}
 use Rattle.ux_model.specs.Object.{Body, View, ObjectError, would_block, full, invalid, read_body, write_body, is_memory, is_pipe, with_body}
-use Rattle.ux_model.specs.Object.{after_failure}
+use Rattle.ux_model.specs.Object.{memory, counter, after_failure}
 use Rattle.ux_model.specs.Names.{PathTarget, file, same_name, named, is_valid_path}
 use Rattle.ux_model.specs.Socket.{Socket}
 use Rattle.ux_model.specs.Description.{Description, to_object, to_socket, socket_of, socket_in}
@@ -38,7 +38,7 @@ use Rattle.ux_model.specs.Closing.{close, exit, off}
 use Rattle.ux_model.specs.Release.{settled, released}
 use Rattle.ux_model.specs.Step.{Step, outcome}
 use Rattle.ux_model.specs.Invariants.{LeftByRefusal}
-use Rattle.ux_model.proofs.Changes.Named.{table_in}
+use Rattle.ux_model.proofs.Changes.Named.{table_in, named_there}
 use Rattle.ux_model.proofs.Changes.Walk.{either, maybe, by_target, by_path, found}
 use Rattle.ux_model.proofs.Changes.Bounds.{new_bounded}
 use Rattle.ux_model.proofs.Lists.OnePlace.{same_at}
@@ -46,10 +46,11 @@ use Rattle.ux_model.proofs.Changes.Reaching.{May, tables_alone, lives_too, users
 use Rattle.ux_model.proofs.Changes.Reaching.{description_made, peers_made, object_changed, paths_taken, turned_off, same_target}
 use Rattle.ux_model.proofs.Changes.Reaching.{NamesWhatIsThere, put_names, taken_names, same_names, kept_names, none_counts}
 use Rattle.ux_model.proofs.Changes.Reaching.{with_table_reached, with_child_reached, with_process_reached, with_description_reached}
-use Rattle.ux_model.proofs.Changes.Reaching.{some_filled, some_more, some_pushed}
+use Rattle.ux_model.proofs.Changes.Reaching.{some_filled, some_pushed}
 use Rattle.ux_model.proofs.Changes.Obeying.{failures, FailAlike, tells_choice, Obeys, Call, refuses, uses, answers, may_fail, there_of}
 use Rattle.ux_model.proofs.Steps.NameCalls.{socket_obeys, bind_obeys, listen_obeys, connect_obeys, accept_obeys, sock_name_obeys}
 use Rattle.ux_model.proofs.Steps.NameCalls.{peer_name_obeys, shutdown_obeys}
+use Rattle.ux_model.proofs.Steps.MakingCalls.{object_obeys, create_obeys, pipe_obeys, two_names}
 use Rattle.ux_model.proofs.Steps.OptionCalls.{get_opt_obeys, set_opt_obeys, poll_obeys}
 use Rattle.ux_model.proofs.Steps.MessageCalls.{flight_limit_is, from_obeys, send_obeys, receive_obeys, recv_obeys}
 use Rattle.ux_model.proofs.Changes.HeldOpen.{IsHeldOpen, KeepsObjects, same_objects, held_changed, held_by_changed, with_process_objects}
@@ -177,19 +178,10 @@ pair_names : (S : State) (p : ℕ) (A B : Description) (P : Process) (n : ℕ ×
     NamesWhatIsThere (with_new (with_new S A) B) (table_of S p)
     (filled (filled P.table n.0 (descriptor flags (next_description S))) n.1 (descriptor flags (suc (next_description S))))
 pair_names S p A B P n flags here =
-    let T : State = with_new (with_new S A) B in
-    let one : is_some (description_at T (next_description S)) ≡ true =
-    some_more (S.descriptions ++ Some A ∷ []) (Some B ∷ []) (length S.descriptions) (some_pushed S.descriptions A) in
-    let more = length_push S.descriptions (Some A) in
-    let long : length (S.descriptions ++ Some A ∷ []) ≡ suc (length S.descriptions) = omega (arith, more) in
-    let two : is_some (description_at T (suc (next_description S))) ≡ true =
-    subst (λ k. is_some (description_at T k) ≡ true) long (some_pushed (S.descriptions ++ Some A ∷ []) B) in
-    let same : P.table ≡ table_of S p = sym (ap table_in here) in
-    let old : NamesWhatIsThere T (table_of S p) P.table =
-    subst (λ (t : List (Option Descriptor)). NamesWhatIsThere T (table_of S p) t) (sym same) (same_names T (table_of S p)) in
-    put_names T (table_of S p) (filled P.table n.0 (descriptor flags (next_description S))) n.1
-    (descriptor flags (suc (next_description S))) two
-    (put_names T (table_of S p) P.table n.0 (descriptor flags (next_description S)) one old)
+    let same : table_of S p ≡ P.table = ap table_in here in
+    subst (λ (t : List (Option Descriptor)). NamesWhatIsThere (with_new (with_new S A) B) (table_of S p)
+    (filled (filled t n.0 (descriptor flags (next_description S))) n.1 (descriptor flags (suc (next_description S))))) same
+    (two_names S p A B n flags)
 
 pub pair_obeys : (S : State) (p : ℕ) (kind : SockType) (flags : OpenFlags) → Call S (make_pair S p kind flags)
 unfolding make_pair
@@ -233,7 +225,8 @@ opened S p path mode flags o n is =
     let D : Description = file_description o mode flags in
     let T : State = with_new S D in
     let made : Reaches S tables_alone T = description_made D still
-    (λ sound k h. subst (λ m. 0 < orefs S m) (eqb-true o k h) (name_counts S path o is)) (record { refs = λ d. refl; peer = refl }) tt in
+    (λ sound k h. subst (λ m. is_some (place S.objects m) ≡ true) (eqb-true o k h) (named_there S sound.held o (name_counts S path o is)))
+    (record { refs = λ d. refl; peer = refl }) tt in
     with_table_reached T p _ made (λ sound. put_names T (table_of T p) (table_of T p) n (descriptor flags (next_description S))
     (some_pushed S.descriptions D) (same_names T (table_of T p)))
 
@@ -266,7 +259,7 @@ both_kept S o n held new = held_changed S (with_description S held.entry.descrip
 -- and has failed as often
 body_alike : (S : State) (o : ℕ) (view : View) (body : Body) → place S.objects o ≡ Some view →
     FailAlike S (with_object S o (with_body view body))
-body_alike S o view body there n = same_at failures S.objects o n (Some (with_body view body)) (sym (ap failures there))
+body_alike S o view body there n was = same_at failures S.objects o n (Some (with_body view body)) (sym (ap failures there))
 
 -- by the descriptor that the call was given
 abbrev held_by : (S : State) (p : ℕ) (fd : Fd) (e : Descriptor) (D : Description) (o : ℕ) → descriptor_at S p fd ≡ Some e →
@@ -391,6 +384,10 @@ lseek_obeys S p fd offset whence = found (Call S) S p fd _ (refuses refl refl) (
 pub each_obeys : (S : State) (p tag : ℕ) (request : Request) → Obeys S (may_change request) (outcome S p tag request)
 unfolding outcome
 each_obeys S p tag (Request.Open path mode flags) = open_obeys S p path mode flags
+each_obeys S p tag (Request.Create path mode flags) = create_obeys S p path mode flags
+each_obeys S p tag (Request.MemFd flags) = object_obeys S p (memory []) flags
+each_obeys S p tag (Request.EventFd value flags) = object_obeys S p (counter value) flags
+each_obeys S p tag (Request.Pipe flags) = pipe_obeys S p flags
 each_obeys S p tag (Request.Read fd n) = read_obeys S p fd n
 each_obeys S p tag (Request.Write fd bytes) = write_obeys S p tag fd bytes
 each_obeys S p tag (Request.Lseek fd offset whence) = lseek_obeys S p fd offset whence

@@ -222,7 +222,7 @@ ended_obeys S d t s h tied gone = record {
   failed = λ T none. absurd (cc none);
   reached = association_reached S d None;
   objects = same_objects S (with_socket_by S d (with_association None)) refl;
-  alike = λ n. refl;
+  alike = λ n was. refl;
 }
 
 by_association_obeys : (S : State) (limit : Option ℕ) (d : ℕ) (s : Socket) (m : Message) → socket_at S d ≡ Some s → MaySend S limit m →
@@ -382,7 +382,7 @@ reset_obeys S d s h pending = record {
   failed = λ T none. absurd (cc none);
   reached = with_socket_reached S d (with_reset false) still (λ sound t here. pending_changed S d t false);
   objects = same_objects S (with_socket_by S d (with_reset false)) refl;
-  alike = λ n. refl;
+  alike = λ n was. refl;
 }
 
 nothing_obeys : (S : State) (d : ℕ) (s : Socket) (peer : ℕ) → socket_at S d ≡ Some s → Call S (receive_nothing S d s peer)

@@ -27,6 +27,7 @@ use Rattle.ux_model.proofs.Tables.DescriptorShows.{exit_shows, exec_shows, ids_s
 use Rattle.ux_model.proofs.Tables.SocketShows.{open_shows, socket_shows, pair_shows, accept_shows, unlink_shows, bind_shows}
 use Rattle.ux_model.proofs.Tables.SocketShows.{sock_name_shows, peer_name_shows, listen_shows, shutdown_shows, connect_shows, get_opt_shows}
 use Rattle.ux_model.proofs.Tables.SocketShows.{set_opt_shows, poll_shows}
+use Rattle.ux_model.proofs.Tables.MakingShows.{create_shows, memory_shows, counter_shows, pipe_shows}
 use Rattle.ux_model.proofs.Tables.MessageShows.{shown_alike, send_shows, recv_shows}
 use Rattle.ux_model.proofs.Tables.FileShows.{read_shows, write_shows, lseek_shows}
 
@@ -36,6 +37,10 @@ pub each_shows : (S : State) (p tag : ℕ) (request : Request) (P : Process) →
     Shows S p tag request (outcome S p tag request)
 unfolding outcome
 each_shows S p tag (Request.Open path mode flags) P here = open_shows S p tag path mode flags P here
+each_shows S p tag (Request.Create path mode flags) P here = create_shows S p tag path mode flags P here
+each_shows S p tag (Request.MemFd flags) P here = memory_shows S p tag flags P here
+each_shows S p tag (Request.EventFd value flags) P here = counter_shows S p tag value flags P here
+each_shows S p tag (Request.Pipe flags) P here = pipe_shows S p tag flags P here
 each_shows S p tag (Request.Read fd n) P here = read_shows S p tag fd n P here
 each_shows S p tag (Request.Write fd bytes) P here = write_shows S p tag fd bytes
 each_shows S p tag (Request.Lseek fd offset whence) P here = lseek_shows S p tag fd offset whence

@@ -6,13 +6,14 @@ use Rattle.std.specs.Prelude.{nat_le, ℤ, is_some, is_none}
 use Rattle.ux_model.specs.Types.{Fd, Cred, Name, Addr, SockType, SockOpt, Mode, OpenFlags, Request, Reply}
 use Rattle.ux_model.specs.Places.{filled}
 use Rattle.ux_model.specs.Flags.{asks_cloexec}
-use Rattle.ux_model.specs.Names.{named, is_valid_path, is_valid_addr, is_unnamed_addr, free_name}
+use Rattle.ux_model.specs.Object.{View}
+use Rattle.ux_model.specs.Names.{PathTarget, named, is_valid_path, is_valid_addr, is_unnamed_addr, free_name}
 use Rattle.ux_model.specs.Backlog.{backlog_of}
 use Rattle.ux_model.specs.Socket.{Socket, new_socket, pair_end, is_stream, is_dgram, pending_ends, peer_of, tied_socket}
 use Rattle.ux_model.specs.Socket.{takes_from, with_reset, with_association, with_passcred, with_queue_limit}
 use Rattle.ux_model.specs.Socket.{shut_down, awaiting}
 use Rattle.ux_model.specs.Description.{Description}
-use Rattle.ux_model.specs.Process.{Process, Descriptor, own_cred, free_numbers, lowest_free, two_lowest_free, descriptor}
+use Rattle.ux_model.specs.Process.{Process, Descriptor, own_cred, lowest_free, two_lowest_free, descriptor}
 use Rattle.ux_model.specs.Process.{fd_of}
 use Rattle.ux_model.specs.Delivery.{installed}
 use Rattle.ux_model.specs.State.{State, process_at, table_of, next_description}
@@ -33,7 +34,7 @@ use Rattle.ux_model.specs.Changes.{cloexec_of, sources, oldest_end}
 use Rattle.ux_model.proofs.Changes.Walk.{either, maybe, by_path, found_named, found_peer}
 use Rattle.ux_model.proofs.Changes.Named.{table_in}
 use Rattle.ux_model.proofs.Lists.ByPlace.{take_none}
-use Rattle.ux_model.proofs.Lists.Rising.{Rise, rise_one, rise_free, lowest_below}
+use Rattle.ux_model.proofs.Lists.Rising.{Rise, rise_one, two_rise, lowest_below}
 use Rattle.ux_model.proofs.Tables.Queues.{queue_of, Quiet, quiet_mail, quiet_after, quiet_table, quiet_new}
 use Rattle.ux_model.proofs.Tables.Queues.{quiet_by, quiet_socket, quiet_target}
 use Rattle.ux_model.proofs.Tables.Replacing.{Replaces, replaced_table, replaced_alike, tells_child}
@@ -42,26 +43,32 @@ use Rattle.ux_model.proofs.Tables.Shows.{Shows, silent, refuses, answers, by_soc
 
 -- ---- new descriptions
 
--- a new one of no queue, at the lowest free number
-made_shows : (S : State) (p tag n : ℕ) (request : Request) (D : Description) (flags : OpenFlags) (Q : Process) → process_at S p ≡ Some Q →
+-- with these file objects and paths
+abbrev pub with_files : State → List (Option View) → List (Name × PathTarget) → State
+with_files S objects names = record S { objects = objects; paths = names }
+
+-- a new one of no queue, at the lowest free number, which may have come with a file object or a path
+pub made_shows : (S : State) (p tag n : ℕ) (request : Request) (objects : List (Option View)) (names : List (Name × PathTarget))
+    (D : Description) (flags : OpenFlags) (Q : Process) → process_at S p ≡ Some Q →
     IsPlain request → lowest_free (table_of S p) ≡ Some n →
     queue_of D.target ≡ [] → sources S p request ≡ next_description S ∷ [] → cloexec_of request ≡ asks_cloexec flags →
     given S p request (Reply.Fd (fd_of n)) ≡ n ∷ [] →
     Shows S p tag request (taking_memory (Reply.Fd (fd_of n))
-    (with_table (with_new S D) p (filled (table_of S p) n (descriptor flags (next_description S)))))
-made_shows S p tag n request D flags Q here plain low none source flag tells =
+    (with_table (with_new (with_files S objects names) D) p (filled (table_of S p) n (descriptor flags (next_description S)))))
+made_shows S p tag n request objects names D flags Q here plain low none source flag tells =
     let table : List (Option Descriptor) = filled (table_of S p) n (descriptor flags (next_description S)) in
-    let r = replaced_table (with_new S D) p table Q here in
+    let U : State = with_new (with_files S objects names) D in
+    let r = replaced_table U p table Q here in
     let long : length (sources S p request) ≡ 1 = ap (λ (l : List ℕ). length l) source in
     record {
-      tables = installs S (with_table (with_new S D) p table) p request (Reply.Fd (fd_of n)) (n ∷ []) plain
+      tables = installs S (with_table U p table) p request (Reply.Fd (fd_of n)) (n ∷ []) plain
           (subst (λ (ds : List ℕ). Replaces S p (installed (cloexec_of request) (n ∷ []) ds (table_of S p))
-          (with_table (with_new S D) p table)) (sym source)
+          (with_table U p table)) (sym source)
           (subst (λ (c : Bool). Replaces S p (installed c (n ∷ []) (next_description S ∷ []) (table_of S p))
-          (with_table (with_new S D) p table)) (sym flag) (record { same = r.same; other = r.other })))
+          (with_table U p table)) (sym flag) (record { same = r.same; other = r.other })))
           (rise_one n (length (table_of S p)) (lowest_below (table_of S p) n low)) (omega (arith, long)) tells refl;
-      mail = quiet_after S (with_new S D) (with_table (with_new S D) p table) p tag request (quiet_table (with_new S D) p table)
-          (quiet_mail S (with_new S D) p tag request (quiet_new S D none));
+      mail = quiet_after S U (with_table U p table) p tag request (quiet_table U p table)
+          (quiet_mail S U p tag request (quiet_new (with_files S objects names) D none));
     }
 
 pub open_shows : (S : State) (p tag : ℕ) (path : Name) (mode : Mode) (flags : OpenFlags) (Q : Process) → process_at S p ≡ Some Q →
@@ -72,7 +79,7 @@ open_shows S p tag path mode flags Q here =
     (λ b. maybe (Shows S p tag (Request.Open path mode flags)) (named path S.paths) _ _ (refuses refl)
     (λ t is. by_path (Shows S p tag (Request.Open path mode flags)) t _ _
     (λ o led. maybe (Shows S p tag (Request.Open path mode flags)) (lowest_free (table_of S p)) _ _ (refuses refl)
-    (λ n low. made_shows S p tag n (Request.Open path mode flags) (file_description o mode flags) flags Q here
+    (λ n low. made_shows S p tag n (Request.Open path mode flags) S.objects S.paths (file_description o mode flags) flags Q here
     (record { no_end = refl; keeps = λ n held. refl }) low refl refl refl refl))
     (λ d led. refuses refl)))
 
@@ -80,19 +87,8 @@ pub socket_shows : (S : State) (p tag : ℕ) (kind : SockType) (flags : OpenFlag
     Shows S p tag (Request.Socket kind flags) (make_socket S p kind flags)
 unfolding make_socket
 socket_shows S p tag kind flags Q here = maybe (Shows S p tag (Request.Socket kind flags)) (lowest_free (table_of S p)) _ _ (refuses refl)
-    (λ n low. made_shows S p tag n (Request.Socket kind flags) (socket_description flags (new_socket kind)) flags Q here
+    (λ n low. made_shows S p tag n (Request.Socket kind flags) S.objects S.paths (socket_description flags (new_socket kind)) flags Q here
     (record { no_end = refl; keeps = λ n held. refl }) low refl refl refl refl)
-
-two_rise : (table : List (Option Descriptor)) (n : ℕ × ℕ) → two_lowest_free table ≡ Some n → Rise 0 (length table) (n.0 ∷ n.1 ∷ [])
-two_rise table n h = go (free_numbers table) refl (rise_free table)
-  where
-    go : (ns : List ℕ) → free_numbers table ≡ ns → Rise 0 (length table) ns → Rise 0 (length table) (n.0 ∷ n.1 ∷ [])
-    go [] e r = absurd (cc (rw e at h))
-    go (a ∷ []) e r = absurd (cc (rw e at h))
-    go (a ∷ b ∷ ns) e r =
-        let two : Some (a, b) ≡ Some n = rw e at h in
-        let same : (a, b) ≡ n = cc two in
-        subst (λ (m : ℕ × ℕ). Rise 0 (length table) (m.0 ∷ m.1 ∷ [])) same (r.0, r.1, (r.2.0, r.2.1, tt))
 
 pub pair_shows : (S : State) (p tag : ℕ) (kind : SockType) (flags : OpenFlags) →
     Shows S p tag (Request.SocketPair kind flags) (make_pair S p kind flags)
