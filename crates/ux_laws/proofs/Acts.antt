@@ -13,6 +13,7 @@ use Rattle.ux_model.specs.State.{State, process_at, socket_at, table_of, with_so
 use Rattle.ux_model.specs.Outcome.{find_socket}
 use Rattle.ux_model.specs.Pairing.{with_pair, socket_description}
 use Rattle.ux_model.specs.Opening.{file_description}
+use Rattle.ux_model.specs.Making.{next_object}
 use Rattle.ux_model.specs.Binding.{look_up}
 use Rattle.ux_model.specs.Connecting.{Listener, listener_of, with_listening, with_connection}
 use Rattle.ux_model.specs.Sending.{descriptions_behind}
@@ -20,6 +21,7 @@ use Rattle.ux_model.specs.Giving.{sent_by}
 use Rattle.ux_model.proofs.Lists.ByPlace.{take_none}
 use Rattle.ux_laws.specs.Talking.{offered_bytes, request_addr, is_peek, taken_count, given_bytes, socket_through, goes_to, is_number}
 use Rattle.ux_laws.specs.Talking.{is_first, sends_to, receives_through}
+use Rattle.ux_laws.specs.Files.{made_modes}
 use Rattle.ux_laws.specs.Streams.{sent_now, received_now}
 use Rattle.ux_laws.specs.Records.{is_count, is_given}
 use Rattle.ux_laws.specs.Credentials.{MaySend}
@@ -118,12 +120,22 @@ pub record IsTaking (S : State) (p : ℕ) (request : Request) (reply : Reply) (d
 
 -- ---- all kinds
 
+-- the descriptions of both ends of a new pipe
+abbrev pub with_ends : State → OpenFlags → State
+with_ends S flags =
+    with_new (with_new S (file_description (next_object S) Mode.Read flags)) (file_description (next_object S) Mode.Write flags)
+
 -- What the call may leave, of which some goes at its end.
 pub data Did (S : State) (p tag : ℕ) (request : Request) (reply : Reply) (U : State) : Type 0 where
   quiet : Shrinks S U → MovesNothing S p request reply → Did S p tag request reply U
   opened : (path : Name) (mode : Mode) (flags : OpenFlags) (o : ℕ) → request ≡ Request.Open path mode flags →
       named path S.paths ≡ Some (file o) → is_silent reply ≡ true →
       Shrinks (with_new S (file_description o mode flags)) U → Did S p tag request reply U
+  -- a file object is made, and opened once, or is a pipe
+  file_made : (mode : Mode) (flags : OpenFlags) → made_modes request ≡ mode ∷ [] → is_silent reply ≡ true →
+      Shrinks (with_new S (file_description (next_object S) mode flags)) U → Did S p tag request reply U
+  pipe_made : (flags : OpenFlags) → made_modes request ≡ Mode.Read ∷ Mode.Write ∷ [] → is_silent reply ≡ true →
+      Shrinks (with_ends S flags) U → Did S p tag request reply U
   one_made : (kind : SockType) (flags : OpenFlags) → is_silent reply ≡ true →
       Shrinks (with_new S (socket_description flags (new_socket kind))) U → Did S p tag request reply U
   pair_made : (kind : SockType) (flags : OpenFlags) (P : Process) (a b : Fd) → request ≡ Request.SocketPair kind flags →
@@ -156,6 +168,8 @@ pub did_after : (S U T : State) (p tag : ℕ) (request : Request) (reply : Reply
     Did S p tag request reply T
 did_after S U T p tag request reply (quiet a b) g = quiet (shrunk_after S U T a g) b
 did_after S U T p tag request reply (opened path mode flags o a b c k) g = opened path mode flags o a b c (shrunk_after _ U T k g)
+did_after S U T p tag request reply (file_made mode flags a b k) g = file_made mode flags a b (shrunk_after _ U T k g)
+did_after S U T p tag request reply (pipe_made flags a b k) g = pipe_made flags a b (shrunk_after _ U T k g)
 did_after S U T p tag request reply (one_made kind flags a k) g = one_made kind flags a (shrunk_after _ U T k g)
 did_after S U T p tag request reply (pair_made kind flags P x y a b c k) g = pair_made kind flags P x y a b c (shrunk_after _ U T k g)
 did_after S U T p tag request reply (listened fd backlog P d limit s a b c e f h k) g =

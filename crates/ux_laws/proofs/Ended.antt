@@ -13,6 +13,7 @@ use Rattle.ux_model.specs.Peers.{target_peer, peer_in}
 use Rattle.ux_model.specs.Pairing.{socket_description}
 use Rattle.ux_model.specs.Opening.{file_description}
 use Rattle.ux_model.specs.Connecting.{with_listening, server_end, tied, no_open_flags}
+use Rattle.ux_model.specs.Making.{next_object}
 use Rattle.ux_model.specs.Step.{Step}
 use Rattle.ux_model.specs.History.{IsLegal}
 use Rattle.ux_model.specs.Pedigree.{before}
@@ -28,7 +29,8 @@ use Rattle.ux_laws.specs.Records.{is_count, is_given}
 use Rattle.ux_laws.specs.Ends.{HasEnded, StaysEnded, EndsAreForEver, ResetsAreOfLosses, SendsFindNobody}
 use Rattle.ux_laws.proofs.Parts.{PhaseParts, SocketParts, socket_parts, socket_seen, Glance, glance, glance_target, glance_at, glance_new}
 use Rattle.ux_laws.proofs.Parts.{Shrinks, Seen, seen_changed, seen_new, seen_shrunk, seen_socket, awaiting_parts}
-use Rattle.ux_laws.proofs.Acts.{is_silent, Did, quiet, opened, one_made, pair_made, listened, tied_to, connected, put, took}
+use Rattle.ux_laws.proofs.Acts.{is_silent, Did, quiet, opened, file_made, pipe_made, one_made, pair_made, listened, tied_to, connected, put}
+use Rattle.ux_laws.proofs.Acts.{took}
 use Rattle.ux_laws.proofs.Doing.Calls.{step_between, step_did}
 use Rattle.ux_laws.proofs.Near.Single.{reset_of, reset_in, NearAt, stays, reached, new, gone as dropped}
 use Rattle.ux_laws.proofs.Near.Calls.{chosen_near}
@@ -78,6 +80,14 @@ pub did_was : (S T : State) (p tag : ℕ) (request : Request) (reply : Reply) (d
 did_was S T p tag request reply d q (quiet k moves) h = was_itself S d q (seen_shrunk S T d q k h)
 did_was S T p tag request reply d q (opened path mode flags o a b c k) h =
     was_new S S (file_description o mode flags) d q (omega arith) (λ r g. was_itself S d r g) (seen_shrunk _ T d q k h)
+did_was S T p tag request reply d q (file_made mode flags a b k) h =
+    was_new S S (file_description (next_object S) mode flags) d q (omega arith) (λ r g. was_itself S d r g) (seen_shrunk _ T d q k h)
+did_was S T p tag request reply d q (pipe_made flags a b k) h =
+    let one : Description = file_description (next_object S) Mode.Read flags in
+    let two : Description = file_description (next_object S) Mode.Write flags in
+    let long = length_push S.descriptions (Some one) in
+    was_new S (with_new S one) two d q (omega (arith, long))
+    (λ r g. was_new S S one d r (omega arith) (λ u f. was_itself S d u f) g) (seen_shrunk _ T d q k h)
 did_was S T p tag request reply d q (one_made kind flags a k) h =
     was_new S S (socket_description flags (new_socket kind)) d q (omega arith) (λ r g. was_itself S d r g) (seen_shrunk _ T d q k h)
 did_was S T p tag request reply d q (pair_made kind flags P x y a b c k) h =
@@ -189,6 +199,13 @@ did_there : (S T : State) (p tag : ℕ) (request : Request) (reply : Reply) (d :
 did_there S T p tag request reply d (quiet k moves) h = inl (there_shrunk S T d k h)
 did_there S T p tag request reply d (opened path mode flags o a b c k) h =
     or_new S S (file_description o mode flags) d (omega arith) (λ g. inl g) (there_shrunk _ T d k h)
+did_there S T p tag request reply d (file_made mode flags a b k) h =
+    or_new S S (file_description (next_object S) mode flags) d (omega arith) (λ g. inl g) (there_shrunk _ T d k h)
+did_there S T p tag request reply d (pipe_made flags a b k) h =
+    let one : Description = file_description (next_object S) Mode.Read flags in
+    let two : Description = file_description (next_object S) Mode.Write flags in
+    let long = length_push S.descriptions (Some one) in
+    or_new S (with_new S one) two d (omega (arith, long)) (λ g. or_new S S one d (omega arith) (λ f. inl f) g) (there_shrunk _ T d k h)
 did_there S T p tag request reply d (one_made kind flags a k) h =
     or_new S S (socket_description flags (new_socket kind)) d (omega arith) (λ g. inl g) (there_shrunk _ T d k h)
 did_there S T p tag request reply d (pair_made kind flags P x y a b c k) h =
@@ -425,6 +442,8 @@ finds_nobody S T p tag d request reply s through e did = by_did did
     by_did : Did S p tag request reply T → is_count reply ≡ false
     by_did (quiet k moves) = bool_cases (is_count reply) (λ b. let w = moves.record_out e.peer to b in absurd (nobody w.0 w.1)) (λ b. b)
     by_did (opened path mode flags o a b c k) = silent_no_count reply c
+    by_did (file_made mode flags a b k) = silent_no_count reply b
+    by_did (pipe_made flags a b k) = silent_no_count reply b
     by_did (one_made kind flags a k) = silent_no_count reply a
     by_did (pair_made kind flags P x y a b c k) = ap is_count b
     by_did (listened fd backlog P t limit u a b c f g h k) = ap is_count b

@@ -18,13 +18,15 @@ use Rattle.ux_model.specs.Pairing.{socket_description}
 use Rattle.ux_model.specs.Opening.{file_description}
 use Rattle.ux_model.specs.Connecting.{with_listening, server_end, tied, no_open_flags}
 use Rattle.ux_model.specs.Process.{own_cred}
+use Rattle.ux_model.specs.Making.{next_object}
 use Rattle.ux_model.proofs.Lists.ChangedPlaces.{bool_cases, length-changed}
 use Rattle.ux_model.specs.Step.{Step}
 use Rattle.ux_model.proofs.Lists.OnePlace.{same_at}
 use Rattle.ux_model.proofs.Lists.Appending.{get_push}
 use Rattle.ux_laws.proofs.Parts.{SocketParts, socket_parts, Glance, glance_target, glance, glance_at, glance_socket, Kept, Shrinks}
 use Rattle.ux_laws.proofs.Parts.{glance_changed, glance_new}
-use Rattle.ux_laws.proofs.Acts.{is_silent, MovesNothing, silent, IsSending, IsTaking, Did, quiet, opened, one_made, pair_made, listened}
+use Rattle.ux_laws.proofs.Acts.{is_silent, MovesNothing, silent, IsSending, IsTaking, Did, quiet, opened, file_made, pipe_made, one_made}
+use Rattle.ux_laws.proofs.Acts.{pair_made, listened}
 use Rattle.ux_laws.proofs.Acts.{tied_to, connected, put, took}
 use Rattle.ux_laws.proofs.Doing.Calls.{step_did}
 
@@ -134,6 +136,13 @@ pub data Flow (S : State) (p tag : ℕ) (request : Request) (reply : Reply) (T :
 pub flow_of : (S T : State) (p tag : ℕ) (request : Request) (reply : Reply) → Did S p tag request reply T → Flow S p tag request reply T
 flow_of S T p tag request reply (quiet k moves) = calm S (calm_same S) moves k
 flow_of S T p tag request reply (opened path mode flags o a b c k) = calm _ (calm_new S (file_description o mode flags) refl) (silent c) k
+flow_of S T p tag request reply (file_made mode flags a b k) =
+    calm _ (calm_new S (file_description (next_object S) mode flags) refl) (silent b) k
+flow_of S T p tag request reply (pipe_made flags a b k) =
+    let one : Description = file_description (next_object S) Mode.Read flags in
+    let two : Description = file_description (next_object S) Mode.Write flags in
+    calm _ (calm_after S (with_new S one) (with_new (with_new S one) two) (calm_new S one refl) (calm_new (with_new S one) two refl))
+    (silent b) k
 flow_of S T p tag request reply (one_made kind flags a k) =
     calm _ (calm_new S (socket_description flags (new_socket kind)) refl) (silent a) k
 flow_of S T p tag request reply (pair_made kind flags P x y a b c k) =

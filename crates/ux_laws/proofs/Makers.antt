@@ -5,7 +5,7 @@ use Rattle.std.proofs.Common.{Result, Ok, refl, ap, sym, ◌∙◌, subst, inl, 
 use Rattle.std.specs.Prelude.{ℤ, is_some}
 use Rattle.std.proofs.lemmas.Bool.{eqb-true, eqb-false}
 use Rattle.std.proofs.lemmas.List.{length_push}
-use Rattle.ux_model.specs.Types.{Errno, Fd, Cred, SockType, SockOpt, Request, Reply, Entry}
+use Rattle.ux_model.specs.Types.{Errno, Fd, Cred, SockType, SockOpt, Request, Reply, Entry, Mode}
 use Rattle.ux_model.specs.Places.{place}
 use Rattle.ux_model.specs.Names.{is_unnamed_addr}
 use Rattle.ux_model.specs.Backlog.{backlog_of}
@@ -19,6 +19,7 @@ use Rattle.ux_model.specs.Pairing.{socket_description}
 use Rattle.ux_model.specs.Binding.{look_up}
 use Rattle.ux_model.specs.Opening.{file_description}
 use Rattle.ux_model.specs.Connecting.{Listener, listener_of, with_listening, listen, server_end, tied, no_open_flags}
+use Rattle.ux_model.specs.Making.{next_object}
 use Rattle.ux_model.specs.Options.{tell_cred, get_opt}
 use Rattle.ux_model.specs.Boot.{IsBootState}
 use Rattle.ux_model.specs.Step.{Step, outcome}
@@ -37,7 +38,7 @@ use Rattle.ux_laws.specs.Credentials.{listening_cred, socket_behind, listens_on,
 use Rattle.ux_laws.specs.Credentials.{of_listener, PeersAreTheMakers}
 use Rattle.ux_laws.proofs.Parts.{SocketParts, socket_parts, awaiting_parts, Glance, glance, glance_at, glance_changed, Shrinks}
 use Rattle.ux_laws.proofs.Parts.{settled_shrinks, Seen, seen_changed, seen_new, seen_shrunk, seen_socket}
-use Rattle.ux_laws.proofs.Acts.{Did, quiet, opened, one_made, pair_made, listened, tied_to, connected, put, took}
+use Rattle.ux_laws.proofs.Acts.{Did, quiet, opened, file_made, pipe_made, one_made, pair_made, listened, tied_to, connected, put, took}
 use Rattle.ux_laws.proofs.Doing.Calls.{step_did}
 
 -- ---- longer histories
@@ -242,6 +243,16 @@ did_met : (boot : State) (es : List Entry) (e : Entry) (T : State) (d : ℕ) (q 
 did_met boot es e T d q all (quiet k moves) h = old_met boot es e (replay boot es) d q all (seen_shrunk (replay boot es) T d q k h)
 did_met boot es e T d q all (opened path mode flags o a b c k) h =
     new_met boot es e (replay boot es) T d (file_description o mode flags) q all (λ none. absurd (cc none)) k h
+did_met boot es e T d q all (file_made mode flags a b k) h =
+    new_met boot es e (replay boot es) T d (file_description (next_object (replay boot es)) mode flags) q all (λ none. absurd (cc none)) k h
+did_met boot es e T d q all (pipe_made flags a b k) h =
+    let S : State = replay boot es in
+    let one : Description = file_description (next_object S) Mode.Read flags in
+    let two : Description = file_description (next_object S) Mode.Write flags in
+    ⊎_elim {C = Met boot es e d q} (λ w. let none = w.1 in absurd (cc none))
+    (λ old. ⊎_elim {C = Met boot es e d q} (λ w. let none = w.1 in absurd (cc none))
+    (λ older. old_met boot es e S d q all older) (seen_new S one d q old))
+    (seen_new (with_new S one) two d q (seen_shrunk _ T d q k h))
 did_met boot es e T d q all (one_made kind flags a k) h =
     new_met boot es e (replay boot es) T d (socket_description flags (new_socket kind)) q all
     (λ is. let same : socket_parts (new_socket kind) ≡ q = cc is in

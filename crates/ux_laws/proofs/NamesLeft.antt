@@ -1,16 +1,20 @@
 -- What a call does to names: it binds or takes away those that it gives, and those of sockets that it frees go.
 use Rattle.std.proofs.Common.{◌≡◌, ◌⊎◌, ℕ, zero, suc, ◌==◌, Bool, true, false, not, ◌||◌, if◌then◌else◌, cond, List, [], ◌∷◌, ◌++◌, length}
-use Rattle.std.proofs.Common.{filter, Some, None, option_map, refl, ap, sym, ◌∙◌, subst, slice_get, inl, inr, ⊎_elim}
+use Rattle.std.proofs.Common.{filter, Some, None, option_map, refl, ap, sym, ◌∙◌, subst, slice_get, inl, inr, ⊎_elim, Option}
 use Rattle.std.specs.Prelude.{is_some}
 use Rattle.std.proofs.lemmas.Bool.{false≢true}
-use Rattle.ux_model.specs.Types.{Fd, Name, Addr, SockOpt, Request, Reply, Entry}
+use Rattle.ux_model.specs.Types.{Fd, Name, Addr, SockOpt, Request, Reply, Entry, Mode, OpenFlags}
+use Rattle.ux_model.specs.Object.{memory}
 use Rattle.ux_model.specs.Names.{PathTarget, bound, same_name, named, without_name, is_valid_path, is_valid_addr, is_unnamed_addr}
-use Rattle.ux_model.specs.Names.{free_name}
+use Rattle.ux_model.specs.Names.{free_name, file}
 use Rattle.ux_model.specs.Socket.{Socket, is_stream, tied_socket}
-use Rattle.ux_model.specs.State.{State, description_at}
+use Rattle.ux_model.specs.Process.{Descriptor, lowest_free}
+use Rattle.ux_model.specs.State.{State, description_at, table_of, with_table, with_new}
 use Rattle.ux_model.specs.Outcome.{Outcome, Chosen, own, lacking_memory, failing}
 use Rattle.ux_model.specs.Naming.{unlink}
 use Rattle.ux_model.specs.Binding.{bind_to, bind}
+use Rattle.ux_model.specs.Opening.{file_description}
+use Rattle.ux_model.specs.Making.{next_object, object_table_full, with_made, with_path, create_file}
 use Rattle.ux_model.specs.Options.{may_limit, change_option, set_opt}
 use Rattle.ux_model.specs.Closing.{off}
 use Rattle.ux_model.specs.Release.{without, is_unreferenced, drop_all, drop_rounds, drop_unreferenced, has_unreferenced, settled}
@@ -26,6 +30,7 @@ use Rattle.ux_model.proofs.Lists.Rising.{place_mapped}
 use Rattle.ux_model.proofs.Steps.Calls.{each_obeys}
 use Rattle.ux_model.proofs.Pedigrees.Moments.{moment}
 use Rattle.ux_laws.specs.Reach.{is_path, names_path, CallsLeavePathsAlone, AbstractNamesStay, AbstractNamesAreBound}
+use Rattle.ux_laws.proofs.Touching.Neither.{table_alike}
 use Rattle.ux_laws.proofs.Near.Leading.{by_own}
 use Rattle.ux_laws.proofs.LeftAlone.{Lost, stays_gone, rounds_lost, settled_lost}
 use Rattle.ux_laws.proofs.Touching.Contents.{NamesSame}
@@ -184,6 +189,29 @@ bind_left S p fd addr = by_own Q S p (Request.Bind fd addr) fd _ (λ e. unchange
     to d mine (Addr.Abstract name) is = either Q (is_some (named name S.abstract_names)) _ _ (λ b. unchanged refl refl)
         (λ b. one_bound _ name d fd.0 mine refl refl)
 
+create_left : (S : State) (p : ℕ) (path : Name) (mode : Mode) (flags : OpenFlags) →
+    NamesLeft S p (Request.Create path mode flags) (create_file S p path mode flags).next
+unfolding create_file
+create_left S p path mode flags = either Q (not (is_valid_path path)) _ _ (λ b. unchanged refl refl)
+    (λ b. either Q (is_some (named path S.paths)) _ _ (λ c. unchanged refl refl)
+    (λ c. maybe Q (lowest_free (table_of S p)) _ _ (unchanged refl refl)
+    (λ n low. either Q (object_table_full S) _ _ (λ full. unchanged refl refl) (λ full. made _))))
+  where
+    Q : Outcome → Type 0
+    Q o = NamesLeft S p (Request.Create path mode flags) o.next
+
+    made : (table : List (Option Descriptor)) → NamesLeft S p (Request.Create path mode flags)
+        (with_table (with_new (with_path (with_made S (memory [])) path (next_object S)) (file_description (next_object S) mode flags)) p
+        table)
+    made table =
+        let t = table_alike (with_new (with_path (with_made S (memory [])) path (next_object S))
+        (file_description (next_object S) mode flags)) p table in
+        record {
+          stay = λ x d h. inl (ap (λ l. named x l) t.abstracts ∙ h);
+          mine = λ x none. own_of_none (HasHere S p) x _ (ap (λ l. named x l) t.abstracts ∙ none);
+          paths = λ other elsewhere. ap (λ l. named other l) t.paths ∙ named_other other S.paths (path, file (next_object S)) elsewhere;
+        }
+
 unlink_left : (S : State) (p : ℕ) (path : Name) → NamesLeft S p (Request.Unlink path) (unlink S path).next
 unfolding unlink
 unlink_left S p path = either Q (not (is_valid_path path)) _ _ (λ b. unchanged refl refl)
@@ -227,6 +255,7 @@ off_left S p = record {
 each_left : (S : State) (p tag : ℕ) (request : Request) → NamesLeft S p request (outcome S p tag request).next
 unfolding outcome
 each_left S p tag (Request.Bind fd addr) = bind_left S p fd addr
+each_left S p tag (Request.Create path mode flags) = create_left S p path mode flags
 each_left S p tag (Request.Unlink path) = unlink_left S p path
 each_left S p tag (Request.SetOpt fd opt value) = set_opt_left S p fd opt value
 each_left S p tag Request.Off = off_left S p

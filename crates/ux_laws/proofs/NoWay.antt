@@ -1,5 +1,6 @@
 -- Who changes a file object, and who reads it, has a way to it; and strangers have none.
-use Rattle.std.proofs.Common.{◌≡◌, ◌⊎◌, ℕ, zero, suc, ◌+◌, Bool, true, false, not, if◌then◌else◌, List, [], ◌∷◌, ◌++◌, length, take, map}
+use Rattle.std.proofs.Common.{◌≡◌, ◌⊎◌, ℕ, zero, suc, ◌+◌, ◌≤◌, ◌<◌, Bool, true, false, not, if◌then◌else◌, List, [], ◌∷◌, ◌++◌, length}
+use Rattle.std.proofs.Common.{take, map}
 use Rattle.std.proofs.Common.{Option, Some, None, Result, Ok, Err, refl, ap, sym, ◌∙◌, subst, inl, inr, ⊎_elim, arith, slice_get}
 use Rattle.std.specs.List.{enumerate_from}
 use Rattle.std.proofs.lemmas.Bool.{false≢true}
@@ -20,14 +21,17 @@ use Rattle.ux_model.specs.Pedigree.{before, delivered, IsFrom, IsChain, first, o
 use Rattle.ux_model.proofs.Changes.Walk.{either, maybe, by_target, found}
 use Rattle.ux_model.proofs.Lists.Fronts.{front_is_legal, in_front}
 use Rattle.ux_model.proofs.Lists.Induction.{IsKept, kept_throughout}
+use Rattle.ux_model.proofs.Lists.OnePlace.{past_all}
 use Rattle.ux_model.proofs.Steps.Replays.{step_replay}
+use Rattle.ux_model.proofs.Invariants.Closed.{objects_keep_their_numbers, boot_long}
 use Rattle.ux_model.proofs.Pedigrees.Moments.{moment, given_cases}
 use Rattle.ux_model.proofs.Pedigrees.Passing.{how_receives}
 use Rattle.ux_laws.specs.Talking.{if_found}
+use Rattle.ux_laws.specs.Files.{IsMaking, BeginsWay, by_opening, by_making}
 use Rattle.ux_laws.specs.Files.{body_in, body_at, object_behind, HasWay, IsChange, by_write, by_read, ChangesHaveAWay, ReadsHaveAWay}
 use Rattle.ux_laws.specs.Files.{FilesKeepTheirPath, WereSentNothing, AreStrangers, StrangersHaveNoWay, StrangersChangeNothing}
 use Rattle.ux_laws.proofs.Opened.{Begins, chain_begins, way_there}
-use Rattle.ux_laws.proofs.Touching.Contents.{Touches, untouched, written, read_from}
+use Rattle.ux_laws.proofs.Touching.Contents.{Touches, untouched, made_now, written, read_from}
 use Rattle.ux_laws.proofs.Touching.Paths.{NamesNoMore, names_equal}
 use Rattle.ux_laws.proofs.Touching.Ends.{step_files}
 
@@ -85,6 +89,10 @@ changes_have_a_way boot es j o e old new legal at was is =
     by_touch : {U : State} → IsLegal boot (take j es) → Touches (before boot es j) e.pid.0 e.request o U → body_at U o ≡ Some new →
         (new ≡ old) ⊎ IsChange boot es j e o old
     by_touch front (untouched same) left = let both : Some old ≡ Some new = sym was ∙ sym same ∙ left in inl (sym (cc both))
+    by_touch front (made_now new) left =
+        let past : place (before boot es j).objects o ≡ None = past_all (before boot es j).objects o new in
+        let clash : None ≡ Some old = sym (ap body_in past) ∙ was in
+        absurd (cc clash)
     by_touch front (written fd bytes d D asked g h t may) left =
         inr (by_write fd bytes asked (leads_behind (before boot es j) e.pid.0 fd o
         (record { entry = d; description = D; held = g; there = h; leads = t }))
@@ -155,14 +163,15 @@ reads_have_a_way boot es j o n e fd bytes legal at request behind reply =
 
 -- ---- strangers
 
--- a path names a file object later only if it did at the start
+-- a path names a file object of the start later only if it did at the start
 record NamedAtFirst (boot : State) (es : List Entry) (S : State) : Type 0 where
   pub reached : S ≡ replay boot es
-  pub names : NamesNoMore boot.paths S.paths
+  pub long : length boot.objects ≤ length S.objects
+  pub names : NamesNoMore (length boot.objects) boot.paths S.paths
 
 named_kept : (boot : State) → IsKept boot (NamedAtFirst boot)
 named_kept boot = record {
-  at_boot = λ boots. record { reached = refl; names = record { each = λ path o h. h } };
+  at_boot = λ boots. record { reached = refl; long = omega arith; names = record { each = λ path o less h. h } };
   by_entry = λ es e S T so_far step may. further es e S T so_far step;
 }
   where
@@ -173,7 +182,13 @@ named_kept boot = record {
         record {
           reached = step_replay boot T es e (subst
               (λ (R : State). Step R e.pid.0 (length es) e.request e.reply e.released T) so_far.reached step);
-          names = record { each = λ path o h. so_far.names.each path o (s.1.paths.each path o (ap (named path) (sym s.3) ∙ h)) };
+          long = let so_long = so_far.long in
+              let more = objects_keep_their_numbers S T e.pid.0 (length es) e.request e.reply e.released step in
+              omega (arith, so_long, more);
+          names = record {
+            each = λ path o less h. let so_long = so_far.long in
+                so_far.names.each path o less (s.1.paths.each path o (omega (arith, so_long, less)) (ap (named path) (sym s.3) ∙ h));
+          };
         }
 
 -- and each has one path then
@@ -208,6 +223,22 @@ place_of boot i o e boots h is =
     let same : o ≡ 0 + i = ap (λ t. elim t as (λ _. ℕ) [ file n ↦ n | bound n ↦ n ]) both in
     omega (arith, same)
 
+-- which is one of the start
+known_number : (k : ℕ) (xs : List (Option View)) (i : ℕ) (t : PathTarget) →
+    slice_get (map (λ e. file e.0) (enumerate_from k xs)) i ≡ Some t → i < length xs
+known_number k [] i t h = absurd (cc h)
+known_number k (x ∷ xs) zero t h = omega arith
+known_number k (x ∷ xs) (suc i) t h = let rest = known_number (k + 1) xs i t h in omega (arith, rest)
+
+pub named_known : (boot : State) (path : Name) (o : ℕ) → IsBootState boot → named path boot.paths ≡ Some (file o) → o < length boot.objects
+named_known boot path o boots h =
+    let x = named_at path o boot.paths h in
+    let there : slice_get (map (λ e. file e.0) (enumerate_from 0 boot.objects)) x.0 ≡ Some x.1.1 =
+    sym (ap (λ l. slice_get l x.0) boots.paths) ∙ get_map (λ (y : Name × PathTarget). y.1) boot.paths x.0 x.1 x.2 in
+    let known = known_number 0 boot.objects x.0 x.1.1 there in
+    let same = place_of boot x.0 o x.1 boots x.2 x.3 in
+    omega (arith, known, same)
+
 one_path : (boot : State) (a b : Name) (o : ℕ) → IsBootState boot → named a boot.paths ≡ Some (file o) →
     named b boot.paths ≡ Some (file o) → a ≡ b
 one_path boot a b o boots h k =
@@ -221,7 +252,7 @@ one_path boot a b o boots h k =
 pub files_keep_their_path : FilesKeepTheirPath
 files_keep_their_path boot es j o path other legal at_first leads =
     let names = kept_throughout boot (NamedAtFirst boot) (named_kept boot) (take j es) (front_is_legal boot es j legal) in
-    one_path boot other path o legal.boots (names.names.each other o leads) at_first
+    one_path boot other path o legal.boots (names.names.each other o (named_known boot path o legal.boots at_first) leads) at_first
 
 -- all holdings of a chain that leads to one that was sent nothing, as those that made it, are of such
 pub all_theirs : (boot : State) (es : List Entry) (are : ℕ → Bool) (chain : List Link) (a : Link) → IsLegal boot es →
@@ -270,6 +301,14 @@ strangers_so_far boot es path are j s = record {
   never_opened = λ i e mode flags at is. s.never_opened i e mode flags (in_front es j i e at).0 is;
 }
 
+-- no call makes a file object of the start
+pub not_made : (boot : State) (es : List Entry) (allows : Mode → Bool) (o : ℕ) (b : Link) → IsLegal boot es → o < length boot.objects →
+    IsMaking boot es allows o b → ⊥
+not_made boot es allows o b legal known making =
+    let long = boot_long boot es b.entry legal in
+    let new : o ≡ length (before boot es b.entry).objects = making.new in
+    omega (arith, long, new, known)
+
 no_way : (boot : State) (es : List Entry) (path : Name) (are : ℕ → Bool) (o p n : ℕ) → IsLegal boot es →
     named path boot.paths ≡ Some (file o) → AreStrangers boot es path are → are p ≡ true →
     HasWay boot es (λ mode. true) o p n → ⊥
@@ -280,23 +319,31 @@ no_way boot es path are o p n legal at_first strangers is way =
     let one : way.first ≡ begins.first = cc same in
     let of_first = all_theirs boot es are (way.first ∷ way.rest) ped.last legal strangers.sent_nothing ped.leads (ap are ped.process ∙ is)
     begins in
-    let opens = way.opened in
-    let k : ℕ = way.first.entry in
-    let both : Some opens.call ≡ Some begins.call = sym opens.there ∙ ap (λ (l : Link). slice_get es l.entry) one ∙ begins.given.there in
-    let call : opens.call ≡ begins.call = cc both in
-    let no_child : (makes begins.first.pid.0 begins.call.request begins.call.reply ≡ true) → ⊥ = λ made.
-    not_fork opens.call begins.first.pid.0 opens.asked (ap (λ (x : Entry). makes begins.first.pid.0 x.request x.reply) call ∙ made) in
-    let caller : opens.call.pid.0 ≡ begins.first.pid.0 = ap (λ (x : Entry). x.pid.0) call
-    ∙ ⊎_elim {C = begins.call.pid.0 ≡ begins.first.pid.0} (λ made. absurd (no_child made))
-    (λ own. own.0) (given_cases (before boot es begins.first.entry) begins.call begins.first.pid.0 begins.first.fd.0 begins.given.gave) in
-    let path_is : opens.path ≡ path = files_keep_their_path boot es k o path opens.path legal at_first opens.leads in
-    strangers.never_opened k opens.call opens.mode opens.flags opens.there (ap are caller ∙ of_first)
-    (opens.asked ∙ ap (λ (x : Name). Request.Open x opens.mode opens.flags) path_is)
+    by_first begins one of_first way.begins
   where
     not_fork : (x : Entry) (q : ℕ) {path : Name} {mode : Mode} {flags : OpenFlags} → x.request ≡ Request.Open path mode flags →
         makes q x.request x.reply ≡ true → ⊥
     not_fork x q {path} {mode} {flags} asked made = let never : makes q (Request.Open path mode flags) x.reply ≡ true =
         sym (ap (λ (r : Request). makes q r x.reply) asked) ∙ made in false≢true never
+
+    by_first : (begins : Begins boot es (way.first ∷ way.rest)) → way.first ≡ begins.first → are begins.first.pid.0 ≡ true →
+        BeginsWay boot es (λ mode. true) o way.first → ⊥
+    by_first begins one of_first (by_opening opens) =
+        let k : ℕ = way.first.entry in
+        let both : Some opens.call ≡ Some begins.call = sym opens.there ∙ ap (λ (l : Link). slice_get es l.entry) one
+        ∙ begins.given.there in
+        let call : opens.call ≡ begins.call = cc both in
+        let no_child : (makes begins.first.pid.0 begins.call.request begins.call.reply ≡ true) → ⊥ = λ made.
+        not_fork opens.call begins.first.pid.0 opens.asked (ap (λ (x : Entry). makes begins.first.pid.0 x.request x.reply) call ∙ made) in
+        let caller : opens.call.pid.0 ≡ begins.first.pid.0 = ap (λ (x : Entry). x.pid.0) call
+        ∙ ⊎_elim {C = begins.call.pid.0 ≡ begins.first.pid.0} (λ made. absurd (no_child made))
+        (λ own. own.0)
+        (given_cases (before boot es begins.first.entry) begins.call begins.first.pid.0 begins.first.fd.0 begins.given.gave) in
+        let path_is : opens.path ≡ path = files_keep_their_path boot es k o path opens.path legal at_first opens.leads in
+        strangers.never_opened k opens.call opens.mode opens.flags opens.there (ap are caller ∙ of_first)
+        (opens.asked ∙ ap (λ (x : Name). Request.Open x opens.mode opens.flags) path_is)
+    by_first begins one of_first (by_making making) =
+        not_made boot es (λ mode. true) o way.first legal (named_known boot path o legal.boots at_first) making
 
 pub strangers_have_no_way : StrangersHaveNoWay
 strangers_have_no_way boot es path are j o q fd legal at_first strangers is behind =

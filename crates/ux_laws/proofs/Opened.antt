@@ -1,5 +1,6 @@
--- What a description leads to is what its open named, and so a number that leads to a file object has a way to it.
-use Rattle.std.proofs.Common.{◌≡◌, ◌≢◌, ◌⊎◌, ℕ, zero, suc, ◌≤◌, ◌<◌, ◌==◌, Bool, true, cond, is_some, List, [], ◌∷◌, ◌++◌, length, take}
+-- What a description leads to is what its open named, or what its call made, and so a number that leads to a file object has a way to it.
+use Rattle.std.proofs.Common.{◌≡◌, ◌≢◌, ◌⊎◌, ℕ, zero, suc, ◌+◌, ◌≤◌, ◌<◌, ◌==◌, Bool, true, cond, is_some, List, [], ◌∷◌, ◌++◌, length}
+use Rattle.std.proofs.Common.{take}
 use Rattle.std.proofs.Common.{Option, Some, None, Result, Ok, Err, option_map, refl, ap, sym, ◌∙◌, subst, inl, inr, ⊎_elim, arith}
 use Rattle.std.proofs.Common.{slice_get}
 use Rattle.std.proofs.lemmas.Bool.{eqb-true, eqb-false, false≢true}
@@ -13,10 +14,11 @@ use Rattle.ux_model.specs.State.{State, description_at, next_description, with_s
 use Rattle.ux_model.specs.Outcome.{descriptor_at, find_socket}
 use Rattle.ux_model.specs.Pairing.{socket_description}
 use Rattle.ux_model.specs.Opening.{file_description}
+use Rattle.ux_model.specs.Making.{next_object}
 use Rattle.ux_model.specs.Connecting.{with_listening, server_end, tied, no_open_flags}
 use Rattle.ux_model.specs.History.{replay, IsLegal}
 use Rattle.ux_model.specs.Invariants.{IsWhole}
-use Rattle.ux_model.specs.Giving.{held_at, is_held, description_in, description_of, how_of, how_received}
+use Rattle.ux_model.specs.Giving.{held_at, is_held, description_in, description_of, given, how_of, how_received}
 use Rattle.ux_model.specs.Changes.{sources}
 use Rattle.ux_model.specs.Pedigree.{before, delivered, IsGiven, IsChain, first, onward, IsPedigree}
 use Rattle.ux_model.specs.PedigreeLaws.{LeadsTo}
@@ -30,9 +32,9 @@ use Rattle.ux_model.proofs.Pedigrees.Moments.{moment}
 use Rattle.ux_model.proofs.Pedigrees.Passing.{given_there, own_number, how_fork}
 use Rattle.ux_model.proofs.Pedigrees.OneDescription.{pedigree_is_of_one}
 use Rattle.ux_model.proofs.Tables.Shows.{socket_found}
-use Rattle.ux_laws.specs.Files.{IsOpening, HasWay}
+use Rattle.ux_laws.specs.Files.{made_modes, BeginsWay, by_opening, by_making, HasWay}
 use Rattle.ux_laws.proofs.Parts.{Glance, glance, glance_target, glance_at, glance_socket, glance_new, Shrinks}
-use Rattle.ux_laws.proofs.Acts.{Did, quiet, opened, one_made, pair_made, listened, tied_to, connected, put, took}
+use Rattle.ux_laws.proofs.Acts.{Did, quiet, opened, file_made, pipe_made, one_made, pair_made, listened, tied_to, connected, put, took}
 use Rattle.ux_laws.proofs.Doing.Calls.{step_did}
 use Rattle.ux_laws.proofs.Flows.{unmade}
 use Rattle.ux_laws.proofs.Ways.{every_holding_has_a_pedigree}
@@ -43,10 +45,19 @@ use Rattle.ux_laws.proofs.Ways.{every_holding_has_a_pedigree}
 abbrev pub Leads : State → ℕ → ℕ × Mode → Type 0
 Leads S d x = (glance_at S d).1 ≡ Some x
 
--- it did before, or the call opened it
+-- the call opened it by a path
+abbrev pub HasOpened : State → Request → ℕ → ℕ × Mode → Type 0
+HasOpened S request d x = (path : Name) × (mode : Mode) × (flags : OpenFlags) × (o : ℕ)
+    × (request ≡ Request.Open path mode flags) × (named path S.paths ≡ Some (file o)) × (x ≡ (o, mode)) × (d ≡ length S.descriptions)
+
+-- the call made the file object, and opened it in the ith of the modes
+abbrev pub HasMade : State → Request → ℕ → ℕ × Mode → Type 0
+HasMade S request d x = (i : ℕ) × (mode : Mode) × (slice_get (made_modes request) i ≡ Some mode) × (x ≡ (next_object S, mode))
+    × (d ≡ length S.descriptions + i)
+
+-- it did before, or the call opened it, or made it
 abbrev pub OrOpened : State → Request → ℕ → ℕ × Mode → Type 0
-OrOpened S request d x = Leads S d x ⊎ ((path : Name) × (mode : Mode) × (flags : OpenFlags) × (o : ℕ)
-    × (request ≡ Request.Open path mode flags) × (named path S.paths ≡ Some (file o)) × (x ≡ (o, mode)) × (d ≡ length S.descriptions))
+OrOpened S request d x = Leads S d x ⊎ HasOpened S request d x ⊎ HasMade S request d x
 
 shrunk_leads : (V T : State) (d : ℕ) (x : ℕ × Mode) → Shrinks V T → Leads T d x → Leads V d x
 shrunk_leads V T d x sh h = ⊎_elim {C = Leads V d x} (λ same. sym (ap (λ (g : Glance). g.1) same) ∙ h)
@@ -83,8 +94,31 @@ pub did_leads : (S T : State) (p tag : ℕ) (request : Request) (reply : Reply) 
 did_leads S T p tag request reply d x (quiet k moves) h = inl (shrunk_leads S T d x k h)
 did_leads S T p tag request reply d x (opened path mode flags o a b c k) h =
     ⊎_elim {C = OrOpened S request d x} (λ old. inl old)
-    (λ w. let same : (o, mode) ≡ x = cc (w.1) in inr (path, mode, flags, o, a, b, sym same, w.0))
+    (λ w. let same : (o, mode) ≡ x = cc (w.1) in inr (inl (path, mode, flags, o, a, b, sym same, w.0)))
     (new_leads S (file_description o mode flags) d x (shrunk_leads _ T d x k h))
+did_leads S T p tag request reply d x (file_made mode flags a b k) h =
+    ⊎_elim {C = OrOpened S request d x} (λ old. inl old)
+    (λ w.
+    let same : (next_object S, mode) ≡ x = cc (w.1) in
+    let at = w.0 in
+    inr (inr (0, mode, ap (λ (l : List Mode). slice_get l 0) a, sym same, omega (arith, at))))
+    (new_leads S (file_description (next_object S) mode flags) d x (shrunk_leads _ T d x k h))
+did_leads S T p tag request reply d x (pipe_made flags a b k) h =
+    let one : Description = file_description (next_object S) Mode.Read flags in
+    let two : Description = file_description (next_object S) Mode.Write flags in
+    let long = length_push S.descriptions (Some one) in
+    ⊎_elim {C = OrOpened S request d x}
+    (λ old. ⊎_elim {C = OrOpened S request d x} (λ older. inl older)
+    (λ w.
+    let same : (next_object S, Mode.Read) ≡ x = cc (w.1) in
+    let at = w.0 in
+    inr (inr (0, Mode.Read, ap (λ (l : List Mode). slice_get l 0) a, sym same, omega (arith, at))))
+    (new_leads S one d x old))
+    (λ w.
+    let same : (next_object S, Mode.Write) ≡ x = cc (w.1) in
+    let at = w.0 in
+    inr (inr (1, Mode.Write, ap (λ (l : List Mode). slice_get l 1) a, sym same, omega (arith, at, long))))
+    (new_leads (with_new S one) two d x (shrunk_leads _ T d x k h))
 did_leads S T p tag request reply d x (one_made kind flags a k) h =
     inl (socket_leads S (socket_description flags (new_socket kind)) d x refl (shrunk_leads _ T d x k h))
 did_leads S T p tag request reply d x (pair_made kind flags P a b c e f k) h =
@@ -121,6 +155,12 @@ pub did_more : (S T : State) (p tag : ℕ) (request : Request) (reply : Reply) �
 did_more S T p tag request reply (quiet k moves) = more_left S S T k (omega arith)
 did_more S T p tag request reply (opened path mode flags o a b c k) =
     more_left S _ T k (more_new S S (file_description o mode flags) (omega arith))
+did_more S T p tag request reply (file_made mode flags a b k) =
+    more_left S _ T k (more_new S S (file_description (next_object S) mode flags) (omega arith))
+did_more S T p tag request reply (pipe_made flags a b k) =
+    let one : Description = file_description (next_object S) Mode.Read flags in
+    let two : Description = file_description (next_object S) Mode.Write flags in
+    more_left S _ T k (more_new S (with_new S one) two (more_new S S one (omega arith)))
 did_more S T p tag request reply (one_made kind flags a k) =
     more_left S _ T k (more_new S S (socket_description flags (new_socket kind)) (omega arith))
 did_more S T p tag request reply (pair_made kind flags P a b c e f k) =
@@ -171,7 +211,8 @@ led_before boot es i (suc m) d x legal low within known h = bool_cases (i == suc
     let there = get_within es m (omega (arith, within)) in
     let more = made_more boot es i m legal (omega (arith, low, ne)) (omega (arith, within)) in
     led_before boot es i m d x legal (omega (arith, low, ne)) (omega (arith, within)) known
-    (⊎_elim {C = Leads (before boot es m) d x} (λ old. old) (λ w. let new = w.7 in absurd (omega (arith, known, more, new)))
+    (⊎_elim {C = Leads (before boot es m) d x} (λ old. old) (λ w. ⊎_elim {C = Leads (before boot es m) d x}
+    (λ v. let new = v.7 in absurd (omega (arith, known, more, new))) (λ v. let new = v.4 in absurd (omega (arith, known, more, new))) w)
     (did_leads (before boot es m) (before boot es (suc m)) there.0.pid.0 m there.0.request there.0.reply d x
     (did_at boot es m there.0 legal there.1) h)))
 
@@ -252,6 +293,12 @@ no_file_before boot es k i d e x tag legal at way source leads = by_request e.re
 
     by_request : (r : Request) → how_of r tag ≡ Some How.Made → slice_get (sources S e.pid.0 r) i ≡ Some d → ⊥
     by_request (Request.Open path mode flags) way h = let same = at_first (next_description S) h in new (omega (arith, same))
+    by_request (Request.Create path mode flags) way h = let same = at_first (next_description S) h in new (omega (arith, same))
+    by_request (Request.MemFd flags) way h = let same = at_first (next_description S) h in new (omega (arith, same))
+    by_request (Request.EventFd value flags) way h = let same = at_first (next_description S) h in new (omega (arith, same))
+    by_request (Request.Pipe flags) way h =
+        ⊎_elim {C = ⊥} (λ same. new (omega (arith, same)))
+        (λ same. new (omega (arith, same))) (of_two (next_description S) (suc (next_description S)) h)
     by_request (Request.Socket kind flags) way h = let same = at_first (next_description S) h in new (omega (arith, same))
     by_request (Request.SocketPair kind flags) way h =
         ⊎_elim {C = ⊥} (λ same. new (omega (arith, same)))
@@ -260,11 +307,78 @@ no_file_before boot es k i d e x tag legal at way source leads = by_request e.re
     by_request (Request.RecvMsg fd n space flags) way h = received tag way
     by_request _ way h = cc way
 
--- so the first link opened the file object
+-- the description that a call gives at a place is open in the mode of that place, if the call made what it leads to
+mode_there : (S : State) (p i j d : ℕ) (mode : Mode) (r : Request) → slice_get (made_modes r) i ≡ Some mode →
+    d ≡ length S.descriptions + i → slice_get (sources S p r) j ≡ Some d → slice_get (made_modes r) j ≡ Some mode
+mode_there S p i j d mode r h e g = by_request r h g
+  where
+    of_one : (m : Mode) (i j : ℕ) → slice_get (m ∷ []) i ≡ Some mode → slice_get (next_description S ∷ []) j ≡ Some d →
+        slice_get (m ∷ []) j ≡ Some mode
+    of_one m zero zero h g = h
+    of_one m zero (suc j) h g = absurd (cc g)
+    of_one m (suc i) j h g = absurd (cc h)
+
+    of_two : (i j : ℕ) → slice_get (Mode.Read ∷ Mode.Write ∷ []) i ≡ Some mode → d ≡ length S.descriptions + i →
+        slice_get (next_description S ∷ suc (next_description S) ∷ []) j ≡ Some d →
+        slice_get (Mode.Read ∷ Mode.Write ∷ []) j ≡ Some mode
+    of_two zero zero h e g = h
+    of_two zero (suc zero) h e g = let same : suc (length S.descriptions) ≡ d = cc g in absurd (omega (arith, same, e))
+    of_two zero (suc (suc j)) h e g = absurd (cc g)
+    of_two (suc zero) zero h e g = let same : length S.descriptions ≡ d = cc g in absurd (omega (arith, same, e))
+    of_two (suc zero) (suc zero) h e g = h
+    of_two (suc zero) (suc (suc j)) h e g = absurd (cc g)
+    of_two (suc (suc i)) j h e g = absurd (cc h)
+
+    by_request : (r : Request) → slice_get (made_modes r) i ≡ Some mode → slice_get (sources S p r) j ≡ Some d →
+        slice_get (made_modes r) j ≡ Some mode
+    by_request (Request.Create path m flags) h g = of_one m i j h g
+    by_request (Request.MemFd flags) h g = of_one Mode.Both i j h g
+    by_request (Request.EventFd value flags) h g = of_one Mode.Both i j h g
+    by_request (Request.Pipe flags) h g = of_two i j h e g
+    by_request r h g = absurd (cc h)
+
+-- how a way begins with a link whose call opened what its description leads to, or made it
+began_by_path : (boot : State) (es : List Entry) (allows : Mode → Bool) (o d : ℕ) (mode : Mode) (f : Link) (e : Entry) →
+    slice_get es f.entry ≡ Some e → allows mode ≡ true → HasOpened (before boot es f.entry) e.request d (o, mode) →
+    BeginsWay boot es allows o f
+began_by_path boot es allows o d mode f e at may v =
+    let pair_is : (o, mode) ≡ (v.3, v.1) = v.6 in
+    let object : o ≡ v.3 = ap (λ (x : ℕ × Mode). x.0) pair_is in
+    let mode_is : mode ≡ v.1 = ap (λ (x : ℕ × Mode). x.1) pair_is in
+    by_opening (record {
+      call = e;
+      path = v.0;
+      mode = v.1;
+      flags = v.2;
+      there = at;
+      asked = v.4;
+      leads = v.5 ∙ sym (ap (λ (i : ℕ). Some (file i)) object);
+      allowed = sym (ap allows mode_is) ∙ may;
+    })
+
+began_by_making : (boot : State) (es : List Entry) (allows : Mode → Bool) (o d : ℕ) (mode : Mode) (place : ℕ) (f : Link) (e : Entry) →
+    slice_get es f.entry ≡ Some e → allows mode ≡ true →
+    slice_get (given (before boot es f.entry) e.pid.0 e.request e.reply) place ≡ Some f.fd.0 →
+    slice_get (sources (before boot es f.entry) e.pid.0 e.request) place ≡ Some d →
+    HasMade (before boot es f.entry) e.request d (o, mode) → BeginsWay boot es allows o f
+began_by_making boot es allows o d mode place f e at may gave source v =
+    let pair_is : (o, mode) ≡ (next_object (before boot es f.entry), v.1) = v.3 in
+    by_making (record {
+      call = e;
+      place = place;
+      mode = v.1;
+      there = at;
+      number = gave;
+      opens = mode_there (before boot es f.entry) e.pid.0 v.0 place d v.1 e.request v.2 v.4 source;
+      new = ap (λ (x : ℕ × Mode). x.0) pair_is;
+      allowed = sym (ap (λ (x : ℕ × Mode). allows x.1) pair_is) ∙ may;
+    })
+
+-- so the first link opened the file object, or made it
 pub first_opened : (boot : State) (es : List Entry) (allows : Mode → Bool) (o d p n : ℕ) (mode : Mode) (chain : List Link) →
     IsLegal boot es → IsPedigree boot es chain p n →
     description_of (replay boot es) p n ≡ Some d → Leads (replay boot es) d (o, mode) → allows mode ≡ true →
-    (f : Link) × (rest : List Link) × (chain ≡ f ∷ rest) × IsOpening boot es allows o f
+    (f : Link) × (rest : List Link) × (chain ≡ f ∷ rest) × BeginsWay boot es allows o f
 first_opened boot es allows o d p n mode chain legal ped leads_to_d file_at may =
     let b = chain_begins boot es chain ped.last ped.leads in
     let f : Link = b.first in
@@ -296,24 +410,11 @@ first_opened boot es allows o d p n mode chain legal ped leads_to_d file_at may 
       f,
       b.rest,
       b.is,
-      ⊎_elim {C = IsOpening boot es allows o f}
+      ⊎_elim {C = BeginsWay boot es allows o f}
           (λ old. absurd (no_file_before boot es k mine.1.0 d e (o, mode) (delivered (before boot es k) e) legal at way
           (w.1 ∙ ap Some source_is) old))
-          (λ v.
-          let pair_is : (o, mode) ≡ (v.3, v.1) = v.6 in
-          let object : o ≡ v.3 = ap (λ (x : ℕ × Mode). x.0) pair_is in
-          let mode_is : mode ≡ v.1 = ap (λ (x : ℕ × Mode). x.1) pair_is in
-          record {
-            call = e;
-            path = v.0;
-            mode = v.1;
-            flags = v.2;
-            there = at;
-            asked = v.4;
-            leads = v.5
-                ∙ sym (ap (λ (i : ℕ). Some (file i)) object);
-            allowed = sym (ap allows mode_is) ∙ may;
-          })
+          (⊎_elim {C = BeginsWay boot es allows o f} (began_by_path boot es allows o d mode f e at may)
+          (began_by_making boot es allows o d mode mine.1.0 f e at may mine.1.1 (w.1 ∙ ap Some source_is)))
           (did_leads (before boot es k) (before boot es (suc k)) e.pid.0 k e.request e.reply d (o, mode) (did_at boot es k e legal at)
           then_file),
     )
@@ -341,4 +442,4 @@ way_there boot es allows o p fd e D legal g h t may =
     let ped = every_holding_has_a_pedigree boot es p fd.0 legal held in
     let leads : Leads S e.description (o, D.mode) = ap (λ x. (glance x).1) h ∙ ap (λ (u : Target). (glance_target D.mode u).1) t in
     let w = first_opened boot es allows o e.description p fd.0 D.mode ped.0 legal ped.1 (ap description_in g) leads may in
-    record { first = w.0; rest = w.1; pedigree = subst (λ (l : List Link). IsPedigree boot es l p fd.0) w.2 ped.1; opened = w.3 }
+    record { first = w.0; rest = w.1; pedigree = subst (λ (l : List Link). IsPedigree boot es l p fd.0) w.2 ped.1; begins = w.3 }

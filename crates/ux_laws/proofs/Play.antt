@@ -16,8 +16,10 @@ use Rattle.ux_model.specs.Delivery.{delivery}
 use Rattle.ux_model.specs.Sending.{send_with, send_read, send_msg}
 use Rattle.ux_model.specs.Receiving.{receive_front, recv_msg}
 use Rattle.ux_model.specs.Opening.{open_file}
+use Rattle.ux_model.specs.Making.{create_file, make_pipe}
 use Rattle.ux_model.specs.Reading.{read}
 use Rattle.ux_model.specs.Writing.{write}
+use Rattle.ux_model.specs.Naming.{unlink}
 use Rattle.ux_model.specs.Forking.{fork}
 use Rattle.ux_model.specs.Closing.{close, exit}
 use Rattle.ux_model.specs.Delivered.{delivered_by}
@@ -26,9 +28,9 @@ use Rattle.ux_model.specs.Boot.{boot_state}
 
 -- `unfolding computing` opens all that the calls of the examples are made of
 unfoldable pub computing : Unit {0}
-unfolding refs orefs without drop_rounds drop_unreferenced released_objects settled open_file read write make_pair shutdown get_opt set_opt
-    in_flight free_name cred_in item_of item_behind item_at with_items control_in send_with send_read send_msg delivery receive_front
-    recv_msg fork close exit outcome after
+unfolding refs orefs without drop_rounds drop_unreferenced released_objects settled open_file create_file make_pipe read write make_pair
+    shutdown get_opt set_opt in_flight free_name cred_in item_of item_behind item_at with_items control_in send_with send_read send_msg
+    delivery receive_front recv_msg unlink fork close exit outcome after
 computing = tt
 
 -- a process and its request

@@ -1,13 +1,15 @@
 -- Each reply is a refusal, or of the kind of its request. One lemma a call, and one line of `each_is`, at the end.
 use Rattle.std.proofs.Common.{◌≡◌, ℕ, Bool, true, not, ◌&&◌, ◌||◌, ◌==◌, if◌then◌else◌, List, length, min, Option, Some, None, Result, Ok}
-use Rattle.std.proofs.Common.{Err, refl, ap, ◌∙◌}
+use Rattle.std.proofs.Common.{Err, refl, ap, ◌∙◌, []}
 use Rattle.std.specs.Prelude.{nat_le, nat_lt, ℤ, pos, negsuc, ◌+ℤ◌, is_none, is_some, slice_get}
+use Rattle.ux_model.specs.Making.{next_object, object_table_full, with_made, with_path, open_made, make_object, create_file, make_pipe}
 use mathlib.Core.Bool.{or-true}
 use Rattle.ux_model.specs.Types.{Errno, Fd, Cred, Name, Addr, SockType, SockOpt, Mode, OpenFlags, MsgFlags, Whence, Request, Reply}
 use Rattle.ux_model.specs.Places.{place}
 use Rattle.ux_model.specs.Limits.{made_limit, read_limit, offset_limit, record_bytes_limit}
 use Rattle.ux_model.specs.Flags.{can_read, can_write, are_send_flags, are_receive_flags, no_flags}
 use Rattle.ux_model.specs.Object.{Body, View, ObjectError, would_block, full, invalid, read_body, write_body, is_memory, is_pipe}
+use Rattle.ux_model.specs.Object.{memory, counter}
 use Rattle.ux_model.specs.Names.{named, is_valid_path, is_valid_addr, is_unnamed_addr, free_name}
 use Rattle.ux_model.specs.Message.{Message}
 use Rattle.ux_model.specs.Control.{Control}
@@ -132,6 +134,25 @@ off_is S = refl
 socket_is : (S : State) (p : ℕ) (kind : SockType) (flags : OpenFlags) → Is is_fd (make_socket S p kind flags)
 unfolding make_socket
 socket_is S p kind flags = maybe (Is is_fd) (lowest_free (table_of S p)) _ _ refl (λ n low. refl)
+
+made_is : (S T : State) (p : ℕ) (mode : Mode) (flags : OpenFlags) → Is is_fd (open_made S T p mode flags)
+made_is S T p mode flags = maybe (Is is_fd) (lowest_free (table_of S p)) _ _ refl
+    (λ n low. either (Is is_fd) (object_table_full S) _ _ (λ b. refl) (λ b. refl))
+
+create_is : (S : State) (p : ℕ) (path : Name) (mode : Mode) (flags : OpenFlags) → Is is_fd (create_file S p path mode flags)
+unfolding create_file
+create_is S p path mode flags = either (Is is_fd) (not (is_valid_path path)) _ _ (λ b. refl)
+    (λ b. either (Is is_fd) (is_some (named path S.paths)) _ _ (λ c. refl)
+    (λ c. made_is S (with_path (with_made S (memory [])) path (next_object S)) p mode flags))
+
+object_is : (S : State) (p : ℕ) (body : Body) (flags : OpenFlags) → Is is_fd (make_object S p body flags)
+unfolding make_object
+object_is S p body flags = made_is S (with_made S body) p Mode.Both flags
+
+pipe_is : (S : State) (p : ℕ) (flags : OpenFlags) → Is is_fds (make_pipe S p flags)
+unfolding make_pipe
+pipe_is S p flags = maybe (Is is_fds) (two_lowest_free (table_of S p)) _ _ refl
+    (λ n low. either (Is is_fds) (object_table_full S) _ _ (λ b. refl) (λ b. refl))
 
 pair_is : (S : State) (p : ℕ) (kind : SockType) (flags : OpenFlags) → Is is_fds (make_pair S p kind flags)
 unfolding make_pair
@@ -377,6 +398,10 @@ read_file_is S p fd n = found (Is is_bytes) S p fd _ refl (λ e D g h. by_target
 each_is : (S : State) (p tag : ℕ) (request : Request) → Is (kind_of request) (outcome S p tag request)
 unfolding outcome
 each_is S p tag (Request.Open path mode flags) = open_is S p path mode flags
+each_is S p tag (Request.Create path mode flags) = create_is S p path mode flags
+each_is S p tag (Request.MemFd flags) = object_is S p (memory []) flags
+each_is S p tag (Request.EventFd value flags) = object_is S p (counter value) flags
+each_is S p tag (Request.Pipe flags) = pipe_is S p flags
 each_is S p tag (Request.Read fd n) = read_file_is S p fd n
 each_is S p tag (Request.Write fd bytes) = write_is S p tag fd bytes
 each_is S p tag (Request.Lseek fd offset whence) = lseek_is S p fd offset whence

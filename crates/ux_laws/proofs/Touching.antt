@@ -4,5 +4,6 @@ pub mod Neither
 pub mod Messages
 pub mod Contents
 pub mod Paths
+pub mod Making
 pub mod Calls
 pub mod Ends

@@ -21,7 +21,8 @@ use Rattle.ux_model.proofs.Lists.ChangedPlaces.{rest_of}
 use Rattle.ux_model.proofs.Lists.Induction.{get_pushed}
 use Rattle.ux_model.proofs.Lists.ByPlace.{get_within}
 use Rattle.ux_model.proofs.Changes.Reaching.{May, may_change, Reaches, still, process_changed, process_forked, description_made, peers_made}
-use Rattle.ux_model.proofs.Changes.Reaching.{connection_made, description_changed, object_changed, paths_taken, path_bound, name_bound}
+use Rattle.ux_model.proofs.Changes.Reaching.{object_made, path_made, connection_made, description_changed, object_changed, paths_taken}
+use Rattle.ux_model.proofs.Changes.Reaching.{path_bound, name_bound}
 use Rattle.ux_model.proofs.Changes.Reaching.{turned_off, IsOfSameUser}
 use Rattle.ux_model.proofs.Steps.Calls.{each_obeys, chosen_reached}
 use Rattle.ux_model.proofs.Processes.Living.{settled_keeps, fork_fails_not}
@@ -107,6 +108,7 @@ reached_still S may stay T w still = w
 reached_still {P} S may stay T w (process_changed {T = U} i X Y r h names kept same) =
     set_still U i X Y h (same_user_stays P X Y (same stay)) (reached_still S may stay U w r)
 reached_still S may stay T w (process_forked {T = U} i X r h lives) = child_still U (child_of X) (reached_still S may stay U w r)
+reached_still S may stay T w (object_made {T = U} body r makes) = same_still U _ refl (reached_still S may stay U w r)
 reached_still S may stay T w (description_made {T = U} D r leads nothing bounds) = same_still U _ refl (reached_still S may stay U w r)
 reached_still S may stay T w (peers_made {T = U} D E r peers) = same_still U _ refl (reached_still S may stay U w r)
 reached_still S may stay T w (connection_made {T = U} d l cred listener_cred s listener r client free there) =
@@ -114,6 +116,7 @@ reached_still S may stay T w (connection_made {T = U} d l cred listener_cred s l
 reached_still S may stay T w (description_changed {T = U} d x r keeps) = same_still U _ refl (reached_still S may stay U w r)
 reached_still S may stay T w (object_changed {T = U} o old new r h same) = same_still U _ refl (reached_still S may stay U w r)
 reached_still S may stay T w (paths_taken {T = U} keep r) = same_still U _ refl (reached_still S may stay U w r)
+reached_still S may stay T w (path_made {T = U} name o r there) = same_still U _ refl (reached_still S may stay U w r)
 reached_still S may stay T w (path_bound {T = U} name d r) = same_still U _ refl (reached_still S may stay U w r)
 reached_still S may stay T w (name_bound {T = U} name d r shown) = same_still U _ refl (reached_still S may stay U w r)
 reached_still S may stay T w (turned_off {T = U} r) = emptied_still U _ refl (reached_still S may stay U w r)

@@ -1,5 +1,6 @@
 -- A file that is never opened for writing stays as it was, and reads tell it.
-use Rattle.std.proofs.Common.{◌≡◌, ◌≢◌, ℕ, zero, suc, ◌==◌, Bool, not, ◌&&◌, List, [], ◌++◌, take, drop, append_assoc, min, Option, Some}
+use Rattle.std.proofs.Common.{◌<◌, length, arith, ◌≡◌, ◌≢◌, ℕ, zero, suc, ◌==◌, Bool, not, ◌&&◌, List, [], ◌++◌, take, drop, append_assoc}
+use Rattle.std.proofs.Common.{min, Option, Some}
 use Rattle.std.proofs.Common.{None, Result, Ok, refl, ap, sym, ◌∙◌, subst, slice_get}
 use Rattle.std.proofs.lemmas.Bool.{false≢true}
 use Rattle.std.proofs.lemmas.List.{take-append-drop}
@@ -17,19 +18,22 @@ use Rattle.ux_model.specs.Reading.{read, read_answer, is_short_read}
 use Rattle.ux_model.specs.Step.{Step, outcome}
 use Rattle.ux_model.specs.Giving.{how_of}
 use Rattle.ux_model.specs.Names.{file, named}
-use Rattle.ux_model.specs.History.{replay}
+use Rattle.ux_model.specs.History.{replay, IsLegal}
 use Rattle.ux_model.specs.Pedigree.{before, delivered}
 use Rattle.ux_model.proofs.Changes.Walk.{either, maybe, by_target, found}
 use Rattle.ux_model.proofs.Lists.Fronts.{front_is_legal, in_front}
 use Rattle.ux_model.proofs.Lists.Induction.{take_past}
+use Rattle.ux_model.proofs.Lists.ChangedPlaces.{place_within}
+use Rattle.ux_model.proofs.Invariants.Closed.{boot_long}
 use Rattle.ux_model.proofs.Pedigrees.Moments.{moment}
 use Rattle.ux_model.proofs.Pedigrees.Passing.{how_fork, own_number}
+use Rattle.ux_laws.specs.Files.{BeginsWay, by_opening, by_making}
 use Rattle.ux_laws.specs.Files.{body_in, body_at, object_behind, HasWay, IsNeverOpened, UnwrittenFilesStay, IsRunOf, ReadsTellTheFile}
 use Rattle.ux_laws.specs.Files.{HoldOnlyWhatTheyMade}
 use Rattle.ux_laws.proofs.Opened.{chain_begins, way_there}
-use Rattle.ux_laws.proofs.Touching.Contents.{Touches, untouched, written, read_from}
+use Rattle.ux_laws.proofs.Touching.Contents.{Touches, untouched, made_now, written, read_from}
 use Rattle.ux_laws.proofs.Touching.Ends.{step_files}
-use Rattle.ux_laws.proofs.NoWay.{LeadsToObject, behind_leads, all_theirs}
+use Rattle.ux_laws.proofs.NoWay.{LeadsToObject, behind_leads, all_theirs, not_made}
 
 -- ---- what is in it
 
@@ -38,21 +42,32 @@ abbrev HasAlone : State → ℕ → List ℕ → Type 0
 HasAlone S o bytes = (body : Body) → body_at S o ≡ Some body → body ≡ memory bytes
 
 -- who has a way in a front of the history has one that begins with a call of the whole
-no_way_in_front : (boot : State) (es : List Entry) (j : ℕ) (allows : Mode → Bool) (o p n : ℕ) → IsNeverOpened boot es allows o →
-    HasWay boot (take j es) allows o p n → ⊥
-no_way_in_front boot es j allows o p n never way =
-    let opens = way.opened in
-    let there = in_front es j way.first.entry opens.call opens.there in
-    never way.first (record {
-      call = opens.call;
-      path = opens.path;
-      mode = opens.mode;
-      flags = opens.flags;
-      there = there.0;
-      asked = opens.asked;
-      leads = subst (λ (l : List Entry). named opens.path (replay boot l).paths ≡ Some (file o)) there.1 opens.leads;
-      allowed = opens.allowed;
-    })
+no_way_in_front : (boot : State) (es : List Entry) (j : ℕ) (allows : Mode → Bool) (o p n : ℕ) → IsLegal boot es → o < length boot.objects →
+    IsNeverOpened boot es allows o → HasWay boot (take j es) allows o p n → ⊥
+no_way_in_front boot es j allows o p n legal known never way = by_first way.begins
+  where
+    by_first : BeginsWay boot (take j es) allows o way.first → ⊥
+    by_first (by_opening opens) =
+        let there = in_front es j way.first.entry opens.call opens.there in
+        never way.first (record {
+          call = opens.call;
+          path = opens.path;
+          mode = opens.mode;
+          flags = opens.flags;
+          there = there.0;
+          asked = opens.asked;
+          leads = subst (λ (l : List Entry). named opens.path (replay boot l).paths ≡ Some (file o)) there.1 opens.leads;
+          allowed = opens.allowed;
+        })
+    by_first (by_making making) = not_made boot (take j es) allows o way.first (front_is_legal boot es j legal) known making
+
+-- what has bytes at the start is a file object of the start
+known_at_first : (S : State) (o : ℕ) (body : Body) → body_at S o ≡ Some body → o < length S.objects
+known_at_first S o body h = go (place S.objects o) refl h
+  where
+    go : (x : Option View) → place S.objects o ≡ x → body_in x ≡ Some body → o < length S.objects
+    go None is h = absurd (cc h)
+    go (Some view) is h = place_within S.objects o view is
 
 pub unwritten_files_stay : UnwrittenFilesStay
 unwritten_files_stay boot es zero o bytes body legal at_first never now = let both : Some (memory bytes) ≡ Some body = sym at_first ∙ now in
@@ -63,8 +78,12 @@ unwritten_files_stay boot es (suc j) o bytes body legal at_first never now =
     by_touch : {U : State} (e : Entry) → HasAlone (before boot es j) o bytes → Touches (before boot es j) e.pid.0 e.request o U →
         body_at U o ≡ Some body → body ≡ memory bytes
     by_touch e so_far (untouched same) left = so_far body (sym same ∙ left)
+    by_touch e so_far (made_now new) left =
+        let long = boot_long boot es j legal in
+        let known = known_at_first boot o (memory bytes) at_first in
+        absurd (omega (arith, long, known, new))
     by_touch e so_far (written fd added d D asked g h t may) left =
-        absurd (no_way_in_front boot es j can_write o e.pid.0 fd.0 never
+        absurd (no_way_in_front boot es j can_write o e.pid.0 fd.0 legal (known_at_first boot o (memory bytes) at_first) never
         (way_there boot (take j es) can_write o e.pid.0 fd d D (front_is_legal boot es j legal) g h t may))
     by_touch e so_far (read_from fd n d D view asked g h t may there kind) left =
         absurd (false≢true (sym kind ∙ ap is_memory (so_far view.body (ap body_in there))))

@@ -260,7 +260,8 @@ socket_stays S T p tag d request reply s D did here there = go D.target refl
         let leads : Leads T d (o, D.mode) = ap (λ x. (glance x).1) there ∙ ap (λ (u : Target). (glance_target D.mode u).1) is in
         ⊎_elim {C = (t : Socket) × (socket_at T d ≡ Some t)}
         (λ old. let clash : None ≡ Some (o, D.mode) = sym (ap (λ (g : Glance). g.1) (glance_socket S d s here)) ∙ old in absurd (cc clash))
-        (λ w. let known = socket_known S d s here in let at = w.7 in absurd (omega (arith, known, at)))
+        (λ w. let known = socket_known S d s here in ⊎_elim {C = (t : Socket) × (socket_at T d ≡ Some t)}
+        (λ v. let at = v.7 in absurd (omega (arith, known, at))) (λ v. let at = v.4 in absurd (omega (arith, known, at))) w)
         (did_leads S T p tag request reply d (o, D.mode) did leads)
 
 -- a shutdown of this socket, or none of it

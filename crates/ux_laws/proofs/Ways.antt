@@ -191,6 +191,10 @@ given_chain boot es k p n e legal at gave held earlier = by_request e.request re
 
     by_request : (r : Request) → e.request ≡ r → HasChain boot es (suc k) p n
     by_request (Request.Open path mode flags) is = made _ is refl
+    by_request (Request.Create path mode flags) is = made _ is refl
+    by_request (Request.MemFd flags) is = made _ is refl
+    by_request (Request.EventFd value flags) is = made _ is refl
+    by_request (Request.Pipe flags) is = made _ is refl
     by_request (Request.Socket kind flags) is = made _ is refl
     by_request (Request.SocketPair kind flags) is = made _ is refl
     by_request (Request.Accept fd flags) is = made _ is refl

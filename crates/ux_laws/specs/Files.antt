@@ -1,5 +1,5 @@
--- No file without a way to it: who changes a file object, and who reads it (open(2), read(2), write(2); unix(7), SCM_RIGHTS).
-use Rattle.std.specs.Prelude.{◌≡◌, ◌≢◌, ◌⊎◌, ℕ, suc, ◌≤◌, Bool, true, false, List, ◌∷◌, ◌++◌, length, take, Option, Some, None}
+-- No file without a way to it: who changes a file object, and who reads it (open(2), pipe2(2), read(2), write(2); unix(7), SCM_RIGHTS).
+use Rattle.std.specs.Prelude.{◌≡◌, ◌≢◌, ◌⊎◌, ℕ, suc, ◌≤◌, Bool, true, false, List, [], ◌∷◌, ◌++◌, length, take, Option, Some, None}
 use Rattle.std.specs.List.{slice_get}
 use Rattle.ux_model.specs.Types.{Fd, Name, Mode, OpenFlags, Request, Reply, Entry, Link, How}
 use Rattle.ux_model.specs.Places.{place}
@@ -9,8 +9,9 @@ use Rattle.ux_model.specs.Names.{file, named}
 use Rattle.ux_model.specs.Description.{object_of}
 use Rattle.ux_model.specs.State.{State}
 use Rattle.ux_model.specs.Outcome.{find_description}
+use Rattle.ux_model.specs.Making.{next_object}
 use Rattle.ux_model.specs.History.{makes, replay, IsLegal}
-use Rattle.ux_model.specs.Giving.{is_held}
+use Rattle.ux_model.specs.Giving.{is_held, given}
 use Rattle.ux_model.specs.Pedigree.{before, IsPedigree}
 use Rattle.ux_model.specs.PedigreeLaws.{WasSentNothing}
 use Rattle.ux_laws.specs.Talking.{if_found}
@@ -42,12 +43,36 @@ pub record IsOpening (boot : State) (entries : List Entry) (allows : Mode → Bo
   pub leads : named path (before boot entries b.entry).paths ≡ Some (file o)
   pub allowed : allows mode ≡ true
 
+-- in which modes a call opens the file object that it makes, in the order of the numbers that it gives
+abbrev pub made_modes : Request → List Mode
+made_modes (Request.Create path mode flags) = mode ∷ []
+made_modes (Request.MemFd flags) = Mode.Both ∷ []
+made_modes (Request.EventFd value flags) = Mode.Both ∷ []
+made_modes (Request.Pipe flags) = Mode.Read ∷ Mode.Write ∷ []
+made_modes _ = []
+
+-- The link's call made the file object, and opened it under the link's number in a mode that allows this.
+pub record IsMaking (boot : State) (entries : List Entry) (allows : Mode → Bool) (o : ℕ) (b : Link) : Type 0 where
+  pub call : Entry
+  pub place : ℕ
+  pub mode : Mode
+  pub there : slice_get entries b.entry ≡ Some call
+  pub number : slice_get (given (before boot entries b.entry) call.pid.0 call.request call.reply) place ≡ Some b.fd.0
+  pub opens : slice_get (made_modes call.request) place ≡ Some mode
+  pub new : o ≡ next_object (before boot entries b.entry)
+  pub allowed : allows mode ≡ true
+
+-- A way begins with either.
+pub data BeginsWay (boot : State) (entries : List Entry) (allows : Mode → Bool) (o : ℕ) (b : Link) : Type 0 where
+  by_opening : IsOpening boot entries allows o b → BeginsWay boot entries allows o b
+  by_making : IsMaking boot entries allows o b → BeginsWay boot entries allows o b
+
 -- A number of process p leads to the file object by a pedigree that begins with such a call.
 pub record HasWay (boot : State) (entries : List Entry) (allows : Mode → Bool) (o p n : ℕ) : Type 0 where
   pub first : Link
   pub rest : List Link
   pub pedigree : IsPedigree boot entries (first ∷ rest) p n
-  pub opened : IsOpening boot entries allows o first
+  pub begins : BeginsWay boot entries allows o first
 
 -- each number that a process holds has a pedigree
 abbrev pub EachHoldingHasAPedigree : Type 0
@@ -58,11 +83,11 @@ EachHoldingHasAPedigree = (boot : State) (entries : List Entry) (p n : ℕ) → 
 
 -- Call j changed what was in the file object.
 pub data IsChange (boot : State) (entries : List Entry) (j : ℕ) (e : Entry) (o : ℕ) (old : Body) : Type 0 where
-  -- it is a write by a number that leads to an open for writing
+  -- it is a write by a number that leads to an opening for writing
   by_write : (fd : Fd) (bytes : List ℕ) → e.request ≡ Request.Write fd bytes →
       object_behind (before boot entries j) e.pid.0 fd ≡ Some o →
       HasWay boot (take j entries) can_write o e.pid.0 fd.0 → IsChange boot entries j e o old
-  -- or a read of a pipe or a counter, which takes what it gives, by one that leads to an open for reading
+  -- or a read of a pipe or a counter, which takes what it gives, by one that leads to an opening for reading
   by_read : (fd : Fd) (n : ℕ) → e.request ≡ Request.Read fd n → is_memory old ≡ false →
       object_behind (before boot entries j) e.pid.0 fd ≡ Some o →
       HasWay boot (take j entries) can_read o e.pid.0 fd.0 → IsChange boot entries j e o old
@@ -75,7 +100,7 @@ ChangesHaveAWay = (boot : State) (entries : List Entry) (j o : ℕ) (e : Entry) 
 
 -- ---- reads
 
--- a read of a file object that is answered its bytes is by a number that leads to an open for reading
+-- a read of a file object that is answered its bytes is by a number that leads to an opening for reading
 abbrev pub ReadsHaveAWay : Type 0
 ReadsHaveAWay = (boot : State) (entries : List Entry) (j o n : ℕ) (e : Entry) (fd : Fd) (bytes : List ℕ) → IsLegal boot entries →
     slice_get entries j ≡ Some e → e.request ≡ Request.Read fd n → object_behind (before boot entries j) e.pid.0 fd ≡ Some o →
@@ -107,7 +132,7 @@ ReadsTellTheFile = (boot : State) (entries : List Entry) (j o n : ℕ) (e : Entr
     e.request ≡ Request.Read fd n → object_behind (before boot entries j) e.pid.0 fd ≡ Some o → e.reply ≡ Reply.Bytes given →
     IsRunOf given bytes
 
--- A path that leads to a file object at some moment is the one that did at the start.
+-- A path that leads at some moment to a file object of the start is the one that did then.
 abbrev pub FilesKeepTheirPath : Type 0
 FilesKeepTheirPath = (boot : State) (entries : List Entry) (j o : ℕ) (path other : Name) → IsLegal boot entries →
     named path boot.paths ≡ Some (file o) → named other (before boot entries j).paths ≡ Some (file o) → other ≡ path

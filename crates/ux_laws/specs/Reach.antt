@@ -70,9 +70,10 @@ abbrev pub is_path : Addr → Name → Bool
 is_path (Addr.Path name) path = same_name name path
 is_path _ path = false
 
--- the call binds this path, or takes it away; the end of the layer takes all
+-- the call binds this path, makes a file under it, or takes it away; the end of the layer takes all
 abbrev pub names_path : Request → Name → Bool
 names_path (Request.Bind fd addr) path = is_path addr path
+names_path (Request.Create name mode flags) path = same_name name path
 names_path (Request.Unlink name) path = same_name name path
 names_path Request.Off path = true
 names_path _ path = false

@@ -76,6 +76,10 @@ option_kind _ = is_value
 -- what each call gives where it isn't refused
 abbrev pub kind_of : Request → Reply → Bool
 kind_of (Request.Open path mode flags) = is_fd
+kind_of (Request.Create path mode flags) = is_fd
+kind_of (Request.MemFd flags) = is_fd
+kind_of (Request.EventFd value flags) = is_fd
+kind_of (Request.Pipe flags) = is_fds
 kind_of (Request.Read fd n) = is_bytes
 kind_of (Request.Write fd bytes) = is_count
 kind_of (Request.Lseek fd offset whence) = is_offset

@@ -62,14 +62,14 @@ pub fn each_holding_has_a_pedigree()
 {}
 
 /// What is in a file object changes by a write through a descriptor whose pedigree begins with an open of that
-/// object for writing, or, in a pipe or a counter, by a read through one for reading, which takes what it gives.
-/// No other call changes it.
+/// object for writing, or with the call that made it, or, in a pipe or a counter, by a read through one for
+/// reading, which takes what it gives. No other call changes it.
 pub fn who_changes_a_file_has_a_way()
     ensures { ChangesHaveAWay }
 {}
 
 /// A read that is answered with bytes of a file object is through a descriptor whose pedigree begins with an
-/// open of that object for reading.
+/// open of that object for reading, or with the call that made it.
 pub fn who_reads_a_file_has_a_way()
     ensures { ReadsHaveAWay }
 {}
@@ -103,7 +103,7 @@ pub fn reads_tell_the_file()
     ensures { ReadsTellTheFile }
 {}
 
-/// A path that leads to a file object at some moment is the one that led there at the start.
+/// A path that leads at some moment to a file object of the start is the one that led there then.
 #[tactic(auto, using(crate::proofs::NoWay::files_keep_their_path))]
 pub fn files_keep_their_path()
     ensures { FilesKeepTheirPath }
@@ -181,7 +181,8 @@ pub fn calls_leave_tables_alone()
     ensures { CallsLeaveTablesAlone }
 {}
 
-/// A call leaves each path that it doesn't itself bind or take away: it names what it named, or nothing still.
+/// A call leaves each path that it doesn't itself bind, make or take away: it names what it named, or nothing
+/// still.
 pub fn calls_leave_paths_alone()
     ensures { CallsLeavePathsAlone }
 {}

@@ -1,7 +1,8 @@
 -- What each call does.
 use Rattle.std.proofs.Common.{◌≡◌, ℕ, List}
-use Rattle.std.proofs.Common.{refl, ap, sym, subst}
+use Rattle.std.proofs.Common.{refl, ap, sym, subst, []}
 use Rattle.ux_model.specs.Types.{Errno, Request, Reply}
+use Rattle.ux_model.specs.Object.{memory, counter}
 use Rattle.ux_model.specs.State.{State}
 use Rattle.ux_model.specs.Outcome.{Outcome, Chosen, own, lacking_memory, failing}
 use Rattle.ux_model.specs.Release.{settled}
@@ -15,7 +16,7 @@ use Rattle.ux_laws.proofs.Acts.{Did}
 use Rattle.ux_laws.proofs.Acts.{did_after}
 use Rattle.ux_laws.proofs.Doing.Outcomes.{refuses, answers}
 use Rattle.ux_laws.proofs.Doing.Descriptors.{dup_did, dup2_did, dup_from_did, get_flags_did, flags_did, close_did, exit_did, fork_did}
-use Rattle.ux_laws.proofs.Doing.Descriptors.{exec_did, ids_did, off_did, open_did, socket_did, pair_did}
+use Rattle.ux_laws.proofs.Doing.Descriptors.{exec_did, ids_did, off_did, open_did, socket_did, pair_did, create_did, object_did, pipe_did}
 use Rattle.ux_laws.proofs.Doing.Naming.{unlink_did, bind_did, sock_name_did, peer_name_did, listen_did, shutdown_did, connect_did}
 use Rattle.ux_laws.proofs.Doing.Naming.{accept_did, get_opt_did, set_opt_did, poll_did}
 use Rattle.ux_laws.proofs.Doing.Sending.{send_did}
@@ -25,6 +26,10 @@ use Rattle.ux_laws.proofs.Doing.Files.{read_did, write_did, lseek_did}
 each_did : (S : State) (p tag : ℕ) (request : Request) → Did S p tag request (outcome S p tag request).reply (outcome S p tag request).next
 unfolding outcome
 each_did S p tag (Request.Open path mode flags) = open_did S p tag path mode flags
+each_did S p tag (Request.Create path mode flags) = create_did S p tag path mode flags
+each_did S p tag (Request.MemFd flags) = object_did S p tag (Request.MemFd flags) (memory []) flags refl
+each_did S p tag (Request.EventFd value flags) = object_did S p tag (Request.EventFd value flags) (counter value) flags refl
+each_did S p tag (Request.Pipe flags) = pipe_did S p tag flags
 each_did S p tag (Request.Read fd n) = read_did S p tag fd n
 each_did S p tag (Request.Write fd bytes) = write_did S p tag fd bytes
 each_did S p tag (Request.Lseek fd offset whence) = lseek_did S p tag fd offset whence

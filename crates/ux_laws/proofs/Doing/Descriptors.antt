@@ -1,29 +1,34 @@
 -- What calls on descriptors and processes do, and those that make descriptions.
 use Rattle.std.proofs.Common.{◌≡◌, ℕ, zero, suc, ◌==◌, true, not, ◌||◌, length}
-use Rattle.std.proofs.Common.{map, Some, None, refl, ap, ◌∙◌, inr}
+use Rattle.std.proofs.Common.{map, is_some, Some, None, refl, ap, ◌∙◌, inr, [], ◌∷◌, ◌++◌, Option, List}
 use Rattle.std.specs.Prelude.{nat_le}
 use Rattle.std.proofs.lemmas.List.{length-map}
 use Rattle.ux_model.specs.Types.{Fd, Name, SockType, Mode, OpenFlags, Request}
 use Rattle.ux_model.specs.Limits.{made_limit}
-use Rattle.ux_model.specs.Names.{named, is_valid_path}
+use Rattle.ux_model.specs.Object.{Body, memory}
+use Rattle.ux_model.specs.Names.{named, is_valid_path, PathTarget, file}
 use Rattle.ux_model.specs.Socket.{new_socket}
+use Rattle.ux_model.specs.Description.{Description}
 use Rattle.ux_model.specs.Process.{Process, own_cred, lowest_free, lowest_free_from, two_lowest_free, kept_on_exec}
-use Rattle.ux_model.specs.Process.{fd_of}
+use Rattle.ux_model.specs.Process.{fd_of, Descriptor}
 use Rattle.ux_model.specs.State.{State, process_at, table_of, with_child, with_description}
-use Rattle.ux_model.specs.State.{with_process, with_new}
+use Rattle.ux_model.specs.State.{with_process, with_new, with_table}
 use Rattle.ux_model.specs.Outcome.{Outcome}
 use Rattle.ux_model.specs.Pairing.{make_pair, with_pair, socket_description}
 use Rattle.ux_model.specs.Connecting.{make_socket}
 use Rattle.ux_model.specs.Opening.{open_file, file_description}
+use Rattle.ux_model.specs.Making.{next_object, object_table_full, with_pipe, open_made, make_object, create_file, make_pipe}
 use Rattle.ux_model.specs.Descriptors.{dup, dup2, dup_from, get_flags, set_flags, with_flags}
 use Rattle.ux_model.specs.Users.{no_id, may_become, with_ids, set_ids}
 use Rattle.ux_model.specs.Forking.{fork, exec, child_of}
 use Rattle.ux_model.specs.Closing.{close, exit, off}
 use Rattle.ux_model.proofs.Changes.Walk.{either, maybe, by_path, found}
 use Rattle.ux_model.proofs.Lists.Rising.{place_mapped}
+use Rattle.ux_model.proofs.Steps.MakingCalls.{made_so}
+use Rattle.ux_laws.specs.Files.{made_modes}
 use Rattle.ux_laws.proofs.Parts.{glance, kept_same, kept_after, kept_table, kept_put}
-use Rattle.ux_laws.proofs.Parts.{kept_shrinks}
-use Rattle.ux_laws.proofs.Acts.{silent, Did, quiet, opened, one_made}
+use Rattle.ux_laws.proofs.Parts.{kept_shrinks, Kept}
+use Rattle.ux_laws.proofs.Acts.{silent, Did, quiet, opened, file_made, pipe_made, with_ends, one_made}
 use Rattle.ux_laws.proofs.Acts.{pair_made}
 use Rattle.ux_laws.proofs.Doing.Outcomes.{refuses, answers, unchanged}
 
@@ -123,6 +128,50 @@ open_did S p tag path mode flags = either Q (not (is_valid_path path)) _ _ (λ b
   where
     Q : Outcome → Type 0
     Q o = Did S p tag (Request.Open path mode flags) o.reply o.next
+
+-- with file objects and paths that Parts doesn't see
+made_kept : (S : State) (body : Body) (names : List (Name × PathTarget)) (D : Description) (p : ℕ) (table : List (Option Descriptor)) →
+    Kept (with_new S D) (with_table (with_new (made_so S body names) D) p table)
+made_kept S body names D p table = let k = kept_table (with_new (made_so S body names) D) p table in
+    record { each = k.each; long = k.long }
+
+made_did : (S : State) (p tag : ℕ) (request : Request) (body : Body) (names : List (Name × PathTarget)) (mode : Mode) (flags : OpenFlags) →
+    made_modes request ≡ mode ∷ [] →
+    Did S p tag request (open_made S (made_so S body names) p mode flags).reply (open_made S (made_so S body names) p mode flags).next
+made_did S p tag request body names mode flags opens = maybe Q (lowest_free (table_of S p)) _ _ refuses
+    (λ n low. either Q (object_table_full S) _ _ (λ b. refuses)
+    (λ b. file_made mode flags opens refl (kept_shrinks (made_kept S body names (file_description (next_object S) mode flags) p _))))
+  where
+    Q : Outcome → Type 0
+    Q o = Did S p tag request o.reply o.next
+
+pub create_did : (S : State) (p tag : ℕ) (path : Name) (mode : Mode) (flags : OpenFlags) →
+    Did S p tag (Request.Create path mode flags) (create_file S p path mode flags).reply (create_file S p path mode flags).next
+unfolding create_file
+create_did S p tag path mode flags = either Q (not (is_valid_path path)) _ _ (λ b. refuses)
+    (λ b. either Q (is_some (named path S.paths)) _ _ (λ c. refuses)
+    (λ c. made_did S p tag (Request.Create path mode flags) (memory []) (S.paths ++ (path, file (next_object S)) ∷ []) mode flags refl))
+  where
+    Q : Outcome → Type 0
+    Q o = Did S p tag (Request.Create path mode flags) o.reply o.next
+
+pub object_did : (S : State) (p tag : ℕ) (request : Request) (body : Body) (flags : OpenFlags) → made_modes request ≡ Mode.Both ∷ [] →
+    Did S p tag request (make_object S p body flags).reply (make_object S p body flags).next
+unfolding make_object
+object_did S p tag request body flags opens = made_did S p tag request body S.paths Mode.Both flags opens
+
+ends_kept : (S : State) (flags : OpenFlags) (p : ℕ) (table : List (Option Descriptor)) →
+    Kept (with_ends S flags) (with_table (with_pipe S flags) p table)
+ends_kept S flags p table = let k = kept_table (with_pipe S flags) p table in record { each = k.each; long = k.long }
+
+pub pipe_did : (S : State) (p tag : ℕ) (flags : OpenFlags) →
+    Did S p tag (Request.Pipe flags) (make_pipe S p flags).reply (make_pipe S p flags).next
+unfolding make_pipe
+pipe_did S p tag flags = maybe Q (two_lowest_free (table_of S p)) _ _ refuses (λ n low. either Q (object_table_full S) _ _ (λ b. refuses)
+    (λ b. pipe_made flags refl refl (kept_shrinks (ends_kept S flags p _))))
+  where
+    Q : Outcome → Type 0
+    Q o = Did S p tag (Request.Pipe flags) o.reply o.next
 
 pub socket_did : (S : State) (p tag : ℕ) (kind : SockType) (flags : OpenFlags) →
     Did S p tag (Request.Socket kind flags) (make_socket S p kind flags).reply (make_socket S p kind flags).next

@@ -1,7 +1,8 @@
 -- So does each call.
 use Rattle.std.proofs.Common.{ℕ}
-use Rattle.std.proofs.Common.{ap, sym, subst}
+use Rattle.std.proofs.Common.{ap, sym, subst, []}
 use Rattle.ux_model.specs.Types.{Request, Reply}
+use Rattle.ux_model.specs.Object.{memory, counter}
 use Rattle.ux_model.specs.State.{State}
 use Rattle.ux_model.specs.Outcome.{Chosen, own, lacking_memory, failing}
 use Rattle.ux_model.specs.Step.{outcome}
@@ -10,7 +11,7 @@ use Rattle.ux_laws.proofs.Near.Single.{Near, near_same, still}
 use Rattle.ux_laws.proofs.Near.Descriptors.{dup_near, dup2_near, dup_from_near, get_flags_near, flags_near, close_near, exit_near}
 use Rattle.ux_laws.proofs.Near.Descriptors.{fork_near, exec_near, ids_near, off_near, open_near, socket_near, pair_near, unlink_near}
 use Rattle.ux_laws.proofs.Near.Descriptors.{bind_near, sock_name_near, peer_name_near, listen_near, shutdown_near, connect_near}
-use Rattle.ux_laws.proofs.Near.Descriptors.{accept_near}
+use Rattle.ux_laws.proofs.Near.Descriptors.{accept_near, create_near, object_near, pipe_near}
 use Rattle.ux_laws.proofs.Near.Options.{get_opt_near, set_opt_near, poll_near}
 use Rattle.ux_laws.proofs.Near.Messages.{send_near, recv_near}
 use Rattle.ux_laws.proofs.Near.Files.{read_near, write_near, lseek_near}
@@ -18,6 +19,10 @@ use Rattle.ux_laws.proofs.Near.Files.{read_near, write_near, lseek_near}
 each_near : (S : State) (p tag : ℕ) (request : Request) → Near S p request (outcome S p tag request).next
 unfolding outcome
 each_near S p tag (Request.Open path mode flags) = open_near S p path mode flags
+each_near S p tag (Request.Create path mode flags) = create_near S p path mode flags
+each_near S p tag (Request.MemFd flags) = object_near S p (Request.MemFd flags) (memory []) flags
+each_near S p tag (Request.EventFd value flags) = object_near S p (Request.EventFd value flags) (counter value) flags
+each_near S p tag (Request.Pipe flags) = pipe_near S p flags
 each_near S p tag (Request.Read fd n) = read_near S p fd n
 each_near S p tag (Request.Write fd bytes) = write_near S p tag fd bytes
 each_near S p tag (Request.Lseek fd offset whence) = lseek_near S p fd offset whence

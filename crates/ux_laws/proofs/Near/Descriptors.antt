@@ -1,14 +1,15 @@
 -- Calls on descriptors, processes and files change what is near alone.
 use Rattle.std.proofs.Common.{◌≡◌, ℕ, zero, suc, ◌==◌, true, false, not, ◌||◌, List}
 use Rattle.std.proofs.Common.{length, Option, Some, None, Ok, refl, ap, sym, subst, inl}
-use Rattle.std.proofs.Common.{slice_get, arith}
+use Rattle.std.proofs.Common.{slice_get, arith, [], ◌∷◌, ◌++◌}
 use Rattle.std.specs.Prelude.{nat_le, ℤ, is_some, is_none}
 use Rattle.std.proofs.lemmas.Bool.{false≢true}
 use Rattle.std.proofs.lemmas.List.{length_push}
 use Rattle.ux_model.specs.Types.{Fd, Cred, Name, Addr, SockType, Mode, OpenFlags, Request}
 use Rattle.ux_model.specs.Places.{place, filled}
 use Rattle.ux_model.specs.Limits.{made_limit}
-use Rattle.ux_model.specs.Names.{named as named_in, is_valid_path, is_valid_addr, is_unnamed_addr, free_name}
+use Rattle.ux_model.specs.Object.{Body, memory, pipe}
+use Rattle.ux_model.specs.Names.{named as named_in, is_valid_path, is_valid_addr, is_unnamed_addr, free_name, PathTarget, file}
 use Rattle.ux_model.specs.Backlog.{backlog_of}
 use Rattle.ux_model.specs.Socket.{Socket, is_dgram, pending_ends, peer_of}
 use Rattle.ux_model.specs.Socket.{tied_socket, takes_from, awaiting}
@@ -24,6 +25,7 @@ use Rattle.ux_model.specs.Pairing.{make_pair, with_pair, socket_description}
 use Rattle.ux_model.specs.Binding.{look_up, bind_to, bind, get_sock_name, with_name}
 use Rattle.ux_model.specs.Connecting.{make_socket, listener_of, with_listening, listen, connect_to, connect_stream, connect_datagram}
 use Rattle.ux_model.specs.Connecting.{connect, get_peer_name, shutdown, server_end, tied as tied_by, no_open_flags}
+use Rattle.ux_model.specs.Making.{next_object, object_table_full, with_made, with_pipe, open_made, make_object, create_file, make_pipe}
 use Rattle.ux_model.specs.Accepting.{accept_first, accept, without_first_end, as_accepted, accepted_with}
 use Rattle.ux_model.specs.Opening.{open_file, file_description}
 use Rattle.ux_model.specs.Descriptors.{dup, dup2, dup_from, get_flags, set_flags, with_flags}
@@ -34,6 +36,7 @@ use Rattle.ux_model.specs.Giving.{description_of}
 use Rattle.ux_model.proofs.Changes.Walk.{either, maybe, by_path, found, found_peer}
 use Rattle.ux_model.proofs.Lists.ChangedPlaces.{length-changed}
 use Rattle.ux_model.proofs.Lists.Rising.{place_mapped}
+use Rattle.ux_model.proofs.Steps.MakingCalls.{made_so}
 use Rattle.ux_laws.specs.Reach.{held, pending, named}
 use Rattle.ux_laws.proofs.Doing.Naming.{by_addr}
 use Rattle.ux_laws.proofs.Near.Single.{reset_of, shut_of, is_shutdown, awaits_of, is_connect, awaits_again, awaits_first, limit_of}
@@ -119,6 +122,45 @@ open_near S p path mode flags = either Q (not (is_valid_path path)) _ _ (λ b. s
   where
     Q : Outcome → Type 0
     Q o = Near S p (Request.Open path mode flags) o.next
+
+made_near : (S : State) (p : ℕ) (request : Request) (body : Body) (names : List (Name × PathTarget)) (mode : Mode) (flags : OpenFlags) →
+    Near S p request (open_made S (made_so S body names) p mode flags).next
+made_near S p request body names mode flags = maybe Q (lowest_free (table_of S p)) _ _ still
+    (λ n low. either Q (object_table_full S) _ _ (λ b. still)
+    (λ b. near_table (with_new (made_so S body names) (file_description (next_object S) mode flags)) p _
+    (near_new (made_so S body names) (file_description (next_object S) mode flags) (near_same refl) (omega arith) refl refl refl)))
+  where
+    Q : Outcome → Type 0
+    Q o = Near S p request o.next
+
+pub create_near : (S : State) (p : ℕ) (path : Name) (mode : Mode) (flags : OpenFlags) →
+    Near S p (Request.Create path mode flags) (create_file S p path mode flags).next
+unfolding create_file
+create_near S p path mode flags = either Q (not (is_valid_path path)) _ _ (λ b. still)
+    (λ b. either Q (is_some (named_in path S.paths)) _ _ (λ c. still)
+    (λ c. made_near S p (Request.Create path mode flags) (memory []) (S.paths ++ (path, file (next_object S)) ∷ []) mode flags))
+  where
+    Q : Outcome → Type 0
+    Q o = Near S p (Request.Create path mode flags) o.next
+
+pub object_near : (S : State) (p : ℕ) (request : Request) (body : Body) (flags : OpenFlags) →
+    Near S p request (make_object S p body flags).next
+unfolding make_object
+object_near S p request body flags = made_near S p request body S.paths Mode.Both flags
+
+pub pipe_near : (S : State) (p : ℕ) (flags : OpenFlags) → Near S p (Request.Pipe flags) (make_pipe S p flags).next
+unfolding make_pipe
+pipe_near S p flags = maybe Q (two_lowest_free (table_of S p)) _ _ still (λ n low. either Q (object_table_full S) _ _ (λ b. still)
+    (λ b.
+    let R : State = with_made S (pipe []) in
+    let one : Description = file_description (next_object S) Mode.Read flags in
+    let two : Description = file_description (next_object S) Mode.Write flags in
+    let long = length_push S.descriptions (Some one) in
+    near_table (with_pipe S flags) p _
+    (near_new (with_new R one) two (near_new R one (near_same refl) (omega arith) refl refl refl) (omega (arith, long)) refl refl refl)))
+  where
+    Q : Outcome → Type 0
+    Q o = Near S p (Request.Pipe flags) o.next
 
 pub socket_near : (S : State) (p : ℕ) (kind : SockType) (flags : OpenFlags) →
     Near S p (Request.Socket kind flags) (make_socket S p kind flags).next

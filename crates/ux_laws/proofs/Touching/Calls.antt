@@ -1,9 +1,9 @@
 -- What each call does to file objects and paths.
 use Rattle.std.proofs.Common.{◌≡◌, ℕ, Bool, true, false}
-use Rattle.std.proofs.Common.{refl, ap, sym, subst}
+use Rattle.std.proofs.Common.{refl, ap, sym, subst, [], length}
 use Rattle.std.proofs.lemmas.Bool.{false≢true}
 use Rattle.ux_model.specs.Types.{Request, Reply}
-use Rattle.ux_model.specs.Object.{after_failure}
+use Rattle.ux_model.specs.Object.{after_failure, memory, counter}
 use Rattle.ux_model.specs.State.{State}
 use Rattle.ux_model.specs.Outcome.{Outcome, Chosen, own, lacking_memory, failing}
 use Rattle.ux_model.specs.Step.{outcome}
@@ -16,11 +16,12 @@ use Rattle.ux_laws.proofs.Touching.Neither.{accept_alike, get_opt_alike, set_opt
 use Rattle.ux_laws.proofs.Touching.Messages.{send_alike, recv_alike}
 use Rattle.ux_laws.proofs.Touching.Contents.{Touches, untouched, same_body, put_alike, read_touches, write_touches, NamesSame}
 use Rattle.ux_laws.proofs.Touching.Contents.{alike_names, read_paths, write_paths}
+use Rattle.ux_laws.proofs.Touching.Making.{Makes, create_makes, object_makes, pipe_makes, object_names, pipe_names}
 use Rattle.ux_laws.proofs.Touching.Paths.{NamesNoMore, no_more, bind_names, unlink_names, off_names}
 
 pub record Files (S : State) (p : ℕ) (request : Request) (U : State) : Type 0 where
   pub bodies : (o : ℕ) → Touches S p request o U
-  pub paths : NamesNoMore S.paths U.paths
+  pub paths : NamesNoMore (length S.objects) S.paths U.paths
 
 by_alike : {S : State} {p : ℕ} {request : Request} {U : State} → Alike S U → Files S p request U
 by_alike {S} {p} {request} {U} a = record { bodies = λ o. untouched (same_body S U o a.objects); paths = no_more a.paths }
@@ -28,12 +29,20 @@ by_alike {S} {p} {request} {U} a = record { bodies = λ o. untouched (same_body 
 by_files : {S : State} {p : ℕ} {request : Request} {U : State} → FilesAlike S U → Files S p request U
 by_files {S} {p} {request} {U} a = record { bodies = λ o. untouched (same_body S U o a.objects); paths = no_more a.paths }
 
-by_names : {S : State} {p : ℕ} {request : Request} {U : State} → (U.objects ≡ S.objects) × NamesNoMore S.paths U.paths → Files S p request U
+by_making : {S : State} {p : ℕ} {request : Request} {U : State} → Makes S p request U → Files S p request U
+by_making m = record { bodies = m.bodies; paths = m.paths }
+
+by_names : {S : State} {p : ℕ} {request : Request} {U : State} →
+    (U.objects ≡ S.objects) × NamesNoMore (length S.objects) S.paths U.paths → Files S p request U
 by_names {S} {p} {request} {U} a = record { bodies = λ o. untouched (same_body S U o a.0); paths = a.1 }
 
 pub each_files : (S : State) (p tag : ℕ) (request : Request) → Files S p request (outcome S p tag request).next
 unfolding outcome
 each_files S p tag (Request.Open path mode flags) = by_alike (open_alike S p path mode flags)
+each_files S p tag (Request.Create path mode flags) = by_making (create_makes S p path mode flags)
+each_files S p tag (Request.MemFd flags) = by_making (object_makes S p (Request.MemFd flags) (memory []) flags)
+each_files S p tag (Request.EventFd value flags) = by_making (object_makes S p (Request.EventFd value flags) (counter value) flags)
+each_files S p tag (Request.Pipe flags) = by_making (pipe_makes S p flags)
 each_files S p tag (Request.Read fd n) = record { bodies = λ o. read_touches S p fd n o; paths = no_more (read_paths S p fd n).paths }
 each_files S p tag (Request.Write fd bytes) =
     record { bodies = λ o. write_touches S p tag fd bytes o; paths = no_more (write_paths S p tag fd bytes).paths }
@@ -65,9 +74,10 @@ each_files S p tag Request.Exec = by_alike (exec_alike S p)
 each_files S p tag Request.Exit = by_alike (exit_alike S p)
 each_files S p tag Request.Off = by_names (off_names S)
 
--- calls that bind a name, or take one away
+-- calls that bind or make a name, or take one away
 abbrev pub changes_names : Request → Bool
 changes_names (Request.Bind fd addr) = true
+changes_names (Request.Create path mode flags) = true
 changes_names (Request.Unlink path) = true
 changes_names (Request.SetOpt fd opt value) = true
 changes_names Request.Off = true
@@ -76,6 +86,9 @@ changes_names _ = false
 pub each_names : (S : State) (p tag : ℕ) (request : Request) → changes_names request ≡ false → NamesSame S (outcome S p tag request).next
 unfolding outcome
 each_names S p tag (Request.Open path mode flags) h = alike_names (open_alike S p path mode flags)
+each_names S p tag (Request.MemFd flags) h = object_names S p (memory []) flags
+each_names S p tag (Request.EventFd value flags) h = object_names S p (counter value) flags
+each_names S p tag (Request.Pipe flags) h = pipe_names S p flags
 each_names S p tag (Request.Lseek fd offset whence) h = alike_names (lseek_alike S p fd offset whence)
 each_names S p tag (Request.Dup fd) h = alike_names (dup_alike S p fd)
 each_names S p tag (Request.Dup2 fd to) h = alike_names (dup2_alike S p fd to)

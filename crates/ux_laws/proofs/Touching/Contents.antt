@@ -1,5 +1,5 @@
 -- What a call does to what is in a file object.
-use Rattle.std.proofs.Common.{◌≡◌, ℕ, ◌==◌, Bool, true, false, not, ◌&&◌, List, length}
+use Rattle.std.proofs.Common.{◌++◌, [], ◌∷◌, ◌≤◌, ⊎_elim, arith, ◌≡◌, ℕ, ◌==◌, Bool, true, false, not, ◌&&◌, List, length}
 use Rattle.std.proofs.Common.{min, Option, Some, None, Result, Ok, Err, refl, ap, sym, ◌∙◌}
 use Rattle.std.proofs.lemmas.Bool.{eqb-true, eqb-false, false≢true}
 use Rattle.std.proofs.lemmas.List.{get_or-set_other}
@@ -20,7 +20,7 @@ use Rattle.ux_model.specs.Reading.{read, read_answer, is_short_read}
 use Rattle.ux_model.specs.Writing.{write, write_answer, write_place}
 use Rattle.ux_model.proofs.Changes.Walk.{either, maybe, by_target, found}
 use Rattle.ux_model.proofs.Lists.ChangedPlaces.{bool_cases}
-use Rattle.ux_model.proofs.Lists.OnePlace.{same_at}
+use Rattle.ux_model.proofs.Lists.OnePlace.{same_at, pushed_or_same}
 use Rattle.ux_laws.specs.Files.{body_in, body_at}
 use Rattle.ux_laws.proofs.Touching.Neither.{Alike}
 use Rattle.ux_laws.proofs.Touching.Messages.{from_alike, receive_alike}
@@ -28,6 +28,8 @@ use Rattle.ux_laws.proofs.Touching.Messages.{from_alike, receive_alike}
 -- what a call does to what is in file object o
 pub data Touches (S : State) (p : ℕ) (request : Request) (o : ℕ) (U : State) : Type 0 where
   untouched : body_at U o ≡ body_at S o → Touches S p request o U
+  -- one that the call made
+  made_now : length S.objects ≤ o → Touches S p request o U
   written : (fd : Fd) (bytes : List ℕ) (e : Descriptor) (D : Description) → request ≡ Request.Write fd bytes →
       descriptor_at S p fd ≡ Some e → description_at S e.description ≡ Some D → D.target ≡ to_object o →
       can_write D.mode ≡ true → Touches S p request o U
@@ -37,6 +39,14 @@ pub data Touches (S : State) (p : ℕ) (request : Request) (o : ℕ) (U : State)
 
 pub same_body : (S U : State) (o : ℕ) → U.objects ≡ S.objects → body_at U o ≡ body_at S o
 same_body S U o h = ap (λ (os : List (Option View)). body_in (place os o)) h
+
+-- one more
+pub pushed_touches : {S : State} {p : ℕ} {request : Request} {U : State} (o : ℕ) (new : View) → U.objects ≡ S.objects ++ Some new ∷ [] →
+    Touches S p request o U
+pushed_touches {S} {p} {request} {U} o new is = ⊎_elim {C = Touches S p request o U}
+    (λ same. untouched (ap (λ (os : List (Option View)). body_in (place os o)) is ∙ ap body_in same))
+    (λ last. made_now (omega (arith, last)))
+    (pushed_or_same S.objects (Some new) o)
 
 left_alike : {S : State} {p : ℕ} {request : Request} {o : ℕ} {U : State} → Alike S U → Touches S p request o U
 left_alike {S} {p} {request} {o} {U} a = untouched (same_body S U o a.objects)
@@ -117,7 +127,7 @@ pub record NamesSame (S U : State) : Type 0 where
   pub paths : U.paths ≡ S.paths
   pub abstracts : U.abstract_names ≡ S.abstract_names
 
-same_names : {S U : State} → U.paths ≡ S.paths → U.abstract_names ≡ S.abstract_names → NamesSame S U
+pub same_names : {S U : State} → U.paths ≡ S.paths → U.abstract_names ≡ S.abstract_names → NamesSame S U
 same_names h k = record { paths = h; abstracts = k }
 
 pub alike_names : {S U : State} → Alike S U → NamesSame S U
