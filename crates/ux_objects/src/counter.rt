@@ -30,8 +30,15 @@ impl Counter {
     pub fn new() -> Counter
         ensures { result ≡ opened_with 0 }
     {
+        Counter::with_value(0)
+    }
+
+    /// An open counter at this value.
+    pub fn with_value(value: u32) -> Counter
+        ensures { result ≡ opened_with value }
+    {
         Counter {
-            value: 0,
+            value: value as u64,
             opened: true,
         }
     }

@@ -1,5 +1,5 @@
 //! A file in memory.
-ghost use Rattle.std.specs.Prelude.{ℕ, List, ◌≡◌, ◌≢◌, ◌+◌, ◌-◌, ◌<◌, ◌≤◌, ◌↔◌, ◌++◌, ◌⊎◌, IfOk, OnOk, OnErr, length, take, drop, replicate, min};
+ghost use Rattle.std.specs.Prelude.{ℕ, List, [], ◌≡◌, ◌≢◌, ◌+◌, ◌-◌, ◌<◌, ◌≤◌, ◌↔◌, ◌++◌, ◌⊎◌, IfOk, OnOk, OnErr, length, take, drop, replicate, min};
 ghost use Rattle.ux_model.specs.Limits.{file_limit};
 ghost use Rattle.ux_model.specs.Object.{overwritten};
 ghost use Rattle.ux_object.specs.Calls.{Reads, Writes};
@@ -28,6 +28,16 @@ impl Model for MemFile {
 }
 
 impl MemFile {
+    /// An open file with no bytes. It takes no memory.
+    pub fn empty(alloc: Global) -> MemFile
+        ensures { result ≡ opened_with [] }
+    {
+        MemFile {
+            bytes: Vec::new(alloc),
+            opened: true,
+        }
+    }
+
     /// An open file with a copy of these bytes.
     ///
     /// # Errors
