@@ -45,6 +45,44 @@ pub fn open_with(
     Ok(Request::Open { path, mode, flags })
 }
 
+/// open(2) with O_CREAT and O_EXCL: a new, empty file under this path.
+///
+/// # Errors
+///
+/// Out of memory.
+pub fn create(
+    alloc: Global,
+    path: &[u8],
+    mode: Mode,
+    flags: OpenFlags,
+) -> Result<Request, AllocError>
+    ensures { IfOk result (λ request. request ≡ Request.Create path.now mode flags) }
+{
+    let path = Name::from_slice(alloc, path)?;
+    Ok(Request::Create { path, mode, flags })
+}
+
+/// memfd_create(2): a new, empty file.
+pub fn mem_fd(flags: OpenFlags) -> Request
+    ensures { result ≡ Request.MemFd flags }
+{
+    Request::MemFd { flags }
+}
+
+/// eventfd(2): a new counter with this value.
+pub fn event_fd(value: u32, flags: OpenFlags) -> Request
+    ensures { result ≡ Request.EventFd value flags }
+{
+    Request::EventFd { value, flags }
+}
+
+/// pipe2(2): a new pipe.
+pub fn pipe(flags: OpenFlags) -> Request
+    ensures { result ≡ Request.Pipe flags }
+{
+    Request::Pipe { flags }
+}
+
 /// read(2) of at most `n` bytes.
 pub fn read(fd: Fd, n: usize) -> Request
     ensures { result ≡ Request.Read fd n }

@@ -11,6 +11,7 @@ mod descriptors;
 mod files;
 mod forking;
 mod kernel;
+mod making;
 mod object_bytes;
 mod open_file;
 mod options;

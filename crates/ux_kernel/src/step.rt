@@ -65,6 +65,10 @@ impl<O: FileObject> Kernel<O> {
     {
         let answer = match request {
             Request::Open { path, mode, flags } => self.open_file(pid, path, *mode, *flags),
+            Request::Create { path, mode, flags } => self.create_file(pid, path, *mode, *flags),
+            Request::MemFd { flags } => self.make_file(pid, *flags),
+            Request::EventFd { value, flags } => self.make_counter(pid, *value, *flags),
+            Request::Pipe { flags } => self.make_pipe(pid, *flags),
             Request::Read { fd, n } => self.read(pid, *fd, *n),
             Request::Write { fd, bytes } => self.write(pid, tag, *fd, bytes),
             Request::Lseek { fd, offset, whence } => self.lseek(pid, *fd, *offset, *whence),

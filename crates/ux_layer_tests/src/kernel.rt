@@ -5,6 +5,7 @@ mod connections;
 mod datagrams;
 mod files;
 mod forking;
+mod making;
 mod memory;
 mod objects;
 mod options;

@@ -2,10 +2,12 @@
 ghost use Rattle.std.specs.Prelude.{◌≡◌};
 ghost use Rattle.ux_model.specs.Places.{place};
 ghost use Rattle.ux_model.specs.Readiness as model;
+ghost use Rattle.ux_objects.specs.Layers.{layer_view};
 
 use crate::conditions::Conditions;
 use ux_description::Description;
 use ux_object::{FileObject, ObjKind};
+use ux_objects::LayerFile;
 use ux_state::State;
 
 /// The conditions of a description of the file object with this number.
@@ -29,10 +31,10 @@ fn file_conditions<O: FileObject>(
     state: &State<O>,
     description: &Description,
     number: u32,
-    object: &O,
+    object: &LayerFile<O>,
 ) -> Conditions
-    requires { place state.now.objects number ≡ Some (O.view object.now) }
-    ensures { result ≡ model.file_conditions state.now description.now number (O.view object.now) }
+    requires { place state.now.objects number ≡ Some (layer_view O.view object.now) }
+    ensures { result ≡ model.file_conditions state.now description.now number (layer_view O.view object.now) }
 {
     let (can_be_read, can_be_written) = object.ready();
     let is_pipe = object.kind() == ObjKind::Pipe;

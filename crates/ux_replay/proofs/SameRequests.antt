@@ -10,6 +10,18 @@ Same a b = IsTrue (eq-value.it a b) ↔ (a ≡ b)
 open_same : (path : Name) (mode : Mode) (flags : OpenFlags) (b : Request) → Same (Request.Open path mode flags) b
 open_same path mode flags b = search rules
 
+create_same : (path : Name) (mode : Mode) (flags : OpenFlags) (b : Request) → Same (Request.Create path mode flags) b
+create_same path mode flags b = search rules
+
+mem_fd_same : (flags : OpenFlags) (b : Request) → Same (Request.MemFd flags) b
+mem_fd_same flags b = search rules
+
+event_fd_same : (value : ℕ) (flags : OpenFlags) (b : Request) → Same (Request.EventFd value flags) b
+event_fd_same value flags b = search rules
+
+pipe_same : (flags : OpenFlags) (b : Request) → Same (Request.Pipe flags) b
+pipe_same flags b = search rules
+
 read_same : (fd : Fd) (n : ℕ) (b : Request) → Same (Request.Read fd n) b
 read_same fd n b = search rules
 
@@ -100,6 +112,10 @@ off_same b = search rules
 
 pub same_request : (a b : Request) → Same a b
 same_request (Request.Open path mode flags) b = open_same path mode flags b
+same_request (Request.Create path mode flags) b = create_same path mode flags b
+same_request (Request.MemFd flags) b = mem_fd_same flags b
+same_request (Request.EventFd value flags) b = event_fd_same value flags b
+same_request (Request.Pipe flags) b = pipe_same flags b
 same_request (Request.Read fd n) b = read_same fd n b
 same_request (Request.Write fd bytes) b = write_same fd bytes b
 same_request (Request.Lseek fd offset whence) b = lseek_same fd offset whence b

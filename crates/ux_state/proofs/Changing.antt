@@ -86,9 +86,10 @@ offset_alike offset x y e = record {
 -- a description is put in the place of another
 counted_set : (ds : List (Option Description)) (xs : List Openings) (d : ℕ) (x y : Description) → place ds d ≡ Some x → IsAlike x y →
     Counted ds xs → Counted (filled ds d y) xs
+unfolding Counted
 counted_set ds xs d x y here alike counted = record {
-  readers = λ o h. counted.readers o h ∙ sym (same can_read o);
-  writers = λ o h. counted.writers o h ∙ sym (same can_write o);
+  readers = λ o. counted.readers o ∙ sym (same can_read o);
+  writers = λ o. counted.writers o ∙ sym (same can_write o);
 }
   where
     same : (allows : Mode → Bool) (o : ℕ) → count_by (is_opening allows o) (filled ds d y) ≡ count_by (is_opening allows o) ds

@@ -23,7 +23,7 @@ use Rattle.ux_state.specs.Counting.{one_if, counts_of, Counted}
 use Rattle.ux_state.specs.Counting as counts
 use Rattle.ux_model.proofs.Counting.Owning.{owned_none}
 use Rattle.ux_state.specs.Keeping.{state_of, IsState}
-use Rattle.ux_state.specs.Links.{links_of}
+use Rattle.ux_state.specs.Links.{AreLinked, links_of}
 use Rattle.ux_state.proofs.TableCounts.{none_open}
 
 count_none : (allows : Mode → Bool) (o : ℕ) (ds : List (Option Description)) → count_by (is_opening allows o) (map (λ _. None) ds) ≡ 0
@@ -38,9 +38,10 @@ counts_none (x ∷ xs) (suc o) = counts_none xs o
 
 pub Counted-none : (ds : List (Option Description)) (openings : List Openings) →
     Counted (map (λ _. None) ds) (map (λ _. counts.none_open) openings)
+unfolding Counted
 Counted-none ds openings = record {
-  readers = λ o h. ap (λ (x : Openings). x.readers) (counts_none openings o) ∙ sym (count_none can_read o ds);
-  writers = λ o h. ap (λ (x : Openings). x.writers) (counts_none openings o) ∙ sym (count_none can_write o ds);
+  readers = λ o. ap (λ (x : Openings). x.readers) (counts_none openings o) ∙ sym (count_none can_read o ds);
+  writers = λ o. ap (λ (x : Openings). x.writers) (counts_none openings o) ∙ sym (count_none can_write o ds);
 }
 
 no_place : (ds : List (Option Description)) (i : ℕ) → place (map {B = Option Description} (λ _. None) ds) i ≡ None
@@ -84,7 +85,7 @@ pub forgotten_kept : {ks ns : List Bool} {fs gs : ℕ → ℕ} (xs ys : List Ope
     ((k : ℕ) → count_at K k ≡ 0) → ys ≡ map (λ _. counts.none_open) xs →
     ms ≡ map (λ _. 0) ls → new ≡ [] → left ≡ [] → ((u : ℕ) → gs u ≡ 0) → IsEmptySet (length ks) ns →
     IsState ns ys ms K gs (state_of os K qs new left)
-unfolding refs in_flight
+unfolding refs in_flight AreLinked
 forgotten_kept {ks = ks} {ns = ns} xs ys ls ms H K os ps qs old new names left state cleared places counts counted unlinked no_paths
     no_names flights none = record {
       few_objects = state.few_objects;
@@ -92,7 +93,7 @@ forgotten_kept {ks = ks} {ns = ns} xs ys ls ms H K os ps qs old new names left s
       one_each = rw (counted, length-map) state.one_each;
       link_each = rw (unlinked, length-map) state.link_each;
       opened = rw (places, counted) (Counted-none H.places xs);
-      linked = rw no_paths (record { once = refl; counted = λ o h. ap (λ ns. links_of ns o) unlinked ∙ links_none ls o });
+      linked = rw no_paths (record { once = refl; counted = λ o. ap (λ ns. links_of ns o) unlinked ∙ links_none ls o });
       settled = none_settled ns ys ms os (length ks) none state.settled.long;
       counted = λ k.
           let a = counts k in

@@ -4,7 +4,7 @@ use Rattle.std.proofs.Common.{None, option_map, refl, sym, ◌∙◌, ap, arith}
 use Rattle.std.specs.Prelude.{not, filter, count_by, sum_by, IsSome}
 use Rattle.std.proofs.lemmas.List.Sums.{sum_by-cons, sum_by-set}
 use Rattle.ux_state.specs.Settling.{LooksAgain}
-use Rattle.ux_state.proofs.Settling.{settled_less}
+use Rattle.ux_state.proofs.Settling.{by_counts, beyond_none, settled_less}
 use Rattle.ux_model.specs.Description.{object_of}
 use Rattle.ux_model.specs.Types.{Mode, Name}
 use Rattle.ux_model.specs.Names.{PathTarget}
@@ -27,7 +27,7 @@ use Rattle.ux_model.proofs.Releasing.OneGoes.{one_goes, left_refs, held_refs, pa
 use Rattle.ux_model.proofs.Counting.Owning.{name_goes, owned_without}
 use Rattle.ux_slots.specs.Held.{Held, count_at, IsNoneDead}
 use Rattle.ux_state.specs.declared.openings.Openings.{Openings}
-use Rattle.ux_state.specs.Counting.{one_if, Counted, CountsOneMore, IsAmong}
+use Rattle.ux_state.specs.Counting.{one_if, counts_of, Counted, CountsOneMore, IsAmong}
 use Rattle.ux_state.specs.Keeping.{state_of, IsState}
 
 -- ---- what is open
@@ -70,20 +70,34 @@ left_opens allows o d D ds here =
 
 pub counted_among : (ds : List (Option Description)) (xs : List Openings) (d : ℕ) (D : Description) → place ds d ≡ Some D → Counted ds xs →
     IsAmong D xs
+unfolding Counted
 counted_among ds xs d D here counted = record {
-  readers = λ o h. let a = counted.readers o h in let b = left_opens can_read o d D ds here in omega (arith, a, b);
-  writers = λ o h. let a = counted.writers o h in let b = left_opens can_write o d D ds here in omega (arith, a, b);
+  readers = λ o h. let a = counted.readers o in let b = left_opens can_read o d D ds here in omega (arith, a, b);
+  writers = λ o h. let a = counted.writers o in let b = left_opens can_write o d D ds here in omega (arith, a, b);
 }
 
 pub counted_left : (ds : List (Option Description)) (xs ys : List Openings) (d : ℕ) (D : Description) → place ds d ≡ Some D →
     Counted ds xs → CountsOneMore D ys xs → Counted (with_peer_reset (lost_peer D) (emptied ds d)) ys
+unfolding Counted
 counted_left ds xs ys d D here counted more = record {
-  readers = λ o h.
-      let inside : o < length xs = let long = more.long in omega (arith, long, h) in
-      let a = counted.readers o inside in let b = left_opens can_read o d D ds here in let c = more.readers o h in omega (arith, a, b, c);
-  writers = λ o h.
-      let inside : o < length xs = let long = more.long in omega (arith, long, h) in
-      let a = counted.writers o inside in let b = left_opens can_write o d D ds here in let c = more.writers o h in omega (arith, a, b, c);
+  readers = λ o.
+      let a = counted.readers o in
+      let b = left_opens can_read o d D ds here in
+      by_counts ys o (λ inside. let c = more.readers o inside in omega (arith, a, b, c))
+      (λ beyond none.
+      let long = more.long in
+      let old : (counts_of xs o).readers ≡ 0 = ap (λ (x : Openings). x.readers) (beyond_none xs o (omega (arith, beyond, long))) in
+      let new : (counts_of ys o).readers ≡ 0 = ap (λ (x : Openings). x.readers) none in
+      omega (arith, a, b, old, new));
+  writers = λ o.
+      let a = counted.writers o in
+      let b = left_opens can_write o d D ds here in
+      by_counts ys o (λ inside. let c = more.writers o inside in omega (arith, a, b, c))
+      (λ beyond none.
+      let long = more.long in
+      let old : (counts_of xs o).writers ≡ 0 = ap (λ (x : Openings). x.writers) (beyond_none xs o (omega (arith, beyond, long))) in
+      let new : (counts_of ys o).writers ≡ 0 = ap (λ (x : Openings). x.writers) none in
+      omega (arith, a, b, old, new));
 }
 
 -- ---- the state
@@ -120,12 +134,11 @@ module _ {ks : List Bool} {fs : ℕ → ℕ} (xs : List Openings) (ls : List ℕ
   left_kept {ns = ns} ys T K left d D here places same counts flights more shown again = record {
     few_objects = state.few_objects;
     few_processes = state.few_processes;
-    one_each = sym more.long ∙ state.one_each;
+    one_each = let long = more.long in let each = state.one_each in omega (arith, long, each);
     link_each = state.link_each;
     opened = rw places (counted_left H.places xs ys d D here state.opened more);
     linked = state.linked;
-    settled = let long = more.long in let each = state.one_each in
-        settled_less ks ns xs ys ls os D state.settled (sym long ∙ each) more again;
+    settled = settled_less ks ns xs ys ls os D state.settled more again;
     counted = λ k.
         let a = left_refs (state_of os H ps paths names) (state_of os K ps paths left) d k D here refl places in
         let b = state.counted k in

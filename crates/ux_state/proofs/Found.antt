@@ -10,7 +10,7 @@ use Rattle.ux_model.specs.State.{State}
 use Rattle.ux_model.specs.FileObjects.{is_opening}
 use Rattle.ux_slots.specs.Held.{Held}
 use Rattle.ux_state.specs.declared.openings.Openings.{Openings}
-use Rattle.ux_state.specs.Counting.{none_open}
+use Rattle.ux_state.specs.Counting.{Counted, none_open}
 use Rattle.ux_state.specs.Keeping.{IsState}
 
 pub held_inside : {X : Type 0} (xs : List (Option X)) (o : ℕ) → is_some (place xs o) ≡ true → o < length xs
@@ -22,18 +22,20 @@ pub readers_there : {ks : List Bool} {fs : ℕ → ℕ} (xs : List Openings) (ls
     (x : Openings) →
     IsState ks xs ls H fs S → is_some (place S.objects o) ≡ true → x ≡ get_or xs o x →
     x.readers ≡ count_by (is_opening can_read o) S.descriptions
+unfolding Counted
 readers_there xs ls H S o x state held e =
     let inside = held_inside S.objects o held in
     let each = state.one_each in
     let within : o < length xs = omega (arith, inside, each) in
-    ap (λ (y : Openings). y.readers) (get_or_read xs o x within e none_open) ∙ state.opened.readers o within
+    ap (λ (y : Openings). y.readers) (get_or_read xs o x within e none_open) ∙ state.opened.readers o
 
 pub writers_there : {ks : List Bool} {fs : ℕ → ℕ} (xs : List Openings) (ls : List ℕ) (H : Held Description) (S : State) (o : ℕ)
     (x : Openings) →
     IsState ks xs ls H fs S → is_some (place S.objects o) ≡ true → x ≡ get_or xs o x →
     x.writers ≡ count_by (is_opening can_write o) S.descriptions
+unfolding Counted
 writers_there xs ls H S o x state held e =
     let inside = held_inside S.objects o held in
     let each = state.one_each in
     let within : o < length xs = omega (arith, inside, each) in
-    ap (λ (y : Openings). y.writers) (get_or_read xs o x within e none_open) ∙ state.opened.writers o within
+    ap (λ (y : Openings). y.writers) (get_or_read xs o x within e none_open) ∙ state.opened.writers o

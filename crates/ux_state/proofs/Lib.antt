@@ -13,3 +13,4 @@ pub mod Queues
 pub mod SocketMoves
 pub mod Tying
 pub mod Installed
+pub mod Added

@@ -13,6 +13,7 @@ use Rattle.ux_model.specs.References.{path_names}
 use Rattle.ux_model.proofs.Counting.Owning.{IsOnce, counted, sum_without, once-filter, once-push, not_before}
 use Rattle.ux_state.specs.Counting.{one_if}
 use Rattle.ux_state.specs.Links.{links_of, link_at, LosesLink, AreLinked}
+use Rattle.ux_state.proofs.Settling.{by_links, beyond_zero}
 use Rattle.ux_state.proofs.Orphans.{any_counted}
 
 -- ---- a path less
@@ -30,35 +31,36 @@ left_paths o name paths once =
 
 pub link_counted : (name : Name) (paths : List (Name × PathTarget)) (ls : List ℕ) (target : Option PathTarget) → AreLinked paths ls →
     target ≡ named name paths → (o : ℕ) → o < length ls → link_at o target ≤ links_of ls o
+unfolding AreLinked
 link_counted name paths ls target linked found o inside =
     let a = left_paths o name paths linked.once in
-    let b = linked.counted o inside in
+    let b = linked.counted o in
     let c = ap (link_at o) found in
     omega (arith, a, b, c)
 
 pub link_gone : (name : Name) (paths left : List (Name × PathTarget)) (ls ms : List ℕ) (target : Option PathTarget) → AreLinked paths ls →
     target ≡ named name paths → left ≡ without_name name paths → LosesLink target ls ms → AreLinked left ms
+unfolding AreLinked
 link_gone name paths left ls ms target linked found is less = rw is (record {
   once = once-filter _ paths linked.once;
-  counted = λ o inside.
-      let long = less.long in
-      let within : o < length ls = omega (arith, long, inside) in
+  counted = λ o.
       let a = left_paths o name paths linked.once in
-      let b = linked.counted o within in
+      let b = linked.counted o in
       let c = ap (link_at o) found in
-      let d = less.counts o within in
-      omega (arith, a, b, c, d);
+      by_links ls o (λ inside. let d = less.counts o inside in omega (arith, a, b, c, d))
+      (λ beyond none. let long = less.long in let new = beyond_zero ms o (omega (arith, long, beyond)) in omega (arith, a, b, none, new));
 })
 
 -- ---- a path more, of a socket
 
 pub socket_linked : (name : Name) (d : ℕ) (paths : List (Name × PathTarget)) (ls : List ℕ) → named name paths ≡ None → AreLinked paths ls →
     AreLinked (paths ++ (name, bound d) ∷ []) ls
+unfolding AreLinked
 socket_linked name d paths ls none linked = record {
   once = once-push name (bound d) paths none linked.once;
-  counted = λ o inside.
+  counted = λ o.
       let a = sum_by_push (λ (e : Name × PathTarget). one_if (path_names o e.1)) paths (name, bound d) in
-      let b = linked.counted o inside in
+      let b = linked.counted o in
       omega (arith, a, b);
 }
 
@@ -92,6 +94,17 @@ one_file o i (suc k) (x ∷ xs) at inside =
 pub one_path_each : {X : Type 0} (o : ℕ) (xs : List (Name × X)) → o < length xs → count_by (λ e. path_names o e.1) (file_paths 0 xs) ≡ 1
 one_path_each o xs inside = one_file o 0 o xs (omega arith) inside
 
+no_later_file : {X : Type 0} (o i : ℕ) (xs : List (Name × X)) → i + length xs ≤ o → count_by (λ e. path_names o e.1) (file_paths i xs) ≡ 0
+no_later_file o i [] past = refl
+no_later_file o i (x ∷ xs) past =
+    let a = sum_by-cons (λ (e : Name × PathTarget). one_if (path_names o e.1)) (x.0, file i) (file_paths (i + 1) xs) in
+    let b : one_if (i == o) ≡ 0 = ap one_if (ne_eqb i o (λ h. omega (arith, h, past))) in
+    let c = no_later_file o (i + 1) xs (omega (arith, past)) in
+    omega (arith, a, b, c)
+
+pub no_path_beyond : {X : Type 0} (o : ℕ) (xs : List (Name × X)) → length xs ≤ o → count_by (λ e. path_names o e.1) (file_paths 0 xs) ≡ 0
+no_path_beyond o xs past = no_later_file o 0 xs (omega (arith, past))
+
 pub names_of : {X : Type 0} (i : ℕ) (xs : List (Name × X)) → map (λ e. e.0) (file_paths i xs) ≡ map (λ x. x.0) xs
 names_of i [] = refl
 names_of i (x ∷ xs) = ap (λ l. x.0 ∷ l) (names_of (i + 1) xs)
@@ -108,5 +121,6 @@ next_file all left rest paths k x next so_far once =
 
 pub any_link : (paths : List (Name × PathTarget)) (ls : List ℕ) (o x : ℕ) → o < length ls → x ≡ get_or ls o x → AreLinked paths ls →
     list_any (λ e. path_names o e.1) paths ≡ nat_lt 0 x
+unfolding AreLinked
 any_link paths ls o x inside here linked =
-    any_counted (λ e. path_names o e.1) paths ∙ ap (nat_lt 0) (sym (linked.counted o inside) ∙ sym (get_or_read ls o x inside here 0))
+    any_counted (λ e. path_names o e.1) paths ∙ ap (nat_lt 0) (sym (linked.counted o) ∙ sym (get_or_read ls o x inside here 0))

@@ -18,14 +18,14 @@ use Rattle.ux_model.specs.Boot.{boot_state, are_distinct, new_process}
 use Rattle.ux_slots.specs.Held.{Held, count_at}
 use Rattle.ux_state.specs.declared.openings.Openings.{Openings}
 use Rattle.ux_number_sets.specs.Sets.{IsEmptySet}
-use Rattle.ux_state.specs.Counting.{none_open, counts_of}
+use Rattle.ux_state.specs.Counting.{Counted, none_open, counts_of}
 use Rattle.ux_state.specs.EntryCounts.{entry_refs}
 use Rattle.ux_model.proofs.Counting.Owning.{owned_none}
 use Rattle.ux_state.specs.Keeping.{state_of, IsState}
-use Rattle.ux_state.specs.Links.{links_of}
+use Rattle.ux_state.specs.Links.{AreLinked, links_of}
 use Rattle.ux_state.proofs.CountLaws.{nobody}
-use Rattle.ux_state.proofs.Settling.{none_settled}
-use Rattle.ux_state.proofs.Links.{file_paths, names_of, one_path_each}
+use Rattle.ux_state.proofs.Settling.{by_links, none_settled}
+use Rattle.ux_state.proofs.Links.{file_paths, names_of, one_path_each, no_path_beyond}
 
 -- the views of the objects, and their paths
 views_of : {X : Type 0} (view : X → View) (xs : List (Name × X)) →
@@ -89,9 +89,10 @@ pub made_kept : {X : Type 0} {ks : List Bool} {fs : ℕ → ℕ} (view : X → V
     (names : List (Name × ℕ)) (specs : List ProcSpec) →
     os ≡ map (λ o. Some (view o.1)) objects → H.places ≡ [] → H.counts ≡ [] → ps ≡ map new_process specs → xs ≡ replicate n none_open →
     ls ≡ replicate n 1 → paths ≡ file_paths 0 objects → are_distinct (map (λ o. o.0) objects) ≡ true → names ≡ [] →
-    n ≡ length objects → length objects ≤ raised_object_limit → length specs ≤ process_limit → ((u : ℕ) → fs u ≡ 0) → IsEmptySet n ks →
+    n ≡ length objects → length objects ≤ raised_object_limit → length specs ≤ process_limit → ((u : ℕ) → fs u ≡ 0) →
+    IsEmptySet raised_object_limit ks →
     IsState ks xs ls H fs (state_of os H ps paths names)
-unfolding refs in_flight
+unfolding refs in_flight Counted AreLinked
 made_kept view objects n xs ls H os ps paths names specs objects_are places counts processes openings links found once none_bound one_each
     few_objects few_processes flights none = record {
       few_objects = let a = ap length objects_are in let b = length-map objects (λ o. Some (view o.1)) in omega (arith, a, b, few_objects);
@@ -105,17 +106,21 @@ made_kept view objects n xs ls H os ps paths names specs objects_are places coun
           let c = ap length links in let d = length-replicate {A = ℕ} n 1 in
           omega (arith, a, b, c, d, one_each);
       opened = rw places (record {
-        readers = λ o h. ap (λ ys. (counts_of ys o).readers) openings ∙ ap (λ (y : Openings). y.readers) (none_of n o);
-        writers = λ o h. ap (λ ys. (counts_of ys o).writers) openings ∙ ap (λ (y : Openings). y.writers) (none_of n o);
+        readers = λ o. ap (λ ys. (counts_of ys o).readers) openings ∙ ap (λ (y : Openings). y.readers) (none_of n o);
+        writers = λ o. ap (λ ys. (counts_of ys o).writers) openings ∙ ap (λ (y : Openings). y.writers) (none_of n o);
       });
       linked = rw found (record {
         once = ap are_distinct (names_of 0 objects) ∙ once;
-        counted = λ o h.
-            let inside : o < n = let c = ap length links in let d = length-replicate {A = ℕ} n 1 in omega (arith, h, c, d) in
-            ap (λ ns. links_of ns o) links ∙ ones n o inside ∙ sym (one_path_each o objects (omega (arith, inside, one_each)));
+        counted = λ o.
+            ap (λ ns. links_of ns o) links ∙ by_links (replicate n 1) o
+            (λ h.
+            let inside : o < n = let d = length-replicate {A = ℕ} n 1 in omega (arith, h, d) in
+            ones n o inside ∙ sym (one_path_each o objects (omega (arith, inside, one_each))))
+            (λ beyond unlinked.
+            let past : length objects ≤ o = let d = length-replicate {A = ℕ} n 1 in omega (arith, beyond, d, one_each) in
+            unlinked ∙ sym (no_path_beyond o objects past));
       });
-      settled = none_settled _ xs ls os n none
-          (let a = ap length objects_are in let b = length-map objects (λ o. Some (view o.1)) in omega (arith, a, b, one_each));
+      settled = none_settled _ xs ls os raised_object_limit none refl;
       counted = λ k.
           let none = ap (λ cs. count_at (record H { counts = cs }) k) counts in
           let tables = ap (sum_by (λ P. table_refs k (Process.table P))) processes ∙ new_tables k specs in

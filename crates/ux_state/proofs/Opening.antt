@@ -1,8 +1,9 @@
 -- New descriptions with their entries, part by part.
-use Rattle.std.proofs.Common.{◌≡◌, ℕ, suc, ◌+◌, ◌-◌, ◌^◌, ◌<◌, true, cond, List, [], ◌∷◌, ◌++◌, length, get_or, set, Option, Some, ap, sym}
+use Rattle.std.proofs.Common.{◌≡◌, ℕ, suc, ◌+◌, ◌-◌, ◌^◌, ◌<◌, ◌≤◌, ◌&&◌, true, cond, List, [], ◌∷◌, ◌++◌, length, get_or, set, Option}
+use Rattle.std.proofs.Common.{Some, ap, sym}
 use Rattle.std.proofs.Common.{◌∙◌, arith, refl, Bool}
 use Rattle.std.specs.Prelude.{count_by}
-use Rattle.std.proofs.lemmas.List.{length_push}
+use Rattle.std.proofs.lemmas.List.{length_push, set-get_or}
 use Rattle.std.proofs.lemmas.List.Sums.{sum_by_push, count_by-le-length}
 use Rattle.ux_model.specs.Types.{Mode, Name, Cred, SockType, OpenFlags}
 use Rattle.ux_model.specs.Names.{PathTarget}
@@ -10,7 +11,7 @@ use Rattle.ux_model.specs.Flags.{can_read, can_write}
 use Rattle.ux_model.specs.Places.{place, filled}
 use Rattle.ux_model.specs.Object.{View}
 use Rattle.ux_model.specs.Socket.{Socket, new_socket, pair_end}
-use Rattle.ux_model.specs.Description.{Description, to_socket}
+use Rattle.ux_model.specs.Description.{Description, object_of, to_socket}
 use Rattle.ux_model.specs.Process.{Process, Descriptor, descriptor, lowest_free, two_lowest_free}
 use Rattle.ux_model.specs.Forking.{child_of}
 use Rattle.ux_model.specs.State.{with_child, State, is_live, table_of, next_description, with_table, with_new}
@@ -26,24 +27,47 @@ use Rattle.ux_model.proofs.Counting.Making.{paired-push, paired-pair}
 use Rattle.ux_model.proofs.Counting.Owning.{owned_still, names_push}
 use Rattle.ux_fdtable.proofs.TwoFree.{free_at, first_free, second_free}
 use Rattle.ux_state.specs.declared.openings.Openings.{Openings}
-use Rattle.ux_state.specs.Counting.{Counted, CountsOneMore, HasRoom, one_if}
+use Rattle.ux_state.specs.Counting.{Counted, CountsOneMore, HasRoom, IsInside, counts_of, one_if}
 use Rattle.ux_slots.specs.Held.{Held, Adds, count_at, once}
 use Rattle.ux_state.specs.Keeping.{state_of, IsState}
+use Rattle.ux_state.specs.Moves.{IsFresh}
 use Rattle.ux_state.proofs.Lookups.{table_here, table_put}
-use Rattle.ux_state.proofs.Settling.{settled_more}
+use Rattle.ux_state.proofs.Settling.{by_counts, beyond_none, leads_away, settled_more}
 use Rattle.ux_state.proofs.TableCounts.{HoldAlike, process_kept}
 
 -- ---- counts
 
-pub counted_push : (ds : List (Option Description)) (xs ys : List Openings) (D : Description) → Counted ds xs → CountsOneMore D xs ys →
-    Counted (ds ++ Some D ∷ []) ys
-counted_push ds xs ys D counted more = record {
-  readers = λ o h. let within : o < length xs = let long = more.long in omega (arith, h, long) in
-      more.readers o within ∙ ap (λ n. n + one_if (is_opening can_read o (Some D))) (counted.readers o within) ∙ sym (pushed can_read o);
-  writers = λ o h. let within : o < length xs = let long = more.long in omega (arith, h, long) in
-      more.writers o within ∙ ap (λ n. n + one_if (is_opening can_write o (Some D))) (counted.writers o within) ∙ sym (pushed can_write o);
+pub counted_push : (ds : List (Option Description)) (xs ys : List Openings) (D : Description) → Counted ds xs → IsInside D xs →
+    CountsOneMore D xs ys → Counted (ds ++ Some D ∷ []) ys
+unfolding Counted
+counted_push ds xs ys D counted led more = record {
+  readers = λ o.
+      let a = counted.readers o in
+      let b = pushed can_read o in
+      by_counts xs o (λ inside. let c = more.readers o inside in omega (arith, a, b, c))
+      (λ beyond none.
+      let long = more.long in
+      let old : (counts_of xs o).readers ≡ 0 = ap (λ (x : Openings). x.readers) none in
+      let new : (counts_of ys o).readers ≡ 0 = ap (λ (x : Openings). x.readers) (beyond_none ys o (omega (arith, beyond, long))) in
+      let away = elsewhere can_read o beyond in
+      omega (arith, a, b, old, new, away));
+  writers = λ o.
+      let a = counted.writers o in
+      let b = pushed can_write o in
+      by_counts xs o (λ inside. let c = more.writers o inside in omega (arith, a, b, c))
+      (λ beyond none.
+      let long = more.long in
+      let old : (counts_of xs o).writers ≡ 0 = ap (λ (x : Openings). x.writers) none in
+      let new : (counts_of ys o).writers ≡ 0 = ap (λ (x : Openings). x.writers) (beyond_none ys o (omega (arith, beyond, long))) in
+      let away = elsewhere can_write o beyond in
+      omega (arith, a, b, old, new, away));
 }
   where
+    -- it leads to nothing that isn't counted
+    elsewhere : (allows : Mode → Bool) (o : ℕ) → length xs ≤ o → one_if (is_opening allows o (Some D)) ≡ 0
+    elsewhere allows o beyond = ap (λ b. one_if (b && allows D.mode))
+        (leads_away o D.target (λ e. let inside = led o e in absurd (omega (arith, inside, beyond))))
+
     pushed : (allows : Mode → Bool) (o : ℕ) →
         count_by (is_opening allows o) (ds ++ Some D ∷ []) ≡ count_by (is_opening allows o) ds + one_if (is_opening allows o (Some D))
     pushed allows o = sum_by_push (λ (p : Option Description). cond {A = ℕ} (is_opening allows o p) 1 0) ds (Some D)
@@ -53,11 +77,16 @@ pub any_socket_counted : (xs : List Openings) (flags : OpenFlags) (s : Socket) (
     CountsOneMore D xs xs
 any_socket_counted xs flags s D e = rw e (record { long = refl; readers = λ o h. omega arith; writers = λ o h. omega arith })
 
+pub any_socket_inside : (xs : List Openings) (flags : OpenFlags) (s : Socket) (D : Description) → D ≡ socket_description flags s →
+    IsInside D xs
+any_socket_inside xs flags s D e o there = absurd (cc (sym (ap (λ E. object_of (Description.target E)) e) ∙ there))
+
 -- one more can be counted while there are numbers
 pub room_to_count : (ds : List (Option Description)) (xs : List Openings) → Counted ds xs → length ds + 1 < 2 ^ 128 → HasRoom xs
+unfolding Counted
 room_to_count ds xs counted few = record {
-  readers = λ o h. let e = counted.readers o h in let le = count_by-le-length (is_opening can_read o) ds in omega (arith, e, le, few);
-  writers = λ o h. let e = counted.writers o h in let le = count_by-le-length (is_opening can_write o) ds in omega (arith, e, le, few);
+  readers = λ o h. let e = counted.readers o in let le = count_by-le-length (is_opening can_read o) ds in omega (arith, e, le, few);
+  writers = λ o h. let e = counted.writers o in let le = count_by-le-length (is_opening can_write o) ds in omega (arith, e, le, few);
 }
 
 -- ---- references
@@ -119,6 +148,37 @@ held_push_two ds D E none nothing =
     let second = held_push (ds ++ Some D ∷ []) E nothing in
     record { holds = λ k. second.holds k ∙ first.holds k; flies = λ u. second.flies u ∙ first.flies u }
 
+-- ---- what may be added
+
+pub fresh_nothing : (S : State) (D : Description) → IsFresh S D → HoldsNothing D
+unfolding IsFresh
+fresh_nothing S D fresh = fresh.nothing
+
+pub fresh_inside : (V S : State) (D : Description) (xs : List Openings) → V ≡ S → IsFresh S D → length V.objects ≤ length xs → IsInside D xs
+unfolding IsFresh
+fresh_inside V S D xs same fresh each o there =
+    let inside = fresh.made o there in
+    let long = ap (λ R. length (State.objects R)) same in
+    omega (arith, inside, each, long)
+
+pub fresh_socket : (S : State) (kind : SockType) (flags : OpenFlags) (D : Description) → D ≡ socket_description flags (new_socket kind) →
+    IsFresh S D
+unfolding IsFresh
+fresh_socket S kind flags D e = record {
+  nothing = idle_holds kind flags D e;
+  made = λ o there. absurd (cc (sym (ap (λ E. object_of (Description.target E)) e) ∙ there));
+}
+
+pub fresh_file : (S : State) (n : ℕ) (mode : Mode) (flags : OpenFlags) (D : Description) → D ≡ file_description n mode flags →
+    n < length S.objects → IsFresh S D
+unfolding IsFresh
+fresh_file S n mode flags D e inside = record {
+  nothing = holds_nothing n mode flags D e;
+  made = λ o there.
+      let same : n ≡ o = cc (sym (ap (λ E. object_of (Description.target E)) e) ∙ there) in
+      omega (arith, same, inside);
+}
+
 pub adds_from : (H J K : Held Description) (D : Description) → J.places ≡ H.places → J.counts ≡ H.counts → Adds D J K → Adds D H K
 adds_from H J K D places counts adds = record {
   places = adds.places ∙ ap (λ ds. ds ++ Some D ∷ []) places;
@@ -136,12 +196,12 @@ module _ {ks : List Bool} {fs : ℕ → ℕ} (xs : List Openings) (ls : List ℕ
   -- a file's description more, to which the lowest free number leads
   pub object_opened : (ys : List Openings) (K : Held Description) (Q : Process) (n : ℕ) (e : Descriptor) (D : Description) →
       Q ≡ record P { table = filled P.table n e } → lowest_free P.table ≡ Some n →
-      e.description ≡ length H.places → Adds D H K → HoldsNothing D → CountsOneMore D xs ys →
+      e.description ≡ length H.places → Adds D H K → HoldsNothing D → IsInside D xs → CountsOneMore D xs ys →
       IsState ks ys ls K fs (state_of os K (set ps (p - 1) Q) paths names)
-  object_opened ys K Q n e D new lowest last adds none more =
+  object_opened ys K Q n e D new lowest last adds none led more =
       process_kept xs ls H os ps paths names state p P live at ys K Q more.long (rw adds.places (held_push H.places D none.refs))
-      (rw adds.places (counted_push H.places xs ys D state.opened more))
-      (settled_more ks xs ys ls os D state.settled state.one_each more) (rw adds.places (paired-push H.places D none.peer state.paired))
+      (rw adds.places (counted_push H.places xs ys D state.opened led more))
+      (settled_more ks xs ys ls os D state.settled more) (rw adds.places (paired-push H.places D none.peer state.paired))
       (rw adds.places (owned_still H.places _ names (names_push H.places D) state.owned))
       (λ k.
       let free = free_at P.table 0 n lowest in
@@ -152,17 +212,20 @@ module _ {ks : List Bool} {fs : ℕ → ℕ} (xs : List Openings) (ls : List ℕ
       let g : one k (Some e) ≡ once (length H.places) k = ap (λ m. once m k) last in
       omega (arith, a, b, c, f, g))
 
-  -- two sockets' descriptions more, which are tied to one another
-  pub pair_opened : (J K : Held Description) (Q : Process) (n m : ℕ) (e f : Descriptor) (D E : Description) →
+  -- two descriptions more, to which the two lowest free numbers lead
+  pub pair_opened : (ys zs : List Openings) (J K : Held Description) (Q : Process) (n m : ℕ) (e f : Descriptor) (D E : Description) →
       Q ≡ record P { table = filled (filled P.table n e) m f } → two_lowest_free P.table ≡ Some (n, m) →
       e.description ≡ length H.places → f.description ≡ length H.places + 1 → Adds D H J → Adds E J K →
       Paired ((H.places ++ Some D ∷ []) ++ Some E ∷ []) →
-      ((k : ℕ) → target_refs k D.target ≡ 0) → ((k : ℕ) → target_refs k E.target ≡ 0) → CountsOneMore D xs xs → CountsOneMore E xs xs →
-      IsState ks xs ls K fs (state_of os K (set ps (p - 1) Q) paths names)
-  pair_opened J K Q n m e f D E new lowest first second adds adds' ties d_holds e_holds d_more e_more =
+      ((k : ℕ) → target_refs k D.target ≡ 0) → ((k : ℕ) → target_refs k E.target ≡ 0) → IsInside D xs → IsInside E xs →
+      CountsOneMore D xs ys → CountsOneMore E ys zs → IsState ks zs ls K fs (state_of os K (set ps (p - 1) Q) paths names)
+  pair_opened ys zs J K Q n m e f D E new lowest first second adds adds' ties d_holds e_holds d_led e_led d_more e_more =
       let two : K.places ≡ (H.places ++ Some D ∷ []) ++ Some E ∷ [] = adds'.places ∙ ap (λ ds. ds ++ Some E ∷ []) adds.places in
-      process_kept xs ls H os ps paths names state p P live at xs K Q refl (rw two (held_push_two H.places D E d_holds e_holds))
-      (rw two (counted_push _ xs xs E (counted_push H.places xs xs D state.opened d_more) e_more)) state.settled (rw two ties)
+      let led : IsInside E ys = λ o there. let inside = e_led o there in let long = d_more.long in omega (arith, inside, long) in
+      process_kept xs ls H os ps paths names state p P live at zs K Q (e_more.long ∙ d_more.long)
+      (rw two (held_push_two H.places D E d_holds e_holds))
+      (rw two (counted_push _ ys zs E (counted_push H.places xs ys D state.opened d_led d_more) led e_more))
+      (settled_more ks ys zs ls os E (settled_more ks xs ys ls os D state.settled d_more) e_more) (rw two ties)
       (rw two (owned_still _ _ names (names_push (H.places ++ Some D ∷ []) E)
       (owned_still H.places _ names (names_push H.places D) state.owned)))
       (λ k.
@@ -193,6 +256,15 @@ entries_put V S T p P R ds table t live same here r end e =
     ∙ table_put (record V { descriptions = ds }) p P t (ap (λ U. is_live U p) same ∙ live) here
     ∙ ap (λ U. with_table U p t) end
 
+-- nothing was put
+pub untouched : (V S : State) (p : ℕ) (P R : Process) (ds : List (Option Description)) (t : List (Option Descriptor)) → V ≡ S →
+    P ≡ get_or V.processes (p - 1) P → R ≡ P → ds ≡ V.descriptions → t ≡ R.table →
+    record V { descriptions = ds; processes = set V.processes (p - 1) (record R { table = t }) } ≡ S
+untouched V S p P R ds t same here r e unchanged =
+    (λ j. record V { descriptions = e j; processes = set V.processes (p - 1) (record R { table = unchanged j }) })
+    ∙ (λ j. record V { processes = set V.processes (p - 1) ((r ∙ here) j) })
+    ∙ ap (λ ps. record V { processes = ps }) (set-get_or V.processes (p - 1) P) ∙ same
+
 -- the descriptions stay
 pub same_places : (V S : State) (ds : List (Option Description)) → V ≡ S → ds ≡ V.descriptions → record V { descriptions = ds } ≡ S
 same_places V S ds same e = (λ j. record V { descriptions = e j }) ∙ same
@@ -215,6 +287,10 @@ table_is V S p P R live same here r =
 pub new_one : (V S : State) (D : Description) (ds : List (Option Description)) → V ≡ S → ds ≡ V.descriptions ++ Some D ∷ [] →
     record V { descriptions = ds } ≡ with_new S D
 new_one V S D ds same e = (λ j. record V { descriptions = e j }) ∙ ap (λ U. with_new U D) same
+
+pub new_both : (V S : State) (D E : Description) (ds : List (Option Description)) → V ≡ S →
+    ds ≡ (V.descriptions ++ Some D ∷ []) ++ Some E ∷ [] → record V { descriptions = ds } ≡ with_new (with_new S D) E
+new_both V S D E ds same e = (λ j. record V { descriptions = e j }) ∙ ap (λ U. with_new (with_new U D) E) same
 
 pub new_two : (V S : State) (kind : SockType) (flags : OpenFlags) (cred : Cred) (ds : List (Option Description)) → V ≡ S →
     ds ≡ V.descriptions ++ Some (socket_description flags (pair_end kind (length V.descriptions + 1) cred)) ∷ [] ++ Some

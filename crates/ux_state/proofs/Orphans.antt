@@ -27,8 +27,7 @@ use Rattle.ux_state.specs.Links.{AreLinked}
 use Rattle.ux_slots.specs.Held.{Held}
 use Rattle.ux_number_sets.specs.Sets.{has_number, IsFirstFree}
 use Rattle.ux_state.specs.Keeping.{IsState}
-use Rattle.ux_state.specs.Settling.{left, handed, handed_from, is_loose, AreSettled}
-use Rattle.ux_state.proofs.Settling.{has_within}
+use Rattle.ux_state.specs.Settling.{left, handed, handed_from, is_loose, AreSettled, NoOrphans, IsNextLook}
 
 -- ---- whether any is counted
 
@@ -86,11 +85,12 @@ open_either o (Some D) = read_or_written (leads_to o D.target) D.mode
 pub any_open : (ds : List (Option Description)) (openings : List Openings) (o : ℕ) (x : Openings) → o < length openings →
     x ≡ get_or openings o x → Counted ds openings →
     list_any (is_open_of o) ds ≡ (nat_lt 0 x.readers || nat_lt 0 x.writers)
+unfolding Counted
 any_open ds openings o x inside e counted =
     let here : counts_of openings o ≡ x = sym (get_or_read openings o x inside e none_open) in
     any_or (is_open_of o) (is_opening can_read o) (is_opening can_write o) (open_either o) ds
     ∙ (λ j. any_counted (is_opening can_read o) ds j || any_counted (is_opening can_write o) ds j)
-    ∙ (λ j. nat_lt 0 (sym (counted.readers o inside) j) || nat_lt 0 (sym (counted.writers o inside) j))
+    ∙ (λ j. nat_lt 0 (sym (counted.readers o) j) || nat_lt 0 (sym (counted.writers o) j))
     ∙ ap (λ (y : Openings). nat_lt 0 y.readers || nat_lt 0 y.writers) here
 
 -- ---- whether nothing leads to it
@@ -240,7 +240,7 @@ Passed-one S T U i gone more passed inside next out =
     }
 
 -- what a look at a place without an orphan would change
-set_same : (T : State) (i : ℕ) → is_orphan T (i, get_or T.objects i None) ≡ false →
+pub set_same : (T : State) (i : ℕ) → is_orphan T (i, get_or T.objects i None) ≡ false →
     T ≡ record T { objects = set T.objects i (left T (i, get_or T.objects i None)) }
 set_same T i none =
     ap (λ xs. record T { objects = xs }) (sym (set-get_or T.objects i None)
@@ -282,24 +282,20 @@ none_left false None = refl
 none_left false (Some v) = refl
 
 -- what the counts say is loose has no reference
-pub loose_is : (S : State) (xs : List Openings) (ls : List ℕ) (o : ℕ) → o < length xs → o < length ls → Counted S.descriptions xs →
+pub loose_is : (S : State) (xs : List Openings) (ls : List ℕ) (o : ℕ) → Counted S.descriptions xs →
     AreLinked S.paths ls → is_loose xs ls o ≡ eqb (orefs S o) 0
-unfolding orefs
-loose_is S xs ls o inside within counted linked =
-    (λ j. eqb (counted.readers o inside j) 0 && (eqb (counted.writers o inside j) 0 && eqb (linked.counted o within j) 0))
+unfolding orefs Counted AreLinked
+loose_is S xs ls o counted linked =
+    (λ j. eqb (counted.readers o j) 0 && (eqb (counted.writers o j) 0 && eqb (linked.counted o j) 0))
     ∙ sym (and_assoc (eqb (count_by (is_opening can_read o) S.descriptions) 0) (eqb (count_by (is_opening can_write o) S.descriptions) 0) _)
     ∙ ap (λ b. b && eqb (count_by (λ e. path_names o e.1) S.paths) 0) (sym (zero_open S.descriptions o))
     ∙ sym (sum_zero (count_by (λ e. path_names o e.1) S.paths) (count_by (is_open_of o) S.descriptions))
 
 -- a settled object is no orphan
 pub settled_stays : (S : State) (ks : List Bool) (xs : List Openings) (ls : List ℕ) (o : ℕ) → AreSettled ks xs ls S.objects →
-    length xs ≡ length S.objects → length ls ≡ length S.objects → Counted S.descriptions xs → AreLinked S.paths ls →
-    has_number ks o ≡ true → is_orphan S (o, get_or S.objects o None) ≡ false
-settled_stays S ks xs ls o settled opened named counted linked here =
-    let inside : o < length S.objects = let a = has_within ks o here in let b = settled.long in omega (arith, a, b) in
-    ap (λ b. is_some (get_or S.objects o None) && b)
-    (sym (loose_is S xs ls o (omega (arith, inside, opened)) (omega (arith, inside, named)) counted linked))
-    ∙ settled.held o here
+    Counted S.descriptions xs → AreLinked S.paths ls → has_number ks o ≡ true → is_orphan S (o, get_or S.objects o None) ≡ false
+settled_stays S ks xs ls o settled counted linked here =
+    ap (λ b. is_some (get_or S.objects o None) && b) (sym (loose_is S xs ls o counted linked)) ∙ settled.held o here
 
 -- what was looked at is no orphan
 pub settled_here : (S T : State) (o : ℕ) → o < length S.objects →
@@ -322,54 +318,61 @@ taken_out S o x one (Some c) orphan here is =
     ∙ ap (λ (y : Option View). map handed (cond (is_some y && eqb (orefs S o) 0) ((o, y) ∷ []) [])) here
 
 -- and so it is settled
-pub settled_then : (S : State) (xs : List Openings) (ls : List ℕ) (o : ℕ) → o < length S.objects →
-    length xs ≡ length S.objects → length ls ≡ length S.objects → Counted S.descriptions xs → AreLinked S.paths ls →
+pub settled_then : (S : State) (xs : List Openings) (ls : List ℕ) (o : ℕ) → Counted S.descriptions xs → AreLinked S.paths ls →
     is_orphan S (o, place S.objects o) ≡ false → (is_some (place S.objects o) && is_loose xs ls o) ≡ false
-settled_then S xs ls o inside opened named counted linked none =
-    ap (λ b. is_some (place S.objects o) && b)
-    (loose_is S xs ls o (omega (arith, inside, opened)) (omega (arith, inside, named)) counted linked) ∙ none
+settled_then S xs ls o counted linked none = ap (λ b. is_some (place S.objects o) && b) (loose_is S xs ls o counted linked) ∙ none
 
--- there are as many places as at first
-pub places_then : {ks : List Bool} {fs : ℕ → ℕ} (xs : List Openings) (ls : List ℕ) (H : Held Description) (S T U : State) →
-    IsState ks xs ls H fs U → U ≡ T → (from : ℕ) (gone : List (ℕ × Option View)) → Passed S from T gone → from ≤ length S.objects →
-    length ks ≡ length S.objects
-places_then xs ls H S T U state same from gone passed le =
-    state.settled.long ∙ ap (λ R. length (State.objects R)) (same ∙ passed.state) ∙ length-places_at S from le
-
--- the pass goes on to the next place that isn't settled
-pub Passed-next : {ks : List Bool} {fs : ℕ → ℕ} (xs : List Openings) (ls : List ℕ) (H : Held Description) (S T U : State) →
-    IsState ks xs ls H fs U → U ≡ T → (from o : ℕ) (gone : List (ℕ × Option View)) → Passed S from T gone → from ≤ o →
-    o ≤ length S.objects → ((i : ℕ) → from ≤ i → i < o → has_number ks i ≡ true) → Passed S o T gone
-Passed-next {ks = ks} xs ls H S T U state same from o gone passed after within kept =
-    let e : from + (o - from) ≡ o = omega (arith, after) in
-    subst (λ n. Passed S n T gone) e (Passed-over S T from (o - from) gone passed (omega (arith, e, within))
-    (λ i later before. subst (λ (R : State). is_orphan R (i, get_or R.objects i None) ≡ false) same
-    (settled_stays U ks xs ls i state.settled state.one_each state.link_each state.opened state.linked
-    (kept i later (omega (arith, before, e))))))
-
--- the pass comes to the first place that isn't settled
+-- the pass comes to the next place at which it looks
 pub record Comes (S T : State) (o : ℕ) (gone : List (ℕ × Option View)) : Type 0 where
   pub passed : Passed S o T gone
   pub inside : o < length S.objects
-  pub within : o < length T.objects
 
-pub comes : {ks : List Bool} {fs : ℕ → ℕ} (xs : List Openings) (ls : List ℕ) (H : Held Description) (S T U : State) →
-    IsState ks xs ls H fs U → U ≡ T → (from o : ℕ) (gone : List (ℕ × Option View)) → Passed S from T gone → from ≤ length S.objects →
-    IsFirstFree ks from o → Comes S T o gone
-comes {ks = ks} xs ls H S T U state same from o gone passed le first =
-    let long = places_then xs ls H S T U state same from gone passed le in
-    let inside : o < length S.objects = omega (arith, long, first.within) in
-    let here = Passed-next xs ls H S T U state same from o gone passed first.after (omega (arith, inside)) first.before in
-    record { passed = here; inside = inside; within = inside_then S T o gone here inside }
+long_then : (S T : State) (i : ℕ) (gone : List (ℕ × Option View)) → Passed S i T gone → i ≤ length S.objects →
+    length T.objects ≡ length S.objects
+long_then S T i gone passed le = ap (λ R. length (State.objects R)) passed.state ∙ length-places_at S i le
+
+Passed-to : (S T : State) (from o : ℕ) (gone : List (ℕ × Option View)) → Passed S from T gone → from ≤ o → o ≤ length S.objects →
+    NoOrphans T from o → Passed S o T gone
+Passed-to S T from o gone passed after within none =
+    let e : from + (o - from) ≡ o = omega (arith, after) in
+    subst (λ n. Passed S n T gone) e (Passed-over S T from (o - from) gone passed (omega (arith, e, within))
+    (λ i later before. none i later (omega (arith, before, e))))
+
+pub comes : (S T : State) (from o : ℕ) (gone : List (ℕ × Option View)) → Passed S from T gone → from ≤ length S.objects →
+    IsNextLook T from o → Comes S T o gone
+comes S T from o gone passed le next =
+    let inside : o < length S.objects = let a = long_then S T from gone passed le in let b = next.within in omega (arith, a, b) in
+    record { passed = Passed-to S T from o gone passed next.after (omega (arith, inside)) next.before; inside = inside }
 
 -- or to the end
-pub comes_to_end : {ks : List Bool} {fs : ℕ → ℕ} (xs : List Openings) (ls : List ℕ) (H : Held Description) (S T U : State) →
-    IsState ks xs ls H fs U → U ≡ T → (from : ℕ) (gone : List (ℕ × Option View)) → Passed S from T gone → from ≤ length S.objects →
-    ((i : ℕ) → from ≤ i → i < length ks → has_number ks i ≡ true) → Passed S (length S.objects) T gone
-comes_to_end xs ls H S T U state same from gone passed le none =
-    let long = places_then xs ls H S T U state same from gone passed le in
-    Passed-next xs ls H S T U state same from (length S.objects) gone passed le (omega arith)
-    (λ i after before. none i after (omega (arith, before, long)))
+pub comes_to_end : (S T : State) (from : ℕ) (gone : List (ℕ × Option View)) → Passed S from T gone → from ≤ length S.objects →
+    NoOrphans T from (length T.objects) → Passed S (length S.objects) T gone
+comes_to_end S T from gone passed le none =
+    let long = long_then S T from gone passed le in
+    Passed-to S T from (length S.objects) gone passed le (omega arith) (λ i after before. none i after (omega (arith, before, long)))
+
+-- the set of the settled shows where it looks next
+pub looks_next : {ks : List Bool} {fs : ℕ → ℕ} (xs : List Openings) (ls : List ℕ) (H : Held Description) (S : State) →
+    IsState ks xs ls H fs S → (from o : ℕ) → IsFirstFree ks from o → o < length S.objects → IsNextLook S from o
+looks_next {ks = ks} xs ls H S state from o first inside = record {
+  within = inside;
+  after = first.after;
+  before = λ i after before. settled_stays S ks xs ls i state.settled state.opened state.linked (first.before i after before);
+}
+
+-- or that it looks at none, where the first that isn't settled is none of theirs
+pub looks_no_more : {ks : List Bool} {fs : ℕ → ℕ} (xs : List Openings) (ls : List ℕ) (H : Held Description) (S : State) →
+    IsState ks xs ls H fs S → (from o : ℕ) → IsFirstFree ks from o → length S.objects ≤ o → NoOrphans S from (length S.objects)
+looks_no_more {ks = ks} xs ls H S state from o first past i after before =
+    settled_stays S ks xs ls i state.settled state.opened state.linked (first.before i after (omega (arith, before, past)))
+
+-- or where all are settled
+pub looks_at_none : {ks : List Bool} {fs : ℕ → ℕ} (xs : List Openings) (ls : List ℕ) (H : Held Description) (S : State) →
+    IsState ks xs ls H fs S → (from : ℕ) → ((i : ℕ) → from ≤ i → i < length ks → has_number ks i ≡ true) →
+    NoOrphans S from (length S.objects)
+looks_at_none {ks = ks} xs ls H S state from all i after before =
+    settled_stays S ks xs ls i state.settled state.opened state.linked
+    (all i after (let few = state.few_objects in let long = state.settled.long in omega (arith, before, few, long)))
 
 -- the pass is over
 pub Passed-all : (S T : State) (gone : List (ℕ × Option View)) → Passed S (length S.objects) T gone →

@@ -1,8 +1,9 @@
 -- Which file objects are settled, when what leads to them changes.
-use Rattle.std.proofs.Common.{◌≡◌, ◌≢◌, ℕ, zero, suc, ◌<◌, Bool, true, false, ◌&&◌, eqb, List, []}
+use Rattle.std.proofs.Common.{◌≡◌, ◌≢◌, ℕ, zero, suc, ◌<◌, ◌≤◌, Bool, true, false, ◌&&◌, eqb, List, []}
 use Rattle.std.proofs.Common.{◌∷◌, length, get_or, set, Option, Some, None, is_some, refl, sym, ◌∙◌, ap, arith}
 use Rattle.std.proofs.lemmas.Bool.{ne_eqb, eq-eqb, eqb-true}
 use Rattle.std.proofs.lemmas.List.{get_or_read}
+use Rattle.ux_model.specs.Limits.{raised_object_limit}
 use Rattle.ux_model.specs.Flags.{can_read, can_write}
 use Rattle.ux_model.specs.Places.{place}
 use Rattle.ux_model.specs.Names.{PathTarget, file, bound}
@@ -12,7 +13,7 @@ use Rattle.ux_model.specs.References.{leads_to}
 use Rattle.ux_model.specs.FileObjects.{is_opening}
 use Rattle.ux_number_sets.specs.Sets.{has_number, PutsNumber, IsEmptySet}
 use Rattle.ux_state.specs.declared.openings.Openings.{Openings}
-use Rattle.ux_state.specs.Counting.{counts_of, one_if, CountsOneMore}
+use Rattle.ux_state.specs.Counting.{none_open, counts_of, one_if, CountsOneMore}
 use Rattle.ux_state.specs.Links.{links_of, link_at, LosesLink}
 use Rattle.ux_slots.specs.Held.{Held}
 use Rattle.ux_model.specs.State.{State}
@@ -62,21 +63,21 @@ not_both true true c d f e = let both = f refl refl in absurd (cc (e, both.0, bo
 
 -- of each number that is left, the object was there before, and loose before, if it is so now
 pub settled_kept : (ks ns : List Bool) (xs ys : List Openings) (ls ms : List ℕ) (os us : List (Option View)) → AreSettled ks xs ls os →
-    length ns ≡ length ks → length us ≡ length os →
+    length ns ≡ length ks →
     ((o : ℕ) → has_number ns o ≡ true → has_number ks o ≡ true) →
     ((o : ℕ) → has_number ns o ≡ true → is_some (place us o) ≡ true → is_some (place os o) ≡ true) →
     ((o : ℕ) → has_number ns o ≡ true → is_loose ys ms o ≡ true → is_loose xs ls o ≡ true) → AreSettled ns ys ms us
-settled_kept ks ns xs ys ls ms os us settled long same fewer there loose = record {
-  long = long ∙ settled.long ∙ sym same;
+settled_kept ks ns xs ys ls ms os us settled long fewer there loose = record {
+  long = long ∙ settled.long;
   held = λ o h. not_both (is_some (place us o)) (is_loose ys ms o) (is_some (place os o)) (is_loose xs ls o)
       (λ a b. (there o h a, loose o h b)) (settled.held o (fewer o h));
 }
 
 -- objects that are read, written or taken out
 pub settled_objects : (ks : List Bool) (xs : List Openings) (ls : List ℕ) (os us : List (Option View)) → AreSettled ks xs ls os →
-    length us ≡ length os → ((o : ℕ) → is_some (place us o) ≡ true → is_some (place os o) ≡ true) → AreSettled ks xs ls us
-settled_objects ks xs ls os us settled same there =
-    settled_kept ks ks xs xs ls ls os us settled refl same (λ o h. h) (λ o h. there o) (λ o h l. l)
+    ((o : ℕ) → is_some (place us o) ≡ true → is_some (place os o) ≡ true) → AreSettled ks xs ls us
+settled_objects ks xs ls os us settled there =
+    settled_kept ks ks xs xs ls ls os us settled refl (λ o h. h) (λ o h. there o) (λ o h l. l)
 
 -- one place set, where something was, or to nothing
 pub set_there : (os : List (Option View)) (i : ℕ) (y : Option View) → (is_some y ≡ true → is_some (place os i) ≡ true) →
@@ -87,19 +88,42 @@ set_there (x ∷ os) zero y f (suc o) h = h
 set_there (x ∷ os) (suc i) y f zero h = h
 set_there (x ∷ os) (suc i) y f (suc o) h = set_there os i y f o h
 
+-- a place that has counts, or one that has none
+pub by_counts : {P : Type 0} (xs : List Openings) (o : ℕ) → (o < length xs → P) → (length xs ≤ o → counts_of xs o ≡ none_open → P) → P
+by_counts [] o f g = g (omega arith) refl
+by_counts (x ∷ xs) zero f g = f (omega arith)
+by_counts (x ∷ xs) (suc o) f g = by_counts xs o (λ h. f (omega (arith, h))) (λ h. g (omega (arith, h)))
+
+pub by_links : {P : Type 0} (ls : List ℕ) (o : ℕ) → (o < length ls → P) → (length ls ≤ o → links_of ls o ≡ 0 → P) → P
+by_links [] o f g = g (omega arith) refl
+by_links (l ∷ ls) zero f g = f (omega arith)
+by_links (l ∷ ls) (suc o) f g = by_links ls o (λ h. f (omega (arith, h))) (λ h. g (omega (arith, h)))
+
+pub beyond_none : (xs : List Openings) (o : ℕ) → length xs ≤ o → counts_of xs o ≡ none_open
+beyond_none xs o beyond = by_counts xs o (λ inside. absurd (omega (arith, beyond, inside))) (λ _ none. none)
+
+pub beyond_zero : (ls : List ℕ) (o : ℕ) → length ls ≤ o → links_of ls o ≡ 0
+beyond_zero ls o beyond = by_links ls o (λ inside. absurd (omega (arith, beyond, inside))) (λ _ none. none)
+
+loose_beyond : (xs : List Openings) (ls : List ℕ) (o : ℕ) → counts_of xs o ≡ none_open → links_of ls o ≡ 0 → is_loose xs ls o ≡ true
+loose_beyond xs ls o none unlinked =
+    counts_loose xs ls o (ap (λ (x : Openings). x.readers) none) (ap (λ (x : Openings). x.writers) none) unlinked
+
 -- a description more
 pub settled_more : (ks : List Bool) (xs ys : List Openings) (ls : List ℕ) (os : List (Option View)) (D : Description) →
-    AreSettled ks xs ls os → length xs ≡ length os → CountsOneMore D xs ys → AreSettled ks ys ls os
-settled_more ks xs ys ls os D settled each more =
-    settled_kept ks ks xs ys ls ls os os settled refl refl (λ o h. h) (λ o h there. there)
+    AreSettled ks xs ls os → CountsOneMore D xs ys → AreSettled ks ys ls os
+settled_more ks xs ys ls os D settled more =
+    settled_kept ks ks xs ys ls ls os os settled refl (λ o h. h) (λ o h there. there)
     (λ o h loose.
-    let inside : o < length xs = let a = has_within ks o h in let b = settled.long in omega (arith, a, b, each) in
     let zero = loose_counts ys ls o loose in
+    by_counts xs o
+    (λ inside.
     let r = more.readers o inside in
     let w = more.writers o inside in
     counts_loose xs ls o (omega (arith, r, zero.0)) (omega (arith, w, zero.1.0)) zero.1.1)
+    (λ beyond none. loose_beyond xs ls o none zero.1.1))
 
-leads_away : (o : ℕ) (t : Target) → (object_of t ≡ Some o → ⊥) → leads_to o t ≡ false
+pub leads_away : (o : ℕ) (t : Target) → (object_of t ≡ Some o → ⊥) → leads_to o t ≡ false
 leads_away o (to_object n) f = ne_eqb n o (λ e. f (ap Some e))
 leads_away o (to_socket s) f = refl
 
@@ -108,19 +132,21 @@ no_number ns o h k = absurd (cc (h, k))
 
 -- a description less, whose object is looked at again
 pub settled_less : (ks ns : List Bool) (xs ys : List Openings) (ls : List ℕ) (os : List (Option View)) (D : Description) →
-    AreSettled ks xs ls os → length ys ≡ length os → CountsOneMore D ys xs → LooksAgain (object_of D.target) ks ns → AreSettled ns ys ls os
-settled_less ks ns xs ys ls os D settled each more again =
-    settled_kept ks ns xs ys ls ls os os settled again.long refl again.others (λ o h there. there)
+    AreSettled ks xs ls os → CountsOneMore D ys xs → LooksAgain (object_of D.target) ks ns → AreSettled ns ys ls os
+settled_less ks ns xs ys ls os D settled more again =
+    settled_kept ks ns xs ys ls ls os os settled again.long again.others (λ o h there. there)
     (λ o h loose.
-    let inside : o < length ys =
-    let a = has_within ns o h in let b = settled.long in let c = again.long in omega (arith, a, b, c, each) in
     let away : leads_to o D.target ≡ false = leads_away o D.target (λ e. no_number ns o h (again.this o e)) in
     let zero = loose_counts ys ls o loose in
-    let r = more.readers o inside in
-    let w = more.writers o inside in
     let no_reader : one_if (is_opening can_read o (Some D)) ≡ 0 = ap (λ b. one_if (b && can_read D.mode)) away in
     let no_writer : one_if (is_opening can_write o (Some D)) ≡ 0 = ap (λ b. one_if (b && can_write D.mode)) away in
+    by_counts xs o
+    (λ inside.
+    let within : o < length ys = let long = more.long in omega (arith, inside, long) in
+    let r = more.readers o within in
+    let w = more.writers o within in
     counts_loose xs ls o (omega (arith, r, zero.0, no_reader)) (omega (arith, w, zero.1.0, no_writer)) zero.1.1)
+    (λ beyond none. loose_beyond xs ls o none zero.1.1))
 
 names_another : (o : ℕ) (target : Option PathTarget) → (file_of target ≡ Some o → ⊥) → link_at o target ≡ 0
 names_another o None f = refl
@@ -129,26 +155,25 @@ names_another o (Some (bound d)) f = refl
 
 -- a path less, whose object is looked at again
 pub settled_unlinked : (ks ns : List Bool) (xs : List Openings) (ls ms : List ℕ) (os : List (Option View)) (target : Option PathTarget) →
-    AreSettled ks xs ls os → length ls ≡ length os → LosesLink target ls ms → LooksAgain (file_of target) ks ns → AreSettled ns xs ms os
-settled_unlinked ks ns xs ls ms os target settled each less again =
-    settled_kept ks ns xs xs ls ms os os settled again.long refl again.others (λ o h there. there)
+    AreSettled ks xs ls os → LosesLink target ls ms → LooksAgain (file_of target) ks ns → AreSettled ns xs ms os
+settled_unlinked ks ns xs ls ms os target settled less again =
+    settled_kept ks ns xs xs ls ms os os settled again.long again.others (λ o h there. there)
     (λ o h loose.
-    let inside : o < length ls =
-    let a = has_within ns o h in let b = settled.long in let c = again.long in omega (arith, a, b, c, each) in
     let another = names_another o target (λ e. no_number ns o h (again.this o e)) in
     let zero = loose_counts xs ms o loose in
-    let l = less.counts o inside in
-    counts_loose xs ls o zero.0 zero.1.0 (omega (arith, l, zero.1.1, another)))
+    by_links ls o
+    (λ inside. let l = less.counts o inside in counts_loose xs ls o zero.0 zero.1.0 (omega (arith, l, zero.1.1, another)))
+    (λ beyond none. counts_loose xs ls o zero.0 zero.1.0 none))
 
 -- none is settled
 pub none_settled : (ks : List Bool) (xs : List Openings) (ls : List ℕ) (os : List (Option View)) (n : ℕ) → IsEmptySet n ks →
-    n ≡ length os → AreSettled ks xs ls os
+    n ≡ raised_object_limit → AreSettled ks xs ls os
 none_settled ks xs ls os n empty each = record {
   long = empty.len ∙ each;
   held = λ o h. absurd (cc (h, empty.none o));
 }
 
-by_case : {P : Type 0} (b : Bool) (o i : ℕ) → eqb o i ≡ b → (o ≡ i → P) → (o ≢ i → P) → P
+pub by_case : {P : Type 0} (b : Bool) (o i : ℕ) → eqb o i ≡ b → (o ≡ i → P) → (o ≢ i → P) → P
 by_case true o i h same other = same (eqb-true o i h)
 by_case false o i h same other = other (λ e. absurd (cc (h, eq-eqb o i e)))
 

@@ -46,9 +46,10 @@ opening_changed change allows o (Some D) = ap (λ b. one_if (b && allows D.mode)
 
 pub counted_changed : (change : Socket → Socket) (ds : List (Option Description)) (n : ℕ) (xs : List Openings) → Counted ds xs →
     Counted (changed_place ds n (changed change)) xs
+unfolding Counted
 counted_changed change ds n xs counted = record {
-  readers = λ o h. let a = alike can_read o in let b = counted.readers o h in omega (arith, a, b);
-  writers = λ o h. let a = alike can_write o in let b = counted.writers o h in omega (arith, a, b);
+  readers = λ o. let a = alike can_read o in let b = counted.readers o in omega (arith, a, b);
+  writers = λ o. let a = alike can_write o in let b = counted.writers o in omega (arith, a, b);
 }
   where
     alike : (allows : Mode → Bool) (o : ℕ) →

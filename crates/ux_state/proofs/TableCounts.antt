@@ -66,7 +66,7 @@ module _ {ks : List Bool} {fs : ℕ → ℕ} (xs : List Openings) (ls : List ℕ
     process_kept ys K Q long alike opened settled paired owned counts = record {
       few_objects = state.few_objects;
       few_processes = let e = length-set ps (p - 1) Q in let few = state.few_processes in omega (arith, e, few);
-      one_each = long ∙ state.one_each;
+      one_each = let each = state.one_each in omega (arith, long, each);
       link_each = state.link_each;
       linked = state.linked;
       opened = opened;
@@ -124,23 +124,27 @@ module _ {ks : List Bool} {fs : ℕ → ℕ} (xs : List Openings) (ls : List ℕ
     owned = rw same state.owned;
   }
 
-  -- other objects, as many, refer to nothing
-  pub objects_kept : (os' : List (Option View)) → length os' ≡ length os →
+  -- other objects, no more than there were, refer to nothing
+  pub objects_fewer : (os' : List (Option View)) → length os' ≤ length os →
       ((o : ℕ) → is_some (place os' o) ≡ true → is_some (place os o) ≡ true) → IsState ks xs ls H fs (state_of os' H ps paths names)
   unfolding refs in_flight
-  objects_kept os' long there = record {
+  objects_fewer os' long there = record {
     few_objects = let few = state.few_objects in omega (arith, few, long);
     few_processes = state.few_processes;
-    one_each = state.one_each ∙ sym long;
-    link_each = state.link_each ∙ sym long;
+    one_each = let each = state.one_each in omega (arith, long, each);
+    link_each = let each = state.link_each in omega (arith, long, each);
     opened = state.opened;
     linked = state.linked;
-    settled = settled_objects ks xs ls os os' state.settled long there;
+    settled = settled_objects ks xs ls os os' state.settled there;
     counted = state.counted;
     flying = state.flying;
     paired = state.paired;
     owned = state.owned;
   }
+
+  pub objects_kept : (os' : List (Option View)) → length os' ≡ length os →
+      ((o : ℕ) → is_some (place os' o) ≡ true → is_some (place os o) ≡ true) → IsState ks xs ls H fs (state_of os' H ps paths names)
+  objects_kept os' long there = objects_fewer os' (omega (arith, long)) there
 
   -- nor do other paths
   pub paths_kept : {ns : List Bool} (left : List (Name × PathTarget)) (ms : List ℕ) → length ms ≡ length ls → AreLinked left ms →
@@ -150,7 +154,7 @@ module _ {ks : List Bool} {fs : ℕ → ℕ} (xs : List Openings) (ls : List ℕ
     few_objects = state.few_objects;
     few_processes = state.few_processes;
     one_each = state.one_each;
-    link_each = long ∙ state.link_each;
+    link_each = let each = state.link_each in omega (arith, long, each);
     opened = state.opened;
     linked = linked;
     settled = settled;

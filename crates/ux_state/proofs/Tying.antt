@@ -36,7 +36,7 @@ use Rattle.ux_state.specs.Keeping.{state_of, IsState}
 use Rattle.ux_state.specs.Moves.{IsUnnamedAt, IsUnconnectedAt, IsNoListenerAt, IsListenerAt, OnListener, first_end}
 use Rattle.ux_state.proofs.Changing.{IsAlike}
 use Rattle.ux_state.proofs.Links.{socket_linked}
-use Rattle.ux_state.proofs.Opening.{counted_push, any_socket_counted}
+use Rattle.ux_state.proofs.Opening.{counted_push, any_socket_counted, any_socket_inside}
 use Rattle.ux_state.proofs.Queues.{one}
 use Rattle.ux_state.proofs.SocketMoves.{there, held_by, held_by_changed, counted_changed, socket_changed, socket_kept}
 
@@ -367,6 +367,7 @@ module _ {ks : List Bool} {fs : ℕ → ℕ} (xs : List Openings) (ls : List ℕ
       link_each = state.link_each;
       opened = rw places (counted_changed (tied e lcred) (awaited ++ Some E ∷ []) c xs
           (counted_push awaited xs xs E (counted_changed (awaiting e) H.places l xs state.opened)
+          (any_socket_inside xs no_open_flags (server_end t c cred) E refl)
           (any_socket_counted xs no_open_flags (server_end t c cred) E refl)));
       linked = state.linked;
       settled = state.settled;

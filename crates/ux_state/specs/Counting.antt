@@ -2,7 +2,7 @@
 use Rattle.std.specs.Prelude.{◌≡◌, ℕ, ◌+◌, ◌<◌, ◌≤◌, ◌^◌, Bool, cond, List, length, count_by, Option, Some, slice_index_or}
 use Rattle.ux_model.specs.Types.{Mode}
 use Rattle.ux_model.specs.Flags.{can_read, can_write}
-use Rattle.ux_model.specs.Description.{Description}
+use Rattle.ux_model.specs.Description.{Description, object_of}
 use Rattle.ux_model.specs.FileObjects.{is_opening}
 use Rattle.ux_state.specs.declared.openings.Openings.{Openings}
 
@@ -36,7 +36,20 @@ pub record IsAmong (D : Description) (openings : List Openings) : Type 0 where
   pub readers : (o : ℕ) → o < length openings → one_if (is_opening can_read o (Some D)) ≤ (counts_of openings o).readers
   pub writers : (o : ℕ) → o < length openings → one_if (is_opening can_write o (Some D)) ≤ (counts_of openings o).writers
 
--- the counts are those of these descriptions
-pub record Counted (descriptions : List (Option Description)) (openings : List Openings) : Type 0 where
-  pub readers : (o : ℕ) → o < length openings → (counts_of openings o).readers ≡ count_by (is_opening can_read o) descriptions
-  pub writers : (o : ℕ) → o < length openings → (counts_of openings o).writers ≡ count_by (is_opening can_write o) descriptions
+-- the counts are those of these descriptions, none of which leads to what isn't counted
+pub record CountsEach (descriptions : List (Option Description)) (openings : List Openings) : Type 0 where
+  pub readers : (o : ℕ) → (counts_of openings o).readers ≡ count_by (is_opening can_read o) descriptions
+  pub writers : (o : ℕ) → (counts_of openings o).writers ≡ count_by (is_opening can_write o) descriptions
+
+-- the same, which proofs open by its name, since they find too much in it
+unfoldable pub Counted : List (Option Description) → List Openings → Type 0
+Counted descriptions openings = CountsEach descriptions openings
+
+-- the file object that a description leads to, if it leads to one, has counts
+abbrev pub IsInside : Description → List Openings → Type 0
+IsInside D openings = (o : ℕ) → object_of D.target ≡ Some o → o < length openings
+
+-- there may be more counts, each of nothing
+pub record CountsAlike (old new : List Openings) : Type 0 where
+  pub long : length old ≤ length new
+  pub same : (o : ℕ) → counts_of new o ≡ counts_of old o

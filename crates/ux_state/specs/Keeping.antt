@@ -27,8 +27,8 @@ pub record IsState (surely : List Bool) (openings : List Openings) (links : List
     (S : State) : Type 0 where
   pub few_objects : length S.objects ≤ raised_object_limit
   pub few_processes : length S.processes ≤ made_limit
-  pub one_each : length openings ≡ length S.objects
-  pub link_each : length links ≡ length S.objects
+  pub one_each : length S.objects ≤ length openings
+  pub link_each : length S.objects ≤ length links
   pub opened : Counted S.descriptions openings
   pub linked : AreLinked S.paths links
   pub settled : AreSettled surely openings links S.objects

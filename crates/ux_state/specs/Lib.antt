@@ -8,3 +8,4 @@ pub mod Moves
 pub mod EntryCounts
 pub mod Releases
 pub mod Lends
+pub mod Refusals

@@ -1,11 +1,15 @@
 -- What the moves of a state ask for, and changes of one description.
-use Rattle.std.specs.Prelude.{◌≡◌, ℕ, ◌<◌, true, false, IsSome, IsSomeAnd, List, Option, is_some, option_and_then, slice_get}
+use Rattle.std.specs.Prelude.{◌≡◌, ℕ, ◌<◌, length, true, false, IsSome, IsSomeAnd, List, [], ◌∷◌, ◌++◌, Option, Some, is_some}
+use Rattle.std.specs.Prelude.{option_and_then}
+use Rattle.std.specs.Prelude.{slice_get}
+use Rattle.ux_model.specs.Object.{View}
 use Rattle.ux_model.specs.Names.{is_unnamed_addr}
 use Rattle.ux_model.specs.Socket.{Socket, peer_of, pending_ends}
 use Rattle.ux_model.specs.Connecting.{Listener, listener_of}
-use Rattle.ux_model.specs.Description.{Description}
+use Rattle.ux_model.specs.Description.{Description, object_of}
 use Rattle.ux_model.specs.State.{State, socket_at}
 use Rattle.ux_model.specs.References.{times, refs}
+use Rattle.ux_model.specs.Peers.{HoldsNothing}
 
 abbrev pub at_offset : ℕ → Description → Description
 at_offset offset D = record D { offset = offset }
@@ -17,6 +21,19 @@ IsSocketAt S d = IsSome (socket_at S d)
 -- something refers to each of them
 abbrev pub AreReferenced : State → List ℕ → Type 0
 AreReferenced S numbers = (d : ℕ) → 0 < times d numbers → 0 < refs S d
+
+-- with one more file object, which is seen so
+abbrev pub with_object_more : State → View → State
+with_object_more S view = record S { objects = S.objects ++ Some view ∷ [] }
+
+-- a description refers to nothing yet, and the file object that it leads to, if it leads to one, was made
+pub record CanBeAdded (S : State) (D : Description) : Type 0 where
+  pub nothing : HoldsNothing D
+  pub made : (o : ℕ) → object_of D.target ≡ Some o → o < length S.objects
+
+-- the same, which proofs open by its name
+unfoldable pub IsFresh : State → Description → Type 0
+IsFresh S D = CanBeAdded S D
 
 -- ---- sockets by name
 

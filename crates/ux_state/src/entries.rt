@@ -7,8 +7,8 @@ ghost use Rattle.ux_model.specs.References.{refs};
 ghost use Rattle.ux_model.specs.Socket.{new_socket, pair_end};
 ghost use Rattle.ux_model.specs.Pairing.{socket_description, with_pair};
 ghost use Rattle.ux_model.specs.Opening.{file_description};
-ghost use Rattle.ux_model.specs.Peers.{HoldsNothing};
 ghost use Rattle.ux_model.specs.Closing as model;
+ghost use Rattle.ux_state.specs.Moves.{IsFresh};
 
 use crate::openings::count_in;
 use crate::process::process_mut;
@@ -26,7 +26,8 @@ impl<O: FileObject> State<O> {
     ///
     /// # Errors
     ///
-    /// `Full` where no number is free, else `NoMemory`. The state is then as before.
+    /// `Full` where no number is free, else `NoMemory`, also for a file object that was never there. The
+    /// state is then as before.
     pub fn open_object(
         &mut self,
         pid: Pid,
@@ -41,7 +42,13 @@ impl<O: FileObject> State<O> {
         ensures full { (result ≡ Err InstallError.Full) ↔ (lowest_free (table_of self.old pid.0) ≡ None) }
         ensures err { OnErr result (self.new ≡ self.old) }
     {
-        self.open_description(pid, flags, Description::of_object(object, mode, flags))
+        if (object as usize) < self.object_count() {
+            return self.open_description(pid, flags, Description::of_object(object, mode, flags));
+        }
+        match self.table(pid).lowest_free() {
+            Some(_) => Err(InstallError::NoMemory),
+            None => Err(InstallError::Full),
+        }
     }
 
     /// Makes a description of a socket of this type, which is tied to nobody, and opens the lowest free
@@ -71,7 +78,8 @@ impl<O: FileObject> State<O> {
         )
     }
 
-    /// Opens the lowest free number of a process for a new description, which refers to nothing yet.
+    /// Opens the lowest free number of a process for a new description, which refers to nothing yet, and
+    /// leads to no file object that was never there.
     fn open_description(
         &mut self,
         pid: Pid,
@@ -79,7 +87,7 @@ impl<O: FileObject> State<O> {
         description: Description,
     ) -> Result<Fd, InstallError>
         requires live { IsTrue (is_live self.old pid.0) }
-        requires new { HoldsNothing description }
+        requires fresh { IsFresh self.old description }
         ensures lowest { IfOk result (λ fd. lowest_free (table_of self.old pid.0) ≡ Some fd.0) }
         ensures opened { IfOk result (λ fd. self.new ≡ with_table (with_new self.old description) pid.0
             (filled (table_of self.old pid.0) fd.0 (descriptor flags (next_description self.old)))) }
@@ -138,6 +146,42 @@ impl<O: FileObject> State<O> {
         let _second = self
             .descriptions
             .insert_reserved(pair_end(alloc, kind, flags, first, cred));
+        Ok(two)
+    }
+
+    /// Opens the two lowest free numbers of a process for two new descriptions, which refer to nothing yet, and lead to no file
+    /// object that was never there.
+    pub(crate) fn open_two(
+        &mut self,
+        pid: Pid,
+        flags: OpenFlags,
+        first: Description,
+        second: Description,
+    ) -> Result<(Fd, Fd), InstallError>
+        requires live { IsTrue (is_live self.old pid.0) }
+        requires first { IsFresh self.old first }
+        requires second { IsFresh self.old second }
+        ensures lowest { IfOk result (λ two. two_lowest_free (table_of self.old pid.0) ≡ Some (two.0.0, two.1.0)) }
+        ensures opened { IfOk result (λ two. self.new ≡ with_table (with_new (with_new self.old first) second) pid.0
+            (filled (filled (table_of self.old pid.0) two.0.0 (descriptor flags (next_description self.old)))
+            two.1.0 (descriptor flags (next_description self.old + 1)))) }
+        ensures full { (result ≡ Err InstallError.Full) ↔ (two_lowest_free (table_of self.old pid.0) ≡ None) }
+        ensures err { OnErr result (self.new ≡ self.old) }
+    {
+        if self.table(pid).two_lowest_free().is_none() {
+            return Err(InstallError::Full);
+        }
+        self.descriptions.reserve(2)?;
+        let low = self.descriptions.next_id();
+        let high = DescriptionId::new(low.number() + 1);
+        let process = process_mut(&mut self.processes, pid);
+        let entries = (new_entry(flags, low), new_entry(flags, high));
+        let two = process.table.install_two(entries.0, entries.1)?;
+        count_in(&mut self.openings, &first);
+        count_in(&mut self.openings, &second);
+        // They have names, since the proof cites the calls by them.
+        let _first = self.descriptions.insert_reserved(first);
+        let _second = self.descriptions.insert_reserved(second);
         Ok(two)
     }
 

@@ -13,6 +13,7 @@ mod flights;
 mod forking;
 mod making;
 mod names;
+mod new_objects;
 mod object_place;
 mod objects;
 mod openings;
@@ -24,5 +25,6 @@ mod state;
 mod users;
 
 pub use finding::{FoundDescription, FoundSocket};
+pub use new_objects::MakeError;
 pub use released_objects::{ReleasedObject, ReleasedObjects};
 pub use state::State;

@@ -15,8 +15,9 @@ use std::alloc::{AllocError, Global};
 use ux_names::{AbstractNames, BindError, PathTarget, Paths, Seed};
 use ux_number_sets::NumberSet;
 use ux_object::FileObject;
+use ux_objects::LayerFile;
 use ux_slots::Slots;
-use ux_types::{Name, ProcSpec};
+use ux_types::{Name, ProcSpec, RAISED_OBJECT_LIMIT};
 
 /// The file objects of a state and their paths, with room for those that are still to come.
 #[derive(Drop)]
@@ -53,7 +54,7 @@ impl<O: FileObject> State<O> {
         let Ok(links) = one_for(alloc, count) else {
             return Err(objects);
         };
-        let Ok(settled) = NumberSet::new(alloc, count) else {
+        let Ok(settled) = NumberSet::new(alloc, RAISED_OBJECT_LIMIT) else {
             return Err(objects);
         };
         let Ok(processes) = new_processes(alloc, procs) else {
@@ -157,7 +158,7 @@ fn filled<O: FileObject>(files: Files<O>, objects: Vec<(Name, O)>) -> Files<O>
             unreachable!()
         };
         bind_file(&mut paths, name, places.len() as u32);
-        places.push_reserved(ObjectPlace::new(object, room));
+        places.push_reserved(ObjectPlace::new(LayerFile::Given(object), room));
     }
     Files {
         objects: places,

@@ -2,6 +2,7 @@
 ghost use Rattle.std.specs.Prelude.{◌≡◌, ◌≤◌, ◌<◌, [], ◌∷◌, true, Some, None, IsTrue, IfOk, IfSome, MatchOption, is_some, length, option_map};
 ghost use Rattle.ux_model.specs.Limits.{raised_object_limit};
 ghost use Rattle.ux_model.specs.Object.{closed};
+ghost use Rattle.ux_objects.specs.Layers.{layer_view};
 ghost use Rattle.ux_state.specs.ObjectCalls.{Reads, Writes, bytes_read};
 
 use crate::released_objects::ReleasedObject;
@@ -9,6 +10,7 @@ use std::alloc::{AllocError, Global};
 use std::collections::LinkedList;
 use std::marker::Model;
 use ux_object::{FileObject, ObjError};
+use ux_objects::LayerFile;
 use ux_types::Released;
 
 /// Room in which one file object is handed out, and for its number, made before so that it takes no memory then.
@@ -51,9 +53,9 @@ impl<O: FileObject> ObjectRoom<O> {
     }
 
     /// Holds an object that was closed.
-    fn holding(self, number: u32, object: O) -> ClosedObject<O>
+    fn holding(self, number: u32, object: LayerFile<O>) -> ClosedObject<O>
         requires { number < raised_object_limit }
-        ensures object { result.object ≡ (number, Some (O.view object)) ∷ [] }
+        ensures object { result.object ≡ (number, Some (layer_view O.view object)) ∷ [] }
         ensures number { result.number ≡ number ∷ [] }
     {
         let ObjectRoom {
@@ -76,7 +78,7 @@ impl<O: FileObject> ObjectRoom<O> {
 /// A file object that wasn't closed yet, and the room in which it is handed out.
 #[derive(Drop)]
 struct HeldObject<O: FileObject> {
-    object: O,
+    object: LayerFile<O>,
     room: ObjectRoom<O>,
 }
 
@@ -89,20 +91,21 @@ pub(crate) struct ObjectPlace<O: FileObject> {
 impl<O: FileObject> Model for ObjectPlace<O> {
     ghost use Rattle.std.specs.Prelude.{Option, option_map};
     ghost use Rattle.ux_model.specs.Object.{View};
+    ghost use Rattle.ux_objects.specs.Layers.{layer_view};
     ghost use Rattle.ux_state.specs.ObjectCalls.{IsOpen};
 
     ghost Value = { Option View };
 
-    ghost view = { λ s. option_map (λ h. O.view h.object) s.held };
+    ghost view = { λ s. option_map (λ h. layer_view O.view h.object) s.held };
 
-    ghost invariant = { λ s. IsOpen (option_map (λ h. O.view h.object) s.held) };
+    ghost invariant = { λ s. IsOpen (option_map (λ h. layer_view O.view h.object) s.held) };
 }
 
 impl<O: FileObject> ObjectPlace<O> {
     /// A place that holds this object.
-    pub(crate) fn new(object: O, room: ObjectRoom<O>) -> ObjectPlace<O>
-        requires { (O.view object).opened ≡ true }
-        ensures { result ≡ Some (O.view object) }
+    pub(crate) fn new(object: LayerFile<O>, room: ObjectRoom<O>) -> ObjectPlace<O>
+        requires { (layer_view O.view object).opened ≡ true }
+        ensures { result ≡ Some (layer_view O.view object) }
     {
         ObjectPlace {
             held: Some(HeldObject { object, room }),
@@ -110,8 +113,8 @@ impl<O: FileObject> ObjectPlace<O> {
     }
 
     /// The object, while it is there.
-    pub(crate) fn object(&self) -> Option<&O>
-        ensures { MatchOption result (self.now ≡ None) (λ x. self.now ≡ Some (O.view x.now)) }
+    pub(crate) fn object(&self) -> Option<&LayerFile<O>>
+        ensures { MatchOption result (self.now ≡ None) (λ x. self.now ≡ Some (layer_view O.view x.now)) }
     {
         match &self.held {
             Some(held) => Some(&held.object),

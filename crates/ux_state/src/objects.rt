@@ -4,13 +4,15 @@ ghost use Rattle.ux_model.specs.Limits.{raised_object_limit};
 ghost use Rattle.ux_model.specs.Flags.{can_read, can_write};
 ghost use Rattle.ux_model.specs.Places.{place};
 ghost use Rattle.ux_model.specs.FileObjects.{is_open_for};
+ghost use Rattle.ux_objects.specs.Layers.{layer_view};
 ghost use Rattle.ux_state.specs.ObjectCalls.{ReadsObject, WritesObject, bytes_read};
 
 use crate::state::State;
 use ux_object::{FileObject, ObjError};
+use ux_objects::LayerFile;
 
 impl<O: FileObject> State<O> {
-    /// How many file objects there were at first, closed ones too.
+    /// How many file objects there were, those at first and those that calls made, closed ones too.
     pub fn object_count(&self) -> usize
         ensures count { result ≡ length self.now.objects }
         ensures most { result ≤ raised_object_limit }
@@ -19,8 +21,8 @@ impl<O: FileObject> State<O> {
     }
 
     /// The file object with this number, while it is there.
-    pub fn object(&self, number: u32) -> Option<&O>
-        ensures { MatchOption result (place self.now.objects number ≡ None) (λ x. place self.now.objects number ≡ Some (O.view x.now)) }
+    pub fn object(&self, number: u32) -> Option<&LayerFile<O>>
+        ensures { MatchOption result (place self.now.objects number ≡ None) (λ x. place self.now.objects number ≡ Some (layer_view O.view x.now)) }
     {
         match self.objects.get(number as usize) {
             Some(place) => place.object(),

@@ -1,8 +1,9 @@
 //! How many descriptions of each file object are open for reading, and for writing.
-ghost use Rattle.std.specs.Prelude.{◌≡◌, ◌+◌, ◌<◌, ◌≤◌, ◌^◌, ℕ, length};
+ghost use Rattle.std.specs.Prelude.{◌≡◌, ◌+◌, ◌<◌, ◌≤◌, ◌^◌, ℕ, OnOk, length};
 ghost use Rattle.ux_model.specs.Flags.{can_read, can_write};
-ghost use Rattle.ux_state.specs.Counting.{Counted, CountsOneMore, HasRoom, IsAmong, more, one_if};
+ghost use Rattle.ux_state.specs.Counting.{Counted, CountsAlike, CountsOneMore, HasRoom, IsAmong, more, one_if};
 
+use std::alloc::AllocError;
 use ux_description::Description;
 use ux_types::Mode;
 
@@ -49,6 +50,18 @@ impl Openings {
             writers: self.writers - mode.can_write() as u128,
         }
     }
+}
+
+/// Makes counts of nothing at the next number, if there are none.
+pub(crate) fn make_counts(openings: &mut Vec<Openings>, next: usize) -> Result<(), AllocError>
+    requires { next ≤ length openings.old.items }
+    ensures counts { CountsAlike openings.old.items openings.new.items }
+    ensures long { OnOk result (next < length openings.new.items) }
+{
+    if openings.len() == next {
+        openings.push(Openings::new())?;
+    }
+    Ok(())
 }
 
 /// Counts a description that is made.

@@ -12,7 +12,7 @@ ghost use Rattle.ux_model.specs.Closing.{with_nothing_open};
 ghost use Rattle.ux_model.specs.Closing as model;
 ghost use Rattle.ux_slots.specs.Held.{count_at};
 ghost use Rattle.ux_state.specs.Counting.{none_open};
-ghost use Rattle.ux_state.specs.Settling.{LooksAgain, handed_from, left};
+ghost use Rattle.ux_state.specs.Settling.{IsNextLook, LooksAgain, NoOrphans, handed_from, left};
 
 use crate::binding::{drop_name, unlink_all};
 use crate::object_place::ClosedObject;
@@ -93,13 +93,29 @@ impl<O: FileObject> State<O> {
     {
         let mut numbers = Released::new(released.allocator());
         let mut from = 0;
-        while let Some(o) = self.settled.first_free(from) {
+        while let Some(o) = self.next_look(from) {
             let orphan = self.take_orphan(o);
             self.keep_settled(o);
             hand_out(released, &mut numbers, orphan);
             from = o + 1;
         }
         numbers
+    }
+
+    /// The first place, from this one on, whose file object isn't settled.
+    fn next_look(&self, from: usize) -> Option<usize>
+        ensures look { MatchOption result (NoOrphans self.now from (length self.now.objects)) (IsNextLook self.now from) }
+        ensures small { IfSome result (λ o. o < raised_object_limit) }
+    {
+        // The set has room for file objects that are still to be made.
+        let Some(o) = self.settled.first_free(from) else {
+            return None;
+        };
+        if o < self.objects.len() {
+            Some(o)
+        } else {
+            None
+        }
     }
 
     /// Takes the file object out of this place, closed, if neither a path nor a description leads to it.

@@ -1,29 +1,32 @@
 //! The file objects that one call closed.
 ghost use Rattle.std.specs.Prelude.{◌≡◌, ◌<◌, ◌≤◌, ◌==◌, ◌++◌, ◌∷◌, [], Some, MatchOption, length, option_map};
 ghost use Rattle.ux_model.specs.Limits.{raised_object_limit};
+ghost use Rattle.ux_objects.specs.Layers.{layer_view};
 
 use std::alloc::Global;
 use std::collections::LinkedList;
 use std::collections::linked_list::Iter;
 use std::marker::Model;
 use ux_object::FileObject;
+use ux_objects::LayerFile;
 
 /// A file object that was closed at the end of a call, with its number. Contracts see the number beside
 /// its view.
 #[derive(Drop)]
 pub struct ReleasedObject<O: FileObject> {
     number: u32,
-    object: Option<O>,
+    object: Option<LayerFile<O>>,
 }
 
 impl<O: FileObject> Model for ReleasedObject<O> {
     ghost use Rattle.std.specs.Prelude.{ℕ, ◌<◌, Option, option_map};
     ghost use Rattle.ux_model.specs.Limits.{raised_object_limit};
     ghost use Rattle.ux_model.specs.Object.{View};
+    ghost use Rattle.ux_objects.specs.Layers.{layer_view};
 
     ghost Value = { ℕ × Option View };
 
-    ghost view = { λ r. (r.number, option_map O.view r.object) };
+    ghost view = { λ r. (r.number, option_map (layer_view O.view) r.object) };
 
     ghost invariant = { λ r. r.number < raised_object_limit };
 }
@@ -38,9 +41,9 @@ impl<O: FileObject> ReleasedObject<O> {
     }
 
     /// This object under its number.
-    pub(crate) fn new(number: u32, object: O) -> ReleasedObject<O>
+    pub(crate) fn new(number: u32, object: LayerFile<O>) -> ReleasedObject<O>
         requires { number < raised_object_limit }
-        ensures { result ≡ (number, Some (O.view object)) }
+        ensures { result ≡ (number, Some (layer_view O.view object)) }
     {
         ReleasedObject {
             number,
@@ -57,8 +60,8 @@ impl<O: FileObject> ReleasedObject<O> {
     }
 
     /// The object. What a call released is there.
-    pub fn object(&self) -> Option<&O>
-        ensures { MatchOption result (self.now.1 ≡ None) (λ o. self.now.1 ≡ Some (O.view o.now)) }
+    pub fn object(&self) -> Option<&LayerFile<O>>
+        ensures { MatchOption result (self.now.1 ≡ None) (λ o. self.now.1 ≡ Some (layer_view O.view o.now)) }
     {
         self.object.as_ref()
     }

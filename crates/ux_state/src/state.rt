@@ -22,7 +22,8 @@ pub struct State<O: FileObject> {
     /// The process with number 1 first.
     pub(crate) processes: Vec<Process>,
     pub(crate) paths: Paths,
-    /// How many paths name each file object, so that no call looks through them.
+    /// How many paths name each file object, so that no call looks through them. As with the openings, there may be
+    /// counts of nothing beyond the file objects.
     pub(crate) links: Vec<usize>,
     /// With the descriptions whose sockets they lead to.
     pub(crate) abstract_names: AbstractNames,

@@ -5,6 +5,7 @@ ghost use Rattle.std.specs.Prelude.{◌≡◌};
 mod connections;
 mod files;
 mod flights;
+mod new_files;
 mod processes;
 mod sockets;
 

@@ -1,11 +1,15 @@
 //! Calls on file objects and on descriptors, as rows have them, and the flags that these set and read.
 use super::{Asked, Row, Told, expect_rows_of_one_process};
 use std::alloc::{AllocError, Global};
-use ux_types::{Bytes, Errno, Fd, OpenFlags, Request, Whence};
+use ux_types::{Bytes, Errno, Fd, Mode, Name, OpenFlags, Request, Whence};
 
 /// A call on a file object or a descriptor that a row of a test makes.
 #[derive(Clone, Copy)]
 pub(super) enum FileCall {
+    Create(&'static [u8], Mode),
+    MemFd,
+    EventFd(u32),
+    Pipe,
     Read(u32, usize),
     Write(u32, &'static [u8]),
     Lseek(u32, i64, Whence),
@@ -18,7 +22,19 @@ pub(super) enum FileCall {
 
 /// The request of such a call.
 pub(super) fn file_request_of(alloc: Global, call: &FileCall) -> Result<Request, AllocError> {
+    let plain = OpenFlags(0);
     Ok(match call {
+        FileCall::Create(path, mode) => Request::Create {
+            path: Name::from_slice(alloc, path)?,
+            mode: *mode,
+            flags: plain,
+        },
+        FileCall::MemFd => Request::MemFd { flags: plain },
+        FileCall::EventFd(value) => Request::EventFd {
+            value: *value,
+            flags: plain,
+        },
+        FileCall::Pipe => Request::Pipe { flags: plain },
         FileCall::Read(fd, n) => Request::Read { fd: Fd(*fd), n: *n },
         FileCall::Write(fd, bytes) => Request::Write {
             fd: Fd(*fd),

@@ -43,7 +43,7 @@ fn an_object_without_a_path_is_handed_out(rt: HostRuntime) -> Result<(), AllocEr
 }
 
 /// A kernel of as many counters as there may be, each under its number, and one process.
-fn with_most_counters(alloc: Global) -> Result<Machine, AllocError> {
+pub(super) fn with_most_counters(alloc: Global) -> Result<Machine, AllocError> {
     let objects = numbered_counters(alloc, 4096)?;
     let most = ObjectLimit::Raised;
     match Kernel::boot_with_seed(alloc, Seed::fixed(), most, objects, &[process(16)]) {

@@ -9,7 +9,6 @@ use Rattle.ux_state.proofs.state.State.keep_settled.Goals as goal
 pub invariant_of-self : goal.invariant_of-self
 invariant_of-self g c =
     let state = c.self.invariant in
-    let inside = subst (λ (S : State). c.args.o < length S.objects) (sym c.self.view_is) c.requires.inside in
     let none = subst (λ (S : State). is_orphan S (c.args.o, place S.objects c.args.o) ≡ false) (sym c.self.view_is) c.requires.no_orphan in
     looked_kept _ _ _ _ c.args.o state c.put.ensures
-    (settled_then _ _ _ c.args.o inside state.one_each state.link_each state.opened state.linked none)
+    (settled_then _ _ _ c.args.o state.opened state.linked none)

@@ -1,4 +1,5 @@
 use Rattle.std.proofs.Common.{◌-◌, ◌≡◌, ◌+◌, [], ◌∷◌, ◌++◌, length, Some, ap, sym, ◌∙◌, arith}
+use Rattle.std.proofs.lemmas.Result.{err_from_is_err_and}
 use Rattle.ux_model.specs.Places.{filled}
 use Rattle.ux_model.specs.Socket.{pair_end}
 use Rattle.ux_model.specs.Process.{Descriptor, descriptor, two_lowest_free}
@@ -9,7 +10,8 @@ use Rattle.ux_slots.specs.Held.{count_at}
 use Rattle.ux_state.specs.contracts.process.Process as process
 use Rattle.ux_state.proofs.Lookups.{at_view}
 use Rattle.ux_state.proofs.TableCounts.{table_kept}
-use Rattle.ux_state.proofs.Opening.{pair_opened, pair_paired, end_holds, any_socket_counted, adds_from, entries_put, table_is, new_two}
+use Rattle.ux_state.proofs.Opening.{pair_opened, pair_paired, end_holds, any_socket_counted, any_socket_inside, adds_from, entries_put}
+use Rattle.ux_state.proofs.Opening.{table_is, new_two}
 use Rattle.ux_state.proofs.Opening.{entry_is}
 use Rattle.ux_state.proofs.state.State.open_pair.Goals as goal
 
@@ -33,7 +35,7 @@ invariant_of-self-2 g c =
     ∙ ap length c.reserve.ensures.places in
     let second : c.new-second.result ≡ length c.self.inside.descriptions.places + 1 = c.new-second.ensures
     ∙ ap (λ n. n + 1) (c.number.ensures ∙ first) in
-    pair_opened _ _ _ _ _ _ _ c.self.invariant c.args.pid.0 (process.the_view c.process.inside) live at c.insert_reserved-first.new.self
+    pair_opened _ _ _ _ _ _ _ c.self.invariant c.args.pid.0 (process.the_view c.process.inside) live at _ _ c.insert_reserved-first.new.self
     c.insert_reserved-second.new.self _
     c.in_ok-two.two.0.0 c.in_ok-two.two.1.0 c.new_entry.result c.new_entry-2.result c.pair_end.result c.pair_end-2.result
     (ap (λ t. record (process.the_view c.process.inside) { table = t }) c.in_ok-two.ensures.opened) c.in_ok-two.ensures.lowest
@@ -44,6 +46,7 @@ invariant_of-self-2 g c =
     (c.pair_end.ensures ∙ ap (λ n. socket_description c.args.flags (pair_end c.args.kind n c.args.cred)) second)
     (c.pair_end-2.ensures ∙ ap (λ n. socket_description c.args.flags (pair_end c.args.kind n c.args.cred)) first) c.self.invariant.paired)
     (end_holds _ _ _ _ c.pair_end.result c.pair_end.ensures) (end_holds _ _ _ _ c.pair_end-2.result c.pair_end-2.ensures)
+    (any_socket_inside _ c.args.flags _ _ c.pair_end.ensures) (any_socket_inside _ c.args.flags _ _ c.pair_end-2.ensures)
     (any_socket_counted _ c.args.flags _ _ c.pair_end.ensures) (any_socket_counted _ c.args.flags _ _ c.pair_end-2.ensures)
 
 pub returns-clause-lowest : goal.returns-clause-lowest
@@ -73,3 +76,20 @@ returns-clause-opened g c =
     c.self.view_is c.process_mut-process.ensures.value c.process.view_is
     (new_two _ c.args.self.now c.args.kind c.args.flags c.args.cred _ c.self.view_is added)
     (c.in_ok-two.ensures.opened ∙ λ j. filled (filled (table j) c.in_ok-two.two.0.0 (low j)) c.in_ok-two.two.1.0 (high j))
+
+pub returns-in_err-two-clause-full : goal.returns-in_err-two-clause-full
+returns-in_err-two-clause-full g c =
+    let table = table_is _ c.args.self.now c.args.pid.0 c.process_mut-process.result.now (process.the_view c.process.inside)
+    c.requires c.self.view_is c.process_mut-process.ensures.value c.process.view_is in
+    let p = err_from_is_err_and c.from_residual-in_err-two.result c.from_residual-in_err-two.ensures.1 in
+    rw (p.1, p.2) (
+      λ e. ap two_lowest_free (sym table) ∙ c.in_err-two.ensures.full.0 e,
+      λ none. c.in_err-two.ensures.full.1 (ap two_lowest_free table ∙ none),
+    )
+
+pub returns-clause-full : goal.returns-clause-full
+returns-clause-full g c =
+    let lowest = ap two_lowest_free (sym (table_is _ c.args.self.now c.args.pid.0 c.process_mut-process.result.now
+    (process.the_view c.process.inside) c.requires c.self.view_is c.process_mut-process.ensures.value c.process.view_is))
+    ∙ c.in_ok-two.ensures.lowest in
+    (λ e. absurd (cc e), λ none. absurd (cc (sym none ∙ lowest)))

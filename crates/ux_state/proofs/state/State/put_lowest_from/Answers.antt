@@ -1,9 +1,10 @@
-use Rattle.std.proofs.Common.{◌-◌, ap, sym, ◌∙◌, arith}
+use Rattle.std.proofs.lemmas.Result.{err_from_is_err_and}
+use Rattle.std.proofs.Common.{◌-◌, ap, sym, ◌∙◌, arith, rules}
 use Rattle.std.proofs.lemmas.Grind.{common_steps}
 use Rattle.ux_model.specs.Places.{filled}
 use Rattle.ux_model.specs.Process.{Descriptor, lowest_free_from}
 use Rattle.ux_model.specs.State.{is_live}
-use Rattle.ux_model.specs.References.{table_refs}
+use Rattle.ux_model.specs.References.{table_refs, refs}
 use Rattle.ux_model.proofs.Counting.Moves.{one, table_filled}
 use Rattle.ux_fdtable.proofs.TwoFree.{free_from_at}
 use Rattle.ux_slots.specs.Held.{once}
@@ -49,3 +50,24 @@ invariant_of-self g c = grind (arith, common_steps)
 
 pub returns-in_err-fd-clause-err : goal.returns-in_err-fd-clause-err
 returns-in_err-fd-clause-err g c = grind (arith, common_steps)
+
+pub retain-requires-clause-held : goal.retain-requires-clause-held
+retain-requires-clause-held g c =
+    let d = c.entry-2.inside.description in
+    let counted = c.self.invariant.counted d in
+    let same = ap (λ S. refs S d) c.self.view_is in
+    let entry = ap (λ (e : Descriptor). refs c.args.self.now e.description) c.entry-2.view_is in
+    omega (arith, counted, same, entry, c.requires.held)
+
+pub returns-in_err-fd-clause-full : goal.returns-in_err-fd-clause-full
+returns-in_err-fd-clause-full g c =
+    let table = table_is _ c.args.self.now c.args.pid.0 c.process_mut-process.result.now (process.the_view c.process.inside)
+    c.requires.live c.self.view_is c.process_mut-process.ensures.value c.process.view_is in
+    let p = err_from_is_err_and c.from_residual.result c.from_residual.ensures.1 in
+    rw (p.1, p.2) (
+      λ e. ap (lowest_free_from c.args.minimum.0) (sym table) ∙ c.in_err-fd.ensures.full.0 e,
+      λ none. c.in_err-fd.ensures.full.1 (ap (lowest_free_from c.args.minimum.0) table ∙ none),
+    )
+
+pub returns-clause-full : goal.returns-clause-full
+returns-clause-full g c = search rules depth 8 fits 5000

@@ -12,5 +12,5 @@ pub invariant_of-self : goal.invariant_of-self
 invariant_of-self g c =
     paths_kept _ _ _ _ _ _ _ c.self.invariant _ _ c.unlink_target.ensures.long
     (link_gone _ _ _ _ _ _ c.self.invariant.linked c.unlink-target.ensures.target c.unlink-target.ensures.names c.unlink_target.ensures)
-    (settled_unlinked _ _ _ _ _ _ _ c.self.invariant.settled c.self.invariant.link_each c.unlink_target.ensures
+    (settled_unlinked _ _ _ _ _ _ _ c.self.invariant.settled c.unlink_target.ensures
     (subst (λ o. LooksAgain o c.self.inside.settled c.look_again.new.settled) c.file_of.ensures c.look_again.ensures))
