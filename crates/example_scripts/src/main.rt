@@ -44,6 +44,7 @@ const SCRIPTS: &[&str] = &[
     "two_lowest_numbers",
     "further_descriptors",
     "numbers_from_a_minimum",
+    "file_objects_are_made",
     "nul_in_names",
     "longest_names",
     "one_name_wanted_twice",

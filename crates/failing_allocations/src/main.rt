@@ -25,7 +25,7 @@ use ux_object::{FileObject, ObjKind};
 use ux_objects::Plain;
 use ux_replay::check_history;
 use ux_syntax::{Act, ObjectLine, Script, parse_script};
-use ux_types::{Entry, Errno, Name, Reply};
+use ux_types::{Entry, Errno, Name, Reply, Request};
 
 /// The scripts by their names.
 const SCRIPTS: &[&str] = &[
@@ -55,6 +55,7 @@ const SCRIPTS: &[&str] = &[
     "given_credentials",
     "options_and_readiness",
     "fork_and_exec",
+    "made_file_objects",
 ];
 
 /// The file objects of a script.
@@ -153,6 +154,17 @@ fn is_but_for_failures(history: &[Entry], undisturbed: &[Entry]) -> bool {
     rest.next().is_none()
 }
 
+/// Whether an entry's call made a file object.
+fn makes_object(entry: &Entry) -> bool {
+    match &entry.request {
+        Request::Create { .. } | Request::MemFd { .. } | Request::EventFd { .. } => {
+            matches!(entry.reply, Reply::Fd(_))
+        }
+        Request::Pipe { .. } => matches!(entry.reply, Reply::Fds(..)),
+        _ => false,
+    }
+}
+
 /// Whether each of so many objects was closed once.
 fn closes_each_once(history: &[Entry], count: usize) -> bool {
     let mut closed = [0u8; 64];
@@ -168,9 +180,11 @@ fn closes_each_once(history: &[Entry], count: usize) -> bool {
     closed.iter().filter(|times| **times == 1).count() == count
 }
 
-/// Sees that a history ends with each object closed once, and can be made again with ample memory.
+/// Sees that a history ends with each object closed once, those that calls made too, and can be made again with ample
+/// memory.
 fn must_be_whole(alloc: Global, script: &Script, history: &[Entry]) -> Result<()> {
-    if !closes_each_once(history, script.objects.len()) {
+    let made = history.iter().filter(|entry| makes_object(entry)).count();
+    if !closes_each_once(history, script.objects.len().saturating_add(made)) {
         return Err(anyhow!("an object isn't closed once"));
     }
     match check_history(alloc, history, kernel_of(alloc, script)?) {

@@ -37,9 +37,14 @@ fn cause_of_fork(script: &Script, pid: u32) -> Cause {
     }
 }
 
+/// The calls that stand in a script with the line `serial` alone.
+const BEHIND_SERIAL: &[&str] = &[
+    "create", "memfd", "eventfd", "pipe", "dupfd", "getfl", "setids",
+];
+
 /// Whether a call stands in a script with the line `serial` alone.
 fn stands_behind_serial(call: &[u8]) -> bool {
-    call == b"dupfd".as_slice() || call == b"getfl".as_slice() || call == b"setids".as_slice()
+    BEHIND_SERIAL.iter().any(|word| word.as_bytes() == call)
 }
 
 /// Why the line of a process isn't allowed behind these of a script.

@@ -123,6 +123,8 @@ const MFLAGS: Form = Form::Letters("MFLAGS", "dptx");
 
 const WHENCE: Form = Form::Choice("WHENCE", &["set", "cur", "end"]);
 
+const VALUE: Form = Form::Number("VALUE", 0);
+
 const OPT: Form = Form::Choice(
     "OPT",
     &["type", "error", "passcred", "peercred", "accept", "qlimit"],
@@ -136,6 +138,22 @@ pub(crate) const CALLS: &[FirstWord] = &[
     FirstWord {
         word: "open",
         forms: &[Form::Path, MODE, OFLAGS],
+    },
+    FirstWord {
+        word: "create",
+        forms: &[Form::Path, MODE, OFLAGS],
+    },
+    FirstWord {
+        word: "memfd",
+        forms: &[OFLAGS],
+    },
+    FirstWord {
+        word: "eventfd",
+        forms: &[VALUE, OFLAGS],
+    },
+    FirstWord {
+        word: "pipe",
+        forms: &[OFLAGS],
     },
     FirstWord {
         word: "read",
@@ -211,7 +229,7 @@ pub(crate) const CALLS: &[FirstWord] = &[
     },
     FirstWord {
         word: "setopt",
-        forms: &[FD, OPT, Form::Number("VALUE", 0)],
+        forms: &[FD, OPT, VALUE],
     },
     FirstWord {
         word: "sockname",

@@ -25,7 +25,11 @@ pub fn arguments_value(alloc: Global, request: &Request) -> Result<Value, AllocE
     ensures { IfOk result (λ v. get (codes "fd") (view v) ≡ option_map (λ n. number (unsigned n)) (descriptor_of request.now)) }
 {
     match request {
-        Request::Open { path, mode, flags } => opened(alloc, path, *mode, *flags),
+        Request::Open { path, mode, flags } | Request::Create { path, mode, flags } => {
+            opened(alloc, path, *mode, *flags)
+        }
+        Request::MemFd { flags } | Request::Pipe { flags } => flags_alone(alloc, *flags),
+        Request::EventFd { value, flags } => counter(alloc, *value, *flags),
         Request::Read { fd, n } => read(alloc, *fd, *n),
         Request::Write { fd, bytes } => written(alloc, *fd, bytes),
         Request::Lseek { fd, offset, whence } => sought(alloc, *fd, *offset, *whence),
@@ -67,6 +71,20 @@ fn opened(alloc: Global, path: &Name, mode: Mode, flags: OpenFlags) -> Result<Va
     let path = path_text(alloc, path)?;
     let flags = flag_names(alloc, &flags)?;
     json!(in alloc; {"path": path, "mode": mode_word(mode), "flags": flags})
+}
+
+fn flags_alone(alloc: Global, flags: OpenFlags) -> Result<Value, AllocError>
+    ensures { IfOk result (λ v. get (codes "fd") (view v) ≡ None) }
+{
+    let flags = flag_names(alloc, &flags)?;
+    json!(in alloc; {"flags": flags})
+}
+
+fn counter(alloc: Global, value: u32, flags: OpenFlags) -> Result<Value, AllocError>
+    ensures { IfOk result (λ v. get (codes "fd") (view v) ≡ None) }
+{
+    let flags = flag_names(alloc, &flags)?;
+    json!(in alloc; {"value": value, "flags": flags})
 }
 
 fn read(alloc: Global, fd: Fd, n: usize) -> Result<Value, AllocError>

@@ -30,6 +30,17 @@ const CALLS: &[(&str, &str)] = &[
         r#"{"path": "p:a%20b", "mode": "rw", "flags": ["APPEND", "NONBLOCK", "CLOEXEC"]}"#,
     ),
     ("open p: r -", r#"{"path": "p:", "mode": "r", "flags": []}"#),
+    (
+        "create p:a%20b w nx",
+        r#"{"path": "p:a%20b", "mode": "w", "flags": ["NONBLOCK", "CLOEXEC"]}"#,
+    ),
+    ("memfd x", r#"{"flags": ["CLOEXEC"]}"#),
+    (
+        "eventfd 4294967295 n",
+        r#"{"value": 4294967295, "flags": ["NONBLOCK"]}"#,
+    ),
+    ("eventfd 0 -", r#"{"value": 0, "flags": []}"#),
+    ("pipe -", r#"{"flags": []}"#),
     ("read 3 4096", r#"{"fd": 3, "n": 4096}"#),
     ("write 0 -", r#"{"fd": 0, "bytes": ""}"#),
     (

@@ -6,13 +6,14 @@ use Rattle.ux_syntax.specs.declared.fault.Fault.{Fault}
 use Rattle.ux_syntax.specs.declared.fault.Fault.TheVariants.{BadLine}
 use Rattle.ux_trace.specs.declared.call_word.CallWord.{CallWord}
 use Rattle.ux_trace.specs.Trace.{word_text, request_word}
-use Rattle.ux_syntax.specs.Spelling.{Written, open_path, read_fd, write_fd, seek, dup_fd, dup_onto, dup_above, get_flags, set_flags, close}
-use Rattle.ux_syntax.specs.Spelling.{unlink_path, socket, pair, bind, listen, connect, accept, shut, get_opt, set_opt, sock_name, peer_name}
-use Rattle.ux_syntax.specs.Spelling.{send, recv, poll, set_ids, fork, exec, exit, meaning, args_of, FitsCall}
-use Rattle.ux_syntax.specs.Reading.{◌>>=◌, open_at, read_at, write_at, lseek_at, dup_at, dup2_at, dup_from_at, get_flags_at, set_flags_at}
-use Rattle.ux_syntax.specs.Reading.{close_at, unlink_at, socket_at, pair_at, bind_at, listen_at, connect_at, accept_at, shut_at, get_opt_at}
-use Rattle.ux_syntax.specs.Reading.{set_opt_at, sock_name_at, peer_name_at, send_at, recv_at, poll_at, set_ids_at, fork_at, exec_at}
-use Rattle.ux_syntax.specs.Reading.{exit_at, all_words, word_at, args_at}
+use Rattle.ux_syntax.specs.Spelling.{Written, open_path, create_path, mem_fd, event_fd, pipe, read_fd, write_fd, seek, dup_fd, dup_onto}
+use Rattle.ux_syntax.specs.Spelling.{dup_above, get_flags, set_flags, close, unlink_path, socket, pair, bind, listen, connect, accept, shut}
+use Rattle.ux_syntax.specs.Spelling.{get_opt, set_opt, sock_name, peer_name, send, recv, poll, set_ids, fork, exec, exit, meaning, args_of}
+use Rattle.ux_syntax.specs.Spelling.{FitsCall}
+use Rattle.ux_syntax.specs.Reading.{◌>>=◌, open_at, create_at, mem_fd_at, event_fd_at, pipe_at, read_at, write_at, lseek_at, dup_at}
+use Rattle.ux_syntax.specs.Reading.{dup2_at, dup_from_at, get_flags_at, set_flags_at, close_at, unlink_at, socket_at, pair_at, bind_at}
+use Rattle.ux_syntax.specs.Reading.{listen_at, connect_at, accept_at, shut_at, get_opt_at, set_opt_at, sock_name_at, peer_name_at, send_at}
+use Rattle.ux_syntax.specs.Reading.{recv_at, poll_at, set_ids_at, fork_at, exec_at, exit_at, all_words, word_at, args_at}
 use Rattle.ux_syntax.proofs.Rows.{IsSolid, IsBadOrOk, IsRow, solid_from, ends_row, row_then, number_kind}
 use Rattle.ux_syntax.proofs.Bytes.{hex_kind}
 use Rattle.ux_syntax.proofs.Flags.{open_flags_kind, msg_flags_kind}
@@ -52,12 +53,19 @@ made {X = X} {read = read} word make row spelled ws = made_of (read ws) refl
 -- ---- three laws a word, and its letters in `word_facts`
 
 args_read : (word : CallWord) (ws : List (List ℕ)) → IsReading word ws (args_at word ws)
-unfolding open_at read_at write_at lseek_at dup_at dup2_at dup_from_at get_flags_at set_flags_at close_at unlink_at socket_at pair_at
-    bind_at listen_at connect_at accept_at shut_at get_opt_at set_opt_at sock_name_at peer_name_at send_at recv_at poll_at set_ids_at
-    fork_at exec_at exit_at
+unfolding open_at create_at mem_fd_at event_fd_at pipe_at read_at write_at lseek_at dup_at dup2_at dup_from_at get_flags_at set_flags_at
+    close_at unlink_at socket_at pair_at bind_at listen_at connect_at accept_at shut_at get_opt_at set_opt_at sock_name_at peer_name_at
+    send_at recv_at poll_at set_ids_at fork_at exec_at exit_at
 args_read CallWord.Open = made CallWord.Open
     (λ x. open_path x.0 x.1.0 x.1.1.0) (row_then path_kind (row_then mode_kind (row_then open_flags_kind ends_row)))
     (λ x f. (refl, refl, (f.0, f.1.1.0)))
+args_read CallWord.Create = made CallWord.Create (λ x. create_path x.0 x.1.0 x.1.1.0)
+    (row_then path_kind (row_then mode_kind (row_then open_flags_kind ends_row)))
+    (λ x f. (refl, refl, (f.0, f.1.1.0)))
+args_read CallWord.MemFd = made CallWord.MemFd (λ x. mem_fd x.0) (row_then open_flags_kind ends_row) (λ x f. (refl, refl, f.0))
+args_read CallWord.EventFd = made CallWord.EventFd (λ x. event_fd x.0 x.1.0) (row_then number_kind (row_then open_flags_kind ends_row))
+    (λ x f. (refl, refl, (f.0, f.1.0)))
+args_read CallWord.Pipe = made CallWord.Pipe (λ x. pipe x.0) (row_then open_flags_kind ends_row) (λ x f. (refl, refl, f.0))
 args_read CallWord.Read = made CallWord.Read (λ x. read_fd x.0 x.1.0) (row_then number_kind (row_then number_kind ends_row))
     (λ x f. (refl, refl, (f.0, f.1.0)))
 args_read CallWord.Write = made CallWord.Write (λ x. write_fd x.0 x.1.0) (row_then number_kind (row_then hex_kind ends_row))
@@ -113,10 +121,14 @@ args_read CallWord.Exit = made CallWord.Exit (λ x. exit) ends_row (λ x f. (ref
 args_read CallWord.Off = λ ws. refl
 
 pub args_again : (c : Written) → FitsCall c → args_at (request_word (meaning c)) (args_of c) ≡ Ok (meaning c)
-unfolding open_at read_at write_at lseek_at dup_at dup2_at dup_from_at get_flags_at set_flags_at close_at unlink_at socket_at pair_at
-    bind_at listen_at connect_at accept_at shut_at get_opt_at set_opt_at sock_name_at peer_name_at send_at recv_at poll_at set_ids_at
-    fork_at exec_at exit_at
+unfolding open_at create_at mem_fd_at event_fd_at pipe_at read_at write_at lseek_at dup_at dup2_at dup_from_at get_flags_at set_flags_at
+    close_at unlink_at socket_at pair_at bind_at listen_at connect_at accept_at shut_at get_opt_at set_opt_at sock_name_at peer_name_at
+    send_at recv_at poll_at set_ids_at fork_at exec_at exit_at
 args_again (open_path path mode flags) f = rw (path_kind.again path f.0, mode_kind.again mode tt, open_flags_kind.again flags f.1) refl
+args_again (create_path path mode flags) f = rw (path_kind.again path f.0, mode_kind.again mode tt, open_flags_kind.again flags f.1) refl
+args_again (mem_fd flags) f = rw (open_flags_kind.again flags f) refl
+args_again (event_fd value flags) f = rw (number_kind.again value f.0, open_flags_kind.again flags f.1) refl
+args_again (pipe flags) f = rw (open_flags_kind.again flags f) refl
 args_again (read_fd fd n) f = rw (number_kind.again fd f.0, number_kind.again n f.1) refl
 args_again (write_fd fd bytes) f = rw (number_kind.again fd f.0, hex_kind.again bytes f.1) refl
 args_again (seek fd offset whence) f = rw (number_kind.again fd f.0, offset_kind.again offset f.1, whence_kind.again whence tt) refl
@@ -156,6 +168,10 @@ args_again exit f = refl
 
 pub args_solid : (c : Written) → FitsCall c → AllByRecursion IsSolid (args_of c)
 args_solid (open_path path mode flags) f = (path_kind.solid path f.0, (mode_kind.solid mode tt, (open_flags_kind.solid flags f.1, tt)))
+args_solid (create_path path mode flags) f = (path_kind.solid path f.0, (mode_kind.solid mode tt, (open_flags_kind.solid flags f.1, tt)))
+args_solid (mem_fd flags) f = (open_flags_kind.solid flags f, tt)
+args_solid (event_fd value flags) f = (number_kind.solid value f.0, (open_flags_kind.solid flags f.1, tt))
+args_solid (pipe flags) f = (open_flags_kind.solid flags f, tt)
 args_solid (read_fd fd n) f = (number_kind.solid fd f.0, (number_kind.solid n f.1, tt))
 args_solid (write_fd fd bytes) f = (number_kind.solid fd f.0, (hex_kind.solid bytes f.1, tt))
 args_solid (seek fd offset whence) f = (number_kind.solid fd f.0, (offset_kind.solid offset f.1, (whence_kind.solid whence tt, tt)))
@@ -199,6 +215,10 @@ word_facts : (c : Written) → (word_at (word_text (request_word (meaning c))) �
     × (list_all (λ b. ltb 32 b) (word_text (request_word (meaning c))) ≡ true)
 unfolding word_at
 word_facts (open_path path mode flags) = (refl, refl)
+word_facts (create_path path mode flags) = (refl, refl)
+word_facts (mem_fd flags) = (refl, refl)
+word_facts (event_fd value flags) = (refl, refl)
+word_facts (pipe flags) = (refl, refl)
 word_facts (read_fd fd n) = (refl, refl)
 word_facts (write_fd fd bytes) = (refl, refl)
 word_facts (seek fd offset whence) = (refl, refl)

@@ -1,9 +1,10 @@
 -- A line more, where the header is over.
 use mathlib.Core.Bool.{or-true}
-use Rattle.std.proofs.Common.{◌≡◌, ℕ, Bool, true, false, not, ◌||◌, ◌&&◌, ◌==◌, List, [], ◌∷◌, ◌++◌, length, refl, sym, ◌∙◌, subst, arith}
+use Rattle.std.proofs.Common.{◌≡◌, ℕ, suc, Bool, true, false, cond, not, ◌||◌, ◌&&◌, ◌==◌, List, [], ◌∷◌, ◌++◌, length, refl, ap, sym}
+use Rattle.std.proofs.Common.{◌∙◌, ◌<◌, subst, arith, slice_index_or}
 use Rattle.std.specs.Prelude.{Result, Ok, Err, OnErr, if◌then◌else◌}
 use Rattle.std.proofs.lemmas.Bool.{ne_eqb, false≢true}
-use Rattle.std.proofs.lemmas.List.{append-nil, length-append}
+use Rattle.std.proofs.lemmas.List.{append-nil, get_or_read_under, length-append}
 use Rattle.ux_syntax.specs.declared.fault.Fault.{Fault}
 use Rattle.ux_syntax.specs.declared.fault.LineError.{LineError}
 use Rattle.ux_syntax.specs.declared.reading.Parsed.{Parsed}
@@ -13,7 +14,7 @@ use Rattle.ux_syntax.specs.Spelling.{Plan, asks_fork, known_count}
 use Rattle.ux_syntax.specs.Turns.{has_exited, is_known, awaits_known}
 use Rattle.ux_syntax.specs.Reading.{◌>>=◌, item_at, with_header, with_line, with_off, with_serial, is_unsaid, may_fork, joined_by_line}
 use Rattle.ux_syntax.specs.Reading.{joined_by_fork, is_barred, joined_by_allowed, joined_by_other, joined_by, is_skipped, added, line_at}
-use Rattle.ux_syntax.specs.Results.{Leaves}
+use Rattle.ux_syntax.specs.Results.{Leaves, KnowsExits}
 use Rattle.ux_syntax.specs.Joining.{is_begun, Continues}
 
 abbrev Stays : Plan → Result Plan Fault → Type 0
@@ -99,3 +100,18 @@ pub read_continues : (s t : Plan) (text : List ℕ) (result : Result (Unit {0}) 
     OnErr result (t ≡ s) → is_begun s ≡ true → Continues s t
 read_continues s t text (Ok x) leaves same b = line_continues s t text b leaves
 read_continues s t text (Err e) leaves same b = subst (Continues s) (sym same) (same_continues s b)
+
+-- ---- a line of a process that has made its exit
+
+either_bad : (b : Bool) → cond {A = Result Plan Fault} b (Err Fault.BadLine) (Err Fault.BadLine) ≡ Err Fault.BadLine
+either_bad true = refl
+either_bad false = refl
+
+pub exited_bad : (s : Plan) (line : Line) (exited : List Bool) (n : ℕ) (b : Bool) → KnowsExits s exited → asks_fork line.act ≡ false →
+    is_known (length exited) line.pid.0 ≡ true → suc n ≡ line.pid.0 → n < length exited → b ≡ slice_index_or exited n b → b ≡ true →
+    joined_by s (Parsed.Line line) ≡ Err Fault.BadLine
+exited_bad s line exited n b k forks known place within read is =
+    let count : is_known (known_count s) line.pid.0 ≡ true = subst (λ (m : ℕ). is_known m line.pid.0 ≡ true) k.long known in
+    let there : slice_index_or exited n false ≡ true = sym (get_or_read_under exited n (length exited) b false read within refl) ∙ is in
+    let gone : has_exited s.lines line.pid.0 ≡ true = ap (has_exited s.lines) (sym place) ∙ sym (k.each n) ∙ there in
+    rw (forks, count, gone) (either_bad (is_barred s.serial line.act))

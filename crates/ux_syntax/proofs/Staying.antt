@@ -19,11 +19,12 @@ use Rattle.ux_trace.specs.Trace.{hex, path_text}
 use Rattle.ux_syntax.specs.Digits.{◌>>=◌}
 use Rattle.ux_syntax.specs.Text.{hex_word_at, raw_word_at, first_word, space_at, space_word_at, special_word_at, plain_fields, behind}
 use Rattle.ux_syntax.specs.Text.{call_fields, fields_by, fields_of, plain_line}
-use Rattle.ux_syntax.specs.Spelling.{open_path, read_fd, write_fd, seek, dup_fd, dup_onto, dup_above, get_flags, set_flags, close}
-use Rattle.ux_syntax.specs.Spelling.{unlink_path, socket, pair, bind, listen, connect, accept, shut, get_opt, set_opt, sock_name, peer_name}
-use Rattle.ux_syntax.specs.Spelling.{send, recv, poll, set_ids, fork, exec, exit, Asked, call, wait, Turn, asked_words, turn_line}
-use Rattle.ux_syntax.specs.Spelling.{kind_text, fail_words, body_words, header_words, header_line, serial_lines, off_lines, control_text}
-use Rattle.ux_syntax.specs.Spelling.{msg_flags, AreBytes, IsNumber, FitsBody, FitsControl, FitsAsked, FitsTurn, FitsHeader}
+use Rattle.ux_syntax.specs.Spelling.{open_path, create_path, mem_fd, event_fd, pipe, read_fd, write_fd, seek, dup_fd, dup_onto, dup_above}
+use Rattle.ux_syntax.specs.Spelling.{get_flags, set_flags, close, unlink_path, socket, pair, bind, listen, connect, accept, shut, get_opt}
+use Rattle.ux_syntax.specs.Spelling.{set_opt, sock_name, peer_name, send, recv, poll, set_ids, fork, exec, exit, Asked, call, wait, Turn}
+use Rattle.ux_syntax.specs.Spelling.{asked_words, turn_line, kind_text, fail_words, body_words, header_words, header_line, serial_lines}
+use Rattle.ux_syntax.specs.Spelling.{off_lines, control_text, msg_flags, AreBytes, IsNumber, FitsBody, FitsControl, FitsAsked, FitsTurn}
+use Rattle.ux_syntax.specs.Spelling.{FitsHeader}
 use Rattle.ux_syntax.specs.PlainLines.{PlainLinesStay}
 use Rattle.ux_syntax.proofs.Rows.{IsSolid, solid_from, number_kind}
 use Rattle.ux_syntax.proofs.Asking.{asked_solid}
@@ -192,6 +193,10 @@ asked_stays pid (call (recv fd n space flags)) p f =
     turn_stays_by pid (call (recv fd n space flags)) (behind 4 (Field.Space ∷ [])) p f refl
     (refl, (refl, (refl, (refl, (space_stays space (msg_flags flags ∷ []) f.2, tt)))))
 asked_stays pid (call (open_path path mode flags)) p f = turn_stays_by pid (call (open_path path mode flags)) [] p f refl tt
+asked_stays pid (call (create_path path mode flags)) p f = turn_stays_by pid (call (create_path path mode flags)) [] p f refl tt
+asked_stays pid (call (mem_fd flags)) p f = turn_stays_by pid (call (mem_fd flags)) [] p f refl tt
+asked_stays pid (call (event_fd value flags)) p f = turn_stays_by pid (call (event_fd value flags)) [] p f refl tt
+asked_stays pid (call (pipe flags)) p f = turn_stays_by pid (call (pipe flags)) [] p f refl tt
 asked_stays pid (call (read_fd fd n)) p f = turn_stays_by pid (call (read_fd fd n)) [] p f refl tt
 asked_stays pid (call (seek fd offset whence)) p f = turn_stays_by pid (call (seek fd offset whence)) [] p f refl tt
 asked_stays pid (call (dup_fd fd)) p f = turn_stays_by pid (call (dup_fd fd)) [] p f refl tt

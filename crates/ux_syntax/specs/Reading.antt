@@ -24,10 +24,11 @@ use Rattle.ux_trace.specs.Trace.{dash, stands, word_text}
 pub use Rattle.ux_syntax.specs.Digits.{◌>>=◌, is_plain, digit_at}
 unfoldable pub use Rattle.ux_syntax.specs.Digits.{number_at}
 use Rattle.ux_syntax.specs.Text.{plain_line}
-use Rattle.ux_syntax.specs.Spelling.{Plan, open_path, read_fd, write_fd, seek, dup_fd, dup_onto, dup_above, get_flags, set_flags, close}
-use Rattle.ux_syntax.specs.Spelling.{unlink_path, socket, pair, bind, listen, connect, accept, shut, get_opt, set_opt, sock_name, peer_name}
-use Rattle.ux_syntax.specs.Spelling.{send, recv, poll, set_ids, fork, exec, exit, meaning, bit, mode_text, type_text, option_text}
-use Rattle.ux_syntax.specs.Spelling.{whence_text, kind_text, is_meant, asks_fork, asks_recorded, known_count, line_limit}
+use Rattle.ux_syntax.specs.Spelling.{Plan, open_path, create_path, mem_fd, event_fd, pipe, read_fd, write_fd, seek, dup_fd, dup_onto}
+use Rattle.ux_syntax.specs.Spelling.{dup_above, get_flags, set_flags, close, unlink_path, socket, pair, bind, listen, connect, accept, shut}
+use Rattle.ux_syntax.specs.Spelling.{get_opt, set_opt, sock_name, peer_name, send, recv, poll, set_ids, fork, exec, exit, meaning, bit}
+use Rattle.ux_syntax.specs.Spelling.{mode_text, type_text, option_text, whence_text, kind_text, is_meant, asks_fork, asks_recorded}
+use Rattle.ux_syntax.specs.Spelling.{known_count, line_limit}
 use Rattle.ux_syntax.specs.Turns.{has_exited, is_known, awaits_known}
 
 -- ---- a word
@@ -256,6 +257,18 @@ control_at (c ∷ colon ∷ rest) =
 unfoldable pub open_at : List (List ℕ) → Result Request Fault
 open_at ws = (path_at >> mode_at >> open_flags_at >> ends) ws >>= λ x. Ok (meaning (open_path x.0 x.1.0 x.1.1.0))
 
+unfoldable pub create_at : List (List ℕ) → Result Request Fault
+create_at ws = (path_at >> mode_at >> open_flags_at >> ends) ws >>= λ x. Ok (meaning (create_path x.0 x.1.0 x.1.1.0))
+
+unfoldable pub mem_fd_at : List (List ℕ) → Result Request Fault
+mem_fd_at ws = (open_flags_at >> ends) ws >>= λ x. Ok (meaning (mem_fd x.0))
+
+unfoldable pub event_fd_at : List (List ℕ) → Result Request Fault
+event_fd_at ws = (number_at >> open_flags_at >> ends) ws >>= λ x. Ok (meaning (event_fd x.0 x.1.0))
+
+unfoldable pub pipe_at : List (List ℕ) → Result Request Fault
+pipe_at ws = (open_flags_at >> ends) ws >>= λ x. Ok (meaning (pipe x.0))
+
 unfoldable pub read_at : List (List ℕ) → Result Request Fault
 read_at ws = (number_at >> number_at >> ends) ws >>= λ x. Ok (meaning (read_fd x.0 x.1.0))
 
@@ -345,8 +358,8 @@ exit_at ws = ends ws >>= λ x. Ok (meaning exit)
 -- the words of calls: `off` is none
 abbrev pub all_words : List CallWord
 all_words =
-    CallWord.Open ∷ CallWord.Read ∷ CallWord.Write ∷ CallWord.Lseek ∷ CallWord.Dup ∷ CallWord.Dup2 ∷ CallWord.DupFrom ∷ CallWord.GetFlags
-    ∷ CallWord.Flags ∷ CallWord.Close
+    CallWord.Open ∷ CallWord.Create ∷ CallWord.MemFd ∷ CallWord.EventFd ∷ CallWord.Pipe ∷ CallWord.Read ∷ CallWord.Write ∷ CallWord.Lseek
+    ∷ CallWord.Dup ∷ CallWord.Dup2 ∷ CallWord.DupFrom ∷ CallWord.GetFlags ∷ CallWord.Flags ∷ CallWord.Close
     ∷ CallWord.Unlink ∷ CallWord.Socket ∷ CallWord.Pair ∷ CallWord.Bind ∷ CallWord.Listen ∷ CallWord.Connect ∷ CallWord.Accept
     ∷ CallWord.Shut ∷ CallWord.GetOpt ∷ CallWord.SetOpt ∷ CallWord.SockName ∷ CallWord.PeerName ∷ CallWord.Send ∷ CallWord.Recv
     ∷ CallWord.Poll ∷ CallWord.SetIds ∷ CallWord.Fork ∷ CallWord.Exec ∷ CallWord.Exit ∷ []
@@ -356,6 +369,10 @@ word_at w = chosen_at word_text all_words w
 
 abbrev pub args_at : CallWord → List (List ℕ) → Result Request Fault
 args_at CallWord.Open ws = open_at ws
+args_at CallWord.Create ws = create_at ws
+args_at CallWord.MemFd ws = mem_fd_at ws
+args_at CallWord.EventFd ws = event_fd_at ws
+args_at CallWord.Pipe ws = pipe_at ws
 args_at CallWord.Read ws = read_at ws
 args_at CallWord.Write ws = write_at ws
 args_at CallWord.Lseek ws = lseek_at ws

@@ -65,6 +65,10 @@ control_buffer (ControlWord.RightsFirst numbers cred) = padded (control_bytes No
 
 pub data Written : Type 0 where
   open_path : (path : Name) → (mode : Mode) → (flags : OpenFlags) → Written
+  create_path : (path : Name) → (mode : Mode) → (flags : OpenFlags) → Written
+  mem_fd : (flags : OpenFlags) → Written
+  event_fd : (value : ℕ) → (flags : OpenFlags) → Written
+  pipe : (flags : OpenFlags) → Written
   read_fd : (fd n : ℕ) → Written
   write_fd : (fd : ℕ) → (bytes : List ℕ) → Written
   seek : (fd : ℕ) → (offset : ℤ) → (whence : Whence) → Written
@@ -97,6 +101,10 @@ pub data Written : Type 0 where
 -- the call that is meant
 abbrev pub meaning : Written → Request
 meaning (open_path path mode flags) = Request.Open path mode flags
+meaning (create_path path mode flags) = Request.Create path mode flags
+meaning (mem_fd flags) = Request.MemFd flags
+meaning (event_fd value flags) = Request.EventFd value flags
+meaning (pipe flags) = Request.Pipe flags
 meaning (read_fd fd n) = Request.Read (fd_of fd) n
 meaning (write_fd fd bytes) = Request.Write (fd_of fd) bytes
 meaning (seek fd offset whence) = Request.Lseek (fd_of fd) offset whence
@@ -164,6 +172,10 @@ kind_text ObjKind.Pipe = codes "pipe"
 -- the words that stand behind the call's word
 abbrev pub args_of : Written → List (List ℕ)
 args_of (open_path path mode flags) = path_text path ∷ mode_text mode ∷ open_flags flags ∷ []
+args_of (create_path path mode flags) = path_text path ∷ mode_text mode ∷ open_flags flags ∷ []
+args_of (mem_fd flags) = open_flags flags ∷ []
+args_of (event_fd value flags) = decimal value ∷ open_flags flags ∷ []
+args_of (pipe flags) = open_flags flags ∷ []
 args_of (read_fd fd n) = decimal fd ∷ decimal n ∷ []
 args_of (write_fd fd bytes) = decimal fd ∷ hex bytes ∷ []
 args_of (seek fd offset whence) = decimal fd ∷ signed_decimal offset ∷ whence_text whence ∷ []
@@ -296,6 +308,10 @@ FitsAddrOrDash (Some addr) = FitsAddr addr
 
 abbrev pub FitsCall : Written → Type 0
 FitsCall (open_path path mode flags) = AreBytes path × FitsOpenFlags flags
+FitsCall (create_path path mode flags) = AreBytes path × FitsOpenFlags flags
+FitsCall (mem_fd flags) = FitsOpenFlags flags
+FitsCall (event_fd value flags) = IsNumber value × FitsOpenFlags flags
+FitsCall (pipe flags) = FitsOpenFlags flags
 FitsCall (read_fd fd n) = IsNumber fd × IsNumber n
 FitsCall (write_fd fd bytes) = IsNumber fd × AreBytes bytes
 FitsCall (seek fd offset whence) = IsNumber fd × IsOffset offset
@@ -377,9 +393,13 @@ abbrev pub asks_fork : Act → Bool
 asks_fork (Act.Call request) = is_fork request
 asks_fork (Act.Wait pid calls) = false
 
--- a call that programs make which run as they are, and scripts of several orders don't have: fcntl(2) but for F_SETFL and F_SETFD, and
--- setresuid(2) with setresgid(2)
+-- a call that programs make which run as they are, and scripts of several orders don't have: those that make a file object, fcntl(2) but
+-- for F_SETFL and F_SETFD, and setresuid(2) with setresgid(2)
 abbrev pub is_recorded : Request → Bool
+is_recorded (Request.Create path mode flags) = true
+is_recorded (Request.MemFd flags) = true
+is_recorded (Request.EventFd value flags) = true
+is_recorded (Request.Pipe flags) = true
 is_recorded (Request.DupFrom fd minimum) = true
 is_recorded (Request.GetFlags fd) = true
 is_recorded (Request.SetIds uid gid) = true

@@ -1,7 +1,7 @@
 //! The calls of a script: the word of each, and the words that stand behind it.
 
 ghost use Rattle.std.specs.Prelude.{◌≡◌, map};
-ghost use Rattle.ux_syntax.specs.Reading.{open_at, read_at, write_at, lseek_at, dup_at, dup2_at, dup_from_at, get_flags_at, set_flags_at, close_at, unlink_at, socket_at, pair_at, bind_at, listen_at, connect_at, accept_at, shut_at, get_opt_at, set_opt_at, sock_name_at, peer_name_at, send_at, recv_at, poll_at, set_ids_at, fork_at, exec_at, exit_at, word_at, args_at};
+ghost use Rattle.ux_syntax.specs.Reading.{open_at, create_at, mem_fd_at, event_fd_at, pipe_at, read_at, write_at, lseek_at, dup_at, dup2_at, dup_from_at, get_flags_at, set_flags_at, close_at, unlink_at, socket_at, pair_at, bind_at, listen_at, connect_at, accept_at, shut_at, get_opt_at, set_opt_at, sock_name_at, peer_name_at, send_at, recv_at, poll_at, set_ids_at, fork_at, exec_at, exit_at, word_at, args_at};
 ghost use Rattle.ux_syntax.specs.Results.{IsAsRead};
 
 use crate::control::ControlWord;
@@ -14,6 +14,10 @@ use ux_types::{Fd, Request};
 /// The words that a script may have behind a process's number.
 const CALL_WORDS: &[CallWord] = &[
     CallWord::Open,
+    CallWord::Create,
+    CallWord::MemFd,
+    CallWord::EventFd,
+    CallWord::Pipe,
     CallWord::Read,
     CallWord::Write,
     CallWord::Lseek,
@@ -67,6 +71,42 @@ fn open_of(alloc: Global, words: &[&[u8]]) -> Result<Request, LineError>
 {
     let (path, (mode, (flags, ()))) = row_of(alloc, words)?;
     Ok(Request::Open { path, mode, flags })
+}
+
+/// `create ADDR MODE OFLAGS`.
+#[tactic(auto, unfolding(crate::specs::Reading::create_at))]
+fn create_of(alloc: Global, words: &[&[u8]]) -> Result<Request, LineError>
+    ensures { IsAsRead (λ r. r) result (create_at (map (λ w. w.now) words.now)) }
+{
+    let (path, (mode, (flags, ()))) = row_of(alloc, words)?;
+    Ok(Request::Create { path, mode, flags })
+}
+
+/// `memfd OFLAGS`.
+#[tactic(auto, unfolding(crate::specs::Reading::mem_fd_at))]
+fn mem_fd_of(alloc: Global, words: &[&[u8]]) -> Result<Request, LineError>
+    ensures { IsAsRead (λ r. r) result (mem_fd_at (map (λ w. w.now) words.now)) }
+{
+    let (flags, ()) = row_of(alloc, words)?;
+    Ok(Request::MemFd { flags })
+}
+
+/// `eventfd VALUE OFLAGS`.
+#[tactic(auto, unfolding(crate::specs::Reading::event_fd_at))]
+fn event_fd_of(alloc: Global, words: &[&[u8]]) -> Result<Request, LineError>
+    ensures { IsAsRead (λ r. r) result (event_fd_at (map (λ w. w.now) words.now)) }
+{
+    let (value, (flags, ())) = row_of(alloc, words)?;
+    Ok(Request::EventFd { value, flags })
+}
+
+/// `pipe OFLAGS`.
+#[tactic(auto, unfolding(crate::specs::Reading::pipe_at))]
+fn pipe_of(alloc: Global, words: &[&[u8]]) -> Result<Request, LineError>
+    ensures { IsAsRead (λ r. r) result (pipe_at (map (λ w. w.now) words.now)) }
+{
+    let (flags, ()) = row_of(alloc, words)?;
+    Ok(Request::Pipe { flags })
 }
 
 /// `read FD N`.
@@ -359,6 +399,10 @@ pub(crate) fn request_of(
 {
     match word {
         CallWord::Open => open_of(alloc, args),
+        CallWord::Create => create_of(alloc, args),
+        CallWord::MemFd => mem_fd_of(alloc, args),
+        CallWord::EventFd => event_fd_of(alloc, args),
+        CallWord::Pipe => pipe_of(alloc, args),
         CallWord::Read => read_of(alloc, args),
         CallWord::Write => write_of(alloc, args),
         CallWord::Lseek => lseek_of(alloc, args),

@@ -54,7 +54,15 @@ impl Act {
     {
         matches!(
             self,
-            Act::Call(Request::DupFrom { .. } | Request::GetFlags { .. } | Request::SetIds { .. })
+            Act::Call(
+                Request::Create { .. }
+                    | Request::MemFd { .. }
+                    | Request::EventFd { .. }
+                    | Request::Pipe { .. }
+                    | Request::DupFrom { .. }
+                    | Request::GetFlags { .. }
+                    | Request::SetIds { .. }
+            )
         )
     }
 }

@@ -5,6 +5,7 @@ mod connections;
 mod echoes;
 mod expectations;
 mod forks;
+mod making;
 mod options;
 mod readers;
 mod scripts;
@@ -115,9 +116,14 @@ fn request_in(alloc: Global, call: &str) -> Result<Request, Fail> {
     }
 }
 
+/// How the calls begin that stand only in a script with the line `serial`.
+const BEHIND_SERIAL: &[&str] = &[
+    "create ", "memfd ", "eventfd ", "pipe ", "dupfd ", "getfl ", "setids ",
+];
+
 /// Whether a call stands only in a script with the line `serial`.
 fn stands_behind_serial(call: &str) -> bool {
-    call.starts_with("dupfd") || call.starts_with("getfl") || call.starts_with("setids")
+    BEHIND_SERIAL.iter().any(|word| call.starts_with(word))
 }
 
 /// What was read, with a value that goes along. It is of any type, so that its drop where nothing was read is a

@@ -73,6 +73,10 @@ sent_control request = None
 -- the arguments in the order of the script's line, where the control bytes of a send read as this
 abbrev pub arguments_telling : Option Control → Request → List (List ℕ)
 arguments_telling read (Request.Open path mode flags) = path_text path ∷ mode_text mode ∷ open_flags flags ∷ []
+arguments_telling read (Request.Create path mode flags) = path_text path ∷ mode_text mode ∷ open_flags flags ∷ []
+arguments_telling read (Request.MemFd flags) = open_flags flags ∷ []
+arguments_telling read (Request.EventFd value flags) = decimal value ∷ open_flags flags ∷ []
+arguments_telling read (Request.Pipe flags) = open_flags flags ∷ []
 arguments_telling read (Request.Read fd n) = decimal fd.0 ∷ decimal n ∷ []
 arguments_telling read (Request.Write fd bytes) = decimal fd.0 ∷ quoted bytes ∷ []
 arguments_telling read (Request.Lseek fd offset whence) = decimal fd.0 ∷ signed_decimal offset ∷ whence_text whence ∷ []

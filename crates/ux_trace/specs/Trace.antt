@@ -153,6 +153,8 @@ errno_text Errno.EISCONN = codes "EISCONN"
 errno_text Errno.ENOTCONN = codes "ENOTCONN"
 errno_text Errno.ETOOMANYREFS = codes "ETOOMANYREFS"
 errno_text Errno.ECONNREFUSED = codes "ECONNREFUSED"
+errno_text Errno.ENFILE = codes "ENFILE"
+errno_text Errno.EEXIST = codes "EEXIST"
 
 abbrev pub reply_text : Reply → List ℕ
 reply_text Reply.Ok = codes "ok"
@@ -179,6 +181,10 @@ reply_reading read reply = reply_text reply
 -- the word that names a call, in a script and in a trace
 abbrev pub word_text : CallWord → List ℕ
 word_text CallWord.Open = codes "open"
+word_text CallWord.Create = codes "create"
+word_text CallWord.MemFd = codes "memfd"
+word_text CallWord.EventFd = codes "eventfd"
+word_text CallWord.Pipe = codes "pipe"
 word_text CallWord.Read = codes "read"
 word_text CallWord.Write = codes "write"
 word_text CallWord.Lseek = codes "lseek"
@@ -211,6 +217,10 @@ word_text CallWord.Off = codes "off"
 
 abbrev pub request_word : Request → CallWord
 request_word (Request.Open path mode flags) = CallWord.Open
+request_word (Request.Create path mode flags) = CallWord.Create
+request_word (Request.MemFd flags) = CallWord.MemFd
+request_word (Request.EventFd value flags) = CallWord.EventFd
+request_word (Request.Pipe flags) = CallWord.Pipe
 request_word (Request.Read fd n) = CallWord.Read
 request_word (Request.Write fd bytes) = CallWord.Write
 request_word (Request.Lseek fd offset whence) = CallWord.Lseek

@@ -67,9 +67,15 @@ impl fmt::Display for CallText<'_> {
     fn fmt<W: fmt::Write>(&self, f: &mut fmt::Formatter<W>) -> fmt::Result {
         let word = CallWord::of(self.request).text();
         match self.request {
-            Request::Open { path, mode, flags } => {
+            Request::Open { path, mode, flags } | Request::Create { path, mode, flags } => {
                 let (path, mode) = (NameText(path.as_bytes()), mode_word(*mode));
                 write!(f, "{word}(p:{path}, {mode}, {})", OpenLetters(*flags))
+            }
+            Request::MemFd { flags } | Request::Pipe { flags } => {
+                write!(f, "{word}({})", OpenLetters(*flags))
+            }
+            Request::EventFd { value, flags } => {
+                write!(f, "{word}({value}, {})", OpenLetters(*flags))
             }
             Request::Read { fd, n } => write!(f, "{word}({}, {n})", fd.0),
             Request::Write { fd, bytes } => {

@@ -9,6 +9,10 @@ use ux_types::Request;
 #[derive(Clone, Copy, Debug, PartialEq, Eq)]
 pub enum CallWord {
     Open,
+    Create,
+    MemFd,
+    EventFd,
+    Pipe,
     Read,
     Write,
     Lseek,
@@ -47,6 +51,10 @@ impl CallWord {
     {
         match request {
             Request::Open { .. } => CallWord::Open,
+            Request::Create { .. } => CallWord::Create,
+            Request::MemFd { .. } => CallWord::MemFd,
+            Request::EventFd { .. } => CallWord::EventFd,
+            Request::Pipe { .. } => CallWord::Pipe,
             Request::Read { .. } => CallWord::Read,
             Request::Write { .. } => CallWord::Write,
             Request::Lseek { .. } => CallWord::Lseek,
@@ -85,6 +93,10 @@ impl CallWord {
     {
         match self {
             CallWord::Open => "open",
+            CallWord::Create => "create",
+            CallWord::MemFd => "memfd",
+            CallWord::EventFd => "eventfd",
+            CallWord::Pipe => "pipe",
             CallWord::Read => "read",
             CallWord::Write => "write",
             CallWord::Lseek => "lseek",

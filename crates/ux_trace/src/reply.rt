@@ -40,6 +40,8 @@ pub fn errno_name(errno: Errno) -> &'static str
         Errno::ENOTCONN => "ENOTCONN",
         Errno::ETOOMANYREFS => "ETOOMANYREFS",
         Errno::ECONNREFUSED => "ECONNREFUSED",
+        Errno::ENFILE => "ENFILE",
+        Errno::EEXIST => "EEXIST",
     }
 }
 

@@ -12,13 +12,12 @@ use Rattle.ux_syntax.specs.declared.script.Header.{Header}
 use Rattle.ux_syntax.specs.Lines.{Line}
 use Rattle.ux_syntax.specs.declared.reading.Parsed.{Parsed}
 use Rattle.ux_syntax.specs.Text.{plain_line}
-use Rattle.ux_syntax.specs.Spelling.{Written, open_path, read_fd, write_fd, seek, dup_fd, dup_onto, dup_above, get_flags, set_flags, close}
-use Rattle.ux_syntax.specs.Spelling.{unlink_path, socket, pair, bind, listen, connect, accept, shut, get_opt, set_opt, sock_name, peer_name}
-use Rattle.ux_syntax.specs.Spelling.{send, recv, poll, set_ids, fork, exec, exit, meaning, Asked, call, wait, act_of, Turn, line_of, Plan}
-use Rattle.ux_syntax.specs.Spelling.{header_line, turn_line, is_meant, line_limit}
-use Rattle.ux_syntax.specs.Spelling.{AreShort, FitsHeader, FitsTurn, NamesProcesses}
-use Rattle.ux_syntax.specs.Spelling.{is_off, asks_off, asks_fork, asks_recorded, MayAsk, known_count, EachKnowing}
-use Rattle.ux_syntax.specs.Spelling.{MayFork, NoneAfterExit, IsCall, SpellScript}
+use Rattle.ux_syntax.specs.Spelling.{Written, open_path, create_path, mem_fd, event_fd, pipe, read_fd, write_fd, seek, dup_fd, dup_onto}
+use Rattle.ux_syntax.specs.Spelling.{dup_above, get_flags, set_flags, close, unlink_path, socket, pair, bind, listen, connect, accept, shut}
+use Rattle.ux_syntax.specs.Spelling.{get_opt, set_opt, sock_name, peer_name, send, recv, poll, set_ids, fork, exec, exit, meaning, Asked}
+use Rattle.ux_syntax.specs.Spelling.{call, wait, act_of, Turn, line_of, Plan, header_line, turn_line, is_meant, line_limit, AreShort}
+use Rattle.ux_syntax.specs.Spelling.{FitsHeader, FitsTurn, NamesProcesses, is_off, asks_off, asks_fork, asks_recorded, MayAsk, known_count}
+use Rattle.ux_syntax.specs.Spelling.{EachKnowing, MayFork, NoneAfterExit, IsCall, SpellScript}
 use Rattle.ux_syntax.specs.Turns.{has_exited, is_known, awaits_known}
 use Rattle.ux_syntax.specs.Reading.{item_at, with_header, with_line, with_off, with_serial, is_unsaid}
 use Rattle.ux_syntax.specs.Reading.{may_fork, joined_by_fork, is_barred, joined_by_allowed, joined_by_other, joined_by, is_skipped, added}
@@ -147,6 +146,10 @@ header_takes ls s l x h none no_off short says =
 -- no call that is written ends the whole layer
 is_no_end : (c : Written) → is_off (meaning c) ≡ false
 is_no_end (open_path path mode flags) = refl
+is_no_end (create_path path mode flags) = refl
+is_no_end (mem_fd flags) = refl
+is_no_end (event_fd value flags) = refl
+is_no_end (pipe flags) = refl
 is_no_end (read_fd fd n) = refl
 is_no_end (write_fd fd bytes) = refl
 is_no_end (seek fd offset whence) = refl

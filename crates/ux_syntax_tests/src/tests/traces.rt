@@ -135,6 +135,8 @@ const REFUSALS: &[(Errno, &str)] = &[
     (Errno::ENOTCONN, "ENOTCONN"),
     (Errno::ETOOMANYREFS, "ETOOMANYREFS"),
     (Errno::ECONNREFUSED, "ECONNREFUSED"),
+    (Errno::ENFILE, "ENFILE"),
+    (Errno::EEXIST, "EEXIST"),
 ];
 
 #[test]
@@ -341,6 +343,38 @@ fn entries_of_files_are_printed(rt: HostRuntime) -> Result<(), Fail> {
             "getfl 3",
             Reply::Flags(OpenFlags(7)),
             "5 1 7 getfl = flags APPEND|NONBLOCK|CLOEXEC\n",
+        ),
+    ]?;
+    expect_rows(&rt, rt.alloc(), rows)
+}
+
+#[test]
+fn entries_of_calls_that_make_file_objects_are_printed(rt: HostRuntime) -> Result<(), Fail> {
+    let rows = vec![in rt.alloc();
+        (
+            (5, 7),
+            "create p:f rw x",
+            Reply::Fd(Fd(3)),
+            "5 1 7 create = fd 3\n",
+        ),
+        (
+            (5, 7),
+            "create p:f rw -",
+            Reply::Err(Errno::EEXIST),
+            "5 1 7 create = err EEXIST\n",
+        ),
+        ((5, 7), "memfd -", Reply::Fd(Fd(0)), "5 1 7 memfd = fd 0\n"),
+        (
+            (5, 7),
+            "eventfd 8 n",
+            Reply::Err(Errno::ENFILE),
+            "5 1 7 eventfd = err ENFILE\n",
+        ),
+        (
+            (5, 7),
+            "pipe x",
+            Reply::Fds(Fd(3), Fd(4)),
+            "5 1 7 pipe = fds 3 4\n",
         ),
     ]?;
     expect_rows(&rt, rt.alloc(), rows)
