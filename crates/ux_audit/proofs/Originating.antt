@@ -164,6 +164,10 @@ giver_earlier es j n e o g origin more =
 
 pub record GivesNot (r : Request) : Type 0 where
   pub not_open : (path : Name) (mode : Mode) (flags : OpenFlags) → r ≡ Request.Open path mode flags → ⊥
+  pub not_create : (path : Name) (mode : Mode) (flags : OpenFlags) → r ≡ Request.Create path mode flags → ⊥
+  pub not_mem_fd : (flags : OpenFlags) → r ≡ Request.MemFd flags → ⊥
+  pub not_event_fd : (value : ℕ) (flags : OpenFlags) → r ≡ Request.EventFd value flags → ⊥
+  pub not_pipe : (flags : OpenFlags) → r ≡ Request.Pipe flags → ⊥
   pub not_socket : (kind : SockType) (flags : OpenFlags) → r ≡ Request.Socket kind flags → ⊥
   pub not_pair : (kind : SockType) (flags : OpenFlags) → r ≡ Request.SocketPair kind flags → ⊥
   pub not_accept : (fd : Fd) (flags : OpenFlags) → r ≡ Request.Accept fd flags → ⊥
@@ -175,6 +179,10 @@ pub record GivesNot (r : Request) : Type 0 where
 
 no_sources : (S : State) (p : ℕ) (r : Request) → GivesNot r → sources S p r ≡ []
 no_sources S p (Request.Open path mode flags) g = absurd (g.not_open path mode flags refl)
+no_sources S p (Request.Create path mode flags) g = absurd (g.not_create path mode flags refl)
+no_sources S p (Request.MemFd flags) g = absurd (g.not_mem_fd flags refl)
+no_sources S p (Request.EventFd value flags) g = absurd (g.not_event_fd value flags refl)
+no_sources S p (Request.Pipe flags) g = absurd (g.not_pipe flags refl)
 no_sources S p (Request.Socket kind flags) g = absurd (g.not_socket kind flags refl)
 no_sources S p (Request.SocketPair kind flags) g = absurd (g.not_pair kind flags refl)
 no_sources S p (Request.Accept fd flags) g = absurd (g.not_accept fd flags refl)
@@ -193,14 +201,28 @@ never_otherwise es j n e at g = never es j n e at (λ boot q legal gave'.
 
 abbrev pub Makes : Request → Type 0
 Makes r = ((x : Name) × (y : Mode) × (z : OpenFlags) × (r ≡ Request.Open x y z))
+    ⊎ (((x : Name) × (y : Mode) × (z : OpenFlags) × (r ≡ Request.Create x y z))
+    ⊎ (((x : OpenFlags) × (r ≡ Request.MemFd x))
+    ⊎ (((x : ℕ) × (y : OpenFlags) × (r ≡ Request.EventFd x y))
+    ⊎ (((x : OpenFlags) × (r ≡ Request.Pipe x))
     ⊎ (((x : SockType) × (y : OpenFlags) × (r ≡ Request.Socket x y))
-    ⊎ (((x : SockType) × (y : OpenFlags) × (r ≡ Request.SocketPair x y)) ⊎ ((x : Fd) × (y : OpenFlags) × (r ≡ Request.Accept x y))))
+    ⊎ (((x : SockType) × (y : OpenFlags) × (r ≡ Request.SocketPair x y)) ⊎ ((x : Fd) × (y : OpenFlags) × (r ≡ Request.Accept x y))))))))
 
 pub makes_way : (r : Request) (o : Option ℕ) → Makes r → how_of r o ≡ Some How.Made
 makes_way r o (inl w) = ap (λ (x : Request). how_of x o) w.3
-makes_way r o (inr (inl w)) = ap (λ (x : Request). how_of x o) w.2
-makes_way r o (inr (inr (inl w))) = ap (λ (x : Request). how_of x o) w.2
-makes_way r o (inr (inr (inr w))) = ap (λ (x : Request). how_of x o) w.2
+makes_way r o (inr (inl w)) = ap (λ (x : Request). how_of x o) w.3
+makes_way r o (inr (inr (inl w))) = ap (λ (x : Request). how_of x o) w.1
+makes_way r o (inr (inr (inr (inl w)))) = ap (λ (x : Request). how_of x o) w.2
+makes_way r o (inr (inr (inr (inr (inl w))))) = ap (λ (x : Request). how_of x o) w.1
+makes_way r o (inr (inr (inr (inr (inr (inl w)))))) = ap (λ (x : Request). how_of x o) w.2
+makes_way r o (inr (inr (inr (inr (inr (inr (inl w))))))) = ap (λ (x : Request). how_of x o) w.2
+makes_way r o (inr (inr (inr (inr (inr (inr (inr w))))))) = ap (λ (x : Request). how_of x o) w.2
+
+-- what a call gives that makes it
+pub made_there : (es : List Entry) (j n : ℕ) (f e : Entry) → j < length es → f ≡ get_or es j f → slice_get es j ≡ Some e →
+    Makes f.request → IsOrigin es j n e (record { how = How.Made; from = None })
+made_there es j n f e within read at makes =
+    origin_there es j n f e _ within read at (origin_made es j n f (makes_way f.request f.delivered makes))
 
 abbrev pub Copies : Request → Fd → Type 0
 Copies r source = (r ≡ Request.Dup source) ⊎ (((x : Fd) × (r ≡ Request.Dup2 source x)) ⊎ ((x : Fd) × (r ≡ Request.DupFrom source x)))

@@ -106,6 +106,10 @@ pub(crate) fn origin(
     let entry = &entries[j];
     Ok(match &entry.request {
         Request::Open { .. }
+        | Request::Create { .. }
+        | Request::MemFd { .. }
+        | Request::EventFd { .. }
+        | Request::Pipe { .. }
         | Request::Socket { .. }
         | Request::SocketPair { .. }
         | Request::Accept { .. } => Some(HoldingOrigin {

@@ -33,6 +33,10 @@ pub(crate) fn cloexec_of(request: &Request) -> bool
 {
     match request {
         Request::Open { flags, .. }
+        | Request::Create { flags, .. }
+        | Request::MemFd { flags }
+        | Request::EventFd { flags, .. }
+        | Request::Pipe { flags }
         | Request::Socket { flags, .. }
         | Request::SocketPair { flags, .. }
         | Request::Accept { flags, .. } => flags.contains(OpenFlags::CLOEXEC),

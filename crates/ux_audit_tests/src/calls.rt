@@ -13,11 +13,26 @@ use ux_types::{
     Addr, Bytes, Entry, Fd, Mode, MsgFlags, Name, OpenFlags, Pid, ProcSpec, Request, SockType,
 };
 
+/// A file object that a call makes.
+#[derive(Clone, Copy)]
+pub(crate) enum New {
+    /// By open(2), under the path `new`.
+    File,
+    /// By memfd_create(2).
+    Memory,
+    /// By eventfd(2).
+    Counter,
+    /// By pipe2(2).
+    Pipe,
+}
+
 /// A call that a row of a test makes.
 #[derive(Clone, Copy)]
 pub(crate) enum Call {
     /// Of the one file, with O_CLOEXEC or not.
     Open(bool),
+    /// A new file object, with O_CLOEXEC or not.
+    Make(New, bool),
     Pair,
     Socket,
     Bind(u32),
@@ -92,6 +107,13 @@ fn accepting(fd: u32) -> Request {
     }
 }
 
+fn marking(fd: u32, on: bool) -> Request {
+    Request::SetFlags {
+        fd: Fd(fd),
+        flags: flags_of(on),
+    }
+}
+
 fn opening(alloc: Global, cloexec: bool) -> Result<Request, AllocError> {
     Ok(Request::Open {
         path: Name::from_slice(alloc, b"f")?,
@@ -100,11 +122,26 @@ fn opening(alloc: Global, cloexec: bool) -> Result<Request, AllocError> {
     })
 }
 
+fn making(alloc: Global, new: New, cloexec: bool) -> Result<Request, AllocError> {
+    let flags = flags_of(cloexec);
+    Ok(match new {
+        New::File => Request::Create {
+            path: Name::from_slice(alloc, b"new")?,
+            mode: Mode::Both,
+            flags,
+        },
+        New::Memory => Request::MemFd { flags },
+        New::Counter => Request::EventFd { value: 7, flags },
+        New::Pipe => Request::Pipe { flags },
+    })
+}
+
 fn request_of(alloc: Global, call: Call) -> Result<Request, AllocError> {
     let kind = SockType::Stream;
     let plain = OpenFlags(0);
     Ok(match call {
         Call::Open(cloexec) => return opening(alloc, cloexec),
+        Call::Make(new, cloexec) => return making(alloc, new, cloexec),
         Call::Pair => Request::SocketPair { kind, flags: plain },
         Call::Socket => Request::Socket { kind, flags: plain },
         Call::Bind(fd) => Request::Bind {
@@ -126,10 +163,7 @@ fn request_of(alloc: Global, call: Call) -> Result<Request, AllocError> {
             fd: Fd(fd),
             minimum: Fd(minimum),
         },
-        Call::Mark(fd, on) => Request::SetFlags {
-            fd: Fd(fd),
-            flags: flags_of(on),
-        },
+        Call::Mark(fd, on) => marking(fd, on),
         Call::Close(fd) => Request::Close { fd: Fd(fd) },
         Call::Send(fd, rights) => return sending(alloc, fd, rights),
         Call::Recv(fd, space) => receiving(fd, space, MsgFlags(0)),

@@ -1,6 +1,6 @@
 //! Who holds what at the end, and from whom.
 
-use crate::calls::{Call, expect, history};
+use crate::calls::{Call, New, expect, history};
 use std::test::Fail;
 
 #[test]
@@ -69,6 +69,37 @@ fn a_copy_from_a_minimum_on_is_a_dup(rt: HostRuntime) -> Result<(), Fail> {
         &[
             (1, 1, "made 0 1 0; dup 1 1 2; dup 2 1 1"),
             (1, 2, "made 0 1 0; dup 1 1 2"),
+        ],
+    )
+}
+
+#[test]
+fn what_a_process_makes_is_its_own_at_first(rt: HostRuntime) -> Result<(), Fail> {
+    let calls = [
+        (1, Call::Make(New::File, false)),
+        (1, Call::Make(New::Memory, true)),
+        (1, Call::Make(New::Counter, false)),
+        (1, Call::Make(New::Pipe, false)),
+        (1, Call::Fork),
+        (2, Call::Exec),
+        (2, Call::Dup(4)),
+    ];
+    let entries = history(rt.alloc(), 1, &calls)?;
+    expect(
+        &rt,
+        rt.alloc(),
+        entries.as_slice(),
+        &[
+            (1, 0, "made 0 1 0"),
+            (1, 1, "made 1 1 1"),
+            (1, 2, "made 2 1 2"),
+            (1, 3, "made 3 1 3"),
+            (1, 4, "made 3 1 4"),
+            (2, 0, "made 0 1 0; fork 4 2 0"),
+            (2, 1, "made 3 1 4; fork 4 2 4; dup 6 2 1"),
+            (2, 2, "made 2 1 2; fork 4 2 2"),
+            (2, 3, "made 3 1 3; fork 4 2 3"),
+            (2, 4, "made 3 1 4; fork 4 2 4"),
         ],
     )
 }

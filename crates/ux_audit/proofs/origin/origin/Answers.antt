@@ -3,8 +3,7 @@ use Rattle.ux_model.specs.Giving.{IsReceive, receive}
 use Rattle.ux_audit.specs.declared.hands.HoldingOrigin.{HoldingOrigin}
 use Rattle.ux_audit.specs.Origins.{IsOrigin}
 use Rattle.ux_audit.proofs.Rows.{IfOk_then}
-use Rattle.ux_audit.proofs.Originating.{read_entry, never_otherwise, origin_made, origin_dup, origin_forked, origin_there, makes_way}
-use Rattle.ux_audit.proofs.Originating.{copies_way}
+use Rattle.ux_audit.proofs.Originating.{read_entry, never_otherwise, made_there, origin_dup, origin_forked, origin_there, copies_way}
 use Rattle.ux_audit.proofs.origin.origin.Goals as goal
 
 pub received-requires-clause-receiving : goal.received-requires-clause-receiving
@@ -33,6 +32,10 @@ returns-in_default c = record {
       (read_entry c.args.entries.now c.args.j e c.requires.within c.index-entries-j.is)
       (record {
         not_open = c.in_default.not-Open;
+        not_create = c.in_default.not-Create;
+        not_mem_fd = c.in_default.not-MemFd;
+        not_event_fd = c.in_default.not-EventFd;
+        not_pipe = c.in_default.not-Pipe;
         not_socket = c.in_default.not-Socket;
         not_pair = c.in_default.not-SocketPair;
         not_accept = c.in_default.not-Accept;
@@ -46,27 +49,35 @@ returns-in_default c = record {
 
 pub returns-in-Open-clause-found : goal.returns-in-Open-clause-found
 returns-in-Open-clause-found c = λ e at.
-    let f = c.index-entries-j.result in
-    origin_there c.args.entries.now c.args.j c.args.fd.0 f e _ c.requires.within c.index-entries-j.is at
-    (origin_made c.args.entries.now c.args.j c.args.fd.0 f (makes_way f.request f.delivered c.in-Open.is))
+    made_there c.args.entries.now c.args.j c.args.fd.0 c.index-entries-j.result e c.requires.within c.index-entries-j.is at c.in-Open.is
 
 pub returns-in-Open-2-clause-found : goal.returns-in-Open-2-clause-found
 returns-in-Open-2-clause-found c = λ e at.
-    let f = c.index-entries-j.result in
-    origin_there c.args.entries.now c.args.j c.args.fd.0 f e _ c.requires.within c.index-entries-j.is at
-    (origin_made c.args.entries.now c.args.j c.args.fd.0 f (makes_way f.request f.delivered c.in-Open.is))
+    made_there c.args.entries.now c.args.j c.args.fd.0 c.index-entries-j.result e c.requires.within c.index-entries-j.is at c.in-Open.is
 
 pub returns-in-Open-3-clause-found : goal.returns-in-Open-3-clause-found
 returns-in-Open-3-clause-found c = λ e at.
-    let f = c.index-entries-j.result in
-    origin_there c.args.entries.now c.args.j c.args.fd.0 f e _ c.requires.within c.index-entries-j.is at
-    (origin_made c.args.entries.now c.args.j c.args.fd.0 f (makes_way f.request f.delivered c.in-Open.is))
+    made_there c.args.entries.now c.args.j c.args.fd.0 c.index-entries-j.result e c.requires.within c.index-entries-j.is at c.in-Open.is
 
 pub returns-in-Open-4-clause-found : goal.returns-in-Open-4-clause-found
 returns-in-Open-4-clause-found c = λ e at.
-    let f = c.index-entries-j.result in
-    origin_there c.args.entries.now c.args.j c.args.fd.0 f e _ c.requires.within c.index-entries-j.is at
-    (origin_made c.args.entries.now c.args.j c.args.fd.0 f (makes_way f.request f.delivered c.in-Open.is))
+    made_there c.args.entries.now c.args.j c.args.fd.0 c.index-entries-j.result e c.requires.within c.index-entries-j.is at c.in-Open.is
+
+pub returns-in-Open-5-clause-found : goal.returns-in-Open-5-clause-found
+returns-in-Open-5-clause-found c = λ e at.
+    made_there c.args.entries.now c.args.j c.args.fd.0 c.index-entries-j.result e c.requires.within c.index-entries-j.is at c.in-Open.is
+
+pub returns-in-Open-6-clause-found : goal.returns-in-Open-6-clause-found
+returns-in-Open-6-clause-found c = λ e at.
+    made_there c.args.entries.now c.args.j c.args.fd.0 c.index-entries-j.result e c.requires.within c.index-entries-j.is at c.in-Open.is
+
+pub returns-in-Open-7-clause-found : goal.returns-in-Open-7-clause-found
+returns-in-Open-7-clause-found c = λ e at.
+    made_there c.args.entries.now c.args.j c.args.fd.0 c.index-entries-j.result e c.requires.within c.index-entries-j.is at c.in-Open.is
+
+pub returns-in-Open-8-clause-found : goal.returns-in-Open-8-clause-found
+returns-in-Open-8-clause-found c = λ e at.
+    made_there c.args.entries.now c.args.j c.args.fd.0 c.index-entries-j.result e c.requires.within c.index-entries-j.is at c.in-Open.is
 
 pub returns-in-Dup-clause-found : goal.returns-in-Dup-clause-found
 returns-in-Dup-clause-found c = λ e at.
