@@ -184,6 +184,7 @@ impl<'a, W: BookName, O: FileObject> Crew<'a, W, O> {
         let Some(entry) = self.serial.entries().last() else {
             return Ok(());
         };
+        self.written.make(entry)?;
         match self.touched {
             Some(touched) => {
                 self.written.add(touched, entry)?;

@@ -64,7 +64,8 @@ fn was_made<W: BookName, O: FileObject>(serial: &Serial<W, O>, pid: Pid) -> bool
 
 /// Whether a call concerns its process alone: it is answered by the process's own descriptors, and adds one of a new
 /// socket or of what they lead to already; or by the process's own ids, and changes those, which no call of another
-/// process reads: what it sent, or recorded, has the ids of that time. It never waits.
+/// process reads: what it sent, or recorded, has the ids of that time. It never waits. A call that makes a file object
+/// isn't one: objects are numbered as they are made, and the call that closes one tells its number.
 pub(crate) fn is_alone(request: &Request) -> bool {
     matches!(
         request,

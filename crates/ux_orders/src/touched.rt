@@ -46,11 +46,12 @@ pub(crate) fn touched_by<O: FileObject>(
     })
 }
 
-/// What was written to each file object so far. With what was read and written by whom, that says what is in it: in a
-/// counter the sum of what came and went, in a pipe what was written in its order without what was read, in a memory
-/// file what was written where, the later over the earlier.
+/// What was written to each file object so far, behind what it was at first where a call made it. With what was read and
+/// written by whom, that says what is in it: in a counter the sum of what came and went, in a pipe what was written in
+/// its order without what was read, in a memory file what was written where, the later over the earlier.
 #[derive(Drop)]
 pub(crate) struct Written {
+    alloc: Global,
     objects: Vec<Spelled>,
 }
 
@@ -65,7 +66,23 @@ impl Written {
         for _ in 0..count {
             objects.push(Spelled::new(alloc))?;
         }
-        Ok(Written { objects })
+        Ok(Written { alloc, objects })
+    }
+
+    /// Adds the file object that a call made, if it made one: it has the number behind those that were there.
+    ///
+    /// # Errors
+    ///
+    /// Out of memory.
+    pub(crate) fn make(&mut self, entry: &Entry) -> Result<(), AllocError> {
+        let Some((kind, value)) = made_by(entry) else {
+            return Ok(());
+        };
+        let mut object = Spelled::new(self.alloc);
+        object.number(kind)?;
+        object.number(u64::from(value))?;
+        self.objects.push(object)?;
+        Ok(())
     }
 
     /// Adds what a call wrote to this object.
@@ -90,16 +107,27 @@ impl Written {
         }
     }
 
-    /// Spells what was written to each.
+    /// Spells what was written to each, behind how many there are.
     ///
     /// # Errors
     ///
     /// Out of memory.
     pub(crate) fn spell(&self, out: &mut Spelled) -> Result<(), AllocError> {
+        out.number(self.objects.len() as u64)?;
         for object in &self.objects {
             out.bytes(object.as_slice())?;
         }
         Ok(())
+    }
+}
+
+/// The file object that a call made, if it made one: a number for its kind, and the value of a counter.
+fn made_by(entry: &Entry) -> Option<(u64, u32)> {
+    match (&entry.request, &entry.reply) {
+        (Request::Create { .. } | Request::MemFd { .. }, Reply::Fd(_)) => Some((0, 0)),
+        (Request::EventFd { value, .. }, Reply::Fd(_)) => Some((1, *value)),
+        (Request::Pipe { .. }, Reply::Fds(..)) => Some((2, 0)),
+        _ => None,
     }
 }
 

@@ -35,7 +35,7 @@ impl Dice {
 /// The place of a line in a script: the process, and what it may ask for.
 type Slot = (u32, &'static [&'static str]);
 
-/// Scripts of three processes with three or four lines each.
+/// Scripts of three processes with a few lines each.
 #[derive(Clone, Copy)]
 struct Family {
     header: &'static str,
@@ -216,6 +216,45 @@ const USERS: Family = Family {
     ],
 };
 
+const USE_MADE: &[&str] = &[
+    "send 0 - 78 r:2 -",
+    "send 0 - 78 r:2 -",
+    "send 0 - 78 r:2 -",
+    "write 2 0100000000000000",
+    "close 2",
+];
+
+/// Two children that make file objects, and pass them to their parent.
+const MADE: Family = Family {
+    header: "serial\nproc 1 1 0 8\n",
+    slots: &[
+        (1, &["pair seq -", "pair dgram -"]),
+        (1, &["fork"]),
+        (1, &["fork"]),
+        (1, &["recv 1 1 24 -"]),
+        (1, &["recv 1 1 24 -", "recv 1 1 24 -", "close 2"]),
+        (1, &["read 2 8"]),
+        (1, &["close 2"]),
+        (
+            2,
+            &[
+                "eventfd 5 -",
+                "eventfd 5 -",
+                "memfd -",
+                "create p:made rw -",
+            ],
+        ),
+        (2, USE_MADE),
+        (2, &["exit"]),
+        (
+            3,
+            &["eventfd 7 -", "eventfd 7 -", "pipe -", "create p:made rw -"],
+        ),
+        (3, USE_MADE),
+        (3, &["exit"]),
+    ],
+};
+
 /// A script of a family.
 fn script_of(alloc: Global, family: &Family, dice: &mut Dice) -> Result<String, Fail> {
     let mut text = String::from_str(alloc, family.header)?;
@@ -327,6 +366,13 @@ fn holders_of_a_passed_file(rt: HostRuntime) -> Result<(), Fail> {
 #[test]
 fn users_of_the_same_pair(rt: HostRuntime) -> Result<(), Fail> {
     let seen = compare(rt.alloc(), &USERS)?;
+    assert!(rt; is_seen(&seen));
+    Ok(())
+}
+
+#[test]
+fn makers_of_file_objects(rt: HostRuntime) -> Result<(), Fail> {
+    let seen = compare(rt.alloc(), &MADE)?;
     assert!(rt; is_seen(&seen));
     Ok(())
 }
