@@ -80,6 +80,56 @@ pub trait Calls<C: Copy> {
         reply.fd()
     }
 
+    /// open(2) with O_CREAT and O_EXCL: the new descriptor, of a new, empty file under this path.
+    #[tactic(auto, using(crate::proofs::Calling::fails))]
+    final fn create(
+        &mut self,
+        who: C,
+        path: &[u8],
+        mode: Mode,
+        flags: OpenFlags,
+    ) -> Result<Fd, CallError>
+        ensures made { IfOk result (λ new. did who self.old self.new (Request.Create path.now mode flags) (Reply.Fd new)) }
+        ensures failed { IfErr result (λ error. Fails did unmade who self.old self.new (Request.Create path.now mode flags) error) }
+    {
+        let request = call::create(self.allocator(), path, mode, flags)?;
+        let reply = self.ask(who, &request)?;
+        reply.fd()
+    }
+
+    /// memfd_create(2): the new descriptor, of a new, empty file with no path.
+    #[tactic(auto, using(crate::proofs::Calling::fails))]
+    final fn mem_fd(&mut self, who: C, flags: OpenFlags) -> Result<Fd, CallError>
+        ensures made { IfOk result (λ new. did who self.old self.new (Request.MemFd flags) (Reply.Fd new)) }
+        ensures failed { IfErr result (λ error. Fails did unmade who self.old self.new (Request.MemFd flags) error) }
+    {
+        let request = call::mem_fd(flags);
+        let reply = self.ask(who, &request)?;
+        reply.fd()
+    }
+
+    /// eventfd(2): the new descriptor, of a new counter with this value.
+    #[tactic(auto, using(crate::proofs::Calling::fails))]
+    final fn event_fd(&mut self, who: C, value: u32, flags: OpenFlags) -> Result<Fd, CallError>
+        ensures made { IfOk result (λ new. did who self.old self.new (Request.EventFd value flags) (Reply.Fd new)) }
+        ensures failed { IfErr result (λ error. Fails did unmade who self.old self.new (Request.EventFd value flags) error) }
+    {
+        let request = call::event_fd(value, flags);
+        let reply = self.ask(who, &request)?;
+        reply.fd()
+    }
+
+    /// pipe2(2): the two new descriptors of a new pipe, the reading end's first.
+    #[tactic(auto, using(crate::proofs::Calling::fails))]
+    final fn pipe(&mut self, who: C, flags: OpenFlags) -> Result<(Fd, Fd), CallError>
+        ensures made { IfOk result (λ fds. did who self.old self.new (Request.Pipe flags) (Reply.Fds fds.0 fds.1)) }
+        ensures failed { IfErr result (λ error. Fails did unmade who self.old self.new (Request.Pipe flags) error) }
+    {
+        let request = call::pipe(flags);
+        let reply = self.ask(who, &request)?;
+        reply.fds()
+    }
+
     /// read(2) of at most `n` bytes.
     #[tactic(auto, using(crate::proofs::Calling::fails))]
     final fn read(&mut self, who: C, fd: Fd, n: usize) -> Result<Bytes, CallError>

@@ -17,7 +17,7 @@ pub(crate) const CALLER: Cred = Cred {
 };
 
 /// How many calls `call_all` makes, each of which is an entry.
-pub(crate) const CALLS: u64 = 90;
+pub(crate) const CALLS: u64 = 101;
 
 /// How many processes there may be, those that have exited too.
 pub(crate) const MOST: u32 = 1024;
@@ -62,6 +62,7 @@ pub(crate) fn call_all<C: Copy, P: Calls<C>>(process: &mut P, who: C) -> Result<
     files::copy_and_close(process, who)?;
     users::take_ids(process, who)?;
     files::use_objects(process, who)?;
+    files::make_objects(process, who)?;
     sockets::listen_at_a_path(process, who)?;
     sockets::talk(process, who)?;
     sockets::set_options(process, who)?;

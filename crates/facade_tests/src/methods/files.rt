@@ -72,6 +72,23 @@ pub(super) fn use_objects<C: Copy, P: Calls<C>>(p: &mut P, who: C) -> Result<(),
     is_refused("send_all", unsent, 0, Errno::ENOTSOCK)
 }
 
+/// Makes a file object of each kind, as 5 to 9, and executes a program, which has none of these numbers.
+pub(super) fn make_objects<C: Copy, P: Calls<C>>(p: &mut P, who: C) -> Result<(), Wrong> {
+    let alloc = p.allocator();
+    let flags = OpenFlags::CLOEXEC;
+    let made = p.create(who, b"made", Mode::Both, flags);
+    gives("create", made, Fd(5))?;
+    let again = p.create(who, b"made", Mode::Both, flags);
+    refuses("create", again, Errno::EEXIST)?;
+    gives("mem_fd", p.mem_fd(who, flags), Fd(6))?;
+    gives("event_fd", p.event_fd(who, 7, flags), Fd(7))?;
+    let value = Bytes::from_slice(alloc, &[7, 0, 0, 0, 0, 0, 0, 0])?;
+    gives("read", p.read(who, Fd(7), 8), value)?;
+    gives("pipe", p.pipe(who, flags), (Fd(8), Fd(9)))?;
+    gives("write", p.write(who, Fd(9), b"x"), 1)?;
+    gives("exec", p.exec(who), ())
+}
+
 /// Sees that all was taken.
 pub(super) fn is_whole(method: &'static str, given: Result<(), Unfinished>) -> Result<(), Wrong> {
     given.map_err(|_| Wrong(method))

@@ -116,9 +116,13 @@ pub(super) fn fill_the_table<C: Copy, P: Calls<C>>(p: &mut P, who: C) -> Result<
     gives("pair", p.pair(who, kind), (Fd(12), Fd(13)))?;
     gives("socket", p.socket(who, kind), Fd(14))?;
     refuses("pair", p.pair(who, kind), Errno::EMFILE)?;
+    let flags = OpenFlags::CLOEXEC;
+    refuses("pipe", p.pipe(who, flags), Errno::EMFILE)?;
     gives("socket", p.socket(who, kind), Fd(15))?;
     refuses("socket", p.socket(who, kind), Errno::EMFILE)?;
-    let flags = OpenFlags::CLOEXEC;
     let none = p.socket_with(who, kind, flags);
-    refuses("socket_with", none, Errno::EMFILE)
+    refuses("socket_with", none, Errno::EMFILE)?;
+    refuses("mem_fd", p.mem_fd(who, flags), Errno::EMFILE)?;
+    let uncounted = p.event_fd(who, 0, flags);
+    refuses("event_fd", uncounted, Errno::EMFILE)
 }
