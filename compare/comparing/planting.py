@@ -11,7 +11,7 @@ from reference.rules import ALL_RULES, NO_RULES
 from reference.script import Script, read_script
 from reference.trace import Line
 
-from . import socket_defects, user_defects  # add their defects to the list
+from . import making_defects, socket_defects, user_defects  # add their defects to the list
 from .defects import ALL, Defect
 from .generator import write_scripts
 from .lines import first_difference, reference_lines
@@ -20,7 +20,7 @@ from .session import Session
 
 RANDOM_SCRIPTS, SEED = 300, 54
 ERRORS = ("EAGAIN", "EBADF", "EINVAL", "ENOTCONN", "EPIPE", "ECONNRESET", "ECONNREFUSED", "EMFILE")
-assert socket_defects and user_defects
+assert making_defects and socket_defects and user_defects
 
 
 class Traces:

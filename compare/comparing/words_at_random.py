@@ -28,6 +28,12 @@ def any_name(random: Random) -> str:
     return random.choice([*PATHS, *ABSTRACT, *OBJECT_PATHS, "u", "p:nothing", "a:nobody"])
 
 
+def path(random: Random) -> str:
+    """A path at which there may be anything."""
+    found = any_name(random)
+    return found if found.startswith("p:") else random.choice([*PATHS, *OBJECT_PATHS])
+
+
 def open_flags(random: Random) -> str:
     """OFLAGS."""
     return random.choice(["-", "-", "-", "-", "x", "x", "n", "a", "nx", "ax", "an", "anx"])

@@ -16,7 +16,7 @@ FILE_NAME_LIMIT = 255
 
 
 def path_in(kernel: Kernel, word: str) -> bytes:
-    """The path of an open or an unlink, or why it is none."""
+    """The path of an open, a create or an unlink, or why it is none."""
     path = name_in(word[2:])
     if kernel.follows(Rule.PATH_OF_NO_FILE) and not path:
         raise Refusal("ENOENT")
@@ -39,6 +39,18 @@ def opened_at(kernel: Kernel, path: bytes) -> FileObject:
     return target
 
 
+def open_target(kernel: Kernel, process: Process, number: int, target: FileObject, mode: str, flags: str) -> None:
+    """Has the number lead to a new description of the file object."""
+    description = Description(target, mode, "a" in flags, "n" in flags)
+    target.opened += 1
+    if mode == "r" and target.writers == 0:
+        description.writers_seen = target.writers_ever
+    target.readers += "r" in mode
+    target.writers += "w" in mode
+    target.writers_ever += "w" in mode
+    kernel.put(process, number, description, "x" in flags)
+
+
 def call_open(kernel: Kernel, process: Process, words: list[str]) -> str:
     """open(2)."""
     path = path_in(kernel, words[1])
@@ -51,14 +63,7 @@ def call_open(kernel: Kernel, process: Process, words: list[str]) -> str:
         kernel.free_number(process)
     target = opened_at(kernel, path)
     number = kernel.free_number(process)
-    description = Description(target, mode, "a" in flags, "n" in flags)
-    target.opened += 1
-    if mode == "r" and target.writers == 0:
-        description.writers_seen = target.writers_ever
-    target.readers += "r" in mode
-    target.writers += "w" in mode
-    target.writers_ever += "w" in mode
-    kernel.put(process, number, description, "x" in flags)
+    open_target(kernel, process, number, target, mode, flags)
     return f"fd {number}"
 
 
@@ -193,7 +198,7 @@ def call_lseek(kernel: Kernel, process: Process, words: list[str]) -> str:
     place = base + int(words[2])
     if not 0 <= place <= OFFSET_LIMIT:
         raise Refusal("EINVAL")
-    if place > kernel.machine.greatest_offset and kernel.follows(Rule.FAR_OFFSET):
+    if not target.has_any_offset and place > kernel.machine.greatest_offset and kernel.follows(Rule.FAR_OFFSET):
         raise Refusal("EINVAL")
     description.offset = place
     return f"at {place}"

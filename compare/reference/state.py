@@ -11,7 +11,8 @@ FIRST_QUEUE_LIMIT = 65536
 @dataclass(eq=False)
 class FileObject:
     """A memory file, a counter or a pipe. `pages` has a pipe's buffers on Linux, as [first byte, bytes]. `appends` is what
-    was set last at any of its descriptions, which of a counter are one behind the replay."""
+    was set last at any of its descriptions, which of a counter are one behind the replay. `has_any_offset` says that its
+    file system on Linux has no bound but the type's, as that of memfd_create(2)."""
     number: int
     kind: str
     data: bytearray
@@ -26,6 +27,7 @@ class FileObject:
     writers_ever: int = 0
     pages: list[list[int]] = field(default_factory=list)
     appends: bool = False
+    has_any_offset: bool = False
 
 
 @dataclass(eq=False)

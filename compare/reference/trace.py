@@ -5,7 +5,7 @@ from copy import copy
 from dataclasses import dataclass, field
 from typing import Callable
 
-from . import connecting, files, readiness, receiving, sending, sockets, users
+from . import connecting, files, making, readiness, receiving, sending, sockets, users
 from .control import SCM_CREDENTIALS, buffer_in
 from .kernel import Kernel
 from .machine import Machine
@@ -81,7 +81,8 @@ def call_exit(kernel: Kernel, process: Process, words: list[str]) -> str:
 
 
 CALLS: dict[str, Call] = {
-    "open": files.call_open, "read": call_read, "write": call_write, "lseek": files.call_lseek, "dup": files.call_dup,
+    "open": files.call_open, "create": making.call_create, "memfd": making.call_memfd, "eventfd": making.call_eventfd,
+    "pipe": making.call_pipe, "read": call_read, "write": call_write, "lseek": files.call_lseek, "dup": files.call_dup,
     "dup2": files.call_dup2, "dupfd": files.call_dupfd, "getfl": files.call_getfl, "flags": files.call_flags,
     "close": files.call_close, "unlink": files.call_unlink,
     "socket": sockets.call_socket, "pair": sockets.call_pair, "bind": sockets.call_bind, "listen": sockets.call_listen,
@@ -90,10 +91,11 @@ CALLS: dict[str, Call] = {
     "peername": sockets.call_peername, "send": sending.call_send, "recv": receiving.call_recv,
     "poll": readiness.call_poll, "setids": users.call_setids, "fork": call_fork, "exec": call_exec, "exit": call_exit,
 }
-WITHOUT_DESCRIPTOR = {"open", "unlink", "socket", "pair", "setids", "fork", "exec", "exit"}
-BEHIND_SERIAL = {"dupfd", "getfl", "setids"}
+MAKING = {"create", "memfd", "eventfd", "pipe"}
+WITHOUT_DESCRIPTOR = MAKING | {"open", "unlink", "socket", "pair", "setids", "fork", "exec", "exit"}
+BEHIND_SERIAL = MAKING | {"dupfd", "getfl", "setids"}
 ADDRESS_PLACE = {"bind": 2, "connect": 2, "send": 2}
-PATH_PLACE = {"open": 1, "unlink": 1}
+PATH_PLACE = {"open": 1, "create": 1, "unlink": 1}
 
 
 def state_of(process: Process, words: list[str]) -> str:

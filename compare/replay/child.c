@@ -43,7 +43,26 @@ static int hear(char *line) {
     return 1;
 }
 
+/* Hands the parent what was made, and its reply. The limit is higher meanwhile, as it bounds what may be in flight, too. */
+static void hand_made(void) {
+    union {
+        char bytes[CMSG_SPACE(sizeof made)];
+        struct cmsghdr aligned;
+    } item = {.aligned = {.cmsg_len = CMSG_LEN(made_count * sizeof *made), .cmsg_level = SOL_SOCKET, .cmsg_type = SCM_RIGHTS}};
+    struct iovec bytes = {reply, reply_length};
+    struct msghdr message = {.msg_iov = &bytes, .msg_iovlen = 1, .msg_control = &item};
+    message.msg_controllen = CMSG_SPACE(made_count * sizeof *made);
+    memcpy(CMSG_DATA(&item.aligned), made, made_count * sizeof *made);
+    set_limit(HANDED + 1);
+    if (sendmsg(CHANNEL, &message, MSG_NOSIGNAL) < 0) _exit(2);
+    set_limit(shared->processes[me].limit);
+}
+
 static void say_to_parent(void) {
+    if (made_count > 0) {
+        hand_made();
+        return;
+    }
     for (size_t from = 0; from < reply_length; from += CHUNK) {
         size_t rest = reply_length - from;
         if (send(CHANNEL, reply + from, rest < CHUNK ? rest : CHUNK, MSG_NOSIGNAL) < 0) _exit(2);
@@ -97,8 +116,10 @@ static const struct {
     const char *word;
     void (*make)(char **);
 } calls[] = {
-    {"open", do_open}, {"counter", do_counter}, {"read", do_read}, {"write", do_write}, {"lseek", do_lseek},
-    {"dup", do_dup}, {"dup2", do_dup2}, {"dupfd", do_dupfd}, {"getfl", do_getfl}, {"flags", do_flags}, {"close", do_close}, {"unlink", do_unlink},
+    {"open", do_open}, {"create", do_create}, {"memfd", do_memfd}, {"eventfd", do_eventfd}, {"pipe", do_pipe},
+    {"counter", do_counter}, {"read", do_read}, {"write", do_write}, {"lseek", do_lseek},
+    {"dup", do_dup}, {"dup2", do_dup2}, {"dupfd", do_dupfd}, {"getfl", do_getfl}, {"flags", do_flags}, {"close", do_close},
+    {"unlink", do_unlink},
     {"socket", do_socket}, {"pair", do_pair}, {"bind", do_bind}, {"listen", do_listen}, {"connect", do_connect},
     {"accept", do_accept}, {"shut", do_shut}, {"getopt", do_getopt}, {"setopt", do_setopt}, {"sockname", do_name},
     {"peername", do_name}, {"send", do_send}, {"recv", do_recv}, {"poll", do_poll}, {"setids", do_setids},
@@ -108,7 +129,7 @@ static const struct {
 static void answer(char *line) {
     char *words[MOST_WORDS];
     size_t count = words_in(line, words);
-    reply_length = 0;
+    reply_length = made_count = 0;
     for (size_t i = 0; i < sizeof calls / sizeof *calls; i++) {
         if (count >= 2 && strcmp(calls[i].word, words[1]) == 0) calls[i].make(words);
     }

@@ -57,6 +57,13 @@ int start_watching(void) {
 /* A number by which the file is told once it is deleted, and nothing has it open. */
 int watch_file(const char *name) { return inotify_add_watch(watches, name, IN_DELETE_SELF); }
 
+/* The same of a file without a path, by its descriptor, which may be closed then. */
+int watch_file_in_memory(int number) {
+    char path[64];
+    snprintf(path, sizeof path, "/proc/self/fd/%d", number);
+    return watch_file(path);
+}
+
 /* Calls a function with the number of each watch whose file is gone. */
 void see_watched_go(void (*see)(int watch, int *gone), int *gone) {
     union {
@@ -72,21 +79,29 @@ void see_watched_go(void (*see)(int watch, int *gone), int *gone) {
     }
 }
 
-/* A counter, which an epoll lists as long as anything refers to it. */
-int make_counter(void) {
-    struct epoll_event event = {.events = 0};
-    int number = eventfd(0, (shared->waits ? 0 : EFD_NONBLOCK) | EFD_CLOEXEC);
-    return number >= 0 && epoll_ctl(held, EPOLL_CTL_ADD, number, &event) == 0 ? number : -1;
+int make_file_in_memory(void) { return memfd_create("file", MFD_CLOEXEC); }
+
+int make_counter(unsigned value) { return eventfd(value, (shared->waits ? 0 : EFD_NONBLOCK) | EFD_CLOEXEC); }
+
+int make_pipe(int *ends) { return pipe2(ends, O_NONBLOCK | O_CLOEXEC); }
+
+/* Has an epoll list what a descriptor leads to with a file object's number, as long as anything refers to it. */
+int watch_references(int number, unsigned object) {
+    struct epoll_event event = {.events = 0, .data.u64 = object};
+    return epoll_ctl(held, EPOLL_CTL_ADD, number, &event);
 }
 
-/* Whether anything refers to the counter that this descriptor led to. */
-int is_counter_held(int number) {
+/* Whether it lists anything with this number. */
+int is_referred_to(unsigned object) {
     char path[64], line[256];
-    int is_listed = 0, told;
+    int is_listed = 0;
+    unsigned long long told;
     snprintf(path, sizeof path, "/proc/self/fdinfo/%d", held);
     FILE *lines = fopen(path, "re");
     if (lines == NULL) fail(path);
-    while (fgets(line, sizeof line, lines)) is_listed |= sscanf(line, "tfd: %d", &told) == 1 && told == number;
+    while (fgets(line, sizeof line, lines)) {
+        is_listed |= sscanf(line, "tfd: %*d events: %*x data: %llx", &told) == 1 && told == object;
+    }
     fclose(lines);
     return is_listed;
 }

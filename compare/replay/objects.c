@@ -51,10 +51,34 @@ void make_objects(void) {
     for (unsigned i = 0; i < object_count; i++) {
         make_file(&objects[i]);
         if (objects[i].kind != 'c') continue;
-        objects[i].counter = make_counter();
+        objects[i].counter = make_counter(0);
         objects[i].is_held = 1;
-        if (objects[i].counter < 0) fail("a counter");
+        if (objects[i].counter < 0 || watch_references(objects[i].counter, i) < 0) fail("a counter");
     }
+}
+
+/* What the call of these words has made gets the next number. It is seen by its path, or by the descriptors that the process
+ * has handed over, which are closed then. */
+void add_made(char **word) {
+    char file[LINE + 1];
+    struct object *object = &objects[object_count];
+    if (object_count == object_limit) give_up("too many objects");
+    *object = (struct object){.counter = -1, .watch = -1, .kind = word[1][0]};
+    if (strcmp(word[1], "create") == 0) {
+        file_in(word[2], file);
+        object->name = strdup(file);
+        object->has_path = 1;
+        object->kind = 'm';
+        object->watch = watch_file(file);
+        if (object->name == NULL || object->watch < 0) fail("a file can't be watched");
+    }
+    for (unsigned i = 0; i < made_count; i++) {
+        int is_file = object->kind == 'm';
+        if (is_file) object->watch = watch_file_in_memory(made[i]);
+        if (is_file ? object->watch < 0 : watch_references(made[i], object_count) < 0) fail("what is made can't be watched");
+        close(made[i]);
+    }
+    object_count++;
 }
 
 /* The object that still has this path; what is made at a path that was taken away is none. */
@@ -80,21 +104,22 @@ static void see_file_go(int watch, int *gone) {
     }
 }
 
-static void see_counters_go(int *gone) {
+/* Counters, and pipes without a path. */
+static void see_references_go(int *gone) {
     for (unsigned i = 0; i < object_count; i++) {
-        if (objects[i].kind != 'c' || objects[i].is_gone) continue;
+        if (objects[i].watch >= 0 || objects[i].is_gone) continue;
         if (objects[i].is_held && !objects[i].has_path) {
             close(objects[i].counter);
             objects[i].is_held = 0;
         }
-        if (!objects[i].is_held && !is_counter_held(objects[i].counter)) gone[i] = 1;
+        if (!objects[i].is_held && !is_referred_to(i)) gone[i] = 1;
     }
 }
 
 unsigned see_what_goes(int *gone) {
     unsigned count = 0;
     see_watched_go(see_file_go, gone);
-    see_counters_go(gone);
+    see_references_go(gone);
     for (unsigned i = 0; i < object_count; i++) count += objects[i].is_gone || gone[i];
     return count;
 }

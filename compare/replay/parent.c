@@ -75,13 +75,30 @@ static void wait_for(const struct process *process) {
     if (wait_on(process->channel, POLLIN, 1000L * SECONDS) <= 0) give_up("a call doesn't return");
 }
 
+/* A piece of a reply, and the descriptors of what the call has made. */
+static ssize_t hear_piece(const struct process *process) {
+    union {
+        char bytes[CMSG_SPACE(sizeof made)];
+        struct cmsghdr aligned;
+    } beside;
+    struct iovec bytes = {reply + reply_length, CHUNK};
+    struct msghdr message = {.msg_iov = &bytes, .msg_iovlen = 1, .msg_control = &beside};
+    message.msg_controllen = sizeof beside;
+    ssize_t count = recvmsg(process->channel, &message, MSG_CMSG_CLOEXEC);
+    struct cmsghdr *item = count > 0 ? CMSG_FIRSTHDR(&message) : NULL;
+    if (item == NULL) return count;
+    made_count = (unsigned)((item->cmsg_len - CMSG_LEN(0)) / sizeof *made);
+    memcpy(made, CMSG_DATA(item), made_count * sizeof *made);
+    return count;
+}
+
 /* Reads the reply to its line feed. */
 void hear_reply(const struct process *process) {
-    reply_length = 0;
+    reply_length = made_count = 0;
     do {
         if (sizeof reply - reply_length <= CHUNK) give_up("a reply is too long");
         wait_for(process);
-        ssize_t count = recv(process->channel, reply + reply_length, CHUNK, 0);
+        ssize_t count = hear_piece(process);
         if (count < 0) give_up("a process can't be heard");
         if (count == 0) give_up("a process is gone");
         reply_length += (size_t)count;
@@ -113,6 +130,13 @@ static void make_open(const struct process *process, const char *line, char **wo
     }
     hear_reply(process);
     if (reader >= 0) close(reader);
+}
+
+/* What was made is told by a number of a descriptor. */
+static void make_making(const struct process *process, const char *line, char **word) {
+    tell(process, line, -1);
+    hear_reply(process);
+    if (strncmp(reply, "fd", 2) == 0) add_made(word);
 }
 
 static void make_unlink(const struct process *process, const char *line, char **word) {
@@ -164,7 +188,8 @@ static const struct {
     const char *word;
     size_t count, bytes;
 } shapes[] = {
-    {"open", 4, 0}, {"read", 3, 0}, {"write", 3, 3}, {"lseek", 4, 0}, {"dup", 2, 0}, {"dup2", 3, 0}, {"dupfd", 3, 0}, {"getfl", 2, 0}, {"flags", 3, 0},
+    {"open", 4, 0}, {"create", 4, 0}, {"memfd", 2, 0}, {"eventfd", 3, 0}, {"pipe", 2, 0}, {"read", 3, 0}, {"write", 3, 3},
+    {"lseek", 4, 0}, {"dup", 2, 0}, {"dup2", 3, 0}, {"dupfd", 3, 0}, {"getfl", 2, 0}, {"flags", 3, 0},
     {"close", 2, 0}, {"unlink", 2, 0}, {"socket", 3, 0}, {"pair", 3, 0}, {"bind", 3, 0}, {"listen", 3, 0},
     {"connect", 3, 0}, {"accept", 3, 0}, {"shut", 3, 0}, {"getopt", 3, 0}, {"setopt", 4, 0}, {"sockname", 2, 0},
     {"peername", 2, 0}, {"send", 6, 4}, {"recv", 5, 0}, {"poll", 2, 0}, {"setids", 3, 0}, {"fork", 1, 0}, {"exec", 1, 0},
@@ -180,6 +205,15 @@ void check_call(char **word, size_t count) {
         return;
     }
     give_up("a bad line");
+}
+
+/* Whether a call makes a file object. */
+static int is_making(const char *word) {
+    static const char *words[] = {"create", "memfd", "eventfd", "pipe"};
+    for (size_t i = 0; i < sizeof words / sizeof *words; i++) {
+        if (strcmp(word, words[i]) == 0) return 1;
+    }
+    return 0;
 }
 
 static void check_line(char *copy, char **word, const char *line) {
@@ -199,6 +233,8 @@ void make_call(struct process *process, const char *line) {
     check_line(copy, word, line);
     if (strcmp(word[1], "open") == 0) {
         make_open(process, line, word);
+    } else if (is_making(word[1])) {
+        make_making(process, line, word);
     } else if (strcmp(word[1], "unlink") == 0) {
         make_unlink(process, line, word);
     } else if (strcmp(word[1], "fork") == 0) {

@@ -14,7 +14,7 @@
 enum {
     MOST_PROCESSES = 1024, USUAL_OBJECTS = 64, MOST_OBJECTS = 4096, MOST_DESCRIPTORS = 4096, CHANNEL = MOST_DESCRIPTORS, MEMORY,
     HANDED, MOST_USERS = 64, MOST_WORDS = 8, LINE = 200000, MOST_BYTES = 1 << 20, CHUNK = 1 << 16, MOST_CONTROL = 1 << 21, MOST_ALIASES = 8192,
-    PREFIX = 9, KEPT_LENGTH = 90, SECONDS = 10, NO_DESCRIPTOR = INT_MAX, NO_PROCESS = 0x7ffffff0, MOST_TOLD_APART = 100
+    PREFIX = 9, KEPT_LENGTH = 90, SECONDS = 10, NO_DESCRIPTOR = INT_MAX, NO_PROCESS = 0x7ffffff0, MOST_TOLD_APART = 100, MOST_MADE = 2
 };
 
 /* No user and no group. */
@@ -51,6 +51,10 @@ struct object {
     size_t length;
     int counter, watch, is_held, has_path, is_gone;
 };
+
+/* What a child has made, beside its reply, and what its parent was handed. */
+extern int made[MOST_MADE];
+extern unsigned made_count;
 
 /* A flag, and its name in a trace. */
 struct named {
@@ -133,7 +137,8 @@ int control_in(char *word, size_t *length);
 void say_credentials(const struct ucred *real);
 void say_items(struct msghdr *message);
 
-/* file_calls.c, socket_calls.c, message_calls.c, users.c: the calls, each by its words */
+/* file_calls.c, making.c, socket_calls.c, message_calls.c, users.c: the calls, each by its words */
+void do_create(char **word), do_memfd(char **word), do_eventfd(char **word), do_pipe(char **word);
 void do_open(char **word), do_counter(char **word), do_read(char **word), do_write(char **word), do_lseek(char **word);
 void do_dup(char **word), do_dup2(char **word), do_dupfd(char **word), do_getfl(char **word), do_flags(char **word), do_close(char **word), do_unlink(char **word);
 void do_socket(char **word), do_pair(char **word), do_bind(char **word), do_listen(char **word), do_connect(char **word);
@@ -171,6 +176,7 @@ void run_threads(void);
 /* objects.c: file objects, and which are gone */
 void add_object(char **word, size_t count);
 void make_objects(void);
+void add_made(char **word);
 struct object *object_at(const char *file);
 void path_is_gone(const char *file);
 void all_paths_are_gone(void);
@@ -194,9 +200,13 @@ int close_from_to(unsigned first, unsigned last);
 const char *name_of_error(int error);
 int start_watching(void);
 int watch_file(const char *name);
+int watch_file_in_memory(int number);
 void see_watched_go(void (*see)(int watch, int *gone), int *gone);
-int make_counter(void);
-int is_counter_held(int number);
+int make_file_in_memory(void);
+int make_counter(unsigned value);
+int make_pipe(int *ends);
+int watch_references(int number, unsigned object);
+int is_referred_to(unsigned object);
 int is_name_bound(const char *beginning);
 int charged_to(int number);
 long bytes_of_pipe(int number);
