@@ -4,11 +4,12 @@ import struct
 from reading.words import Text, after, flags_of, number_of, shown
 from .descriptors import note_of
 from .contents import hexadecimal, sayable
-from .model import Description, Kind
+from .model import Description, Kind, Role
 from .notes import inode_of
-from .sockets import two_numbers
-from .world import says
+from .sockets import make_two, two_numbers
+from .world import HIGHEST, says
 
+ACCESS = {"O_RDONLY": "r", "O_WRONLY": "w", "O_RDWR": "rw"}
 WHENCES = {"SEEK_SET": "set", "SEEK_CUR": "cur", "SEEK_END": "end"}
 
 
@@ -28,23 +29,58 @@ def say_open(world, block, process, args, result):
     at = block.call.name in ("openat", "openat2")
     folder = folder_of(process, args[0]) if at else process.folder
     path = path_of(args[1] if at else args[0])
+    how = args[2] if at else args[1] if block.call.name == "open" else "O_WRONLY"
+    flags = flags_of(how["flags"]) if isinstance(how, dict) else flags_of(how)
     if result.error:
-        word = world.names.known(folder, path)
-        if word and result.error == "ENXIO" and world.names.bound[word] is not None:
-            world.step(block, process.seat, f"open {word} r -", f"err {result.error}")
-        else:
-            block.leave_out("open that failed")
+        say_refused_open(world, block, process, world.names.known(folder, path), flags, result.error)
         return
     if result.value is None:
         block.leave_out("open without an answer")
         return
-    how = args[2] if at else args[1] if block.call.name == "open" else "O_WRONLY"
-    flags = flags_of(how["flags"]) if isinstance(how, dict) else flags_of(how)
     name = shown(path) or result.note or "a file that the log doesn't name"
     description = Description(Kind.OPAQUE, f"opened {name}", "O_NONBLOCK" in flags, "O_APPEND" in flags)
     description.inode = result.note or name
-    world.make(block, process, result.value, description, "O_CLOEXEC" in flags)
-    block.otherwise("a file as an opaque object")
+    is_said = process.seat is not None and result.value <= HIGHEST
+    words = opening(world, block, process, (folder, path), flags) if is_said else None
+    if words:
+        words += " " + world.letters(description, "O_CLOEXEC" in flags)
+    else:
+        block.otherwise("a file as an opaque object")
+    world.make(block, process, result.value, description, "O_CLOEXEC" in flags, words)
+
+
+def say_refused_open(world, block, process, word, flags, error):
+    """An open that failed is said where the layer knows why: a socket's path, or one that is there already."""
+    if word and error == "ENXIO" and world.names.bound[word] is not None:
+        world.step(block, process.seat, f"open {word} r -", f"err {error}")
+    elif word and error == "EEXIST":
+        world.step(block, process.seat, f"create {word} {access_of(flags)} -", f"err {error}")
+    else:
+        block.leave_out("open that failed")
+
+
+def access_of(flags):
+    """The mode of an open as a script writes it; O_RDONLY is 0, and needn't be told."""
+    return next((ACCESS[flag] for flag in flags if flag in ACCESS), "r")
+
+
+def opening(world, block, process, place, flags):
+    """The call of an open that creates a file, or of a file that was created so, up to its flags; None of another."""
+    word = world.names.known(*place)
+    if world.makes_objects and {"O_CREAT", "O_EXCL"} <= flags and place[1]:
+        if word:
+            forget_path(world, block, process, place)
+        world.made_count += 1
+        return f"create {world.names.create(*place)} {access_of(flags)}"
+    return f"open {word} {access_of(flags)}" if word in world.names.created and "O_PATH" not in flags else None
+
+
+def forget_path(world, block, process, place):
+    """A path at which the log creates a file anew was taken away by what it doesn't show."""
+    word = world.names.unlink(*place)
+    if word:
+        world.step(block, process.seat, f"unlink {word}", None, role=Role.MOVE)
+    world.notes["a path that the log doesn't show taken away"] += 1
 
 
 @says("pipe", "pipe2")
@@ -55,8 +91,14 @@ def say_pipe(world, block, process, args, result):
     ends = two_numbers(process, args[0])
     flags = flags_of(args[1]) if len(args) > 1 else set()
     on_exec = "O_CLOEXEC" in flags
-    thing = None if "O_DIRECT" in flags else pipe_thing(world, block, process)
     numbers = [number_of(end) for end in ends]
+    if world.makes_objects and "O_DIRECT" not in flags:
+        thing = world.made_thing(Kind.PIPE)
+        made = [Description(Kind.PIPE, f"the {word} end of a pipe", "O_NONBLOCK" in flags, inode=inode_of(note_of(end)), thing=thing)
+                for end, word in zip(ends, ("reading", "writing"))]
+        make_two(world, block, process, "pipe", made, numbers, on_exec)
+        return
+    thing = None if "O_DIRECT" in flags else pipe_thing(world, block, process)
     block.otherwise("two opens of an object")
     made = []
     for end, word in zip(ends, ("reading", "writing")):
@@ -91,11 +133,16 @@ def say_eventfd(world, block, process, args, result):
         return
     flags = flags_of(args[1]) if len(args) > 1 else set()
     start = number_of(args[0], 0)
-    thing = None if "EFD_SEMAPHORE" in flags else world.thing(Kind.COUNTER)
+    on_exec = "EFD_CLOEXEC" in flags
+    makes = world.makes_objects and "EFD_SEMAPHORE" not in flags
+    thing = world.made_thing(Kind.COUNTER) if makes else None if "EFD_SEMAPHORE" in flags else world.thing(Kind.COUNTER)
     description = Description(Kind.COUNTER if thing else Kind.OPAQUE, "a counter", "EFD_NONBLOCK" in flags,
                               inode=result.note or "anon_inode:[eventfd]", thing=thing)
-    words = f"open {thing.name} rw {world.letters(description, 'EFD_CLOEXEC' in flags)}" if thing else None
-    world.make(block, process, result.value, description, "EFD_CLOEXEC" in flags, words)
+    letters = world.letters(description, on_exec)
+    if makes:
+        world.make(block, process, result.value, description, on_exec, f"eventfd {start} {letters}")
+        return
+    world.make(block, process, result.value, description, on_exec, f"open {thing.name} rw {letters}" if thing else None)
     if thing and start:
         world.step(block, process.seat, f"write {result.value} {hexadecimal(struct.pack('<Q', start))}")
     block.otherwise("an open of an object" if thing else "an opaque object")
@@ -108,10 +155,13 @@ def say_memfd(world, block, process, args, result):
     if result.error:
         block.leave_out("memfd_create that failed")
         return
-    thing = world.thing(Kind.MEMORY)
+    thing = world.made_thing(Kind.MEMORY) if world.makes_objects else world.thing(Kind.MEMORY)
     on_exec = "MFD_CLOEXEC" in flags_of(args[1])
     description = Description(Kind.MEMORY if thing else Kind.OPAQUE, f"memory {shown(path_of(args[0]))}",
                               inode=result.note, thing=thing)
+    if world.makes_objects:
+        world.make(block, process, result.value, description, on_exec, f"memfd {'x' if on_exec else '-'}")
+        return
     words = f"open {thing.name} rw {'x' if on_exec else '-'}" if thing else None
     world.make(block, process, result.value, description, on_exec, words)
     block.otherwise("an open of an object" if thing else "an opaque object")
@@ -155,12 +205,12 @@ def say_unlink(world, block, process, args, result):
     if result.error or word is None:
         block.leave_out("unlink of another file, or that failed")
         return
-    block.unix = True
+    block.unix = word not in world.names.created
     word = world.names.unlink(folder, path)
     if word:
         world.step(block, process.seat, f"unlink {word}", "ok")
     else:
-        block.otherwise("one of two paths of a socket")
+        block.otherwise("one of two paths of a socket or a file")
 
 
 @says("rename", "renameat", "renameat2")
@@ -168,14 +218,15 @@ def say_rename(world, block, process, args, result):
     short = block.call.name == "rename"
     old_folder, new_folder = (process.folder, process.folder) if short else (folder_of(process, args[0]), folder_of(process, args[2]))
     old, new = path_of(args[0 if short else 1]), path_of(args[1 if short else 3])
-    if result.error or world.names.known(old_folder, old) is None:
+    word = world.names.known(old_folder, old)
+    if result.error or word is None and world.names.known(new_folder, new) is None:
         block.leave_out("rename of another file, or that failed")
         return
-    block.unix = True
+    block.unix = not {word, world.names.known(new_folder, new)} <= {None, *world.names.created}
     over = world.names.rename(old_folder, old, new_folder, new)
     if over:
         world.step(block, process.seat, f"unlink {over}", "ok")
-    block.otherwise("a renamed socket keeps its name in the script")
+    block.otherwise("what is renamed keeps its name in the script")
 
 
 @says("link", "linkat")
@@ -184,7 +235,7 @@ def say_link(world, block, process, args, result):
     old_folder, new_folder = (process.folder, process.folder) if short else (folder_of(process, args[0]), folder_of(process, args[2]))
     old, new = path_of(args[0 if short else 1]), path_of(args[1 if short else 3])
     if not result.error and world.names.link(old_folder, old, new_folder, new):
-        block.otherwise("a second path of a socket is another name of it")
+        block.otherwise("a second path of a socket or a file is another name of it")
     else:
         block.leave_out("link of another file, or that failed")
 

@@ -76,7 +76,7 @@ MESSAGE_COST = 768
 
 @dataclass(slots=True, eq=False)
 class Thing:
-    """A file object of the layer that a log makes at run time: its name, and why its contents aren't known, if so."""
+    """A file object of the layer that a log makes at run time: its name if the header has it, and why its contents aren't known, if so."""
     name: str
     kind: Kind
     unknown: str = ""

@@ -1,4 +1,4 @@
-"""Names of sockets: a log's paths and abstract names become a script's, whatever folder they were given in."""
+"""Names of sockets and files: a log's paths and abstract names become a script's, whatever folder they were given in."""
 import posixpath
 
 LONGEST = 107
@@ -18,6 +18,7 @@ class Names:
         self.used = set()
         self.bound = {}
         self.files = []
+        self.created = set()
         self.automatic = {}
 
     def canonical(self, folder, path):
@@ -41,7 +42,7 @@ class Names:
         return word
 
     def known(self, folder, path):
-        """The word of a path that a socket was bound to and that is still there, or None."""
+        """The word of a path that a socket was bound to, or at which a file was created, and that is still there, or None."""
         word = self.aliases.get(self.canonical(folder, path))
         return word if word in self.bound else None
 
@@ -51,8 +52,15 @@ class Names:
         self.bound[word] = description
         return word
 
+    def create(self, folder, path):
+        """The word of a path at which a file was created."""
+        word = self.word_of_path(folder, path)
+        self.bound[word] = None
+        self.created.add(word)
+        return word
+
     def unlink(self, folder, path):
-        """The word to unlink, or None where no socket is at the path or another path leads to it still."""
+        """The word to unlink, or None where nothing is known at the path or another path leads to it still."""
         whole = self.canonical(folder, path)
         word = self.aliases.get(whole)
         if word not in self.bound:
@@ -62,21 +70,23 @@ class Names:
             return None
         del self.bound[word]
         self.used.discard(word)
+        self.created.discard(word)
         return word
 
     def rename(self, old_folder, old, new_folder, new):
-        """Moves a path; the answer is the word of a socket that was at the new one, or None."""
+        """Moves a path; the answer is the word of what is known to have been at the new one, or None."""
         source, target = self.canonical(old_folder, old), self.canonical(new_folder, new)
-        word = self.aliases.get(source)
-        if word not in self.bound or source == target:
+        if source == target:
             return None
+        word = self.aliases.get(source)
         over = self.unlink(new_folder, new)
-        del self.aliases[source]
-        self.aliases[target] = word
+        if word in self.bound:
+            del self.aliases[source]
+            self.aliases[target] = word
         return over
 
     def link(self, old_folder, old, new_folder, new):
-        """A further path for a socket; the answer is whether there is one."""
+        """A further path for a socket or a file; the answer is whether one is known."""
         word = self.known(old_folder, old)
         if word:
             self.aliases[self.canonical(new_folder, new)] = word

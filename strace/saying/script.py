@@ -34,7 +34,7 @@ class Script:
 def header_of(world):
     objects = [f"object {OUTSIDE} mem -"]
     objects += [f"object {thing.name} {thing.kind.value}{' -' if thing.kind.value == 'mem' else ''}" for thing in world.things]
-    room = MOST_OBJECTS - len(objects)
+    room = MOST_OBJECTS - len(objects) - world.made_count
     objects += [f"object {word} mem -" for word in dict.fromkeys(world.names.files[:room])]
     lines = ["serial", *objects]
     seats = [seat for seat in world.seats if not seat.forked]

@@ -126,6 +126,9 @@ def two_numbers(process, value):
 
 def make_two(world, block, process, words, made, numbers, on_exec):
     """A call that gives two numbers at once."""
+    for number in numbers:
+        if number in process.table:
+            world.gone(block, process, number)
     low = process.lowest()
     process.table[low] = Slot(made[0], on_exec)
     lower = [low, process.lowest()]

@@ -23,6 +23,7 @@ MOST_LOOKED_AT = 1000
 GIVES_NUMBERS = {**dict.fromkeys("""socket accept accept4 open openat openat2 creat dup fcntl ioctl eventfd eventfd2 memfd_create
 epoll_create epoll_create1 timerfd_create signalfd4 inotify_init inotify_init1 pidfd_open""".split()), "pipe": 0, "pipe2": 0,
                  "socketpair": 3}
+MAKERS = {"pipe", "pipe2", "eventfd", "eventfd2", "memfd_create"}
 SAYS = {}
 
 
@@ -58,6 +59,8 @@ class World:
         self.endings = {}
         self.automatic = {}
         self.object_count = 1
+        self.made_count = 0
+        self.makes_objects = True
         self.current = None
         self.in_flight = []
         self.executed = []
@@ -73,6 +76,8 @@ class World:
         """What is looked up in the whole log before its first call is said."""
         for end in self.log.ends:
             self.endings.setdefault(end.thread, []).append(end)
+        makers = sum(call.name in MAKERS or "O_EXCL" in call.text for call in self.log.calls)
+        self.makes_objects = makers + self.object_count <= MOST_OBJECTS
         self.plain = not any(NOTED.search(call.text) for call in self.log.calls[:MOST_LOOKED_AT])
         for call in self.log.calls:
             if ',@"' in call.text:
@@ -241,8 +246,13 @@ class World:
             found.description.what = found.description.what if found.description.kind is not Kind.OPAQUE else note
         return found
 
+    def made_thing(self, kind):
+        """A file object that a call of the script makes."""
+        self.made_count += 1
+        return Thing("", kind)
+
     def thing(self, kind):
-        """A new file object, or None where there are 4,096."""
+        """A file object of the header, of a log that makes more than a layer may have; None where there are as many."""
         if self.object_count >= MOST_OBJECTS:
             return None
         self.object_count += 1

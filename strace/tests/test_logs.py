@@ -96,17 +96,38 @@ class LargeSends(unittest.TestCase):
 
 
 class ManyObjects(unittest.TestCase):
-    """Each pipe that is open is a file object, up to the layer's limit, with one for what is opaque."""
+    """A log that makes more file objects than a layer may have, with one for what is opaque, has pipes from the start, which are
+    used again."""
+
+    def lines(self, count, closes=False):
+        """The script of a log that makes so many pipes, each of which it may close."""
+        ends = [(0, 1) if closes else (2 * number, 2 * number + 1) for number in range(count)]
+        log = "".join(f"9 1.{3 * number:04} pipe([{first}<pipe:[{number}]>, {second}<pipe:[{number}]>]) = 0\n"
+                      + (f"9 1.{3 * number + 1:04} close({first}<pipe:[{number}]>) = 0\n"
+                         f"9 1.{3 * number + 2:04} close({second}<pipe:[{number}]>) = 0\n" if closes else "")
+                      for number, (first, second) in enumerate(ends))
+        return shown(said(HEAD + log)[0]).splitlines()
 
     def pipes(self, count):
-        """The pipes of a script, of a log that makes so many, and the lines that open something opaque."""
-        log = "".join(f"9 1.{number:04} pipe([{2 * number}<pipe:[{number}]>, {2 * number + 1}<pipe:[{number}]>]) = 0\n"
-                      for number in range(count))
-        lines = shown(said(HEAD + log)[0]).splitlines()
+        """The pipes of the header of a log that makes so many, and the lines that open something opaque."""
+        lines = self.lines(count)
         return [line for line in lines if line.startswith("object p:~pipe")], [line for line in lines if " open p:~outside " in line]
 
     def test_more_than_64_pipes(self):
-        self.assertEqual(self.pipes(100), ([f"object p:~pipe{number} pipe" for number in range(100)], []))
+        lines = self.lines(100)
+        self.assertEqual((self.pipes(100), lines.count("1 pipe -"), lines[-2]), (([], []), 100, "# fds 198 199"))
+
+    def test_as_many_as_there_may_be_are_made(self):
+        with mock.patch("saying.world.MOST_OBJECTS", 4):
+            self.assertEqual(self.lines(3).count("1 pipe -"), 3)
+
+    def test_a_pipe_that_nobody_has_open_is_emptied_and_used_again(self):
+        with mock.patch("saying.world.MOST_OBJECTS", 2):
+            lines = self.lines(2, closes=True)
+        self.assertEqual([line for line in lines if not line.startswith("#")],
+                         ["serial", "object p:~outside mem -", "object p:~pipe0 pipe", "proc 1000 100 0 4096", "1 open p:~pipe0 r -",
+                          "1 open p:~pipe0 w -", "1 close 0", "1 close 1", "1 open p:~pipe0 r n", "1 read 0 1048576", "1 close 0",
+                          "1 open p:~pipe0 r -", "1 open p:~pipe0 w -", "1 close 0", "1 close 1"])
 
     def test_what_is_more_than_there_may_be_is_opaque(self):
         with mock.patch("saying.world.MOST_OBJECTS", 3):
