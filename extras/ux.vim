@@ -7,7 +7,7 @@ syntax match uxComment /^#.*$/
 syntax match uxExpected /^#= .*$/
 syntax match uxHeader /^\(serial\|object\|proc\|off\)\>/
 syntax match uxPid /^\d\+\ze / nextgroup=uxCall,uxWait skipwhite
-syntax match uxCall /\(open\|read\|write\|lseek\|dup2\?\|dupfd\|getfl\|flags\|close\|unlink\|socket\|pair\|bind\|listen\|connect\|accept\)\>/ contained
+syntax match uxCall /\(open\|create\|memfd\|eventfd\|pipe\|read\|write\|lseek\|dup2\?\|dupfd\|getfl\|flags\|close\|unlink\|socket\|pair\|bind\|listen\|connect\|accept\)\>/ contained
 syntax match uxCall /\(shut\|getopt\|setopt\|sockname\|peername\|send\|recv\|poll\|setids\|fork\|exec\|exit\)\>/ contained
 syntax match uxWait /wait\>/ contained
 syntax match uxName /\<[pa]:\S*/
