@@ -13,3 +13,9 @@ returns-in-Begun-clause-begun g c = λ _.
 
 pub returns-in_err-finish_trace-in-Whole-clause-begun : goal.returns-in_err-finish_trace-in-Whole-clause-begun
 returns-in_err-finish_trace-in-Whole-clause-begun g c = search (rules, c.in_err-finish_trace-in-Whole.ensures) depth 7 fits 3000
+
+pub returns-in_err-finish_trace-in-Whole-clause-beginning : goal.returns-in_err-finish_trace-in-Whole-clause-beginning
+returns-in_err-finish_trace-in-Whole-clause-beginning g c = search (rules, c.in_err-finish_trace-in-Whole.ensures) depth 7 fits 3000
+
+pub returns-in_err-entries-clause-fault : goal.returns-in_err-entries-clause-fault
+returns-in_err-entries-clause-fault g c = search (rules, c.in_err-entries.ensures) depth 7 fits 3000
