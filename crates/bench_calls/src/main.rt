@@ -238,13 +238,18 @@ fn measure_layers<R: Clock + Eprint>(rt: &R, alloc: Global) -> Result<()> {
 }
 
 /// How the program is called where it measures no times.
-const USAGE: &str = "bench_calls [names | step NAME TURNS | record NAME TURNS]";
+const USAGE: &str = "bench_calls [names | step NAME TURNS | record NAME TURNS | seats THREADS]";
 
-/// Prints the names of the kinds of calls, or makes the calls of one kind so many times over.
-fn make_asked<R: Clock + Print + Eprint + AllocGlobal>(rt: &R, words: &[String]) -> Result<()> {
+/// Prints the names of the kinds of calls, makes the calls of one kind so many times over, or exchanges by the
+/// seats of so many threads.
+fn make_asked<R: Threads + Wait + Clock + Print + Eprint + AllocGlobal + Sync>(
+    rt: &R,
+    words: &[String],
+) -> Result<()> {
     let [layer, name, turns] = words else {
         return match words {
             [word] if word.as_str() == "names" => print_names(rt),
+            [word, threads] if word.as_str() == "seats" => exchange_by_seats(rt, threads.as_str()),
             _ => Err(anyhow!("{USAGE}")),
         };
     };
@@ -262,6 +267,18 @@ fn make_asked<R: Clock + Print + Eprint + AllocGlobal>(rt: &R, words: &[String])
         ),
         _ => Err(anyhow!("{USAGE}")),
     }
+}
+
+/// Makes exchanges by the seats of so many threads, as they are measured.
+fn exchange_by_seats<R: Threads + Wait + Clock + AllocGlobal + Sync>(
+    rt: &R,
+    threads: &str,
+) -> Result<()> {
+    let Ok(threads) = threads.parse::<usize>() else {
+        return Err(anyhow!("{USAGE}"));
+    };
+    by_seats(rt, threads, Work::Apart)?;
+    Ok(())
 }
 
 fn main(rt: HostRuntime) -> Result<()> {
