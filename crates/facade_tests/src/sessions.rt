@@ -82,7 +82,7 @@ fn is_traced<R: Abort>(rt: &R, alloc: Global, history: &[Entry]) -> Result<(), F
     };
     let lines = text.as_str().bytes().filter(|byte| *byte == 10).count();
     assert_eq!(rt; lines, history.len());
-    assert!(rt; text.as_str().ends_with(" off = ok closed 1 2 3\n"));
+    assert!(rt; text.as_str().ends_with(" off = ok closed 1 2 3 4\n"));
     Ok(())
 }
 
