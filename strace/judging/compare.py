@@ -2,6 +2,7 @@
 import re
 from dataclasses import dataclass
 from enum import Enum
+from sys import intern
 
 from saying.script import numbered
 from .rules import Case, rule_of
@@ -46,10 +47,10 @@ class Judge:
         firsts = {str(seat.number): str(seat.process.first_seat.number) for seat in self.seats.values()}
         verdicts, past = [], []
         for step, line, reply in zip(script.steps, script.lines, trace.replies):
-            call = line.split(" ", 1)[1]
+            call = intern(line.split(" ", 1)[1])
             verdict = self.verdict(step, call, PERSON.sub(lambda found: found[1] + firsts.get(found[2], found[2]), reply), past)
             verdicts.append(verdict)
-            past.append(f"{call} = {reply}")
+            past.append(intern(f"{call} = {reply}"))
         return verdicts
 
     def verdict(self, step, call, ours, past):
@@ -60,7 +61,7 @@ class Judge:
             kernel = with_unasked(kernel, ours, step.asked)
         kernel = filled(kernel, ours, self.by_length)
         if ours == kernel:
-            return Verdict(step, call, ours, kernel, Outcome.AGREES)
+            return Verdict(step, call, ours, ours, Outcome.AGREES)
         rule = rule_of(self.rules, Case(step.state, call, ours, kernel, past))
         if rule is None:
             return Verdict(step, call, ours, kernel, Outcome.DIFFERS)

@@ -55,5 +55,5 @@ def read_trace(out, errors):
             _, process, number = head.split()
             trace.held.append(Held(int(process), int(number), [link.split() for link in chain.split("; ")]))
         elif line[:1].isdigit() and " = " in line:
-            trace.replies.append(line.split(" = ", 1)[1].split(" closed ")[0])
+            trace.replies.append(sys.intern(line.split(" = ", 1)[1].split(" closed ")[0]))
     return trace

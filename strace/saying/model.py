@@ -1,6 +1,7 @@
 """The types that a log is said in: descriptions, tables, processes, seats of the layer, and blocks of a script's lines."""
 from dataclasses import dataclass, field
 from enum import Enum
+from sys import intern
 
 
 WHOLE = 65536
@@ -161,6 +162,11 @@ class Step:
     block: object = None
     makes: dict = None
 
+    def __post_init__(self):
+        # A long log says the same words over and over: each text is kept once.
+        self.words = intern(self.words)
+        self.expect = self.expect and intern(self.expect)
+
 
 @dataclass(slots=True, eq=False)
 class Block:
@@ -178,16 +184,16 @@ class Block:
     unknown: str = ""
     snapshot: dict = None
     is_part: bool = False
-    concerns: set = field(default_factory=set)
-    following: list = field(default_factory=list)
+    concerns: tuple = ()
+    following: tuple = ()
 
     def concern(self, description):
         """Keeps what this call may depend on: a description, its peer and its object."""
-        self.concerns.update(id(one) for one in (description, description.peer, description.thing) if one is not None)
+        self.concerns += tuple(id(one) for one in (description, description.peer, description.thing) if one is not None)
 
     def is_related(self, other):
         """Whether two calls concern the same; a call without a description of its own may concern all."""
-        return not self.concerns or not other.concerns or not self.concerns.isdisjoint(other.concerns)
+        return not self.concerns or not other.concerns or not set(self.concerns).isdisjoint(other.concerns)
 
     def otherwise(self, why):
         """The call is said by other words."""

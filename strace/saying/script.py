@@ -1,6 +1,7 @@
 """Writes a script: the blocks in their order, the processes numbered, and the header that they need, `serial` first."""
 import re
 from dataclasses import dataclass
+from sys import intern
 
 from .world import MOST_OBJECTS, OUTSIDE
 
@@ -55,7 +56,7 @@ def write_script(world, blocks):
                 count += 1
                 child = by_key[int(MARK.search(step.expect)[1])]
                 child.number = count
-            lines.append(f"{step.seat.number} {numbered(step.words, by_key)}")
+            lines.append(intern(f"{step.seat.number} {numbered(step.words, by_key)}"))
             steps.append(step)
     return Script(header, lines, steps, by_key)
 

@@ -189,7 +189,7 @@ class World:
                       unix=block.unix, program=block.program, is_part=True) for place in range(1, count)]
         whole = [block, *made]
         for place, one in enumerate(whole):
-            one.following = whole[place + 1:]
+            one.following = tuple(whole[place + 1:])
         self.blocks += made
         return whole
 
