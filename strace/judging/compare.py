@@ -59,7 +59,8 @@ class Judge:
         kernel = numbered(step.expect, self.seats)
         if step.asked is not None:
             kernel = with_unasked(kernel, ours, step.asked)
-        kernel = filled(kernel, ours, self.by_length)
+        if ours != kernel:
+            kernel = filled(kernel, ours, self.by_length)
         if ours == kernel:
             return Verdict(step, call, ours, ours, Outcome.AGREES)
         rule = rule_of(self.rules, Case(step.state, call, ours, kernel, past))
