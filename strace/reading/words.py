@@ -7,7 +7,7 @@ class Unreadable(Exception):
     """A text that isn't what strace writes."""
 
 
-@dataclass(slots=True, frozen=True)
+@dataclass(slots=True)
 class Text:
     """A string: its bytes, whether strace cut it short, and whether it is an abstract name (written behind an @)."""
     data: bytes
@@ -15,14 +15,14 @@ class Text:
     abstract: bool = False
 
 
-@dataclass(slots=True, frozen=True)
+@dataclass(slots=True)
 class Descriptor:
     """A descriptor's number, with what strace's option -yy says that it leads to, or no text."""
     number: int
     note: str = ""
 
 
-@dataclass(slots=True, frozen=True)
+@dataclass(slots=True)
 class Change:
     """A value before and after a call, written `before => after`."""
     before: object
@@ -31,15 +31,24 @@ class Change:
 
 ESCAPE = re.compile(rb'\\(x[0-9a-fA-F]{1,2}|[0-7]{1,3}|.)', re.S)
 LETTERS = {b"n": b"\n", b"t": b"\t", b"r": b"\r", b"v": b"\v", b"f": b"\f"}
-NOTE = r'<((?:"(?:[^"\\]|\\.)*"|->|<[^<>]*>|[^<>"])*)>(?:\(deleted\))?'
+NOTE = r'<(?P<note>(?:"(?:[^"\\]|\\.)*"|->|<[^<>]*>|[^<>"])*)>(?:\(deleted\))?'
 DEVICE = re.compile(r"<(?:char|block) [^<>]*>$")
-BLANK = re.compile(r"(?:\s|/\*.*?\*/)+", re.S)
-STRING = re.compile(r'(@?)"((?:[^"\\]|\\.)*)"(\.\.\.)?', re.S)
-NUMBER = re.compile(r"(-?(?:0x[0-9a-fA-F]+|\d+))(?![\w|*.<])(?!\s*<<)")
-NOTED = re.compile(r"(-?\d+|AT_FDCWD)" + NOTE, re.S)
-WORD = re.compile(r"[^\s,\[\]{}()\"=<>|]+(?:(?:\||\s?<<\s?)[^\s,\[\]{}()\"=<>|]+)*\|?")
-ODD = re.compile(r"[^\s,\[\]{}()\"]+")
-KEY = re.compile(r"([A-Za-z_][\w.]*)=(?!>)")
+BLANK = r"(?:\s|/\*.*?\*/)*"
+PLAIN = r"[^\s,\[\]{}()\"=<>|]+"
+TOKEN = re.compile(BLANK.replace(r"\s", r"[\s,]") + rf"""(?:
+    (?P<end>[\])}}])
+    | (?P<noted>(?P<descriptor>-?\d+|AT_FDCWD){NOTE})
+    | (?P<number>-?(?:0x[0-9a-fA-F]+|\d+)(?![\w|*.<])(?!\s*<<))
+    | (?P<text>(?P<abstract>@?)"(?P<quoted>(?:[^"\\]|\\.)*)"(?P<cut>\.\.\.)?)
+    | (?P<more>\.\.\.)
+    | (?P<list>~?\[)
+    | (?P<structure>{{)
+    | (?P<key>[A-Za-z_][\w.]*)=(?!>)
+    | (?P<word>{PLAIN}(?:(?:\||\s?<<\s?){PLAIN})*\|?|[^\s,\[\]{{}}()"]+)
+    )""", re.S | re.X)
+NO_VALUE = re.compile(BLANK + r"(?:[,}\])]|$)", re.S)
+ARROW = re.compile(BLANK + "=>", re.S)
+BEHIND = frozenset(",)]}")
 MOST_NESTED = 40
 
 
@@ -59,44 +68,32 @@ def _escaped(match):
 
 
 class Reader:
-    """Reads one list of arguments from its opening bracket to its closing one. Each method is led by the next character."""
+    """Reads one list of arguments from its opening bracket to its closing one, token by token."""
 
     def __init__(self, text, at=0):
         self.text = text
         self.at = at
         self.depth = 0
 
-    def next(self):
-        """The next character that is neither blank nor of a comment, or no text at the end."""
-        text, at = self.text, self.at
-        mark = text[at:at + 1]
-        while mark and mark in " \t/":
-            if mark != "/":
-                self.at = at = at + 1
-            else:
-                found = BLANK.match(text, at)
-                if not found:
-                    break
-                self.at = at = found.end()
-            mark = text[at:at + 1]
-        return mark
+    def token(self):
+        """The next token; blanks, comments and commas are skipped, since commas may be missing, as in the sets of select(2)."""
+        found = TOKEN.match(self.text, self.at)
+        if not found:
+            raise Unreadable(f"'{self.text[self.at:self.at + 20]}' is no word")
+        self.at = found.end()
+        return found
 
     def sequence(self, end):
-        """Values up to a closing bracket; commas may be missing, as in the sets of select(2)."""
+        """Values up to a closing bracket."""
         self.depth += 1
         if self.depth > MOST_NESTED:
             raise Unreadable("brackets in too many others")
         values = []
-        while (mark := self.next()) != end:
-            if mark == "":
-                raise Unreadable(f"no {end}")
-            if mark == ",":
-                self.at += 1
-            elif mark == "." and self.text.startswith("...", self.at):
-                self.at += 3
-            else:
-                values.append(self.value(mark))
-        self.at += 1
+        while (found := self.token()).lastgroup != "end":
+            if found.lastgroup != "more":
+                values.append(self.value(found))
+        if found["end"] != end:
+            raise Unreadable(f"{found['end']} for {end}")
         self.depth -= 1
         return values
 
@@ -110,53 +107,44 @@ class Reader:
                 fields[place] = value
         return fields
 
-    def value(self, mark):
-        """The next value, which begins with this character, with the one that it changed to."""
-        before = self.single(mark)
-        if self.next() == "=" and self.text.startswith("=>", self.at):
-            self.at += 2
-            return Change(before, self.value(self.next()))
+    def value(self, found):
+        """The value that begins with this token, with the one that it changed to."""
+        kind = found.lastgroup
+        before = SIMPLE[kind](found) if kind in SIMPLE else self.nested(kind, found)
+        if self.text[self.at:self.at + 1] not in BEHIND:
+            arrow = ARROW.match(self.text, self.at)
+            if arrow:
+                self.at = arrow.end()
+                return Change(before, self.wanted())
         return before
 
-    def single(self, mark):
-        if mark == "~" and self.text.startswith("~[", self.at):
-            self.at += 1
-            mark = "["
-        if mark in BRACKETS:
-            self.at += 1
-            return self.sequence("]") if mark == "[" else self.structure()
-        for pattern, make in FIRST.get(mark, ()):
-            found = pattern.match(self.text, self.at)
-            if found:
-                self.at = found.end()
-                return make(found)
-        found = KEY.match(self.text, self.at)
-        if found:
-            self.at = found.end()
-            mark = self.next()
-            return (found[1], None if mark in ENDS else self.value(mark))
-        return self.word()
+    def wanted(self):
+        """The next value, which has to be there."""
+        if NO_VALUE.match(self.text, self.at):
+            raise Unreadable("no value")
+        return self.value(self.token())
 
-    def word(self):
-        """A symbol, or the call of a macro as htons(80), which stays a text."""
-        found = WORD.match(self.text, self.at) or ODD.match(self.text, self.at)
-        if not found:
-            raise Unreadable(f"'{self.text[self.at:self.at + 20]}' is no word")
-        self.at = found.end()
+    def nested(self, kind, found):
+        """A value that has others in it; a macro's call, as htons(80), stays a text."""
+        if kind == "list":
+            return self.sequence("]")
+        if kind == "structure":
+            return self.structure()
+        if kind == "key":
+            return (found[kind], None if NO_VALUE.match(self.text, self.at) else self.value(self.token()))
         if self.text.startswith("(", self.at):
             self.at += 1
-            inner = self.sequence(")")
-            return f"{found[0]}({', '.join(str(value) for value in inner)})"
-        return found[0]
+            return f"{found[kind]}({', '.join(str(value) for value in self.sequence(')'))})"
+        return found[kind]
 
 
 def _string(found):
-    return Text(unquote(found[2]), bool(found[3]), bool(found[1]))
+    return Text(unquote(found["quoted"]), bool(found["cut"]), bool(found["abstract"]))
 
 
 def _noted(found):
-    number = -100 if found[1] == "AT_FDCWD" else int(found[1])
-    return Descriptor(number, without_device(found[2]) + (" (deleted)" if found[0].endswith("(deleted)") else ""))
+    number = -100 if found["descriptor"] == "AT_FDCWD" else int(found["descriptor"])
+    return Descriptor(number, without_device(found["note"]) + (" (deleted)" if found["noted"].endswith("(deleted)") else ""))
 
 
 def without_device(note):
@@ -165,13 +153,11 @@ def without_device(note):
 
 
 def _number(found):
-    return int(found[1], 16 if "x" in found[1] else 10)
+    digits = found["number"]
+    return int(digits, 16 if "x" in digits else 10)
 
 
-BRACKETS = ("[", "{")
-ENDS = (",", "}", "]", ")", "")
-FIRST = {**dict.fromkeys('"@', ((STRING, _string),)), **dict.fromkeys("-0123456789", ((NOTED, _noted), (NUMBER, _number))),
-         "A": ((NOTED, _noted),)}
+SIMPLE = {"noted": _noted, "number": _number, "text": _string}
 
 
 def arguments(text):

@@ -17,9 +17,8 @@ class Kind(Enum):
     MEMORY = "mem"
     OPAQUE = "opaque"
 
-    @property
-    def is_socket(self):
-        return self in (Kind.STREAM, Kind.DATAGRAM, Kind.RECORDS)
+    def __init__(self, word):
+        self.is_socket = word in ("stream", "dgram", "seq")
 
 
 class How(Enum):
@@ -66,7 +65,7 @@ class Description:
         """What differences.txt calls the kind of a descriptor."""
         if not self.kind.is_socket:
             return self.kind.value if self.kind is not Kind.OPAQUE else "mem"
-        memory = sum(count + MESSAGE_COST for count in self.unread)
+        memory = sum(self.unread) + MESSAGE_COST * len(self.unread)
         filled = "/filled" if self.kind is Kind.STREAM and self.phase == "tied" and memory >= FILLED else ""
         return f"{self.kind.value}/{self.phase}{filled}"
 

@@ -28,15 +28,21 @@ def inode_of(note):
 
 def descriptors_in(value, plain=False):
     """All descriptors in a call's arguments; of a log without notes a bare number that comes first."""
+    found = []
+    _collect(value, plain, found)
+    return found
+
+
+def _collect(value, plain, found):
     if isinstance(value, Descriptor):
-        yield value
-    elif isinstance(value, Change):
-        yield from descriptors_in(value.before, plain)
-    elif isinstance(value, dict):
-        for one in value.values():
-            yield from descriptors_in(one, plain)
+        found.append(value)
     elif isinstance(value, (list, tuple)):
         if plain and value and isinstance(value[0], int):
-            yield Descriptor(value[0])
+            found.append(Descriptor(value[0]))
         for one in value:
-            yield from descriptors_in(one, plain)
+            _collect(one, plain, found)
+    elif isinstance(value, dict):
+        for one in value.values():
+            _collect(one, plain, found)
+    elif isinstance(value, Change):
+        _collect(value.before, plain, found)
