@@ -1,10 +1,10 @@
 //! Measures calls of a kernel, and of a book that keeps their history: with few and with many descriptors open,
-//! descriptions made before, names in use, and entries in the book. Then calls by seats: by 1, 2, 4 and 8 threads,
-//! none of which waits for another, over a book that keeps each call and over one that keeps none, and by two
-//! threads that wait for one another. The times go to standard error.
+//! descriptions made before, names in use, and entries in the book. Then calls by the seats of two threads that wait
+//! for one another. The times go to standard error.
 //!
 //! With arguments it makes the calls of one kind so many times over, for a counter of instructions
-//! (`bench/instructions`).
+//! (`bench/instructions`), or measures calls by the seats of so many threads, none of which waits for another, over a
+//! book that keeps each call and over one that keeps none.
 #![tactic(auto)]
 
 mod alone;
@@ -197,21 +197,10 @@ fn running_named<W: BookName + Send + Sync, R: Threads + Wait + Clock + AllocGlo
     time
 }
 
-/// How many threads make calls at once.
-const THREADS: [usize; 4] = [1, 2, 4, 8];
-
-/// Measures calls by seats, and the same calls by a book alone.
-fn measure_threads<R: Threads + Wait + Clock + Eprint + AllocGlobal + Sync>(rt: &R) -> Result<()> {
+/// Measures the same calls by a book alone, and by two threads that wait for one another.
+fn measure_turns<R: Threads + Wait + Clock + Eprint + AllocGlobal + Sync>(rt: &R) -> Result<()> {
     eprintln!(rt; "threads:")?;
     by_record(rt, rt.alloc(), Giving::Again, Measured::Exchange)?;
-    for threads in THREADS {
-        let turns = (TURNS as usize).saturating_mul(threads);
-        let kept = each(by_seats(rt, threads, Work::Apart)?, turns);
-        let unkept = each(by_running(rt, threads)?, turns);
-        let s = if threads == 1 { "" } else { "s" };
-        eprintln!(rt; "seat: send and receive, 1 byte, {threads} thread{s}: {kept} ns")?;
-        eprintln!(rt; "running: send and receive, 1 byte, {threads} thread{s}: {unkept} ns")?;
-    }
     let time = each(by_seats(rt, 2, Work::InTurns)?, TURNS as usize);
     eprintln!(rt; "seat: a byte to and fro between two threads: {time} ns")?;
     Ok(())
@@ -237,11 +226,11 @@ fn measure_layers<R: Clock + Eprint>(rt: &R, alloc: Global) -> Result<()> {
     Ok(())
 }
 
-/// How the program is called where it measures no times.
+/// How the program is called for a part of what it measures.
 const USAGE: &str = "bench_calls [names | step NAME TURNS | record NAME TURNS | seats THREADS]";
 
-/// Prints the names of the kinds of calls, makes the calls of one kind so many times over, or exchanges by the
-/// seats of so many threads.
+/// Prints the names of the kinds of calls, makes the calls of one kind so many times over, or measures exchanges by
+/// the seats of so many threads.
 fn make_asked<R: Threads + Wait + Clock + Print + Eprint + AllocGlobal + Sync>(
     rt: &R,
     words: &[String],
@@ -249,7 +238,7 @@ fn make_asked<R: Threads + Wait + Clock + Print + Eprint + AllocGlobal + Sync>(
     let [layer, name, turns] = words else {
         return match words {
             [word] if word.as_str() == "names" => print_names(rt),
-            [word, threads] if word.as_str() == "seats" => exchange_by_seats(rt, threads.as_str()),
+            [word, threads] if word.as_str() == "seats" => measure_threads(rt, threads.as_str()),
             _ => Err(anyhow!("{USAGE}")),
         };
     };
@@ -269,15 +258,21 @@ fn make_asked<R: Threads + Wait + Clock + Print + Eprint + AllocGlobal + Sync>(
     }
 }
 
-/// Makes exchanges by the seats of so many threads, as they are measured.
-fn exchange_by_seats<R: Threads + Wait + Clock + AllocGlobal + Sync>(
+/// Measures exchanges by the seats of so many threads at once. A process does so for one count of threads, as memory
+/// that it used before is faster.
+fn measure_threads<R: Threads + Wait + Clock + Eprint + AllocGlobal + Sync>(
     rt: &R,
     threads: &str,
 ) -> Result<()> {
     let Ok(threads) = threads.parse::<usize>() else {
         return Err(anyhow!("{USAGE}"));
     };
-    by_seats(rt, threads, Work::Apart)?;
+    let turns = (TURNS as usize).saturating_mul(threads);
+    let kept = each(by_seats(rt, threads, Work::Apart)?, turns);
+    let unkept = each(by_running(rt, threads)?, turns);
+    let s = if threads == 1 { "" } else { "s" };
+    eprintln!(rt; "seat: send and receive, 1 byte, {threads} thread{s}: {kept} ns")?;
+    eprintln!(rt; "running: send and receive, 1 byte, {threads} thread{s}: {unkept} ns")?;
     Ok(())
 }
 
@@ -287,7 +282,7 @@ fn main(rt: HostRuntime) -> Result<()> {
         return make_asked(&rt, &words[1..]);
     }
     measure_layers(&rt, rt.alloc())?;
-    measure_threads(&rt)?;
+    measure_turns(&rt)?;
     println!(rt; "done")?;
     Ok(())
 }

@@ -9,6 +9,7 @@ ghost use Rattle.ux_book.specs.Settling.{Exact, IsSettled, IsSettledWith, IsWhol
 use crate::seat::{Seat, make_seat};
 use crate::waiters::{Ticket, Waiters};
 use std::alloc::{AllocError, Global};
+use std::hint::spin_loop;
 use std::sync::{Arc, Condvar, Mutex, MutexGuard, OnceLock, Wait};
 use ux_book::{
     Account, Book, BookName, Entries, Keeper, Missing, NoMemory, Nothing, OffFault, Receipt, Share,
@@ -43,6 +44,18 @@ impl<W: BookName, O: FileObject, K: Keeper> Desk<W, O, K> {
     }
 }
 
+/// How long a thread waits between one look at the lock and the next, in pauses of the processor.
+const PAUSES: [u32; 8] = [16, 32, 64, 128, 256, 512, 1024, 2048];
+
+/// Waits without a system call.
+// A call, since the compiler would write out each pause in its place.
+#[inline(never)]
+fn pause(count: u32) {
+    for _ in 0..count {
+        spin_loop();
+    }
+}
+
 /// What all seats share. The place of the book is made first, so that a kernel comes back as it was where there is no
 /// memory for it; the book is put there once, before any seat is made.
 pub(crate) struct Shared<W: BookName, O: FileObject, K: Keeper> {
@@ -66,13 +79,20 @@ impl<W: BookName, O: FileObject, K: Keeper> Drop for Shared<W, O, K> {
 }
 
 impl<W: BookName, O: FileObject, K: Keeper> Shared<W, O, K> {
-    /// Takes the lock.
+    /// Takes the lock. Whoever has it needs it for less than a microsecond, and makes its next calls faster while what
+    /// they read stays in its processor's cache: so another looks ever less often, and then sleeps.
     pub(crate) fn lock<R: Wait>(&self, rt: &R) -> MutexGuard<'_, Desk<W, O, K>> {
         let Some(desk) = self.desk.get() else {
             // Nobody has a share of it before the book is there.
             for _ in rt.forever() {}
             unreachable!()
         };
+        for pauses in PAUSES {
+            if let Some(guard) = desk.try_lock() {
+                return guard;
+            }
+            pause(pauses);
+        }
         desk.lock(rt)
     }
 
