@@ -20,7 +20,8 @@ def quiet_moments(log, samples, most):
         if last >= 0 and busy[last][1] >= sample["begin"] - MARGIN or not sample["tables"]:
             continue
         line = line_before(log, sample["begin"])
-        if line not in seen:
+        # Before the first call strace follows a process of its own, to find out what the kernel can.
+        if line and line not in seen:
             seen.add(line)
             quiet.append((line, sample["tables"]))
     if len(quiet) <= most:

@@ -39,6 +39,9 @@ class Moments(unittest.TestCase):
         samples = [sample(100.005, 100.2), sample(100.6, 100.7), sample(101.05, 101.06), sample(101.2, 102.5), sample(103.0, 103.1)]
         self.assertEqual([line for line, _ in quiet_moments(log(), samples, 10)], [2, 4])
 
+    def test_before_the_first_call_is_no_moment(self):
+        self.assertEqual([line for line, _ in quiet_moments(log(), [sample(99.0, 99.1), sample(103.0, 103.1)], 10)], [4])
+
     def test_one_moment_of_those_with_the_same_calls_before_them(self):
         self.assertEqual(len(quiet_moments(log(), [sample(100.6, 100.61), sample(100.7, 100.71)], 10)), 1)
 

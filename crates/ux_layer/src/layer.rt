@@ -45,7 +45,7 @@ impl<W: BookName, O: FileObject, K: Keeper> Desk<W, O, K> {
 }
 
 /// How long a thread waits between one look at the lock and the next, in pauses of the processor.
-const PAUSES: [u32; 8] = [16, 32, 64, 128, 256, 512, 1024, 2048];
+const PAUSES: [u32; 8] = [128, 256, 512, 1024, 1024, 1024, 1024, 1024];
 
 /// Waits without a system call.
 // A call, since the compiler would write out each pause in its place.
