@@ -37,7 +37,7 @@ fn run<W: Write>(
     writer: &mut W,
     reported: &mut Reports,
 ) -> Result<Result<Followed, ScriptFault>, Fail> {
-    let mut source = LineSource::new(alloc, text);
+    let mut source = LineSource::new(text);
     let reader = read_header(alloc, &mut source, reported)?;
     let kernel = kernel_of(alloc, reader.script())?;
     Ok(follow(alloc, reader, &mut source, writer, reported, kernel))
@@ -177,7 +177,7 @@ fn a_read_that_fails_ends_the_run(rt: HostRuntime) -> Result<(), Fail> {
         text: String::new(alloc),
     };
     let buffer = io::BufReader::new(alloc, Torn(b"proc 0 0 1 4\n1 pair seq -\n"))?;
-    let mut source = LineSource::new(alloc, buffer);
+    let mut source = LineSource::new(buffer);
     let reader = read_header(alloc, &mut source, &mut reported)?;
     let kernel = kernel_of(alloc, reader.script())?;
     let mut written: Vec<u8> = Vec::new(alloc);

@@ -4,3 +4,4 @@ pub mod Echoing
 pub mod Answering
 pub mod JsonTexts
 pub mod Following
+pub mod Hearing

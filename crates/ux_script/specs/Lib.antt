@@ -4,3 +4,4 @@ pub mod Comparing
 pub mod JsonLines
 pub mod Following
 pub mod Objects
+pub mod Hearing

@@ -1,21 +1,24 @@
 //! A script that is run as it comes: each line is read, its call is made, and its line of the trace is written.
 
-ghost use Rattle.std.specs.Prelude.{◌≡◌, ◌≤◌, ◌⊎◌, [], true, length, map, take, IfOk, OnOk, IfErr, OnErr};
+ghost use Rattle.std.specs.Prelude.{◌≡◌, ◌≤◌, ◌⊎◌, [], true, false, length, map, take, IfSome, IfOk, OnOk, IfErr, OnErr};
 ghost use Rattle.std.specs.Io.KnownBytes.{Appends};
+ghost use Rattle.std.specs.Io.BufRead.{strip_last};
 ghost use Rattle.ux_model.specs.Boot.{IsBootState, new_process};
 ghost use Rattle.ux_model.specs.History.{IsLegal};
 ghost use Rattle.ux_syntax.specs.Spelling.{Plan, plan_of};
+ghost use Rattle.ux_syntax.specs.Reading.{no_lines};
 ghost use Rattle.ux_syntax.specs.Turns.{all_turns};
 ghost use Rattle.ux_syntax.specs.Joining.{is_begun, Continues};
 ghost use Rattle.ux_trace.specs.Trace.{trace};
 ghost use Rattle.ux_script.specs.Runs.{line_of_entry};
 ghost use Rattle.ux_script.specs.Following.{Follows, Prints, PrintsBeginning, Breaks, WritesFront, IsFollowFault};
+ghost use Rattle.ux_script.specs.Hearing.{heard_line, heard_rest, IsNextLine, HearsAll};
 
 use crate::run::{NoWatch, make_calls, make_rest};
 use crate::write::put_all;
 use std::alloc::Global;
 use std::io::{BufRead, Error, ErrorKind, Write};
-use std::marker::Brand;
+use std::marker::{Brand, Model};
 use ux_book::{BookName, CallFault, Serial, Trail};
 use ux_kernel::Kernel;
 use ux_object::FileObject;
@@ -35,22 +38,31 @@ pub trait Listener {
     fn left_out(&mut self, taken: &LineReader, text: &[u8], fault: &ScriptFault);
 }
 
-/// The lines of a reader, counted from 1.
+/// The lines of a reader, counted from 1. Contracts see the number of the last line that was read, and the bytes that are
+/// left, where the reader's are known.
 #[derive(Drop)]
-pub struct LineSource<R> {
+pub struct LineSource<R: BufRead> {
     source: R,
     number: usize,
-    text: Vec<u8>,
     failure: Option<Error>,
+}
+
+impl<R: BufRead> Model for LineSource<R> {
+    ghost use Rattle.ux_script.specs.Hearing.{Unread};
+
+    ghost Value = { Unread };
+
+    ghost view = { λ s. record { number = s.number; bytes = R.remaining s.source } };
 }
 
 impl<R: BufRead> LineSource<R> {
     /// The lines of this reader, none of which was read.
-    pub fn new(alloc: Global, source: R) -> LineSource<R> {
+    pub fn new(source: R) -> LineSource<R>
+        ensures { result ≡ record { number = 0; bytes = R.remaining source } }
+    {
         LineSource {
             source,
             number: 0,
-            text: Vec::new(alloc),
             failure: None,
         }
     }
@@ -60,12 +72,20 @@ impl<R: BufRead> LineSource<R> {
         self.failure
     }
 
-    /// Reads the next line, without its line feed. Gives whether there was one.
-    fn next_line(&mut self) -> Result<bool, ScriptFault>
-        ensures { IfErr result (λ f. (f ≡ ScriptFault.Reading) ⊎ (f ≡ ScriptFault.NoMemory)) }
+    /// The number of the last line that was read.
+    fn number(&self) -> usize
+        ensures { result ≡ self.now.number }
     {
-        self.text.clear();
-        match self.source.read_until(b'\n', &mut self.text) {
+        self.number
+    }
+
+    /// Reads the next line into the buffer, without its line feed. Gives whether there was one.
+    fn next_line(&mut self, text: &mut Vec<u8>) -> Result<bool, ScriptFault>
+        ensures line { IfOk result (λ more. IsNextLine more self.old self.new text.new.items) }
+        ensures fault { IfErr result (λ f. (f ≡ ScriptFault.Reading) ⊎ (f ≡ ScriptFault.NoMemory)) }
+    {
+        text.clear();
+        match self.source.read_until(b'\n', text) {
             Ok(0) => return Ok(false),
             Ok(_) => {}
             Err(error) if error.kind() == ErrorKind::OutOfMemory => {
@@ -76,11 +96,22 @@ impl<R: BufRead> LineSource<R> {
                 return Err(ScriptFault::Reading);
             }
         }
-        if self.text.last() == Some(&b'\n') {
-            self.text.pop();
-        }
-        self.number = self.number.saturating_add(1);
+        strip_feed(text);
+        let Some(number) = self.number.checked_add(1) else {
+            return Err(ScriptFault::Reading);
+        };
+        self.number = number;
         Ok(true)
+    }
+}
+
+/// Takes the line feed off the text's end, where it has one.
+fn strip_feed(text: &mut Vec<u8>)
+    ensures { text.new.items ≡ strip_last 10 text.old.items }
+{
+    let count = text.len();
+    if count > 0 && text[count - 1] == b'\n' {
+        text.truncate(count - 1);
     }
 }
 
@@ -93,24 +124,26 @@ pub struct Followed {
     pub history: Vec<Entry>,
 }
 
-/// Takes the source's line, or reports that it is at fault and leaves it out.
-fn take_line<R, L: Listener>(
+/// Takes the line of this number, or reports that it is at fault and leaves it out.
+fn take_line<L: Listener>(
     alloc: Global,
     reader: &mut LineReader,
-    source: &LineSource<R>,
+    number: usize,
+    text: &[u8],
     listener: &mut L,
 ) -> Result<(), ScriptFault>
+    ensures heard { OnOk result (reader.new ≡ heard_line number reader.old text.now) }
     ensures begun { OnOk result (is_begun reader.old ≡ true → Continues reader.old reader.new) }
     ensures fault { IfErr result (λ f. f ≡ ScriptFault.NoMemory) }
 {
-    match reader.read_line(alloc, source.number, &source.text) {
+    match reader.read_line(alloc, number, text) {
         Ok(()) => {
-            listener.taken(&source.text);
+            listener.taken(text);
             Ok(())
         }
         Err(ScriptFault::NoMemory) => Err(ScriptFault::NoMemory),
         Err(fault) => {
-            listener.left_out(reader, &source.text, &fault);
+            listener.left_out(reader, text, &fault);
             Ok(())
         }
     }
@@ -127,14 +160,22 @@ pub fn read_header<R: BufRead, L: Listener>(
     source: &mut LineSource<R>,
     listener: &mut L,
 ) -> Result<LineReader, ScriptFault>
-    ensures { IfErr result (λ f. (f ≡ ScriptFault.Reading) ⊎ (f ≡ ScriptFault.NoMemory)) }
+    // Where the bytes are known: the lines that are left make of the result what all lines of the source make, those at fault left out.
+    ensures lines { IfOk result (λ reader. IfSome (heard_rest source.old no_lines) (λ whole. heard_rest source.new reader ≡ Some whole)) }
+    // Nothing is left of a source whose header isn't over.
+    ensures end { IfOk result (λ reader. is_begun reader ≡ false → IfSome source.old.bytes (λ bytes. source.new.bytes ≡ Some [])) }
+    ensures fault { IfErr result (λ f. (f ≡ ScriptFault.Reading) ⊎ (f ≡ ScriptFault.NoMemory)) }
 {
     let mut reader = LineReader::new(alloc);
+    let mut text = Vec::new(alloc);
     for _ in 0..LINES {
-        if reader.is_begun() || !source.next_line()? {
+        if reader.is_begun() {
             return Ok(reader);
         }
-        take_line(alloc, &mut reader, source, listener)?;
+        if !source.next_line(&mut text)? {
+            return Ok(reader);
+        }
+        take_line(alloc, &mut reader, source.number(), &text, listener)?;
     }
     Err(ScriptFault::Reading)
 }
@@ -193,17 +234,19 @@ fn run_from<B: BookName, O: FileObject, W: Write>(
     print_from(alloc, writer, serial.entries(), printed)
 }
 
-/// Takes the source's line, makes its call, and writes its line of the trace.
-fn follow_line<B: BookName, O: FileObject, R: BufRead, W: Write, L: Listener>(
+/// Takes the line of this number, makes its call, and writes its line of the trace.
+fn follow_line<B: BookName, O: FileObject, W: Write, L: Listener>(
     alloc: Global,
     serial: &mut Serial<B, O>,
     reader: &mut LineReader,
-    source: &LineSource<R>,
+    number: usize,
+    text: &[u8],
     writer: &mut W,
     listener: &mut L,
 ) -> Result<(), ScriptFault>
     requires begun { is_begun reader.old ≡ true }
     requires made { Follows serial.old reader.old (length (Plan.lines reader.old)) }
+    ensures heard { OnOk result (reader.new ≡ heard_line number reader.old text.now) }
     ensures begun { OnOk result (is_begun reader.new ≡ true) }
     ensures made { OnOk result (Follows serial.new reader.new (length (Plan.lines reader.new))) }
     ensures boot { OnOk result (serial.new.boot ≡ serial.old.boot) }
@@ -212,7 +255,7 @@ fn follow_line<B: BookName, O: FileObject, R: BufRead, W: Write, L: Listener>(
     ensures fault { IfErr result (λ f. IsFollowFault f) }
 {
     let made = reader.script().lines.len();
-    take_line(alloc, reader, source, listener)?;
+    take_line(alloc, reader, number, text, listener)?;
     run_from(alloc, serial, reader.script(), made, writer)
 }
 
@@ -227,17 +270,20 @@ fn follow_lines<B: BookName, O: FileObject, R: BufRead, W: Write, L: Listener>(
 ) -> Result<(), ScriptFault>
     requires begun { is_begun reader.old ≡ true }
     requires made { Follows serial.old reader.old (length (Plan.lines reader.old)) }
+    ensures heard { OnOk result (HearsAll source.old reader.old source.new reader.new) }
     ensures made { OnOk result (Follows serial.new reader.new (length (Plan.lines reader.new))) }
     ensures boot { OnOk result (serial.new.boot ≡ serial.old.boot) }
     ensures printed { OnOk result (Prints (W.contents writer.old) (W.contents writer.new) serial.old.entries serial.new.entries) }
     ensures broken { OnErr result (Breaks serial.old.boot (W.contents writer.old) (W.contents writer.new) serial.old.entries) }
     ensures fault { IfErr result (λ f. IsFollowFault f) }
 {
+    let mut text = Vec::new(alloc);
     for _ in 0..LINES {
-        if !source.next_line()? {
+        if !source.next_line(&mut text)? {
             return Ok(());
         }
-        follow_line(alloc, serial, reader, source, writer, listener)?;
+        let number = source.number();
+        follow_line(alloc, serial, reader, number, &text, writer, listener)?;
     }
     Err(ScriptFault::Reading)
 }
@@ -252,6 +298,8 @@ fn follow_all<B: BookName, O: FileObject, R: BufRead, W: Write, L: Listener>(
     listener: &mut L,
 ) -> Result<(), ScriptFault>
     requires { Follows serial.old reader.old 0 }
+    ensures heard { OnOk result (is_begun reader.old ≡ true → HearsAll source.old reader.old source.new reader.new) }
+    ensures alone { OnOk result (is_begun reader.old ≡ false → reader.new ≡ reader.old) }
     ensures made { OnOk result (Follows serial.new reader.new (length (Plan.lines reader.new))) }
     ensures boot { OnOk result (serial.new.boot ≡ serial.old.boot) }
     ensures printed { OnOk result (Prints (W.contents writer.old) (W.contents writer.new) serial.old.entries serial.new.entries) }
@@ -300,6 +348,8 @@ fn run_lines<B: BookName, O: FileObject, R: BufRead, W: Write, L: Listener>(
     requires boots { IsBootState kernel }
     requires named { kernel ≡ B.boot }
     requires processes { kernel.processes ≡ map new_process (Plan.procs reader.old) }
+    ensures heard { OnOk result (is_begun reader.old ≡ true → HearsAll source.old reader.old source.new reader.new) }
+    ensures alone { OnOk result (is_begun reader.old ≡ false → reader.new ≡ reader.old) }
     ensures legal { IfOk result (λ entries. IsLegal kernel entries.items) }
     ensures calls { IfOk result (λ entries. map line_of_entry entries.items ≡ all_turns reader.new) }
     ensures trace { IfOk result (λ entries. Appends (W.contents writer.old) (W.contents writer.new) (trace entries.items)) }
@@ -333,6 +383,12 @@ pub fn follow<O: FileObject, R: BufRead, W: Write, L: Listener>(
 ) -> Result<Followed, ScriptFault>
     requires boots { IsBootState kernel }
     requires processes { kernel.processes ≡ map new_process (Plan.procs reader) }
+    // Behind a header that is over, each line that the source has is taken, but those at fault, where the bytes are known.
+    ensures lines { IfOk result (λ run. is_begun reader ≡ true → IfSome (heard_rest source.old reader) (λ whole. run.reader ≡ whole)) }
+    // Then nothing is left of the source.
+    ensures end { OnOk result (is_begun reader ≡ true → IfSome source.old.bytes (λ bytes. source.new.bytes ≡ Some [])) }
+    // Behind one that isn't over no line is taken.
+    ensures alone { IfOk result (λ run. is_begun reader ≡ false → run.reader ≡ reader) }
     // The entries are a legal history from the kernel's state.
     ensures legal { IfOk result (λ run. IsLegal kernel run.history.items) }
     // It makes the calls of the lines that were taken, in order, then the missing exits, and the end of the layer where there is one.

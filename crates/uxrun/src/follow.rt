@@ -71,7 +71,7 @@ fn follow_source<
 >(rt: &R, args: &Args<'_>, source: S, kept: &mut Source) -> Result<(), CommandFault> {
     let alloc: Global = rt.alloc();
     let buffer = BufReader::new(alloc, source).map_err(|_| AllocError)?;
-    let mut lines = LineSource::new(alloc, buffer);
+    let mut lines = LineSource::new(buffer);
     let mut report = Report { rt, kept, count: 0 };
     let run = follow_lines(rt, &mut lines, &mut report);
     if let Some(error) = lines.failure() {
