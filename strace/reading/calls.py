@@ -1,4 +1,5 @@
 """Joins the lines of a log to calls, each with the lines where it began and ended, and reads arguments and results."""
+import os
 import re
 from collections import Counter
 from dataclasses import dataclass, field
@@ -169,12 +170,18 @@ def read_log(path, most=MOST_BYTES):
     """The log of a file; a fault of the file itself is an OSError, one of more than so many bytes TooLarge."""
     joiner, number, total = Joiner(), 0, 0
     with open(path, encoding="latin-1", newline="\n") as file:
+        # A pipe has no size, so what it gives is counted too.
+        refuse_above(most, os.fstat(file.fileno()).st_size, path)
         while text := file.readline(LONGEST_LINE):
             number += 1
             total += len(text)
-            if total > most:
-                raise TooLarge(f"{path}: more than {most >> 20} MB: record a shorter run, or give --megabytes N and the memory for "
-                               "it, nine times the log's")
+            refuse_above(most, total, path)
             joiner.log.cut = not text.endswith("\n")
             joiner.add(number, text.rstrip("\r\n"))
     return joiner.close()
+
+
+def refuse_above(most, size, path):
+    if size > most:
+        raise TooLarge(f"{path}: more than {most >> 20} MB: record a shorter run, or give --megabytes N and the memory for it, up to "
+                       "twenty times the log's")
