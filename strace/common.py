@@ -70,7 +70,7 @@ def replayed(options, world):
 
 def main(program, run, arguments):
     """Runs a program; a fault is told in one line, and no trace of Python is shown."""
-    # What a log says is kept until the end, so looking for garbage finds none and takes a third of the time.
+    # What a log says is kept until the end: looking for garbage would find none, at up to a third of the time.
     gc.disable()
     try:
         return run(arguments)

@@ -7,7 +7,7 @@ class Unreadable(Exception):
     """A text that isn't what strace writes."""
 
 
-@dataclass(slots=True)
+@dataclass(slots=True, frozen=True)
 class Text:
     """A string: its bytes, whether strace cut it short, and whether it is an abstract name (written behind an @)."""
     data: bytes
@@ -15,14 +15,14 @@ class Text:
     abstract: bool = False
 
 
-@dataclass(slots=True)
+@dataclass(slots=True, frozen=True)
 class Descriptor:
     """A descriptor's number, with what strace's option -yy says that it leads to, or no text."""
     number: int
     note: str = ""
 
 
-@dataclass(slots=True)
+@dataclass(slots=True, frozen=True)
 class Change:
     """A value before and after a call, written `before => after`."""
     before: object

@@ -77,6 +77,13 @@ class Malformed(unittest.TestCase):
         with self.assertRaises(TooLarge):
             log_of(self.GOOD * 100, most=1000)
 
+    def test_more_than_is_read_of_a_pipe_that_has_no_size(self):
+        reading, writing = os.pipe()
+        with os.fdopen(writing, "w", encoding="ascii") as pipe:
+            pipe.write(self.GOOD * 100)
+        with os.fdopen(reading), self.assertRaises(TooLarge):
+            read_log(f"/dev/fd/{reading}", most=1000)
+
     def test_programs_tell_faults_in_one_line(self):
         with tempfile.TemporaryDirectory() as folder:
             files = {"empty": b"", "binary": bytes(range(256)) * 20, "random": os.urandom(5000), "other": b"hello\nworld\n"}
