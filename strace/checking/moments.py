@@ -19,7 +19,7 @@ def quiet_moments(log, samples, most):
         last = bisect_right(starts, sample["end"] + MARGIN) - 1
         if last >= 0 and busy[last][1] >= sample["begin"] - MARGIN or not sample["tables"]:
             continue
-        line = line_before(log, sample["begin"])
+        line = log.line_before(sample["begin"])
         # Before the first call strace follows a process of its own, to find out what the kernel can.
         if line and line not in seen:
             seen.add(line)
@@ -41,14 +41,6 @@ def busy_times(log):
         else:
             joined.append([begin, end])
     return joined
-
-
-def line_before(log, time):
-    """The last line of the log that was written before a time."""
-    lines = [call.begin for call in log.calls if call.time is not None and call.time <= time]
-    lines += [call.end for call in log.calls if call.ended is not None and call.ended <= time]
-    lines += [end.line for end in log.ends if end.time is not None and end.time <= time]
-    return max(lines, default=0)
 
 
 def compare(world, order, runner, moments):

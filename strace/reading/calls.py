@@ -69,6 +69,13 @@ class Log:
     last_time: float = None
     replaced: list = field(default_factory=list)
 
+    def line_before(self, time):
+        """The last line that was written before a time: where a call began or ended, or a process ended; 0 before the first."""
+        lines = [call.begin for call in self.calls if call.time is not None and call.time <= time]
+        lines += [call.end for call in self.calls if call.ended is not None and call.ended <= time]
+        lines += [end.line for end in self.ends if end.time is not None and end.time <= time]
+        return max(lines, default=0)
+
 
 def after_name(value):
     """An argument without its name, as of clone(flags=..)."""

@@ -51,6 +51,10 @@ class Calls(unittest.TestCase):
     def test_how_long_a_call_took(self):
         self.assertEqual(log_of("7 5.0 close(3) = 0 <0.250000>\n").calls[0].ended, 5.25)
 
+    def test_the_last_line_before_a_time_may_be_the_end_of_a_process(self):
+        log = log_of("7 5.0 close(3) = 0 <0.250000>\n8 5.1 exit_group(0) = ?\n8 5.2 +++ exited with 0 +++\n7 9.0 close(4) = 0 <0.000100>\n")
+        self.assertEqual([log.line_before(time) for time in (4.9, 5.05, 5.15, 5.2, 8.9, 9.0)], [0, 1, 2, 3, 3, 4])
+
 
 class Malformed(unittest.TestCase):
     GOOD = "7 1.0 socket(AF_UNIX, SOCK_STREAM, 0) = 3\n7 1.1 close(3) = 0\n"

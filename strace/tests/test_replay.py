@@ -117,6 +117,14 @@ class Holders(unittest.TestCase):
             "inherited at fork from ? (pid 10) (line 13)"])
         self.assertEqual(set(number for pid, number in chains if pid == 9), {0, 1, 2, 3, 5})
 
+    def test_a_process_that_has_ended_holds_nothing_at_a_later_time(self):
+        log = HEAD + ('9 1.1 socketpair(AF_UNIX, SOCK_STREAM, 0, [3<UNIX-STREAM:[7->8]>, 4<UNIX-STREAM:[8->7]>]) = 0 <0.000010>\n'
+                      '9 1.2 fork() = 10 <0.000010>\n10 1.3 exit_group(0) = ?\n10 1.4 +++ exited with 0 +++\n'
+                      '9 1.5 wait4(-1, NULL, 0, NULL) = 10 <0.000100>\n9 9.0 close(3<UNIX-STREAM:[7->8]>) = 0 <0.000010>\n')
+        for when, pids in (("+0.15", [9, 9, 10, 10]), ("+5", [9, 9]), ("6.1", [9, 9]), ("+7.95", [9])):
+            with self.subTest(when):
+                self.assertEqual([one["pid"] for one in run("holds", log, when)[1]["held"]], pids)
+
     def test_what_is_left_at_an_exit(self):
         _, report = run("holds", LEAK)
         self.assertEqual([(one["pid"], one["number"]) for one in report["left at exit"]], [(11, 3), (11, 4), (11, 5)])
