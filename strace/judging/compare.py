@@ -45,15 +45,13 @@ class Judge:
     def judge(self, script, trace):
         """The verdicts on a script's replies, as far as the trace has them."""
         firsts = {str(seat.number): str(seat.process.first_seat.number) for seat in self.seats.values()}
-        verdicts, past = [], []
+        verdicts = []
         for step, line, reply in zip(script.steps, script.lines, trace.replies):
             call = intern(line.split(" ", 1)[1])
-            verdict = self.verdict(step, call, PERSON.sub(lambda found: found[1] + firsts.get(found[2], found[2]), reply), past)
-            verdicts.append(verdict)
-            past.append(intern(f"{call} = {reply}"))
+            verdicts.append(self.verdict(step, call, PERSON.sub(lambda found: found[1] + firsts.get(found[2], found[2]), reply)))
         return verdicts
 
-    def verdict(self, step, call, ours, past):
+    def verdict(self, step, call, ours):
         if step.expect is None:
             return Verdict(step, call, ours, "", Outcome.NOT_COMPARED)
         kernel = numbered(step.expect, self.seats)
@@ -63,7 +61,7 @@ class Judge:
             kernel = filled(kernel, ours, self.by_length)
         if ours == kernel:
             return Verdict(step, call, ours, ours, Outcome.AGREES)
-        rule = rule_of(self.rules, Case(step.state, call, ours, kernel, past))
+        rule = rule_of(self.rules, Case(step.state, call, ours, kernel, step.marks, step.other, step.other_name))
         if rule is None:
             return Verdict(step, call, ours, kernel, Outcome.DIFFERS)
         return Verdict(step, call, ours, kernel, Outcome.RULE, rule.name, rule.parts)

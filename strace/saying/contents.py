@@ -26,6 +26,11 @@ def data_of(world, value, length=None):
     return value.data
 
 
+def told_bytes(world, value, count):
+    """The bytes that a receive got, as many as it answered: a log that shows fewer has zeros for the rest, which differ."""
+    return data_of(world, value, count)[:count].ljust(count, b"\0")
+
+
 def sayable(world, block, process, value, name):
     """The slot of a descriptor that reads and writes are said of, or None; the block knows why."""
     number = number_of(value, -1)
@@ -52,6 +57,9 @@ def taken(description, count):
         description.thing.level = max(0, description.thing.level - count)
     description.pending = max(0, description.pending - 1)
     unread = description.peer.unread if description.peer is not None else []
+    if description.kind is not Kind.STREAM:
+        del description.senders[:1], unread[:1]
+        return
     while unread and count >= unread[0]:
         count -= unread.pop(0)
     if unread:

@@ -40,7 +40,8 @@ class Role(Enum):
 @dataclass(slots=True, eq=False)
 class Description:
     """An open file description as the log shows it. `unknown` says why its later replies aren't compared;
-    `unread` has the lengths of what was sent and not yet received."""
+    `unread` has the lengths of what was sent and not yet received, `senders` whose messages wait, `held` and `flying` how many
+    descriptors and rights on their way lead to it, `past` what marks.py keeps."""
     kind: Kind
     what: str
     nonblocking: bool = False
@@ -59,18 +60,26 @@ class Description:
     made_by: object = None
     outer: object = None
     pending: int = 0
+    senders: list = field(default_factory=list)
     is_split: bool = False
+    held: int = 0
+    was_held: bool = False
+    flying: int = 0
+    past: object = None
 
     def state(self):
         """What differences.txt calls the kind of a descriptor."""
         if not self.kind.is_socket:
-            return self.kind.value if self.kind is not Kind.OPAQUE else "mem"
+            filled = "/filled" if self.kind is Kind.PIPE and self.thing.level >= PAGES_USED else ""
+            return self.kind.value + filled if self.kind is not Kind.OPAQUE else "mem"
         memory = sum(self.unread) + MESSAGE_COST * len(self.unread)
         filled = "/filled" if self.kind is Kind.STREAM and self.phase == "tied" and memory >= FILLED else ""
         return f"{self.kind.value}/{self.phase}{filled}"
 
 
 FILLED = 1 << 15
+# Two pages of a pipe that follow one another hold more than one page can: of 16 the first alone may be nearly read.
+PAGES_USED = 7 * 4096
 MESSAGE_COST = 768
 
 
@@ -90,6 +99,10 @@ class Slot:
     """A descriptor: where it leads, close-on-exec, and how it came into this table in the log's words."""
     description: Description
     on_exec: bool = False
+
+    def __post_init__(self):
+        self.description.held += 1
+        self.description.was_held = True
 
 
 @dataclass(slots=True, eq=False)
@@ -145,13 +158,21 @@ class Process:
             number += 1
         return number
 
+    def lowest_numbers(self, count):
+        """So many of the lowest numbers that are free."""
+        found = []
+        while len(found) < count:
+            found.append(self.lowest(found[-1] + 1 if found else 0))
+        return found
+
     def label(self):
         return f"{self.program} (pid {self.pid})"
 
 
 @dataclass(slots=True, eq=False)
 class Step:
-    """A line of the script: whose, its words, the kernel's reply (None where there is none to compare), and its place."""
+    """A line of the script: whose, its words, the kernel's reply (None where there is none to compare), and its place; the marks of
+    its socket and of the other one that it concerns, with that one's name (marks.py)."""
     seat: Seat
     words: str
     expect: str = None
@@ -160,6 +181,9 @@ class Step:
     asked: frozenset = None
     block: object = None
     makes: dict = None
+    marks: frozenset = frozenset()
+    other: frozenset = frozenset()
+    other_name: str = None
 
     def __post_init__(self):
         # A long log says the same words over and over: each text is kept once.

@@ -92,6 +92,16 @@ class Names:
             self.aliases[self.canonical(new_folder, new)] = word
         return word is not None
 
+    def beginning_with(self, data, abstract):
+        """The one name that begins with the bytes of an address that was cut, or ? where there are several; none is a difference."""
+        if abstract:
+            beginning = "a:" + spell(data)
+            found = {word for word in self.bound if word.startswith(beginning)}
+        else:
+            beginning = "p:" + spell(data)
+            found = {word for path, word in self.given.items() if path.startswith(data)}
+        return found.pop() if len(found) == 1 else "?" if found else beginning
+
     def told(self, folder, path):
         """The word of a path as a reply tells it: as it was given at its bind."""
         return self.given.get(path) or self.word_of_path(folder, path)

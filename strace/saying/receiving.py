@@ -2,7 +2,7 @@
 import re
 
 from reading.words import after, flags_of, number_of, room_of
-from .contents import PIECE, data_of, hexadecimal, hidden, sayable, shortened, taken
+from .contents import PIECE, hexadecimal, hidden, sayable, shortened, taken, told_bytes
 from .descriptors import FORGETS, note_of
 from .model import WHOLE, Description, Kind, Slot
 from .notes import inode_of, kind_of
@@ -26,13 +26,15 @@ def say_read(world, block, process, args, result):
     length = room_of(args[1]) if many else number_of(args[2], 0)
     if many:
         block.otherwise("readv as read")
-    told = f"err {result.error}"
+    told, data = f"err {result.error}", b""
     if not result.error:
-        arrive(world, block, description, data_of(world, args[1], result.value)[:result.value], length)
-        data = shortened(description, data_of(world, args[1], result.value)[:result.value])
+        whole = told_bytes(world, args[1], result.value)
+        arrive(world, block, description, whole, length)
+        data = shortened(description, whole)
         told = f"bytes {hexadecimal(data)}"
-        taken(description, len(data))
     world.step(block, process.seat, f"read {number} {min(length, FORGETS)}", told, description)
+    if length > 0 and not result.error:
+        taken(description, len(data))
 
 
 def arrive(world, block, description, data, length, items="-", came=0, peek=False, sender="u"):
@@ -58,15 +60,29 @@ def say_recvfrom(world, block, process, args, result):
     if slot is None or outside(block, result):
         return
     sender = sender_of(world, process, args[4] if len(args) > 4 else None, args[5] if len(args) > 5 else None)
-    data = data_of(world, args[1], result.value)
-    receive(world, block, process, number_of(args[0]), slot, number_of(args[2], 0), 0, data, flags_of(args[3]), result,
-            ("?", "?", sender), [])
+    length, flags = number_of(args[2], 0), flags_of(args[3])
+    data = received(world, args[1], length, flags, result)
+    receive(world, block, process, number_of(args[0]), slot, length, 0, data, flags, result, ("?", "?", sender), [])
+
+
+def sender_at(description):
+    """The socket that sent what waits first, where the log has it."""
+    if description.kind is Kind.DATAGRAM:
+        return description.senders[0] if description.senders else None
+    return description.peer
+
+
+def received(world, value, length, flags, result):
+    """The bytes of a message: as many as the call answered, or where it tells the whole message's length as many as it asked for."""
+    if result.error:
+        return b""
+    return told_bytes(world, value, min(result.value, length) if "MSG_TRUNC" in flags else result.value)
 
 
 def sender_of(world, process, value, length):
     """The sender's address as a reply tells it: - where it has no length, ? where the program didn't ask."""
     if isinstance(after(value), dict):
-        return told_address(world, process, value)
+        return told_address(world, process, value, length)
     changed = length[0] if isinstance(length, list) and length else length
     return "-" if after(changed) == 0 and str(after(value)) != "NULL" else "?"
 
@@ -84,11 +100,12 @@ def say_recvmsg(world, block, process, args, result):
 
 def receive_message(world, block, process, number, slot, message, flags, result):
     """One message, whose space for control data is guessed from what came: strace shows what is left of it alone."""
+    if result.error:
+        # strace shows no buffers then, and what a receive asks for doesn't count where it gets nothing.
+        receive(world, block, process, number, slot, WHOLE, 0, b"", flags, result, ("?", "?", "?"), [])
+        return
     if not isinstance(message, dict):
-        if result.error:
-            receive(world, block, process, number, slot, WHOLE, 0, b"", flags, result, ("?", "?", "?"), [])
-        else:
-            hidden(world, block, slot, "a message that the log doesn't show")
+        hidden(world, block, slot, "a message that the log doesn't show")
         return
     told = flags_of(message.get("msg_flags"))
     items, numbers, notes = items_of(world, message.get("msg_control"))
@@ -97,8 +114,9 @@ def receive_message(world, block, process, number, slot, message, flags, result)
         space = (CREDENTIALS_SPACE if "c:" in items else 0) + (LEAST_SPACE + 4 * len(numbers) if numbers else 0)
     words = "|".join(word for flag, word in REPLY_FLAGS if flag in told) or "-"
     sender = sender_of(world, process, message.get("msg_name"), message.get("msg_namelen"))
-    data = data_of(world, message.get("msg_iov"), result.value)
-    receive(world, block, process, number, slot, room_of(message.get("msg_iov")), space, data, flags, result,
+    length = room_of(message.get("msg_iov"))
+    data = received(world, message.get("msg_iov"), length, flags, result)
+    receive(world, block, process, number, slot, length, space, data, flags, result,
             (words, items, sender), list(zip(numbers, notes)))
 
 
@@ -139,32 +157,23 @@ def receive(world, block, process, number, slot, length, space, data, flags, res
     if result.error:
         world.step(block, process.seat, f"recv {number} {length} {space} {letters}", f"err {result.error}", description)
         return
-    arrive(world, block, description, data[:result.value], length, told[1], len(came), "p" in letters, told[2])
-    data = shortened(description, data[:result.value])
+    arrive(world, block, description, data, length, told[1], len(came), "p" in letters, told[2])
+    data = shortened(description, data)
     count = result.value if "MSG_TRUNC" in flags else len(data)
-    low = lowest_numbers(process, len(came))
+    low = process.lowest_numbers(len(came))
     items = told[1].replace("r:" + ",".join(str(one) for one, _ in came), "r:" + ",".join(map(str, low))) if came else told[1]
     rest = None
     if came and description.peer is not None and description.peer.is_split and len(data) > PIECE and "p" not in letters:
         data, rest = data[:PIECE], data[PIECE:]
         count, length = len(data), PIECE
     world.step(block, process.seat, f"recv {number} {length} {space} {letters}",
-               f"got {count} {hexadecimal(data)} {told[0]} {items} {told[2]}", description)
+               f"got {count} {hexadecimal(data)} {told[0]} {items} {told[2]}", description, other=sender_at(description))
     if rest:
         world.step(block, process.seat, f"recv {number} {len(rest)} 0 d", f"got {len(rest)} {hexadecimal(rest)} ? ? ?", description)
         block.otherwise("in pieces: it was sent so")
     if "p" not in letters:
         taken(description, len(data) + len(rest or b""))
     install(world, block, process, low, came, "x" in letters)
-
-
-def lowest_numbers(process, count):
-    found, number = [], 0
-    while len(found) < count:
-        if number not in process.table:
-            found.append(number)
-        number += 1
-    return found
 
 
 def install(world, block, process, low, came, on_exec):
@@ -187,6 +196,7 @@ def landed(world, note, take=False):
         if description.inode == inode:
             if take:
                 world.in_flight.pop(place)
+                description.flying -= 1
             return description
     found = world.by_inode.get(inode)
     if found is not None:

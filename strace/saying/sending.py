@@ -34,10 +34,12 @@ def put(world, block, process, number, description, data, result, words_of, targ
     if result.error:
         if result.error == "EPIPE" and description.outer is not None:
             world.outside.close(block, description.outer)
-        world.step(block, process.seat, words_of(hexadecimal(data[:WHOLE])), f"err {result.error}", description)
+        world.step(block, process.seat, words_of(hexadecimal(data[:WHOLE])), f"err {result.error}", description, other=target)
         return False
     data = data[:result.value] if description.kind is Kind.STREAM or not description.kind.is_socket else data
+    told = result.value
     if description.kind in (Kind.DATAGRAM, Kind.RECORDS) and len(data) > WHOLE:
+        told -= len(data) - WHOLE
         data = data[:WHOLE]
         block.otherwise("a message shortened: longer than the layer takes")
     size = WHOLE if fits(description, len(data)) else PIECE
@@ -45,19 +47,29 @@ def put(world, block, process, number, description, data, result, words_of, targ
     if len(pieces) > 1:
         block.otherwise("in pieces: no room for all at once")
     parts = world.parts(block, len(pieces)) if block.call.begin < block.call.end else [block] * len(pieces)
-    for piece, part in zip(pieces, parts):
-        count = 8 if description.kind is Kind.COUNTER else len(piece)
-        world.step(part, process.seat, words_of(hexadecimal(piece)), f"n {count}", description)
+    # Together they answer what the log's call did, also where that isn't what the log shows as sent.
+    counts = [len(piece) for piece in pieces]
+    counts[-1] += told - sum(counts)
+    for place, (piece, count, part) in enumerate(zip(pieces, counts, parts)):
+        world.step(part, process.seat, words_of(hexadecimal(piece)), f"n {count}", description, other=target)
+        fill(description, len(piece), place > 0)
     reached = target or description.peer
     if reached is not None:
         reached.pending += 1
+        reached.senders.append(description)
     if description.outer is not None:
         world.outside.drain(block, description.outer, len(pieces))
-    elif description.kind is Kind.STREAM:
-        description.unread.append(len(data))
-    elif description.thing is not None:
-        description.thing.level += len(data)
     return len(pieces) > 1
+
+
+def fill(description, count, goes_on):
+    """Keeps how many bytes wait now: a further message of a socket or more of the same, or more in a pipe."""
+    if description.thing is not None:
+        description.thing.level += count
+    elif description.outer is None and (description.kind is Kind.RECORDS or description.kind is Kind.STREAM and count):
+        if not goes_on:
+            description.unread.append(0)
+        description.unread[-1] += count
 
 
 def control_of(world, block, process, items):
@@ -93,6 +105,7 @@ def fly(world, block, process, rights, goes_outside):
         if slot:
             if not goes_outside:
                 world.in_flight.append((slot.description, block))
+                slot.description.flying += 1
             if slot.description.thing is not None:
                 slot.description.thing.sent = True
 

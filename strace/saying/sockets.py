@@ -1,7 +1,8 @@
 """Says the calls that make, name and connect sockets, and their options."""
 from reading.effects import OUTSIDE_ERRORS
-from reading.words import Descriptor, Text, after, flags_of, number_of
+from reading.words import Change, Descriptor, Text, after, flags_of, number_of
 from .descriptors import note_of, on_unix
+from .marks import inherit
 from .model import Description, Kind, Slot
 from .names import spell
 from .notes import inode_of
@@ -34,15 +35,24 @@ def address(world, process, value):
     return world.names.word_of_path(process.folder, path.data)
 
 
-def told_address(world, process, value):
-    """An address as a reply tells it; ? where the log doesn't have it."""
+def told_address(world, process, value, length=None):
+    """An address as a reply tells it; ? where the log doesn't have it. `length` is what the call was given for it."""
     value = after(value)
     if not isinstance(value, dict):
         return "?"
     path = value.get("sun_path")
+    if is_cut(length):
+        return world.names.beginning_with(path.data, path.abstract) if isinstance(path, Text) else "?"
     if isinstance(path, Text) and not path.abstract:
         return world.names.told(process.folder, path.data)
     return address(world, process, value) or "?"
+
+
+def is_cut(length):
+    """Whether an address has more bytes than the buffer that it came in, as strace tells by `[11 => 19]`."""
+    length = length[0] if isinstance(length, list) and length else length
+    sizes = (number_of(length.before), number_of(length.after)) if isinstance(length, Change) else (None, None)
+    return None not in sizes and sizes[0] < sizes[1]
 
 
 def skipped(block, description, number):
@@ -120,8 +130,7 @@ def two_numbers(process, value):
     value = after(value)
     if isinstance(value, list) and len(value) == 2:
         return value
-    low = [number for number in range(len(process.table) + 2) if number not in process.table]
-    return [Descriptor(number) for number in low[:2]]
+    return [Descriptor(number) for number in process.lowest_numbers(2)]
 
 
 def make_two(world, block, process, words, made, numbers, on_exec):
@@ -129,10 +138,7 @@ def make_two(world, block, process, words, made, numbers, on_exec):
     for number in numbers:
         if number in process.table:
             world.gone(block, process, number)
-    low = process.lowest()
-    process.table[low] = Slot(made[0], on_exec)
-    lower = [low, process.lowest()]
-    del process.table[low]
+    lower = process.lowest_numbers(2)
     letters = world.letters(made[0], on_exec)
     if max(numbers) > HIGHEST:
         block.not_at_all("a descriptor above 4,095")
@@ -155,6 +161,7 @@ def say_bind(world, block, process, args, result):
         if result.error == "ENOENT":
             block.leave_out("bind in a folder that isn't there")
         return
+    holder = world.names.bound.get(address(world, process, args[1]))
     word = bind_word(world, block, process, args[1], description, result)
     if word is None:
         unseen_address(world, block, description, result)
@@ -162,8 +169,8 @@ def say_bind(world, block, process, args, result):
     if result.error == "EADDRINUSE" and word.startswith("p:") and word not in world.names.bound:
         world.names.files.append(word)
         world.names.bound[word] = None
-    world.step(block, process.seat, f"bind {number} {word}", f"err {result.error}" if result.error else "ok", description)
-    if not result.error:
+    world.step(block, process.seat, f"bind {number} {word}", f"err {result.error}" if result.error else "ok", description, other=holder)
+    if not result.error and not (word == "u" and description.name):
         description.name = word
 
 
@@ -238,7 +245,8 @@ def say_connect(world, block, process, args, result):
     if result.error == "ECONNREFUSED" and word.startswith("p:") and word not in world.names.bound:
         world.names.files.append(word)
         world.names.bound[word] = None
-    world.step(block, process.seat, f"connect {number} {word}", f"err {result.error}" if result.error else "ok", description)
+    world.step(block, process.seat, f"connect {number} {word}", f"err {result.error}" if result.error else "ok", description,
+               other=None if ends else target)
     if target is not None:
         block.concern(target)
     if not result.error:
@@ -284,7 +292,7 @@ def say_accept(world, block, process, args, result):
     made = new_socket(world, listener.kind, flags, result.note)
     made.phase, made.name, made.what = "tied", listener.name, f"a connection accepted at {listener.name[2:] or 'a listener'}"
     on_exec = "SOCK_CLOEXEC" in flags
-    told = told_address(world, process, args[1])
+    told = told_address(world, process, args[1], args[2])
     if not listener.unknown and not listener.waiting:
         made.outer = world.outside.client_of(block, listener, told)
         made.what += ", its client outside of the log"
@@ -296,8 +304,9 @@ def say_accept(world, block, process, args, result):
     if made.outer is None:
         made.peer = listener.waiting.pop(0)
         made.peer.peer = made
+    inherit(made, listener)
     form = "accepted {} " + told
-    world.make(block, process, result.value, made, on_exec, f"accept {number} {world.letters(made, on_exec)}", form)
+    world.make(block, process, result.value, made, on_exec, f"accept {number} {world.letters(made, on_exec)}", form, other=made.peer)
 
 
 def say_accept_elsewhere(world, block, process, args, result):
@@ -336,8 +345,9 @@ def say_name(world, block, process, args, result):
     if outside(block, result) or skipped(block, slot.description, number_of(args[0])):
         return
     word = "sockname" if block.call.name == "getsockname" else "peername"
-    told = f"err {result.error}" if result.error else f"addr {told_address(world, process, args[1])}"
-    world.step(block, process.seat, f"{word} {number_of(args[0])}", told, slot.description)
+    told = f"err {result.error}" if result.error else f"addr {told_address(world, process, args[1], args[2])}"
+    other = slot.description.peer if word == "peername" else None
+    world.step(block, process.seat, f"{word} {number_of(args[0])}", told, slot.description, other=other)
 
 
 @says("getsockopt")

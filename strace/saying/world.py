@@ -6,7 +6,7 @@ from collections import Counter
 from reading.calls import End
 from reading.effects import MAKES_OPAQUE
 from reading.words import Unreadable, after, number_of
-from . import handover
+from . import handover, marks
 from .model import Block, Description, How, Kind, Process, Role, Seat, Slot, Step, Thing, mark
 from .names import Names
 from .notes import descriptors_in, inode_of, kind_of
@@ -174,14 +174,19 @@ class World:
 
     # ---- the lines of the script ----
 
-    def step(self, block, seat, words, expect=None, description=None, role=Role.CALL, asked=None, makes=None, state="-"):
-        """A further line of a block. A process that has no seat has no lines."""
-        if seat is None:
-            return
+    def step(self, block, seat, words, expect=None, description=None, role=Role.CALL, asked=None, makes=None, state="-", other=None):
+        """A further line of a block; `other` is a socket that it concerns beside its own. A process that has no seat has no lines."""
         if description is not None:
             block.concern(description)
         step = Step(seat, words, expect, role, description.state() if description else state, asked, block, makes)
-        block.steps.append(step)
+        if other is not None:
+            step.other, step.other_name = marks.marks_of(other, description), other.name
+        if description is not None and description.kind.is_socket:
+            step.marks = marks.marks_of(description)
+            if expect is not None:
+                marks.follow(description, other, words, expect)
+        if seat is not None:
+            block.steps.append(step)
 
     def parts(self, block, count):
         """Blocks for the pieces of a call that others interrupted: each may stand elsewhere, in their order."""
@@ -193,7 +198,7 @@ class World:
         self.blocks += made
         return whole
 
-    def make(self, block, process, wanted, description, on_exec, words=None, form="fd {}", role=Role.CALL):
+    def make(self, block, process, wanted, description, on_exec, words=None, form="fd {}", role=Role.CALL, other=None):
         """A call that gives a new number. Where the log has another than the lowest, it is moved there."""
         if wanted in process.table:
             self.gone(block, process, wanted)
@@ -203,7 +208,7 @@ class World:
         if wanted > HIGHEST:
             block.not_at_all("a descriptor above 4,095")
             return
-        self.step(block, process.seat, words, form.format(lowest), role=role, makes={lowest: description})
+        self.step(block, process.seat, words, form.format(lowest), role=role, makes={lowest: description}, other=other)
         self.move(block, process, lowest, wanted, description, on_exec)
         description.made_by = description.made_by or block
         process.table[wanted] = Slot(description, on_exec)
@@ -373,5 +378,7 @@ class World:
 
     def drop(self, process, number):
         slot = process.table.pop(number, None)
+        if slot:
+            marks.released(slot.description)
         if slot and slot.description.thing is not None:
             slot.description.thing.ends -= 1

@@ -21,30 +21,41 @@ ours: got .*
 linux: got .*
 differ: 6
 state: same
-what: text
 
 rule: bits
 call: poll .*
 differ: OUT HUP
 state: same
 
-rule: later
+rule: mine
+is: dropped late
 call: send .*
-after: close 0 = ok
 state: parts
 
 rule: other
 call: x .*
 unlike: 2
 state: same
+
+rule: flags
+call: recv .*
+differ: 4:EOR
+state: same
+
+rule: name
+other: gone
+call: peername .*
+tells: 2
+state: same
 """
 
 
-def rule_for(on, call, ours, linux, past=()):
+def rule_for(on, call, ours, linux, marks="", other="", other_name=None):
     with tempfile.NamedTemporaryFile("w", suffix=".txt") as file:
         file.write(SMALL)
         file.flush()
-        rule = rule_of(read_rules(file.name), Case(on, call, ours, linux, list(past)))
+        case = Case(on, call, ours, linux, frozenset(marks.split()), frozenset(other.split()), other_name)
+        rule = rule_of(read_rules(file.name), case)
     return rule.name if rule else None
 
 
@@ -67,20 +78,31 @@ class Rules(unittest.TestCase):
         self.assertEqual(rule_for("-", "poll 1", "poll IN|OUT", "poll IN|HUP"), "bits")
         self.assertIsNone(rule_for("-", "poll 1", "poll IN", "poll OUT"))
 
-    def test_after_an_earlier_call(self):
-        self.assertEqual(rule_for("-", "send 1", "n 1", "n 2", ["dup 0 = fd 1", "close 0 = ok"]), "later")
-        self.assertIsNone(rule_for("-", "send 1", "n 1", "n 2", ["close 0 = err EBADF"]))
+    def test_the_marks_of_the_socket_alone(self):
+        self.assertEqual(rule_for("-", "send 1", "n 1", "n 2", "late dropped more"), "mine")
+        self.assertIsNone(rule_for("-", "send 1", "n 1", "n 2", "dropped", "late"))
 
     def test_a_word_that_must_differ(self):
         self.assertEqual(rule_for("-", "x 1", "n 1", "n 2"), "other")
         self.assertIsNone(rule_for("-", "x 1", "n 1 a", "n 1 b"))
 
+    def test_one_flag_alone_differs(self):
+        self.assertEqual(rule_for("seq/tied", "recv 1 9 0 -", "got 1 61 TRUNC|EOR - -", "got 1 61 TRUNC - -"), "flags")
+        self.assertEqual(rule_for("seq/tied", "recv 1 9 0 -", "got 1 61 EOR - -", "got 1 61 - - -"), "flags")
+        self.assertIsNone(rule_for("seq/tied", "recv 1 9 0 -", "got 1 61 EOR - -", "got 1 61 CTRUNC - -"))
+
+    def test_the_name_of_the_other_socket(self):
+        self.assertEqual(rule_for("-", "peername 1", "err ENOTCONN", "addr p:/a", "", "gone", "p:/a"), "name")
+        self.assertIsNone(rule_for("-", "peername 1", "err ENOTCONN", "addr p:/b", "", "gone", "p:/a"))
+        self.assertEqual(rule_for("-", "peername 1", "err ENOTCONN", "addr a:0000b", "", "gone autobound", "a:00001"), "name")
+
     def test_a_file_of_something_else(self):
-        with tempfile.NamedTemporaryFile("w") as file:
-            file.write("hello: world\n")
-            file.flush()
-            with self.assertRaises(ValueError):
-                read_rules(file.name)
+        for text in ("hello: world\n", "rule: x\nafter: close .*\n"):
+            with tempfile.NamedTemporaryFile("w") as file:
+                file.write(text)
+                file.flush()
+                with self.assertRaises(ValueError):
+                    read_rules(file.name)
 
 
 class Replies(unittest.TestCase):
