@@ -5,6 +5,7 @@ from judging.holdings import holdings
 from judging.run import Fault
 
 STREAMS = 3
+CLOSED = "closed"
 
 
 def report_of(world, order, runner):
@@ -30,16 +31,32 @@ def tell(world, block, one):
 
 
 def uses_of(world, block, number):
-    """The names of calls on a number from a program's beginning until it is closed; `closed` where nothing comes before."""
-    process = block.process
-    until = min((other.call.begin for other in world.executed
-                 if other.process is process and other.call.begin > block.call.begin), default=float("inf"))
-    closes = [line for line, _ in world.closes.get((id(process), number), ()) if block.call.end < line < until]
+    """The names of calls on a number from a program's beginning until it is closed, by the program and its forks; `closed` where
+    nothing comes before."""
+    calls = calls_on(world, block.process, number, block.call.end, next_exec(world, block.process, block.call.begin))
+    is_closed = any(name == CLOSED for name in calls)
+    return list(dict.fromkeys(name for name in calls if name != CLOSED))[:3] or ([CLOSED] if is_closed else [])
+
+
+def next_exec(world, process, line):
+    """The line at which a process executes the next program behind a line."""
+    return min((block.call.begin for block in world.executed if block.process is process and block.call.begin > line),
+               default=float("inf"))
+
+
+def calls_on(world, process, number, begin, until):
+    """The calls of a process on a number behind a line and before another, or its close; and those of its forks before they execute
+    a program of their own. A close of the process itself stands last, as `closed`."""
+    closes = [line for line, _ in world.closes.get((id(process), number), ()) if begin < line < until]
     until = min([until, *closes])
-    calls = [name for line, name in world.uses.get((id(process), number), ()) if block.call.end < line < until]
-    if any(block.call.end < line < until and touched == number for line, touched in touches(world, process)):
+    calls = [name for line, name in world.uses.get((id(process), number), ()) if begin < line < until]
+    if any(begin < line < until and touched == number for line, touched in touches(world, process)):
         calls.append("a query")
-    return list(dict.fromkeys(calls))[:3] or (["closed"] if closes else [])
+    for child in world.processes:
+        if child.parent is process and child.birth is not None and begin < child.birth.call.begin < until:
+            born = child.birth.call.begin
+            calls += [name for name in calls_on(world, child, number, born, next_exec(world, child, born)) if name != CLOSED]
+    return calls + ([CLOSED] if closes else [])
 
 
 def touches(world, process):
@@ -48,7 +65,7 @@ def touches(world, process):
 
 def judge(one, used, block):
     """What looks wrong about a descriptor that a program found open, or no text."""
-    if one.number < STREAMS or used and used != ["closed"]:
+    if one.number < STREAMS or used and used != [CLOSED]:
         return ""
     description = one.description
     closed = ", though the program closes it" if used else ""
@@ -92,5 +109,6 @@ def weight(why):
 
 def row_of(one):
     mark = f"\n      LOOKS WRONG: {one['wrong']}" if one["wrong"] else ""
-    use = f"; used by {', '.join(one['used'])}" if one["used"] and not one["wrong"] else ""
+    used = "closed before any use" if one["used"] == [CLOSED] else f"used by {', '.join(one['used'])}"
+    use = f"; {used}" if one["used"] and not one["wrong"] else ""
     return f"  {one['number']}: {', '.join(one['chain'])}{use}{mark}"

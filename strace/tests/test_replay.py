@@ -145,6 +145,17 @@ class Holders(unittest.TestCase):
         wrong = {one["number"]: one["wrong"] for one in program["found"] if one["wrong"]}
         self.assertEqual(wrong, {3: "a connection that the program never uses", 5: "a socket that listens, which the program never uses"})
 
+    def test_a_listener_that_forks_of_the_program_accept_on_is_used(self):
+        log = HEAD + ('9 1.01 socket(AF_UNIX, SOCK_STREAM, 0) = 3<UNIX-STREAM:[7]>\n'
+                      '9 1.02 bind(3<UNIX-STREAM:[7]>, {sa_family=AF_UNIX, sun_path="/run/s"}, 9) = 0\n'
+                      '9 1.03 listen(3<UNIX-STREAM:[7,"/run/s"]>, 5) = 0\n9 1.04 execve("/usr/sbin/master", ["master"], 0x7f) = 0\n'
+                      '9 1.05 fork() = 10\n10 1.06 fork() = 11\n11 1.07 accept(3<UNIX-STREAM:[7,"/run/s"]>, NULL, NULL) = -1 EAGAIN\n')
+        status, report = run("found-open", log)
+        self.assertEqual((status, report["programs"][0]["found"][0]["used"]), (0, ["accept"]))
+        # A fork that executes another program is judged by itself, and what it uses isn't the master's use.
+        status, report = run("found-open", log.replace("11 1.07 ", '11 1.065 execve("/usr/sbin/worker", ["worker"], 0x7f) = 0\n11 1.07 '))
+        self.assertEqual((status, [program["found"][0]["used"] for program in report["programs"]]), (1, [[], ["accept"]]))
+
     def test_close_on_exec_is_not_found_open(self):
         status, report = run("found-open", LEAK.replace("dup2(0<UNIX-STREAM:[7]>, 5)", "dup3(0<UNIX-STREAM:[7]>, 5, O_CLOEXEC)")
                              .replace("SOCK_DGRAM, 0, [2", "SOCK_DGRAM|SOCK_CLOEXEC, 0, [2"))
