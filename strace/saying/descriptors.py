@@ -17,6 +17,11 @@ def note_of(value):
     return value.note if isinstance(value, Descriptor) else ""
 
 
+def make_pidfd(world, block, process, number):
+    """A descriptor of a process, which is close-on-exec always (pidfd_open(2))."""
+    world.make(block, process, number, Description(Kind.OPAQUE, "a process's descriptor", inode="anon_inode:[pidfd]"), True)
+
+
 def on_unix(block, slot):
     """Marks the call as one on a socket of the layer."""
     block.unix = block.unix or bool(slot and slot.description.kind.is_socket)
@@ -34,6 +39,7 @@ def say_close(world, block, process, args, result):
         return
     slot = world.slot(block, process, number, note_of(args[0]))
     if slot is None:
+        process.unseen.discard(number)
         world.notes["a close of a descriptor whose origin the log doesn't show"] += 1
         block.leave_out("close of a descriptor that the log doesn't show opened")
         return

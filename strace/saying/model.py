@@ -125,7 +125,8 @@ def mark(seat):
 @dataclass(eq=False)
 class Process:
     """A process of the log, with all its threads. `user`, `group` and `privileged` are the layer's, `users` and `groups` the real,
-    effective and saved ids of the log."""
+    effective and saved ids of the log; `unseen` has numbers that are open, since the kernel passed them over, though the log doesn't
+    show what opened them."""
     pid: int
     parent: object
     table: dict
@@ -142,6 +143,7 @@ class Process:
     users: tuple = None
     groups: tuple = None
     unsaid: str = ""
+    unseen: set = field(default_factory=set)
     over: bool = False
     execs: int = 0
     last: int = 0
@@ -157,6 +159,19 @@ class Process:
         while number in self.table:
             number += 1
         return number
+
+    def next_number(self):
+        """The number that the kernel gives next, as far as the log tells."""
+        number = self.lowest()
+        while number in self.unseen:
+            number = self.lowest(number + 1)
+        return number
+
+    def pass_over(self, number):
+        """The kernel gave this number as the lowest, so those below it are open; the answer is which of them weren't known so."""
+        new = {one for one in range(number) if one not in self.table} - self.unseen
+        self.unseen |= new
+        return new
 
     def lowest_numbers(self, count):
         """So many of the lowest numbers that are free."""

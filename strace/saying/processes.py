@@ -4,8 +4,8 @@ import re
 
 from reading.words import shown
 from . import handover
+from .descriptors import make_pidfd
 from .files import path_of
-from .model import Description, Kind
 from .world import says
 
 PIDFD = re.compile(r"(?:pidfd|parent_tid)=(?:0x[0-9a-f]+ => )?\{?\[(\d+)[<\]]")
@@ -37,10 +37,6 @@ def say_fork(world, block, process, args, result):
     pidfd = PIDFD.search(text) if "CLONE_PIDFD" in text else None
     if pidfd:
         make_pidfd(world, block, process, int(pidfd[1]))
-
-
-def make_pidfd(world, block, process, number):
-    world.make(block, process, number, Description(Kind.OPAQUE, "a process's descriptor", inode="anon_inode:[pidfd]"), True)
 
 
 @says("execve", "execveat")

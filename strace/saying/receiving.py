@@ -3,13 +3,14 @@ import re
 
 from reading.words import after, flags_of, number_of, room_of
 from .contents import PIECE, hexadecimal, hidden, sayable, shortened, taken, told_bytes
-from .descriptors import FORGETS, note_of
+from .descriptors import FORGETS, make_pidfd, note_of
 from .model import WHOLE, Description, Kind, Slot
 from .notes import inode_of, kind_of
 from .outside import Arrival
 from .sockets import outside, told_address
 from .world import says
 
+SCM_PIDFD = 4
 LEAST_SPACE, ENOUGH_SPACE, CREDENTIALS_SPACE = 16, 4096, 32
 RECEIVE_LETTERS = (("MSG_DONTWAIT", "d"), ("MSG_PEEK", "p"), ("MSG_TRUNC", "t"), ("MSG_CMSG_CLOEXEC", "x"))
 RECEIVE_SKIPS = {"MSG_NOSIGNAL", "MSG_WAITALL", "MSG_WAITFORONE"}
@@ -109,6 +110,8 @@ def receive_message(world, block, process, number, slot, message, flags, result)
         return
     told = flags_of(message.get("msg_flags"))
     items, numbers, notes = items_of(world, message.get("msg_control"))
+    before, behind = pidfds_of(message.get("msg_control"))
+    make_pidfds(world, block, process, before)
     space = ENOUGH_SPACE
     if "MSG_CTRUNC" in told:
         space = (CREDENTIALS_SPACE if "c:" in items else 0) + (LEAST_SPACE + 4 * len(numbers) if numbers else 0)
@@ -118,6 +121,7 @@ def receive_message(world, block, process, number, slot, message, flags, result)
     data = received(world, message.get("msg_iov"), length, flags, result)
     receive(world, block, process, number, slot, length, space, data, flags, result,
             (words, items, sender), list(zip(numbers, notes)))
+    make_pidfds(world, block, process, behind)
 
 
 def put_down(world, block, process, message, flags, result):
@@ -125,10 +129,33 @@ def put_down(world, block, process, message, flags, result):
     if not isinstance(message, dict) or result.error:
         return
     _, numbers, notes = items_of(world, message.get("msg_control"))
+    before, behind = pidfds_of(message.get("msg_control"))
+    make_pidfds(world, block, process, before)
     for number, note in zip(numbers, notes):
         description = Description(kind_of(note), note or "a descriptor that came in a message", inode=inode_of(note))
         description.unknown = "it came in a message that isn't said"
         world.make(block, process, number, description, "MSG_CMSG_CLOEXEC" in flags)
+    make_pidfds(world, block, process, behind)
+
+
+def pidfds_of(value):
+    """The descriptors of processes that came with a message (SO_PASSPIDFD), those before its rights and those behind them; None of one
+    whose number strace doesn't show."""
+    found, behind = ([], []), 0
+    for item in after(value) if isinstance(after(value), list) else []:
+        kind, data = item.get("cmsg_type"), after(item.get("cmsg_data"))
+        if kind == "SCM_RIGHTS":
+            behind = 1
+        elif kind in ("SCM_PIDFD", SCM_PIDFD):
+            found[behind].append(number_of(data))
+    return found
+
+
+def make_pidfds(world, block, process, numbers):
+    """Opaque objects for the sender's descriptors; one that isn't shown is at the lowest free number, as all new ones."""
+    for number in numbers:
+        make_pidfd(world, block, process, process.next_number() if number is None else number)
+        block.otherwise("a process's descriptor that came with a message: an opaque object")
 
 
 def items_of(world, value):

@@ -1,7 +1,7 @@
 """Says the calls that make, name and connect sockets, and their options."""
 from reading.effects import OUTSIDE_ERRORS
 from reading.words import Change, Descriptor, Text, after, flags_of, number_of
-from .descriptors import note_of, on_unix
+from .descriptors import make_pidfd, note_of, on_unix
 from .marks import inherit
 from .model import Description, Kind, Slot
 from .names import spell
@@ -11,6 +11,7 @@ from .world import HIGHEST, says
 TYPES = {"SOCK_STREAM": Kind.STREAM, "SOCK_DGRAM": Kind.DATAGRAM, "SOCK_RAW": Kind.DATAGRAM, "SOCK_SEQPACKET": Kind.RECORDS}
 WAYS = {"SHUT_RD": "r", "SHUT_WR": "w", "SHUT_RDWR": "rw"}
 OPTIONS = {"SO_TYPE": "type", "SO_ERROR": "error", "SO_PASSCRED": "passcred", "SO_PEERCRED": "peercred", "SO_ACCEPTCONN": "accept"}
+PEER_PIDFD = ("SO_PEERPIDFD", 77)
 PLAYED = "a peer outside of the log, which another process of the script plays"
 NUMBERS = {"SOCK_STREAM": 1, "SOCK_DGRAM": 2, "SOCK_SEQPACKET": 5, "ECONNRESET": 20, "104": 20}
 
@@ -353,6 +354,10 @@ def say_name(world, block, process, args, result):
 @says("getsockopt")
 def say_getsockopt(world, block, process, args, result):
     slot = socket_of(world, block, process, args[0])
+    if args[2] in PEER_PIDFD and slot is not None and not result.error and number_of(args[3]) is not None:
+        make_pidfd(world, block, process, number_of(args[3]))
+        block.otherwise("the peer's descriptor of a process: an opaque object")
+        return
     option = OPTIONS.get(str(args[2])) if str(args[1]) == "SOL_SOCKET" else None
     if slot is None or option is None:
         block.leave_out(f"getsockopt {args[2]}" if slot else "getsockopt of another family")

@@ -214,8 +214,10 @@ class World:
         process.table[wanted] = Slot(description, on_exec)
 
     def move(self, block, process, number, wanted, description, on_exec):
+        process.unseen.discard(wanted)
         if number == wanted:
             return
+        process.pass_over(wanted)
         self.step(block, process.seat, f"dup2 {number} {wanted}", f"fd {wanted}", role=Role.MOVE)
         self.step(block, process.seat, f"close {number}", "ok", role=Role.MOVE)
         if on_exec:

@@ -125,6 +125,15 @@ class Holders(unittest.TestCase):
             with self.subTest(when):
                 self.assertEqual([one["pid"] for one in run("holds", log, when)[1]["held"]], pids)
 
+    def test_a_descriptor_of_a_process_that_came_with_a_message_is_held(self):
+        """Neither its number nor what opened 0 to 2 is in the log; the kernel passed those over."""
+        log = HEAD + ('9 1.1 socketpair(AF_UNIX, SOCK_STREAM, 0, [3<UNIX-STREAM:[7->8]>, 4<UNIX-STREAM:[8->7]>]) = 0\n'
+                      '9 1.2 write(3<UNIX-STREAM:[7->8]>, "hi", 2) = 2\n9 1.3 recvmsg(4<UNIX-STREAM:[8->7]>, {msg_name=NULL, msg_namelen=0, '
+                      'msg_iov=[{iov_base="hi", iov_len=9}], msg_iovlen=1, msg_control=[{cmsg_len=20, cmsg_level=SOL_SOCKET, '
+                      'cmsg_type=0x4 /* SCM_??? */}], msg_controllen=24, msg_flags=0}, 0) = 2\n9 1.4 pause() = ?\n')
+        held = {one["number"]: one["what"] for one in run("holds", log)[1]["held"]}
+        self.assertEqual((sorted(held), held[5]), ([3, 4, 5], "a process's descriptor"))
+
     def test_what_is_left_at_an_exit(self):
         _, report = run("holds", LEAK)
         self.assertEqual([(one["pid"], one["number"]) for one in report["left at exit"]], [(11, 3), (11, 4), (11, 5)])
