@@ -31,9 +31,9 @@ def load(path, most=MOST_BYTES):
         log = read_log(path, most)
     except OSError as error:
         raise Fault(f"{path}: {error.strerror or error}") from error
-    if not log.calls:
+    if not log.answered:
         what = f"; line {log.bad[0][0]} is '{log.bad[0][1]}'" if log.bad else ""
-        raise Fault(f"{path}: no call of a socket, file or process in {log.lines} lines{what}: "
+        raise Fault(f"{path}: no call of a socket, file or process with its answer in {log.lines} lines{what}: "
                     "take the log by strace/record LOG -- COMMAND")
     return log
 

@@ -10,6 +10,7 @@ from .head import Head
 from .lines import Kind, read_line
 
 RESULT = re.compile(r"\s*= (-?0x[0-9a-f]+|-?\d+|\?)(?:" + words.NOTE + r")?(?: (E[A-Z0-9_]+))?(?: (\(.*\)))?", re.S)
+ANSWER = re.compile(r"\)\s+= (?:-?\d|0x|\?)")
 MOST_BYTES = 200 << 20
 LONGEST_LINE = 16 << 20
 TOOK = re.compile(r" <(\d+\.\d+)>$")
@@ -55,7 +56,8 @@ class End:
 
 @dataclass
 class Log:
-    """All that a log says: calls in the order in which they began, ends, calls without effect by name, and faults."""
+    """All that a log says: calls in the order in which they began, how many of them have an answer, ends, calls without effect by
+    name, and faults."""
     head: Head
     calls: list = field(default_factory=list)
     ends: list = field(default_factory=list)
@@ -63,6 +65,7 @@ class Log:
     touched: dict = field(default_factory=dict)
     bad: list = field(default_factory=list)
     unfinished: int = 0
+    answered: int = 0
     cut: bool = False
     lines: int = 0
     first_time: float = None
@@ -140,6 +143,7 @@ class Joiner:
             if found:
                 self.log.touched.setdefault(line.thread, []).append((line.number, int(found[1])))
             return
+        self.log.answered += ANSWER.search(text) is not None
         took = TOOK.search(text[-24:])
         ended = time + float(took[1]) if took and time is not None else line.time
         self.log.calls.append(Call(line.thread, name, text, begin, line.number, time, ended))

@@ -27,8 +27,8 @@ class Line:
 
 
 HEAD = re.compile(r"(?:\[pid\s+(\d+)\]\s+|(\d+)\s+)?(?:(\d+\.\d+)\s+|(\d\d):(\d\d):(\d\d(?:\.\d+)?)\s+)?(?:\(\+?\s*\d+\.\d+\)\s+)?")
-CALL = re.compile(r"(\w+)\(")
-RESUMED = re.compile(r"<\.\.\. (\w+) resumed>")
+CALL = re.compile(r"([a-z_]\w*)\(", re.A)
+RESUMED = re.compile(r"<\.\.\. ([a-z_]\w*) resumed>", re.A)
 REPLACED = re.compile(r"\+\+\+ superseded by execve in pid (\d+) \+\+\+")
 UNFINISHED = re.compile(r"\s*<unfinished \.\.\.>$")
 NO_THREAD = 0

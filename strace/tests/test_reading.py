@@ -5,9 +5,12 @@ import sys
 import tempfile
 import unittest
 from pathlib import Path
+from random import Random
 
 TOP = Path(__file__).resolve().parents[1]
 sys.path.insert(0, str(TOP))
+from common import load
+from judging.run import Fault
 from reading.blanking import Blanker
 from reading.calls import TooLarge, read_log
 from reading.head import Head, Inherited
@@ -90,7 +93,8 @@ class Malformed(unittest.TestCase):
 
     def test_programs_tell_faults_in_one_line(self):
         with tempfile.TemporaryDirectory() as folder:
-            files = {"empty": b"", "binary": bytes(range(256)) * 20, "random": os.urandom(5000), "other": b"hello\nworld\n"}
+            files = {"empty": b"", "binary": bytes(range(256)) * 20, "random": Random(1).randbytes(5000), "other": b"hello\nworld\n",
+                     "source": b"int main(void) {\n    puts(\"hello\");\nclose(3)\nread(0, buffer, 9);\n}\n"}
             for name, data in files.items():
                 path = Path(folder) / name
                 path.write_bytes(data)
@@ -99,6 +103,19 @@ class Malformed(unittest.TestCase):
                     self.assertEqual(done.returncode, 2, (program, name))
                     self.assertEqual(len(done.stderr.splitlines()), 1, done.stderr)
                     self.assertNotIn("Traceback", done.stderr)
+
+    def test_random_bytes_are_never_a_log(self):
+        """Of 2,000 files, each of which a seed determines; many of them have a line that begins as a call does."""
+        begins = 0
+        with tempfile.TemporaryDirectory() as folder:
+            path = Path(folder) / "log"
+            for seed in range(2000):
+                data = Random(seed).randbytes(5000 if seed % 2 else 300)
+                path.write_bytes(data)
+                begins += bool(read_log(path).calls)
+                with self.assertRaisesRegex(Fault, r"^[^\n]*no call of a socket, file or process with its answer[^\n]*$"):
+                    load(path)
+        self.assertGreater(begins, 5)
 
     def test_no_such_file(self):
         done = subprocess.run([sys.executable, TOP / "replay", "/nowhere/log"], capture_output=True, text=True, check=False)

@@ -19,6 +19,7 @@ try:
 except Fault:
     UXRUN = None
 HEAD = "# recorded 1\n# folder /\n# user 1000 100\n"
+PAIR_LINE = "9 1.1 socketpair(AF_UNIX, SOCK_STREAM, 0, [0<UNIX-STREAM:[7->8]>, 1<UNIX-STREAM:[8->7]>]) = 0\n"
 
 
 def log_in(text):
@@ -78,6 +79,38 @@ class Replay(unittest.TestCase):
                       'msg_iovlen=1, msg_controllen=0, msg_flags=0}, 0) = 1\n')
         status, report = run("replay", log)
         self.assertEqual((status, report["replies"]["rules"]), (0, {"record-end": 1}))
+
+    def test_an_address_that_a_short_buffer_cut_agrees_as_far_as_it_goes(self):
+        log = HEAD + ('9 1.1 socket(AF_UNIX, SOCK_STREAM, 0) = 0<UNIX-STREAM:[7]>\n'
+                      '9 1.2 bind(0<UNIX-STREAM:[7]>, {sa_family=AF_UNIX, sun_path="/a/long/path"}, 15) = 0\n'
+                      '9 1.3 getsockname(0<UNIX-STREAM:[7]>, {sa_family=AF_UNIX, sun_path="/a/lo"}, [7 => 15]) = 0\n'
+                      '9 1.4 socket(AF_UNIX, SOCK_STREAM, 0) = 1<UNIX-STREAM:[8]>\n'
+                      '9 1.5 bind(1<UNIX-STREAM:[8]>, {sa_family=AF_UNIX, sun_path=@"a name"}, 9) = 0\n'
+                      '9 1.6 getsockname(1<UNIX-STREAM:[8]>, {sa_family=AF_UNIX, sun_path=@"a n"}, [6 => 9]) = 0\n')
+        self.assertEqual(run("replay", log)[0], 0)
+        self.assertEqual(run("replay", log.replace('"/a/lo"', '"/b/lo"'))[1]["replies"]["differ"], 1)
+        self.assertEqual(run("replay", log.replace('@"a n"', '@"a m"'))[1]["replies"]["differ"], 1)
+        # An address that wasn't cut has to be whole.
+        self.assertEqual(run("replay", log.replace("[7 => 15]", "[110 => 8]"))[1]["replies"]["differ"], 1)
+
+    def test_a_count_that_is_not_what_came_or_went_differs(self):
+        message = '{msg_name=NULL, msg_namelen=0, msg_iov=[{iov_base="hello", iov_len=99}], msg_iovlen=1, msg_controllen=0, msg_flags=0}, 0)'
+        calls = ('9 1.2 write(0<N>, "hello", 5) = 5', '9 1.2 sendto(0<N>, "hello", 5, 0, NULL, 0) = 5', '9 1.3 read(1<M>, "hello", 99) = 5',
+                 '9 1.3 recvfrom(1<M>, "hello", 99, 0, NULL, NULL) = 5', f"9 1.3 recvmsg(1<M>, {message} = 5")
+        for kind, first, second in (("STREAM", "UNIX-STREAM:[7->8]", "UNIX-STREAM:[8->7]"), ("DGRAM", "UNIX:[7]", "UNIX:[8]")):
+            pair = f"9 1.1 socketpair(AF_UNIX, SOCK_{kind}, 0, [0<N>, 1<M>]) = 0"
+            for call in calls:
+                lines = [pair, *([calls[0]] if " 1.3 " in call else []), call]
+                for line, differ in ((call, 0), (call[:-1] + "9", 1), (call[:-1] + "104", 1)):
+                    log = "\n".join([*lines[:-1], line]).replace("<N>", f"<{first}>").replace("<M>", f"<{second}>") + "\n"
+                    with self.subTest(f"{kind} {line}"):
+                        self.assertEqual(run("replay", HEAD + log)[1]["replies"]["differ"], differ)
+
+    def test_a_failed_receive_asks_for_something(self):
+        """strace shows no buffers then. A receive of 0 bytes of a stream wouldn't wait here, by a rule."""
+        log = HEAD + PAIR_LINE + '9 1.2 recvmsg(1<UNIX-STREAM:[8->7]>, {msg_namelen=0}, MSG_DONTWAIT) = -1 EAGAIN (Try again)\n'
+        status, report = run("replay", log)
+        self.assertEqual((status, report["replies"]["agree"], report["replies"]["under a rule"]), (0, 2, 0))
 
     def test_unknown_calls_are_counted_by_name(self):
         _, report = run("replay", log_in((HERE / "logs/unknown_calls.txt").read_text("latin-1")))
