@@ -41,7 +41,7 @@ def make_connection(kernel: Kernel, process: Process, client: Socket, listener: 
     end = Socket(client.kind, peer=client, name=listener.name, peer_credentials=process.credentials, is_accepted=False)
     if listener.passcred and kernel.follows(Rule.OPTIONS_OF_A_SERVERS_END):
         end.passcred = True
-    end.charged += kernel.machine.cost(1)
+    end.charged += kernel.machine.cost("dgram", 1)
     client.peer = end
     client.peer_credentials = listener.own_credentials
     description = Description(end)

@@ -109,7 +109,7 @@ def taken_from(description: Description, target: FileObject, wanted: int) -> byt
     data = bytes(target.data[:wanted])
     del target.data[:wanted]
     left = len(data)
-    while left:
+    while left and target.pages:
         taken = min(left, target.pages[0][1])
         target.pages[0][0] += taken
         target.pages[0][1] -= taken
@@ -149,25 +149,32 @@ def write_counter(kernel: Kernel, target: FileObject, data: bytes) -> int:
     return 8
 
 
-def pipe_takes(kernel: Kernel, target: FileObject, data: bytes) -> int:
-    """How many bytes a pipe takes now: the layer by bytes, Linux by pages (pipe_write), of a write within a page."""
-    if not kernel.follows(Rule.ROOM_OF_A_PIPE):
-        room = PIPE_LIMIT - len(target.data)
-        return len(data) if len(data) <= room else room if len(data) > PIPE_WHOLE else 0
-    fits = target.pages and sum(target.pages[-1]) + len(data) <= kernel.machine.page
-    return len(data) if fits or len(target.pages) < kernel.machine.pipe_pages else 0
+def bytes_that_fit(target: FileObject, count: int) -> int:
+    """How many bytes of a write the layer's pipe takes."""
+    room = PIPE_LIMIT - len(target.data)
+    return count if count <= room else room if count > PIPE_WHOLE else 0
+
+
+def fill_pages(kernel: Kernel, target: FileObject, count: int) -> int:
+    """How many bytes of a write go into Linux's pages (pipe_write): what is beyond whole pages into the last one, where it fits there
+    and something waits, and the rest into new ones."""
+    page, taken, odd = kernel.machine.page, 0, count % kernel.machine.page
+    if odd and target.pages and sum(target.pages[-1]) + odd <= page:
+        target.pages[-1][1] += odd
+        taken = odd
+    while taken < count and len(target.pages) < kernel.machine.pipe_pages:
+        target.pages.append([0, min(page, count - taken)])
+        taken += target.pages[-1][1]
+    return taken
 
 
 def write_pipe(kernel: Kernel, target: FileObject, data: bytes) -> int:
     """Puts bytes behind those that wait."""
-    count = pipe_takes(kernel, target, data)
+    by_pages = kernel.follows(Rule.ROOM_OF_A_PIPE)
+    count = fill_pages(kernel, target, len(data)) if by_pages else bytes_that_fit(target, len(data))
     if count == 0:
         raise Refusal("EAGAIN")
     target.data.extend(data[:count])
-    if target.pages and sum(target.pages[-1]) + count <= kernel.machine.page:
-        target.pages[-1][1] += count
-    else:
-        target.pages.append([0, count])
     return count
 
 

@@ -56,6 +56,7 @@ class Rule(Enum):
     SOCKETS_IN_EACH_OTHERS_QUEUES = "sockets-in-each-others-queues"
     UNREAD_EMPTY_RECORD = "unread-empty-record"
     ROOM_OF_A_STREAM = "room-of-a-stream"
+    LONG_SEND_OF_A_STREAM = "long-send-of-a-stream"
     ROOM_OF_A_PIPE = "room-of-a-pipe"
     PIPE_KEEPS_ITS_BYTES = "pipe-keeps-its-bytes"
     LONG_WRITE_OF_A_COUNTER = "long-write-of-a-counter"

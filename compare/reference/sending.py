@@ -12,6 +12,8 @@ from .sockets import takes_address
 from .state import Description, Message, Process, Refusal, Socket
 
 RECORD_LIMIT = 16
+RECORD_BYTES = 65536
+LEFT_OF_A_BUFFER = 32  # what a message's length must leave of SO_SNDBUF (unix_dgram_sendmsg)
 
 
 @dataclass
@@ -141,19 +143,46 @@ def part_that_fits(kernel: Kernel, sending: Sending, target: Socket) -> bytes:
     return sending.data[:room]
 
 
+def check_length(kernel: Kernel, sending: Sending) -> None:
+    """EMSGSIZE of a datagram or record that is too long; on Linux of one that the sender's buffer hasn't room for."""
+    if sending.socket.kind == "stream":
+        return
+    limit = kernel.machine.send_buffer - LEFT_OF_A_BUFFER if counts_memory(kernel, sending.socket) else RECORD_BYTES
+    if len(sending.data) > limit:
+        raise Refusal("EMSGSIZE")
+
+
+def messages_of(kernel: Kernel, socket: Socket, data: bytes) -> list[bytes]:
+    """What a send puts into the queue: one message, of a long one of a stream several on Linux (unix_stream_sendmsg)."""
+    size = kernel.machine.message
+    if socket.kind != "stream" or len(data) <= size or not kernel.follows(Rule.LONG_SEND_OF_A_STREAM):
+        return [data]
+    return [data[at:at + size] for at in range(0, len(data), size)]
+
+
 def enqueue(kernel: Kernel, sending: Sending, target: Socket) -> int:
-    """Puts the message, or what fits of it, into the target's queue."""
+    """Puts the message, or what fits of it, into the target's queue. On Linux it goes on as long as the sender has memory."""
+    sent, sender = 0, sending.socket
+    for data in messages_of(kernel, sender, part_that_fits(kernel, sending, target)):
+        if sent and sender.charged >= kernel.machine.send_buffer and counts_memory(kernel, sender):
+            break
+        put_message(kernel, sending, target, data)
+        sending.rights = []
+        sent += len(data)
+    return sent
+
+
+def put_message(kernel: Kernel, sending: Sending, target: Socket, data: bytes) -> None:
+    """One message, with the rights of the send."""
     sender, process = sending.socket, sending.process
-    data = part_that_fits(kernel, sending, target)
     is_signed = bool(sending.credentials) or sender.passcred or target.passcred or not target.is_accepted or \
         not kernel.follows(Rule.CREDENTIALS_ASKED_FOR_LATER)
     message = Message(data, sending.rights, sending.credentials or process.credentials, process.uid, sender.name, sender,
-                      is_signed, kernel.machine.cost(len(data)))
+                      is_signed, kernel.machine.cost(sender.kind, len(data)))
     for right in message.rights:
         kernel.hold(right)
     sender.charged += message.cost
     target.queue.append(message)
-    return len(data)
 
 
 # ---- in the layer's order
@@ -186,6 +215,7 @@ def send_tied(kernel: Kernel, sending: Sending) -> int:
         raise Refusal("EPIPE")
     if sending.socket.kind == "stream" and not sending.data:
         return 0
+    check_length(kernel, sending)
     if kernel.follows(Rule.ORDER_OF_SEND):
         check_memory(kernel, sending)
         check_rights_in_flight(kernel, sending)
@@ -230,6 +260,7 @@ def send_datagram(kernel: Kernel, sending: Sending) -> int:
     if early and kernel.machine.peer_first:
         check_destination(kernel, sending)
     kernel.name_if_asked(sending.socket)
+    check_length(kernel, sending)
     check_record_error(kernel, sending.socket)
     if "w" in sending.socket.shut:
         raise Refusal("EPIPE")

@@ -105,7 +105,7 @@ def call_accept(kernel: Kernel, process: Process, words: list[str]) -> str:
     kernel.release(end)
     end.append, end.nonblocking = "a" in words[2], "n" in words[2]
     end.target.is_accepted = True
-    end.target.charged -= kernel.machine.cost(1)
+    end.target.charged -= kernel.machine.cost("dgram", 1)
     return f"accepted {number} {client_name(kernel, end.target.peer)}"
 
 

@@ -7,28 +7,61 @@
 #include <string.h>
 #include <unistd.h>
 
-/* A longer message of a stream is sent in pieces, so its cost would tell nothing of its own. */
-enum { LONGEST = 2048 };
+/* The longest message of which the layer knows. */
+enum { LONGEST = 1 << 16 };
 
-/* The memory that a sender is charged for a message of so many bytes. */
-static int cost_of(size_t length) {
-    int pair[2];
-    if (socketpair(AF_UNIX, SOCK_DGRAM | SOCK_CLOEXEC, 0, pair) < 0) fail("socketpair");
-    if (send(pair[0], data, length, MSG_DONTWAIT) < 0) fail("send");
+/* The memory that a sender is charged for a message of so many bytes, by an end of a pair whose other end is empty before and
+ * behind it. */
+static int cost_of(const int *pair, size_t length) {
+    if (send(pair[0], data, length, MSG_DONTWAIT) != (ssize_t)length) fail("send");
     int cost = charged_to(pair[0]);
-    if (cost < 0) fail("what a message costs");
-    close(pair[0]);
-    close(pair[1]);
+    if (cost < 0 || recv(pair[1], data, LONGEST, MSG_DONTWAIT) < 0) fail("what a message costs");
     return cost;
 }
 
-static void tell_costs(void) {
-    int last = -1;
-    for (size_t length = 0; length <= LONGEST; length++) {
-        int cost = cost_of(length);
-        if (cost != last) printf("cost %zu %d\n", length, cost);
-        last = cost;
+/* Tells where in a stretch of lengths the cost changes, by halves: a longer message costs no less. */
+static void tell_changes(const char *name, const int *pair, size_t first, int cost, size_t last, int last_cost) {
+    if (cost == last_cost) return;
+    if (last == first + 1) {
+        printf("%s %zu %d\n", name, last, last_cost);
+        return;
     }
+    size_t middle = first + (last - first) / 2;
+    int middle_cost = cost_of(pair, middle);
+    tell_changes(name, pair, first, cost, middle, middle_cost);
+    tell_changes(name, pair, middle, middle_cost, last, last_cost);
+}
+
+static void tell_costs(const char *name, int type, size_t longest) {
+    int pair[2];
+    if (socketpair(AF_UNIX, type | SOCK_CLOEXEC, 0, pair) < 0) fail("socketpair");
+    size_t least = type == SOCK_STREAM;  /* no bytes are no message of a stream */
+    int cost = cost_of(pair, least);
+    printf("%s 0 %d\n", name, cost);
+    tell_changes(name, pair, least, cost, longest, cost_of(pair, longest));
+    close(pair[0]);
+    close(pair[1]);
+}
+
+/* Of how many bytes a stream makes a message: what a receive gets with a right, where more was sent with it. */
+static ssize_t bytes_of_message(void) {
+    int pair[2];
+    if (socketpair(AF_UNIX, SOCK_STREAM | SOCK_CLOEXEC, 0, pair) < 0) fail("socketpair");
+    struct iovec bytes = {data, LONGEST};
+    union {
+        struct cmsghdr head;
+        char space[CMSG_SPACE(sizeof(int))];
+    } control = {.head = {.cmsg_len = CMSG_LEN(sizeof(int)), .cmsg_level = SOL_SOCKET, .cmsg_type = SCM_RIGHTS}};
+    struct msghdr message = {.msg_iov = &bytes, .msg_iovlen = 1, .msg_control = control.space, .msg_controllen = sizeof control.space};
+    memcpy(CMSG_DATA(&control.head), pair, sizeof(int));
+    if (sendmsg(pair[0], &message, MSG_DONTWAIT) != LONGEST) fail("a long send");
+    message.msg_control = NULL;
+    message.msg_controllen = 0;
+    ssize_t count = recvmsg(pair[1], &message, MSG_DONTWAIT);
+    if (count <= 0) fail("a receive of it");
+    close(pair[0]);
+    close(pair[1]);
+    return count;
 }
 
 /* How many datagrams a socket takes of others. */
@@ -92,5 +125,8 @@ void tell_machine(void) {
     printf("peer_first %d\n", looks_for_peer_first());
     printf("users_apart %d\n", geteuid() == 0);
     printf("own_users %d\n", geteuid() == 0 && make_user_space(user ? user : 1, MOST_USERS));
-    tell_costs();
+    ssize_t longest = bytes_of_message();
+    printf("message %zd\n", longest);
+    tell_costs("cost", SOCK_DGRAM, LONGEST);
+    tell_costs("stream_cost", SOCK_STREAM, (size_t)longest);
 }
