@@ -372,8 +372,10 @@ class World:
             self.drop(process, number)
 
     def person(self, pid, strictly=False):
-        """A process of the log as a script's words and replies tell it: ? where the log doesn't have it."""
+        """A process of the log as a script's words and replies tell it: ? where the log doesn't have it, 0 for none."""
         process = self.pids.get(pid)
+        if pid == 0:
+            return "0"
         if process is None or process.seat is None:
             return "0" if strictly else "?"
         return mark(process.seat if strictly else process.first_seat)
