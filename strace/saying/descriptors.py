@@ -1,5 +1,6 @@
 """Says the calls on descriptor tables: close, close_range, dup, dup2, dup3, fcntl and ioctl."""
 from reading.words import Descriptor, flags_of, number_of
+from . import doubts
 from .model import Description, Kind, Slot
 from .world import HIGHEST, says
 
@@ -7,7 +8,9 @@ FLAG_REQUESTS = {"FIONBIO", "FIOCLEX", "FIONCLEX"}
 QUERY_REQUESTS = {"FIONREAD", "TIOCOUTQ", "SIOCINQ", "SIOCOUTQ", "FIOASYNC", "TIOCINQ"}
 MAKES_NUMBER = {"TIOCGPTPEER", "SIOCUNIXFILE", "NS_GET_USERNS", "NS_GET_PARENT", "SECCOMP_IOCTL_NOTIF_ADDFD"}
 O_CLOEXEC = 0o2000000
-O_APPEND, O_NONBLOCK = 0o2000, 0o4000
+O_APPEND, O_NONBLOCK, O_ASYNC = 0o2000, 0o4000, 0o20000
+O_ACCMODE, O_WRONLY, O_RDWR = 3, 1, 2
+MODES = {0: "r", O_WRONLY: "w", O_RDWR: "rw"}
 FD_CLOEXEC = 1
 DUPLICATES = {"F_DUPFD": False, "F_DUPFD_CLOEXEC": True}
 FORGETS = 4294967295
@@ -40,7 +43,7 @@ def say_close(world, block, process, args, result):
     slot = world.slot(block, process, number, note_of(args[0]))
     if slot is None:
         process.unseen.discard(number)
-        world.notes["a close of a descriptor whose origin the log doesn't show"] += 1
+        world.doubts.add(doubts.CLOSE_OF_NO_ORIGIN, block)
         block.leave_out("close of a descriptor that the log doesn't show opened")
         return
     close(world, block, process, number, slot)
@@ -96,6 +99,8 @@ def say_dup2(world, block, process, args, result):
         block.not_at_all("a descriptor that isn't known")
         return
     on_unix(block, slot)
+    if result.value != target:
+        world.doubts.add(doubts.COUNT, block)
     put_at(world, block, process, source, target, slot, "O_CLOEXEC" in flags_of(args[2]) if len(args) > 2 else False)
     if block.call.name == "dup3":
         block.otherwise("dup3 as dup2 and flags")
@@ -157,6 +162,8 @@ def say_fcntl(world, block, process, args, result):
             block.otherwise(f"{request} as dupfd and flags")
     elif request in ("F_GETFD", "F_GETFL") and tells_flags(block, process, number, request, result):
         slot = process.table[number]
+        if not may_be(slot.description, request, result):
+            world.doubts.add(doubts.FLAGS, block)
         world.step(block, process.seat, f"getfl {number}", f"flags {flag_names(slot, request, result.value)}", slot.description)
         block.otherwise(f"{request} as getfl, which tells the other's flags too")
     elif request in ("F_SETFD", "F_SETFL") and not result.error:
@@ -174,10 +181,23 @@ def say_fcntl(world, block, process, args, result):
 
 
 def tells_flags(block, process, number, request, result):
-    """Whether flags are told of a socket that the script knows whole."""
+    """Whether flags are told of a description that the log shows whole."""
     slot = process.table.get(number)
     on_unix(block, slot)
-    return block.unix and not result.error and not slot.description.unknown and number <= HIGHEST
+    is_known = slot is not None and not slot.description.unknown and (request == "F_GETFD" or not slot.description.is_given)
+    return is_known and not result.error and result.value is not None and number <= HIGHEST
+
+
+def may_be(description, request, result):
+    """Whether flags are such as the description can have, by how it was opened and by the names that strace tells beside them."""
+    if request == "F_GETFD":
+        return result.value in (0, FD_CLOEXEC)
+    names = flags_of(result.detail.removeprefix("(flags ").rstrip(")"))
+    mode = MODES.get(result.value & O_ACCMODE)
+    bits = {"O_APPEND": O_APPEND, "O_NONBLOCK": O_NONBLOCK, "O_RDWR": O_RDWR, "O_WRONLY": O_WRONLY}
+    is_told = not names or all((name in names) == (result.value & bit == bit) for name, bit in bits.items())
+    is_plain = not description.kind.is_socket or not result.value & ~(O_ACCMODE | O_APPEND | O_NONBLOCK | O_ASYNC)
+    return mode is not None and description.mode in ("", mode) and is_told and is_plain
 
 
 def flag_names(slot, request, value):
@@ -199,6 +219,7 @@ def take_flags(slot, request, value):
     else:
         slot.description.nonblocking = bool(flags & {"O_NONBLOCK", "O_NDELAY"})
         slot.description.append = "O_APPEND" in flags
+        slot.description.is_given = False
 
 
 @says("ioctl")

@@ -2,6 +2,7 @@
 import struct
 
 from reading.words import Text, after, flags_of, number_of, shown
+from . import doubts
 from .descriptors import note_of
 from .contents import hexadecimal, sayable
 from .model import Description, Kind, Role
@@ -40,6 +41,7 @@ def say_open(world, block, process, args, result):
     name = shown(path) or result.note or "a file that the log doesn't name"
     description = Description(Kind.OPAQUE, f"opened {name}", "O_NONBLOCK" in flags, "O_APPEND" in flags)
     description.inode = result.note or name
+    description.mode = "" if "O_PATH" in flags else access_of(flags)
     is_said = process.seat is not None and result.value <= HIGHEST
     words = opening(world, block, process, (folder, path), flags) if is_said else None
     if words:
@@ -80,7 +82,7 @@ def forget_path(world, block, process, place):
     word = world.names.unlink(*place)
     if word:
         world.step(block, process.seat, f"unlink {word}", None, role=Role.MOVE)
-    world.notes["a path that the log doesn't show taken away"] += 1
+    world.doubts.add(doubts.PATH_GONE, block)
 
 
 @says("pipe", "pipe2")
@@ -96,6 +98,7 @@ def say_pipe(world, block, process, args, result):
         thing = world.made_thing(Kind.PIPE)
         made = [Description(Kind.PIPE, f"the {word} end of a pipe", "O_NONBLOCK" in flags, inode=inode_of(note_of(end)), thing=thing)
                 for end, word in zip(ends, ("reading", "writing"))]
+        made[0].mode, made[1].mode = "r", "w"
         make_two(world, block, process, "pipe", made, numbers, on_exec)
         return
     thing = None if "O_DIRECT" in flags else pipe_thing(world, block, process)

@@ -41,7 +41,8 @@ class Role(Enum):
 class Description:
     """An open file description as the log shows it. `unknown` says why its later replies aren't compared;
     `unread` has the lengths of what was sent and not yet received, `senders` whose messages wait, `held` and `flying` how many
-    descriptors and rights on their way lead to it, `past` what marks.py keeps."""
+    descriptors and rights on their way lead to it, `past` what marks.py keeps; `mode` is r, w or rw where that is
+    known, and `is_given` says that its flags were set by what the log doesn't show."""
     kind: Kind
     what: str
     nonblocking: bool = False
@@ -66,6 +67,8 @@ class Description:
     was_held: bool = False
     flying: int = 0
     past: object = None
+    mode: str = ""
+    is_given: bool = False
 
     def state(self):
         """What differences.txt calls the kind of a descriptor."""
@@ -126,7 +129,7 @@ def mark(seat):
 class Process:
     """A process of the log, with all its threads. `user`, `group` and `privileged` are the layer's, `users` and `groups` the real,
     effective and saved ids of the log; `unseen` has numbers that are open, since the kernel passed them over, though the log doesn't
-    show what opened them."""
+    show what opened them, `freed` by which line of the log each number was closed."""
     pid: int
     parent: object
     table: dict
@@ -144,6 +147,7 @@ class Process:
     groups: tuple = None
     unsaid: str = ""
     unseen: set = field(default_factory=set)
+    freed: dict = field(default_factory=dict)
     over: bool = False
     execs: int = 0
     last: int = 0
@@ -166,12 +170,6 @@ class Process:
         while number in self.unseen:
             number = self.lowest(number + 1)
         return number
-
-    def pass_over(self, number):
-        """The kernel gave this number as the lowest, so those below it are open; the answer is which of them weren't known so."""
-        new = {one for one in range(number) if one not in self.table} - self.unseen
-        self.unseen |= new
-        return new
 
     def lowest_numbers(self, count):
         """So many of the lowest numbers that are free."""

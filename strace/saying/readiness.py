@@ -2,6 +2,7 @@
 import re
 
 from reading.words import after, arguments, flags_of, number_of
+from . import doubts
 from .descriptors import on_unix
 from .model import Kind
 from .world import HIGHEST, says
@@ -63,7 +64,10 @@ def say_poll(world, block, process, args, result):
     for one in after(args[0]) if isinstance(after(args[0]), list) else []:
         if isinstance(one, dict) and number_of(one.get("fd"), -1) >= 0:
             asked.setdefault(number_of(one["fd"]), set()).update(conditions(flags_of(one.get("events"))))
-    for one in reported(result.detail):
+    ready = reported(result.detail)
+    if result.value != len(ready):
+        world.doubts.add(doubts.COUNT, block)
+    for one in ready:
         found.setdefault(number_of(one.get("fd")), set()).update(conditions(flags_of(one.get("revents"))))
     said = False
     for number, events in asked.items():
@@ -85,6 +89,8 @@ def say_select(world, block, process, args, result):
         return
     sets = [{number_of(one) for one in after(value)} if isinstance(after(value), list) else set() for value in args[1:4]]
     ready = [told_set(result.detail, word) for word in ("in", "out")]
+    if result.value != sum(map(len, [*ready, told_set(result.detail, "except")])):
+        world.doubts.add(doubts.COUNT, block)
     said = False
     for number in sorted(sets[0] | sets[1]):
         asked, found = set(), set()
@@ -130,8 +136,11 @@ def say_epoll_wait(world, block, process, args, result):
         return
     slot = process.table.get(number_of(args[0], -1))
     watched = (slot.description.watched if slot else None) or {}
+    events = after(args[1]) if isinstance(after(args[1]), list) else []
+    if result.value != len(events) and (events or not result.value):
+        world.doubts.add(doubts.COUNT, block)
     said = False
-    for event in after(args[1]) if isinstance(after(args[1]), list) else []:
+    for event in events:
         known = watched.get(data_key(event)) if isinstance(event, dict) else None
         if known is None:
             continue

@@ -98,7 +98,7 @@ def say_socket(world, block, process, args, result):
 
 
 def new_socket(world, kind, flags, note):
-    description = Description(kind, "a socket", nonblocking="SOCK_NONBLOCK" in flags, inode=inode_of(note) if note else "")
+    description = Description(kind, "a socket", nonblocking="SOCK_NONBLOCK" in flags, inode=inode_of(note) if note else "", mode="rw")
     if description.inode:
         world.by_inode[description.inode] = description
     return description
@@ -114,7 +114,7 @@ def say_pair(world, block, process, args, result):
     ends = two_numbers(process, args[3])
     if args[0] not in ("AF_UNIX", "AF_LOCAL"):
         for end in ends:
-            description = Description(Kind.OPAQUE, str(args[0]), inode=inode_of(note_of(end)))
+            description = Description(Kind.OPAQUE, str(args[0]), "SOCK_NONBLOCK" in flags, inode=inode_of(note_of(end)))
             world.make(block, process, number_of(end), description, "SOCK_CLOEXEC" in flags)
         block.otherwise("a socket of another family: an opaque object")
         return

@@ -6,7 +6,7 @@ from collections import Counter
 from reading.calls import End
 from reading.effects import MAKES_OPAQUE
 from reading.words import Unreadable, after, number_of
-from . import handover, marks
+from . import doubts, handover, marks
 from .model import Block, Description, How, Kind, Process, Role, Seat, Slot, Step, Thing, mark
 from .names import Names
 from .notes import descriptors_in, inode_of, kind_of
@@ -52,7 +52,7 @@ class World:
         self.uses = {}
         self.missing = {}
         self.unknown_names = Counter()
-        self.notes = Counter()
+        self.doubts = doubts.Doubts()
         self.births = {}
         self.orphans = []
         self.cut_texts = 0
@@ -154,7 +154,7 @@ class World:
     def start(self, block, process):
         """Opens what the first program was given."""
         for one in sorted(self.inherited, key=lambda one: one.number):
-            description = Description(Kind.OPAQUE, one.target, nonblocking=one.nonblocking, inode=one.target)
+            description = Description(Kind.OPAQUE, one.target, nonblocking=one.nonblocking, inode=one.target, is_given=True)
             self.make(block, process, one.number, description, False, role=Role.START)
 
     def enter(self, process, thread):
@@ -214,10 +214,10 @@ class World:
         process.table[wanted] = Slot(description, on_exec)
 
     def move(self, block, process, number, wanted, description, on_exec):
-        process.unseen.discard(wanted)
+        self.doubts.given(block, process, wanted)
         if number == wanted:
             return
-        process.pass_over(wanted)
+        self.doubts.pass_over(block, process, wanted)
         self.step(block, process.seat, f"dup2 {number} {wanted}", f"fd {wanted}", role=Role.MOVE)
         self.step(block, process.seat, f"close {number}", "ok", role=Role.MOVE)
         if on_exec:
@@ -227,7 +227,7 @@ class World:
     def gone(self, block, process, number):
         """A number that the log gives anew was closed by what the log doesn't show."""
         self.step(block, process.seat, f"close {number}", None, role=Role.MOVE)
-        self.notes["a descriptor that the log doesn't show closed"] += 1
+        self.doubts.add(doubts.NOT_CLOSED, block)
         self.drop(process, number)
 
     @staticmethod
@@ -243,7 +243,7 @@ class World:
             while root.parent:
                 root = root.parent
             self.missing.setdefault((root.pid, number), note)
-            self.notes["a descriptor whose origin the log doesn't show"] += 1
+            self.doubts.add(doubts.NO_ORIGIN, block)
             description = self.by_inode.get(inode_of(note)) or Description(kind_of(note), note, inode=inode_of(note))
             description.unknown = description.unknown or "its origin isn't in the log"
             self.make(block, process, number, description, False, role=Role.START)
@@ -312,8 +312,8 @@ class World:
         if result.error or result.value is None:
             block.leave_out(f"{name} that failed" if result.error else f"{name} without an answer")
         elif name in MAKES_OPAQUE or result.note:
-            description = Description(Kind.OPAQUE, result.note or name, inode=result.note)
-            on_exec = any("CLOEXEC" in str(value) or "NONBLOCK" in str(value) and "CLOEXEC" in str(value) for value in args)
+            description = Description(Kind.OPAQUE, result.note or name, any("NONBLOCK" in str(value) for value in args), inode=result.note)
+            on_exec = any("CLOEXEC" in str(value) for value in args)
             self.make(block, process, result.value, description, on_exec or name in ("pidfd_open", "pidfd_getfd"))
             block.otherwise("an opaque object" if name in MAKES_OPAQUE else f"a new number by {name}: an opaque object")
         else:
@@ -383,6 +383,7 @@ class World:
     def drop(self, process, number):
         slot = process.table.pop(number, None)
         if slot:
+            process.freed[number] = self.current.end if self.current is not None else 0
             marks.released(slot.description)
         if slot and slot.description.thing is not None:
             slot.description.thing.ends -= 1

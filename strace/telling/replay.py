@@ -5,6 +5,7 @@ from judging.compare import Outcome
 from saying.model import How
 
 MOST_TOLD = 12
+MOST_PLACES = 5
 
 
 def calls_of(world):
@@ -53,7 +54,7 @@ def report_of(log, world, order, runner):
                 "strings cut": world.cut_texts},
         "calls": calls_of(world),
         "unknown calls": dict(world.unknown_names),
-        "notes": dict(world.notes),
+        "notes": world.doubts.told(),
         "unknown": [{"line": block.call.begin, "process": block.program, "call": block.call.name, "why": block.unknown}
                     for block in world.blocks if block.unknown],
         "replies": replies_of(order),
@@ -84,7 +85,7 @@ def text_of(report, every=False):
     for how in (How.OTHERWISE, How.LEFT_OUT, How.NOT_AT_ALL):
         lines += reasons(calls["reasons"][how.value], how.value)
     lines += reasons(report["unknown calls"], "calls that this program doesn't know")
-    lines += reasons(report["notes"], "the log doesn't show")
+    lines += doubts_of(report["notes"])
     lines.append(f"replies: {replies['compared']} compared, {replies['agree']} agree, {replies['under a rule']} under a rule, "
                  f"{replies['differ']} differ; {report['moved']} calls that overlap were moved")
     lines += reasons(replies["rules"], "rules of compare/differences.txt")
@@ -97,6 +98,23 @@ def text_of(report, every=False):
     for one in report["differences"][:None if every else 1]:
         lines.append(f"  line {one['line']}: {one['process']}: {one['call']} | {one['reply']} | the kernel: {one['kernel']}"[:400])
     return "\n".join(lines)
+
+
+def doubts_of(notes):
+    """What can't be as the log tells it, with the first lines of each."""
+    lines = ["  what can't be as the log tells it:"] if notes else []
+    for text, places in notes.items():
+        more = f" and {len(places) - MOST_PLACES} more" if len(places) > MOST_PLACES else ""
+        lines.append(f"    {len(places):6d} {text}: {'lines' if len(places) > 1 else 'line'} "
+                     f"{', '.join(map(str, places[:MOST_PLACES]))}{more}")
+    return lines
+
+
+def status_of(report):
+    """1 where a reply differs, 3 where something else of the log can't be so, else 0."""
+    if report["replies"]["differ"]:
+        return 1
+    return 3 if report["notes"] or report["log"]["unreadable"] else 0
 
 
 def faults_of(log):
