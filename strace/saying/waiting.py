@@ -16,6 +16,9 @@ def must_wait(process, call, args, result):
     if slot is None or slot.description.kind is Kind.OPAQUE:
         return True
     description = slot.description
+    if result.error == "EAGAIN":
+        # Nothing was there: it stands where nothing is, so that a send which overlaps with it comes behind it.
+        return is_something_there(call, description)
     if call.name in ACCEPTS:
         return not description.waiting
     if result.error or not result.value:
@@ -24,6 +27,13 @@ def must_wait(process, call, args, result):
         return not description.pending
     there = waiting_bytes(description)
     return not (result.value == there or result.value == asked(call, args) < there)
+
+
+def is_something_there(call, description):
+    """Whether an accept or a receive finds something, as far as is known where it began."""
+    if call.name in ACCEPTS:
+        return bool(description.waiting)
+    return bool(description.pending if description.kind in (Kind.DATAGRAM, Kind.RECORDS) else waiting_bytes(description))
 
 
 def waiting_bytes(description):
