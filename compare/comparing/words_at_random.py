@@ -12,6 +12,9 @@ PATHS = ["p:a", "p:b", "p:c", "p:d"]
 ABSTRACT = ["a:x", "a:y", "a:z", "a:00000", "a:00001", "a:"]
 OBJECT_PATHS = ["p:f", "p:g", "p:h"]
 LONGEST = 1900
+# Around where a message or a pipe's bytes take one page more, and where the layer takes no more.
+LONG_LENGTHS = [2000, 3776, 3777, 4095, 4096, 4097, 5000, 7872, 7873, 10000, 16064, 16065, 30000, 36544, 36545, 40000, 57344, 57345,
+                60000, 61440, 61441, 65535, 65536, 65537]
 
 
 def odd_name(random: Random) -> str:
@@ -70,7 +73,7 @@ def counter_data(random: Random) -> str:
 
 def wanted(random: Random) -> int:
     """Bytes that a read or receive asks for."""
-    return random.choice([0, 0, 1, 1, 2, 3, 4, 7, 8, 8, 16, 64, 64, 64, 64, 4096, 1048577, 4294967295])
+    return random.choice([0, 0, 1, 1, 2, 3, 4, 7, 8, 8, 16, 64, 64, 64, 64, 4096, 36544, 65536, 1048577, 4294967295])
 
 
 def number(random: Random, process: Process) -> int:
