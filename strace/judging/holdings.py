@@ -7,12 +7,14 @@ from saying.outside import LABEL
 
 @dataclass
 class Holding:
-    """A descriptor that a process holds: number, where it leads, the chain in words, and what says that it isn't known."""
+    """A descriptor that a process holds: number, where it leads, the chain in words, what says that it isn't known, and whether it was
+    open from the log's start."""
     process: object
     number: int
     description: object
     chain: list = field(default_factory=list)
     unknown: str = ""
+    from_start: bool = False
 
     def text(self):
         what = f" (not known: {self.unknown})" if self.unknown else ""
@@ -29,7 +31,8 @@ def holdings(world, script, runner, calls):
         if seat is None or seat.process.program == LABEL:
             continue
         description, chain = tell_chain(script, held.links)
-        found.append(Holding(seat.process, held.number, description, chain, description.unknown if description else ""))
+        from_start = script.steps[int(held.links[0][1])].role is Role.START
+        found.append(Holding(seat.process, held.number, description, chain, description.unknown if description else "", from_start))
     return found, trace.fault
 
 

@@ -346,9 +346,13 @@ class World:
     def note_uses(self, process, call, args):
         if call.name in ("close_range", "clone", "clone3", "vfork", "fork"):
             return
+        if call.name == "close":
+            # A loop closes numbers that lead to nothing too, which strace tells without a note.
+            self.closes.setdefault((id(process), number_of(args[0])), []).append((call.begin, call.name))
+            return
         overwrites = call.name in ("dup2", "dup3")
         for place, descriptor in enumerate(descriptors_in(args, self.plain)):
-            kept = self.closes if call.name == "close" or overwrites and place == 1 else self.uses
+            kept = self.closes if overwrites and place == 1 else self.uses
             kept.setdefault((id(process), descriptor.number), []).append((call.begin, call.name))
 
     def end_thread(self, end):

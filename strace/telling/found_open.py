@@ -3,9 +3,14 @@ from collections import Counter
 
 from judging.holdings import holdings
 from judging.run import Fault
+from saying.marks import TIED_KINDS
+from saying.model import Kind
 
 STREAMS = 3
-CLOSED = "closed"
+IN_WORDS = {("closed",): "closed before any use", ("closed with all others",): "closed with all others before any use"}
+CLOSED, CLOSED_IN_A_LOOP = "closed", "closed with all others"
+# How many lines of a log may lie between the closes of a loop over all numbers.
+NEAR = 60
 
 
 def report_of(world, order, runner):
@@ -27,15 +32,15 @@ def report_of(world, order, runner):
 def tell(world, block, one):
     used = uses_of(world, block, one.number)
     return {"number": one.number, "chain": one.chain, "leads to": one.description.inode if one.description else "",
-            "used": used, "wrong": judge(one, used, block), "unknown": one.unknown}
+            "used": used, "wrong": judge(one, used), "unknown": one.unknown, "from the start": one.from_start}
 
 
 def uses_of(world, block, number):
     """The names of calls on a number from a program's beginning until it is closed, by the program and its forks; `closed` where
     nothing comes before."""
     calls = calls_on(world, block.process, number, block.call.end, next_exec(world, block.process, block.call.begin))
-    is_closed = any(name == CLOSED for name in calls)
-    return list(dict.fromkeys(name for name in calls if name != CLOSED))[:3] or ([CLOSED] if is_closed else [])
+    closed = [name for name in calls if name in (CLOSED, CLOSED_IN_A_LOOP)]
+    return list(dict.fromkeys(name for name in calls if name not in closed))[:3] or closed[:1]
 
 
 def next_exec(world, process, line):
@@ -47,32 +52,46 @@ def next_exec(world, process, line):
 def calls_on(world, process, number, begin, until):
     """The calls of a process on a number behind a line and before another, or its close; and those of its forks before they execute
     a program of their own. A close of the process itself stands last, as `closed`."""
-    closes = [line for line, _ in world.closes.get((id(process), number), ()) if begin < line < until]
-    until = min([until, *closes])
+    closes = [close for close in world.closes.get((id(process), number), ()) if begin < close[0] < until]
+    until = min([until, *(line for line, _ in closes)])
     calls = [name for line, name in world.uses.get((id(process), number), ()) if begin < line < until]
     if any(begin < line < until and touched == number for line, touched in touches(world, process)):
         calls.append("a query")
     for child in world.processes:
         if child.parent is process and child.birth is not None and begin < child.birth.call.begin < until:
             born = child.birth.call.begin
-            calls += [name for name in calls_on(world, child, number, born, next_exec(world, child, born)) if name != CLOSED]
-    return calls + ([CLOSED] if closes else [])
+            calls += [name for name in calls_on(world, child, number, born, next_exec(world, child, born))
+                      if name not in (CLOSED, CLOSED_IN_A_LOOP)]
+    if not closes:
+        return calls
+    return [*calls, CLOSED_IN_A_LOOP if is_in_a_loop(world, process, number, min(closes)) else CLOSED]
+
+
+def is_in_a_loop(world, process, number, close):
+    """Whether a close is one of all numbers from some on: by close_range(2), or beside those of two neighbours."""
+    line, name = close
+    near = [other for other in range(number - 2, number + 3)
+            if any(abs(at - line) <= NEAR for at, _ in world.closes.get((id(process), other), ()))]
+    return name == "close_range" or len(near) >= 3
 
 
 def touches(world, process):
     return world.log.touched.get(process.pid, ())
 
 
-def judge(one, used, block):
+def judge(one, used):
     """What looks wrong about a descriptor that a program found open, or no text."""
-    if one.number < STREAMS or used and used != [CLOSED]:
+    if one.number < STREAMS or one.from_start or used == [CLOSED_IN_A_LOOP] or used and used != [CLOSED]:
         return ""
     description = one.description
     closed = ", though the program closes it" if used else ""
     if description is not None and description.listens:
         return "a socket that listens, which the program never uses" + closed
     if description is not None and description.phase == "tied":
-        return "a connection that the program never uses" + closed
+        end = ": its peer sees no end of input as long as this is open" if description.kind in TIED_KINDS else ""
+        return "a connection that the program never uses" + end + closed
+    if description is not None and description.kind is Kind.PIPE and description.mode == "w" and not used:
+        return "a pipe's writing end that the program never uses: its readers see no end of input as long as this is open"
     return "" if used else "never used: not close-on-exec"
 
 
@@ -83,9 +102,10 @@ def text_of(report, every=False):
     counts = Counter((name_of(program), one["wrong"], one["chain"][0]) for program, one in wrong)
     for (name, why, origin), count in sorted(counts.items(), key=lambda item: weight(item[0][1])):
         lines.append(f"  {name}{f' ({count} times)' if count > 1 else ''}: {why}: {origin}")
+    lines += from_the_start(report)
     told = set()
     for program in report["programs"]:
-        rows = [one for one in program["found"] if every or one["number"] >= STREAMS]
+        rows = [one for one in program["found"] if every or one["number"] >= STREAMS and not one["from the start"]]
         key = (name_of(program), tuple((one["number"], one["wrong"]) for one in rows))
         if key in told and not every:
             continue
@@ -96,6 +116,13 @@ def text_of(report, every=False):
             lines.append(f"  not known: {program['unknown']}")
         lines += [row_of(one) for one in rows]
     return "\n".join(lines)
+
+
+def from_the_start(report):
+    """What was open before the first call of the log, each number once, with how many programs found it so."""
+    counts = Counter((one["number"], one["chain"][0]) for program in report["programs"] for one in program["found"]
+                     if one["from the start"] and one["number"] >= STREAMS)
+    return [f"  {number}: {origin}: {count} programs found it so" for (number, origin), count in sorted(counts.items())]
 
 
 def name_of(program):
@@ -109,6 +136,6 @@ def weight(why):
 
 def row_of(one):
     mark = f"\n      LOOKS WRONG: {one['wrong']}" if one["wrong"] else ""
-    used = "closed before any use" if one["used"] == [CLOSED] else f"used by {', '.join(one['used'])}"
+    used = IN_WORDS.get(tuple(one["used"]), f"used by {', '.join(one['used'])}")
     use = f"; {used}" if one["used"] and not one["wrong"] else ""
     return f"  {one['number']}: {', '.join(one['chain'])}{use}{mark}"

@@ -229,6 +229,39 @@ class Holders(unittest.TestCase):
         status, report = run("found-open", log.replace("11 1.07 ", '11 1.065 execve("/usr/sbin/worker", ["worker"], 0x7f) = 0\n11 1.07 '))
         self.assertEqual((status, [program["found"][0]["used"] for program in report["programs"]]), (1, [[], ["accept"]]))
 
+    def test_a_helper_that_holds_an_end_of_a_connection_keeps_its_peer_from_the_end_of_input(self):
+        log = HEAD + PAIR_LINE.replace("[0<", "[3<").replace(" 1<", " 4<") + ('9 1.2 pipe([5<pipe:[9]>, 6<pipe:[9]>]) = 0\n'
+            '9 1.3 fork() = 10\n10 1.4 execve("/bin/helper", ["helper"], 0x7f) = 0\n10 1.5 pause() = ?\n')
+        status, report = run("found-open", log)
+        wrong = {one["number"]: one["wrong"].partition(":")[0] for one in report["programs"][0]["found"]}
+        self.assertEqual((status, wrong), (1, {3: "a connection that the program never uses", 4: "a connection that the program never uses",
+                                               5: "never used", 6: "a pipe's writing end that the program never uses"}))
+        for number in (3, 4):
+            self.assertIn("sees no end of input", next(one["wrong"] for one in report["programs"][0]["found"] if one["number"] == number))
+
+    def test_a_loop_that_closes_all_numbers_raises_no_alarm(self):
+        log = HEAD + PAIR_LINE.replace("[0<", "[3<").replace(" 1<", " 4<") + ('9 1.2 openat(AT_FDCWD</>, "/a", O_RDONLY) = 5</a>\n'
+            '9 1.3 fork() = 10\n10 1.4 execve("/bin/helper", ["helper"], 0x7f) = 0\n')
+        loop = "".join(f"10 1.5{number} close({number}) = {'0' if number < 6 else '-1 EBADF (Bad file descriptor)'}\n" for number in range(3, 9))
+        for closes in (loop, "10 1.5 close_range(3, 4294967295, 0) = 0\n"):
+            status, report = run("found-open", log + closes)
+            self.assertEqual((status, {tuple(one["used"]) for one in report["programs"][0]["found"]}), (0, {("closed with all others",)}))
+        status, report = run("found-open", log + "10 1.5 close(4<UNIX-STREAM:[8->7]>) = 0\n")
+        self.assertEqual([one["used"] for one in report["programs"][0]["found"]], [[], ["closed"], []])
+
+    def test_what_was_open_at_the_start_is_told_apart_and_once(self):
+        log = ("# recorded 1\n# folder /\n# user 0 0\n# inherited 0 - /dev/null\n# inherited 7 - /var/log/x\n"
+               '9 1.1 execve("/bin/sh", ["sh"], 0x7f) = 0\n9 1.2 fork() = 10\n10 1.3 execve("/bin/helper", ["helper"], 0x7f) = 0\n')
+        status, report = run("found-open", log)
+        self.assertEqual((status, [[one["from the start"] for one in program["found"]] for program in report["programs"]]),
+                         (0, [[True, True], [True, True]]))
+        with tempfile.NamedTemporaryFile("w", suffix=".log") as file:
+            file.write(log)
+            file.flush()
+            text = subprocess.run([sys.executable, TOP / "found-open", file.name], capture_output=True, text=True, check=False).stdout
+        self.assertEqual(text.splitlines(), ["2 programs were executed; 0 descriptors look wrong",
+                                             "  7: open from the start, /var/log/x: 2 programs found it so"])
+
     def test_close_on_exec_is_not_found_open(self):
         status, report = run("found-open", LEAK.replace("dup2(0<UNIX-STREAM:[7]>, 5)", "dup3(0<UNIX-STREAM:[7]>, 5, O_CLOEXEC)")
                              .replace("SOCK_DGRAM, 0, [2", "SOCK_DGRAM|SOCK_CLOEXEC, 0, [2"))
