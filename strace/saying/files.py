@@ -222,6 +222,9 @@ def say_rename(world, block, process, args, result):
     old_folder, new_folder = (process.folder, process.folder) if short else (folder_of(process, args[0]), folder_of(process, args[2]))
     old, new = path_of(args[0 if short else 1]), path_of(args[1 if short else 3])
     word = world.names.known(old_folder, old)
+    if not result.error:
+        follow_rename(world, *(world.names.canonical(folder, path).decode("latin-1") for folder, path in
+                               ((old_folder, old), (new_folder, new))))
     if result.error or word is None and world.names.known(new_folder, new) is None:
         block.leave_out("rename of another file, or that failed")
         return
@@ -230,6 +233,15 @@ def say_rename(world, block, process, args, result):
     if over:
         world.step(block, process.seat, f"unlink {over}", "ok")
     block.otherwise("what is renamed keeps its name in the script")
+
+
+def follow_rename(world, old, new):
+    """What is open of a file, or in a folder, that is renamed leads to its new path."""
+    for process in world.processes:
+        for slot in process.table.values() if not process.over else ():
+            inode = slot.description.inode
+            if inode == old or inode.startswith(old + "/"):
+                slot.description.inode = new + inode[len(old):]
 
 
 @says("link", "linkat")

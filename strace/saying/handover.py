@@ -71,6 +71,24 @@ def hand_over(world, block, giver, taker, table):
             line(taker, f"flags {number} {world.letters(table[number].description, True)}")
 
 
+def take_from(world, block, giver, number, taker, wanted, on_exec):
+    """The lines by which a process gets one descriptor of another, as pidfd_getfd(2) does: a copy, under the lowest free number."""
+    description = giver.table[number].description
+    name = f"a:~taken{len(world.blocks)}"
+    lowest, free = taker.lowest_numbers(2), giver.lowest()
+    for seat, words in ((taker.seat, "socket dgram -"), (taker.seat, f"bind {lowest[0]} {name}"), (giver.seat, "socket dgram -"),
+                        (giver.seat, f"send {free} {name} - r:{number} -"), (giver.seat, f"close {free}"),
+                        (taker.seat, f"recv {lowest[0]} 0 64 -"), (taker.seat, f"dup2 {lowest[1]} {lowest[0]}"),
+                        (taker.seat, f"close {lowest[1]}")):
+        world.step(block, seat, words, role=Role.HAND_OVER)
+    world.move(block, taker, lowest[0], wanted, description, on_exec)
+    if lowest[0] == wanted and on_exec:
+        world.step(block, taker.seat, f"flags {wanted} {world.letters(description, True)}", role=Role.HAND_OVER)
+    taker.table[wanted] = Slot(description, on_exec)
+    if description.thing is not None:
+        description.thing.ends += 1
+
+
 def placing(numbers):
     """Moves descriptors that came as 1, 2, .. to the numbers wanted, which rise; 0 is the socket that they came over."""
     lines = []

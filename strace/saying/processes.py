@@ -2,11 +2,13 @@
 import posixpath
 import re
 
-from reading.words import shown
+from reading.words import number_of, shown
 from . import handover
 from .descriptors import make_pidfd
 from .files import path_of
-from .world import says
+from .model import Description, Kind
+from .notes import inode_of
+from .world import HIGHEST, says
 
 PIDFD = re.compile(r"(?:pidfd|parent_tid)=(?:0x[0-9a-f]+ => )?\{?\[(\d+)[<\]]")
 
@@ -37,6 +39,26 @@ def say_fork(world, block, process, args, result):
     pidfd = PIDFD.search(text) if "CLONE_PIDFD" in text else None
     if pidfd:
         make_pidfd(world, block, process, int(pidfd[1]))
+
+
+@says("pidfd_getfd")
+def say_pidfd_getfd(world, block, process, args, result):
+    """A descriptor of another process: the same description, where the log has it there."""
+    if result.error or result.value is None:
+        block.leave_out("pidfd_getfd that failed")
+        return
+    number = number_of(args[1])
+    giver = next((one for one in world.processes if not one.over and one.seat is not None and number in one.table
+                  and one.table[number].description.inode == inode_of(result.note)), None)
+    if giver is None or process.seat is None or max(number, result.value) > HIGHEST:
+        world.make(block, process, result.value, Description(Kind.OPAQUE, result.note or "pidfd_getfd", inode=result.note), True)
+        block.otherwise("a descriptor of another process, which the log doesn't show there: an opaque object")
+        return
+    if result.value in process.table:
+        world.gone(block, process, result.value)
+    block.unix = giver.table[number].description.kind.is_socket
+    handover.take_from(world, block, giver, number, process, result.value, True)
+    block.otherwise("a descriptor of another process, which passes it")
 
 
 @says("execve", "execveat")
@@ -84,8 +106,10 @@ def say_exit(world, block, process, args, result):
 def say_unshare(world, block, process, args, result):
     if result.error:
         block.leave_out(f"{block.call.name} that failed")
-    elif block.call.thread in process.shared and "CLONE_FILES" in block.call.text:
+    elif "CLONE_FILES" in block.call.text and len(process.threads) > 1:
         part(world, block, process)
         block.otherwise("a table that was shared is copied")
+    elif block.call.text.startswith("CLONE_FILES)"):
+        block.leave_out("unshare of a table that nobody shares")
     else:
         block.not_at_all(f"{block.call.name}: namespaces")

@@ -11,6 +11,7 @@ from .world import HIGHEST, says
 TYPES = {"SOCK_STREAM": Kind.STREAM, "SOCK_DGRAM": Kind.DATAGRAM, "SOCK_RAW": Kind.DATAGRAM, "SOCK_SEQPACKET": Kind.RECORDS}
 WAYS = {"SHUT_RD": "r", "SHUT_WR": "w", "SHUT_RDWR": "rw"}
 OPTIONS = {"SO_TYPE": "type", "SO_ERROR": "error", "SO_PASSCRED": "passcred", "SO_PEERCRED": "peercred", "SO_ACCEPTCONN": "accept"}
+PEEK_OFFSET = ("SO_PEEK_OFF", 42)
 PEER_PIDFD = ("SO_PEERPIDFD", 77)
 PLAYED = "a peer outside of the log, which another process of the script plays"
 NUMBERS = {"SOCK_STREAM": 1, "SOCK_DGRAM": 2, "SOCK_SEQPACKET": 5, "ECONNRESET": 20, "104": 20}
@@ -380,6 +381,10 @@ def say_getsockopt(world, block, process, args, result):
 @says("setsockopt")
 def say_setsockopt(world, block, process, args, result):
     slot = socket_of(world, block, process, args[0])
+    if slot is not None and args[2] in PEEK_OFFSET and not result.error and number_of(args[3], -1) >= 0:
+        world.make_unknown(slot.description, "SO_PEEK_OFF was set: what a peek shows depends on the peeks before it")
+        block.not_at_all("SO_PEEK_OFF")
+        return
     if slot is None or str(args[1]) != "SOL_SOCKET" or str(args[2]) != "SO_PASSCRED" or result.error:
         block.leave_out(f"setsockopt {args[2]}" if slot else "setsockopt of another family")
         return

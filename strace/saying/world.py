@@ -23,6 +23,9 @@ MOST_LOOKED_AT = 1000
 GIVES_NUMBERS = {**dict.fromkeys("""socket accept accept4 open openat openat2 creat dup fcntl ioctl eventfd eventfd2 memfd_create
 epoll_create epoll_create1 timerfd_create signalfd4 inotify_init inotify_init1 pidfd_open""".split()), "pipe": 0, "pipe2": 0,
                  "socketpair": 3}
+OPAQUE_NAMES = {"timerfd_create": "a timer", "signalfd4": "a descriptor of signals", "signalfd": "a descriptor of signals",
+                "inotify_init1": "an inotify", "inotify_init": "an inotify", "io_uring_setup": "an io_uring", "userfaultfd": "a userfaultfd",
+                "epoll_create1": "an epoll", "epoll_create": "an epoll", "pidfd_open": "a process's descriptor"}
 MAKERS = {"pipe", "pipe2", "eventfd", "eventfd2", "memfd_create"}
 SAYS = {}
 
@@ -312,7 +315,7 @@ class World:
         if result.error or result.value is None:
             block.leave_out(f"{name} that failed" if result.error else f"{name} without an answer")
         elif name in MAKES_OPAQUE or result.note:
-            description = Description(Kind.OPAQUE, result.note or name, any("NONBLOCK" in str(value) for value in args), inode=result.note)
+            description = Description(Kind.OPAQUE, OPAQUE_NAMES.get(name) or result.note or name, any("NONBLOCK" in str(value) for value in args), inode=result.note)
             on_exec = any("CLOEXEC" in str(value) for value in args)
             self.make(block, process, result.value, description, on_exec or name in ("pidfd_open", "pidfd_getfd"))
             block.otherwise("an opaque object" if name in MAKES_OPAQUE else f"a new number by {name}: an opaque object")

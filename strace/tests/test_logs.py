@@ -41,6 +41,15 @@ class Logs(unittest.TestCase):
                 self.assertEqual(shown(got), script)
 
 
+class Renames(unittest.TestCase):
+    def test_what_is_open_of_a_renamed_file_or_folder_leads_to_its_new_path(self):
+        log = HEAD + ('9 1.1 openat(AT_FDCWD</>, "/d/a", O_RDONLY) = 0</d/a>\n9 1.2 openat(AT_FDCWD</>, "/da", O_RDONLY) = 1</da>\n'
+                      '9 1.3 rename("/d/a", "/d/b") = 0\n9 1.4 renameat2(AT_FDCWD</>, "d", AT_FDCWD</>, "e", 0) = 0\n'
+                      '9 1.5 rename("/da", "/db") = -1 EPERM (Operation not permitted)\n9 1.6 pause() = ?\n')
+        table = said(log)[1].processes[0].table
+        self.assertEqual([table[number].description.inode for number in (0, 1)], ["/e/b", "/da"])
+
+
 HEAD = "# recorded 1\n# folder /\n# user 1000 100\n"
 PAIR = "9 1.1 socketpair(AF_UNIX, SOCK_STREAM, 0, [0<UNIX-STREAM:[7->8]>, 1<UNIX-STREAM:[8->7]>]) = 0\n"
 RIGHTS = 'msg_control=[{cmsg_len=20, cmsg_level=SOL_SOCKET, cmsg_type=SCM_RIGHTS, cmsg_data=[%d<UNIX-STREAM:[7->8]>]}], msg_controllen=24'
