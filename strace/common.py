@@ -8,6 +8,7 @@ from judging.rules import read_rules
 from judging.run import Fault, Runner
 from reading.calls import MOST_BYTES, read_log
 from reading.head import Inherited
+from reading.options import advice_on, has_numbers_for_names
 from saying.world import World
 
 MOST_PASSES = 3
@@ -35,6 +36,11 @@ def load(path, most=MOST_BYTES):
         what = f"; line {log.bad[0][0]} is '{log.bad[0][1]}'" if log.bad else ""
         raise Fault(f"{path}: no call of a socket, file or process with its answer in {log.lines} lines{what}: "
                     "take the log by strace/record LOG -- COMMAND")
+    if has_numbers_for_names(log):
+        raise Fault(f"{path}: numbers stand for names in it: take the log without strace's options -X raw and -X verbose")
+    advice = advice_on(log, path)
+    if advice:
+        print(f"{path}: {advice}", file=sys.stderr)
     return log
 
 
