@@ -82,7 +82,7 @@ def judged(text, runner, seconds):
         except (common.Fault, ValueError):
             return None
     rules = sum(report["replies"]["rules"].values())
-    return (report["replies"]["differ"], rules), (report["notes"], report["log"]["unreadable"], report["unknown calls"])
+    return (report["replies"]["differ"] + report["replies"]["not decided"], rules), (report["notes"], report["log"]["unreadable"], report["unknown calls"])
 
 
 def tally(text, runner, most, seconds, found):

@@ -13,14 +13,19 @@ STEP = 0.001
 
 @dataclass
 class Order:
-    """An order: the blocks, the script, the verdicts on its replies, which calls were moved, and whether time ran out."""
+    """An order: the blocks, the script, the verdicts on its replies, which calls were moved, whether time ran out, and which differences
+    no order mends that was tried."""
     blocks: list
     rules: list
     script: object = None
     verdicts: list = field(default_factory=list)
     moved: set = field(default_factory=set)
     out_of_time: bool = False
-    fault: str = ""
+    settled: set = field(default_factory=set)
+
+    def is_decided(self, verdict):
+        """Whether a difference stays in each order that was tried, or none was tried since the time was over."""
+        return not self.out_of_time or verdict.step in self.settled
 
 
 def by_place(blocks):
@@ -46,7 +51,7 @@ class Search:
 
     def run(self):
         """The best order that was found; all of it is judged at the end."""
-        order = Order(by_place(self.world.blocks), self.judge.rules)
+        order = Order(by_place(self.world.blocks), self.judge.rules, settled=self.settled)
         order.script, order.verdicts = self.verdicts(order.blocks)
         while True:
             place = first_difference(order.verdicts, self.settled)
@@ -55,7 +60,7 @@ class Search:
             if time.monotonic() > self.deadline:
                 order.out_of_time = True
                 return order
-            if not self.improve(order, place):
+            if not self.improve(order, place) and time.monotonic() <= self.deadline:
                 self.settled.add(order.verdicts[place].step)
 
     def reach(self, order, moves, differing, place):

@@ -1,8 +1,8 @@
 """The table of strace/check."""
 from saying.model import How
 
-COLUMNS = ("program", "calls", "on AF_UNIX", "not said", "compared", "agree", "under a rule", "differ", "moved", "moments", "same",
-           "not told", "different")
+COLUMNS = ("program", "calls", "on AF_UNIX", "not said", "compared", "agree", "under a rule", "differ", "not decided", "moved",
+           "moments", "same", "not told", "different")
 
 
 def heading():
@@ -13,7 +13,7 @@ def cells_of(row):
     calls, replies, audit = row["calls"], row["replies"], row["audit"]
     unix = calls["on AF_UNIX"]
     return [row["program"], calls["made"], sum(unix.values()), unix[How.NOT_AT_ALL.value], replies["compared"], replies["agree"],
-            replies["under a rule"], replies["differ"], row["moved"], audit["moments"], audit["same"], audit["not told"],
+            replies["under a rule"], replies["differ"], replies["not decided"], row["moved"], audit["moments"], audit["same"], audit["not told"],
             audit["different"]]
 
 
@@ -30,12 +30,14 @@ def table_of(rows):
     lines = ["| all | " + " | ".join(map(str, sums)) + " |", ""] if good else []
     for row in good:
         for one in row["differences"]:
-            lines.append(f"{row['program']}: line {one['line']}: {one['call']} | {one['reply']} | the kernel: {one['kernel']}"[:240])
+            undecided = "" if one["is decided"] else "not decided: "
+            lines.append(f"{row['program']}: {undecided}line {one['line']}: {one['call']} | {one['reply']} | the kernel: {one['kernel']}"[:240])
         lines += [f"{row['program']}: {example}" for example in row["audit"]["examples"]]
         unsaid = row["calls"]["reasons"][How.NOT_AT_ALL.value]
         lines += [f"{row['program']}: not said: {count} {reason}" for reason, count in unsaid.items()]
         if row["out of time"]:
             lines.append(f"{row['program']}: the search for an order ran out of time")
+        lines += [f"{row['program']}: {len(places)} times {text}, first in line {places[0]}" for text, places in row["notes"].items()]
         if "mistakes" in row:
             found = row["mistakes"]
             lines.append(f"{row['program']}: of {found['planted']} mistakes a reply showed {found['by a reply']}, the audit "

@@ -31,7 +31,8 @@ def replies_of(order):
         "agree": sum(verdict.outcome is Outcome.AGREES for verdict in compared),
         "under a rule": sum(rules.values()),
         "rules": dict(rules.most_common()),
-        "differ": sum(verdict.outcome is Outcome.DIFFERS for verdict in compared),
+        "differ": sum(verdict.outcome is Outcome.DIFFERS and order.is_decided(verdict) for verdict in compared),
+        "not decided": sum(verdict.outcome is Outcome.DIFFERS and not order.is_decided(verdict) for verdict in compared),
         "before the first difference": before_first(compared),
     }
 
@@ -40,9 +41,9 @@ def before_first(compared):
     return next((place for place, verdict in enumerate(compared) if verdict.outcome is Outcome.DIFFERS), len(compared))
 
 
-def difference_of(verdict):
+def difference_of(order, verdict):
     block = verdict.step.block
-    return {"line": block.call.begin if block.call is not None else None, "process": block.program, "call": verdict.call,
+    return {"is decided": order.is_decided(verdict), "line": block.call.begin if block.call is not None else None, "process": block.program, "call": verdict.call,
             "reply": verdict.ours, "kernel": verdict.kernel, "descriptor": verdict.step.state}
 
 
@@ -61,7 +62,7 @@ def report_of(log, world, order, runner):
         "moved": len(order.moved),
         "out of time": order.out_of_time,
         "runs": runner.runs,
-        "differences": [difference_of(verdict) for verdict in order.verdicts if verdict.outcome is Outcome.DIFFERS],
+        "differences": [difference_of(order, verdict) for verdict in order.verdicts if verdict.outcome is Outcome.DIFFERS],
     }
 
 
@@ -88,13 +89,14 @@ def text_of(report, every=False):
     lines += doubts_of(report["notes"])
     lines.append(f"replies: {replies['compared']} compared, {replies['agree']} agree, {replies['under a rule']} under a rule, "
                  f"{replies['differ']} differ; {report['moved']} calls that overlap were moved")
+    if report["out of time"]:
+        lines.append(f"  the search for an order of the calls that overlap ended early: {replies['not decided']} further replies aren't "
+                     "decided (see --seconds)")
     lines += reasons(replies["rules"], "rules of compare/differences.txt")
     if report["unknown"]:
         lines.append(f"  {len(report['unknown'])} calls are of descriptors whose state isn't known: their replies are ? (--all lists them)")
     if every:
         lines += [f"  line {one['line']}: {one['process']}: {one['call']} = ?, {one['why']}" for one in report["unknown"]]
-    if report["out of time"]:
-        lines.append("  the search for an order ended before its time was enough: see --seconds")
     for one in report["differences"][:None if every else 1]:
         lines.append(f"  line {one['line']}: {one['process']}: {one['call']} | {one['reply']} | the kernel: {one['kernel']}"[:400])
     return "\n".join(lines)
@@ -111,10 +113,10 @@ def doubts_of(notes):
 
 
 def status_of(report):
-    """1 where a reply differs, 3 where something else of the log can't be so, else 0."""
+    """1 where a reply differs, 3 where something else of the log can't be so or replies aren't decided, else 0."""
     if report["replies"]["differ"]:
         return 1
-    return 3 if report["notes"] or report["log"]["unreadable"] else 0
+    return 3 if report["notes"] or report["log"]["unreadable"] or report["replies"]["not decided"] else 0
 
 
 def faults_of(log):

@@ -68,6 +68,14 @@ class Replay(unittest.TestCase):
         self.assertEqual((status, report["replies"]["differ"]), (0, 0))
         self.assertEqual(report["moved"], 2)
 
+    def test_what_no_time_was_left_for_is_not_decided(self):
+        log = HEAD + PAIR_LINE + '9 1.2 write(0<UNIX-STREAM:[7->8]>, "hi", 2) = 2\n9 1.3 read(1<UNIX-STREAM:[8->7]>, "ho", 9) = 2\n'
+        status, report = run("replay", log, "--seconds", "0")
+        self.assertEqual((status, report["replies"]["differ"], report["replies"]["not decided"], report["differences"][0]["is decided"]),
+                         (3, 0, 1, False))
+        status, report = run("replay", log)
+        self.assertEqual((status, report["replies"]["differ"], report["replies"]["not decided"]), (1, 1, 0))
+
     def test_no_order_helps_where_calls_do_not_overlap(self):
         log = HEAD + ('9 1.1 socketpair(AF_UNIX, SOCK_STREAM, 0, [0<UNIX-STREAM:[7->8]>, 1<UNIX-STREAM:[8->7]>]) = 0\n'
                       '9 1.2 fork() = 10\n10 1.3 read(1<UNIX-STREAM:[8->7]>, "a", 9) = 1\n9 1.4 write(0<UNIX-STREAM:[7->8]>, "a", 1) = 1\n')
