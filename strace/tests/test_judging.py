@@ -7,11 +7,13 @@ from pathlib import Path
 TOP = Path(__file__).resolve().parents[1]
 sys.path.insert(0, str(TOP))
 from judging.compare import filled, with_unasked
+from judging.holdings import calls_up_to
 from judging.order import candidates, exchanges
 from judging.rules import RULES, Case, read_rules, rule_of
 from saying.handover import placing
-from saying.model import Block
+from saying.model import Block, Step
 from saying.names import Names, spell
+from saying.script import Script
 
 SMALL = """# a comment
 rule: words
@@ -149,6 +151,13 @@ class Order(unittest.TestCase):
             self.assertTrue(found)
             for moves in found:
                 self.assertTrue(in_order(moves, first, second))
+
+
+class Moments(unittest.TestCase):
+    def test_a_call_at_a_line_stands_at_that_line(self):
+        steps = [Step(None, "close 0", block=block(place, place, place)) for place in (1, 2, 2.5, 4)]
+        script = Script([], [step.words for step in steps], steps, {})
+        self.assertEqual([calls_up_to(script, line) for line in (0, 1, 2, 3, 4, 5)], [0, 1, 2, 3, 4, 4])
 
 
 class HandOver(unittest.TestCase):

@@ -256,6 +256,7 @@ class Holders(unittest.TestCase):
             self.assertEqual((status, {tuple(one["used"]) for one in report["programs"][0]["found"]}), (0, {("closed with all others",)}))
         status, report = run("found-open", log + "10 1.5 close(4<UNIX-STREAM:[8->7]>) = 0\n")
         self.assertEqual([one["used"] for one in report["programs"][0]["found"]], [[], ["closed"], []])
+        self.assertTrue(report["programs"][0]["found"][1]["wrong"].endswith(", though the program closes it"))
 
     def test_what_was_open_at_the_start_is_told_apart_and_once(self):
         log = ("# recorded 1\n# folder /\n# user 0 0\n# inherited 0 - /dev/null\n# inherited 7 - /var/log/x\n"

@@ -85,6 +85,10 @@ CASES = [
      ["close(1) = 0", 'accept(0, {sa_family=AF_UNIX, sun_path="/c"}, [110 => 5]) = 1'],
      [["close(1) = 0", 'accept(0, {sa_family=AF_UNIX, sun_path="/x"}, [110 => 5]) = 1'],
       ["accept(0, {sa_family=AF_UNIX}, [110 => 2]) = 2"]]),
+    # Of two clients that wait the first is accepted first.
+    ("name-of-one-that-is-gone", [*LISTENER, *socket("STREAM", 1, '"/c"'), connect(1, '"/s"'), *socket("STREAM", 2, '"/d"'), connect(2, '"/s"')],
+     ["close(1) = 0", 'accept(0, {sa_family=AF_UNIX, sun_path="/c"}, [110 => 5]) = 1'],
+     [["close(2) = 0", "accept(0, {sa_family=AF_UNIX}, [110 => 2]) = 2"]]),
     ("sender-of-a-stream", [*LISTENER, *socket("STREAM", 1), connect(1, '"/s"'), "accept(0, NULL, NULL) = 2", 'write(2, "a", 1) = 1'],
      ['recvfrom(1, "a", 9, 0, {sa_family=AF_UNIX, sun_path="/s"}, [110 => 5]) = 1'],
      [['recvfrom(1, "a", 9, 0, {sa_family=AF_UNIX, sun_path="/t"}, [110 => 5]) = 1']]),
