@@ -113,7 +113,9 @@ def compare_once(bench: Bench, path: Path, text: str, user: int, outcome: Outcom
     outcome.differences += found
     parted = [difference.row for difference in found]
     reach = [at for at, line in enumerate(linux) if line.row in parted]
-    outcome.calls, outcome.compared = len(plain), min(reach + [len(plain)])
+    # A script that is made again without a call still has all the calls that it had.
+    outcome.calls = outcome.calls or len(plain)
+    outcome.compared = min(reach + [len(plain)])
     outcome.alike = sum(one == other for one, other in zip(here, there))
     outcome.not_tried = sum(line.reply.startswith("not tried") for line in linux)
     outcome.used |= used

@@ -117,7 +117,7 @@ class Counts:
                 (figures["scripts"], "scripts"),
                 (figures["unplayed"], "of them can't be made"),
                 (figures["calls"], "calls"),
-                (figures["calls"] - figures["compared"], "of them come behind a difference, and are not compared"),
+                (figures["calls"] - figures["compared"], "of them differ, or come behind one that does, and are not compared"),
                 (figures["alike"], "are answered alike here and on Linux"),
                 (figures["compared"] - figures["alike"] - figures["not_tried"], "otherwise, as the rules say"),
                 (figures["not_tried"], "are not tried on Linux"),

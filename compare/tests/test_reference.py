@@ -1,0 +1,95 @@
+"""The reference's reading of scripts, and its rules' switches: what a call is answered with one off and on."""
+import sys
+import unittest
+from pathlib import Path
+
+sys.dont_write_bytecode = True
+sys.path.insert(0, str(Path(__file__).resolve().parents[1]))
+from comparing.lines import Difference, Line, first_difference
+from reference.machine import Machine, read
+from reference.rules import ALL_RULES, NO_RULES, Rule
+from reference.script import parse
+from reference.trace import trace
+
+PROC = "serial\nproc 1000 1000 0 16\n"
+# A rule, the calls of process 1 before, the call, the layer's answer by docs/calls.md, and Linux's by its manual pages and sources.
+SWITCHES = [
+    (Rule.OPEN_OF_A_SOCKET, ["socket dgram -", "bind 0 p:s"], "open p:s r -", "err EOPNOTSUPP", "err ENXIO"),
+    (Rule.READ_OF_NO_BYTES, ["pair dgram -", "write 0 61"], "read 1 0", "bytes -", "bytes -"),
+    (Rule.READ_OF_NO_BYTES, ["pair dgram -", "write 0 61", "read 1 0"], "read 1 9", "err EAGAIN", "bytes 61"),
+    (Rule.ROOM_OF_A_PIPE, ["pipe -", f"write 1 {'61' * 60000}"], f"write 1 {'62' * 10000}", "n 5536", "n 4096"),
+    (Rule.ROOM_OF_A_PIPE, ["pipe -", *[f"write 1 {'61' * 3000}"] * 16], "write 1 " + "62" * 3000, "n 3000", "err EAGAIN"),
+    (Rule.ROOM_OF_A_STREAM, ["pair stream -", f"send 0 - {'61' * 65536} - -"], "send 0 - 62 - -", "err EAGAIN", "n 1"),
+    (Rule.ROOM_OF_A_STREAM, ["pair stream -", *[f"send 0 - {'61' * 30000} - -"] * 2], "poll 0", "poll OUT", "poll -"),
+    (Rule.LONG_SEND_OF_A_STREAM, ["pair stream -", "memfd -", f"send 0 - {'61' * 40000} r:2 -"], "recv 1 50000 0 -",
+     f"got 40000 {'61' * 40000} CTRUNC - -", f"got 36544 {'61' * 36544} CTRUNC - -"),
+    (Rule.MESSAGES_IN_A_QUEUE, ["pair dgram -"], f"send 0 - {'61' * 65537} - -", "err EMSGSIZE", "n 65537"),
+    (Rule.MESSAGES_IN_A_QUEUE, ["pair dgram -", *["send 0 - 61 - -"] * 16], "send 0 - 61 - -", "err EAGAIN", "n 1"),
+    (Rule.LONG_WRITE_OF_A_COUNTER, ["eventfd 0 -"], "write 0 010000000000000000", "n 8", "err EINVAL"),
+    (Rule.OFFSET_OF_A_COUNTER, ["eventfd 0 -"], "lseek 0 0 set", "err ESPIPE", "at 0"),
+    (Rule.BIND_AGAIN, ["socket dgram -", "bind 0 a:x"], "bind 0 u", "err EINVAL", "ok"),
+    (Rule.LISTEN_WITHOUT_A_NAME, ["socket stream -"], "listen 0 5", "err EDESTADDRREQ", "err EINVAL"),
+    (Rule.ABSTRACT_NAMES_BY_TYPE, ["socket dgram -", "bind 0 a:x", "socket stream -"], "connect 1 a:x", "err EPROTOTYPE", "err ECONNREFUSED"),
+    (Rule.ASSOCIATION_DROPS_THE_QUEUE, ["pair dgram -", "write 1 61", "connect 0 u"], "read 0 9", "bytes 61", "err EAGAIN"),
+    (Rule.SHUTDOWN_OF_AN_IDLE_SOCKET, ["socket stream -"], "shut 0 r", "err ENOTCONN", "ok"),
+    (Rule.POLL_OF_AN_IDLE_SOCKET, ["socket stream -"], "poll 0", "poll HUP", "poll OUT|HUP"),
+    (Rule.UNNAMED_SENDER, ["pair dgram -", "write 0 61"], "recv 1 9 0 -", "got 1 61 - - u", "got 1 61 - - -"),
+    (Rule.RECORD_END, ["pair seq -", "write 0 61"], "recv 1 9 0 -", "got 1 61 EOR - -", "got 1 61 - - -"),
+    (Rule.RIGHTS_WITHOUT_DATA, ["pair stream -"], "send 0 - - r:0 -", "err EINVAL", "n 0"),
+    (Rule.SEND_FLAGS, ["pair stream -"], "send 0 - 61 - p", "err EINVAL", "n 1"),
+]
+# What both refuse alike, before all else (pipe2(2), eventfd(2), memfd_create(2)).
+
+
+def answers(calls, rules):
+    """The replies to the calls of process 1."""
+    script = parse(PROC + "".join(f"1 {call}\n" for call in calls))
+    return [line.reply for line in trace(script, rules, Machine())[:len(calls)]]
+
+
+class Switches(unittest.TestCase):
+    def test_a_rule_alone_changes_its_answer(self):
+        for rule, before, call, ours, linux in SWITCHES:
+            with self.subTest(f"{rule.value}: {call[:40]}"):
+                self.assertEqual(answers([*before, call], NO_RULES)[-1], ours)
+                self.assertEqual(answers([*before, call], frozenset({rule}))[-1], linux)
+
+    def test_a_pipes_pages_are_read_as_they_were_written(self):
+        calls = ["pipe -", f"write 1 {'61' * 5000}", f"write 1 {'62' * 3000}", "read 0 4500", "read 0 100000"]
+        self.assertEqual(answers(calls, ALL_RULES)[-1], "bytes " + "61" * 500 + "62" * 3000)
+
+
+class Scripts(unittest.TestCase):
+    def test_header_and_calls(self):
+        script = parse("# a comment\nserial\nobject p:f fail 2 mem 6162\nobject p:%67 pipe\nproc 1 2 1 16\n\n1 wait 1 1\n1 poll 0\noff\n")
+        self.assertEqual([(line.path, line.fails_at, line.kind, line.data) for line in script.objects],
+                         [(b"f", 2, "mem", b"ab"), (b"g", 0, "pipe", b"")])
+        self.assertEqual([(line.row, line.pid, line.words) for line in script.calls], [(8, 1, ["poll", "0"])])
+        self.assertTrue(script.is_serial and script.has_end and script.processes[0].privileged)
+
+    def test_text_is_bytes_and_rights_are_space(self):
+        script = parse(PROC + '1 write 0 "a\\n\\x00\\""\n1 recv 0 9 rights:3 -\n1 write 0 ""\n')
+        self.assertEqual([call.words for call in script.calls],
+                         [["write", "0", "610a0022"], ["recv", "0", "9", "32", "-"], ["write", "0", "-"]])
+
+
+class Machines(unittest.TestCase):
+    def test_figures_are_read(self):
+        machine = read("send_buffer 100\nmessage 50\ncost 0 7\ncost 10 9\nstream_cost 0 5\nstream_cost 40 8\n")
+        self.assertEqual([machine.cost("dgram", length) for length in (0, 9, 10, 99)], [7, 7, 9, 9])
+        self.assertEqual([machine.cost("stream", length) for length in (0, 39, 40, 50, 90, 100)], [5, 5, 8, 8, 16, 16])
+
+
+class Differences(unittest.TestCase):
+    def test_the_first_line_that_is_another(self):
+        expected = [Line(0, 1, 0, "poll", "poll -", row=3), Line(1, 1, 1, "exit", "ok")]
+        rows = ["", "", "1 poll 0"]
+        self.assertIsNone(first_difference("Linux", ["0 1 0 poll = poll -", "1 1 1 exit = ok"], expected, rows))
+        found = first_difference("Linux", ["0 1 0 poll = poll IN", "1 1 1 exit = ok"], expected, rows)
+        self.assertEqual((type(found), found.row, found.answer, found.expected), (Difference, 3, "poll IN", "poll -"))
+        self.assertEqual(first_difference("Linux", ["0 1 0 poll = poll -"], expected, rows).answer, "no line")
+        self.assertEqual(first_difference("Linux", ["0 1 0 poll = poll -", "1 1 1 exit = ok", "2 1 2 x = ok"], expected, rows).expected, "no line")
+
+
+if __name__ == "__main__":
+    unittest.main()
