@@ -19,6 +19,11 @@ def path_of(value):
     return value.data if isinstance(value, Text) else b""
 
 
+def place_of(process, value):
+    """The path of an argument, below the root that the process has."""
+    return process.place(path_of(value))
+
+
 def folder_of(process, value):
     """The folder that a path of a call with a folder's descriptor is looked up in."""
     note = note_of(value)
@@ -29,7 +34,7 @@ def folder_of(process, value):
 def say_open(world, block, process, args, result):
     at = block.call.name in ("openat", "openat2")
     folder = folder_of(process, args[0]) if at else process.folder
-    path = path_of(args[1] if at else args[0])
+    path = place_of(process, args[1] if at else args[0])
     how = args[2] if at else args[1] if block.call.name == "open" else "O_WRONLY"
     flags = flags_of(how["flags"]) if isinstance(how, dict) else flags_of(how)
     if result.error:
@@ -203,7 +208,7 @@ def say_at_an_offset(world, block, process, args, result):
 def say_unlink(world, block, process, args, result):
     at = block.call.name == "unlinkat"
     folder = folder_of(process, args[0]) if at else process.folder
-    path = path_of(args[1] if at else args[0])
+    path = place_of(process, args[1] if at else args[0])
     word = world.names.known(folder, path)
     if result.error or word is None:
         block.leave_out("unlink of another file, or that failed")
@@ -220,7 +225,7 @@ def say_unlink(world, block, process, args, result):
 def say_rename(world, block, process, args, result):
     short = block.call.name == "rename"
     old_folder, new_folder = (process.folder, process.folder) if short else (folder_of(process, args[0]), folder_of(process, args[2]))
-    old, new = path_of(args[0 if short else 1]), path_of(args[1 if short else 3])
+    old, new = place_of(process, args[0 if short else 1]), place_of(process, args[1 if short else 3])
     word = world.names.known(old_folder, old)
     if not result.error:
         follow_rename(world, *(world.names.canonical(folder, path).decode("latin-1") for folder, path in
@@ -248,7 +253,7 @@ def follow_rename(world, old, new):
 def say_link(world, block, process, args, result):
     short = block.call.name == "link"
     old_folder, new_folder = (process.folder, process.folder) if short else (folder_of(process, args[0]), folder_of(process, args[2]))
-    old, new = path_of(args[0 if short else 1]), path_of(args[1 if short else 3])
+    old, new = place_of(process, args[0 if short else 1]), place_of(process, args[1 if short else 3])
     if not result.error and world.names.link(old_folder, old, new_folder, new):
         block.otherwise("a second path of a socket or a file is another name of it")
     else:
@@ -258,7 +263,7 @@ def say_link(world, block, process, args, result):
 @says("chdir")
 def say_chdir(world, block, process, args, result):
     if not result.error:
-        process.folder = world.names.canonical(process.folder, path_of(args[0])).decode("latin-1")
+        process.folder = world.names.canonical(process.folder, place_of(process, args[0])).decode("latin-1")
     block.leave_out("chdir")
 
 
@@ -274,4 +279,5 @@ def say_chroot(world, block, process, args, result):
     if result.error:
         block.leave_out("chroot that failed")
     else:
-        block.not_at_all("chroot: later paths are taken as if it weren't")
+        process.root = world.names.canonical(process.folder, place_of(process, args[0])).rstrip(b"/")
+        block.leave_out("chroot: later paths are looked up below it")

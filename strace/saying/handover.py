@@ -16,7 +16,7 @@ def fork(world, block, parent, thread):
     table = {number: Slot(slot.description, slot.on_exec) for number, slot in parent.table.items()}
     child = Process(thread, parent, table, parent.folder, parent.program, user=parent.user, group=parent.group,
                     privileged=parent.privileged, users=parent.users, groups=parent.groups)
-    child.unseen = set(parent.unseen)
+    child.unseen, child.root = set(parent.unseen), parent.root
     world.enter(child, thread)
     child.birth = block
     for slot in table.values():

@@ -42,7 +42,7 @@ class Description:
     """An open file description as the log shows it. `unknown` says why its later replies aren't compared;
     `unread` has the lengths of what was sent and not yet received, `senders` whose messages wait, `held` and `flying` how many
     descriptors and rights on their way lead to it, `past` what marks.py keeps; `mode` is r, w or rw where that is
-    known, and `is_given` says that its flags were set by what the log doesn't show."""
+    known, `has_own_buffer` says that SO_SNDBUF was set, and `is_given` that its flags were set by what the log doesn't show."""
     kind: Kind
     what: str
     nonblocking: bool = False
@@ -68,6 +68,7 @@ class Description:
     flying: int = 0
     past: object = None
     mode: str = ""
+    has_own_buffer: bool = False
     is_given: bool = False
 
     def state(self):
@@ -76,7 +77,8 @@ class Description:
             filled = "/filled" if self.kind is Kind.PIPE and self.thing.level >= PAGES_USED else ""
             return self.kind.value + filled if self.kind is not Kind.OPAQUE else "mem"
         memory = sum(self.unread) + MESSAGE_COST * len(self.unread)
-        filled = "/filled" if self.kind is Kind.STREAM and self.phase == "tied" and memory >= FILLED else ""
+        is_filled = memory >= FILLED or self.has_own_buffer and memory > 0
+        filled = "/filled" if self.kind is Kind.STREAM and self.phase == "tied" and is_filled else ""
         return f"{self.kind.value}/{self.phase}{filled}"
 
 
@@ -146,6 +148,7 @@ class Process:
     users: tuple = None
     groups: tuple = None
     unsaid: str = ""
+    root: bytes = b""
     unseen: set = field(default_factory=set)
     freed: dict = field(default_factory=dict)
     over: bool = False
@@ -156,6 +159,10 @@ class Process:
         self.privileged = self.user == 0 if self.privileged is None else self.privileged
         self.users = self.users or (self.user,) * 3
         self.groups = self.groups or (self.group,) * 3
+
+    def place(self, path):
+        """A path as it is outside of the folder that is this process's root (chroot(2))."""
+        return self.root + path if path.startswith(b"/") else path
 
     def lowest(self, least=0):
         """The lowest number that is free, from this one on."""

@@ -46,9 +46,10 @@ class Names:
         word = self.aliases.get(self.canonical(folder, path))
         return word if word in self.bound else None
 
-    def bind(self, folder, path, description):
+    def bind(self, folder, path, description, given):
+        """The word of a path that a socket is bound to; `given` is how the call spelled it, which is what is told of it."""
         word = self.word_of_path(folder, path)
-        self.given[path] = word
+        self.given[given] = word
         self.bound[word] = description
         return word
 

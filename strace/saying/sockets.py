@@ -11,6 +11,7 @@ from .world import HIGHEST, says
 TYPES = {"SOCK_STREAM": Kind.STREAM, "SOCK_DGRAM": Kind.DATAGRAM, "SOCK_RAW": Kind.DATAGRAM, "SOCK_SEQPACKET": Kind.RECORDS}
 WAYS = {"SHUT_RD": "r", "SHUT_WR": "w", "SHUT_RDWR": "rw"}
 OPTIONS = {"SO_TYPE": "type", "SO_ERROR": "error", "SO_PASSCRED": "passcred", "SO_PEERCRED": "peercred", "SO_ACCEPTCONN": "accept"}
+SEND_BUFFERS = ("SO_SNDBUF", "SO_SNDBUFFORCE")
 PEEK_OFFSET = ("SO_PEEK_OFF", 42)
 PEER_PIDFD = ("SO_PEERPIDFD", 77)
 PLAYED = "a peer outside of the log, which another process of the script plays"
@@ -34,7 +35,7 @@ def address(world, process, value):
         return "u"
     if path.abstract:
         return "a:" + spell(path.data)
-    return world.names.word_of_path(process.folder, path.data)
+    return world.names.word_of_path(process.folder, process.place(path.data))
 
 
 def told_address(world, process, value, length=None):
@@ -195,7 +196,8 @@ def bind_word(world, block, process, value, description, result):
             block.otherwise("autobind by the name that the kernel gave")
             return f"a:{given}"
     if word and word.startswith("p:") and not result.error:
-        return world.names.bind(process.folder, after(value)["sun_path"].data, description)
+        path = after(value)["sun_path"].data
+        return world.names.bind(process.folder, process.place(path), description, path)
     if word and word.startswith("a:") and not result.error:
         world.names.bound[word] = description
     return word
@@ -385,6 +387,8 @@ def say_setsockopt(world, block, process, args, result):
         world.make_unknown(slot.description, "SO_PEEK_OFF was set: what a peek shows depends on the peeks before it")
         block.not_at_all("SO_PEEK_OFF")
         return
+    if slot is not None and args[2] in SEND_BUFFERS and not result.error:
+        slot.description.has_own_buffer = True
     if slot is None or str(args[1]) != "SOL_SOCKET" or str(args[2]) != "SO_PASSCRED" or result.error:
         block.leave_out(f"setsockopt {args[2]}" if slot else "setsockopt of another family")
         return

@@ -183,14 +183,14 @@ class NamesOfSockets(unittest.TestCase):
 
     def test_a_name_used_again_after_a_rename_is_another(self):
         names = Names()
-        first = names.bind("/", b"/s", "one")
+        first = names.bind("/", b"/s", "one", b"/s")
         names.rename("/", b"/s", "/", b"/t")
-        self.assertNotEqual(names.bind("/", b"/s", "two"), first)
+        self.assertNotEqual(names.bind("/", b"/s", "two", b"/s"), first)
         self.assertEqual(names.known("/", b"/t"), first)
 
     def test_a_socket_with_two_paths_goes_with_the_last(self):
         names = Names()
-        word = names.bind("/", b"/s", "one")
+        word = names.bind("/", b"/s", "one", b"/s")
         self.assertTrue(names.link("/", b"/s", "/", b"/t"))
         self.assertIsNone(names.unlink("/", b"/s"))
         self.assertEqual(names.unlink("/", b"/t"), word)

@@ -46,6 +46,7 @@ def receive(number, text):
     return f'recvfrom({number}, "{text}", 99, 0, NULL, NULL) = {len(text)}'
 
 
+WRITES_MUCH = 'write({}, "' + "a" * 2000 + '", 2000) = 2000'
 WAITED = "recvfrom({}, 0x7ffc, 99, MSG_DONTWAIT, NULL, NULL) = -1 EAGAIN (Try again)"
 LISTENER = [*socket("STREAM", 0, '"/s"'), "listen(0, 5) = 0"]
 DROPPED = [pair("DGRAM"), *socket("DGRAM", 2, '"/d"'), 'bind(0, {sa_family=AF_UNIX, sun_path="/z"}, 5) = 0', 'write(1, "old", 3) = 3',
@@ -102,6 +103,9 @@ CASES = [
                                                                                  "-1 EAGAIN (Try again)"],
      [["pipe([2, 3]) = 0", 'write(3, "a", 1) = -1 EAGAIN (Try again)'], ["pipe([2, 3]) = 0", poll(3, "").replace(" = 1 ([{fd=3, revents=POLL}])",
                                                                                                             " = 0 (Timeout)")]]),
+    ("room-of-a-stream", [pair("STREAM"), "setsockopt(0, SOL_SOCKET, SO_SNDBUF, [2304], 4) = 0", WRITES_MUCH.format(0)],
+     ['write(0, "b", 1) = -1 EAGAIN (Try again)'],
+     [[pair("STREAM", 2), WRITES_MUCH.format(2), 'write(2, "b", 1) = -1 EAGAIN (Try again)']]),
     ("reset-before-records", [pair("SEQPACKET"), 'write(0, "x", 1) = 1', 'write(1, "y", 1) = 1'],
      ["close(1) = 0", 'read(0, 0x7ffc, 9) = -1 ECONNRESET (Connection reset by peer)'],
      [['read(0, 0x7ffc, 9) = -1 ECONNRESET (Connection reset by peer)']]),
