@@ -63,7 +63,8 @@ def say(log):
         if (log.head.recorded or not new) and (learnt is not None or not world.outside.count):
             break
         learnt = world.outside.learnt
-        inherited += new
+        # What record wrote at the head is all that was open: another number's origin isn't known, which is told.
+        inherited += [] if log.head.recorded else new
     return world
 
 

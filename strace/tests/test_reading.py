@@ -105,17 +105,14 @@ class Malformed(unittest.TestCase):
                     self.assertNotIn("Traceback", done.stderr)
 
     def test_random_bytes_are_never_a_log(self):
-        """Of 400 files, each of which a seed determines; many of them have a line that begins as a call does."""
-        begins = 0
+        """Of 400 files, each of which a seed determines; and of such whose first line begins as a call does."""
         with tempfile.TemporaryDirectory() as folder:
             path = Path(folder) / "log"
             for seed in range(400):
                 data = Random(seed).randbytes(5000 if seed % 2 else 300)
-                path.write_bytes(data)
-                begins += bool(read_log(path).calls)
+                path.write_bytes((b"", b"close(", b"\n7 1.5 read(3, ", b"<... close resumed>")[seed % 4] + data)
                 with self.assertRaisesRegex(Fault, r"^[^\n]*no call of a socket, file or process with its answer[^\n]*$"):
                     load(path)
-        self.assertGreater(begins, 0)
 
     def test_no_such_file(self):
         done = subprocess.run([sys.executable, TOP / "replay", "/nowhere/log"], capture_output=True, text=True, check=False)

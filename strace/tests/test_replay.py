@@ -150,6 +150,9 @@ class Replay(unittest.TestCase):
                       "10 1.5 socket(AF_UNIX, SOCK_STREAM, 0) = 2\n9 1.6 <... close resumed>) = 0\n")
         status, report = run("replay", log)
         self.assertEqual((status, report["notes"]), (0, {}))
+        # A number that was closed before the call began would have been given.
+        status, report = run("replay", HEAD + PAIR_LINE + "9 1.2 close(0) = 0\n9 1.3 socket(AF_UNIX, SOCK_STREAM, 0) = 2\n")
+        self.assertEqual((status, report["notes"]), (3, {"a new number that isn't the lowest free one": [6]}))
 
     def test_unknown_calls_are_counted_by_name(self):
         _, report = run("replay", log_in((HERE / "logs/unknown_calls.txt").read_text("latin-1")))
