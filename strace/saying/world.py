@@ -314,6 +314,8 @@ class World:
         name = block.call.name
         if result.error or result.value is None:
             block.leave_out(f"{name} that failed" if result.error else f"{name} without an answer")
+        elif name in ("signalfd", "signalfd4") and number_of(args[0]) == result.value:
+            block.leave_out("a change of what a descriptor of signals is for")
         elif name in MAKES_OPAQUE or result.note:
             description = Description(Kind.OPAQUE, OPAQUE_NAMES.get(name) or result.note or name, any("NONBLOCK" in str(value) for value in args), inode=result.note)
             on_exec = any("CLOEXEC" in str(value) for value in args)
