@@ -1,5 +1,6 @@
 """Plants mistakes: takes one call that changes something out of a script, and sees whether a reply or the audit shows it."""
 from dataclasses import replace
+from typing import Any
 
 from judging.compare import Judge, Outcome
 from saying.model import Role
@@ -17,7 +18,7 @@ def plant(world, order, runner, moments):
     places = [place for place, step in enumerate(script.steps) if changes(step)]
     chosen = [places[place * len(places) // PLACES] for place in range(min(PLACES, len(places)))]
     before = outcomes(order.verdicts)
-    report = {"planted": len(chosen), "by a reply": 0, "by the audit": 0, "not noticed": []}
+    report: dict[str, Any] = {"planted": len(chosen), "by a reply": 0, "by the audit": 0, "not noticed": []}
     for place in chosen:
         changed = without(script, place)
         trace = runner.run(changed.text())

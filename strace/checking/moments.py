@@ -1,6 +1,7 @@
 """Compares the audit with /proc at quiet moments: the same processes, numbers, and files or sockets."""
 import re
 from bisect import bisect_right
+from typing import Any
 
 from judging.holdings import calls_up_to, holdings
 from saying.waiting import WAITS
@@ -34,7 +35,7 @@ def busy_times(log):
     times = [(call.time, call.ended) for call in log.calls if call.name not in WAITS and None not in (call.time, call.ended)]
     times += [(call.ended, call.ended) for call in log.calls if call.name in WAITS and call.ended is not None]
     times += [(end.time, end.time) for end in log.ends if end.time is not None]
-    joined = []
+    joined: list[list[float]] = []
     for begin, end in sorted(times):
         if joined and begin <= joined[-1][1]:
             joined[-1][1] = max(joined[-1][1], end)
@@ -45,7 +46,7 @@ def busy_times(log):
 
 def compare(world, order, runner, moments):
     """How many descriptors were the same, of how many the log doesn't tell where they lead, and which were others."""
-    report = {"moments": len(moments), "same": 0, "not told": 0, "different": 0, "examples": []}
+    report: dict[str, Any] = {"moments": len(moments), "same": 0, "not told": 0, "different": 0, "examples": []}
     for line, tables in moments:
         held, _ = holdings(world, order.script, runner, calls_up_to(order.script, line))
         ours = {(one.process.pid, one.number): one.description for one in held}

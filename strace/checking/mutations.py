@@ -14,7 +14,8 @@ NEW = (r"(?:socket|accept4?|open|openat|creat|dup|eventfd2?|epoll_create1?|memfd
 MOVED = r"(?:read|readv|write|writev|recv|recvfrom|recvmsg|send|sendto|sendmsg)\(.*\) = "
 NOTE = r'(?:<(?:"[^"]*"|->|[^">])*>)?'
 TAKEN = rf'(?:(?:read|recvfrom)\(\d+{NOTE}, |recvmsg\(.*iov_base=)'
-CHANGES_SOMETHING = r"(?:close|dup2|dup3|bind|listen|connect|write|sendto|sendmsg|read|recvfrom|recvmsg|shutdown|socket|socketpair|accept4?)\("
+CHANGES_SOMETHING = (r"(?:close|dup2|dup3|bind|listen|connect|write|sendto|sendmsg|read|recvfrom|recvmsg|shutdown|socket|socketpair|"
+                     r"accept4?)\(")
 ERRORS = {"EAGAIN": "ECONNRESET", "ENOENT": "ECONNREFUSED", "ECONNREFUSED": "ENOENT", "EPIPE": "ENOTCONN", "EBADF": "EINVAL"}
 
 
@@ -81,8 +82,9 @@ def judged(text, runner, seconds):
             report = report_of(log, world, Search(world, runner, read_rules(), seconds).run(), runner)
         except (common.Fault, ValueError):
             return None
-    rules = sum(report["replies"]["rules"].values())
-    return (report["replies"]["differ"] + report["replies"]["not decided"], rules), (report["notes"], report["log"]["unreadable"], report["unknown calls"])
+    replies = report["replies"]
+    return ((replies["differ"] + replies["not decided"], sum(replies["rules"].values())),
+            (report["notes"], report["log"]["unreadable"], report["unknown calls"]))
 
 
 def tally(text, runner, most, seconds, found):

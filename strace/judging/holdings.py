@@ -1,5 +1,6 @@
 """Tells uxrun's audit in the words of the log: who holds which descriptor, and through whom it came."""
 from dataclasses import dataclass, field
+from typing import Any
 
 from saying.model import Role
 from saying.outside import LABEL
@@ -9,9 +10,9 @@ from saying.outside import LABEL
 class Holding:
     """A descriptor that a process holds: number, where it leads, the chain in words, what says that it isn't known, and whether it was
     open from the log's start."""
-    process: object
+    process: Any
     number: int
-    description: object
+    description: Any
     chain: list = field(default_factory=list)
     unknown: str = ""
     from_start: bool = False

@@ -6,7 +6,7 @@ from pathlib import Path
 RULES = Path(__file__).resolve().parents[1] / "rules.txt"
 PATTERNS = ("on", "call", "ours", "linux")
 MARKS = ("is", "other")
-NOTHING = frozenset()
+NOTHING: frozenset = frozenset()
 GIVEN_BY_AUTOBIND = re.compile(r"a:[0-9a-f]{5}")
 
 
@@ -58,7 +58,7 @@ class Case:
     linux: str
     marks: frozenset = frozenset()
     other: frozenset = frozenset()
-    other_name: str = None
+    other_name: str | None = None
 
 
 def rule_of(rules, case):

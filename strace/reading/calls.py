@@ -21,7 +21,7 @@ OUTER = re.compile(r"(\d+)[<,)]")
 @dataclass(slots=True)
 class Result:
     """What a call answered: a value or None, what a new descriptor leads to, an error's name, and what stands behind."""
-    value: int = None
+    value: int | None = None
     note: str = ""
     error: str = ""
     detail: str = ""
@@ -35,8 +35,8 @@ class Call:
     text: str
     begin: int
     end: int
-    time: float
-    ended: float
+    time: float | None
+    ended: float | None
 
     def read(self):
         """Arguments and result, or the fault Unreadable."""
@@ -51,7 +51,7 @@ class End:
     begin: int
     line: int
     signal: str = ""
-    time: float = None
+    time: float | None = None
 
 
 @dataclass
@@ -68,8 +68,8 @@ class Log:
     answered: int = 0
     cut: bool = False
     lines: int = 0
-    first_time: float = None
-    last_time: float = None
+    first_time: float | None = None
+    last_time: float | None = None
     replaced: list = field(default_factory=list)
 
     def line_before(self, time):

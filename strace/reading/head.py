@@ -16,8 +16,8 @@ class Head:
     """The head of a log; of a log that record didn't write nothing is known."""
     recorded: bool = False
     folder: str = "/"
-    user: int = None
-    group: int = None
+    user: int | None = None
+    group: int | None = None
     inherited: list = field(default_factory=list)
 
     def add(self, text):

@@ -20,7 +20,7 @@ class Line:
     """A line: its number from 1, the thread, the time in seconds or None, its kind, the call's name and the rest."""
     number: int
     thread: int
-    time: float
+    time: float | None
     kind: Kind
     name: str
     rest: str
@@ -37,6 +37,7 @@ NO_THREAD = 0
 def read_line(number, text):
     """One line of a log, without its line feed."""
     head = HEAD.match(text)
+    assert head is not None  # all of its parts may be missing
     thread = int(head[1] or head[2] or NO_THREAD)
     time = float(head[3]) if head[3] else None
     if head[4]:

@@ -26,7 +26,7 @@ class Program:
 
 def read_programs(path):
     """The programs of a list, in its order; a ValueError says which line isn't one of such a list."""
-    found = []
+    found: list[Program] = []
     with open(path, encoding="utf-8") as file:
         for number, line in enumerate(file, 1):
             line = line.rstrip("\n")

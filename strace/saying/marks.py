@@ -6,7 +6,7 @@ from dataclasses import dataclass, field
 
 from .model import Kind
 
-NO_MARKS = frozenset()
+NO_MARKS: frozenset = frozenset()
 LAYER_BACKLOG = 128
 TIED_KINDS = (Kind.STREAM, Kind.RECORDS)
 
@@ -27,7 +27,7 @@ class Past:
     lost: str = ""
     rights: int = 0
     unsigned: bool = False
-    backlog: int = None
+    backlog: int | None = None
 
 
 def past_of(description):

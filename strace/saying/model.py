@@ -2,6 +2,7 @@
 from dataclasses import dataclass, field
 from enum import Enum
 from sys import intern
+from typing import Any
 
 
 WHOLE = 65536
@@ -48,25 +49,25 @@ class Description:
     nonblocking: bool = False
     append: bool = False
     phase: str = "idle"
-    peer: object = None
+    peer: Any = None
     waiting: list = field(default_factory=list)
     name: str = ""
     inode: str = ""
     unknown: str = ""
-    thing: object = None
-    watched: dict = None
+    thing: Any = None
+    watched: dict | None = None
     unread: list = field(default_factory=list)
     family: str = ""
     listens: bool = False
-    made_by: object = None
-    outer: object = None
+    made_by: Any = None
+    outer: Any = None
     pending: int = 0
     senders: list = field(default_factory=list)
     is_split: bool = False
     held: int = 0
     was_held: bool = False
     flying: int = 0
-    past: object = None
+    past: Any = None
     mode: str = ""
     has_own_buffer: bool = False
     is_given: bool = False
@@ -118,7 +119,7 @@ class Seat:
     group: int
     forked: bool = False
     number: int = 0
-    process: object = None
+    process: Any = None
     privileged: bool = False
 
 
@@ -133,20 +134,20 @@ class Process:
     effective and saved ids of the log; `unseen` has numbers that are open, since the kernel passed them over, though the log doesn't
     show what opened them, `freed` by which line of the log each number was closed."""
     pid: int
-    parent: object
+    parent: Any
     table: dict
     folder: str
     program: str
-    seat: Seat = None
-    first_seat: Seat = None
-    birth: object = None
+    seat: Seat | None = None
+    first_seat: Seat | None = None
+    birth: Any = None
     threads: set = field(default_factory=set)
     shared: set = field(default_factory=set)
     user: int = 0
     group: int = 0
-    privileged: bool = None
-    users: tuple = None
-    groups: tuple = None
+    privileged: bool | None = None
+    users: tuple | None = None
+    groups: tuple | None = None
     unsaid: str = ""
     root: bytes = b""
     unseen: set = field(default_factory=set)
@@ -180,7 +181,7 @@ class Process:
 
     def lowest_numbers(self, count):
         """So many of the lowest numbers that are free."""
-        found = []
+        found: list[int] = []
         while len(found) < count:
             found.append(self.lowest(found[-1] + 1 if found else 0))
         return found
@@ -195,15 +196,15 @@ class Step:
     its socket and of the other one that it concerns, with that one's name (marks.py)."""
     seat: Seat
     words: str
-    expect: str = None
+    expect: str | None = None
     role: Role = Role.CALL
     state: str = "-"
-    asked: frozenset = None
-    block: object = None
-    makes: dict = None
+    asked: frozenset | None = None
+    block: Any = None
+    makes: dict | None = None
     marks: frozenset = frozenset()
     other: frozenset = frozenset()
-    other_name: str = None
+    other_name: str | None = None
 
     def __post_init__(self):
         # A long log says the same words over and over: each text is kept once.
@@ -214,7 +215,7 @@ class Step:
 @dataclass(slots=True, eq=False)
 class Block:
     """The lines that one call is said by, and the lines of the log within which it may stand."""
-    call: object
+    call: Any
     process: Process
     begin: float
     end: float
@@ -225,7 +226,7 @@ class Block:
     unix: bool = False
     program: str = ""
     unknown: str = ""
-    snapshot: dict = None
+    snapshot: dict | None = None
     is_part: bool = False
     concerns: tuple = ()
     following: tuple = ()

@@ -28,7 +28,7 @@ def inode_of(note):
 
 def descriptors_in(value, plain=False):
     """All descriptors in a call's arguments; of a log without notes a bare number that comes first."""
-    found = []
+    found: list[Descriptor] = []
     _collect(value, plain, found)
     return found
 

@@ -28,7 +28,7 @@ class Arrival:
     """What one receive of the program took: bytes and control words, or the end."""
     data: bytes = b""
     rights: int = 0
-    credentials: tuple = None
+    credentials: tuple | None = None
     is_end: bool = False
 
 

@@ -60,7 +60,8 @@ def ended_early(block, result):
 def say_poll(world, block, process, args, result):
     if ended_early(block, result):
         return
-    asked, found = {}, {}
+    asked: dict[int, set] = {}
+    found: dict[int, set] = {}
     for one in after(args[0]) if isinstance(after(args[0]), list) else []:
         if isinstance(one, dict) and number_of(one.get("fd"), -1) >= 0:
             asked.setdefault(number_of(one["fd"]), set()).update(conditions(flags_of(one.get("events"))))

@@ -141,7 +141,8 @@ def put_down(world, block, process, message, flags, result):
 def pidfds_of(value):
     """The descriptors of processes that came with a message (SO_PASSPIDFD), those before its rights and those behind them; None of one
     whose number strace doesn't show."""
-    found, behind = ([], []), 0
+    found: tuple[list, list] = ([], [])
+    behind = 0
     for item in after(value) if isinstance(after(value), list) else []:
         kind, data = item.get("cmsg_type"), after(item.get("cmsg_data"))
         if kind == "SCM_RIGHTS":

@@ -54,7 +54,7 @@ def write_script(world, blocks):
         for step in block.steps:
             if step.words == "fork":
                 count += 1
-                child = by_key[int(MARK.search(step.expect)[1])]
+                child = by_key[int(step.expect.split("\0")[1])]
                 child.number = count
             lines.append(intern(f"{step.seat.number} {numbered(step.words, by_key)}"))
             steps.append(step)

@@ -54,8 +54,10 @@ def told_address(world, process, value, length=None):
 def is_cut(length):
     """Whether an address has more bytes than the buffer that it came in, as strace tells by `[11 => 19]`."""
     length = length[0] if isinstance(length, list) and length else length
-    sizes = (number_of(length.before), number_of(length.after)) if isinstance(length, Change) else (None, None)
-    return None not in sizes and sizes[0] < sizes[1]
+    if not isinstance(length, Change):
+        return False
+    room, whole = number_of(length.before), number_of(length.after)
+    return room is not None and whole is not None and room < whole
 
 
 def skipped(block, description, number):

@@ -20,12 +20,12 @@ OUTSIDE = "p:~outside"
 AUTOMATIC = re.compile(r'\[(\d+)(?:->\d+)?,@"([0-9a-f]{5})"\]')
 NOTED = re.compile(r"\d<[^>]*>")
 MOST_LOOKED_AT = 1000
-GIVES_NUMBERS = {**dict.fromkeys("""socket accept accept4 open openat openat2 creat dup fcntl ioctl eventfd eventfd2 memfd_create
+GIVES_NUMBERS: dict[str, int | None] = {**dict.fromkeys("""socket accept accept4 open openat openat2 creat dup fcntl ioctl eventfd eventfd2 memfd_create
 epoll_create epoll_create1 timerfd_create signalfd4 inotify_init inotify_init1 pidfd_open""".split()), "pipe": 0, "pipe2": 0,
                  "socketpair": 3}
 OPAQUE_NAMES = {"timerfd_create": "a timer", "signalfd4": "a descriptor of signals", "signalfd": "a descriptor of signals",
-                "inotify_init1": "an inotify", "inotify_init": "an inotify", "io_uring_setup": "an io_uring", "userfaultfd": "a userfaultfd",
-                "epoll_create1": "an epoll", "epoll_create": "an epoll", "pidfd_open": "a process's descriptor"}
+                "inotify_init1": "an inotify", "inotify_init": "an inotify", "io_uring_setup": "an io_uring",
+                "userfaultfd": "a userfaultfd", "epoll_create1": "an epoll", "epoll_create": "an epoll", "pidfd_open": "a process's descriptor"}
 MAKERS = {"pipe", "pipe2", "eventfd", "eventfd2", "memfd_create"}
 SAYS = {}
 
@@ -54,7 +54,7 @@ class World:
         self.by_inode = {}
         self.uses = {}
         self.missing = {}
-        self.unknown_names = Counter()
+        self.unknown_names: Counter[str] = Counter()
         self.doubts = doubts.Doubts()
         self.births = {}
         self.orphans = []
@@ -317,7 +317,8 @@ class World:
         elif name in ("signalfd", "signalfd4") and number_of(args[0]) == result.value:
             block.leave_out("a change of what a descriptor of signals is for")
         elif name in MAKES_OPAQUE or result.note:
-            description = Description(Kind.OPAQUE, OPAQUE_NAMES.get(name) or result.note or name, any("NONBLOCK" in str(value) for value in args), inode=result.note)
+            what, nonblocking = OPAQUE_NAMES.get(name) or result.note or name, any("NONBLOCK" in str(value) for value in args)
+            description = Description(Kind.OPAQUE, what, nonblocking, inode=result.note)
             on_exec = any("CLOEXEC" in str(value) for value in args)
             self.make(block, process, result.value, description, on_exec or name in ("pidfd_open", "pidfd_getfd"))
             block.otherwise("an opaque object" if name in MAKES_OPAQUE else f"a new number by {name}: an opaque object")

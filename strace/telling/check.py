@@ -13,8 +13,8 @@ def cells_of(row):
     calls, replies, audit = row["calls"], row["replies"], row["audit"]
     unix = calls["on AF_UNIX"]
     return [row["program"], calls["made"], sum(unix.values()), unix[How.NOT_AT_ALL.value], replies["compared"], replies["agree"],
-            replies["under a rule"], replies["differ"], replies["not decided"], row["moved"], audit["moments"], audit["same"], audit["not told"],
-            audit["different"]]
+            replies["under a rule"], replies["differ"], replies["not decided"], row["moved"], audit["moments"], audit["same"],
+            audit["not told"], audit["different"]]
 
 
 def row_of(row):
@@ -31,7 +31,8 @@ def table_of(rows):
     for row in good:
         for one in row["differences"]:
             undecided = "" if one["is decided"] else "not decided: "
-            lines.append(f"{row['program']}: {undecided}line {one['line']}: {one['call']} | {one['reply']} | the kernel: {one['kernel']}"[:240])
+            what = f"{one['call']} | {one['reply']} | the kernel: {one['kernel']}"
+            lines.append(f"{row['program']}: {undecided}line {one['line']}: {what}"[:240])
         lines += [f"{row['program']}: {example}" for example in row["audit"]["examples"]]
         unsaid = row["calls"]["reasons"][How.NOT_AT_ALL.value]
         lines += [f"{row['program']}: not said: {count} {reason}" for reason, count in unsaid.items()]

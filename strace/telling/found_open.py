@@ -7,7 +7,7 @@ from saying.marks import TIED_KINDS
 from saying.model import Kind
 
 STREAMS = 3
-IN_WORDS = {("closed",): "closed before any use", ("closed with all others",): "closed with all others before any use"}
+IN_WORDS: dict[tuple, str] = {("closed",): "closed before any use", ("closed with all others",): "closed with all others before any use"}
 CLOSED, CLOSED_IN_A_LOOP = "closed", "closed with all others"
 # How many lines of a log may lie between the closes of a loop over all numbers.
 NEAR = 60

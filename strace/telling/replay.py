@@ -43,8 +43,8 @@ def before_first(compared):
 
 def difference_of(order, verdict):
     block = verdict.step.block
-    return {"is decided": order.is_decided(verdict), "line": block.call.begin if block.call is not None else None, "process": block.program, "call": verdict.call,
-            "reply": verdict.ours, "kernel": verdict.kernel, "descriptor": verdict.step.state}
+    return {"is decided": order.is_decided(verdict), "line": block.call.begin if block.call is not None else None,
+            "process": block.program, "call": verdict.call, "reply": verdict.ours, "kernel": verdict.kernel, "descriptor": verdict.step.state}
 
 
 def report_of(log, world, order, runner):

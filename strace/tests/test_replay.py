@@ -142,7 +142,8 @@ class Replay(unittest.TestCase):
             self.assertEqual(run("replay", HEAD + PAIR_LINE + f"9 2.0 {line}\n")[0], status, line)
         signals = "9 1.0 signalfd4(-1, [], 8, SFD_NONBLOCK) = 0\n9 1.1 signalfd4(0<anon_inode:[signalfd]>, [HUP], 8, SFD_NONBLOCK) = 0\n"
         self.assertEqual(run("replay", HEAD + signals)[0], 0)
-        watched = "9 1.0 epoll_create1(0) = 0\n9 1.1 socket(AF_UNIX, SOCK_STREAM, 0) = 1\n9 1.2 epoll_ctl(0, EPOLL_CTL_ADD, 1, {events=EPOLLIN, data={u32=1, u64=1}}) = 0\n"
+        watched = "9 1.0 epoll_create1(0) = 0\n9 1.1 socket(AF_UNIX, SOCK_STREAM, 0) = 1\n" \
+                  "9 1.2 epoll_ctl(0, EPOLL_CTL_ADD, 1, {events=EPOLLIN, data={u32=1, u64=1}}) = 0\n"
         for count, wanted in (("1", 1), ("2", 1)):
             self.assertEqual(run("replay", HEAD + watched + f"9 2.0 {event % count}\n")[0], wanted)
 
