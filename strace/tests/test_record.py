@@ -25,13 +25,20 @@ def wait_for(condition):
     return condition()
 
 
+def take_signals():
+    """What runs these tests may ignore signals, as nohup(1) does, and so would what they run."""
+    for number in (signal.SIGTERM, signal.SIGHUP):
+        signal.signal(number, signal.SIG_DFL)
+
+
 @unittest.skipUnless(shutil.which("strace"), "there is no strace")
 class Ending(unittest.TestCase):
     def record(self, folder, script):
         """A recording of a shell script that goes on, once the script has made the file `there`."""
         log, pid = Path(folder) / "log", Path(folder) / "pid"
         command = [sys.executable, TOP / "record", "--pid-file", pid, log, "--", "sh", "-c", script]
-        process = subprocess.Popen(command, cwd=folder, stdin=subprocess.DEVNULL, stdout=subprocess.DEVNULL, stderr=subprocess.DEVNULL)
+        process = subprocess.Popen(command, cwd=folder, stdin=subprocess.DEVNULL, stdout=subprocess.DEVNULL, stderr=subprocess.DEVNULL,
+                                   preexec_fn=take_signals)
         self.assertTrue(wait_for((Path(folder) / "there").exists))
         return process, log, int(pid.read_text("ascii"))
 
