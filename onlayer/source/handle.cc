@@ -1,0 +1,68 @@
+// Which call is answered by what.
+#include <errno.h>
+#include <sys/syscall.h>
+#include "calls.h"
+#include "text.h"
+
+typedef Result (*Answer)(World &, Call &);
+
+static const std::map<int, Answer> OF_SOCKETS = {
+    {SYS_bind, answer_bind}, {SYS_listen, answer_listen}, {SYS_connect, answer_connect}, {SYS_accept, answer_accept},
+    {SYS_accept4, answer_accept}, {SYS_shutdown, answer_shutdown}, {SYS_getsockname, answer_name}, {SYS_getpeername, answer_name},
+    {SYS_getsockopt, answer_getsockopt}, {SYS_setsockopt, answer_setsockopt}, {SYS_write, answer_write}, {SYS_writev, answer_write},
+    {SYS_pwritev2, answer_write}, {SYS_sendto, answer_write}, {SYS_sendmsg, answer_sendmsg}, {SYS_sendmmsg, answer_sendmmsg},
+    {SYS_read, answer_read}, {SYS_readv, answer_read}, {SYS_preadv2, answer_read}, {SYS_recvfrom, answer_read},
+    {SYS_recvmsg, answer_recvmsg}, {SYS_recvmmsg, answer_recvmmsg}, {SYS_ioctl, answer_queue_size}, {SYS_sendfile, answer_sendfile},
+    {SYS_splice, answer_splice}};
+
+static const std::map<int, Answer> OTHERS = {
+    {SYS_socket, answer_socket}, {SYS_socketpair, answer_socket}, {SYS_close, answer_close}, {SYS_close_range, answer_close_range},
+    {SYS_dup, answer_dup}, {SYS_dup2, answer_dup2}, {SYS_dup3, answer_dup2}, {SYS_prctl, answer_prctl}};
+
+static void note_use(World &world, const NumberRef &number) {
+    for (auto &[entry, what] : world.inherited)
+        if (auto same = entry.lock(); same && same->file == number->file && same->process == number->process) what.used = true;
+}
+
+// --fail: the Nth such call.
+static int planned_failure(World &world, Call &call) {
+    for (Failure &failure : world.options.failures)
+        if (failure.call == call.nr() && ++failure.seen == failure.at) return failure.error;
+    return 0;
+}
+
+static Result of_other_file(World &world, Call &call) {
+    int number = call.argument(0);
+    if (call.nr() == SYS_splice && world.find_socket(call, call.argument(2))) return answer_splice(world, call);
+    if (!call.process->closing.empty() && world.is_being_closed(call, number)) return fail(EBADF);
+    return pass();
+}
+
+static Result of_socket(World &world, Call &call, Answer answer) {
+    bool is_new = !call.number;
+    if (is_new) call.number = world.find_socket(call, call.argument(0));
+    if (!call.number) return of_other_file(world, call);
+    bool has_offset = call.nr() == SYS_preadv2 || call.nr() == SYS_pwritev2;
+    if (has_offset && (long)call.data.args[3] != -1) return fail(ESPIPE);
+    if (is_new && !world.inherited.empty() && call.number->file->listening) note_use(world, call.number);
+    int error = is_new && !world.options.failures.empty() ? planned_failure(world, call) : 0;
+    if (error) world.counts.failed++;
+    if (error) world.layer->note("failed: " + call_name(call.nr()) + " by " + world.title(*call.process) + ", as asked, with " + errno_name(error));
+    return error ? fail(error) : answer(world, call);
+}
+
+Result World::handle(Call &call) {
+    auto of_a_socket = OF_SOCKETS.find(call.nr());
+    if (of_a_socket != OF_SOCKETS.end()) return of_socket(*this, call, of_a_socket->second);
+    auto other = OTHERS.find(call.nr());
+    if (other != OTHERS.end()) return other->second(*this, call);
+    switch (call.nr()) {
+    case SYS_setuid: case SYS_setgid: case SYS_setreuid: case SYS_setregid: case SYS_setresuid: case SYS_setresgid: case SYS_setgroups:
+        call.process->ids_changed = true;
+        return pass();
+    case SYS_io_uring_setup: return refuse(call, ENOSYS, "its rings bypass the supervisor");
+    case SYS_ptrace: return refuse(call, EPERM, "onlayer traces the program itself");
+    case SYS_pidfd_getfd: return pass();
+    }
+    return pass();
+}

@@ -1,0 +1,219 @@
+// Calls that make, name and connect sockets.
+#include <errno.h>
+#include <fcntl.h>
+#include <string.h>
+#include <sys/stat.h>
+#include <sys/syscall.h>
+#include <sys/un.h>
+#include <unistd.h>
+#include <algorithm>
+#include "calls.h"
+#include "outside.h"
+#include "text.h"
+
+static const char *word_of(Kind kind) { return kind == STREAM ? "stream" : kind == DATAGRAM ? "dgram" : "seq"; }
+
+static void note_peers(Process &process, Description *one, Description *other) {
+    one->peer_pid = other->peer_pid = process.pid;
+    one->peer_groups = other->peer_groups = process.groups;
+}
+
+static Result answer_pair(World &world, Call &call, Kind kind, unsigned flags) {
+    Reply reply = world.say(*call.process, std::string("pair ") + word_of(kind) + " -");
+    if (reply.error) return fail(reply.error);
+    Ref ends[2] = {world.make(kind), world.make(kind)};
+    Delivery rest;
+    for (int i = 0; i < 2; i++) {
+        world.placeholders.make_pair(*ends[i], flags & SOCK_NONBLOCK);
+        ends[i]->connected = true;
+        ends[i]->lead_to(ends[1 - i].get());
+        rest.gifts.push_back({ends[i], (int)reply.number(1 + i), (flags & SOCK_CLOEXEC) != 0});
+    }
+    note_peers(*call.process, ends[0].get(), ends[1].get());
+    rest.finish = [](Call &later, const std::vector<int> &numbers) {
+        for (int number : numbers)
+            if (number < 0) return fail(-number);
+        return write_memory(later.task, later.data.args[3], numbers.data(), 2 * sizeof(int)) ? done(0) : fail(EFAULT);
+    };
+    return world.deliver(call, std::move(rest));
+}
+
+Result answer_socket(World &world, Call &call) {
+    int type = call.argument(1) & 0xf, flags = call.argument(1) & ~0xf, protocol = call.argument(2);
+    if (type == SOCK_RAW) type = SOCK_DGRAM;   // as Linux has it
+    if ((type != STREAM && type != DATAGRAM && type != RECORDS) || (protocol != 0 && protocol != AF_UNIX)) return pass();
+    if (flags & ~(SOCK_NONBLOCK | SOCK_CLOEXEC)) return pass();
+    Kind kind = (Kind)type;
+    if (call.nr() == SYS_socketpair) return answer_pair(world, call, kind, flags);
+    Reply reply = world.say(*call.process, std::string("socket ") + word_of(kind) + " -");
+    if (reply.error) return fail(reply.error);
+    Ref made = world.make(kind);
+    world.placeholders.make_idle(*made, flags & SOCK_NONBLOCK);
+    Delivery rest;
+    rest.gifts.push_back({made, (int)reply.number(1), (flags & SOCK_CLOEXEC) != 0});
+    rest.finish = [](Call &, const std::vector<int> &numbers) { return answer_of(numbers[0]); };
+    return world.deliver(call, std::move(rest));
+}
+
+// ---- bind
+
+// The file system speaks first: folders, permissions, what is there already. The file stays, with a socket behind it
+// to which programs outside can connect.
+static int bind_for_real(Call &call, Description &file, const std::string &sun_path) {
+    Status status = status_of(call.task);
+    ActingAs acting(status);
+    sockaddr_un name = {AF_UNIX, {}};
+    std::string path = sun_path;
+    File folder = has_own_root(call.task) ? open_parent(call.task, path) : open_working_folder(call.task);
+    if (!folder) return errno;
+    if (has_own_root(call.task)) path = path.substr(path.rfind('/') + 1);
+    if (fchdir(folder.get())) return errno;
+    memcpy(name.sun_path, path.data(), std::min(path.size(), sizeof name.sun_path));
+    File gate(socket(AF_UNIX, file.kind | SOCK_CLOEXEC | SOCK_NONBLOCK, 0));
+    mode_t before = umask(status.mask);
+    socklen_t length = offsetof(sockaddr_un, sun_path) + path.size() + (path.size() < sizeof name.sun_path);
+    int error = bind(gate.get(), (sockaddr *)&name, length) ? errno : 0;
+    umask(before);
+    if (chdir("/")) return errno;
+    if (!error) file.gate = std::move(gate);
+    return error;
+}
+
+static int bind_abstract_for_real(World &world, Description &file, const std::string &word) {
+    if (world.names.has(word)) return 0;       // the layer says so
+    sockaddr_un name = {AF_UNIX, {}};
+    std::string bytes = name_bytes(word.substr(2));
+    memcpy(name.sun_path + 1, bytes.data(), std::min(bytes.size(), sizeof name.sun_path - 1));
+    File gate(socket(AF_UNIX, file.kind | SOCK_CLOEXEC | SOCK_NONBLOCK, 0));
+    if (bind(gate.get(), (sockaddr *)&name, offsetof(sockaddr_un, sun_path) + 1 + bytes.size())) return errno;
+    file.gate = std::move(gate);
+    return 0;
+}
+
+static int find_name(World &world, Call &call, Address &name) {
+    Description &own = *call.number->file;
+    if (name.word == "u") return 0;
+    if (name.word != "-") return own.name.empty() ? bind_abstract_for_real(world, own, name.word) : 0;
+    name.word = "p:" + name_word(name.sun_path);
+    if (!own.name.empty()) return 0;           // the layer refuses it
+    if (int error = bind_for_real(call, own, name.sun_path)) return error;
+    if (world.names.has(name.word) && !world.names.is_still_there(name.word)) forget_path(world, *call.process, name.word);
+    if (world.names.has(name.word) || name.sun_path.size() > 107) name.word = world.names.alias();
+    return 0;
+}
+
+Result answer_bind(World &world, Call &call) {
+    Address name = read_address(world, call, call.data.args[1], call.argument(2), true);
+    if (!name.error) name.error = find_name(world, call, name);
+    if (name.error) return fail(name.error);
+    Reply reply = world.say(*call.process, "bind " + text(call.number->layer) + " " + name.word);
+    if (reply.error) return fail(reply.error);
+    if (name.word == "u") name.word = world.say(*call.process, "sockname " + text(call.number->layer)).word(1);
+    Description &own = *call.number->file;
+    own.name = name.word;
+    world.names.bind(name.word, &own);
+    if (own.gate && own.kind == DATAGRAM) world.outside->watch_gate(&own);
+    if (name.sun_path.empty()) return done(0);
+    world.names.spell(name.word, name.sun_path);
+    if (File file = open_path(call.task, name.sun_path)) world.names.place(name.word, file.get());
+    return done(0);
+}
+
+// ---- listen, connect, accept
+
+Result answer_listen(World &world, Call &call) {
+    Description &own = *call.number->file;
+    Reply reply = world.say(*call.process, "listen " + text(call.number->layer) + " " + text(call.argument(1)));
+    if (reply.error) return fail(reply.error);
+    own.listening = true;
+    own.listener_pid = call.process->pid, own.listener_groups = call.process->groups;
+    world.placeholders.listen(own);
+    if (own.gate && !listen(own.gate.get(), 128)) world.outside->watch_gate(&own);
+    world.touch(&own);
+    return done(0);
+}
+
+Result go_outside(World &world, Call &call) {
+    Ref file = call.number->file;
+    if (file->kind == DATAGRAM && file->gate) return world.refuse(call, EHOSTUNREACH, "a bound datagram socket of the layer can't send outside");
+    world.counts.outside++;
+    world.layer->note("outside: " + world.title(*call.process) + " talks to a socket that isn't the layer's");
+    int room = 212992;
+    setsockopt(file->shown.get(), SOL_SOCKET, SO_SNDBUF, &room, sizeof room);
+    sockaddr nobody = {AF_UNSPEC, {}};
+    if (file->kind == DATAGRAM) connect(file->shown.get(), &nobody, sizeof nobody);
+    for (auto &process : world.processes) {
+        std::vector<int> numbers;
+        for (auto &[number, entry] : process->table)
+            if (entry->file == file) numbers.push_back(number);
+        for (int number : numbers) world.drop(*process, number);
+    }
+    return pass();
+}
+
+Ref join(World &world, Description *client, Description *listener) {
+    Ref end = world.make(client->kind);
+    end->lead_to(client), client->lead_to(end.get());
+    end->connected = client->connected = true;
+    client->peer_pid = listener->listener_pid, client->peer_groups = listener->listener_groups;
+    listener->pending.push_back(end);
+    world.placeholders.connect(*client);
+    world.touch(listener);
+    world.touch(client);
+    return end;
+}
+
+Result answer_connect(World &world, Call &call) {
+    Description *own = call.number->file.get();
+    Address to = read_address(world, call, call.data.args[1], call.argument(2), false);
+    if (to.error) return fail(to.error);
+    if (to.is_outside) return go_outside(world, call);
+    Reply reply = world.say(*call.process, "connect " + text(call.number->layer) + " " + to.word);
+    Description *target = world.names.socket_of(to.word);
+    if (reply.error == EAGAIN && target) return world.wait(call, target, Until::CHANGE, 0, SO_SNDTIMEO);
+    if (reply.error) return fail(reply.error);
+    if (own->kind == DATAGRAM) own->lead_to(to.word == "u" ? nullptr : target), world.touch(own);
+    else if (target) {
+        Ref end = join(world, own, target);
+        end->peer_pid = call.process->pid, end->peer_groups = call.process->groups;
+    }
+    return done(0);
+}
+
+Result answer_accept(World &world, Call &call) {
+    Description *own = call.number->file.get();
+    unsigned flags = call.nr() == SYS_accept4 ? call.data.args[3] : 0;
+    Reply reply = world.say(*call.process, "accept " + text(call.number->layer) + " -");
+    if (reply.error == EAGAIN) return world.wait(call, own, Until::INPUT, 0, SO_RCVTIMEO);
+    if (reply.error) return fail(reply.error);
+    if (own->pending.empty()) throw Fault("the layer accepted a connection that nobody made");
+    Ref end = own->pending.front();
+    own->pending.pop_front();
+    world.placeholders.make_pair(*end, flags & SOCK_NONBLOCK);
+    world.touch(own);
+    Delivery rest;
+    rest.gifts.push_back({end, (int)reply.number(1), (flags & SOCK_CLOEXEC) != 0});
+    std::string client = address_bytes(world, reply.word(2));
+    rest.finish = [client](Call &later, const std::vector<int> &numbers) {
+        if (numbers[0] < 0) return fail(-numbers[0]);
+        return write_address(later, later.data.args[1], later.data.args[2], client) ? done(numbers[0]) : fail(EFAULT);
+    };
+    return world.deliver(call, std::move(rest));
+}
+
+Result answer_shutdown(World &world, Call &call) {
+    static const char *const ways[] = {"r", "w", "rw"};
+    Description *own = call.number->file.get();
+    if ((unsigned)call.argument(1) > 2) return fail(EINVAL);
+    Reply reply = world.say(*call.process, "shut " + text(call.number->layer) + " " + ways[call.argument(1)]);
+    world.touch(own), world.touch(own->peer);
+    for (Description *follower : own->followers) world.touch(follower);
+    return reply.error ? fail(reply.error) : done(0);
+}
+
+Result answer_name(World &world, Call &call) {
+    const char *word = call.nr() == SYS_getsockname ? "sockname " : "peername ";
+    Reply reply = world.say(*call.process, word + text(call.number->layer));
+    if (reply.error) return fail(reply.error);
+    return write_address(call, call.data.args[1], call.data.args[2], address_bytes(world, reply.word(1))) ? done(0) : fail(EFAULT);
+}

@@ -1,0 +1,129 @@
+#include "placeholder.h"
+#include <errno.h>
+#include <fcntl.h>
+#include <string.h>
+#include <sys/un.h>
+#include <unistd.h>
+#include "text.h"
+
+static const char FILLER[4000] = {};           // fills the smallest send buffer
+
+static void bind_anywhere(int socket) {
+    sockaddr_un name = {AF_UNIX, {}};
+    if (bind(socket, (sockaddr *)&name, sizeof(sa_family_t))) throw Fault("a placeholder can't be bound");
+}
+void connect_to(int socket, int listener) {
+    sockaddr_un name;
+    socklen_t length = sizeof name;
+    getsockname(listener, (sockaddr *)&name, &length);
+    if (connect(socket, (sockaddr *)&name, length)) throw Fault(std::string("a placeholder can't be connected: ") + strerror(errno));
+}
+static void keep_small(int socket) {
+    int least = 1;
+    setsockopt(socket, SOL_SOCKET, SO_SNDBUF, &least, sizeof least);
+}
+static void drain(int socket) {
+    char bytes[8192];
+    while (recv(socket, bytes, sizeof bytes, MSG_DONTWAIT) > 0) {}
+}
+static void put_byte(int socket) { send(socket, "!", 1, MSG_DONTWAIT | MSG_NOSIGNAL); }
+
+File &Placeholders::listener_of(Kind kind) {
+    File &listener = kind == STREAM ? streams : records;
+    if (!listener) {
+        listener.reset(socket(AF_UNIX, kind | SOCK_CLOEXEC, 0));
+        bind_anywhere(listener.get());
+        if (::listen(listener.get(), 128)) throw Fault("no listener for placeholders");
+    }
+    return listener;
+}
+
+void Placeholders::make_idle(Description &file, bool nonblock) {
+    if (file.kind == DATAGRAM) return make_pair(file, nonblock);
+    file.shown.reset(socket(AF_UNIX, file.kind | SOCK_CLOEXEC | (nonblock ? SOCK_NONBLOCK : 0), 0));
+    if (!file.shown) throw Fault(std::string("no placeholder: ") + strerror(errno));
+    keep_small(file.shown.get());
+}
+
+void Placeholders::make_pair(Description &file, bool nonblock) {
+    int ends[2];
+    if (socketpair(AF_UNIX, file.kind | SOCK_CLOEXEC, 0, ends)) throw Fault(std::string("no placeholder: ") + strerror(errno));
+    file.shown.reset(ends[0]);
+    file.hidden.reset(ends[1]);
+    keep_small(ends[0]);
+    if (nonblock) fcntl(ends[0], F_SETFL, fcntl(ends[0], F_GETFL) | O_NONBLOCK);
+}
+
+void Placeholders::connect(Description &file) {
+    if (!file.shown) return;
+    File &listener = listener_of(file.kind);
+    connect_to(file.shown.get(), listener.get());
+    file.hidden.reset(accept4(listener.get(), nullptr, nullptr, SOCK_CLOEXEC));
+}
+
+void Placeholders::listen(Description &file) {
+    if (file.listens_for_real || !file.shown) return;
+    bind_anywhere(file.shown.get());           // not by its own name: a renamed path would lead nowhere
+    if (::listen(file.shown.get(), 8)) throw Fault("a placeholder can't listen");
+    file.listens_for_real = true;
+}
+
+static void show_listener(Description &file, bool in) {
+    if (in == !file.dummies.empty()) return;
+    if (in) {
+        File client(socket(AF_UNIX, file.kind | SOCK_CLOEXEC, 0));
+        connect_to(client.get(), file.shown.get());
+        file.dummies.push_back(std::move(client));
+        return;
+    }
+    int flags = fcntl(file.shown.get(), F_GETFL);
+    fcntl(file.shown.get(), F_SETFL, flags | O_NONBLOCK);
+    File(accept4(file.shown.get(), nullptr, nullptr, SOCK_CLOEXEC));
+    fcntl(file.shown.get(), F_SETFL, flags);
+    file.dummies.clear();
+}
+
+// Of a placeholder whose other end is closed, or that never had one.
+static void show_lonely(Description &file, unsigned conditions) {
+    if (!(conditions & ERR) && file.shown_conditions & ERR) {
+        int error;
+        socklen_t length = sizeof error;
+        getsockopt(file.shown.get(), SOL_SOCKET, SO_ERROR, &error, &length);
+    }
+    if (!(conditions & IN) && file.shown_conditions & IN) drain(file.shown.get());
+    file.shown_conditions = conditions;
+}
+
+static void close_other_end(Description &file, unsigned conditions) {
+    drain(file.hidden.get());
+    if (conditions & ERR) put_byte(file.shown.get());     // unread at the close: the kernel tells ECONNRESET
+    file.hidden.reset();
+    file.shown_hup = true;
+    file.shown_conditions = conditions;
+}
+
+static void show_room(Description &file, bool has_room) {
+    if (has_room != file.shown_full) return;
+    if (has_room) drain(file.hidden.get());
+    else send(file.shown.get(), FILLER, sizeof FILLER, MSG_DONTWAIT | MSG_NOSIGNAL);
+    file.shown_full = !has_room;
+}
+
+void Placeholders::show(Description &file, unsigned conditions) {
+    file.conditions = conditions;
+    if (!file.shown) return;
+    if (file.listening) return show_listener(file, conditions & IN);
+    if (!file.hidden) return show_lonely(file, conditions);
+    unsigned changed = file.shown_conditions ^ conditions;
+    if (changed & IN) conditions & IN ? put_byte(file.hidden.get()) : drain(file.shown.get());
+    bool is_datagram = file.kind == DATAGRAM, hangs_up = !is_datagram && conditions & HUP && !file.shown_hup;
+    if (hangs_up && !(file.connected && file.peer)) return close_other_end(file, conditions);
+    if (conditions & RDHUP && changed & RDHUP) shutdown(file.hidden.get(), SHUT_WR);
+    if (hangs_up) shutdown(file.shown.get(), SHUT_RDWR), file.shown_hup = true;
+    show_room(file, conditions & OUT);
+    file.shown_conditions = conditions;
+}
+
+void Placeholders::arrive(Description &file) {
+    if (file.shown && file.hidden && file.shown_conditions & IN) put_byte(file.hidden.get());
+}

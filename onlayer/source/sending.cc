@@ -1,0 +1,169 @@
+#include <errno.h>
+#include <string.h>
+#include <sys/syscall.h>
+#include <algorithm>
+#include "calls.h"
+#include "text.h"
+
+static const size_t PIECE = 65536;             // of a stream; a record may be as long
+static const int NO_NUMBER = 4095;             // what no table has open
+
+// ---- control data
+
+struct Items {
+    std::vector<int> rights;
+    std::string credentials;
+    bool has_rights = false, is_readable = true;
+};
+
+static std::string credentials_word(const World &world, const Call &call, const ucred &given) {
+    long number = given.pid == call.task || given.pid == call.process->pid ? call.process->layer : 4294967295;
+    auto found = world.by_task.find(given.pid);
+    if (found != world.by_task.end() && found->second->layer) number = found->second->layer;
+    return "c:" + text(number) + "," + text(given.uid) + "," + text(given.gid);
+}
+
+static Items read_items(const World &world, const Call &call, const std::string &buffer) {
+    Items items;
+    for (size_t from = 0; from + sizeof(cmsghdr) <= buffer.size();) {
+        cmsghdr head;
+        memcpy(&head, &buffer[from], sizeof head);
+        bool fits = head.cmsg_len >= sizeof head && head.cmsg_len <= buffer.size() - from;
+        if (!fits || head.cmsg_level != SOL_SOCKET || (head.cmsg_type != SCM_RIGHTS && head.cmsg_type != SCM_CREDENTIALS)) {
+            items.is_readable = false;
+            return items;
+        }
+        const char *data = &buffer[from] + sizeof head;
+        size_t length = head.cmsg_len - sizeof head;
+        if (head.cmsg_type == SCM_RIGHTS) {
+            items.has_rights = true;
+            size_t before = items.rights.size();
+            items.rights.resize(before + length / sizeof(int));
+            memcpy(items.rights.data() + before, data, length / sizeof(int) * sizeof(int));
+        } else if (length >= sizeof(ucred)) {
+            ucred given;
+            memcpy(&given, data, sizeof given);
+            items.credentials = credentials_word(world, call, given);
+        }
+        from += CMSG_ALIGN(head.cmsg_len);
+    }
+    return items;
+}
+
+Control read_control(World &world, Call &call, u64 at, size_t length) {
+    Control out;
+    if (!length) return out;
+    std::string buffer(std::min<size_t>(length, 65537), 0);
+    if (length > 65536) out.error = ENOBUFS;
+    else if (!read_memory(call.task, at, &buffer[0], length)) out.error = EFAULT;
+    if (out.error) return out;
+    Items items = read_items(world, call, buffer);
+    if (!items.is_readable) {
+        out.word = "x:" + hex(buffer);         // the layer judges it
+        return out;
+    }
+    std::string words;
+    for (int right : items.rights) {
+        int number = right < 0 ? -EBADF : world.adopt(call, right);
+        if (number < 0 && number != -EBADF) {
+            out.error = -number;
+            return out;
+        }
+        words += (words.empty() ? "r:" : ",") + text(number < 0 ? NO_NUMBER : number);
+        if (number >= 0) out.rights.push_back(call.process->table[right]->file);
+    }
+    if (!items.credentials.empty()) words += (words.empty() ? "" : "+") + items.credentials;
+    if (!words.empty()) out.word = words;
+    return out;
+}
+
+// ---- sends
+
+static Description *target_of(const World &world, const Call &call, const Address &to) {
+    Description *own = call.number->file.get();
+    if (own->kind == DATAGRAM && to.is_given()) return world.names.socket_of(to.word);
+    return own->peer;
+}
+
+static Result wait_to_send(World &world, Call &call, Description *target, unsigned flags) {
+    Description *own = call.number->file.get();
+    if (own->kind == DATAGRAM) {               // a refused call changes nothing
+        world.untouch(target), world.untouch(own);
+        return world.wait(call, target ? target : own, Until::CHANGE, flags, SO_SNDTIMEO);
+    }
+    return world.wait(call, own, Until::OUTPUT, flags, SO_SNDTIMEO);
+}
+
+static Result fail_to_send(World &world, Call &call, Description *target, int error, unsigned flags) {
+    world.touch(target), world.touch(call.number->file.get());
+    Result result = fail(error);
+    result.raises_sigpipe = error == EPIPE && call.number->file->is_stream() && !(flags & MSG_NOSIGNAL);
+    return result;
+}
+
+static void take_in(Description *target, const Control &control, size_t done, World &world) {
+    if (!target) return;
+    if (!done && !control.rights.empty()) target->passing.push_back(control.rights);
+    world.placeholders.arrive(*target);
+}
+
+Result send_parts(World &world, Call &call, const Parts &parts, const Address &to, Control &control, unsigned flags) {
+    if (flags & MSG_OOB) return world.refuse(call, EOPNOTSUPP, "the layer has no out-of-band data");
+    if (to.is_outside) return go_outside(world, call);
+    Description *own = call.number->file.get(), *target = target_of(world, call, to);
+    std::string data, before = "send " + text(call.number->layer) + " " + to.word + " ", letters = flags & MSG_DONTWAIT ? "d" : "-";
+    size_t all = room_of(parts);
+    for (;;) {
+        if (!gather(call.task, parts, call.done, own->is_stream() ? PIECE : PIECE + 1, data)) return call.done ? done(call.done) : fail(EFAULT);
+        std::string words = before + hex(data) + " " + (call.done ? "-" : control.word) + " " + letters;
+        Reply reply = world.say(*call.process, words, {target, own});
+        if (reply.error == EAGAIN) {
+            Result result = wait_to_send(world, call, target, flags);
+            return result.way != Result::WAIT && call.done ? done(call.done) : result;
+        }
+        if (reply.error) return call.done ? done(call.done) : fail_to_send(world, call, target, reply.error, flags);
+        take_in(target, control, call.done, world);
+        call.done += reply.number(1);
+        if (!own->is_stream() || call.done >= all || !reply.number(1)) return done(call.done);
+    }
+}
+
+Result send_message(World &world, Call &call, u64 at, unsigned flags) {
+    Message message = read_message(call, at);
+    if (message.error) return fail(message.error);
+    msghdr &head = message.head;
+    Address to;
+    if (head.msg_name && head.msg_namelen) to = read_address(world, call, (u64)head.msg_name, head.msg_namelen, false);
+    if (to.error) return fail(to.error);
+    Control control = read_control(world, call, (u64)head.msg_control, head.msg_control ? head.msg_controllen : 0);
+    if (control.error) return fail(control.error);
+    return send_parts(world, call, message.parts, to, control, flags);
+}
+
+Result answer_write(World &world, Call &call) {
+    const auto &a = call.data.args;
+    bool is_vector = call.nr() == SYS_writev || call.nr() == SYS_pwritev2, is_sendto = call.nr() == SYS_sendto;
+    Parts parts{{(void *)a[1], (size_t)a[2]}};
+    if (is_vector)
+        if (int error = read_parts(call, a[1], a[2], parts)) return fail(error == EMSGSIZE ? EINVAL : error);
+    Address to;
+    Control none;
+    if (is_sendto && a[4] && a[5]) to = read_address(world, call, a[4], (long)(int)a[5], false);
+    if (to.error) return fail(to.error);
+    return send_parts(world, call, parts, to, none, is_sendto ? a[3] : 0);
+}
+Result answer_sendmsg(World &world, Call &call) { return send_message(world, call, call.data.args[1], call.data.args[2]); }
+
+Result answer_sendmmsg(World &world, Call &call) {
+    const auto &a = call.data.args;
+    size_t count = std::min<u64>((unsigned)a[2], 1024);
+    for (; call.messages < count; call.messages++, call.done = 0) {
+        u64 at = a[1] + call.messages * sizeof(mmsghdr);
+        Result result = send_message(world, call, at, a[3]);
+        if (result.way == Result::WAIT) return result;
+        if (result.way == Result::PASS || result.error) return call.messages ? done(call.messages) : result;
+        unsigned sent = result.value;
+        if (!write_value(call.task, at + offsetof(mmsghdr, msg_len), sent)) return fail(EFAULT);
+    }
+    return done(call.messages);
+}

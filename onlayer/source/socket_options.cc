@@ -1,0 +1,144 @@
+// getsockopt, setsockopt, and the sizes of queues.
+#include <errno.h>
+#include <fcntl.h>
+#include <string.h>
+#include <sys/ioctl.h>
+#include <sys/syscall.h>
+#include <unistd.h>
+#include <algorithm>
+#include "calls.h"
+#include "text.h"
+#ifndef SO_PEERGROUPS
+#define SO_PEERGROUPS 59
+#endif
+#define SO_PASS_PIDFD 76
+#define SO_PEER_PIDFD 77
+
+template <class T> static std::string bytes_of(const T &value) { return std::string((const char *)&value, sizeof value); }
+
+static Result give_value(const Call &call, const std::string &value) {
+    unsigned room = 0;
+    if (!read_value(call.task, call.data.args[4], room)) return fail(EFAULT);
+    if ((int)room < 0) return fail(EINVAL);
+    unsigned length = std::min<size_t>(room, value.size());
+    bool is_there = write_memory(call.task, call.data.args[3], value.data(), length) && write_value(call.task, call.data.args[4], length);
+    return is_there ? done(0) : fail(EFAULT);
+}
+
+static Result get_peer(World &world, Call &call) {
+    ucred peer = {0, (uid_t)-1, (gid_t)-1};
+    Reply reply = world.say(*call.process, "getopt " + text(call.number->layer) + " peercred");
+    if (reply.error && reply.error != ENOTCONN) return fail(reply.error);
+    if (reply.ok()) peer = {world.real_pid(reply.number(1)), (uid_t)reply.number(2), (gid_t)reply.number(3)};
+    return give_value(call, bytes_of(peer));
+}
+
+static Result get_peer_groups(Call &call) {
+    const Description &own = *call.number->file;
+    unsigned room = 0, length = own.peer_groups.size() * sizeof(gid_t);
+    if (!own.peer_pid) return fail(ENODATA);
+    if (!read_value(call.task, call.data.args[4], room)) return fail(EFAULT);
+    if (!write_value(call.task, call.data.args[4], length)) return fail(EFAULT);
+    if (room < length) return fail(ERANGE);
+    return write_memory(call.task, call.data.args[3], own.peer_groups.data(), length) ? done(0) : fail(EFAULT);
+}
+
+static Result get_peer_pidfd(World &world, Call &call) {
+    const Description &own = *call.number->file;
+    if (!own.peer_pid) return fail(ENODATA);
+    File file((int)syscall(SYS_pidfd_open, own.peer_pid, 0));
+    if (!file) return fail(errno);
+    seccomp_notif_addfd add = {};
+    add.id = call.id, add.srcfd = file.get(), add.newfd_flags = O_CLOEXEC;
+    int number = ioctl(world.listener.get(), SECCOMP_IOCTL_NOTIF_ADDFD, &add);
+    return number < 0 ? fail(errno) : give_value(call, bytes_of(number));
+}
+
+static const char *option_word(int option) {
+    switch (option) {
+    case SO_TYPE: return "type";
+    case SO_ERROR: return "error";
+    case SO_PASSCRED: return "passcred";
+    case SO_ACCEPTCONN: return "accept";
+    }
+    return nullptr;
+}
+
+static Result get_from_layer(World &world, Call &call, int option) {
+    Reply reply = world.say(*call.process, "getopt " + text(call.number->layer) + " " + option_word(option));
+    if (option == SO_ERROR) world.touch(call.number->file.get());
+    if (reply.error) return fail(reply.error);
+    int value = (int)reply.number(1);
+    if (option == SO_ERROR && value) value = ECONNRESET;
+    return give_value(call, bytes_of(value));
+}
+
+Result answer_getsockopt(World &world, Call &call) {
+    int option = call.argument(2);
+    if (call.argument(1) != SOL_SOCKET) return fail(EOPNOTSUPP);
+    if (option_word(option)) return get_from_layer(world, call, option);
+    switch (option) {
+    case SO_PEERCRED: return get_peer(world, call);
+    case SO_PEERGROUPS: return get_peer_groups(call);
+    case SO_PEER_PIDFD: return get_peer_pidfd(world, call);
+    case SO_SNDBUF: return give_value(call, bytes_of(call.number->file->send_room));
+    case SO_RCVBUF: return give_value(call, bytes_of(call.number->file->receive_room));
+    case SO_PEEK_OFF: return give_value(call, bytes_of(-1));
+    case SO_PASS_PIDFD: return give_value(call, bytes_of(0));
+    }
+    return pass();                             // the placeholder knows it
+}
+
+static Result set_credentials(World &world, Call &call, int value) {
+    Description &own = *call.number->file;
+    Reply reply = world.say(*call.process, "setopt " + text(call.number->layer) + " passcred " + (value ? "1" : "0"));
+    world.touch(&own);
+    if (reply.error) return fail(reply.error);
+    if (!own.name.empty()) return done(0);
+    Reply name = world.say(*call.process, "sockname " + text(call.number->layer));    // it may have been given one
+    if (name.ok() && name.word(1) != "u") own.name = name.word(1), world.names.bind(own.name, &own);
+    return done(0);
+}
+
+// Told as they were set, doubled as Linux does; the layer's queues have a limit of their own.
+static Result set_room(const World &world, Call &call, int option, int value) {
+    Description &own = *call.number->file;
+    bool sends = option == SO_SNDBUF, forced = option == SO_SNDBUFFORCE || option == SO_RCVBUFFORCE;
+    if (sends || option == SO_SNDBUFFORCE) own.send_room = std::max(2 * (forced ? value : std::min(value, world.send_maximum)), 4608);
+    else own.receive_room = std::max(2 * (forced ? value : std::min(value, world.receive_maximum)), 2304);
+    return done(0);
+}
+
+Result answer_setsockopt(World &world, Call &call) {
+    int option = call.argument(2), value = 0;
+    if (call.argument(1) != SOL_SOCKET) return fail(EOPNOTSUPP);
+    switch (option) {
+    case SO_PASSCRED: case SO_SNDBUF: case SO_RCVBUF: case SO_SNDBUFFORCE: case SO_RCVBUFFORCE: case SO_PASS_PIDFD: case SO_PEEK_OFF:
+        if (call.argument(4) < (int)sizeof value) return fail(EINVAL);
+        if (!read_value(call.task, call.data.args[3], value)) return fail(EFAULT);
+    }
+    switch (option) {
+    case SO_PASSCRED: return set_credentials(world, call, value);
+    case SO_SNDBUFFORCE: case SO_RCVBUFFORCE:
+        if (call.process->user != 0) return fail(EPERM);
+        [[fallthrough]];
+    case SO_SNDBUF: case SO_RCVBUF: return set_room(world, call, option, value);
+    case SO_PASS_PIDFD: return world.refuse(call, ENOPROTOOPT, "the layer's messages carry no pidfd (SO_PASSPIDFD)");
+    case SO_PEEK_OFF: return value < 0 ? done(0) : world.refuse(call, EOPNOTSUPP, "the layer peeks at the front alone (SO_PEEK_OFF)");
+    }
+    return pass();
+}
+
+// FIONREAD: what a receive would find. TIOCOUTQ: what the other end hasn't read.
+Result answer_queue_size(World &world, Call &call) {
+    Description &own = *call.number->file;
+    bool reads = call.data.args[1] == FIONREAD;
+    if (own.listening && reads) return fail(EINVAL);
+    auto reader = reads ? std::optional<Watched>(Watched{&own, call.process->layer, call.number->layer}) : world.watched(own.peer);
+    int value = 0;
+    if (reader) {
+        Reply reply = world.say_as(reader->process, "recv " + text(reader->number) + " 1048576 0 pt");
+        if (reply.ok()) value = (int)reply.number(1);
+    }
+    return write_value(call.task, call.data.args[2], value) ? done(0) : fail(EFAULT);
+}

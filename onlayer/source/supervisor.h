@@ -1,0 +1,23 @@
+// The loop: notifications, signals, time limits, and what is told at the end.
+#pragma once
+#include <signal.h>
+#include "outside.h"
+#include "tracer.h"
+
+class Supervisor {
+    World &world;
+    Tracer tracer;
+    File signals;
+    double begun = 0;
+    bool told_deadlock = false;
+
+    void take_notification();
+    bool resume(Call &call);
+    void take_signals();
+    void look_for_deadlock(bool was_idle);
+    void wait_for_something();
+
+public:
+    explicit Supervisor(World &world) : world(world), tracer(world) {}
+    int run();                                 // the program's exit status
+};

@@ -1,0 +1,6 @@
+// What onlayer itself says: on standard error, or into the file of --log.
+#pragma once
+#include <string>
+
+bool tell_to(const std::string &path);
+void tell(const std::string &lines);

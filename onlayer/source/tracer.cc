@@ -1,0 +1,257 @@
+#include "tracer.h"
+#include <errno.h>
+#include <fcntl.h>
+#include <string.h>
+#include <sys/ptrace.h>
+#include <sys/syscall.h>
+#include <sys/user.h>
+#include <sys/wait.h>
+#include <unistd.h>
+#include "text.h"
+
+static const long RESTART = -512;              // ERESTARTSYS: what an interrupted call stands at until its signal is delivered
+
+void Tracer::start(int pid) {
+    root = pid;
+    Process &process = world.new_process(pid);
+    process.tasks = {pid};
+    world.by_task[pid] = &process;
+}
+
+// ---- births
+
+Process &Tracer::copy_process(Process &parent, int task) {
+    Process &child = world.new_process(task);
+    child.hides = parent.hides;
+    if (parent.table.empty()) return child;
+    Reply reply = world.say(parent, "fork");
+    if (!reply.ok()) throw Fault("the layer can't fork for " + world.title(parent) + ": " + reply.text);
+    child.user = parent.user, child.group = parent.group;
+    world.name_in_layer(child, (int)reply.number(1));
+    for (auto &[number, entry] : parent.table) world.enter(child, number, entry->file, entry->layer);
+    return child;
+}
+
+void Tracer::born(int parent_task, int task) {
+    Process *parent = world.by_task[parent_task], *process = parent;
+    if (status_of(task).group == task && !same_table(parent_task, task)) process = &copy_process(*parent, task);
+    process->tasks.insert(task);
+    world.by_task[task] = process;
+    if (early.erase(task)) ptrace(PTRACE_CONT, task, 0, 0);
+}
+
+void Tracer::split(int task) {
+    Process *shared = world.by_task[task];
+    if (!shared || shared->tasks.size() < 2) return;
+    shared->tasks.erase(task);
+    if (shared->pid == task) shared->pid = *shared->tasks.begin();
+    Process &own = copy_process(*shared, task);
+    own.tasks = {task};
+    world.by_task[task] = &own;
+}
+
+// ---- exec
+
+void Tracer::close_on_exec(Process &process, int task) {
+    std::vector<int> closed;
+    for (auto &[number, entry] : process.table)
+        if (!entry->file->shown || !same_file(task, number, entry->file->shown.get())) closed.push_back(number);
+    for (int number : closed) world.layer->make(process.layer, "flags " + text(process.table[number]->layer) + " x");
+    if (!process.table.empty()) world.layer->make(process.layer, "exec");
+    for (int number : closed) world.drop(process, number, false);
+}
+
+void Tracer::note_inherited(Process &process) {
+    for (auto &[number, entry] : process.table)
+        if (entry->file->listening)
+            world.inherited.push_back({entry, {process.program, entry->file->name, process.pid, number}});
+}
+
+void Tracer::executed(int task, int before) {
+    auto found = world.by_task.find(before);
+    Process *process = found != world.by_task.end() ? found->second : world.by_task[task];
+    std::set<int> others = process->tasks;
+    for (int other : others) {
+        if (other == before || other == task) continue;
+        if (status_of(other).group == task) world.by_task.erase(other), process->tasks.erase(other);
+    }
+    if (before != task) world.by_task.erase(before), process->tasks.erase(before), process->tasks.insert(task);
+    world.by_task[task] = process;
+    if (process->tasks.size() > 1) split(task), process = world.by_task[task];
+    process->pid = task, process->program = program_of(task), process->ids_changed = true, process->hides = false;
+    close_on_exec(*process, task);
+    if (process->layer) world.layer->note("process " + text(task) + " executes " + process->program);
+    note_inherited(*process);
+    world.settle();
+}
+
+// ---- ends
+
+void Tracer::ended(int task) {
+    auto found = world.by_task.find(task);
+    if (found == world.by_task.end()) return;
+    Process &process = *found->second;
+    world.by_task.erase(found);
+    process.tasks.erase(task);
+    world.end_wait_of(task);
+    world.undelivered.erase(task);
+    copies.erase(task), put_off.erase(task), sent_again.erase(task);
+    if (process.tasks.empty()) {
+        if (process.layer) world.layer->make(process.layer, "exit"), world.layer->note("process " + text(process.pid) + " has exited");
+        auto table = std::move(process.table);
+        process.table.clear();
+        for (auto &[number, entry] : table) entry->file->holders.erase({process.layer, entry->layer});
+    }
+    world.settle();
+}
+
+// ---- a copy by F_DUPFD, whose number the kernel chooses
+
+void Tracer::begin_copy(int task) {
+    user_regs_struct registers;
+    ptrace(PTRACE_GETREGS, task, 0, &registers);
+    Call call;
+    call.task = task, call.process = world.by_task[task];
+    NumberRef entry = call.process ? world.find(call, (int)registers.rdi) : nullptr;
+    if (!entry) {
+        ptrace(PTRACE_CONT, task, 0, 0);
+        return;
+    }
+    Reply reply = world.say(*call.process, "dup " + text(entry->layer));
+    world.counts.answered++;
+    if (reply.error) {
+        registers.orig_rax = -1, registers.rax = -reply.error;
+        ptrace(PTRACE_SETREGS, task, 0, &registers);
+        ptrace(PTRACE_CONT, task, 0, 0);
+        return;
+    }
+    copies[task] = {entry->file, (int)reply.number(1)};
+    ptrace(PTRACE_SYSCALL, task, 0, 0);
+}
+
+void Tracer::end_copy(int task) {
+    auto found = copies.find(task);
+    if (found != copies.end()) {
+        user_regs_struct registers;
+        ptrace(PTRACE_GETREGS, task, 0, &registers);
+        Process &process = *world.by_task[task];
+        long number = (long)registers.rax;
+        if (number >= 0) world.enter(process, (int)number, found->second.file, found->second.layer);
+        else world.layer->make(process.layer, "close " + text(found->second.layer));
+        copies.erase(found);
+        world.settle();
+    }
+    ptrace(PTRACE_CONT, task, 0, 0);
+}
+
+// ---- signals
+
+static bool is_caught(int task, int signal) {
+    return status_of(task).caught & 1ull << (signal - 1);
+}
+
+// A handler is about to run in a task that waits: the call ends with what it has.
+void Tracer::interrupt(int task, int signal) {
+    for (size_t i = 0; i < world.waiting.size(); i++) {
+        if (world.waiting[i].task != task) continue;
+        if (!is_caught(task, signal)) return;  // it goes on as if nothing had come
+        Call call = std::move(world.waiting[i]);
+        world.waiting.erase(world.waiting.begin() + i);
+        call.interrupted = true;
+        bool has_limit = call.deadline < 1e17;
+        Result result = world.handle(call);
+        if (result.error == EAGAIN && has_limit) result = fail(EINTR);
+        if (result.way == Result::DONE && result.error != EAGAIN) world.undelivered[task] = {call.data, {}, result};
+        world.let_go(std::move(call.number));
+        world.settle();
+        return;
+    }
+}
+
+// The answer of a call that a signal has interrupted is put in its place; true where the signal has to wait for more.
+bool Tracer::answer_at_signal(int task) {
+    auto found = world.undelivered.find(task);
+    if (found == world.undelivered.end()) return false;
+    user_regs_struct registers;
+    ptrace(PTRACE_GETREGS, task, 0, &registers);
+    if ((long)registers.rax != RESTART || (int)registers.orig_rax != found->second.data.nr) return false;
+    if (!found->second.result) return true;
+    const Result &result = *found->second.result;
+    registers.rax = result.error ? -result.error : result.value;
+    registers.orig_rax = -1;
+    ptrace(PTRACE_SETREGS, task, 0, &registers);
+    world.undelivered.erase(found);
+    return false;
+}
+
+void Tracer::deliver_signal(int task, int signal) {
+    siginfo_t info;
+    memset(&info, 0, sizeof info);
+    auto again = sent_again.find(task);
+    if (again != sent_again.end() && !again->second.empty() && again->second.front().si_signo == signal) {
+        info = again->second.front();
+        again->second.erase(again->second.begin());
+        ptrace(PTRACE_SETSIGINFO, task, 0, &info);
+    }
+    interrupt(task, signal);
+    if (!answer_at_signal(task)) {
+        ptrace(PTRACE_CONT, task, 0, signal);
+        return;
+    }
+    ptrace(PTRACE_GETSIGINFO, task, 0, &info);
+    put_off[task].push_back(info);
+    ptrace(PTRACE_CONT, task, 0, 0);
+}
+
+void Tracer::send_put_off(int task) {
+    auto found = put_off.find(task);
+    if (found == put_off.end()) return;
+    for (siginfo_t &info : found->second) {
+        sent_again[task].push_back(info);
+        syscall(SYS_tgkill, status_of(task).group, task, info.si_signo);
+    }
+    put_off.erase(found);
+}
+
+// ---- stops
+
+bool Tracer::handle_event(int task, int event) {
+    unsigned long message = 0;
+    ptrace(PTRACE_GETEVENTMSG, task, 0, &message);
+    switch (event) {
+    case PTRACE_EVENT_FORK:
+    case PTRACE_EVENT_VFORK:
+    case PTRACE_EVENT_CLONE: born(task, (int)message); return true;
+    case PTRACE_EVENT_EXEC: executed(task, (int)message); return true;
+    case PTRACE_EVENT_EXIT: ended(task); return true;
+    case PTRACE_EVENT_STOP: return true;
+    case PTRACE_EVENT_SECCOMP: begin_copy(task); return false;
+    }
+    return true;
+}
+
+void Tracer::handle_stop(int task, int status) {
+    int signal = WSTOPSIG(status), event = status >> 16;
+    if (!world.by_task.count(task) && event != PTRACE_EVENT_EXEC && event != PTRACE_EVENT_EXIT) {
+        early.insert(task);
+        return;
+    }
+    if (signal == (SIGTRAP | 0x80)) return end_copy(task);
+    if (!event) return deliver_signal(task, signal);
+    bool stays_stopped = event == PTRACE_EVENT_STOP && (signal == SIGSTOP || signal == SIGTSTP || signal == SIGTTIN || signal == SIGTTOU);
+    if (stays_stopped) ptrace(PTRACE_LISTEN, task, 0, 0);
+    else if (handle_event(task, event)) ptrace(PTRACE_CONT, task, 0, 0);
+}
+
+void Tracer::reap() {
+    for (;;) {
+        int status, task = waitpid(-1, &status, __WALL | WNOHANG);
+        if (task <= 0) return;
+        if (WIFSTOPPED(status)) {
+            handle_stop(task, status);
+            continue;
+        }
+        if (task == root) root_status = status;
+        ended(task);
+    }
+}

@@ -1,0 +1,272 @@
+#include "world.h"
+#include "outside.h"
+#include <fcntl.h>
+#include <stdio.h>
+#include <string.h>
+#include <sys/ioctl.h>
+#include <sys/stat.h>
+#include <sys/syscall.h>
+#include <unistd.h>
+#include <algorithm>
+#include "text.h"
+
+static const int FIRST = 1, GUEST_MAKER = 2;   // processes of the layer that others are forked from
+static const int LINUX_QUEUE = 212992;         // what a stream takes with Linux's own settings
+
+static int read_setting(const char *path, int otherwise) {
+    int value = otherwise;
+    if (FILE *file = fopen(path, "re")) {
+        if (fscanf(file, "%d", &value) != 1) value = otherwise;
+        fclose(file);
+    }
+    return value;
+}
+
+World::World(std::unique_ptr<Layer> the_layer, const Options &the_options) : layer(std::move(the_layer)), options(the_options) {
+    own_user = geteuid(), own_group = getegid();
+    if (options.order) order.seed(*options.order);
+    send_maximum = read_setting("/proc/sys/net/core/wmem_max", send_maximum);
+    receive_maximum = read_setting("/proc/sys/net/core/rmem_max", receive_maximum);
+    layer->on_closed = [this](int object) { objects.erase(object); };
+    layer->on_conditions = [this](Description *file, unsigned conditions) {
+        placeholders.show(*file, conditions);
+        touched[file] = true;
+    };
+}
+
+World::~World() {
+    waiting.clear();
+    undelivered.clear();
+    for (auto &process : processes) process->table.clear();
+    objects.clear();
+}
+
+// ---- processes
+
+Process &World::new_process(int pid) {
+    processes.push_back(std::make_unique<Process>());
+    Process &process = *processes.back();
+    process.pid = pid;
+    process.program = program_of(pid);
+    return process;
+}
+
+void World::name_in_layer(Process &process, int number) {
+    process.layer = number;
+    by_layer[number] = &process;
+    layer->note("process " + text(process.pid) + " is " + text(number) + " " + process.program);
+}
+
+// A process gets its number in the layer when it needs one, from one without descriptors.
+void World::enlist(Process &process) {
+    if (process.layer) return;
+    Reply reply = layer->make(FIRST, "fork");
+    if (!reply.ok()) throw Fault("the layer makes no further process: " + reply.text);
+    process.user = own_user, process.group = own_group;
+    name_in_layer(process, reply.number(1));
+}
+
+void World::sync_ids(Process &process) {
+    enlist(process);
+    if (!process.ids_changed) return;
+    process.ids_changed = false;
+    Status status = status_of(process.pid);
+    process.groups = status.groups;
+    if (status.effective_user == process.user && status.effective_group == process.group) return;
+    Reply reply = layer->make(process.layer, "setids " + text(status.effective_user) + " " + text(status.effective_group));
+    if (reply.ok()) process.user = status.effective_user, process.group = status.effective_group;
+    else complain(title(process) + ": the layer refuses its ids: " + reply.text);
+}
+
+int World::real_pid(long number) const {
+    auto found = by_layer.find((int)number);
+    return found == by_layer.end() ? 0 : found->second->pid;
+}
+
+int World::guest(uid_t user, gid_t group) {
+    Reply reply = layer->make(GUEST_MAKER, "fork");
+    if (!reply.ok()) return -1;
+    int number = (int)reply.number(1);
+    if (user != 0 || group != 0) layer->make(number, "setids " + text(user) + " " + text(group));
+    return number;
+}
+
+// ---- calls of the layer
+
+std::optional<Watched> World::watched(Description *file) const {
+    if (!file || !file->is_socket() || file->holders.empty()) return {};
+    Holder holder = *file->holders.begin();
+    return Watched{file, holder.process, holder.number};
+}
+
+Reply World::say_as(int layer_process, const std::string &words, std::vector<Description *> may_change) {
+    std::vector<Watched> files;
+    std::sort(may_change.begin(), may_change.end());
+    may_change.erase(std::unique(may_change.begin(), may_change.end()), may_change.end());
+    for (Description *file : may_change)
+        if (auto one = watched(file)) files.push_back(*one);
+    return layer->make(layer_process, words, files);
+}
+Reply World::say(Process &process, const std::string &words, std::vector<Description *> may_change) {
+    sync_ids(process);
+    return say_as(process.layer, words, std::move(may_change));
+}
+
+// ---- open files
+
+Ref World::make(Kind kind) {
+    Ref file(new Description(kind, next_description++), [this](Description *gone) { forget(gone), delete gone; });
+    descriptions.insert(file.get());
+    file->send_room = file->receive_room = LINUX_QUEUE;
+    return file;
+}
+void World::touch(Description *file) {
+    if (file) touched.emplace(file, false);
+}
+
+void World::forget(Description *file) {
+    descriptions.erase(file);
+    touched.erase(file);
+    for (auto &rights : file->passing) counts.dropped_rights += rights.size();
+    for (Description *follower : file->followers) follower->peer = nullptr, touch(follower);
+    touch(file->peer);
+    if (file->peer) file->peer->followers.erase(file);
+    if (!file->name.empty()) names.lose_socket(file->name, file);
+    for (Call &call : waiting)
+        if (call.on == file) call.on = nullptr;
+}
+
+void World::note_number(const Process &process, int number, const Number *entry) {
+    std::string where = entry ? text(process.layer) + " " + text(entry->layer) : "closed";
+    layer->note("number " + text(process.pid) + " " + text(number) + " " + where);
+}
+
+void World::enter(Process &process, int number, const Ref &file, int layer_number) {
+    if (process.table.count(number)) drop(process, number);
+    process.closing.erase(number);
+    auto entry = std::make_shared<Number>(Number{&process, file, layer_number});
+    file->holders.insert({process.layer, layer_number});
+    note_number(process, number, entry.get());
+    process.table[number] = std::move(entry);
+}
+
+// The program's number is open no more.
+void World::drop(Process &process, int number, bool closes_in_layer) {
+    auto found = process.table.find(number);
+    if (found == process.table.end()) return;
+    NumberRef entry = std::move(found->second);
+    process.table.erase(found);
+    note_number(process, number, nullptr);
+    let_go(std::move(entry), closes_in_layer);
+}
+
+// A call that waits keeps its number in the layer until it ends, as the kernel keeps the open file.
+void World::let_go(NumberRef entry, bool closes_in_layer) {
+    if (!entry || entry.use_count() > 1) return;
+    if (closes_in_layer) layer->make(entry->process->layer, "close " + text(entry->layer));
+    entry->file->holders.erase({entry->process->layer, entry->layer});
+}
+
+NumberRef World::find(Call &call, int number) {
+    auto found = call.process->table.find(number);
+    if (found == call.process->table.end()) return nullptr;
+    NumberRef entry = found->second;
+    if (entry->file->shown && same_file(call.task, number, entry->file->shown.get())) return entry;
+    counts.out_of_step++;
+    layer->note("OUT OF STEP: " + text(call.process->pid) + " " + text(number));
+    entry.reset();
+    drop(*call.process, number);
+    return nullptr;
+}
+NumberRef World::find_socket(Call &call, int number) {
+    NumberRef entry = find(call, number);
+    return entry && entry->file->is_socket() ? entry : nullptr;
+}
+
+// Another thread's close was told, and the kernel hasn't made it yet.
+bool World::is_being_closed(Call &call, int number) {
+    auto &closing = call.process->closing;
+    auto found = closing.find(number);
+    if (found == closing.end()) return false;
+    struct stat file;
+    if (!stat(proc_path(call.task, "fd/" + text(number)).c_str(), &file) && file.st_ino == found->second) return true;
+    closing.erase(found);
+    return false;
+}
+
+int World::give(Call &call, const Gift &gift) {
+    seccomp_notif_addfd add = {};
+    add.id = call.id;
+    add.srcfd = gift.file->shown.get();
+    add.newfd_flags = gift.closes_on_exec ? O_CLOEXEC : 0;
+    if (gift.at >= 0) add.flags = SECCOMP_ADDFD_FLAG_SETFD, add.newfd = gift.at;
+    int number = ioctl(listener.get(), SECCOMP_IOCTL_NOTIF_ADDFD, &add);
+    if (number >= 0) {
+        enter(*call.process, number, gift.file, gift.layer);
+        if (options.queue_limit && gift.file->is_stream())
+            say(*call.process, "setopt " + text(gift.layer) + " qlimit " + text(options.queue_limit));
+        touch(gift.file.get());
+        return number;
+    }
+    int error = errno;
+    if (error != ENOENT && error != EINPROGRESS) layer->make(call.process->layer, "close " + text(gift.layer));
+    return -error;
+}
+
+// Gives what a call has made, and finishes it; where a signal comes between, behind it.
+Result World::deliver(Call &call, Delivery rest) {
+    while (rest.numbers.size() < rest.gifts.size()) {
+        int number = give(call, rest.gifts[rest.numbers.size()]);
+        if (number == -ENOENT || number == -EINPROGRESS) {
+            counts.put_off++;
+            undelivered[call.task] = {call.data, std::move(rest), {}};
+            return {Result::LATER};
+        }
+        rest.numbers.push_back(number);
+    }
+    return rest.finish(call, rest.numbers);
+}
+
+// The number of a process that has this held file already.
+int World::find_held(Call &call, int number) {
+    for (auto &[object, file] : objects)
+        for (const Holder &holder : file->holders)
+            if (holder.process == call.process->layer && file->shown && same_file(call.task, number, file->shown.get())) return holder.number;
+    return -1;
+}
+
+// A file of the program's is an opaque one in the layer: a memory file, or where it has no more of them a socket without a name.
+Ref World::hold(int layer_process, File file, const std::string &what, int &layer_number) {
+    Reply reply = layer->make(layer_process, "memfd -");
+    bool is_object = reply.ok();
+    if (reply.error == ENFILE) reply = layer->make(layer_process, "socket dgram -");
+    layer_number = reply.ok() ? (int)reply.number(1) : -reply.error;
+    if (!reply.ok()) return nullptr;
+    Ref held = make(OPAQUE);
+    held->shown = std::move(file);
+    if (is_object) held->object = next_object++, objects[held->object] = held;
+    layer->note("object " + text(held->object) + " is " + what);
+    return held;
+}
+
+int World::adopt(Call &call, int number) {
+    if (NumberRef entry = find(call, number)) return entry->layer;
+    Process &process = *call.process;
+    File file = take_file(process.pid, number);
+    if (!file) return -EBADF;
+    sync_ids(process);
+    int known = find_held(call, number), layer_number = -1;
+    if (known >= 0) {
+        Ref held;
+        for (auto &[object, one] : objects)
+            if (one->holders.count({process.layer, known})) held = one;
+        Reply reply = say(process, "dup " + text(known));
+        if (!reply.ok()) return -reply.error;
+        enter(process, number, held, (int)reply.number(1));
+        return (int)reply.number(1);
+    }
+    Ref held = hold(process.layer, std::move(file), link_of(process.pid, number), layer_number);
+    if (!held) return layer_number;
+    enter(process, number, held, layer_number);
+    return layer_number;
+}
