@@ -88,7 +88,8 @@ std::string address_bytes(const World &world, const std::string &word) {
     std::string bytes((char *)&family, sizeof family);
     if (word == "u") return bytes;
     if (word[0] == 'a') return bytes + std::string(1, 0) + name_bytes(word.substr(2));
-    return bytes + world.names.spelling(word) + std::string(1, 0);
+    std::string path = world.names.spelling(word);
+    return bytes + path + std::string(path.empty() || path[0] ? 1 : 0, 0);    // an abstract name outside has none at its end
 }
 
 bool write_address(const Call &call, u64 to, u64 length_at, const std::string &bytes) {

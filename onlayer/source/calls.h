@@ -41,6 +41,8 @@ struct Got {                                   // what a receive came to
     std::vector<Gift> rights;
 };
 
+// Whether a message that goes over a socket outside of the layer has one of the layer's in it.
+bool passes_own_socket(World &world, Call &call);
 Result send_parts(World &world, Call &call, const Parts &parts, const Address &to, Control &control, unsigned flags);
 Result send_message(World &world, Call &call, u64 at, unsigned flags);
 // Receives, and goes on with `finish` when the rights are there.

@@ -19,8 +19,6 @@ struct Holder {                                // a number of the layer's tables
 struct Description;
 typedef std::shared_ptr<Description> Ref;
 
-struct Bridge;
-
 struct Description {
     const Kind kind;
     const int id;
@@ -31,7 +29,7 @@ struct Description {
     unsigned shown_conditions = 0, conditions = 0;
 
     std::set<Holder> holders;
-    bool listening = false, connected = false, tells_credentials = false;
+    bool listening = false, connected = false, passes_credentials = false;
     Description *peer = nullptr;               // connected to, or associated with
     std::set<Description *> followers;         // those whose peer it is
     std::deque<Ref> pending;                   // of a listener: ends that wait for accept
@@ -44,7 +42,6 @@ struct Description {
     int listener_pid = 0;
     std::vector<gid_t> listener_groups;
     bool has_large_queue = false;
-    Bridge *bridge = nullptr;                  // of an end that stands for a program outside
 
     Description(Kind kind, int id) : kind(kind), id(id) {}
     bool is_socket() const { return kind != OPAQUE; }

@@ -34,6 +34,8 @@ static int planned_failure(World &world, Call &call) {
 static Result of_other_file(World &world, Call &call) {
     int number = call.argument(0);
     if (call.nr() == SYS_splice && world.find_socket(call, call.argument(2))) return answer_splice(world, call);
+    if (call.nr() == SYS_sendmsg && passes_own_socket(world, call))
+        return world.refuse(call, EINVAL, "a socket of the layer can't be passed over one of the kernel's");
     if (!call.process->closing.empty() && world.is_being_closed(call, number)) return fail(EBADF);
     return pass();
 }

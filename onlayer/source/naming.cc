@@ -2,6 +2,7 @@
 #include <errno.h>
 #include <fcntl.h>
 #include <string.h>
+#include <sys/ioctl.h>
 #include <sys/stat.h>
 #include <sys/syscall.h>
 #include <sys/un.h>
@@ -133,15 +134,38 @@ Result answer_listen(World &world, Call &call) {
     return done(0);
 }
 
+// ---- outside of the layer
+
+// A bound socket has its name on the gate, so the program gets that in the placeholder's place.
+static bool swap_for_gate(World &world, Call &call, Description &file) {
+    fcntl(file.gate.get(), F_SETFL, fcntl(file.shown.get(), F_GETFL));
+    for (auto &[number, entry] : call.process->table) {
+        if (entry->file.get() != &file) continue;
+        seccomp_notif_addfd add = {};
+        add.id = call.id, add.srcfd = file.gate.get(), add.flags = SECCOMP_ADDFD_FLAG_SETFD, add.newfd = number;
+        if (ioctl(world.listener.get(), SECCOMP_IOCTL_NOTIF_ADDFD, &add) < 0) return false;
+    }
+    return true;
+}
+
+static bool has_other_holders(const Call &call, const Description &file) {
+    for (const Holder &holder : file.holders)
+        if (holder.process != call.process->layer) return true;
+    return false;
+}
+
 Result go_outside(World &world, Call &call) {
     Ref file = call.number->file;
-    if (file->kind == DATAGRAM && file->gate) return world.refuse(call, EHOSTUNREACH, "a bound datagram socket of the layer can't send outside");
+    if (file->gate && has_other_holders(call, *file))
+        return world.refuse(call, ECONNREFUSED, "a bound socket that several processes have can't leave the layer");
     world.counts.outside++;
     world.layer->note("outside: " + world.title(*call.process) + " talks to a socket that isn't the layer's");
-    int room = 212992;
-    setsockopt(file->shown.get(), SOL_SOCKET, SO_SNDBUF, &room, sizeof room);
+    int room = 212992, passes = file->passes_credentials, real = file->gate ? file->gate.get() : file->shown.get();
+    setsockopt(real, SOL_SOCKET, SO_SNDBUF, &room, sizeof room);
+    if (passes) setsockopt(real, SOL_SOCKET, SO_PASSCRED, &passes, sizeof passes);
     sockaddr nobody = {AF_UNSPEC, {}};
-    if (file->kind == DATAGRAM) connect(file->shown.get(), &nobody, sizeof nobody);
+    if (file->kind == DATAGRAM && !file->gate) connect(real, &nobody, sizeof nobody);
+    if (file->gate && !swap_for_gate(world, call, *file)) return fail(ECONNREFUSED);
     for (auto &process : world.processes) {
         std::vector<int> numbers;
         for (auto &[number, entry] : process->table)

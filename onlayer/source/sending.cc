@@ -1,6 +1,8 @@
 #include <errno.h>
 #include <string.h>
 #include <sys/syscall.h>
+#include <sys/un.h>
+#include <unistd.h>
 #include <algorithm>
 #include "calls.h"
 #include "text.h"
@@ -77,6 +79,16 @@ Control read_control(World &world, Call &call, u64 at, size_t length) {
     return out;
 }
 
+bool passes_own_socket(World &world, Call &call) {
+    msghdr head;
+    if (call.process->table.empty() || !read_value(call.task, call.data.args[1], head) || !head.msg_control) return false;
+    std::string buffer(std::min<size_t>(head.msg_controllen, 65536), 0);
+    if (buffer.empty() || !read_memory(call.task, (u64)head.msg_control, &buffer[0], buffer.size())) return false;
+    for (int right : read_items(world, call, buffer).rights)
+        if (world.find_socket(call, right)) return true;
+    return false;
+}
+
 // ---- sends
 
 static Description *target_of(const World &world, const Call &call, const Address &to) {
@@ -107,8 +119,22 @@ static void take_in(Description *target, const Control &control, size_t done, Wo
     world.placeholders.arrive(*target);
 }
 
+// A datagram of a bound socket to one outside: it is sent from where programs outside see that name.
+static Result send_from_gate(Call &call, const Parts &parts, const Address &to) {
+    sockaddr_un name = {AF_UNIX, {}};
+    File target = to.sun_path.empty() ? File() : open_path(call.task, to.sun_path);
+    std::string path = to.sun_path.empty() ? std::string(1, 0) + name_bytes(to.word.substr(2)) : proc_path(getpid(), "fd/" + text(target.get()));
+    memcpy(name.sun_path, path.data(), std::min(path.size(), sizeof name.sun_path));
+    std::string data;
+    if (!gather(call.task, parts, 0, 4 * PIECE, data)) return fail(EFAULT);
+    ssize_t n = sendto(call.number->file->gate.get(), data.data(), data.size(), MSG_DONTWAIT | MSG_NOSIGNAL, (sockaddr *)&name,
+                       offsetof(sockaddr_un, sun_path) + path.size());
+    return n < 0 ? fail(errno) : done(n);
+}
+
 Result send_parts(World &world, Call &call, const Parts &parts, const Address &to, Control &control, unsigned flags) {
     if (flags & MSG_OOB) return world.refuse(call, EOPNOTSUPP, "the layer has no out-of-band data");
+    if (to.is_outside && call.number->file->gate) return send_from_gate(call, parts, to);
     if (to.is_outside) return go_outside(world, call);
     Description *own = call.number->file.get(), *target = target_of(world, call, to);
     std::string data, before = "send " + text(call.number->layer) + " " + to.word + " ", letters = flags & MSG_DONTWAIT ? "d" : "-";

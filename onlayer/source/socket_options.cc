@@ -94,6 +94,7 @@ static Result set_credentials(World &world, Call &call, int value) {
     Reply reply = world.say(*call.process, "setopt " + text(call.number->layer) + " passcred " + (value ? "1" : "0"));
     world.touch(&own);
     if (reply.error) return fail(reply.error);
+    own.passes_credentials = value;
     if (!value || !own.name.empty() || own.connected || own.peer) return done(0);
     Reply name = world.say(*call.process, "sockname " + text(call.number->layer));    // it has been given one
     if (name.ok() && name.word(1) != "u") own.name = name.word(1), world.names.bind(own.name, &own);

@@ -101,8 +101,14 @@ void Supervisor::take_signals() {
     tracer.reap();
 }
 
+static bool may_come_from_outside(const World &world, const Call &call) {
+    const Description &own = *call.number->file;
+    return own.gate || (own.peer && world.outside->has_bridge(own.peer));
+}
+
 void Supervisor::look_for_deadlock(bool was_idle) {
     bool all_wait = was_idle && !world.waiting.empty() && world.waiting.size() == world.by_task.size() && world.next_deadline() > 1e17;
+    for (const Call &call : world.waiting) all_wait = all_wait && !may_come_from_outside(world, call);
     if (all_wait && !told_deadlock) report_deadlock(world);
     told_deadlock = all_wait;
 }

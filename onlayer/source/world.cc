@@ -37,6 +37,7 @@ World::World(std::unique_ptr<Layer> the_layer, const Options &the_options) : lay
 World::~World() {
     waiting.clear();
     undelivered.clear();
+    outside.reset();
     for (auto &process : processes) process->table.clear();
     objects.clear();
 }
@@ -80,7 +81,9 @@ void World::sync_ids(Process &process) {
 
 int World::real_pid(long number) const {
     auto found = by_layer.find((int)number);
-    return found == by_layer.end() ? 0 : found->second->pid;
+    if (found != by_layer.end()) return found->second->pid;
+    auto guest = guest_pids.find((int)number);
+    return guest == guest_pids.end() ? 0 : guest->second;
 }
 
 int World::guest(uid_t user, gid_t group) {
@@ -127,6 +130,7 @@ void World::touch(Description *file) {
 void World::forget(Description *file) {
     descriptions.erase(file);
     touched.erase(file);
+    if (file->gate && outside) outside->forget_gate(file);
     for (auto &rights : file->passing) counts.dropped_rights += rights.size();
     for (Description *follower : file->followers) follower->peer = nullptr, touch(follower);
     touch(file->peer);

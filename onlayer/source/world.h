@@ -59,6 +59,7 @@ public:
     std::map<int, Process *> by_task;
     std::vector<std::unique_ptr<Process>> processes;
     std::map<int, Process *> by_layer;
+    std::map<int, int> guest_pids;             // of programs outside, by the layer's number
     std::vector<Call> waiting;
     std::map<int, Undelivered> undelivered;    // by task
     std::vector<std::pair<std::weak_ptr<Number>, Inherited>> inherited;
