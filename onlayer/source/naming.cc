@@ -99,7 +99,10 @@ static int find_name(World &world, Call &call, Address &name) {
     if (!own.name.empty()) return 0;           // the layer refuses it
     if (int error = bind_for_real(call, own, name.sun_path)) return error;
     if (world.names.has(name.word) && !world.names.is_still_there(name.word)) forget_path(world, *call.process, name.word);
-    if (world.names.has(name.word) || name.sun_path.size() > 107) name.word = world.names.alias();
+    if (!world.names.has(name.word) && name.sun_path.size() <= 107) return 0;
+    std::string alias = world.names.alias();
+    world.layer->note("name " + alias + " is " + name.sun_path);
+    name.word = alias;
     return 0;
 }
 

@@ -20,7 +20,7 @@ static const char HELP[] =
     "  --order SEED      who goes on first, of calls that wait, is drawn\n"
     "  --orders N        runs the command under N seeds, and says which replies or statuses differ\n"
     "  --script FILE     keeps the calls of the layer, a script for uxrun\n"
-    "  --holders WHEN    tells at the end who held what at WHEN: a number of calls, line:N or end\n"
+    "  --holders WHEN    tells at the end who held what at WHEN: after N calls, line:N of the script, or end (of the command)\n"
     "  --audit WHEN      tells likewise through whom each descriptor came\n"
     "  --log FILE        writes what onlayer tells there, in place of standard error\n"
     "  --json            tells in JSON\n"

@@ -28,7 +28,7 @@ void Outside::watch(int number, unsigned &watched, unsigned wanted) {
 
 void Outside::watch_gate(Description *server) {
     int number = server->gate.get();
-    unsigned watched = gates.count(number) ? EPOLLIN : 0;
+    unsigned watched = gates.count(number) ? (unsigned)EPOLLIN : 0;
     gates[number] = server;
     int on = 1;
     if (server->kind == DATAGRAM) setsockopt(number, SOL_SOCKET, SO_PASSCRED, &on, sizeof on);

@@ -1,29 +1,101 @@
 #include "report.h"
+#include <stdlib.h>
+#include <string.h>
 #include <sys/syscall.h>
+#include <sys/wait.h>
+#include <unistd.h>
+#include <fstream>
+#include "tell.h"
 #include "text.h"
+
+static std::string quoted(const std::string &words) {
+    std::string out = "\"";
+    for (unsigned char byte : words) {
+        if (byte == '"' || byte == '\\') out += '\\';
+        if (byte >= 0x20) out += (char)byte;
+        else out += "\\u00" + hex(std::string(1, (char)byte));
+    }
+    return out + "\"";
+}
+
+// A line of text, or an object of JSON with the same fields.
+class Line {
+    bool json;
+    std::string words;
+
+public:
+    Line(bool json, const std::string &kind) : json(json) { words = json ? "{\"kind\":" + quoted(kind) : ""; }
+    Line &say(const std::string &plain) {
+        if (!json) words += plain;
+        return *this;
+    }
+    Line &field(const std::string &name, long value) {
+        if (json) words += "," + quoted(name) + ":" + text(value);
+        return *this;
+    }
+    Line &field(const std::string &name, const std::string &value) {
+        if (json) words += "," + quoted(name) + ":" + quoted(value);
+        return *this;
+    }
+    std::string end() const { return words + (json ? "}\n" : "\n"); }
+};
+
+static const Process *holder_of(const World &world, const Description *file) {
+    if (!file || file->holders.empty()) return nullptr;
+    auto found = world.by_layer.find(file->holders.begin()->process);
+    return found == world.by_layer.end() ? nullptr : found->second;
+}
 
 static std::string who_waits(World &world) {
     std::string lines;
     for (Call &call : world.waiting) {
-        lines += "  " + world.title(*call.process) + ", thread " + text(call.task) + ", waits in " + call_name(call.nr()) + " of descriptor " +
-                 text(call.argument(0));
-        if (call.on && call.on->peer && !call.on->peer->holders.empty()) {
-            int other = call.on->peer->holders.begin()->process;
-            auto found = world.by_layer.find(other);
-            if (found != world.by_layer.end()) lines += ", whose other end " + world.title(*found->second) + " has";
-        }
-        lines += "\n";
+        const Process *other = call.number ? holder_of(world, call.number->file->peer) : nullptr;
+        std::string whom = other ? ", whose other end " + world.title(*other) + " has" : "";
+        lines += Line(world.options.json, "waits")
+                     .say("  " + world.title(*call.process) + " waits in " + call_name(call.nr()) + " of " + text(call.argument(0)) + whom)
+                     .field("program", call.process->program).field("pid", call.process->pid).field("task", call.task)
+                     .field("call", call_name(call.nr())).field("number", call.argument(0)).field("other_pid", other ? other->pid : 0)
+                     .end();
     }
     return lines;
 }
 
+static std::string helper_path(const World &world, const std::string &name) {
+    return world.options.own_path.substr(0, world.options.own_path.rfind('/')) + "/telling/" + name;
+}
+
+// Runs the script again, to a moment, and tells who holds what then.
+static pid_t start_telling(const World &world, const std::string &what, const std::string &when, const std::string &script, bool removes) {
+    std::string helper = helper_path(world, "tell.py");
+    pid_t child = fork();
+    if (child) return child;
+    dup2(told_where(), 1);
+    sigset_t none;
+    sigemptyset(&none);
+    sigprocmask(SIG_SETMASK, &none, nullptr);
+    std::vector<const char *> words = {"python3", helper.c_str(), what.c_str(), when.c_str(), script.c_str(), "--uxrun", world.options.uxrun.c_str()};
+    if (world.options.json) words.push_back("--json");
+    if (removes) words.push_back("--remove");
+    words.push_back(nullptr);
+    execvp(words[0], (char *const *)words.data());
+    dprintf(2, "onlayer: can't run python3, which tells holders: %s\n", strerror(errno));
+    _exit(127);
+}
+
 void report_now(World &world) {
     world.layer->flush();
-    tell("onlayer: " + text(world.layer->calls()) + " calls of the layer so far; " + text(world.waiting.size()) + " calls wait\n" + who_waits(world));
+    Line line(world.options.json, "now");
+    line.say("onlayer: " + text(world.layer->calls()) + " calls of the layer so far; " + text(world.waiting.size()) + " calls wait");
+    tell(line.field("calls", world.layer->calls()).field("waiting", world.waiting.size()).end() + who_waits(world));
+    for (const char *what : {"holders", "audit"}) {        // of a copy, since the script goes on
+        std::string copy = world.options.script + "." + what;
+        std::ofstream(copy, std::ios::binary) << std::ifstream(world.options.script, std::ios::binary).rdbuf();
+        start_telling(world, what, "end", copy, true);
+    }
 }
 
 void report_deadlock(World &world) {
-    tell("onlayer: deadlock: every thread waits for the layer\n" + who_waits(world));
+    tell(Line(world.options.json, "deadlock").say("onlayer: deadlock: every thread waits for the layer").end() + who_waits(world));
 }
 
 static unsigned long rights_in_flight(const World &world) {
@@ -33,13 +105,36 @@ static unsigned long rights_in_flight(const World &world) {
     return all;
 }
 
-void report_end(World &world, double) {
-    if (world.options.quiet) return;
+static std::string unused_listeners(World &world) {
+    std::string lines;
+    for (auto &[entry, what] : world.inherited) {
+        if (what.used) continue;
+        Line line(world.options.json, "unused listener");
+        line.say("onlayer: " + what.program + " (pid " + text(what.pid) + ") found a listening socket open as " + text(what.number) + ", " +
+                 what.name.substr(std::min<size_t>(2, what.name.size())) + ", and never used it");
+        lines += line.field("program", what.program).field("pid", what.pid).field("number", what.number).field("name", what.name).end();
+    }
+    return lines;
+}
+
+static std::string summary(const World &world) {
     const Counts &counts = world.counts;
-    std::string unused;
-    for (auto &[entry, what] : world.inherited)
-        if (!what.used) unused += "onlayer: a listening socket that a program never used: " + what.program + " (pid " + text(what.pid) + ") " + text(what.number) + "\n";
-    tell("onlayer: " + text(counts.answered) + " calls answered by the layer, " + text(counts.passed) + " let through, " + text(counts.refused) +
-         " refused, " + text(counts.outside) + " connections to servers outside, " + text(rights_in_flight(world)) +
-         " descriptors in flight that nobody received\n" + unused);
+    unsigned long in_flight = rights_in_flight(world);
+    Line line(world.options.json, "summary");
+    line.say("onlayer: " + text(counts.answered) + " calls answered by the layer, " + text(counts.passed) + " let through, " + text(counts.refused) +
+             " refused, " + text(counts.failed) + " failed as asked; " + text(counts.outside) + " connections to servers outside, " +
+             text(counts.guests) + " guests from outside; " + text(in_flight) + " descriptors in flight that nobody received");
+    line.field("answered", counts.answered).field("passed", counts.passed).field("refused", counts.refused).field("failed", counts.failed);
+    line.field("outside", counts.outside).field("guests", counts.guests).field("in_flight", in_flight).field("put_off", counts.put_off);
+    return line.field("out_of_step", counts.out_of_step).field("layer_calls", world.layer->calls()).field("layer_polls", world.layer->polls()).end();
+}
+
+void report_end(World &world, unsigned long calls_at_end) {
+    for (auto &[what, when] : {std::pair{"holders", world.options.holders}, {"audit", world.options.audit}}) {
+        int status;
+        if (when.empty()) continue;
+        std::string moment = when == "end" ? text(calls_at_end) : when;
+        waitpid(start_telling(world, what, moment, world.options.script, false), &status, 0);
+    }
+    if (!world.options.quiet) tell(summary(world) + unused_listeners(world));
 }

@@ -4,4 +4,4 @@
 
 void report_now(World &world);
 void report_deadlock(World &world);
-void report_end(World &world, double seconds);
+void report_end(World &world, unsigned long calls_at_end);

@@ -137,11 +137,10 @@ int Supervisor::run() {
     getrlimit(RLIMIT_NOFILE, &most);
     most.rlim_cur = most.rlim_max;             // placeholders take two numbers a socket
     setrlimit(RLIMIT_NOFILE, &most);
-    begun = now();
     while (!world.by_task.empty()) wait_for_something();
     tracer.reap();
     world.layer->flush();
-    report_end(world, now() - begun);
-    int status = tracer.status();
+    report_end(world, tracer.calls_at_end);
+    int status = tracer.wait_for_root();
     return WIFEXITED(status) ? WEXITSTATUS(status) : 128 + WTERMSIG(status);
 }

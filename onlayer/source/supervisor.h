@@ -8,7 +8,6 @@ class Supervisor {
     World &world;
     Tracer tracer;
     File signals;
-    double begun = 0;
     bool told_deadlock = false;
 
     void take_notification();

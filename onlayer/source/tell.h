@@ -3,4 +3,5 @@
 #include <string>
 
 bool tell_to(const std::string &path);
+int told_where();
 void tell(const std::string &lines);

@@ -97,6 +97,7 @@ void Tracer::ended(int task) {
     world.undelivered.erase(task);
     copies.erase(task), put_off.erase(task), sent_again.erase(task);
     if (process.tasks.empty()) {
+        if (process.pid == root) calls_at_end = world.layer->calls() + world.layer->polls();
         if (process.layer) world.layer->make(process.layer, "exit"), world.layer->note("process " + text(process.pid) + " has exited");
         auto table = std::move(process.table);
         process.table.clear();
@@ -254,4 +255,9 @@ void Tracer::reap() {
         if (task == root) root_status = status;
         ended(task);
     }
+}
+
+int Tracer::wait_for_root() {
+    if (root_status < 0) waitpid(root, &root_status, __WALL);
+    return root_status;
 }

@@ -12,7 +12,7 @@ class Tracer {
     std::set<int> early;                       // children that stopped before their parent's event
     std::map<int, Copy> copies;                // by task
     std::map<int, std::vector<siginfo_t>> put_off, sent_again;
-    int root_status = 0;
+    int root_status = -1;
 
     void handle_stop(int task, int status);
     bool handle_event(int task, int event);
@@ -35,5 +35,6 @@ public:
     void reap();
     void split(int task);                      // the task has a table of its own from now on
     void send_put_off(int task);               // signals that waited for a call's answer
-    int status() const { return root_status; }
+    int wait_for_root();                       // its status, as of waitpid
+    unsigned long calls_at_end = 0;            // lines of the script before the command's own end
 };
