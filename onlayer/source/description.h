@@ -41,7 +41,7 @@ struct Description {
     std::vector<gid_t> peer_groups;
     int listener_pid = 0;
     std::vector<gid_t> listener_groups;
-    bool has_large_queue = false;
+    bool has_limit = false;
 
     Description(Kind kind, int id) : kind(kind), id(id) {}
     bool is_socket() const { return kind != OPAQUE; }

@@ -57,8 +57,6 @@ void World::settle() {
         auto changed = std::move(touched);
         touched.clear();
         look_at_touched(changed);
-        for (auto &[file, known] : changed)
-            if (descriptions.count(file)) make_room(file);
         std::vector<Call> again, stay;
         for (Call &call : waiting) (can_go_on(call, changed) ? again : stay).push_back(std::move(call));
         waiting = std::move(stay);
@@ -69,17 +67,6 @@ void World::settle() {
             attempt(std::move(call));
         }
     }
-}
-
-// A stream that is full for the first time takes as much as Linux's does.
-void World::make_room(Description *file) {
-    static const int LIMIT = 212992;
-    Description *peer = file->peer;
-    if (options.queue_limit || !file->is_stream() || !file->connected || file->conditions & OUT || !peer || peer->has_large_queue) return;
-    auto reader = watched(peer);
-    if (!reader) return;
-    peer->has_large_queue = true;
-    say_as(reader->process, "setopt " + text(reader->number) + " qlimit " + text(LIMIT), {file});
 }
 
 void World::attempt(Call call) {

@@ -198,6 +198,13 @@ bool World::is_being_closed(Call &call, int number) {
     return false;
 }
 
+// A stream takes as much as Linux's does, or as --qlimit says.
+void World::limit_queue(Process &process, Description &file, int number) {
+    if (!file.is_stream() || file.has_limit) return;
+    file.has_limit = true;
+    say(process, "setopt " + text(number) + " qlimit " + text(options.queue_limit ? options.queue_limit : LINUX_QUEUE));
+}
+
 int World::give(Call &call, const Gift &gift) {
     seccomp_notif_addfd add = {};
     add.id = call.id;
@@ -207,8 +214,7 @@ int World::give(Call &call, const Gift &gift) {
     int number = ioctl(listener.get(), SECCOMP_IOCTL_NOTIF_ADDFD, &add);
     if (number >= 0) {
         enter(*call.process, number, gift.file, gift.layer);
-        if (options.queue_limit && gift.file->is_stream())
-            say(*call.process, "setopt " + text(gift.layer) + " qlimit " + text(options.queue_limit));
+        limit_queue(*call.process, *gift.file, gift.layer);
         touch(gift.file.get());
         return number;
     }

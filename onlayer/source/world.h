@@ -44,7 +44,7 @@ class World {
     int give(Call &call, const Gift &gift);
     int find_held(Call &call, int number);
     void raise_sigpipe(Call &call, const Result &result);
-    void make_room(Description *file);
+    void limit_queue(Process &process, Description &file, int number);
 
 public:
     std::unique_ptr<Layer> layer;
