@@ -1,4 +1,5 @@
 #include "kernel.h"
+#include <errno.h>
 #include <grp.h>
 #include <linux/kcmp.h>
 #include <stdio.h>
@@ -56,6 +57,7 @@ bool scatter(int task, const Parts &parts, const std::string &data) {
 }
 
 bool same_file(int task, int number, int ours) {
+    errno = 0;
     return syscall(SYS_kcmp, getpid(), task, KCMP_FILE, (long)ours, (long)number) == 0;
 }
 bool same_table(int one, int other) { return syscall(SYS_kcmp, one, other, KCMP_FILES, 0, 0) == 0; }

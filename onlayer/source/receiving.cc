@@ -57,6 +57,7 @@ static void take_rights(Description *own, Got &got, const std::vector<int> &numb
 
 static Reply say_receive(World &world, Call &call, size_t n, size_t space, unsigned flags) {
     Description *own = call.number->file.get(), *peer = own->kind == DATAGRAM ? nullptr : own->peer;
+    if (peer && peer->conditions & OUT) peer = nullptr;    // a receive makes room, and takes none
     std::string words = "recv " + text(call.number->layer) + " " + text(std::min(n, MOST_BYTES)) + " " + text(std::min(space, MOST_SPACE));
     Reply reply = world.say(*call.process, words + " " + letters_of(flags), {own, peer});
     if (reply.ok() && own->kind == DATAGRAM) {

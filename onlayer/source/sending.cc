@@ -113,9 +113,11 @@ static Result fail_to_send(World &world, Call &call, Description *target, int er
     return result;
 }
 
+// Something has come to the target: of a connection its input is known to be there, without a look.
 static void take_in(Description *target, const Control &control, size_t done, World &world) {
     if (!target) return;
     if (!done && !control.rights.empty()) target->passing.push_back(control.rights);
+    if (target->is_connection()) world.know(target, target->conditions | IN);
     world.placeholders.arrive(*target);
 }
 
@@ -142,13 +144,13 @@ Result send_parts(World &world, Call &call, const Parts &parts, const Address &t
     for (;;) {
         if (!gather(call.task, parts, call.done, own->is_stream() ? PIECE : PIECE + 1, data)) return call.done ? done(call.done) : fail(EFAULT);
         std::string words = before + hex(data) + " " + (call.done ? "-" : control.word) + " " + letters;
-        Reply reply = world.say(*call.process, words, {target, own});
+        Reply reply = own->is_connection() ? world.say(*call.process, words, {own}) : world.say(*call.process, words, {target, own});
         if (reply.error == EAGAIN) {
             Result result = wait_to_send(world, call, target, flags);
             return result.way != Result::WAIT && call.done ? done(call.done) : result;
         }
         if (reply.error) return call.done ? done(call.done) : fail_to_send(world, call, target, reply.error, flags);
-        take_in(target, control, call.done, world);
+        if (reply.number(1) || !own->is_stream()) take_in(target, control, call.done, world);
         call.done += reply.number(1);
         if (!own->is_stream() || call.done >= all || !reply.number(1)) return done(call.done);
     }

@@ -127,6 +127,11 @@ void World::touch(Description *file) {
     if (file) touched.emplace(file, false);
 }
 
+void World::know(Description *file, unsigned conditions) {
+    placeholders.show(*file, conditions);
+    touched.emplace(file, true);               // a look that is asked for stays so
+}
+
 void World::forget(Description *file) {
     descriptions.erase(file);
     touched.erase(file);
@@ -176,6 +181,10 @@ NumberRef World::find(Call &call, int number) {
     if (found == call.process->table.end()) return nullptr;
     NumberRef entry = found->second;
     if (entry->file->shown && same_file(call.task, number, entry->file->shown.get())) return entry;
+    if (errno == EPERM) {                      // as between an unshare of user namespaces and an exec
+        complain(title(*call.process) + " doesn't let itself be looked at: its table of numbers isn't checked");
+        return entry;
+    }
     counts.out_of_step++;
     layer->note("OUT OF STEP: " + text(call.process->pid) + " " + text(number));
     entry.reset();

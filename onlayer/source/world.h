@@ -87,6 +87,7 @@ public:
     // open files and numbers
     Ref make(Kind kind);
     void touch(Description *file);
+    void know(Description *file, unsigned conditions);     // without a look
     void untouch(Description *file) { touched.erase(file); }
     void enter(Process &process, int number, const Ref &file, int layer_number);
     void drop(Process &process, int number, bool closes_in_layer = true);

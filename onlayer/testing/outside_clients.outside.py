@@ -13,6 +13,7 @@ got = 0
 while got < 200000:
     got += len(s.recv(65536))
 print("outside got", got)
+s.sendall(b"all")
 data, files, _, _ = socket.recv_fds(s, 100, 4)
 end = socket.socket(fileno=files[0]); print("outside", data, end.recv(100)); end.sendall(b"and back"); end.close()
 s.close()

@@ -23,6 +23,7 @@ while len(big) < 200000:
     big += s.recv(65536)
 print("big", len(big), set(big))
 s.sendall(big)
+print("all", s.recv(10))
 a, b = socket.socketpair()
 socket.send_fds(s, [b"end"], [b.fileno()]); b.close()
 a.sendall(b"through a socket of ours"); print("answer", a.recv(100))
