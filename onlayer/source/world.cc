@@ -11,7 +11,7 @@
 #include "text.h"
 
 static const int FIRST = 1, GUEST_MAKER = 2;   // processes of the layer that others are forked from
-static const int LINUX_QUEUE = 212992;         // what a stream takes with Linux's own settings
+static const int LINUX_ROOM = 212992;          // SO_SNDBUF and SO_RCVBUF before they are set
 
 static int read_setting(const char *path, int otherwise) {
     int value = otherwise;
@@ -120,7 +120,7 @@ Reply World::say(Process &process, const std::string &words, std::vector<Descrip
 Ref World::make(Kind kind) {
     Ref file(new Description(kind, next_description++), [this](Description *gone) { forget(gone), delete gone; });
     descriptions.insert(file.get());
-    file->send_room = file->receive_room = LINUX_QUEUE;
+    file->send_room = file->receive_room = LINUX_ROOM;
     return file;
 }
 void World::touch(Description *file) {
@@ -207,11 +207,11 @@ bool World::is_being_closed(Call &call, int number) {
     return false;
 }
 
-// A stream takes as much as Linux's does, or as --qlimit says.
+// --qlimit: how much a stream takes.
 void World::limit_queue(Process &process, Description &file, int number) {
-    if (!file.is_stream() || file.has_limit) return;
+    if (!options.queue_limit || !file.is_stream() || file.has_limit) return;
     file.has_limit = true;
-    say(process, "setopt " + text(number) + " qlimit " + text(options.queue_limit ? options.queue_limit : LINUX_QUEUE));
+    say(process, "setopt " + text(number) + " qlimit " + text(options.queue_limit));
 }
 
 int World::give(Call &call, const Gift &gift) {
