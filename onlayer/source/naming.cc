@@ -3,6 +3,7 @@
 #include <fcntl.h>
 #include <string.h>
 #include <sys/ioctl.h>
+#include <sys/resource.h>
 #include <sys/stat.h>
 #include <sys/syscall.h>
 #include <sys/un.h>
@@ -19,7 +20,16 @@ static void note_peers(Process &process, Description *one, Description *other) {
     one->peer_groups = other->peer_groups = process.groups;
 }
 
+// Whether the program has so many numbers left: what was given can't be taken back. (Before Linux 6.2 /proc doesn't count them.)
+static bool has_room(const Call &call, unsigned count) {
+    struct stat numbers;
+    rlimit limit;
+    if (stat(proc_path(call.task, "fd").c_str(), &numbers) || prlimit(call.process->pid, RLIMIT_NOFILE, nullptr, &limit)) return true;
+    return (rlim_t)numbers.st_size + count <= limit.rlim_cur;
+}
+
 static Result answer_pair(World &world, Call &call, Kind kind, unsigned flags) {
+    if (!has_room(call, 2)) return fail(EMFILE);
     Reply reply = world.say(*call.process, std::string("pair ") + word_of(kind) + " -");
     if (reply.error) return fail(reply.error);
     Ref ends[2] = {world.make(kind), world.make(kind)};
@@ -210,6 +220,7 @@ Result answer_connect(World &world, Call &call) {
 Result answer_accept(World &world, Call &call) {
     Description *own = call.number->file.get();
     unsigned flags = call.nr() == SYS_accept4 ? call.data.args[3] : 0;
+    if (own->listening && !has_room(call, 1)) return fail(EMFILE);
     Reply reply = world.say(*call.process, "accept " + text(call.number->layer) + " -");
     if (reply.error == EAGAIN) return world.wait(call, own, Until::INPUT, 0, SO_RCVTIMEO);
     if (reply.error) return fail(reply.error);
