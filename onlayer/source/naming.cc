@@ -20,12 +20,16 @@ static void note_peers(Process &process, Description *one, Description *other) {
     one->peer_groups = other->peer_groups = process.groups;
 }
 
-// Whether the program has so many numbers left: what was given can't be taken back. (Before Linux 6.2 /proc doesn't count them.)
+// Whether the program has so many numbers left below its limit: what was given can't be taken back.
 static bool has_room(const Call &call, unsigned count) {
-    struct stat numbers;
+    struct stat file;
     rlimit limit;
-    if (stat(proc_path(call.task, "fd").c_str(), &numbers) || prlimit(call.process->pid, RLIMIT_NOFILE, nullptr, &limit)) return true;
-    return (rlim_t)numbers.st_size + count <= limit.rlim_cur;
+    if (stat(proc_path(call.task, "fd").c_str(), &file) || prlimit(call.process->pid, RLIMIT_NOFILE, nullptr, &limit)) return true;
+    if (file.st_size && (rlim_t)file.st_size + count <= limit.rlim_cur) return true;    // so many are open at all, since Linux 6.2
+    unsigned found = 0;
+    for (rlim_t number = 0; number < limit.rlim_cur && found < count; number++)
+        found += lstat(proc_path(call.task, "fd/" + text(number)).c_str(), &file) != 0;
+    return found == count;
 }
 
 static Result answer_pair(World &world, Call &call, Kind kind, unsigned flags) {
