@@ -80,10 +80,12 @@ impl Boot {
     }
 
     /// Lets there be 4,096 objects instead of 64.
-    pub fn raise_object_limit(&mut self)
-        ensures { self.new ≡ with_raised_limit self.old }
+    pub fn raise_object_limit(self) -> Boot
+        ensures { result ≡ with_raised_limit self }
     {
-        self.most = ObjectLimit::Raised;
+        let mut boot = self;
+        boot.most = ObjectLimit::Raised;
+        boot
     }
 
     /// Adds a memory file with a copy of these bytes.

@@ -78,6 +78,13 @@ impl FileObject for AnyObject {
         }
     }
 
+    fn lacks_room(&self, bytes: &[u8]) -> bool {
+        match self {
+            AnyObject::Plain(plain) => plain.lacks_room(bytes),
+            AnyObject::Failing(failing) => failing.lacks_room(bytes),
+        }
+    }
+
     fn faults(&self) -> u64 {
         match self {
             AnyObject::Plain(plain) => plain.faults(),

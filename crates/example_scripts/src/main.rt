@@ -126,6 +126,7 @@ const SCRIPTS: &[&str] = &[
     "child_dies_at_any_point",
     "message_of_the_day",
     "more_than_64_files",
+    "flags_that_calls_lack",
 ];
 
 /// A file object as a kernel holds it.

@@ -7,7 +7,7 @@ use std::test::Fail;
 fn counters(alloc: Global, count: u32, raised: bool) -> Result<Boot, Fail> {
     let mut boot = Boot::new(alloc).process(1000, 100, 16)?;
     if raised {
-        boot.raise_object_limit();
+        boot = boot.raise_object_limit();
     }
     for number in 0..count {
         let path = format!(in alloc; "{number}")?;
@@ -50,7 +50,7 @@ fn each_order_starts_with_more_than_64_objects(rt: HostRuntime) -> Result<(), Fa
     assert!(&rt; found.is_all && found.outcomes.len() == 1);
     for outcome in &found.outcomes {
         let first = outcome.entries().first();
-        assert!(&rt; first.is_some_and(|entry| entry.released.front() == Some(&64)));
+        assert!(&rt; first.is_some_and(|entry| entry.released.parts().0.first() == Some(&64)));
     }
     Ok(())
 }

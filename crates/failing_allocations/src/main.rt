@@ -169,7 +169,8 @@ fn makes_object(entry: &Entry) -> bool {
 fn closes_each_once(history: &[Entry], count: usize) -> bool {
     let mut closed = [0u8; 64];
     for entry in history {
-        for number in entry.released.iter() {
+        let (first, others) = entry.released.parts();
+        for number in first.iter().chain(others) {
             let place = *number as usize;
             if place >= count || place >= 64 || closed[place] > 0 {
                 return false;

@@ -6,9 +6,10 @@ use Rattle.std.proofs.lemmas.Bool.{false≢true, eqb-true, ne_eqb, and_parts, an
 use Rattle.ux_model.specs.Types.{Request, Reply, Errno, Entry}
 use Rattle.ux_model.specs.Process.{Process}
 use Rattle.ux_model.specs.State.{State, is_live}
-use Rattle.ux_model.specs.Step.{Step}
+use Rattle.ux_model.specs.Step.{outcome, Step}
+use Rattle.ux_model.specs.Outcome.{Chosen}
 use Rattle.ux_model.specs.Delivered.{delivered_by}
-use Rattle.ux_model.specs.Release.{settled}
+use Rattle.ux_model.specs.Release.{settled, released}
 use Rattle.ux_model.specs.Waiting.{is_again}
 use Rattle.ux_model.specs.History.{calls_of, is_exit, is_off, has_live, live_count, makes_one, is_allowed, replay, MayFollow, IsLegal}
 use Rattle.ux_model.proofs.Steps.Replays.{step_replay}
@@ -181,3 +182,17 @@ waited boot S T es p n request r gone legal at again number step =
           (subst (λ (l : List ℕ). Step S p n request (Reply.Err Errno.EAGAIN) l S) left.1
           (subst (λ (U : State). Step S p n request (Reply.Err Errno.EAGAIN) gone U) left.0 step_again)));
     }
+
+-- a call whose own answer is EAGAIN makes this step
+answered_again : (S : State) (p n : ℕ) (request : Request) → (outcome S p n request).reply ≡ Reply.Err Errno.EAGAIN →
+    Step S p n request (Reply.Err Errno.EAGAIN) (released (outcome S p n request).next) (settled (outcome S p n request).next)
+unfolding Step
+answered_again S p n request e = ((outcome S p n request).next, Chosen.own (sym e) refl, refl, refl)
+
+-- so it has to wait behind a legal history, if it may
+pub has_to_wait : (boot S : State) (es : List Entry) (p : ℕ) (request : Request) → IsLegal boot es → S ≡ replay boot es →
+    (outcome S p (length es) request).reply ≡ Reply.Err Errno.EAGAIN →
+    Step (replay boot es) p (length es) request (Reply.Err Errno.EAGAIN) [] (replay boot es)
+has_to_wait boot S es p request legal at e =
+    (waited boot S (settled (outcome S p (length es) request).next) es p (length es) request (Reply.Err Errno.EAGAIN)
+    (released (outcome S p (length es) request).next) legal at refl refl (answered_again S p (length es) request e)).again

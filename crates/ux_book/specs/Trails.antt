@@ -102,7 +102,7 @@ claim_if false xs = nobody
 abbrev pub last_claim : Known → Known
 last_claim v = claim_if v.keeps v.all
 
--- the whole, with what another knows
+-- v's log, with w's claim and token
 abbrev pub taking_in : Known → Known → Known
 taking_in v w = record {
   keeps = v.keeps;

@@ -268,6 +268,11 @@ impl<W: BookName, O: FileObject, K: Keeper> Book<W, O, K> {
         ensures not_made { IfErr result (λ f. K.cannot_keep (length self.old.entries) f) }
         ensures same { OnErr result (IsKept self.old self.new share.old share.new released.new) }
     {
+        self.recognize(share);
+        // A file object that fails at a certain write doesn't count a write that isn't made.
+        if self.lacks_room(share.pid, request) {
+            return Ok(None);
+        }
         match self.make(share, request, true, released) {
             Ok(Some((reply, receipt, _))) => Ok(Some((reply, receipt))),
             Ok(None) => Ok(None),
@@ -362,6 +367,14 @@ impl<W: BookName, O: FileObject, K: Keeper> Book<W, O, K> {
         ensures { result ≡ may_wait (state_of self.now) pid.0 request.now }
     {
         self.kernel.may_wait(pid, request)
+    }
+
+    /// Whether the call of this live process is a write that has to wait for room, as the file object tells.
+    fn lacks_room(&self, pid: Pid, request: &Request) -> bool
+        requires { is_live (state_of self.now) pid.0 ≡ true }
+        ensures waits { result ≡ true → MustWait self.now pid request.now }
+    {
+        self.kernel.may_wait(pid, request) && self.kernel.lacks_room(pid, request)
     }
 
     /// Makes a call of the share's process, and gives the share of a process that it made; where it is `tried`, only

@@ -119,7 +119,7 @@ impl Entries {
 }
 
 /// Makes a copy of a request.
-// Apart, as taking it is: a request of numbers alone then moves no room for it.
+// Out of line, so that the usual path reserves no stack for a request.
 #[inline(never)]
 fn prepare_copy(copy: &mut Option<Request>, request: &Request) -> Result<(), AllocError>
     ensures { OnOk result (copy.new ≡ Some request.now) }

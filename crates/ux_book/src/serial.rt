@@ -9,7 +9,7 @@ ghost use Rattle.ux_model.specs.Waiting.{should_wait};
 ghost use Rattle.ux_model.specs.History.{calls_of, has_live, IsLegal};
 ghost use Rattle.ux_book.specs.declared.fault.CallFault.{CallFault};
 ghost use Rattle.ux_book.specs.declared.fault.OffFault.{OffFault};
-ghost use Rattle.ux_book.specs.Books.{state_of, processes, ends_of, is_last, has_own_call, MustWait};
+ghost use Rattle.ux_book.specs.Books.{state_of, processes, ends_of, has_own_call, MustWait};
 ghost use Rattle.ux_book.specs.Recording.{IsCall, IsKept};
 ghost use Rattle.ux_book.specs.Pasts.{made};
 ghost use Rattle.ux_book.specs.Sitting.{Answers, IsFault, Forks};
@@ -292,7 +292,7 @@ fn ask<W: BookName, O: FileObject>(
     tried: bool,
     released: &mut ReleasedObjects<O>,
 ) -> Result<Option<Reply>, CallFault>
-    requires call { is_last request.now ≡ false }
+    requires call { has_own_call request.now ≡ false }
     requires empty { released.old ≡ [] }
     ensures call { IfOk result (λ o. IfSome o (λ reply. IsCall W.boot book.old book.new share.old share.new request.now reply released.new)) }
     ensures done { IfOk result (λ o. IfSome o (λ reply. tried ≡ true → should_wait (state_of book.old) share.old.pid.0 request.now reply ≡ false)) }
@@ -302,9 +302,15 @@ fn ask<W: BookName, O: FileObject>(
     ensures not_made { IfErr result (λ f. f ≡ CallFault.NoMemory) }
     ensures same { OnErr result (IsKept book.old book.new share.old share.new released.new) }
 {
-    match book.make(share, request, tried, released) {
-        Ok(Some((reply, _receipt, _child))) => Ok(Some(reply)),
-        Ok(None) => Ok(None),
+    if tried {
+        return match book.try_record(share, request, released) {
+            Ok(Some((reply, _receipt))) => Ok(Some(reply)),
+            Ok(None) => Ok(None),
+            Err(fault) => Err(fault),
+        };
+    }
+    match book.record(share, request, released) {
+        Ok((reply, _receipt)) => Ok(Some(reply)),
         Err(fault) => Err(fault),
     }
 }

@@ -10,7 +10,7 @@ use std::alloc::{AllocError, Global};
 use ux_orders::{Order, read_order};
 
 /// What `--version` prints behind the program's name.
-const VERSION: &str = "0.4.0";
+const VERSION: &str = "0.5.0";
 
 /// What was asked for on the command line.
 #[derive(Debug, Drop)]

@@ -70,7 +70,7 @@ impl fmt::Display for ByNumbers<'_> {
     }
 }
 
-/// By what waits at sockets.
+/// Queued rights and pending ends that refer to it.
 #[derive(Clone, Copy)]
 struct BySockets<'a> {
     rows: &'a [DescriptionRow],

@@ -17,7 +17,8 @@ use ux_types::{Entry, Released};
 /// The numbers of the file objects that a call closed, rising.
 fn closed_value(alloc: Global, released: &Released) -> Result<Value, AllocError> {
     let mut numbers = Vec::new(alloc);
-    for number in released.iter() {
+    let (first, others) = released.parts();
+    for number in first.iter().chain(others) {
         numbers.push(Value::from(*number))?;
     }
     Ok(Value::Array(numbers))

@@ -33,18 +33,20 @@ fn entry(pid: u32, k: u64, request: Request, released: Released) -> Entry {
 }
 
 /// The numbers of closed file objects, in this order.
-fn closing(alloc: Global, numbers: &[u32]) -> Result<Released, AllocError> {
+fn closing(alloc: Global, numbers: [u32; 4]) -> Result<Released, AllocError> {
+    let [first, second, third, fourth] = numbers;
     let mut released = Released::new(alloc);
-    for number in numbers {
-        released.push_back(*number)?;
-    }
+    released.push_back(first)?;
+    released.push_back(second)?;
+    released.push_back(third)?;
+    released.push_back(fourth)?;
     Ok(released)
 }
 
 #[test]
 fn a_call_has_its_numbers(rt: HostRuntime) -> Result<(), Fail> {
     let alloc = rt.alloc();
-    let released = closing(alloc, &[0, 63, 64, 4095])?;
+    let released = closing(alloc, [0, 63, 64, 4095])?;
     let close = entry(1, 5, Request::Close { fd: Fd(2) }, released);
     expect(
         &rt,

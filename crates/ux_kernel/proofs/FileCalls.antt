@@ -9,8 +9,10 @@ use Rattle.ux_model.specs.State.{State, description_at}
 use Rattle.ux_model.specs.Outcome.{Outcome, refuse, find_description}
 use Rattle.ux_msg.specs.Answers.{GivesOrFails}
 use Rattle.ux_model.specs.Reading.{read}
-use Rattle.ux_model.specs.Writing.{write}
-use Rattle.ux_kernel.specs.FileCalls.{read_of, read_at, write_of, write_at}
+use Rattle.ux_model.specs.FileObjects.{on_object}
+use Rattle.ux_model.specs.Writing.{write, write_object}
+use Rattle.ux_kernel.specs.declared.open_file.OpenFile.{OpenFile}
+use Rattle.ux_kernel.specs.FileCalls.{description_of, read_of, read_at, write_file, write_of, write_at}
 use Rattle.ux_msg.proofs.Found.{found}
 
 -- what the rest says of the description that was found, by its number and by the entry
@@ -38,3 +40,17 @@ unfolding write
 write_found S T p tag fd bytes d e D r h same g =
     let P : Outcome → Type 0 = λ o. GivesOrFails S o r T in
     subst P ((λ j. write_at S p tag (same j) bytes) ∙ by_entry S p fd e D (λ d D. write_of S p tag d D bytes) h) g
+
+-- A write by a number that leads to this file is answered as the file's.
+pub written_to : (S : State) (p tag : ℕ) (fd : Fd) (f : OpenFile) (e : Descriptor) (D : Description) (bytes : List ℕ) (reply : Reply) →
+    find_description S p fd ≡ Ok (e, D) → f.id ≡ e.description → D ≡ description_of f → (write_file S f bytes).reply ≡ reply →
+    (write S p tag fd bytes).reply ≡ reply
+unfolding write
+written_to S p tag fd f e D bytes reply found same is answered =
+    ap (λ (r : Result (Descriptor × Description) Errno). (elim r as (λ _. Outcome) [
+      | Err x ↦ refuse S x
+      | Ok g ↦ write_of S p tag (Descriptor.description g.0) g.1 bytes
+    ]).reply) found
+    ∙ ap (λ (x : Description). (write_of S p tag e.description x bytes).reply) is
+    ∙ ap (λ (d : ℕ). (on_object S f.object (λ view. write_object S d (description_of f) f.object view bytes)).reply) (sym same)
+    ∙ answered

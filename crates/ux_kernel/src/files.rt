@@ -77,7 +77,7 @@ impl<O: FileObject> Kernel<O> {
     }
 }
 
-/// The offset so far from a place, if it is one.
+/// `base + offset`, or none outside 0 to 2^63 - 1.
 fn seek_target(base: u64, offset: i64) -> Option<u64>
     ensures { result ≡ seek_target (pos base +ℤ offset) }
 {

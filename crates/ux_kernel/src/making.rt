@@ -1,30 +1,33 @@
 //! Making file objects: pipes (pipe2(2)), counters (eventfd(2)) and files (memfd_create(2); open(2) with
 //! O_CREAT and O_EXCL).
-ghost use Rattle.std.specs.Prelude.{[], IsTrue};
-ghost use Rattle.ux_model.specs.Object.{memory, counter};
+ghost use Rattle.std.specs.Prelude.{IsTrue};
 ghost use Rattle.ux_model.specs.State.{is_live};
 ghost use Rattle.ux_model.specs.Making as model;
 ghost use Rattle.ux_msg.specs.Answers.{Gives};
 
 use crate::kernel::Kernel;
+use bitflags::Flags;
 use ux_names::is_valid_path;
 use ux_object::FileObject;
 use ux_types::{Errno, Mode, Name, OpenFlags, Pid, Refusal, Reply};
 
 impl<O: FileObject> Kernel<O> {
-    /// pipe2(2). EMFILE where fewer than two numbers are free, else ENFILE where as many file objects were
-    /// made as one layer may have.
+    /// pipe2(2). EINVAL with append, which it doesn't have; EMFILE where fewer than two numbers are free, else
+    /// ENFILE where as many file objects were made as one layer may have.
     #[tactic(auto, unfolding(ux_model::specs::Making::make_pipe))]
     pub(crate) fn make_pipe(&mut self, pid: Pid, flags: OpenFlags) -> Result<Reply, Refusal>
         requires { IsTrue (is_live self.old pid.0) }
         ensures { Gives self.old (model.make_pipe self.old pid.0 flags) result self.new }
     {
+        if flags.contains(OpenFlags::APPEND) {
+            return Err(Errno::EINVAL.into());
+        }
         let (reader, writer) = self.state.make_pipe(pid, flags)?;
         Ok(Reply::Fds(reader, writer))
     }
 
-    /// eventfd(2). EMFILE where no number is free, else ENFILE where as many file objects were made as one
-    /// layer may have.
+    /// eventfd(2). EINVAL with append, which it doesn't have; EMFILE where no number is free, else ENFILE where
+    /// as many file objects were made as one layer may have.
     #[tactic(auto, unfolding(ux_model::specs::Making::make_object))]
     pub(crate) fn make_counter(
         &mut self,
@@ -33,19 +36,25 @@ impl<O: FileObject> Kernel<O> {
         flags: OpenFlags,
     ) -> Result<Reply, Refusal>
         requires { IsTrue (is_live self.old pid.0) }
-        ensures { Gives self.old (model.make_object self.old pid.0 (counter value) flags) result self.new }
+        ensures { Gives self.old (model.make_counter self.old pid.0 value flags) result self.new }
     {
+        if flags.contains(OpenFlags::APPEND) {
+            return Err(Errno::EINVAL.into());
+        }
         let fd = self.state.make_counter(pid, value, flags)?;
         Ok(Reply::Fd(fd))
     }
 
-    /// memfd_create(2). EMFILE where no number is free, else ENFILE where as many file objects were made as
-    /// one layer may have.
+    /// memfd_create(2). EINVAL with append or non-blocking, which it doesn't have; EMFILE where no number is
+    /// free, else ENFILE where as many file objects were made as one layer may have.
     #[tactic(auto, unfolding(ux_model::specs::Making::make_object))]
     pub(crate) fn make_file(&mut self, pid: Pid, flags: OpenFlags) -> Result<Reply, Refusal>
         requires { IsTrue (is_live self.old pid.0) }
-        ensures { Gives self.old (model.make_object self.old pid.0 (memory []) flags) result self.new }
+        ensures { Gives self.old (model.make_file self.old pid.0 flags) result self.new }
     {
+        if flags.contains(OpenFlags::APPEND) || flags.contains(OpenFlags::NONBLOCK) {
+            return Err(Errno::EINVAL.into());
+        }
         let fd = self.state.make_file(pid, flags)?;
         Ok(Reply::Fd(fd))
     }

@@ -15,14 +15,16 @@ use ux_state::ReleasedObjects;
 use ux_types::{Done, Errno, Pid, Refusal, Released, Reply, Request};
 
 impl<O: FileObject> Kernel<O> {
-    /// Makes one call of a process that hasn't exited, or the end of the layer once none is left, and
-    /// releases what nothing refers to any more: the file objects that nothing leads to are put into an
-    /// empty list by rising number, closed and otherwise as they were, and their numbers stand beside the answer. `tag` is the number of the call, which
-    /// a message that it sends keeps; the answer reports that of the message of which rights were received. A
-    /// refusal is the reply. One with ENOMEM leaves the kernel as it was, and
-    /// close(2), unlink(2), lseek(2), the flags of fcntl(2), listen(2), shutdown(2), getsockopt(2), poll(2),
-    /// setsockopt(2) of a queue's limit, setresuid(2) with setresgid(2), execve(2), _exit(2) and the end of the layer
-    /// never give it.
+    /// Makes one call of a process that hasn't exited, or the end of the layer once none is left, and releases what
+    /// nothing refers to any more.
+    ///
+    /// - The file objects that nothing leads to are put into an empty list by rising number, closed and otherwise as they
+    ///   were; their numbers stand beside the answer.
+    /// - `tag` is the number of the call. A message that it sends keeps it, and the answer reports that of the message of
+    ///   which rights were received.
+    /// - A refusal is the reply. One with ENOMEM leaves the kernel as it was.
+    /// - close(2), unlink(2), lseek(2), the flags of fcntl(2), listen(2), shutdown(2), getsockopt(2), poll(2), setsockopt(2)
+    ///   of a queue's limit, setresuid(2) with setresgid(2), execve(2), _exit(2) and the end of the layer never give ENOMEM.
     #[tactic(auto, unfolding(ux_model::specs::Step::Step))]
     pub fn step(
         &mut self,

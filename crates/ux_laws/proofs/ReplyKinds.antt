@@ -7,7 +7,7 @@ use mathlib.Core.Bool.{or-true}
 use Rattle.ux_model.specs.Types.{Errno, Fd, Cred, Name, Addr, SockType, SockOpt, Mode, OpenFlags, MsgFlags, Whence, Request, Reply}
 use Rattle.ux_model.specs.Places.{place}
 use Rattle.ux_model.specs.Limits.{made_limit, read_limit, offset_limit, record_bytes_limit}
-use Rattle.ux_model.specs.Flags.{can_read, can_write, are_send_flags, are_receive_flags, no_flags}
+use Rattle.ux_model.specs.Flags.{asks_append, can_read, can_write, are_send_flags, are_receive_flags, no_flags}
 use Rattle.ux_model.specs.Object.{Body, View, ObjectError, would_block, full, invalid, read_body, write_body, is_memory, is_pipe}
 use Rattle.ux_model.specs.Object.{memory, counter}
 use Rattle.ux_model.specs.Names.{named, is_valid_path, is_valid_addr, is_unnamed_addr, free_name}
@@ -145,14 +145,15 @@ create_is S p path mode flags = either (Is is_fd) (not (is_valid_path path)) _ _
     (λ b. either (Is is_fd) (is_some (named path S.paths)) _ _ (λ c. refl)
     (λ c. made_is S (with_path (with_made S (memory [])) path (next_object S)) p mode flags))
 
-object_is : (S : State) (p : ℕ) (body : Body) (flags : OpenFlags) → Is is_fd (make_object S p body flags)
+object_is : (S : State) (p : ℕ) (unknown : Bool) (body : Body) (flags : OpenFlags) → Is is_fd (make_object S p unknown body flags)
 unfolding make_object
-object_is S p body flags = made_is S (with_made S body) p Mode.Both flags
+object_is S p unknown body flags = either (Is is_fd) unknown _ _ (λ b. refl) (λ b. made_is S (with_made S body) p Mode.Both flags)
 
 pipe_is : (S : State) (p : ℕ) (flags : OpenFlags) → Is is_fds (make_pipe S p flags)
 unfolding make_pipe
-pipe_is S p flags = maybe (Is is_fds) (two_lowest_free (table_of S p)) _ _ refl
-    (λ n low. either (Is is_fds) (object_table_full S) _ _ (λ b. refl) (λ b. refl))
+pipe_is S p flags = either (Is is_fds) (asks_append flags) _ _ (λ b. refl)
+    (λ b. maybe (Is is_fds) (two_lowest_free (table_of S p)) _ _ refl
+    (λ n low. either (Is is_fds) (object_table_full S) _ _ (λ c. refl) (λ c. refl)))
 
 pair_is : (S : State) (p : ℕ) (kind : SockType) (flags : OpenFlags) → Is is_fds (make_pair S p kind flags)
 unfolding make_pair
@@ -399,8 +400,8 @@ each_is : (S : State) (p tag : ℕ) (request : Request) → Is (kind_of request)
 unfolding outcome
 each_is S p tag (Request.Open path mode flags) = open_is S p path mode flags
 each_is S p tag (Request.Create path mode flags) = create_is S p path mode flags
-each_is S p tag (Request.MemFd flags) = object_is S p (memory []) flags
-each_is S p tag (Request.EventFd value flags) = object_is S p (counter value) flags
+each_is S p tag (Request.MemFd flags) = object_is S p _ (memory []) flags
+each_is S p tag (Request.EventFd value flags) = object_is S p _ (counter value) flags
 each_is S p tag (Request.Pipe flags) = pipe_is S p flags
 each_is S p tag (Request.Read fd n) = read_file_is S p fd n
 each_is S p tag (Request.Write fd bytes) = write_is S p tag fd bytes

@@ -1,9 +1,10 @@
 -- Making a file object: a pipe, a counter, or a file (pipe2(2), eventfd(2), memfd_create(2); open(2) with O_CREAT and O_EXCL).
-use Rattle.std.specs.Prelude.{ℕ, suc, Bool, not, nat_le, if◌then◌else◌, [], ◌∷◌, ◌++◌, length, Some, None, is_some}
+use Rattle.std.specs.Prelude.{ℕ, suc, Bool, not, ◌||◌, nat_le, if◌then◌else◌, [], ◌∷◌, ◌++◌, length, Some, None, is_some}
 use Rattle.ux_model.specs.Types.{Errno, Name, Mode, OpenFlags, Reply}
+use Rattle.ux_model.specs.Flags.{asks_append, asks_nonblock}
 use Rattle.ux_model.specs.Limits.{raised_object_limit}
 use Rattle.ux_model.specs.Places.{filled}
-use Rattle.ux_model.specs.Object.{Body, memory, pipe, new_view}
+use Rattle.ux_model.specs.Object.{Body, memory, counter, pipe, new_view}
 use Rattle.ux_model.specs.Names.{file, named, is_valid_path}
 use Rattle.ux_model.specs.Process.{lowest_free, two_lowest_free, fd_of, descriptor}
 use Rattle.ux_model.specs.State.{State, table_of, next_description, with_table, with_new}
@@ -40,9 +41,17 @@ open_made S T p mode flags = elim (lowest_free (table_of S p)) [
       (filled (table_of S p) n (descriptor flags (next_description S))))
 ]
 
--- eventfd(2) and memfd_create(2): a new file object with this body
-unfoldable pub make_object : State → ℕ → Body → OpenFlags → Outcome
-make_object S p body flags = open_made S (with_made S body) p Mode.Both flags
+-- a new file object with this body, unless a flag is asked for that the call doesn't have
+unfoldable pub make_object : State → ℕ → Bool → Body → OpenFlags → Outcome
+make_object S p unknown body flags = if unknown then refuse S Errno.EINVAL else open_made S (with_made S body) p Mode.Both flags
+
+-- eventfd(2): EFD_CLOEXEC and EFD_NONBLOCK
+abbrev pub make_counter : State → ℕ → ℕ → OpenFlags → Outcome
+make_counter S p value flags = make_object S p (asks_append flags) (counter value) flags
+
+-- memfd_create(2): MFD_CLOEXEC
+abbrev pub make_file : State → ℕ → OpenFlags → Outcome
+make_file S p flags = make_object S p (asks_append flags || asks_nonblock flags) (memory []) flags
 
 -- open(2) with O_CREAT and O_EXCL: a new, empty file under a path that nothing has
 unfoldable pub create_file : State → ℕ → Name → Mode → OpenFlags → Outcome
@@ -59,9 +68,8 @@ with_pipe S flags =
     let o : ℕ = next_object S in
     with_new (with_new (with_made S (pipe [])) (file_description o Mode.Read flags)) (file_description o Mode.Write flags)
 
--- pipe2(2)
-unfoldable pub make_pipe : State → ℕ → OpenFlags → Outcome
-make_pipe S p flags = elim (two_lowest_free (table_of S p)) [
+abbrev pub open_pipe : State → ℕ → OpenFlags → Outcome
+open_pipe S p flags = elim (two_lowest_free (table_of S p)) [
   | None ↦ refuse S Errno.EMFILE
   | Some n ↦ if object_table_full S then refuse S Errno.ENFILE else
       let d : ℕ = next_description S in
@@ -69,3 +77,7 @@ make_pipe S p flags = elim (two_lowest_free (table_of S p)) [
       (with_table (with_pipe S flags) p
       (filled (filled (table_of S p) n.0 (descriptor flags d)) n.1 (descriptor flags (suc d))))
 ]
+
+-- pipe2(2): O_CLOEXEC and O_NONBLOCK
+unfoldable pub make_pipe : State → ℕ → OpenFlags → Outcome
+make_pipe S p flags = if asks_append flags then refuse S Errno.EINVAL else open_pipe S p flags

@@ -25,6 +25,10 @@ impl FileObject for Box<dyn FileObject + Send> {
         (**self).ready()
     }
 
+    fn lacks_room(&self, bytes: &[u8]) -> bool {
+        (**self).lacks_room(bytes)
+    }
+
     fn faults(&self) -> u64 {
         (**self).faults()
     }

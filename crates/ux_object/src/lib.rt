@@ -3,8 +3,8 @@
 //! how often it has failed.
 #![tactic(auto)]
 
-ghost use Rattle.std.specs.Prelude.{◌≡◌, IsTrue, length};
-ghost use Rattle.ux_model.specs.Object.{View, closed, size_of_body, ready};
+ghost use Rattle.std.specs.Prelude.{◌≡◌, true, IsTrue, length};
+ghost use Rattle.ux_model.specs.Object.{View, closed, size_of_body, ready, lacks_room};
 ghost use Rattle.ux_object.specs.Kind.{kind_of};
 ghost use Rattle.ux_object.specs.declared.ObjError.{ObjError};
 ghost use Rattle.ux_object.specs.Calls.{Reads, Writes};
@@ -95,6 +95,14 @@ pub trait FileObject: Drop {
     /// Whether it is ready to be read, and to be written (poll(2)).
     fn ready(&self) -> (bool, bool)
         ensures { result ≡ ready (view self.now).body };
+
+    /// Whether a write of these bytes would have to wait for room. It is asked and not tried, so an object that fails at
+    /// a certain write doesn't count it. One that can't tell says no, and is tried.
+    fn lacks_room(&self, _bytes: &[u8]) -> bool
+        ensures waits { result ≡ true → lacks_room (view self.now).body _bytes.now ≡ true }
+    {
+        false
+    }
 
     /// How often reading or writing it has failed.
     fn faults(&self) -> u64

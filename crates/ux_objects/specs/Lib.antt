@@ -1,3 +1,4 @@
 pub mod Faultless
 pub mod Failing
 pub mod Layers
+pub mod Given

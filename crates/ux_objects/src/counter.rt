@@ -1,8 +1,10 @@
 //! A counter, which a write adds to and a read takes whole.
-ghost use Rattle.std.specs.Prelude.{ℕ, ◌≡◌, ◌≢◌, ◌+◌, ◌≤◌, length};
+ghost use Rattle.std.specs.Prelude.{ℕ, true, false, ◌≡◌, ◌≢◌, ◌+◌, ◌≤◌, IfSome, IfNone, length};
 ghost use Rattle.ux_model.specs.Limits.{counter_limit};
+ghost use Rattle.ux_model.specs.Object.{counter, lacks_room};
 ghost use Rattle.ux_object.specs.Calls.{Reads, Writes};
 ghost use Rattle.ux_objects.specs.Faultless.{Faultless, opened_with, counter_view};
+ghost use Rattle.ux_objects.specs.Given.{given, can_add};
 
 use std::marker::Model;
 use ux_object::{FileObject, ObjError, ObjKind};
@@ -70,15 +72,9 @@ impl FileObject for Counter {
         ensures writes { Writes (counter_view self.old) _at bytes.now result (counter_view self.new) }
         ensures works { result ≢ Err ObjError.Io }
     {
-        if bytes.len() < 8 {
+        let Some(addend) = addend_of(bytes) else {
             return Err(ObjError::Invalid);
-        }
-        let mut first = [0; 8];
-        first.copy_from_slice(&bytes[..8]);
-        let addend = u64::from_le_bytes(first);
-        if addend > GREATEST {
-            return Err(ObjError::Invalid);
-        }
+        };
         if addend > GREATEST - self.value {
             return Err(ObjError::WouldBlock);
         }
@@ -94,6 +90,15 @@ impl FileObject for Counter {
         (self.value > 0, self.value < GREATEST)
     }
 
+    fn lacks_room(&self, bytes: &[u8]) -> bool
+        ensures { result ≡ lacks_room (counter self.now.content) bytes.now }
+    {
+        match addend_of(bytes) {
+            Some(addend) => addend > GREATEST - self.value,
+            None => false,
+        }
+    }
+
     fn faults(&self) -> u64 {
         0
     }
@@ -105,4 +110,21 @@ impl FileObject for Counter {
     fn close(&mut self) {
         self.opened = false;
     }
+}
+
+/// The number that a write gives, if it gives one that can be added.
+fn addend_of(bytes: &[u8]) -> Option<u64>
+    ensures none { IfNone result (can_add bytes.now ≡ false) }
+    ensures some { IfSome result (λ n. (can_add bytes.now ≡ true) × (n ≡ given bytes.now)) }
+{
+    if bytes.len() < 8 {
+        return None;
+    }
+    let mut first = [0; 8];
+    first.copy_from_slice(&bytes[..8]);
+    let addend = u64::from_le_bytes(first);
+    if addend > GREATEST {
+        return None;
+    }
+    Some(addend)
 }

@@ -1,5 +1,6 @@
 //! An object of which one call fails.
 ghost use Rattle.std.specs.Prelude.{true, false, ◌≡◌, ◌-◌, ◌<◌, ◌↔◌, Err, length};
+ghost use Rattle.ux_model.specs.Object.{lacks_room};
 ghost use Rattle.ux_object.specs.Calls.{IsFailure, Reads, Writes};
 ghost use Rattle.ux_objects.specs.Failing.{Failing, failing, plain_view, with_faults};
 
@@ -89,6 +90,13 @@ impl FileObject for FailAt {
 
     fn ready(&self) -> (bool, bool) {
         self.plain.ready()
+    }
+
+    // It is no call, so nothing counts.
+    fn lacks_room(&self, bytes: &[u8]) -> bool
+        ensures { result ≡ lacks_room self.now.seen.body bytes.now }
+    {
+        self.plain.lacks_room(bytes)
     }
 
     fn faults(&self) -> u64 {

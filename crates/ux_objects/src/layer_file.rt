@@ -50,6 +50,13 @@ impl<O: FileObject> FileObject for LayerFile<O> {
         }
     }
 
+    fn lacks_room(&self, bytes: &[u8]) -> bool {
+        match self {
+            LayerFile::Given(object) => object.lacks_room(bytes),
+            LayerFile::Made(object) => object.lacks_room(bytes),
+        }
+    }
+
     fn faults(&self) -> u64 {
         match self {
             LayerFile::Given(object) => object.faults(),

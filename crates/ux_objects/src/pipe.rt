@@ -1,6 +1,7 @@
 //! A pipe: a bounded queue of bytes.
 ghost use Rattle.std.specs.Prelude.{ℕ, List, [], ◌≡◌, ◌≢◌, IfOk, IfErr, length};
 ghost use Rattle.ux_model.specs.Limits.{pipe_limit};
+ghost use Rattle.ux_model.specs.Object.{pipe, lacks_room};
 ghost use Rattle.ux_object.specs.Calls.{Reads, Writes};
 ghost use Rattle.ux_objects.specs.Faultless.{Faultless, opened_with, pipe_view};
 
@@ -71,8 +72,7 @@ impl FileObject for Pipe {
         ensures writes { Writes (pipe_view self.old) _at bytes.now result (pipe_view self.new) }
         ensures works { result ≢ Err ObjError.Io }
     {
-        let room = LIMIT - self.bytes.len();
-        if bytes.len() > room && (bytes.len() <= WHOLE || room == 0) {
+        if self.lacks_room(bytes) {
             return Err(ObjError::WouldBlock);
         }
         Ok(self.bytes.fill_from_slice(bytes))
@@ -84,6 +84,13 @@ impl FileObject for Pipe {
 
     fn ready(&self) -> (bool, bool) {
         (!self.bytes.is_empty(), self.bytes.len() <= LIMIT - WHOLE)
+    }
+
+    fn lacks_room(&self, bytes: &[u8]) -> bool
+        ensures { result ≡ lacks_room (pipe self.now.content) bytes.now }
+    {
+        let room = LIMIT - self.bytes.len();
+        bytes.len() > room && (bytes.len() <= WHOLE || room == 0)
     }
 
     fn faults(&self) -> u64 {

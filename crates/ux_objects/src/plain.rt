@@ -1,7 +1,7 @@
 //! An object of any of the three kinds.
 ghost use Rattle.std.specs.Prelude.{◌≡◌, ◌≢◌, ◌<◌, ◌↔◌, ◌⊎◌, IfOk, OnErr, Err, length};
 ghost use Rattle.ux_model.specs.Limits.{file_limit};
-ghost use Rattle.ux_model.specs.Object.{new_view};
+ghost use Rattle.ux_model.specs.Object.{new_view, lacks_room};
 ghost use Rattle.ux_object.specs.Calls.{Reads, Writes};
 ghost use Rattle.ux_objects.specs.Failing.{plain_view, first_body};
 
@@ -83,6 +83,16 @@ impl FileObject for Plain {
             Plain::Memory(file) => file.ready(),
             Plain::Counter(counter) => counter.ready(),
             Plain::Pipe(pipe) => pipe.ready(),
+        }
+    }
+
+    fn lacks_room(&self, bytes: &[u8]) -> bool
+        ensures { result ≡ lacks_room (plain_view self.now).body bytes.now }
+    {
+        match self {
+            Plain::Memory(_) => false,
+            Plain::Counter(counter) => counter.lacks_room(bytes),
+            Plain::Pipe(pipe) => pipe.lacks_room(bytes),
         }
     }
 

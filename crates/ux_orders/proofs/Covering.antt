@@ -12,7 +12,7 @@ use Rattle.ux_orders.specs.Outcomes.{SameOutcome, HasOutcome, Keeps, IsRun, Cove
 
 pub same_then : (n : ℕ) (a b c : Ran) → SameOutcome n a b → SameOutcome n b c → SameOutcome n a c
 same_then n (Ran.Whole a) (Ran.Whole b) (Ran.Whole c) f g = λ p within. f p within ∙ g p within
-same_then n (Ran.Deadlock a v) (Ran.Deadlock b w) (Ran.Deadlock c x) f g = f ∙ g
+same_then n (Ran.Deadlock a v) (Ran.Deadlock b w) (Ran.Deadlock c x) f g = (f.0 ∙ g.0, λ p within. f.1 p within ∙ g.1 p within)
 same_then n (Ran.Whole a) (Ran.Whole b) (Ran.Deadlock c x) f g = absurd g
 same_then n (Ran.Whole a) (Ran.Whole b) (Ran.BrokenOff c) f g = absurd g
 same_then n (Ran.Whole a) (Ran.Deadlock b w) c f g = absurd f
@@ -27,7 +27,7 @@ same_then n (Ran.BrokenOff a) (Ran.BrokenOff b) c f g = absurd f
 
 pub same_back : (n : ℕ) (a b : Ran) → SameOutcome n a b → SameOutcome n b a
 same_back n (Ran.Whole a) (Ran.Whole b) f = λ p within. sym (f p within)
-same_back n (Ran.Deadlock a v) (Ran.Deadlock b w) f = sym f
+same_back n (Ran.Deadlock a v) (Ran.Deadlock b w) f = (sym f.0, λ p within. sym (f.1 p within))
 same_back n (Ran.Whole a) (Ran.Deadlock b w) f = absurd f
 same_back n (Ran.Whole a) (Ran.BrokenOff b) f = absurd f
 same_back n (Ran.Deadlock a v) (Ran.Whole b) f = absurd f
@@ -39,7 +39,7 @@ same_back n (Ran.BrokenOff a) (Ran.BrokenOff b) f = absurd f
 -- a run that wasn't broken off has its own outcome
 pub same_self : (n : ℕ) (a : Ran) → is_broken_off a ≡ false → SameOutcome n a a
 same_self n (Ran.Whole a) e = λ p within. refl
-same_self n (Ran.Deadlock a v) e = refl
+same_self n (Ran.Deadlock a v) e = (refl, λ p within. refl)
 same_self n (Ran.BrokenOff a) e = absurd cc
 
 has_more : (n : ℕ) (xs : List Ran) (ran r : Ran) → HasOutcome n xs r → HasOutcome n (xs ++ ran ∷ []) r

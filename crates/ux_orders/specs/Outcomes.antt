@@ -16,11 +16,15 @@ answer_of e = (e.reply, e.released)
 abbrev pub answers_of : ℕ → List Entry → List (Reply × List ℕ)
 answers_of p entries = map answer_of (filter (λ e. e.pid.0 == p) entries)
 
--- All lines were made in both runs, and each of so many processes, and nobody, was answered alike; or the same processes wait in the same
--- lines. A run that was broken off has no outcome.
+-- each of so many processes, and nobody, was answered alike
+abbrev pub SameAnswers : ℕ → List Entry → List Entry → Type 0
+SameAnswers n a b = (p : ℕ) → p ≤ n → answers_of p a ≡ answers_of p b
+
+-- Each process was answered alike in both runs, and all lines were made, or the same processes wait in the same lines. A run that was
+-- broken off has no outcome.
 abbrev pub SameOutcome : ℕ → Ran → Ran → Type 0
-SameOutcome n (Ran.Whole a) (Ran.Whole b) = (p : ℕ) → p ≤ n → answers_of p a.items ≡ answers_of p b.items
-SameOutcome n (Ran.Deadlock a v) (Ran.Deadlock b w) = v.items ≡ w.items
+SameOutcome n (Ran.Whole a) (Ran.Whole b) = SameAnswers n a.items b.items
+SameOutcome n (Ran.Deadlock a v) (Ran.Deadlock b w) = (v.items ≡ w.items) × SameAnswers n a.items b.items
 SameOutcome n _ _ = ⊥
 
 -- the run was broken off

@@ -25,7 +25,7 @@ pub record IsWalk (boot : State) (s : Plan) (walk : Walk) : Type 0 where
   pub few : walk.found.orders ≤ walk.begun
   pub within : walk.begun ≤ walk.limit
 
--- nothing that was found is forgotten, and what was left out isn't made good
+-- outcomes only grow, and is_all never returns to true
 pub record Grows (s : Plan) (old new : Walk) : Type 0 where
   pub all : new.found.is_all ≡ true → old.found.is_all ≡ true
   pub outcomes : KeepsAll s old.found.outcomes.items new.found.outcomes.items

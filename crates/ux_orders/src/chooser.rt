@@ -37,7 +37,7 @@ pub trait Chooser {
         Ok(())
     }
 
-    /// Whether the point behind so many lines is one that it hasn't chosen at.
+    /// Whether nobody was chosen yet after so many lines.
     fn is_new(&self, _made: usize) -> bool {
         false
     }

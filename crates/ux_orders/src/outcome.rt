@@ -7,14 +7,17 @@ use crate::ran::Ran;
 use ux_types::{Entry, Pid, Reply};
 
 /// Whether two runs have the same outcome: each of the processes 1 to `count` has the same replies and closed the same
-/// file objects, in its order; or each waits in the same line. A run that was broken off has none.
+/// file objects, in its order; and all have exited, or the same ones wait in the same lines. A run that was broken off
+/// has none.
 pub fn is_same_outcome(one: &Ran, other: &Ran, count: usize) -> bool
     requires { count ≤ made_limit }
     ensures { IsTrue result ↔ SameOutcome count one.now other.now }
 {
     match (one, other) {
         (Ran::Whole(one), Ran::Whole(other)) => are_same_answers(one, other, count),
-        (Ran::Deadlock(_, one), Ran::Deadlock(_, other)) => are_same_waits(one, other),
+        (Ran::Deadlock(one, waits), Ran::Deadlock(other, others)) => {
+            are_same_waits(waits, others) && are_same_answers(one, other, count)
+        }
         _ => false,
     }
 }

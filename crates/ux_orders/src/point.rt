@@ -123,7 +123,7 @@ impl<O: FileObject> Speller<'_, O> {
         }
     }
 
-    /// The descriptions that were come to, and those that only what waits at one another holds.
+    /// Every description that a table, a path or a queue reaches, then those that only a cycle of queued sockets keeps.
     fn descriptions(&mut self) -> Result<(), AllocError> {
         for turn in 0..self.state.description_count() {
             match self.next_description(turn)? {

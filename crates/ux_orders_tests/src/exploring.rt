@@ -323,3 +323,62 @@ fn a_deadlock_among_many_orders_is_found_and_made_again(rt: HostRuntime) -> Resu
     assert!(rt; waits.as_slice() == [(Pid(1), 14), (Pid(2), 21), (Pid(3), 28)].as_slice());
     Ok(())
 }
+
+/// A write that has to wait for room isn't made until there is some, so an object whose third read or write fails counts
+/// none before: the counter's first write, the read that makes room, and then the write that waited, which fails. Behind
+/// the read process 2's exit stands before, between or behind the write and process 1's exit, 3 orders.
+const WAITS_FOR_ROOM: &str = "object p:c fail 3 counter
+proc 1 1 0 4
+1 open p:c rw -
+1 write 0 feffffffffffffff
+1 fork
+1 write 0 0100000000000000
+2 read 0 8
+";
+
+#[test]
+fn a_write_that_waits_for_room_does_not_reach_a_failing_object(
+    rt: HostRuntime,
+) -> Result<(), Fail> {
+    let each = each_by(rt.alloc(), WAITS_FOR_ROOM, MANY)?;
+    assert!(rt; each.orders == 3 && ends_once(rt.alloc(), &each, "1,1,1,2,1,1,2")?);
+    let merged = found_by(rt.alloc(), WAITS_FOR_ROOM, MANY, Reduction::all())?;
+    assert!(rt; ends_once(rt.alloc(), &merged, "1,1,1,2,1,1,2")?);
+    let Some(mut order) = read_order(rt.alloc(), "1,1,1,2,1,1,2")? else {
+        return Err(Fail::from("no order"));
+    };
+    let ran = run_in(rt.alloc(), WAITS_FOR_ROOM, &mut order)?;
+    assert!(rt; matches!(ran, Ran::Whole(_)));
+    Ok(())
+}
+
+/// Whether there is one outcome, by this list, and it is no deadlock.
+fn ends_once(alloc: Global, found: &Found, list: &str) -> Result<bool, Fail> {
+    match found.outcomes.as_slice() {
+        [ran] => Ok(!ran.is_deadlock() && list_of(alloc, ran)?.as_str() == list),
+        _ => Ok(false),
+    }
+}
+
+/// Process 2 reads the counter before or behind the write, and then waits for ever at a pipe to which it could write itself.
+const ANSWERED_TWO_WAYS: &str = "object p:c counter
+object p:q pipe
+proc 1 1 0 8
+1 open p:c rw n
+1 open p:q rw -
+1 fork
+1 write 0 0100000000000000
+2 read 0 8
+2 read 1 1
+";
+
+/// Both ways end in the same deadlock, and each has its own run, so what was answered before is never lost.
+#[test]
+fn a_deadlock_has_a_run_for_each_way_in_which_it_was_answered(rt: HostRuntime) -> Result<(), Fail> {
+    let each = each_by(rt.alloc(), ANSWERED_TWO_WAYS, MANY)?;
+    assert!(rt; each.is_all && each.outcomes.len() == 2);
+    assert!(rt; each.outcomes.iter().all(|ran| ran.is_deadlock()));
+    let merged = found_by(rt.alloc(), ANSWERED_TWO_WAYS, MANY, Reduction::all())?;
+    assert!(rt; merged.is_all && are_same_runs(rt.alloc(), &each.outcomes, &merged.outcomes)?);
+    Ok(())
+}

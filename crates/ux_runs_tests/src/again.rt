@@ -91,7 +91,9 @@ fn another_reply_differs(rt: HostRuntime) -> Result<(), Fail> {
 fn other_released_objects_differ(rt: HostRuntime) -> Result<(), Fail> {
     let mut entries = history(rt.alloc())?;
     let exit = entries.get_mut(2).ok_or("no exit")?;
-    exit.released.push_back(0)?;
+    let mut other = Released::new(rt.alloc());
+    other.push_back(0)?;
+    exit.released = other;
     assert_eq!(rt; found(rt.alloc(), &entries, 16)?, Err(2));
     Ok(())
 }

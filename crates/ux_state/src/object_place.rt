@@ -11,14 +11,13 @@ use std::collections::LinkedList;
 use std::marker::Model;
 use ux_object::{FileObject, ObjError};
 use ux_objects::LayerFile;
-use ux_types::Released;
 
 /// Room in which one file object is handed out, and for its number, made before so that it takes no memory then.
 #[derive(Drop)]
 pub(crate) struct ObjectRoom<O: FileObject> {
     /// Each has one element.
     object: LinkedList<ReleasedObject<O>>,
-    number: Released,
+    number: LinkedList<u32>,
 }
 
 impl<O: FileObject> Model for ObjectRoom<O> {
@@ -35,7 +34,7 @@ impl<O: FileObject> Model for ObjectRoom<O> {
 #[derive(Drop)]
 pub(crate) struct ClosedObject<O: FileObject> {
     pub(crate) object: LinkedList<ReleasedObject<O>>,
-    pub(crate) number: Released,
+    pub(crate) number: LinkedList<u32>,
 }
 
 impl<O: FileObject> ObjectRoom<O> {
@@ -47,7 +46,7 @@ impl<O: FileObject> ObjectRoom<O> {
     pub(crate) fn new(alloc: Global) -> Result<ObjectRoom<O>, AllocError> {
         let mut object = LinkedList::new(alloc);
         object.push_back(ReleasedObject::none())?;
-        let mut number = Released::new(alloc);
+        let mut number = LinkedList::new(alloc);
         number.push_back(0)?;
         Ok(ObjectRoom { object, number })
     }

@@ -178,20 +178,11 @@ fn hand_out<O: FileObject>(
     ensures released { released.new ≡ released.old ++ (elim object [ None ↦ [] | Some c ↦ c.object ]) }
     ensures numbers { numbers.new ≡ map (λ r. r.0) released.new }
 {
-    let Some(
-        ClosedObject {
-            object,
-            number: mut one,
-        },
-    ) = object
-    else {
+    let Some(ClosedObject { object, number }) = object else {
         return;
     };
     released.push(object);
-    // Far fewer than can be counted.
-    if numbers.append(&mut one).is_err() {
-        unreachable!()
-    }
+    numbers.push(number);
 }
 
 /// The file object that a description led to, or a path named, is looked at when the call ends.

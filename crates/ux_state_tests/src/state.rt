@@ -219,7 +219,8 @@ fn settle<O: FileObject>(rt: &(impl Abort + AllocGlobal), state: &mut State<O>, 
     let mut released = ReleasedObjects::new(rt.alloc());
     let told = state.settle(&mut released);
     assert!(rt; released.len() == numbers.len());
-    assert!(rt; told.iter().eq(numbers.iter()));
+    let (first, others) = told.parts();
+    assert!(rt; first.iter().chain(others).eq(numbers.iter()));
     for (gone, number) in released.iter().zip(numbers) {
         assert!(rt; gone.number() == *number);
         assert!(rt; state.object(*number).is_none());

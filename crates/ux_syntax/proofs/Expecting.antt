@@ -8,7 +8,6 @@ use Rattle.std.proofs.lemmas.Bool.{cases_lt}
 use Rattle.std.proofs.lemmas.List.{append-nil, get_or-map, get_or_past, length-map}
 use Rattle.ux_syntax.specs.declared.expectations.Expectation.{Expectation}
 use Rattle.ux_syntax.specs.declared.fault.ScriptFault.{ScriptFault}
-use Rattle.ux_syntax.specs.Text.{fields_of, plain_line}
 use Rattle.ux_syntax.specs.Reading.{item_at}
 use Rattle.ux_syntax.specs.Expectations.{line_numbered, asks_call, expected_in, expecting, expectation_of, expectations, is_misplaced}
 use Rattle.ux_syntax.specs.Expectations.{IsFaultOfPlace}
@@ -16,11 +15,6 @@ use Rattle.ux_syntax.specs.Expectations.{IsFaultOfPlace}
 no_call : false ≡ asks_call []
 unfolding asks_call item_at
 no_call = refl
-
--- an empty line expects nothing
-none_expected : expected_in [] ≡ None
-unfolding plain_line fields_of
-none_expected = refl
 
 flat_more : {A : Type 0} (f : ℕ → List A) (a len n : ℕ) → a + len ≡ n
     → flat_map f (range_with_len a (suc len)) ≡ flat_map f (range_with_len a len) ++ f n
@@ -44,7 +38,7 @@ begun texts found e = record {
   within = omega arith;
   call = no_call;
   all = e;
-  placed = λ m lt. let is : m ≡ 0 = omega (arith, lt) in subst (λ (k : ℕ). is_misplaced texts k ≡ false) (sym is) (rw none_expected refl);
+  placed = λ m lt. let is : m ≡ 0 = omega (arith, lt) in subst (λ (k : ℕ). is_misplaced texts k ≡ false) (sym is) refl;
 }
 
 -- the line behind the first i
@@ -93,5 +87,5 @@ pub all_placed : (texts : List (List ℕ)) (i : ℕ) (behind : Bool) (found : Li
     → HasCome texts i behind found → length texts ≤ i → (n : ℕ) → is_misplaced texts n ≡ false
 all_placed texts i behind found h end n = elim (cases_lt n (i + 1)) [
   | inl low ↦ h.placed n low
-  | inr high ↦ rw (get_or_past ([] ∷ texts) n [] (omega (arith, high, end)), none_expected) refl
+  | inr high ↦ rw (get_or_past ([] ∷ texts) n [] (omega (arith, high, end))) refl
 ]

@@ -1,6 +1,6 @@
 -- What the calls of a script are expected to answer.
-use Rattle.std.specs.Prelude.{◌≡◌, ℕ, ◌+◌, ◌-◌, ◌<◌, Bool, true, false, List, [], ◌∷◌, length, Option, Some, None, Result, Ok, Err, ◌==◌}
-use Rattle.std.specs.Prelude.{◌&&◌, ◌⊎◌, not, nat_lt, slice_index_or, if◌then◌else◌}
+use Rattle.std.specs.Prelude.{◌≡◌, ℕ, ◌+◌, ◌-◌, ◌<◌, Bool, true, false, List, [], ◌∷◌, ◌++◌, codes, length, Option, Some, None, Result, Ok, Err, ◌==◌}
+use Rattle.std.specs.Prelude.{◌&&◌, ◌||◌, ◌⊎◌, not, nat_lt, slice_index_or, if◌then◌else◌}
 use Rattle.std.specs.List.{flat_map, range_with_len}
 use Rattle.std.specs.Option.{is_some}
 use Rattle.ux_syntax.specs.declared.expectations.Expectation.{Expectation}
@@ -32,9 +32,32 @@ behind_mark (a ∷ []) = None
 behind_mark (a ∷ b ∷ []) = None
 behind_mark (a ∷ b ∷ c ∷ reply) = if a == 35 && b == 61 && c == 32 && nat_lt 0 (length reply) then Some reply else None
 
+-- behind blanks and tabs
+abbrev pub past_blanks : List ℕ → List ℕ
+past_blanks [] = []
+past_blanks (c ∷ cs) = if c == 32 || c == 9 then past_blanks cs else c ∷ cs
+
+abbrev pub begins_with_equals : List ℕ → Bool
+begins_with_equals [] = false
+begins_with_equals (c ∷ cs) = c == 61
+
+-- what stands behind =, where no further = follows, as in a row of them
+abbrev pub behind_equals : List ℕ → Option (List ℕ)
+behind_equals [] = None
+behind_equals (c ∷ cs) = if c == 61 && not (begins_with_equals cs) then Some (past_blanks cs) else None
+
+-- what stands behind # and =, with blanks between and behind them or without
+abbrev pub marked : List ℕ → Option (List ℕ)
+marked [] = None
+marked (c ∷ cs) = if c == 35 then behind_equals (past_blanks cs) else None
+
+-- the comment line as it is usually written
+abbrev pub usual_line : List ℕ → List ℕ
+usual_line reply = codes "#= " ++ reply
+
 -- what a comment line expects, in plain words
 abbrev pub expected_in : List ℕ → Option (List ℕ)
-expected_in text = behind_mark (plain_line text)
+expected_in text = elim (marked text) [ None ↦ None | Some reply ↦ behind_mark (plain_line (usual_line reply)) ]
 
 abbrev pub expecting : ℕ → Option (List ℕ) → List Expectation
 expecting n None = []

@@ -4,7 +4,8 @@ ghost use Rattle.std.specs.Prelude.{◌≡◌, ◌+◌, ◌^◌, ◌<◌, ◌⊎
 ghost use Rattle.std.specs.Option.{is_some, option_map};
 ghost use Rattle.ux_syntax.specs.Spelling.{lines_of};
 ghost use Rattle.ux_syntax.specs.Turns.{is_call};
-ghost use Rattle.ux_syntax.specs.Expectations.{asks_call, behind_mark, expected_in, expecting, expectations, is_misplaced, IsFaultOfPlace};
+ghost use Rattle.ux_syntax.specs.Text.{plain_line};
+ghost use Rattle.ux_syntax.specs.Expectations.{past_blanks, behind_equals, marked, usual_line, asks_call, behind_mark, expected_in, expecting, expectations, is_misplaced, IsFaultOfPlace};
 
 use crate::fault::{LineError, ScriptFault};
 use crate::plain::plain_line;
@@ -57,9 +58,61 @@ fn behind_mark(text: &[u8]) -> Option<&[u8]>
     }
 }
 
+/// What stands behind blanks and tabs.
+fn past_blanks(text: &[u8]) -> &[u8]
+    ensures { result.now ≡ past_blanks text.now }
+{
+    let mut rest = text;
+    while let [b' ' | b'\t', more @ ..] = rest {
+        rest = more;
+    }
+    rest
+}
+
+/// What stands behind `=`, where no further `=` follows, as in a row of them.
+fn behind_equals(text: &[u8]) -> Option<&[u8]>
+    ensures { option_map (λ reply. reply.now) result ≡ behind_equals text.now }
+{
+    match text {
+        [b'=', b'=', ..] => None,
+        [b'=', rest @ ..] => Some(past_blanks(rest)),
+        _ => None,
+    }
+}
+
+/// What stands behind `#` and `=`, with blanks between and behind them or without.
+fn marked(text: &[u8]) -> Option<&[u8]>
+    ensures { option_map (λ reply. reply.now) result ≡ marked text.now }
+{
+    match text {
+        [b'#', rest @ ..] => behind_equals(past_blanks(rest)),
+        _ => None,
+    }
+}
+
+/// The comment line as it is usually written.
+fn usual_line(alloc: Global, reply: &[u8]) -> Result<Vec<u8>, AllocError>
+    ensures { IfOk result (λ line. line.items ≡ usual_line reply.now) }
+{
+    let mut line = Vec::new(alloc);
+    line.extend_from_slice(b"#= ")?;
+    line.extend_from_slice(reply)?;
+    Ok(line)
+}
+
 /// What a comment line expects, in plain words.
 fn expected_in(alloc: Global, text: &[u8]) -> Result<Option<Bytes>, AllocError>
     ensures { IfOk result (λ reply. reply ≡ expected_in text.now) }
+{
+    let Some(reply) = marked(text) else {
+        return Ok(None);
+    };
+    expected_by_line(alloc, &usual_line(alloc, reply)?)
+}
+
+/// What a comment line expects that is written as usual, in plain words.
+fn expected_by_line(alloc: Global, text: &[u8]) -> Result<Option<Bytes>, AllocError>
+    ensures { IfOk result (λ reply. reply ≡ behind_mark (plain_line text.now)) }
 {
     let plain = plain_line(alloc, text)?;
     let line = match &plain {
@@ -111,8 +164,9 @@ fn expected_by(alloc: Global, texts: &[&[u8]]) -> Result<Vec<Expectation>, Scrip
 }
 
 /// What the calls of a script are expected to answer. A comment line `#= REPLY` right behind a call's line says so of that
-/// call: what a trace is to have behind `=`, with ` closed` and the numbers of the file objects that are closed.
-/// Where nothing stands behind `#=`, nothing is expected. The script's own faults are reported by `parse_script`.
+/// call: what a trace is to have behind `=`, with ` closed` and the numbers of the file objects that are closed. Blanks
+/// between `#`, `=` and the reply are free. Where nothing stands behind `=`, nothing is expected, nor where a further `=` does.
+/// The script's own faults are reported by `parse_script`.
 ///
 /// # Errors
 ///

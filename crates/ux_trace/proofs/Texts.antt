@@ -1,12 +1,13 @@
 -- Texts of several parts, as far as a loop has come.
 use Rattle.std.specs.Prelude.{decimal}
-use Rattle.std.proofs.Common.{◌≡◌, ℕ, ◌+◌, ◌-◌, ◌^◌, ◌<◌, ◌≤◌, ◌&&◌, get_or, take, map, codes, Bool, true, false, cond, eqb, leb, not, List}
+use Rattle.std.proofs.Common.{◌≡◌, ℕ, ◌+◌, ◌-◌, ◌^◌, ◌<◌, ◌≤◌, ◌==◌, ◌&&◌, get_or, take, map, codes, Bool, true, false, cond, eqb, leb, not, List}
 use Rattle.std.proofs.Common.{[], ◌∷◌, ◌++◌, length, refl, ap, sym, ◌∙◌, append_assoc, arith}
 use Rattle.std.specs.Char.{encode_utf8}
 use Rattle.std.specs.List.{flat_map, join_with_byte}
 use Rattle.std.specs.Fmt.{padded_integral, format_spec, digits}
-use Rattle.std.proofs.lemmas.Bool.{and_parts, leb-true, not-true}
+use Rattle.std.proofs.lemmas.Bool.{and_parts, leb-true, not-true, false≢true}
 use Rattle.std.proofs.lemmas.List.{append-nil, map-append, take_more, map_more, flat_map_more}
+use Rattle.std.proofs.lemmas.Grind.{flat_map-append}
 use Rattle.std.proofs.lemmas.Fmt.{hex_byte}
 use Rattle.std.proofs.lemmas.Str.{encode_ascii}
 use Rattle.ux_trace.specs.Trace.{digit_pair, hex, stands, name_byte, name_text, set_names, spaced, closed_text}
@@ -52,9 +53,17 @@ pairs_more bytes i lt small = rw (hex_byte false (get_or bytes i 0) small, take_
 pub spaced_more : (numbers : List ℕ) (number : ℕ) → spaced numbers ++ (32 ∷ decimal number) ≡ spaced (numbers ++ number ∷ [])
 spaced_more numbers number = flat_map_more (λ n. 32 ∷ decimal n) [] numbers number
 
-pub closed_is : (numbers : List ℕ) → 0 < length numbers → codes " closed" ++ spaced numbers ≡ closed_text numbers
-closed_is [] h = absurd (omega arith)
-closed_is (n ∷ ns) h = refl
+-- the next of these
+pub spaced_next : (numbers : List ℕ) (i : ℕ) → i < length numbers →
+    spaced (take i numbers) ++ (32 ∷ decimal (get_or numbers i 0)) ≡ spaced (take (i + 1) numbers)
+spaced_next numbers i lt = rw (take_more numbers i 0 lt) (spaced_more (take i numbers) (get_or numbers i 0))
+
+-- some numbers, in two parts
+pub closed_is : (first others numbers : List ℕ) → first ++ others ≡ numbers → (length numbers == 0) ≡ false →
+    codes " closed" ++ (spaced first ++ spaced others) ≡ closed_text numbers
+closed_is first others [] e h = absurd (false≢true (sym h))
+closed_is first others (n ∷ ns) e h =
+    ap (λ (text : List ℕ). codes " closed" ++ text) (sym (flat_map-append (λ (n : ℕ). 32 ∷ decimal n) first others) ∙ ap spaced e)
 
 -- one more name, which is set
 pub name_more : (rows more : List (Bool × List ℕ)) (row : Bool × List ℕ) → more ≡ rows ++ row ∷ [] → row.0 ≡ true

@@ -1,14 +1,46 @@
 //! The line of an entry.
 
 ghost use Rattle.std.specs.Prelude.{◌≡◌, IfOk, Some, string_bytes};
-ghost use Rattle.ux_trace.specs.Trace.{closed_text, entry_line};
+ghost use Rattle.ux_trace.specs.Trace.{spaced, closed_text, entry_line};
 ghost use Rattle.ux_trace.specs.Echoes.{answer};
 
 use crate::call_word::CallWord;
 use crate::reply::{ReplyText, control_of};
 use std::alloc::{AllocError, Global};
+use std::collections::LinkedList;
 use std::fmt;
 use ux_types::{Entry, Released};
+
+/// Numbers in a row, a blank before each.
+#[derive(Clone, Copy)]
+struct Spaced<'a>(&'a [u32]);
+
+impl fmt::Display for Spaced<'_> {
+    ghost output = { λ s. Some (spaced s.0.now) };
+
+    fn fmt<W: fmt::Write>(&self, f: &mut fmt::Formatter<W>) -> fmt::Result {
+        for number in self.0 {
+            let number = *number;
+            write!(f, " {number}")?;
+        }
+        Ok(())
+    }
+}
+
+/// The same of a list.
+#[derive(Clone, Copy)]
+struct SpacedList<'a>(&'a LinkedList<u32>);
+
+impl fmt::Display for SpacedList<'_> {
+    ghost output = { λ s. Some (spaced s.0.now) };
+
+    fn fmt<W: fmt::Write>(&self, f: &mut fmt::Formatter<W>) -> fmt::Result {
+        for number in self.0.iter() {
+            write!(f, " {number}")?;
+        }
+        Ok(())
+    }
+}
 
 /// The file objects that were closed at the end of a call, or nothing where none was.
 #[derive(Clone, Copy)]
@@ -21,11 +53,8 @@ impl fmt::Display for Closed<'_> {
         if self.0.is_empty() {
             return Ok(());
         }
-        write!(f, " closed")?;
-        for number in self.0.iter() {
-            write!(f, " {number}")?;
-        }
-        Ok(())
+        let (first, others) = self.0.parts();
+        write!(f, " closed{}{}", Spaced(first), SpacedList(others))
     }
 }
 

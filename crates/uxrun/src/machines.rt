@@ -24,8 +24,7 @@ pub fn boot<R: RandomSource + AllocGlobal>(
     boot_over(rt, script, true)
 }
 
-/// The same over file objects that don't fail. Calls that are made once more have it, since those that an object failed
-/// are left out then.
+/// The same over file objects that don't fail, for `--check`, which leaves out calls that answered EIO.
 pub fn boot_without_faults<R: RandomSource + AllocGlobal>(
     rt: &R,
     script: &Script,

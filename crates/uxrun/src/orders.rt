@@ -120,14 +120,15 @@ pub fn print_orders<R: Print + Clock + Eprint + RandomSource + AllocGlobal>(
         fault: None,
     };
     let found = found_of(rt.alloc(), script, &mut machine, orders)?;
-    let count = found.outcomes.len();
-    let deadlocks = found
-        .outcomes
+    let outcomes = found.outcomes.as_slice();
+    let told = outcomes.iter().filter(|ran| is_first(outcomes, ran));
+    let count = told.count();
+    let deadlocks = outcomes
         .iter()
-        .filter(|ran| ran.is_deadlock())
+        .filter(|ran| ran.is_deadlock() && is_first(outcomes, ran))
         .count();
     println!(rt; "orders {}\noutcomes {count}", found.orders).map_err(|_| ScriptFault::Writing)?;
-    let unexpected = print_outcomes(rt, script, expected, &found.outcomes)?;
+    let unexpected = print_outcomes(rt, script, expected, outcomes)?;
     if !found.is_all {
         println!(rt; "not all orders were made").map_err(|_| ScriptFault::Writing)?;
     }
@@ -159,29 +160,90 @@ fn print_outcomes<R: Print + AllocGlobal>(
         let Some(next) = next_behind(outcomes, last) else {
             return Ok(unexpected);
         };
-        print_outcome(rt, next)?;
-        if !is_expected(rt, script, expected, next.entries())? {
-            unexpected = unexpected.saturating_add(1);
-        }
         last = Some(next);
+        if !is_first(outcomes, next) {
+            continue;
+        }
+        print_outcome(rt, next)?;
+        if let Some(expected) = expected {
+            if !is_expected(rt, script, expected, outcomes, next)? {
+                unexpected = unexpected.saturating_add(1);
+            }
+        }
     }
     Ok(unexpected)
 }
 
-/// Whether the answers of a run are those that are expected, if any are; prints which of them aren't.
+/// Whether both are deadlocks in which the same processes wait in the same lines. That is one outcome, whatever was
+/// answered before.
+fn wait_alike(one: &Ran, other: &Ran) -> bool {
+    match (one, other) {
+        (Ran::Deadlock(_, one), Ran::Deadlock(_, other)) => one.as_slice() == other.as_slice(),
+        _ => false,
+    }
+}
+
+/// Whether none that waits alike stands before it.
+fn is_first(outcomes: &[Ran], ran: &Ran) -> bool {
+    !outcomes
+        .iter()
+        .any(|other| wait_alike(other, ran) && is_before(other, ran))
+}
+
+/// Whether all answers of an outcome are those that are expected, in each way in which its deadlock is reached. Prints
+/// which aren't: those of its first run, and behind them those of others that were not told yet, each with its order.
 fn is_expected<R: Print + AllocGlobal>(
     rt: &R,
     script: &Script,
-    expected: Option<&[Expectation]>,
-    entries: &[Entry],
+    expected: &[Expectation],
+    outcomes: &[Ran],
+    first: &Ran,
 ) -> Result<bool, CommandFault> {
-    let Some(expected) = expected else {
-        return Ok(true);
-    };
-    let lines = line_numbers(rt.alloc(), script, entries)?;
-    let differing = differences(rt.alloc(), expected, &lines, entries)?;
-    put_all(&mut io::writer(rt), &differing)?;
-    Ok(differing.is_empty())
+    let mut told = differing(rt, script, expected, first)?;
+    put_all(&mut io::writer(rt), &told)?;
+    let mut last = first;
+    for _ in 0..outcomes.len() {
+        let Some(next) = next_behind(outcomes, Some(last)) else {
+            break;
+        };
+        last = next;
+        if wait_alike(first, next) {
+            let further = differing(rt, script, expected, next)?;
+            tell_further(rt, &mut told, &further, next)?;
+        }
+    }
+    Ok(told.is_empty())
+}
+
+/// The lines that say which answers of a run aren't the expected ones.
+fn differing<R: Print + AllocGlobal>(
+    rt: &R,
+    script: &Script,
+    expected: &[Expectation],
+    ran: &Ran,
+) -> Result<Vec<u8>, CommandFault> {
+    let lines = line_numbers(rt.alloc(), script, ran.entries())?;
+    Ok(differences(rt.alloc(), expected, &lines, ran.entries())?)
+}
+
+/// Prints those of these lines that weren't told, each with the run's order, and notes them.
+fn tell_further<R: Print + AllocGlobal>(
+    rt: &R,
+    told: &mut Vec<u8>,
+    further: &[u8],
+    ran: &Ran,
+) -> Result<(), CommandFault> {
+    for line in further.split(|byte| *byte == b'\n') {
+        if line.is_empty() || told.split(|byte| *byte == b'\n').any(|one| one == line) {
+            continue;
+        }
+        put_all(&mut io::writer(rt), line)?;
+        let list = OrderList(ran.entries());
+        println!(rt; ", in order {list}").map_err(|_| ScriptFault::Writing)?;
+        told.extend_from_slice(line)?;
+        told.push(b'\n')?;
+    }
+    Ok(())
 }
 
 /// The first outcome behind this one, or of all.

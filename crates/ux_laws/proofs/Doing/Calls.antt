@@ -27,8 +27,8 @@ each_did : (S : State) (p tag : ℕ) (request : Request) → Did S p tag request
 unfolding outcome
 each_did S p tag (Request.Open path mode flags) = open_did S p tag path mode flags
 each_did S p tag (Request.Create path mode flags) = create_did S p tag path mode flags
-each_did S p tag (Request.MemFd flags) = object_did S p tag (Request.MemFd flags) (memory []) flags refl
-each_did S p tag (Request.EventFd value flags) = object_did S p tag (Request.EventFd value flags) (counter value) flags refl
+each_did S p tag (Request.MemFd flags) = object_did S p tag (Request.MemFd flags) _ (memory []) flags refl
+each_did S p tag (Request.EventFd value flags) = object_did S p tag (Request.EventFd value flags) _ (counter value) flags refl
 each_did S p tag (Request.Pipe flags) = pipe_did S p tag flags
 each_did S p tag (Request.Read fd n) = read_did S p tag fd n
 each_did S p tag (Request.Write fd bytes) = write_did S p tag fd bytes

@@ -1,9 +1,10 @@
 -- What calls on descriptors and processes do, and those that make descriptions.
-use Rattle.std.proofs.Common.{◌≡◌, ℕ, zero, suc, ◌==◌, true, not, ◌||◌, length}
+use Rattle.std.proofs.Common.{◌≡◌, ℕ, Bool, zero, suc, ◌==◌, true, not, ◌||◌, length}
 use Rattle.std.proofs.Common.{map, is_some, Some, None, refl, ap, ◌∙◌, inr, [], ◌∷◌, ◌++◌, Option, List}
 use Rattle.std.specs.Prelude.{nat_le}
 use Rattle.std.proofs.lemmas.List.{length-map}
 use Rattle.ux_model.specs.Types.{Fd, Name, SockType, Mode, OpenFlags, Request}
+use Rattle.ux_model.specs.Flags.{asks_append}
 use Rattle.ux_model.specs.Limits.{made_limit}
 use Rattle.ux_model.specs.Object.{Body, memory}
 use Rattle.ux_model.specs.Names.{named, is_valid_path, PathTarget, file}
@@ -155,10 +156,15 @@ create_did S p tag path mode flags = either Q (not (is_valid_path path)) _ _ (λ
     Q : Outcome → Type 0
     Q o = Did S p tag (Request.Create path mode flags) o.reply o.next
 
-pub object_did : (S : State) (p tag : ℕ) (request : Request) (body : Body) (flags : OpenFlags) → made_modes request ≡ Mode.Both ∷ [] →
-    Did S p tag request (make_object S p body flags).reply (make_object S p body flags).next
+pub object_did : (S : State) (p tag : ℕ) (request : Request) (unknown : Bool) (body : Body) (flags : OpenFlags) →
+    made_modes request ≡ Mode.Both ∷ [] →
+    Did S p tag request (make_object S p unknown body flags).reply (make_object S p unknown body flags).next
 unfolding make_object
-object_did S p tag request body flags opens = made_did S p tag request body S.paths Mode.Both flags opens
+object_did S p tag request unknown body flags opens = either Q unknown _ _ (λ b. refuses)
+    (λ b. made_did S p tag request body S.paths Mode.Both flags opens)
+  where
+    Q : Outcome → Type 0
+    Q o = Did S p tag request o.reply o.next
 
 ends_kept : (S : State) (flags : OpenFlags) (p : ℕ) (table : List (Option Descriptor)) →
     Kept (with_ends S flags) (with_table (with_pipe S flags) p table)
@@ -167,8 +173,9 @@ ends_kept S flags p table = let k = kept_table (with_pipe S flags) p table in re
 pub pipe_did : (S : State) (p tag : ℕ) (flags : OpenFlags) →
     Did S p tag (Request.Pipe flags) (make_pipe S p flags).reply (make_pipe S p flags).next
 unfolding make_pipe
-pipe_did S p tag flags = maybe Q (two_lowest_free (table_of S p)) _ _ refuses (λ n low. either Q (object_table_full S) _ _ (λ b. refuses)
-    (λ b. pipe_made flags refl refl (kept_shrinks (ends_kept S flags p _))))
+pipe_did S p tag flags = either Q (asks_append flags) _ _ (λ b. refuses)
+    (λ b. maybe Q (two_lowest_free (table_of S p)) _ _ refuses (λ n low. either Q (object_table_full S) _ _ (λ c. refuses)
+    (λ c. pipe_made flags refl refl (kept_shrinks (ends_kept S flags p _)))))
   where
     Q : Outcome → Type 0
     Q o = Did S p tag (Request.Pipe flags) o.reply o.next

@@ -20,8 +20,8 @@ each_near : (S : State) (p tag : ℕ) (request : Request) → Near S p request (
 unfolding outcome
 each_near S p tag (Request.Open path mode flags) = open_near S p path mode flags
 each_near S p tag (Request.Create path mode flags) = create_near S p path mode flags
-each_near S p tag (Request.MemFd flags) = object_near S p (Request.MemFd flags) (memory []) flags
-each_near S p tag (Request.EventFd value flags) = object_near S p (Request.EventFd value flags) (counter value) flags
+each_near S p tag (Request.MemFd flags) = object_near S p (Request.MemFd flags) _ (memory []) flags
+each_near S p tag (Request.EventFd value flags) = object_near S p (Request.EventFd value flags) _ (counter value) flags
 each_near S p tag (Request.Pipe flags) = pipe_near S p flags
 each_near S p tag (Request.Read fd n) = read_near S p fd n
 each_near S p tag (Request.Write fd bytes) = write_near S p tag fd bytes

@@ -1,11 +1,12 @@
 -- Calls on descriptors, processes and files change what is near alone.
-use Rattle.std.proofs.Common.{◌≡◌, ℕ, zero, suc, ◌==◌, true, false, not, ◌||◌, List}
+use Rattle.std.proofs.Common.{◌≡◌, ℕ, Bool, zero, suc, ◌==◌, true, false, not, ◌||◌, List}
 use Rattle.std.proofs.Common.{length, Option, Some, None, Ok, refl, ap, sym, subst, inl}
 use Rattle.std.proofs.Common.{slice_get, arith, [], ◌∷◌, ◌++◌}
 use Rattle.std.specs.Prelude.{nat_le, ℤ, is_some, is_none}
 use Rattle.std.proofs.lemmas.Bool.{false≢true}
 use Rattle.std.proofs.lemmas.List.{length_push}
 use Rattle.ux_model.specs.Types.{Fd, Cred, Name, Addr, SockType, Mode, OpenFlags, Request}
+use Rattle.ux_model.specs.Flags.{asks_append}
 use Rattle.ux_model.specs.Places.{place, filled}
 use Rattle.ux_model.specs.Limits.{made_limit}
 use Rattle.ux_model.specs.Object.{Body, memory, pipe}
@@ -143,21 +144,26 @@ create_near S p path mode flags = either Q (not (is_valid_path path)) _ _ (λ b.
     Q : Outcome → Type 0
     Q o = Near S p (Request.Create path mode flags) o.next
 
-pub object_near : (S : State) (p : ℕ) (request : Request) (body : Body) (flags : OpenFlags) →
-    Near S p request (make_object S p body flags).next
+pub object_near : (S : State) (p : ℕ) (request : Request) (unknown : Bool) (body : Body) (flags : OpenFlags) →
+    Near S p request (make_object S p unknown body flags).next
 unfolding make_object
-object_near S p request body flags = made_near S p request body S.paths Mode.Both flags
+object_near S p request unknown body flags = either Q unknown _ _ (λ b. still)
+    (λ b. made_near S p request body S.paths Mode.Both flags)
+  where
+    Q : Outcome → Type 0
+    Q o = Near S p request o.next
 
 pub pipe_near : (S : State) (p : ℕ) (flags : OpenFlags) → Near S p (Request.Pipe flags) (make_pipe S p flags).next
 unfolding make_pipe
-pipe_near S p flags = maybe Q (two_lowest_free (table_of S p)) _ _ still (λ n low. either Q (object_table_full S) _ _ (λ b. still)
-    (λ b.
+pipe_near S p flags = either Q (asks_append flags) _ _ (λ b. still)
+    (λ b. maybe Q (two_lowest_free (table_of S p)) _ _ still (λ n low. either Q (object_table_full S) _ _ (λ c. still)
+    (λ c.
     let R : State = with_made S (pipe []) in
     let one : Description = file_description (next_object S) Mode.Read flags in
     let two : Description = file_description (next_object S) Mode.Write flags in
     let long = length_push S.descriptions (Some one) in
     near_table (with_pipe S flags) p _
-    (near_new (with_new R one) two (near_new R one (near_same refl) (omega arith) refl refl refl) (omega (arith, long)) refl refl refl)))
+    (near_new (with_new R one) two (near_new R one (near_same refl) (omega arith) refl refl refl) (omega (arith, long)) refl refl refl))))
   where
     Q : Outcome → Type 0
     Q o = Near S p (Request.Pipe flags) o.next

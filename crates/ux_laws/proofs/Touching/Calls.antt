@@ -40,8 +40,8 @@ pub each_files : (S : State) (p tag : ℕ) (request : Request) → Files S p req
 unfolding outcome
 each_files S p tag (Request.Open path mode flags) = by_alike (open_alike S p path mode flags)
 each_files S p tag (Request.Create path mode flags) = by_making (create_makes S p path mode flags)
-each_files S p tag (Request.MemFd flags) = by_making (object_makes S p (Request.MemFd flags) (memory []) flags)
-each_files S p tag (Request.EventFd value flags) = by_making (object_makes S p (Request.EventFd value flags) (counter value) flags)
+each_files S p tag (Request.MemFd flags) = by_making (object_makes S p (Request.MemFd flags) _ (memory []) flags)
+each_files S p tag (Request.EventFd value flags) = by_making (object_makes S p (Request.EventFd value flags) _ (counter value) flags)
 each_files S p tag (Request.Pipe flags) = by_making (pipe_makes S p flags)
 each_files S p tag (Request.Read fd n) = record { bodies = λ o. read_touches S p fd n o; paths = no_more (read_paths S p fd n).paths }
 each_files S p tag (Request.Write fd bytes) =
@@ -86,8 +86,8 @@ changes_names _ = false
 pub each_names : (S : State) (p tag : ℕ) (request : Request) → changes_names request ≡ false → NamesSame S (outcome S p tag request).next
 unfolding outcome
 each_names S p tag (Request.Open path mode flags) h = alike_names (open_alike S p path mode flags)
-each_names S p tag (Request.MemFd flags) h = object_names S p (memory []) flags
-each_names S p tag (Request.EventFd value flags) h = object_names S p (counter value) flags
+each_names S p tag (Request.MemFd flags) h = object_names S p _ (memory []) flags
+each_names S p tag (Request.EventFd value flags) h = object_names S p _ (counter value) flags
 each_names S p tag (Request.Pipe flags) h = pipe_names S p flags
 each_names S p tag (Request.Lseek fd offset whence) h = alike_names (lseek_alike S p fd offset whence)
 each_names S p tag (Request.Dup fd) h = alike_names (dup_alike S p fd)

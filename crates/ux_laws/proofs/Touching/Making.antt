@@ -1,6 +1,7 @@
 -- Calls that make a file object leave those that were there, and the paths that led there.
-use Rattle.std.proofs.Common.{◌≡◌, ℕ, not, List, [], ◌∷◌, ◌++◌, length, Option, Some, is_some, refl, ap, sym, ◌∙◌}
+use Rattle.std.proofs.Common.{◌≡◌, ℕ, Bool, not, List, [], ◌∷◌, ◌++◌, length, Option, Some, is_some, refl, ap, sym, ◌∙◌}
 use Rattle.ux_model.specs.Types.{Name, Mode, OpenFlags, Request}
+use Rattle.ux_model.specs.Flags.{asks_append}
 use Rattle.ux_model.specs.Object.{Body, memory, pipe, new_view}
 use Rattle.ux_model.specs.Names.{PathTarget, file, named, is_valid_path}
 use Rattle.ux_model.specs.Process.{Descriptor, lowest_free, two_lowest_free}
@@ -52,16 +53,21 @@ create_makes S p path mode flags = either Q (not (is_valid_path path)) _ _ (λ b
     Q : Outcome → Type 0
     Q o = Makes S p (Request.Create path mode flags) o.next
 
-pub object_makes : (S : State) (p : ℕ) (request : Request) (body : Body) (flags : OpenFlags) →
-    Makes S p request (make_object S p body flags).next
+pub object_makes : (S : State) (p : ℕ) (request : Request) (unknown : Bool) (body : Body) (flags : OpenFlags) →
+    Makes S p request (make_object S p unknown body flags).next
 unfolding make_object
-object_makes S p request body flags = open_makes S p request body S.paths Mode.Both flags (no_more refl)
+object_makes S p request unknown body flags = either Q unknown _ _ (λ b. nothing_made)
+    (λ b. open_makes S p request body S.paths Mode.Both flags (no_more refl))
+  where
+    Q : Outcome → Type 0
+    Q o = Makes S p request o.next
 
 pub pipe_makes : (S : State) (p : ℕ) (flags : OpenFlags) → Makes S p (Request.Pipe flags) (make_pipe S p flags).next
 unfolding make_pipe
-pipe_makes S p flags = maybe Q (two_lowest_free (table_of S p)) _ _ nothing_made
-    (λ n low. either Q (object_table_full S) _ _ (λ b. nothing_made)
-    (λ b. made_with (with_pipe S flags) (pipe []) p _ refl (no_more refl)))
+pipe_makes S p flags = either Q (asks_append flags) _ _ (λ b. nothing_made)
+    (λ b. maybe Q (two_lowest_free (table_of S p)) _ _ nothing_made
+    (λ n low. either Q (object_table_full S) _ _ (λ c. nothing_made)
+    (λ c. made_with (with_pipe S flags) (pipe []) p _ refl (no_more refl))))
   where
     Q : Outcome → Type 0
     Q o = Makes S p (Request.Pipe flags) o.next
@@ -69,21 +75,24 @@ pipe_makes S p flags = maybe Q (two_lowest_free (table_of S p)) _ _ nothing_made
 -- ---- names
 
 -- all but an open that makes a path leave them as they are
-pub object_names : (S : State) (p : ℕ) (body : Body) (flags : OpenFlags) → NamesSame S (make_object S p body flags).next
+pub object_names : (S : State) (p : ℕ) (unknown : Bool) (body : Body) (flags : OpenFlags) →
+    NamesSame S (make_object S p unknown body flags).next
 unfolding make_object
-object_names S p body flags = maybe Q (lowest_free (table_of S p)) _ _ (same_names refl refl)
-    (λ n low. either Q (object_table_full S) _ _ (λ b. same_names refl refl)
-    (λ b. let t = table_alike (with_new (made_so S body S.paths) (file_description (next_object S) Mode.Both flags)) p _ in
-    same_names t.paths t.abstracts))
+object_names S p unknown body flags = either Q unknown _ _ (λ b. same_names refl refl)
+    (λ b. maybe Q (lowest_free (table_of S p)) _ _ (same_names refl refl)
+    (λ n low. either Q (object_table_full S) _ _ (λ c. same_names refl refl)
+    (λ c. let t = table_alike (with_new (made_so S body S.paths) (file_description (next_object S) Mode.Both flags)) p _ in
+    same_names t.paths t.abstracts)))
   where
     Q : Outcome → Type 0
     Q o = NamesSame S o.next
 
 pub pipe_names : (S : State) (p : ℕ) (flags : OpenFlags) → NamesSame S (make_pipe S p flags).next
 unfolding make_pipe
-pipe_names S p flags = maybe Q (two_lowest_free (table_of S p)) _ _ (same_names refl refl)
-    (λ n low. either Q (object_table_full S) _ _ (λ b. same_names refl refl)
-    (λ b. let t = table_alike (with_pipe S flags) p _ in same_names t.paths t.abstracts))
+pipe_names S p flags = either Q (asks_append flags) _ _ (λ b. same_names refl refl)
+    (λ b. maybe Q (two_lowest_free (table_of S p)) _ _ (same_names refl refl)
+    (λ n low. either Q (object_table_full S) _ _ (λ c. same_names refl refl)
+    (λ c. let t = table_alike (with_pipe S flags) p _ in same_names t.paths t.abstracts)))
   where
     Q : Outcome → Type 0
     Q o = NamesSame S o.next

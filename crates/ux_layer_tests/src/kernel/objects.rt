@@ -16,6 +16,12 @@ pub(super) fn is_gone(machine: &Machine, number: u32) -> bool {
             && r.object().is_some_and(|object| !object.is_open()))
 }
 
+/// Whether a call closed this one object.
+fn is_alone(closed: &Released, number: u32) -> bool {
+    let (first, others) = closed.parts();
+    first.len() == 1 && first.first() == Some(&number) && others.is_empty()
+}
+
 /// Invalid paths, and paths that aren't there.
 const NO_PATHS: &[Row] = &[
     (1, Asked::Unlink(b""), Told::Err(Errno::EINVAL)),
@@ -74,9 +80,7 @@ fn the_last_of_4096_objects_goes_by_itself(rt: HostRuntime) -> Result<(), AllocE
     let k = &mut machine;
     let unlink = request_of(alloc, &Asked::Unlink(b"4095"))?;
     let numbers = closed_by(k, &unlink);
-    assert!(rt;
-        numbers.is_some_and(|numbers| numbers.len() == 1 && numbers.front() == Some(&4095))
-    );
+    assert!(rt; numbers.is_some_and(|numbers| is_alone(&numbers, 4095)));
     assert!(rt; is_gone(k, 4095));
     let exit = closed_by(k, &Request::Exit);
     assert!(rt; exit.is_some_and(|numbers| numbers.is_empty()));

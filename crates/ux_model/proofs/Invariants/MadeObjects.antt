@@ -4,6 +4,7 @@ use Rattle.std.proofs.Common.{ap}
 use Rattle.std.proofs.Common.{sym, ◌∙◌, arith}
 use Rattle.std.proofs.lemmas.List.{length_push, length-set}
 use Rattle.ux_model.specs.Types.{Errno, Name, Mode, OpenFlags, Request, Reply}
+use Rattle.ux_model.specs.Flags.{asks_append}
 use Rattle.ux_model.specs.Places.{filled}
 use Rattle.ux_model.specs.Object.{Body, View, memory, counter, pipe, new_view, after_failure}
 use Rattle.ux_model.specs.Names.{file, named, is_valid_path}
@@ -11,7 +12,7 @@ use Rattle.ux_model.specs.Process.{Descriptor, lowest_free, two_lowest_free, des
 use Rattle.ux_model.specs.State.{State, table_of, next_description, with_table, with_new}
 use Rattle.ux_model.specs.Outcome.{Outcome, Chosen, own, lacking_memory, failing}
 use Rattle.ux_model.specs.Opening.{file_description}
-use Rattle.ux_model.specs.Making.{next_object, object_table_full, with_pipe, make_object, create_file, make_pipe}
+use Rattle.ux_model.specs.Making.{next_object, object_table_full, with_pipe, make_counter, make_file, make_object, create_file, make_pipe}
 use Rattle.ux_model.specs.Step.{Step, outcome}
 use Rattle.ux_model.specs.Invariants.{makes_object, TheseAloneMakeObjects}
 use Rattle.ux_model.proofs.Changes.Walk.{either, maybe}
@@ -74,27 +75,30 @@ create_counts S p path mode flags = either Q (not (is_valid_path path)) _ _ (λ 
     Q o = Counts S (Request.Create path mode flags) o
 
 -- a request that makes one where it is answered a number
-object_counts : (S : State) (p : ℕ) (request : Request) (body : Body) (flags : OpenFlags) → ((e : Errno) → made request (Reply.Err e) ≡ 0) →
-    ((n : ℕ) → made request (Reply.Fd (record { 0 = n })) ≡ 1) → Counts S request (make_object S p body flags)
+object_counts : (S : State) (p : ℕ) (request : Request) (unknown : Bool) (body : Body) (flags : OpenFlags) →
+    ((e : Errno) → made request (Reply.Err e) ≡ 0) → ((n : ℕ) → made request (Reply.Fd (record { 0 = n })) ≡ 1) →
+    Counts S request (make_object S p unknown body flags)
 unfolding make_object
-object_counts S p request body flags none some =
-    maybe Q (lowest_free (table_of S p)) _ _ (let z = none Errno.EMFILE in omega (arith, z))
+object_counts S p request unknown body flags none some =
+    either Q unknown _ _ (λ b. let z = none Errno.EINVAL in omega (arith, z))
+    (λ b. maybe Q (lowest_free (table_of S p)) _ _ (let z = none Errno.EMFILE in omega (arith, z))
     (λ n low. either Q (object_table_full S) _ _ (λ full. let z = none Errno.ENFILE in omega (arith, z))
     (λ full.
     let U : State = with_new (made_so S body S.paths) (file_description (next_object S) Mode.Both flags) in
     let table : List (Option Descriptor) = filled (table_of S p) n (descriptor flags (next_description S)) in
     let more = one_more S U p table (new_view body) refl in
     let one = some n in
-    omega (arith, more, one)))
+    omega (arith, more, one))))
   where
     Q : Outcome → Type 0
     Q o = Counts S request o
 
 pipe_counts : (S : State) (p : ℕ) (flags : OpenFlags) → Counts S (Request.Pipe flags) (make_pipe S p flags)
 unfolding make_pipe
-pipe_counts S p flags = maybe Q (two_lowest_free (table_of S p)) _ _ (omega arith)
+pipe_counts S p flags = either Q (asks_append flags) _ _ (λ b. omega arith)
+    (λ b. maybe Q (two_lowest_free (table_of S p)) _ _ (omega arith)
     (λ n low. either Q (object_table_full S) _ _ (λ full. omega arith)
-    (λ full. one_more S (with_pipe S flags) p _ (new_view (pipe [])) refl))
+    (λ full. one_more S (with_pipe S flags) p _ (new_view (pipe [])) refl)))
   where
     Q : Outcome → Type 0
     Q o = Counts S (Request.Pipe flags) o
@@ -133,12 +137,12 @@ call_counts S U p tag (Request.Create path mode flags) reply chosen =
     chosen_counts S U (Request.Create path mode flags) reply (create_file S p path mode flags)
     (each_obeys S p tag (Request.Create path mode flags)) (create_counts S p path mode flags) chosen
 call_counts S U p tag (Request.MemFd flags) reply chosen =
-    chosen_counts S U (Request.MemFd flags) reply (make_object S p (memory []) flags) (each_obeys S p tag (Request.MemFd flags))
-    (object_counts S p (Request.MemFd flags) (memory []) flags (λ e. refl) (λ n. refl)) chosen
+    chosen_counts S U (Request.MemFd flags) reply (make_file S p flags) (each_obeys S p tag (Request.MemFd flags))
+    (object_counts S p (Request.MemFd flags) _ (memory []) flags (λ e. refl) (λ n. refl)) chosen
 call_counts S U p tag (Request.EventFd value flags) reply chosen =
-    chosen_counts S U (Request.EventFd value flags) reply (make_object S p (counter value) flags)
+    chosen_counts S U (Request.EventFd value flags) reply (make_counter S p value flags)
     (each_obeys S p tag (Request.EventFd value flags))
-    (object_counts S p (Request.EventFd value flags) (counter value) flags (λ e. refl) (λ n. refl)) chosen
+    (object_counts S p (Request.EventFd value flags) _ (counter value) flags (λ e. refl) (λ n. refl)) chosen
 call_counts S U p tag (Request.Pipe flags) reply chosen =
     chosen_counts S U (Request.Pipe flags) reply (make_pipe S p flags) (each_obeys S p tag (Request.Pipe flags)) (pipe_counts S p flags)
     chosen

@@ -8,7 +8,7 @@ use Rattle.std.proofs.lemmas.List.{length-take}
 use Rattle.ux_model.specs.Types.{Errno, Fd, Cred, Name, Addr, SockType, SockOpt, Mode, OpenFlags, MsgFlags, Whence, Request, Reply}
 use Rattle.ux_model.specs.Places.{place}
 use Rattle.ux_model.specs.Limits.{made_limit, name_limit, read_limit, greatest_queue_limit, offset_limit, record_bytes_limit}
-use Rattle.ux_model.specs.Flags.{can_read, can_write, are_send_flags, are_receive_flags, no_flags}
+use Rattle.ux_model.specs.Flags.{asks_append, can_read, can_write, are_send_flags, are_receive_flags, no_flags}
 use Rattle.ux_model.specs.Object.{Body, memory, counter, pipe, View, ObjectError, would_block, full, invalid, read_body, write_body}
 use Rattle.ux_model.specs.Object.{is_memory, is_pipe}
 use Rattle.ux_model.specs.Names.{named, is_valid_path, is_valid_addr, is_unnamed_addr, free_name}
@@ -108,9 +108,9 @@ made_plain : (S T : State) (p : ℕ) (mode : Mode) (flags : OpenFlags) → Plain
 made_plain S T p mode flags = maybe Plain (lowest_free (table_of S p)) _ _ (plain refl)
     (λ n low. either Plain (object_table_full S) _ _ (λ b. plain refl) (λ b. plain refl))
 
-object_plain : (S : State) (p : ℕ) (body : Body) (flags : OpenFlags) → Plain (make_object S p body flags)
+object_plain : (S : State) (p : ℕ) (unknown : Bool) (body : Body) (flags : OpenFlags) → Plain (make_object S p unknown body flags)
 unfolding make_object
-object_plain S p body flags = made_plain S (with_made S body) p Mode.Both flags
+object_plain S p unknown body flags = either Plain unknown _ _ (λ b. plain refl) (λ b. made_plain S (with_made S body) p Mode.Both flags)
 
 create_plain : (S : State) (p : ℕ) (path : Name) (mode : Mode) (flags : OpenFlags) → Plain (create_file S p path mode flags)
 unfolding create_file
@@ -120,8 +120,9 @@ create_plain S p path mode flags = either Plain (not (is_valid_path path)) _ _ (
 
 pipe_plain : (S : State) (p : ℕ) (flags : OpenFlags) → Plain (make_pipe S p flags)
 unfolding make_pipe
-pipe_plain S p flags = maybe Plain (two_lowest_free (table_of S p)) _ _ (plain refl)
-    (λ n low. either Plain (object_table_full S) _ _ (λ b. plain refl) (λ b. plain refl))
+pipe_plain S p flags = either Plain (asks_append flags) _ _ (λ b. plain refl)
+    (λ b. maybe Plain (two_lowest_free (table_of S p)) _ _ (plain refl)
+    (λ n low. either Plain (object_table_full S) _ _ (λ c. plain refl) (λ c. plain refl)))
 
 write_answer_plain : (S : State) (d : ℕ) (D : Description) (o : ℕ) (view : View) (r : Result (ℕ × Body) ObjectError) →
     Plain (write_answer S d D o view r)
@@ -560,8 +561,8 @@ each_within : (S : State) (p tag : ℕ) (request : Request) → AreBounded S →
 unfolding outcome room_for
 each_within S p tag (Request.Open path mode flags) all = open_plain S p path mode flags
 each_within S p tag (Request.Create path mode flags) all = create_plain S p path mode flags
-each_within S p tag (Request.MemFd flags) all = object_plain S p (memory []) flags
-each_within S p tag (Request.EventFd value flags) all = object_plain S p (counter value) flags
+each_within S p tag (Request.MemFd flags) all = object_plain S p _ (memory []) flags
+each_within S p tag (Request.EventFd value flags) all = object_plain S p _ (counter value) flags
 each_within S p tag (Request.Pipe flags) all = pipe_plain S p flags
 each_within S p tag (Request.Read fd n) all = read_within S p fd n all
 each_within S p tag (Request.Write fd bytes) all = write_plain S p tag fd bytes

@@ -385,8 +385,8 @@ pub each_obeys : (S : State) (p tag : ℕ) (request : Request) → Obeys S (may_
 unfolding outcome
 each_obeys S p tag (Request.Open path mode flags) = open_obeys S p path mode flags
 each_obeys S p tag (Request.Create path mode flags) = create_obeys S p path mode flags
-each_obeys S p tag (Request.MemFd flags) = object_obeys S p (memory []) flags
-each_obeys S p tag (Request.EventFd value flags) = object_obeys S p (counter value) flags
+each_obeys S p tag (Request.MemFd flags) = object_obeys S p _ (memory []) flags
+each_obeys S p tag (Request.EventFd value flags) = object_obeys S p _ (counter value) flags
 each_obeys S p tag (Request.Pipe flags) = pipe_obeys S p flags
 each_obeys S p tag (Request.Read fd n) = read_obeys S p fd n
 each_obeys S p tag (Request.Write fd bytes) = write_obeys S p tag fd bytes

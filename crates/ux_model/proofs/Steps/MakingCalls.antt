@@ -1,10 +1,11 @@
 -- Of the calls that make a file object: that their outcomes obey what all do. The object is held open by a new descriptor.
-use Rattle.std.proofs.Common.{◌≡◌, ◌⊎◌, inl, inr, ⊎_elim, ℕ, zero, suc, ◌<◌, true, not, List, [], ◌∷◌, ◌++◌, length, set, Option, Some}
+use Rattle.std.proofs.Common.{◌≡◌, ◌⊎◌, inl, inr, ⊎_elim, ℕ, zero, suc, ◌<◌, Bool, true, not, List, [], ◌∷◌, ◌++◌, length, set, Option, Some}
 use Rattle.std.proofs.Common.{None}
 use Rattle.std.proofs.Common.{is_some, refl, ap, sym, subst, ◌∙◌, arith}
 use Rattle.std.proofs.lemmas.Bool.{eqb-true}
 use Rattle.std.proofs.lemmas.List.{length_push, length-set, get_or-set_same}
 use Rattle.ux_model.specs.Types.{Name, Mode, OpenFlags, Reply}
+use Rattle.ux_model.specs.Flags.{asks_append}
 use Rattle.ux_model.specs.Places.{place, filled}
 use Rattle.ux_model.specs.Object.{Body, View, memory, pipe, new_view}
 use Rattle.ux_model.specs.Names.{PathTarget, file, named, is_valid_path}
@@ -108,9 +109,11 @@ made_obeys S p body names mode flags made = maybe (Obeys S objects_too) (lowest_
     (λ n low. either (Obeys S objects_too) (object_table_full S) _ _ (λ b. refuses refl refl)
     (λ b. one_made S p n body names mode flags low made))
 
-pub object_obeys : (S : State) (p : ℕ) (body : Body) (flags : OpenFlags) → Obeys S objects_too (make_object S p body flags)
+pub object_obeys : (S : State) (p : ℕ) (unknown : Bool) (body : Body) (flags : OpenFlags) →
+    Obeys S objects_too (make_object S p unknown body flags)
 unfolding make_object
-object_obeys S p body flags = made_obeys S p body S.paths Mode.Both flags (object_made body still refl)
+object_obeys S p unknown body flags = either (Obeys S objects_too) unknown _ _ (λ b. refuses refl refl)
+    (λ b. made_obeys S p body S.paths Mode.Both flags (object_made body still refl))
 
 pub create_obeys : (S : State) (p : ℕ) (path : Name) (mode : Mode) (flags : OpenFlags) →
     Obeys S objects_too (create_file S p path mode flags)
@@ -168,5 +171,6 @@ pipe_made S p n flags low =
 
 pub pipe_obeys : (S : State) (p : ℕ) (flags : OpenFlags) → Obeys S objects_too (make_pipe S p flags)
 unfolding make_pipe
-pipe_obeys S p flags = maybe (Obeys S objects_too) (two_lowest_free (table_of S p)) _ _ (refuses refl refl)
-    (λ n low. either (Obeys S objects_too) (object_table_full S) _ _ (λ b. refuses refl refl) (λ b. pipe_made S p n flags low))
+pipe_obeys S p flags = either (Obeys S objects_too) (asks_append flags) _ _ (λ b. refuses refl refl)
+    (λ b. maybe (Obeys S objects_too) (two_lowest_free (table_of S p)) _ _ (refuses refl refl)
+    (λ n low. either (Obeys S objects_too) (object_table_full S) _ _ (λ c. refuses refl refl) (λ c. pipe_made S p n flags low)))

@@ -1,6 +1,7 @@
 -- So do calls that make a file object.
-use Rattle.std.proofs.Common.{◌≡◌, ℕ, suc, not, List, [], ◌∷◌, ◌++◌, Option, Some, is_some, refl, arith}
+use Rattle.std.proofs.Common.{◌≡◌, ℕ, suc, not, List, [], ◌∷◌, ◌++◌, Option, Some, is_some, ◌||◌, refl, arith}
 use Rattle.ux_model.specs.Types.{Name, Mode, OpenFlags, Request, Reply}
+use Rattle.ux_model.specs.Flags.{asks_append, asks_nonblock}
 use Rattle.ux_model.specs.Places.{filled}
 use Rattle.ux_model.specs.Object.{memory, counter, pipe, new_view}
 use Rattle.ux_model.specs.Names.{file, named, is_valid_path}
@@ -8,7 +9,7 @@ use Rattle.ux_model.specs.Process.{Process, Descriptor, lowest_free, two_lowest_
 use Rattle.ux_model.specs.State.{State, process_at, table_of, next_description, with_table, with_new}
 use Rattle.ux_model.specs.Outcome.{taking_memory}
 use Rattle.ux_model.specs.Opening.{file_description}
-use Rattle.ux_model.specs.Making.{next_object, object_table_full, with_made, with_pipe, make_object, create_file, make_pipe}
+use Rattle.ux_model.specs.Making.{next_object, object_table_full, with_made, with_pipe, make_counter, make_file, make_object, create_file, make_pipe}
 use Rattle.ux_model.proofs.Changes.Walk.{either, maybe}
 use Rattle.ux_model.proofs.Lists.Rising.{two_rise}
 use Rattle.ux_model.proofs.Tables.Queues.{quiet_mail, quiet_after, quiet_table, quiet_new}
@@ -31,23 +32,26 @@ create_shows S p tag path mode flags Q here =
     (record { no_end = refl; keeps = λ n held. refl }) low refl refl refl refl))))
 
 pub memory_shows : (S : State) (p tag : ℕ) (flags : OpenFlags) (Q : Process) → process_at S p ≡ Some Q →
-    Shows S p tag (Request.MemFd flags) (make_object S p (memory []) flags)
+    Shows S p tag (Request.MemFd flags) (make_file S p flags)
 unfolding make_object
-memory_shows S p tag flags Q here = maybe (Shows S p tag (Request.MemFd flags)) (lowest_free (table_of S p)) _ _ (refuses refl)
+memory_shows S p tag flags Q here =
+    either (Shows S p tag (Request.MemFd flags)) (asks_append flags || asks_nonblock flags) _ _ (λ b. refuses refl)
+    (λ b. maybe (Shows S p tag (Request.MemFd flags)) (lowest_free (table_of S p)) _ _ (refuses refl)
     (λ n low. either (Shows S p tag (Request.MemFd flags)) (object_table_full S) _ _ (λ full. refuses refl)
     (λ full. made_shows S p tag n (Request.MemFd flags) (S.objects ++ Some (new_view (memory [])) ∷ []) S.paths
     (file_description (next_object S) Mode.Both flags) flags Q here (record { no_end = refl; keeps = λ n held. refl }) low
-    refl refl refl refl))
+    refl refl refl refl)))
 
 pub counter_shows : (S : State) (p tag value : ℕ) (flags : OpenFlags) (Q : Process) → process_at S p ≡ Some Q →
-    Shows S p tag (Request.EventFd value flags) (make_object S p (counter value) flags)
+    Shows S p tag (Request.EventFd value flags) (make_counter S p value flags)
 unfolding make_object
 counter_shows S p tag value flags Q here =
-    maybe (Shows S p tag (Request.EventFd value flags)) (lowest_free (table_of S p)) _ _ (refuses refl)
+    either (Shows S p tag (Request.EventFd value flags)) (asks_append flags) _ _ (λ b. refuses refl)
+    (λ b. maybe (Shows S p tag (Request.EventFd value flags)) (lowest_free (table_of S p)) _ _ (refuses refl)
     (λ n low. either (Shows S p tag (Request.EventFd value flags)) (object_table_full S) _ _ (λ full. refuses refl)
     (λ full. made_shows S p tag n (Request.EventFd value flags) (S.objects ++ Some (new_view (counter value)) ∷ []) S.paths
     (file_description (next_object S) Mode.Both flags) flags Q here (record { no_end = refl; keeps = λ n held. refl }) low
-    refl refl refl refl))
+    refl refl refl refl)))
 
 -- ---- with two
 
@@ -76,6 +80,7 @@ pipe_is_shown S p tag n flags Q here low =
 pub pipe_shows : (S : State) (p tag : ℕ) (flags : OpenFlags) (Q : Process) → process_at S p ≡ Some Q →
     Shows S p tag (Request.Pipe flags) (make_pipe S p flags)
 unfolding make_pipe
-pipe_shows S p tag flags Q here = maybe (Shows S p tag (Request.Pipe flags)) (two_lowest_free (table_of S p)) _ _ (refuses refl)
+pipe_shows S p tag flags Q here = either (Shows S p tag (Request.Pipe flags)) (asks_append flags) _ _ (λ b. refuses refl)
+    (λ b. maybe (Shows S p tag (Request.Pipe flags)) (two_lowest_free (table_of S p)) _ _ (refuses refl)
     (λ n low. either (Shows S p tag (Request.Pipe flags)) (object_table_full S) _ _ (λ full. refuses refl)
-    (λ full. pipe_is_shown S p tag n flags Q here low))
+    (λ full. pipe_is_shown S p tag n flags Q here low)))

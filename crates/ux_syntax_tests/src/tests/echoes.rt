@@ -147,16 +147,14 @@ fn a_reply_is_written_as_in_a_trace(rt: HostRuntime) -> Result<(), Fail> {
     expect_line(&rt, alloc, Some(3), &entry, texts)
 }
 
-/// Closed file objects.
-const CLOSED: &[u32] = &[0, 5, 64, 4095];
-
 #[test]
 fn closed_objects_stand_behind_the_reply(rt: HostRuntime) -> Result<(), Fail> {
     let alloc = rt.alloc();
     let mut released = Released::new(alloc);
-    for number in CLOSED {
-        released.push_back(*number)?;
-    }
+    released.push_back(0)?;
+    released.push_back(5)?;
+    released.push_back(64)?;
+    released.push_back(4095)?;
     let close = Request::Close { fd: Fd(1) };
     let entry = closing_entry(close, Reply::Err(Errno::EIO), released);
     let texts = (

@@ -52,7 +52,14 @@ const FOUND: &[(&str, &str)] = &[
         "proc 0 0 0 1\n1 dup 0\n#= got 2 6869 - r:1 a:%23=\n",
         "2=got 2 6869 - r:1 a:%23=;",
     ),
-    ("proc 0 0 0 1\n1 close 0\n#=  ok \n", "2= ok ;"),
+    ("proc 0 0 0 1\n1 close 0\n#=  ok \n", "2=ok ;"),
+    ("proc 0 0 0 1\n1 dup 0\n#=fd 0\n", "2=fd 0;"),
+    ("proc 0 0 0 1\n1 dup 0\n# = fd 5\n", "2=fd 5;"),
+    ("proc 0 0 0 1\n1 dup 0\n#\t=\tfd 5\n", "2=fd 5;"),
+    (
+        "proc 0 0 0 1\n1 read 0 2\n#=bytes \"ok\"\n",
+        "2=bytes 6f6b;",
+    ),
 ];
 
 #[test]
@@ -62,10 +69,10 @@ fn what_stands_behind_a_call_is_expected(rt: HostRuntime) -> Result<(), Fail> {
 
 /// Comments that expect nothing, wherever they stand.
 const BLANK: &[(&str, &str)] = &[
-    ("#=\n#= \n#\n#=ok\n# = ok\n#==\n ", ""),
+    ("#=\n#= \n# =\n#\n#==\n# == ok\n ", ""),
     ("proc 0 0 0 1\n#=\n1 close 0\n#=\n1 close 0\n#= \n", ""),
     (
-        "proc 0 0 0 1\n1 close 0\n#=ok\n1 close 0\n# #= ok\n1 close 0\n#\t= ok\n",
+        "proc 0 0 0 1\n1 close 0\n#===== ok =====\n1 close 0\n# #= ok\n1 close 0\n# ok = ok\n",
         "",
     ),
 ];
@@ -78,6 +85,8 @@ fn a_blank_comment_expects_nothing(rt: HostRuntime) -> Result<(), Fail> {
 /// Texts in which a comment expects something of a line that is no call.
 const MISPLACED: &[(&str, &str)] = &[
     ("#= ok\n", "line 1: bad line"),
+    ("#=ok\n", "line 1: bad line"),
+    ("# = ok\n", "line 1: bad line"),
     ("proc 0 0 0 1\n#= ok\n", "line 2: bad line"),
     (
         "proc 0 0 0 1\n1 wait 1 0\n#= ok\n1 close 0\n",

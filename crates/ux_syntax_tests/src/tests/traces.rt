@@ -1,6 +1,6 @@
 //! The lines of a trace.
 use super::{addr_of, beside, request_in};
-use std::alloc::{AllocError, Global};
+use std::alloc::Global;
 use std::process::Abort;
 use std::test::*;
 use ux_trace::{entry_text, errno_name};
@@ -500,19 +500,11 @@ fn expect_closed(
     expect_entry(rt, alloc, number, &entry, line)
 }
 
-/// The numbers of closed file objects, in this order.
-fn closing(alloc: Global, numbers: &[u32]) -> Result<Released, AllocError> {
-    let mut released = Released::new(alloc);
-    for number in numbers {
-        released.push_back(*number)?;
-    }
-    Ok(released)
-}
-
 #[test]
 fn closed_objects_are_printed(rt: HostRuntime) -> Result<(), Fail> {
     let alloc = rt.alloc();
-    let one = closing(alloc, &[0])?;
+    let mut one = Released::new(alloc);
+    one.push_back(0)?;
     let close = Request::Close { fd: Fd(0) };
     expect_closed(
         &rt,
@@ -523,7 +515,12 @@ fn closed_objects_are_printed(rt: HostRuntime) -> Result<(), Fail> {
         one,
         "14 1 14 close = ok closed 0\n",
     )?;
-    let many = closing(alloc, &[2, 10, 63, 64, 4095])?;
+    let mut many = Released::new(alloc);
+    many.push_back(2)?;
+    many.push_back(10)?;
+    many.push_back(63)?;
+    many.push_back(64)?;
+    many.push_back(4095)?;
     let line = "15 0 15 off = ok closed 2 10 63 64 4095\n";
     expect_closed(&rt, alloc, 15, 0, Request::Off, many, line)?;
     let none = Released::new(alloc);

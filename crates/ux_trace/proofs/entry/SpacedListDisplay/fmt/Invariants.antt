@@ -1,7 +1,7 @@
 use Rattle.std.proofs.Common.{◌≡◌, ℕ, List, ◌++◌}
 use Rattle.std.specs.Fmt.{HasWritten, IsPlainFormatter}
 use Rattle.ux_trace.specs.Trace.{spaced}
-use Rattle.ux_trace.proofs.entry.ClosedDisplay.fmt.Given as goal
+use Rattle.ux_trace.proofs.entry.SpacedListDisplay.fmt.Given as goal
 
 -- the numbers that are left follow those that were written
 abbrev pub invariant-loop-number : goal.invariant-loop-number
