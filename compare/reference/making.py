@@ -9,6 +9,12 @@ from .state import FileObject, Process, Refusal
 OBJECT_LIMIT = 4096
 
 
+def check_flags(flags: str, taken: str) -> None:
+    """EINVAL, before all else, of a flag that the call doesn't take (pipe2(2), eventfd(2), memfd_create(2))."""
+    if set(flags) - set(taken) - {"-"}:
+        raise Refusal("EINVAL")
+
+
 def new_object(kernel: Kernel, kind: str) -> FileObject:
     """A file object with the next number and without a path, or ENFILE: those that were closed count."""
     if len(kernel.objects) >= OBJECT_LIMIT:
@@ -37,6 +43,7 @@ def call_create(kernel: Kernel, process: Process, words: list[str]) -> str:
 
 def call_memfd(kernel: Kernel, process: Process, words: list[str]) -> str:
     """memfd_create(2)."""
+    check_flags(words[1], "x")
     number = kernel.free_number(process)
     made = new_object(kernel, "mem")
     made.has_any_offset = True
@@ -46,16 +53,17 @@ def call_memfd(kernel: Kernel, process: Process, words: list[str]) -> str:
 
 def call_eventfd(kernel: Kernel, process: Process, words: list[str]) -> str:
     """eventfd(2)."""
+    check_flags(words[2], "nx")
     number = kernel.free_number(process)
     made = new_object(kernel, "counter")
     made.value = int(words[1])
-    made.appends = "a" in words[2]
     open_target(kernel, process, number, made, "rw", words[2])
     return f"fd {number}"
 
 
 def call_pipe(kernel: Kernel, process: Process, words: list[str]) -> str:
     """pipe2(2)."""
+    check_flags(words[1], "nx")
     numbers = process.free_numbers(2)
     if len(numbers) < 2:
         raise Refusal("EMFILE")

@@ -79,11 +79,15 @@ void see_watched_go(void (*see)(int watch, int *gone), int *gone) {
     }
 }
 
-int make_file_in_memory(void) { return memfd_create("file", MFD_CLOEXEC); }
+/* A file in memory with the flags that a script gives: those that memfd_create(2) doesn't know as flags of an open. */
+int make_file_in_memory(const char *flags) {
+    return memfd_create("file", (strchr(flags, 'x') ? MFD_CLOEXEC : 0u) | (strchr(flags, 'n') ? (unsigned)O_NONBLOCK : 0u) |
+                                    (strchr(flags, 'a') ? (unsigned)O_APPEND : 0u));
+}
 
-int make_counter(unsigned value) { return eventfd(value, (shared->waits ? 0 : EFD_NONBLOCK) | EFD_CLOEXEC); }
+int make_counter(unsigned value, int flags) { return eventfd(value, flags); }
 
-int make_pipe(int *ends) { return pipe2(ends, O_NONBLOCK | O_CLOEXEC); }
+int make_pipe(int *ends, int flags) { return pipe2(ends, flags); }
 
 /* Has an epoll list what a descriptor leads to with a file object's number, as long as anything refers to it. */
 int watch_references(int number, unsigned object) {

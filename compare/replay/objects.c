@@ -51,7 +51,7 @@ void make_objects(void) {
     for (unsigned i = 0; i < object_count; i++) {
         make_file(&objects[i]);
         if (objects[i].kind != 'c') continue;
-        objects[i].counter = make_counter(0);
+        objects[i].counter = make_counter(0, O_CLOEXEC | (shared->waits ? 0 : O_NONBLOCK));
         objects[i].is_held = 1;
         if (objects[i].counter < 0 || watch_references(objects[i].counter, i) < 0) fail("a counter");
     }

@@ -39,6 +39,8 @@ SWITCHES = [
     (Rule.SEND_FLAGS, ["pair stream -"], "send 0 - 61 - p", "err EINVAL", "n 1"),
 ]
 # What both refuse alike, before all else (pipe2(2), eventfd(2), memfd_create(2)).
+REFUSED = ["pipe a", "pipe anx", "eventfd 0 a", "eventfd 5 ax", "memfd n", "memfd a", "memfd anx"]
+TAKEN = ["pipe nx", "eventfd 0 nx", "memfd x"]
 
 
 def answers(calls, rules):
@@ -53,6 +55,16 @@ class Switches(unittest.TestCase):
             with self.subTest(f"{rule.value}: {call[:40]}"):
                 self.assertEqual(answers([*before, call], NO_RULES)[-1], ours)
                 self.assertEqual(answers([*before, call], frozenset({rule}))[-1], linux)
+
+    def test_flags_that_a_call_does_not_take_are_refused_before_all_else(self):
+        full = [f"dup2 0 {number}" for number in range(1, 16)]
+        for rules in (NO_RULES, ALL_RULES):
+            for call in REFUSED:
+                self.assertEqual(answers([call], rules), ["err EINVAL"], call)
+                self.assertEqual(answers(["memfd -", *full, call], rules)[-1], "err EINVAL", call)
+            for call in TAKEN:
+                self.assertRegex(answers([call], rules)[-1], "^fds? 0", call)
+                self.assertEqual(answers(["memfd -", *full, call], rules)[-1], "err EMFILE", call)
 
     def test_a_pipes_pages_are_read_as_they_were_written(self):
         calls = ["pipe -", f"write 1 {'61' * 5000}", f"write 1 {'62' * 3000}", "read 0 4500", "read 0 100000"]
