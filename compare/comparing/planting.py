@@ -93,8 +93,7 @@ def count_wrong_answers(all_traces: list[Traces]) -> tuple[Counter[str], Counter
             for at, line in enumerate(lines):
                 for wrong in wrong_answers(line):
                     planted[expected[at].word] += 1
-                    changed = [*lines[:at], wrong, *lines[at + 1:]]
-                    passed[expected[at].word] += first_difference(whose, changed, expected, traces.rows) is None
+                    passed[expected[at].word] += first_difference(whose, [wrong], expected[at:at + 1], traces.rows) is None
                 passed["a line too few"] += first_difference(whose, lines[:at], expected, traces.rows) is None
                 planted["a line too few"] += 1
     return planted, passed

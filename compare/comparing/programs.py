@@ -14,7 +14,7 @@ from typing import Callable
 
 COMPARE = Path(__file__).resolve().parent.parent
 TOP = COMPARE.parent
-PATIENCE = 120
+PATIENCE = int(os.environ.get("PATIENCE", "120"))
 PATIENCE_AT_THE_END = 5
 TURNS_AT_THE_END = 10
 ENDING = (signal.SIGINT, signal.SIGTERM, signal.SIGHUP)
