@@ -126,8 +126,11 @@ size_t control_in(char *word) {
 /* Has the users and groups that a message tells known by their numbers before it is sent. */
 void learn_credentials(const char *word) {
     unsigned pid, uid, gid;
-    if (word[0] == 'x') put_plain(word + 2, learn_item);
-    else for (const char *item = word; (item = strstr(item, "c:")); item++) {
+    if (word[0] == 'x') {
+        put_plain(word + 2, learn_item);
+        return;
+    }
+    for (const char *item = word; (item = strstr(item, "c:")); item++) {
         if (sscanf(item, "c:%u,%u,%u", &pid, &uid, &gid) != 3) continue;
         user_of(uid);
         group_of(gid);
